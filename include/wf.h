@@ -1,60 +1,73 @@
 /*
- * The transmit path of a Wi-Fi access point, for drivers and simulators in C and C++; and a cell, which is a transmit path with the
- * receive halves of its stations and the history of all calls, for test benches.
+ * The transmit path of a Wi-Fi access point, for drivers and simulators in C and C++; and, for test benches,
+ * a cell: a transmit path with the receive halves of its stations and the history of all calls.
  *
- * Every function is proved against its contract (crates/wf_c). This page says in words what the contracts say, what a caller
- * has to see to, which nothing checks in C, and under "Not proved" what no contract says.
+ * Every function is proved against its contract (crates/wf_c). This header says in words what the contracts
+ * say. It also says which conditions a caller has to keep, which C does not check, and under "Not proved"
+ * what no contract says.
  *
- * Handles. A `struct wf_path` belongs to the caller. It holds nothing while it is all zero, `wf_path_make` puts a path into
- * it, and `wf_path_free` takes the path out and frees it. In between every other function may be called on it. Do not copy
- * it, and do not look into it. In C++ `{}` initializes a handle, and a handle may be moved by copying its bits where the old
- * one is zeroed. A `struct wf_cell` is the same for a cell.
+ * Handles. A `struct wf_path` belongs to the caller. It is empty while it is all zero. `wf_path_make` puts a
+ * path into it, and `wf_path_free` takes the path out and frees it; between these two calls every other
+ * function may be called on it. Do not copy a handle, and do not use its field. In C++ `{}` initializes a
+ * handle, and a handle may be moved by copying its bits if the old one is then zeroed. A `struct wf_cell` is
+ * the same for a cell.
  *
- * Memory. `wf_path_make` takes memory for the path, and `wf_path_enqueue` for one frame, and so do these functions of a cell.
- * It comes from malloc, realloc and free of the program. They have to be of one allocator, and to align a block to each power
- * of two up to 16 that divides its size.
+ * Memory. `wf_path_make` allocates memory for the path, and `wf_path_enqueue` for one frame; `wf_cell_make`
+ * and `wf_cell_enqueue` do the same for a cell. They call malloc, realloc and free of the program. These
+ * three have to belong to one allocator, and have to align a block to each power of two up to 16 that divides
+ * its size.
  *
- * Threads. A handle may go from thread to thread, and many threads may share one under one lock of the caller's: path and cell
- * are proved to be what may be sent to another thread (Rust's `Send`). No two calls on one handle at a time, readers among
- * themselves excepted: a reader is a function that takes a handle by a pointer to const. Two handles have nothing in common. No
- * function waits for another thread, and none may be called from a signal handler, nor in the child of a fork of a process with
- * threads. With threads of POSIX:
+ * Threads. A handle may move from thread to thread, and threads may share one under one lock of theirs. Two
+ * calls on one handle must not run at the same time, unless both are readers: a reader is a function that
+ * takes a handle by a pointer to const. Two handles share no state. It is proved that a path, a cell and the
+ * handle of either may be sent to another thread (Rust's `Send`). No function waits for another thread. Do
+ * not call a function from a signal handler, nor in the child of a fork of a process with threads. With POSIX
+ * threads:
  *
  *     pthread_mutex_lock(&lock);
  *     code = wf_path_pull(&path, WF_BE, &reply, &frames);
  *     pthread_mutex_unlock(&lock);
  *
- * `reply` and `frames` are the caller's: each thread has its own, and looks into them after it has let go of the lock.
+ * `reply` and `frames` are the caller's: each thread has its own, and may read them after it has released the
+ * lock.
  *
- * Buffers. A pointer must not be null, also where the length is 0, but for the `body` of wf_path_reap and wf_cell_reap where
- * `room` is 0. What a function writes to must not overlap anything else that it is given, nor the body of a packet. `length` and
- * `room` are at most what the buffer has. Every struct and buffer must be initialized, as by `= {0}`, before it is handed in; a
- * packet's `body` then still has to be set. The library keeps no pointer of the caller's.
+ * Buffers. A pointer must not be null, even if the length is 0. The only exception is `body` of wf_path_reap
+ * and wf_cell_reap if `room` is 0. Memory that a function writes to must not overlap any other argument, nor
+ * the body of a packet. `length` and `room` are at most the size of the buffer. Every struct and buffer must
+ * be initialized, for example by `= {0}`, before it is passed to a function; the `body` of a packet then
+ * still has to be set. The library keeps no pointer of the caller's.
  *
- * Platform. Pointers and size_t have 64 bits, and each field of a struct stands at its natural alignment: do not pack them.
+ * Platform. Pointers and size_t have 64 bits, and each field of a struct has its natural alignment: do not
+ * pack structs.
  *
- * Times are in microseconds, stations are 0 to `stations` - 1, TIDs 0 to 7. Counts of a path must stay below 2^62: the clock,
- * the exchanges, the accepted frames, and a live station's airtime in each class (wf_path_now, wf_path_exchanges,
- * wf_path_tally, wf_path_share). A cell asks nothing of its counts.
+ * Units. Times are in microseconds. Station numbers are 0 to `stations` - 1, and TIDs 0 to 7. The counts of a
+ * path must stay below 2^62: the clock, the exchanges, the accepted frames, and each live station's airtime
+ * in each class (wf_path_now, wf_path_exchanges, wf_path_tally, wf_path_share). wf_path_has_small_counts says
+ * whether they are. This does not apply to cells.
  *
- * Breaches. A handle that is never freed leaks what it holds. Every other breach has no defined behaviour:
- * - a handle that is used while it holds nothing, made while it holds something, freed twice, or used beside a copy of it;
- * - a handle of a cell that is given as one of a path by a cast, or of a path as one of a cell;
- * - one handle in two functions at once, of which one is no reader;
- * - a `length` or `room` that is more than the buffer has: what lies behind it is read, or written;
- * - a struct of another layout, on a platform of another kind;
- * - a null pointer, an overlap, a buffer that is not initialized, a count that is not below 2^62.
+ * Breaches. A handle that is never freed leaks what it holds. Every other breach is undefined behaviour:
+ * - to use a handle while it is empty, to make one while it holds something, to free one twice, or to use a
+ *   handle and a copy of it;
+ * - to pass a handle of a cell as one of a path, by a cast, or the reverse;
+ * - to use one handle in two functions at once, unless both are readers;
+ * - a `length` or `room` above the size of the buffer: memory after the buffer is read or written;
+ * - a struct with another layout, or another kind of platform;
+ * - a null pointer, an overlap, a buffer that is not initialized, or a count that is not below 2^62.
  *
  * Not proved.
- * - That there is ever memory: each function that takes some may give WF_NO_MEMORY, by its contract.
- * - That no other function takes any. By the code none does.
- * - That a reader writes nothing to the handle, nor to what it holds: its contract says that what the handle holds stays. By the
- *   code none does. checks/c-library calls each of them on a handle in memory that cannot be written.
- * - That a null `body` with `room` 0 is as good as any other pointer: no contract speaks of null. By the code nothing looks at it.
- * - That what is let go is freed: a frame when it is reaped or refused, and all of a path or a cell by its `free`. That
- *   nothing is freed twice is proved. checks/c-library runs programs under sanitizers, which see that all is freed.
- * - That the counts of a path stay below 2^62. By the code none rises by more than 10,000,000 in a call, so they do for the
- *   first 2^38 calls.
+ * - That memory is ever available: by its contract, each function that allocates may return WF_NO_MEMORY.
+ * - That no other function allocates. By the code none does.
+ * - That a reader writes neither to the handle nor to what it holds: its contract says only that the value of
+ *   what it holds is unchanged. By the code no reader writes. checks/c-library calls each of them on a handle
+ *   in read-only memory.
+ * - That a null `body` with `room` 0 is as good as any other pointer: no contract mentions null. By the code
+ *   it is never dereferenced.
+ * - That memory is freed: that of a frame when it is reaped or refused, and all of a path or a cell by its
+ *   `free`. It is proved that nothing is freed twice. checks/c-library runs programs under sanitizers that
+ *   report leaks.
+ * - That the counts of a path stay below 2^62. By the code, wf_path_advance sets the clock to a time below
+ *   2^61, and no other call raises a count by more than 10,000,000. So the counts stay below 2^62 for the
+ *   first 2^37 calls. After more calls, wf_path_has_small_counts says whether the path may still be used.
  */
 #ifndef WF_H
 #define WF_H
@@ -62,13 +75,14 @@
 #include <stddef.h>
 #include <stdint.h>
 
-/* The version of this header and of the library that it belongs to, and what may change under which number.
- * - Another patch number: nothing of what is said here.
- * - Another minor number: there may be more functions, more codes, more kinds and more settings, these in what wf_settings has
- *   reserved. No other struct gets a field, not even where it has octets to spare: more of a packet, or of a frame that was taken
- *   back, would be handed over by further functions. No number means something else, and nothing asks for more. So what was
- *   built over an older header goes on over a newer library as it was, with the same answers to the same calls.
- * - Another major number: anything. The name that a loader looks for has it (libwf.so.1). */
+/* The version of this header and of its library, and what may change with each part of the number.
+ * - Another patch number: nothing that this header says.
+ * - Another minor number: there may be more functions, codes, kinds and settings; settings use the reserved
+ *   numbers of wf_settings. No other struct gets a field, not even in its padding: more data of a packet, or
+ *   of a reaped frame, would get new functions. No number changes its meaning, and no function gets a
+ *   stricter condition. So a program that was built with an older header runs over a newer library unchanged,
+ *   and the same calls get the same answers.
+ * - Another major number: anything. The soname contains the major number (libwf.so.1). */
 #define WF_VERSION_MAJOR 1
 #define WF_VERSION_MINOR 0
 #define WF_VERSION_PATCH 0
@@ -78,23 +92,28 @@
 extern "C" {
 #endif
 
-/* What functions of type int32_t give back, but for wf_path_live and wf_path_can_pull. 0 is well. Each other number says why
- * nothing has changed: neither what the handle holds, nor the caller's structs and buffers but for `reply`, which shows the
- * refusal, and for what a function says itself. WF_IDLE may have changed something, and a refused call of a cell is an entry
- * of its history. */
+/* The values that functions of type int32_t return, except wf_path_live, wf_path_can_pull, wf_path_listed and
+ * wf_path_has_small_counts. 0 means success. Any other code says why nothing has changed: neither what the
+ * handle holds, nor the caller's structs and buffers, except `reply`, which shows the refusal, and except
+ * what the comment of a function says. WF_IDLE may have changed something, and a refused call of a cell is an
+ * entry of its history. */
 enum wf_code {
+  /* success */
   WF_OK = 0,
+  /* begin refusals: tools/tables writes these lines */
   /* refusals; `reply` then has kind WF_KIND_REFUSED */
   WF_BAD_STATION = 1,   /* the station number is not below `stations` */
   WF_BAD_WINDOW = 2,    /* the window is not 1 to 256 */
   WF_BAD_START = 3,     /* the first sequence number is above 4095 */
   WF_BAD_EXPONENT = 4,  /* the A-MPDU length exponent is above 3 */
-  WF_BAD_RATE = 5,      /* there is no such rate: the MCS, the width, the guard interval or the streams are none of its format, or
-                         * are one of the ten combinations that VHT leaves out (wf_path_rate_vht) */
-  WF_BAD_TICK = 6,      /* the clock would move by more than 10,000,000 microseconds; wf_path_advance: back, or to 2^62 or more */
+  WF_BAD_RATE = 5,      /* there is no such rate: the MCS, the width, the guard interval or the
+                         * streams are none of its format, or are one of the ten combinations
+                         * that VHT leaves out (wf_path_rate_vht) */
+  WF_BAD_TICK = 6,      /* the clock would move by more than 10,000,000 microseconds;
+                         * wf_path_advance: back, or to 2^61 or more */
   WF_BAD_TID = 7,       /* the TID is above 7 */
-  WF_BAD_AIR = 8,       /* the airtime is 0 or above 65,535 microseconds; at the end of an exchange: the one that is named is above
-                         * `charge` */
+  WF_BAD_AIR = 8,       /* the airtime is 0 or above 65,535 microseconds; at the end of an
+                         * exchange: the one that is named is above `charge` */
   WF_BAD_INDEX = 9,     /* the exchange has no transmission of that index */
   WF_LIVE = 10,         /* the station is live already */
   WF_NO_STATION = 11,   /* the station is not live */
@@ -102,105 +121,119 @@ enum wf_code {
   WF_NO_ANSWER = 13,    /* the exchange was to be heard, but its station never answered */
   WF_OPEN = 14,         /* the station has `count` open exchanges */
   WF_ROOM = 15,         /* `count` frames are accepted and not yet reaped: as many as `room` */
-  WF_SLEEPING = 16,     /* the station sleeps, and `count` frames of the class are queued for it: `sleeping` or more */
+  WF_SLEEPING = 16,     /* the station sleeps, and `count` frames of the class are queued for it:
+                         * `sleeping` or more */
   WF_FULL = 17,         /* `count` exchanges of the class are open: as many as `inflight` */
-  WF_IDLE = 18,         /* no station of the class is ready; the only refusal after which something may have changed */
+  WF_IDLE = 18,         /* no station of the class is ready; the only refusal after which
+                         * something may have changed */
   WF_ANSWERED = 19,     /* the exchange was answered already */
   WF_ARRIVED = 20,      /* that transmission arrived already */
   WF_NOTHING = 21,      /* there is nothing to answer, to send or to reap */
   WF_ASLEEP = 22,       /* the station is asleep already */
   WF_AWAKE = 23,        /* the station is awake */
   WF_POLLED = 24,       /* the station has a credit that is not spent yet */
-  WF_DEBT = 25,         /* the deficit, which stays at `deficit`, would fall below -1,000,000 microseconds */
+  WF_DEBT = 25,         /* the deficit, which stays at `deficit`, would fall below -1,000,000
+                         * microseconds */
   WF_HISTORY_FULL = 26, /* the history has `calls` entries; the call is none */
   WF_BAD_WEIGHT = 27,   /* the weight is not 1 to 16 */
-  /* beside the machine's */
-  WF_NO_MEMORY = 40,    /* there is no memory */
-  WF_BAD_LENGTH = 41,   /* a body has no octet, or more than WF_GREATEST_BODY */
+  /* end refusals */
+  /* other codes */
+  WF_NO_MEMORY = 40,    /* out of memory */
+  WF_BAD_LENGTH = 41,   /* the body is empty, or longer than WF_GREATEST_BODY */
   WF_SMALL_BUFFER = 42, /* the buffer is too small */
-  WF_BAD_CALL = 43,     /* the numbers show no call, or one that brings a frame or takes one, or a rate of no format */
-  WF_BAD_ADDRESS = 44,  /* the address is a group's: the lowest bit of its first octet is set */
-  /* octets that are no BlockAck to the exchange */
-  WF_BLOCK_LENGTH = 51, /* not 28 octets, or 52 where the window is above 64 */
+  WF_BAD_CALL = 43,     /* no call, a call that enqueues or reaps, or a rate of no format */
+  WF_BAD_ADDRESS = 44,  /* the address is a group address: the lowest bit of its first octet is set */
+  /* why octets are not a BlockAck to the exchange */
+  WF_BLOCK_LENGTH = 51, /* not 28 octets, or, if the window is above 64, not 52 */
   WF_BLOCK_KIND = 52,   /* not a BlockAck */
   WF_BLOCK_BASIC = 53,  /* not compressed */
-  WF_BLOCK_MULTI = 54,  /* of many TIDs */
+  WF_BLOCK_MULTI = 54,  /* for several TIDs */
   WF_BLOCK_FRAGMENT = 55, /* its fragment number is not 0 */
-  WF_BLOCK_NARROW = 56, /* not of 256 bits, and the window is above 64 */
+  WF_BLOCK_NARROW = 56, /* the window is above 64, and the bitmap does not have 256 bits */
   WF_NOT_MINE = 57,     /* not to the access point, or not from the exchange's station */
-  WF_WRONG_TID = 58,    /* of another TID */
-  /* wf_path_make, wf_cell_make: 100 and the place of the first setting that is out of its range, 1 to 13; or 14 to 16 where
-   * that is the first reserved number that is not 0 */
+  WF_WRONG_TID = 58,    /* for another TID */
+  /* wf_path_make, wf_cell_make: 100 plus the place, counted from 1, of the first setting that is out of its
+   * range, or of the first reserved number that is not 0; their places follow those of the settings, up to
+   * 16 */
   WF_BAD_SETTING = 100
 };
 
-/* Access classes. A greater number counts as WF_VO. */
+/* The access classes: background, best effort, video and voice. Functions treat a greater number as WF_VO. */
 enum wf_class { WF_BK = 0, WF_BE = 1, WF_VI = 2, WF_VO = 3 };
 
-/* What became of a frame. */
+/* The fates of frames. */
 enum wf_fate {
-  WF_HELD = 0,      /* it is inside; no reaped frame is */
-  WF_ACKED = 1,     /* acknowledged */
-  WF_OVERLIMIT = 2, /* dropped since the flow queues were full */
-  WF_CODEL = 3,     /* dropped by CoDel */
-  WF_RETRIES = 4,   /* dropped after its last transmission */
-  WF_LEFT = 5       /* dropped since its station left */
+  /* begin fates: tools/tables writes these lines */
+  WF_HELD = 0,      /* inside: queued, waiting for a transmission or on the air; no reaped frame
+                     * is held */
+  WF_ACKED = 1,     /* acknowledged: a BlockAck showed that it arrived */
+  WF_OVERLIMIT = 2, /* dropped when the flow queues held `limit` frames: it was the head of the
+                     * longest */
+  WF_CODEL = 3,     /* dropped by CoDel (RFC 8289) */
+  WF_RETRIES = 4,   /* dropped after its last transmission: it was sent `attempts` times and
+                     * never acknowledged */
+  WF_LEFT = 5       /* dropped when its station left */
+  /* end fates */
 };
 
-/* What a call answers: which fields of a `struct wf_reply` mean something. All others are 0. Each has the first word of its line in
- * a trace (docs/TRACE.md). */
+/* The kinds of answers, each with the fields of `struct wf_reply` that have a meaning; all other fields are
+ * 0. An answer's name is the first word of its line in a trace (docs/TRACE.md). */
 enum wf_kind {
   WF_KIND_JOINED = 0,
-  WF_KIND_LEFT = 1,      /* count: how many frames were dropped */
+  WF_KIND_LEFT = 1,      /* count: the number of frames that were dropped */
   WF_KIND_SET = 2,       /* the rate is set */
   WF_KIND_NOW = 3,       /* now */
-  WF_KIND_ACCEPTED = 4,  /* id; dropped, where has_dropped is 1 */
-  WF_KIND_SEND = 5,      /* exchange, station, tid, air, more; start, where request is 1 */
-  WF_KIND_RELEASED = 6,  /* of a cell alone: wf_cell_released says of what frames */
-  WF_KIND_BA = 7,        /* of a cell alone: wf_cell_block says what is in it */
+  WF_KIND_ACCEPTED = 4,  /* id; dropped, if has_dropped is 1 */
+  WF_KIND_SEND = 5,      /* exchange, station, tid, air, more; start, if request is 1 */
+  WF_KIND_RELEASED = 6,  /* only from a cell: wf_cell_released writes the frames */
+  WF_KIND_BA = 7,        /* only from a cell: wf_cell_block writes the BlockAck */
   WF_KIND_DONE = 8,      /* acked, waiting, failed */
   WF_KIND_SLEPT = 9,
   WF_KIND_WOKEN = 10,
   WF_KIND_POLLED = 11,   /* class_ */
   WF_KIND_CHARGED = 12,  /* deficit */
   WF_KIND_REAPED = 13,   /* id, fate */
-  WF_KIND_REFUSED = 14   /* refusal; count or deficit, where the refusal has one */
+  WF_KIND_REFUSED = 14   /* refusal; count or deficit, if the refusal has one */
 };
 
-/* The calls of a cell: which fields of a `struct wf_call` mean something. All others are 0 where an entry is read, and are not looked
- * at where a call is made. A call has the number of the answer that it may have. */
+/* The calls of a cell, each with the fields of `struct wf_call` that have a meaning. The other fields are 0
+ * in an entry that is read, and are ignored in a call that is made. A call has the number of its answer. */
 enum wf_call_kind {
+  /* begin calls: tools/tables writes these lines; the comments stay */
   WF_CALL_JOIN = 0,    /* station, window, start, exponent, weight */
   WF_CALL_LEAVE = 1,   /* station */
-  WF_CALL_RATE = 2,    /* station, form, mcs, mhz; of HT short_guard, of VHT short_guard and streams, of HE guard and streams */
+  WF_CALL_RATE = 2,    /* station, form, mcs, mhz; HT: short_guard; VHT: short_guard and streams;
+                        * HE: guard and streams */
   WF_CALL_TICK = 3,    /* by */
   WF_CALL_ENQUEUE = 4, /* station, tid, flow, length; made by wf_cell_enqueue */
   WF_CALL_PULL = 5,    /* class_ */
   WF_CALL_ARRIVE = 6,  /* exchange, index */
   WF_CALL_ANSWER = 7,  /* exchange */
-  WF_CALL_DONE = 8,    /* exchange, heard, air, which is 0 where no airtime is named */
+  WF_CALL_DONE = 8,    /* exchange, heard; air, or 0 if no airtime is given */
   WF_CALL_SLEEP = 9,   /* station */
   WF_CALL_WAKE = 10,   /* station */
   WF_CALL_POLL = 11,   /* station */
   WF_CALL_RX = 12,     /* station, class_, air */
   WF_CALL_REAP = 13    /* made by wf_cell_reap */
+  /* end calls */
 };
 
-/* The greatest body of a frame, and the greatest transmission, in octets. */
+/* Sizes in octets: the longest body of a frame, the longest transmission, and the header of a data frame. */
 #define WF_GREATEST_BODY 2304
 #define WF_GREATEST_MPDU 2330
 #define WF_HEADER 26
 
-/* The octets of a name. */
+/* The size of a buffer for a name, in octets. */
 #define WF_NAME 16
 
-/* A handle. */
+/* The handle of a path. */
 struct wf_path {
   void *at;
 };
 
-/* Settings; ranges in brackets. */
+/* The settings of a path or a cell; ranges in brackets. */
 struct wf_settings {
+  /* begin settings: tools/tables writes these lines */
   uint32_t stations;     /* station numbers [1..256] */
   uint32_t flows;        /* shared flow queues [1..4096] */
   uint32_t limit;        /* frames in flow queues [1..65535] */
@@ -212,92 +245,95 @@ struct wf_settings {
   uint32_t agg;          /* frames in one aggregate [1..256] */
   uint32_t cap;          /* data time of one aggregate, microseconds [3000..5400] */
   uint32_t sleeping;     /* frames queued per sleeping station and class [1..65535] */
-  uint32_t calls;        /* entries of a history, which a path does not keep [1..4294967295] */
-  uint32_t charge;       /* microseconds that the end of an exchange may name, where that names any [0..65535] */
-  uint32_t reserved[3];  /* for later settings: each 0 */
+  uint32_t calls;        /* calls of a history, as that of a trace; a path keeps none
+                          * [1..4294967295] */
+  uint32_t charge;       /* greatest airtime that the end of an exchange may name, microseconds
+                          * [0..65535] */
+  /* end settings */
+  uint32_t reserved[3];  /* for later settings: each has to be 0 */
 };
 
-/* An answer (enum wf_kind). */
+/* The answer to a call. `kind` says which of the other fields have a meaning (enum wf_kind). */
 struct wf_reply {
   uint64_t exchange;    /* the exchange to send */
-  uint64_t id;          /* the frame that was accepted or reaped; ids run from 0 */
-  uint64_t dropped;     /* the frame that was dropped for the limit */
+  uint64_t id;          /* the frame that was accepted or reaped; ids count from 0 */
+  uint64_t dropped;     /* the frame that was dropped because the flow queues were full */
   uint64_t now;         /* the clock */
-  int64_t deficit;      /* the deficit after the charge */
-  uint32_t air;         /* what the exchange takes of the air */
-  uint32_t count;
+  int64_t deficit;      /* the deficit after the charge; after WF_DEBT the one that stays */
+  uint32_t air;         /* the airtime of the exchange */
+  uint32_t count;       /* frames that a leave dropped, or the `count` of a refusal */
   uint16_t station;     /* the station to send to */
   uint16_t start;       /* the start of the BlockAckReq: 0 to 4095 */
-  uint16_t acked;       /* frames of the exchange that are acknowledged, */
-  uint16_t waiting;     /* wait again, */
-  uint16_t failed;      /* or are dropped */
+  uint16_t acked;       /* frames of the exchange that are acknowledged */
+  uint16_t waiting;     /* frames of the exchange that wait to be sent again */
+  uint16_t failed;      /* frames of the exchange that are dropped */
   uint8_t kind;         /* enum wf_kind */
-  uint8_t refusal;      /* enum wf_code, 0 to 27: what the function gave back */
-  uint8_t tid;
-  uint8_t class_;       /* enum wf_class */
+  uint8_t refusal;      /* enum wf_code, 0 to 27: what the function returned */
+  uint8_t tid;          /* the TID to send for */
+  uint8_t class_;       /* enum wf_class: the class of the credit */
   uint8_t fate;         /* enum wf_fate */
-  uint8_t has_dropped;  /* 0 or 1 */
-  uint8_t request;      /* 0 or 1 */
-  uint8_t more;         /* 0 or 1: the station has more to be sent */
+  uint8_t has_dropped;  /* 1 if `dropped` is set, else 0 */
+  uint8_t request;      /* 1 if the exchange is a BlockAckReq, else 0 */
+  uint8_t more;         /* 1 if the station has more to be sent (the More Data bit), else 0 */
 };
 
-/* The frames of an aggregate: the id and the sequence number (0 to 4095) of each, of `count`. */
+/* The frames of an aggregate: the first `count` ids and sequence numbers (0 to 4095). */
 struct wf_frames {
   uint64_t ids[256];
   uint16_t numbers[256];
   uint16_t count;
 };
 
-/* What an open exchange sends, and to whom. */
+/* The station of an open exchange, and what it sends. */
 struct wf_sent {
   uint16_t station;
-  uint16_t count;  /* transmissions: one for each frame, or the one BlockAckReq */
+  uint16_t count;  /* transmissions: one for each frame, or 1 for a BlockAckReq */
   uint8_t tid;
-  uint8_t request; /* 1 where it sends a BlockAckReq */
+  uint8_t request; /* 1 if it sends a BlockAckReq, else 0 */
 };
 
-/* A packet that comes for a station, to be sent as a frame. */
+/* A packet for a station, to be sent as a frame. */
 struct wf_packet {
   const uint8_t *body; /* its octets, which are copied */
-  size_t length;       /* how many they are: 1 to WF_GREATEST_BODY */
-  uint64_t tag;        /* what its owner finds it again by, as an index or a pointer: nothing here reads it */
-  uint32_t flow;
-  uint8_t source[6];   /* the address that it comes from (the third of its header); six zeros stand for 02:00:00:02:00:00 */
-  uint8_t tid;
+  size_t length;       /* the number of octets: 1 to WF_GREATEST_BODY */
+  uint64_t tag;        /* identifies the packet to its owner; the library does not use it */
+  uint32_t flow;       /* the number of its flow */
+  uint8_t source[6];   /* its source address, the third of its header; six zeros mean 02:00:00:02:00:00 */
+  uint8_t tid;         /* 0 to 7 */
 };
 
 /* A frame that was reaped. */
 struct wf_taken {
   uint64_t id;
-  uint64_t stamp;    /* when it was accepted, in microseconds */
-  uint64_t tag;      /* that of its packet */
+  uint64_t stamp;    /* the clock when it was accepted, in microseconds */
+  uint64_t tag;      /* the tag of its packet */
   uint32_t flow;
   uint16_t station;
-  uint16_t length;   /* of its body, 1 to WF_GREATEST_BODY octets */
-  uint8_t source[6]; /* that of its packet, or 02:00:00:02:00:00 where that was six zeros */
+  uint16_t length;   /* the length of its body: 1 to WF_GREATEST_BODY octets */
+  uint8_t source[6]; /* the source of its packet, or 02:00:00:02:00:00 if that was six zeros */
   uint8_t tid;
   uint8_t fate;      /* enum wf_fate, never WF_HELD */
   uint8_t attempts;  /* how often it was sent, at most the setting `attempts` */
 };
 
-/* The accepted frames by what became of them; the rest of them are inside. */
+/* How many frames were accepted, and how many of them have each fate. The others are held. */
 struct wf_tally {
   uint64_t accepted;
   uint64_t acked;
-  uint64_t overlimit; /* dropped since the flow queues were full */
+  uint64_t overlimit; /* dropped because the flow queues were full */
   uint64_t codel;     /* dropped by CoDel */
   uint64_t retries;   /* dropped after their last transmission */
-  uint64_t left;      /* dropped since their station left */
+  uint64_t left;      /* dropped because their station left */
 };
 
 /* A station's airtime in a class since its join, in microseconds. */
 struct wf_share {
-  int64_t deficit;   /* what it may use before it is not picked again; below 0 it used too much */
-  uint64_t charged;  /* what its exchanges took */
-  uint64_t rx;       /* what it used itself (wf_path_rx) */
+  int64_t deficit;   /* the airtime that it may still use; below 0 if it used too much */
+  uint64_t charged;  /* the airtime of its exchanges */
+  uint64_t rx;       /* the airtime that it used to send (wf_path_rx) */
 };
 
-/* The formats of rates. The numbers of a call for a rate show no call where `form` is another. */
+/* The formats of rates. A call with any other `form` is WF_BAD_CALL. */
 enum wf_form { WF_FORM_HT = 0, WF_FORM_VHT = 1, WF_FORM_HE = 2 };
 
 /* The handle of a cell. */
@@ -305,45 +341,46 @@ struct wf_cell {
   void *at;
 };
 
-/* A call of a cell (enum wf_call_kind). */
+/* A call of a cell. `kind` says which of the other fields have a meaning (enum wf_call_kind). */
 struct wf_call {
   uint64_t exchange;
   uint32_t flow;
-  uint32_t by;         /* what the clock moves by, in microseconds */
-  uint32_t air;        /* what the station used, or what an exchange took, in microseconds */
+  uint32_t by;         /* how far the clock moves, in microseconds */
+  uint32_t air;        /* the airtime that a station or an exchange used, in microseconds */
   uint16_t station;
   uint16_t window;     /* in frames */
   uint16_t start;      /* the first sequence number */
   uint16_t index;      /* of a transmission of the exchange, from 0 on */
   uint16_t length;     /* of the frame's body, in octets */
-  uint16_t guard;      /* of a rate of HE: the guard interval, in nanoseconds */
+  uint16_t guard;      /* HE: the guard interval, in nanoseconds */
   uint8_t kind;        /* enum wf_call_kind */
   uint8_t tid;
   uint8_t class_;      /* enum wf_class */
-  uint8_t exponent;    /* of the A-MPDU length */
+  uint8_t exponent;    /* the A-MPDU length exponent */
   uint8_t weight;
-  uint8_t form;        /* enum wf_form: of what format the rate is */
+  uint8_t form;        /* enum wf_form: the format of the rate */
   uint8_t mcs;
   uint8_t mhz;
-  uint8_t short_guard; /* of a rate of HT or VHT: 1, or any number but 0, for the short guard interval */
-  uint8_t streams;     /* of a rate of VHT or HE: the spatial streams */
-  uint8_t heard;       /* 1, or any number but 0, where the exchange ends with its answer heard */
+  uint8_t short_guard; /* HT and VHT: other than 0 for the short guard interval; 1 in an entry that is read */
+  uint8_t streams;     /* VHT and HE: the number of spatial streams */
+  uint8_t heard;       /* other than 0 if the BlockAck was heard; 1 in an entry that is read */
 };
 
-/* The frames that a station passes up, in order: the id of each, of `count`. */
+/* The frames that a station passed up: the first `count` ids, in order. */
 struct wf_passed_up {
   uint64_t ids[256];
   uint16_t count;
 };
 
-/* A station's BlockAck: bit n of the bitmap, the least significant bit of bits[0] first, tells of the number n past the start. */
+/* A station's BlockAck. Bit n of the bitmap is for the sequence number start + n, modulo 4096. Bit 0 is the
+ * least significant bit of bits[0]. */
 struct wf_block {
   uint64_t bits[4];
   uint16_t start; /* 0 to 4095 */
-  uint8_t wide;   /* 1 where it tells of 256 numbers, 0 where of 64 */
+  uint8_t wide;   /* 1 if the bitmap has 256 bits, 0 if it has 64 */
 };
 
-/* The three numbers of a version. */
+/* The three parts of a version. */
 struct wf_version {
   uint16_t major;
   uint16_t minor;
@@ -352,220 +389,294 @@ struct wf_version {
 
 /* ---- names and version */
 
-/* Writes the version of the library that is linked: at least WF_VERSION_MAJOR and so on, where it goes with this header. */
+/* Writes the version of the library that is linked. A library for this header has the same major number, and
+ * a minor number of at least WF_VERSION_MINOR. */
 void wf_version(struct wf_version *version);
 
-/* Write the word for a number, for reports and logs, and zeros behind it, at least one: those of a trace (docs/TRACE.md) for
- * refusals, kinds of answers (the first word of their lines), fates and settings (by their places, 1 to 13); for the other
- * codes those of enum wf_code in small letters, with "-", and "bad-setting" for WF_BAD_SETTING + 1 to WF_BAD_SETTING + 16. A number
- * that is none of them has the word "?". */
+/* Writes the word for a code, for reports and logs; the rest of `name`, at least one octet, is 0. A refusal
+ * has its word in traces (docs/TRACE.md). Any other code of enum wf_code has its name in small letters with
+ * "-", such as "no-memory", and WF_BAD_SETTING + 1 to WF_BAD_SETTING + 16 have "bad-setting". The word for
+ * any other number is "?". */
 void wf_code_name(int32_t code, char name[WF_NAME]);
+
+/* Writes the word for a kind of answer (enum wf_kind), the first word of its line in a trace; the rest of
+ * `name`, at least one octet, is 0. The word for any other number is "?". */
 void wf_kind_name(int32_t kind, char name[WF_NAME]);
+
+/* Writes the word for a fate (enum wf_fate), as in a trace; the rest of `name`, at least one octet, is 0. The
+ * word for any other number is "?". */
 void wf_fate_name(int32_t fate, char name[WF_NAME]);
+
+/* Writes the word for a setting, as in a trace, by its place in struct wf_settings, 1 to 13; the rest of
+ * `name`, at least one octet, is 0. The word for any other number is "?". */
 void wf_setting_name(int32_t place, char name[WF_NAME]);
 
 /* ---- making and freeing */
 
-/* Writes the standard settings. */
+/* Writes the standard settings, which a trace has unless it gives others. */
 void wf_settings_standard(struct wf_settings *settings);
 
-/* Puts a path of these settings into a handle that holds nothing. WF_BAD_SETTING + n where the nth setting is out of its range,
- * WF_NO_MEMORY where there is no memory; the handle then holds nothing still. The settings are copied. */
+/* Puts a path with these settings into an empty handle. The settings are copied. Returns WF_OK;
+ * WF_BAD_SETTING + n if the nth setting is out of its range; or WF_NO_MEMORY. After an error the handle is
+ * still empty. */
 int32_t wf_path_make(struct wf_path *path, const struct wf_settings *settings);
 
-/* Frees the path of a handle with all frames inside; the handle then holds nothing. */
+/* Frees the path of a handle with all frames inside. The handle is then empty. */
 void wf_path_free(struct wf_path *path);
 
-/* ---- addresses, of six octets each, in the order in which they go on the air. A path has the access point's and one for each station
- * number; at first they are made up, 02:00:00:00:00:00 and, by the two octets of the station's number, 02:00:00:01:hh:ll. What is
- * sent goes from the access point's to that of the exchange's station, and a BlockAck is taken from the one to the other alone, by the
- * addresses that the path then has. No other call changes them: a station's stays where it leaves and joins. That no two live
- * stations have the same, nor one of them the access point's, is the caller's to see to. A cell has the made-up ones. */
+/* ---- addresses. A path has the address of the access point and one for each station number, of six octets
+ * each, in the order of the air. At first they are placeholders: 02:00:00:00:00:00 for the access point, and
+ * 02:00:00:01:hh:ll for a station, with the two octets of its number. A transmission goes from the access
+ * point's address to that of the exchange's station, and a BlockAck has to go from the second to the first; a
+ * function uses the addresses that the path has when it is called. No other call changes an address: a
+ * station number keeps its address when its station leaves and another one joins. The caller has to make sure
+ * that no two live stations have the same address, and that none has the access point's. A cell always has
+ * the placeholders. */
 
-/* Names the access point's address. WF_BAD_ADDRESS exactly where it is a group's, and then nothing has changed. */
+/* Sets the access point's address. Returns WF_OK; or WF_BAD_ADDRESS exactly if it is a group address, and
+ * then nothing has changed. */
 int32_t wf_path_set_base(struct wf_path *path, const uint8_t address[6]);
 
-/* Names the address of a station, live or not. WF_BAD_STATION, and else WF_BAD_ADDRESS exactly where it is a group's; after both
- * nothing has changed. */
+/* Sets the address of a station, live or not. Returns WF_OK; WF_BAD_STATION if the station number does not
+ * exist; or else WF_BAD_ADDRESS exactly if it is a group address. After an error nothing has changed. */
 int32_t wf_path_set_address(struct wf_path *path, uint16_t station, const uint8_t address[6]);
 
-/* Write the access point's address, and that of a station, live or not. WF_BAD_STATION, and then `out` is as it was. */
+/* Writes the access point's address. */
 void wf_path_base(const struct wf_path *path, uint8_t out[6]);
+
+/* Writes the address of a station, live or not. Returns WF_OK; or WF_BAD_STATION if the station number does
+ * not exist, and then `out` is unchanged. */
 int32_t wf_path_address(const struct wf_path *path, uint16_t station, uint8_t out[6]);
 
-/* ---- calls of the machine. Each writes its answer to `reply`, and gives the refusal: WF_OK where it was not refused. */
+/* ---- calls of the machine. Each writes its answer to `reply` and returns its refusal, or WF_OK if it was
+ * not refused. The refusals of a call are given in the order in which they are checked; the first that holds
+ * is returned. */
 
-/* A station becomes live: its window in frames (1 to 256), its first sequence number (0 to 4095), its A-MPDU length exponent (0 to
- * 3) and its weight in airtime (1 to 16). WF_BAD_STATION, WF_BAD_WINDOW, WF_BAD_START, WF_BAD_EXPONENT, WF_BAD_WEIGHT, WF_LIVE. */
+/* Makes a station live. `window` is its window in frames (1 to 256), `start` its first sequence number (0 to
+ * 4095), `exponent` its A-MPDU length exponent (0 to 3), and `weight` its weight in airtime (1 to 16). The
+ * station is awake, and its rate is MCS 0 of HT at 20 MHz with the long guard interval. Returns WF_OK,
+ * WF_BAD_STATION, WF_BAD_WINDOW, WF_BAD_START, WF_BAD_EXPONENT, WF_BAD_WEIGHT or WF_LIVE. */
 int32_t wf_path_join(struct wf_path *path, uint16_t station, uint16_t window, uint16_t start, uint8_t exponent, uint8_t weight,
                      struct wf_reply *reply);
 
-/* A station is no longer live; its frames are dropped. WF_BAD_STATION, WF_NO_STATION, WF_OPEN. */
+/* Makes a station leave: it is no longer live, and its frames are dropped as WF_LEFT. `count` of the reply is
+ * the number of these frames. Returns WF_OK, WF_BAD_STATION, WF_NO_STATION or WF_OPEN. */
 int32_t wf_path_leave(struct wf_path *path, uint16_t station, struct wf_reply *reply);
 
-/* A live station is sent to at this rate of HT: MCS 0 to 15, 20 or 40 MHz, the short guard interval where `short_guard` is not 0.
- * WF_BAD_STATION, WF_BAD_RATE, WF_NO_STATION. */
+/* Sets the rate of data to a live station, a rate of HT: MCS 0 to 15, 20 or 40 MHz, and the short guard
+ * interval if `short_guard` is not 0. Returns WF_OK, WF_BAD_STATION, WF_BAD_RATE or WF_NO_STATION. */
 int32_t wf_path_rate(struct wf_path *path, uint16_t station, uint8_t mcs, uint8_t mhz, uint8_t short_guard,
                      struct wf_reply *reply);
 
-/* A live station is sent to at this rate of VHT: MCS 0 to 9, 20, 40, 80 or 160 MHz, the short guard interval where `short_guard` is
- * not 0, 1 to 8 spatial streams. There is no rate of MCS 9 on 20 MHz with 1, 2, 4, 5, 7 or 8 streams, of MCS 6 on 80 MHz with 3 or 7,
- * of MCS 9 on 80 MHz with 6, and of MCS 9 on 160 MHz with 3. WF_BAD_STATION, WF_BAD_RATE, WF_NO_STATION. */
+/* Sets the rate of data to a live station, a rate of VHT: MCS 0 to 9, 20, 40, 80 or 160 MHz, the short guard
+ * interval if `short_guard` is not 0, and 1 to 8 spatial streams. VHT has no rate for MCS 9 on 20 MHz with 1,
+ * 2, 4, 5, 7 or 8 streams, MCS 6 on 80 MHz with 3 or 7, MCS 9 on 80 MHz with 6, and MCS 9 on 160 MHz with 3.
+ * Returns WF_OK, WF_BAD_STATION, WF_BAD_RATE or WF_NO_STATION. */
 int32_t wf_path_rate_vht(struct wf_path *path, uint16_t station, uint8_t mcs, uint8_t mhz, uint8_t short_guard, uint8_t streams,
                          struct wf_reply *reply);
 
-/* A live station is sent to at this rate of HE: MCS 0 to 11, 20, 40, 80 or 160 MHz, a guard interval of 800, 1600 or 3200
- * nanoseconds, 1 to 8 spatial streams. WF_BAD_STATION, WF_BAD_RATE, WF_NO_STATION. */
+/* Sets the rate of data to a live station, a rate of HE: MCS 0 to 11, 20, 40, 80 or 160 MHz, a guard interval
+ * of 800, 1600 or 3200 nanoseconds, and 1 to 8 spatial streams. Returns WF_OK, WF_BAD_STATION, WF_BAD_RATE or
+ * WF_NO_STATION. */
 int32_t wf_path_rate_he(struct wf_path *path, uint16_t station, uint8_t mcs, uint8_t mhz, uint16_t guard, uint8_t streams,
                         struct wf_reply *reply);
 
-/* The clock moves on by 0 to 10,000,000 microseconds. WF_BAD_TICK. */
+/* Moves the clock on by `by` microseconds, 0 to 10,000,000. Returns WF_OK or WF_BAD_TICK. */
 int32_t wf_path_tick(struct wf_path *path, uint32_t by, struct wf_reply *reply);
 
-/* The clock moves on to `now`, in microseconds, by as many ticks as it takes; the answer is that of the last. WF_BAD_TICK exactly
- * where `now` is before the clock, or 2^62 or more. */
+/* Moves the clock on to `now`, in microseconds, by as many ticks as are needed; `reply` gets the answer to
+ * the last one. Returns WF_OK, or WF_BAD_TICK exactly if `now` is before the clock, or is 2^61 or more. The
+ * clock has to stay below 2^62, so this limit leaves room for later ticks. */
 int32_t wf_path_advance(struct wf_path *path, uint64_t now, struct wf_reply *reply);
 
-/* A live station goes to sleep, and wakes. WF_BAD_STATION, WF_NO_STATION, WF_ASLEEP; WF_AWAKE. */
+/* Says that a live station goes to sleep: from then on it gets only what it polls for (wf_path_poll). Returns
+ * WF_OK, WF_BAD_STATION, WF_NO_STATION or WF_ASLEEP. */
 int32_t wf_path_sleep(struct wf_path *path, uint16_t station, struct wf_reply *reply);
+
+/* Says that a sleeping station wakes. Returns WF_OK, WF_BAD_STATION, WF_NO_STATION or WF_AWAKE. */
 int32_t wf_path_wake(struct wf_path *path, uint16_t station, struct wf_reply *reply);
 
-/* A sleeping station asks for one frame (PS-Poll). WF_BAD_STATION, WF_NO_STATION, WF_AWAKE, WF_POLLED, WF_NOTHING. */
+/* Says that a sleeping station asks for one frame (PS-Poll). It gets a credit, which permits one exchange of
+ * the class `class_` of the reply. Returns WF_OK, WF_BAD_STATION, WF_NO_STATION, WF_AWAKE, WF_POLLED or
+ * WF_NOTHING. */
 int32_t wf_path_poll(struct wf_path *path, uint16_t station, struct wf_reply *reply);
 
-/* A live station used 1 to 65,535 microseconds of airtime to send in a class. WF_BAD_STATION, WF_BAD_AIR, WF_NO_STATION, WF_DEBT. */
+/* Charges a live station for airtime that it used to send in a class: 1 to 65,535 microseconds. `deficit` of
+ * the reply is its deficit after the charge. Returns WF_OK, WF_BAD_STATION, WF_BAD_AIR, WF_NO_STATION or
+ * WF_DEBT. */
 int32_t wf_path_rx(struct wf_path *path, uint16_t station, uint8_t class_, uint32_t air, struct wf_reply *reply);
 
-/* A packet comes for a station. Its body is copied, and where it is refused nothing is kept of it: it is the caller's as before.
- * WF_BAD_LENGTH exactly where `length` is not 1 to WF_GREATEST_BODY, and else WF_NO_MEMORY where there is no memory for the
- * frame, whatever the rest of the call: after both `reply` is as it was. WF_BAD_STATION, WF_BAD_TID, WF_NO_STATION, WF_ROOM,
- * WF_SLEEPING. */
+/* Accepts a packet for a station as a frame, whose id is `id` of the reply. The body is copied. A refused
+ * packet is the caller's as before, and the path keeps nothing of it. Returns WF_OK; WF_BAD_LENGTH exactly if
+ * `length` is not 1 to WF_GREATEST_BODY; else WF_NO_MEMORY if there is no memory for the frame, whatever the
+ * rest of the call; or else WF_BAD_STATION, WF_BAD_TID, WF_NO_STATION, WF_ROOM or WF_SLEEPING. After
+ * WF_BAD_LENGTH and WF_NO_MEMORY `reply` is unchanged. */
 int32_t wf_path_enqueue(struct wf_path *path, uint16_t station, const struct wf_packet *packet, struct wf_reply *reply);
 
-/* The driver asks for the next exchange of a class. Where it sends an aggregate, `frames` says of what frames; else their count is
- * 0. WF_FULL, WF_IDLE. */
+/* Opens the next exchange of a class, which the driver then sends. If it is an aggregate, `frames` gets its
+ * frames; otherwise their count is 0. `air` of the reply is the time of the transmissions and of the
+ * BlockAck. Returns WF_OK, WF_FULL or WF_IDLE. */
 int32_t wf_path_pull(struct wf_path *path, uint8_t class_, struct wf_reply *reply, struct wf_frames *frames);
 
-/* Takes the first finished frame: its id and fate, what its packet was, with the tag, and its body of `taken->length` octets at the
- * front of `body`, the rest of which stays. Where `room` is 0 the body is let go uncopied, and `body` may be null.
- * WF_SMALL_BUFFER exactly where `room` is 1 to WF_GREATEST_BODY - 1, also where there is nothing to reap, and then `reply` is as it
- * was; WF_NOTHING. After both `taken` and `body` are as they were. */
+/* Takes the first finished frame out of the path. `taken` gets its id, its fate and what its packet was, and
+ * the front of `body` its `taken->length` octets; the rest of `body`, whose size is `room`, is unchanged. If
+ * `room` is 0, the octets are freed and not copied, and `body` may be null. Returns WF_OK; WF_SMALL_BUFFER
+ * exactly if `room` is 1 to WF_GREATEST_BODY - 1, even if there is nothing to reap, and then `reply` is
+ * unchanged; or WF_NOTHING. After an error `taken` and `body` are unchanged. */
 int32_t wf_path_reap(struct wf_path *path, struct wf_reply *reply, struct wf_taken *taken, uint8_t *body, size_t room);
 
 /* ---- an open exchange */
 
-/* Writes what an exchange sends, and to whom. WF_NO_EXCHANGE, and then `sent` is as it was. */
+/* Writes the station of an open exchange, and what it sends. Returns WF_OK; or WF_NO_EXCHANGE, and then
+ * `sent` is unchanged. */
 int32_t wf_path_sent(const struct wf_path *path, uint64_t exchange, struct wf_sent *sent);
 
-/* Writes the id of the frame of a transmission, from index 0 on. WF_BAD_INDEX where there is none: the exchange is not open, is a
- * request, or has no such transmission; then `id` is as it was. */
+/* Writes the id of the frame of a transmission; `index` counts from 0. Returns WF_OK; or WF_BAD_INDEX if the
+ * exchange is not open, is a BlockAckReq, or has no transmission with that index, and then `id` is
+ * unchanged. */
 int32_t wf_path_frame_id(const struct wf_path *path, uint64_t exchange, uint16_t index, uint64_t *id);
 
-/* Writes the tag of the frame of a transmission, by which a driver finds its own buffer. WF_BAD_INDEX where wf_path_frame_id gives it;
- * then `tag` is as it was. */
+/* Writes the tag of the frame of a transmission, by which a driver finds its own buffer; `index` counts from
+ * 0. Returns WF_OK; or WF_BAD_INDEX if the exchange is not open, is a BlockAckReq, or has no transmission
+ * with that index, and then `tag` is unchanged. */
 int32_t wf_path_frame_tag(const struct wf_path *path, uint64_t exchange, uint16_t index, uint64_t *tag);
 
-/* Writes the header alone of a transmission of data (a QoS data frame of IEEE 802.11-2012), WF_HEADER octets: for a driver that gathers,
- * and sends the body from a buffer of its own. A BlockAckReq has no body: wf_path_mpdu writes it. WF_NO_EXCHANGE, and WF_BAD_INDEX where
- * the exchange has no data of that index; then `out` is as it was. */
+/* Writes only the header of a data transmission (a QoS data frame of IEEE 802.11-2012): WF_HEADER octets. It
+ * is for a driver that gathers, and sends the body from its own buffer. wf_path_mpdu writes a BlockAckReq,
+ * which has no body. Returns WF_OK; WF_NO_EXCHANGE; or WF_BAD_INDEX if the exchange has no data frame with
+ * that index. After an error `out` is unchanged. */
 int32_t wf_path_header(const struct wf_path *path, uint64_t exchange, uint16_t index, uint8_t out[WF_HEADER]);
 
-/* Writes the octets of a transmission (a QoS data frame of IEEE 802.11-2012, or a BlockAckReq) and how many they are, at most
- * WF_GREATEST_MPDU and at most `room`; the rest of `out` stays. WF_NO_EXCHANGE, WF_BAD_INDEX, WF_SMALL_BUFFER; then `out` is
- * as it was, and `size` too, but where there is too little room it says how much is needed. */
+/* Writes the octets of a transmission (a QoS data frame or a BlockAckReq of IEEE 802.11-2012), and to `size`
+ * how many they are: at most WF_GREATEST_MPDU, and at most `room`, the size of `out`. The rest of `out` is
+ * unchanged. Returns WF_OK, WF_NO_EXCHANGE, WF_BAD_INDEX or WF_SMALL_BUFFER. After an error `out` is
+ * unchanged; after WF_SMALL_BUFFER `size` is the room that is needed, and after the other errors it is
+ * unchanged. */
 int32_t wf_path_mpdu(const struct wf_path *path, uint64_t exchange, uint16_t index, uint8_t *out, size_t room, size_t *size);
 
-/* An exchange ends: its station pays for it, and its frames are acknowledged, wait again or are dropped. What it pays is `air`, 1 to
- * `charge` microseconds, which a device has measured; where `air` is 0, what wf_path_pull answered. WF_NO_EXCHANGE, and then
- * WF_BAD_AIR where `air` is above `charge`: by the standard settings, where that is 0, each number but 0 is.
- * Nothing was heard; */
+/* Ends an exchange whose BlockAck was not heard. Its frames wait to be sent again, or are dropped after their
+ * last transmission. The station is charged `air`, 1 to `charge` microseconds as the device measured them,
+ * or, if `air` is 0, what wf_path_pull answered. Returns WF_OK; WF_NO_EXCHANGE; or WF_BAD_AIR if `air` is
+ * above the setting `charge`, which is 0 in the standard settings. */
 int32_t wf_path_done_lost(struct wf_path *path, uint64_t exchange, uint32_t air, struct wf_reply *reply);
 
-/* or a BlockAck was heard of this start (modulo 4096) and this bitmap, the least significant bit of the first octet first: 64 bits
- * count, or 256 where the window is above 64; */
+/* Ends an exchange by the start (modulo 4096) and the bitmap of a BlockAck that was heard. The bitmap begins
+ * with the least significant bit of bits[0]; its first 64 bits count, or all 256 if the window is above 64.
+ * Frames that it shows are acknowledged; the others wait to be sent again, or are dropped after their last
+ * transmission. The station is charged `air`, 1 to `charge` microseconds as the device measured them, or, if
+ * `air` is 0, what wf_path_pull answered. Returns WF_OK; WF_NO_EXCHANGE; or WF_BAD_AIR if `air` is above the
+ * setting `charge`. */
 int32_t wf_path_done_bits(struct wf_path *path, uint64_t exchange, uint16_t start, const uint8_t bits[32], uint32_t air,
                           struct wf_reply *reply);
 
-/* or the octets of a BlockAck were heard. WF_BLOCK_LENGTH to WF_WRONG_TID say why they are none to this exchange, and come before
- * WF_BAD_AIR: it is then open still, and `reply` as it was, as also after WF_NO_EXCHANGE and WF_BAD_AIR here. */
+/* Ends an exchange by the octets of a BlockAck that was heard, without its check sequence. Frames that it
+ * shows are acknowledged; the others wait to be sent again, or are dropped after their last transmission. The
+ * station is charged `air`, 1 to `charge` microseconds as the device measured them, or, if `air` is 0, what
+ * wf_path_pull answered. Returns WF_OK; WF_NO_EXCHANGE; WF_BLOCK_LENGTH to WF_WRONG_TID if the octets are not
+ * a BlockAck to this exchange; or else WF_BAD_AIR if `air` is above the setting `charge`. After an error the
+ * exchange is still open, and `reply` is unchanged. */
 int32_t wf_path_done_octets(struct wf_path *path, uint64_t exchange, const uint8_t *octets, size_t length, uint32_t air,
                             struct wf_reply *reply);
 
-/* ---- what a path tells */
+/* ---- reading a path */
 
-/* The clock, in microseconds. */
+/* Returns the clock, in microseconds. */
 uint64_t wf_path_now(const struct wf_path *path);
 
-/* How many exchanges were opened, and how many are open (at most 32). */
+/* Returns how many exchanges were opened so far. */
 uint64_t wf_path_exchanges(const struct wf_path *path);
+
+/* Returns how many exchanges are open, at most 32. */
 uint32_t wf_path_open_count(const struct wf_path *path);
 
-/* 1 where a station is live, else 0. */
+/* Returns 1 if a station is live, else 0. */
 int32_t wf_path_live(const struct wf_path *path, uint16_t station);
 
-/* Writes the accepted frames by what became of them. */
+/* Writes how many frames were accepted, and how many of them have each fate. */
 void wf_path_tally(const struct wf_path *path, struct wf_tally *tally);
 
-/* Writes a live station's airtime in a class. WF_NO_STATION, and then `share` is as it was. */
+/* Writes a live station's airtime in a class, in microseconds. Returns WF_OK; or WF_NO_STATION, and then
+ * `share` is unchanged. */
 int32_t wf_path_share(const struct wf_path *path, uint16_t station, uint8_t class_, struct wf_share *share);
 
-/* 1 where a pull of a class would send now, else 0: then wf_path_pull would give WF_FULL or WF_IDLE. */
+/* Returns 1 if wf_path_pull of a class would open an exchange now, else 0, because it would return WF_FULL or
+ * WF_IDLE. */
 int32_t wf_path_can_pull(const struct wf_path *path, uint8_t class_);
 
-/* Write how many frames of a live station's TID are in flow queues, and how many of its sequence numbers wait to be sent. WF_BAD_TID
- * exactly where the TID is above 7, and else WF_NO_STATION exactly where the station is not live; after both `count` is as it
- * was. */
+/* Returns the list of a class that contains a station: 1 the new list, 2 the old list, 0 neither. A station
+ * that is not live is on neither. */
+int32_t wf_path_listed(const struct wf_path *path, uint16_t station, uint8_t class_);
+
+/* Returns 1 if the counts of the path are below 2^62, as every other function requires, else 0. This function
+ * may be called in either case. */
+int32_t wf_path_has_small_counts(const struct wf_path *path);
+
+/* Writes how many frames of a live station's TID are in flow queues. Returns WF_OK; WF_BAD_TID exactly if the
+ * TID is above 7; or else WF_NO_STATION exactly if the station is not live. After an error `count` is
+ * unchanged. */
 int32_t wf_path_queued(const struct wf_path *path, uint16_t station, uint8_t tid, uint32_t *count);
+
+/* Writes how many sequence numbers of a live station's TID wait to be sent. Returns WF_OK; WF_BAD_TID exactly
+ * if the TID is above 7; or else WF_NO_STATION exactly if the station is not live. After an error `count` is
+ * unchanged. */
 int32_t wf_path_waiting(const struct wf_path *path, uint16_t station, uint8_t tid, uint32_t *count);
 
-/* Writes the TIM element (IEEE 802.11-2012, 8.4.2.7) of the stations that sleep and have traffic, and gives how many octets it has.
- * The rest of `out` stays. */
+/* Writes the TIM element (IEEE 802.11-2012, 8.4.2.7) of the stations that sleep and have traffic, and returns
+ * its size in octets. The rest of `out` is unchanged. */
 size_t wf_path_tim(const struct wf_path *path, uint8_t out[256]);
 
-/* ---- a cell: both halves, and the history of its calls. A transmission crosses the air as octets inside: the cell writes each one
- * that arrives, gives it to the station, and reads the station's BlockAck. What a handle of a path asks of its caller a handle of
- * a cell asks too. Each call names its caller by a number, which the history keeps and the machine does not look at. */
+/* ---- cells. A cell has both halves, and the history of its calls. Transmissions are octets inside: the cell
+ * writes each one that arrives, passes it to the station, and reads the station's BlockAck. The conditions
+ * for a handle of a path apply to a handle of a cell too. Each call gives the number of its caller, which the
+ * history keeps and the machine does not use. */
 
-/* Puts a cell of these settings into a handle that holds nothing. WF_BAD_SETTING + n, WF_NO_MEMORY; the handle then holds nothing
- * still. It takes memory for the path, for the receive halves and for a history of `calls` entries, of 48 octets each: with very
- * many it is WF_NO_MEMORY. */
+/* Puts a cell with these settings into an empty handle. The settings are copied. It allocates the path, the
+ * receive halves, and a history of `calls` entries of 48 octets each. Returns WF_OK; WF_BAD_SETTING + n if
+ * the nth setting is out of its range; or WF_NO_MEMORY. After an error the handle is still empty. */
 int32_t wf_cell_make(struct wf_cell *cell, const struct wf_settings *settings);
 
-/* Frees the cell of a handle with all frames inside; the handle then holds nothing. */
+/* Frees the cell of a handle with all frames inside and the history. The handle is then empty. */
 void wf_cell_free(struct wf_cell *cell);
 
-/* Makes a call that brings no frame and takes none: all kinds but WF_CALL_ENQUEUE and WF_CALL_REAP. It writes its answer to `reply`,
- * and gives the refusal. The call is one entry of the history, refused or not. WF_HISTORY_FULL where the history has `calls`
- * entries, and WF_BAD_CALL where the numbers show no such call, or a rate of no format, and then `reply` is as it was; after both
- * nothing has changed. */
+/* Makes a call that neither accepts nor reaps a frame: all kinds except WF_CALL_ENQUEUE and WF_CALL_REAP. It
+ * writes the answer to `reply`. Returns WF_OK; WF_BAD_CALL if the struct does not show such a call, or a rate
+ * of no format, and then nothing has changed, nor `reply`; WF_HISTORY_FULL if the history has `calls`
+ * entries, and then only `reply` has changed; or the refusal of the call. Otherwise the call is one entry of
+ * the history, refused or not. */
 int32_t wf_cell_ask(struct wf_cell *cell, uint32_t caller, const struct wf_call *call, struct wf_reply *reply);
 
-/* A packet comes for a station, as in wf_path_enqueue; it takes memory for the frame. Also WF_HISTORY_FULL. The call is one
- * entry of the history, but after WF_BAD_LENGTH and WF_NO_MEMORY none. The entry has neither the source of the packet nor its
- * tag: the frame has both, inside and as wf_cell_reap gives it back, and a replay of the history has the made-up source. */
+/* Accepts a packet for a station as a frame, as wf_path_enqueue does and with its codes, or returns
+ * WF_HISTORY_FULL. The call is one entry of the history, except after WF_BAD_LENGTH, WF_NO_MEMORY and
+ * WF_HISTORY_FULL. The frame keeps the source and the tag of the packet until wf_cell_reap returns them; the
+ * entry has neither, so a replay of the history has the placeholder source. */
 int32_t wf_cell_enqueue(struct wf_cell *cell, uint32_t caller, uint16_t station, const struct wf_packet *packet,
                         struct wf_reply *reply);
 
-/* Takes the first finished frame, as in wf_path_reap. Also WF_HISTORY_FULL, and then too `taken` and `body` are as they were.
- * The call is one entry of the history, but after WF_SMALL_BUFFER none. */
+/* Takes the first finished frame out of the cell, as wf_path_reap does and with its codes, or returns
+ * WF_HISTORY_FULL; then too `taken` and `body` are unchanged. The call is one entry of the history, except
+ * after WF_SMALL_BUFFER and WF_HISTORY_FULL. */
 int32_t wf_cell_reap(struct wf_cell *cell, uint32_t caller, struct wf_reply *reply, struct wf_taken *taken, uint8_t *body,
                      size_t room);
 
-/* What the last call was answered beside `reply`. Where it sends an aggregate, of what frames; else their count is 0. */
+/* Writes the frames of the aggregate, if the answer to the last call sends one; otherwise their count is
+ * 0. */
 void wf_cell_frames(const struct wf_cell *cell, struct wf_frames *frames);
 
-/* Where a transmission arrived, what frames its station passed up; else their count is 0. */
+/* Writes the frames that the station passed up, if a transmission arrived by the last call; otherwise their
+ * count is 0. */
 void wf_cell_released(const struct wf_cell *cell, struct wf_passed_up *up);
 
-/* Where a station answered, its BlockAck; else all is 0. */
+/* Writes the BlockAck of the station, if it answered by the last call; otherwise all fields are 0. */
 void wf_cell_block(const struct wf_cell *cell, struct wf_block *block);
 
-/* How many entries the history has, and how many it may still take. */
+/* Returns how many entries the history has. */
 uint64_t wf_cell_len(const struct wf_cell *cell);
+
+/* Returns how many more entries the history has room for. */
 uint64_t wf_cell_room(const struct wf_cell *cell);
 
-/* Writes an entry of the history, from place 0 on: who called, and the call. WF_BAD_INDEX where the history is shorter, and then both
- * are as they were. */
+/* Writes one entry of the history: the caller and the call; `place` counts from 0. Returns WF_OK; or
+ * WF_BAD_INDEX if the history is shorter, and then both are unchanged. */
 int32_t wf_cell_entry(const struct wf_cell *cell, uint64_t place, uint32_t *caller, struct wf_call *call);
 
 #ifdef __cplusplus

@@ -1,7 +1,7 @@
 /*
- * Makes random calls of a cell through libwf, both halves with the history, and writes what the library answered; then it writes the
- * trace, entry by entry, from the history that the cell has kept. Both are in the words of docs/TRACE.md. What `wf replay` writes
- * for the trace must begin with the answers; checks/c-library compares them.
+ * Makes random calls of a cell through libwf and writes the answers. Then it writes the trace, entry by
+ * entry, from the cell's history. Both are in the words of docs/TRACE.md. The output of `wf replay` for the
+ * trace has to begin with these answers; checks/c-library compares them.
  *
  *   both CALLS SEED TRACE ANSWERS
  */
@@ -67,7 +67,7 @@ static void write_answer(int32_t code) {
   else fail("an answer of no cell");
 }
 
-/* Which exchanges are open, by the last answer. */
+/* Updates the list of open exchanges by the last answer. */
 static void follow(uint64_t exchange) {
   uint32_t i;
   if (reply.kind == WF_KIND_SEND) {
@@ -80,13 +80,13 @@ static void follow(uint64_t exchange) {
   exchanges[i] = exchanges[--open_count];
 }
 
-/* An open exchange, or now and then any other. */
+/* Returns an open exchange, or sometimes any other number. */
 static uint64_t some_exchange(void) {
   if (open_count == 0 || below(50) == 0) return below((uint32_t)opened + 2);
   return exchanges[below(open_count)];
 }
 
-/* A kind of call that brings no frame, the common ones more often. */
+/* Returns a kind of call that has no frame, common ones more often. */
 static uint8_t some_kind(void) {
   static const uint8_t KINDS[] = {WF_CALL_PULL, WF_CALL_PULL, WF_CALL_PULL, WF_CALL_ARRIVE, WF_CALL_ARRIVE, WF_CALL_ARRIVE, WF_CALL_ARRIVE,
                                   WF_CALL_ARRIVE, WF_CALL_ARRIVE, WF_CALL_ANSWER, WF_CALL_ANSWER, WF_CALL_DONE, WF_CALL_DONE};
@@ -94,13 +94,13 @@ static uint8_t some_kind(void) {
   return (uint8_t)below(WF_CALL_REAP);
 }
 
-/* A width in MHz, now and then one of no format. */
+/* Returns a width in MHz, sometimes one that no format has. */
 static uint8_t some_width(void) {
   static const uint8_t WIDTHS[] = {20, 40, 80, 160};
   return below(9) ? WIDTHS[below(4)] : 30;
 }
 
-/* An airtime for the end of an exchange: none, or one that may be named, or now and then one that may not. */
+/* Returns an airtime for the end of an exchange: none, one in range, or sometimes one that is too large. */
 static uint32_t some_airtime(void) {
   if (below(2)) return 0;
   return below(8) ? 1 + below(CHARGE) : CHARGE + 1 + below(3);
@@ -181,7 +181,7 @@ static void call(void) {
   else call_ask(caller, station);
 }
 
-/* Writes what a call for a rate asks for. */
+/* Writes the rate of a call. */
 static void write_rate(const struct wf_call *c) {
   unsigned s = c->station, mcs = c->mcs, mhz = c->mhz, streams = c->streams;
   switch (c->form) {
@@ -192,7 +192,7 @@ static void write_rate(const struct wf_call *c) {
   }
 }
 
-/* Writes how an exchange ends, and the airtime that is named, if any. */
+/* Writes how an exchange ends, and the airtime, if one is given. */
 static void write_done(const struct wf_call *c) {
   fprintf(trace, "done %llu %s", (unsigned long long)c->exchange, c->heard ? "heard" : "lost");
   if (c->air) fprintf(trace, " air %lu", (unsigned long)c->air);
@@ -245,7 +245,7 @@ static void open_cell(uint32_t calls) {
   fprintf(trace, "cell stations=%d flows=32 limit=40 room=400 attempts=4 sleeping=8 charge=%d\n", STATIONS, CHARGE);
 }
 
-/* The history is full: each call is refused, and is no entry. */
+/* Checks that with a full history each call is refused and is no entry. */
 static void look_at_the_end(uint64_t calls) {
   struct wf_call none = {0};
   uint32_t caller = 0;

@@ -1,8 +1,9 @@
 /*
- * Three stations at one access point over a lossy link, driven through libwf: how the airtime is shared.
+ * Drives three stations at one access point over a lossy link, through libwf, and prints their shares of the
+ * airtime.
  *
- * Station 0 is fast, station 1 slow, and station 2 counts twice. Each always has frames waiting, so they get airtime by weight and
- * not by what they send. Build it with `./wf lib` and the words that it prints.
+ * Station 0 is fast, station 1 is slow, and station 2 has weight 2. Each always has frames waiting, so they
+ * share the airtime by weight, whatever they send. Build it with `./wf lib` and the flags that it prints.
  */
 #include <stdint.h>
 #include <stdio.h>
@@ -20,10 +21,10 @@ struct air {
   struct wf_reply reply;
   uint32_t random;
   uint32_t inside[STATIONS]; /* frames accepted and not yet reaped, by station */
-  uint64_t bytes[STATIONS];  /* octets of acknowledged bodies */
+  uint64_t bytes[STATIONS];  /* octets of acknowledged bodies, by station */
 };
 
-/* Whether a transmission is lost on the air. */
+/* Returns whether a transmission is lost on the air. */
 static int is_lost(struct air *air) {
   air->random = air->random * 1664525u + 1013904223u;
   return (air->random >> 28) < LOST_IN_16;
@@ -43,7 +44,7 @@ static int open_air(struct air *air) {
   return 1;
 }
 
-/* Frames come until each station has QUEUED inside. */
+/* Enqueues frames until each station has QUEUED frames inside. */
 static int fill(struct air *air) {
   static const uint8_t body[1500] = {0xaa, 0xaa, 0x03};
   struct wf_packet packet = {0};
@@ -60,7 +61,7 @@ static int fill(struct air *air) {
   return 1;
 }
 
-/* Writes the BlockAck of the station that the frame went to: it has got nothing yet. */
+/* Writes an empty BlockAck of the station that the frame went to. */
 static void start_answer(uint8_t ack[28], const uint8_t *frame, uint8_t tid) {
   memset(ack, 0, 28);
   ack[0] = 0x94;
@@ -73,7 +74,8 @@ static void start_answer(uint8_t ack[28], const uint8_t *frame, uint8_t tid) {
 
 static unsigned number_at(const uint8_t *octets) { return (unsigned)(octets[0] | octets[1] << 8) >> 4; }
 
-/* Sends the transmissions of an exchange, of which some are lost, and makes the BlockAck. Gives 0 where nothing arrived. */
+/* Sends the transmissions of an exchange, loses some, and sets the others' bits in the BlockAck. Returns 0 if
+ * none arrived. */
 static int transmit(struct air *air, uint64_t exchange, uint8_t ack[28]) {
   struct wf_sent sent = {0};
   uint8_t frame[WF_GREATEST_MPDU] = {0};
@@ -94,7 +96,8 @@ static int transmit(struct air *air, uint64_t exchange, uint8_t ack[28]) {
   return arrived;
 }
 
-/* One exchange: pulled, sent, and ended by what was heard. No device measures what it took, so no airtime is named. */
+/* Pulls one exchange, sends it, and ends it by its BlockAck. No device measures the airtime, so `air` is 0.
+ * */
 static int exchange_once(struct air *air) {
   static struct wf_frames frames;
   uint8_t ack[28];
@@ -111,7 +114,7 @@ static int exchange_once(struct air *air) {
   return wf_path_tick(&air->path, took, &air->reply) == WF_OK;
 }
 
-/* Takes the finished frames back. */
+/* Reaps the finished frames. */
 static void reap(struct air *air) {
   struct wf_taken taken = {0};
   uint8_t body[WF_GREATEST_BODY] = {0};

@@ -1,6 +1,6 @@
 /*
- * Hands to libwf what a caller should not, wherever the library can see it, and wants the code that wf.h says; after a refusal the
- * caller's structs and buffers have to be as they were. It writes how often it asked, and each code that was another.
+ * Makes the mistakes that libwf can detect, and expects the codes of wf.h. After a refusal the caller's
+ * structs and buffers have to be unchanged. It prints how many calls it made, and each unexpected code.
  */
 #include <stdint.h>
 #include <stdio.h>
@@ -15,7 +15,7 @@ static struct wf_reply reply;
 static struct wf_frames frames;
 static int asked, failed;
 
-/* The code of a call, which has to be this one. */
+/* Checks that a call returned this code. */
 static void want(int32_t code, int32_t wanted, const char *call) {
   char name[WF_NAME] = {0}, other[WF_NAME] = {0};
   asked++;
@@ -26,7 +26,7 @@ static void want(int32_t code, int32_t wanted, const char *call) {
   failed++;
 }
 
-/* What a call must leave as it was: these octets have to be those. */
+/* Checks that a call left these octets unchanged. */
 static void unchanged(const void *now, const void *before, size_t size, const char *call) {
   asked++;
   if (memcmp(now, before, size) == 0) return;
@@ -34,7 +34,7 @@ static void unchanged(const void *now, const void *before, size_t size, const ch
   failed++;
 }
 
-/* A packet with this body; its source is the made-up one. */
+/* Returns a packet with this body and the placeholder source. */
 static struct wf_packet packet_of(uint8_t tid, const uint8_t *body, size_t length) {
   struct wf_packet packet = {0};
   packet.body = body;
@@ -43,7 +43,7 @@ static struct wf_packet packet_of(uint8_t tid, const uint8_t *body, size_t lengt
   return packet;
 }
 
-/* Settings that are small, and in their ranges. */
+/* Returns small settings, all in their ranges. */
 static struct wf_settings some_settings(void) {
   struct wf_settings settings = {0};
   wf_settings_standard(&settings);
@@ -80,7 +80,7 @@ static void misuse_settings(void) {
   }
 }
 
-/* Calls that name a station that there is not, or that is not live. */
+/* Calls for station numbers that do not exist, or that are not live. */
 static void misuse_stations(void) {
   static const uint8_t body[100];
   const struct wf_packet packet = packet_of(0, body, sizeof body);
@@ -102,7 +102,7 @@ static void misuse_stations(void) {
   want(wf_path_enqueue(&path, 3, &packet, &reply), WF_NO_STATION, "wf_path_enqueue");
 }
 
-/* Addresses of groups, and of stations that there are not. */
+/* Group addresses, and addresses of station numbers that do not exist. */
 static void misuse_addresses(void) {
   static const uint8_t GROUP[6] = {0x01, 0, 0x5e, 0, 0, 1}, REAL[6] = {0x00, 0, 0x5e, 0, 0x53, 1}, MADE_UP[6] = {0x02, 0, 0, 0x01, 0, 2};
   uint8_t told[6] = {0}, before[6] = {0};
@@ -151,7 +151,7 @@ static void misuse_clock(void) {
   want(now == 25000000, 1, "the clock after 25 seconds");
   want(wf_path_advance(&path, now, &reply), WF_OK, "no time at all");
   want(wf_path_advance(&path, now - 1, &reply), WF_BAD_TICK, "a time that is over");
-  want(wf_path_advance(&path, (uint64_t)1 << 62, &reply), WF_BAD_TICK, "the time 2^62");
+  want(wf_path_advance(&path, (uint64_t)1 << 61, &reply), WF_BAD_TICK, "the time 2^61");
   want(wf_path_now(&path) == now, 1, "the clock after refusals");
 }
 
@@ -197,7 +197,7 @@ static void misuse_reaps(void) {
   unchanged(body, same, sizeof body, "a reap of nothing");
 }
 
-/* The octets of a BlockAck to an exchange, right in all. */
+/* Makes the octets of a correct BlockAck to an exchange. */
 static void make_answer(uint64_t exchange, uint8_t answer[28]) {
   uint8_t frame[WF_GREATEST_MPDU] = {0};
   size_t size = 0;
@@ -210,7 +210,7 @@ static void make_answer(uint64_t exchange, uint8_t answer[28]) {
   memcpy(answer + 18, frame + 22, 2);
 }
 
-/* Octets that are no BlockAck to an exchange: one bit is another. */
+/* Octets that are not a BlockAck to an exchange, because one bit differs. */
 static void misuse_answer(uint64_t exchange, const uint8_t answer[28], size_t octet, uint8_t bit, int32_t code, const char *what) {
   struct wf_reply before = reply;
   uint8_t other[28];
@@ -285,7 +285,7 @@ static void misuse_sleepers(void) {
   want(wf_path_live(&path, 65535), 0, "a station that there is not");
 }
 
-/* Asks of TIDs and stations that there are not. */
+/* Reads counts of TIDs and stations that do not exist. */
 static void misuse_counts(void) {
   uint32_t count = 7;
   want(wf_path_queued(&path, 0, 8, &count), WF_BAD_TID, "wf_path_queued");
@@ -297,9 +297,11 @@ static void misuse_counts(void) {
   want(wf_path_queued(&path, 0, 7, &count), WF_OK, "wf_path_queued");
   want(count == 0, 1, "the frames of a new station");
   want(wf_path_can_pull(&path, WF_BE), 0, "a pull that would be refused");
+  want(wf_path_listed(&path, 65535, WF_BE), 0, "the list of a station that there is not");
+  want(wf_path_has_small_counts(&path), 1, "the counts of a new path");
 }
 
-/* A path of four stations, of which three are live. */
+/* A path of four stations, three of them live. */
 static void misuse_path(void) {
   struct wf_settings settings = some_settings();
   uint16_t station;
@@ -360,7 +362,7 @@ static void misuse_cell(void) {
   wf_cell_free(&cell);
 }
 
-/* Numbers that stand for nothing. */
+/* Numbers without a meaning. */
 static void misuse_names(void) {
   static const int32_t NONE[] = {-1, 28, 39, 45, 50, 59, 100, 117, INT32_MAX, INT32_MIN};
   size_t i;

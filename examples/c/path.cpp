@@ -1,6 +1,6 @@
 /*
- * A short life of two stations, by the class of path.hpp: each joins, is sent to at a rate, and gets frames. One
- * frame is lost on the way and sent once more. The path is freed at the end of main.
+ * Two stations join through the class of path.hpp, get a rate each, and get frames. One frame is lost on the
+ * air and sent again. The path is freed at the end of main.
  *
  *   c++ -std=c++17 -Iinclude examples/c/path.cpp -Lcrates/wf_c/out -lwf
  */
@@ -14,14 +14,14 @@
 
 namespace {
 
-/* Ends the program where a call was refused that must not be. */
+/* Ends the program if a call was refused that should not be. */
 void want(std::int32_t code, const char *call) {
   if (code == WF_OK) return;
   std::printf("%s: code %d, %s\n", call, static_cast<int>(code), wf::code_name(code).c_str());
   std::exit(1);
 }
 
-/* A station joins, is sent to at a rate, and gets this many frames of 1000 octets. */
+/* Makes a station join, sets its rate, and enqueues `count` frames of 1000 octets for it. */
 void open_station(wf::Path &path, std::uint16_t station, std::uint8_t mcs, int frames) {
   static const std::array<std::uint8_t, 1000> body{0xaa, 0xaa, 0x03};
   wf_reply reply{};
@@ -37,7 +37,7 @@ void open_station(wf::Path &path, std::uint16_t station, std::uint8_t mcs, int f
   }
 }
 
-/* The path gets a real address for the access point. */
+/* Sets the address of the access point. */
 void name_access_point(wf::Path &path) {
   const std::uint8_t address[6] = {0x00, 0x00, 0x5e, 0x00, 0x53, 0x00};
   std::uint8_t told[6] = {};
@@ -47,7 +47,7 @@ void name_access_point(wf::Path &path) {
               told[5]);
 }
 
-/* The bits of a BlockAck that tells of all frames of an exchange but the one of this id. */
+/* The bits of a BlockAck to an exchange that shows all frames except the one with this id. */
 void answer_bits(const wf_frames &frames, std::uint64_t lost, std::uint8_t (&bits)[32]) {
   for (std::uint16_t i = 0; i < frames.count; i++) {
     const unsigned offset = (frames.numbers[i] - frames.numbers[0]) & 4095u;
@@ -55,7 +55,7 @@ void answer_bits(const wf_frames &frames, std::uint64_t lost, std::uint8_t (&bit
   }
 }
 
-/* Pulls an exchange, ends it by bits, and moves the clock on by what it took of the air. False where nothing is left
+/* Pulls an exchange, ends it by bits, and moves the clock on by its airtime. Returns false if nothing is left
  * to send. */
 bool exchange_once(wf::Path &path, std::uint64_t lost) {
   wf_reply reply{};
@@ -74,7 +74,7 @@ bool exchange_once(wf::Path &path, std::uint64_t lost) {
   return true;
 }
 
-/* Takes the finished frames back. */
+/* Reaps the finished frames. */
 void reap_all(wf::Path &path) {
   wf_reply reply{};
   wf_taken taken{};

@@ -1,11 +1,12 @@
 /*
- * A path of libwf for C++17: `wf::Path` owns one, and frees it. `./wf install` puts this file at include/wf/path.hpp.
+ * A path of libwf for C++17: a `wf::Path` owns one and frees it. `./wf install` puts this file at
+ * include/wf/path.hpp.
  *
- * Each call of wf.h on a path is a method here, with the same arguments behind the handle, and gives the same:
- * what wf.h says of a call holds of its method. The airtime of an end stands last, and may be left out. A path may be
- * moved and not copied. One that was moved from holds nothing: it may be destroyed, assigned to and asked by `holds`,
- * and no other method may be called on it. A path may go from thread to thread; no two methods of one path at a time,
- * those that are const excepted among themselves.
+ * Each function of wf.h on a path is a method here, with the same arguments without the handle and the same
+ * result; the comments of wf.h apply. The airtime of an end is the last argument, and may be left out. A path
+ * may be moved but not copied. After a move the old path is empty: it may be destroyed, assigned to and
+ * tested by `holds`, and no other method may be called on it. A path may move from thread to thread. Two
+ * methods of one path must not run at the same time, unless both are const.
  */
 #ifndef WF_PATH_HPP
 #define WF_PATH_HPP
@@ -51,7 +52,7 @@ inline std::string setting_name(std::int32_t place) {
 
 class Path {
  public:
-  /* A path of these settings, or none; `code` then says why not, as wf_path_make does. */
+  /* Makes a path with these settings. Returns none if that fails; `code` is what wf_path_make returned. */
   static std::optional<Path> make(const wf_settings &settings, std::int32_t &code) {
     Path made;
     code = wf_path_make(&made.handle_, &settings);
@@ -67,7 +68,7 @@ class Path {
   Path(const Path &) = delete;
   Path &operator=(const Path &) = delete;
 
-  /* The bits of the handle move, and the old handle is zeroed. */
+  /* Moves the bits of the handle, and zeroes the old handle. */
   Path(Path &&other) noexcept
       : handle_(std::exchange(other.handle_, wf_path{})), holds_(std::exchange(other.holds_, false)) {}
   Path &operator=(Path &&other) noexcept {
@@ -81,10 +82,10 @@ class Path {
     if (holds_) wf_path_free(&handle_);
   }
 
-  /* Whether it holds a path: false where it was moved from. */
+  /* Returns whether this holds a path: false after it was moved from. */
   bool holds() const { return holds_; }
 
-  /* Addresses: the access point's, and the stations'. */
+  /* The addresses of the access point and of the stations. */
 
   [[nodiscard]] std::int32_t set_base(const std::uint8_t (&address)[6]) { return wf_path_set_base(&handle_, address); }
   [[nodiscard]] std::int32_t set_address(std::uint16_t station, const std::uint8_t (&address)[6]) {
@@ -95,7 +96,7 @@ class Path {
     return wf_path_address(&handle_, station, out);
   }
 
-  /* Calls of the machine: each writes its answer to `reply`, and gives WF_OK or the refusal. */
+  /* The calls of the machine. Each writes its answer to `reply`, and returns WF_OK or its refusal. */
 
   [[nodiscard]] std::int32_t join(std::uint16_t station, std::uint16_t window, std::uint16_t start,
                                   std::uint8_t exponent, std::uint8_t weight, wf_reply &reply) {
@@ -168,7 +169,7 @@ class Path {
     return wf_path_mpdu(&handle_, exchange, index, out, room, &size);
   }
 
-  /* Where the airtime is left out, it is 0, and what was computed is charged. */
+  /* If the airtime is left out, it is 0, and the computed airtime is charged. */
 
   [[nodiscard]] std::int32_t done_lost(std::uint64_t exchange, wf_reply &reply, std::uint32_t air = 0) {
     return wf_path_done_lost(&handle_, exchange, air, &reply);
@@ -183,7 +184,7 @@ class Path {
     return wf_path_done_octets(&handle_, exchange, octets, length, air, &reply);
   }
 
-  /* What a path tells. */
+  /* Reading a path. */
 
   std::uint64_t now() const { return wf_path_now(&handle_); }
   std::uint64_t exchanges() const { return wf_path_exchanges(&handle_); }
@@ -200,6 +201,10 @@ class Path {
   bool can_pull(wf_class access) const {
     return wf_path_can_pull(&handle_, static_cast<std::uint8_t>(access)) != 0;
   }
+  std::int32_t listed(std::uint16_t station, wf_class access) const {
+    return wf_path_listed(&handle_, station, static_cast<std::uint8_t>(access));
+  }
+  bool has_small_counts() const { return wf_path_has_small_counts(&handle_) != 0; }
   [[nodiscard]] std::int32_t queued(std::uint16_t station, std::uint8_t tid, std::uint32_t &count) const {
     return wf_path_queued(&handle_, station, tid, &count);
   }

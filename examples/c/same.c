@@ -1,11 +1,13 @@
 /*
- * Makes random calls through libwf, and writes the trace of them and what the library answered, in the words of docs/TRACE.md. What
- * `wf replay` writes for the trace must be the same; checks/c-library compares them.
+ * Makes random calls of a path through libwf, and writes their trace and the library's answers, in the words
+ * of docs/TRACE.md. The output of `wf replay` for the trace has to equal these answers; checks/c-library
+ * compares them.
  *
  *   same CALLS SEED TRACE ANSWERS
  *
- * A replay knows of receivers, and a transmit path does not: what arrives at a station is kept here, and told to the library by
- * BlockAcks. The answers to `arrive` and `answer` are the receivers' own, so the line of the answers is `?` there.
+ * A replay has receivers, and a path does not. So this program keeps what arrives at a station, and passes it
+ * to the library in BlockAcks. Only the receivers answer `arrive` and `answer`, so these lines of the answers
+ * are `?`.
  */
 #include <stdint.h>
 #include <stdio.h>
@@ -23,11 +25,11 @@ struct exchange {
   uint16_t station;
   uint8_t tid;
   uint8_t request;
-  uint16_t start; /* of its request */
+  uint16_t start; /* of its BlockAckReq */
   struct wf_frames frames;
 };
 
-/* What arrived of one TID of a station: the frame that each number stands for, and whether it arrived. */
+/* A TID of a station: for each sequence number its frame, as id + 1, and whether it arrived. */
 struct session {
   uint64_t ids[NUMBERS];
   uint8_t arrived[NUMBERS];
@@ -61,7 +63,7 @@ static void write_answer(int32_t code, const struct wf_frames *frames) {
   if (!write_words(answers, &reply, frames)) fail("an answer of no path");
 }
 
-/* A line of the trace that only the receivers answer. */
+/* Writes a line of the trace that only the receivers answer. */
 static void receivers_line(const char *word, uint64_t exchange, int index) {
   fprintf(trace, index < 0 ? "%s %llu\n" : "%s %llu %d\n", word, (unsigned long long)exchange, index);
   fprintf(answers, "?\n");
@@ -77,7 +79,7 @@ static void call_join(uint16_t s) {
   write_answer(code, NULL);
 }
 
-/* A width in MHz, now and then one of no format. */
+/* Returns a width in MHz, sometimes one that no format has. */
 static uint8_t some_width(void) {
   static const uint8_t WIDTHS[] = {20, 40, 80, 160};
   return below(9) ? WIDTHS[below(4)] : 30;
@@ -105,12 +107,12 @@ static void call_rate_he(uint16_t s) {
   write_answer(code, NULL);
 }
 
-/* The tag of a packet tells what else it has. */
+/* The tag of a packet has its other fields. */
 static uint64_t tag_of(uint16_t s, uint8_t tid, uint32_t flow, size_t length) {
   return (uint64_t)s << 48 | (uint64_t)tid << 40 | (uint64_t)flow << 16 | (uint64_t)length;
 }
 
-/* The source of a flow's packets: every fourth flow has six zeros, which stand for the made-up one. */
+/* The source of a flow's packets. Every fourth flow has six zeros, which mean the placeholder. */
 static void write_source(uint32_t flow, uint8_t source[6]) {
   memset(source, 0, 6);
   if (flow % 4) source[0] = 0x0a;
@@ -136,7 +138,7 @@ static void call_enqueue(uint16_t s) {
   write_answer(code, NULL);
 }
 
-/* Whether a frame has the source of its flow's packets. */
+/* Returns whether a frame has the source of its flow's packets. */
 static int has_source(uint32_t flow, const uint8_t source[6]) {
   static const uint8_t MADE_UP[6] = {0x02, 0, 0, 0x02, 0, 0};
   uint8_t wanted[6];
@@ -144,8 +146,8 @@ static int has_source(uint32_t flow, const uint8_t source[6]) {
   return memcmp(source, flow % 4 ? wanted : MADE_UP, 6) == 0;
 }
 
-/* Names an address of the access point or of a station, now and then a group's, or of a station that there is not. It is no call of
- * the machine, so the trace has nothing of it. */
+/* Sets the address of the access point or of a station; sometimes a group address, or one for a station
+ * number that does not exist. The trace does not have it, because it is not a call of the machine. */
 static void call_address(void) {
   uint8_t address[6] = {(uint8_t)below(256), 0, 0x5e, 0, 0x53, (uint8_t)below(256)}, told[6] = {0};
   uint16_t s = (uint16_t)below(STATIONS + 1);
@@ -165,7 +167,7 @@ static void call_address(void) {
   if (memcmp(told, base, 6)) fail("another address of the access point");
 }
 
-/* Compares the header alone and the tag of a transmission with its octets: the station's number stands in both. */
+/* Compares the header and the tag of a transmission with its octets. Both have the station's number. */
 static void look_at_parts(const struct exchange *x, uint16_t index) {
   uint8_t whole[WF_GREATEST_MPDU] = {0}, header[WF_HEADER] = {0};
   size_t size = 0;
@@ -176,7 +178,7 @@ static void look_at_parts(const struct exchange *x, uint16_t index) {
   if (wf_path_frame_tag(&path, x->number, index, &tag) || (tag & 0xffff) != (size - WF_HEADER)) fail("another tag on the air");
 }
 
-/* Compares what is told of a new exchange in many ways. */
+/* Checks that all readers agree about a new exchange. */
 static void look_at(const struct exchange *x) {
   struct wf_sent sent = {0};
   uint64_t id = 0;
@@ -224,7 +226,8 @@ static void call_pull(void) {
   look_at(x);
 }
 
-/* Some transmissions of an exchange arrive, and its station may answer. Gives whether it answered. */
+/* Lets some transmissions of an exchange arrive, and may let its station answer. Returns whether it answered.
+ * */
 static int arrive(const struct exchange *x) {
   struct session *session = &sessions[x->station][x->tid];
   int i, count = x->request ? 1 : x->frames.count, any = 0;
@@ -239,7 +242,7 @@ static int arrive(const struct exchange *x) {
   return 1;
 }
 
-/* The bitmap of what a station has of an exchange, from its first number on. */
+/* The bitmap of what a station has received, and returns its start: the first number of the exchange. */
 static uint16_t shown(const struct exchange *x, uint8_t bits[32]) {
   struct session *session = &sessions[x->station][x->tid];
   uint16_t i, start = x->request ? x->start : x->frames.numbers[0];
@@ -274,8 +277,8 @@ static int32_t done_octets(const struct exchange *x, uint16_t start, const uint8
   return wf_path_done_octets(&path, x->number, ack, length, air, &reply);
 }
 
-/* Ends an exchange, which may name an airtime. The call with octets leaves `reply` as it was where that is too much, so the one with
- * bits is then made too, for the answer. */
+/* Ends an exchange, with an airtime or without one. If the airtime is too large, the function for octets
+ * leaves `reply` unchanged, so the function for bits is then called too, for its answer. */
 static int32_t end_exchange(const struct exchange *x, int heard, uint32_t air) {
   uint8_t bits[32];
   uint16_t start;
@@ -307,8 +310,8 @@ static void call_done(void) {
   if (wf_path_done_lost(&path, x.number, CHARGE + 1, &reply) != WF_NO_EXCHANGE) fail("an exchange that ends twice");
 }
 
-/* Whether a frame that is taken back was sent as often as its fate says: never where a queue dropped it, and as often as the setting says
- * where it was dropped for its retries. */
+/* Returns whether a reaped frame was sent as often as its fate says: never if a queue dropped it, and
+ * `attempts` times if it was dropped after its last transmission. */
 static int tries_fit(const struct wf_taken *taken) {
   switch (taken->fate) {
   case WF_OVERLIMIT:
@@ -341,7 +344,7 @@ static void call_reap(void) {
   }
 }
 
-/* Moves the clock to a time, now and then to one that is too early. What was moved by is written as the ticks that it takes. */
+/* Moves the clock to a time, sometimes to one that is too early. The trace has the ticks that this takes. */
 static void call_advance(void) {
   uint64_t now = wf_path_now(&path), to = now + below(25) * below(1000000);
   int32_t code;
@@ -398,7 +401,7 @@ static void call(void) {
   else call_other(s);
 }
 
-/* The summary of docs/TRACE.md. */
+/* Writes the summary of docs/TRACE.md. */
 static void summary(void) {
   struct wf_tally t = {0};
   struct wf_share share = {0};
@@ -426,7 +429,7 @@ static void summary(void) {
   fprintf(answers, "\n");
 }
 
-/* The line of a trace that names the settings, by their places in the struct. */
+/* Writes the line of a trace with the settings, in the order of the struct. */
 static void write_settings(const struct wf_settings *settings) {
   uint32_t values[13];
   int place;
@@ -466,7 +469,7 @@ static void open_path(void) {
   }
 }
 
-/* The library is of the version that the header tells. */
+/* Checks that the library has the version of the header. */
 static void look_at_the_version(void) {
   struct wf_version version = {0};
   wf_version(&version);

@@ -1,11 +1,11 @@
 /*
- * A driver over libwf as its author would write it, with a small model of a device. The device has a hardware queue for each class
- * and works by itself, on a thread that stands for its interrupts: it sends what lies in the queues, sends again what was lost on
- * the air, measures the airtime that all of it took, and makes the station's BlockAck. Access point and stations have addresses
- * of their own, which the path is told. One lock stands before the path. Each
- * packet lies in a buffer of a pool, which the packet's tag names, and which is free again when the frame comes back. The upper
- * queue, from which packets come, is stopped while many frames of a station's TID are queued or no buffer is free, and woken
- * when it may go on.
+ * A driver over libwf as its author would write it, with a small model of a device. The device has a hardware
+ * queue for each class, and works by itself on a thread, as by interrupts: it sends the jobs in its queues,
+ * sends again what was lost on the air, measures the airtime of all of it, and makes the station's BlockAck.
+ * The access point and the stations have their own addresses, which the driver sets. One lock protects the
+ * path. Each packet is in a buffer of a pool; its tag is the number of the buffer, which is free again after
+ * the frame is reaped. The upper queue, from which packets come, is stopped while a station's TID has many
+ * queued frames or no buffer is free, and is woken when it may continue.
  */
 #include <pthread.h>
 #include <stdint.h>
@@ -19,16 +19,16 @@ enum { STATIONS = 4, CLASSES = 4, DEPTH = 2, PACKETS = 4000, BUFFERS = 512, STOP
 /* An exchange in a hardware queue: what the device needs to send it, and to make its BlockAck. */
 struct job {
   uint64_t exchange;
-  uint32_t air; /* what sending it once takes */
+  uint32_t air; /* the airtime of sending it once */
   uint16_t station;
   uint16_t count;
   uint8_t request;
   uint8_t tid;
-  uint8_t head[26];      /* the first octets of its first transmission */
+  uint8_t head[26];      /* the header of its first transmission */
   uint16_t numbers[256]; /* the sequence numbers of its frames */
 };
 
-/* What the device made of a job. */
+/* The result of a job. */
 struct outcome {
   int heard;
   uint32_t air;
@@ -40,18 +40,18 @@ struct hardware {
   int count[CLASSES];
 };
 
-/* Where the packets lie, and the numbers of the buffers that are free. */
+/* The buffers for packets, and the numbers of those that are free. */
 struct pool {
   uint8_t octets[BUFFERS][1500];
-  uint16_t station[BUFFERS]; /* whom the packet of a buffer is for, or NOBODY */
+  uint16_t station[BUFFERS]; /* the station of the packet in a buffer, or NOBODY */
   uint16_t free[BUFFERS];
   unsigned count;
 };
 
 struct driver {
-  pthread_mutex_t lock;   /* stands before all that follows */
+  pthread_mutex_t lock;   /* protects all fields below */
   pthread_cond_t kick;    /* the device has something to send, or nothing more will come */
-  pthread_cond_t wake;    /* the upper queue may go on */
+  pthread_cond_t wake;    /* the upper queue may continue */
   struct wf_path path;
   struct hardware hardware;
   struct pool pool;
@@ -61,10 +61,10 @@ struct driver {
   uint64_t measured, computed; /* airtime, in microseconds */
 };
 
-/* In the place of a station. */
+/* The station of a free buffer. */
 static const uint16_t NOBODY = UINT16_MAX;
 
-/* The address of the access point, and that of the first station; each further station's is one more. */
+/* The addresses of the access point and of the first station; each later station's is one more. */
 static const uint8_t BASE[6] = {0x00, 0x00, 0x5e, 0x00, 0x53, 0x00}, FIRST[6] = {0x00, 0x00, 0x5e, 0x00, 0x53, 0x10};
 
 static void write_address(uint16_t station, uint8_t address[6]) {
@@ -77,29 +77,29 @@ static uint32_t next_random(uint32_t *random) {
   return *random >> 16;
 }
 
-/* ---- the device, which knows nothing of the path */
+/* ---- the device, which does not use the path */
 
 static unsigned number_at(const uint8_t *octets) { return (unsigned)(octets[0] | octets[1] << 8) >> 4; }
 
-/* Begins the station's BlockAck to a job: it has got nothing yet. */
+/* Begins the station's BlockAck to a job, without any bit. */
 static void start_answer(const struct job *job, uint8_t answer[28]) {
   memset(answer, 0, 28);
   answer[0] = 0x94;
   memcpy(answer + 4, BASE, 6);
-  write_address(job->station, answer + 10); /* the station's own, whatever it was sent to */
+  write_address(job->station, answer + 10); /* the station's own address, whatever the job has */
   answer[16] = 0x04;                        /* compressed */
   answer[17] = (uint8_t)(job->tid << 4);
   memcpy(answer + 18, job->head + (job->request ? 18 : 22), 2);
 }
 
-/* Whether a job goes from the access point to its station: others would not hear it. */
+/* Returns whether a job goes from the access point to its station; others would not hear it. */
 static int is_addressed(const struct job *job) {
   uint8_t own[6];
   write_address(job->station, own);
   return memcmp(job->head + 4, own, 6) == 0 && memcmp(job->head + 10, BASE, 6) == 0;
 }
 
-/* Sends a job once; what arrives is told in the answer. Gives whether the answer came back. */
+/* Sends a job once, and sets the bit of each frame that arrives. Returns whether the answer was heard. */
 static int send_once(const struct job *job, uint8_t answer[28], uint32_t *random) {
   int i, any = 0;
   for (i = 0; i < job->count && is_addressed(job); i++) {
@@ -113,7 +113,7 @@ static int send_once(const struct job *job, uint8_t answer[28], uint32_t *random
   return any && next_random(random) % 16;
 }
 
-/* Sends a job until its answer comes back, and measures what that takes of the air: the waiting before each try is drawn. */
+/* Sends a job until its answer is heard, and measures the airtime with a random wait before each try. */
 static void send_job(const struct job *job, struct outcome *outcome, uint32_t *random) {
   int tries;
   outcome->heard = 0;
@@ -163,7 +163,7 @@ static int fill_hardware(struct driver *driver) {
   return 1;
 }
 
-/* Takes a free buffer for a packet, and gives its number. */
+/* Takes a free buffer for a packet, and returns its number. */
 static uint16_t take_buffer(struct pool *pool, uint16_t station) {
   uint16_t number = pool->free[--pool->count];
   pool->station[number] = station;
@@ -171,7 +171,7 @@ static uint16_t take_buffer(struct pool *pool, uint16_t station) {
   return number;
 }
 
-/* The buffer with this number is free again. Gives 0 where it has no packet for the station. */
+/* Frees the buffer with this number. Returns 0 if it has no packet for the station. */
 static int give_back(struct pool *pool, uint64_t number, uint16_t station) {
   if (number >= BUFFERS || pool->station[number] != station) return 0;
   pool->station[number] = NOBODY;
@@ -179,7 +179,7 @@ static int give_back(struct pool *pool, uint64_t number, uint16_t station) {
   return 1;
 }
 
-/* Takes the finished frames back. Their octets still lie in the buffers that their tags name, so no copy is asked for. */
+/* Reaps the finished frames. Their octets are still in the buffers of their tags, so no copy is needed. */
 static int reap_all(struct driver *driver) {
   struct wf_reply reply = {0};
   struct wf_taken taken = {0};
@@ -191,7 +191,7 @@ static int reap_all(struct driver *driver) {
   return 1;
 }
 
-/* A job is over: its exchange ends by what was heard and what was measured, and the clock goes on. */
+/* Ends the exchange of a finished job by its BlockAck and its measured airtime, and moves the clock on. */
 static int finish(struct driver *driver, const struct job *job, const struct outcome *outcome) {
   struct wf_reply reply = {0};
   int32_t code;
@@ -209,7 +209,7 @@ static int finish(struct driver *driver, const struct job *job, const struct out
   return fill_hardware(driver);
 }
 
-/* Takes the first job of the most urgent hardware queue. Gives 0 where all are empty. */
+/* Takes the first job of the most urgent hardware queue. Returns 0 if all are empty. */
 static int take_job(struct driver *driver, struct job *job) {
   int access;
   for (access = CLASSES - 1; access >= 0; access--) {
@@ -225,14 +225,14 @@ static int take_job(struct driver *driver, struct job *job) {
 
 /* ---- the two threads */
 
-/* The device at work, until nothing more will come. The lock is let go while it sends. */
+/* The thread of the device, until nothing more will come. It releases the lock while it sends. */
 static void *interrupts(void *given) {
   struct driver *driver = given;
   struct outcome outcome;
   struct job job;
   uint32_t random = 1;
   pthread_mutex_lock(&driver->lock);
-  /* it powers up when the upper queue is stopped for the first time, so that each run stops and wakes it, however the threads meet */
+  /* it starts when the upper queue is stopped for the first time, so every run stops and wakes that queue */
   while (!driver->stops && !driver->is_closing) pthread_cond_wait(&driver->kick, &driver->lock);
   while (!driver->has_failed) {
     if (take_job(driver, &job)) {
@@ -251,14 +251,15 @@ static void *interrupts(void *given) {
   return NULL;
 }
 
-/* Whether the upper queue may hand in a packet for a station's TID, of which this many may be queued. */
+/* Returns whether the upper queue may pass on a packet for a station's TID: fewer than `most` are queued, and
+ * a buffer is free. */
 static int has_place(const struct driver *driver, uint16_t station, uint8_t tid, uint32_t most) {
   uint32_t queued = 0;
   if (wf_path_queued(&driver->path, station, tid, &queued)) return 0;
   return driver->pool.count > 0 && queued < most;
 }
 
-/* The upper queue stands still, where it has to, until it is woken and may go on. */
+/* Stops the upper queue, if necessary, until it is woken and may continue. */
 static void wait_for_place(struct driver *driver, uint16_t station, uint8_t tid) {
   if (has_place(driver, station, tid, STOP_AT)) return;
   driver->stops++;
@@ -266,7 +267,8 @@ static void wait_for_place(struct driver *driver, uint16_t station, uint8_t tid)
   while (!driver->has_failed && !has_place(driver, station, tid, WAKE_AT)) pthread_cond_wait(&driver->wake, &driver->lock);
 }
 
-/* Hands a packet to the path, from the upper queue's own address, with the number of its buffer for a tag. */
+/* Enqueues a packet, with the upper queue's own address as its source, and the number of its buffer as its
+ * tag. */
 static int hand_in(struct driver *driver, uint16_t station, uint8_t tid) {
   static const uint8_t HOST[6] = {0x0a, 0x00, 0x5e, 0x00, 0x53, 0x01};
   struct wf_reply reply = {0};
@@ -282,7 +284,7 @@ static int hand_in(struct driver *driver, uint16_t station, uint8_t tid) {
   return 0;
 }
 
-/* A packet comes from above. */
+/* Takes a packet from above. */
 static int take_packet(struct driver *driver, uint16_t station, uint8_t tid) {
   int all;
   pthread_mutex_lock(&driver->lock);
@@ -295,7 +297,7 @@ static int take_packet(struct driver *driver, uint16_t station, uint8_t tid) {
 
 /* ---- the program */
 
-/* A station joins, with its own address. */
+/* Makes a station join, with its own address. */
 static int open_station(struct wf_path *path, uint16_t station) {
   struct wf_reply reply = {0};
   uint8_t address[6];
@@ -318,7 +320,7 @@ static int open_driver(struct driver *driver) {
   wf_settings_standard(&settings);
   settings.stations = STATIONS;
   settings.inflight = DEPTH + 1; /* one more is on the air */
-  settings.charge = LONGEST;     /* the device tells what it has measured */
+  settings.charge = LONGEST;     /* the device gives the measured airtime */
   if (wf_path_make(&driver->path, &settings) || wf_path_set_base(&driver->path, BASE)) return 0;
   for (station = 0; station < STATIONS; station++) {
     if (!open_station(&driver->path, station)) return 0;
@@ -342,7 +344,7 @@ static int drive(struct driver *driver) {
   return pthread_join(device, NULL) == 0 && all && !driver->has_failed;
 }
 
-/* Writes what is the same whenever the two threads meet, and gives whether all of it is as it should be. */
+/* Prints what does not depend on how the threads meet, and returns whether all of it is as expected. */
 static int report(const struct driver *driver) {
   unsigned back = driver->acked + driver->dropped, inside = BUFFERS - driver->pool.count;
   int is_measured = driver->measured > driver->computed;

@@ -1,5 +1,5 @@
 /*
- * The words of docs/TRACE.md for what libwf answers.
+ * The words of docs/TRACE.md for the answers of libwf.
  */
 #ifndef WORDS_H
 #define WORDS_H
@@ -45,7 +45,8 @@ static void write_refusal(FILE *out, const struct wf_reply *reply) {
   if (reply->refusal >= WF_OPEN && reply->refusal <= WF_FULL) fprintf(out, " %lu", (unsigned long)reply->count);
 }
 
-/* Writes the line of an answer that a path may give. Gives 0 where it is of a cell alone, and then writes nothing. */
+/* Writes the line of an answer of a path. Returns 0 if only a cell has this answer, and then writes nothing.
+ * */
 static int write_words(FILE *out, const struct wf_reply *reply, const struct wf_frames *frames) {
   char kind[WF_NAME] = {0};
   if (reply->kind == WF_KIND_RELEASED || reply->kind == WF_KIND_BA) return 0;

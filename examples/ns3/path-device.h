@@ -1,10 +1,11 @@
 /*
- * A device of ns-3 whose transmit queue is a path of the library, over ns-3's own channel.
+ * A device of ns-3 whose transmit queue is a path of the library, on ns-3's own channel.
  *
- * An access point's device has a radio of ns-3 without ns-3's MAC over it. It sends one exchange at a time: it waits for AIFS and
- * a backoff, sends a PSDU, and hears the station's BlockAck or gives up. It tells what that took of the air, as the channel had
- * it: from the beginning of the PSDU to the end of the BlockAck, or to where it gave up. A station's radio loses transmissions as
- * an error model of ns-3 draws; no BlockAck is lost, but where no transmission arrived there is none.
+ * The access point's device has a radio of ns-3 without ns-3's MAC. It sends one exchange at a time: it waits
+ * for AIFS and a backoff, sends a PSDU, and hears the station's BlockAck or gives up. It passes the airtime
+ * of this on the channel to the path: from the beginning of the PSDU to the end of the BlockAck, or to the
+ * moment when it gave up. A station's radio loses transmissions by an error model of ns-3. No BlockAck is
+ * lost, but a station that gets no transmission sends none.
  */
 #ifndef PATH_DEVICE_H
 #define PATH_DEVICE_H
@@ -23,7 +24,8 @@
 /// The width of the channel, in MHz.
 constexpr uint16_t WIDTH = 80;
 
-/// A station: its device, which has its address, its radio, and how it is sent to: with the long guard interval, in one stream.
+/// A station: its device, which has its address, its radio and its rate, which has the long guard interval
+/// and one stream.
 struct Station {
   ns3::Ptr<ns3::SimpleNetDevice> device;
   ns3::Ptr<ns3::WifiPhy> radio;
@@ -31,12 +33,13 @@ struct Station {
 
   ns3::Mac48Address Address() const { return ns3::Mac48Address::ConvertFrom(device->GetAddress()); }
 
-  /// How data go to it.
+  /// How data to it are sent.
   ns3::WifiTxVector Data() const {
     return {ns3::VhtPhy::GetVhtMcs(mcs), 0, ns3::WIFI_PREAMBLE_VHT_SU, 800, 1, 1, 0, WIDTH, true};
   }
 
-  /// How its answers go, and requests for them: at 6, 12 or 24 Mbit/s, as in ns-3's own Wi-Fi by the modulation of its data.
+  /// How its answers, and requests for them, are sent: at 6, 12 or 24 Mbit/s, by the modulation of its data,
+  /// as in ns-3's own Wi-Fi.
   ns3::WifiTxVector Control() const {
     const auto mode = mcs == 0  ? ns3::OfdmPhy::GetOfdmRate6Mbps()
                       : mcs < 3 ? ns3::OfdmPhy::GetOfdmRate12Mbps()
@@ -45,7 +48,7 @@ struct Station {
   }
 };
 
-/// What the access point sends over: its address, its radio, and the stations.
+/// The address and the radio of the access point, and its stations.
 struct Air {
   ns3::Mac48Address address;
   ns3::Ptr<ns3::WifiPhy> radio;
@@ -59,7 +62,8 @@ struct Air {
   }
 };
 
-/// A station's receive half: it answers a PSDU with a BlockAck, puts data in the order of their numbers, and hands them up.
+/// A station's receive half: it answers a PSDU with a BlockAck, puts data in the order of their numbers, and
+/// passes them up.
 class Receiver {
  public:
   explicit Receiver(const Station& station) : m_station(station) {
@@ -76,7 +80,8 @@ class Receiver {
 
   bool IsNew(uint16_t number) const { return Ahead(number, m_next) < NUMBERS / 2; }
 
-  /// Hears a PSDU, of which these transmissions arrived. (The radio tells of each of an aggregate by itself too.)
+  /// Hears a PSDU, of which these transmissions arrived. (The radio also reports each frame of an aggregate
+  /// alone.)
   void Hear(ns3::Ptr<const ns3::WifiPsdu> psdu, ns3::RxSignalInfo, ns3::WifiTxVector vector, std::vector<bool> arrived) {
     if (psdu->GetAddr1() != m_station.Address() || (vector.IsAggregation() && arrived.empty())) return;
     for (size_t index = 0; index < psdu->GetNMpdus(); index++) {
@@ -91,7 +96,7 @@ class Receiver {
     ns3::Simulator::Schedule(m_station.radio->GetSifs(), &Receiver::Answer, this, psdu->GetAddr2(), block);
   }
 
-  /// Takes a transmission in, a data frame or a BlockAckReq.
+  /// Receives a transmission, a data frame or a BlockAckReq.
   void Take(ns3::Ptr<const ns3::WifiMpdu> mpdu) {
     const uint16_t number = mpdu->GetHeader().GetSequenceNumber();
     if (mpdu->GetHeader().IsBlockAckReq()) {
@@ -104,7 +109,7 @@ class Receiver {
     }
   }
 
-  /// Hands up the packet of the next number, if it has come: the packet that was sent, with the tags that ns-3 put on it.
+  /// Passes up the packet of the next number, if it arrived: the packet that was sent, with its ns-3 tags.
   void Advance() {
     const auto found = m_held.find(m_next);
     if (found != m_held.end()) {
@@ -131,7 +136,7 @@ class Receiver {
   std::map<uint16_t, ns3::Ptr<const ns3::WifiMpdu>> m_held;
 };
 
-/// A device of the access point, by its radio. What follows an exchange is its subclass's.
+/// A device of the access point, by its radio. A subclass says what follows an exchange.
 class AirDevice : public ns3::SimpleNetDevice {
  public:
   explicit AirDevice(const Air& air) : m_air(air), m_receivers(air.stations.begin(), air.stations.end()) {
@@ -156,7 +161,7 @@ class AirDevice : public ns3::SimpleNetDevice {
     m_end = ns3::Simulator::Schedule(patience, &AirDevice::GiveUp, this);
   }
 
-  /// The exchange is over: the octets of its BlockAck, none where none was heard, and what it took of the air.
+  /// Called when the exchange is over, with the octets of its BlockAck, if one was heard, and its airtime.
   virtual void Over(const std::vector<uint8_t>& answer, ns3::Time took) = 0;
 
   Air m_air;
@@ -176,7 +181,7 @@ class AirDevice : public ns3::SimpleNetDevice {
 
   std::deque<Receiver> m_receivers;
   ns3::Ptr<ns3::UniformRandomVariable> m_backoff = ns3::CreateObject<ns3::UniformRandomVariable>();
-  ns3::Time m_begin;  ///< when the PSDU began that is on the air
+  ns3::Time m_begin;  ///< when the PSDU on the air began
   ns3::EventId m_end; ///< when it gives up
 };
 
@@ -195,7 +200,7 @@ class PathDevice : public AirDevice {
 
   ~PathDevice() override { wf_path_free(&m_path); }
 
-  /// Puts a packet of UDP over IPv4 into the path. The packet itself is kept, and the frame's tag names it.
+  /// Enqueues a packet of UDP over IPv4. The packet itself is kept, and the frame's tag identifies it.
   bool Send(ns3::Ptr<ns3::Packet> packet, const ns3::Address& destination, uint16_t protocol) override {
     ns3::LlcSnapHeader link;
     link.SetType(protocol);
@@ -206,7 +211,7 @@ class PathDevice : public AirDevice {
     given.body = body.data();
     given.length = body.size();
     given.tag = m_came;
-    // the flow: both addresses and ports, behind 8 octets of the link's header and 12 of IPv4's
+    // the flow: both addresses and ports, which follow 8 octets of the link's header and 12 of IPv4's
     given.flow = ns3::Hash32(reinterpret_cast<const char*>(body.data()) + 20, 12);
     m_air.address.CopyTo(given.source);
     Advance();
@@ -227,7 +232,7 @@ class PathDevice : public AirDevice {
     return octets;
   }
 
-  /// The path's clock follows that of ns-3.
+  /// Moves the path's clock to the time of ns-3.
   void Advance() { Must(wf_path_advance(&m_path, ns3::Simulator::Now().GetMicroSeconds(), &m_reply)); }
 
   /// Waits for the air.
@@ -236,7 +241,7 @@ class PathDevice : public AirDevice {
     ns3::Simulator::Schedule(Wait(), &PathDevice::Begin, this);
   }
 
-  /// The air is free: what the path sends next takes it.
+  /// The air is free: sends what the path pulls.
   void Begin() {
     Advance();
     m_busy = wf_path_can_pull(&m_path, WF_BE) != 0;
@@ -251,7 +256,7 @@ class PathDevice : public AirDevice {
     }
   }
 
-  /// The aggregate of the exchange: the path's header for each frame, and the packet that its tag names.
+  /// The aggregate of the exchange: the path's header for each frame, and the packet of its tag.
   ns3::Ptr<ns3::WifiPsdu> Aggregate() const {
     std::vector<ns3::Ptr<ns3::WifiMpdu>> mpdus;
     for (uint16_t index = 0; index < m_frames.count; index++) {
@@ -277,7 +282,8 @@ class PathDevice : public AirDevice {
     return ns3::Create<ns3::WifiPsdu>(packet, header);
   }
 
-  /// Hands in what was heard and what was measured, and takes the finished frames out: their packets are let go.
+  /// Ends the exchange by its BlockAck and its measured airtime, and reaps the finished frames, whose packets
+  /// are then freed.
   void Over(const std::vector<uint8_t>& answer, ns3::Time took) override {
     const uint32_t air = took.GetMicroSeconds();
     Advance();
@@ -291,8 +297,8 @@ class PathDevice : public AirDevice {
   wf_path m_path{};
   wf_reply m_reply{};
   wf_frames m_frames{};
-  uint64_t m_exchange = 0;                                ///< the last that was pulled
-  uint64_t m_came = 0;                                    ///< packets that the path has taken
+  uint64_t m_exchange = 0;                                ///< the last one that was pulled
+  uint64_t m_came = 0;                                    ///< packets that the path has accepted
   std::map<uint64_t, ns3::Ptr<const ns3::Packet>> m_kept; ///< packets inside, by their tags
   bool m_busy = false;                                    ///< it waits for the air, or an exchange is on it
 };

@@ -1,12 +1,14 @@
 /*
- * A bench for ns-3: an access point sends to three stations of different rates, over a path of the library (path-device.h), over
- * two queue disciplines of ns-3, and over ns-3's own Wi-Fi. All send over a channel of ns-3, of 80 MHz, at rates of VHT.
+ * A bench for ns-3: an access point sends to three stations of different rates, over a path of the library
+ * (path-device.h), over two queue disciplines of ns-3, and over ns-3's own Wi-Fi. All send over an ns-3
+ * channel of 80 MHz, at rates of VHT.
  *
- * Simulated are UDP flows through ns-3's sockets, UDP and IPv4: a heavy one to each station, of some 130 Mbit/s, and a sparse one
- * to the fast station, of a small packet each 20 milliseconds. A transmission in 16 is lost. Below the queue disciplines each
- * packet goes out by itself. ns-3's Wi-Fi aggregates, and sends beacons. Airtime is that of PSDUs to a station and of its own,
- * which answer them, with the SIFS before each. What comes is told by ns-3's FlowMonitor, which knows a packet by the tag that it
- * has put on it. Nothing that is sent in the first second is counted.
+ * The traffic consists of UDP flows through ns-3's sockets, UDP and IPv4: a heavy flow of some 130 Mbit/s to
+ * each station, and a sparse one to the fast station, with a small packet every 20 milliseconds. One of 16
+ * transmissions is lost. Below the queue disciplines each packet is sent alone. ns-3's Wi-Fi aggregates, and
+ * sends beacons. The airtime of a station counts PSDUs to it and its answers, with the SIFS before each.
+ * ns-3's FlowMonitor reports the packets that arrive, by a tag that it puts on each. The first second is not
+ * counted.
  *
  *   queues [--seconds=N]
  */
@@ -28,7 +30,7 @@ using namespace ns3;
 
 namespace {
 
-/// The rate of a station: its MCS of VHT, and Mbit/s on 80 MHz in one stream.
+/// The rate of a station: its MCS of VHT, and Mbit/s on 80 MHz with one stream.
 struct Rate {
   const char* name;
   uint8_t mcs;
@@ -37,10 +39,10 @@ struct Rate {
 
 constexpr std::array<Rate, 3> RATES{{{"fast", 9, 390}, {"middle", 4, 175.5}, {"slow", 0, 29.3}}};
 constexpr uint16_t STATIONS = RATES.size();
-constexpr uint16_t SPARSE = STATIONS; // the number of the sparse flow; a heavy one has that of its station
-constexpr uint16_t PORT = 1000;       // that of flow 0
+constexpr uint16_t SPARSE = STATIONS; // the number of the sparse flow; a heavy flow has the number of its station
+constexpr uint16_t PORT = 1000;       // the port of flow 0
 constexpr uint32_t LIMIT = 600;       // packets in a queue, all flows together
-constexpr uint32_t LONGEST = 10'000;  // microseconds that an exchange may be said to have taken
+constexpr uint32_t LONGEST = 10'000;  // the greatest airtime of an exchange, in microseconds
 constexpr double LOST = 1.0 / 16;     // of the transmissions
 const Time WARM = Seconds(1);         // nothing is counted before
 
@@ -50,13 +52,13 @@ using Flows = std::array<FlowMonitor::FlowStats, STATIONS + 1>;
 /// The airtime of each station.
 class Airtimes {
  public:
-  /// Counts a PSDU to a station, or of one.
+  /// Counts a PSDU to a station, or from one.
   void Carry(const StationNumbers& numbers, Ptr<const WifiPsdu> psdu, const WifiTxVector& vector, Time sifs) {
     if (Simulator::Now() < WARM) return;
     const Time airtime = WifiPhy::CalculateTxDuration(psdu, vector, WIFI_PHY_BAND_5GHZ);
     const auto to = numbers.find(psdu->GetAddr1());
     if (to != numbers.end()) m_air[to->second] += airtime.GetSeconds();
-    if (psdu->GetHeader(0).IsCts() || psdu->GetHeader(0).IsAck()) return; // they do not say whose they are
+    if (psdu->GetHeader(0).IsCts() || psdu->GetHeader(0).IsAck()) return; // they do not say who sent them
     const auto from = numbers.find(psdu->GetAddr2());
     if (from != numbers.end()) m_air[from->second] += (sifs + airtime).GetSeconds();
   }
@@ -67,7 +69,7 @@ class Airtimes {
   std::array<double, STATIONS> m_air{};
 };
 
-/// The delay below which 95 of 100 packets of a flow stay, in milliseconds.
+/// The delay of a flow that 95 of 100 packets do not exceed, in milliseconds.
 double Most(Histogram delays, uint32_t packets) {
   uint64_t passed = 0;
   for (uint32_t bin = 0; bin < delays.GetNBins(); bin++) {
@@ -77,7 +79,7 @@ double Most(Histogram delays, uint32_t packets) {
   return 0;
 }
 
-/// Writes a table: the airtime of each station, and the octets and delays of what came of each flow.
+/// Prints a table: the airtime of each station, and the octets and delays of each flow.
 void Print(const std::string& title, const Airtimes& airtimes, const Flows& flows, Time until) {
   std::printf("%s\nflow      Mbit/s airtime %%   kbit/s  mean ms  95 %% ms\n", title.c_str());
   for (uint16_t flow = 0; flow <= SPARSE; flow++) {
@@ -102,7 +104,8 @@ Ptr<ErrorModel> Losses() {
   return losses;
 }
 
-/// A device below a queue discipline of ns-3: it sends one packet at a time, again while it does not arrive.
+/// A device below a queue discipline of ns-3: it sends one packet at a time, and sends it again if it does
+/// not arrive.
 class PlainDevice : public AirDevice {
  public:
   PlainDevice(const Air& air, const wf_settings& settings)
@@ -121,7 +124,7 @@ class PlainDevice : public AirDevice {
   }
 
  private:
-  /// The air is free: the packet is the body of a data frame that is alone in its aggregate.
+  /// The air is free: sends the packet as the only data frame of an aggregate.
   void Begin() {
     const Station& station = m_air.stations[m_station];
     WifiMacHeader header(WIFI_MAC_QOSDATA);
@@ -140,7 +143,7 @@ class PlainDevice : public AirDevice {
       Simulator::Schedule(Wait(), &PlainDevice::Begin, this);
       return;
     }
-    // the number of a packet that never arrived is the next one's
+    // a packet that never arrived leaves its number to the next one
     if (!answer.empty()) m_numbers[m_station] = (m_numbers[m_station] + 1) % 4096;
     GetObject<NetDeviceQueueInterface>()->GetTxQueue(0)->Wake();
   }
@@ -156,14 +159,15 @@ void OnPsdu(Airtimes* airtimes, StationNumbers numbers, Time sifs, WifiConstPsdu
   airtimes->Carry(numbers, sent.begin()->second, vector, sifs);
 }
 
-/// Has the airtime counted of what these radios send, the access point's and those of the stations with these addresses.
+/// Counts the airtime of what these radios send: the access point's, and those of the stations with these
+/// addresses.
 void Count(Airtimes& airtimes, const std::vector<Ptr<WifiPhy>>& radios, const StationNumbers& numbers) {
   for (const auto& radio : radios) {
     radio->TraceConnectWithoutContext("PhyTxPsduBegin", MakeBoundCallback(&OnPsdu, &airtimes, numbers, radio->GetSifs()));
   }
 }
 
-/// Radios on one channel of 80 MHz.
+/// Makes radios on one channel of 80 MHz.
 YansWifiPhyHelper Radios() {
   YansWifiPhyHelper phy;
   phy.SetChannel(YansWifiChannelHelper::Default().Create());
@@ -171,7 +175,7 @@ YansWifiPhyHelper Radios() {
   return phy;
 }
 
-/// A node's radio, without a MAC of ns-3 over it.
+/// Makes a node's radio, without a MAC of ns-3.
 Ptr<WifiPhy> BareRadio(const WifiPhyHelper& radios, Ptr<Node> node) {
   auto holder = CreateObject<WifiNetDevice>();
   holder->SetNode(node);
@@ -204,7 +208,7 @@ NetDeviceContainer InstallAir(const NodeContainer& nodes, Airtimes& airtimes) {
   settings.charge = LONGEST;
   NetDeviceContainer devices(CreateObject<Device>(air, settings));
   for (const Station& station : air.stations) devices.Add(station.device);
-  const auto link = CreateObject<SimpleChannel>(); // nothing goes over it: a SimpleNetDevice wants one
+  const auto link = CreateObject<SimpleChannel>(); // a SimpleNetDevice requires a channel, which carries nothing here
   for (uint32_t i = 0; i < devices.GetN(); i++) {
     const auto device = DynamicCast<SimpleNetDevice>(devices.Get(i));
     device->SetMtu(1500);
@@ -260,7 +264,7 @@ NetDeviceContainer InstallWifi(const NodeContainer& nodes, Airtimes& airtimes) {
   return devices;
 }
 
-/// A flow from the access point to a station's node.
+/// Starts a flow from the access point to a station's node.
 void StartFlow(const NodeContainer& nodes, Ptr<Node> to, Ipv4Address address, uint16_t flow, uint32_t octets, Time interval) {
   UdpServerHelper(PORT + flow).Install(to);
   UdpClientHelper client(address, PORT + flow);
@@ -270,17 +274,17 @@ void StartFlow(const NodeContainer& nodes, Ptr<Node> to, Ipv4Address address, ui
   client.Install(nodes.Get(0)).Start(Seconds(0.5));
 }
 
-/// The traffic: a heavy flow to each station, and the sparse one.
+/// Starts the traffic: a heavy flow to each station, and the sparse one.
 void StartFlows(const NodeContainer& nodes, const Ipv4InterfaceContainer& addresses) {
   for (uint16_t station = 0; station < STATIONS; station++) {
-    // different, so that it is not always the same flow that meets a full queue
+    // different, so that a full queue does not always drop packets of the same flow
     const Time interval = MicroSeconds(89 + 2 * station);
     StartFlow(nodes, nodes.Get(1 + station), addresses.GetAddress(1 + station), station, 1472, interval);
   }
   StartFlow(nodes, nodes.Get(1), addresses.GetAddress(1), SPARSE, 172, MilliSeconds(20));
 }
 
-/// What ns-3's monitor has seen of each flow.
+/// The statistics of ns-3's monitor for each flow.
 Flows FlowsOf(FlowMonitorHelper& helper) {
   Flows flows;
   const auto classifier = DynamicCast<Ipv4FlowClassifier>(helper.GetClassifier());
@@ -291,13 +295,14 @@ Flows FlowsOf(FlowMonitorHelper& helper) {
   return flows;
 }
 
-/// One run: the devices, a queue discipline of ns-3 on that of the access point, where one is named, and the traffic.
+/// One run: the devices, a queue discipline of ns-3 over the access point's device, if one is given, and the
+/// traffic.
 template <typename Install>
 void Run(const std::string& title, Install install, const std::string& discipline, Time until) {
   Airtimes airtimes;
   NodeContainer nodes;
   nodes.Create(1 + STATIONS);
-  MobilityHelper().Install(nodes); // all in one place
+  MobilityHelper().Install(nodes); // all at one place
   const NetDeviceContainer devices = install(nodes, airtimes);
   if (!discipline.empty() && !devices.Get(0)->GetObject<NetDeviceQueueInterface>()) {
     devices.Get(0)->AggregateObject(CreateObject<NetDeviceQueueInterface>()); // by which it stops and wakes the discipline

@@ -1,8 +1,8 @@
--- Words that are a known one but for a slip.
+-- Defines which words differ from a known word by one typing error.
 use Rattle.std.specs.Prelude.{ℕ, List, [], ◌∷◌, length, Bool, false, ◌==◌, ◌&&◌, ◌||◌, nat_le, if◌then◌else◌}
 use Rattle.std.specs.Str.{bytes_eq}
 
--- two neighbours changed places at the front
+-- The first two octets of the word are swapped, and the rest equals the known word.
 abbrev pub is_swap_of : List ℕ → List ℕ → Bool
 is_swap_of [] known = false
 is_swap_of (one ∷ []) known = false
@@ -11,7 +11,7 @@ is_swap_of (one ∷ two ∷ rest) (first ∷ []) = false
 is_swap_of (one ∷ two ∷ rest) (first ∷ second ∷ others) =
     one == second && two == first && bytes_eq rest others
 
--- an octet too many, one left out, one for another, or two neighbours that changed places
+-- The words are equal, or the first has one extra octet, one missing, one wrong, or two swapped neighbours.
 abbrev pub is_slip_of : List ℕ → List ℕ → Bool
 is_slip_of [] known = nat_le (length known) 1
 is_slip_of (one ∷ rest) [] = length rest == 0

@@ -1,4 +1,4 @@
-//! What is said of the words of a call or an event.
+//! Explains the fault in the words of a call or an event.
 
 use crate::forms::{args, form_named, forms, name_of, say_wanted, third_word, word_of};
 use crate::saying::{say, say_number};
@@ -7,7 +7,7 @@ use wf_io::Line;
 use wf_run::help::Command;
 use wf_trace::{Arg, FaultKind, next_word, read_all};
 
-// The first argument that is judged so: its place, what it may be, and its word.
+// Returns the place, the kind and the word of the first argument that has a fault of this kind.
 fn first_judged<'a>(
     kind: FaultKind,
     args: &[Arg],
@@ -25,7 +25,7 @@ fn first_judged<'a>(
     None
 }
 
-// How many arguments are missing, and the first word behind the last argument.
+// Returns how many arguments are missing, and the first word after the last argument.
 fn missing<'a>(args: &[Arg], line: &'a [u8]) -> (u64, Option<&'a [u8]>) {
     let mut rest = line;
     let mut count: u64 = 0;
@@ -45,95 +45,101 @@ fn missing<'a>(args: &[Arg], line: &'a [u8]) -> (u64, Option<&'a [u8]>) {
     }
 }
 
-// Appends how many words are missing or that one is too many.
+// Appends how many words are missing, or that there are too many.
 fn say_count(form: &'static [u8], args: &[Arg], line: &[u8], out: &mut Line) {
     match missing(args, line) {
         (_, Some([b'#', ..])) => say(
             &[
-                b"behind \"",
+                b"a comment follows \"",
                 form,
-                b"\" a comment stands: it is a line of its own",
+                b"\": move it to a separate line",
             ],
             out,
         ),
         (_, Some(word)) => say(
-            &[b"\"", word, b"\" is a word too many for \"", form, b"\""],
+            &[b"\"", word, b"\": too many words; expected \"", form, b"\""],
             out,
         ),
-        (1, None) => say(&[b"1 word of \"", form, b"\" is missing"], out),
+        (1, None) => say(&[b"1 word is missing: expected \"", form, b"\""], out),
         (count, None) => {
             say_number(count, out);
-            say(&[b" words of \"", form, b"\" are missing"], out);
+            say(&[b" words are missing: expected \"", form, b"\""], out);
         }
     }
 }
 
-// Appends what an argument is to be.
+// Appends the name of the faulty argument, its word, and the values that are allowed.
 fn say_arg(kind: FaultKind, form: &'static [u8], args: &[Arg], line: &[u8], out: &mut Line) {
     let Some((place, arg, word)) = first_judged(kind, args, line) else {
-        say(&[kind.word(), b" (wf help faults)"], out);
+        say(&[kind.word(), b" (see wf help faults)"], out);
         return;
     };
-    say(&[b"\"", word, b"\": "], out);
-    say(&[name_of(form, place), b" is "], out);
-    if kind == FaultKind::Number {
-        say(&[b"a number, "], out);
+    say(&[name_of(form, place), b" is \""], out);
+    say(&[word, b"\": expected "], out);
+    if kind == FaultKind::Number || kind == FaultKind::Range {
+        say(&[b"a number from "], out);
     }
     say_wanted(arg, out);
     if kind == FaultKind::Number {
-        say(&[b", without a zero in front"], out);
+        say(&[b", without leading zeros"], out);
     }
 }
 
-// Appends that a word begins no line, and which is near.
+// Appends that there is no call or event with this word, and a similar word if there is one.
 fn say_unknown(command: Command, word: &[u8], out: &mut Line) {
-    let called = match command {
-        Command::Session | Command::Uplink => b"event".as_slice(),
-        _ => b"call".as_slice(),
+    let (called, topic) = match command {
+        Command::Session => (b"event".as_slice(), b"session".as_slice()),
+        Command::Uplink => (b"event".as_slice(), b"uplink".as_slice()),
+        _ => (b"call".as_slice(), b"replay".as_slice()),
     };
-    say(&[b"\"", word, b"\": no such ", called], out);
-    for form in forms(command) {
+    say(&[b"\"", word, b"\": unknown ", called], out);
+    for form in forms(command).iter().copied() {
         if is_near(word, word_of(form)) {
             say(&[b"; did you mean ", word_of(form), b"?"], out);
             return;
         }
     }
+    say(&[b" (wf help ", topic, b" lists all)"], out);
 }
 
-// Appends what an argument of an event of an uplink is to be: two of them are judged by the command itself,
-// the octets of a frame and the width of a channel.
+// Appends the faulty argument of an uplink's event and the values that are allowed. The uplink command itself
+// checks the octets of a frame and the width of a channel, so these two have messages here.
 fn say_uplink_arg(kind: FaultKind, form: &'static [u8], args: &[Arg], line: &[u8], out: &mut Line) {
     let is_hex = kind == FaultKind::Number && form == b"frame HEX".as_slice();
     let is_width = kind == FaultKind::Word && form == b"rate S MCS MHZ GUARD".as_slice();
     match (next_word(line), third_word(line)) {
         (Some((word, _)), _) if is_hex => say(
             &[
-                b"\"",
+                b"HEX is \"",
                 word,
-                b"\": HEX is 2 to 100 digits, an even number of 0-9 and a-f",
+                b"\": expected 2 to 100 digits 0-9 and a-f, an even number of them",
             ],
             out,
         ),
         (_, Some(word)) if is_width && word != b"20".as_slice() && word != b"40".as_slice() => {
-            say(&[b"\"", word, b"\": MHZ is 20 or 40"], out)
+            say(&[b"MHZ is \"", word, b"\": expected 20 or 40"], out)
         }
         _ => say_arg(kind, form, args, line, out),
     }
 }
 
-/// Appends what is wrong with a line that is to be a call or an event.
+/// Appends an explanation of the fault in a line that should be a call or an event.
 pub fn say_call(command: Command, kind: FaultKind, line: &[u8], out: &mut Line) {
     let Some((word, rest)) = next_word(line) else {
-        say(&[b"a call is missing behind its caller"], out);
+        say(
+            &[b"the call is missing: expected one after the caller"],
+            out,
+        );
         return;
     };
     let Some(form) = form_named(command, word, rest) else {
         say_unknown(command, word, out);
         return;
     };
+    let args = args(command, form);
     match (kind, command) {
-        (FaultKind::Count, _) => say_count(form, args(command, form), rest, out),
-        (_, Command::Uplink) => say_uplink_arg(kind, form, args(command, form), rest, out),
-        _ => say_arg(kind, form, args(command, form), rest, out),
+        (FaultKind::Count, _) => say_count(form, args.as_slice(), rest, out),
+        (_, Command::Uplink) => say_uplink_arg(kind, form, args.as_slice(), rest, out),
+        _ => say_arg(kind, form, args.as_slice(), rest, out),
     }
 }

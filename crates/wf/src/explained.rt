@@ -1,4 +1,5 @@
-//! What is said of a fault of a trace or a script, besides its line on standard output.
+//! Explains a fault of a trace or a script on standard error, in addition to the fault line on standard
+//! output.
 
 use crate::calls::say_call;
 use crate::heads::say_head;
@@ -25,12 +26,12 @@ const KINDS: [FaultKind; 10] = [
     FaultKind::TooLong,
 ];
 
-// The kind of this word.
+// Returns the kind of fault that has this word.
 fn kind_named(word: &[u8]) -> Option<FaultKind> {
     KINDS.iter().copied().find(|kind| kind.word() == word)
 }
 
-// The fault that a line tells, without its octet 10: `fault line N KIND`.
+// Parses the line `fault line N KIND`, without its octet 10.
 fn fault_told(line: &[u8]) -> Option<Fault> {
     let (first, rest) = next_word(line)?;
     let (second, rest) = next_word(rest)?;
@@ -48,24 +49,28 @@ fn fault_told(line: &[u8]) -> Option<Fault> {
     })
 }
 
-// Appends what is wrong with a call whose caller stands in front.
+// Appends an explanation of the fault in a line that begins with this caller.
 fn say_called(caller: &[u8], kind: FaultKind, line: &[u8], out: &mut Line) {
     match in_range(0, GREATEST_CALLER, caller) {
         Err(found) if found == kind => {
             say(
-                &[b"\"@", caller, b"\": a caller is a number, 0 to 65535"],
+                &[
+                    b"the caller is \"@",
+                    caller,
+                    b"\": expected @ and a number from 0 to 65535",
+                ],
                 out,
             );
         }
         _ => match next_word(line) {
-            Some((b"cell", _)) => say(&[b"\"cell\" has no caller"], out),
-            Some((b"end", _)) => say(&[b"\"end\" has no caller"], out),
+            Some((b"cell", _)) => say(&[b"\"cell\" takes no caller: only calls do"], out),
+            Some((b"end", _)) => say(&[b"\"end\" takes no caller: only calls do"], out),
             _ => say_call(Command::Replay, kind, line, out),
         },
     }
 }
 
-// Appends what is wrong with the words of a line.
+// Appends an explanation of the fault in the words of a line.
 fn say_words(command: Command, kind: FaultKind, line: &[u8], out: &mut Line) {
     match (command, next_word(line)) {
         (Command::Replay, Some(([b'@', caller @ ..], rest))) => {
@@ -76,32 +81,41 @@ fn say_words(command: Command, kind: FaultKind, line: &[u8], out: &mut Line) {
     }
 }
 
-// Appends what is wrong with a line.
+// Appends an explanation of the fault in a line.
 fn say_kind(command: Command, kind: FaultKind, line: &[u8], out: &mut Line) {
     match (kind, command) {
         (FaultKind::TooBig, _) => say(
-            &[b"the line does not end within the first 1099511627776 octets"],
+            &[b"the line does not end within the first 1099511627776 octets of the input"],
             out,
         ),
-        (FaultKind::LongLine, _) => say(&[b"a line has at most 160 octets"], out),
+        (FaultKind::LongLine, _) => say(
+            &[b"the line is too long: expected at most 160 octets"],
+            out,
+        ),
         (FaultKind::NotAscii, _) => say_octets(line, out),
         (FaultKind::NoHead, _) => say(
-            &[b"the first line of a trace is \"cell\", with any settings behind it"],
+            &[b"the head is missing: expected \"cell [NAME=NUMBER ..]\" as the first line"],
             out,
         ),
-        (FaultKind::NoEnd, _) => say(&[b"the input ends without the line \"end\""], out),
+        (FaultKind::NoEnd, _) => say(
+            &[b"the line \"end\" is missing: expected it as the last line"],
+            out,
+        ),
         (FaultKind::TooLong, Command::Replay) => say(
-            &[b"the head allows no more calls (its setting calls)"],
+            &[b"there are too many calls: the setting \"calls\" of the head allows no more"],
             out,
         ),
-        (FaultKind::TooLong, _) => say(&[b"a script has at most 65536 events"], out),
+        (FaultKind::TooLong, _) => say(
+            &[b"there are too many events: expected at most 65536"],
+            out,
+        ),
         (FaultKind::Word | FaultKind::Count | FaultKind::Number | FaultKind::Range, _) => {
             say_words(command, kind, line, out);
         }
     }
 }
 
-// Whether what is said of a kind looks at the line.
+// Returns whether the explanation of this kind needs the faulty line.
 fn is_of_words(kind: FaultKind) -> bool {
     match kind {
         FaultKind::NotAscii
@@ -113,8 +127,8 @@ fn is_of_words(kind: FaultKind) -> bool {
     }
 }
 
-// Appends a line that tells where a fault stands, and what was wanted there: without the line of the input
-// its kind alone.
+// Appends one line: the number of the faulty line, and an explanation of its fault. If the text
+// of the faulty line is not known and is needed, it appends only the kind of the fault.
 fn say_fault(command: Command, fault: Fault, line: Option<&[u8]>, out: &mut Line) {
     say(&[b"wf: line "], out);
     say_number(fault.line, out);
@@ -127,9 +141,11 @@ fn say_fault(command: Command, fault: Fault, line: Option<&[u8]>, out: &mut Line
     say(&[b"\n"], out);
 }
 
-/// Appends a line that tells where the fault of a run stands, and what was wanted there, by the line that was
-/// written last and the line of the input that it names. It appends none where no line was written of it,
-/// but that a replay tells of a trace that was no capture.
+/// Appends a line that explains the fault of a run.
+///
+/// `told` is the last line of the output; if it is a fault line, its number says which line of `source` to
+/// explain. For a capture, which has no fault line, the appended line says to run `wf replay` on the same
+/// trace. Otherwise nothing is appended.
 pub fn explain<S: Source>(
     command: Option<Command>,
     told: &[u8],
@@ -138,7 +154,7 @@ pub fn explain<S: Source>(
 ) {
     match (command, fault_told(told)) {
         (Some(Command::Capture), _) => say(
-            &[b"wf: a capture has no line for a fault: wf replay tells it of the same trace\n"],
+            &[b"wf: a capture has no such line: run wf replay on the same trace to get it\n"],
             out,
         ),
         (Some(command), Some(fault)) => {

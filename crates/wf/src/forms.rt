@@ -1,34 +1,24 @@
-//! The lines of a trace and of the scripts as their help shows them, and what their words are to be.
-//! checks/help compares the forms with the help, and the ranges with docs/TRACE.md.
+//! The forms of the lines of traces and scripts, as the help shows them, and the values that their arguments
+//! may have. The forms of a trace's calls come from the table in wf_frame. checks/help compares the forms of
+//! the scripts with the help.
 
 use crate::saying::{say, say_number};
+use arrayvec::ArrayVec;
+use wf_frame::{CallForm, GREATEST_START, GREATEST_TICK, GREATEST_WINDOW};
 use wf_io::Line;
 use wf_run::help::Command;
 use wf_trace::{Arg, next_word};
 
-const TRACE: [&[u8]; 19] = [
-    b"cell [NAME=NUMBER ..]",
-    b"join S W START X [WEIGHT]",
-    b"leave S",
-    b"rate S MCS MHZ GUARD",
-    b"rate S vht MCS MHZ GUARD N",
-    b"rate S he MCS MHZ GUARD N",
-    b"tick MICROSECONDS",
-    b"enq S TID FLOW LENGTH",
-    b"pull CLASS",
-    b"arrive EXCHANGE INDEX",
-    b"answer EXCHANGE",
-    b"done EXCHANGE HEARD",
-    b"done EXCHANGE HEARD air MICROSECONDS",
-    b"sleep S",
-    b"wake S",
-    b"poll S",
-    b"rx S CLASS MICROSECONDS",
-    b"reap",
-    b"end",
-];
+/// The most forms that a command has.
+const MOST_FORMS: usize = 19;
 
-const DONE_AIR: &[u8] = b"done EXCHANGE HEARD air MICROSECONDS";
+/// The most arguments that a form has.
+const MOST_ARGS: usize = 6;
+
+/// The form of a trace's head.
+const HEAD: &[u8] = b"cell [NAME=NUMBER ..]";
+
+const END: &[u8] = b"end";
 
 const SESSION: [&[u8]; 6] = [
     b"ask W START",
@@ -47,16 +37,36 @@ const UPLINK: [&[u8]; 5] = [
     b"end",
 ];
 
-/// The forms of the lines that a command reads.
-pub fn forms(command: Command) -> &'static [&'static [u8]] {
+// Returns the forms of the lines of a trace.
+fn trace_forms() -> ArrayVec<&'static [u8], MOST_FORMS> {
+    let mut found = ArrayVec::new();
+    let _ = found.try_push(HEAD);
+    for call in CallForm::all() {
+        let _ = found.try_push(call.line());
+    }
+    let _ = found.try_push(END);
+    found
+}
+
+// Copies forms into a vector.
+fn listed(forms: &[&'static [u8]]) -> ArrayVec<&'static [u8], MOST_FORMS> {
+    let mut found = ArrayVec::new();
+    for form in forms {
+        let _ = found.try_push(*form);
+    }
+    found
+}
+
+/// Returns the forms of the lines that a command reads.
+pub fn forms(command: Command) -> ArrayVec<&'static [u8], MOST_FORMS> {
     match command {
-        Command::Session => &SESSION,
-        Command::Uplink => &UPLINK,
-        _ => &TRACE,
+        Command::Session => listed(&SESSION),
+        Command::Uplink => listed(&UPLINK),
+        _ => trace_forms(),
     }
 }
 
-/// The word that a form begins with.
+/// Returns the first word of a form.
 pub fn word_of(form: &'static [u8]) -> &'static [u8] {
     match next_word(form) {
         Some((word, _)) => word,
@@ -64,10 +74,9 @@ pub fn word_of(form: &'static [u8]) -> &'static [u8] {
     }
 }
 
-// The form of the lines that begin with a word and have this word as their second argument, as the format of
-// a rate is one.
+// Returns the form that has this first word and this second argument, such as the format in `rate S vht ..`.
 fn form_with(command: Command, word: &[u8], second: &[u8]) -> Option<&'static [u8]> {
-    for form in forms(command) {
+    for form in forms(command).iter().copied() {
         if word_of(form) == word && name_of(form, 1) == second {
             return Some(form);
         }
@@ -75,15 +84,16 @@ fn form_with(command: Command, word: &[u8], second: &[u8]) -> Option<&'static [u
     None
 }
 
-/// The form of the lines that begin with a word and have these words behind it: of several forms the one
-/// that names their format, or an airtime, else the first.
+/// Returns the form of a line with this first word and these words after it. If several forms begin with this
+/// word, it is the form with the line's format, or the form with `air` if the line has that word; otherwise
+/// it is the first.
 pub fn form_named(command: Command, word: &[u8], rest: &[u8]) -> Option<&'static [u8]> {
     if let Some(second) = second_word(rest) {
         if let Some(form) = form_with(command, word, second) {
             return Some(form);
         }
     }
-    for form in forms(command) {
+    for form in forms(command).iter().copied() {
         if word_of(form) == word {
             return Some(with_air(form, rest));
         }
@@ -91,28 +101,29 @@ pub fn form_named(command: Command, word: &[u8], rest: &[u8]) -> Option<&'static
     None
 }
 
-// The form of a `done` with these words behind it, which may name an airtime; each other form as it is.
+// Returns the form of a `done` with an airtime if the line has the word `air`. Other forms are returned
+// unchanged.
 fn with_air(form: &'static [u8], rest: &[u8]) -> &'static [u8] {
-    match (form, third_word(rest)) {
-        (b"done EXCHANGE HEARD", Some(b"air")) => DONE_AIR,
+    match third_word(rest) {
+        Some(b"air") if form == CallForm::Done.line() => CallForm::DoneAir.line(),
         _ => form,
     }
 }
 
-// The second word of a line.
+// Returns the second word of a line.
 fn second_word(line: &[u8]) -> Option<&[u8]> {
     let (_, rest) = next_word(line)?;
     let (word, _) = next_word(rest)?;
     Some(word)
 }
 
-/// The third word of a line.
+/// Returns the third word of a line.
 pub fn third_word(line: &[u8]) -> Option<&[u8]> {
     let (_, rest) = next_word(line)?;
     second_word(rest)
 }
 
-/// The name of an argument of a form, by its place, counted from 0.
+/// Returns the name of an argument of a form, by its place, counted from 0.
 pub fn name_of(form: &'static [u8], place: usize) -> &'static [u8] {
     let mut rest = form;
     let mut name = form;
@@ -136,9 +147,15 @@ const SHORT: Arg = Arg::Number {
     high: 65_535,
 };
 
-const SESSION_WINDOW: Arg = Arg::Number { low: 1, high: 256 };
+const SESSION_WINDOW: Arg = Arg::Number {
+    low: 1,
+    high: GREATEST_WINDOW as u32,
+};
 
-const SESSION_START: Arg = Arg::Number { low: 0, high: 4095 };
+const SESSION_START: Arg = Arg::Number {
+    low: 0,
+    high: GREATEST_START as u32,
+};
 
 const UPLINK_MCS: Arg = Arg::Number { low: 0, high: 15 };
 
@@ -146,7 +163,7 @@ const UPLINK_MHZ: Arg = Arg::Number { low: 20, high: 40 };
 
 const UPLINK_TICK: Arg = Arg::Number {
     low: 0,
-    high: 10_000_000,
+    high: GREATEST_TICK,
 };
 
 fn session_args(word: &[u8]) -> &'static [Arg] {
@@ -158,8 +175,8 @@ fn session_args(word: &[u8]) -> &'static [Arg] {
     }
 }
 
-// The octets of a frame are no argument of these kinds: any other stands in their place, and is told apart by
-// its form.
+// No kind of argument describes the octets of a frame. The kind of `frame` here is a placeholder, and
+// `say_uplink_arg` recognizes it by its form.
 fn uplink_args(word: &[u8]) -> &'static [Arg] {
     match word {
         b"open" => &[SHORT, SHORT, SHORT],
@@ -170,56 +187,31 @@ fn uplink_args(word: &[u8]) -> &'static [Arg] {
     }
 }
 
-fn rate_args(form: &'static [u8]) -> &'static [Arg] {
-    match name_of(form, 1) {
-        b"vht" => &[
-            Arg::Short,
-            Arg::Format,
-            Arg::Octet,
-            Arg::Octet,
-            Arg::Guard,
-            Arg::Octet,
-        ],
-        b"he" => &[
-            Arg::Short,
-            Arg::Format,
-            Arg::Octet,
-            Arg::Octet,
-            Arg::Short,
-            Arg::Octet,
-        ],
-        _ => &[Arg::Short, Arg::Octet, Arg::Octet, Arg::Guard],
+// Returns the kinds of the arguments of the call with this form.
+fn trace_args(form: &'static [u8]) -> ArrayVec<Arg, MOST_ARGS> {
+    let mut args = ArrayVec::new();
+    for call in CallForm::all() {
+        if call.line() == form {
+            for argument in call.arguments() {
+                let _ = args.try_push(argument.kind());
+            }
+        }
     }
+    args
 }
 
-fn done_args(form: &'static [u8]) -> &'static [Arg] {
-    match name_of(form, 2) {
-        b"air" => &[Arg::Exchange, Arg::Heard, Arg::Air, Arg::Long],
-        _ => &[Arg::Exchange, Arg::Heard],
-    }
+// Copies the kinds of arguments into a vector.
+fn listed_args(listed: &[Arg]) -> ArrayVec<Arg, MOST_ARGS> {
+    let mut args = ArrayVec::new();
+    let _ = args.try_extend_from_slice(listed);
+    args
 }
 
-fn trace_args(form: &'static [u8]) -> &'static [Arg] {
-    match word_of(form) {
-        b"join" => &[Arg::Short, Arg::Short, Arg::Short, Arg::Octet, Arg::Weight],
-        b"leave" | b"sleep" | b"wake" | b"poll" => &[Arg::Short],
-        b"rate" => rate_args(form),
-        b"tick" => &[Arg::Long],
-        b"enq" => &[Arg::Short, Arg::Octet, Arg::Long, Arg::Length],
-        b"pull" => &[Arg::Class],
-        b"arrive" => &[Arg::Exchange, Arg::Short],
-        b"answer" => &[Arg::Exchange],
-        b"done" => done_args(form),
-        b"rx" => &[Arg::Short, Arg::Class, Arg::Long],
-        _ => &[],
-    }
-}
-
-/// What the arguments of a form may be.
-pub fn args(command: Command, form: &'static [u8]) -> &'static [Arg] {
+/// Returns the kinds of the arguments of a form.
+pub fn args(command: Command, form: &'static [u8]) -> ArrayVec<Arg, MOST_ARGS> {
     match command {
-        Command::Session => session_args(word_of(form)),
-        Command::Uplink => uplink_args(word_of(form)),
+        Command::Session => listed_args(session_args(word_of(form))),
+        Command::Uplink => listed_args(uplink_args(word_of(form))),
         _ => trace_args(form),
     }
 }
@@ -231,7 +223,7 @@ pub fn say_range(low: u32, high: u32, out: &mut Line) {
     say_number(u64::from(high), out);
 }
 
-/// Appends what an argument is to be.
+/// Appends the values that a kind of argument allows.
 pub fn say_wanted(arg: Arg, out: &mut Line) {
     match arg {
         Arg::Short => say(&[b"0 to 65535"], out),

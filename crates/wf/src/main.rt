@@ -1,6 +1,8 @@
-//! The program: `main` has the words, the real source and sink, the status, and what it says on standard
-//! error. Of words that are no command that is `advice`, and of a fault of a trace or a script what `explain`
-//! makes of the lines that `NotedSource` and `NotedSink` have noted.
+//! The program `wf`. It runs the command that the command line asks for, over the real standard input and
+//! output, and ends with its status.
+//!
+//! If the words are no command, `advice` explains this on standard error. If a trace or a script has a fault,
+//! `explain` describes it there, from the lines that `NotedSource` and `NotedSink` have kept.
 #![tactic(auto)]
 
 mod calls;
@@ -24,7 +26,7 @@ use wf_io::{Line, Source, StdSink, StdSource, write_line};
 use wf_run::help::{command_from, usage};
 use wf_run::{Status, run};
 
-// The words after the program's name. One that is not UTF-8 is no word of a command.
+// Returns the words after the program's name. If one of them is not UTF-8, the words are no command.
 fn words(rt: &HostRuntime) -> Result<Vec<String>, Status> {
     let args = env::args(rt).map_err(|error| match error.kind() {
         ErrorKind::OutOfMemory => Status::NoMemory,
@@ -35,7 +37,7 @@ fn words(rt: &HostRuntime) -> Result<Vec<String>, Status> {
         .map_err(|_: AllocError| Status::NoMemory)
 }
 
-// Says on standard error why a run ended that did not end well.
+// Says on standard error why a run did not succeed.
 fn say(rt: &HostRuntime, status: Status, advice: &str) {
     let message = match status {
         Status::Usage => {
@@ -43,7 +45,7 @@ fn say(rt: &HostRuntime, status: Status, advice: &str) {
             return;
         }
         Status::BadTrace =>
-            "wf: a fault in the input, told in the last line of the output (wf help faults)",
+            "wf: the input has a fault: the last line of the output says which (see wf help faults)",
         other => other.message(),
     };
     if !message.is_empty() {
@@ -51,7 +53,7 @@ fn say(rt: &HostRuntime, status: Status, advice: &str) {
     }
 }
 
-// Says on standard error where the fault of a trace or a script stands, by the line that was written last.
+// Explains the fault of a trace or a script on standard error. `told` is the last line of the output.
 fn say_fault<S: Source>(
     rt: &HostRuntime,
     words: &[String],

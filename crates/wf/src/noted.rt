@@ -1,4 +1,5 @@
-//! A source and a sink that note what a fault is told by: the lines read last, and the line written last.
+//! A source and a sink that keep the lines from which a fault is explained: the lines read last, and the line
+//! written last.
 
 use arrayvec::ArrayVec;
 use std::mem;
@@ -7,8 +8,9 @@ use wf_io::{Failed, Sink, Source};
 /// The most octets of a block.
 const BLOCK: usize = 4096;
 
-// The octets that were taken last, in two blocks: together they have the last 4096 octets at least. And what
-// stands before them: the number of lines that ended, and the line that has begun, up to 161 octets of it.
+// The octets that were read last, in two blocks that together hold at least the last 4096 octets. About the
+// octets before them it keeps the number of lines that ended, and up to 161 octets of the line that was
+// begun.
 #[derive(Drop)]
 struct Window {
     ended: u64,
@@ -27,7 +29,7 @@ impl Window {
         }
     }
 
-    // Puts the older block before both, and begins a new one.
+    // Drops the older block, counts its lines, and starts a new block.
     fn pass(&mut self) {
         let older = mem::replace(
             &mut self.older,
@@ -45,7 +47,7 @@ impl Window {
         let _ = self.begun.try_extend_from_slice(&begun[..count]);
     }
 
-    // Notes octets that were taken.
+    // Adds octets that were read.
     fn note(&mut self, octets: &[u8]) {
         for piece in octets.chunks(BLOCK) {
             if self.newer.remaining_capacity() < piece.len() {
@@ -55,7 +57,7 @@ impl Window {
         }
     }
 
-    // The line of this number, if it is still known.
+    // Returns the line of this number, if it is still known.
     fn line(&mut self, number: u64) -> Option<&[u8]> {
         for octet in self.older.as_slice().iter().chain(self.newer.as_slice()) {
             if *octet != b'\n' {
@@ -75,7 +77,7 @@ impl Window {
     }
 }
 
-/// A source that notes the octets that it gave last.
+/// A source that keeps the octets that it returned last.
 #[derive(Drop)]
 pub struct NotedSource<S> {
     source: S,
@@ -83,7 +85,7 @@ pub struct NotedSource<S> {
 }
 
 impl<S: Source> NotedSource<S> {
-    /// Nothing is noted yet.
+    /// Wraps a source. Nothing is kept yet.
     pub fn new(source: S) -> Self {
         NotedSource {
             source,
@@ -91,8 +93,9 @@ impl<S: Source> NotedSource<S> {
         }
     }
 
-    /// The line of this number, counted from 1, without its octet 10 and up to 161 octets of it: if it ended
-    /// in the last 4096 octets that were given, or has begun. Ask once, for it forgets what stands before.
+    /// Returns the line of this number, counted from 1, without its octet 10 and cut to 161 octets. It is
+    /// known if it has begun and did not end before the last 4096 octets that were read. Call this once only:
+    /// it forgets the earlier lines.
     pub fn line(&mut self, number: u64) -> Option<&[u8]> {
         self.window.line(number)
     }
@@ -110,14 +113,14 @@ impl<S: Source> Source for NotedSource<S> {
     }
 }
 
-/// A sink that notes the line that was written last.
+/// A sink that keeps the line that was written last.
 #[derive(Drop)]
 pub struct NotedSink<K> {
     sink: K,
     tail: Tail,
 }
 
-// The line that was written last, of one that is longer than 64 octets its front, and whether it has ended.
+// The line that was written last, cut to 64 octets, and whether it has ended.
 #[derive(Drop)]
 struct Tail {
     line: ArrayVec<u8, 64>,
@@ -144,7 +147,7 @@ impl Tail {
         }
     }
 
-    // Notes octets that were written: the last 64 of them are enough for the line of a fault.
+    // Adds octets that were written. The last 64 of them are enough for a fault line.
     fn note(&mut self, octets: &[u8]) {
         let from = octets.len().saturating_sub(TAIL);
         for octet in &octets[from..] {
@@ -154,7 +157,7 @@ impl Tail {
 }
 
 impl<K: Sink> NotedSink<K> {
-    /// Nothing is noted yet.
+    /// Wraps a sink. Nothing is kept yet.
     pub fn new(sink: K) -> Self {
         NotedSink {
             sink,
@@ -162,7 +165,8 @@ impl<K: Sink> NotedSink<K> {
         }
     }
 
-    /// The line that was written last, without its octet 10. It is whole if it has at most 63 octets.
+    /// Returns the line that was written last, without its octet 10. It is complete if it has at most 63
+    /// octets.
     pub fn line(&self) -> &[u8] {
         self.tail.line.as_slice()
     }

@@ -1,14 +1,16 @@
-//! What is said of an octet that is no printable ASCII character.
+//! Explains which octet of a line is not printable ASCII.
 
 use crate::saying::{say, say_number};
 use wf_io::Line;
 
-// Whether an octet is a character of a word.
+const EXPECTED: &[u8] = b"expected only printable ASCII characters";
+
+// Returns whether an octet is a printable ASCII character other than space.
 fn is_letter(octet: u8) -> bool {
     32 < octet && octet <= 126
 }
 
-// The line from the first octet on that is no printable ASCII character.
+// Returns the part of the line that begins at its first octet that is not printable ASCII.
 fn from_flaw(line: &[u8]) -> &[u8] {
     for (i, octet) in line.iter().enumerate() {
         if !is_letter(*octet) && *octet != b' ' {
@@ -19,7 +21,7 @@ fn from_flaw(line: &[u8]) -> &[u8] {
     &[]
 }
 
-// The first word of printable characters.
+// Returns the first word of printable characters.
 fn word_in(line: &[u8]) -> &[u8] {
     for (i, octet) in line.iter().enumerate() {
         if is_letter(*octet) {
@@ -30,7 +32,7 @@ fn word_in(line: &[u8]) -> &[u8] {
     &[]
 }
 
-// The printable characters at the front.
+// Returns the printable characters at the front of a line, up to the first other octet.
 fn letters_of(line: &[u8]) -> &[u8] {
     for (i, octet) in line.iter().enumerate() {
         if !is_letter(*octet) {
@@ -41,7 +43,7 @@ fn letters_of(line: &[u8]) -> &[u8] {
     line
 }
 
-// Appends what an octet is.
+// Appends the name or the number of an octet.
 fn say_octet(octet: u8, out: &mut Line) {
     match octet {
         9 => say(&[b"a tab (octet 9)"], out),
@@ -49,21 +51,23 @@ fn say_octet(octet: u8, out: &mut Line) {
         _ => {
             say(&[b"the octet "], out);
             say_number(u64::from(octet), out);
-            say(&[b", no printable ASCII character,"], out);
         }
     }
 }
 
-/// Appends which octet of a line is no printable ASCII character, and where it stands.
+/// Appends which octet of a line is not printable ASCII, and its place.
 pub fn say_octets(line: &[u8], out: &mut Line) {
     let [octet, rest @ ..] = from_flaw(line) else {
-        say(&[b"not-ascii (wf help faults)"], out);
+        say(&[b"not-ascii (see wf help faults)"], out);
         return;
     };
     say_octet(*octet, out);
     match (*octet, word_in(rest)) {
-        (13, []) => say(&[b" ends the line: is it a text from Windows?"], out),
-        (_, []) => say(&[b" ends the line"], out),
-        (_, word) => say(&[b" stands before \"", word, b"\""], out),
+        (13, []) => say(
+            &[b" ends the line: convert a text from Windows with dos2unix"],
+            out,
+        ),
+        (_, []) => say(&[b" ends the line: ", EXPECTED], out),
+        (_, word) => say(&[b" is before \"", word, b"\": ", EXPECTED], out),
     }
 }

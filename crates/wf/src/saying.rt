@@ -1,4 +1,4 @@
-//! A line that is put together of parts, as far as they fit.
+//! Appends the parts of a message to a line, as long as they fit.
 
 use wf_io::Line;
 

@@ -1,11 +1,11 @@
-//! What is said of words that are no command.
+//! Explains why words are no command.
 
 ghost use Rattle.std.specs.Prelude.{◌≡◌};
 ghost use Rattle.wf.specs.Slips.{is_slip_of, is_swap_of};
 
 use wf_run::help::Topic;
 
-// Whether two words differ by two neighbours that changed places, at their front.
+// Returns whether the first two octets of a word are swapped, and the rest equals the known word.
 fn is_swap_of(word: &[u8], known: &[u8]) -> bool
     ensures { result ≡ is_swap_of word.now known.now }
 {
@@ -17,8 +17,8 @@ fn is_swap_of(word: &[u8], known: &[u8]) -> bool
     }
 }
 
-// Whether a word is a known one but for one slip: an octet too many, one left out, one for another, or two
-// neighbours that changed places.
+// Returns whether a word equals a known one, or differs from it by one typing error: an extra octet, a
+// missing one, a wrong one, or two neighbours that are swapped.
 fn is_slip_of(word: &[u8], known: &[u8]) -> bool
     ensures { result ≡ is_slip_of word.now known.now }
 {
@@ -35,7 +35,7 @@ fn is_slip_of(word: &[u8], known: &[u8]) -> bool
     }
 }
 
-// A letter as a small one.
+// Returns a letter in lower case.
 fn small(octet: u8) -> u8 {
     if b'A' <= octet && octet <= b'Z' {
         octet + 32
@@ -44,7 +44,7 @@ fn small(octet: u8) -> u8 {
     }
 }
 
-// Whether a word is a known one but for capital letters.
+// Returns whether a word equals a known one after its capital letters are put in lower case.
 fn is_in_capitals(word: &[u8], known: &[u8]) -> bool {
     for (i, octet) in word.iter().enumerate() {
         match known.get(i) {
@@ -55,7 +55,7 @@ fn is_in_capitals(word: &[u8], known: &[u8]) -> bool {
     word.len() == known.len()
 }
 
-/// Whether a word is a known one but for one slip, or for capital letters.
+/// Returns whether a word differs from a known one by at most one typing error, or only by capital letters.
 pub fn is_near(word: &[u8], known: &[u8]) -> bool {
     is_slip_of(word, known) || is_in_capitals(word, known)
 }
@@ -70,7 +70,7 @@ const WORDS: [Topic; 7] = [
     Topic::Overview,
 ];
 
-// The first command that a word is but for one slip.
+// Returns the first command from which a word differs by at most one typing error.
 fn meant(word: &[u8]) -> Option<Topic> {
     WORDS
         .iter()
@@ -78,7 +78,7 @@ fn meant(word: &[u8]) -> Option<Topic> {
         .find(|topic| is_slip_of(word, topic.word()))
 }
 
-// What is said of a slip.
+// Returns the message for a mistyped command.
 fn question(topic: Topic) -> &'static str {
     match topic {
         Topic::Overview => "wf: no such command; did you mean help?\n",
@@ -92,27 +92,27 @@ fn question(topic: Topic) -> &'static str {
     }
 }
 
-// What is said where a command has other words behind it than its own.
+// Returns the message for a command with wrong words after it.
 fn correction(topic: Topic) -> &'static str {
     match topic {
         Topic::Overview => {
             "wf: there is help on replay, frames, session, uplink, soak, live and faults\n"
         }
         Topic::Replay => {
-            "wf: replay takes no name of a file, and --pcap as its one option: wf replay < FILE\n"
+            "wf: replay takes no file name, only the option --pcap: wf replay < FILE\n"
         }
         Topic::Soak => "wf: soak takes SEED, 0..18446744073709551615, and CALLS, 1..1000000\n",
         Topic::Live => {
             "wf: live takes SEED, 0..18446744073709551615, SENDERS, 1..8, and FRAMES, 1..10000\n"
         }
-        Topic::Session => "wf: session takes no name of a file: wf session < FILE\n",
-        Topic::Uplink => "wf: uplink takes no name of a file: wf uplink < FILE\n",
-        Topic::Frames => "wf: frames takes no name of a file: wf frames < FILE\n",
+        Topic::Session => "wf: session takes no file name: wf session < FILE\n",
+        Topic::Uplink => "wf: uplink takes no file name: wf uplink < FILE\n",
+        Topic::Frames => "wf: frames takes no file name: wf frames < FILE\n",
         Topic::Faults => "wf: no such command; did you mean help faults?\n",
     }
 }
 
-// What is said of the first word.
+// Returns the message for words that begin with this one.
 fn said_of(word: &[u8]) -> &'static str {
     if word == b"help".as_slice() {
         return correction(Topic::Overview);
@@ -124,7 +124,8 @@ fn said_of(word: &[u8]) -> &'static str {
     }
 }
 
-/// What is said of words that are no command, before the usage: a line, or nothing where there are no words.
+/// Returns the message for words that are no command, which is written before the usage: one line, or nothing
+/// if there are no words.
 pub fn advice(words: &[String]) -> &'static str {
     match words {
         [] => "",

@@ -1,4 +1,4 @@
--- What the parts of a duration come to at most, in the words of the code's contracts.
+-- States bounds of the parts of a duration in the form that the contracts need.
 use Rattle.std.proofs.Common.{ℕ, ◌≤◌}
 use Rattle.wf_def_air.specs.Airtime.{Rate, IsRate, bits, kbps, encoders, data_time}
 use Rattle.wf_def_air.proofs.Times as times

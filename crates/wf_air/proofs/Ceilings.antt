@@ -1,9 +1,9 @@
--- Quotients that are rounded up.
+-- Proves that quotients which are rounded up are the same in code and in definitions.
 use Rattle.std.proofs.Common.{◌≡◌, ℕ, ◌+◌, ◌-◌, ◌/◌, ◌%◌, ◌<◌, ◌≤◌, min, arith}
 use Rattle.std.proofs.Math.Nat.{le-div_iff_mul-le, div-lt_iff_lt-mul}
 use Rattle.std.proofs.lemmas.Grind.{div_ceil_times}
 
--- what Rust's `div_ceil` gives is what the definitions write
+-- Rust's `div_ceil` and the definitions' formula have the same result
 pub same_ceiling : (a b : ℕ) → 0 < b → a / b + min 1 (a % b) ≡ (a + (b - 1)) / b
 same_ceiling a b some =
     let times = div_ceil_times a b some in

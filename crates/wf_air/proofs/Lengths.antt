@@ -1,11 +1,11 @@
--- One frame more: its octets, and whether it fits.
+-- Proves how one more frame changes the octets of an aggregate, and whether it fits.
 use Rattle.std.proofs.Common.{◌≡◌, ℕ, ◌+◌, ◌∙◌, refl, sym, ap, arith, List, [], ◌∷◌, ◌++◌, length, length-append, ◌&&◌}
 use Rattle.std.specs.Prelude.{nat_lt, nat_le}
 use Rattle.std.proofs.lemmas.Bool.Decides.{nat_tests}
 use Rattle.wf_def_air.specs.Fit.{subframe_octets, padded, aggregate_octets, fits}
-use Rattle.wf_air.specs.Rooms.{RoomValue, RoomStandsFor, is_short}
+use Rattle.wf_air.specs.Sizes.{AggregateSizeValue, SizeStandsFor, is_short}
 
--- What was last is padded: the octets are rounded up to a multiple of 4.
+-- The former last subframe is padded: the octets are rounded up to a multiple of 4.
 pub octets_of-append : (lens : List ℕ) (len : ℕ) →
     aggregate_octets (lens ++ len ∷ []) ≡ padded (aggregate_octets lens) + subframe_octets len
 octets_of-append [] len = omega arith
@@ -15,8 +15,8 @@ octets_of-append (x ∷ y ∷ lens) len = omega (arith, octets_of-append (y ∷ 
 suc_fits : (n m : ℕ) → nat_le (n + 1) m ≡ nat_lt n m
 suc_fits n m = grind (arith, nat_tests)
 
-module _ (room : RoomValue) (lens : List ℕ) (len octets : ℕ)
-    (octets_is : octets ≡ padded room.octets + subframe_octets len) (stands : RoomStandsFor room lens) where
+module _ (room : AggregateSizeValue) (lens : List ℕ) (len octets : ℕ)
+    (octets_is : octets ≡ padded room.octets + subframe_octets len) (stands : SizeStandsFor room lens) where
   octets_more : aggregate_octets (lens ++ len ∷ []) ≡ octets
   octets_more = octets_of-append lens len ∙ ap (λ n. padded n + subframe_octets len) (sym stands.octets)
       ∙ sym octets_is
@@ -28,8 +28,8 @@ module _ (room : RoomValue) (lens : List ℕ) (len octets : ℕ)
       ≡ (nat_lt room.count room.agg && is_short room octets)
   fits_more = rw (octets_more, count_more, suc_fits room.count room.agg) refl
 
-  pub stands_more : (after : RoomValue) → after.count ≡ room.count + 1 → after.octets ≡ octets →
-      RoomStandsFor after (lens ++ len ∷ [])
+  pub stands_more : (after : AggregateSizeValue) → after.count ≡ room.count + 1 → after.octets ≡ octets →
+      SizeStandsFor after (lens ++ len ∷ [])
   stands_more after count_is octets_is' = record {
     count = count_is ∙ sym count_more;
     octets =

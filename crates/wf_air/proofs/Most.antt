@@ -1,10 +1,10 @@
--- The most octets of an aggregate, for each format and each exponent that a station may state.
+-- Proves bounds of the most octets of an aggregate, for each format and each exponent of a station.
 use Rattle.std.proofs.Common.{ℕ, zero, suc, ◌+◌, ◌-◌, ◌^◌, ◌≤◌, arith, lit≤}
 use Rattle.wf_def_air.specs.Airtime.{Rate, Ht, Vht, He}
 use Rattle.wf_def_air.specs.Fit.{least_exponent, most_octets}
 use Rattle.wf_air.specs.Rates.{longest_aggregate, longest_single}
 
--- what the code works out lies between
+-- the bounds of the limit that the code computes
 pub record IsMost (base x : ℕ) : Type 0 where
   pub least : longest_single ≤ 2 ^ (base + x) - 1
   pub most : 2 ^ (base + x) - 1 ≤ longest_aggregate

@@ -1,4 +1,4 @@
--- How long an aggregate takes by the timing of its rate.
+-- Proves that the duration that the code computes from a rate's timing is the defined one.
 use Rattle.std.proofs.Common.{◌≡◌, ◌∙◌, arith, ℕ, ◌+◌, ◌*◌, ◌<◌, ◌≤◌}
 use Rattle.std.specs.Int.{div_ceil}
 use Rattle.wf_def_lists.specs.Table.{ceil_div}
@@ -8,7 +8,7 @@ use Rattle.wf_air.specs.Rates.{unit_tenths, timing_of, longest_aggregate}
 use Rattle.wf_air.proofs.Ceilings.{same_ceiling}
 use Rattle.wf_air.proofs.Bounds.{bits_least, time_most}
 
--- what is rounded up to so many tens is at most that many
+-- a bound of a number of tenths from a bound of the microseconds, rounded up
 few_tenths : (x most : ℕ) → ceil_div x 10 ≤ most → x ≤ 10 * most
 few_tenths x most h = omega (arith, h)
 
@@ -23,7 +23,7 @@ forty x = omega (arith, same_ceiling x 40 (omega arith))
 one : (x : ℕ) → div_ceil x 1 * 1 ≡ x
 one x = omega arith
 
--- the payload's time, of whole units
+-- the payload's time is a multiple of the unit
 units_are : (r : Rate) (octets : ℕ) →
     div_ceil (symbol_tenths r * symbols r octets) (unit_tenths r) * unit_tenths r ≡ payload_tenths r octets
 units_are (Ht mcs mhz short) octets = forty _
@@ -33,13 +33,14 @@ units_are (He mcs mhz guard n) octets = one _
 forty_most : (x : ℕ) → x ≤ 40 * ceil_div x 40
 forty_most x = omega arith
 
--- the symbols take no longer than the payload
+-- the symbols take at most the payload's time
 symbols_within : (r : Rate) (octets : ℕ) → symbol_tenths r * symbols r octets ≤ payload_tenths r octets
 symbols_within (Ht mcs mhz short) octets = forty_most _
 symbols_within (Vht mcs mhz short n) octets = forty_most _
 symbols_within (He mcs mhz guard n) octets = omega arith
 
--- t is the timing of the rate r; the code's quotients are n symbols, y units and z microseconds
+-- t is the timing of the rate r; the quotients that the code computes are n symbols, y units and z
+-- microseconds
 module _ (r : Rate) (t : Timing) (is : IsRate r) (timed : t ≡ timing_of r) (octets : ℕ) where
   pub some_bits : 0 < t.bits
   some_bits = rw timed (omega (arith, bits_least r is))

@@ -1,3 +1,3 @@
 pub mod Rates
-pub mod Rooms
-pub mod RoomView
+pub mod Sizes
+pub mod SizeView

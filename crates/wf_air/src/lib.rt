@@ -1,5 +1,13 @@
-//! Airtime: how long transmissions take and what exchanges are charged (`time`), and room in an aggregate
-//! (`fit`).
+//! Airtime: the rates of HT, VHT and HE, how long transmissions take and what exchanges are charged (`time`),
+//! and which frames fit into an aggregate (`fit`).
+//!
+//! ```text
+//! let rate = Rate::vht(9, 80, true, 2)?;       // VHT MCS 9, 80 MHz, short guard interval, 2 streams
+//! let kbps = rate.kbps();                      // 866_666
+//! let mut size = AggregateSize::new(rate, 3, 64, 4_000, false);
+//! while size.add(1_500) {}                     // frames of 1,500 octets, until one does not fit
+//! let charge = size.air();                     // the exchange's airtime in microseconds
+//! ```
 #![tactic(auto)]
 
 pub mod fit;

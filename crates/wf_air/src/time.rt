@@ -1,7 +1,7 @@
-//! Which rates there are, and how long transmissions take, at 5 GHz: data by HT, mixed format (IEEE
-//! 802.11-2012, clause 20), by VHT to one station (802.11-2016, clause 21) or by HE to one station
-//! (802.11ax-2021, clause 27), with convolutional codes; control frames by OFDM at 24 Mbit/s.
-//! Durations are whole microseconds but where a name says tenths, lengths are octets.
+//! The rates, and how long transmissions take at 5 GHz. Data are sent in HT mixed format (IEEE 802.11-2012,
+//! clause 20), in VHT to one station (802.11-2016, clause 21) or in HE to one station (802.11ax-2021, clause
+//! 27), with convolutional codes. Control frames are sent in OFDM at 24 Mbit/s. Durations are whole
+//! microseconds, except if a name says tenths; lengths are octets.
 
 ghost use Rattle.std.specs.Prelude.{◌≡◌, ◌+◌, ◌/◌, ◌==◌, ◌≤◌, ◌<◌, if◌then◌else◌, true, false, IfOk, IfErr};
 ghost use Rattle.wf_def_lists.specs.Table.{has};
@@ -21,11 +21,11 @@ const GREATEST_HE_MCS: u8 = 11;
 /// The most spatial streams of VHT and HE to one station.
 const GREATEST_STREAMS: u8 = 8;
 
-/// Data bits of twelve carriers by modulation and code, from BPSK at 1/2 to 1024-QAM at 5/6 (20.6,
-/// 21.5, 27.5).
+/// The data bits of twelve carriers by modulation and code, from BPSK at 1/2 to 1024-QAM at 5/6 (20.6, 21.5,
+/// 27.5).
 const BITS_OF_TWELVE: [u32; 12] = [6, 12, 18, 24, 36, 48, 54, 60, 72, 80, 90, 100];
 
-/// The data bits that one encoder of VHT takes at most in a symbol (21.5).
+/// The most data bits of a symbol for one encoder of VHT (21.5).
 const ENCODER_BITS: u32 = 2160;
 
 /// The SERVICE field, and the tail of each encoder, in bits (18.4.3, 20.4.3).
@@ -33,20 +33,20 @@ const SERVICE_BITS: u32 = 16;
 
 const TAIL_BITS: u32 = 6;
 
-/// A symbol of HT and VHT with the short and with the long guard interval, in tenths of a
+/// The duration of a symbol of HT and VHT with the short and with the long guard interval, in tenths of a
 /// microsecond.
 const SHORT_SYMBOL: u32 = 36;
 
 const LONG_SYMBOL: u32 = 40;
 
-/// A symbol of HE without its guard interval, in tenths of a microsecond.
+/// The duration of a symbol of HE without its guard interval, in tenths of a microsecond.
 const HE_SYMBOL: u32 = 128;
 
-/// The tenths in a microsecond.
+/// The number of tenths in a microsecond.
 const TENTHS: u32 = 10;
 
-/// The preamble up to its long training fields, in tenths of a microsecond: of HT (20.3.7); of VHT
-/// with VHT-SIG-B behind them (21.3.2), and of HE.
+/// The preamble without its long training fields, in tenths of a microsecond: of HT (20.3.7); and of VHT,
+/// including VHT-SIG-B (21.3.2), and HE.
 const HT_PREAMBLE: u32 = 320;
 
 const LONG_PREAMBLE: u32 = 360;
@@ -54,13 +54,13 @@ const LONG_PREAMBLE: u32 = 360;
 /// A long training field of HT and VHT, in tenths of a microsecond.
 const TRAINING: u32 = 40;
 
-/// One of HE without its guard interval, in tenths of a microsecond: the 2x field, and the 4x field
-/// that goes with the guard interval of 3200 ns.
+/// A long training field of HE without its guard interval, in tenths of a microsecond: the 2x field, and the
+/// 4x field, which is used with the guard interval of 3200 ns.
 const SHORT_HE_TRAINING: u32 = 64;
 
 const LONG_HE_TRAINING: u32 = 128;
 
-/// How many long training fields there are for 1, 2 .. 8 spatial streams.
+/// The number of long training fields for 1 to 8 spatial streams.
 const TRAINING_FIELDS: [u32; 8] = [1, 2, 4, 4, 6, 6, 8, 8];
 
 /// The OFDM preamble and SIGNAL field of a control frame, in microseconds (18.4.3).
@@ -69,22 +69,22 @@ const CONTROL_PREAMBLE_TIME: u32 = 20;
 /// An OFDM symbol, in microseconds (18.4.3). It has 96 data bits at 24 Mbit/s (18.3.2.3).
 const CONTROL_SYMBOL_TIME: u32 = 4;
 
-/// How long a BlockAckReq takes, in microseconds: its 24 octets with the check sequence (8.3.1.8),
-/// the SERVICE field and a tail are 214 bits, in three symbols.
+/// The duration of a BlockAckReq in microseconds: its 24 octets with the check sequence (8.3.1.8), the
+/// SERVICE field and a tail are 214 bits, in three symbols.
 const REQUEST_TIME: u32 = CONTROL_PREAMBLE_TIME + 3 * CONTROL_SYMBOL_TIME;
 
-/// How long a BlockAck takes, in microseconds: its 32 octets with the check sequence (8.3.1.9) make
-/// 278 bits, in three symbols.
+/// The duration of a BlockAck in microseconds: its 32 octets with the check sequence (8.3.1.9), the SERVICE
+/// field and a tail are 278 bits, in three symbols.
 const ANSWER_TIME: u32 = CONTROL_PREAMBLE_TIME + 3 * CONTROL_SYMBOL_TIME;
 
-/// How long a wide session's BlockAck takes, in microseconds: this project's own, whose bitmap has
-/// 32 octets, is 56 octets, which make 470 bits, in five symbols.
+/// The duration of a wide session's BlockAck in microseconds, which is this project's own: its 56 octets with
+/// a bitmap of 32, the SERVICE field and a tail are 470 bits, in five symbols.
 const WIDE_ANSWER_TIME: u32 = CONTROL_PREAMBLE_TIME + 5 * CONTROL_SYMBOL_TIME;
 
 /// The pause between a frame and its answer at 5 GHz, in microseconds (18.4.4).
 pub(crate) const SIFS: u32 = 16;
 
-/// By what data is sent, with what each says.
+/// The format of a transmission, with the parameters of each.
 #[derive(Clone, Copy, Debug, PartialEq, Eq)]
 pub(crate) enum Format {
     Ht {
@@ -106,10 +106,10 @@ pub(crate) enum Format {
     },
 }
 
-/// What a rate's durations are made of, worked out once.
+/// The parts of a rate's durations, computed once.
 #[derive(Clone, Copy, Debug, PartialEq, Eq)]
 struct Timing {
-    /// The data bits of a symbol; a fraction falls away.
+    /// The data bits of a symbol, rounded down.
     bits: u32,
     /// The SERVICE field and the tail of each encoder, in bits.
     service_and_tails: u32,
@@ -117,14 +117,14 @@ struct Timing {
     symbol: u32,
     /// The preamble, in tenths of a microsecond.
     preamble: u32,
-    /// Of what the payload's time is a whole number, in tenths of a microsecond: of symbols of the
-    /// long guard interval of HT and VHT, of tenths of HE.
+    /// The payload's time is rounded up to a multiple of this, in tenths of a microsecond: a long symbol for
+    /// HT and VHT, one tenth for HE.
     unit: u32,
     /// The data rate in kbit/s, rounded down.
     kbps: u32,
 }
 
-/// A rate of HT with one or two spatial streams, or one of VHT or HE with one to eight.
+/// A rate of HT with one or two spatial streams, or of VHT or HE with one to eight.
 #[derive(Clone, Copy, Debug, PartialEq, Eq)]
 pub struct Rate {
     pub(crate) format: Format,
@@ -141,7 +141,7 @@ impl Model for Rate {
 
     ghost view = { λ r. rate_of r.format };
 
-    // the timing is that of the format
+    // the timing belongs to the format
     ghost invariant = { λ r. IsRate (rate_of r.format) × (r.timing ≡ timing_of (rate_of r.format)) };
 
     ghost inverse = { λ v. record { format = format_of v; timing = timing_of v } };
@@ -149,28 +149,28 @@ impl Model for Rate {
     ghost inverse_ok = { λ r h i. record { format = same_format r.format i; timing = sym h.1 i } };
 }
 
-/// There is no such rate: an MCS above the format's greatest, a channel width or a guard interval
-/// that the format has not, spatial streams that are not 1 to 8, or one of the ten combinations
-/// that VHT leaves out.
+/// The refusal of a rate that does not exist: the MCS is above the format's greatest, the format does not
+/// have the channel width or the guard interval, the number of spatial streams is not 1 to 8, or it is one of
+/// the ten combinations that VHT excludes.
 #[derive(Clone, Copy, Debug, PartialEq, Eq, Error)]
 #[error("there is no such rate")]
 pub struct BadRate;
 
-// Whether a channel of VHT or HE may be so wide, in MHz.
+// Returns whether VHT and HE have this channel width, in MHz.
 fn is_wide_width(mhz: u8) -> bool
     ensures { result ≡ is_wide_width mhz }
 {
     matches!(mhz, 20 | 40 | 80 | 160)
 }
 
-// Whether there may be so many spatial streams of VHT or HE.
+// Returns whether VHT and HE have this number of spatial streams.
 fn are_streams(streams: u8) -> bool
     ensures { result ≡ are_streams streams }
 {
     1 <= streams && streams <= GREATEST_STREAMS
 }
 
-// Whether VHT leaves out this MCS on this width with so many streams (21.5).
+// Returns whether VHT excludes this MCS on this width with this number of streams (21.5).
 fn is_left_out(mcs: u8, mhz: u8, streams: u8) -> bool
     ensures { result ≡ has (streams_left_out mcs mhz) streams }
 {
@@ -183,7 +183,7 @@ fn is_left_out(mcs: u8, mhz: u8, streams: u8) -> bool
     }
 }
 
-// The data carriers of HT and VHT on a width in MHz.
+// Returns the number of data carriers of HT and VHT on a width in MHz.
 fn carriers_of_312(mhz: u8) -> u32
     ensures exact { result ≡ carriers_of_312 mhz }
     ensures most { result ≤ 1960 }
@@ -196,7 +196,7 @@ fn carriers_of_312(mhz: u8) -> u32
     }
 }
 
-// The data carriers of HE on a width in MHz.
+// Returns the number of data carriers of HE on a width in MHz.
 fn carriers_of_78(mhz: u8) -> u32
     ensures exact { result ≡ carriers_of_78 mhz }
     ensures most { result ≤ 1960 }
@@ -209,7 +209,7 @@ fn carriers_of_78(mhz: u8) -> u32
     }
 }
 
-// The encoders of a rate of VHT with so many data bits in a symbol (21.5).
+// Returns the number of encoders of a VHT rate with `bits` data bits in a symbol (21.5).
 #[tactic(auto, using(crate::proofs::Ceilings::same_ceiling))]
 fn vht_encoders(mcs: u8, mhz: u8, streams: u8, bits: u32) -> u32
     ensures { result ≡ vht_encoders mcs mhz streams bits }
@@ -224,7 +224,8 @@ fn vht_encoders(mcs: u8, mhz: u8, streams: u8, bits: u32) -> u32
     }
 }
 
-// A long training field of HE by the guard interval in nanoseconds, in tenths of a microsecond.
+// Returns the duration of a long training field of HE, in tenths of a microsecond, for a guard interval in
+// nanoseconds.
 fn he_training(guard: u16) -> u32
     requires { guard ≤ 3200 }
     ensures exact { result ≡ (if guard == 3200 then 128 else 64) + guard / 100 }
@@ -239,7 +240,7 @@ fn he_training(guard: u16) -> u32
 }
 
 impl Format {
-    // Spatial streams.
+    // Returns the number of spatial streams.
     fn streams(self) -> u32
         requires { IsRate (rate_of self) }
         ensures exact { result ≡ streams (rate_of self) }
@@ -252,7 +253,7 @@ impl Format {
         }
     }
 
-    // The place of its modulation and code in the table.
+    // Returns the index of the modulation and code in `BITS_OF_TWELVE`.
     fn modulation(self) -> usize
         requires { IsRate (rate_of self) }
         ensures exact { result ≡ modulation (rate_of self) }
@@ -264,7 +265,7 @@ impl Format {
         }
     }
 
-    // Data carriers.
+    // Returns the number of data carriers.
     fn carriers(self) -> u32
         requires { IsRate (rate_of self) }
         ensures exact { result ≡ carriers (rate_of self) }
@@ -276,7 +277,7 @@ impl Format {
         }
     }
 
-    // Data bits in a symbol; a fraction falls away.
+    // Returns the data bits of a symbol, rounded down.
     #[tactic(auto, using(crate::proofs::Bounds::bits_least))]
     fn bits(self) -> u32
         requires { IsRate (rate_of self) }
@@ -287,7 +288,7 @@ impl Format {
         self.carriers() * self.streams() * BITS_OF_TWELVE[self.modulation()] / 12
     }
 
-    // Encoders, each with a tail.
+    // Returns the number of encoders, each of which has a tail.
     fn encoders(self) -> u32
         requires { IsRate (rate_of self) }
         ensures exact { result ≡ encoders (rate_of self) }
@@ -304,7 +305,7 @@ impl Format {
         }
     }
 
-    // A symbol's time with its guard interval, in tenths of a microsecond.
+    // Returns the duration of a symbol with its guard interval, in tenths of a microsecond.
     fn symbol(self) -> u32
         requires { IsRate (rate_of self) }
         ensures exact { result ≡ symbol_tenths (rate_of self) }
@@ -319,7 +320,7 @@ impl Format {
         }
     }
 
-    // The preamble's time, in tenths of a microsecond.
+    // Returns the duration of the preamble, in tenths of a microsecond.
     fn preamble(self) -> u32
         requires { IsRate (rate_of self) }
         ensures exact { result ≡ preamble_tenths (rate_of self) }
@@ -333,7 +334,7 @@ impl Format {
         }
     }
 
-    // Of what the payload's time is a whole number, in tenths of a microsecond.
+    // Returns the unit of the payload's time, in tenths of a microsecond.
     fn unit(self) -> u32
         ensures { result ≡ unit_tenths (rate_of self) }
     {
@@ -343,7 +344,7 @@ impl Format {
         }
     }
 
-    // What its durations are made of.
+    // Returns the parts of the durations.
     fn timing(self) -> Timing
         requires { IsRate (rate_of self) }
         ensures { result ≡ timing_of (rate_of self) }
@@ -362,7 +363,7 @@ impl Format {
 }
 
 impl Rate {
-    // The rate of a format with its numbers.
+    // Returns the rate of a format.
     fn of(format: Format) -> Rate
         requires { IsRate (rate_of format) }
         ensures { result ≡ rate_of format }
@@ -373,8 +374,8 @@ impl Rate {
         }
     }
 
-    /// The rate of HT of an MCS, 0 to 15, a channel width of 20 or 40 MHz and a short (400 ns) or
-    /// long (800 ns) guard interval (20.6).
+    /// Returns the HT rate of an MCS, 0 to 15, a channel width of 20 or 40 MHz and a short (400 ns) or long
+    /// (800 ns) guard interval (20.6). Fails if there is no such rate.
     pub fn ht(mcs: u8, mhz: u8, short: bool) -> Result<Rate, BadRate>
         ensures made { IfOk result (λ r. r ≡ Ht mcs mhz short) }
         ensures within { IfOk result (λ _. is_rate (Ht mcs mhz short) ≡ true) }
@@ -386,9 +387,9 @@ impl Rate {
         Ok(Rate::of(Format::Ht { mcs, mhz, short }))
     }
 
-    /// The rate of VHT of an MCS, 0 to 9, a channel width of 20, 40, 80 or 160 MHz, a short (400
-    /// ns) or long (800 ns) guard interval and 1 to 8 spatial streams; there is none of ten
-    /// combinations (21.5).
+    /// Returns the VHT rate of an MCS, 0 to 9, a channel width of 20, 40, 80 or 160 MHz, a short (400 ns) or
+    /// long (800 ns) guard interval and 1 to 8 spatial streams. Fails if there is no such rate, which
+    /// includes ten combinations of these values (21.5).
     pub fn vht(mcs: u8, mhz: u8, short: bool, streams: u8) -> Result<Rate, BadRate>
         ensures made { IfOk result (λ r. r ≡ Vht mcs mhz short streams) }
         ensures within { IfOk result (λ _. is_rate (Vht mcs mhz short streams) ≡ true) }
@@ -409,8 +410,8 @@ impl Rate {
         }))
     }
 
-    /// The rate of HE of an MCS, 0 to 11, a channel width of 20, 40, 80 or 160 MHz, a guard
-    /// interval of 800, 1600 or 3200 ns and 1 to 8 spatial streams (27.5).
+    /// Returns the HE rate of an MCS, 0 to 11, a channel width of 20, 40, 80 or 160 MHz, a guard interval of
+    /// 800, 1600 or 3200 ns and 1 to 8 spatial streams (27.5). Fails if there is no such rate.
     pub fn he(mcs: u8, mhz: u8, guard: u16, streams: u8) -> Result<Rate, BadRate>
         ensures made { IfOk result (λ r. r ≡ He mcs mhz guard streams) }
         ensures within { IfOk result (λ _. is_rate (He mcs mhz guard streams) ≡ true) }
@@ -431,7 +432,7 @@ impl Rate {
         }))
     }
 
-    /// The most robust rate: HT MCS 0, 20 MHz, long guard interval.
+    /// Returns the most robust rate: HT MCS 0, 20 MHz, long guard interval.
     pub fn lowest() -> Rate
         ensures { result ≡ lowest_rate }
     {
@@ -442,8 +443,8 @@ impl Rate {
         })
     }
 
-    /// The data rate in kbit/s, rounded down. Below 12,000 is MCS 0 on 20 MHz with one stream of
-    /// each format.
+    /// Returns the data rate in kbit/s, rounded down. In each format, only MCS 0 on 20 MHz with one stream is
+    /// below 12,000.
     #[tactic(auto, using(crate::proofs::Bounds::kbps_least, crate::proofs::Bounds::kbps_most))]
     pub fn kbps(self) -> u32
         ensures exact { result ≡ kbps self }
@@ -453,9 +454,9 @@ impl Rate {
         self.timing.kbps
     }
 
-    /// How long an aggregate of this many octets takes: preamble and payload (TXTIME: 20.4.3,
-    /// 21.4.3, 27.4.3). One of HE is rounded up to whole microseconds. An aggregate of one frame
-    /// takes at most 3000 microseconds.
+    /// Returns the duration of an aggregate of `octets` octets in microseconds: preamble and payload (TXTIME:
+    /// 20.4.3, 21.4.3, 27.4.3). The time of an HE aggregate is rounded up. An aggregate of one frame takes at
+    /// most 3000 microseconds.
     pub fn data_time(self, octets: u32) -> u32
         requires { octets ≤ longest_aggregate }
         ensures exact { result ≡ data_time self octets }
@@ -468,8 +469,8 @@ impl Rate {
         (timing.preamble + payload).div_ceil(TENTHS)
     }
 
-    /// What a data exchange is charged, in microseconds: its data time, SIFS and the BlockAck,
-    /// which takes longer in a wide session, one whose window is above 64.
+    /// Returns the charge of a data exchange in microseconds: its data time, SIFS and the BlockAck. `wide`
+    /// says that the session's window is above 64, whose BlockAck takes longer.
     pub fn data_charge(self, octets: u32, wide: bool) -> u32
         requires { octets ≤ longest_aggregate }
         ensures exact { result ≡ data_charge self octets wide }
@@ -479,7 +480,7 @@ impl Rate {
     }
 }
 
-// How long a BlockAck takes.
+// Returns the duration of a BlockAck in microseconds.
 pub(crate) fn answer_time(wide: bool) -> u32
     ensures exact { result ≡ answer_time wide }
     ensures most { result ≤ answer_time true }
@@ -487,8 +488,7 @@ pub(crate) fn answer_time(wide: bool) -> u32
     if wide { WIDE_ANSWER_TIME } else { ANSWER_TIME }
 }
 
-/// What an exchange of a BlockAckReq is charged, in microseconds: the request, SIFS and its
-/// BlockAck.
+/// Returns the charge of an exchange of a BlockAckReq in microseconds: the request, SIFS and its BlockAck.
 pub fn request_charge(wide: bool) -> u32
     ensures { result ≡ request_charge wide }
 {

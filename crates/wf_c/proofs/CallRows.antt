@@ -1,4 +1,5 @@
--- Worked rows: the fields of a call of each form, and the call of fields of each kind.
+-- Proves worked rows: the fields of one call of each form, and the call that fields of each kind show. By
+-- computation.
 use Rattle.std.proofs.Common.{◌≡◌, ℕ, ◌<◌, nat_eq, Bool, false, refl, arith}
 use Rattle.std.specs.Prelude.{Some, None}
 use Rattle.std.proofs.lemmas.Bool.Decides.{nat_tests}
@@ -114,7 +115,7 @@ fields_of_reap = refl
 
 -- ---- the call of fields
 
--- what fields show by their kind, and some by what another says
+-- the calls that these fields show, by their kind and some other field
 pub record Rows (c : CallNumbers) : Type 0 where
   pub join : asked (record c { kind = 0 }) ≡ Some (Join c.station c.window c.start c.exponent c.weight)
   pub leave : asked (record c { kind = 1 }) ≡ Some (Leave c.station)

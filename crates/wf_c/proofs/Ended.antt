@@ -1,9 +1,9 @@
--- An end that names an airtime that it may not name changes nothing.
+-- Proves that an end with a bad airtime changes nothing. By cases of whether the exchange is open.
 use Rattle.std.proofs.Common.{◌≡◌, refl, ℕ, ◌==◌, true, Some, None}
 use Rattle.std.specs.Prelude.{Option, List, find}
 use Rattle.wf_frame.specs.declared.answers.Brief.{Brief}
 use Rattle.wf_frame.specs.declared.notes.Refusal.TheVariants.{NoExchange, BadAir}
-use Rattle.wf_def_world.specs.Refusals.{is_bad_air}
+use Rattle.wf_frame.specs.Settings.{is_bad_air}
 use Rattle.wf_send_half.proofs.Dones.{ends_unknown, ends_bad}
 use Rattle.wf_path.specs.Driver.{IsEnded}
 use Rattle.wf_path.specs.Paths.{PathValue}

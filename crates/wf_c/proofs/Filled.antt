@@ -1,4 +1,4 @@
--- What a full handle holds.
+-- Proves that a handle that is not empty holds something.
 use Rattle.std.proofs.Common.{◌≡◌, refl}
 use Rattle.std.proofs.lemmas.Bool.{both_ways}
 use Rattle.std.specs.Prelude.{Option, Some, None, true, false, is_some}

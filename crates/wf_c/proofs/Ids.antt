@@ -1,8 +1,8 @@
--- One entry more shows its id.
+-- Proves the step of the loop that shows ids: one more entry shows its id.
 use Rattle.std.proofs.Common.{◌≡◌, ◌∙◌, ◌<◌, ◌+◌, ℕ, List, sym, subst, slice_get, slice_index, Some, below_more}
 use Rattle.std.specs.Prelude.{Option, IfSome}
 
--- xs shows the ids below i, and ys shows what xs does and the id at i
+-- xs shows the ids below i, and ys shows those and the id at i
 module _ (xs ys ids : List ℕ) (i id : ℕ) (before : (k j : ℕ) → k < i → slice_get ids k ≡ Some j →
     slice_index xs k ≡ j)
     (is_at : slice_get ids i ≡ Some id) (put : slice_index ys i ≡ id)

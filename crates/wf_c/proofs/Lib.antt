@@ -1,10 +1,10 @@
 mod CallRows
-mod CellSlots
 mod Ended
 mod Filled
 mod Ids
 mod Makings
 mod Pairs
+mod Sending
 mod Slots
 mod Ticks
 mod Words

@@ -1,4 +1,4 @@
--- What is true of a value that a box was given.
+-- Proves that a value in a box has the properties that it had before it was boxed.
 use Rattle.std.proofs.Common.{◌≡◌, sym, subst, Some, None}
 use Rattle.std.specs.Prelude.{Option, IfSome}
 

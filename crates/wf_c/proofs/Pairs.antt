@@ -1,10 +1,10 @@
--- One entry more shows its frame.
+-- Proves the step of the loop that shows frames: one more entry shows its frame.
 use Rattle.std.proofs.Common.{◌≡◌, ◌∙◌, ◌<◌, ◌+◌, ℕ, List, sym, subst, slice_get, Some, below_more}
 use Rattle.std.specs.Prelude.{Option, IfSome}
 use Rattle.wf_c.specs.Pulled.{ShowsPair}
 use Rattle.wf_c.specs.declared.pulled.Frames.{Frames}
 
--- f shows the frames below i, and g shows what f does and the frame at i
+-- f shows the frames below i, and g shows those and the frame at i
 module _ (f g : Frames) (pairs : List (ℕ × ℕ)) (i : ℕ) (pair : ℕ × ℕ)
     (before : (k : ℕ) (p : ℕ × ℕ) → k < i → slice_get pairs k ≡ Some p → ShowsPair f k p)
     (is_at : slice_get pairs i ≡ Some pair) (put : ShowsPair g i pair)

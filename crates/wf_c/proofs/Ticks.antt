@@ -1,4 +1,5 @@
--- Ticks: what one does, and many of them.
+-- Proves what one tick does to a path, and that several ticks do what one to their sum would do. By induction
+-- in the steps of the loop.
 use Rattle.std.proofs.Common.{◌≡◌, ◌∙◌, refl, sym, ap, subst, ℕ, ◌+◌, ◌-◌, ◌<◌, ◌≤◌, ◌^◌, List, arith}
 use Rattle.std.proofs.lemmas.Bool.{le-ltb}
 use Rattle.std.specs.Prelude.{Option, Some, None, IfSome}
@@ -18,8 +19,8 @@ use Rattle.wf_def_world.specs.World.{World, Station}
 use Rattle.wf_send_parts.specs.Members.{member, charged_in, received_in}
 use Rattle.wf_send_parts.specs.Tally.{Counts}
 use Rattle.wf_send_parts.specs.declared.stations.members.Member.{Member}
-use Rattle.wf_send_half_refines.specs.Half.{TransmitValue}
-use Rattle.wf_send_half_refines.specs.Standing.{AreBoth, IsMember, StandsFor}
+use Rattle.wf_send_half_model.specs.Half.{TransmitValue}
+use Rattle.wf_send_half_model.specs.Standing.{AreBoth, IsMember, StandsFor}
 use Rattle.wf_path.specs.Paths.{IsPath, IsSmall}
 use Rattle.wf_c.specs.Calls.{IsCalled}
 use Rattle.wf_c.specs.Clock.{at_time, IsTicked, IsMovedTo}
@@ -32,33 +33,33 @@ use Rattle.wf_c.specs.declared.reply.Reply.{Reply}
 -- a tick that is not too long is not refused
 step_tick : (w : World) (by : ℕ) → by ≤ greatest_tick →
     step w (Asked (Tick by))
-    ≡ record { world = at_time w (w.clock + by); reply = reply.Ticked (w.clock + by) }
+    ≡ record { world = at_time w (w.clock + by); reply = reply.Now (w.clock + by) }
 unfolding step judged_outcome outcome_of first_refusal tick_outcome with_listings_of
 step_tick w by short = rw (le-ltb greatest_tick by short) refl
 
--- an answer that tells the time has that brief
+-- an answer with the time has the brief Now
 ticked_only : (b : Brief) (pairs : List (ℕ × ℕ)) (ids : List ℕ) (n : ℕ) →
-    reply_with b pairs ids ≡ reply.Ticked n → b ≡ brief.Ticked n
+    reply_with b pairs ids ≡ reply.Now n → b ≡ brief.Now n
 ticked_only brief.Joined pairs ids n is = absurd (cc is)
-ticked_only (brief.Gone dropped) pairs ids n is = absurd (cc is)
-ticked_only brief.RateSet pairs ids n is = absurd (cc is)
-ticked_only (brief.Ticked now) pairs ids n is = ap brief.Ticked (cc is)
+ticked_only (brief.Left dropped) pairs ids n is = absurd (cc is)
+ticked_only brief.Set pairs ids n is = absurd (cc is)
+ticked_only (brief.Now now) pairs ids n is = ap brief.Now (cc is)
 ticked_only (brief.Accepted id dropped) pairs ids n is = absurd (cc is)
 ticked_only (brief.Send exchange station tid air None more) pairs ids n is = absurd (cc is)
 ticked_only (brief.Send exchange station tid air (Some start) more) pairs ids n is = absurd (cc is)
 ticked_only brief.Released pairs ids n is = absurd (cc is)
 ticked_only (brief.Ba start b0 b1 b2 b3 wide) pairs ids n is = absurd (cc is)
-ticked_only (brief.Ended acked waiting failed) pairs ids n is = absurd (cc is)
+ticked_only (brief.Done acked waiting failed) pairs ids n is = absurd (cc is)
 ticked_only brief.Slept pairs ids n is = absurd (cc is)
 ticked_only brief.Woken pairs ids n is = absurd (cc is)
-ticked_only (brief.Credited class) pairs ids n is = absurd (cc is)
+ticked_only (brief.Polled class) pairs ids n is = absurd (cc is)
 ticked_only (brief.Charged deficit) pairs ids n is = absurd (cc is)
 ticked_only (brief.Reaped id fate) pairs ids n is = absurd (cc is)
 ticked_only (brief.Refused reason) pairs ids n is = absurd (cc is)
 
 -- ---- counts that no tick changes
 
--- two members of one station have the same sum
+-- two members that represent one station have the same sum
 same_below : (f : Member → ℕ) (g : Station → ℕ) (n : ℕ) (a b : Option Member) (x : Option Station) →
     ((k : Member) (y : Station) → IsMember k y → f k ≡ g y) → AreBoth IsMember a x → AreBoth IsMember b x →
     IfSome a (λ m. f m < n) → IfSome b (λ m. f m < n)
@@ -68,7 +69,7 @@ same_below f g n None (Some k) (Some y) same one other h = absurd one
 same_below f g n (Some j) (Some k) (Some y) same one other h =
     subst (λ (m : ℕ). m < n) (same j y one ∙ sym (same k y other)) h
 
--- the counts stay small where the clock does
+-- the counts are small if the clock is
 small_kept : (v u : TransmitValue) (w : World) (bodies after : ℕ → FrameValue) (c : ℕ) →
     StandsFor v w bodies → StandsFor u (at_time w c) after → c < 2 ^ 62 → IsSmall v → IsSmall u
 small_kept v u w bodies after c one other low small =
@@ -90,7 +91,7 @@ small_kept v u w bodies after c one other low small =
           (o.stations.live s) (p.stations.live s) (small.received s c);
     }
 
--- ---- of what a handle holds
+-- ---- one tick of a path
 
 module _ (h k : Held) (by : ℕ) (shown : Reply) (p : IsPath h.path.half) (short : by ≤ greatest_tick)
     (called : IsCalled h (Tick by) k shown) where
@@ -102,11 +103,11 @@ module _ (h k : Held) (by : ℕ) (shown : Reply) (p : IsPath h.path.half) (short
   time : h.path.half.clock ≡ p.world.clock
   time = p.stands.parts.others.clock
 
-  told : k.answer.brief ≡ brief.Ticked (h.path.half.clock + by)
+  told : k.answer.brief ≡ brief.Now (h.path.half.clock + by)
   told = ticked_only k.answer.brief k.answer.pairs k.answer.ids (h.path.half.clock + by)
       ((called.meets p.world p.bodies p.stands).reply
       ∙ ap (λ (o : Outcome). o.reply) (step_tick p.world by short)
-      ∙ ap (λ (n : ℕ). reply.Ticked (n + by)) (sym time))
+      ∙ ap (λ (n : ℕ). reply.Now (n + by)) (sym time))
 
   pub ticked : IsTicked h by k shown
   ticked = record {
@@ -119,7 +120,7 @@ module _ (h k : Held) (by : ℕ) (shown : Reply) (p : IsPath h.path.half) (short
     shows = called.shows ∙ ap numbers_of told;
   }
 
--- h was moved some of the way: what is left of it
+-- h was moved some of the way, to k, and `left` microseconds are left
 pub record IsOnTheWay (h k : Held) (left now : ℕ) : Type 0 where
   pub sum : k.path.half.clock + left ≡ now
   pub small : IsSmall k.path.half
@@ -157,5 +158,5 @@ arrived h k m left now shown way ticked = record {
       (ticked.stands (at_time w k.path.half.clock) bodies (way.stands w bodies stands));
   path = ticked.path;
   addresses = ticked.addresses ∙ way.addresses;
-  shows = ticked.shows ∙ ap (λ (n : ℕ). numbers_of (brief.Ticked n)) way.sum;
+  shows = ticked.shows ∙ ap (λ (n : ℕ). numbers_of (brief.Now n)) way.sum;
 }

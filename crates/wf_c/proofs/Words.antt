@@ -1,4 +1,4 @@
--- A value of two words.
+-- Defines a value of two words.
 use mir.Val.{Val, vstruct, vcons, vnil}
 
 -- the value of two fields

@@ -1,22 +1,24 @@
--- What C is told of addresses: codes, and what naming one leaves of a path.
+-- Defines the codes of the functions on addresses, and a path with other addresses.
 use Rattle.std.specs.Prelude.{ℕ, List, Option, Some, None}
+use Rattle.wf_frame.specs.Refusals.{refusal_number}
+use Rattle.wf_frame.specs.declared.notes.Refusal.TheVariants as refusal
 use Rattle.wf_path.specs.Addresses.{Addresses}
 use Rattle.wf_path.specs.declared.faults.BadAddress.{BadAddress}
 use Rattle.wf_path.specs.declared.faults.BadAddress.TheVariants.{NoStation, Group}
 use Rattle.wf_c.specs.declared.held.Held.{Held}
 
--- the code of an address that is to be named: 0 is well, and of a station number past the last it is that
--- refusal's number
+-- the code of setting an address: 0 means success, and a station number that does not exist has the number of
+-- that refusal
 abbrev pub address_code : Option BadAddress → ℕ
 address_code None = 0
-address_code (Some NoStation) = 1
+address_code (Some NoStation) = refusal_number refusal.BadStation
 address_code (Some Group) = 44
 
--- the code of a station's address that is to be told
+-- the code of reading a station's address
 abbrev pub told_code : Option (List ℕ) → ℕ
-told_code None = 1
+told_code None = refusal_number refusal.BadStation
 told_code (Some address) = 0
 
--- the same with other addresses, and all else as it was
+-- h with other addresses, and otherwise unchanged
 abbrev pub with_addresses : Addresses → Held → Held
 with_addresses a h = record h { path = record h.path { addresses = a } }

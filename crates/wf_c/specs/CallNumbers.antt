@@ -1,4 +1,4 @@
--- What the fields of a call show, by the table of calls: each argument stands in a field of its own.
+-- Defines how the fields of a struct show a call, by the table of calls: each argument has its own field.
 use Rattle.std.specs.Prelude.{ℕ, ◌==◌, List, ◌∷◌, Option, Some, None, map, option_and_then, if◌then◌else◌}
 use Rattle.wf_frame.specs.Calls.{form_number, call_numbered, arguments_of, form_of_end, note_form, note_values, note_made}
 use Rattle.wf_frame.specs.Classes.{all_classes, class_among, class_number}
@@ -17,7 +17,7 @@ use Rattle.wf_frame.specs.declared.notes.Note.TheVariants.{Enqueue, Asked}
 use Rattle.wf_c.specs.Numbers.{flag_of, is_up, named_air}
 use Rattle.wf_c.specs.declared.cell.calls.CallNumbers.{CallNumbers}
 
--- nothing is shown
+-- all fields are 0
 abbrev pub blank_call : CallNumbers
 blank_call = record {
   exchange = 0;
@@ -45,12 +45,12 @@ blank_call = record {
 
 -- ---- the fields of arguments
 
--- the number of a format; 0 is that of HT, which no argument names
+-- the number of a format; 0 is the number of HT, which is no value of the argument
 abbrev pub format_number : RateFormat → ℕ
 format_number format.Vht = 1
 format_number format.He = 2
 
--- the format of a number
+-- the format with this number
 abbrev pub format_shown : ℕ → RateFormat
 format_shown n = if n == 1 then format.Vht else format.He
 
@@ -78,7 +78,7 @@ value_in c argument.Heard = value.Heard (is_up c.heard)
 value_in c argument.Measured = value.Air
 value_in c argument.Air = value.Long c.air
 
--- the fields, where they show this value of an argument
+-- the fields after they are set to this value of an argument
 abbrev pub with_argument : CallNumbers → Argument → Value → CallNumbers
 with_argument c argument.Station (value.Short n) = record c { station = n }
 with_argument c argument.Window (value.Short n) = record c { window = n }
@@ -102,15 +102,15 @@ with_argument c argument.Heard (value.Heard heard) = record c { heard = flag_of 
 with_argument c argument.Air (value.Long n) = record c { air = n }
 with_argument c _ _ = c
 
--- the same of several arguments
+-- the fields after they are set to these values of several arguments
 abbrev pub with_arguments : CallNumbers → List Argument → List Value → CallNumbers
 with_arguments c (a ∷ arguments) (v ∷ values) = with_arguments (with_argument c a v) arguments values
 with_arguments c _ _ = c
 
 -- ---- the fields of a call
 
--- The fields of a call: those of its arguments, and the number of its form. A Done that names the airtime 0
--- has those of one that names none: no numbers show it, so no history of a cell in C has it.
+-- The fields of a call: those of its arguments, and the number of its form. A Done with the airtime 0 has the
+-- same fields as one without an airtime: no fields show it, so no history of a cell in C has it.
 abbrev pub numbers_of_call : Note → CallNumbers
 numbers_of_call note =
     record (with_arguments blank_call (arguments_of (note_form note)) (note_values note)) {
@@ -119,7 +119,7 @@ numbers_of_call note =
 
 -- ---- the call of fields
 
--- the form of a rate by the number of its format
+-- the form of a rate call, by the number of its format
 abbrev pub form_of_format : ℕ → Option CallForm
 form_of_format n =
     if n == 0 then Some form.Rate
@@ -127,7 +127,8 @@ form_of_format n =
     else (if n == 2 then Some form.RateHe
     else None))
 
--- the form of a call that the fields show: a rate's by the format, an end's by whether an airtime is named
+-- the form of a call that the fields show: for a rate by its format, for a Done by whether it gives an
+-- airtime
 abbrev pub form_of_fields : CallNumbers → CallForm → Option CallForm
 form_of_fields c form.Rate = form_of_format c.form
 form_of_fields c form.Done = Some (form_of_end (named_air c.air))
@@ -141,12 +142,12 @@ form_shown c = option_and_then (form_of_fields c) (call_numbered c.kind)
 abbrev pub note_in : CallNumbers → CallForm → Option Note
 note_in c f = note_made f (map (value_in c) (arguments_of f))
 
--- a call that brings no frame and takes none
+-- the call, if it neither enqueues nor reaps a frame
 abbrev pub without_frame : Note → Option Ask
 without_frame (Enqueue station tid flow len) = None
 without_frame (Asked Reap) = None
 without_frame (Asked ask) = Some ask
 
--- the call that the fields show, where it brings no frame and takes none
+-- the call that the fields show, if it neither enqueues nor reaps a frame
 unfoldable pub asked : CallNumbers → Option Ask
 asked c = option_and_then without_frame (option_and_then (note_in c) (form_shown c))

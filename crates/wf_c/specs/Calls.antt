@@ -1,11 +1,11 @@
--- What the calls of a handle say of the path that it holds.
+-- Defines what the calls of a handle do to the path that it holds.
 use Rattle.std.specs.Prelude.{◌≡◌, ℕ, true, Option, Some, None}
 use Rattle.wf_frame.specs.Answers.{reply_of}
 use Rattle.wf_frame.specs.Frames.{FrameValue}
 use Rattle.wf_frame.specs.declared.notes.Ask.{Ask}
 use Rattle.wf_frame.specs.declared.notes.Note.TheVariants.{Asked}
 use Rattle.wf_def_world.specs.World.{World}
-use Rattle.wf_send_half_refines.specs.Standing.{StandsFor, Meets}
+use Rattle.wf_send_half_model.specs.Standing.{StandsFor, Meets}
 use Rattle.wf_path.specs.Addresses.{Addresses, made_up}
 use Rattle.wf_path.specs.Jobs.{bodies_after, changes_nothing}
 use Rattle.wf_path.specs.Paths.{IsPath, IsSmall}
@@ -14,7 +14,7 @@ use Rattle.wf_c.specs.Numbers.{numbers_of}
 use Rattle.wf_c.specs.declared.held.Held.{Held}
 use Rattle.wf_c.specs.declared.reply.Reply.{Reply}
 
--- what the handle holds stands for world w
+-- what the handle holds represents world w
 abbrev pub HoldsFor : Option Held → World → (ℕ → FrameValue) → Type 0
 HoldsFor None w bodies = ⊥
 HoldsFor (Some h) w bodies = StandsFor h.path.half w bodies
@@ -24,22 +24,22 @@ abbrev pub HoldsSmall : Option Held → Type 0
 HoldsSmall None = ⊥
 HoldsSmall (Some h) = IsSmall h.path.half
 
--- the addresses of the path that the handle holds; the made-up ones where it holds none
+-- the addresses of the path that the handle holds; the placeholders if it is empty
 abbrev pub addresses_held : Option Held → Addresses
 addresses_held None = made_up
 addresses_held (Some h) = h.path.addresses
 
--- the handle holds something before and after, and R says what became of it
+-- the handle holds something before and after, and R relates the two
 abbrev pub Becomes : (Held → Held → Type 0) → Option Held → Option Held → Type 0
 Becomes R (Some h) (Some k) = R h k
 Becomes R _ _ = ⊥
 
--- What a call that brings no frame leaves of h, and what the caller's struct then shows.
+-- The effect of a call without a frame: h before, k after, and the caller's struct.
 --
---   meets      for each world that the path stood for, it is the machine's step, with the machine's reply;
---              the frames that it sends have been sent once more
---   refused    a refused call changes nothing, but for a pull that finds nobody ready
---   addresses  they stay
+--   meets      for each world that the path represented, it is the machine's step, with the machine's reply;
+--              the frames that it sends have one more attempt
+--   refused    a refused call changes nothing, except a pull that finds no ready station
+--   addresses  the addresses are unchanged
 --   shows      the struct shows the reply
 pub record IsCalled (h : Held) (ask : Ask) (k : Held) (shown : Reply) : Type 0 where
   pub meets : (w : World) (bodies : ℕ → FrameValue) → StandsFor h.path.half w bodies →

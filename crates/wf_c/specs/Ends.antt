@@ -1,6 +1,8 @@
--- What C is told of an open exchange, and of its end.
+-- Defines the codes and structs of an open exchange, and what its end leaves of a path.
 use Rattle.std.specs.Prelude.{◌≡◌, ℕ, List, Bool, true, false, Option, Some, None}
 use Rattle.wf_octets.specs.declared.block.decoding.BlockFault.TheVariants.{Length, Kind, NotCompressed, MultiTid, Fragment, NotWide}
+use Rattle.wf_frame.specs.Refusals.{refusal_number}
+use Rattle.wf_frame.specs.declared.notes.Refusal.TheVariants as refusal
 use Rattle.wf_def_world.specs.World.{Exchange}
 use Rattle.wf_path.specs.declared.faults.DoneFault.{DoneFault}
 use Rattle.wf_path.specs.declared.faults.DoneFault.TheVariants as done
@@ -13,29 +15,29 @@ use Rattle.wf_c.specs.declared.exchanges.Sent.{Sent}
 use Rattle.wf_c.specs.declared.held.Held.{Held}
 use Rattle.wf_c.specs.declared.reply.Reply.{Reply}
 
--- ---- codes: 0 is well
+-- ---- codes: 0 means success, and a refusal has its number
 
--- of an exchange that is to be open
+-- the code of reading an open exchange
 abbrev pub sent_code : Option Exchange → ℕ
-sent_code None = 12
+sent_code None = refusal_number refusal.NoExchange
 sent_code (Some x) = 0
 
--- of a transmission that is to have a frame
+-- the code of reading the frame of a transmission
 abbrev pub id_code : Option ℕ → ℕ
-id_code None = 9
+id_code None = refusal_number refusal.BadIndex
 id_code (Some id) = 0
 
--- of a transmission that is to be written
+-- the code of writing a transmission
 abbrev pub write_code : Option PathFault → ℕ
 write_code None = 0
-write_code (Some fault.NoExchange) = 12
-write_code (Some fault.BadIndex) = 9
+write_code (Some fault.NoExchange) = refusal_number refusal.NoExchange
+write_code (Some fault.BadIndex) = refusal_number refusal.BadIndex
 write_code (Some (fault.SmallBuffer need)) = 42
 
--- of octets that are to be a BlockAck
+-- the code of an end by octets, for a fault of the octets
 abbrev pub end_code : Option DoneFault → ℕ
 end_code None = 0
-end_code (Some done.NoExchange) = 12
+end_code (Some done.NoExchange) = refusal_number refusal.NoExchange
 end_code (Some (done.Block (Length need have))) = 51
 end_code (Some (done.Block (Kind octet))) = 52
 end_code (Some (done.Block NotCompressed)) = 53
@@ -45,26 +47,26 @@ end_code (Some (done.Block NotWide)) = 56
 end_code (Some done.NotMine) = 57
 end_code (Some (done.WrongTid found)) = 58
 
--- of an end by octets, by whether it names an airtime that it may not name: the octets come first
+-- the code of an end by octets, with a bad airtime or not; a fault of the octets is checked first
 abbrev pub octets_code : Option DoneFault → Bool → ℕ
 octets_code (Some fault) bad_air = end_code (Some fault)
-octets_code None true = 8
+octets_code None true = refusal_number refusal.BadAir
 octets_code None false = 0
 
--- ---- what structs show
+-- ---- structs
 
 -- what the caller's struct shows of an exchange
 abbrev pub sent_shown : Sent → PathSent
 sent_shown s = record { station = s.station; tid = s.tid; count = s.count; request = is_up s.request }
 
--- where there is too little room, n says how much is needed; after another fault it is what it was
+-- if there is too little room, n is the number of octets that are needed; after another fault it is unchanged
 abbrev pub needs : Option PathFault → ℕ → ℕ → Type 0
 needs (Some (fault.SmallBuffer need)) was n = n ≡ need
 needs (Some other) was n = n ≡ was
 needs None was n = Unit {0}
 
--- What the end of exchange e leaves of h, by what was heard of it and by the airtime that was named, and what
--- the caller's struct then shows.
+-- The effect of the end of exchange e: h before, k after, and the caller's struct. `heard` is the BlockAck
+-- that was heard, if any, and `air` the airtime that was given, if any.
 pub record IsExchangeEnded (h : Held) (e : ℕ) (heard : Option (ℕ × List ℕ)) (air : Option ℕ) (k : Held)
     (shown : Reply) : Type 0 where
   pub ended : IsEnded h.path e heard air k.path k.answer.brief

@@ -5,7 +5,6 @@ pub mod Calls
 pub mod CellAnswers
 pub mod CellCalls
 pub mod CellLending
-pub mod CellSlots
 pub mod Clock
 pub mod Ends
 pub mod Lending

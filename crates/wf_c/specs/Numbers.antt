@@ -1,41 +1,38 @@
--- What the fields of an answer show.
+-- Defines how the fields of a struct show an answer.
 use Rattle.std.specs.Prelude.{ℕ, ◌==◌, not, Bool, true, false, Option, Some, None, pos, if◌then◌else◌}
-use Rattle.wf_frame.specs.Classes.{class_number}
+use Rattle.wf_frame.specs.Classes.{class_number, fate_number}
 use Rattle.wf_frame.specs.declared.answers.Brief.{Brief}
-use Rattle.wf_frame.specs.declared.answers.Brief.TheVariants.{Joined, Gone, RateSet, Ticked, Accepted, Send, Released, Ba, Ended, Slept, Woken, Credited, Charged, Reaped, Refused}
-use Rattle.wf_frame.specs.declared.classes.Cause.TheVariants.{Overlimit, Codel, Retries, Left}
-use Rattle.wf_frame.specs.declared.classes.Fate.{Fate}
-use Rattle.wf_frame.specs.declared.classes.Fate.TheVariants.{Held, Acked, Dropped}
-pub use Rattle.wf_frame.specs.Refusals.{refusal_number}
+use Rattle.wf_frame.specs.declared.answers.Brief.TheVariants.{Joined, Set, Now, Accepted, Send, Released, Ba, Done, Slept, Woken, Polled, Charged, Reaped, Refused}
+use Rattle.wf_frame.specs.declared.answers.Brief.TheVariants as brief
+use Rattle.wf_frame.specs.Refusals.{refusal_number}
 use Rattle.wf_frame.specs.declared.notes.Refusal.{Refusal}
 use Rattle.wf_frame.specs.declared.notes.Refusal.TheVariants as refusal
+use Rattle.wf_rotation.specs.declared.side.Side.{Side}
+use Rattle.wf_rotation.specs.declared.side.Side.TheVariants.{New, Old}
 use Rattle.wf_c.specs.declared.reply.Reply.{Reply}
 
 -- ---- numbers
-
--- a fate, and of a dropped frame its cause
-abbrev pub fate_number : Fate → ℕ
-fate_number Held = 0
-fate_number Acked = 1
-fate_number (Dropped Overlimit) = 2
-fate_number (Dropped Codel) = 3
-fate_number (Dropped Retries) = 4
-fate_number (Dropped Left) = 5
 
 -- a flag is 0 or 1
 abbrev pub flag_of : Bool → ℕ
 flag_of false = 0
 flag_of true = 1
 
+-- the list of a class that contains a station: 1 the new one, 2 the old one, 0 neither
+abbrev pub list_number : Option Side → ℕ
+list_number None = 0
+list_number (Some New) = 1
+list_number (Some Old) = 2
+
 -- ---- airtimes
 
--- the airtime that a number names, which is none where it is 0
+-- the airtime that a number gives; 0 gives none
 abbrev pub named_air : ℕ → Option ℕ
 named_air n = if n == 0 then None else Some n
 
 -- ---- answers
 
--- nothing is shown
+-- all fields are 0
 abbrev pub blank : Reply
 blank = record {
   exchange = 0;
@@ -72,19 +69,19 @@ with_request_start (Some start) r = record r { start = start; request = 1 }
 
 -- with the number that a refusal has, if any
 abbrev pub with_refusal : Refusal → Reply → Reply
-with_refusal (refusal.StillOpen count) r = record r { count = count }
+with_refusal (refusal.Open count) r = record r { count = count }
 with_refusal (refusal.Room inside) r = record r { count = inside }
 with_refusal (refusal.Sleeping queued) r = record r { count = queued }
 with_refusal (refusal.Full count) r = record r { count = count }
 with_refusal (refusal.Debt deficit) r = record r { deficit = deficit }
 with_refusal _ r = r
 
--- the fields of an answer; what it lists, and what a BlockAck says, stand in structs of their own
+-- the fields of an answer; its lists, and the fields of a BlockAck, are in other structs
 abbrev pub numbers_of : Brief → Reply
 numbers_of Joined = record blank { kind = 0 }
-numbers_of (Gone dropped) = record blank { kind = 1; count = dropped }
-numbers_of RateSet = record blank { kind = 2 }
-numbers_of (Ticked now) = record blank { kind = 3; now = now }
+numbers_of (brief.Left dropped) = record blank { kind = 1; count = dropped }
+numbers_of Set = record blank { kind = 2 }
+numbers_of (Now now) = record blank { kind = 3; now = now }
 numbers_of (Accepted id dropped) = with_dropped dropped (record blank { kind = 4; id = id })
 numbers_of (Send exchange station tid air request more) =
     record (with_request_start request (record blank { kind = 5 })) {
@@ -96,16 +93,16 @@ numbers_of (Send exchange station tid air request more) =
     }
 numbers_of Released = record blank { kind = 6 }
 numbers_of (Ba start b0 b1 b2 b3 wide) = record blank { kind = 7 }
-numbers_of (Ended acked waiting failed) = record
+numbers_of (Done acked waiting failed) = record
     blank { kind = 8; acked = acked; waiting = waiting; failed = failed }
 numbers_of Slept = record blank { kind = 9 }
 numbers_of Woken = record blank { kind = 10 }
-numbers_of (Credited class) = record blank { kind = 11; class = class_number class }
+numbers_of (Polled class) = record blank { kind = 11; class = class_number class }
 numbers_of (Charged deficit) = record blank { kind = 12; deficit = deficit }
 numbers_of (Reaped id fate) = record blank { kind = 13; id = id; fate = fate_number fate }
 numbers_of (Refused reason) = with_refusal reason
     (record blank { kind = 14; refusal = refusal_number reason })
 
--- whether a flag of the caller's is up: any number but 0
+-- whether a flag of the caller's is set: any number except 0
 abbrev pub is_up : ℕ → Bool
 is_up n = not (n == 0)

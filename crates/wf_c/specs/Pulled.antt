@@ -1,4 +1,4 @@
--- The frames of an aggregate in a struct of the caller's.
+-- Defines how a struct shows the frames of an aggregate.
 use Rattle.std.specs.Prelude.{◌≡◌, ℕ, List, length, slice_get, slice_index, Some, None}
 use Rattle.wf_frame.specs.declared.answers.Brief.{Brief}
 use Rattle.wf_frame.specs.declared.answers.Brief.TheVariants.{Send}
@@ -9,7 +9,7 @@ pub record ShowsPair (f : Frames) (i : ℕ) (pair : ℕ × ℕ) : Type 0 where
   pub id : slice_index f.ids i ≡ pair.0
   pub number : slice_index f.numbers i ≡ pair.1
 
--- the entries are these frames, in their order
+-- the entries are these frames, in order
 pub record ShowsPairs (f : Frames) (pairs : List (ℕ × ℕ)) : Type 0 where
   pub count : f.count ≡ length pairs
   pub each : (i : ℕ) (pair : ℕ × ℕ) → slice_get pairs i ≡ Some pair → ShowsPair f i pair

@@ -1,6 +1,8 @@
--- Counts and airtime in structs of the caller's.
+-- Defines how structs show counts and airtime, and the codes of the functions that read them.
 use Rattle.std.specs.Prelude.{◌≡◌, ℕ, nat_lt, Option, Some, None, if◌then◌else◌}
 use Rattle.wf_frame.specs.declared.classes.Class.{Class}
+use Rattle.wf_frame.specs.Refusals.{refusal_number}
+use Rattle.wf_frame.specs.declared.notes.Refusal.TheVariants as refusal
 use Rattle.wf_def_world.specs.World.{World, is_live, share}
 use Rattle.wf_send_parts.specs.Tally.{Counts}
 use Rattle.wf_c.specs.declared.readers.NoSession.{NoSession}
@@ -8,20 +10,20 @@ use Rattle.wf_c.specs.declared.readers.NoSession.TheVariants.{BadTid, NoStation}
 use Rattle.wf_c.specs.declared.readers.Share.{Share}
 use Rattle.wf_c.specs.declared.readers.Tally.{Tally}
 
--- the code of a station that is not live: that refusal's number
+-- the code of a station that is not live: the number of that refusal
 abbrev pub no_station_code : ℕ
-no_station_code = 11
+no_station_code = refusal_number refusal.NoStation
 
--- the code of a TID above 7: that refusal's number
+-- the code of a TID above 7: the number of that refusal
 abbrev pub bad_tid_code : ℕ
-bad_tid_code = 7
+bad_tid_code = refusal_number refusal.BadTid
 
--- why nothing is told of a station's TID: a TID above 7 is told before a station that is not live
+-- why a station's TID has no session; the TID is checked before the station
 abbrev pub session_fault : World → ℕ → ℕ → Option NoSession
 session_fault w s tid =
     if nat_lt 7 tid then Some BadTid else (if is_live w s then None else Some NoStation)
 
--- its code
+-- the code of this fault
 abbrev pub session_code : Option NoSession → ℕ
 session_code None = 0
 session_code (Some BadTid) = bad_tid_code

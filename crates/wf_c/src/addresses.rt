@@ -4,34 +4,33 @@ ghost use Rattle.std.specs.Prelude.{◌≡◌, ◌⊎◌, ℕ, true, is_some, po
 ghost use Rattle.std.specs.Result.{result_err};
 ghost use Rattle.wf_frame.specs.Frames.{FrameValue};
 ghost use Rattle.wf_def_world.specs.World.{World};
-ghost use Rattle.wf_send_half_refines.specs.Standing.{StandsFor};
+ghost use Rattle.wf_send_half_model.specs.Standing.{StandsFor};
 ghost use Rattle.wf_path.specs.Addresses.{address_in, address_told, group_fault, set_fault, with_address, with_base};
 ghost use Rattle.wf_c.specs.Addresses.{address_code, told_code, with_addresses};
 ghost use Rattle.wf_c.specs.Calls.{Becomes, HoldsFor, addresses_held};
 
 use crate::held::Held;
+use crate::reply::refusal_code;
 use crate::slot::PathSlot;
+use wf_frame::Refusal;
 use wf_path::BadAddress;
 
-/// The station number is not below the setting `stations`.
-const BAD_STATION: i32 = 1;
-
-/// A group's address.
+/// The code of a group address.
 const BAD_ADDRESS: i32 = 44;
 
-// The code of an address that was named.
+// The code of an address that was set or refused.
 fn code_of(named: Result<(), BadAddress>) -> i32
     ensures { result ≡ pos (address_code (result_err named)) }
 {
     match named {
         Ok(()) => 0,
-        Err(BadAddress::NoStation) => BAD_STATION,
+        Err(BadAddress::NoStation) => refusal_code(Refusal::BadStation),
         Err(BadAddress::Group) => BAD_ADDRESS,
     }
 }
 
 impl Held {
-    // Names the access point's address.
+    // Sets the access point's address.
     fn set_base(&mut self, address: [u8; 6]) -> Result<(), BadAddress>
         ensures fault { result_err result ≡ group_fault address }
         ensures set { OnOk result (self.new
@@ -41,7 +40,7 @@ impl Held {
         self.path.set_base(address)
     }
 
-    // Names a station's address.
+    // Sets a station's address.
     fn set_address(&mut self, station: u16, address: [u8; 6]) -> Result<(), BadAddress>
         ensures fault { (w : World) (bodies : ℕ → FrameValue) → StandsFor self.old.path.half w bodies →
             result_err result ≡ set_fault w.config.stations station address }
@@ -53,7 +52,7 @@ impl Held {
         self.path.set_address(station, address)
     }
 
-    // A station's address, where there is such a station.
+    // A station's address. None if the station number does not exist.
     fn address(&self, station: u16) -> Option<[u8; 6]>
         ensures told { (w : World) (bodies : ℕ → FrameValue) → StandsFor self.now.path.half w bodies →
             result ≡ address_told w.config.stations self.now.path.addresses station }
@@ -64,8 +63,7 @@ impl Held {
     }
 }
 
-/// Names the access point's address, and gives 0; gives 44 where it is a group's, and then nothing has
-/// changed.
+/// Sets the access point's address. Returns 0; or 44 if it is a group address, and then nothing has changed.
 #[unsafe(no_mangle)]
 pub extern "C" fn wf_path_set_base(path: &mut PathSlot, address: &[u8; 6]) -> i32
     requires open { is_some path.old.value ≡ true }
@@ -77,8 +75,8 @@ pub extern "C" fn wf_path_set_base(path: &mut PathSlot, address: &[u8; 6]) -> i3
     code_of(path.held().set_base(*address))
 }
 
-/// Names a station's address, and gives 0; gives 1 where there is no such station, and else 44 where the
-/// address is a group's, and then nothing has changed.
+/// Sets a station's address. Returns 0; 1 if the station number does not exist; or else 44 if it is a group
+/// address. After an error nothing has changed.
 #[unsafe(no_mangle)]
 pub extern "C" fn wf_path_set_address(path: &mut PathSlot, station: u16, address: &[u8; 6]) -> i32
     requires open { is_some path.old.value ≡ true }
@@ -102,7 +100,7 @@ pub extern "C" fn wf_path_base(path: &mut PathSlot, out: &mut [u8; 6])
     *out = path.held().path.base();
 }
 
-/// Writes a station's address, and gives 0; gives 1 where there is no such station, and then writes nothing.
+/// Writes a station's address. Returns 0; or 1 if the station number does not exist, and then writes nothing.
 #[unsafe(no_mangle)]
 pub extern "C" fn wf_path_address(path: &mut PathSlot, station: u16, out: &mut [u8; 6]) -> i32
     requires open { is_some path.old.value ≡ true }
@@ -117,6 +115,6 @@ pub extern "C" fn wf_path_address(path: &mut PathSlot, station: u16, out: &mut [
             *out = address;
             0
         }
-        None => BAD_STATION,
+        None => refusal_code(Refusal::BadStation),
     }
 }

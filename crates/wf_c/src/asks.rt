@@ -1,6 +1,6 @@
-//! The calls that bring no frame and take none.
+//! The calls that neither enqueue nor reap a frame.
 //!
-//! Each answers in the caller's `Reply`, and gives its refusal: 0 where it was not refused.
+//! Each writes its answer to the caller's `Reply`, and returns its refusal, or 0 if it was not refused.
 
 ghost use Rattle.std.specs.Prelude.{◌≡◌, true, is_some, pos, IfSome};
 ghost use Rattle.wf_frame.specs.Classes.{all_classes, class_among};
@@ -18,7 +18,7 @@ use crate::slot::PathSlot;
 use wf_frame::{Ask, AskedRate, Class};
 
 impl PathSlot {
-    // Makes a call that brings no frame, but for a reap.
+    // Makes a call that has no frame and is not a reap.
     fn ask(&mut self, ask: Ask, reply: &mut Reply) -> i32
         requires open { is_some self.old.value ≡ true }
         requires small { HoldsSmall self.old.value }
@@ -31,7 +31,7 @@ impl PathSlot {
     }
 }
 
-// The class of a number, 0 to 3; a greater one is of the last.
+// The class of a number, 0 to 3. A greater number means the last class.
 pub(crate) fn class_of_number(number: u8) -> Class
     ensures { result ≡ class_among all_classes number }
 {
@@ -43,7 +43,7 @@ pub(crate) fn class_of_number(number: u8) -> Class
     }
 }
 
-/// A station joins (`wf_path::Path::call` with `Ask::Join`).
+/// Makes a station live: its window in frames, first sequence number, A-MPDU length exponent and weight.
 #[unsafe(no_mangle)]
 pub extern "C" fn wf_path_join(
     path: &mut PathSlot,
@@ -70,7 +70,7 @@ pub extern "C" fn wf_path_join(
     path.ask(ask, reply)
 }
 
-/// A station leaves, and its frames are dropped.
+/// Makes a station leave. Its frames are dropped.
 #[unsafe(no_mangle)]
 pub extern "C" fn wf_path_leave(path: &mut PathSlot, station: u16, reply: &mut Reply) -> i32
     requires open { is_some path.old.value ≡ true }
@@ -81,7 +81,7 @@ pub extern "C" fn wf_path_leave(path: &mut PathSlot, station: u16, reply: &mut R
     path.ask(Ask::Leave { station }, reply)
 }
 
-/// A station is sent to at another rate, one of HT; `short` other than 0 is the short guard interval.
+/// Sets a station's rate, a rate of HT; `short` other than 0 means the short guard interval.
 #[unsafe(no_mangle)]
 pub extern "C" fn wf_path_rate(
     path: &mut PathSlot,
@@ -105,7 +105,7 @@ pub extern "C" fn wf_path_rate(
     path.ask(Ask::Rate { station, rate }, reply)
 }
 
-/// A station is sent to at another rate, one of VHT; `short` other than 0 is the short guard interval.
+/// Sets a station's rate, a rate of VHT; `short` other than 0 means the short guard interval.
 #[unsafe(no_mangle)]
 pub extern "C" fn wf_path_rate_vht(
     path: &mut PathSlot,
@@ -131,7 +131,7 @@ pub extern "C" fn wf_path_rate_vht(
     path.ask(Ask::Rate { station, rate }, reply)
 }
 
-/// A station is sent to at another rate, one of HE, with a guard interval of so many nanoseconds.
+/// Sets a station's rate, a rate of HE, with a guard interval of `guard` nanoseconds.
 #[unsafe(no_mangle)]
 pub extern "C" fn wf_path_rate_he(
     path: &mut PathSlot,
@@ -157,7 +157,7 @@ pub extern "C" fn wf_path_rate_he(
     path.ask(Ask::Rate { station, rate }, reply)
 }
 
-/// The clock moves on.
+/// Moves the clock on by `by` microseconds.
 #[unsafe(no_mangle)]
 pub extern "C" fn wf_path_tick(path: &mut PathSlot, by: u32, reply: &mut Reply) -> i32
     requires open { is_some path.old.value ≡ true }
@@ -168,7 +168,7 @@ pub extern "C" fn wf_path_tick(path: &mut PathSlot, by: u32, reply: &mut Reply) 
     path.ask(Ask::Tick { by }, reply)
 }
 
-/// A station goes to sleep.
+/// Puts a station to sleep.
 #[unsafe(no_mangle)]
 pub extern "C" fn wf_path_sleep(path: &mut PathSlot, station: u16, reply: &mut Reply) -> i32
     requires open { is_some path.old.value ≡ true }
@@ -179,7 +179,7 @@ pub extern "C" fn wf_path_sleep(path: &mut PathSlot, station: u16, reply: &mut R
     path.ask(Ask::Sleep { station }, reply)
 }
 
-/// A station wakes.
+/// Wakes a station.
 #[unsafe(no_mangle)]
 pub extern "C" fn wf_path_wake(path: &mut PathSlot, station: u16, reply: &mut Reply) -> i32
     requires open { is_some path.old.value ≡ true }
@@ -190,7 +190,7 @@ pub extern "C" fn wf_path_wake(path: &mut PathSlot, station: u16, reply: &mut Re
     path.ask(Ask::Wake { station }, reply)
 }
 
-/// A sleeping station asks for one frame (PS-Poll).
+/// Gives a credit to a sleeping station that asks for one frame (PS-Poll).
 #[unsafe(no_mangle)]
 pub extern "C" fn wf_path_poll(path: &mut PathSlot, station: u16, reply: &mut Reply) -> i32
     requires open { is_some path.old.value ≡ true }
@@ -201,7 +201,7 @@ pub extern "C" fn wf_path_poll(path: &mut PathSlot, station: u16, reply: &mut Re
     path.ask(Ask::Poll { station }, reply)
 }
 
-/// A station used airtime to send.
+/// Charges a station for `air` microseconds that it used to send in a class.
 #[unsafe(no_mangle)]
 pub extern "C" fn wf_path_rx(
     path: &mut PathSlot,
@@ -224,8 +224,8 @@ pub extern "C" fn wf_path_rx(
     path.ask(ask, reply)
 }
 
-/// The driver asks for the next exchange of a class. Where it sends an aggregate, `frames` has its frames,
-/// and else none.
+/// Opens the next exchange of a class. If it sends an aggregate, `frames` gets its frames; otherwise their
+/// count is 0.
 #[unsafe(no_mangle)]
 pub extern "C" fn wf_path_pull(
     path: &mut PathSlot,

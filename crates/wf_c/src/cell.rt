@@ -1,5 +1,5 @@
-//! A cell for test benches in C: the transmit path, the receive halves of the stations, and the history of
-//! the calls.
+//! Cells for test benches in C: the transmit path, the receive halves of the stations, and the history of the
+//! calls.
 
 pub(crate) mod answers;
 pub(crate) mod asks;

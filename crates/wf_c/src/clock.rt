@@ -1,4 +1,4 @@
-//! The clock moves on to a time.
+//! Moving the clock to a time.
 
 ghost use Rattle.std.specs.Prelude.{◌≡◌, ◌≤◌, ◌<◌, ◌^◌, true, is_some, pos};
 ghost use Rattle.wf_def_lists.specs.Bounds.{greatest_tick};
@@ -9,16 +9,14 @@ ghost use Rattle.wf_c.specs.Clock.{IsAdvanced, IsMovedTo, IsTicked};
 use crate::held::Held;
 use crate::reply::Reply;
 use crate::slot::PathSlot;
-use wf_frame::{Ask, Brief, Refusal};
+use wf_frame::{Ask, Brief, GREATEST_TICK, Refusal};
 
-/// The longest tick, in microseconds.
-const LONGEST: u64 = 10_000_000;
-
-/// The clock stays below this.
-const LARGE: u64 = 1 << 62;
+/// A path's clock is moved to times below this, in microseconds. The clock has to stay below 2^62, so there
+/// is room for later ticks.
+const LATEST: u64 = 1 << 61;
 
 impl Held {
-    // The clock moves on to `now`, by as many ticks as it takes.
+    // Moves the clock on to `now`, by as many ticks as are needed.
     fn move_to(&mut self, now: u64) -> Reply
         requires small { IsSmall self.old.path.half }
         requires later { self.old.path.half.clock ≤ now }
@@ -27,14 +25,14 @@ impl Held {
     {
         let _ = self.path.config();
         let mut left = now - self.path.now();
-        while LONGEST < left {
-            self.tick(LONGEST as u32);
-            left -= LONGEST;
+        while u64::from(GREATEST_TICK) < left {
+            self.tick(GREATEST_TICK);
+            left -= u64::from(GREATEST_TICK);
         }
         self.tick(left as u32)
     }
 
-    // The clock moves on by this.
+    // Moves the clock on by `by` microseconds.
     fn tick(&mut self, by: u32) -> Reply
         requires small { IsSmall self.old.path.half }
         requires short { by ≤ greatest_tick }
@@ -44,20 +42,20 @@ impl Held {
         self.ask(Ask::Tick { by })
     }
 
-    // The clock moves on to `now`, or it is refused.
+    // Moves the clock on to `now`, or is refused.
     fn advance(&mut self, now: u64) -> Reply
         requires small { IsSmall self.old.path.half }
         ensures { IsAdvanced self.old now self.new result }
     {
-        if now < self.path.now() || LARGE <= now {
+        if now < self.path.now() || LATEST <= now {
             return Reply::of(Brief::Refused(Refusal::BadTick));
         }
         self.move_to(now)
     }
 }
 
-/// Moves the clock on to a time, by as many ticks as it takes, which answer as one. Gives 0, or 6 where the
-/// time is before the clock's, or is 2^62 or more, and then nothing has changed.
+/// Moves the clock on to `now`, in microseconds, by as many ticks as are needed, and answers as one tick.
+/// Returns 0; or 6 if `now` is before the clock or is 2^61 or more, and then nothing has changed.
 #[unsafe(no_mangle)]
 pub extern "C" fn wf_path_advance(path: &mut PathSlot, now: u64, reply: &mut Reply) -> i32
     requires open { is_some path.old.value ≡ true }

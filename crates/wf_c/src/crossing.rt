@@ -1,6 +1,7 @@
-//! What a handle holds, a path or a cell, and the handle of a path may go from thread to thread.
+//! A path, a cell and the handle of either may be sent to another thread.
 
 use crate::cell::held::HeldCell;
+use crate::cell::slot::CellSlot;
 use crate::held::Held;
 use crate::slot::PathSlot;
 use std::marker::Send;
@@ -11,4 +12,5 @@ fn handles_are_sent() {
     is_sent::<Held>();
     is_sent::<PathSlot>();
     is_sent::<HeldCell>();
+    is_sent::<CellSlot>();
 }

@@ -1,11 +1,11 @@
-//! An open exchange: what it sends, and how it ends.
+//! Open exchanges: what they send, and how they end.
 
 ghost use Rattle.std.specs.Prelude.{◌≡◌, ◌≤◌, ◌⊎◌, ℕ, ◌%◌, true, is_some, pos, Option, Some, None, option_map, take, drop, length, IfOk, OnErr};
 ghost use Rattle.wf_frame.specs.Frames.{FrameValue};
-ghost use Rattle.wf_def_world.specs.Refusals.{is_bad_air};
+ghost use Rattle.wf_frame.specs.Settings.{is_bad_air};
 ghost use Rattle.wf_def_world.specs.World.{World, exchange as exchange_in};
 ghost use Rattle.wf_octets.specs.Offsets.{offsets_in};
-ghost use Rattle.wf_send_half_refines.specs.Standing.{StandsFor};
+ghost use Rattle.wf_send_half_model.specs.Standing.{StandsFor};
 ghost use Rattle.std.specs.Result.{result_err};
 ghost use Rattle.wf_path.specs.Answers.{block_ack_in};
 ghost use Rattle.wf_path.specs.Transmissions.{sent_of, id_sent, tag_sent, octets_sent, header_sent};
@@ -17,37 +17,30 @@ ghost use Rattle.wf_c.specs.Ends.{IsExchangeEnded, end_code, id_code, needs, oct
 ghost use Rattle.wf_c.specs.Numbers.{named_air};
 
 use crate::held::Held;
-use crate::reply::Reply;
+use crate::reply::{Reply, refusal_code};
 use crate::slot::PathSlot;
+use wf_frame::Refusal;
 use wf_octets::bits::Bits256;
 use wf_octets::block::BlockFault;
 use wf_octets::seq12::Seq12;
 use wf_path::{DoneFault, PathFault};
 
-/// No such exchange, and no such transmission.
-const NO_EXCHANGE: i32 = 12;
-
-const BAD_INDEX: i32 = 9;
-
-/// The airtime that an end names is above the setting `charge`.
-const BAD_AIR: i32 = 8;
-
-/// What an open exchange sends, and to whom.
+/// The station of an open exchange, and what it sends.
 #[repr(C)]
 #[derive(Clone, Copy)]
 pub struct Sent {
     /// The station.
     pub station: u16,
-    /// How many transmissions: one for each frame, or the one BlockAckReq.
+    /// The number of transmissions: one for each frame, or 1 for a BlockAckReq.
     pub count: u16,
     /// The TID, 0 to 7.
     pub tid: u8,
-    /// 1 where it sends a BlockAckReq, else 0.
+    /// 1 if the exchange sends a BlockAckReq, else 0.
     pub request: u8,
 }
 
-/// Writes what an exchange sends, and to whom, and gives 0; gives 12 where it is not open, and then
-/// writes nothing.
+/// Writes the station of an exchange, and what it sends. Returns 0; or 12 if the exchange is not open, and
+/// then writes nothing.
 #[unsafe(no_mangle)]
 pub extern "C" fn wf_path_sent(path: &mut PathSlot, exchange: u64, sent: &mut Sent) -> i32
     requires open { is_some path.old.value ≡ true }
@@ -68,12 +61,12 @@ pub extern "C" fn wf_path_sent(path: &mut PathSlot, exchange: u64, sent: &mut Se
             };
             0
         }
-        None => NO_EXCHANGE,
+        None => refusal_code(Refusal::NoExchange),
     }
 }
 
-/// Writes the id of the frame of a transmission, and gives 0; gives 9 where the exchange is not open, is a
-/// request, or has no transmission of that index, and then writes nothing.
+/// Writes the id of the frame of a transmission. Returns 0; or 9 if the exchange is not open, is a
+/// BlockAckReq, or has no transmission with that index, and then writes nothing.
 #[unsafe(no_mangle)]
 pub extern "C" fn wf_path_frame_id(
     path: &mut PathSlot,
@@ -94,12 +87,12 @@ pub extern "C" fn wf_path_frame_id(
             *id = found;
             0
         }
-        None => BAD_INDEX,
+        None => refusal_code(Refusal::BadIndex),
     }
 }
 
-/// Writes the tag of the frame of a transmission, and gives 0; gives 9 where `wf_path_frame_id` does, and
-/// then writes nothing.
+/// Writes the tag of the frame of a transmission. Returns 0; or 9 if the exchange is not open, is a
+/// BlockAckReq, or has no transmission with that index, and then writes nothing.
 #[unsafe(no_mangle)]
 pub extern "C" fn wf_path_frame_tag(
     path: &mut PathSlot,
@@ -120,12 +113,12 @@ pub extern "C" fn wf_path_frame_tag(
             *tag = found;
             0
         }
-        None => BAD_INDEX,
+        None => refusal_code(Refusal::BadIndex),
     }
 }
 
-/// Writes the header alone of a transmission of data, its 26 octets, and gives 0; gives 12 or 9 where there
-/// is no such exchange, or no data of that index: then `out` is as it was.
+/// Writes the header of a data transmission, 26 octets, without its body. Returns 0; 12 if the exchange is
+/// not open; or 9 if it has no data with that index. After an error `out` is unchanged.
 #[unsafe(no_mangle)]
 pub extern "C" fn wf_path_header(
     path: &mut PathSlot,
@@ -143,15 +136,15 @@ pub extern "C" fn wf_path_header(
 {
     match path.held().path.header(exchange, index, out) {
         Ok(()) => 0,
-        Err(PathFault::NoExchange) => NO_EXCHANGE,
-        Err(PathFault::BadIndex) => BAD_INDEX,
+        Err(PathFault::NoExchange) => refusal_code(Refusal::NoExchange),
+        Err(PathFault::BadIndex) => refusal_code(Refusal::BadIndex),
         Err(PathFault::SmallBuffer { .. }) => SMALL_BUFFER,
     }
 }
 
-/// Writes the octets of one transmission, and how many they are, and gives 0; gives 12, 9 or 42 where there
-/// is no such exchange, no such transmission, or too little room: then `out` is as it was, and with 42 `size`
-/// says how much room is needed, while with the others it is as it was.
+/// Writes the octets of one transmission, and their number to `size`. Returns 0; 12 if the exchange is not
+/// open; 9 if it has no transmission with that index; or 42 if `out` is too small. After an error `out` is
+/// unchanged; after 42 `size` is the number of octets that are needed, and after 12 and 9 it is unchanged.
 #[unsafe(no_mangle)]
 pub extern "C" fn wf_path_mpdu(
     path: &mut PathSlot,
@@ -180,8 +173,8 @@ pub extern "C" fn wf_path_mpdu(
             *size = count;
             0
         }
-        Err(PathFault::NoExchange) => NO_EXCHANGE,
-        Err(PathFault::BadIndex) => BAD_INDEX,
+        Err(PathFault::NoExchange) => refusal_code(Refusal::NoExchange),
+        Err(PathFault::BadIndex) => refusal_code(Refusal::BadIndex),
         Err(PathFault::SmallBuffer { need }) => {
             *size = need;
             SMALL_BUFFER
@@ -189,10 +182,10 @@ pub extern "C" fn wf_path_mpdu(
     }
 }
 
-/// The buffer is too small.
+/// The code of a buffer that is too small.
 pub(crate) const SMALL_BUFFER: i32 = 42;
 
-// The airtime that a number names, which is none where it is 0.
+// The airtime that a number gives; 0 gives none.
 pub(crate) fn named_air(air: u32) -> Option<u32>
     ensures { result ≡ named_air air }
 {
@@ -200,7 +193,7 @@ pub(crate) fn named_air(air: u32) -> Option<u32>
 }
 
 impl Held {
-    // An exchange ends.
+    // Ends an exchange by its BlockAck, or without one.
     fn end(&mut self, exchange: u64, heard: Option<(Seq12, Bits256)>, air: Option<u32>) -> Reply
         requires small { IsSmall self.old.path.half }
         ensures { IsExchangeEnded self.old exchange heard air self.new result }
@@ -209,19 +202,16 @@ impl Held {
         Reply::of(self.answer.brief)
     }
 
-    // Whether the end of an exchange may not name this airtime.
+    // Returns whether the end of an exchange may not give this airtime.
     fn is_bad_air(&self, air: Option<u32>) -> bool
         ensures value { result ≡ is_bad_air self.now.path.half.config air }
         ensures world { (w : World) (bodies : ℕ → FrameValue) → StandsFor self.now.path.half w bodies →
             result ≡ is_bad_air w.config air }
     {
-        match air {
-            Some(air) => air == 0 || air > self.path.config().charge,
-            None => false,
-        }
+        self.path.config().is_bad_air(air)
     }
 
-    // An exchange ends by the octets of a BlockAck.
+    // Ends an exchange by the octets of a BlockAck.
     fn end_by(&mut self, exchange: u64, octets: &[u8], air: Option<u32>) -> Result<Reply, DoneFault>
         requires small { IsSmall self.old.path.half }
         ensures fault { (w : World) (bodies : ℕ → FrameValue) → StandsFor self.old.path.half w bodies →
@@ -237,7 +227,7 @@ impl Held {
 }
 
 impl PathSlot {
-    // An exchange ends.
+    // Ends an exchange of the path that the handle holds.
     fn end_exchange(
         &mut self,
         exchange: u64,
@@ -256,8 +246,9 @@ impl PathSlot {
     }
 }
 
-/// An exchange ends, and nothing was heard. Its station pays `air` microseconds, or where that is 0 what was
-/// computed of the exchange.
+/// Ends an exchange of which no BlockAck was heard. The station is charged `air` microseconds, or the
+/// computed charge if `air` is 0. Returns 0; 12 if the exchange is not open; or 8 if `air` is above the
+/// setting `charge`.
 #[unsafe(no_mangle)]
 pub extern "C" fn wf_path_done_lost(
     path: &mut PathSlot,
@@ -274,8 +265,9 @@ pub extern "C" fn wf_path_done_lost(
     path.end_exchange(exchange, None, air, reply)
 }
 
-/// An exchange ends, and a BlockAck of this start and this bitmap was heard; `air` is as of
-/// `wf_path_done_lost`.
+/// Ends an exchange by the start and the bitmap of a BlockAck that was heard. The station is charged `air`
+/// microseconds, or the computed charge if `air` is 0. Returns 0; 12 if the exchange is not open; or 8 if
+/// `air` is above the setting `charge`.
 #[unsafe(no_mangle)]
 pub extern "C" fn wf_path_done_bits(
     path: &mut PathSlot,
@@ -296,9 +288,10 @@ pub extern "C" fn wf_path_done_bits(
     path.end_exchange(exchange, Some(heard), air, reply)
 }
 
-/// An exchange ends, and the octets of a BlockAck were heard; `air` is as of `wf_path_done_lost`. Gives 0, or
-/// why they are none to this exchange, or else 8 where `air` is above the setting `charge`: then the exchange is
-/// open still, and `reply` is as it was.
+/// Ends an exchange by the octets of a BlockAck that was heard. The station is charged `air` microseconds, or
+/// the computed charge if `air` is 0. Returns 0; 12 if the exchange is not open; 51 to 58 if the octets are
+/// not a BlockAck to it; or else 8 if `air` is above the setting `charge`. After an error the exchange is
+/// still open, and `reply` is unchanged.
 #[unsafe(no_mangle)]
 pub extern "C" fn wf_path_done_octets(
     path: &mut PathSlot,
@@ -322,7 +315,7 @@ pub extern "C" fn wf_path_done_octets(
     let held = path.held();
     let is_bad = held.is_bad_air(air);
     match held.end_by(exchange, octets, air) {
-        Ok(_) if is_bad => BAD_AIR,
+        Ok(_) if is_bad => refusal_code(Refusal::BadAir),
         Ok(shown) => {
             *reply = shown;
             0
@@ -331,12 +324,12 @@ pub extern "C" fn wf_path_done_octets(
     }
 }
 
-// The code of octets that are no BlockAck to an exchange: 12, or 51 to 58.
+// The code of octets that are not a BlockAck to an exchange: 12, or 51 to 58.
 fn number_of_done_fault(fault: DoneFault) -> u8
     ensures { result ≡ end_code (Some fault) }
 {
     match fault {
-        DoneFault::NoExchange => 12,
+        DoneFault::NoExchange => Refusal::NoExchange.number(),
         DoneFault::Block(BlockFault::Length { .. }) => 51,
         DoneFault::Block(BlockFault::Kind(_)) => 52,
         DoneFault::Block(BlockFault::NotCompressed) => 53,

@@ -1,4 +1,4 @@
-//! A frame comes in, and a finished one is taken back.
+//! Frames: a path accepts one, and returns a finished one.
 
 ghost use Rattle.std.specs.Prelude.{◌≡◌, ◌⊎◌, ◌≤◌, true, false, is_some, pos, take, drop, length, IfOk, IfErr};
 ghost use Rattle.wf_def_lists.specs.Lengths.{greatest_body};
@@ -10,14 +10,14 @@ ghost use Rattle.wf_c.specs.Making.{no_memory};
 use crate::exchanges::SMALL_BUFFER;
 use crate::held::Held;
 use crate::make::NO_MEMORY;
-use crate::reply::{Reply, number_of_fate};
+use crate::reply::Reply;
 use crate::slot::PathSlot;
 use std::alloc::{AllocError, Global};
 use wf_frame::{Ask, Frame, GREATEST_BODY, source_address};
 use wf_path::Job;
 use wf_queue_parts::chain::Parcel;
 
-/// The body has no octet, or more than 2304.
+/// The code of a body that is empty, or longer than 2304 octets.
 pub(crate) const BAD_LENGTH: i32 = 41;
 
 /// Why no frame was made.
@@ -25,7 +25,7 @@ pub(crate) const BAD_LENGTH: i32 = 41;
 pub(crate) enum NoFrame {
     /// There is no memory.
     NoMemory,
-    /// The body has no octet, or more than 2304.
+    /// The body is empty, or longer than 2304 octets.
     BadLength,
 }
 
@@ -40,24 +40,24 @@ impl From<AllocError> for NoFrame {
     }
 }
 
-/// A packet that comes in, to be sent as a frame.
+/// A packet for a station, to be sent as a frame.
 #[repr(C)]
 #[derive(Clone, Copy)]
 pub struct Packet<'a> {
-    /// Its body, of 1 to 2304 octets.
+    /// Its body, 1 to 2304 octets.
     pub body: &'a [u8],
-    /// What its owner finds it again by, as an index or a pointer. Nothing here reads it.
+    /// Identifies the packet to its owner, as an index or a pointer. The library does not use it.
     pub tag: u64,
-    /// Its flow.
+    /// The number of its flow.
     pub flow: u32,
-    /// The address that it comes from; six zeros stand for the made-up one, `02 00 00 02 00 00`.
+    /// Its source address. Six zeros mean the placeholder `02 00 00 02 00 00`.
     pub source: [u8; 6],
     /// Its TID, 0 to 7.
     pub tid: u8,
 }
 
 impl<'a> Packet<'a> {
-    // The address that it comes from.
+    // The source address of its frame.
     fn source(&self) -> [u8; 6]
         ensures { result ≡ source_named self.now.source }
     {
@@ -69,7 +69,7 @@ impl<'a> Packet<'a> {
     }
 }
 
-// The frame of a packet. The length of the body is judged before memory is asked for.
+// The frame of a packet. The length of the body is checked before memory is allocated.
 pub(crate) fn frame_of(alloc: Global, station: u16, packet: &Packet) -> Result<Parcel, NoFrame>
     ensures made { IfOk result (λ made. made ≡ frame_shown station packet.now) }
     ensures fits { IfOk result (λ _. IsBodyLength (length packet.now.body.now)) }
@@ -92,7 +92,7 @@ pub(crate) fn frame_of(alloc: Global, station: u16, packet: &Packet) -> Result<P
 }
 
 impl Held {
-    // A frame comes in. Where it is refused it is freed.
+    // Enqueues a frame, or frees it if it is refused.
     fn give(&mut self, parcel: Parcel) -> Reply
         requires small { IsSmall self.old.path.half }
         ensures { IsGivenToC self.old parcel self.new result }
@@ -103,7 +103,7 @@ impl Held {
 }
 
 impl Held {
-    // Takes the first finished frame back.
+    // Takes out the first finished frame.
     fn reap(&mut self, taken: &mut Taken, body: &mut [u8]) -> Reply
         requires small { IsSmall self.old.path.half }
         ensures { IsReapedFromC self.old self.new result taken.old body.old taken.new body.new }
@@ -114,8 +114,8 @@ impl Held {
     }
 }
 
-// Shows a frame that came back, if any, and frees it. Its body goes to the front of a buffer that has room;
-// the rest of the buffer stays.
+// Shows a frame that was reaped, if any, and frees it. Its body goes to the front of a buffer that has room;
+// the rest of the buffer is unchanged.
 pub(crate) fn show_back(back: Option<Parcel>, taken: &mut Taken, body: &mut [u8])
     ensures { ShowsBack back taken.old body.old taken.new body.new }
 {
@@ -124,34 +124,34 @@ pub(crate) fn show_back(back: Option<Parcel>, taken: &mut Taken, body: &mut [u8]
     }
 }
 
-/// A frame that was taken back.
+/// A frame that was reaped.
 #[repr(C)]
 #[derive(Clone, Copy)]
 pub struct Taken {
     /// Its id.
     pub id: u64,
-    /// When it was accepted, in microseconds.
+    /// The clock when it was accepted, in microseconds.
     pub stamp: u64,
-    /// What its owner finds it again by.
+    /// The tag of its packet.
     pub tag: u64,
-    /// Its flow.
+    /// The number of its flow.
     pub flow: u32,
     /// The station that it was for.
     pub station: u16,
-    /// The length of its body in octets, 1 to 2304.
+    /// The length of its body, 1 to 2304 octets.
     pub length: u16,
-    /// The address that it came from.
+    /// Its source address.
     pub source: [u8; 6],
     /// Its TID, 0 to 7.
     pub tid: u8,
-    /// What became of it: 1 to 5.
+    /// Its fate, 1 to 5.
     pub fate: u8,
     /// How often it was sent, at most 64.
     pub attempts: u8,
 }
 
 impl Taken {
-    // Shows a frame, with its body in a buffer that has room.
+    // Shows a frame, and its body in a buffer that has room.
     fn show(&mut self, parcel: &Parcel, body: &mut [u8])
         ensures { ShowsFrame parcel.now self.new body.old body.new }
     {
@@ -162,7 +162,7 @@ impl Taken {
         }
     }
 
-    // A frame, but for its body.
+    // A frame without its body.
     fn of(frame: &Frame) -> Taken
         ensures about { IsAbout frame.now result }
         ensures length { length frame.now.body ≤ greatest_body }
@@ -176,13 +176,13 @@ impl Taken {
             length: frame.len(),
             source: frame.source(),
             tid: frame.tid(),
-            fate: number_of_fate(frame.fate()),
+            fate: frame.fate().number(),
             attempts: frame.attempts(),
         }
     }
 }
 
-// Whether a buffer is too small: it has some room, and not for the greatest body.
+// Returns whether a buffer is too small: it has some room, but not for the longest body.
 pub(crate) fn is_small(buffer: &[u8]) -> bool
     ensures { result ≡ is_small_buffer (length buffer.now) }
 {
@@ -199,8 +199,8 @@ fn copy_to_front(octets: &[u8], buffer: &mut [u8])
     front.copy_from_slice(octets);
 }
 
-/// A packet comes for a station. Gives its refusal, 41 where a frame has no such body, or 40 where there is
-/// no memory for it; after 40 and 41 nothing has changed.
+/// Accepts a packet for a station as a frame. Returns 0; 41 if the body is empty or longer than 2304 octets;
+/// 40 if there is no memory for the frame; or the refusal of the call. After 40 and 41 nothing has changed.
 #[unsafe(no_mangle)]
 pub extern "C" fn wf_path_enqueue(
     alloc: Global,
@@ -228,9 +228,9 @@ pub extern "C" fn wf_path_enqueue(
     }
 }
 
-/// Takes the first finished frame back, with its body at the front of a buffer, and without it where the
-/// buffer has no octet. Gives the refusal, or 42 where the buffer has some room, and not for the greatest
-/// body: then nothing has changed.
+/// Takes out the first finished frame, and copies its body to the front of a buffer. A buffer of 0 octets
+/// gets no body. Returns the refusal, or 0; or 42 if the buffer has some room, but not for the longest body,
+/// and then nothing has changed.
 #[unsafe(no_mangle)]
 pub extern "C" fn wf_path_reap(
     path: &mut PathSlot,

@@ -1,9 +1,9 @@
-//! What lies behind a handle, and the calls of it.
+//! The content of a path's handle, and its calls.
 
 ghost use Rattle.std.specs.Prelude.{◌≡◌, ℕ, IfSome};
 ghost use Rattle.wf_frame.specs.Frames.{FrameValue};
 ghost use Rattle.wf_def_world.specs.World.{opening};
-ghost use Rattle.wf_send_half_refines.specs.Standing.{StandsFor};
+ghost use Rattle.wf_send_half_model.specs.Standing.{StandsFor};
 ghost use Rattle.wf_path.specs.Addresses.{made_up};
 ghost use Rattle.wf_path.specs.Jobs.{IsHeard};
 ghost use Rattle.wf_path.specs.Paths.{IsSmall};
@@ -15,7 +15,7 @@ use std::alloc::Global;
 use wf_frame::{Answer, Ask, Config};
 use wf_path::{Job, Path};
 
-/// A path, and its answer to the last call, which is lent to one call after another.
+/// A path, and the buffer that each call writes its answer to.
 #[derive(Drop)]
 pub struct Held {
     pub(crate) path: Path,
@@ -23,8 +23,8 @@ pub struct Held {
 }
 
 impl Held {
-    // A path of these settings, in a block of its own. None where a setting is out of its range, or there is
-    // no memory.
+    // A path with these settings, in its own block of memory. None if a setting is out of its range, or if
+    // there is no memory.
     pub(crate) fn made(alloc: Global, config: Config) -> Option<Box<Held, Global>>
         ensures stands { IfSome result (λ made. (bodies : ℕ → FrameValue) →
             StandsFor made.value.path.half (opening config) bodies) }
@@ -37,7 +37,7 @@ impl Held {
         }
     }
 
-    // A path in a block of its own.
+    // A path in its own block of memory.
     fn boxed(alloc: Global, path: Path) -> Option<Box<Held, Global>>
         ensures { IfSome result (λ made. made.value.path ≡ path) }
     {
@@ -48,7 +48,7 @@ impl Held {
         }
     }
 
-    // Makes a call that brings no frame, but for a reap.
+    // Makes a call that has no frame and is not a reap.
     pub(crate) fn ask(&mut self, ask: Ask) -> Reply
         requires heard { IsHeard (Call ask) }
         requires small { IsSmall self.old.path.half }

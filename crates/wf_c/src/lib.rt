@@ -1,10 +1,12 @@
-//! The transmit path as a static library for drivers and simulators in C and C++, and the cell for test
-//! benches: `include/wf.h` is the header. Exports go over a handle of the caller's, `PathSlot` or `CellSlot`:
-//! a struct that is empty or owns a boxed path, or a boxed cell.
+//! The transmit path as a static library for drivers and simulators in C and C++, and a cell for test
+//! benches. The header `include/wf.h` documents each function for callers in C.
 //!
-//! Each export but `wf_path_make` and `wf_cell_make` asks that the handle holds one, and repeats the clauses
-//! of the call that it makes; what C must uphold stands in its `requires` and in the header. A call of a cell
-//! without a frame is a struct of numbers, and so is an entry of its history.
+//! A handle, `PathSlot` or `CellSlot`, is a struct of the caller's that is empty or owns a boxed path or
+//! cell. Every export except `wf_path_make` and `wf_cell_make` requires that its handle is not empty, and has
+//! the clauses of the call that it makes. Its `requires` and the header say what a caller in C has to keep. A
+//! struct of numbers shows a call of a cell that has no frame, and an entry of a cell's history.
+//!
+//! In C, a call of a path is one function: `code = wf_path_tick(&path, 1000, &reply);`
 #![tactic(auto)]
 
 mod addresses;
@@ -46,8 +48,9 @@ pub use make::{wf_path_free, wf_path_make};
 pub use names::{wf_code_name, wf_fate_name, wf_kind_name, wf_setting_name, words_law};
 pub use pulled::Frames;
 pub use readers::{
-    Share, Tally, wf_path_can_pull, wf_path_exchanges, wf_path_live, wf_path_now,
-    wf_path_open_count, wf_path_queued, wf_path_share, wf_path_tally, wf_path_tim, wf_path_waiting,
+    Share, Tally, wf_path_can_pull, wf_path_exchanges, wf_path_has_small_counts, wf_path_listed,
+    wf_path_live, wf_path_now, wf_path_open_count, wf_path_queued, wf_path_share, wf_path_tally,
+    wf_path_tim, wf_path_waiting,
 };
 pub use reply::Reply;
 pub use settings::{Settings, wf_settings_standard};

@@ -1,4 +1,4 @@
-//! A path is made, and freed.
+//! Making and freeing a path.
 
 ghost use Rattle.std.specs.Prelude.{◌≡◌, ◌⊎◌, ℕ, None, true, is_some, pos};
 ghost use Rattle.wf_frame.specs.Frames.{FrameValue};
@@ -12,15 +12,15 @@ use crate::settings::Settings;
 use crate::slot::PathSlot;
 use std::alloc::Global;
 
-/// There is no memory.
+/// The code for "out of memory".
 pub(crate) const NO_MEMORY: i32 = 40;
 
-/// What is added to the number of a setting that is out of its range.
+/// The code of a setting that is out of its range is this plus the setting's place.
 pub(crate) const BAD_SETTING: i32 = 100;
 
-/// Makes a path of these settings in a handle that holds nothing: no station is live, no frame was accepted,
-/// and the addresses are made up. Gives 0, or 100 and the place of the first setting that is out of its
-/// range, or 40 where there is no memory; then the handle holds nothing still.
+/// Makes a path with these settings in an empty handle: no station is live, no frame was accepted, and the
+/// addresses are placeholders. Returns 0; 100 plus the place of the first setting that is out of its range;
+/// or 40 if there is no memory. After an error the handle is still empty.
 #[unsafe(no_mangle)]
 pub extern "C" fn wf_path_make(alloc: Global, path: &mut PathSlot, settings: &Settings) -> i32
     requires empty { path.old.value ≡ None }
@@ -43,7 +43,7 @@ pub extern "C" fn wf_path_make(alloc: Global, path: &mut PathSlot, settings: &Se
     }
 }
 
-/// Frees a path with all frames that it holds; the handle then holds nothing.
+/// Frees a path with all frames inside. The handle is then empty.
 #[unsafe(no_mangle)]
 pub extern "C" fn wf_path_free(alloc: Global, path: &mut PathSlot)
     requires open { is_some path.old.value ≡ true }

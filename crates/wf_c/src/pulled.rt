@@ -5,20 +5,20 @@ ghost use Rattle.wf_c.specs.Pulled.{ShowsPair, ShowsPairs, ShowsAggregate};
 
 use wf_frame::{Answer, Brief, Pairs};
 
-/// The frames of an aggregate, of which there are `count`: the id and the sequence number of each.
+/// The frames of an aggregate: the first `count` ids and sequence numbers.
 #[repr(C)]
 #[derive(Drop)]
 pub struct Frames {
-    /// The id of each.
+    /// The ids.
     pub ids: [u64; 256],
-    /// The sequence number of each, 0 to 4095.
+    /// The sequence numbers, 0 to 4095.
     pub numbers: [u16; 256],
-    /// How many they are, at most 256.
+    /// The number of frames, at most 256.
     pub count: u16,
 }
 
 impl Frames {
-    // Shows the frames of an answer that sends an aggregate, and else none.
+    // Shows the frames of an answer that sends an aggregate; otherwise sets the count to 0.
     pub(crate) fn show(&mut self, answer: &Answer)
         ensures { ShowsAggregate self.new answer.now.brief answer.now.pairs }
     {

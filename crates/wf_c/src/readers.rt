@@ -1,4 +1,4 @@
-//! What a path tells without a call of the machine.
+//! Reading a path, without a call of the machine.
 
 ghost use Rattle.std.specs.Prelude.{◌≡◌, ◌<◌, ◌⊎◌, ℕ, true, is_none, is_some, pos, length, take, drop, IfOk, IfSome, if◌then◌else◌};
 ghost use Rattle.std.specs.Result.{result_err};
@@ -10,25 +10,22 @@ ghost use Rattle.wf_def_agreement.specs.Session.{waiting_numbers};
 ghost use Rattle.wf_def_world.specs.FlowQueues.{frames_queued};
 ghost use Rattle.wf_def_world.specs.Refusals.{refusal};
 ghost use Rattle.wf_def_world.specs.Text.{traffic_map, with_traffic};
-ghost use Rattle.wf_def_world.specs.World.{World, is_live, session};
+ghost use Rattle.wf_def_world.specs.World.{World, is_live, rotation, session};
 ghost use Rattle.wf_send_half.specs.Half.{IsLive};
-ghost use Rattle.wf_send_half_refines.specs.Standing.{StandsFor, counts_in};
-ghost use Rattle.wf_c.specs.Calls.{HoldsFor};
-ghost use Rattle.wf_c.specs.Numbers.{flag_of};
+ghost use Rattle.wf_send_half_model.specs.Standing.{StandsFor, counts_in};
+ghost use Rattle.wf_send_half.specs.Listed.{list_of};
+ghost use Rattle.wf_c.specs.Calls.{HoldsFor, HoldsSmall};
+ghost use Rattle.wf_c.specs.Numbers.{flag_of, list_number};
 ghost use Rattle.wf_c.specs.Shares.{ShowsShare, counts_shown, no_station_code, session_code, session_fault};
 
 use crate::asks::class_of_number;
 use crate::held::Held;
+use crate::reply::refusal_code;
 use crate::slot::PathSlot;
-use wf_frame::Class;
+use wf_frame::{Class, Refusal};
+use wf_rotation::Side;
 
-/// No such station.
-const NO_STATION: i32 = 11;
-
-/// No such TID.
-const BAD_TID: i32 = 7;
-
-/// The accepted frames by what became of them.
+/// How many frames were accepted, and how many of them have each fate.
 #[repr(C)]
 #[derive(Clone, Copy)]
 pub struct Tally {
@@ -36,13 +33,13 @@ pub struct Tally {
     pub accepted: u64,
     /// Acknowledged.
     pub acked: u64,
-    /// Dropped since the flow queues were full.
+    /// Dropped because the flow queues were full.
     pub overlimit: u64,
     /// Dropped by CoDel.
     pub codel: u64,
     /// Dropped after their last transmission.
     pub retries: u64,
-    /// Dropped since their station left.
+    /// Dropped because their station left.
     pub left: u64,
 }
 
@@ -50,15 +47,15 @@ pub struct Tally {
 #[repr(C)]
 #[derive(Clone, Copy)]
 pub struct Share {
-    /// What it may still use, or has used too much where it is below 0.
+    /// The airtime that it may still use; below 0 if it used too much.
     pub deficit: i64,
-    /// What its exchanges took.
+    /// The airtime of its exchanges.
     pub charged: u64,
-    /// What it used itself.
+    /// The airtime that it used to send.
     pub rx: u64,
 }
 
-/// The clock, in microseconds.
+/// Returns the clock, in microseconds.
 #[unsafe(no_mangle)]
 pub extern "C" fn wf_path_now(path: &mut PathSlot) -> u64
     requires open { is_some path.old.value ≡ true }
@@ -69,7 +66,7 @@ pub extern "C" fn wf_path_now(path: &mut PathSlot) -> u64
     path.held().path.now()
 }
 
-/// How many exchanges were opened.
+/// Returns how many exchanges were opened.
 #[unsafe(no_mangle)]
 pub extern "C" fn wf_path_exchanges(path: &mut PathSlot) -> u64
     requires open { is_some path.old.value ≡ true }
@@ -80,7 +77,7 @@ pub extern "C" fn wf_path_exchanges(path: &mut PathSlot) -> u64
     path.held().path.exchanges()
 }
 
-/// How many exchanges are open, at most 32.
+/// Returns how many exchanges are open, at most 32.
 #[unsafe(no_mangle)]
 pub extern "C" fn wf_path_open_count(path: &mut PathSlot) -> u32
     requires open { is_some path.old.value ≡ true }
@@ -91,7 +88,7 @@ pub extern "C" fn wf_path_open_count(path: &mut PathSlot) -> u32
     path.held().path.open_count()
 }
 
-/// Whether a station is live: 1 or 0.
+/// Returns 1 if a station is live, else 0.
 #[unsafe(no_mangle)]
 pub extern "C" fn wf_path_live(path: &mut PathSlot, station: u16) -> i32
     requires open { is_some path.old.value ≡ true }
@@ -102,7 +99,7 @@ pub extern "C" fn wf_path_live(path: &mut PathSlot, station: u16) -> i32
     i32::from(path.held().path.live(station))
 }
 
-/// Writes the accepted frames by what became of them.
+/// Writes how many frames were accepted, and how many of them have each fate.
 #[unsafe(no_mangle)]
 pub extern "C" fn wf_path_tally(path: &mut PathSlot, tally: &mut Tally)
     requires open { is_some path.old.value ≡ true }
@@ -122,7 +119,7 @@ pub extern "C" fn wf_path_tally(path: &mut PathSlot, tally: &mut Tally)
 }
 
 impl Held {
-    // The airtime of a station in a class. None where the station is not live.
+    // The airtime of a station in a class. None if the station is not live.
     fn share(&self, station: u16, class: Class) -> Option<Share>
         ensures live { (w : World) (bodies : ℕ → FrameValue) → StandsFor self.now.path.half w bodies →
             is_some result ≡ is_live w station }
@@ -140,8 +137,8 @@ impl Held {
     }
 }
 
-/// Writes a live station's airtime in a class, and gives 0; gives 11 where it is not live, and then
-/// writes nothing.
+/// Writes a live station's airtime in a class. Returns 0; or 11 if the station is not live, and then writes
+/// nothing.
 #[unsafe(no_mangle)]
 pub extern "C" fn wf_path_share(
     path: &mut PathSlot,
@@ -163,11 +160,11 @@ pub extern "C" fn wf_path_share(
             *share = shown;
             0
         }
-        None => NO_STATION,
+        None => refusal_code(Refusal::NoStation),
     }
 }
 
-/// Whether a pull of a class would send now: 1, or 0 where it would be refused.
+/// Returns 1 if a pull of a class would send now, or 0 if it would be refused.
 #[unsafe(no_mangle)]
 pub extern "C" fn wf_path_can_pull(path: &mut PathSlot, class: u8) -> i32
     requires open { is_some path.old.value ≡ true }
@@ -178,7 +175,42 @@ pub extern "C" fn wf_path_can_pull(path: &mut PathSlot, class: u8) -> i32
     i32::from(path.held().path.can_pull(class_of_number(class)))
 }
 
-/// Why nothing is told of a station's TID.
+/// Returns the list of a class that contains a station: 1 the new list, 2 the old list, or 0 neither, as for
+/// a station that is not live.
+#[unsafe(no_mangle)]
+pub extern "C" fn wf_path_listed(path: &mut PathSlot, station: u16, class: u8) -> i32
+    requires open { is_some path.old.value ≡ true }
+    ensures world { (w : World) (bodies : ℕ → FrameValue) → HoldsFor path.old.value w bodies →
+        result ≡ pos (list_number (list_of (rotation w (class_among all_classes class)) station)) }
+    ensures unchanged { path.new.value ≡ path.old.value }
+{
+    number_of_list(path.held().path.listed(station, class_of_number(class)))
+}
+
+// The number of a list of a class; 0 for none.
+fn number_of_list(list: Option<Side>) -> i32
+    ensures { result ≡ pos (list_number list) }
+{
+    match list {
+        None => 0,
+        Some(Side::New) => 1,
+        Some(Side::Old) => 2,
+    }
+}
+
+/// Returns 1 if the counts of the path are below 2^62, as each call requires, else 0.
+#[unsafe(no_mangle)]
+pub extern "C" fn wf_path_has_small_counts(path: &mut PathSlot) -> i32
+    requires open { is_some path.old.value ≡ true }
+    ensures small { result ≡ pos 1 → HoldsSmall path.old.value }
+    ensures large { HoldsSmall path.old.value → result ≡ pos 1 }
+    ensures flag { (result ≡ pos 0) ⊎ (result ≡ pos 1) }
+    ensures unchanged { path.new.value ≡ path.old.value }
+{
+    i32::from(path.held().path.has_small_counts())
+}
+
+/// Why a station's TID has no session.
 #[derive(Clone, Copy)]
 pub(crate) enum NoSession {
     /// The TID is above 7.
@@ -188,7 +220,7 @@ pub(crate) enum NoSession {
 }
 
 impl Held {
-    // Whether something is told of a station's TID: the TID is one, and the station live.
+    // Checks that a station's TID has a session: the TID is at most 7, and the station is live.
     fn find_session(&self, station: u16, tid: u8) -> Result<(), NoSession>
         ensures live { IfOk result (λ _. IsLive self.now.path.half station) }
         ensures tid { IfOk result (λ _. tid < 8) }
@@ -204,7 +236,7 @@ impl Held {
         Ok(())
     }
 
-    // How many frames of a live station's TID are in flow queues.
+    // Returns how many frames of a live station's TID are in flow queues.
     fn queued(&self, station: u16, tid: u8) -> Result<u32, NoSession>
         ensures shown { IfOk result (λ count. (w : World) (bodies : ℕ → FrameValue) →
             StandsFor self.now.path.half w bodies → count ≡ frames_queued w station tid) }
@@ -215,7 +247,7 @@ impl Held {
         Ok(self.path.queued(station, tid))
     }
 
-    // How many numbers of a live station's TID wait to be sent.
+    // Returns how many numbers of a live station's TID wait to be sent.
     fn waiting(&self, station: u16, tid: u8) -> Result<u32, NoSession>
         ensures shown { IfOk result (λ count. (w : World) (bodies : ℕ → FrameValue) →
             StandsFor self.now.path.half w bodies →
@@ -228,8 +260,8 @@ impl Held {
     }
 }
 
-/// Writes how many frames of a live station's TID are in flow queues, and gives 0; gives 7 where the TID is
-/// above 7, and else 11 where the station is not live, and then writes nothing.
+/// Writes how many frames of a live station's TID are in flow queues. Returns 0; 7 if the TID is above 7; or
+/// else 11 if the station is not live. After an error it writes nothing.
 #[unsafe(no_mangle)]
 pub extern "C" fn wf_path_queued(path: &mut PathSlot, station: u16, tid: u8, count: &mut u32) -> i32
     requires open { is_some path.old.value ≡ true }
@@ -245,13 +277,13 @@ pub extern "C" fn wf_path_queued(path: &mut PathSlot, station: u16, tid: u8, cou
             *count = found;
             0
         }
-        Err(NoSession::BadTid) => BAD_TID,
-        Err(NoSession::NoStation) => NO_STATION,
+        Err(NoSession::BadTid) => refusal_code(Refusal::BadTid),
+        Err(NoSession::NoStation) => refusal_code(Refusal::NoStation),
     }
 }
 
-/// Writes how many numbers of a live station's TID wait to be sent, and gives 0; gives 7 where the TID is
-/// above 7, and else 11 where the station is not live, and then writes nothing.
+/// Writes how many numbers of a live station's TID wait to be sent. Returns 0; 7 if the TID is above 7; or
+/// else 11 if the station is not live. After an error it writes nothing.
 #[unsafe(no_mangle)]
 pub extern "C" fn wf_path_waiting(
     path: &mut PathSlot,
@@ -272,12 +304,13 @@ pub extern "C" fn wf_path_waiting(
             *count = found;
             0
         }
-        Err(NoSession::BadTid) => BAD_TID,
-        Err(NoSession::NoStation) => NO_STATION,
+        Err(NoSession::BadTid) => refusal_code(Refusal::BadTid),
+        Err(NoSession::NoStation) => refusal_code(Refusal::NoStation),
     }
 }
 
-/// Writes the TIM element of the live stations that sleep and have traffic, and gives how many octets it has.
+/// Writes the TIM element (IEEE 802.11-2012, 8.4.2.7) of the live stations that sleep and have traffic, and
+/// returns its size in octets.
 #[unsafe(no_mangle)]
 pub extern "C" fn wf_path_tim(path: &mut PathSlot, out: &mut [u8; 256]) -> usize
     requires open { is_some path.old.value ≡ true }

@@ -1,13 +1,15 @@
-//! What a call answers, as numbers in a struct of the caller's.
+//! The answer to a call, as numbers in a struct of the caller's.
 
-ghost use Rattle.std.specs.Prelude.{◌≡◌};
+ghost use Rattle.std.specs.Prelude.{◌≡◌, pos};
 ghost use Rattle.wf_frame.specs.Classes.{class_number};
-ghost use Rattle.wf_frame.specs.declared.answers.Brief.TheVariants.{Send, Ended, Reaped};
-ghost use Rattle.wf_c.specs.Numbers.{blank, numbers_of, refusal_number, with_refusal, fate_number, with_dropped, with_request_start};
+ghost use Rattle.wf_frame.specs.Refusals.{refusal_number};
+ghost use Rattle.wf_frame.specs.declared.answers.Brief.TheVariants.{Send, Done, Reaped};
+ghost use Rattle.wf_c.specs.Numbers.{blank, numbers_of, with_refusal, with_dropped, with_request_start};
 
-use wf_frame::{Brief, Cause, Class, Fate, Refusal};
+use wf_frame::{Brief, Class, Fate, Refusal};
 
-/// An answer. `kind` says which one, and which other fields mean something; those are 0 that mean nothing.
+/// The answer to a call. `kind` says which answer it is, and which other fields have a meaning; all others
+/// are 0.
 #[repr(C)]
 #[derive(Clone, Copy)]
 pub struct Reply {
@@ -15,45 +17,45 @@ pub struct Reply {
     pub exchange: u64,
     /// The id of the frame that was accepted or reaped.
     pub id: u64,
-    /// The id of the frame that was dropped for the limit, where `has_dropped` is 1.
+    /// The id of the frame that was dropped because the flow queues were full, if `has_dropped` is 1.
     pub dropped: u64,
     /// The clock, in microseconds.
     pub now: u64,
-    /// The deficit after the charge, in microseconds; of the refusal `Debt` the one that stays.
+    /// The deficit after the charge, in microseconds; for the refusal `Debt` the unchanged one.
     pub deficit: i64,
-    /// What the exchange to send takes of the air, in microseconds.
+    /// The airtime of the exchange to send, in microseconds.
     pub air: u32,
-    /// How many frames a station that left had; of a refusal, how many are open, inside or queued.
+    /// The number of frames that a leave dropped; for a refusal, how many are open, inside or queued.
     pub count: u32,
     /// The station to send to.
     pub station: u16,
-    /// The start of the BlockAckReq to send, where `request` is 1: 0 to 4095.
+    /// The start of the BlockAckReq to send, 0 to 4095, if `request` is 1.
     pub start: u16,
-    /// How many frames of the exchange are acknowledged.
+    /// The number of the exchange's frames that are acknowledged.
     pub acked: u16,
-    /// How many of them wait again.
+    /// The number of its frames that wait to be sent again.
     pub waiting: u16,
-    /// How many of them are dropped.
+    /// The number of its frames that are dropped.
     pub failed: u16,
-    /// Which answer: 0 to 14.
+    /// The kind of answer: 0 to 14.
     pub kind: u8,
-    /// Why the call was refused: 1 to 27, and 0 where it was not.
+    /// Why the call was refused: 1 to 27, or 0 if it was not.
     pub refusal: u8,
     /// The TID to send for: 0 to 7.
     pub tid: u8,
     /// The class of the credit: 0 to 3.
     pub class: u8,
-    /// What became of the frame that was reaped: 0 to 5.
+    /// The fate of the frame that was reaped: 0 to 5.
     pub fate: u8,
-    /// 1 where a frame was dropped for the limit.
+    /// 1 if a frame was dropped because the flow queues were full, else 0.
     pub has_dropped: u8,
-    /// 1 where a BlockAckReq is to be sent, in place of frames.
+    /// 1 if the exchange sends a BlockAckReq instead of frames, else 0.
     pub request: u8,
-    /// 1 where the station has more to be sent (the More Data bit).
+    /// 1 if the station has more to be sent (the More Data bit), else 0.
     pub more: u8,
 }
 
-/// The answer of no kind of its own.
+/// All fields 0.
 const BLANK: Reply = Reply {
     exchange: 0,
     id: 0,
@@ -78,18 +80,18 @@ const BLANK: Reply = Reply {
 };
 
 impl Reply {
-    // The numbers of an answer.
+    // The fields of an answer.
     pub(crate) fn of(brief: Brief) -> Reply
         ensures { result ≡ numbers_of brief }
     {
         match brief {
             Brief::Joined => of_kind(0),
-            Brief::Gone { dropped } => Reply {
+            Brief::Left { dropped } => Reply {
                 count: dropped,
                 ..of_kind(1)
             },
-            Brief::RateSet => of_kind(2),
-            Brief::Ticked { now } => Reply { now, ..of_kind(3) },
+            Brief::Set => of_kind(2),
+            Brief::Now { now } => Reply { now, ..of_kind(3) },
             Brief::Accepted { id, dropped } => accepted(id, dropped),
             Brief::Send {
                 exchange,
@@ -101,14 +103,14 @@ impl Reply {
             } => sending(exchange, station, tid, air, request, more),
             Brief::Released => of_kind(6),
             Brief::Ba { .. } => of_kind(7),
-            Brief::Ended {
+            Brief::Done {
                 acked,
                 waiting,
                 failed,
             } => ended(acked, waiting, failed),
             Brief::Slept => of_kind(9),
             Brief::Woken => of_kind(10),
-            Brief::Credited { class } => Reply {
+            Brief::Polled { class } => Reply {
                 class: number_of_class(class),
                 ..of_kind(11)
             },
@@ -122,14 +124,14 @@ impl Reply {
     }
 }
 
-// An answer of a kind that says no more.
+// An answer with no field except its kind.
 fn of_kind(kind: u8) -> Reply
     ensures { result ≡ record blank { kind = kind } }
 {
     Reply { kind, ..BLANK }
 }
 
-// A frame was accepted, and maybe another dropped.
+// The answer to an enqueue.
 fn accepted(id: u64, dropped: Option<u64>) -> Reply
     ensures { result ≡ with_dropped dropped (record blank { kind = 4; id = id }) }
 {
@@ -144,7 +146,7 @@ fn accepted(id: u64, dropped: Option<u64>) -> Reply
     }
 }
 
-// An exchange is to be sent, and maybe its BlockAckReq.
+// The answer to a pull, with only the start of its BlockAckReq, if it has one.
 fn requested(request: Option<u16>) -> Reply
     ensures { result ≡ with_request_start request (record blank { kind = 5 }) }
 {
@@ -158,7 +160,7 @@ fn requested(request: Option<u16>) -> Reply
     }
 }
 
-// An exchange is to be sent.
+// The answer to a pull.
 fn sending(
     exchange: u64,
     station: u16,
@@ -179,9 +181,9 @@ fn sending(
     }
 }
 
-// An exchange has ended.
+// The answer to the end of an exchange.
 fn ended(acked: u16, waiting: u16, failed: u16) -> Reply
-    ensures { result ≡ numbers_of (Ended acked waiting failed) }
+    ensures { result ≡ numbers_of (Done acked waiting failed) }
 {
     Reply {
         acked,
@@ -191,18 +193,18 @@ fn ended(acked: u16, waiting: u16, failed: u16) -> Reply
     }
 }
 
-// A frame was reaped.
+// The answer to a reap.
 fn reaped(id: u64, fate: Fate) -> Reply
     ensures { result ≡ numbers_of (Reaped id fate) }
 {
     Reply {
         id,
-        fate: number_of_fate(fate),
+        fate: fate.number(),
         ..of_kind(13)
     }
 }
 
-// A call was refused.
+// The answer to a refused call.
 fn refused(refusal: Refusal) -> Reply
     ensures { result ≡ with_refusal refusal (record blank { kind = 14; refusal = refusal_number refusal }) }
 {
@@ -211,7 +213,7 @@ fn refused(refusal: Refusal) -> Reply
         ..of_kind(14)
     };
     match refusal {
-        Refusal::StillOpen { count } => Reply { count, ..reply },
+        Refusal::Open { count } => Reply { count, ..reply },
         Refusal::Room { inside } => Reply {
             count: inside,
             ..reply
@@ -226,23 +228,16 @@ fn refused(refusal: Refusal) -> Reply
     }
 }
 
-// The number of a class, the least urgent first: 0 to 3.
+// The number of a class, 0 to 3, from the least urgent on.
 pub(crate) fn number_of_class(class: Class) -> u8
     ensures { result ≡ class_number class }
 {
     class.number() as u8
 }
 
-// The number of a fate: 0 to 5.
-pub(crate) fn number_of_fate(fate: Fate) -> u8
-    ensures { result ≡ fate_number fate }
+// The code of a refusal: its number.
+pub(crate) fn refusal_code(refusal: Refusal) -> i32
+    ensures { result ≡ pos (refusal_number refusal) }
 {
-    match fate {
-        Fate::Held => 0,
-        Fate::Acked => 1,
-        Fate::Dropped(Cause::Overlimit) => 2,
-        Fate::Dropped(Cause::Codel) => 3,
-        Fate::Dropped(Cause::Retries) => 4,
-        Fate::Dropped(Cause::Left) => 5,
-    }
+    i32::from(refusal.number())
 }

@@ -1,9 +1,10 @@
-//! The handle that a C program keeps.
+//! The handle of a path.
 
 ghost use Rattle.std.specs.Prelude.{◌≡◌, Option, Some, None, true, is_some};
 ghost use Rattle.std.specs.Borrow.{sem};
 ghost use Rattle.wf_c.specs.Slots.{slot_owns};
 ghost use Rattle.wf_c.specs.declared.held.Held.{Held as HeldValue};
+ghost use Rattle.wf_c.specs.contracts.held.Held.{the_row as held_row};
 
 use crate::held::Held;
 use std::alloc::Global;
@@ -11,7 +12,7 @@ use std::marker::{Model, Send};
 use std::mem::replace;
 use wf_queue_parts::chain::Unboxed;
 
-/// A path's handle: the caller's own struct, which is empty or holds a path.
+/// The handle of a path: a struct of the caller's that is empty or holds a path.
 #[repr(C)]
 pub struct PathSlot {
     at: *mut u8,
@@ -20,16 +21,16 @@ pub struct PathSlot {
 }
 
 impl Model for PathSlot {
-    ghost also_owns = { λ s. slot_owns s.alloc s.at s.value };
+    ghost also_owns = { λ s. slot_owns held_row s.alloc s.at s.value };
 }
 
-// A handle may go from thread to thread.
+// A handle may be sent to another thread.
 unsafe impl Send for PathSlot {}
 
 impl PathSlot {
     ghost use Rattle.wf_c.specs.Lending.{LendsHeld};
 
-    // A handle that holds nothing.
+    // An empty handle.
     pub(crate) fn empty(alloc: Global) -> PathSlot
         ensures { result.value ≡ None }
     {
@@ -39,7 +40,7 @@ impl PathSlot {
         }
     }
 
-    // A handle that holds this.
+    // A handle that holds this path.
     pub(crate) fn full(owned: Unboxed<Held, Global>) -> PathSlot
         ensures { result.value ≡ Some owned.value }
     {
@@ -50,7 +51,7 @@ impl PathSlot {
         }
     }
 
-    // What a handle holds.
+    // The content of a handle.
     pub(crate) fn into_unboxed(self) -> Unboxed<Held, Global>
         requires { is_some self.value ≡ true }
         ensures { self.value ≡ Some result.value }
@@ -62,14 +63,14 @@ impl PathSlot {
         }
     }
 
-    // Ends a handle that holds nothing.
+    // Ends an empty handle.
     pub(crate) fn end(self)
         requires { self.value ≡ None }
     {
         let PathSlot { at: _, alloc: _ } = self;
     }
 
-    // Takes out what a handle holds.
+    // Takes out the content of a handle.
     pub(crate) fn take(&mut self, alloc: Global) -> Box<Held, Global>
         requires { is_some self.old.value ≡ true }
         ensures taken { self.old.value ≡ Some result.value }
@@ -80,7 +81,7 @@ impl PathSlot {
             .into_box()
     }
 
-    // Puts this into a handle that holds nothing.
+    // Puts a path into an empty handle.
     pub(crate) fn put(&mut self, held: Box<Held, Global>)
         requires { self.old.value ≡ None }
         ensures { self.new.value ≡ Some held.value }
@@ -88,7 +89,7 @@ impl PathSlot {
         replace(self, PathSlot::full(Unboxed::of(held))).end();
     }
 
-    // What a handle holds, in its place; what is left behind the reference is what the handle then holds.
+    // Borrows the content of a handle. The handle then holds the last value at the reference.
     pub(crate) fn held(&mut self) -> &mut Held
         requires { is_some self.old.value ≡ true }
         ensures* writes_back { sem 𝓛 (LendsHeld self.entry result) }

@@ -1,17 +1,17 @@
-//! The version of the header that the library belongs to.
+//! The version of the library and of its header.
 
 ghost use Rattle.std.specs.Prelude.{◌≡◌};
 ghost use Rattle.wf_c.specs.Versions.{this_version};
 
-/// A version by its three numbers.
+/// A version in three parts.
 #[repr(C)]
 #[derive(Clone, Copy)]
 pub struct Version {
-    /// With another one anything may change.
+    /// If it differs, anything may have changed.
     pub major: u16,
-    /// With another one there may be more: what was built before goes on as it was.
+    /// If it is greater, there may be more, and older programs run unchanged.
     pub minor: u16,
-    /// With another one nothing changes of what the header says.
+    /// If it differs, nothing that the header says has changed.
     pub patch: u16,
 }
 

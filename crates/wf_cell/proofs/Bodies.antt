@@ -1,4 +1,4 @@
--- The bodies that a half has after a call.
+-- Proves which bodies a transmit half has after a call. By cases of the job and of its reply.
 use Rattle.std.proofs.Common.{◌≡◌, refl, ap, sym, ◌∙◌, subst, ℕ, ◌==◌, Bool, true, false, if◌then◌else◌, List, Option, Some, None, IfSome, is_some}
 use Rattle.wf_frame.specs.Frames.{FrameValue}
 use Rattle.wf_frame.specs.declared.classes.Fate.{Fate}
@@ -16,11 +16,11 @@ use Rattle.wf_send_parts.specs.Tally.{Counts}
 use Rattle.wf_queue_flows_refines.specs.Frames.{with_body}
 use Rattle.wf_send_half.specs.Enqueues.{as_accepted}
 use Rattle.wf_send_half.specs.Replies.{bodies_sent}
-use Rattle.wf_send_half_refines.specs.Half.{TransmitValue, body_of}
-use Rattle.wf_send_half_refines.specs.Standing.{StandsFor}
-use Rattle.wf_send_half_refines.specs.Inside.{is_held_id, is_inside, inside_after, body_inside}
-use Rattle.wf_send_half_refines.proofs.Inside.{next_id, inside_reached}
-use Rattle.wf_send_half_refines.proofs.Frames.{bodies_are}
+use Rattle.wf_send_half_model.specs.Half.{TransmitValue, body_of}
+use Rattle.wf_send_half_model.specs.Standing.{StandsFor}
+use Rattle.wf_send_half_model.specs.Inside.{is_held_id, is_inside, inside_after, body_inside}
+use Rattle.wf_send_half_model.proofs.Inside.{next_id, inside_reached}
+use Rattle.wf_send_half_model.proofs.Frames.{bodies_are}
 use Rattle.wf_send_parts.proofs.Sending.{all_sent_keep}
 use Rattle.wf_path.specs.declared.job.Job.{Job}
 use Rattle.wf_path.specs.declared.job.Job.TheVariants.{Give, Call}
@@ -28,7 +28,7 @@ use Rattle.wf_path.specs.Jobs.{bodies_after, frame_given_back, note_of}
 use Rattle.wf_cell.specs.Bodies.{body_after}
 use Rattle.wf_cell.proofs.Rights.{on_the_list}
 
--- what a pull sends keeps its body
+-- a pull does not change the body of a frame that it sends
 sent_body : (answered : ReplyNote) (bodies : ℕ → FrameValue) (id : ℕ) →
     (bodies_sent answered bodies id).body ≡ (bodies id).body
 sent_body (reply.Send exchange station tid air (Mpdus pairs) more) bodies id =
@@ -41,11 +41,11 @@ called_body v (ask.Pull class) answered bodies id = sent_body answered bodies id
 called_body v _ answered bodies id = refl
 
 module _ (v : TransmitValue) (w : World) (bodies : ℕ → FrameValue) (stands : StandsFor v w bodies) where
-  -- an id that stays where it was
+  -- an id whose body is unchanged
   stays : (id : ℕ) → body_inside w bodies id ≡ body_of v id
   stays id = sym (bodies_are v w bodies stands id)
 
-  -- the frame of a new id comes in
+  -- a new id gets the body of its frame
   comes : (f : FrameValue) (new id : ℕ) → new ≡ v.tally.accepted →
       (if (if id == new then true else is_inside w id) then Some (with_body bodies (as_accepted v f) id).body
       else None) ≡ (if id == new then Some f.body else body_of v id)
@@ -65,7 +65,7 @@ module _ (v : TransmitValue) (w : World) (bodies : ℕ → FrameValue) (stands :
           then Some (if b then as_accepted v f else bodies id).body else None)
           ≡ (if b then Some f.body else body_of v id)) (sym e) (stays id)
 
-  -- a reaped id goes out
+  -- a reaped id loses its body
   goes : (gone id : ℕ) → (if (if id == gone then false else is_inside w id) then Some (bodies id).body
       else None) ≡ (if id == gone then None else body_of v id)
   goes gone id = of (id == gone)
@@ -75,22 +75,22 @@ module _ (v : TransmitValue) (w : World) (bodies : ℕ → FrameValue) (stands :
       of true = refl
       of false = stays id
 
-  -- a call that brings no frame, as far as it concerns bodies
+  -- the bodies after a call without a frame
   by_call : (ask : Ask) (answered : ReplyNote) (id : ℕ) →
       (if inside_after w answered (Asked ask) id then Some (bodies id).body else None)
       ≡ body_after v answered (Call ask) id
   by_call ask reply.Joined id = stays id
-  by_call ask (reply.Gone dropped) id = stays id
-  by_call ask reply.RateSet id = stays id
-  by_call ask (reply.Ticked now) id = stays id
+  by_call ask (reply.Left dropped) id = stays id
+  by_call ask reply.Set id = stays id
+  by_call ask (reply.Now now) id = stays id
   by_call ask (reply.Accepted new dropped) id = stays id
   by_call ask (reply.Send exchange station tid air part more) id = stays id
   by_call ask (reply.Released ids) id = stays id
   by_call ask (reply.Ba start b0 b1 b2 b3 wide) id = stays id
-  by_call ask (reply.Ended acked waiting failed) id = stays id
+  by_call ask (reply.Done acked waiting failed) id = stays id
   by_call ask reply.Slept id = stays id
   by_call ask reply.Woken id = stays id
-  by_call ask (reply.Credited class) id = stays id
+  by_call ask (reply.Polled class) id = stays id
   by_call ask (reply.Charged deficit) id = stays id
   by_call ask (reply.Reaped gone fate) id = goes gone id
   by_call ask (reply.Refused reason) id = stays id
@@ -101,17 +101,17 @@ module _ (v : TransmitValue) (w : World) (bodies : ℕ → FrameValue) (stands :
       (if inside_after w answered (note_of job) id then Some (bodies_after v job answered bodies id).body
       else None) ≡ body_after v answered job id
   by_reply (Give f) reply.Joined id next = stays id
-  by_reply (Give f) (reply.Gone dropped) id next = stays id
-  by_reply (Give f) reply.RateSet id next = stays id
-  by_reply (Give f) (reply.Ticked now) id next = stays id
+  by_reply (Give f) (reply.Left dropped) id next = stays id
+  by_reply (Give f) reply.Set id next = stays id
+  by_reply (Give f) (reply.Now now) id next = stays id
   by_reply (Give f) (reply.Accepted new dropped) id next = comes f new id (next f new dropped refl refl)
   by_reply (Give f) (reply.Send exchange station tid air part more) id next = stays id
   by_reply (Give f) (reply.Released ids) id next = stays id
   by_reply (Give f) (reply.Ba start b0 b1 b2 b3 wide) id next = stays id
-  by_reply (Give f) (reply.Ended acked waiting failed) id next = stays id
+  by_reply (Give f) (reply.Done acked waiting failed) id next = stays id
   by_reply (Give f) reply.Slept id next = stays id
   by_reply (Give f) reply.Woken id next = stays id
-  by_reply (Give f) (reply.Credited class) id next = stays id
+  by_reply (Give f) (reply.Polled class) id next = stays id
   by_reply (Give f) (reply.Charged deficit) id next = stays id
   by_reply (Give f) (reply.Reaped gone fate) id next = goes gone id
   by_reply (Give f) (reply.Refused reason) id next = stays id
@@ -135,7 +135,7 @@ bodies_then v u w bodies job answered stands told after id =
     (ap (λ (j : Job). (step w (note_of j)).reply) (sym is) ∙ sym told ∙ said)
     ∙ sym (ap (λ (c : Counts). c.accepted) stands.parts.others.tally))
 
--- the frame that a reap hands back has the body that its id had
+-- the frame that a reap returns has the body of its id
 pub reaped_body : (v : TransmitValue) (w : World) (bodies : ℕ → FrameValue) (job : Job) (answered : ReplyNote)
     (back : Option FrameValue) → StandsFor v w bodies → answered ≡ (step w (note_of job)).reply →
     back ≡ frame_given_back bodies job answered →
@@ -167,7 +167,7 @@ reaped_body v w bodies job answered back stands told given id fate is =
     of (Call (ask.Poll s)) e = tt
     of (Call (ask.Rx s c air)) e = tt
 
--- the ids that have a body are those inside
+-- an id has a body exactly if its frame is inside
 pub ids_inside : (v : TransmitValue) (w : World) (bodies : ℕ → FrameValue) → StandsFor v w bodies → (id : ℕ) →
     is_some (body_of v id) ≡ is_inside w id
 ids_inside v w bodies stands id = ap is_some (bodies_are v w bodies stands id) ∙ of (is_inside w id)

@@ -1,4 +1,4 @@
--- What each call of an engine leads to, by what its path, its receive halves and its marks make of it.
+-- Proves the effect of each call on an engine, from the effect on its path, its receive halves and its marks.
 use Rattle.std.proofs.Common.{◌≡◌, refl, ap, sym, ◌∙◌, subst, ℕ, ◌<◌, ◌++◌, Bool, true, false, List, [], ◌∷◌, Option, Some, None, length}
 use Rattle.std.specs.Prelude.{is_none, ◌||◌, All}
 use Rattle.wf_frame.specs.Answers.{reply_with}
@@ -19,25 +19,25 @@ use Rattle.wf_def_world.specs.Exchanges.{picked_station, after_pick, after_tid_t
 use Rattle.wf_def_world.specs.Refusals.{refusal, refusals}
 use Rattle.wf_def_world.specs.Step.{Outcome, outcome_of, outcome_where_open, join_outcome, done_outcome, pull_outcome, pull_outcome_for, send_outcome, step}
 use Rattle.wf_law_runs.proofs.Deficits.KeptStep.{no_row}
-use Rattle.wf_send_parts.specs.declared.exchanges.marks.Mark.{Mark}
-use Rattle.wf_send_parts.specs.Marks.{new_mark}
+use Rattle.wf_recv_marks.specs.declared.marks.Mark.{Mark}
+use Rattle.wf_recv_marks.specs.Marks.{new_mark}
 use Rattle.wf_octets.specs.Addresses.{base}
 use Rattle.wf_recv_peer.specs.Agreements.{PeerValue, new_peer}
-use Rattle.wf_send_half_refines.specs.Half.{TransmitValue}
-use Rattle.wf_send_half_refines.specs.Standing.{StandsFor, IsReached, Meets as PathMeets}
-use Rattle.wf_send_half_refines.proofs.Reached.{step_done, step_refused}
+use Rattle.wf_send_half_model.specs.Half.{TransmitValue}
+use Rattle.wf_send_half_model.specs.Standing.{StandsFor, IsReached, Meets as PathMeets}
+use Rattle.wf_send_half_model.proofs.Reached.{step_done, step_refused}
 use Rattle.wf_path.specs.declared.job.Job.{Job}
 use Rattle.wf_path.specs.declared.job.Job.TheVariants.{Call}
 use Rattle.wf_path.specs.Jobs.{IsHeard, note_of, bodies_after, changes_nothing, frame_given_back}
-use Rattle.wf_recv_refines.specs.Arriving.{IsUntold}
-use Rattle.wf_recv_refines.specs.Hearing.{Hears, HasAddresses, with_peer, peer_of}
+use Rattle.wf_cell_model.specs.Arriving.{IsUntold}
+use Rattle.wf_cell_model.specs.Hearing.{Hears, HasAddresses, with_peer, peer_of}
 use Rattle.wf_cell.specs.Engines.{EngineValue, EngineIsIn, IsJobDone, EngineMeets}
 use Rattle.wf_cell.specs.Cells.{is_received}
-use Rattle.wf_recv_refines.proofs.Keeping.{untold_hears, refused_hears}
-use Rattle.wf_recv_refines.proofs.Joining.{joined_hears, station_in_range}
-use Rattle.wf_recv_refines.proofs.Opening.{opened_hears, opened_number, marks_within, marks_below}
+use Rattle.wf_cell_model.proofs.Keeping.{untold_hears, refused_hears}
+use Rattle.wf_cell_model.proofs.Joining.{joined_hears, station_in_range}
+use Rattle.wf_cell_model.proofs.Opening.{opened_hears, opened_number, marks_within, marks_below}
 
--- ---- what the path makes of a job, and what comes back
+-- ---- the path's effect of a job, and the returned frame
 
 pub record PathTakes (before : TransmitValue) (job : Job) (after : TransmitValue) (answered : ReplyNote)
     (back : Option FrameValue) : Type 0 where
@@ -46,7 +46,7 @@ pub record PathTakes (before : TransmitValue) (job : Job) (after : TransmitValue
   pub parcel : (w : World) (bodies : ℕ → FrameValue) → StandsFor before w bodies →
       back ≡ frame_given_back bodies job answered
 
--- a job that no receive half and no mark hears of
+-- a job that changes no receive half and no mark
 pub untold_done : (v : EngineValue) (job : Job) (after : TransmitValue) (answered : ReplyNote)
     (back : Option FrameValue) → PathTakes v.half job after answered back → IsUntold (note_of job) →
     (w : World) (bodies : ℕ → FrameValue) → EngineIsIn v w bodies →
@@ -63,7 +63,7 @@ untold_done v job after answered back path untold w bodies i =
       back = path.parcel w bodies i.half;
     }
 
--- a job without a frame, by what its call leads to; it is none that gives a frame back
+-- a job without a frame that returns no frame, from the effect of its call
 pub ask_done : (v u : EngineValue) (a : Ask) (answered : ReplyNote) →
     ((bodies : ℕ → FrameValue) → frame_given_back bodies (Call a) answered ≡ None) →
     ((w : World) (bodies : ℕ → FrameValue) → EngineIsIn v w bodies →
@@ -75,7 +75,7 @@ ask_done v u a answered none meets w bodies i =
 
 -- ---- refusals and replies
 
--- a call whose reply is no refusal is not refused
+-- a call whose reply is not a refusal is not refused
 pub not_refused : (w : World) (note : Note) → ((r : Refusal) → (step w note).reply ≡ reply.Refused r → ⊥) →
     refusal w note ≡ None
 not_refused w note other = of (refusal w note) refl
@@ -89,7 +89,7 @@ pub record IsRefused (w : World) (note : Note) : Type 0 where
   pub reason : Refusal
   pub refused : refusal w note ≡ Some reason
 
--- a call whose reply is not that of what it does is refused
+-- a call that is not accepted is refused
 pub refused_else : (w : World) (note : Note) → (refusal w note ≡ None → ⊥) → IsRefused w note
 refused_else w note other = of (refusal w note) refl
   where
@@ -101,7 +101,7 @@ done_reply : (w : World) (note : Note) → refusal w note ≡ None →
     (step w note).reply ≡ (outcome_of w note).reply
 done_reply w note e = ap (λ (o : Outcome). o.reply) (step_done w note e)
 
--- a Done that is not refused answers so
+-- a Done that is not refused has a reply that is not a refusal
 open_ends : (w : World) (heard : Bool) (air : Option ℕ) (o : Option Exchange) →
     changes_nothing (outcome_where_open w o (λ x. done_outcome w x heard air)).reply ≡ false
 unfolding outcome_where_open done_outcome
@@ -116,7 +116,7 @@ ended_reply w e heard air done =
     ap changes_nothing (done_reply w (Asked (ask.Done e heard air)) done)
     ∙ open_ends w heard air (exchange w e)
 
--- a refused call leads to where it was, with the same receive halves and marks
+-- a refused call leaves the receive halves and the marks unchanged
 pub refused_meets : (v : EngineValue) (after : TransmitValue) (note : Note) (answered : ReplyNote) (w : World)
     (bodies others : ℕ → FrameValue) → EngineIsIn v w bodies → PathMeets w others note after answered →
     IsRefused w note → EngineMeets w others note (record v { half = after }) answered
@@ -180,7 +180,7 @@ joined_meets v after answered w bodies s window start exponent weight number i m
 
 -- ---- a pull
 
--- an exchange opens: its number, and all else that is told of it
+-- the reply says that an exchange opens, and has these numbers
 pub record IsSend (answered : ReplyNote) : Type 0 where
   pub number : ℕ
   pub station : ℕ
@@ -237,7 +237,7 @@ module _ (w : World) (c : Class) (r : IsReached w) (answered : ReplyNote)
   number_is = opened_number w c sent.number sent.station sent.tid sent.charge sent.part sent.more r
       (sym same ∙ sent.is)
 
--- an exchange that opens has a mark, for which there is room
+-- an exchange that opens has a mark
 pub pulled_meets : (v : EngineValue) (after : TransmitValue) (answered : ReplyNote) (w : World)
     (bodies others : ℕ → FrameValue) (c : Class) → EngineIsIn v w bodies →
     PathMeets w others (Asked (ask.Pull c)) after answered → (sent : IsSend answered) →
@@ -255,7 +255,7 @@ pulled_meets v after answered w bodies others c i m sent = record {
   reply = m.reply;
 }
 
--- room for the mark, and its number above all others
+-- there is room for the mark, and its number is above all others
 pub record HasPlaceFor (marks : List Mark) (number : ℕ) : Type 0 where
   pub room : length marks < 32
   pub above : All (λ k. k.number < number) marks
@@ -284,7 +284,7 @@ pub send_brief : (b : Brief) (pairs : List (ℕ × ℕ)) (ids : List ℕ) → Is
 send_brief (brief.Send e s t a r m) pairs ids sent other = other e s t a r m refl
 send_brief _ pairs ids sent other = cc (sent.is)
 
--- ---- asks that neither a receive half nor a mark hears of
+-- ---- calls that change neither a receive half nor a mark
 
 pub record NotTold (a : Ask) : Type 0 where
   pub arrive : (e i : ℕ) → a ≡ ask.Arrive e i → ⊥
@@ -307,7 +307,7 @@ other_untold (ask.Join s window start exponent weight) n = n.join s window start
 other_untold (ask.Pull c) n = n.pull c refl
 other_untold _ n = tt
 
--- of a call of the path alone, it is the reply that tells whether it leaves the path as it is
+-- for a call of the path alone, the reply says whether the path is unchanged
 pub path_kept_by : (a : Ask) (answered : ReplyNote) → NotTold a →
     (is_received (Call a) || changes_nothing answered) ≡ true → changes_nothing answered ≡ true
 path_kept_by (ask.Arrive e i) answered n is = absurd (n.arrive e i refl)

@@ -1,5 +1,5 @@
--- Open exchanges: what arrives of them, what is answered, and their ends, by the marks and by what the path
--- tells of them.
+-- Proves the effect of an Arrive, an Answer and a Done on an engine, from its marks and from what its path
+-- sends.
 use Rattle.std.proofs.Common.{◌≡◌, refl, ap, sym, ◌∙◌, subst, ℕ, ◌<◌, ◌≤◌, Bool, true, false, List, Option, Some, None, IfSome, length, arith}
 use Rattle.std.specs.Prelude.{◌==◌, IfNone, not, filter, option_map, option_and_then, is_none, nat_le, nat_lt, ◌&&◌, if◌then◌else◌}
 use Rattle.std.proofs.lemmas.Bool.{leb-false}
@@ -17,40 +17,41 @@ use Rattle.wf_def_agreement.specs.Receiver.{Score}
 use Rattle.wf_def_lists.specs.Table.{bits_word}
 use Rattle.wf_def_world.specs.World.{World, Exchange, Content, Frames, Request, exchange}
 use Rattle.wf_def_world.specs.Exchanges.{transmissions, mpdus_of}
-use Rattle.wf_def_world.specs.Refusals.{refusal, refusals, exchange_has, is_bad_air}
+use Rattle.wf_def_world.specs.Refusals.{refusal, refusals, exchange_has}
+use Rattle.wf_frame.specs.Settings.{is_bad_air}
 use Rattle.wf_def_world.specs.Step.{Outcome, step}
 use Rattle.wf_law_runs.specs.Sent.{IsSent}
 use Rattle.wf_law_runs.specs.Windows.{EachOpen}
 use Rattle.wf_law_runs.proofs.Deficits.KeptStep.{no_row}
 use Rattle.wf_law_runs.proofs.Sent.Law.{sent_law}
-use Rattle.wf_send_parts.specs.declared.exchanges.marks.Mark.{Mark}
-use Rattle.wf_send_parts.specs.Marks.{with_arrival, with_answer, with_changed}
+use Rattle.wf_recv_marks.specs.declared.marks.Mark.{Mark}
+use Rattle.wf_recv_marks.specs.Marks.{with_arrival, with_answer, with_changed}
 use Rattle.wf_recv_peer.specs.Board.{Board}
 use Rattle.wf_recv_peer.specs.Agreements.{PeerValue}
 use Rattle.wf_send_half.specs.Bits.{AreShown}
-use Rattle.wf_send_half_refines.specs.Half.{TransmitValue}
-use Rattle.wf_send_half_refines.specs.Standing.{StandsFor, IsReached, Meets as PathMeets}
-use Rattle.wf_send_half_refines.proofs.Reached.{by_law, step_refused}
-use Rattle.wf_send_half_refines.proofs.Endings.{found}
-use Rattle.wf_send_half_refines.proofs.Meets.{refused_meets}
-use Rattle.wf_send_half_refines.proofs.Whole.{arrive_stands, answer_stands}
+use Rattle.wf_send_half_model.specs.Half.{TransmitValue}
+use Rattle.wf_send_half_model.specs.Standing.{StandsFor, IsReached, Meets as PathMeets}
+use Rattle.wf_send_half_model.proofs.Reached.{by_law, step_refused}
+use Rattle.wf_send_half_model.proofs.Endings.{found}
+use Rattle.wf_send_half_model.proofs.Meets.{refused_meets}
+use Rattle.wf_send_half_model.proofs.Whole.{arrive_stands, answer_stands}
 use Rattle.wf_path.specs.declared.reading.Sent.{Sent}
 use Rattle.wf_path.specs.Transmissions.{sent_of}
-use Rattle.wf_recv_refines.specs.Arriving.{CarriesId, peer_after, buffer_outcome_of_transmission}
-use Rattle.wf_recv_refines.specs.Hearing.{with_peer, peer_of, agreement_of, mark_of, kept_of}
-use Rattle.wf_recv_refines.specs.Refusing.{mark_in, arrive_refusal, answer_refusal, done_refusal}
+use Rattle.wf_cell_model.specs.Arriving.{CarriesId, peer_after, buffer_outcome_of_transmission}
+use Rattle.wf_cell_model.specs.Hearing.{with_peer, peer_of, agreement_of, mark_of, kept_of}
+use Rattle.wf_cell_model.specs.Refusing.{mark_in, arrive_refusal, answer_refusal, done_refusal}
 use Rattle.wf_cell.specs.Engines.{EngineValue, EngineIsIn, EngineMeets}
-use Rattle.wf_recv_refines.proofs.Keeping.{refused_hears, ended_hears}
-use Rattle.wf_recv_refines.proofs.Sent.{station_now, tid_now}
-use Rattle.wf_recv_refines.proofs.Arriving.{arrived_hears, arrived_up}
-use Rattle.wf_recv_refines.proofs.Answering.{answered_hears, answer_reply}
-use Rattle.wf_recv_refines.proofs.Telling.{mark_told, arrive_told, answer_told, done_told}
-use Rattle.wf_recv_refines.proofs.Shown.{kept_shown as score_shown}
+use Rattle.wf_cell_model.proofs.Keeping.{refused_hears, ended_hears}
+use Rattle.wf_cell_model.proofs.Sent.{station_now, tid_now}
+use Rattle.wf_cell_model.proofs.Arriving.{arrived_hears, arrived_up}
+use Rattle.wf_cell_model.proofs.Answering.{answered_hears, answer_reply}
+use Rattle.wf_cell_model.proofs.Telling.{mark_told, arrive_told, answer_inferred, done_inferred}
+use Rattle.wf_cell_model.proofs.Shown.{kept_shown as score_shown}
 use Rattle.wf_frame.specs.declared.settings.Config.{Config}
 
--- ---- which are open
+-- ---- open exchanges
 
--- an open exchange, which is x
+-- the exchange is open
 pub record IsOpen (w : World) (e : ℕ) : Type 0 where
   pub sending : Exchange
   pub known : exchange w e ≡ Some sending
@@ -89,9 +90,9 @@ transmissions_few w e x r known = few x.content sent.most
     few (Frames mpdus) most = omega (arith, most)
     few (Request start) most = omega arith
 
--- ---- a call of an exchange that is refused
+-- ---- a refused call of an exchange
 
--- it leads to where it was
+-- it leaves the engine unchanged
 refused_in : (v : EngineValue) (note : Note) (r : Refusal) (w : World) (bodies : ℕ → FrameValue) →
     EngineIsIn v w bodies → StandsFor v.half (step w note).world bodies → refusal w note ≡ Some r →
     EngineMeets w bodies note v (Refused r)
@@ -100,7 +101,7 @@ refused_in v note r w bodies i stands e = record {
   reply = sym (ap (λ (o : Outcome). o.reply) (step_refused w note r e));
 }
 
--- ---- what arrives
+-- ---- Arrive
 
 module _ (v : EngineValue) (w : World) (bodies : ℕ → FrameValue) (e k : ℕ) (i : EngineIsIn v w bodies) where
   pub arrive_not_open : exchange w e ≡ None → Some NoExchange ≡ refusal w (Asked (Arrive e k))
@@ -123,7 +124,7 @@ module _ (v : EngineValue) (w : World) (bodies : ℕ → FrameValue) (e k : ℕ)
   arrive_refused r is = refused_in v (Asked (Arrive e k)) r w bodies i
       (arrive_stands v.half w bodies e k i.half) (sym is)
 
--- of an exchange that is told of
+-- an exchange that the path sends is open
 pub told_open : (w : World) (e : ℕ) (sent : Sent) → option_map sent_of (exchange w e) ≡ Some sent → IsOpen w e
 told_open w e sent told = let o = open_where sent_of (exchange w e) sent told in
     record { sending = o.0; known = o.1.0 }
@@ -164,7 +165,7 @@ told_tid w e sent r told =
       ap (λ (s : Sent). s.tid) (told_is w e sent o.sending told o.known),
     )
 
--- a transmission that may arrive is one of the exchange's
+-- the index of a transmission that may arrive is below the number of transmissions
 pub arrives_within : (w : World) (e k : ℕ) (x : Exchange) → exchange w e ≡ Some x →
     refusal w (Asked (Arrive e k)) ≡ None → k < transmissions x.content
 arrives_within w e k x known done = below (transmissions x.content)
@@ -176,7 +177,7 @@ arrives_within w e k x known done = below (transmissions x.content)
     below : (n : ℕ) → nat_le n k ≡ false → k < n
     below n above = leb-false n k above
 
--- it arrives
+-- the effect of an Arrive
 pub arrived_meets : (v : EngineValue) (w : World) (bodies : ℕ → FrameValue) (e k id : ℕ) (x : Exchange) →
     EngineIsIn v w bodies → exchange w e ≡ Some x → refusal w (Asked (Arrive e k)) ≡ None →
     CarriesId id k x.content →
@@ -197,23 +198,23 @@ arrived_meets v w bodies e k id x i known done carries = record {
   reply = sym (arrived_up v.peers v.marks w e k id x i.half.reached i.hears known done carries);
 }
 
--- ---- what is answered
+-- ---- Answer
 
 module _ (v : EngineValue) (w : World) (bodies : ℕ → FrameValue) (e : ℕ) (i : EngineIsIn v w bodies) where
   pub answer_not_open : exchange w e ≡ None → Some NoExchange ≡ refusal w (Asked (Answer e))
-  answer_not_open none = sym (answer_told v.peers v.marks w e i.hears
+  answer_not_open none = sym (answer_inferred v.peers v.marks w e i.hears
       ∙ ap answer_refusal (no_mark v w bodies e i none))
 
   pub answer_open : (m : Mark) → mark_in v.marks e ≡ Some m →
       answer_refusal (Some m) ≡ refusal w (Asked (Answer e))
-  answer_open m marked = sym (answer_told v.peers v.marks w e i.hears ∙ ap answer_refusal marked)
+  answer_open m marked = sym (answer_inferred v.peers v.marks w e i.hears ∙ ap answer_refusal marked)
 
   pub answer_refused : (r : Refusal) → Some r ≡ refusal w (Asked (Answer e)) →
       EngineMeets w bodies (Asked (Answer e)) v (Refused r)
   answer_refused r is = refused_in v (Asked (Answer e)) r w bodies i (answer_stands v.half w bodies e i.half)
       (sym is)
 
-  -- it is answered
+  -- the effect of an Answer
   pub answered_meets : (sent : Sent) → option_map sent_of (exchange w e) ≡ Some sent →
       refusal w (Asked (Answer e)) ≡ None →
       let b : Board = (agreement_of v.peers sent.station sent.tid).board in
@@ -238,9 +239,9 @@ module _ (v : EngineValue) (w : World) (bodies : ℕ → FrameValue) (e : ℕ) (
         reply = sym (answer_reply v.peers v.marks w e o.sending i.half.reached i.hears o.known done);
       })
 
--- ---- an end
+-- ---- Done
 
--- what is kept of an exchange's answer, where it was heard
+-- the answer that is kept of an exchange, if it was heard
 abbrev pub kept_answer : List Mark → ℕ → Bool → Option (ℕ × List ℕ)
 kept_answer marks e heard = if heard then option_and_then (λ m. m.answer) (mark_in marks e) else None
 
@@ -260,7 +261,7 @@ module _ (v : EngineValue) (w : World) (bodies : ℕ → FrameValue) (e : ℕ) (
       done_refusal config m heard air ≡ refusal w (Asked (Done e heard air))
   done_marked config same m marked =
       ap (λ (c : Config). done_refusal c m heard air) (same ∙ i.half.parts.others.config)
-      ∙ sym (done_told v.peers v.marks w e heard air i.hears
+      ∙ sym (done_inferred v.peers v.marks w e heard air i.hears
       ∙ ap (λ (p : Option Mark). done_refusal w.config p heard air) marked)
 
   pub done_refused : (r : Refusal) → Some r ≡ refusal w (Asked (Done e heard air)) →
@@ -293,7 +294,7 @@ module _ (v : EngineValue) (w : World) (bodies : ℕ → FrameValue) (e : ℕ) (
     reply = m.reply;
   }
 
--- an exchange with an answer that is kept
+-- the exchange is open and has this answer
 pub record IsAnswered (w : World) (e : ℕ) (kept : ℕ × List ℕ) : Type 0 where
   pub sending : Exchange
   pub answer : Score
@@ -337,7 +338,7 @@ no_answer config (Some m) air none ends = of m.answer none ends
     of None n k = absurd (cc)
     of (Some x) n k = absurd (cc n)
 
--- what is made of an exchange by what was heard of it is what its Done makes
+-- the path's end of an exchange, by its kept answer, is the end of a Done
 pub end_met : (v : EngineValue) (w : World) (bodies : ℕ → FrameValue) (e : ℕ) (heard : Bool)
     (air : Option ℕ) (i : EngineIsIn v w bodies) (kept : Option (ℕ × List ℕ)) (after : TransmitValue)
     (b : Brief)
@@ -358,8 +359,7 @@ end_met v w bodies e true air i (Some score) after b pairs ids is done lost show
     let k = kept_shown v w bodies e score i (sym is) in
     shown w bodies k.sending k.answer pairs ids i.half k.known k.answered k.shown
 
--- what a transmission that arrived leaves, where the receive halves, the marks and what is passed up are
--- known
+-- the effect of an Arrive, for receive halves, marks and passed-up frames that are equal to these
 pub passed_on : (v : EngineValue) (w : World) (bodies : ℕ → FrameValue) (e k id : ℕ) (x : Exchange) →
     EngineIsIn v w bodies → exchange w e ≡ Some x → refusal w (Asked (Arrive e k)) ≡ None →
     CarriesId id k x.content → (peers : List PeerValue) (marks : List Mark) (up : List ℕ) →

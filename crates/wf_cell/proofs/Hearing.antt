@@ -1,4 +1,4 @@
--- Receive halves: new ones, and one that takes octets.
+-- Proves that new receive halves fit a new cell, and how a receive half changes by octets for it.
 use Rattle.std.proofs.Common.{◌≡◌, refl, ap, sym, ◌∙◌, subst, ℕ, ◌+◌, ◌<◌, List, [], ◌∷◌, ◌++◌, length, Option, Result, Ok, Err, zero, suc, true, inl, inr, arith, length-append}
 use Rattle.std.specs.Prelude.{IsOk, OnOk, slice_index_or, slice_set, ◌%◌}
 use Rattle.std.proofs.lemmas.Bool.{cases_lt}
@@ -14,13 +14,13 @@ use Rattle.wf_recv_peer.specs.Board.{after_number as board_arrived, after_start 
 use Rattle.wf_recv_peer.specs.Buffer.{number_outcome as buffer_arrived, request_outcome as buffer_requested}
 use Rattle.wf_recv_peer.specs.Agreements.{PeerValue, agreement}
 use Rattle.wf_recv_peer.specs.Frames.{IsDataFor, IsRequestFor}
-use Rattle.wf_recv_refines.specs.Hearing.{AreNew, HasAddresses, new_receive_half}
-use Rattle.wf_recv_refines.specs.Arriving.{peer_after, buffer_outcome_of_transmission}
+use Rattle.wf_cell_model.specs.Hearing.{AreNew, HasAddresses, new_receive_half}
+use Rattle.wf_cell_model.specs.Arriving.{peer_after, buffer_outcome_of_transmission}
 use Rattle.wf_cell.specs.Octets.{IsSentTo}
 
--- ---- new ones
+-- ---- new receive halves
 
--- the last of a list
+-- the last element of a list
 at_end : (xs : List PeerValue) (x d : PeerValue) → slice_index_or (xs ++ x ∷ []) (length xs) d ≡ x
 at_end [] x d = refl
 at_end (y ∷ ys) x d = at_end ys x d
@@ -49,9 +49,9 @@ one_new n peers new = record {
 pub none_new : AreNew 0 []
 none_new = record { count = refl; each = λ s below. absurd (omega arith) }
 
--- ---- one that takes octets
+-- ---- a receive half that gets octets
 
--- what is for a station is for the receive half that has its addresses
+-- data for a station is data for the receive half with its addresses
 pub data_for_half : (s : ℕ) (p : PeerValue) (octets : List ℕ) (h : Header) → HasAddresses s p →
     IsDataFor (address_of_station s) base octets h → IsDataFor p.own p.base octets h
 data_for_half s p octets h its is = record {
@@ -88,7 +88,7 @@ pub where_ok : (P : Type 0) (result : Result (Option ℕ) PeerFault) → IsOk re
 where_ok P (Ok back) ok here = here
 where_ok P (Err fault) ok here = absurd (cc)
 
--- what a frame leads to, for a frame of whatever kind
+-- what octets do to a receive half, for data and for a request
 pub record LeadsTo (s : ℕ) (octets : List ℕ) (id : ℕ) (p after : PeerValue) (up : List ℕ) : Type 0 where
   pub of_data : (h : Header) → IsDataFor (address_of_station s) base octets h →
       (after ≡ record p {

@@ -1,4 +1,4 @@
--- What comes back of a call is what its reply tells of.
+-- Proves that a cell's answers are right: the returned frame is the one that the reply refers to.
 use Rattle.std.proofs.Common.{◌≡◌, refl, ap, sym, ◌∙◌, subst, ℕ, ◌<◌, true, List, [], ◌∷◌, length, take, Option, Some, None}
 use Rattle.wf_frame.specs.Frames.{FrameValue}
 use Rattle.wf_frame.specs.declared.classes.Fate.{Fate}
@@ -16,9 +16,9 @@ use Rattle.wf_def_world.specs.Run.{Past, world_of}
 use Rattle.wf_def_world.specs.Step.{Outcome, outcome_of, reap_outcome, step}
 use Rattle.wf_law_runs.specs.Finished.{KeepsFinished, reaped_ids}
 use Rattle.wf_law_runs.proofs.Frames.FinishedLaw.{finished_law}
-use Rattle.wf_send_half_refines.specs.Half.{TransmitValue}
-use Rattle.wf_send_half_refines.specs.Standing.{StandsFor, IsReached}
-use Rattle.wf_send_half_refines.proofs.Reached.{now_is, step_done, step_refused}
+use Rattle.wf_send_half_model.specs.Half.{TransmitValue}
+use Rattle.wf_send_half_model.specs.Standing.{StandsFor, IsReached}
+use Rattle.wf_send_half_model.proofs.Reached.{now_is, step_done, step_refused}
 use Rattle.wf_path.specs.declared.job.Job.{Job}
 use Rattle.wf_path.specs.declared.job.Job.TheVariants.{Give, Call}
 use Rattle.wf_path.specs.Jobs.{frame_given_back, note_of}
@@ -26,7 +26,7 @@ use Rattle.wf_cell.specs.Rights.{IsReaped, IsBack, IsRight}
 
 -- ---- a reap
 
--- the id that a reap of a finished list tells of stands on it
+-- a reaped id is on the finished list
 told_of : (ids : List ℕ) (w : World) (id : ℕ) (fate : Fate) →
     (reap_outcome w ids).reply ≡ reply.Reaped id fate → has ids id ≡ true
 unfolding reap_outcome
@@ -45,7 +45,7 @@ on_the_list w id fate e = of (refusal w (Asked ask.Reap)) refl
     of (Some r) is = let other : reply.Refused r ≡ reply.Reaped id fate =
         sym (ap (λ (o : Outcome). o.reply) (step_refused w (Asked ask.Reap) r is)) ∙ e in absurd (cc other)
 
--- an id that is reaped was accepted
+-- a reaped id was accepted
 pub reaped_known : (w : World) (r : IsReached w) (id : ℕ) (fate : Fate) →
     (step w (Asked ask.Reap)).reply ≡ reply.Reaped id fate → id < accepted_count w
 reaped_known w r id fate e =
@@ -54,7 +54,7 @@ reaped_known w r id fate e =
     (finished_law w.config r.history (length r.history)) in
     ((keeps.exactly id).0 (has_second reaped w.finished id (on_the_list w id fate e))).0
 
--- ---- what comes back
+-- ---- the returned frame
 
 module _ (v : TransmitValue) (w : World) (bodies : ℕ → FrameValue) (stands : StandsFor v w bodies) where
   reaped_back : (id : ℕ) (fate : Fate) → reply.Reaped id fate ≡ (step w (Asked ask.Reap)).reply →
@@ -66,32 +66,32 @@ module _ (v : TransmitValue) (w : World) (bodies : ℕ → FrameValue) (stands :
   pub back_is : (job : Job) (answered : ReplyNote) → answered ≡ (step w (note_of job)).reply →
       IsBack w job answered (frame_given_back bodies job answered)
   back_is (Give f) reply.Joined e = refl
-  back_is (Give f) (reply.Gone dropped) e = refl
-  back_is (Give f) reply.RateSet e = refl
-  back_is (Give f) (reply.Ticked now) e = refl
+  back_is (Give f) (reply.Left dropped) e = refl
+  back_is (Give f) reply.Set e = refl
+  back_is (Give f) (reply.Now now) e = refl
   back_is (Give f) (reply.Accepted id dropped) e = refl
   back_is (Give f) (reply.Send exchange station tid air part more) e = refl
   back_is (Give f) (reply.Released ids) e = refl
   back_is (Give f) (reply.Ba start b0 b1 b2 b3 wide) e = refl
-  back_is (Give f) (reply.Ended acked waiting failed) e = refl
+  back_is (Give f) (reply.Done acked waiting failed) e = refl
   back_is (Give f) reply.Slept e = refl
   back_is (Give f) reply.Woken e = refl
-  back_is (Give f) (reply.Credited class) e = refl
+  back_is (Give f) (reply.Polled class) e = refl
   back_is (Give f) (reply.Charged deficit) e = refl
   back_is (Give f) (reply.Reaped id fate) e = refl
   back_is (Give f) (reply.Refused reason) e = refl
   back_is (Call ask.Reap) reply.Joined e = refl
-  back_is (Call ask.Reap) (reply.Gone dropped) e = refl
-  back_is (Call ask.Reap) reply.RateSet e = refl
-  back_is (Call ask.Reap) (reply.Ticked now) e = refl
+  back_is (Call ask.Reap) (reply.Left dropped) e = refl
+  back_is (Call ask.Reap) reply.Set e = refl
+  back_is (Call ask.Reap) (reply.Now now) e = refl
   back_is (Call ask.Reap) (reply.Accepted id dropped) e = refl
   back_is (Call ask.Reap) (reply.Send exchange station tid air part more) e = refl
   back_is (Call ask.Reap) (reply.Released ids) e = refl
   back_is (Call ask.Reap) (reply.Ba start b0 b1 b2 b3 wide) e = refl
-  back_is (Call ask.Reap) (reply.Ended acked waiting failed) e = refl
+  back_is (Call ask.Reap) (reply.Done acked waiting failed) e = refl
   back_is (Call ask.Reap) reply.Slept e = refl
   back_is (Call ask.Reap) reply.Woken e = refl
-  back_is (Call ask.Reap) (reply.Credited class) e = refl
+  back_is (Call ask.Reap) (reply.Polled class) e = refl
   back_is (Call ask.Reap) (reply.Charged deficit) e = refl
   back_is (Call ask.Reap) (reply.Reaped id fate) e = reaped_back id fate e
   back_is (Call ask.Reap) (reply.Refused reason) e = refl
@@ -108,7 +108,7 @@ module _ (v : TransmitValue) (w : World) (bodies : ℕ → FrameValue) (stands :
   back_is (Call (ask.Poll s)) answered e = refl
   back_is (Call (ask.Rx s c air)) answered e = refl
 
--- an answer is right where its reply is the run's and what comes back is what the path gives
+-- an answer is right if its reply is the run's and the returned frame is the path's
 pub is_right : (v : TransmitValue) (p : Past) (bodies : ℕ → FrameValue) (job : Job) (answered : ReplyNote)
     (back : Option FrameValue) → StandsFor v (world_of p) bodies →
     answered ≡ (step (world_of p) (note_of job)).reply → back ≡ frame_given_back bodies job answered →

@@ -1,4 +1,4 @@
--- A history with one entry more, and what the laws of runs say of the world after a history.
+-- Proves what the laws of runs say of the world after a history, and of a history with one more entry.
 use Rattle.std.proofs.Common.{◌≡◌, refl, ap, ◌∙◌, subst, ℕ, ◌*◌, ◌<◌, ◌≤◌, ◌^◌, List, [], ◌∷◌, ◌++◌, length, take, Option, Some, None, IfSome, is_some, unwrap_or, arith}
 use Rattle.wf_frame.specs.Frames.{FrameValue}
 use Rattle.wf_frame.specs.declared.classes.Class.{Class}
@@ -21,11 +21,11 @@ use Rattle.wf_law_runs.proofs.Deficits.Configs.{config_step}
 use Rattle.wf_send_parts.specs.declared.stations.members.Member.{Member}
 use Rattle.wf_send_parts.specs.Members.{member, charged_in, received_in}
 use Rattle.wf_sched_refines.specs.Standing.{share_in}
-use Rattle.wf_send_half_refines.specs.Half.{TransmitValue}
-use Rattle.wf_send_half_refines.specs.Standing.{StandsFor, IsMember, AreBoth}
+use Rattle.wf_send_half_model.specs.Half.{TransmitValue}
+use Rattle.wf_send_half_model.specs.Standing.{StandsFor, IsMember, AreBoth}
 use Rattle.wf_path.specs.Paths.{IsSmall}
 
--- ---- one entry more
+-- ---- one more entry
 
 pub world_then : (h : List Entry) (w : World) (e : Entry) →
     world_after w (h ++ e ∷ []) ≡ (step (world_after w h) e.1).world
@@ -42,7 +42,7 @@ most_then : (h : List Entry) (e : Entry) (most : ℕ) → AreAtMost most h → I
 most_then [] e most h k = (k, tt)
 most_then (x ∷ xs) e most h k = (h.0, most_then xs e most h.1 k)
 
--- each frame has its octets
+-- each frame has 1 to 2304 octets
 pub has_lengths : (h : List Entry) (e : Entry) → HasLengths h → HasLength e.1 → IsAtMost greatest_body e.1 →
     HasLengths (h ++ e ∷ [])
 has_lengths h e l some most = (lengths_then h e l.0 some, most_then h e greatest_body l.1 most)
@@ -57,13 +57,13 @@ pub opening_is : (c : Config) → world_of (record { config = c; history = [] })
 unfolding world_after
 opening_is c = refl
 
--- ---- what adds up
+-- ---- sums
 
 take_all : (h : List Entry) → take (length h) h ≡ h
 take_all [] = refl
 take_all (e ∷ h) = ap (λ (l : List Entry). e ∷ l) (take_all h)
 
--- each call takes the clock at most a greatest tick further
+-- each call moves the clock by at most the greatest tick
 pub time_by : (config : Config) (h : List Entry) → IsInRange config →
     (world_after (opening config) h).clock ≤ greatest_tick * length h
 time_by config h range =
@@ -73,7 +73,7 @@ time_by config h range =
     ap (λ (l : List Entry). (world_after (opening config) l).clock) (take_all h) in
     omega (arith, sums.clock, same)
 
--- the clock after as many calls as the settings allow
+-- the clock after at most `calls` calls is below 2^56
 pub time_after : (config : Config) (h : List Entry) → IsInRange config → length h ≤ config.calls →
     (world_after (opening config) h).clock < 2 ^ 56
 time_after config h range few = omega (arith, time_by config h range, range.calls.1, few)
@@ -85,7 +85,7 @@ clock_small v p bodies stands few =
     subst IsInRange (config_after p.history (opening p.config)) stands.reached.in_range in
     time_after p.config p.history range few
 
--- after a history, by its length
+-- the sums after the whole history
 sums_of : (p : Past) → Laws p.config p.history →
     AreSums p.config (take (length p.history) p.history) (length p.history) (world_of p)
 sums_of p laws = subst (AreSums p.config (take (length p.history) p.history) (length p.history)) now
@@ -94,14 +94,14 @@ sums_of p laws = subst (AreSums p.config (take (length p.history) p.history) (le
     now : world_at p.config p.history (length p.history) ≡ world_of p
     now = ap (world_after (opening p.config)) (take_all p.history)
 
--- what holds of a member for each live station holds where there is one
+-- the member of a station, if it has one, has each property that holds for members of live stations
 of_member : (P : Member → Type 0) (m : Option Member) (x : Option Station) → AreBoth IsMember m x →
     ((k : Member) (y : Station) → x ≡ Some y → IsMember k y → P k) → IfSome m P
 of_member P None x both each = tt
 of_member P (Some k) None both each = absurd both
 of_member P (Some k) (Some y) both each = each k y refl both
 
--- a path that stands for the world after at most 4,294,967,295 calls is small
+-- a path that represents the world after at most 4,294,967,295 calls has small counts
 pub small_of : (v : TransmitValue) (p : Past) (bodies : ℕ → FrameValue) → IsInRange p.config →
     StandsFor v (world_of p) bodies → length p.history ≤ 4294967295 → IsSmall v
 small_of v p bodies range s few =

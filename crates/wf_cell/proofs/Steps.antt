@@ -1,4 +1,5 @@
--- A cell after a call: its history has one entry more, and it stands for the world after that.
+-- Proves that a new cell has the invariant of cells, and that a call keeps it and adds one entry to the
+-- history.
 use Rattle.std.proofs.Common.{◌≡◌, refl, ap, ap₂, sym, ◌∙◌, subst, ℕ, ◌<◌, List, [], ◌∷◌, ◌++◌, length, Option, Some, None, length-append, arith}
 use Rattle.std.specs.Prelude.{◌+◌, ◌-◌, slice_get}
 use Rattle.wf_frame.specs.Frames.{FrameValue}
@@ -14,12 +15,12 @@ use Rattle.wf_law_runs.specs.Lengths.{HasLengths}
 use Rattle.wf_law_runs.specs.Queues.{HasLength, IsAtMost}
 use Rattle.wf_law_runs.proofs.AllLaws.{laws}
 use Rattle.wf_law_runs.proofs.Deficits.Configs.{config_step}
-use Rattle.wf_send_half_refines.specs.Standing.{StandsFor}
+use Rattle.wf_send_half_model.specs.Standing.{StandsFor}
 use Rattle.wf_path.specs.declared.job.Job.{Job}
 use Rattle.wf_path.specs.Jobs.{note_of, bodies_after, frame_given_back}
 use Rattle.wf_path.specs.Paths.{IsSmall}
 use Rattle.wf_cell.specs.Engines.{EngineValue, EngineHasWorld, EngineIsIn, IsJobDone}
-use Rattle.wf_cell.specs.Cells.{IsCell, room_in, with_entry}
+use Rattle.wf_cell.specs.Cells.{IsCell, calls_left_in, with_entry}
 use Rattle.wf_cell.proofs.Runs.{world_then, has_lengths, config_after, small_of, opening_is}
 
 -- ---- a new cell
@@ -38,9 +39,9 @@ new_cell p engine bodies left none is all =
       latest = sym (ap (λ (h : List Entry). slice_get h (length h - 1)) none);
     }
 
--- ---- a cell
+-- ---- a call
 
--- the last of some entries
+-- the last entry of a list
 at_end : (h : List Entry) (e : Entry) → slice_get (h ++ e ∷ []) (length h) ≡ Some e
 at_end [] e = refl
 at_end (x ∷ h) e = at_end h e
@@ -65,10 +66,10 @@ module _ (p : Past) (engine : EngineValue) (left : ℕ) (last : Option Entry)
   is_small =
       small_of engine.half p is.bodies range_of is.is_in.half (omega (arith, is.counted, range_of.calls.1))
 
--- after a call, where there was room
+-- after a call, if there was room
 module _ (p : Past) (engine : EngineValue) (left : ℕ) (last : Option Entry)
     (is : IsCell p engine left last)
-    (own : p.config ≡ engine.half.config) (room : 0 < room_in p) (caller : ℕ) (job : Job)
+    (own : p.config ≡ engine.half.config) (room : 0 < calls_left_in p) (caller : ℕ) (job : Job)
     (after : EngineValue)
     (answered : ReplyNote) (given : Option FrameValue)
     (done : (w : World) (bodies : ℕ → FrameValue) → EngineIsIn engine w bodies →

@@ -1,4 +1,5 @@
--- The octets of a transmission say to its station what they are to say, and there is room for them.
+-- Proves that the octets of a transmission have the fields of its frame or request (`IsSentTo`), and that
+-- they fit in the buffer.
 use Rattle.std.proofs.Common.{◌≡◌, refl, ap, sym, ◌∙◌, subst, ℕ, zero, suc, ◌*◌, ◌%◌, ◌<◌, ◌≤◌, true, false, inl, lit≤, List, [], ◌∷◌, length, Option, Some, None, length-append, arith}
 use Rattle.std.specs.Prelude.{slice_get, option_map, option_and_then, if◌then◌else◌, Result, Ok, Err}
 use Rattle.std.proofs.lemmas.Bool.{le-ltb}
@@ -19,10 +20,10 @@ use Rattle.wf_octets.proofs.HeaderWritten.{qos_begins, qos_long}
 use Rattle.wf_octets.specs.BlockLayout.{request, narrow_form}
 use Rattle.wf_octets.proofs.BlockWritten.{head_begins}
 use Rattle.wf_send_parts.specs.declared.exchanges.opened.Sending.TheVariants.{Data}
-use Rattle.wf_send_half_refines.specs.Half.{TransmitValue}
-use Rattle.wf_send_half_refines.specs.Standing.{StandsFor, IsReached, sending_of, numbers_on_air}
-use Rattle.wf_send_half_refines.specs.Ending.{IsLoose, after_close}
-use Rattle.wf_send_half_refines.specs.Standing.{open_of}
+use Rattle.wf_send_half_model.specs.Half.{TransmitValue}
+use Rattle.wf_send_half_model.specs.Standing.{StandsFor, IsReached, sending_of, numbers_on_air}
+use Rattle.wf_send_half_model.specs.Ending.{IsLoose, after_close}
+use Rattle.wf_send_half_model.specs.Standing.{open_of}
 use Rattle.wf_send_half.proofs.Ends.{IsData, sends as data_sent, begun}
 use Rattle.wf_path.specs.declared.faults.PathFault.{PathFault}
 use Rattle.wf_path.specs.declared.faults.PathFault.TheVariants.{SmallBuffer}
@@ -42,7 +43,7 @@ two_read n small = omega arith
 abbrev pub HasSource : (ℕ → FrameValue) → Mpdu → Type 0
 HasSource bodies m = length (bodies m.id).source ≡ 6
 
--- so its header has 26
+-- its header has 26 octets
 pub header_long : (w : World) (bodies : ℕ → FrameValue) (x : Exchange) (m : Mpdu) → HasSource bodies m →
     length (header_as_octets (header_of plain w bodies x m)) ≡ 26
 header_long w bodies x m source =
@@ -125,7 +126,7 @@ octets_say w bodies e k x octets known low few sources sent =
     (sym (ap (option_and_then (λ y. transmission_octets plain w bodies y k)) known)
     ∙ sym (sent_plain w bodies e k) ∙ sent)
 
--- ---- there is room for them
+-- ---- the buffer has room for them
 
 frames_same : (w : World) (e : ℕ) (x : Exchange) →
     (after_charge (without_exchange w e) x None).frames ≡ w.frames
@@ -161,11 +162,11 @@ module _ (v : TransmitValue) (w : World) (bodies : ℕ → FrameValue) (h : Stan
       each_at _ sends.mpdus k m ending.loose there in
       omega (arith, loose.low, ap length (frames_same w x.number x))
 
-  -- it has a source
+  -- it has a source of six octets
   pub has_source : (k : ℕ) (m : Mpdu) → slice_get (mpdus_of x.content) k ≡ Some m → HasSource bodies m
   has_source k m among = (h.parts.others.notes m.id (is_accepted k m among)).source
 
-  -- and at most 2304 octets
+  -- it has at most 2304 octets
   body_short : (k : ℕ) (m : Mpdu) → slice_get (mpdus_of x.content) k ≡ Some m →
       length (bodies m.id).body ≤ 2304
   body_short k m among =
@@ -214,7 +215,7 @@ module _ (v : TransmitValue) (w : World) (bodies : ℕ → FrameValue) (h : Stan
   content_there zero (Request start) few none = cc
   content_there (suc k) (Request start) few none = absurd (omega arith)
 
-  -- so no check fails
+  -- writing it does not fail
   pub no_write_fault : (k : ℕ) → k < transmissions x.content → write_fault made_up w bodies e k 2330 ≡ None
   no_write_fault k few = write_fault_plain w bodies e k 2330 ∙ rw known (of (transmission_octets plain w
       bodies x k) refl)

@@ -1,5 +1,5 @@
--- What a cell has beside its history: the transmit path, the receive halves of the stations, and the marks of
--- the open exchanges.
+-- Defines an engine, the cell without its history: the transmit path, the receive halves of the stations, and
+-- the marks of the open exchanges.
 use Rattle.std.specs.Prelude.{◌≡◌, ℕ, ◌<◌, List, Option, None, Some, option_map}
 use Rattle.wf_frame.specs.Frames.{FrameValue}
 use Rattle.wf_frame.specs.declared.notes.Note.{Note}
@@ -10,28 +10,29 @@ use Rattle.wf_def_world.specs.World.{World, Exchange, exchange}
 use Rattle.wf_def_world.specs.Exchanges.{transmissions}
 use Rattle.wf_def_world.specs.Refusals.{refusal}
 use Rattle.wf_def_world.specs.Step.{step}
-use Rattle.wf_send_parts.specs.declared.exchanges.marks.Mark.{Mark}
+use Rattle.wf_recv_marks.specs.declared.marks.Mark.{Mark}
 use Rattle.wf_recv_peer.specs.Agreements.{PeerValue}
-use Rattle.wf_send_half_refines.specs.Half.{TransmitValue}
-use Rattle.wf_send_half_refines.specs.Standing.{StandsFor}
-use Rattle.wf_recv_refines.specs.Hearing.{Hears}
+use Rattle.wf_send_half_model.specs.Half.{TransmitValue}
+use Rattle.wf_send_half_model.specs.Standing.{StandsFor}
+use Rattle.wf_cell_model.specs.Hearing.{Hears}
 use Rattle.wf_path.specs.declared.job.Job.{Job}
 use Rattle.wf_path.specs.declared.reading.Sent.{Sent}
 use Rattle.wf_path.specs.Transmissions.{sent_of}
 use Rattle.wf_path.specs.Jobs.{note_of, bodies_after, frame_given_back}
 
+-- an engine
 pub record EngineValue : Type 0 where
   pub half : TransmitValue
   pub peers : List PeerValue  -- by station
   pub marks : List Mark  -- in the order of the exchanges' numbers
 
--- It stands for a world: the path for its transmit half, the receive halves and the marks for what its
--- receivers have.
+-- An engine represents a world: its path represents the transmit half, and the receive halves and marks
+-- represent what the world's receivers have.
 pub record EngineIsIn (v : EngineValue) (w : World) (bodies : ℕ → FrameValue) : Type 0 where
   pub half : StandsFor v.half w bodies
   pub hears : Hears v.peers v.marks w
 
--- it stands for some world
+-- an engine represents some world
 pub record EngineHasWorld (v : EngineValue) : Type 0 where
   pub world : World
   pub bodies : ℕ → FrameValue
@@ -43,8 +44,8 @@ pub record EngineMeets (w : World) (bodies : ℕ → FrameValue) (note : Note) (
   pub is_in : EngineIsIn v (step w note).world bodies
   pub reply : answered ≡ (step w note).reply
 
--- A job leads from `before` to v: the accepted frame joins the bodies, the reply is the machine's, and what
--- comes back is the frame that was refused or reaped.
+-- A job leads from `before` to v: the accepted frame joins the bodies, the reply is the machine's, and the
+-- returned frame is the one that was refused or reaped.
 pub record IsJobDone (w : World) (bodies : ℕ → FrameValue) (job : Job) (before : TransmitValue)
     (v : EngineValue) (answered : ReplyNote) (given : Option FrameValue) : Type 0 where
   pub is_in : EngineIsIn v (step w (note_of job)).world (bodies_after before job answered bodies)
@@ -60,7 +61,7 @@ pub record IsOnAir (v : TransmitValue) (e i : ℕ) : Type 0 where
   pub known : exchange world e ≡ Some sending
   pub within : i < transmissions sending.content
 
--- a transmission of an open exchange may arrive, and `sent` tells what the exchange sends
+-- a transmission of an open exchange may arrive, and `sent` is what the exchange sends
 pub record IsArriving (v : EngineValue) (e i : ℕ) (sent : Sent) : Type 0 where
   pub world : World
   pub bodies : ℕ → FrameValue

@@ -1,4 +1,4 @@
--- What octets on the air say to a station. In a cell both ends have their made-up addresses.
+-- Defines what octets on the air say to a station. In a cell both ends have their placeholder addresses.
 use Rattle.std.specs.Prelude.{◌≡◌, ℕ, ◌%◌, List}
 use Rattle.wf_def_lists.specs.Table.{at}
 use Rattle.wf_def_world.specs.World.{Content, Frames, Request}
@@ -8,27 +8,26 @@ use Rattle.wf_octets.specs.declared.header.header.Header.{Header}
 use Rattle.wf_octets.specs.declared.block.frames.Bar.{Bar}
 use Rattle.wf_recv_peer.specs.Frames.{IsDataFor, IsRequestFor}
 
--- data for station s, of this TID and this number
+-- octets of data for station s, with this TID and this number
 pub record SaysData (s tid number : ℕ) (octets : List ℕ) : Type 0 where
   pub header : Header
   pub is_for : IsDataFor (address_of_station s) base octets header
   pub tid_is : header.tid ≡ tid
   pub number_is : header.seq ≡ number
 
--- a BlockAckReq for station s, of this TID and with this start
+-- octets of a BlockAckReq for station s, with this TID and this start
 pub record SaysRequest (s tid start : ℕ) (octets : List ℕ) : Type 0 where
   pub bar : Bar
   pub is_for : IsRequestFor (address_of_station s) base octets bar
   pub tid_is : bar.tid ≡ tid
   pub start_is : bar.start ≡ start
 
--- octets that are transmission i of what is sent to this TID of station s: they say its number, or its start,
--- modulo 4096
+-- octets of transmission i to this TID of station s: they have its number, or its start, modulo 4096
 abbrev pub IsSentTo : ℕ → ℕ → ℕ → Content → List ℕ → Type 0
 IsSentTo s tid i (Frames mpdus) octets = SaysData s tid ((at no_mpdu mpdus i).number % 4096) octets
 IsSentTo s tid i (Request start) octets = SaysRequest s tid (start % 4096) octets
 
--- octets that are sent to station s
+-- octets of a transmission to station s
 pub record IsForStation (s : ℕ) (octets : List ℕ) : Type 0 where
   pub tid : ℕ
   pub index : ℕ

@@ -1,6 +1,6 @@
-//! What crosses the air: transmissions that arrive, and the BlockAcks that answer.
+//! Transmissions that arrive at stations, and the BlockAcks that answer them.
 
-ghost use Rattle.std.specs.Prelude.{◌≡◌, ◌<◌, ◌≤◌, nat_lt, ℕ, true, Some, None, length, take, option_map, option_and_then, if◌then◌else◌, IfOk};
+ghost use Rattle.std.specs.Prelude.{◌≡◌, ◌<◌, ◌≤◌, ◌==◌, nat_lt, ℕ, true, Some, None, length, position, take, option_map, option_and_then, if◌then◌else◌, IfOk};
 ghost use Rattle.wf_frame.specs.Frames.{FrameValue};
 ghost use Rattle.wf_frame.specs.Answers.{reply_of};
 ghost use Rattle.wf_frame.specs.declared.answers.Brief.TheVariants.{Ba};
@@ -12,11 +12,11 @@ ghost use Rattle.wf_def_world.specs.Refusals.{refusal};
 ghost use Rattle.wf_def_world.specs.Exchanges.{transmissions};
 ghost use Rattle.wf_def_world.specs.World.{World, Exchange, exchange as exchange_in};
 ghost use Rattle.std.specs.Result.{result_err};
-ghost use Rattle.wf_send_half_refines.specs.Standing.{StandsFor};
-ghost use Rattle.wf_send_parts.specs.Marks.{with_answer, with_changed};
-ghost use Rattle.wf_recv_refines.specs.Arriving.{CarriesId};
-ghost use Rattle.wf_recv_refines.specs.Hearing.{agreement_of};
-ghost use Rattle.wf_recv_refines.specs.Refusing.{arrive_refusal, answer_refusal, done_refusal, mark_in};
+ghost use Rattle.wf_send_half_model.specs.Standing.{StandsFor};
+ghost use Rattle.wf_recv_marks.specs.Marks.{with_answer, with_changed};
+ghost use Rattle.wf_cell_model.specs.Arriving.{CarriesId};
+ghost use Rattle.wf_cell_model.specs.Hearing.{agreement_of};
+ghost use Rattle.wf_cell_model.specs.Refusing.{arrive_refusal, answer_refusal, done_refusal, mark_in};
 ghost use Rattle.wf_path.specs.Addresses.{made_up};
 ghost use Rattle.wf_path.specs.Transmissions.{sent_of};
 ghost use Rattle.wf_path.specs.Jobs.{changes_nothing};
@@ -24,14 +24,16 @@ ghost use Rattle.wf_path.specs.Paths.{IsSmall};
 ghost use Rattle.wf_cell.specs.Engines.{EngineHasWorld, IsArriving, EngineIsIn, IsOnAir, EngineMeets};
 ghost use Rattle.wf_cell.specs.Octets.{IsSentTo};
 
-use crate::engine::{Engine, LONGEST};
+use crate::engine::Engine;
 use wf_frame::{Answer, Brief, Config, Ids, Refusal};
 use wf_octets::bits::Bits256;
+use wf_octets::header::GREATEST_MPDU;
 use wf_octets::seq12::Seq12;
 use wf_path::{Path, Sent};
-use wf_send_parts::exchanges::Mark;
+use wf_recv_marks::Mark;
 
-// Why a transmission does not arrive, if it does not: of an exchange with this mark, which has so many.
+// Returns why a transmission does not arrive, if it does not. Its exchange has this mark and `count`
+// transmissions.
 fn arrival_refusal(mark: &Mark, count: u16, index: u16) -> Option<Refusal>
     requires { count < 257 }
     ensures { result ≡ arrive_refusal (Some mark.now) count index }
@@ -47,7 +49,7 @@ fn arrival_refusal(mark: &Mark, count: u16, index: u16) -> Option<Refusal>
     }
 }
 
-// Why a station does not answer, if it does not: to an exchange with this mark.
+// Returns why a station does not answer an exchange with this mark, if it does not.
 fn answering_refusal(mark: &Mark) -> Option<Refusal>
     ensures { result ≡ answer_refusal (Some mark.now) }
 {
@@ -60,25 +62,30 @@ fn answering_refusal(mark: &Mark) -> Option<Refusal>
     }
 }
 
-// Why an exchange with this mark does not end, if it does not.
+// Returns why an exchange with this mark does not end, if it does not.
 fn ending_refusal(settings: &Config, mark: &Mark, heard: bool, air: Option<u32>) -> Option<Refusal>
     ensures { result ≡ done_refusal settings.now (Some mark.now) heard air }
 {
-    let is_bad = match air {
-        Some(air) => air == 0 || air > settings.charge,
-        None => false,
-    };
     if heard && mark.answer.is_none() {
         Some(Refusal::NoAnswer)
-    } else if is_bad {
+    } else if settings.is_bad_air(air) {
         Some(Refusal::BadAir)
     } else {
         None
     }
 }
 
-// Writes a transmission of an open exchange, and gives how many octets it has.
-fn written(path: &Path, exchange: u64, index: u16, octets: &mut [u8; LONGEST]) -> usize
+// The mark of an exchange that may end.
+#[derive(Clone, Copy)]
+struct Found {
+    // Its place among the marks.
+    place: usize,
+    // The BlockAck that was heard, if any.
+    heard: Option<(Seq12, Bits256)>,
+}
+
+// Writes a transmission of an open exchange, and returns its length in octets.
+fn written(path: &Path, exchange: u64, index: u16, octets: &mut [u8; GREATEST_MPDU]) -> usize
     requires on_air { IsOnAir path.now.half exchange index }
     requires made_up { path.now.addresses ≡ made_up }
     ensures within { result ≤ 2330 }
@@ -92,7 +99,7 @@ fn written(path: &Path, exchange: u64, index: u16, octets: &mut [u8; LONGEST]) -
     }
 }
 
-// The id of the frame that a transmission of an open exchange carries; 0 for a request.
+// The id of the frame in a transmission of an open exchange; 0 for a request.
 fn carried_id(path: &Path, exchange: u64, index: u16) -> u64
     ensures { (w : World) (bodies : ℕ → FrameValue) (x : Exchange) → StandsFor path.now.half w bodies →
         exchange_in w exchange ≡ Some x →
@@ -102,7 +109,7 @@ fn carried_id(path: &Path, exchange: u64, index: u16) -> u64
 }
 
 impl Engine {
-    // A transmission of an open exchange reaches its station.
+    // A transmission of an open exchange arrives at its station, or is refused.
     pub(crate) fn arrive(&mut self, exchange: u64, index: u16, answer: &mut Answer)
         requires { EngineHasWorld self.old }
         ensures meets { (w : World) (bodies : ℕ → FrameValue) → EngineIsIn self.old w bodies →
@@ -118,7 +125,7 @@ impl Engine {
         }
     }
 
-    // What an exchange sends, of which a transmission is to arrive, or why it does not.
+    // Returns what an exchange sends, or why this transmission of it does not arrive.
     fn check_arrival(&self, exchange: u64, index: u16) -> Result<Sent, Refusal>
         requires { EngineHasWorld self.now }
         ensures refused { (w : World) (bodies : ℕ → FrameValue) → EngineIsIn self.now w bodies →
@@ -139,7 +146,8 @@ impl Engine {
         }
     }
 
-    // A transmission of an open exchange reaches its station, which passes up the frames of `up`.
+    // A transmission of an open exchange arrives at its station. `up` gets the frames that the station passes
+    // up.
     fn pass_on(&mut self, sent: Sent, exchange: u64, index: u16, up: &mut Ids)
         requires { IsArriving self.old exchange index sent }
         ensures meets { (w : World) (bodies : ℕ → FrameValue) → EngineIsIn self.old w bodies →
@@ -155,7 +163,7 @@ impl Engine {
         self.marks.arrive(exchange, index);
     }
 
-    // A station answers an open exchange with a BlockAck.
+    // A station answers an open exchange with a BlockAck, or is refused.
     pub(crate) fn answer(&mut self, exchange: u64, answer: &mut Answer)
         requires { EngineHasWorld self.old }
         ensures meets { (w : World) (bodies : ℕ → FrameValue) → EngineIsIn self.old w bodies →
@@ -168,7 +176,7 @@ impl Engine {
         }
     }
 
-    // What an exchange sends, that is to be answered, or why it is not.
+    // Returns what an exchange sends, or why it is not answered.
     fn check_answer(&self, exchange: u64) -> Result<Sent, Refusal>
         requires { EngineHasWorld self.now }
         ensures refused { (w : World) (bodies : ℕ → FrameValue) → EngineIsIn self.now w bodies →
@@ -189,7 +197,7 @@ impl Engine {
         }
     }
 
-    // A station's BlockAck is kept, and told of.
+    // Keeps a station's BlockAck in the mark, and returns it as the answer.
     fn keep_answer(&mut self, sent: Sent, exchange: u64) -> Brief
         requires within { sent.station < length self.old.peers }
         requires tid { sent.tid < 8 }
@@ -215,7 +223,7 @@ impl Engine {
         }
     }
 
-    // An exchange ends; where it was heard, by the answer that was kept.
+    // Ends an exchange. If it was heard, the kept answer is its BlockAck.
     pub(crate) fn done(&mut self, exchange: u64, heard: bool, air: Option<u32>, answer: &mut Answer)
         requires some { EngineHasWorld self.old }
         requires small { IsSmall self.old.half }
@@ -226,31 +234,32 @@ impl Engine {
     {
         match self.check_done(exchange, heard, air) {
             Err(reason) => answer.brief = Brief::Refused(reason),
-            Ok(kept) => {
-                self.marks.close(exchange);
-                answer.brief = self.path.done_bits(exchange, kept, air);
+            Ok(found) => {
+                self.marks.close_at(found.place);
+                answer.brief = self.path.done_bits(exchange, found.heard, air);
             }
         }
     }
 
-    // What was heard of an exchange that is to end, or why it does not end.
-    fn check_done(
-        &self,
-        exchange: u64,
-        heard: bool,
-        air: Option<u32>,
-    ) -> Result<Option<(Seq12, Bits256)>, Refusal>
+    // Returns the mark of an exchange that may end, or why it does not end.
+    fn check_done(&self, exchange: u64, heard: bool, air: Option<u32>) -> Result<Found, Refusal>
         ensures refused { (w : World) (bodies : ℕ → FrameValue) → EngineIsIn self.now w bodies →
             result_err result ≡ refusal w (Asked (Done exchange heard air)) }
-        ensures kept { IfOk result (λ kept. kept
+        ensures heard { IfOk result (λ found. found.heard
             ≡ (if heard then option_and_then (λ m. m.answer) (mark_in self.now.marks exchange) else None)) }
+        ensures place { IfOk result (λ found. position (λ m. m.number == exchange) self.now.marks
+            ≡ Some found.place) }
+        ensures within { IfOk result (λ found. found.place < length self.now.marks) }
     {
         let settings = self.path.config();
-        match self.marks.find(exchange) {
+        match self.marks.find_at(exchange) {
             None => Err(Refusal::NoExchange),
-            Some(mark) => match ending_refusal(&settings, mark, heard, air) {
+            Some((place, mark)) => match ending_refusal(&settings, mark, heard, air) {
                 Some(reason) => Err(reason),
-                None => Ok(if heard { mark.answer } else { None }),
+                None => {
+                    let heard = if heard { mark.answer } else { None };
+                    Ok(Found { place, heard })
+                }
             },
         }
     }

@@ -1,4 +1,4 @@
-//! The cell, whose history clauses alone see.
+//! The cell, whose history exists only in contracts.
 
 ghost use Rattle.std.specs.Prelude.{◌≡◌, ◌↔◌, ◌-◌, ◌<◌, ◌≤◌, ◌^◌, ◌||◌, ℕ, true, [], Err, Some, None, is_some, IfOk, IfSome, length, slice_get};
 ghost use Rattle.wf_frame.specs.Answers.{reply_of};
@@ -13,13 +13,13 @@ ghost use Rattle.wf_def_world.specs.World.{opening};
 ghost use Rattle.wf_def_world.specs.Step.{step};
 ghost use Rattle.wf_law_runs.specs.Laws.{Laws};
 ghost use Rattle.wf_law_runs.specs.Lengths.{HasLengths};
-ghost use Rattle.wf_send_half_refines.specs.Half.{body_of};
-ghost use Rattle.wf_send_half_refines.specs.Standing.{StandsFor};
-ghost use Rattle.wf_send_half_refines.specs.Inside.{is_inside};
+ghost use Rattle.wf_send_half_model.specs.Half.{body_of};
+ghost use Rattle.wf_send_half_model.specs.Standing.{StandsFor};
+ghost use Rattle.wf_send_half_model.specs.Inside.{is_inside};
 ghost use Rattle.wf_path.specs.Jobs.{bodies_after, changes_nothing, frame_of, frame_given_back, note_of};
 ghost use Rattle.wf_path.specs.Addresses.{made_up};
 ghost use Rattle.wf_cell.specs.Bodies.{body_after};
-ghost use Rattle.wf_cell.specs.Cells.{is_received, room_in, with_entry};
+ghost use Rattle.wf_cell.specs.Cells.{is_received, calls_left_in, with_entry};
 ghost use Rattle.wf_cell.specs.Rights.{IsRight};
 
 use crate::engine::Engine;
@@ -30,21 +30,21 @@ use wf_machine::History;
 use wf_path::{Job, NewFault, Path};
 use wf_queue_parts::chain::Parcel;
 
-/// A cell: the transmit path of an access point, the receive halves of its stations, and how many calls may
-/// still be made. A contract sees the whole history of the calls and what the path keeps; the type keeps that
-/// they agree with the machine's run of that history (`wf_def_world`). The history takes no memory: of its
-/// entries the cell has the last alone (a `Record` of wf_cell has all). Only `new` and `of` take memory,
-/// and as much for a history of any length.
+/// A cell: the transmit path of an access point, the receive halves of its stations, and the number of calls
+/// that are left. Contracts see the whole history of the calls and the state of the path; the invariant says
+/// that these agree with the machine's run of that history (`wf_def_world`). The history takes no memory,
+/// since a cell stores only its last entry; `record::Record` stores all entries. Only `new` and `of`
+/// allocate, and their size does not depend on the history's length.
 pub struct Cell {
     engine: Engine,
-    /// How many calls may still be made.
+    /// The number of calls that are left.
     left: u32,
-    /// The last one that was.
+    /// The last call, if any.
     last: Option<(u32, Note)>,
     past: History<Note>,
 }
 
-// By hand, so that whoever lets a cell go proves one call and not the drop of each list in it.
+// By hand, so that a caller that drops a cell proves one call, not the drop of each list in it.
 impl Drop for Cell {
     fn drop(self) {
         let Cell {
@@ -73,8 +73,8 @@ impl Model for Cell {
 }
 
 impl Cell {
-    /// A cell of these settings: no station is live, and no call was made. Refused as BadConfig where a
-    /// setting is out of its range, with the first such setting, or as NoMemory.
+    /// Makes a cell with these settings: no station is live, and no call was made. Fails with `BadConfig` and
+    /// the first setting that is out of its range, or with `NoMemory`.
     pub fn new(alloc: Global, config: Config) -> Result<Cell, NewFault>
         ensures bad { (f : Field) →
             (result ≡ Err (NewFault.BadConfig f)) ↔ (first_out_of_range config ≡ Some f) }
@@ -89,7 +89,7 @@ impl Cell {
         Ok(cell)
     }
 
-    /// The same of settings that are in their ranges. Fails only for want of memory.
+    /// Makes a cell with settings that are in their ranges. Fails only if there is no memory.
     pub fn of(alloc: Global, config: Config) -> Result<Cell, AllocError>
         requires { first_out_of_range config ≡ None }
         ensures past { IfOk result (λ made. made.past ≡ record { config = config; history = [] }) }
@@ -106,48 +106,49 @@ impl Cell {
         })
     }
 
-    /// Makes a call and answers it. The call is one entry of the history, refused or not, while the history
-    /// has fewer entries than the setting `calls`; from then on each call is refused as HistoryFull and is no
-    /// entry.
+    /// Makes a call and answers it. While the history has fewer entries than the setting `calls`, the call
+    /// becomes an entry, refused or not. After that each call is refused as `HistoryFull` and is no entry. A
+    /// frame is returned if it was refused or reaped.
     pub fn step(&mut self, caller: u32, job: Job, answer: &mut Answer) -> Option<Parcel>
-        // where there is room, the history has the call, and the answer is the machine's
-        ensures past { 0 < room_in self.old.past →
+        // if there is room, the history has the call, and the answer is the machine's
+        ensures past { 0 < calls_left_in self.old.past →
             self.new.past ≡ with_entry (by caller (note_of job)) self.old.past }
-        ensures reply { 0 < room_in self.old.past →
+        ensures reply { 0 < calls_left_in self.old.past →
             reply_of answer.new ≡ (step (world_of self.old.past) (note_of job)).reply }
 
-        // the frame that comes back is the one that was refused, or the one that was reaped, as it was
-        // accepted but for its fate
-        ensures parcel { 0 < room_in self.old.past → (bodies : ℕ → FrameValue) →
+        // the returned frame is the one that was refused, or the one that was reaped, unchanged except its
+        // fate
+        ensures parcel { 0 < calls_left_in self.old.past → (bodies : ℕ → FrameValue) →
             StandsFor self.old.half (world_of self.old.past) bodies →
             result ≡ frame_given_back bodies job (reply_of answer.new) }
-        ensures stands { 0 < room_in self.old.past → (bodies : ℕ → FrameValue) →
+        ensures stands { 0 < calls_left_in self.old.past → (bodies : ℕ → FrameValue) →
             StandsFor self.old.half (world_of self.old.past) bodies →
             StandsFor self.new.half (world_of self.new.past)
             (bodies_after self.old.half job (reply_of answer.new) bodies) }
 
-        // an accepted frame brings the body of its id, and a reaped one takes it out; every other body stays,
-        // id by id
-        ensures bodies { 0 < room_in self.old.past → (id : ℕ) →
+        // an accepted frame adds the body of its id, and a reaped frame removes it; all other bodies are
+        // unchanged
+        ensures bodies { 0 < calls_left_in self.old.past → (id : ℕ) →
             body_of self.new.half id ≡ body_after self.old.half (reply_of answer.new) job id }
-        ensures reaped { 0 < room_in self.old.past → (id : ℕ) (fate : Fate) →
+        ensures reaped { 0 < calls_left_in self.old.past → (id : ℕ) (fate : Fate) →
             reply_of answer.new ≡ Reaped id fate →
             IfSome result (λ f. body_of self.old.half id ≡ Some f.body) }
 
-        // a call that is refused leaves the path as it is, and so does one that only receivers hear
+        // a refused call leaves the path unchanged, and so does one that only receivers hear
         ensures path_kept { (is_received job || changes_nothing (reply_of answer.new)) ≡ true →
             self.new.half ≡ self.old.half }
 
-        // so the answer is right, as a gate asks it of a machine
-        ensures right { 0 < room_in self.old.past →
+        // the answer is right, as a gate requires it of a machine
+        ensures right { 0 < calls_left_in self.old.past →
             IsRight self.old.past.config self.old.past.history job (reply_of answer.new) result }
 
-        // where there is none, nothing changes
-        ensures full { room_in self.old.past ≡ 0 → reply_of answer.new ≡ Refused HistoryFull }
-        ensures unchanged { room_in self.old.past ≡ 0 → self.new ≡ self.old }
-        ensures handed_back { room_in self.old.past ≡ 0 → result ≡ frame_of job }
+        // if there is no room, nothing changes
+        ensures full { calls_left_in self.old.past ≡ 0 → reply_of answer.new ≡ Refused HistoryFull }
+        ensures unchanged { calls_left_in self.old.past ≡ 0 → self.new ≡ self.old }
+        ensures handed_back { calls_left_in self.old.past ≡ 0 → result ≡ frame_of job }
 
-        // all laws of runs hold of what was done, in which each frame has 1 to 2304 octets, as some laws ask
+        // all laws of runs hold of the history, in which each frame has 1 to 2304 octets, as some laws
+        // require
         ensures laws { Laws self.new.past.config self.new.past.history }
         ensures lengths { HasLengths self.new.past.history }
     {
@@ -162,7 +163,7 @@ impl Cell {
         self.engine.step(job, answer)
     }
 
-    /// How many entries the history has.
+    /// Returns how many entries the history has.
     pub fn len(&self) -> u64
         ensures count { result ≡ length self.now.past.history }
         ensures most { result ≤ self.now.past.config.calls }
@@ -170,40 +171,41 @@ impl Cell {
         u64::from(self.engine.path.config().calls) - u64::from(self.left)
     }
 
-    /// The last entry of the history, if any: its caller and its call.
+    /// Returns the last entry of the history, if any: its caller and its call.
     pub fn last(&self) -> Option<(u32, Note)>
         ensures { result ≡ slice_get self.now.past.history (length self.now.past.history - 1) }
     {
         self.last
     }
 
-    /// How many entries the history may still take.
-    pub fn room(&self) -> u64
-        ensures { result ≡ room_in self.now.past }
+    /// Returns how many more entries the history has room for.
+    pub fn calls_left(&self) -> u64
+        ensures { result ≡ calls_left_in self.now.past }
     {
         u64::from(self.left)
     }
 
-    /// The settings.
+    /// Returns the settings.
     pub fn config(&self) -> Config
         ensures { result ≡ self.now.past.config }
     {
         self.engine.path.config()
     }
 
-    /// The clock of the world after the history, in microseconds: it goes by at most ten seconds in each of
-    /// at most 4,294,967,295 calls.
+    /// Returns the clock of the world after the history, in microseconds: at most ten seconds for each of at
+    /// most 4,294,967,295 calls.
     pub fn clock(&self) -> u64
         ensures value { result ≡ (world_of self.now.past).clock }
         ensures small { result < 2 ^ 56 }
     {
-        // by the length of the history the clock has its bound
+        // the clock is bounded by the length of the history
         let _calls = self.len();
         self.path().now()
     }
 
-    /// The transmit path. It stands for the world after the history, and has a body for each frame that was
-    /// accepted and is not reaped: the held ones and those on the finished list. Its addresses are made up.
+    /// The transmit path. It represents the world after the history, and has a body for each frame that was
+    /// accepted and is not reaped: the held frames and those on the finished list. Its addresses are the
+    /// placeholders.
     pub fn path(&self) -> &Path
         ensures value { result.now.half ≡ self.now.half }
         ensures addresses { result.now.addresses ≡ made_up }

@@ -1,4 +1,4 @@
-//! A cell may be sent to a thread, and so may a call of it and what comes back: a gate may stand before it.
+//! A cell, its calls and their replies may be sent to another thread, so a gate may share a cell.
 
 use crate::Cell;
 use crate::machine::{Answered, Asking};

@@ -1,4 +1,4 @@
-//! What a cell has beside its history: the path, the receive halves and the marks.
+//! The engine: a cell without its history.
 
 ghost use Rattle.std.specs.Prelude.{◌≡◌, ◌||◌, ℕ, true, None, IfOk};
 ghost use Rattle.wf_frame.specs.Frames.{FrameValue};
@@ -17,24 +17,22 @@ use crate::peers::Peers;
 use std::alloc::{AllocError, Global};
 use std::marker::Model;
 use wf_frame::{Answer, Ask, Brief, Class, Config};
+use wf_octets::header::GREATEST_MPDU;
 use wf_octets::seq12::Seq12;
 use wf_path::{Job, Path};
 use wf_queue_parts::chain::Parcel;
-use wf_send_parts::exchanges::Marks;
+use wf_recv_marks::Marks;
 
-/// The most octets of one transmission: a header of 26 and a body of 2304.
-pub(crate) const LONGEST: usize = 2330;
-
-/// The path, the receive half of each station and the marks of the open exchanges. A contract says of a call
-/// what it makes of each world that they stand for. The path's addresses are the made-up ones, and so are the
-/// stations' own. Only `new` takes memory.
+/// The path, the receive half of each station, and the marks of the open exchanges. The contract of a call
+/// says what it makes of each world that these represent. The path and the stations have the placeholder
+/// addresses. Only `new` allocates.
 #[derive(Drop)]
 pub(crate) struct Engine {
     pub(crate) path: Path,
     pub(crate) peers: Peers,
     pub(crate) marks: Marks,
     /// The octets of a transmission that is on the air.
-    pub(crate) octets: [u8; LONGEST],
+    pub(crate) octets: [u8; GREATEST_MPDU],
 }
 
 impl Model for Engine {
@@ -50,7 +48,8 @@ impl Model for Engine {
 }
 
 impl Engine {
-    /// An engine of these settings, each of which must be in its range: it stands for the opening world.
+    /// Makes an engine with these settings, each of which must be in its range. It represents the opening
+    /// world.
     pub(crate) fn new(alloc: Global, config: Config) -> Result<Engine, AllocError>
         requires { first_out_of_range config ≡ None }
         ensures { IfOk result (λ made. (bodies : ℕ → FrameValue) → EngineIsIn made (opening config) bodies) }
@@ -62,14 +61,14 @@ impl Engine {
                 path,
                 peers,
                 marks,
-                octets: [0; LONGEST],
+                octets: [0; GREATEST_MPDU],
             }),
-            // the settings are in their ranges, so it is memory that there is none of
+            // the settings are in their ranges, so there is no memory
             Err(_) => Err(AllocError),
         }
     }
 
-    /// Makes a call and answers it. A frame comes back exactly where it was refused, or reaped.
+    /// Makes a call and answers it. A frame is returned exactly if it was refused or reaped.
     pub(crate) fn step(&mut self, job: Job, answer: &mut Answer) -> Option<Parcel>
         requires some { EngineHasWorld self.old }
         requires small { IsSmall self.old.half }
@@ -84,7 +83,7 @@ impl Engine {
         }
     }
 
-    // A call that brings no frame.
+    // Makes a call that has no frame.
     fn ask(&mut self, ask: Ask, answer: &mut Answer) -> Option<Parcel>
         requires some { EngineHasWorld self.old }
         requires small { IsSmall self.old.half }
@@ -128,7 +127,7 @@ impl Engine {
         }
     }
 
-    // A station joins: its receive half is new.
+    // Makes a station join, with a new receive half.
     fn join(
         &mut self,
         station: u16,
@@ -162,7 +161,7 @@ impl Engine {
         }
     }
 
-    // The next exchange of a class opens: it has a mark.
+    // Opens the next exchange of a class, with a mark.
     fn pull(&mut self, class: Class, answer: &mut Answer)
         requires some { EngineHasWorld self.old }
         requires small { IsSmall self.old.half }

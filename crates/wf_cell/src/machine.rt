@@ -1,8 +1,8 @@
-//! The cell as a machine: what a caller hands in, and what comes back.
+//! The cell as a machine, with its calls and replies.
 
 ghost use Rattle.wf_frame.specs.Answers.{reply_of};
 ghost use Rattle.wf_path.specs.Jobs.{note_of};
-ghost use Rattle.wf_cell.specs.Cells.{room_in};
+ghost use Rattle.wf_cell.specs.Cells.{calls_left_in};
 ghost use Rattle.wf_cell.specs.Rights.{IsRight};
 
 use crate::Cell;
@@ -12,27 +12,27 @@ use wf_machine::Machine;
 use wf_path::Job;
 use wf_queue_parts::chain::Parcel;
 
-/// A call of a cell, with the answer that it fills. Who calls makes the answer once, and has it back after
+/// A call of a cell, with the answer that it fills. The caller makes the answer once, and gets it back after
 /// each call.
 #[derive(Drop)]
 pub struct Asking {
     /// The call.
     pub job: Job,
-    /// Where the call is answered; what an earlier one left there does not show.
+    /// The answer to the call. Its content before the call does not matter.
     pub answer: Box<Answer, Global>,
 }
 
-/// What comes back of a call.
+/// The reply to a call.
 #[derive(Drop)]
 pub struct Answered {
-    /// The answer, where the caller handed it in.
+    /// The answer that the caller passed.
     pub answer: Box<Answer, Global>,
-    /// The frame that was refused, or reaped.
+    /// The frame that was refused or reaped, if any.
     pub parcel: Option<Parcel>,
 }
 
-/// A reply is right where it is that of the run of the history, and where the frame that comes back with it
-/// is the one that it tells of.
+/// A reply is right if it is the one in the run of the history, and if the returned frame is the one that the
+/// reply refers to.
 impl Machine for Cell {
     type Call = Asking;
 
@@ -46,14 +46,14 @@ impl Machine for Cell {
 
     ghost settings = { λ cell. cell.past.config };
 
-    ghost room = { λ cell. room_in cell.past };
+    ghost calls_left = { λ cell. calls_left_in cell.past };
 
     ghost note = { λ call. note_of call.job };
 
     ghost right = { λ settings history caller call back. IsRight settings history call.job (reply_of back.answer.value) back.parcel };
 
-    fn room(&self) -> u64 {
-        Cell::room(self)
+    fn calls_left(&self) -> u64 {
+        Cell::calls_left(self)
     }
 
     fn step(&mut self, caller: u32, call: Asking) -> Answered {

@@ -2,9 +2,9 @@
 
 ghost use Rattle.std.specs.Prelude.{◌≡◌, ℕ, ◌<◌, ◌≤◌, [], length, nat_lt, IfOk};
 ghost use Rattle.wf_recv_peer.specs.Agreements.{new_peer};
-ghost use Rattle.wf_recv_refines.specs.Arriving.{buffer_outcome_of_transmission, peer_after};
+ghost use Rattle.wf_cell_model.specs.Arriving.{buffer_outcome_of_transmission, peer_after};
 ghost use Rattle.wf_def_world.specs.World.{Content};
-ghost use Rattle.wf_recv_refines.specs.Hearing.{AreNew, HasAddresses, agreement_of, peer_of, with_peer};
+ghost use Rattle.wf_cell_model.specs.Hearing.{AreNew, HasAddresses, agreement_of, peer_of, with_peer};
 ghost use Rattle.wf_cell.specs.Octets.{IsForStation, IsSentTo};
 
 use std::alloc::{AllocError, Global};
@@ -20,18 +20,18 @@ use wf_send_parts::exchanges::widened;
 /// The octets of a BlockAck of 256 numbers.
 const WIDE: usize = 52;
 
-/// What a station's BlockAck says.
+/// The content of a station's BlockAck.
 #[derive(Clone, Copy)]
 pub(crate) struct BlockAck {
-    /// The first number that it tells of.
+    /// The first number of its bitmap.
     pub(crate) start: Seq12,
-    /// How far past the start each number stands that arrived.
+    /// The bitmap: a bit for each number from the start on.
     pub(crate) bits: Bits256,
-    /// It tells of 256 numbers, and not of 64.
+    /// Whether its bitmap has 256 bits, not 64.
     pub(crate) wide: bool,
 }
 
-/// The receive half of each station, by its number. A contract sees them as a list. Only `new` takes memory.
+/// The receive half of each station, by its number. Contracts see them as a list. Only `new` allocates.
 #[derive(Drop)]
 pub(crate) struct Peers {
     list: Vec<Peer>,
@@ -50,8 +50,8 @@ impl Model for Peers {
 }
 
 impl Peers {
-    /// The receive halves of so many stations, to which nothing came. Each has its made-up address and knows
-    /// the access point by its own.
+    /// Makes the receive halves of this many stations, without any frame. Each has its own placeholder
+    /// address and the access point's.
     pub(crate) fn new(alloc: Global, stations: u32) -> Result<Peers, AllocError>
         requires { stations ≤ 256 }
         ensures { IfOk result (λ made. AreNew stations made) }
@@ -64,7 +64,8 @@ impl Peers {
         Ok(Peers { list })
     }
 
-    /// The receive half of a station that joins: its first number, and its window of 1 to 256 numbers.
+    /// Resets the receive half of a station that joins, to its first number and its window of 1 to 256
+    /// numbers.
     pub(crate) fn reset(&mut self, station: u16, start: Seq12, size: u16)
         requires within { station < length self.old }
         requires size { (1 ≤ size) × (size ≤ 256) }
@@ -74,8 +75,8 @@ impl Peers {
         self.list[usize::from(station)].reset(start, size);
     }
 
-    /// Octets that are for this station reach it. The ids of the frames that it passes up go into `up`, which
-    /// must be empty.
+    /// Passes octets for a station to its receive half. `up`, which must be empty, gets the ids of the frames
+    /// that it passes up.
     pub(crate) fn receive(&mut self, station: u16, octets: &[u8], id: u64, up: &mut Ids)
         requires within { station < length self.old }
         requires addresses { HasAddresses station (peer_of self.old station) }
@@ -97,7 +98,7 @@ impl Peers {
         }
     }
 
-    /// What a station's BlockAck of a traffic identifier below 8 says, written and read back.
+    /// A station's BlockAck for a TID below 8, written as octets and read back.
     pub(crate) fn answer(&self, station: u16, tid: u8) -> BlockAck
         requires within { station < length self.now }
         requires tid { tid < 8 }

@@ -1,4 +1,4 @@
--- What the times of control frames and the charges come to, computed, in microseconds.
+-- Proves the times of control frames and the charges of exchanges, in microseconds, by computation.
 use Rattle.std.proofs.Common.{◌≡◌, refl, arith, ℕ, ◌+◌, true, false}
 use Rattle.wf_def_air.specs.Airtime.{Rate, request_time, answer_time, longest_answer, data_time, data_charge, request_charge}
 

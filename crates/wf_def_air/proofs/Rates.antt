@@ -1,4 +1,4 @@
--- Rates and durations, computed: each row is worked out from the standards' tables.
+-- Proves worked rates and durations by computation. Each row was worked out from the standards' tables.
 use Rattle.std.proofs.Common.{◌≡◌, refl, true, false}
 use Rattle.wf_def_air.specs.Airtime.{Ht, Vht, He, is_rate, bits, kbps, data_time}
 
@@ -50,7 +50,7 @@ longest_single_of_he = refl
 pub two_streams_of_eighty : data_time (Vht 9 80 true 2) 1538 ≡ 60
 two_streams_of_eighty = refl
 
--- six encoders, whose tails are the last bits of a symbol
+-- With six encoders, the tails are the last bits of a symbol.
 pub six_tails_fill_it : data_time (Vht 7 160 true 4) 1163 ≡ 56
 six_tails_fill_it = refl
 

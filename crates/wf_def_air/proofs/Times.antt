@@ -1,5 +1,5 @@
--- How long data takes at most, and that more octets take no less. This module is for other crates'
--- proofs too.
+-- Proves how long data takes at most, and that more octets never take less time. The bounds follow from the
+-- least and the greatest entries of the tables of rates. Proofs of other crates use this module too.
 use Rattle.std.proofs.Common.{◌≡◌, refl, arith, ℕ, zero, suc, ◌+◌, ◌-◌, ◌*◌, ◌/◌, ◌%◌, ◌<◌, ◌≤◌, ◌==◌, ◌&&◌, Bool, true, false, if◌then◌else◌, List, [], ◌∷◌, length, slice_index}
 use Rattle.std.specs.Prelude.{nat_le}
 use Rattle.std.proofs.lemmas.Bool.{and_parts, leb-true}
@@ -12,7 +12,7 @@ use Rattle.wf_def_lists.specs.Bounds.{greatest_mcs}
 use Rattle.wf_def_air.specs.Airtime.{Rate, Ht, Vht, He, is_rate, are_streams, is_wide_width, greatest_vht_mcs, greatest_he_mcs, streams, modulation, bits_of_twelve, carriers_of_312, carriers_of_78, bits, symbol_tenths, kbps, vht_encoders, encoder_bits, encoders, symbols, training_fields, training_tenths, whole_symbols, payload_tenths, data_time}
 use Rattle.wf_def_air.specs.Fit.{subframe_octets}
 
--- ---- numbers of a list lie between two
+-- ---- bounds on the numbers of a list
 
 abbrev all_between : ℕ → ℕ → List ℕ → Bool
 all_between low high [] = true
@@ -51,9 +51,9 @@ many_carriers mhz = between_if (mhz == 40) 234 1960 468 _ (omega arith, omega ar
     (between_if (mhz == 80) 234 1960 980 _ (omega arith, omega arith)
     (between_if (mhz == 160) 234 1960 1960 234 (omega arith, omega arith) (omega arith, omega arith)))
 
--- ---- what may stand in a rate
+-- ---- bounds on the parts of a rate
 
--- a symbol of HT and VHT
+-- The time of a symbol of HT and VHT.
 symbol_between : (short : Bool) → (36 ≤ (if short then 36 else 40)) × ((if short then 36 else 40) ≤ 40)
 symbol_between true = (omega arith, omega arith)
 symbol_between false = (omega arith, omega arith)
@@ -74,9 +74,9 @@ training_most : (b : Bool) (n : ℕ) → n ≤ 32 → (if b then 128 else 64) + 
 training_most true n h = omega (arith, h)
 training_most false n h = omega (arith, h)
 
--- ---- the bits of a symbol
+-- ---- the bits in a symbol
 
--- so many carriers, streams and bits of twelve carriers
+-- Bounds on the bits in a symbol, from bounds on its carriers, its streams and the bits of twelve carriers.
 some_bits : (c n t least most : ℕ) → (least ≤ c) × (c ≤ most) → (1 ≤ n) × (n ≤ 8) → (6 ≤ t) × (t ≤ 100) →
     (least * 6 / 12 ≤ c * n * t / 12) × (c * n * t / 12 ≤ most * 800 / 12)
 some_bits c n t least most carried streamed coded =
@@ -86,7 +86,7 @@ some_bits c n t least most carried streamed coded =
     mul-le (c * n) t (most * 8) 100 (mul-le c n most 8 carried.1 streamed.1) coded.1 in
     (omega (arith, low), omega (arith, high))
 
--- an MCS of HT, of one or two streams
+-- An MCS of HT has one or two streams.
 ht_streams : (mcs : ℕ) → mcs ≤ greatest_mcs → (1 ≤ 1 + mcs / 8) × (1 + mcs / 8 ≤ 2)
 ht_streams mcs h =
     let few : mcs / 8 < 2 = div_below mcs 8 2 (omega arith) (omega (arith, h)) in
@@ -97,13 +97,13 @@ streams_are n h =
     let parts = and_parts (nat_le 1 n) (nat_le n 8) h in
     (leb-true 1 n parts.0, leb-true n 8 parts.1)
 
--- a symbol takes at least so many tenths of a microsecond
+-- A lower bound on the time of a symbol, in tenths of a microsecond.
 abbrev pub least_symbol : Rate → ℕ
 least_symbol (Ht mcs mhz short) = 36
 least_symbol (Vht mcs mhz short n) = 36
 least_symbol (He mcs mhz guard n) = 136
 
--- what is needed of a rate: its streams, and its place in the table of modulations
+-- Bounds on the parts of a rate: its streams, its index in the table of modulations, and its times.
 pub record IsInRange (r : Rate) : Type 0 where
   pub streamed : (1 ≤ streams r) × (streams r ≤ 8)
   pub coded : modulation r < 12
@@ -147,7 +147,7 @@ rate_in_range (He mcs mhz guard n) h =
       trained = training_most (guard == 3200) (guard / 100) short;
     }
 
--- the bits of a symbol of a rate, and of a rate of HE
+-- The bits in a symbol of any rate.
 pub bits_between : (r : Rate) → IsInRange r → (26 ≤ bits r) × (bits r ≤ 130666)
 bits_between (Ht mcs mhz short) h =
     let between = some_bits (carriers_of_312 mhz) (1 + mcs / 8) (slice_index bits_of_twelve (mcs % 8)) 52 468
@@ -162,6 +162,7 @@ bits_between (He mcs mhz guard n) h =
     (many_carriers mhz) h.streamed (twelve_between mcs h.coded) in
     (omega (arith, between.0), between.1)
 
+-- The bits in a symbol of HE, and of VHT.
 he_bits : (mcs mhz guard n : ℕ) → IsInRange (He mcs mhz guard n) → 117 ≤ bits (He mcs mhz guard n)
 he_bits mcs mhz guard n h =
     (some_bits (carriers_of_78 mhz) n (slice_index bits_of_twelve mcs) 234 1960
@@ -175,15 +176,15 @@ vht_bits mcs mhz short n h =
 
 -- ---- quotients
 
--- a quotient lies between two where the number lies between so many divisors
+-- A quotient is between `low` and `high` if the number is between the products of these with the divisor.
 quotient_between : (x b low high : ℕ) → 0 < b → low * b ≤ x → x < (high + 1) * b →
     (low ≤ x / b) × (x / b ≤ high)
 quotient_between x b low high some h k =
     let below : x / b < high + 1 = div_below x b (high + 1) some k in
     (le-div low x b some h, omega (arith, below))
 
--- a quotient that is rounded up is at most q where the divisor is at least that for which it would
--- be q
+-- A quotient that is rounded up is at most q if the number is at most q * least and the divisor is at least
+-- `least`.
 ceil_most : (x b q least : ℕ) → 0 < least → least ≤ b → x ≤ q * least → ceil_div x b ≤ q
 ceil_most x b q least some h k =
     let more : q * least ≤ q * b = mul-le-mul_left q h in
@@ -198,7 +199,7 @@ div_less x y (suc k) h = le-div (x / suc k) y (suc k) (omega arith)
 
 -- ---- kbit/s
 
--- so many bits in so many tenths of a microsecond
+-- The rate in kbit/s of b bits in t tenths of a microsecond.
 kbps_of : (b t few many short long : ℕ) → (few ≤ b) × (b ≤ many) → (short ≤ t) × (t ≤ long) → 0 < short →
     6500 * long ≤ 10000 * few → 10000 * many < 9607795 * short →
     (6500 ≤ 10000 * b / t) × (10000 * b / t ≤ 9607794)
@@ -241,7 +242,7 @@ few_encoders (Ht mcs mhz short) h = omega arith
 few_encoders (Vht mcs mhz short n) h = few_vht_encoders mcs mhz n _ (vht_bits mcs mhz short n h)
 few_encoders (He mcs mhz guard n) h = omega arith
 
--- so many symbols at most where that many hold the octets at 26 bits a symbol
+-- The octets take at most `most` symbols if that many symbols of 26 bits hold them.
 pub few_symbols : (r : Rate) (octets most : ℕ) → IsInRange r → 8 * octets + 106 ≤ most * 26 →
     symbols r octets ≤ most
 few_symbols r octets most h k =
@@ -249,7 +250,7 @@ few_symbols r octets most h k =
     ceil_most (8 * octets + (16 + 6 * encoders r)) (bits r) most 26 (omega arith) (bits_between r h).0
     (omega (arith, tails, k))
 
--- the same of HE, which has one encoder and 117 bits a symbol or more
+-- The same for HE, which has one encoder and at least 117 bits in a symbol.
 few_he_symbols : (mcs mhz guard n octets most : ℕ) → IsInRange (He mcs mhz guard n) →
     8 * octets + 22 ≤ most * 117 → symbols (He mcs mhz guard n) octets ≤ most
 few_he_symbols mcs mhz guard n octets most h k =
@@ -266,14 +267,16 @@ few_in_preamble : (streams : ℕ) → (1 ≤ streams) × (streams ≤ 8) →
     slice_index training_fields (streams - 1) ≤ 8
 few_in_preamble streams h = few_fields (streams - 1) (omega (arith, h.0, h.1))
 
--- so many symbols of HT and VHT
+-- The payload time of at most `most` symbols of HT and VHT.
 payload_most : (short : Bool) (n most : ℕ) → n ≤ most →
     whole_symbols ((if short then 36 else 40) * n) ≤ 40 * most
 payload_most short n most h =
     let time : (if short then 36 else 40) * n ≤ 40 * most = mul-le _ n 40 most (short_symbol short) h in
     omega (arith, time)
 
--- a rate takes at most so long for octets that fill so many symbols of 26 bits, or, of HE, of 117
+-- Data takes at most `longest` microseconds, if `most` symbols of 26 bits hold the octets at a rate of HT
+-- or VHT, `he_most` symbols of 117 bits hold them at a rate of HE, and `longest` is enough for the preamble
+-- and these symbols.
 pub time_most : (r : Rate) (octets most he_most longest : ℕ) → IsInRange r → 8 * octets + 106 ≤ most * 26 →
     8 * octets + 22 ≤ he_most * 117 → 68 + 4 * most ≤ longest → 164 + 16 * he_most ≤ longest →
     data_time r octets ≤ longest
@@ -303,22 +306,21 @@ time_most (He mcs mhz guard n) octets most he_most longest h k l m n' =
     h.trained fields in
     omega (arith, payload, training, n')
 
--- a frame alone takes at most 3000 microseconds, the least time that the settings allow for an
--- aggregate
+-- A single frame takes at most 3000 microseconds, the least limit that the settings allow for an aggregate.
 pub single_time : (r : Rate) (octets : ℕ) → is_rate r ≡ true → octets ≤ subframe_octets greatest_body →
     data_time r octets ≤ 3000
 single_time r octets h k =
     time_most r octets 724 161 3000 (rate_in_range r h) (omega (arith, k)) (omega (arith, k)) (omega arith)
     (omega arith)
 
--- the longest aggregate takes less than 1,300,000
+-- The longest aggregate takes at most 1,300,000 microseconds.
 pub longest_time : (r : Rate) (octets : ℕ) → is_rate r ≡ true → octets ≤ 1048575 →
     data_time r octets ≤ 1300000
 longest_time r octets h k =
     time_most r octets 322643 71699 1300000 (rate_in_range r h) (omega (arith, k)) (omega (arith, k))
     (omega arith) (omega arith)
 
--- more octets take no less
+-- More octets never take less time.
 pub time_less : (r : Rate) (a b : ℕ) → a ≤ b → data_time r a ≤ data_time r b
 time_less r a b h = go r
   where

@@ -1,42 +1,43 @@
--- Which rates there are, how long a transmission takes, in whole microseconds, and what an exchange
--- is charged, at 5 GHz. Data goes by HT, mixed format (IEEE 802.11-2012, clause 20), by VHT to one
--- station (802.11-2016, clause 21) or by HE to one station (802.11ax-2021, clause 27); control
--- frames have OFDM timing (802.11-2012, 18.4.3) at 24 Mbit/s. Times inside a transmission are
--- tenths of a microsecond where a name says so.
+-- Defines which rates there are, how long a transmission takes, and the charge of an exchange, at 5 GHz.
+-- Data is sent with HT, mixed format (IEEE 802.11-2012, clause 20), with VHT to one station (802.11-2016,
+-- clause 21) or with HE to one station (802.11ax-2021, clause 27). Control frames are sent with OFDM
+-- (802.11-2012, 18.4.3) at 24 Mbit/s. Times are in whole microseconds, or in tenths of a microsecond if the
+-- name says so.
 use Rattle.std.specs.Prelude.{◌≡◌, ℕ, ◌+◌, ◌-◌, ◌*◌, ◌/◌, ◌%◌, ◌==◌, nat_le, Bool, true, false, not, ◌&&◌, ◌||◌, List, [], ◌∷◌, if◌then◌else◌, slice_index}
 use Rattle.wf_def_lists.specs.Table.{ceil_div, has}
 use Rattle.wf_def_lists.specs.Bounds.{greatest_mcs}
 
 -- ---- rates
 
--- a rate: its MCS, the channel's width in MHz, the guard interval (of HT and VHT the short one of
--- 400 ns or the long one of 800, of HE in nanoseconds), and how many spatial streams, which of HT
--- the MCS says
+-- A rate: its MCS, the width of the channel in MHz, the guard interval, and the number of spatial streams.
+-- The guard interval of HT and VHT is short (400 ns) or long (800 ns); that of HE is in nanoseconds. The
+-- MCS of HT determines the number of streams.
 pub data Rate : Type 0 where
   Ht : (mcs mhz : ℕ) (short : Bool) → Rate
   Vht : (mcs mhz : ℕ) (short : Bool) (streams : ℕ) → Rate
   He : (mcs mhz guard streams : ℕ) → Rate
 
--- the most robust rate
+-- The most robust rate: HT MCS 0, 20 MHz, long guard interval.
 abbrev pub lowest_rate : Rate
 lowest_rate = Ht 0 20 false
 
--- the greatest MCS of VHT (21.5) and of HE (27.5)
+-- The greatest MCS of VHT (21.5).
 abbrev pub greatest_vht_mcs : ℕ
 greatest_vht_mcs = 9
 
+-- The greatest MCS of HE (27.5).
 abbrev pub greatest_he_mcs : ℕ
 greatest_he_mcs = 11
 
--- the most spatial streams of VHT and HE to one station
+-- The greatest number of spatial streams of VHT and HE to one station.
 abbrev pub greatest_streams : ℕ
 greatest_streams = 8
 
--- whether a channel of VHT or HE may be so wide, in MHz
+-- Returns whether a channel of VHT or HE may have this width in MHz.
 abbrev pub is_wide_width : ℕ → Bool
 is_wide_width mhz = has (20 ∷ 40 ∷ 80 ∷ 160 ∷ []) mhz
 
--- with how many streams VHT has no rate of an MCS on a width (21.5)
+-- Returns the numbers of streams for which VHT has no rate with this MCS and width (21.5).
 abbrev pub streams_left_out : ℕ → ℕ → List ℕ
 streams_left_out mcs mhz =
     if (mcs == 9) && (mhz == 20) then 1 ∷ 2 ∷ 4 ∷ 5 ∷ 7 ∷ 8 ∷ []
@@ -44,11 +45,11 @@ streams_left_out mcs mhz =
     else (if (mcs == 9) && (mhz == 80) then 6 ∷ []
     else (if (mcs == 9) && (mhz == 160) then 3 ∷ [] else [])))
 
--- whether there may be so many spatial streams
+-- Returns whether n is a possible number of spatial streams: 1 to 8.
 abbrev pub are_streams : ℕ → Bool
 are_streams n = nat_le 1 n && nat_le n greatest_streams
 
--- whether there is such a rate (20.6, 21.5, 27.5)
+-- Returns whether the rate is in the standard's tables (20.6, 21.5, 27.5).
 abbrev pub is_rate : Rate → Bool
 is_rate (Ht mcs mhz short) = nat_le mcs greatest_mcs && has (20 ∷ 40 ∷ []) mhz
 is_rate (Vht mcs mhz short n) = nat_le mcs greatest_vht_mcs
@@ -56,81 +57,83 @@ is_rate (Vht mcs mhz short n) = nat_le mcs greatest_vht_mcs
 is_rate (He mcs mhz guard n) = nat_le mcs greatest_he_mcs
     && (is_wide_width mhz && (are_streams n && has (800 ∷ 1600 ∷ 3200 ∷ []) guard))
 
--- there is such a rate
+-- The rate is in the standard's tables.
 abbrev pub IsRate : Rate → Type 0
 IsRate r = is_rate r ≡ true
 
--- the spatial streams: of HT one for MCS 0 to 7, two for MCS 8 to 15 (20.6)
+-- Returns the number of spatial streams. HT has one for MCS 0 to 7 and two for MCS 8 to 15 (20.6).
 abbrev pub streams : Rate → ℕ
 streams (Ht mcs mhz short) = 1 + mcs / 8
 streams (Vht mcs mhz short n) = n
 streams (He mcs mhz guard n) = n
 
--- which modulation and code each stream has: the MCS, which of HT begins anew with each stream
+-- Returns the index of the modulation and coding of each stream: the MCS, modulo 8 for HT.
 abbrev pub modulation : Rate → ℕ
 modulation (Ht mcs mhz short) = mcs % 8
 modulation (Vht mcs mhz short n) = mcs
 modulation (He mcs mhz guard n) = mcs
 
--- the data bits of twelve carriers by modulation and code: 12 times the bits of a carrier times the
--- code's rate, from 1 bit at 1/2 to 10 bits at 5/6 (20.6, 21.5, 27.5)
+-- The data bits of twelve carriers, by modulation and coding: 12 times the bits of a carrier times the code
+-- rate, from 1 bit at 1/2 to 10 bits at 5/6 (20.6, 21.5, 27.5).
 abbrev pub bits_of_twelve : List ℕ
 bits_of_twelve = 6 ∷ 12 ∷ 18 ∷ 24 ∷ 36 ∷ 48 ∷ 54 ∷ 60 ∷ 72 ∷ 80 ∷ 90 ∷ 100 ∷ []
 
--- the data carriers of HT and VHT by the width in MHz (clauses 20 and 21)
+-- Returns the number of data carriers of HT and VHT, spaced 312.5 kHz, for a width in MHz (clauses 20 and
+-- 21).
 abbrev pub carriers_of_312 : ℕ → ℕ
 carriers_of_312 mhz = if mhz == 40 then 108 else (if mhz == 80 then 234 else (if mhz == 160 then 468 else 52))
 
--- the data carriers of HE by the width in MHz (clause 27)
+-- Returns the number of data carriers of HE, spaced 78.125 kHz, for a width in MHz (clause 27).
 abbrev pub carriers_of_78 : ℕ → ℕ
 carriers_of_78 mhz =
     if mhz == 40 then 468 else (if mhz == 80 then 980 else (if mhz == 160 then 1960 else 234))
 
--- the data carriers
+-- Returns the number of data carriers of a rate.
 abbrev pub carriers : Rate → ℕ
 carriers (Ht mcs mhz short) = carriers_of_312 mhz
 carriers (Vht mcs mhz short n) = carriers_of_312 mhz
 carriers (He mcs mhz guard n) = carriers_of_78 mhz
 
--- the data bits in a symbol; a fraction falls away
+-- Returns the data bits in a symbol, rounded down.
 abbrev pub bits : Rate → ℕ
 bits r = carriers r * streams r * slice_index bits_of_twelve (modulation r) / 12
 
--- a symbol's time in tenths of a microsecond: 4 microseconds with the long guard interval and 3.6
--- with the short one, and of HE 12.8 and the guard interval
+-- Returns the time of a symbol in tenths of a microsecond. HT and VHT: 4 microseconds with the long guard
+-- interval, 3.6 with the short one. HE: 12.8 microseconds and the guard interval.
 abbrev pub symbol_tenths : Rate → ℕ
 symbol_tenths (Ht mcs mhz short) = if short then 36 else 40
 symbol_tenths (Vht mcs mhz short n) = if short then 36 else 40
 symbol_tenths (He mcs mhz guard n) = 128 + guard / 100
 
--- the data rate in kbit/s, rounded down
+-- Returns the data rate in kbit/s, rounded down.
 abbrev pub kbps : Rate → ℕ
 kbps r = 10000 * bits r / symbol_tenths r
 
 -- ---- data
 
--- the SERVICE field, in bits (18.4.3, 20.4.3)
+-- The length of the SERVICE field in bits (18.4.3, 20.4.3).
 abbrev pub service_bits : ℕ
 service_bits = 16
 
--- the tail of each encoder, in bits (18.4.3, 20.4.3)
+-- The tail of each encoder in bits (18.4.3, 20.4.3).
 abbrev pub tail_bits : ℕ
 tail_bits = 6
 
--- both, in bits, with one encoder
+-- The SERVICE field and the tail of one encoder, in bits.
 abbrev pub service_and_tail_bits : ℕ
 service_and_tail_bits = service_bits + tail_bits
 
--- the data bits that one encoder of VHT takes at most in a symbol (21.5)
+-- The most data bits that one VHT encoder takes in a symbol (21.5).
 abbrev pub encoder_bits : ℕ
 encoder_bits = 2160
 
--- whether a rate of VHT is this one: its width, streams and MCS
+-- Returns whether a VHT rate has the width `width`, the number of streams `streams` and the MCS `at`.
 abbrev is_vht_at : (mcs mhz n width streams : ℕ) → ℕ → Bool
 is_vht_at mcs mhz n width streams at = (mhz == width) && ((n == streams) && (mcs == at))
 
--- how many encoders a rate of VHT has, by the data bits in its symbol (21.5): as few as take the
--- bits, but for thirteen rates, where each encoder has to have whole blocks of its code in a symbol
+-- Returns the number of encoders of a VHT rate, from the data bits in its symbol (21.5). It is the least
+-- number that takes the bits, except at thirteen rates, at which each encoder needs whole blocks of its
+-- code in a symbol.
 abbrev pub vht_encoders : (mcs mhz n : ℕ) → ℕ → ℕ
 vht_encoders mcs mhz n per_symbol =
     if is_vht_at mcs mhz n 80 7 2 then 3
@@ -143,48 +146,48 @@ vht_encoders mcs mhz n per_symbol =
     || is_vht_at mcs mhz n 160 8 8) then 12
     else ceil_div per_symbol encoder_bits))))
 
--- the encoders of a rate: one of HT and of HE
+-- Returns the number of encoders of a rate. HT and HE have one.
 abbrev pub encoders : Rate → ℕ
 encoders (Ht mcs mhz short) = 1
 encoders (Vht mcs mhz short n) = vht_encoders mcs mhz n (bits (Vht mcs mhz short n))
 encoders (He mcs mhz guard n) = 1
 
--- the symbols of so many octets, with the SERVICE field and the tails; the last one begun counts
--- whole (20.4.3, 21.4.3, 27.4.3)
+-- Returns the number of symbols of this many octets, with the SERVICE field and the tails. The last symbol
+-- counts whole (20.4.3, 21.4.3, 27.4.3).
 abbrev pub symbols : Rate → ℕ → ℕ
 symbols r octets = ceil_div (8 * octets + (service_bits + tail_bits * encoders r)) (bits r)
 
--- the preamble up to its long training fields, in tenths of a microsecond. HT mixed: L-STF 8
--- microseconds, L-LTF 8, L-SIG 4, HT-SIG 8 and HT-STF 4 (20.3.7). VHT: the same with VHT-SIG-A and
--- VHT-STF, and VHT-SIG-B 4 behind the training fields (21.3.2). HE: L-STF 8, L-LTF 8, L-SIG 4,
--- RL-SIG 4, HE-SIG-A 8 and HE-STF 4 (clause 27)
+-- Returns the time of the preamble without its long training fields, in tenths of a microsecond. HT mixed:
+-- L-STF 8 microseconds, L-LTF 8, L-SIG 4, HT-SIG 8 and HT-STF 4 (20.3.7). VHT: the same with VHT-SIG-A and
+-- VHT-STF, and VHT-SIG-B 4 after the training fields (21.3.2). HE: L-STF 8, L-LTF 8, L-SIG 4, RL-SIG 4,
+-- HE-SIG-A 8 and HE-STF 4 (clause 27).
 abbrev pub preamble_head_tenths : Rate → ℕ
 preamble_head_tenths (Ht mcs mhz short) = 320
 preamble_head_tenths (Vht mcs mhz short n) = 360
 preamble_head_tenths (He mcs mhz guard n) = 360
 
--- how many long training fields there are for 1, 2 .. 8 streams (clauses 20, 21 and 27)
+-- The number of long training fields for 1, 2 .. 8 streams (clauses 20, 21 and 27).
 abbrev pub training_fields : List ℕ
 training_fields = 1 ∷ 2 ∷ 4 ∷ 4 ∷ 6 ∷ 6 ∷ 8 ∷ 8 ∷ []
 
--- a long training field, in tenths of a microsecond: 4 microseconds of HT and VHT; of HE 6.4, or
--- 12.8 with the guard interval of 3200, and the guard interval
+-- Returns the time of a long training field in tenths of a microsecond. HT and VHT: 4 microseconds. HE: the
+-- guard interval and 6.4 microseconds, or 12.8 if the guard interval is 3200 ns.
 abbrev pub training_tenths : Rate → ℕ
 training_tenths (Ht mcs mhz short) = 40
 training_tenths (Vht mcs mhz short n) = 40
 training_tenths (He mcs mhz guard n) = (if guard == 3200 then 128 else 64) + guard / 100
 
--- the preamble's time in tenths of a microsecond
+-- Returns the time of the preamble in tenths of a microsecond.
 abbrev pub preamble_tenths : Rate → ℕ
 preamble_tenths r = preamble_head_tenths r
     + training_tenths r * slice_index training_fields (streams r - 1)
 
--- a time in tenths of a microsecond, rounded up to whole symbols of 4 microseconds
+-- Rounds a time in tenths of a microsecond up to a multiple of 4 microseconds.
 abbrev pub whole_symbols : ℕ → ℕ
 whole_symbols tenths = 40 * ceil_div tenths 40
 
--- the payload's time in tenths of a microsecond; of HT and VHT it ends with a whole symbol of the
--- long guard interval (TXTIME: 20.4.3, 21.4.3, 27.4.3)
+-- Returns the time of the payload of this many octets, in tenths of a microsecond (TXTIME: 20.4.3, 21.4.3,
+-- 27.4.3). HT and VHT round it up to whole symbols of the long guard interval.
 abbrev pub payload_tenths : Rate → ℕ → ℕ
 payload_tenths (Ht mcs mhz short) octets = whole_symbols
     (symbol_tenths (Ht mcs mhz short) * symbols (Ht mcs mhz short) octets)
@@ -193,67 +196,67 @@ payload_tenths (Vht mcs mhz short n) octets = whole_symbols
 payload_tenths (He mcs mhz guard n) octets =
     symbol_tenths (He mcs mhz guard n) * symbols (He mcs mhz guard n) octets
 
--- the time of an aggregate of so many octets, preamble and payload, in microseconds; of HE rounded
--- up
+-- Returns the time of an aggregate of this many octets, preamble and payload, in microseconds, rounded up.
 abbrev pub data_time : Rate → ℕ → ℕ
 data_time r octets = ceil_div (preamble_tenths r + payload_tenths r octets) 10
 
 -- ---- control frames
 
--- the OFDM preamble and the SIGNAL field, in microseconds: 16 and 4 (18.4.3)
+-- The time of the OFDM preamble and the SIGNAL field, in microseconds: 16 and 4 (18.4.3).
 abbrev pub control_preamble_time : ℕ
 control_preamble_time = 20
 
--- an OFDM symbol, in microseconds (18.4.3)
+-- The time of an OFDM symbol in microseconds (18.4.3).
 abbrev pub control_symbol_time : ℕ
 control_symbol_time = 4
 
--- the data bits in an OFDM symbol at 24 Mbit/s (18.3.2.3)
+-- The data bits in an OFDM symbol at 24 Mbit/s (18.3.2.3).
 abbrev pub control_bits : ℕ
 control_bits = 96
 
--- the time of a control frame of so many octets, in microseconds; the last symbol begun counts
--- whole (18.4.3)
+-- Returns the time of a control frame of this many octets, in microseconds. The last symbol counts whole
+-- (18.4.3).
 abbrev pub control_time : ℕ → ℕ
 control_time octets = control_preamble_time + control_symbol_time * ceil_div
     (8 * octets + service_and_tail_bits) control_bits
 
--- the octets of a frame check sequence (8.2.4.8)
+-- The length of a frame check sequence in octets (8.2.4.8).
 abbrev pub check_octets : ℕ
 check_octets = 4
 
--- the octets of a BlockAckReq without its check sequence (8.3.1.8)
+-- The length of a BlockAckReq in octets, without its check sequence (8.3.1.8).
 abbrev pub request_octets : ℕ
 request_octets = 20
 
--- the octets of a BlockAck without its check sequence: that with a bitmap of 8 octets (8.3.1.9),
--- or, for a wide session, this project's own with one of 32
+-- Returns the length of a BlockAck in octets, without its check sequence: with a bitmap of 8 octets
+-- (8.3.1.9), or of 32 octets for a wide session, which is this project's own.
 abbrev pub block_ack_octets : Bool → ℕ
 block_ack_octets wide = if wide then 52 else 28
 
--- the time of a BlockAckReq, in microseconds
+-- The time of a BlockAckReq in microseconds.
 abbrev pub request_time : ℕ
 request_time = control_time (request_octets + check_octets)
 
--- the time of a BlockAck, in microseconds
+-- Returns the time of a BlockAck in microseconds.
 abbrev pub answer_time : Bool → ℕ
 answer_time wide = control_time (block_ack_octets wide + check_octets)
 
--- ---- what an exchange is charged
+-- ---- charges
 
--- the pause between a frame and its answer, SIFS at 5 GHz, in microseconds (18.4.4)
+-- SIFS, the pause between a frame and its answer, in microseconds at 5 GHz (18.4.4).
 abbrev pub sifs : ℕ
 sifs = 16
 
--- the pause and the longest BlockAck, in microseconds: no exchange is charged more beside its data
+-- The pause and the longest BlockAck, in microseconds. No exchange is charged more than this in addition to
+-- its data or request.
 abbrev pub longest_answer : ℕ
 longest_answer = sifs + answer_time true
 
--- what a data exchange is charged, in microseconds: its data, the pause and the BlockAck
+-- Returns the charge of a data exchange in microseconds: its data, the pause and the BlockAck.
 abbrev pub data_charge : Rate → ℕ → Bool → ℕ
 data_charge r octets wide = data_time r octets + sifs + answer_time wide
 
--- what an exchange of a BlockAckReq is charged, in microseconds: the request, the pause and the
--- BlockAck
+-- Returns the charge of an exchange of a BlockAckReq in microseconds: the request, the pause and the
+-- BlockAck.
 abbrev pub request_charge : Bool → ℕ
 request_charge wide = request_time + sifs + answer_time wide

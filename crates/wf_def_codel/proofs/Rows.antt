@@ -1,6 +1,6 @@
--- Worked dequeues, computed. Each was worked out by hand by the loop of RFC 8289, 5.5 to 5.7: with an
--- interval of 100,000 the steps are 100,000, 70,710, 57,735 and 50,000 for counts of 1 to 4, and with 300,000
--- they are 300,000, 212,132, 173,205 and 150,000.
+-- Proves worked dequeues by computation. Each row was worked out by hand with the loop of RFC 8289, 5.5 to
+-- 5.7. With an interval of 100,000 the steps are 100,000, 70,710, 57,735 and 50,000 for counts of 1 to 4.
+-- With 300,000 they are 300,000, 212,132, 173,205 and 150,000.
 use Rattle.std.specs.Prelude.{ℕ, zero, suc, ◌+◌, List, [], ◌∷◌, ◌++◌, map, Option, Some, None, true, false}
 use Rattle.std.proofs.Common.{◌≡◌, refl}
 use Rattle.wf_def_air.specs.Airtime.{Ht}
@@ -15,21 +15,21 @@ fast = record { target = 20000; interval = 100000 }
 abbrev pub slow : Params
 slow = record { target = 50000; interval = 300000 }
 
--- 6500 kbit/s, and 7222 with the short guard interval
+-- 6500 kbit/s, and 7222 kbit/s with the short guard interval.
 pub of_mcs_0 : params_at (Ht 0 20 false) ≡ slow
 of_mcs_0 = refl
 
 pub of_mcs_0_short : params_at (Ht 0 20 true) ≡ slow
 of_mcs_0_short = refl
 
--- 13000 kbit/s, and 14444
+-- 13000 kbit/s, and 14444 kbit/s with the short guard interval.
 pub of_mcs_1 : params_at (Ht 1 20 false) ≡ fast
 of_mcs_1 = refl
 
 pub of_mcs_1_short : params_at (Ht 1 20 true) ≡ fast
 of_mcs_1_short = refl
 
--- the steps of an interval for some counts
+-- The steps of an interval for these counts.
 abbrev pub steps : ℕ → List ℕ → List ℕ
 steps interval counts = map (λ count. step_of interval count) counts
 
@@ -47,30 +47,31 @@ pub least_and_greatest_steps :
 unfolding step_of
 least_and_greatest_steps = refl
 
--- ---- dequeues one after the other
+-- ---- sequences of dequeues
 
--- A proof whose `unfolding` line names `a_dequeue` computes with all of it.
+-- A proof with `unfolding a_dequeue` may compute with all definitions that are listed here.
 unfoldable pub a_dequeue : Type 0
 unfolding dequeue drops drops_dropping drops_plain state_after state_dropping state_plain step_of
 a_dequeue = Unit {0}
 
--- so many frames of 1500 octets, all queued at 0, with ids from this one on
+-- A list of n frames of 1500 octets, all accepted at time 0, with ids from `id` on.
 abbrev pub frames_from : ℕ → ℕ → List Item
 frames_from id zero = []
 frames_from id (suc n) = record { id = id; stamp = 0; len = 1500 } ∷ frames_from (id + 1) n
 
--- what dequeues give, each frame by its time and its id; what they drop, by ids; and the state at last
+-- The result of several dequeues: the time and the id of each returned frame, the ids of the dropped
+-- frames, and the last state.
 pub record Played : Type 0 where
   pub given : List (ℕ × ℕ)
   pub dropped : List ℕ
   pub state : Codel
 
--- the frame that is given at this time, where one is
+-- The time and the id of a returned frame, if there is one.
 abbrev pub given_at : ℕ → Option Item → List (ℕ × ℕ)
 given_at now (Some x) = (now, x.id) ∷ []
 given_at now None = []
 
--- dequeues at these times
+-- Dequeues once at each of these times.
 abbrev pub played : Params → Codel → List Item → List ℕ → Played
 played p c items [] = record { given = []; dropped = []; state = c }
 played p c items (now ∷ times) =
@@ -82,7 +83,7 @@ played p c items (now ∷ times) =
       state = after.state;
     }
 
--- Drops come at their times: the frame behind a drop is given, so an id that is left out was dropped.
+-- The frame after a dropped frame is returned, so the ids that are missing here were dropped.
 abbrev pub fast_gives : List (ℕ × ℕ)
 fast_gives =
     (30000, 0) ∷
@@ -123,8 +124,8 @@ pub slow_drops_at_their_times :
 unfolding a_dequeue
 slow_drops_at_their_times = refl
 
--- Behind frame 2 are 1500 octets: it is given, though it is late, and so is the last one. A queue without
--- frames gives none, and ends dropping.
+-- Only 1500 octets follow frame 2, so it is returned although it is late. The last frame is returned for
+-- the same reason. A dequeue from the empty queue returns no frame and ends dropping.
 pub last_frames_stay :
     let end = played fast new_codel (frames_from 0 4) (30000 ∷ 9000000 ∷ 9000000 ∷ 9000000 ∷ []) in
     (end.given ≡ (30000, 0) ∷ (9000000, 2) ∷ (9000000, 3) ∷ []) × ((end.state.first_above ≡ 0)
@@ -134,7 +135,7 @@ last_frames_stay = (refl, (refl, refl))
 
 -- ---- the count with which dropping begins again
 
--- a queue that does not drop, of whose frames the first was too long in it at 130000
+-- A queue that is not dropping. Its frames will have waited too long for an interval at 130000.
 abbrev pub resting : ℕ → ℕ → ℕ → Codel
 resting count last_count drop_next = record {
   first_above = 130000;
@@ -144,7 +145,7 @@ resting count last_count drop_next = record {
   dropping = false;
 }
 
--- dropping, with this count, the next drop due at this time
+-- A queue that is dropping, with this count; the next drop is due at this time.
 abbrev pub dropping_again : ℕ → ℕ → Codel
 dropping_again count drop_next = record {
   first_above = 130000;
@@ -154,19 +155,19 @@ dropping_again count drop_next = record {
   dropping = true;
 }
 
--- one dequeue of five frames at this time, from which the second is given
+-- One dequeue at this time, from five frames, drops the first frame and returns the second.
 abbrev pub started_again : ℕ → Codel → Codel → Type 0
 started_again now before after =
     let end = played fast before (frames_from 0 5) (now ∷ []) in
     (end.given ≡ (now, 1) ∷ []) × (end.state ≡ after)
 
--- 100,000 over the root of 4
+-- The step is 100,000 divided by the root of 4.
 pub begins_with_the_drops_of_the_last_time :
     started_again 520000 (resting 5 1 408445) (dropping_again 4 570000)
 unfolding a_dequeue
 begins_with_the_drops_of_the_last_time = (refl, refl)
 
--- A count is kept for 16 intervals, 1,600,000, from the time that was due.
+-- A count is kept for 16 intervals (1,600,000) from the time at which the next drop was due.
 pub begins_so_for_16_intervals : started_again 2008444 (resting 5 1 408445) (dropping_again 4 2058444)
 unfolding a_dequeue
 begins_so_for_16_intervals = (refl, refl)
@@ -175,17 +176,17 @@ pub begins_anew_after_16_intervals : started_again 2008445 (resting 5 1 408445) 
 unfolding a_dequeue
 begins_anew_after_16_intervals = (refl, refl)
 
--- one drop in the last time
+-- The last time had one drop.
 pub begins_anew_after_one_drop : started_again 520000 (resting 3 2 408445) (dropping_again 1 620000)
 unfolding a_dequeue
 begins_anew_after_one_drop = (refl, refl)
 
--- the last time began with more than it ended with
+-- The last time began with a greater count than it ended with.
 pub begins_anew_after_none : started_again 520000 (resting 2 5 408445) (dropping_again 1 620000)
 unfolding a_dequeue
 begins_anew_after_none = (refl, refl)
 
--- 100,000 over the root of 4,294,967,294, above 65535, is 1.
+-- The step is 100,000 divided by the root of 4,294,967,294. That root is above 65535, so the step is 1.
 pub begins_with_a_great_count :
     started_again 520000 (resting 4294967295 1 408445) (dropping_again 4294967294 520001)
 unfolding a_dequeue
@@ -193,7 +194,7 @@ begins_with_a_great_count = (refl, refl)
 
 -- ---- the greatest count
 
--- 4,000,000,000 over the root of 4,294,967,295 is 61,035 and a part.
+-- The step is 4,000,000,000 divided by the root of 4,294,967,295: 61,035 and a fraction.
 abbrev pub almost_greatest : Codel
 almost_greatest = record {
   first_above = 500;

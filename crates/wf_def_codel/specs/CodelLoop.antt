@@ -1,21 +1,22 @@
--- CoDel's dequeue as RFC 8289 tells it (5.5 and 5.6), frame by frame. The RFC's names stand in
--- parentheses; its `dodequeue` is `look_at`, its `control_law` is `control_law`.
+-- Defines CoDel's dequeue frame by frame, as in RFC 8289 (5.5 and 5.6). Names in parentheses are the RFC's.
+-- Its `dodequeue` is `look_at` here, and its `control_law` has the same name.
 use Rattle.std.specs.Prelude.{ℕ, nat_lt, false, not, List, [], ◌∷◌, Some, None, if◌then◌else◌}
 use Rattle.wf_def_codel.specs.Codel.{Item, Params, Codel, Look, look_at, control_law, rise, begin_dropping, Dequeued}
 
--- the frame at the head is given (r.p), if there is one, and nothing is dropped
+-- Returns the frame at the head (r.p), if there is one, and drops nothing.
 abbrev pub giving : Codel → List Item → Dequeued
 giving state [] = record { given = None; dropped = []; rest = []; state = state }
 giving state (x ∷ rest) = record { given = Some x; dropped = []; rest = rest; state = state }
 
--- the frame x is dropped, and then this is done
+-- Drops frame x first, and then has the result d.
 abbrev pub dropping_first : Item → Dequeued → Dequeued
 dropping_first x d = record d { dropped = x ∷ d.dropped }
 
--- While dropping: the loop `while (now >= drop_next && dropping)`, whose next frame is looked at
--- first. Here `next` is when the drop of this frame is due: at a look that is ok it becomes
--- drop_next, and where the look is not ok (ok_to_drop is false), dropping ends and drop_next stays
--- as it was. A drop raises the count, and the drop behind it is due by the control law.
+-- Dequeues while dropping: the loop `while (now >= drop_next && dropping)`. Each round looks at the frame
+-- at the head. `next` is when the drop of this frame is due. If the look is ok (ok_to_drop), drop_next
+-- becomes `next`; the frame is dropped if `next` is not after `now`, else it is returned. If the look is
+-- not ok, dropping ends, drop_next is unchanged, and the frame is returned. A drop raises the count, and
+-- the control law gives the time of the next drop.
 unfoldable pub dequeue_dropping : Params → ℕ → Codel → ℕ → List Item → Dequeued
 dequeue_dropping p now c next [] = giving (record c { first_above = 0; dropping = false }) []
 dequeue_dropping p now c next (x ∷ rest) =
@@ -32,8 +33,9 @@ dequeue_dropping p now c next (x ∷ rest) =
     (x ∷ rest)
     else after_drop)
 
--- While not dropping: where the first look is ok, its frame is dropped, one more look is made, and
--- dropping begins. The frame of the last look is given, whatever that look says.
+-- Dequeues while not dropping. If the first look is ok, its frame is dropped and dropping begins; the next
+-- frame, if there is one, is looked at once and returned, whatever that look says. Otherwise the first
+-- frame is returned.
 unfoldable pub dequeue_plain : Params → ℕ → Codel → List Item → Dequeued
 dequeue_plain p now c [] = giving (record c { first_above = 0 }) []
 dequeue_plain p now c (x ∷ rest) =
@@ -41,7 +43,7 @@ dequeue_plain p now c (x ∷ rest) =
     if not look.ok then giving (record c { first_above = look.first_above }) (x ∷ rest)
     else dropping_first x (giving (begin_dropping p now c (look_at p now look.first_above rest)) rest)
 
--- the dequeue (5.5)
+-- The dequeue (5.5) at time `now`.
 unfoldable pub stepped : Params → ℕ → Codel → List Item → Dequeued
 stepped p now c items =
     if c.dropping then dequeue_dropping p now c c.drop_next items else dequeue_plain p now c items

@@ -1,3 +1,7 @@
-//! CoDel, as definitions: RFC 8289's dequeue as the RFC tells it (CodelLoop), the same in closed form
-//! (Codel), and its parameters by the rate of a station (Parameters).
+//! CoDel, as definitions: the dequeue of RFC 8289 frame by frame, as in the RFC (specs/CodelLoop), the same
+//! dequeue in closed form (specs/Codel), and CoDel's parameters for the rate of a station
+//! (specs/Parameters).
+//!
+//! This crate contains no code. Contracts of other crates cite its definitions. wf_law_rules proves that
+//! both forms of the dequeue are equal.
 #![tactic(auto)]

@@ -1,2 +1,3 @@
-//! The element that tells which sleeping stations have traffic, as definitions (IEEE 802.11-2012, 8.4.2.7).
+//! The TIM element, as a definition (IEEE 802.11-2012, 8.4.2.7). A beacon carries it; it announces for
+//! which sleeping stations frames are waiting. `tim_element count period aids` gives its octets.
 #![tactic(auto)]

@@ -1,4 +1,4 @@
--- What two worked histories charge to a station between two of their moments, computed.
+-- Proves, by computing, how much two worked histories charge to a station between two of their moments.
 use Rattle.std.proofs.Common.{◌≡◌, refl}
 use Rattle.wf_frame.specs.Settings.{standard}
 use Rattle.wf_frame.specs.declared.classes.Class.TheVariants.{Be}

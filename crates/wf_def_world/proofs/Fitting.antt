@@ -1,5 +1,6 @@
--- The longest front of a list that fits is what is chosen one at a time. This module is for other crates'
--- proofs too.
+-- Proves that an aggregate that is extended frame by frame for as long as the next one fits is the
+-- longest prefix that fits. The reason is that a prefix of what fits fits too. Proofs of other crates
+-- use this module.
 use Rattle.std.proofs.Common.{◌≡◌, refl, sym, ap, ◌∙◌, subst, arith, ℕ, zero, suc, ◌+◌, ◌-◌, ◌<◌, ◌≤◌, Bool, true, false, if◌then◌else◌, List, [], ◌∷◌, ◌++◌, append_assoc, take, map, length, inl, inr, ◌⊎◌}
 use Rattle.std.specs.Prelude.{nat_le}
 use Rattle.std.proofs.lemmas.Bool.{cases_Bool, cases_lt, and_parts, and_from, le-leb, leb-true}
@@ -13,7 +14,7 @@ use Rattle.wf_def_air.proofs.Times.{time_less}
 use Rattle.wf_def_world.specs.World.{World, Mpdu, station}
 use Rattle.wf_def_world.specs.Exchanges.{most_frames, fits_in, longest_fitting}
 
--- the greatest that passes, or 0
+-- the greatest number that passes is 0, or it passes
 pub greatest_passes : (test : ℕ → Bool) (n : ℕ) → (greatest_upto test n ≡ 0) ⊎
     (test (greatest_upto test n) ≡ true)
 greatest_passes test zero = inl refl
@@ -24,7 +25,7 @@ greatest_passes test (suc n) = elim (cases_Bool (test (suc n))) [
       (test (if b then suc n else greatest_upto test n) ≡ true)) (sym fails) (greatest_passes test n)
 ]
 
--- no front passes, or the longest front that passes does
+-- no prefix passes and the result is empty, or the result passes
 pub front_passes : {X : Type 0} (test : List X → Bool) (xs : List X) → (longest_front test xs ≡ []) ⊎
     (test (longest_front test xs) ≡ true)
 front_passes test xs = elim (greatest_passes (λ n. test (take n xs)) (length xs)) [
@@ -48,7 +49,7 @@ greatest_is test (suc n) k low is others = elim (cases_lt k (suc n)) [
       ]
 ]
 
--- a test that each front of what passes passes too
+-- a test is closed if each prefix of a list that passes it passes too
 unfoldable pub IsClosed : {X : Type 0} → (List X → Bool) → Type 0
 IsClosed {X} test = (xs ys : List X) → test (xs ++ ys) ≡ true → test xs ≡ true
 
@@ -63,7 +64,7 @@ module _ {X : Type 0} (test : List X → Bool) (chosen : List X)
     | inr is ↦ inr (at_front rest ∙ is)
   ]
 
-  -- all are chosen
+  -- the whole list was chosen
   pub front_all : longest_front test (chosen ++ []) ≡ chosen
   front_all =
       let n : length (chosen ++ []) ≡ length chosen = omega (arith, length-append chosen []) in
@@ -72,7 +73,7 @@ module _ {X : Type 0} (test : List X → Bool) (chosen : List X)
       (omega (arith, n)) (starts_at []) (λ j h h'. absurd (omega (arith, n, h, h'))))
       ∙ take-append_seam chosen []
 
-  -- the next one does not fit
+  -- the element after the chosen ones does not pass with them
   pub front_ends : IsClosed test → (x : X) (rest : List X) → test (chosen ++ x ∷ []) ≡ false →
       longest_front test (chosen ++ x ∷ rest) ≡ chosen
   unfolding IsClosed
@@ -99,7 +100,7 @@ module _ {X : Type 0} (test : List X → Bool) (chosen : List X)
         | inr is_not ↦ is_not
       ]
 
--- ---- what fits an aggregate, the fronts of it fit too
+-- ---- the prefixes of an aggregate that fits fit too
 
 octets_front : (xs ys : List ℕ) → aggregate_octets xs ≤ aggregate_octets (xs ++ ys)
 octets_front [] ys = omega arith
@@ -133,9 +134,9 @@ fits_in_closed w s xs ys h =
     (ap (fits (station w s).rate (station w s).exponent (most_frames w s) w.config.cap)
     (sym (map-append (λ (m : Mpdu). m.len) xs ys)) ∙ h)
 
--- ---- the aggregate's front of the waiting numbers, one at a time
+-- ---- the prefix of the waiting numbers that is sent, extended one number at a time
 
--- so far none is chosen, or what is chosen fits
+-- nothing is chosen yet, or the chosen ones fit
 unfoldable pub IsBegun : World → ℕ → List Mpdu → Type 0
 IsBegun w s chosen = (chosen ≡ []) ⊎ (fits_in w s chosen ≡ true)
 

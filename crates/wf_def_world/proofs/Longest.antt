@@ -1,4 +1,5 @@
--- The longest queue is the first of those with the most octets. This module is for other crates' proofs too.
+-- Proves that the longest queue is the first of those with the most octets, by induction over the list
+-- of queues. Proofs of other crates use this module.
 use Rattle.std.proofs.Common.{◌≡◌, refl, sym, subst, arith, ℕ, zero, suc, ◌+◌, ◌<◌, ◌≤◌, Bool, true, false, if◌then◌else◌, List, [], ◌∷◌, length, Some, inl, inr}
 use Rattle.std.specs.Prelude.{nat_le, find, unwrap_or}
 use Rattle.std.specs.List.{list_all}
@@ -8,7 +9,7 @@ use Rattle.wf_def_codel.specs.Codel.{octets}
 use Rattle.wf_def_world.specs.World.{Queue, new_queue}
 use Rattle.wf_def_world.specs.FlowQueues.{has_most, longest_of}
 
--- how many octets queue k has
+-- the octets of queue k
 unfoldable pub octets_at : List Queue → ℕ → ℕ
 octets_at queues k = octets (at new_queue queues k).items
 
@@ -17,7 +18,7 @@ pub record IsFirstMost (f : ℕ → ℕ) (q : ℕ) : Type 0 where
   pub most : (k : ℕ) → f k ≤ f q
   pub first : (k : ℕ) → k < q → f k < f q
 
--- there is one such number
+-- there is only one such number, also for an equal function
 pub first_most_once : (f g : ℕ → ℕ) (p q : ℕ) → ((k : ℕ) → f k ≡ g k) → IsFirstMost f p → IsFirstMost g q →
     p ≡ q
 first_most_once f g p q same a b = elim (cases_lt p q) [
@@ -28,7 +29,7 @@ first_most_once f g p q same a b = elim (cases_lt p q) [
   ]
 ]
 
--- what `has_most` tests
+-- the test of `has_most` passes if and only if no queue has more than n octets
 all_below : (queues : List Queue) (n : ℕ) → list_all (λ x. nat_le (octets x.items) n) queues ≡ true →
     (k : ℕ) → octets_at queues k ≤ n
 unfolding octets_at
@@ -43,7 +44,7 @@ below_all [] n h = refl
 below_all (x ∷ xs) n h = and_from (nat_le (octets x.items) n) _ (le-leb (octets x.items) n (h 0))
     (below_all xs n (λ k. h (suc k)))
 
--- the first of a range that passes a test, where one passes
+-- the first number of a range that passes a test, if one does
 record IsFirst (test : ℕ → Bool) (from n found : ℕ) : Type 0 where
   passes : test found ≡ true
   within : found < from + n
@@ -77,7 +78,7 @@ found_first test from (suc n) q low high passes = elim (cases_Bool (test from)) 
       })
 ]
 
--- some queue has the most octets
+-- some queue has at least as many octets as each other
 record HasMost (queues : List Queue) : Type 0 where
   number : ℕ
   within : number < length queues
@@ -138,7 +139,8 @@ longest_first_most (x ∷ xs) =
           absurd (cc (yes, fails))
     ]
 
--- a number that has as many octets as any, and more than those before it, is the longest queue
+-- a number whose queue has at least as many octets as each, and more than those before it, is the
+-- longest queue
 pub longest_is : (queues : List Queue) (f : ℕ → ℕ) (q : ℕ) → ((k : ℕ) → f k ≡ octets_at queues k) →
     IsFirstMost f q → longest_of queues ≡ q
 longest_is queues f q same is = first_most_once (octets_at queues) f (longest_of queues) q (λ k. sym (same k))

@@ -1,5 +1,5 @@
--- Worked histories at the edges of the rules: on each of them a near miss of the definitions replies
--- otherwise, or writes another text.
+-- Proves, by computing, the replies or the text of histories at the edges of the rules. For each of
+-- them a slightly wrong definition would give another reply or text.
 use Rattle.std.proofs.Common.{◌≡◌, refl, true, false, List, [], ◌∷◌, ◌++◌, drop, map, Some, None, codes}
 use Rattle.std.specs.List.{concat}
 use Rattle.std.specs.Fmt.{digits}
@@ -10,7 +10,8 @@ use Rattle.wf_frame.specs.declared.notes.Ask.TheVariants.{Join, Leave, Rate, Pul
 use Rattle.wf_frame.specs.declared.notes.AskedRate.TheVariants.{Ht, Vht, He}
 use Rattle.wf_frame.specs.declared.notes.Note.TheVariants.{Enqueue, Asked}
 use Rattle.wf_frame.specs.declared.notes.Refusal.TheVariants.{BadStation, BadWindow, BadStart, BadExponent, BadWeight, BadRate, BadTid, BadAir, BadIndex, NoStation, NoExchange, NoAnswer, Answered, Room, Full, Polled, Nothing}
-use Rattle.wf_frame.specs.declared.notes.ReplyNote.TheVariants.{Joined, RateSet, Accepted, Send, Released, Ba, Ended, Slept, Woken, Credited, Reaped, Refused}
+use Rattle.wf_frame.specs.declared.notes.ReplyNote.TheVariants.{Joined, Set, Accepted, Send, Released, Ba, Slept, Woken, Reaped, Refused}
+use Rattle.wf_frame.specs.declared.notes.ReplyNote.TheVariants as reply
 use Rattle.wf_frame.specs.declared.notes.Part.TheVariants.{Mpdus}
 use Rattle.wf_frame.specs.Settings.{standard}
 use Rattle.wf_def_world.specs.World.{opening}
@@ -41,8 +42,8 @@ pub tids_of_a_class_take_turns : drop 5 (replies
 unfolding the_machine
 tids_of_a_class_take_turns = refl
 
--- the turn goes to the TID that did not send, and is not passed on with each pull: the upper TID sends first,
--- since it alone can, and then the lower one
+-- the turn goes to the TID that did not send, and does not change with each pull: the upper TID sends
+-- first, because only it can, and then the lower one sends
 abbrev pub turn_goes_to_the_tid_that_did_not_send_calls : List Entry
 turn_goes_to_the_tid_that_did_not_send_calls = map (by 0) (
     Asked (Join 0 64 0 3 1) ∷
@@ -66,7 +67,7 @@ pub turn_goes_to_the_tid_that_did_not_send : replies
 unfolding the_machine
 turn_goes_to_the_tid_that_did_not_send = refl
 
--- two queues of a TID share by octets: what a frame takes leaves the deficit of its own queue
+-- two queues of a TID share by octets: the length of a frame is taken off the deficit of its own queue
 abbrev pub queues_of_a_tid_share_by_octets_calls : List Entry
 queues_of_a_tid_share_by_octets_calls = map (by 0) (
     Asked (Join 0 64 0 3 1) ∷
@@ -82,7 +83,7 @@ pub queues_of_a_tid_share_by_octets : drop 11
 unfolding the_machine
 queues_of_a_tid_share_by_octets = refl
 
--- a queue that is listed has a quantum at once, so it goes before one that is on the old list
+-- a queue gets a quantum when it is listed, so it goes before a queue of the old list
 abbrev pub fresh_queue_goes_first_calls : List Entry
 fresh_queue_goes_first_calls = map (by 0) (
     Asked (Join 0 64 0 3 1) ∷
@@ -105,8 +106,8 @@ pub fresh_queue_goes_first : drop 6 (replies (opening (record standard { agg = 1
 unfolding the_machine
 fresh_queue_goes_first = refl
 
--- of two queues of 200 octets each the one of the least number loses its head, though the other has the older
--- and the longer frame
+-- two queues have 200 octets each: the one with the least number drops its head, although the head of
+-- the other is older and longer
 abbrev pub longest_queues_tie_at_the_limit_calls : List Entry
 longest_queues_tie_at_the_limit_calls = map (by 0) (
     Asked (Join 0 64 0 3 1) ∷
@@ -183,7 +184,7 @@ pub first_of_two_faults : replies (opening standard) first_of_two_faults_calls �
 unfolding the_machine
 first_of_two_faults = refl
 
--- a station that is not live before the room, and the room before the frames of a sleeping station
+-- NoStation comes before Room, and Room before Sleeping
 abbrev pub room_before_sleeping_calls : List Entry
 room_before_sleeping_calls = map (by 0) (
     Asked (Join 0 64 0 3 1) ∷
@@ -203,8 +204,8 @@ pub room_before_sleeping : replies (opening (record standard { room = 1; sleepin
 unfolding the_machine
 room_before_sleeping = refl
 
--- full before idle, an index before an answer, an answer before an arrival, and an exchange that never was
--- before its answer
+-- Full comes before Idle, BadIndex before Answered, Answered before Arrived, and NoExchange before
+-- NoAnswer
 abbrev pub first_fault_of_an_exchange_calls : List Entry
 first_fault_of_an_exchange_calls = map (by 0) (
     Asked (Join 0 64 0 3 1) ∷
@@ -232,8 +233,8 @@ pub first_fault_of_an_exchange : replies (opening (record standard { inflight = 
 unfolding the_machine
 first_fault_of_an_exchange = refl
 
--- an exchange that never was before an answer that never came, that before an airtime that may not be
--- named; and by the standard settings none may be
+-- NoExchange comes before NoAnswer, and NoAnswer before BadAir; with the standard settings a Done may
+-- give no airtime
 abbrev pub first_fault_of_a_named_airtime_calls : List Entry
 first_fault_of_a_named_airtime_calls = map (by 0) (
     Asked (Join 0 64 0 3 1) ∷
@@ -250,11 +251,11 @@ pub first_fault_of_a_named_airtime : drop 3
     Refused NoExchange ∷
     Refused NoAnswer ∷
     Refused BadAir ∷
-    Ended 0 1 0 ∷ []
+    reply.Done 0 1 0 ∷ []
 unfolding the_machine
 first_fault_of_a_named_airtime = refl
 
--- a credit whose frame was dropped for the limit is still a credit, which a wake clears
+-- a credit remains when its frame is dropped for the limit; a wake clears it
 abbrev pub credit_outlives_its_frame_calls : List Entry
 credit_outlives_its_frame_calls = map (by 0) (
     Asked (Join 0 64 0 3 1) ∷
@@ -275,7 +276,7 @@ pub credit_outlives_its_frame : replies (opening (record standard { limit = 1 })
     Joined ∷
     Slept ∷
     Accepted 0 None ∷
-    Credited Be ∷
+    reply.Polled Be ∷
     Accepted 1 (Some 0) ∷
     Refused Polled ∷
     Woken ∷
@@ -286,7 +287,7 @@ credit_outlives_its_frame = refl
 
 -- ---- rates
 
--- each format has its own last MCS, widths, guard intervals and streams
+-- each format has its own greatest MCS, and its own widths, guard intervals and streams
 abbrev pub last_rates_of_each_format_calls : List Entry
 last_rates_of_each_format_calls = map (by 0) (
     Asked (Join 0 64 0 3 1) ∷
@@ -306,14 +307,14 @@ last_rates_of_each_format_calls = map (by 0) (
 
 pub last_rates_of_each_format : replies (opening standard) last_rates_of_each_format_calls ≡
     Joined ∷
-    RateSet ∷
+    Set ∷
     Refused BadRate ∷
-    RateSet ∷
-    Refused BadRate ∷
-    Refused BadRate ∷
+    Set ∷
     Refused BadRate ∷
     Refused BadRate ∷
-    RateSet ∷
+    Refused BadRate ∷
+    Refused BadRate ∷
+    Set ∷
     Refused BadRate ∷
     Refused BadRate ∷
     Refused BadRate ∷
@@ -321,8 +322,8 @@ pub last_rates_of_each_format : replies (opening standard) last_rates_of_each_fo
 unfolding the_machine
 last_rates_of_each_format = refl
 
--- exponent 0 ends an aggregate at 8,191 octets at a rate of HT, and only at 131,071 at one of VHT: the rate
--- of the moment says which
+-- with exponent 0 an aggregate has at most 8,191 octets at an HT rate, and 131,071 at a VHT rate: the
+-- rate at the time of the pull decides
 abbrev pub exponent_zero_of_two_formats_calls : List Entry
 exponent_zero_of_two_formats_calls = map (by 0) (
     Asked (Join 0 64 0 0 1) ∷
@@ -336,7 +337,7 @@ exponent_zero_of_two_formats_calls = map (by 0) (
 
 pub exponent_zero_of_two_formats : drop 15 (replies (opening standard) exponent_zero_of_two_formats_calls) ≡
     Send 0 0 0 1032 (Mpdus ((0, 0) ∷ (1, 1) ∷ (2, 2) ∷ (3, 3) ∷ (4, 4) ∷ [])) false ∷
-    RateSet ∷
+    Set ∷
     Send 1 0 0 1412 (Mpdus
     ((5, 5) ∷ (6, 6) ∷ (7, 7) ∷ (8, 8) ∷ (9, 9) ∷ (10, 10) ∷ (11, 11) ∷ [])) false ∷ []
 unfolding the_machine
@@ -344,7 +345,7 @@ exponent_zero_of_two_formats = refl
 
 -- ---- the traffic map
 
--- AID 9, in the second octet of the map: the first octet is written with it, since the offset is even
+-- AID 9 is in the second octet of the map; the first octet is written too, since the offset is even
 abbrev pub sleeper_with_aid_nine_calls : List Entry
 sleeper_with_aid_nine_calls = map (by 0) (
     Asked (Join 8 64 0 3 1) ∷
@@ -365,7 +366,7 @@ pub sleeper_with_aid_nine : text_of standard sleeper_with_aid_nine_calls ≡ con
 unfolding the_machine digits
 sleeper_with_aid_nine = refl
 
--- AID 16, in the third octet of the map, where the offset begins
+-- AID 16 is in the third octet of the map, where the offset begins
 abbrev pub sleeper_with_aid_sixteen_calls : List Entry
 sleeper_with_aid_sixteen_calls = map (by 0) (
     Asked (Join 15 64 0 3 1) ∷
@@ -386,7 +387,8 @@ pub sleeper_with_aid_sixteen : text_of standard sleeper_with_aid_sixteen_calls �
 unfolding the_machine digits
 sleeper_with_aid_sixteen = refl
 
--- AIDs 31 and 33, in the fourth and the fifth octet: from the third octet on, since the offset is even
+-- AIDs 31 and 33 are in the fourth and the fifth octet; the map begins with the third, since the offset
+-- is even
 abbrev pub sleepers_with_aids_31_and_33_calls : List Entry
 sleepers_with_aids_31_and_33_calls = map (by 0) (
     Asked (Join 30 64 0 3 1) ∷
@@ -414,7 +416,7 @@ pub sleepers_with_aids_31_and_33 : text_of (record standard { stations = 64 })
 unfolding the_machine digits
 sleepers_with_aids_31_and_33 = refl
 
--- a frame on the air is not one that waits: the map does not show its sleeper
+-- a frame on the air does not wait: the map does not show its sleeping station
 abbrev pub sleeper_with_a_frame_in_flight_calls : List Entry
 sleeper_with_a_frame_in_flight_calls = map (by 0) (
     Asked (Join 0 64 0 3 1) ∷
@@ -437,8 +439,8 @@ pub sleeper_with_a_frame_in_flight : text_of standard sleeper_with_a_frame_in_fl
 unfolding the_machine digits
 sleeper_with_a_frame_in_flight = refl
 
--- two frames that came back to the window of a sleeper: the pull of one says that there is more, and the map
--- shows the other, though no queue has a frame
+-- two frames of a sleeping station are back in its window: the pull of one has the More Data bit, and
+-- the map shows the other, although no queue has a frame
 abbrev pub sleeper_with_a_frame_back_in_its_window_calls : List Entry
 sleeper_with_a_frame_back_in_its_window_calls = map (by 0) (
     Asked (Join 0 64 0 3 1) ∷

@@ -1,4 +1,4 @@
--- Words to write worked histories and their texts with.
+-- Abbreviations for worked histories and their texts.
 use Rattle.std.specs.Prelude.{ℕ, zero, suc, true, List, [], ◌∷◌, ◌++◌, None, map}
 use Rattle.std.specs.Fmt.{decimal}
 use Rattle.std.specs.List.{concat}
@@ -8,17 +8,16 @@ use Rattle.wf_frame.specs.declared.notes.Note.{Note}
 use Rattle.wf_frame.specs.declared.notes.Note.TheVariants.{Asked}
 use Rattle.wf_def_lists.specs.Table.{upto}
 
--- a call, n times
+-- n equal calls
 abbrev pub times : ℕ → Note → List Note
 times zero note = []
 times (suc n) note = note ∷ times n note
 
--- exchange e of a class, from its pull to its end: its n transmissions arrive, are answered, and the answer
--- is heard
+-- exchange e of a class, from its pull to its end: all n transmissions arrive, and the answer is heard
 abbrev pub served : Class → ℕ → ℕ → List Note
 served c e n = Asked (Pull c) ∷ [] ++ map (λ i. Asked (Arrive e i)) (upto n) ++ Asked (Answer e)
     ∷ Asked (Done e true None) ∷ []
 
--- the same line for each number from 0 to below n
+-- for each number below n a line with this word and the number
 abbrev pub each_line : List ℕ → ℕ → List ℕ
 each_line word n = concat (map (λ k. word ++ decimal k ++ 10 ∷ []) (upto n))

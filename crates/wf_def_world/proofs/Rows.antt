@@ -1,6 +1,6 @@
--- Worked histories: what the machine replies, computed. Each row's name says what it shows, and the histories
--- are written as the program reads them, a call a line. Where the first replies tell nothing new, the row
--- drops them.
+-- Proves, by computing, what the machine replies to worked histories. The name of each row says what it
+-- shows. The histories are written as the program reads them, one call per line. Rows omit the first
+-- replies if these show nothing new.
 use Rattle.std.proofs.Common.{◌≡◌, refl, pos, negsuc, true, false, List, [], ◌∷◌, ◌++◌, drop, map, Some, None}
 use Rattle.wf_frame.specs.declared.classes.Class.TheVariants.{Be}
 use Rattle.wf_frame.specs.declared.classes.Cause.TheVariants.{Overlimit, Codel, Retries, Left}
@@ -8,8 +8,9 @@ use Rattle.wf_frame.specs.declared.classes.Fate.TheVariants.{Acked, Dropped}
 use Rattle.wf_frame.specs.declared.notes.Ask.TheVariants.{Join, Leave, Rate, Tick, Pull, Arrive, Answer, Done, Sleep, Wake, Poll, Rx, Reap}
 use Rattle.wf_frame.specs.declared.notes.AskedRate.TheVariants.{Ht, Vht, He}
 use Rattle.wf_frame.specs.declared.notes.Note.TheVariants.{Enqueue, Asked}
-use Rattle.wf_frame.specs.declared.notes.Refusal.TheVariants.{BadStation, BadWindow, BadStart, BadExponent, BadRate, BadTick, BadTid, BadAir, BadIndex, Live, NoStation, NoExchange, NoAnswer, Idle, Answered, Arrived, Nothing, Asleep, Awake, Polled, BadWeight, StillOpen, Room, Sleeping, Full, Debt}
-use Rattle.wf_frame.specs.declared.notes.ReplyNote.TheVariants.{Joined, Gone, RateSet, Ticked, Accepted, Send, Released, Ba, Ended, Slept, Credited, Charged, Reaped, Refused}
+use Rattle.wf_frame.specs.declared.notes.Refusal.TheVariants.{BadStation, BadWindow, BadStart, BadExponent, BadRate, BadTick, BadTid, BadAir, BadIndex, Live, NoStation, NoExchange, NoAnswer, Idle, Answered, Arrived, Nothing, Asleep, Awake, Polled, BadWeight, Open, Room, Sleeping, Full, Debt}
+use Rattle.wf_frame.specs.declared.notes.ReplyNote.TheVariants.{Joined, Set, Now, Accepted, Send, Released, Ba, Slept, Charged, Reaped, Refused}
+use Rattle.wf_frame.specs.declared.notes.ReplyNote.TheVariants as reply
 use Rattle.wf_frame.specs.declared.notes.Part.TheVariants.{Mpdus, Request}
 use Rattle.wf_frame.specs.Settings.{standard}
 use Rattle.wf_def_world.specs.World.{opening}
@@ -32,7 +33,7 @@ pub fast_rate_two_frames : drop 4 (replies (opening standard) fast_rate_two_fram
 unfolding the_machine
 fast_rate_two_frames = refl
 
--- a frame at a rate of VHT: 60 microseconds, and 48 for the pause and the answer
+-- a frame at a VHT rate: 60 microseconds, and 48 for the pause and the answer
 abbrev pub vht_rate_one_frame_calls : List Entry
 vht_rate_one_frame_calls = map (by 0) (
     Asked (Join 0 64 100 3 1) ∷
@@ -43,13 +44,13 @@ vht_rate_one_frame_calls = map (by 0) (
 
 pub vht_rate_one_frame : replies (opening standard) vht_rate_one_frame_calls ≡
     Joined ∷
-    RateSet ∷
+    Set ∷
     Accepted 0 None ∷
     Send 0 0 0 108 (Mpdus ((0, 100) ∷ [])) false ∷ []
 unfolding the_machine
 vht_rate_one_frame = refl
 
--- a frame at a rate of HE: 64 microseconds, and 48 for the pause and the answer
+-- a frame at an HE rate: 64 microseconds, and 48 for the pause and the answer
 abbrev pub he_rate_one_frame_calls : List Entry
 he_rate_one_frame_calls = map (by 0) (
     Asked (Join 0 64 100 3 1) ∷
@@ -60,13 +61,14 @@ he_rate_one_frame_calls = map (by 0) (
 
 pub he_rate_one_frame : replies (opening standard) he_rate_one_frame_calls ≡
     Joined ∷
-    RateSet ∷
+    Set ∷
     Accepted 0 None ∷
     Send 0 0 0 112 (Mpdus ((0, 100) ∷ [])) false ∷ []
 unfolding the_machine
 he_rate_one_frame = refl
 
--- VHT leaves out some streams of an MCS, and HE has no guard interval of 400 nanoseconds
+-- VHT has no rate for some combinations of MCS, width and streams, and HE has no guard interval of 400
+-- nanoseconds
 abbrev pub rates_of_vht_and_he_calls : List Entry
 rates_of_vht_and_he_calls = map (by 0) (
     Asked (Join 0 64 0 3 1) ∷
@@ -79,15 +81,15 @@ rates_of_vht_and_he_calls = map (by 0) (
 
 pub rates_of_vht_and_he : replies (opening standard) rates_of_vht_and_he_calls ≡
     Joined ∷
-    RateSet ∷
+    Set ∷
     Refused BadRate ∷
-    RateSet ∷
-    RateSet ∷
+    Set ∷
+    Set ∷
     Refused BadRate ∷ []
 unfolding the_machine
 rates_of_vht_and_he = refl
 
--- an answer that is not heard sends the frame again
+-- a frame is sent again if its answer is not heard
 abbrev pub lost_ack_resends_calls : List Entry
 lost_ack_resends_calls = map (by 0) (
     Asked (Join 0 64 100 3 1) ∷
@@ -108,15 +110,15 @@ pub lost_ack_resends : replies (opening standard) lost_ack_resends_calls ≡
     Send 0 0 0 1976 (Mpdus ((0, 100) ∷ [])) false ∷
     Released (0 ∷ []) ∷
     Ba 100 1 0 0 0 false ∷
-    Ended 0 1 0 ∷
+    reply.Done 0 1 0 ∷
     Send 1 0 0 1976 (Mpdus ((0, 100) ∷ [])) false ∷
     Released [] ∷
     Ba 100 1 0 0 0 false ∷
-    Ended 1 0 0 ∷ []
+    reply.Done 1 0 0 ∷ []
 unfolding the_machine
 lost_ack_resends = refl
 
--- numbers wrap past 4095
+-- sequence numbers wrap after 4095
 abbrev pub sequence_wraps_past_4095_calls : List Entry
 sequence_wraps_past_4095_calls = map (by 0) (
     Asked (Join 0 64 4095 3 1) ∷
@@ -134,7 +136,7 @@ pub sequence_wraps_past_4095 : drop 3 (replies (opening standard) sequence_wraps
     Released (0 ∷ []) ∷
     Released (1 ∷ []) ∷
     Ba 4095 3 0 0 0 false ∷
-    Ended 2 0 0 ∷ []
+    reply.Done 2 0 0 ∷ []
 unfolding the_machine
 sequence_wraps_past_4095 = refl
 
@@ -154,11 +156,11 @@ pub second_of_two_arrives : drop 3 (replies (opening standard) second_of_two_arr
     Send 0 0 0 3868 (Mpdus ((0, 100) ∷ (1, 101) ∷ [])) false ∷
     Released [] ∷
     Ba 100 2 0 0 0 false ∷
-    Ended 1 1 0 ∷ []
+    reply.Done 1 1 0 ∷ []
 unfolding the_machine
 second_of_two_arrives = refl
 
--- after the last try of a frame a request moves the receiver past it
+-- the last transmission of a frame fails, and a request moves the receiver past its number
 abbrev pub failed_frame_then_request_calls : List Entry
 failed_frame_then_request_calls = map (by 0) (
     Asked (Join 0 64 100 3 1) ∷
@@ -180,16 +182,16 @@ pub failed_frame_then_request : drop 3 (replies
     Send 0 0 0 3868 (Mpdus ((0, 100) ∷ (1, 101) ∷ [])) false ∷
     Released [] ∷
     Ba 100 2 0 0 0 false ∷
-    Ended 1 0 1 ∷
+    reply.Done 1 0 1 ∷
     Send 1 0 0 80 (Request 102) false ∷
     Refused Idle ∷
     Released (1 ∷ []) ∷
     Ba 102 0 0 0 0 false ∷
-    Ended 0 0 0 ∷ []
+    reply.Done 0 0 0 ∷ []
 unfolding the_machine
 failed_frame_then_request = refl
 
--- a request is sent until it is heard, and no fresh number before that
+-- a request is sent until it is heard, and no new number before that
 abbrev pub request_lost_three_times_calls : List Entry
 request_lost_three_times_calls = map (by 0) (
     Asked (Join 0 64 100 3 1) ∷
@@ -217,15 +219,15 @@ pub request_lost_three_times : drop 7 (replies
     (opening (record standard { attempts = 1 })) request_lost_three_times_calls) ≡
     Accepted 2 None ∷
     Send 1 0 0 80 (Request 102) false ∷
-    Ended 0 0 0 ∷
+    reply.Done 0 0 0 ∷
     Send 2 0 0 80 (Request 102) false ∷
-    Ended 0 0 0 ∷
+    reply.Done 0 0 0 ∷
     Send 3 0 0 80 (Request 102) false ∷
-    Ended 0 0 0 ∷
+    reply.Done 0 0 0 ∷
     Send 4 0 0 80 (Request 102) false ∷
     Released (1 ∷ []) ∷
     Ba 102 0 0 0 0 false ∷
-    Ended 0 0 0 ∷
+    reply.Done 0 0 0 ∷
     Send 5 0 0 1976 (Mpdus ((2, 102) ∷ [])) false ∷ []
 unfolding the_machine
 request_lost_three_times = refl
@@ -246,12 +248,12 @@ pub dropped_for_retries_though_released : drop 3
     (replies (opening (record standard { attempts = 1 })) dropped_for_retries_though_released_calls) ≡
     Released (0 ∷ []) ∷
     Ba 100 1 0 0 0 false ∷
-    Ended 0 0 1 ∷
+    reply.Done 0 0 1 ∷
     Reaped 0 (Dropped Retries) ∷ []
 unfolding the_machine
 dropped_for_retries_though_released = refl
 
--- a request makes the receiver release what lay behind the hole
+-- a request makes the receiver release the frames after a missing number
 abbrev pub request_moves_receiver_calls : List Entry
 request_moves_receiver_calls = map (by 0) (
     Asked (Join 0 64 100 3 1) ∷
@@ -274,11 +276,11 @@ pub request_moves_receiver : drop 9 (replies (opening (record standard { agg = 1
     Send 2 0 0 80 (Request 102) false ∷
     Released (1 ∷ []) ∷
     Ba 102 0 0 0 0 false ∷
-    Ended 0 0 0 ∷ []
+    reply.Done 0 0 0 ∷ []
 unfolding the_machine
 request_moves_receiver = refl
 
--- two exchanges that end in the other order
+-- the second of two exchanges ends first
 abbrev pub two_windows_out_of_order_calls : List Entry
 two_windows_out_of_order_calls = map (by 0) (
     Asked (Join 0 64 100 3 1) ∷
@@ -298,14 +300,14 @@ pub two_windows_out_of_order : drop 5 (replies
     (opening (record standard { agg = 1 })) two_windows_out_of_order_calls) ≡
     Released [] ∷
     Ba 100 2 0 0 0 false ∷
-    Ended 1 0 0 ∷
+    reply.Done 1 0 0 ∷
     Released (0 ∷ 1 ∷ []) ∷
     Ba 100 3 0 0 0 false ∷
-    Ended 1 0 0 ∷ []
+    reply.Done 1 0 0 ∷ []
 unfolding the_machine
 two_windows_out_of_order = refl
 
--- the cap on airtime ends an aggregate
+-- the setting `cap` on data time ends an aggregate
 abbrev pub airtime_cap_ends_aggregate_calls : List Entry
 airtime_cap_ends_aggregate_calls = map (by 0) (
     Asked (Join 0 64 100 3 1) ∷
@@ -339,7 +341,7 @@ pub exponent_zero_ends_aggregate : drop 8 (replies (opening standard) exponent_z
 unfolding the_machine
 exponent_zero_ends_aggregate = refl
 
--- as many open exchanges as a class may have
+-- a class has as many open exchanges as it may have
 abbrev pub two_open_exchanges_are_full_calls : List Entry
 two_open_exchanges_are_full_calls = map (by 0) (
     Asked (Join 0 64 100 3 1) ∷
@@ -368,12 +370,12 @@ window_of_two_stalls_calls = map (by 0) (
 pub window_of_two_stalls : drop 6 (replies (opening (record standard { agg = 1; inflight = 4 }))
     window_of_two_stalls_calls) ≡
     Refused Idle ∷
-    Ended 0 1 0 ∷
+    reply.Done 0 1 0 ∷
     Send 2 0 0 1976 (Mpdus ((0, 100) ∷ [])) false ∷ []
 unfolding the_machine
 window_of_two_stalls = refl
 
--- past the limit the longest queue loses its head
+-- at the limit the longest queue drops its head
 abbrev pub limit_drops_longest_head_calls : List Entry
 limit_drops_longest_head_calls = map (by 0) (
     Asked (Join 0 64 100 3 1) ∷
@@ -393,7 +395,7 @@ pub limit_drops_longest_head : replies (opening (record standard { limit = 2 }))
 unfolding the_machine
 limit_drops_longest_head = refl
 
--- the overflow queues count for the limit
+-- the frames of overflow queues count for the limit
 abbrev pub limit_counts_overflow_queues_calls : List Entry
 limit_counts_overflow_queues_calls = map (by 0) (
     Asked (Join 0 64 0 3 1) ∷
@@ -411,7 +413,7 @@ pub limit_counts_overflow_queues : replies (opening (record standard { flows = 1
 unfolding the_machine
 limit_counts_overflow_queues = refl
 
--- a queue of another TID's frames sends a frame to the TID's overflow queue
+-- if another TID lists a flow's queue, a frame goes to its TID's overflow queue
 abbrev pub collision_goes_to_overflow_queue_calls : List Entry
 collision_goes_to_overflow_queue_calls = map (by 0) (
     Asked (Join 0 64 0 3 1) ∷
@@ -447,13 +449,13 @@ codel_drops_two_calls = map (by 0) (
 
 pub codel_drops_two : drop 12 (replies (opening (record standard { agg = 1; inflight = 8 }))
     codel_drops_two_calls) ≡
-    Ticked 30000 ∷
+    Now 30000 ∷
     Send 0 0 0 276 (Mpdus ((0, 0) ∷ [])) false ∷
-    Ticked 80000 ∷
+    Now 80000 ∷
     Send 1 0 0 276 (Mpdus ((1, 1) ∷ [])) false ∷
-    Ticked 130000 ∷
+    Now 130000 ∷
     Send 2 0 0 276 (Mpdus ((3, 2) ∷ [])) false ∷
-    Ticked 230000 ∷
+    Now 230000 ∷
     Send 3 0 0 276 (Mpdus ((5, 3) ∷ [])) false ∷
     Reaped 2 (Dropped Codel) ∷
     Reaped 4 (Dropped Codel) ∷
@@ -461,7 +463,7 @@ pub codel_drops_two : drop 12 (replies (opening (record standard { agg = 1; infl
 unfolding the_machine
 codel_drops_two = refl
 
--- what is left in a queue is counted after the pop
+-- CoDel counts the octets that are left in the queue after the pop
 abbrev pub codel_left_is_after_the_pop_calls : List Entry
 codel_left_is_after_the_pop_calls = map (by 0) (
     Asked (Join 0 64 0 3 1) ∷
@@ -476,18 +478,18 @@ codel_left_is_after_the_pop_calls = map (by 0) (
 pub codel_left_is_after_the_pop : replies (opening (record standard { agg = 1 }))
     codel_left_is_after_the_pop_calls ≡
     Joined ∷
-    RateSet ∷
+    Set ∷
     Accepted 0 None ∷
     Accepted 1 None ∷
     Accepted 2 None ∷
-    Ticked 30000 ∷
+    Now 30000 ∷
     Send 0 0 0 276 (Mpdus ((0, 0) ∷ [])) false ∷
-    Ticked 130000 ∷
+    Now 130000 ∷
     Send 1 0 0 276 (Mpdus ((1, 1) ∷ [])) false ∷ []
 unfolding the_machine
 codel_left_is_after_the_pop = refl
 
--- each poll of a sleeping station lets one frame out
+-- each poll of a sleeping station allows one frame
 abbrev pub sleeper_polls_calls : List Entry
 sleeper_polls_calls = map (by 0) (
     Asked (Join 0 64 0 3 1) ∷
@@ -509,16 +511,16 @@ pub sleeper_polls : replies (opening standard) sleeper_polls_calls ≡
     Accepted 0 None ∷
     Accepted 1 None ∷
     Refused Idle ∷
-    Credited Be ∷
+    reply.Polled Be ∷
     Refused Polled ∷
     Send 0 0 0 256 (Mpdus ((0, 0) ∷ [])) true ∷
-    Credited Be ∷
+    reply.Polled Be ∷
     Send 1 0 0 256 (Mpdus ((1, 1) ∷ [])) false ∷
     Refused Nothing ∷ []
 unfolding the_machine
 sleeper_polls = refl
 
--- the most frames queued for a sleeping station
+-- a sleeping station has as many queued frames as it may have
 abbrev pub sleeper_second_frame_stays_queued_calls : List Entry
 sleeper_second_frame_stays_queued_calls = map (by 0) (
     Asked (Join 0 64 0 3 1) ∷
@@ -536,7 +538,7 @@ pub sleeper_second_frame_stays_queued : replies
     Accepted 0 None ∷
     Accepted 1 None ∷
     Slept ∷
-    Credited Be ∷
+    reply.Polled Be ∷
     Send 0 0 0 256 (Mpdus ((0, 0) ∷ [])) true ∷
     Refused (Sleeping 1) ∷ []
 unfolding the_machine
@@ -570,7 +572,7 @@ pub receive_charges_to_debt : replies (opening standard) receive_charges_to_debt
 unfolding the_machine
 receive_charges_to_debt = refl
 
--- no station leaves with an exchange open
+-- a station with an open exchange cannot leave
 abbrev pub leave_with_open_exchange_calls : List Entry
 leave_with_open_exchange_calls = map (by 0) (
     Asked (Join 0 64 0 3 1) ∷
@@ -587,16 +589,16 @@ leave_with_open_exchange_calls = map (by 0) (
 
 pub leave_with_open_exchange : drop 4 (replies
     (opening (record standard { agg = 1 })) leave_with_open_exchange_calls) ≡
-    Refused (StillOpen 1) ∷
-    Ended 0 1 0 ∷
-    Gone 2 ∷
+    Refused (Open 1) ∷
+    reply.Done 0 1 0 ∷
+    reply.Left 2 ∷
     Reaped 0 (Dropped Left) ∷
     Reaped 1 (Dropped Left) ∷
     Refused NoStation ∷ []
 unfolding the_machine
 leave_with_open_exchange = refl
 
--- a leave drops by number and not by its 12 bits
+-- a leave drops frames in the order of unbounded numbers, not of their 12 bits
 abbrev pub leave_order_across_the_wrap_calls : List Entry
 leave_order_across_the_wrap_calls = map (by 0) (
     Asked (Join 0 64 4095 3 1) ∷
@@ -615,14 +617,14 @@ pub leave_order_across_the_wrap : replies (opening (record standard { agg = 2 })
     Accepted 0 None ∷
     Accepted 1 None ∷
     Send 0 0 0 3868 (Mpdus ((0, 4095) ∷ (1, 0) ∷ [])) false ∷
-    Ended 0 2 0 ∷
-    Gone 2 ∷
+    reply.Done 0 2 0 ∷
+    reply.Left 2 ∷
     Reaped 0 (Dropped Left) ∷
     Reaped 1 (Dropped Left) ∷ []
 unfolding the_machine
 leave_order_across_the_wrap = refl
 
--- a leave drops by TID, then by number, then by queue
+-- a leave drops frames by TID, then by number, then by queue
 abbrev pub leave_order_by_tid_then_window_then_queue_calls : List Entry
 leave_order_by_tid_then_window_then_queue_calls = map (by 0) (
     Asked (Join 0 64 0 3 1) ∷
@@ -644,8 +646,8 @@ pub leave_order_by_tid_then_window_then_queue : replies
     Accepted 2 None ∷
     Accepted 3 None ∷
     Send 0 0 0 256 (Mpdus ((1, 0) ∷ [])) false ∷
-    Ended 0 1 0 ∷
-    Gone 4 ∷
+    reply.Done 0 1 0 ∷
+    reply.Left 4 ∷
     Reaped 1 (Dropped Left) ∷
     Reaped 2 (Dropped Left) ∷
     Reaped 0 (Dropped Left) ∷
@@ -653,7 +655,7 @@ pub leave_order_by_tid_then_window_then_queue : replies
 unfolding the_machine
 leave_order_by_tid_then_window_then_queue = refl
 
--- what is refused of an exchange
+-- the refusals of calls on an exchange
 abbrev pub exchange_refusals_calls : List Entry
 exchange_refusals_calls = map (by 0) (
     Asked (Join 0 64 100 3 1) ∷
@@ -680,12 +682,12 @@ pub exchange_refusals : drop 3 (replies (opening standard) exchange_refusals_cal
     Ba 100 1 0 0 0 false ∷
     Refused Answered ∷
     Refused Answered ∷
-    Ended 1 0 0 ∷
+    reply.Done 1 0 0 ∷
     Refused NoExchange ∷ []
 unfolding the_machine
 exchange_refusals = refl
 
--- the most frames accepted and not yet reaped
+-- as many frames are accepted and not yet reaped as there may be
 abbrev pub room_of_one_calls : List Entry
 room_of_one_calls = map (by 0) (
     Asked (Join 0 64 100 3 1) ∷
@@ -707,14 +709,14 @@ pub room_of_one : replies (opening (record standard { room = 1 })) room_of_one_c
     Send 0 0 0 1976 (Mpdus ((0, 100) ∷ [])) false ∷
     Released (0 ∷ []) ∷
     Ba 100 1 0 0 0 false ∷
-    Ended 1 0 0 ∷
+    reply.Done 1 0 0 ∷
     Refused (Room 1) ∷
     Reaped 0 Acked ∷
     Accepted 1 None ∷ []
 unfolding the_machine
 room_of_one = refl
 
--- what is refused for its arguments
+-- the refusals for arguments
 abbrev pub refusals_by_argument_calls : List Entry
 refusals_by_argument_calls = map (by 0) (
     Asked (Join 16 64 0 3 1) ∷
@@ -759,7 +761,7 @@ pub refusals_by_argument : replies (opening (record standard { sleeping = 1 })) 
 unfolding the_machine
 refusals_by_argument = refl
 
--- a weight of 0, and one past 16
+-- weights 0 and 17 are out of range
 abbrev pub weight_out_of_range_calls : List Entry
 weight_out_of_range_calls = map (by 0) (
     Asked (Join 0 64 0 3 17) ∷
@@ -772,8 +774,8 @@ pub weight_out_of_range : replies (opening standard) weight_out_of_range_calls �
 unfolding the_machine
 weight_out_of_range = refl
 
--- a Done that names its airtime is charged that, and not the 256 microseconds of its Send; one that names
--- 0, or more than the setting `charge`, is refused, and nothing is charged
+-- a Done that gives an airtime is charged that, and not the 256 microseconds of its Send. One that
+-- gives 0, or more than the setting `charge`, is refused, and nothing is charged.
 abbrev pub named_airtime_is_charged_calls : List Entry
 named_airtime_is_charged_calls = map (by 0) (
     Asked (Join 0 64 0 3 1) ∷
@@ -792,7 +794,7 @@ pub named_airtime_is_charged : drop 2 (replies (opening (record standard { charg
     Refused BadAir ∷
     Refused BadAir ∷
     Charged (pos 299) ∷
-    Ended 0 1 0 ∷
+    reply.Done 0 1 0 ∷
     Charged (negsuc 4701) ∷ []
 unfolding the_machine
 named_airtime_is_charged = refl

@@ -1,4 +1,4 @@
--- Worked histories: the whole text that the program writes for each, computed.
+-- Proves, by computing, the whole text that the program writes for each of these histories.
 use Rattle.std.proofs.Common.{◌≡◌, refl, true, false, List, [], ◌∷◌, ◌++◌, None, map, codes}
 use Rattle.std.specs.List.{concat}
 use Rattle.std.specs.Fmt.{digits}
@@ -12,7 +12,7 @@ use Rattle.wf_def_world.specs.Text.{text_of}
 use Rattle.wf_def_world.specs.Computed.{the_machine}
 use Rattle.wf_def_world.proofs.Rehearsals.{times, served, each_line}
 
--- nothing happened
+-- no calls
 abbrev pub empty_history_calls : List Entry
 empty_history_calls = map (by 0) (
     [])
@@ -52,7 +52,7 @@ pub one_frame_acknowledged : text_of standard one_frame_acknowledged_calls ≡ c
 unfolding the_machine digits
 one_frame_acknowledged = refl
 
--- after the last try of a frame a request moves the receiver past it
+-- the last transmission of a frame fails, and a request moves the receiver past its number
 abbrev pub failed_frame_then_request_calls : List Entry
 failed_frame_then_request_calls = map (by 0) (
     Asked (Join 0 64 100 3 1) ∷
@@ -90,7 +90,7 @@ pub failed_frame_then_request : text_of (record standard { attempts = 1 }) faile
 unfolding the_machine digits
 failed_frame_then_request = refl
 
--- a sleeping station with a frame stands in the traffic map
+-- a sleeping station with a queued frame is in the traffic map
 abbrev pub sleeper_in_tim_calls : List Entry
 sleeper_in_tim_calls = map (by 0) (
     Asked (Join 0 64 0 3 1) ∷
@@ -221,7 +221,7 @@ pub airtime_shared_small : text_of standard airtime_shared_small_calls ≡ conca
 unfolding the_machine digits
 airtime_shared_small = refl
 
--- weights 1 and 3 share the airtime 1 to 3
+-- two stations with weights 1 and 3 share the airtime in that ratio
 abbrev pub weight_three_against_one_calls : List Entry
 weight_three_against_one_calls = map (by 0) (
     Asked (Join 0 64 0 3 1) ∷

@@ -1,5 +1,6 @@
--- Who can send: a TID, and a station in a class. A TID sends what waits in its transmit window, a
--- frame that can get a number there, or a BlockAckReq that is due (IEEE 802.11-2012, 9.21.7.7).
+-- Defines when a TID can send and when a station is ready in a class. A TID can send a BlockAckReq that
+-- is due; otherwise a number that waits in its transmit window, or a frame that can get a number there
+-- (IEEE 802.11-2012, 9.21.7.7).
 use Rattle.std.specs.Prelude.{ℕ, ◌==◌, nat_lt, Bool, true, false, not, ◌&&◌, ◌||◌, List, [], ◌∷◌, Option, Some, None, if◌then◌else◌, length}
 use Rattle.std.specs.List.{list_any}
 use Rattle.wf_frame.specs.declared.classes.Class.{Class}
@@ -14,26 +15,26 @@ abbrev pub is_request : Content → Bool
 is_request (Frames mpdus) = false
 is_request (Request start) = true
 
--- whether an open exchange sends a BlockAckReq of a TID
+-- whether an open exchange sends a BlockAckReq for TID t of station s
 abbrev pub request_open : World → ℕ → ℕ → Bool
 request_open w s t =
     list_any (λ x. (x.station == s) && ((x.tid == t) && is_request x.content)) w.opened
 
--- whether some number of a TID waits to be sent
+-- whether a number of a TID waits to be sent
 abbrev pub has_waiting : World → ℕ → ℕ → Bool
 has_waiting w s t = nat_lt 0 (length (waiting_numbers (session w s t)))
 
--- a queued frame can get a number: the transmit window has room
+-- whether a TID has a queued frame, and room in its transmit window for the frame's number
 abbrev pub can_give : World → ℕ → ℕ → Bool
 can_give w s t = nat_lt 0 (frames_queued w s t) && has_room (session w s t)
 
--- whether a TID can send: a request that is due goes before all frames, one at a time
+-- whether a TID can send: a request that is due is sent before all frames, and only one at a time
 abbrev pub can_send : World → ℕ → ℕ → Bool
 can_send w s t =
     if request_due (session w s t) then not (request_open w s t)
     else has_waiting w s t || can_give w s t
 
--- whether a sleeping station's poll lets it receive in a class
+-- whether a station's credit, if it has one, is for class c
 abbrev pub has_credit : Option Class → Class → Bool
 has_credit None c = false
 has_credit (Some d) c = same_class d c
@@ -42,15 +43,15 @@ has_credit (Some d) c = same_class d c
 abbrev pub can_send_in : World → ℕ → Class → Bool
 can_send_in w s c = can_send w s (lower_tid c) || can_send w s (upper_tid c)
 
--- whether a station is awake, or has the credit of a class
+-- whether a station may receive in a class: it is awake, or has a credit for the class
 abbrev pub may_receive : World → ℕ → Class → Bool
 may_receive w s c = not (station w s).asleep || has_credit (station w s).credit c
 
--- whether a station is ready in a class: a pull of the class may pick it
+-- whether a station is ready in a class, so that a pull of the class may pick it
 abbrev pub is_ready : World → Class → ℕ → Bool
 is_ready w c s = is_live w s && (can_send_in w s c && may_receive w s c)
 
--- the station goes last on the new list of a class in which it is ready and unlisted
+-- the station is put last on the new list of a class if it is ready there and not listed
 unfoldable pub with_listing_in : World → ℕ → Class → World
 with_listing_in w s c =
     let r : Rotation = rotation w c in
@@ -61,7 +62,7 @@ unfoldable pub with_listings_in : World → ℕ → List Class → World
 with_listings_in w s [] = w
 with_listings_in w s (c ∷ cs) = with_listings_in (with_listing_in w s c) s cs
 
--- the same for all classes, for the station that a call concerns
+-- the same for all classes, for the station that a call concerns, if any
 unfoldable pub with_listings_of : World → Option ℕ → World
 with_listings_of w None = w
 with_listings_of w (Some s) = with_listings_in w s all_classes

@@ -1,4 +1,5 @@
--- A proof whose `unfolding` line names `the_machine` computes with all of it.
+-- Names the definitions that have to be unfolded to compute with the machine: a proof with `unfolding
+-- the_machine` computes with all of them.
 use Rattle.wf_def_codel.specs.Codel.{step_of, drops_dropping, state_dropping, drops_plain, state_plain, drops, state_after, dequeue}
 use Rattle.wf_def_rotation.specs.Rotation.{pick}
 use Rattle.wf_def_world.specs.World.{with_station, on_station, on_tid, on_session, on_receiver, with_queues, on_share, on_queue, with_rotation, with_fate, with_frame_finished, with_frames_finished, with_exchange, without_exchange}

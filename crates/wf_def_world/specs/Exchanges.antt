@@ -1,6 +1,7 @@
--- What a pull sends, and what becomes of it: the scheduler of "Ending the Anomaly" (USENIX ATC 2017),
--- section 3.2, joined to aggregation and block acknowledgement (IEEE 802.11-2012, 9.12 and 9.21.7).
--- Deficits, quanta and charges are in microseconds of airtime, lengths in octets.
+-- Defines what a pull sends, and what happens to it until its exchange ends: the scheduler of "Ending
+-- the Anomaly" (USENIX ATC 2017), section 3.2, combined with aggregation and block acknowledgement
+-- (IEEE 802.11-2012, 9.12 and 9.21.7). Deficits, quanta and charges are in microseconds of airtime,
+-- lengths in octets.
 use Rattle.std.specs.Prelude.{ℕ, zero, suc, ◌+◌, ◌-◌, ◌*◌, ◌%◌, ◌==◌, max, nat_lt, pos, ◌+ℤ◌, ◌-ℤ◌, Bool, false, not, ◌&&◌, ◌||◌, List, [], ◌∷◌, ◌++◌, Option, Some, None, if◌then◌else◌, length, map, count_by, unwrap_or}
 use Rattle.std.specs.List.{list_any}
 use Rattle.wf_frame.specs.declared.classes.Class.{Class}
@@ -20,66 +21,68 @@ use Rattle.wf_frame.specs.Classes.{lower_tid, upper_tid}
 use Rattle.wf_def_world.specs.FlowQueues.{frames_queued, Taken, taken_for_tid}
 use Rattle.wf_def_world.specs.CanSend.{can_send, can_give, has_waiting, is_ready, is_request}
 
--- ---- who is picked
+-- ---- the station that is picked
 
--- how many quanta a station's deficit in a class needs to come above 0
+-- the number of quanta that a station's deficit in a class needs to rise above 0
 abbrev pub station_need : World → Class → ℕ → ℕ
 station_need w c s = need_of (quantum w s) (share w s c).deficit
 
--- algorithm 3, deficit round robin over the stations of a class
+-- the pick among the stations of a class: algorithm 3, deficit round robin
 abbrev pub picked_station : World → Class → Picked
 picked_station w c = pick (station_need w c) (is_ready w c) (rotation w c)
 
--- a station gets so many quanta in a class
+-- a station gets this number of quanta in a class
 unfoldable pub with_station_paid : World → Class → ℕ → ℕ → World
 with_station_paid w c quanta s =
     let airtime : ℕ = quanta * quantum w s in
     on_share w s c (λ x. record x { deficit = x.deficit +ℤ pos airtime; quanta = x.quanta + quanta })
 
--- each of these stations gets its quanta in a class
+-- each of these stations gets its number of quanta in a class
 unfoldable pub with_stations_paid : World → Class → (ℕ → ℕ) → List ℕ → World
 with_stations_paid w c quanta [] = w
 with_stations_paid w c quanta (s ∷ ss) = with_stations_paid (with_station_paid w c (quanta s) s) c quanta ss
 
--- the world after the pick: each station has its quanta, and the class its new lists
+-- the world after a pick: the stations have their quanta, and the class has its new lists
 unfoldable pub after_pick : World → Class → World
 after_pick w c =
     let p : Picked = picked_station w c in
     with_rotation (with_stations_paid w c p.quanta (in_order (rotation w c))) c p.lists
 
--- ---- what is sent
+-- ---- the content of an exchange
 
--- the TID whose turn it is
+-- the TID of a class whose turn it is
 abbrev pub first_tid : World → ℕ → Class → ℕ
 first_tid w s c = if (share w s c).upper then upper_tid c else lower_tid c
 
--- the class's other TID
+-- the other TID of the class
 abbrev pub other_tid : World → ℕ → Class → ℕ
 other_tid w s c = if (share w s c).upper then lower_tid c else upper_tid c
 
--- the TID that sends: the one whose turn it is, if it can send, else the other
+-- the TID that sends: the one whose turn it is if it can send, otherwise the other
 abbrev pub sending_tid : World → ℕ → Class → ℕ
 sending_tid w s c = if can_send w s (first_tid w s c) then first_tid w s c else other_tid w s c
 
--- the turn goes to the TID that does not send
+-- TID t sends, so it is the other TID's turn
 unfoldable pub after_tid_turn : World → ℕ → Class → ℕ → World
 after_tid_turn w s c t = on_share w s c (λ x. record x { upper = t == lower_tid c })
 
--- the most frames of an aggregate: one where the station sleeps, since a poll asks for one
+-- the most frames of an aggregate: the setting `agg`, but one for a sleeping station, which asks for
+-- one by a poll
 abbrev pub most_frames : World → ℕ → ℕ
 most_frames w s = if (station w s).asleep then 1 else w.config.agg
 
--- the body lengths of an aggregate
+-- the lengths of the bodies of an aggregate
 abbrev pub lens_of : List Mpdu → List ℕ
 lens_of mpdus = map (λ m. m.len) mpdus
 
--- whether an aggregate to a station fits its rate and exponent, and the setting `cap` on data time
+-- whether an aggregate to a station fits: the most frames, the longest A-MPDU of its rate and exponent,
+-- and the setting `cap` on data time
 abbrev pub fits_in : World → ℕ → List Mpdu → Bool
 fits_in w s mpdus =
     let x : Station = station w s in
     fits x.rate x.exponent (most_frames w s) w.config.cap (lens_of mpdus)
 
--- number n of a TID, with its frame
+-- number n of a TID, with the frame that it carries
 abbrev pub mpdu_of : World → ℕ → ℕ → ℕ → Mpdu
 mpdu_of w s t n =
     let id : ℕ = (slot (session w s t) n).id in
@@ -89,28 +92,28 @@ mpdu_of w s t n =
 abbrev pub waiting_mpdus : World → ℕ → ℕ → List Mpdu
 waiting_mpdus w s t = map (mpdu_of w s t) (waiting_numbers (session w s t))
 
--- the longest front of a list that fits
+-- the longest prefix of a list that fits
 unfoldable pub longest_fitting : World → ℕ → List Mpdu → List Mpdu
 longest_fitting w s mpdus = longest_front (fits_in w s) mpdus
 
--- an aggregate (A-MPDU), and the world after its fresh frames got their numbers
+-- an aggregate (A-MPDU), and the world in which its fresh frames have their numbers
 pub record Aggregate : Type 0 where
   pub world : World
   pub mpdus : List Mpdu
 
--- the frame that a take gives, with the TID's next number
+-- the frame that a take gives, if any, with the TID's next number
 abbrev pub fresh_mpdus : World → ℕ → ℕ → Option Item → List Mpdu
 fresh_mpdus w s t None = []
 fresh_mpdus w s t (Some x) =
     record { number = next_number (session w s t); id = x.id; len = x.len } ∷ []
 
--- the frame that a take gives gets the TID's next number
+-- the frame that a take gives, if any, gets the TID's next number
 unfoldable pub with_number : World → ℕ → ℕ → Option Item → World
 with_number w s t None = w
 with_number w s t (Some x) = on_session w s t (λ y. with_number_given y x.id)
 
--- An aggregate with at most n fresh frames more, while the TID can give one. A frame that does not fit
--- has its number already: it waits with that, and the aggregate ends before it.
+-- An aggregate to which at most n fresh frames are added, for as long as the TID can give one. A frame that
+-- does not fit already has its number: it keeps the number and waits, and the aggregate ends before it.
 unfoldable pub with_fresh : ℕ → World → ℕ → ℕ → List Mpdu → Aggregate
 with_fresh zero w s t mpdus = record { world = w; mpdus = mpdus }
 with_fresh (suc n) w s t mpdus =
@@ -121,8 +124,8 @@ with_fresh (suc n) w s t mpdus =
     if fits_in w s longer then with_fresh n numbered s t longer
     else record { world = numbered; mpdus = mpdus }
 
--- a TID's aggregate: the longest front of the waiting numbers that fits, and where that is all of
--- them, fresh frames after it
+-- a TID's aggregate: the longest prefix of its waiting numbers that fits and, if that is all of them,
+-- fresh frames after it
 unfoldable pub aggregate_of : World → ℕ → ℕ → Aggregate
 aggregate_of w s t =
     let waiting : List Mpdu = waiting_mpdus w s t in
@@ -130,23 +133,23 @@ aggregate_of w s t =
     if length chosen == length waiting then with_fresh (most_frames w s - length chosen) w s t chosen
     else record { world = w; mpdus = chosen }
 
--- the numbers of an aggregate fly in exchange e
+-- the numbers of an aggregate are flying in exchange e
 abbrev pub with_flying : ℕ → List Mpdu → Session → Session
 with_flying e [] x = x
 with_flying e (m ∷ ms) x = with_flying e ms (with_state (State.Flying e) m.number x)
 
--- what an exchange is to send, with its charge, and the world with it on the air
+-- an exchange to be sent: its content, its charge in microseconds, and the world in which it is on the air
 pub record Prepared : Type 0 where
   pub world : World
   pub content : Content
   pub charge : ℕ
 
--- what an aggregate is charged, in microseconds
+-- the charge of an aggregate, in microseconds
 abbrev pub aggregate_charge : ℕ → ℕ → Aggregate → ℕ
 aggregate_charge s t f =
     data_charge (station f.world s).rate (aggregate_octets (lens_of f.mpdus)) (is_wide f.world s t)
 
--- an aggregate, whose numbers fly from then on
+-- an aggregate, with its numbers flying
 unfoldable pub prepared_data : ℕ → ℕ → Aggregate → Prepared
 prepared_data s t f =
     record {
@@ -155,7 +158,7 @@ prepared_data s t f =
       charge = aggregate_charge s t f;
     }
 
--- a BlockAckReq, which moves the receiver's start to the session's
+-- a BlockAckReq with the start of the session (WinStartO)
 abbrev pub prepared_request : World → ℕ → ℕ → Prepared
 prepared_request w s t = record {
   world = w;
@@ -163,21 +166,21 @@ prepared_request w s t = record {
   charge = request_charge (is_wide w s t);
 }
 
--- what a TID sends: a request where one is due, else an aggregate
+-- the exchange that a TID sends: a BlockAckReq if one is due, otherwise an aggregate
 unfoldable pub prepared_exchange : World → ℕ → ℕ → Prepared
 prepared_exchange w s t =
     if request_due (session w s t) then prepared_request w s t else prepared_data s t (aggregate_of w s t)
 
--- a number waits or a frame is queued on some TID of a station
+-- whether a number waits or a frame is queued on some TID of a station
 abbrev pub has_more : World → ℕ → Bool
 has_more w s = list_any (λ t. has_waiting w s t || nat_lt 0 (frames_queued w s t)) (upto 8)
 
--- a used credit is spent
+-- the station's credit is spent
 unfoldable pub without_credit : World → ℕ → World
 without_credit w s = on_station w s (λ x. record x { credit = None })
 
--- the exchange that sends what is prepared: `more` is the More Data bit (8.2.4.1.8), of sleeping
--- stations alone
+-- the exchange that sends what is prepared. `more` is the More Data bit (IEEE 802.11-2012, 8.2.4.1.8):
+-- only data to a sleeping station can have it.
 abbrev pub exchange_of : ℕ → ℕ → Class → Prepared → Exchange
 exchange_of s t c p =
     record {
@@ -192,86 +195,88 @@ exchange_of s t c p =
       more = (station p.world s).asleep && (not (is_request p.content) && has_more p.world s);
     }
 
--- an exchange is open from then on
+-- the world in which the exchange is open
 unfoldable pub with_exchange_opened : World → Exchange → World
 with_exchange_opened w x = record w { exchanges = w.exchanges + 1; opened = w.opened ++ x ∷ [] }
 
--- what a reply says of an exchange: numbers on the air are modulo 4096
+-- the content of an exchange in a reply: numbers are modulo 4096, as on the air
 abbrev pub part_of : Content → Part
 part_of (Frames mpdus) = Mpdus (map (λ m. (m.id, m.number % 4096)) mpdus)
 part_of (Request start) = Starts_at (start % 4096)
 
 -- ---- arrivals
 
--- how many transmissions an exchange is made of: its subframes, or its one request
+-- the number of transmissions of an exchange: its subframes, or its one request
 abbrev pub transmissions : Content → ℕ
 transmissions (Frames mpdus) = length mpdus
 transmissions (Request start) = 1
 
--- The transmission past the last. It is unreached: the index of one is refused as BadIndex.
+-- The transmission at an index past the last. It is unreached: such an index is refused as BadIndex.
 abbrev pub no_mpdu : Mpdu
 no_mpdu = record { number = 0; id = 0; len = 0 }
 
--- the receiver after the i-th transmission arrived
+-- the receiver after transmission i arrived
 abbrev pub after_arrival : Content → ℕ → Receiver → Receiver
 after_arrival (Frames mpdus) i r = with_arrived (at no_mpdu mpdus i).number r
 after_arrival (Request start) i r = with_start start r
 
--- the frames that numbers carry
+-- the ids of the frames that these numbers carry
 abbrev pub ids_of : Session → List ℕ → List ℕ
 ids_of x numbers = map (λ n. (slot x n).id) numbers
 
 -- ---- the end of an exchange
 
--- a share after a charge: it leaves the deficit and joins the charged airtime
+-- a share after a charge, which is taken off the deficit and added to the airtime charged
 abbrev pub paid : ℕ → Share → Share
 paid charge y = record y { deficit = y.deficit -ℤ pos charge; charged = y.charged + charge }
 
--- what an exchange is charged: the airtime that its Done names, in microseconds, else what was computed of it
+-- the charge of an exchange in microseconds: the airtime that its Done gives, otherwise what its pull
+-- computed
 abbrev pub charge_of : Option ℕ → Exchange → ℕ
 charge_of air x = unwrap_or air x.charge
 
--- a station pays for its exchange
+-- the station of an exchange is charged for it
 unfoldable pub after_charge : World → Exchange → Option ℕ → World
 after_charge w x air = on_share w x.station x.class (paid (charge_of air x))
 
--- whether the kept answer shows a number, where the exchange was heard
+-- whether the exchange was heard and its BlockAck shows number n
 abbrev pub is_acked : Bool → Option Score → ℕ → Bool
 is_acked heard None n = false
 is_acked heard (Some b) n = heard && shows b n
 
--- the frame of a number that failed is finished
+-- if the number failed, its frame is dropped as Retries
 unfoldable pub with_failed_finished : World → ℕ → ℕ → Mpdu → World
 with_failed_finished w s t m =
     if is_failed (slot (session w s t) m.number).state then with_frame_finished w (Dropped Retries) m.id
     else w
 
--- one number of an exchange that ends: it is acked, or was sent in vain
+-- one number of an exchange that ends: it is acknowledged, or was sent in vain
 unfoldable pub with_settled : World → ℕ → ℕ → Bool → Mpdu → World
 with_settled w s t acked m =
     if acked then with_frame_finished (on_session w s t (with_state State.Acked m.number)) Acked m.id
     else with_failed_finished (on_session w s t (after_miss w.config.attempts m.number)) s t m
 
--- the numbers of an exchange that ends, in order
+-- all numbers of an exchange that ends, in order
 unfoldable pub with_all_settled : World → ℕ → ℕ → (ℕ → Bool) → List Mpdu → World
 with_all_settled w s t acked [] = w
 with_all_settled w s t acked (m ∷ ms) = with_all_settled (with_settled w s t (acked m.number) m) s t acked ms
 
--- a request that is heard tells the receiver of all numbers below its start
+-- the session after a request ended: if the request was heard, `heard` becomes its start, unless it is
+-- greater already
 abbrev pub with_heard_start : Bool → ℕ → Session → Session
 with_heard_start heard start x = if heard then record x { heard = max x.heard start } else x
 
--- the world after an exchange ends, heard or not
+-- the world after an exchange with this content ended, heard or not
 unfoldable pub after_done : World → Exchange → Bool → Content → World
 after_done w x heard (Frames mpdus) = with_all_settled w x.station x.tid (is_acked heard x.answer) mpdus
 after_done w x heard (Request start) = on_session w x.station x.tid (with_heard_start heard start)
 
--- the subframes of an exchange
+-- the subframes of an exchange, of which a request has none
 abbrev pub mpdus_of : Content → List Mpdu
 mpdus_of (Frames mpdus) = mpdus
 mpdus_of (Request start) = []
 
--- how many of an exchange's numbers are in such a state
+-- how many numbers of an exchange have a state that passes a test
 abbrev pub count_in : World → Exchange → (State → Bool) → ℕ
 count_in w x p =
     let y : Session = session w x.station x.tid in

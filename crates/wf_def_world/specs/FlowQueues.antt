@@ -1,6 +1,7 @@
--- The flow queues: putting a frame in, and taking one out. "Ending the Anomaly" (USENIX ATC 2017),
--- section 3.1, algorithms 1 (enqueue) and 2 (dequeue). Deficits and lengths are in octets, times in
--- microseconds. That a queue's deficit is set when it is listed is this project's own rule.
+-- Defines how a frame is put into the flow queues and how one is taken out, by section 3.1 of "Ending
+-- the Anomaly" (USENIX ATC 2017): algorithms 1 (enqueue) and 2 (dequeue). Deficits and lengths are in
+-- octets, times in microseconds. One rule is this project's own: a queue's deficit is set when the
+-- queue is listed.
 use Rattle.std.specs.Prelude.{ℕ, ◌+◌, ◌*◌, ◌%◌, ◌==◌, nat_lt, nat_le, pos, ◌+ℤ◌, ◌-ℤ◌, Bool, not, ◌&&◌, List, [], ◌∷◌, ◌++◌, Option, Some, None, if◌then◌else◌, length, map, find, unwrap_or, sum_by}
 use Rattle.std.specs.List.{list_any, list_all}
 use Rattle.wf_frame.specs.declared.classes.Cause.TheVariants.{Overlimit, Codel as By_codel, Left}
@@ -10,20 +11,21 @@ use Rattle.wf_def_codel.specs.Codel.{Item, new_codel, octets, Dequeued, dequeue}
 use Rattle.wf_def_rotation.specs.Rotation.{has_key, in_order, with_new_key, need_of, Picked, pick}
 use Rattle.wf_def_world.specs.World.{World, Queue, new_queue, tid_of, queue, on_queue, with_queues, with_frame_finished, with_frames_finished, codel_params, live_stations}
 
--- how many frames are in the flow queues and the overflow queues
+-- the number of frames in all flow queues and overflow queues
 abbrev pub total_queued : World → ℕ
 total_queued w = sum_by (λ q. length q.items) w.queues
 
--- how many frames are in the queues of a TID
+-- the number of frames in the queues that a TID lists
 abbrev pub frames_queued : World → ℕ → ℕ → ℕ
 frames_queued w s t = sum_by (λ q. length (queue w q).items) (in_order (tid_of w s t).queues)
 
--- whether no queue of the list has more octets than its queue q
+-- whether no queue of the list has more octets than queue q
 abbrev pub has_most : List Queue → ℕ → Bool
 has_most queues q =
     list_all (λ x. nat_le (octets x.items) (octets (at new_queue queues q).items)) queues
 
--- the longest queue of a list: the least number among those of the most octets; 0 in an empty list
+-- the number of the longest queue of a list: the least among those with the most octets; 0 if the list is
+-- empty
 abbrev pub longest_of : List Queue → ℕ
 longest_of queues = unwrap_or (find (has_most queues) (upto (length queues))) 0
 
@@ -31,7 +33,7 @@ longest_of queues = unwrap_or (find (has_most queues) (upto (length queues))) 0
 abbrev pub longest_queue : World → ℕ
 longest_queue w = longest_of w.queues
 
--- queue q, whose frames are given, loses its head for the limit
+-- the world after queue q, whose frames are given, dropped its head for the limit
 unfoldable pub without_head : World → ℕ → List Item → World
 without_head w q [] = w
 without_head w q (x ∷ rest) =
@@ -42,85 +44,87 @@ abbrev pub head_id : List Item → Option ℕ
 head_id [] = None
 head_id (x ∷ rest) = Some x.id
 
--- the queues have as many frames as they may: the setting `limit`
+-- whether the queues have at least as many frames as the setting `limit`
 abbrev pub is_at_limit : World → Bool
 is_at_limit w = nat_le w.config.limit (total_queued w)
 
--- the frame that is dropped for the limit: the head of the longest queue
+-- the id of the frame that is dropped for the limit, if any: the head of the longest queue
 abbrev pub dropped_for_limit : World → Option ℕ
 dropped_for_limit w = if is_at_limit w then head_id (queue w (longest_queue w)).items else None
 
--- the world without the frame that is dropped for the limit
+-- the world after that frame is dropped, if any is
 unfoldable pub after_limit : World → World
 after_limit w = if is_at_limit w then without_head w (longest_queue w) (queue w (longest_queue w)).items
     else w
 
--- whether TID j of station i is another than TID t of station s
+-- whether TID j of station i is another TID than TID t of station s
 abbrev pub is_other : ℕ → ℕ → ℕ → ℕ → Bool
 is_other i j s t = not ((i == s) && (j == t))
 
--- whether a TID other than t of s lists q
+-- whether another TID than TID t of station s lists queue q
 abbrev pub is_listed_elsewhere : World → ℕ → ℕ → ℕ → Bool
 is_listed_elsewhere w s t q =
     let listed : ℕ → ℕ → Bool = λ i j. is_other i j s t && has_key (tid_of w i j).queues q in
     list_any (λ i. list_any (listed i) (upto 8)) (live_stations w)
 
--- the overflow queue of TID t of station s: these come after the flow queues
+-- the overflow queue of TID t of station s: overflow queues have the numbers after the flow queues
 abbrev pub overflow_queue : World → ℕ → ℕ → ℕ
 overflow_queue w s t = w.config.flows + 8 * s + t
 
--- the queue that takes a frame: its flow's, or the overflow queue where another TID lists that
+-- the queue that a frame is put into: that of its flow or, if another TID lists it, the TID's overflow
+-- queue
 abbrev pub queue_for : World → ℕ → ℕ → ℕ → ℕ
 queue_for w s t flow =
     let q : ℕ = flow % w.config.flows in
     if is_listed_elsewhere w s t q then overflow_queue w s t else q
 
--- the queue goes last on the TID's new list, with a fresh deficit, where it is not listed
+-- queue q is put last on the TID's new list, with a deficit of `flow_quantum`, unless the TID lists it
+-- already
 unfoldable pub with_listed_queue : World → ℕ → ℕ → ℕ → World
 with_listed_queue w s t q =
     if has_key (tid_of w s t).queues q then w
     else let fresh : World = on_queue w q (λ y. record y { deficit = pos w.config.flow_quantum }) in
     with_queues fresh s t (with_new_key (tid_of w s t).queues q)
 
--- a frame goes last on a queue
+-- a frame is put last into a queue
 unfoldable pub with_appended : World → ℕ → Item → World
 with_appended w q x = on_queue w q (λ y. record y { items = y.items ++ x ∷ [] })
 
--- algorithm 1: a frame goes last on a queue, which the TID lists from then on
+-- algorithm 1: a frame is put last into a queue, and the TID lists the queue
 unfoldable pub after_put_in : World → ℕ → ℕ → ℕ → Item → World
 after_put_in w s t q x = with_listed_queue (with_appended w q x) s t q
 
--- how many quanta a queue's deficit needs to come above 0
+-- the number of quanta that a queue's deficit needs to rise above 0
 abbrev pub queue_need : World → ℕ → ℕ
 queue_need w q = need_of w.config.flow_quantum (queue w q).deficit
 
--- a queue is ready where it has frames
+-- whether a queue has frames, so that it is ready
 abbrev pub has_frames : World → ℕ → Bool
 has_frames w q = nat_lt 0 (length (queue w q).items)
 
--- each of these queues gets so many quanta
+-- each of these queues gets its number of quanta
 unfoldable pub with_queues_paid : World → (ℕ → ℕ) → List ℕ → World
 with_queues_paid w quanta [] = w
 with_queues_paid w quanta (q ∷ qs) =
     let octets : ℕ = quanta q * w.config.flow_quantum in
     with_queues_paid (on_queue w q (λ y. record y { deficit = y.deficit +ℤ pos octets })) quanta qs
 
--- what a take leaves, and the frame that it gives
+-- the result of a take: the world after it, and the frame that was taken, if any
 pub record Taken : Type 0 where
   pub world : World
   pub item : Option Item
 
--- the octets of the frame that is given
+-- the length in octets of the frame that was taken; 0 if none was
 abbrev pub len_given : Option Item → ℕ
 len_given None = 0
 len_given (Some x) = x.len
 
--- queue y after CoDel's dequeue: its deficit pays for the frame that is given
+-- queue y after a dequeue by CoDel: the length of the frame that is given is taken off its deficit
 abbrev pub after_dequeue : Dequeued → Queue → Queue
 after_dequeue d y =
     record { items = d.rest; deficit = y.deficit -ℤ pos (len_given d.given); codel = d.state }
 
--- CoDel's dequeue of queue q: the frames that it drops are finished, in order
+-- a dequeue of queue q by CoDel: the frames that it drops are finished, in order
 unfoldable pub taken_by_codel : World → ℕ → Dequeued → Taken
 taken_by_codel w q d = record {
   world = with_frames_finished (on_queue w q (after_dequeue d)) (Dropped By_codel)
@@ -128,30 +132,30 @@ taken_by_codel w q d = record {
   item = d.given;
 }
 
--- a take from the queue that is picked, where one is
+-- a take from the queue that is picked, if one is
 unfoldable pub taken_from_picked : World → ℕ → Option ℕ → Taken
 taken_from_picked w s None = record { world = w; item = None }
 taken_from_picked w s (Some q) =
     taken_by_codel w q (dequeue (codel_params w s) w.clock (queue w q).codel (queue w q).items)
 
--- deficit round robin over the TID's queues
+-- the pick among the queues of a TID: deficit round robin
 abbrev pub picked_queue : World → ℕ → ℕ → Picked
 picked_queue w s t = pick (queue_need w) (has_frames w) (tid_of w s t).queues
 
--- algorithm 2: the queue that is picked gives a frame through CoDel
+-- algorithm 2: a queue of the TID is picked, and CoDel takes a frame from it
 unfoldable pub taken_for_tid : World → ℕ → ℕ → Taken
 taken_for_tid w s t =
     let p : Picked = picked_queue w s t in
     let paid : World = with_queues_paid w p.quanta (in_order (tid_of w s t).queues) in
     taken_from_picked (with_queues paid s t p.lists) s p.winner
 
--- the frames of a queue are dropped as Left, and its CoDel state is new
+-- the frames of queue q are dropped as Left, and its CoDel state becomes new
 unfoldable pub after_queue_left : World → ℕ → World
 after_queue_left w q =
     let emptied : World = on_queue w q (λ y. record y { items = []; codel = new_codel }) in
     with_frames_finished emptied (Dropped Left) (map (λ x. x.id) (queue w q).items)
 
--- the frames of these queues are dropped as Left, in order
+-- the same for each of these queues, in order
 unfoldable pub after_queues_left : World → List ℕ → World
 after_queues_left w [] = w
 after_queues_left w (q ∷ qs) = after_queues_left (after_queue_left w q) qs

@@ -1,15 +1,15 @@
--- When a call is refused: each call has rows, a test and a refusal in each, and the first row whose
--- test holds refuses it.
+-- Defines when a call is refused. Each call has rows, each with a test and a refusal; the first row
+-- whose test holds refuses the call.
 use Rattle.std.specs.Prelude.{ℕ, ◌+◌, ◌==◌, nat_lt, nat_le, pos, ◌-ℤ◌, int_lt, Bool, false, not, ◌&&◌, List, [], ◌∷◌, Option, Some, None, is_some, is_none, if◌then◌else◌, length, count_by}
 use Rattle.std.specs.List.{list_any}
-use Rattle.wf_frame.specs.declared.settings.Config.{Config}
+use Rattle.wf_frame.specs.Settings.{is_bad_air}
 use Rattle.wf_frame.specs.declared.classes.Class.{Class}
 use Rattle.wf_frame.specs.declared.notes.Ask.{Ask}
 use Rattle.wf_frame.specs.declared.notes.Ask.TheVariants.{Join, Leave, Rate, Tick, Pull, Arrive, Answer, Done, Sleep, Wake, Poll, Rx, Reap}
 use Rattle.wf_frame.specs.declared.notes.Note.{Note}
 use Rattle.wf_frame.specs.declared.notes.Note.TheVariants.{Enqueue, Asked}
 use Rattle.wf_frame.specs.declared.notes.Refusal.{Refusal}
-use Rattle.wf_frame.specs.declared.notes.Refusal.TheVariants.{BadStation, BadWindow, BadStart, BadExponent, BadRate, BadTick, BadTid, BadAir, BadIndex, Live, NoStation, NoExchange, NoAnswer, StillOpen, Room, Sleeping, Full, Idle, Answered, Arrived, Nothing, Asleep, Awake, Polled, Debt, BadWeight}
+use Rattle.wf_frame.specs.declared.notes.Refusal.TheVariants.{BadStation, BadWindow, BadStart, BadExponent, BadRate, BadTick, BadTid, BadAir, BadIndex, Live, NoStation, NoExchange, NoAnswer, Open, Room, Sleeping, Full, Idle, Answered, Arrived, Nothing, Asleep, Awake, Polled, Debt, BadWeight}
 use Rattle.wf_def_lists.specs.Table.{has, upto}
 use Rattle.wf_def_lists.specs.Bounds.{greatest_window, greatest_start, greatest_exponent, greatest_weight, greatest_tid, greatest_tick, greatest_air, deepest_deficit}
 use Rattle.wf_def_air.specs.Airtime.{is_rate}
@@ -25,27 +25,27 @@ unfoldable pub first_refusal : List (Bool × Refusal) → Option Refusal
 first_refusal [] = None
 first_refusal (row ∷ rows) = if row.0 then Some row.1 else first_refusal rows
 
--- whether n is one of low to high
+-- whether n is from low to high
 abbrev pub is_within : ℕ → ℕ → ℕ → Bool
 is_within low high n = nat_le low n && nat_le n high
 
--- there is no station of that number
+-- whether s is not the number of a station: it is not below the setting `stations`
 abbrev pub is_bad_station : World → ℕ → Bool
 is_bad_station w s = nat_le w.config.stations s
 
--- how many frames are queued for a station in a class
+-- the number of frames that are queued for a station in a class
 abbrev pub queued_in_class : World → ℕ → Class → ℕ
 queued_in_class w s c = frames_queued w s (lower_tid c) + frames_queued w s (upper_tid c)
 
--- a station sleeps, and as many frames are queued for it in a class as may be: the setting `sleeping`
+-- whether a station sleeps and at least `sleeping` frames are queued for it in a class
 abbrev pub sleeps_full : World → ℕ → Class → Bool
 sleeps_full w s c = (station w s).asleep && nat_le w.config.sleeping (queued_in_class w s c)
 
--- how many exchanges of a station are open
+-- the number of open exchanges of a station
 abbrev pub open_of_station : World → ℕ → ℕ
 open_of_station w s = count_by (λ x. x.station == s) w.opened
 
--- how many exchanges of a class are open
+-- the number of open exchanges of a class
 abbrev pub open_of_class : World → Class → ℕ
 open_of_class w c = count_by (λ x. same_class x.class c) w.opened
 
@@ -53,17 +53,12 @@ open_of_class w c = count_by (λ x. same_class x.class c) w.opened
 abbrev pub can_send_any : World → ℕ → Bool
 can_send_any w s = list_any (can_send w s) (upto (1 + greatest_tid))
 
--- a fact about an exchange that is open
+-- whether the exchange is open and passes a test
 abbrev pub exchange_has : Option Exchange → (Exchange → Bool) → Bool
 exchange_has None p = false
 exchange_has (Some x) p = p x
 
--- a Done names an airtime that it may not: 0, or more microseconds than the setting `charge`
-abbrev pub is_bad_air : Config → Option ℕ → Bool
-is_bad_air config None = false
-is_bad_air config (Some air) = not (is_within 1 config.charge air)
-
--- the rows of a call that is asked, in order
+-- the rows of a call that brings no frame, in order
 abbrev pub refusals_of : World → Ask → List (Bool × Refusal)
 refusals_of w (Join s window start exponent weight) = (
     (is_bad_station w s, BadStation) ∷ (not (is_within 1 greatest_window window), BadWindow)
@@ -72,7 +67,7 @@ refusals_of w (Join s window start exponent weight) = (
     ∷ (is_live w s, Live) ∷ [])
 refusals_of w (Leave s) = (
     (is_bad_station w s, BadStation) ∷ (not (is_live w s), NoStation) ∷
-    (nat_lt 0 (open_of_station w s), StillOpen (open_of_station w s)) ∷ [])
+    (nat_lt 0 (open_of_station w s), Open (open_of_station w s)) ∷ [])
 refusals_of w (Rate s rate) = (
     (is_bad_station w s, BadStation) ∷ (not (is_rate (rate_asked rate)), BadRate)
     ∷ (not (is_live w s), NoStation) ∷ [])
@@ -117,6 +112,6 @@ refusals w (Enqueue s t flow len) = (
     (sleeps_full w s (class_of t), Sleeping (queued_in_class w s (class_of t))) ∷ [])
 refusals w (Asked ask) = refusals_of w ask
 
--- what refuses a call, if anything does
+-- why a call is refused, if it is
 abbrev pub refusal : World → Note → Option Refusal
 refusal w note = first_refusal (refusals w note)

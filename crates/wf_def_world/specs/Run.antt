@@ -1,4 +1,4 @@
--- Whole histories: what a list of calls leaves and answers, from any world on.
+-- Defines what a list of calls leaves and answers, from any world on.
 use Rattle.std.specs.Prelude.{ℕ, List, [], ◌∷◌}
 use Rattle.wf_frame.specs.declared.settings.Config.{Config}
 use Rattle.wf_frame.specs.declared.notes.Note.{Note}
@@ -10,7 +10,7 @@ use Rattle.wf_def_world.specs.Step.{Outcome, step}
 abbrev pub Entry : Type 0
 Entry = ℕ × Note
 
--- a caller's call
+-- the entry of a caller and its call
 abbrev pub by : ℕ → Note → Entry
 by caller note = (caller, note)
 
@@ -24,11 +24,11 @@ unfoldable pub replies : World → List Entry → List ReplyNote
 replies w [] = []
 replies w (e ∷ es) = let o : Outcome = step w e.1 in o.reply ∷ replies o.world es
 
--- what a cell has been through: its settings, and its history
+-- the past of a cell: its settings and its history
 pub record Past : Type 0 where
   pub config : Config
   pub history : List Entry
 
--- the world in which a cell is
+-- the world of a cell with this past
 abbrev pub world_of : Past → World
 world_of p = world_after (opening p.config) p.history

@@ -1,4 +1,4 @@
--- One call of the machine: what it leaves, and what it answers.
+-- Defines one call of the machine: the world that it leaves, and its reply.
 use Rattle.std.specs.Prelude.{ℕ, ◌+◌, ◌-◌, ◌*◌, ◌%◌, pos, ◌-ℤ◌, Bool, true, false, List, [], ◌∷◌, ◌++◌, Option, Some, None, if◌then◌else◌, length, find, unwrap_or}
 use Rattle.wf_frame.specs.declared.classes.Class.{Class}
 use Rattle.wf_frame.specs.declared.classes.Class.TheVariants.{Bk, Be, Vi, Vo}
@@ -11,7 +11,8 @@ use Rattle.wf_frame.specs.declared.notes.Note.TheVariants.{Enqueue, Asked}
 use Rattle.wf_frame.specs.declared.notes.Refusal.{Refusal}
 use Rattle.wf_frame.specs.declared.notes.Refusal.TheVariants.{Idle}
 use Rattle.wf_frame.specs.declared.notes.ReplyNote.{ReplyNote}
-use Rattle.wf_frame.specs.declared.notes.ReplyNote.TheVariants.{Joined, Gone, RateSet, Ticked, Accepted, Send, Released, Ba, Ended, Slept, Woken, Credited, Charged, Reaped, Refused}
+use Rattle.wf_frame.specs.declared.notes.ReplyNote.TheVariants.{Joined, Set, Now, Accepted, Send, Released, Ba, Slept, Woken, Polled, Charged, Reaped, Refused}
+use Rattle.wf_frame.specs.declared.notes.ReplyNote.TheVariants as reply
 use Rattle.wf_def_lists.specs.Table.{upto, with_member}
 use Rattle.wf_def_air.specs.Airtime.{lowest_rate}
 use Rattle.wf_def_codel.specs.Codel.{Item}
@@ -26,20 +27,21 @@ use Rattle.wf_def_world.specs.CanSend.{can_send_in, with_listings_of}
 use Rattle.wf_def_world.specs.Exchanges.{picked_station, after_pick, sending_tid, after_tid_turn, Prepared, prepared_exchange, exchange_of, with_exchange_opened, without_credit, part_of, after_arrival, ids_of, after_charge, after_done, count_in}
 use Rattle.wf_def_world.specs.Refusals.{refusal}
 
--- what a call leaves and answers
+-- the outcome of a call: the world after it, and its reply
 pub record Outcome : Type 0 where
   pub world : World
   pub reply : ReplyNote
 
--- What no call comes to, since it is refused before: a call on an exchange that is not open as
--- NoExchange, a pull that no station wins as Idle, a reap of nothing as Nothing.
+-- The outcome of a call that has nothing to act on. It is unreached, since such a call is refused: on an
+-- exchange that is not open as NoExchange, a pull that no station wins as Idle, a reap from an empty
+-- finished list as Nothing.
 abbrev pub unreached : World → Outcome
 unreached w = record { world = w; reply = Released [] }
 
 -- ---- stations and clock
 
--- Join: a quantum of airtime in each class, and on each TID an agreement with this window, from this
--- number on
+-- Join: the station has a quantum of airtime in each class and, on each TID, an agreement with this
+-- window and this first number
 unfoldable pub join_outcome : World → ℕ → ℕ → ℕ → ℕ → ℕ → Outcome
 join_outcome w s window start exponent weight =
     let share = new_share (w.config.quantum * weight) in
@@ -57,17 +59,18 @@ join_outcome w s window start exponent weight =
       reply = Joined;
     }
 
--- the frames of the numbers that wait
+-- the ids of the frames whose numbers wait
 abbrev pub waiting_ids : List Slot → List ℕ
 waiting_ids [] = []
 waiting_ids (x ∷ xs) = if is_waiting x.state then x.id ∷ waiting_ids xs else waiting_ids xs
 
--- the numbers of a list, rising and once each
+-- the numbers of a list, rising and without duplicates
 abbrev pub in_rising_order : List ℕ → List ℕ
 in_rising_order [] = []
 in_rising_order (x ∷ xs) = with_member x (in_rising_order xs)
 
--- a TID's frames are dropped as Left: its numbers' first, then its queues', by their numbers
+-- the frames of a TID are dropped as Left: first those of the numbers that wait, then those of its queues,
+-- queue by queue in the order of their numbers
 unfoldable pub after_tid_left : World → ℕ → ℕ → World
 after_tid_left w s t =
     let emptied : World = with_frames_finished w (Dropped Left) (waiting_ids (session w s t).slots) in
@@ -83,38 +86,39 @@ unfoldable pub without_listings : World → ℕ → List Class → World
 without_listings w s [] = w
 without_listings w s (c ∷ cs) = without_listings (with_rotation w c (without_key (rotation w c) s)) s cs
 
--- Leave: the station's frames are dropped, and the reply is how many
+-- Leave: the station's frames are dropped, and the reply says how many
 unfoldable pub leave_outcome : World → ℕ → Outcome
 leave_outcome w s =
     let left : World = after_tids_left w s (upto 8) in
     record {
       world = with_station (without_listings left s all_classes) s None;
-      reply = Gone (length left.finished - length w.finished);
+      reply = reply.Left (length left.finished - length w.finished);
     }
 
--- Rate: the rate of a station's data from then on
+-- Rate: data to the station has this rate from now on
 unfoldable pub rate_outcome : World → ℕ → AskedRate → Outcome
 rate_outcome w s rate =
     record {
       world = on_station w s (λ x. record x { rate = rate_asked rate });
-      reply = RateSet;
+      reply = Set;
     }
 
--- Tick: the clock moves on by so many microseconds
+-- Tick: the clock moves forward by this number of microseconds
 unfoldable pub tick_outcome : World → ℕ → Outcome
-tick_outcome w by = record { world = record w { clock = w.clock + by }; reply = Ticked (w.clock + by) }
+tick_outcome w by = record { world = record w { clock = w.clock + by }; reply = Now (w.clock + by) }
 
 -- ---- frames
 
--- a frame is accepted: it gets the next id
+-- a frame is accepted: it gets the next id and is held
 unfoldable pub with_frame : World → Note → World
 with_frame w note = record w { frames = w.frames ++ record { note = note; fate = Held } ∷ [] }
 
--- the frame that the next call accepts, as it lies in its queue: it is stamped with the clock
+-- the next frame to be accepted, as a queue holds it: its stamp is the clock
 abbrev pub next_item : World → ℕ → Item
 next_item w len = record { id = accepted_count w; stamp = w.clock; len = len }
 
--- Enqueue: at the limit the head of the longest queue leaves first; then the new frame goes in
+-- Enqueue: at the limit the head of the longest queue is dropped first; then the new frame is put into
+-- its queue
 unfoldable pub enqueue_outcome : World → ℕ → ℕ → ℕ → ℕ → Outcome
 enqueue_outcome w s t flow len =
     let w' : World = after_limit w in
@@ -124,7 +128,7 @@ enqueue_outcome w s t flow len =
       reply = Accepted (accepted_count w) (dropped_for_limit w);
     }
 
--- what is prepared goes on the air: its exchange opens, and a credit is spent
+-- a prepared exchange is sent: it opens, and the station's credit is spent
 unfoldable pub send_outcome : ℕ → ℕ → Class → Prepared → Outcome
 send_outcome s t c p =
     let x : Exchange = exchange_of s t c p in
@@ -133,20 +137,20 @@ send_outcome s t c p =
       reply = Send x.number s t x.charge (part_of x.content) x.more;
     }
 
--- what the station that is picked sends
+-- the outcome of a pull with this winner
 unfoldable pub pull_outcome_for : World → Class → Option ℕ → Outcome
 pull_outcome_for w c None = unreached w
 pull_outcome_for w c (Some s) =
     let t : ℕ = sending_tid w s c in
     send_outcome s t c (prepared_exchange (after_tid_turn w s c t) s t)
 
--- Pull: the station that is picked sends
+-- Pull: a station of the class is picked, and sends
 unfoldable pub pull_outcome : World → Class → Outcome
 pull_outcome w c = pull_outcome_for (after_pick w c) c (picked_station w c).winner
 
 -- ---- exchanges
 
--- Arrive: transmission i reaches the receiver, which passes up the frames that are in order now
+-- Arrive: transmission i reaches the receiver, which releases the frames that are now in order
 unfoldable pub arrive_outcome : World → Exchange → ℕ → Outcome
 arrive_outcome w x i =
     let old : Receiver = receiver w x.station x.tid in
@@ -157,7 +161,8 @@ arrive_outcome w x i =
       reply = Released (ids_of (session w x.station x.tid) (released_between old new));
     }
 
--- Answer: the receiver's BlockAck, its start on the air and its bitmap (IEEE 802.11-2012, 8.3.1.9.3)
+-- Answer: the receiver makes its BlockAck. The reply has its start, modulo 4096, and its bitmap (IEEE
+-- 802.11-2012, 8.3.1.9.3).
 unfoldable pub answer_outcome : World → Exchange → Outcome
 answer_outcome w x =
     let b : Score = score (receiver w x.station x.tid) in
@@ -168,18 +173,18 @@ answer_outcome w x =
           (is_wide w x.station x.tid);
     }
 
--- Done: the exchange is charged what is named, else what was computed, and settled, and the reply counts its
--- numbers that are acknowledged, wait again, and failed
+-- Done: the exchange ends. It is charged the airtime that is given, otherwise the computed one. The reply
+-- counts its numbers that are acknowledged, that wait again, and that failed.
 unfoldable pub done_outcome : World → Exchange → Bool → Option ℕ → Outcome
 done_outcome w x heard air =
     let after : World = after_done (after_charge (without_exchange w x.number) x air) x heard x.content in
     let count : (State → Bool) → ℕ = count_in after x in
     record {
       world = after;
-      reply = Ended (count is_acknowledged) (count is_waiting) (count is_failed);
+      reply = reply.Done (count is_acknowledged) (count is_waiting) (count is_failed);
     }
 
--- what a call does to an open exchange
+-- the outcome f of a call on an exchange, if the exchange is open
 unfoldable pub outcome_where_open : World → Option Exchange → (Exchange → Outcome) → Outcome
 outcome_where_open w None f = unreached w
 outcome_where_open w (Some x) f = f x
@@ -190,22 +195,22 @@ outcome_where_open w (Some x) f = f x
 unfoldable pub sleep_outcome : World → ℕ → Outcome
 sleep_outcome w s = record { world = on_station w s (λ x. record x { asleep = true }); reply = Slept }
 
--- Wake: the station is awake, and has no credit
+-- Wake: the station is awake and has no credit
 unfoldable pub wake_outcome : World → ℕ → Outcome
 wake_outcome w s =
     record { world = on_station w s (λ x. record x { asleep = false; credit = None }); reply = Woken }
 
--- the first of Vo, Vi, Be and Bk in which the station can send
+-- the first of Vo, Vi and Be in which the station can send, otherwise Bk
 abbrev pub class_to_send : World → ℕ → Class
 class_to_send w s = unwrap_or (find (can_send_in w s) (Vo ∷ Vi ∷ Be ∷ [])) Bk
 
--- Poll: a sleeping station may receive one exchange (PS-Poll, IEEE 802.11-2012, 10.2.1.6)
+-- Poll: the sleeping station gets a credit for one exchange (PS-Poll, IEEE 802.11-2012, 10.2.1.6)
 unfoldable pub poll_outcome : World → ℕ → Outcome
 poll_outcome w s =
     let c : Class = class_to_send w s in
-    record { world = on_station w s (λ x. record x { credit = Some c }); reply = Credited c }
+    record { world = on_station w s (λ x. record x { credit = Some c }); reply = Polled c }
 
--- Rx: a station pays for the airtime in which it sent, in microseconds
+-- Rx: the station is charged the airtime in which it sent, in microseconds
 unfoldable pub rx_outcome : World → ℕ → Class → ℕ → Outcome
 rx_outcome w s c air = record {
   world =
@@ -213,7 +218,7 @@ rx_outcome w s c air = record {
   reply = Charged ((share w s c).deficit -ℤ pos air);
 }
 
--- Reap: the first finished frame is told of
+-- Reap: the first frame of the finished list is removed from it, and the reply has its id and fate
 unfoldable pub reap_outcome : World → List ℕ → Outcome
 reap_outcome w [] = unreached w
 reap_outcome w (id ∷ ids) =
@@ -221,7 +226,7 @@ reap_outcome w (id ∷ ids) =
 
 -- ---- the step
 
--- what a call does that is not refused
+-- the outcome of a call that is not refused
 unfoldable pub outcome_of : World → Note → Outcome
 outcome_of w (Enqueue s t flow len) = enqueue_outcome w s t flow len
 outcome_of w (Asked (Join s window start exponent weight)) =
@@ -240,12 +245,13 @@ outcome_of w (Asked (Poll s)) = poll_outcome w s
 outcome_of w (Asked (Rx s c air)) = rx_outcome w s c air
 outcome_of w (Asked Reap) = reap_outcome w w.finished
 
--- the station of an exchange, where it is open
+-- the station of an exchange, if the exchange is open
 abbrev pub station_of : Option Exchange → Option ℕ
 station_of None = None
 station_of (Some x) = Some x.station
 
--- the station that a call concerns
+-- the station that a call concerns, if any: it is listed after the call in each class in which it is
+-- ready
 abbrev pub concerned_station : World → Note → Option ℕ
 concerned_station w (Enqueue s t flow len) = Some s
 concerned_station w (Asked (Join s window start exponent weight)) = Some s
@@ -262,19 +268,20 @@ concerned_station w (Asked (Poll s)) = Some s
 concerned_station w (Asked (Rx s c air)) = Some s
 concerned_station w (Asked Reap) = None
 
--- What a refusal changes: Idle alone does, where no station of the class was ready and the pick
--- empties its lists.
+-- The world after a refusal. Only Idle changes it: the pick found no ready station, gave the listed
+-- ones their quanta, and emptied the lists of the class.
 unfoldable pub after_refusal : World → Note → Refusal → World
 after_refusal w (Asked (Pull c)) Idle = after_pick w c
 after_refusal w note _ = w
 
--- a call that is refused, or not: then the station that it concerns is listed where it is ready
+-- the outcome of a call, refused or not. If it is not refused, the station that it concerns is listed
+-- in each class in which it is ready.
 unfoldable pub judged_outcome : World → Note → Option Refusal → Outcome
 judged_outcome w note (Some r) = record { world = after_refusal w note r; reply = Refused r }
 judged_outcome w note None =
     let o : Outcome = outcome_of w note in record
     o { world = with_listings_of o.world (concerned_station w note) }
 
--- one call
+-- the outcome of one call
 unfoldable pub step : World → Note → Outcome
 step w note = judged_outcome w note (refusal w note)

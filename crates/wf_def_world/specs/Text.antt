@@ -1,4 +1,5 @@
--- What is written of a run: answer lines, and the summary with the TIM element (IEEE 802.11-2012, 8.4.2.7).
+-- Defines the text that is written of a run: its answer lines, and its summary with the TIM element
+-- (IEEE 802.11-2012, 8.4.2.7).
 use Rattle.std.specs.Prelude.{ℕ, ℤ, zero, suc, ◌+◌, ◌/◌, ◌%◌, ◌==◌, nat_lt, Bool, true, false, ◌&&◌, List, [], ◌∷◌, ◌++◌, Option, Some, None, if◌then◌else◌, length, map, filter, count_by, codes, decimal}
 use Rattle.std.specs.Fmt.{signed_decimal}
 use Rattle.std.specs.List.{concat}
@@ -11,17 +12,18 @@ use Rattle.wf_frame.specs.declared.notes.Part.{Part}
 use Rattle.wf_frame.specs.declared.notes.Part.TheVariants.{Mpdus, Request}
 use Rattle.wf_frame.specs.declared.notes.Refusal.{Refusal}
 use Rattle.wf_frame.specs.declared.notes.ReplyNote.{ReplyNote}
-use Rattle.wf_frame.specs.declared.notes.ReplyNote.TheVariants.{Joined, Gone, RateSet, Ticked, Accepted, Send, Released, Ba, Ended, Slept, Woken, Credited, Charged, Reaped, Refused}
+use Rattle.wf_frame.specs.declared.notes.ReplyNote.TheVariants.{Joined, Set, Now, Accepted, Send, Released, Ba, Done, Slept, Woken, Polled, Charged, Reaped, Refused}
+use Rattle.wf_frame.specs.declared.notes.ReplyNote.TheVariants as reply
 use Rattle.wf_frame.specs.declared.settings.Config.{Config}
 use Rattle.wf_def_tim.specs.Tim.{tim_element}
 use Rattle.wf_def_world.specs.World.{World, Share, share, station, live_stations, accepted_count, opening}
-use Rattle.wf_frame.specs.Classes.{all_classes, class_word}
+use Rattle.wf_frame.specs.Classes.{all_classes, class_word, fate_word}
 use Rattle.wf_frame.specs.Refusals.{refusal_word, number_told}
 use Rattle.wf_frame.specs.Words.{line}
 use Rattle.wf_def_world.specs.Exchanges.{has_more}
 use Rattle.wf_def_world.specs.Run.{Entry, world_after, replies}
 
--- a hexadecimal digit, lower-case: 0 to 9 are 48 to 57, a to f are 97 to 102
+-- the code of a hexadecimal digit, lower-case: 0 to 9 are 48 to 57, a to f are 97 to 102
 abbrev pub hex_digit : ℕ → ℕ
 hex_digit d = if nat_lt d 10 then 48 + d else 87 + d
 
@@ -30,57 +32,48 @@ abbrev pub hex : ℕ → ℕ → List ℕ
 hex zero x = []
 hex (suc n) x = hex n (x / 16) ++ hex_digit (x % 16) ∷ []
 
--- the word of a fate; a reaped frame is never held
-abbrev pub fate_name : Fate → List ℕ
-fate_name Held = codes "held"
-fate_name Acked = codes "acked"
-fate_name (Dropped Overlimit) = codes "overlimit"
-fate_name (Dropped Codel) = codes "codel"
-fate_name (Dropped Retries) = codes "retries"
-fate_name (Dropped Left) = codes "left"
-
--- the number that a refusal tells, where it tells one
+-- the number of a refusal as a word, if it has one
 abbrev pub told_words : Option ℤ → List (List ℕ)
 told_words None = []
 told_words (Some number) = signed_decimal number ∷ []
 
--- the words of a refusal, with its number where it has one
+-- the words of a refusal: its own, and its number if it has one
 abbrev pub refusal_words : Refusal → List (List ℕ)
 refusal_words refusal = refusal_word refusal ∷ told_words (number_told refusal)
 
--- what an exchange sends: each frame with its sequence number, or the start of a request
+-- the words for what an exchange sends: each frame with its sequence number, or the start of a request
 abbrev pub part_words : Part → List (List ℕ)
 part_words (Mpdus pairs) = codes "data" ∷ map (λ p. decimal p.0 ++ codes ":" ++ decimal p.1) pairs
 part_words (Request start) = codes "bar" ∷ decimal start ∷ []
 
--- the frame that was dropped for the limit, if there is one
+-- the words for the frame that was dropped for the limit, if any
 abbrev pub dropped_words : Option ℕ → List (List ℕ)
 dropped_words None = []
 dropped_words (Some id) = codes "dropped" ∷ decimal id ∷ []
 
--- the bits of an answer, offset 255 first where it is wide, else offset 63 first
+-- the bits of a BlockAck in hexadecimal, the greatest offset first: 255 if it is wide, otherwise 63
 abbrev pub score_digits : ℕ → ℕ → ℕ → ℕ → Bool → List ℕ
 score_digits b0 b1 b2 b3 wide = if wide then hex 16 b3 ++ hex 16 b2 ++ hex 16 b1 ++ hex 16 b0 else hex 16 b0
 
 -- the words of a reply
 abbrev pub reply_words : ReplyNote → List (List ℕ)
 reply_words Joined = codes "joined" ∷ []
-reply_words (Gone dropped) = codes "left" ∷ decimal dropped ∷ []
-reply_words RateSet = codes "set" ∷ []
-reply_words (Ticked now) = codes "now" ∷ decimal now ∷ []
+reply_words (reply.Left dropped) = codes "left" ∷ decimal dropped ∷ []
+reply_words Set = codes "set" ∷ []
+reply_words (Now now) = codes "now" ∷ decimal now ∷ []
 reply_words (Accepted id dropped) = codes "accepted" ∷ decimal id ∷ dropped_words dropped
 reply_words (Send e s t air part more) =
     codes "send" ∷ decimal e ∷ codes "sta" ∷ decimal s ∷ codes "tid" ∷ decimal t ∷ codes "air" ∷ decimal air ∷ []
     ++ part_words part ++ (if more then codes "more" ∷ [] else [])
 reply_words (Released ids) = codes "released" ∷ map decimal ids
 reply_words (Ba start b0 b1 b2 b3 wide) = codes "ba" ∷ decimal start ∷ score_digits b0 b1 b2 b3 wide ∷ []
-reply_words (Ended acked waiting failed) =
+reply_words (Done acked waiting failed) =
     codes "done" ∷ codes "acked" ∷ decimal acked ∷ codes "waiting" ∷ decimal waiting ∷ codes "failed" ∷ decimal failed ∷ []
 reply_words Slept = codes "slept" ∷ []
 reply_words Woken = codes "woken" ∷ []
-reply_words (Credited class) = codes "polled" ∷ class_word class ∷ []
+reply_words (Polled class) = codes "polled" ∷ class_word class ∷ []
 reply_words (Charged deficit) = codes "charged" ∷ signed_decimal deficit ∷ []
-reply_words (Reaped id fate) = codes "reaped" ∷ decimal id ∷ fate_name fate ∷ []
+reply_words (Reaped id fate) = codes "reaped" ∷ decimal id ∷ fate_word fate ∷ []
 reply_words (Refused refusal) = codes "refused" ∷ refusal_words refusal
 
 -- the answer line of a reply
@@ -89,7 +82,7 @@ answer_line r = line (reply_words r)
 
 -- ---- the summary
 
--- whether two causes are one
+-- whether two causes are equal
 abbrev pub same_cause : Cause → Cause → Bool
 same_cause Overlimit Overlimit = true
 same_cause Codel Codel = true
@@ -97,25 +90,25 @@ same_cause Retries Retries = true
 same_cause Left Left = true
 same_cause _ _ = false
 
--- whether two fates are one
+-- whether two fates are equal
 abbrev pub same_fate : Fate → Fate → Bool
 same_fate Held Held = true
 same_fate Acked Acked = true
 same_fate (Dropped a) (Dropped b) = same_cause a b
 same_fate _ _ = false
 
--- how many accepted frames have a fate
+-- the number of accepted frames with this fate
 abbrev pub tally : World → Fate → ℕ
 tally w fate = count_by (λ f. same_fate f.fate fate) w.frames
 
--- line 3: the accepted frames by their fates
+-- line 3: the number of accepted frames, and how many have each fate
 abbrev pub tally_words : World → List (List ℕ)
 tally_words w =
     codes "frames" ∷ decimal (accepted_count w) ∷ codes "acked" ∷ decimal (tally w Acked) ∷ codes "overlimit" ∷ decimal (tally w (Dropped Overlimit)) ∷
     codes "codel" ∷ decimal (tally w (Dropped Codel)) ∷ codes "retries" ∷ decimal (tally w (Dropped Retries)) ∷
     codes "left" ∷ decimal (tally w (Dropped Left)) ∷ codes "held" ∷ decimal (tally w Held) ∷ []
 
--- line 5 of a station and class: its airtime in microseconds, where it had any
+-- line 5, one for each station and class: its airtime in microseconds; empty if it had none
 abbrev pub share_line : ℕ → Class → Share → List ℕ
 share_line s c x =
     if x.charged + x.received == 0 then []
@@ -126,7 +119,7 @@ share_line s c x =
 abbrev pub share_lines : World → ℕ → List ℕ
 share_lines w s = concat (map (λ c. share_line s c (share w s c)) all_classes)
 
--- the TIM element of these AIDs; every beacon has DTIM count 0 and period 1
+-- the TIM element with these AIDs; every beacon has DTIM count 0 and period 1
 abbrev pub traffic_map : List ℕ → List ℕ
 traffic_map aids = tim_element 0 1 aids
 
@@ -134,7 +127,7 @@ traffic_map aids = tim_element 0 1 aids
 abbrev pub with_traffic : World → List ℕ
 with_traffic w = map (λ s. s + 1) (filter (λ s. (station w s).asleep && has_more w s) (live_stations w))
 
--- the summary of a world after so many calls
+-- the summary of a world after this number of calls
 abbrev pub summary : World → ℕ → List ℕ
 summary w calls =
     line (codes "calls" ∷ decimal calls ∷ []) ++ line (codes "now" ∷ decimal w.clock ∷ []) ++ line (tally_words w)
@@ -146,10 +139,10 @@ summary w calls =
 abbrev pub answer_lines : Config → List Entry → List ℕ
 answer_lines config history = concat (map answer_line (replies (opening config) history))
 
--- the summary behind a history
+-- the summary of the world after a history
 abbrev pub history_summary : Config → List Entry → List ℕ
 history_summary config history = summary (world_after (opening config) history) (length history)
 
--- the text of a history that ended: its answer lines and its summary
+-- the text of a whole history: its answer lines and its summary
 abbrev pub text_of : Config → List Entry → List ℕ
 text_of config history = answer_lines config history ++ history_summary config history

@@ -1,5 +1,6 @@
--- All that the machine knows. Times, stations' deficits and airtime are in microseconds, lengths and
--- queues' deficits in octets. Numbers do not wrap; on the air they are modulo 4096.
+-- Defines the state of the machine, and how to read and change it. Times, stations' deficits and airtime are
+-- in microseconds, lengths and queues' deficits in octets. Sequence numbers do not wrap here; on the air they
+-- are modulo 4096.
 use Rattle.std.specs.Prelude.{ℕ, ◌+◌, ◌*◌, ◌==◌, nat_lt, ℤ, pos, Bool, true, false, not, List, [], ◌∷◌, ◌++◌, Option, None, is_some, unwrap_or, option_map, if◌then◌else◌, length, map, filter, find, count_by}
 use Rattle.wf_frame.specs.declared.settings.Config.{Config}
 use Rattle.wf_frame.specs.declared.classes.Class.{Class}
@@ -18,8 +19,8 @@ use Rattle.wf_def_rotation.specs.Rotation.{Rotation, no_keys}
 use Rattle.wf_def_agreement.specs.Session.{Session, new_session}
 use Rattle.wf_def_agreement.specs.Receiver.{Receiver, new_receiver, Score}
 
--- what a station has in one class: its deficit, and since its join how many quanta it was given, and
--- how much airtime it was charged for exchanges, and for what it sent
+-- a station in one class: its deficit and, since its join, the number of quanta that it was given and
+-- the airtime that it was charged, for exchanges (`charged`) and for its own transmissions (`received`)
 pub record Share : Type 0 where
   pub deficit : ℤ
   pub quanta : ℕ
@@ -27,18 +28,18 @@ pub record Share : Type 0 where
   pub received : ℕ
   pub upper : Bool  -- whether it is the upper TID's turn
 
--- the share of a station that joins
+-- the share of a station that joins, with this deficit
 abbrev pub new_share : ℕ → Share
 new_share deficit =
     record { deficit = pos deficit; quanta = 0; charged = 0; received = 0; upper = false }
 
--- what a station has for one TID: the agreement's two sides, and the flow queues that it lists
+-- one TID of a station: both sides of its agreement, and the rotation of the queues that it lists
 pub record Tid : Type 0 where
   pub session : Session
   pub receiver : Receiver
   pub queues : Rotation
 
--- a TID of a station that joins: the first number, and the window
+-- a TID of a station that joins, with this first number and this window
 abbrev pub new_tid : ℕ → ℕ → Tid
 new_tid first size = record {
   session = new_session first size;
@@ -50,10 +51,10 @@ new_tid first size = record {
 pub record Station : Type 0 where
   pub weight : ℕ
   pub rate : Rate
-  pub exponent : ℕ  -- of its longest A-MPDU (IEEE 802.11-2012, 8.4.2.58.3)
+  pub exponent : ℕ  -- the maximum A-MPDU length exponent (IEEE 802.11-2012, 8.4.2.58.3)
   pub asleep : Bool
-  pub credit : Option Class  -- in which a sleeping station may receive one exchange
-  pub shares : List Share  -- by class
+  pub credit : Option Class  -- the class in which a sleeping station may receive one exchange
+  pub shares : List Share  -- by class number
   pub tids : List Tid  -- by TID
 
 -- the share of a station that is not live
@@ -64,7 +65,7 @@ no_share = new_share 0
 abbrev pub no_tid : Tid
 no_tid = new_tid 0 0
 
--- a station that is not live, where one is asked for
+-- the value of `station` for a station that is not live
 abbrev pub no_station : Station
 no_station = record {
   weight = 1;
@@ -76,59 +77,60 @@ no_station = record {
   tids = [];
 }
 
--- a flow queue: its frames in order, its deficit in octets, and what CoDel knows of it
+-- a flow queue or an overflow queue: its frames in order, its deficit in octets, and its CoDel state
 pub record Queue : Type 0 where
   pub items : List Item
   pub deficit : ℤ
   pub codel : Codel
 
--- a queue to which nothing came
+-- an empty queue, with deficit 0 and a new CoDel state
 abbrev pub new_queue : Queue
 new_queue = record { items = []; deficit = pos 0; codel = new_codel }
 
--- a number that an exchange sends, with the frame that it carries
+-- an MPDU of an aggregate: its sequence number, its frame's id, and the length of the frame's body in
+-- octets
 pub record Mpdu : Type 0 where
   pub number : ℕ
   pub id : ℕ
   pub len : ℕ
 
--- what an exchange sends: an aggregate, or a BlockAckReq with a start
+-- what an exchange sends: an aggregate of data frames, or one BlockAckReq with this start
 pub data Content : Type 0 where
   Frames : (mpdus : List Mpdu) → Content
   Request : (start : ℕ) → Content
 
--- an open exchange
+-- an open exchange: it was made by a pull and has not ended by a Done
 pub record Exchange : Type 0 where
   pub number : ℕ
   pub station : ℕ
   pub tid : ℕ
   pub class : Class
-  pub charge : ℕ  -- of airtime, when it ends
+  pub charge : ℕ  -- its computed airtime, which is charged unless its Done gives another
   pub content : Content
-  pub arrived : List ℕ  -- the indices that arrived, rising
-  pub answer : Option Score  -- the BlockAck, once it was made
+  pub arrived : List ℕ  -- the indices of the transmissions that arrived, rising
+  pub answer : Option Score  -- the BlockAck, once the station has answered
   pub more : Bool  -- the More Data bit
 
--- an accepted frame: the call that brought it, and what became of it
+-- an accepted frame: the call that brought it, and its fate
 pub record Frame : Type 0 where
   pub note : Note
   pub fate : Fate
 
--- The frame of an id that was not given. It is unreached: the machine keeps ids of accepted frames.
+-- The value at an id that no frame has. It is unreached: the machine keeps only ids of accepted frames.
 abbrev pub no_frame : Frame
 no_frame = record { note = Asked Reap; fate = Held }
 
--- the machine's state
+-- the state of the machine
 pub record World : Type 0 where
   pub config : Config
   pub clock : ℕ
-  pub exchanges : ℕ  -- how many were made
-  pub stations : List (Option Station)  -- by number: None where it is not live
+  pub exchanges : ℕ  -- how many were made: the number of the next one
+  pub stations : List (Option Station)  -- by number: None for a station that is not live
   pub queues : List Queue  -- by number
-  pub rotations : List Rotation  -- of stations, by class
-  pub opened : List Exchange  -- in the order of their numbers
+  pub rotations : List Rotation  -- of stations, by class number
+  pub opened : List Exchange  -- the open exchanges, in the order of their numbers
   pub frames : List Frame  -- by id
-  pub finished : List ℕ  -- the ids with a fate that are not reaped, the one that had it first in front
+  pub finished : List ℕ  -- the ids of frames with a fate that are not reaped, in the order of their fates
 
 -- the world before the first call
 abbrev pub opening : Config → World
@@ -150,7 +152,7 @@ opening config = record {
 abbrev pub is_live : World → ℕ → Bool
 is_live w s = is_some (at None w.stations s)
 
--- a station
+-- station s
 abbrev pub station : World → ℕ → Station
 station w s = unwrap_or (at None w.stations s) no_station
 
@@ -158,35 +160,35 @@ station w s = unwrap_or (at None w.stations s) no_station
 abbrev pub tid_of : World → ℕ → ℕ → Tid
 tid_of w s t = at no_tid (station w s).tids t
 
--- the originator's side of a TID's agreement
+-- the originator's side of the agreement of TID t of station s
 abbrev pub session : World → ℕ → ℕ → Session
 session w s t = (tid_of w s t).session
 
--- the recipient's side of a TID's agreement
+-- the recipient's side of the agreement of TID t of station s
 abbrev pub receiver : World → ℕ → ℕ → Receiver
 receiver w s t = (tid_of w s t).receiver
 
--- what a station has in a class
+-- the share of station s in class c
 abbrev pub share : World → ℕ → Class → Share
 share w s c = at no_share (station w s).shares (class_number c)
 
--- a station's quantum of airtime: the setting `quantum` for each unit of its weight
+-- the quantum of airtime of station s: the setting `quantum` times its weight
 abbrev pub quantum : World → ℕ → ℕ
 quantum w s = w.config.quantum * (station w s).weight
 
--- flow queue or overflow queue q
+-- queue q: a flow queue or an overflow queue
 abbrev pub queue : World → ℕ → Queue
 queue w q = at new_queue w.queues q
 
--- the stations of a class that have their turns
+-- the rotation of the stations of class c
 abbrev pub rotation : World → Class → Rotation
 rotation w c = at no_keys w.rotations (class_number c)
 
--- the accepted frame of an id
+-- the accepted frame with this id
 abbrev pub frame : World → ℕ → Frame
 frame w id = at no_frame w.frames id
 
--- the octets of the frame that a call brings
+-- the length in octets of the frame that a call brings; 0 if it brings none
 abbrev pub len_of : Note → ℕ
 len_of (Enqueue station tid flow len) = len
 len_of (Asked ask) = 0
@@ -196,88 +198,88 @@ abbrev pub is_held : Fate → Bool
 is_held Held = true
 is_held _ = false
 
--- how many frames were accepted: the next id
+-- the number of frames that were accepted, which is the next id
 abbrev pub accepted_count : World → ℕ
 accepted_count w = length w.frames
 
--- how many frames were accepted and are not yet reaped
+-- the number of frames that were accepted and are not yet reaped
 abbrev pub inside : World → ℕ
 inside w = count_by (λ f. is_held f.fate) w.frames + length w.finished
 
--- the live stations, rising
+-- the numbers of the live stations, rising
 abbrev pub live_stations : World → List ℕ
 live_stations w = filter (is_live w) (upto w.config.stations)
 
--- CoDel's parameters for the station's queues
+-- CoDel's parameters for the queues of station s, which depend on its rate
 abbrev pub codel_params : World → ℕ → Params
 codel_params w s = params_at (station w s).rate
 
--- whether a TID's agreement has a window above 64: its BlockAcks have 256 bits
+-- whether the window of a TID's agreement is above 64, so that its BlockAcks have 256 bits
 abbrev pub is_wide : World → ℕ → ℕ → Bool
 is_wide w s t = nat_lt narrow_window (session w s t).size
 
--- the open exchange of a number
+-- the open exchange with number e, if there is one
 abbrev pub exchange : World → ℕ → Option Exchange
 exchange w e = find (λ x. x.number == e) w.opened
 
 -- ---- changing a world
 
--- station s is x from then on
+-- the world in which station s is x
 unfoldable pub with_station : World → ℕ → Option Station → World
 with_station w s x = record w { stations = put None w.stations s x }
 
--- f of station s; where it is not live, nothing changes
+-- the world with f applied to station s; a station that is not live stays so
 unfoldable pub on_station : World → ℕ → (Station → Station) → World
 on_station w s f = with_station w s (option_map f (at None w.stations s))
 
--- f of TID t of station s
+-- the world with f applied to TID t of station s
 unfoldable pub on_tid : World → ℕ → ℕ → (Tid → Tid) → World
 on_tid w s t f = on_station w s (λ x. record x { tids = change no_tid x.tids t f })
 
--- f of the originator's side of a TID's agreement
+-- the world with f applied to the originator's side of a TID's agreement
 unfoldable pub on_session : World → ℕ → ℕ → (Session → Session) → World
 on_session w s t f = on_tid w s t (λ x. record x { session = f x.session })
 
--- f of the recipient's side of a TID's agreement
+-- the world with f applied to the recipient's side of a TID's agreement
 unfoldable pub on_receiver : World → ℕ → ℕ → (Receiver → Receiver) → World
 on_receiver w s t f = on_tid w s t (λ x. record x { receiver = f x.receiver })
 
--- a TID's queues are those of r from then on
+-- the world in which TID t of station s lists the queues of r
 unfoldable pub with_queues : World → ℕ → ℕ → Rotation → World
 with_queues w s t r = on_tid w s t (λ x. record x { queues = r })
 
--- f of what a station has in a class
+-- the world with f applied to the share of station s in class c
 unfoldable pub on_share : World → ℕ → Class → (Share → Share) → World
 on_share w s c f =
     on_station w s (λ x. record x { shares = change no_share x.shares (class_number c) f })
 
--- f of queue q
+-- the world with f applied to queue q
 unfoldable pub on_queue : World → ℕ → (Queue → Queue) → World
 on_queue w q f = record w { queues = change new_queue w.queues q f }
 
--- the stations of a class are those of r from then on
+-- the world in which the rotation of class c is r
 unfoldable pub with_rotation : World → Class → Rotation → World
 with_rotation w c r = record w { rotations = put no_keys w.rotations (class_number c) r }
 
--- a frame gets its fate
+-- the world in which a frame has this fate
 unfoldable pub with_fate : World → ℕ → Fate → World
 with_fate w id fate =
     record w { frames = change no_frame w.frames id (λ x. record x { fate = fate }) }
 
--- a frame gets its fate and goes last on the finished list
+-- the world in which a frame has this fate and is last on the finished list
 unfoldable pub with_frame_finished : World → Fate → ℕ → World
 with_frame_finished w fate id = record (with_fate w id fate) { finished = w.finished ++ id ∷ [] }
 
--- these frames get their fate and go last on the finished list, in order
+-- the world in which these frames have this fate and are last on the finished list, in order
 unfoldable pub with_frames_finished : World → Fate → List ℕ → World
 with_frames_finished w fate [] = w
 with_frames_finished w fate (id ∷ ids) = with_frames_finished (with_frame_finished w fate id) fate ids
 
--- the open exchange of x's number is x from then on
+-- the world in which the open exchange with x's number is x
 unfoldable pub with_exchange : World → Exchange → World
 with_exchange w x =
     record w { opened = map (λ y. if y.number == x.number then x else y) w.opened }
 
--- the exchange of a number is no longer open
+-- the world in which the exchange with number e is no longer open
 unfoldable pub without_exchange : World → ℕ → World
 without_exchange w e = record w { opened = filter (λ y. not (y.number == e)) w.opened }

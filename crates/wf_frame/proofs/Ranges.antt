@@ -1,17 +1,18 @@
--- `check` finds no setting exactly where each is in its range.
+-- Proves that `check` finds no setting if and only if each is in its range, setting by setting; and that
+-- setting a value in its range keeps all in range.
 use Rattle.std.proofs.Common.{◌≡◌, ◌∙◌, ◌↔◌, ℕ, zero, suc, ◌<◌, ◌≤◌, nat_le, Bool, true, false, cond, not, ◌&&◌, List, [], ◌∷◌, get_or, length, None, Some, find, refl, ap, lit<, arith}
 use Rattle.wf_frame.specs.declared.settings.Config.{Config}
 use Rattle.wf_frame.specs.declared.settings.Field.{Field}
 use Rattle.wf_frame.specs.declared.settings.Field.TheVariants.{Stations, Flows, Limit, Room, FlowQuantum, Quantum, Inflight, Attempts, Agg, Cap, Sleeping, Calls, Charge}
 use Rattle.wf_frame.specs.Settings.{fields, lowest_of, greatest_of, value_of, with_value, is_in_range, first_out_of_range, IsInRange}
 
--- nothing is found behind an item that passes
+-- if nothing is found, the first item does not pass and nothing is found after it
 past : {X : Type 0} (p : X → Bool) (x : X) (xs : List X) (b : Bool) → p x ≡ b → find p (x ∷ xs) ≡ None →
     (b ≡ false) × (find p xs ≡ None)
 past p x xs true is none = absurd (cc)
 past p x xs false is none = (refl, cc)
 
--- where nothing is found, no item of the list passes; and the other way round
+-- if nothing is found, no item of the list passes; and conversely
 none_passes : {X : Type 0} (p : X → Bool) (xs : List X) → find p xs ≡ None → (k : ℕ) (d : X) → k < length xs →
     p (get_or xs k d) ≡ false
 none_passes p [] none k d inside = absurd (omega (arith, inside))
@@ -67,7 +68,7 @@ all_bounded c each = record {
   charge = each Charge;
 }
 
--- a setting given anew is in its range, and the others stay
+-- if one setting is set to a value in its range, each setting is in its range
 bounded_anew : (c : Config) (field other : Field) (value : ℕ) → IsInRange c →
     (lowest_of field ≤ value) × (value ≤ greatest_of field) → IsBounded (with_value c field value) other
 bounded_anew c Stations Stations value h b = b

@@ -1,4 +1,5 @@
--- A body that counts on from its flow, octet by octet.
+-- Proves that one more octet extends the body of a frame of a trace: the octets count on from the flow,
+-- modulo 256.
 use Rattle.std.proofs.Common.{◌≡◌, ◌∙◌, ap, ℕ, suc, ◌+◌, ◌%◌, ◌<◌, List, [], ◌∷◌, ◌++◌, length, take, set, arith}
 use Rattle.std.proofs.lemmas.List.{take_more_set}
 use Rattle.wf_frame.specs.Frames.{sample_body}

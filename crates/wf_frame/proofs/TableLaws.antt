@@ -1,4 +1,5 @@
--- A call is made of its form and the values of its arguments.
+-- Proves that the form of a call and the values of its arguments make the same call again, by cases of the
+-- call, and that values in range make a frame of a length in range.
 use Rattle.std.proofs.Common.{◌≡◌, ◌≤◌, List, [], ◌∷◌, refl}
 use Rattle.std.specs.Prelude.{Option, Some, None, option_map}
 use Rattle.wf_def_lists.specs.Lengths.{greatest_body}
@@ -13,8 +14,8 @@ use Rattle.wf_frame.specs.declared.notes.Ask.TheVariants.{Rate, Done}
 use Rattle.wf_frame.specs.declared.notes.AskedRate.TheVariants.{Ht}
 use Rattle.wf_frame.specs.Calls.{args_of, ask_of, note_form, note_values, note_made, enqueued, AreOfKinds}
 
--- the first lines part rates by their formats, and ends that name an airtime from those that do not; the
--- last line stands for each other call
+-- the first lines separate rates by their formats, and Done calls with an airtime from those without; the
+-- last line is for each other call
 pub made_again : (note : Note) → note_made (note_form note) (note_values note) ≡ Some note
 made_again (Asked (Rate station (Ht mcs mhz short))) = refl
 made_again (Asked (Done exchange heard None)) = refl
@@ -22,13 +23,12 @@ made_again note = refl
 
 -- ---- the frame that values make
 
--- a frame whose values are those of its arguments has at least one octet, and at most those of the
--- greatest body
+-- a frame has at least one octet and at most the greatest body; other calls are not restricted
 abbrev pub IsSized : Option Note → Type 0
 IsSized (Some (Enqueue station tid flow len)) = (1 ≤ len) × (len ≤ greatest_body)
 IsSized _ = Unit {0}
 
--- values that are not of these kinds make none
+-- values of other kinds make no frame
 pub enqueue_sized : (values : List Value) → AreOfKinds (args_of form.Enqueue) values →
     IsSized (enqueued values)
 enqueue_sized (value.Short station ∷ value.Octet tid ∷ value.Long flow ∷ value.Short len ∷ []) are =
@@ -39,7 +39,7 @@ asked_sized : (ask : Option Ask) → IsSized (option_map Asked ask)
 asked_sized None = tt
 asked_sized (Some ask) = tt
 
--- the same of the values of any call
+-- the same for the values of any call
 pub made_sized : (call : CallForm) (values : List Value) → AreOfKinds (args_of call) values →
     IsSized (note_made call values)
 made_sized form.Enqueue values are = enqueue_sized values are

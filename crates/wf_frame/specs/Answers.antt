@@ -1,4 +1,4 @@
--- An answer as it is handed out: its reply, without the place that a list takes where the answer has none.
+-- Defines the reply that an answer contains: its brief, with the list that the brief refers to.
 use Rattle.std.specs.Prelude.{ℕ, List, Option, Some, None}
 use Rattle.wf_frame.specs.declared.answers.Answer.{Answer}
 use Rattle.wf_frame.specs.declared.answers.Brief.{Brief}
@@ -8,31 +8,31 @@ use Rattle.wf_frame.specs.declared.notes.Part.TheVariants.{Mpdus, Request}
 use Rattle.wf_frame.specs.declared.notes.ReplyNote.{ReplyNote}
 use Rattle.wf_frame.specs.declared.notes.ReplyNote.TheVariants as reply
 
--- what an exchange sends: a request where it has a start, else the frames, each by its id and its sequence
--- number
+-- the content of an exchange: a request if it has a start, otherwise the frames, each with its id and its
+-- sequence number
 abbrev pub part_sent : Option ℕ → List (ℕ × ℕ) → Part
 part_sent (Some start) pairs = Request start
 part_sent None pairs = Mpdus pairs
 
--- the reply that a brief is beside these frames sent and these ids passed up
+-- the reply that a brief is with these frames sent and these ids released
 abbrev pub reply_with : Brief → List (ℕ × ℕ) → List ℕ → ReplyNote
 reply_with brief.Joined pairs ids = reply.Joined
-reply_with (brief.Gone dropped) pairs ids = reply.Gone dropped
-reply_with brief.RateSet pairs ids = reply.RateSet
-reply_with (brief.Ticked now) pairs ids = reply.Ticked now
+reply_with (brief.Left dropped) pairs ids = reply.Left dropped
+reply_with brief.Set pairs ids = reply.Set
+reply_with (brief.Now now) pairs ids = reply.Now now
 reply_with (brief.Accepted id dropped) pairs ids = reply.Accepted id dropped
 reply_with (brief.Send exchange station tid air request more) pairs ids =
     reply.Send exchange station tid air (part_sent request pairs) more
 reply_with brief.Released pairs ids = reply.Released ids
 reply_with (brief.Ba start b0 b1 b2 b3 wide) pairs ids = reply.Ba start b0 b1 b2 b3 wide
-reply_with (brief.Ended acked waiting failed) pairs ids = reply.Ended acked waiting failed
+reply_with (brief.Done acked waiting failed) pairs ids = reply.Done acked waiting failed
 reply_with brief.Slept pairs ids = reply.Slept
 reply_with brief.Woken pairs ids = reply.Woken
-reply_with (brief.Credited class) pairs ids = reply.Credited class
+reply_with (brief.Polled class) pairs ids = reply.Polled class
 reply_with (brief.Charged deficit) pairs ids = reply.Charged deficit
 reply_with (brief.Reaped id fate) pairs ids = reply.Reaped id fate
 reply_with (brief.Refused refusal) pairs ids = reply.Refused refusal
 
--- the reply that an answer is: its brief with the list that the brief names
+-- the reply of an answer: its brief, with the list that the brief refers to
 abbrev pub reply_of : Answer → ReplyNote
 reply_of answer = reply_with answer.brief answer.pairs answer.ids

@@ -1,5 +1,5 @@
--- The table of calls: for each form of a call's line its number, its word and its arguments; and the values
--- of these for each call.
+-- Defines the table of calls: for each form of a call's line its number, its word and its arguments.
+-- Defines also the values of the arguments of each call, and their ranges.
 use Rattle.std.specs.Prelude.{ℕ, ◌==◌, ◌<◌, ◌≤◌, ◌^◌, List, [], ◌∷◌, map, codes, Option, Some, None, find, option_map}
 use Rattle.std.specs.Str.{bytes_eq}
 use Rattle.wf_frame.specs.declared.calls.CallForm.{CallForm}
@@ -22,47 +22,49 @@ use Rattle.wf_def_lists.specs.Lengths.{greatest_body}
 
 -- ---- the table
 
+-- a row: the number of a form's call in C, the word that its line begins with, and the line with names for
+-- its arguments, as help shows it
+pub record Row : Type 0 where
+  pub number : ℕ
+  pub word : List ℕ
+  pub line : List ℕ
+
+abbrev pub row : ℕ → List ℕ → List ℕ → Row
+row number word line = record { number = number; word = word; line = line }
+
+-- the table
+abbrev pub form_row : CallForm → Row
+form_row form.Join = row 0 (codes "join") (codes "join S W START X [WEIGHT]")
+form_row form.Leave = row 1 (codes "leave") (codes "leave S")
+form_row form.Rate = row 2 (codes "rate") (codes "rate S MCS MHZ GUARD")
+form_row form.RateVht = row 2 (codes "rate") (codes "rate S vht MCS MHZ GUARD N")
+form_row form.RateHe = row 2 (codes "rate") (codes "rate S he MCS MHZ GUARD N")
+form_row form.Tick = row 3 (codes "tick") (codes "tick MICROSECONDS")
+form_row form.Enqueue = row 4 (codes "enq") (codes "enq S TID FLOW LENGTH")
+form_row form.Pull = row 5 (codes "pull") (codes "pull CLASS")
+form_row form.Arrive = row 6 (codes "arrive") (codes "arrive EXCHANGE INDEX")
+form_row form.Answer = row 7 (codes "answer") (codes "answer EXCHANGE")
+form_row form.Done = row 8 (codes "done") (codes "done EXCHANGE HEARD")
+form_row form.DoneAir = row 8 (codes "done") (codes "done EXCHANGE HEARD air MICROSECONDS")
+form_row form.Sleep = row 9 (codes "sleep") (codes "sleep S")
+form_row form.Wake = row 10 (codes "wake") (codes "wake S")
+form_row form.Poll = row 11 (codes "poll") (codes "poll S")
+form_row form.Rx = row 12 (codes "rx") (codes "rx S CLASS MICROSECONDS")
+form_row form.Reap = row 13 (codes "reap") (codes "reap")
+
 -- the number of a form's call
 abbrev pub form_number : CallForm → ℕ
-form_number form.Join = 0
-form_number form.Leave = 1
-form_number form.Rate = 2
-form_number form.RateVht = 2
-form_number form.RateHe = 2
-form_number form.Tick = 3
-form_number form.Enqueue = 4
-form_number form.Pull = 5
-form_number form.Arrive = 6
-form_number form.Answer = 7
-form_number form.Done = 8
-form_number form.DoneAir = 8
-form_number form.Sleep = 9
-form_number form.Wake = 10
-form_number form.Poll = 11
-form_number form.Rx = 12
-form_number form.Reap = 13
+form_number form = (form_row form).number
 
 -- the word that a line of this form begins with
 abbrev pub call_word : CallForm → List ℕ
-call_word form.Join = codes "join"
-call_word form.Leave = codes "leave"
-call_word form.Rate = codes "rate"
-call_word form.RateVht = codes "rate"
-call_word form.RateHe = codes "rate"
-call_word form.Tick = codes "tick"
-call_word form.Enqueue = codes "enq"
-call_word form.Pull = codes "pull"
-call_word form.Arrive = codes "arrive"
-call_word form.Answer = codes "answer"
-call_word form.Done = codes "done"
-call_word form.DoneAir = codes "done"
-call_word form.Sleep = codes "sleep"
-call_word form.Wake = codes "wake"
-call_word form.Poll = codes "poll"
-call_word form.Rx = codes "rx"
-call_word form.Reap = codes "reap"
+call_word form = (form_row form).word
 
--- its arguments, in order
+-- the line of a form, with names for its arguments
+abbrev pub form_line : CallForm → List ℕ
+form_line form = (form_row form).line
+
+-- the arguments of a form, in order
 abbrev pub arguments_of : CallForm → List Argument
 arguments_of form.Join =
     argument.Station ∷ argument.Window ∷ argument.Start ∷ argument.Exponent ∷ argument.Weight ∷ []
@@ -86,7 +88,7 @@ arguments_of form.Poll = argument.Station ∷ []
 arguments_of form.Rx = argument.Station ∷ argument.Class ∷ argument.Air ∷ []
 arguments_of form.Reap = []
 
--- what an argument may be
+-- the kind of an argument
 abbrev pub argument_kind : Argument → Arg
 argument_kind argument.Station = kind.Short
 argument_kind argument.Window = kind.Short
@@ -110,18 +112,25 @@ argument_kind argument.Heard = kind.Heard
 argument_kind argument.Measured = kind.Air
 argument_kind argument.Air = kind.Long
 
--- what the arguments of a form may be, in order
+-- the kinds of a form's arguments, in order
 abbrev pub args_of : CallForm → List Arg
 args_of form = map argument_kind (arguments_of form)
 
--- the weight of a station whose `join` names none
+-- the weight of a station whose `join` gives none
 abbrev pub weight_default : ℕ
 weight_default = 1
 
--- the value of an argument that is left out, where it may be
+-- the value of an argument that is left out, if it may be
 abbrev pub default_of : Arg → Option Value
 default_of kind.Weight = Some (value.Octet weight_default)
 default_of _ = None
+
+-- all forms, in the order of the help
+abbrev pub forms : List CallForm
+forms =
+    form.Join ∷ form.Leave ∷ form.Rate ∷ form.RateVht ∷ form.RateHe ∷ form.Tick ∷ form.Enqueue ∷ form.Pull
+    ∷ form.Arrive ∷ form.Answer ∷ form.Done ∷ form.DoneAir ∷ form.Sleep ∷ form.Wake ∷ form.Poll ∷ form.Rx
+    ∷ form.Reap ∷ []
 
 -- all calls, in their first forms
 abbrev pub calls : List CallForm
@@ -129,11 +138,11 @@ calls =
     form.Join ∷ form.Leave ∷ form.Rate ∷ form.Tick ∷ form.Enqueue ∷ form.Pull ∷ form.Arrive ∷ form.Answer
     ∷ form.Done ∷ form.Sleep ∷ form.Wake ∷ form.Poll ∷ form.Rx ∷ form.Reap ∷ []
 
--- the call that a word names
+-- the first form of the call with this word
 abbrev pub call_named : List ℕ → Option CallForm
 call_named word = find (λ call. bytes_eq (call_word call) word) calls
 
--- the call with a number
+-- the first form of the call with this number
 abbrev pub call_numbered : ℕ → Option CallForm
 call_numbered number = find (λ call. form_number call == number) calls
 
@@ -142,7 +151,7 @@ abbrev pub format_word : RateFormat → List ℕ
 format_word format.Vht = codes "vht"
 format_word format.He = codes "he"
 
--- the format that a word names
+-- the format with this word
 abbrev pub format_named : List ℕ → Option RateFormat
 format_named word = find (λ f. bytes_eq (format_word f) word) (format.Vht ∷ format.He ∷ [])
 
@@ -154,7 +163,7 @@ form_of_rate (Ht mcs mhz short) = form.Rate
 form_of_rate (Vht mcs mhz short streams) = form.RateVht
 form_of_rate (He mcs mhz guard streams) = form.RateHe
 
--- the form of the line of an exchange's end
+-- the form of the line of a Done
 abbrev pub form_of_end : Option ℕ → CallForm
 form_of_end None = form.Done
 form_of_end (Some air) = form.DoneAir
@@ -176,7 +185,7 @@ note_form (Asked (Poll station)) = form.Poll
 note_form (Asked (Rx station class air)) = form.Rx
 note_form (Asked Reap) = form.Reap
 
--- the values of a rate's arguments behind the station
+-- the values of a rate's arguments after the station
 abbrev pub values_of_rate : AskedRate → List Value
 values_of_rate (Ht mcs mhz short) = value.Octet mcs ∷ value.Octet mhz ∷ value.Guard short ∷ []
 values_of_rate (Vht mcs mhz short streams) =
@@ -184,7 +193,7 @@ values_of_rate (Vht mcs mhz short streams) =
 values_of_rate (He mcs mhz guard streams) =
     value.Format format.He ∷ value.Octet mcs ∷ value.Octet mhz ∷ value.Short guard ∷ value.Octet streams ∷ []
 
--- the values of an airtime that may be named
+-- the values of the airtime of a Done, if it gives one
 abbrev pub values_of_air : Option ℕ → List Value
 values_of_air None = []
 values_of_air (Some air) = value.Air ∷ value.Long air ∷ []
@@ -210,13 +219,13 @@ note_values (Asked (Poll station)) = value.Short station ∷ []
 note_values (Asked (Rx station class air)) = value.Short station ∷ value.Class class ∷ value.Long air ∷ []
 note_values (Asked Reap) = []
 
--- the frame with these values; None where they are not those of its arguments
+-- the Enqueue call with these values; None if they are no values of its arguments
 abbrev pub enqueued : List Value → Option Note
 enqueued (value.Short station ∷ value.Octet tid ∷ value.Long flow ∷ value.Short len ∷ []) =
     Some (Enqueue station tid flow len)
 enqueued _ = None
 
--- the call that carries no frame, of a form with these values
+-- the call without a frame that has this form and these values
 abbrev pub ask_of : CallForm → List Value → Option Ask
 ask_of form.Join (value.Short station ∷ value.Short window ∷ value.Short start ∷ value.Octet exponent
     ∷ value.Octet weight ∷ []) = Some (Join station window start exponent weight)
@@ -241,14 +250,14 @@ ask_of form.Rx (value.Short station ∷ value.Class class ∷ value.Long air ∷
 ask_of form.Reap [] = Some Reap
 ask_of _ _ = None
 
--- the call of a form with these values; None where they are not those of its arguments
+-- the call of a form with these values; None if they are no values of its arguments
 abbrev pub note_made : CallForm → List Value → Option Note
 note_made form.Enqueue values = enqueued values
 note_made form values = option_map Asked (ask_of form values)
 
--- ---- their ranges
+-- ---- the ranges of the values
 
--- a value is one that an argument of this kind may have
+-- an argument of this kind may have this value
 abbrev pub IsOfKind : Arg → Value → Type 0
 IsOfKind kind.Short (value.Short n) = n < 2 ^ 16
 IsOfKind kind.Octet (value.Octet n) = n < 2 ^ 8
@@ -265,20 +274,20 @@ IsOfKind kind.End (value.End recipient) = Unit {0}
 IsOfKind (kind.Number low high) (value.Long n) = (low ≤ n) × (n ≤ high)
 IsOfKind _ _ = ⊥
 
--- values are ones that arguments of these kinds may have, one by one
+-- arguments of these kinds may have these values, one by one
 abbrev pub AreOfKinds : List Arg → List Value → Type 0
 AreOfKinds [] [] = Unit {0}
 AreOfKinds (arg ∷ args) (v ∷ values) = IsOfKind arg v × AreOfKinds args values
 AreOfKinds _ _ = ⊥
 
--- a line has room for the value of an argument: an exchange number has at most 32 bits, and a length is 1 to
--- 2304 octets; the types of Rust bound all other values
+-- the line has room for the value of an argument: an exchange number has at most 32 bits, and a length is 1
+-- to 2304 octets. The types of Rust bound all other values.
 abbrev pub FitsLine : Argument → Value → Type 0
 FitsLine argument.Exchange (value.Exchange n) = n < 2 ^ 32
 FitsLine argument.Length (value.Short n) = (1 ≤ n) × (n ≤ greatest_body)
 FitsLine _ _ = Unit {0}
 
--- the same of each argument
+-- the same for each argument
 abbrev pub AllFitLine : List Argument → List Value → Type 0
 AllFitLine (a ∷ arguments) (v ∷ values) = FitsLine a v × AllFitLine arguments values
 AllFitLine _ _ = Unit {0}
@@ -287,6 +296,6 @@ AllFitLine _ _ = Unit {0}
 abbrev pub NumbersAreInRange : Note → Type 0
 NumbersAreInRange note = AreOfKinds (args_of (note_form note)) (note_values note)
 
--- a line has room for the numbers of a call
+-- the line has room for each number of a call
 abbrev pub IsPrintable : Note → Type 0
 IsPrintable note = AllFitLine (arguments_of (note_form note)) (note_values note)

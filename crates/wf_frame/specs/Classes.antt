@@ -1,31 +1,34 @@
--- Access classes and their traffic identifiers (IEEE 802.11-2012, 9.2.4.2 and table 9-1).
+-- Defines access classes and their TIDs (IEEE 802.11-2012, 9.2.4.2 and table 9-1), and the table of fates.
 use Rattle.std.specs.Prelude.{ℕ, zero, suc, ◌+◌, ◌*◌, ◌==◌, Bool, List, [], ◌∷◌, codes, Option, find}
 use Rattle.std.specs.Str.{bytes_eq}
 use Rattle.wf_frame.specs.declared.classes.Class.{Class}
 use Rattle.wf_frame.specs.declared.classes.Class.TheVariants.{Bk, Be, Vi, Vo}
+use Rattle.wf_frame.specs.declared.classes.Cause.TheVariants.{Overlimit, Codel, Retries, Left}
+use Rattle.wf_frame.specs.declared.classes.Fate.{Fate}
+use Rattle.wf_frame.specs.declared.classes.Fate.TheVariants.{Held, Acked, Dropped}
 
--- its place, the least urgent first
+-- the number of a class: its place, the least urgent first
 abbrev pub class_number : Class → ℕ
 class_number Bk = 0
 class_number Be = 1
 class_number Vi = 2
 class_number Vo = 3
 
--- the lesser of its two TIDs
+-- the lesser TID of a class
 abbrev pub lower_tid : Class → ℕ
 lower_tid Bk = 1
 lower_tid Be = 0
 lower_tid Vi = 4
 lower_tid Vo = 6
 
--- the greater of its two TIDs
+-- the greater TID of a class
 abbrev pub upper_tid : Class → ℕ
 upper_tid Bk = 2
 upper_tid Be = 3
 upper_tid Vi = 5
 upper_tid Vo = 7
 
--- the class of each of the TIDs from 0 on; what stands past them is of Vo
+-- the class of each TID from 0 on; after the last TID it is Vo
 abbrev pub class_among : List Class → ℕ → Class
 class_among [] tid = Vo
 class_among (c ∷ cs) zero = c
@@ -39,7 +42,7 @@ class_of tid = class_among (Be ∷ Bk ∷ Bk ∷ Be ∷ Vi ∷ Vi ∷ Vo ∷ Vo 
 abbrev pub tid_number : ℕ → ℕ → ℕ
 tid_number s t = 8 * s + t
 
--- whether two classes are one
+-- whether two classes are equal
 abbrev pub same_class : Class → Class → Bool
 same_class c d = class_number c == class_number d
 
@@ -54,6 +57,31 @@ class_word Be = codes "be"
 class_word Vi = codes "vi"
 class_word Vo = codes "vo"
 
--- the class that a word names
+-- the class with this word
 abbrev pub class_named : List ℕ → Option Class
 class_named word = find (λ class. bytes_eq (class_word class) word) all_classes
+
+-- a row of the table of fates: the number of a fate in C, and its word in texts
+abbrev pub fate_row : Fate → ℕ × List ℕ
+fate_row Held = (0, codes "held")
+fate_row Acked = (1, codes "acked")
+fate_row (Dropped Overlimit) = (2, codes "overlimit")
+fate_row (Dropped Codel) = (3, codes "codel")
+fate_row (Dropped Retries) = (4, codes "retries")
+fate_row (Dropped Left) = (5, codes "left")
+
+-- the number of a fate
+abbrev pub fate_number : Fate → ℕ
+fate_number fate = (fate_row fate).0
+
+-- the word of a fate
+abbrev pub fate_word : Fate → List ℕ
+fate_word fate = (fate_row fate).1
+
+-- the fates by their numbers
+abbrev pub fates : List Fate
+fates = Held ∷ Acked ∷ Dropped Overlimit ∷ Dropped Codel ∷ Dropped Retries ∷ Dropped Left ∷ []
+
+-- the fate with this number
+abbrev pub fate_numbered : ℕ → Option Fate
+fate_numbered number = find (λ fate. fate_number fate == number) fates

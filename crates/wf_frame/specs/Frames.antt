@@ -1,4 +1,4 @@
--- A frame as contracts see it.
+-- Defines what contracts see of a frame.
 use Rattle.std.specs.Prelude.{ℕ, zero, suc, ◌+◌, ◌%◌, nat_lt, if◌then◌else◌, List, [], ◌∷◌, ◌++◌}
 use Rattle.wf_frame.specs.declared.classes.Fate.{Fate}
 use Rattle.wf_frame.specs.declared.classes.Fate.TheVariants.{Held}
@@ -19,7 +19,7 @@ pub record FrameValue : Type 0 where
 abbrev pub source_octets : ℕ
 source_octets = 6
 
--- the source of a frame as it is made
+-- the source of a new frame: a placeholder
 abbrev pub made_up_source : List ℕ
 made_up_source = 0x02 ∷ 0x00 ∷ 0x00 ∷ 0x02 ∷ 0x00 ∷ 0x00 ∷ []
 
@@ -39,15 +39,15 @@ new_frame station tid flow body = record {
 }
 
 -- The greatest number of attempts that a frame counts. A frame is sent at most as often as the setting
--- `attempts` says, which is at most 64.
+-- `attempts` allows, which is at most 64.
 abbrev pub most_attempts : ℕ
 most_attempts = 255
 
--- the frame, sent once more
+-- the frame after one more transmission
 abbrev pub sent_again : FrameValue → FrameValue
 sent_again f = record f { attempts = if nat_lt f.attempts most_attempts then f.attempts + 1 else f.attempts }
 
--- the body that a trace's frame has: octet j is (flow + j) mod 256
+-- the body of a frame of a trace: octet j is (flow + j) mod 256
 abbrev pub sample_body : ℕ → ℕ → List ℕ
 sample_body flow zero = []
 sample_body flow (suc j) = sample_body flow j ++ ((flow + j) % 256) ∷ []

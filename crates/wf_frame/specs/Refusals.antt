@@ -1,74 +1,64 @@
--- The table of refusals: of each its number, its word, and the number that stands behind the word, if any.
-use Rattle.std.specs.Prelude.{ℕ, ℤ, pos, Option, Some, None, List, codes}
+-- Defines the table of refusals: the number of each, its word, and the number that follows the word of some
+-- of them.
+use Rattle.std.specs.Prelude.{ℕ, ℤ, pos, ◌==◌, Option, Some, None, List, [], ◌∷◌, codes, find}
 use Rattle.wf_frame.specs.declared.notes.Refusal.{Refusal}
-use Rattle.wf_frame.specs.declared.notes.Refusal.TheVariants.{BadStation, BadWindow, BadStart, BadExponent, BadRate, BadTick, BadTid, BadAir, BadIndex, Live, NoStation, NoExchange, NoAnswer, StillOpen, Room, Sleeping, Full, Idle, Answered, Arrived, Nothing, Asleep, Awake, Polled, Debt, HistoryFull, BadWeight}
+use Rattle.wf_frame.specs.declared.notes.Refusal.TheVariants.{BadStation, BadWindow, BadStart, BadExponent, BadRate, BadTick, BadTid, BadAir, BadIndex, Live, NoStation, NoExchange, NoAnswer, Open, Room, Sleeping, Full, Idle, Answered, Arrived, Nothing, Asleep, Awake, Polled, Debt, HistoryFull, BadWeight}
+
+-- a row of the table: the number of a refusal in C, and its word in texts
+abbrev pub refusal_row : Refusal → ℕ × List ℕ
+refusal_row BadStation = (1, codes "bad-station")
+refusal_row BadWindow = (2, codes "bad-window")
+refusal_row BadStart = (3, codes "bad-start")
+refusal_row BadExponent = (4, codes "bad-exponent")
+refusal_row BadRate = (5, codes "bad-rate")
+refusal_row BadTick = (6, codes "bad-tick")
+refusal_row BadTid = (7, codes "bad-tid")
+refusal_row BadAir = (8, codes "bad-air")
+refusal_row BadIndex = (9, codes "bad-index")
+refusal_row Live = (10, codes "live")
+refusal_row NoStation = (11, codes "no-station")
+refusal_row NoExchange = (12, codes "no-exchange")
+refusal_row NoAnswer = (13, codes "no-answer")
+refusal_row (Open count) = (14, codes "open")
+refusal_row (Room inside) = (15, codes "room")
+refusal_row (Sleeping queued) = (16, codes "sleeping")
+refusal_row (Full count) = (17, codes "full")
+refusal_row Idle = (18, codes "idle")
+refusal_row Answered = (19, codes "answered")
+refusal_row Arrived = (20, codes "arrived")
+refusal_row Nothing = (21, codes "nothing")
+refusal_row Asleep = (22, codes "asleep")
+refusal_row Awake = (23, codes "awake")
+refusal_row Polled = (24, codes "polled")
+refusal_row (Debt deficit) = (25, codes "debt")
+refusal_row HistoryFull = (26, codes "history-full")
+refusal_row BadWeight = (27, codes "bad-weight")
 
 -- the number of a refusal
 abbrev pub refusal_number : Refusal → ℕ
-refusal_number BadStation = 1
-refusal_number BadWindow = 2
-refusal_number BadStart = 3
-refusal_number BadExponent = 4
-refusal_number BadRate = 5
-refusal_number BadTick = 6
-refusal_number BadTid = 7
-refusal_number BadAir = 8
-refusal_number BadIndex = 9
-refusal_number Live = 10
-refusal_number NoStation = 11
-refusal_number NoExchange = 12
-refusal_number NoAnswer = 13
-refusal_number (StillOpen count) = 14
-refusal_number (Room inside) = 15
-refusal_number (Sleeping queued) = 16
-refusal_number (Full count) = 17
-refusal_number Idle = 18
-refusal_number Answered = 19
-refusal_number Arrived = 20
-refusal_number Nothing = 21
-refusal_number Asleep = 22
-refusal_number Awake = 23
-refusal_number Polled = 24
-refusal_number (Debt deficit) = 25
-refusal_number HistoryFull = 26
-refusal_number BadWeight = 27
+refusal_number refusal = (refusal_row refusal).0
 
 -- the word of a refusal
 abbrev pub refusal_word : Refusal → List ℕ
-refusal_word BadStation = codes "bad-station"
-refusal_word BadWindow = codes "bad-window"
-refusal_word BadStart = codes "bad-start"
-refusal_word BadExponent = codes "bad-exponent"
-refusal_word BadRate = codes "bad-rate"
-refusal_word BadTick = codes "bad-tick"
-refusal_word BadTid = codes "bad-tid"
-refusal_word BadAir = codes "bad-air"
-refusal_word BadIndex = codes "bad-index"
-refusal_word Live = codes "live"
-refusal_word NoStation = codes "no-station"
-refusal_word NoExchange = codes "no-exchange"
-refusal_word NoAnswer = codes "no-answer"
-refusal_word (StillOpen count) = codes "open"
-refusal_word (Room inside) = codes "room"
-refusal_word (Sleeping queued) = codes "sleeping"
-refusal_word (Full count) = codes "full"
-refusal_word Idle = codes "idle"
-refusal_word Answered = codes "answered"
-refusal_word Arrived = codes "arrived"
-refusal_word Nothing = codes "nothing"
-refusal_word Asleep = codes "asleep"
-refusal_word Awake = codes "awake"
-refusal_word Polled = codes "polled"
-refusal_word (Debt deficit) = codes "debt"
-refusal_word HistoryFull = codes "history-full"
-refusal_word BadWeight = codes "bad-weight"
+refusal_word refusal = (refusal_row refusal).1
 
--- the number that a refusal tells: how many exchanges are open, frames inside or queued, or the deficit, in
--- microseconds
+-- the number that follows the word of a refusal: the number of open exchanges, of frames inside or of
+-- frames queued, or the deficit in microseconds
 abbrev pub number_told : Refusal → Option ℤ
-number_told (StillOpen count) = Some (pos count)
+number_told (Open count) = Some (pos count)
 number_told (Room inside) = Some (pos inside)
 number_told (Sleeping queued) = Some (pos queued)
 number_told (Full count) = Some (pos count)
 number_told (Debt deficit) = Some deficit
 number_told _ = None
+
+-- the refusals by their numbers; a number that follows the word is 0
+abbrev pub refusals : List Refusal
+refusals =
+    BadStation ∷ BadWindow ∷ BadStart ∷ BadExponent ∷ BadRate ∷ BadTick ∷ BadTid ∷ BadAir ∷ BadIndex ∷ Live
+    ∷ NoStation ∷ NoExchange ∷ NoAnswer ∷ Open 0 ∷ Room 0 ∷ Sleeping 0 ∷ Full 0 ∷ Idle ∷ Answered ∷ Arrived
+    ∷ Nothing ∷ Asleep ∷ Awake ∷ Polled ∷ Debt (pos 0) ∷ HistoryFull ∷ BadWeight ∷ []
+
+-- the refusal with this number; a number that follows its word is 0
+abbrev pub refusal_numbered : ℕ → Option Refusal
+refusal_numbered number = find (λ refusal. refusal_number refusal == number) refusals

@@ -1,9 +1,38 @@
--- The settings, their ranges and the standard ones.
-use Rattle.std.specs.Prelude.{ℕ, ◌≤◌, nat_le, Bool, ◌&&◌, not, List, [], ◌∷◌, Option, find}
+-- Defines the table of settings: the number of each, its word in a head, and its least and its greatest
+-- value. Defines also the standard values, and when settings are in range.
+use Rattle.std.specs.Prelude.{ℕ, ◌==◌, ◌≤◌, nat_le, Bool, false, ◌&&◌, not, List, [], ◌∷◌, codes, Option, None, Some, find}
+use Rattle.std.specs.Str.{bytes_eq}
 use Rattle.wf_frame.specs.declared.settings.Config.{Config}
 use Rattle.wf_frame.specs.declared.settings.Field.{Field}
 use Rattle.wf_frame.specs.declared.settings.Field.TheVariants.{Stations, Flows, Limit, Room, FlowQuantum, Quantum, Inflight, Attempts, Agg, Cap, Sleeping, Calls, Charge}
 
+-- a row: the number of a setting, its word, its least value and its greatest value
+pub record Row : Type 0 where
+  pub number : ℕ
+  pub word : List ℕ
+  pub least : ℕ
+  pub most : ℕ
+
+abbrev pub row : ℕ → List ℕ → ℕ → ℕ → Row
+row number word least most = record { number = number; word = word; least = least; most = most }
+
+-- the table
+abbrev pub setting_row : Field → Row
+setting_row Stations = row 1 (codes "stations") 1 256
+setting_row Flows = row 2 (codes "flows") 1 4096
+setting_row Limit = row 3 (codes "limit") 1 65535
+setting_row Room = row 4 (codes "room") 1 131072
+setting_row FlowQuantum = row 5 (codes "flow_quantum") 64 65535
+setting_row Quantum = row 6 (codes "quantum") 100 10000
+setting_row Inflight = row 7 (codes "inflight") 1 8
+setting_row Attempts = row 8 (codes "attempts") 1 64
+setting_row Agg = row 9 (codes "agg") 1 256
+setting_row Cap = row 10 (codes "cap") 3000 5400
+setting_row Sleeping = row 11 (codes "sleeping") 1 65535
+setting_row Calls = row 12 (codes "calls") 1 4294967295
+setting_row Charge = row 13 (codes "charge") 0 65535
+
+-- the standard settings: those of a head that sets none
 abbrev pub standard : Config
 standard = record {
   stations = 16;
@@ -21,41 +50,36 @@ standard = record {
   charge = 0;
 }
 
--- in the order in which they are checked
+-- the settings, in the order in which they are checked
 abbrev pub fields : List Field
 fields = Stations ∷ Flows ∷ Limit ∷ Room ∷ FlowQuantum ∷ Quantum ∷ Inflight ∷ Attempts ∷ Agg ∷ Cap ∷ Sleeping
     ∷ Calls ∷ Charge ∷ []
 
+-- the number of a setting in C
+abbrev pub setting_number : Field → ℕ
+setting_number field = (setting_row field).number
+
+-- the word of a setting in a head
+abbrev pub setting_word : Field → List ℕ
+setting_word field = (setting_row field).word
+
+-- the least value of a setting
 abbrev pub lowest_of : Field → ℕ
-lowest_of Stations = 1
-lowest_of Flows = 1
-lowest_of Limit = 1
-lowest_of Room = 1
-lowest_of FlowQuantum = 64
-lowest_of Quantum = 100
-lowest_of Inflight = 1
-lowest_of Attempts = 1
-lowest_of Agg = 1
-lowest_of Cap = 3000
-lowest_of Sleeping = 1
-lowest_of Calls = 1
-lowest_of Charge = 0
+lowest_of field = (setting_row field).least
 
+-- the greatest value of a setting
 abbrev pub greatest_of : Field → ℕ
-greatest_of Stations = 256
-greatest_of Flows = 4096
-greatest_of Limit = 65535
-greatest_of Room = 131072
-greatest_of FlowQuantum = 65535
-greatest_of Quantum = 10000
-greatest_of Inflight = 8
-greatest_of Attempts = 64
-greatest_of Agg = 256
-greatest_of Cap = 5400
-greatest_of Sleeping = 65535
-greatest_of Calls = 4294967295
-greatest_of Charge = 65535
+greatest_of field = (setting_row field).most
 
+-- the setting with this word
+abbrev pub setting_named : List ℕ → Option Field
+setting_named word = find (λ field. bytes_eq (setting_word field) word) fields
+
+-- the setting with this number
+abbrev pub setting_numbered : ℕ → Option Field
+setting_numbered number = find (λ field. setting_number field == number) fields
+
+-- the value of a setting
 abbrev pub value_of : Config → Field → ℕ
 value_of c Stations = c.stations
 value_of c Flows = c.flows
@@ -71,6 +95,7 @@ value_of c Sleeping = c.sleeping
 value_of c Calls = c.calls
 value_of c Charge = c.charge
 
+-- the settings with one of them set to a value
 abbrev pub with_value : Config → Field → ℕ → Config
 with_value c Stations value = record c { stations = value }
 with_value c Flows value = record c { flows = value }
@@ -86,12 +111,24 @@ with_value c Sleeping value = record c { sleeping = value }
 with_value c Calls value = record c { calls = value }
 with_value c Charge value = record c { charge = value }
 
+-- the standard value of a setting
+abbrev pub standard_of : Field → ℕ
+standard_of field = value_of standard field
+
+-- whether a setting is in its range
 abbrev pub is_in_range : Config → Field → Bool
 is_in_range c field = nat_le (lowest_of field) (value_of c field)
     && nat_le (value_of c field) (greatest_of field)
 
+-- the first setting that is out of its range
 abbrev pub first_out_of_range : Config → Option Field
 first_out_of_range c = find (λ field. not (is_in_range c field)) fields
+
+-- whether the end of an exchange may not give this airtime: it is 0 microseconds, or above the setting
+-- `charge`. An end that gives no airtime is always allowed.
+abbrev pub is_bad_air : Config → Option ℕ → Bool
+is_bad_air config None = false
+is_bad_air config (Some air) = not (nat_le 1 air && nat_le air config.charge)
 
 -- every setting is in its range
 pub record IsInRange (config : Config) : Type 0 where

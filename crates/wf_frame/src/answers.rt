@@ -1,7 +1,7 @@
-//! An answer as it is handed out: a small note, and beside it the two lists that the note may name.
+//! The buffer of an answer: a brief, and the two lists that a brief may refer to.
 //!
-//! An answer by value would hold its list, of up to 4 kB, and whoever passes one on would copy it. So a
-//! caller makes one `Answer` and lends it to each call.
+//! An answer by value would contain a list of up to 4 kB, which would be copied each time that it is passed
+//! on. So a caller makes one `Answer` and lends it to each call.
 
 ghost use Rattle.std.specs.Prelude.{◌≡◌, []};
 ghost use Rattle.wf_frame.specs.declared.notes.Refusal.TheVariants.{Nothing};
@@ -9,19 +9,19 @@ ghost use Rattle.wf_frame.specs.declared.answers.Brief.TheVariants.{Refused};
 
 use crate::{Class, Fate, Ids, Pairs, Refusal};
 
-/// An answer without its lists.
+/// An answer without its lists: what happened, in a few numbers.
 #[derive(Clone, Copy, Debug, PartialEq, Eq)]
 pub enum Brief {
     /// The station is live.
     Joined,
-    /// The station left, and so many of its frames were dropped.
-    Gone {
+    /// The station left, and this number of its frames were dropped.
+    Left {
         dropped: u32,
     },
     /// The rate is set.
-    RateSet,
+    Set,
     /// The clock after the tick, in microseconds.
-    Ticked {
+    Now {
         now: u64,
     },
     /// The frame's new id, and the id of the frame that was dropped for the limit, if any.
@@ -29,9 +29,9 @@ pub enum Brief {
         id: u64,
         dropped: Option<u64>,
     },
-    /// The exchange to send: its number, station, TID (0 to 7) and charge in microseconds. It sends a
-    /// BlockAckReq with the start `request` (0 to 4095), or where there is none the frames of
-    /// `Answer::pairs`; `more` is the More Data bit.
+    /// The exchange to send: its number, station, TID (0 to 7) and charge in microseconds. If `request` is
+    /// given, it sends a BlockAckReq with this start (0 to 4095), otherwise the frames of `Answer::pairs`.
+    /// `more` is the More Data bit.
     Send {
         exchange: u64,
         station: u16,
@@ -40,10 +40,10 @@ pub enum Brief {
         request: Option<u16>,
         more: bool,
     },
-    /// The receiver passed up the frames of `Answer::ids`, in order.
+    /// The receiver released the frames of `Answer::ids`, in order.
     Released,
-    /// The receiver's block acknowledgement: its start (0 to 4095) and its bits, offsets 0 to 63 in `b0`; a
-    /// wide one has 256 of them.
+    /// The receiver's BlockAck: its start (0 to 4095) and its bitmap, whose offsets 0 to 63 are the bits of
+    /// `b0`. If `wide`, the bitmap has 256 bits, otherwise 64.
     Ba {
         start: u16,
         b0: u64,
@@ -53,7 +53,7 @@ pub enum Brief {
         wide: bool,
     },
     /// How many of the exchange's frames are acknowledged, wait again, and are dropped.
-    Ended {
+    Done {
         acked: u16,
         waiting: u16,
         failed: u16,
@@ -62,15 +62,15 @@ pub enum Brief {
     Slept,
     /// The station is awake.
     Woken,
-    /// The sleeping station is owed one frame of this class.
-    Credited {
+    /// The sleeping station has a credit for one exchange of this class.
+    Polled {
         class: Class,
     },
     /// The deficit after the charge, in microseconds.
     Charged {
         deficit: i64,
     },
-    /// The first finished frame and its fate.
+    /// The id and the fate of the first finished frame.
     Reaped {
         id: u64,
         fate: Fate,
@@ -79,20 +79,20 @@ pub enum Brief {
     Refused(Refusal),
 }
 
-/// The answer to a call, as a caller lends it to one call after another. Each call says all of what it
-/// answers: what an earlier one left does not show.
+/// The answer to a call, in a buffer that a caller lends to one call after another. Each call writes its
+/// whole answer, so it does not matter what an earlier call left.
 #[derive(Drop)]
 pub struct Answer {
-    /// What is answered. A list means something only where this names it.
+    /// What happened. A list has a meaning only if the brief refers to it.
     pub brief: Brief,
-    /// The id and the sequence number (0 to 4095) of each frame of an aggregate, at most 256.
+    /// The id and the sequence number (0 to 4095) of each frame of an aggregate; at most 256.
     pub pairs: Pairs,
-    /// The ids of the frames that were passed up, in order, at most 256.
+    /// The ids of the frames that were released, in order; at most 256.
     pub ids: Ids,
 }
 
 impl Answer {
-    /// An answer to no call yet: its lists are empty, and it reads as a call that had nothing to answer.
+    /// Returns an answer to no call: its lists are empty, and its brief is the refusal `Nothing`.
     pub fn new() -> Answer
         ensures { result ≡ record { brief = Refused Nothing; pairs = []; ids = [] } }
     {

@@ -1,57 +1,72 @@
-//! The table of calls: for each form of a call's line its number, its word and its arguments.
+//! The table of calls: the number of each form's call, its word and its line; the arguments of each form;
+//! and the values that an argument may have.
 
 ghost use Rattle.std.specs.Prelude.{◌≡◌, ◌<◌, ◌≤◌, length};
-ghost use Rattle.wf_frame.specs.Calls.{form_number, call_word, call_named, call_numbered, arguments_of, argument_kind, default_of, format_word as word_of_format, format_named};
+ghost use Rattle.wf_frame.specs.Calls.{form_number, call_word, form_line, forms, call_named, call_numbered, arguments_of, argument_kind, default_of, format_word as word_of_format, format_named};
 
 use crate::Class;
 
-/// The forms of a call's line: a rate has three, by its format, and the end of an exchange two. Each other
-/// call has one.
+/// A form of a call's line. A rate has three forms, one for each format, and the end of an exchange has
+/// two; each other call has one. The comment of each variant is its sentence in the table of docs/TRACE.md.
+/// Names in capitals are those of the line.
 #[derive(Clone, Copy)]
 pub enum CallForm {
+    /// A station joins: S, its window W, its first sequence number START, its exponent X, and its weight,
+    /// which is 1 if it is left out.
     Join,
+    /// A station leaves.
     Leave,
-    /// A rate of HT, whose line names no format.
+    /// A station is sent to at this rate of HT from now on.
     Rate,
-    /// A rate of VHT.
+    /// A station is sent to at this rate of VHT, of N streams, from now on.
     RateVht,
-    /// A rate of HE.
+    /// A station is sent to at this rate of HE, of N streams, from now on; GUARD is in nanoseconds.
     RateHe,
+    /// The clock moves on.
     Tick,
+    /// A frame comes for a station; LENGTH is that of its body, in octets.
     Enqueue,
+    /// The driver asks for the next exchange of a class.
     Pull,
+    /// One transmission of an exchange reached its station; INDEX counts from 0.
     Arrive,
+    /// The station answers an exchange with a BlockAck.
     Answer,
-    /// An end whose line names no airtime.
+    /// An exchange ends, with its answer heard or lost.
     Done,
-    /// An end that names its airtime.
+    /// The same, and the exchange took this airtime.
     DoneAir,
+    /// A station goes to sleep.
     Sleep,
+    /// A station wakes.
     Wake,
+    /// A sleeping station asks for one frame.
     Poll,
+    /// A station used airtime to send in a class.
     Rx,
+    /// The caller takes the next finished frame.
     Reap,
 }
 
-/// A format that a rate's line names.
+/// The format of a rate, if its line has a word for it. A rate of HT has none.
 #[derive(Clone, Copy)]
 pub enum RateFormat {
     Vht,
     He,
 }
 
-/// An argument of a call, by its name.
+/// An argument of a call.
 #[derive(Clone, Copy)]
 pub enum Argument {
     /// The number of a station.
     Station,
     /// The window of a station that joins, in frames.
     Window,
-    /// Its first sequence number.
+    /// The first sequence number of a station that joins.
     Start,
-    /// Its A-MPDU length exponent.
+    /// The A-MPDU length exponent of a station that joins.
     Exponent,
-    /// Its weight.
+    /// The weight of a station that joins.
     Weight,
     /// The format of a rate of VHT or HE.
     Format,
@@ -65,7 +80,7 @@ pub enum Argument {
     Nanoseconds,
     /// The spatial streams of VHT or HE.
     Streams,
-    /// What the clock moves by, in microseconds.
+    /// The number of microseconds by which the clock moves.
     By,
     /// The TID of a frame.
     Tid,
@@ -81,13 +96,13 @@ pub enum Argument {
     Index,
     /// Whether the answer to an exchange was heard.
     Heard,
-    /// The word in front of an airtime that the end of an exchange names.
+    /// The word before the airtime that the end of an exchange gives.
     Measured,
     /// An airtime, in microseconds.
     Air,
 }
 
-/// What an argument may be.
+/// The kind of an argument: which values it may have.
 #[derive(Clone, Copy)]
 pub enum Arg {
     /// A number 0 to 65535.
@@ -118,7 +133,7 @@ pub enum Arg {
     End,
 }
 
-/// What the word of an argument says.
+/// The value of an argument.
 #[derive(Clone, Copy)]
 pub enum Value {
     Short(u16),
@@ -128,14 +143,20 @@ pub enum Value {
     Exchange(u64),
     Class(Class),
     Format(RateFormat),
-    /// The guard interval is the short one.
+    /// Whether the guard interval is the short one.
     Guard(bool),
-    /// The answer was heard.
+    /// Whether the answer was heard.
     Heard(bool),
-    /// An airtime stands behind it.
+    /// The word before an airtime.
     Air,
-    /// The end is the recipient.
+    /// Whether the end is the recipient.
     End(bool),
+}
+
+impl Default for Arg {
+    fn default() -> Self {
+        Arg::Short
+    }
 }
 
 impl Default for Value {
@@ -161,8 +182,28 @@ const CALLS: [CallForm; 14] = [
     CallForm::Reap,
 ];
 
+const FORMS: [CallForm; 17] = [
+    CallForm::Join,
+    CallForm::Leave,
+    CallForm::Rate,
+    CallForm::RateVht,
+    CallForm::RateHe,
+    CallForm::Tick,
+    CallForm::Enqueue,
+    CallForm::Pull,
+    CallForm::Arrive,
+    CallForm::Answer,
+    CallForm::Done,
+    CallForm::DoneAir,
+    CallForm::Sleep,
+    CallForm::Wake,
+    CallForm::Poll,
+    CallForm::Rx,
+    CallForm::Reap,
+];
+
 impl RateFormat {
-    /// The word of the format.
+    /// Returns the word of the format.
     pub fn word(self) -> &'static [u8]
         ensures word { result.now ≡ word_of_format self }
         ensures short { length result.now ≤ 3 }
@@ -173,7 +214,7 @@ impl RateFormat {
         }
     }
 
-    /// The format that a word names.
+    /// Returns the format with this word, or `None` if there is none.
     pub fn named(word: &[u8]) -> Option<RateFormat>
         ensures { result ≡ format_named word.now }
     {
@@ -186,83 +227,80 @@ impl RateFormat {
 }
 
 impl CallForm {
-    /// The number of its call, as C has it: 0 to 13.
+    // The row of the table: the number, the word, and the line with names for its arguments.
+    fn row(self) -> (u8, &'static [u8], &'static [u8])
+        ensures number { result.0 ≡ form_number self }
+        ensures word { result.1.now ≡ call_word self }
+        ensures line { result.2.now ≡ form_line self }
+        ensures range { result.0 < 14 }
+        ensures short { length result.1.now ≤ 6 }
+    {
+        match self {
+            CallForm::Join => (0, b"join", b"join S W START X [WEIGHT]"),
+            CallForm::Leave => (1, b"leave", b"leave S"),
+            CallForm::Rate => (2, b"rate", b"rate S MCS MHZ GUARD"),
+            CallForm::RateVht => (2, b"rate", b"rate S vht MCS MHZ GUARD N"),
+            CallForm::RateHe => (2, b"rate", b"rate S he MCS MHZ GUARD N"),
+            CallForm::Tick => (3, b"tick", b"tick MICROSECONDS"),
+            CallForm::Enqueue => (4, b"enq", b"enq S TID FLOW LENGTH"),
+            CallForm::Pull => (5, b"pull", b"pull CLASS"),
+            CallForm::Arrive => (6, b"arrive", b"arrive EXCHANGE INDEX"),
+            CallForm::Answer => (7, b"answer", b"answer EXCHANGE"),
+            CallForm::Done => (8, b"done", b"done EXCHANGE HEARD"),
+            CallForm::DoneAir => (8, b"done", b"done EXCHANGE HEARD air MICROSECONDS"),
+            CallForm::Sleep => (9, b"sleep", b"sleep S"),
+            CallForm::Wake => (10, b"wake", b"wake S"),
+            CallForm::Poll => (11, b"poll", b"poll S"),
+            CallForm::Rx => (12, b"rx", b"rx S CLASS MICROSECONDS"),
+            CallForm::Reap => (13, b"reap", b"reap"),
+        }
+    }
+
+    /// Returns all forms, in the order of the help.
+    pub fn all() -> [CallForm; 17]
+        ensures { result ≡ forms }
+    {
+        FORMS
+    }
+
+    /// Returns the number of its call in C: 0 to 13.
     pub fn number(self) -> u8
         ensures number { result ≡ form_number self }
         ensures range { result < 14 }
     {
-        match self {
-            CallForm::Join => 0,
-            CallForm::Leave => 1,
-            CallForm::Rate | CallForm::RateVht | CallForm::RateHe => 2,
-            CallForm::Tick => 3,
-            CallForm::Enqueue => 4,
-            CallForm::Pull => 5,
-            CallForm::Arrive => 6,
-            CallForm::Answer => 7,
-            CallForm::Done | CallForm::DoneAir => 8,
-            CallForm::Sleep => 9,
-            CallForm::Wake => 10,
-            CallForm::Poll => 11,
-            CallForm::Rx => 12,
-            CallForm::Reap => 13,
-        }
+        self.row().0
     }
 
-    /// The call with a number, in its first form. None where it is that of no call.
+    /// Returns the first form of the call with this number, or `None` if there is none.
     pub fn numbered(number: u8) -> Option<CallForm>
         ensures { result ≡ call_numbered number }
     {
         CALLS.iter().copied().find(|call| call.number() == number)
     }
 
-    /// The word that its line begins with.
+    /// Returns the word that its line begins with.
     pub fn word(self) -> &'static [u8]
         ensures word { result.now ≡ call_word self }
         ensures short { length result.now ≤ 6 }
     {
-        match self {
-            CallForm::Join => b"join",
-            CallForm::Leave => b"leave",
-            CallForm::Rate | CallForm::RateVht | CallForm::RateHe => b"rate",
-            CallForm::Tick => b"tick",
-            CallForm::Enqueue => b"enq",
-            CallForm::Pull => b"pull",
-            CallForm::Arrive => b"arrive",
-            CallForm::Answer => b"answer",
-            CallForm::Done | CallForm::DoneAir => b"done",
-            CallForm::Sleep => b"sleep",
-            CallForm::Wake => b"wake",
-            CallForm::Poll => b"poll",
-            CallForm::Rx => b"rx",
-            CallForm::Reap => b"reap",
-        }
+        self.row().1
     }
 
-    /// The call that a word names, in its first form.
+    /// Returns its line with names for its arguments, as help shows it: `join S W START X [WEIGHT]`.
+    pub fn line(self) -> &'static [u8]
+        ensures { result.now ≡ form_line self }
+    {
+        self.row().2
+    }
+
+    /// Returns the first form of the call with this word, or `None` if there is none.
     pub fn named(word: &[u8]) -> Option<CallForm>
         ensures { result ≡ call_named word.now }
     {
-        match word {
-            b"join" => Some(CallForm::Join),
-            b"leave" => Some(CallForm::Leave),
-            b"rate" => Some(CallForm::Rate),
-            b"tick" => Some(CallForm::Tick),
-            b"enq" => Some(CallForm::Enqueue),
-            b"pull" => Some(CallForm::Pull),
-            b"arrive" => Some(CallForm::Arrive),
-            b"answer" => Some(CallForm::Answer),
-            b"done" => Some(CallForm::Done),
-            b"sleep" => Some(CallForm::Sleep),
-            b"wake" => Some(CallForm::Wake),
-            b"poll" => Some(CallForm::Poll),
-            b"rx" => Some(CallForm::Rx),
-            b"reap" => Some(CallForm::Reap),
-            _ => None,
-        }
+        CALLS.iter().copied().find(|call| call.word() == word)
     }
 
-    /// Its arguments in order.
+    /// Returns its arguments, in order; at most 6.
     pub fn arguments(self) -> &'static [Argument]
         ensures arguments { result.now ≡ arguments_of self }
         ensures most { length result.now ≤ 6 }
@@ -335,7 +373,7 @@ impl CallForm {
 }
 
 impl Argument {
-    /// What it may be.
+    /// Returns its kind.
     pub fn kind(self) -> Arg
         ensures { result ≡ argument_kind self }
     {
@@ -364,7 +402,7 @@ impl Argument {
 }
 
 impl Arg {
-    /// Its value where it is left out. None where it may not be.
+    /// Returns the value that it has if it is left out, or `None` if it may not be left out.
     pub fn default_value(self) -> Option<Value>
         ensures { result ≡ default_of self }
     {

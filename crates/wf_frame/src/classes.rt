@@ -1,9 +1,9 @@
-//! Access classes, and what becomes of a frame.
+//! Access classes, and the table of fates: what becomes of a frame.
 
-ghost use Rattle.std.specs.Prelude.{◌≡◌, ◌<◌, [], ◌∷◌, length};
-ghost use Rattle.wf_frame.specs.Classes.{all_classes, class_number, class_of, lower_tid, upper_tid, class_named, class_word, tid_number};
+ghost use Rattle.std.specs.Prelude.{◌≡◌, ◌<◌, ◌≤◌, [], ◌∷◌, length};
+ghost use Rattle.wf_frame.specs.Classes.{all_classes, class_number, class_of, lower_tid, upper_tid, class_named, class_word, tid_number, fate_number, fate_word, fate_numbered};
 
-/// One of the four access categories of IEEE 802.11-2012 (9.2.4.2), the least urgent first.
+/// An access category of IEEE 802.11-2012 (9.2.4.2). The least urgent comes first.
 #[derive(Clone, Copy, Debug, PartialEq, Eq)]
 pub enum Class {
     /// Background: TID 1 and 2.
@@ -17,14 +17,14 @@ pub enum Class {
 }
 
 impl Class {
-    /// The four classes, the least urgent first.
+    /// Returns the four classes, the least urgent first.
     pub fn all() -> [Class; 4]
         ensures { result ≡ all_classes }
     {
         [Class::Bk, Class::Be, Class::Vi, Class::Vo]
     }
 
-    /// Its place among the four, the least urgent first: 0 to 3.
+    /// Returns its place among the four, the least urgent first: 0 to 3.
     pub fn number(self) -> usize
         ensures place { result ≡ class_number self }
         ensures range { result < 4 }
@@ -37,7 +37,7 @@ impl Class {
         }
     }
 
-    /// The class of a traffic identifier (TID), 0 to 7.
+    /// Returns the class of a TID, 0 to 7.
     pub fn of_tid(tid: u8) -> Class
         requires { tid < 8 }
         ensures { result ≡ class_of tid }
@@ -50,7 +50,7 @@ impl Class {
         }
     }
 
-    /// The two TIDs of the class, the lower first.
+    /// Returns the two TIDs of the class, the lower first.
     pub fn tids(self) -> [u8; 2]
         ensures { result ≡ lower_tid self ∷ upper_tid self ∷ [] }
     {
@@ -62,7 +62,7 @@ impl Class {
         }
     }
 
-    /// The word of the class in texts: `bk`, `be`, `vi` or `vo`.
+    /// Returns the word of the class in texts: `bk`, `be`, `vi` or `vo`.
     pub fn word(self) -> &'static [u8]
         ensures word { result.now ≡ class_word self }
         ensures short { length result.now ≡ 2 }
@@ -75,7 +75,7 @@ impl Class {
         }
     }
 
-    /// The class of a word. None where the word is of no class.
+    /// Returns the class with this word, or `None` if there is none.
     pub fn named(word: &[u8]) -> Option<Class>
         ensures { result ≡ class_named word.now }
     {
@@ -86,7 +86,7 @@ impl Class {
     }
 }
 
-/// The number of a station's TID among the TIDs of all stations: the eight of station 0 come first.
+/// Returns the number of a station's TID among the TIDs of all stations: the eight of station 0 come first.
 pub fn tid_number(station: u16, tid: u8) -> u32
     ensures { result ≡ tid_number station tid }
 {
@@ -96,23 +96,79 @@ pub fn tid_number(station: u16, tid: u8) -> u32
 /// Why a frame was dropped.
 #[derive(Clone, Copy, Debug, PartialEq, Eq)]
 pub enum Cause {
-    /// The flow queues held `limit` frames, and it was the head of the longest.
+    /// Dropped when the flow queues held `limit` frames: it was the head of the longest.
     Overlimit,
-    /// CoDel dropped it (RFC 8289).
+    /// Dropped by CoDel (RFC 8289).
     Codel,
-    /// It was sent `attempts` times and never acknowledged.
+    /// Dropped after its last transmission: it was sent `attempts` times and never acknowledged.
     Retries,
-    /// Its station left.
+    /// Dropped when its station left.
     Left,
 }
 
-/// What became of an accepted frame.
+/// What became of an accepted frame. The comment of each variant, and of each cause, is its sentence in
+/// include/wf.h.
 #[derive(Clone, Copy, Debug, PartialEq, Eq)]
 pub enum Fate {
-    /// It is queued, waits for a transmission or is on the air.
+    /// Inside: queued, waiting for a transmission or on the air; no reaped frame is held.
     Held,
-    /// A block acknowledgement showed that it arrived.
+    /// Acknowledged: a BlockAck showed that it arrived.
     Acked,
     /// It was dropped, for this cause.
     Dropped(Cause),
+}
+
+// The fates by their numbers.
+const FATES: [Fate; 6] = [
+    Fate::Held,
+    Fate::Acked,
+    Fate::Dropped(Cause::Overlimit),
+    Fate::Dropped(Cause::Codel),
+    Fate::Dropped(Cause::Retries),
+    Fate::Dropped(Cause::Left),
+];
+
+impl Fate {
+    // The row of the table: the number and the word.
+    fn row(self) -> (u8, &'static [u8])
+        ensures number { result.0 ≡ fate_number self }
+        ensures word { result.1.now ≡ fate_word self }
+        ensures range { result.0 < 6 }
+        ensures short { length result.1.now ≤ 9 }
+    {
+        match self {
+            Fate::Held => (0, b"held"),
+            Fate::Acked => (1, b"acked"),
+            Fate::Dropped(Cause::Overlimit) => (2, b"overlimit"),
+            Fate::Dropped(Cause::Codel) => (3, b"codel"),
+            Fate::Dropped(Cause::Retries) => (4, b"retries"),
+            Fate::Dropped(Cause::Left) => (5, b"left"),
+        }
+    }
+
+    /// Returns the number of the fate in C: 0 to 5.
+    pub fn number(self) -> u8
+        ensures number { result ≡ fate_number self }
+        ensures range { result < 6 }
+    {
+        self.row().0
+    }
+
+    /// Returns the word of the fate in texts.
+    pub fn word(self) -> &'static [u8]
+        ensures word { result.now ≡ fate_word self }
+        ensures short { length result.now ≤ 9 }
+    {
+        self.row().1
+    }
+
+    /// Returns the fate with this number, or `None` if there is none.
+    pub fn of_number(number: u32) -> Option<Fate>
+        ensures { result ≡ fate_numbered number }
+    {
+        FATES
+            .iter()
+            .copied()
+            .find(|fate| u32::from(fate.number()) == number)
+    }
 }

@@ -1,4 +1,4 @@
-//! A frame with its body.
+//! A frame: its body, and what is known of it.
 
 ghost use Rattle.std.specs.Prelude.{◌≡◌, ◌<◌, ◌≤◌, ◌⊎◌, length, IfOk, IfErr};
 ghost use Rattle.wf_def_lists.specs.Lengths.{greatest_body};
@@ -12,20 +12,20 @@ use std::marker::Model;
 /// The greatest body in octets: the greatest MSDU (IEEE 802.11-2012, 8.2.3).
 pub const GREATEST_BODY: u16 = 2304;
 
-/// The greatest number of attempts that a frame counts, above every number that the settings allow.
+/// The greatest number of attempts that a frame counts. It is above the greatest value of the setting
+/// `attempts`.
 const GREATEST_ATTEMPTS: u8 = 255;
 
 const MADE_UP_SOURCE: [u8; 6] = [0x02, 0, 0, 0x02, 0, 0];
 
-/// The source that a frame has as it is made, `02 00 00 02 00 00`.
+/// Returns the source of a new frame, the placeholder `02 00 00 02 00 00`.
 pub fn source_address() -> [u8; 6]
     ensures { result ≡ made_up_source }
 {
     MADE_UP_SOURCE
 }
 
-/// A frame: its body of 1 to 2304 octets, where it comes from and goes, what its owner finds it again by, and
-/// what becomes of it.
+/// A frame: its body of 1 to 2304 octets, its station, TID, flow and source, its owner's tag, and its fate.
 #[derive(Drop)]
 pub struct Frame {
     body: Vec<u8>,
@@ -65,9 +65,9 @@ impl Model for Frame {
 }
 
 impl Frame {
-    /// A frame that is not accepted yet: id 0, stamp 0, the made-up source, tag 0 and fate Held. Refused,
-    /// with the body handed back, exactly where the body has no octet or more than 2304 (the greatest MSDU,
-    /// IEEE 802.11-2012, 8.2.3).
+    /// Returns a frame that is not accepted yet, with id 0, stamp 0, the placeholder source, tag 0, 0
+    /// attempts and fate Held. Returns the body as the error if it has 0 octets or more than 2304 (the
+    /// greatest MSDU, IEEE 802.11-2012, 8.2.3).
     pub fn new(station: u16, tid: u8, flow: u32, body: Vec<u8>) -> Result<Frame, Vec<u8>>
         ensures made { IfOk result (λ f. f ≡ new_frame station tid flow body.items) }
         ensures within { IfOk result (λ f. (0 < length body.items) × (length body.items ≤ greatest_body)) }
@@ -91,7 +91,8 @@ impl Frame {
         })
     }
 
-    /// The frame that a line of a trace names: octet j of its body is `(flow + j) mod 256`.
+    /// Returns a new frame as a trace makes it: octet j of its body is `(flow + j) mod 256`. `len` must be
+    /// 1 to 2304 octets. Fails if the allocation fails.
     pub fn sample(
         alloc: Global,
         station: u16,
@@ -122,42 +123,42 @@ impl Frame {
         })
     }
 
-    /// The number that the frame got when it was accepted.
+    /// Returns the id that the frame got when it was accepted.
     pub fn id(&self) -> u64
         ensures { result ≡ self.now.id }
     {
         self.id
     }
 
-    /// The clock when the frame was accepted, in microseconds.
+    /// Returns the clock when the frame was accepted, in microseconds.
     pub fn stamp(&self) -> u64
         ensures { result ≡ self.now.stamp }
     {
         self.stamp
     }
 
-    /// The station that it goes to.
+    /// Returns the number of the station that the frame is for.
     pub fn station(&self) -> u16
         ensures { result ≡ self.now.station }
     {
         self.station
     }
 
-    /// Its traffic identifier.
+    /// Returns its TID.
     pub fn tid(&self) -> u8
         ensures { result ≡ self.now.tid }
     {
         self.tid
     }
 
-    /// The flow that it belongs to.
+    /// Returns its flow number.
     pub fn flow(&self) -> u32
         ensures { result ≡ self.now.flow }
     {
         self.flow
     }
 
-    /// The address that it comes from: the third of its header (IEEE 802.11-2012, 8.3.2.1). It is
+    /// Returns its source: the third address of its header (IEEE 802.11-2012, 8.3.2.1). It is
     /// `source_address` until it is set.
     pub fn source(&self) -> [u8; 6]
         ensures exact { result ≡ self.now.source }
@@ -166,14 +167,15 @@ impl Frame {
         self.source
     }
 
-    /// What its owner finds it again by, as an index or a pointer: 0 until it is set. Nothing here reads it.
+    /// Returns its tag, by which its owner finds it again, such as an index or a pointer. It is 0 until it
+    /// is set; no code here uses it.
     pub fn tag(&self) -> u64
         ensures { result ≡ self.now.tag }
     {
         self.tag
     }
 
-    /// The length of its body in octets, 1 to 2304.
+    /// Returns the length of its body in octets, 1 to 2304.
     pub fn len(&self) -> u16
         ensures exact { result ≡ length self.now.body }
         ensures some { 0 < result }
@@ -182,14 +184,14 @@ impl Frame {
         self.body.len() as u16
     }
 
-    /// Its body.
+    /// Returns its body.
     pub fn body(&self) -> &[u8]
         ensures { result.now ≡ self.now.body }
     {
         self.body.as_slice()
     }
 
-    /// How often it was sent since it was accepted, with whatever fate it ended: at most the setting
+    /// Returns how often it was sent since it was accepted, whatever its fate: at most the setting
     /// `attempts`, so at most 64.
     pub fn attempts(&self) -> u8
         ensures { result ≡ self.now.attempts }
@@ -197,28 +199,28 @@ impl Frame {
         self.attempts
     }
 
-    /// What became of it.
+    /// Returns its fate.
     pub fn fate(&self) -> Fate
         ensures { result ≡ self.now.fate }
     {
         self.fate
     }
 
-    /// Gives the frame another source.
+    /// Sets its source.
     pub fn set_source(&mut self, source: [u8; 6])
         ensures { self.new ≡ record self.old { source = source } }
     {
         self.source = source;
     }
 
-    /// Gives the frame another tag.
+    /// Sets its tag.
     pub fn set_tag(&mut self, tag: u64)
         ensures { self.new ≡ record self.old { tag = tag } }
     {
         self.tag = tag;
     }
 
-    /// Gives the frame its number and its stamp; from then on it counts how often it is sent.
+    /// Sets its id and its stamp, and its number of attempts to 0, when it is accepted.
     pub fn mark(&mut self, id: u64, stamp: u64)
         ensures { self.new ≡ record self.old { id = id; stamp = stamp; attempts = 0 } }
     {
@@ -227,7 +229,7 @@ impl Frame {
         self.attempts = 0;
     }
 
-    /// Counts one more time that the frame is sent, where it has counted fewer than 255.
+    /// Counts one more transmission, up to 255.
     pub fn send(&mut self)
         ensures { self.new ≡ sent_again self.old }
     {
@@ -236,7 +238,7 @@ impl Frame {
         }
     }
 
-    /// Gives the frame its fate.
+    /// Sets its fate.
     pub fn settle(&mut self, fate: Fate)
         ensures { self.new ≡ record self.old { fate = fate } }
     {

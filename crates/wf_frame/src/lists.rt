@@ -1,17 +1,17 @@
-//! Lists of a fixed capacity, for the answers of calls that take no memory.
+//! Lists with a fixed capacity, so that calls fill an answer without allocating.
 
 ghost use Rattle.std.specs.Prelude.{◌≡◌, ◌<◌, ◌≤◌, ◌++◌, ◌∷◌, [], length, slice_get, Some};
 
 use arrayvec::ArrayVec;
 use std::marker::Model;
 
-/// The ids that an answer names.
+/// The ids in an answer.
 pub type Ids = FixedList<u64>;
 
-/// The frames of an aggregate: the id of each, with its sequence number (0 to 4095).
+/// The frames of an aggregate: the id of each, and its sequence number (0 to 4095).
 pub type Pairs = FixedList<(u64, u16)>;
 
-/// A list of at most 256 items, which never takes memory.
+/// A list of at most 256 items, which never allocates.
 #[derive(Drop)]
 pub struct FixedList<T> {
     list: ArrayVec<T, 256>,
@@ -26,7 +26,7 @@ impl<T> Model for FixedList<T> {
 }
 
 impl<T: Copy + Default> FixedList<T> {
-    /// The empty list.
+    /// Returns an empty list.
     pub fn new() -> FixedList<T>
         ensures { result ≡ [] }
     {
@@ -35,7 +35,7 @@ impl<T: Copy + Default> FixedList<T> {
         }
     }
 
-    /// Appends an item; the list must have fewer than 256.
+    /// Appends an item. The list must have fewer than 256.
     pub fn push(&mut self, item: T)
         requires { length self.old < 256 }
         ensures { self.new ≡ self.old ++ item ∷ [] }
@@ -43,14 +43,14 @@ impl<T: Copy + Default> FixedList<T> {
         self.list.push(item);
     }
 
-    /// Lets all items go.
+    /// Removes all items.
     pub fn clear(&mut self)
         ensures { self.new ≡ [] }
     {
         self.list.clear();
     }
 
-    /// How many items it has, at most 256.
+    /// Returns the number of items, at most 256.
     pub fn len(&self) -> usize
         ensures count { result ≡ length self.now }
         ensures short { result ≤ 256 }
@@ -58,7 +58,7 @@ impl<T: Copy + Default> FixedList<T> {
         self.list.len()
     }
 
-    /// The item at a place, counted from 0.
+    /// Returns item `i`, counted from 0. `i` must be less than the length.
     pub fn at(&self, i: usize) -> T
         requires { i < length self.now }
         ensures { slice_get self.now i ≡ Some result }

@@ -1,13 +1,11 @@
-//! Calls and their answers as numbers.
-//!
-//! Station numbers run from 0; times are in microseconds.
+//! Calls and their answers as numbers. Station numbers count from 0; times are in microseconds.
 
 use crate::{Class, Fate, Ids, Pairs};
 
-/// The numbers of a rate, as a caller gives them: `mcs` the modulation and coding scheme, `mhz` the width of
-/// the channel, `short` the guard interval of 400 ns in place of 800, `guard` that interval in nanoseconds,
-/// `streams` the spatial streams. The ranges given are those that are not refused; ten combinations of VHT
-/// are refused too.
+/// The numbers of a rate, as a caller gives them. `mcs` is the modulation and coding scheme, `mhz` the
+/// width of the channel, `short` a guard interval of 400 ns instead of 800, `guard` the guard interval in
+/// nanoseconds, and `streams` the number of spatial streams. A rate outside the given ranges is refused,
+/// and so are ten combinations of VHT.
 #[derive(Clone, Copy, Debug, PartialEq, Eq)]
 pub enum AskedRate {
     /// A rate of HT (IEEE 802.11-2012, clause 20): MCS 0 to 15, 20 or 40 MHz.
@@ -34,11 +32,11 @@ pub enum AskedRate {
     },
 }
 
-/// One of the thirteen calls that carry no frame. The ranges given are those that are not refused.
+/// A call that brings no frame: one of thirteen. An argument outside its given range is refused.
 #[derive(Clone, Copy, Debug, PartialEq, Eq)]
 pub enum Ask {
-    /// A station joins: its window size in frames (1 to 256), first sequence number (0 to 4095), A-MPDU
-    /// length exponent (0 to 3; IEEE 802.11-2012, 8.4.2.58.3) and weight (1 to 16).
+    /// A station joins, with its window size in frames (1 to 256), first sequence number (0 to 4095),
+    /// maximum A-MPDU length exponent (0 to 3; IEEE 802.11-2012, 8.4.2.58.3) and weight (1 to 16).
     Join {
         station: u16,
         window: u16,
@@ -50,12 +48,12 @@ pub enum Ask {
     Leave {
         station: u16,
     },
-    /// A station is sent to at this rate from now on.
+    /// Data to a station has this rate from now on.
     Rate {
         station: u16,
         rate: AskedRate,
     },
-    /// The clock moves on, by 0 to 10,000,000 microseconds.
+    /// The clock moves forward by 0 to 10,000,000 microseconds.
     Tick {
         by: u32,
     },
@@ -63,17 +61,17 @@ pub enum Ask {
     Pull {
         class: Class,
     },
-    /// One transmission of an open exchange reached its station: its index, counted from 0.
+    /// A transmission of an open exchange reached its station. `index` counts the transmissions from 0.
     Arrive {
         exchange: u64,
         index: u16,
     },
-    /// The station answers an open exchange with a block acknowledgement.
+    /// The station answers an open exchange with a BlockAck.
     Answer {
         exchange: u64,
     },
-    /// An exchange ends; `heard` tells whether its answer was heard. It is charged the airtime `air` where
-    /// that is named, 1 to `charge` microseconds, else what its Send answered.
+    /// An exchange ends. `heard` is whether its answer was heard. It is charged the airtime `air`, 1 to
+    /// `charge` microseconds, or if that is `None` the airtime of its Send.
     Done {
         exchange: u64,
         heard: bool,
@@ -91,7 +89,7 @@ pub enum Ask {
     Poll {
         station: u16,
     },
-    /// A station used airtime to send in a class: 1 to 65,535 microseconds.
+    /// A station used this airtime to send in a class: 1 to 65,535 microseconds.
     Rx {
         station: u16,
         class: Class,
@@ -104,19 +102,20 @@ pub enum Ask {
 /// A call as numbers.
 #[derive(Clone, Copy, Debug, PartialEq, Eq)]
 pub enum Note {
-    /// A frame for a station, of this TID (0 to 7), flow and body length (1 to 2304 octets).
+    /// A frame for a station, with its TID (0 to 7), its flow, and the length of its body (1 to 2304
+    /// octets).
     Enqueue {
         station: u16,
         tid: u8,
         flow: u32,
         len: u16,
     },
-    /// A call that carries no frame.
+    /// A call that brings no frame.
     Asked(Ask),
 }
 
-/// What an exchange sends: frames with their sequence numbers, or a BlockAckReq with its start. Numbers are 0
-/// to 4095.
+/// The content of an exchange: frames with their sequence numbers, or a BlockAckReq with its start.
+/// Sequence numbers are 0 to 4095.
 #[derive(Drop)]
 pub enum Part {
     /// The id and the sequence number of each frame of an aggregate.
@@ -125,7 +124,8 @@ pub enum Part {
     Request(u16),
 }
 
-/// Why a call was refused.
+/// Why a call was refused. The comment of each variant is its sentence in include/wf.h and docs/MACHINE.md;
+/// its number and its word are in the table in `refusals`.
 #[derive(Clone, Copy, Debug, PartialEq, Eq)]
 pub enum Refusal {
     /// The station number is not below `stations`.
@@ -136,13 +136,15 @@ pub enum Refusal {
     BadStart,
     /// The A-MPDU length exponent is above 3.
     BadExponent,
-    /// The MCS is above 15, or the width neither 20 nor 40 MHz.
+    /// There is no such rate: the MCS, the width, the guard interval or the streams are none of its format,
+    /// or are one of the ten combinations that VHT leaves out.
     BadRate,
     /// The clock would move by more than 10,000,000 microseconds.
     BadTick,
     /// The TID is above 7.
     BadTid,
-    /// The airtime is 0, above 65,535 microseconds, or above the setting `charge` at the end of an exchange.
+    /// The airtime is 0 or above 65,535 microseconds; at the end of an exchange: the one that is named is
+    /// above `charge`.
     BadAir,
     /// The exchange has no transmission of that index.
     BadIndex,
@@ -152,17 +154,17 @@ pub enum Refusal {
     NoStation,
     /// No open exchange has that number.
     NoExchange,
-    /// The exchange was heard, but its station never answered.
+    /// The exchange was to be heard, but its station never answered.
     NoAnswer,
-    /// The station has open exchanges, so many.
-    StillOpen { count: u32 },
-    /// `room` frames are accepted and not yet reaped.
+    /// The station has `count` open exchanges.
+    Open { count: u32 },
+    /// `inside` frames are accepted and not yet reaped: as many as `room`.
     Room { inside: u32 },
-    /// The station sleeps, and `sleeping` frames of the class or more are queued for it.
+    /// The station sleeps, and `queued` frames of the class are queued for it: `sleeping` or more.
     Sleeping { queued: u32 },
-    /// `inflight` exchanges of the class are open.
+    /// `count` exchanges of the class are open: as many as `inflight`.
     Full { count: u32 },
-    /// No station of the class is ready.
+    /// No station of the class is ready; the only refusal after which something may have changed.
     Idle,
     /// The exchange was answered already.
     Answered,
@@ -176,7 +178,7 @@ pub enum Refusal {
     Awake,
     /// The station has a credit that is not spent yet.
     Polled,
-    /// The deficit, which stays, would fall below -1,000,000 microseconds.
+    /// The deficit, which stays at `deficit`, would fall below -1,000,000 microseconds.
     Debt { deficit: i64 },
     /// The history has `calls` entries; the call is none.
     HistoryFull,
@@ -184,20 +186,20 @@ pub enum Refusal {
     BadWeight,
 }
 
-/// The answer to a call as one value. No code makes one, since it would have up to 4 kB: calls fill an
-/// `Answer`, and contracts say which of these it is.
+/// The answer to a call as one value. Code never makes one, since it would have up to 4 kB: calls fill an
+/// `Answer`, and contracts say which `ReplyNote` it is.
 #[derive(Drop)]
 pub enum ReplyNote {
     /// The station is live.
     Joined,
-    /// The station left, and so many of its frames were dropped.
-    Gone {
+    /// The station left, and this number of its frames were dropped.
+    Left {
         dropped: u32,
     },
     /// The rate is set.
-    RateSet,
+    Set,
     /// The clock after the tick, in microseconds.
-    Ticked {
+    Now {
         now: u64,
     },
     /// The frame's new id, and the id of the frame that was dropped for the limit, if any.
@@ -205,8 +207,8 @@ pub enum ReplyNote {
         id: u64,
         dropped: Option<u64>,
     },
-    /// The exchange to send: its number, station, TID (0 to 7), charge in microseconds and transmissions;
-    /// `more` is the More Data bit.
+    /// The exchange to send: its number, station, TID (0 to 7), charge in microseconds, and content. `more`
+    /// is the More Data bit.
     Send {
         exchange: u64,
         station: u16,
@@ -215,12 +217,12 @@ pub enum ReplyNote {
         part: Part,
         more: bool,
     },
-    /// The frames that the receiver passed up, in order.
+    /// The ids of the frames that the receiver released, in order.
     Released {
         ids: Ids,
     },
-    /// The receiver's block acknowledgement: its start (0 to 4095) and its bits, offsets 0 to 63 in `b0`; a
-    /// wide one has 256 of them.
+    /// The receiver's BlockAck: its start (0 to 4095) and its bitmap, whose offsets 0 to 63 are the bits of
+    /// `b0`. If `wide`, the bitmap has 256 bits, otherwise 64.
     Ba {
         start: u16,
         b0: u64,
@@ -230,7 +232,7 @@ pub enum ReplyNote {
         wide: bool,
     },
     /// How many of the exchange's frames are acknowledged, wait again, and are dropped.
-    Ended {
+    Done {
         acked: u16,
         waiting: u16,
         failed: u16,
@@ -239,15 +241,15 @@ pub enum ReplyNote {
     Slept,
     /// The station is awake.
     Woken,
-    /// The sleeping station is owed one frame of this class.
-    Credited {
+    /// The sleeping station has a credit for one exchange of this class.
+    Polled {
         class: Class,
     },
     /// The deficit after the charge, in microseconds.
     Charged {
         deficit: i64,
     },
-    /// The first finished frame and its fate.
+    /// The id and the fate of the first finished frame.
     Reaped {
         id: u64,
         fate: Fate,

@@ -1,90 +1,114 @@
-//! The table of refusals: of each its number and its word.
+//! The table of refusals: the number of each, and its word.
 
 ghost use Rattle.std.specs.Prelude.{◌≡◌, ◌<◌, ◌≤◌, length};
-ghost use Rattle.wf_frame.specs.Refusals.{refusal_number, refusal_word, number_told};
+ghost use Rattle.wf_frame.specs.Refusals.{refusal_number, refusal_word, number_told, refusal_numbered};
 
 use crate::Refusal;
 
+// The refusals by their numbers. A number that follows the word is 0.
+const REFUSALS: [Refusal; 27] = [
+    Refusal::BadStation,
+    Refusal::BadWindow,
+    Refusal::BadStart,
+    Refusal::BadExponent,
+    Refusal::BadRate,
+    Refusal::BadTick,
+    Refusal::BadTid,
+    Refusal::BadAir,
+    Refusal::BadIndex,
+    Refusal::Live,
+    Refusal::NoStation,
+    Refusal::NoExchange,
+    Refusal::NoAnswer,
+    Refusal::Open { count: 0 },
+    Refusal::Room { inside: 0 },
+    Refusal::Sleeping { queued: 0 },
+    Refusal::Full { count: 0 },
+    Refusal::Idle,
+    Refusal::Answered,
+    Refusal::Arrived,
+    Refusal::Nothing,
+    Refusal::Asleep,
+    Refusal::Awake,
+    Refusal::Polled,
+    Refusal::Debt { deficit: 0 },
+    Refusal::HistoryFull,
+    Refusal::BadWeight,
+];
+
 impl Refusal {
-    /// Its number, as C has it: 1 to 27.
+    // The row of the table: the number and the word.
+    fn row(self) -> (u8, &'static [u8])
+        ensures number { result.0 ≡ refusal_number self }
+        ensures word { result.1.now ≡ refusal_word self }
+        ensures range { (0 < result.0) × (result.0 ≤ 27) }
+        ensures short { length result.1.now ≤ 12 }
+    {
+        match self {
+            Refusal::BadStation => (1, b"bad-station"),
+            Refusal::BadWindow => (2, b"bad-window"),
+            Refusal::BadStart => (3, b"bad-start"),
+            Refusal::BadExponent => (4, b"bad-exponent"),
+            Refusal::BadRate => (5, b"bad-rate"),
+            Refusal::BadTick => (6, b"bad-tick"),
+            Refusal::BadTid => (7, b"bad-tid"),
+            Refusal::BadAir => (8, b"bad-air"),
+            Refusal::BadIndex => (9, b"bad-index"),
+            Refusal::Live => (10, b"live"),
+            Refusal::NoStation => (11, b"no-station"),
+            Refusal::NoExchange => (12, b"no-exchange"),
+            Refusal::NoAnswer => (13, b"no-answer"),
+            Refusal::Open { .. } => (14, b"open"),
+            Refusal::Room { .. } => (15, b"room"),
+            Refusal::Sleeping { .. } => (16, b"sleeping"),
+            Refusal::Full { .. } => (17, b"full"),
+            Refusal::Idle => (18, b"idle"),
+            Refusal::Answered => (19, b"answered"),
+            Refusal::Arrived => (20, b"arrived"),
+            Refusal::Nothing => (21, b"nothing"),
+            Refusal::Asleep => (22, b"asleep"),
+            Refusal::Awake => (23, b"awake"),
+            Refusal::Polled => (24, b"polled"),
+            Refusal::Debt { .. } => (25, b"debt"),
+            Refusal::HistoryFull => (26, b"history-full"),
+            Refusal::BadWeight => (27, b"bad-weight"),
+        }
+    }
+
+    /// Returns the number of the refusal in C: 1 to 27.
     pub fn number(self) -> u8
         ensures number { result ≡ refusal_number self }
         ensures range { (0 < result) × (result ≤ 27) }
     {
-        match self {
-            Refusal::BadStation => 1,
-            Refusal::BadWindow => 2,
-            Refusal::BadStart => 3,
-            Refusal::BadExponent => 4,
-            Refusal::BadRate => 5,
-            Refusal::BadTick => 6,
-            Refusal::BadTid => 7,
-            Refusal::BadAir => 8,
-            Refusal::BadIndex => 9,
-            Refusal::Live => 10,
-            Refusal::NoStation => 11,
-            Refusal::NoExchange => 12,
-            Refusal::NoAnswer => 13,
-            Refusal::StillOpen { .. } => 14,
-            Refusal::Room { .. } => 15,
-            Refusal::Sleeping { .. } => 16,
-            Refusal::Full { .. } => 17,
-            Refusal::Idle => 18,
-            Refusal::Answered => 19,
-            Refusal::Arrived => 20,
-            Refusal::Nothing => 21,
-            Refusal::Asleep => 22,
-            Refusal::Awake => 23,
-            Refusal::Polled => 24,
-            Refusal::Debt { .. } => 25,
-            Refusal::HistoryFull => 26,
-            Refusal::BadWeight => 27,
-        }
+        self.row().0
     }
 
-    /// Its word in texts.
+    /// Returns the word of the refusal in texts.
     pub fn word(self) -> &'static [u8]
         ensures word { result.now ≡ refusal_word self }
         ensures short { length result.now ≤ 12 }
     {
-        match self {
-            Refusal::BadStation => b"bad-station",
-            Refusal::BadWindow => b"bad-window",
-            Refusal::BadStart => b"bad-start",
-            Refusal::BadExponent => b"bad-exponent",
-            Refusal::BadRate => b"bad-rate",
-            Refusal::BadTick => b"bad-tick",
-            Refusal::BadTid => b"bad-tid",
-            Refusal::BadAir => b"bad-air",
-            Refusal::BadIndex => b"bad-index",
-            Refusal::Live => b"live",
-            Refusal::NoStation => b"no-station",
-            Refusal::NoExchange => b"no-exchange",
-            Refusal::NoAnswer => b"no-answer",
-            Refusal::StillOpen { .. } => b"open",
-            Refusal::Room { .. } => b"room",
-            Refusal::Sleeping { .. } => b"sleeping",
-            Refusal::Full { .. } => b"full",
-            Refusal::Idle => b"idle",
-            Refusal::Answered => b"answered",
-            Refusal::Arrived => b"arrived",
-            Refusal::Nothing => b"nothing",
-            Refusal::Asleep => b"asleep",
-            Refusal::Awake => b"awake",
-            Refusal::Polled => b"polled",
-            Refusal::Debt { .. } => b"debt",
-            Refusal::HistoryFull => b"history-full",
-            Refusal::BadWeight => b"bad-weight",
-        }
+        self.row().1
     }
 
-    /// The number that stands behind its word: how many exchanges are open, or frames inside or queued, or
-    /// the deficit, in microseconds. None where the word says all.
+    /// Returns the refusal with this number, or `None` if there is none. A number that follows its word is
+    /// 0.
+    pub fn of_number(number: u32) -> Option<Refusal>
+        ensures { result ≡ refusal_numbered number }
+    {
+        REFUSALS
+            .iter()
+            .copied()
+            .find(|refusal| u32::from(refusal.number()) == number)
+    }
+
+    /// Returns the number that follows the word of the refusal, or `None` if none does: the number of open
+    /// exchanges, of frames inside or of frames queued, or the deficit in microseconds.
     pub fn number_told(self) -> Option<i64>
         ensures { result ≡ number_told self }
     {
         match self {
-            Refusal::StillOpen { count } | Refusal::Full { count } => Some(i64::from(count)),
+            Refusal::Open { count } | Refusal::Full { count } => Some(i64::from(count)),
             Refusal::Room { inside } => Some(i64::from(inside)),
             Refusal::Sleeping { queued } => Some(i64::from(queued)),
             Refusal::Debt { deficit } => Some(deficit),

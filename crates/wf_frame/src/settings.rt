@@ -1,40 +1,42 @@
-//! The settings of a cell.
+//! The table of settings: the number of each, its word, and its least and its greatest value.
 
-ghost use Rattle.std.specs.Prelude.{◌≡◌, ◌↔◌};
-ghost use Rattle.wf_frame.specs.Settings.{standard, fields, lowest_of, greatest_of, value_of, with_value, is_in_range, first_out_of_range, IsInRange};
+ghost use Rattle.std.specs.Prelude.{◌≡◌, ◌↔◌, ◌≤◌, length};
+ghost use Rattle.wf_frame.specs.Settings.{standard, standard_of, fields, setting_number, setting_word, setting_named, setting_numbered, lowest_of, greatest_of, value_of, with_value, is_in_range, first_out_of_range, is_bad_air, IsInRange};
 
-/// The settings of a cell. `Config::check` tells whether each is in its range.
+/// The settings of a cell. `Field::least` and `Field::most` return the range of each, and `Config::check`
+/// returns the first that is out of its range.
 #[derive(Clone, Copy, Debug, PartialEq, Eq)]
 pub struct Config {
-    /// Station numbers run from 0 to below this: 1 to 256.
+    /// The number of stations: their numbers are 0 to below this.
     pub stations: u32,
-    /// Shared flow queues: 1 to 4096.
+    /// The number of flow queues, which all stations share.
     pub flows: u32,
-    /// The most frames in all flow queues together: 1 to 65535.
+    /// The most frames in all flow queues and overflow queues together.
     pub limit: u32,
-    /// The most frames that are accepted and not yet reaped: 1 to 131072.
+    /// The most frames that are accepted and not yet reaped.
     pub room: u32,
-    /// What a flow queue gets per visit, in octets of frame bodies: 64 to 65535.
+    /// The quantum of a flow queue, in octets of frame bodies.
     pub flow_quantum: u32,
-    /// What a station of weight 1 gets per visit, in microseconds of airtime: 100 to 10000.
+    /// The quantum of a station of weight 1, in microseconds of airtime.
     pub quantum: u32,
-    /// The most open exchanges of one class: 1 to 8.
+    /// The most open exchanges of one class.
     pub inflight: u32,
-    /// The most transmissions of one frame: 1 to 64.
+    /// The most transmissions of one frame.
     pub attempts: u32,
-    /// The most frames in one aggregate: 1 to 256.
+    /// The most frames in one aggregate.
     pub agg: u32,
-    /// The longest data time of one aggregate, in microseconds: 3000 to 5400.
+    /// The longest data time of one aggregate, in microseconds.
     pub cap: u32,
-    /// The most frames queued for a sleeping station in one class: 1 to 65535.
+    /// The most frames queued for a sleeping station in one class.
     pub sleeping: u32,
-    /// The most entries of a history: 1 to 4294967295.
+    /// The most entries of a history.
     pub calls: u32,
-    /// The greatest airtime that a Done may name, in microseconds: 0 to 65535. With 0 none may be named.
+    /// The greatest airtime that a Done may give, in microseconds. If it is 0, a Done may give none.
     pub charge: u32,
 }
 
-/// The name of one setting, as `Config` has it.
+/// A setting. The comment of each variant is its sentence in include/wf.h, docs/TRACE.md and
+/// sim/settings.json.
 #[derive(Clone, Copy, Debug, PartialEq, Eq)]
 pub enum Field {
     /// Station numbers.
@@ -45,28 +47,28 @@ pub enum Field {
     Limit,
     /// Frames accepted and not yet reaped.
     Room,
-    /// Octets per visit of a flow queue.
+    /// Octets per flow visit.
     FlowQuantum,
-    /// Microseconds per visit of a station of weight 1.
+    /// Microseconds per station visit, for weight 1.
     Quantum,
-    /// Open exchanges of a class.
+    /// Open exchanges per class.
     Inflight,
     /// Transmissions of one frame.
     Attempts,
     /// Frames in one aggregate.
     Agg,
-    /// Data time of one aggregate, in microseconds.
+    /// Data time of one aggregate, microseconds.
     Cap,
-    /// Frames queued for a sleeping station in one class.
+    /// Frames queued per sleeping station and class.
     Sleeping,
-    /// Entries of a history.
+    /// Calls of a history, as that of a trace; a path keeps none.
     Calls,
-    /// Microseconds of airtime that a Done may name.
+    /// Greatest airtime that the end of an exchange may name, microseconds.
     Charge,
 }
 
-/// Each setting, in the order in which they are checked.
-pub const FIELDS: [Field; 13] = [
+// The settings, in the order in which they are checked.
+const FIELDS: [Field; 13] = [
     Field::Stations,
     Field::Flows,
     Field::Limit,
@@ -83,36 +85,97 @@ pub const FIELDS: [Field; 13] = [
 ];
 
 impl Field {
-    /// The settings, in the order in which they are checked.
+    /// Returns the settings, in the order in which they are checked.
     pub fn all() -> [Field; 13]
         ensures { result ≡ fields }
     {
         FIELDS
     }
 
-    /// The least and the greatest value that the setting takes.
-    pub fn range(self) -> (u32, u32)
-        ensures least { result.0 ≡ lowest_of self }
-        ensures greatest { result.1 ≡ greatest_of self }
+    // The row of the table: the number, the word, the least and the greatest value.
+    fn row(self) -> (u8, &'static [u8], u32, u32)
+        ensures number { result.0 ≡ setting_number self }
+        ensures word { result.1.now ≡ setting_word self }
+        ensures least { result.2 ≡ lowest_of self }
+        ensures greatest { result.3 ≡ greatest_of self }
+        ensures numbered { (1 ≤ result.0) × (result.0 ≤ 13) }
+        ensures short { length result.1.now ≤ 12 }
     {
         match self {
-            Field::Stations => (1, 256),
-            Field::Flows => (1, 4096),
-            Field::Limit => (1, 65_535),
-            Field::Room => (1, 131_072),
-            Field::FlowQuantum => (64, 65_535),
-            Field::Quantum => (100, 10_000),
-            Field::Inflight => (1, 8),
-            Field::Attempts => (1, 64),
-            Field::Agg => (1, 256),
-            Field::Cap => (3000, 5400),
-            Field::Sleeping => (1, 65_535),
-            Field::Calls => (1, u32::MAX),
-            Field::Charge => (0, 65_535),
+            Field::Stations => (1, b"stations", 1, 256),
+            Field::Flows => (2, b"flows", 1, 4096),
+            Field::Limit => (3, b"limit", 1, 65_535),
+            Field::Room => (4, b"room", 1, 131_072),
+            Field::FlowQuantum => (5, b"flow_quantum", 64, 65_535),
+            Field::Quantum => (6, b"quantum", 100, 10_000),
+            Field::Inflight => (7, b"inflight", 1, 8),
+            Field::Attempts => (8, b"attempts", 1, 64),
+            Field::Agg => (9, b"agg", 1, 256),
+            Field::Cap => (10, b"cap", 3000, 5400),
+            Field::Sleeping => (11, b"sleeping", 1, 65_535),
+            Field::Calls => (12, b"calls", 1, u32::MAX),
+            Field::Charge => (13, b"charge", 0, 65_535),
         }
     }
 
-    /// The setting's value.
+    /// Returns the number of the setting in C: 1 to 13.
+    pub fn number(self) -> u8
+        ensures number { result ≡ setting_number self }
+        ensures range { (1 ≤ result) × (result ≤ 13) }
+    {
+        self.row().0
+    }
+
+    /// Returns the word of the setting in the head of a trace.
+    pub fn word(self) -> &'static [u8]
+        ensures word { result.now ≡ setting_word self }
+        ensures short { length result.now ≤ 12 }
+    {
+        self.row().1
+    }
+
+    /// Returns the least value of the setting.
+    pub fn least(self) -> u32
+        ensures { result ≡ lowest_of self }
+    {
+        self.row().2
+    }
+
+    /// Returns the greatest value of the setting.
+    pub fn most(self) -> u32
+        ensures { result ≡ greatest_of self }
+    {
+        self.row().3
+    }
+
+    /// Returns the standard value of the setting: its value if a head does not set it.
+    pub fn standard(self) -> u32
+        ensures { result ≡ standard_of self }
+    {
+        self.value(&Config::standard())
+    }
+
+    /// Returns the setting with this word, or `None` if there is none.
+    pub fn named(word: &[u8]) -> Option<Field>
+        ensures { result ≡ setting_named word.now }
+    {
+        Field::all()
+            .iter()
+            .copied()
+            .find(|field| field.word() == word)
+    }
+
+    /// Returns the setting with this number, or `None` if there is none.
+    pub fn of_number(number: u32) -> Option<Field>
+        ensures { result ≡ setting_numbered number }
+    {
+        Field::all()
+            .iter()
+            .copied()
+            .find(|field| u32::from(field.number()) == number)
+    }
+
+    /// Returns the value of the setting.
     pub fn value(self, config: &Config) -> u32
         ensures { result ≡ value_of config.now self }
     {
@@ -133,7 +196,7 @@ impl Field {
         }
     }
 
-    /// Sets the setting; the others stay.
+    /// Sets the value of the setting; the other settings stay unchanged. The value is not checked.
     pub fn set(self, config: &mut Config, value: u32)
         ensures { config.new ≡ with_value config.old self value }
     {
@@ -156,7 +219,7 @@ impl Field {
 }
 
 impl Config {
-    /// The settings of a head that names none.
+    /// Returns the standard settings: those of a head that sets none.
     pub fn standard() -> Config
         ensures { result ≡ standard }
     {
@@ -177,13 +240,24 @@ impl Config {
         }
     }
 
-    /// The first setting that is out of its range, and `None` exactly where all are in range.
+    /// Returns the first setting that is out of its range, or `None` if all are in range.
     #[tactic(auto, using(crate::proofs::Ranges::checked))]
     pub fn check(&self) -> Option<Field>
         ensures first { result ≡ first_out_of_range self.now }
         ensures in_range { (result ≡ None) ↔ IsInRange self.now }
     {
         self.first_failing()
+    }
+
+    /// Returns whether the end of an exchange may not give this airtime: it is 0 microseconds, or above the
+    /// setting `charge`. An end that gives no airtime is always allowed.
+    pub fn is_bad_air(&self, air: Option<u32>) -> bool
+        ensures { result ≡ is_bad_air self.now air }
+    {
+        match air {
+            Some(air) => air == 0 || air > self.charge,
+            None => false,
+        }
     }
 
     fn first_failing(&self) -> Option<Field>
@@ -195,8 +269,7 @@ impl Config {
     fn holds(&self, field: Field) -> bool
         ensures { result ≡ is_in_range self.now field }
     {
-        let (least, greatest) = field.range();
         let value = field.value(self);
-        least <= value && value <= greatest
+        field.least() <= value && value <= field.most()
     }
 }

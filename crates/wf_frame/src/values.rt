@@ -1,4 +1,4 @@
-//! The values of a call's arguments, and the call that they make.
+//! The values of a call's arguments, and the call with given values.
 
 ghost use Rattle.std.specs.Prelude.{◌≡◌, ◌≤◌, length, Some};
 ghost use Rattle.wf_frame.specs.declared.notes.Note.TheVariants.{Asked};
@@ -10,7 +10,7 @@ use crate::notes::{Ask, AskedRate, Note};
 use arrayvec::ArrayVec;
 
 impl Note {
-    /// The form of its line.
+    /// Returns the form of its line.
     pub fn form(&self) -> CallForm
         ensures { result ≡ note_form self.now }
     {
@@ -20,8 +20,9 @@ impl Note {
         }
     }
 
-    /// The values of its arguments, in order: they make the call again. A line names an exchange number below
-    /// 2^32, and a length of 1 to 2304 octets.
+    /// Returns the values of its arguments, in order; `of_values` makes the same call of them. A value may
+    /// be out of range for a line: only exchange numbers below 2^32 and lengths of 1 to 2304 octets are in
+    /// range.
     pub fn values(&self) -> ArrayVec<Value, 6>
         ensures values { result.items ≡ note_values self.now }
         ensures range { IsPrintable self.now → NumbersAreInRange self.now }
@@ -43,7 +44,7 @@ impl Note {
         }
     }
 
-    /// The call of a form with these values. None where they are not those of its arguments.
+    /// Returns the call of a form with these values, or `None` if they are no values of its arguments.
     pub fn of_values(form: CallForm, values: &[Value]) -> Option<Note>
         ensures { result ≡ note_made form values.now }
     {
@@ -165,7 +166,7 @@ impl AskedRate {
         }
     }
 
-    // The values of its arguments, the station in front.
+    // The values of its arguments, the station first.
     fn values(self, station: u16) -> ArrayVec<Value, 6>
         ensures values { result.items ≡ note_values (Asked (Rate station self)) }
         ensures range { NumbersAreInRange (Asked (Rate station self)) }
@@ -218,7 +219,7 @@ fn listed(values: &[Value]) -> ArrayVec<Value, 6>
     list
 }
 
-// The values of an end of an exchange, whose airtime stands where it is named.
+// The values of a Done, which include its airtime if it gives one.
 fn end_values(exchange: u64, heard: bool, air: Option<u32>) -> ArrayVec<Value, 6>
     ensures values { result.items ≡ note_values (Asked (Done exchange heard air)) }
     ensures range { IsPrintable (Asked (Done exchange heard air)) →
@@ -235,21 +236,21 @@ fn end_values(exchange: u64, heard: bool, air: Option<u32>) -> ArrayVec<Value, 6
     }
 }
 
-// A call that carries no frame.
+// A call that brings no frame.
 fn asked(ask: Ask) -> Option<Note>
     ensures { result ≡ Some (Asked ask) }
 {
     Some(Note::Asked(ask))
 }
 
-// A rate of a station.
+// A Rate call.
 fn rated(station: u16, rate: AskedRate) -> Note
     ensures { result ≡ Asked (Rate station rate) }
 {
     Note::Asked(Ask::Rate { station, rate })
 }
 
-// An end of an exchange.
+// A Done call.
 fn ended(exchange: u64, heard: bool, air: Option<u32>) -> Note
     ensures { result ≡ Asked (Done exchange heard air) }
 {
@@ -260,7 +261,7 @@ fn ended(exchange: u64, heard: bool, air: Option<u32>) -> Note
     })
 }
 
-// A station joins.
+// The Join call with these values.
 fn join(values: &[Value]) -> Option<Note>
     ensures { result ≡ note_made CallForm.Join values.now }
 {
@@ -283,7 +284,7 @@ fn join(values: &[Value]) -> Option<Note>
     }))
 }
 
-// A rate of HT.
+// The Rate call with the values of an HT rate.
 fn ht(values: &[Value]) -> Option<Note>
     ensures { result ≡ note_made CallForm.Rate values.now }
 {
@@ -306,7 +307,7 @@ fn ht(values: &[Value]) -> Option<Note>
     ))
 }
 
-// A rate of VHT.
+// The Rate call with the values of a VHT rate.
 fn vht(values: &[Value]) -> Option<Note>
     ensures { result ≡ note_made CallForm.RateVht values.now }
 {
@@ -332,7 +333,7 @@ fn vht(values: &[Value]) -> Option<Note>
     ))
 }
 
-// A rate of HE.
+// The Rate call with the values of an HE rate.
 fn he(values: &[Value]) -> Option<Note>
     ensures { result ≡ note_made CallForm.RateHe values.now }
 {
@@ -358,7 +359,7 @@ fn he(values: &[Value]) -> Option<Note>
     ))
 }
 
-// A transmission reached its station.
+// The Arrive call with these values.
 fn arrive(values: &[Value]) -> Option<Note>
     ensures { result ≡ note_made CallForm.Arrive values.now }
 {
@@ -371,7 +372,7 @@ fn arrive(values: &[Value]) -> Option<Note>
     }))
 }
 
-// An exchange ends.
+// The Done call with these values, which include no airtime.
 fn done(values: &[Value]) -> Option<Note>
     ensures { result ≡ note_made CallForm.Done values.now }
 {
@@ -381,7 +382,7 @@ fn done(values: &[Value]) -> Option<Note>
     Some(ended(*exchange, *heard, None))
 }
 
-// An exchange ends, with its airtime.
+// The Done call with these values, which include an airtime.
 fn done_air(values: &[Value]) -> Option<Note>
     ensures { result ≡ note_made CallForm.DoneAir values.now }
 {
@@ -397,7 +398,7 @@ fn done_air(values: &[Value]) -> Option<Note>
     Some(ended(*exchange, *heard, Some(*air)))
 }
 
-// A station used airtime to send.
+// The Rx call with these values.
 fn rx(values: &[Value]) -> Option<Note>
     ensures { result ≡ note_made CallForm.Rx values.now }
 {

@@ -1,4 +1,4 @@
--- What the steps of a turn, the dealing and the gathering say of seats as contracts see them.
+-- Derives the clauses about seats, as contracts see them, from the steps of a turn, the split and the join.
 use Rattle.std.proofs.Common.{◌≡◌, ℕ, ◌<◌, ◌≤◌, List, [], ◌∷◌, ◌++◌, length, get_or, drop, Option, Some, None, refl, sym, ap, ◌∙◌, subst, ⊎_elim, arith}
 use Rattle.std.specs.Prelude.{All, EachIndex, slice_get}
 use mathlib.Core.Option.{some}
@@ -30,7 +30,7 @@ module _ {M N T : Type 0} (past : M → List (ℕ × N)) (settings : M → T) (s
       (sym (after ∙ ap (λ (z : Me (Option M) (View M N)). (after_turn z.0 e, [])) turn.4))
       (prefix_push v.face.seen turn.0 (e ∷ []) turn.3)
 
-  -- and all that it has seen are calls of seats
+  -- every caller in the entries that the seat has seen is a seat
   pub sees_seats : (ticket : ℕ) (v : View M N) (m m' : Me (Option M) (View M N)) (e : ℕ × N) →
       HasTurn past settings spare o ticket v m → m' ≡ (after_turn m.0 e, []) → e.0 < length o.quotas
       → All (λ (x : ℕ × N). x.0 < length o.quotas) m'.0.face.seen
@@ -41,7 +41,7 @@ module _ {M N T : Type 0} (past : M → List (ℕ × N)) (settings : M → T) (s
       (λ k x d. ⊎_elim (λ (t : get_elem? turn.0 k ≡ some x). turn.6 k x t)
       (λ (t : e ≡ x). subst (λ (z : ℕ × N). z.0 < length o.quotas) t mine) (at_snoc turn.0 e x k d)))
 
-  -- the machine's history is the opening history and what was made since
+  -- the machine's history is the opening history followed by the entries made since
   pub ends_since : (table : TableId) (faces : List (Face N)) (m : M) → GateEnds past settings o faces m →
       let h = made_since past (record { table = table; opening = o }) m in
       (past m ≡ past o.machine ++ h) × (settings m ≡ settings o.machine) × AllSeats o h ×
@@ -54,7 +54,7 @@ module _ {M N T : Type 0} (past : M → List (ℕ × N)) (settings : M → T) (s
       AllSeats o h × ((i : ℕ) (f : Face N) → get_elem? faces i ≡ some f → IsInGate h f)) (sym same)
       (e.1, e.2, e.3, e.4)
 
--- a seat with calls left has its number within the quotas
+-- a seat with calls left has a number below the number of quotas
 pub mine_inside : (quotas : List ℕ) (number quota used : ℕ) → quota ≡ get_or quotas number 0 → used < quota →
     number < length quotas
 mine_inside quotas number quota used is less = inside quotas number (omega arith)
@@ -97,7 +97,7 @@ module _ {M N : Type 0} where
       opening_is : (a b : Opening M) → Some a ≡ Some b → a ≡ b
       opening_is a b e = cc
 
-  -- the seats of a new gate, each by its number
+  -- the seats of a new gate, by number
   pub each_new : (g : GateView M) (seats : List (SeatView M N)) (quotas : List ℕ) →
       length seats ≡ length quotas → ((k : ℕ) (s : SeatView M N) → get_elem? seats k ≡ some s →
       s ≡ new_seat g k)
@@ -111,7 +111,7 @@ module _ {M N : Type 0} where
       p.me.0.face ≡ face_of (view_of number quota used p)
   face_is number quota used p a = ap (λ (n : ℕ). record p.me.0.face { number = n }) (sym a.numbered)
 
-  -- what holds of each face that the view has, and so of each seat that is recorded
+  -- a fact about each face in the view holds for each seat that is recorded in it
   module _ (v : View M N) (seats : List (SeatView M N)) (h : List (ℕ × N))
       (recorded : (k : ℕ) (s : SeatView M N) → get_elem? seats k ≡ some s → IsRecorded s v)
       (each : (i : ℕ) (f : Face N) → get_elem? (faces_of v) i ≡ some f → IsInGate h f) where
@@ -128,7 +128,7 @@ module _ {M N : Type 0} where
         (λ k s at. let r = recorded k s at in all_of (λ (look : ℕ × ℕ). look.1 ≤ length h) s.looks
         (each r.0 (face_of s) r.1).2)
 
-  -- where all seats are recorded, each number has its face
+  -- if all seats are recorded, the view has a face for each number
   pub all_faces : (g : GateView M) (v : View M N) (seats : List (SeatView M N)) → AreAll g seats →
       ((k : ℕ) (s : SeatView M N) → get_elem? seats k ≡ some s → IsRecorded s v)
       → (n : ℕ) → n < length g.opening.quotas → (i : ℕ) × (f : Face N) × (get_elem? (faces_of v) i ≡ some f) ×
@@ -137,13 +137,13 @@ module _ {M N : Type 0} where
       let a = all n l in
       let r = recorded a.0 a.1 (at_here seats a.0 a.1 a.2 ∙ ap some a.3) in (r.0, face_of a.1, r.1, a.4)
 
-  -- and there is a seat
+  -- and there is at least one seat
   pub some_seat : (g : GateView M) (seats : List (SeatView M N)) → AreAll g seats →
       0 < length g.opening.quotas → 0 < length seats
   some_seat g seats all l = let a = all 0 l in let k : ℕ = a.0 in let b : k < length seats = a.2 in
       omega arith
 
--- what a closed gate leaves
+-- the machine after the gate is closed
 pub record Closed {M N T : Type 0} (past : M → List (ℕ × N)) (settings : M → T) (g : GateView M)
     (seats : List (SeatView M N)) (m : M) : Type 0 where
   pub settled : settings m ≡ settings g.opening.machine
@@ -164,7 +164,7 @@ module _ {M N T : Type 0} (past : M → List (ℕ × N)) (settings : M → T) (s
   ended op idle all recorded end = closes past settings spare g.opening id v ws xs op idle
       (all_faces g v seats all recorded) end
 
-  -- the machine is there
+  -- the slot contains the machine
   pub not_out : (g' : GateView M) (x : Option M) → g ≡ g' → v.opening ≡ Some g.opening → v.stage ≡ Idle →
       AreAll g' seats → ((k : ℕ) (s : SeatView M N) → get_elem? seats k ≡ some s → IsRecorded s v)
       → Final (Seen (Kept past settings spare g.opening) id v) ws xs → get_elem? xs 0 ≡ some x → x ≡ None → ⊥

@@ -1,5 +1,5 @@
--- For callers, over the public clauses alone: new seats are all seats of their gate, seats that come back
--- still are, and a seat's own entries are its calls.
+-- Facts for callers, which use only the public clauses: new seats are all seats of their gate, seats that are
+-- put back still are, and a seat's own entries are its calls.
 use Rattle.std.proofs.Common.{◌≡◌, ℕ, zero, suc, ◌<◌, List, [], ◌∷◌, ◌++◌, length, get_or, refl, sym, ap, ◌∙◌, subst, arith, length-append, Some}
 use Rattle.std.specs.Prelude.{All, EachIndex, slice_get}
 use mathlib.Core.Option.{some}
@@ -12,7 +12,7 @@ use Rattle.wf_gate.specs.Pairs.{IsPair}
 use Rattle.wf_gate.specs.Seats.{GateView, SeatView, IsOf, new_seat, AreAll, EndsWith, last_place, StandsWithCalls}
 
 module _ {M N : Type 0} (g : GateView M) where
-  -- the seats of a new gate are seats of it, and all of them
+  -- the seats of a new gate belong to it, and are all of its seats
   module _ (seats : List (SeatView M N)) (quotas : List ℕ) (count : length seats ≡ length quotas)
       (new : EachIndex quotas (λ k. slice_get seats k ≡ Some (new_seat g k))) where
     pub new_of : All (IsOf g) seats
@@ -29,7 +29,7 @@ module _ {M N : Type 0} (g : GateView M) where
       refl,
     )
 
-  -- seats with the same numbers are all seats too
+  -- other seats with the same numbers are all seats, too
   pub all_again : (seats seats' : List (SeatView M N)) → length seats' ≡ length seats →
       ((k : ℕ) (d d' : SeatView M N) → k < length seats →
       (get_or seats' k d').number ≡ (get_or seats k d).number) → AreAll g seats → AreAll g seats'
@@ -52,7 +52,7 @@ module _ {M N : Type 0} (g : GateView M) where
       here (x ∷ xs) (suc k) d l = here xs k d (omega arith)
 
 module _ {A : Type 0} where
-  -- two elements that were taken from the end are the whole list
+  -- a list of two elements is the two that were popped from it
   pub popped_two : (items rest last : List A) (a b : A) → items ≡ rest ++ b ∷ [] → rest ≡ last ++ a ∷ [] →
       length items ≡ 2 → items ≡ a ∷ b ∷ []
   popped_two items rest [] a b is more two = is ∙ ap (λ l. l ++ b ∷ []) more
@@ -89,7 +89,7 @@ module _ {N : Type 0} (number : ℕ) where
   calls_push xs [] (y ∷ ns) p x at r = absurd r
   calls_push xs (q ∷ ps) [] p x at r = absurd r
 
-  -- one call more, as `call` and `try_call` state it
+  -- one more call, by the clauses of `call` and `try_call`
   pub calls_more : (caller : ℕ) (seen seen' : List (ℕ × N)) (own own' : List ℕ) (notes : List N) (note : N) →
       caller ≡ number → IsPrefix seen seen' → EndsWith seen' (caller, note) →
       own' ≡ own ++ last_place seen' ∷ []
@@ -105,7 +105,7 @@ module _ {N : Type 0} (number : ℕ) where
       (get_at seen' (last_place seen') (number, note) at)
       (calls_longer seen seen' own notes further calls))
 
--- for a gate of two seats
+-- the same facts for a gate of two seats
 module _ {M N : Type 0} (g : GateView M) where
   pub pair_new : (quotas : List ℕ) (items rest last : List (SeatView M N)) (a b : SeatView M N) →
       g.opening.quotas ≡ quotas → length quotas ≡ 2 → length items ≡ length quotas →

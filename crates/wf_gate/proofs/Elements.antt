@@ -1,4 +1,4 @@
--- Elements of a list, as `get_elem?`, `slice_get` and `All` read them.
+-- Proves how `get_elem?`, `slice_get` and `All` agree on the elements of a list.
 use Rattle.std.proofs.Common.{◌≡◌, ℕ, zero, suc, ◌<◌, List, [], ◌∷◌, get_or, length, refl, sym, ap, subst, arith}
 use Rattle.std.specs.Prelude.{All, Some, slice_get}
 use mathlib.Core.Option.{some, some-injective, some-ne-none}

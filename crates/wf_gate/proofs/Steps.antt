@@ -1,4 +1,5 @@
--- Each step of the gate keeps its rule.
+-- Proves that each step on the gate's table keeps its rule, by cases of the step. Tickets are drawn one by
+-- one and served in order, so at most one seat has its turn, and the slot is with that seat or in the table.
 use Rattle.std.proofs.Common.{◌≡◌, ◌≢◌, ◌⊎◌, ℕ, zero, suc, ◌+◌, ◌%◌, ◌^◌, ◌<◌, ◌≤◌, Bool, true, false, true≢false, eqb, List, [], ◌∷◌, ◌++◌, length, get_or, set, drop, map, zero-add, Option, Some, None, refl, sym, ap, ◌∙◌, subst, inl, inr, ⊎_elim, arith, length-append, eq-eqb, ne_eqb}
 use Rattle.std.specs.Prelude.{sum, ltb}
 use mathlib.Core.Logic.{dite}
@@ -53,7 +54,7 @@ module _ {M N T : Type 0} (past : M → List (ℕ × N)) (settings : M → T) (s
   fits : (h : H) (line : List ℕ) (v : V) → v.opening ≡ Some o → Sits o h line v → Fits o h line v
   fits h line v is f = subst (λ (z : Option (Opening M)). FitsIf o h line z v) (sym is) (refl, f)
 
-  -- who has a turn was not spent
+  -- a seat that has its turn was not joined into another
   turn_sits : (h : H) (line : List ℕ) (v : V) (z : Option (Opening M)) → has_turn v.stage ≡ true →
       FitsIf o h line z v → (z ≡ Some o) × Sits o h line v
   turn_sits h line v (Some p) turn f = (ap Some f.0, f.1)
@@ -85,7 +86,7 @@ module _ {M N T : Type 0} (past : M → List (ℕ × N)) (settings : M → T) (s
       let here : 0 < times n v.give = times_at n v.give k at in
       omega (arith, times-append n (map face_number v.records) v.give)
 
-  -- a number belongs to one view
+  -- each seat number belongs to exactly one view
   apart : (s : St) (r : Rule s) (i j : ℕ) (v w : V) (n : ℕ) → get_elem? s.views i ≡ some v →
       get_elem? s.views j ≡ some w → 0 < times n (numbers v) → 0 < times n (numbers w) → j ≡ i
   apart s r i j v w n e d a b = dite (ℕ_discrete j i) (λ same. same)
@@ -168,7 +169,7 @@ module _ {M N T : Type 0} (past : M → List (ℕ × N)) (settings : M → T) (s
       ap (λ (z : V). has_turn z.stage) (sym t.1) ∙ mine)
       (λ (t : (j ≢ id) × (get_elem? vs j ≡ some v)). others j v t.0 t.1) (at_set vs id j w v e)
 
-  -- a step of a seat with no turn before or after leaves the slot as it is
+  -- a step of a seat that has no turn, before or after, does not change the slot
   slot_stays : (h : H) (s : St) (ws : List ℕ) (id : ℕ) (v w : V) → get_elem? s.views id ≡ some v →
       has_turn v.stage ≡ false → has_turn w.stage ≡ false → Home past settings spare o h s ⊎ Out s
       → Home past settings spare o h record { words = ws; homes = s.homes; views = set s.views id w } ⊎
@@ -193,7 +194,7 @@ module _ {M N T : Type 0} (past : M → List (ℕ × N)) (settings : M → T) (s
         ),
       )) slot
 
-  -- a view's own number is not among those of its records, nor among those that it may give
+  -- a view's own number is not among those of its records, nor among those that it may give away
   twice : (s : St) (r : Rule s) (id : ℕ) (v : V) → v.opening ≡ Some o → get_elem? s.views id ≡ some v →
       times v.face.number (map face_number v.records ++ v.give) ≡ 0
   twice s r id v op at = let one : one_if (eqb v.face.number v.face.number) ≡ 1 =
@@ -228,7 +229,7 @@ module _ {M N T : Type 0} (past : M → List (ℕ × N)) (settings : M → T) (s
         twice s r id v op at,
       ))
 
-  -- The seat with the view v, which holds no ticket and has a call left, draws the next
+  -- A seat with the view v, which has no ticket and a call left, draws the next ticket.
   module _ (s : St) (r : Rule s) (id : ℕ) (v : V) (op : v.opening ≡ Some o) (idle : v.stage ≡ Idle)
       (room : length v.face.own < get_or o.quotas v.face.number 0) (at : get_elem? s.views id ≡ some v) where
     abbrev more : List ℕ
@@ -328,7 +329,7 @@ module _ {M N T : Type 0} (past : M → List (ℕ × N)) (settings : M → T) (s
         ap (λ (z : ℕ). (waiting v z, me.1)) (sym found),
       )
 
-  -- who stands first in line
+  -- the seat that is first in line
   turn_first : (h : H) (line : List ℕ) (f : Face N) (st : Stage) → has_turn st ≡ true → InLine o h line f st →
       get_elem? line (length h) ≡ some f.number
   turn_first h line f Idle turn k = absurd (true≢false (sym turn))
@@ -365,7 +366,7 @@ module _ {M N T : Type 0} (past : M → List (ℕ × N)) (settings : M → T) (s
   ticket_of (Served t) = t
   ticket_of Idle = 0
 
-  -- the turn of the ticket t came by: the seat has seen h, and has the machine
+  -- ticket t is served: the seat has seen h, and has the machine
   face_seen : (h : H) (line : List ℕ) (extra : ℕ) (f : Face N) → FaceFits o h line extra f →
       FaceFits o h line extra (record f { seen = h })
   face_seen h line extra f k = record {
@@ -462,7 +463,7 @@ module _ {M N T : Type 0} (past : M → List (ℕ × N)) (settings : M → T) (s
             ((λ hit. absurd (miss (hit ∙ sym same))), (λ _. refl)),
       ))
 
-  -- a load of serving by a seat that has no ticket
+  -- a seat without a ticket loads the serving word
   pub peeks : (slots id : ℕ) (me : Me (Option M) V) → me.0.opening ≡ Some o → me.0.stage ≡ Idle →
       length me.0.face.own < get_or o.quotas me.0.face.number 0
       → Allows Rule slots id me 1 (λ n. n) (peeked (step slots 1 0 0 none) me)
@@ -501,7 +502,7 @@ module _ {M N T : Type 0} (past : M → List (ℕ × N)) (settings : M → T) (s
         (refl, (let front = k.face.seen in omega (arith, length_prefix v.face.seen h front)), omega arith),
       )
 
-  -- the exchange of the ticket word, which takes the slot with the ticket
+  -- the exchange of the ticket word, which draws the ticket and takes the slot
   pub tries : (slots id : ℕ) (me : Me (Option M) V) (old new : ℕ) → me.0.opening ≡ Some o →
       me.0.stage ≡ Idle → length me.0.face.own < get_or o.quotas me.0.face.number 0 → me.0.read ≡ Some old →
       new ≡ old + 1
@@ -721,7 +722,7 @@ module _ {M N T : Type 0} (past : M → List (ℕ × N)) (settings : M → T) (s
       no_turn (Waits t) not = refl
       no_turn (Served t) not = absurd (not refl)
 
-  -- a new seat's number is the first that may be given
+  -- a new seat's number is the first that may be given away
   pub splits : (id : ℕ) (v : V) (g : ℕ) (gs : List ℕ) → v.opening ≡ Some o → v.stage ≡ Idle →
       v.give ≡ g ∷ gs → Splits Rule id v (deal_left v) (deal_right v)
   splits id v g gs op idle has s r at =
@@ -817,7 +818,7 @@ module _ {M N T : Type 0} (past : M → List (ℕ × N)) (settings : M → T) (s
             middle;
       }
 
-  -- one seat takes in the other, as a record beside those that it has
+  -- one seat takes in another, as a record
   pub joins : (id : ℕ) (v : V) (other : ℕ) (w : V) → v.opening ≡ Some o → v.stage ≡ Idle →
       w.opening ≡ Some o → w.stage ≡ Idle → Joins Rule id v other w (joined v w) spent
   joins id v other w op idle op' idle' s r at differ there =
@@ -902,16 +903,16 @@ module _ {M N T : Type 0} (past : M → List (ℕ × N)) (settings : M → T) (s
   held_or d [] = d
   held_or d (x ∷ xs) = value_or d x.1
 
-  -- who has its turn at the ticket t has its turn
+  -- HasTurn implies AtTurn
   pub takes_turn : (t : ℕ) (v : V) (m : Me (Option M) V) → HasTurn past settings spare o t v m →
       AtTurn past settings spare o m
   takes_turn t v m k = subst (AtTurn past settings spare o) (sym k.4) (t, refl, (k.1, refl, k.5), k.7)
 
-  -- the same seat, once it has left x in the slot
+  -- the same seat after x was written to the slot
   abbrev leaving : Me (Option M) V → M → Me (Option M) V
   leaving p x = (p.0, (0, Some x) ∷ rest p.1)
 
-  -- at its turn a seat was lent the slot, with x in it, and left x' there
+  -- a seat that has its turn borrowed the slot with x in it, and left x' there
   pub lent : (p : Me (Option M) V) (r : Option M) (x x' : M) → p.1 ≡ (0, r) ∷ rest p.1 →
       AtTurn past settings spare o p → r ≡ Some x
       → (leaving p x' ≡ (p.0, (0, Some x') ∷ [])) × IsAt past settings spare o p.0.face.seen x × (0 < spare x)
@@ -1037,7 +1038,7 @@ module _ {M N T : Type 0} (past : M → List (ℕ × N)) (settings : M → T) (s
         ),
       )
 
-  -- the same of the value that was taken out
+  -- the same for the value that was taken out of the slot
   pub ends_with : (faces : List (Face N)) (xs : List (Option M)) (x : Option M) (y : M) →
       get_elem? xs 0 ≡ some x → x ≡ Some y → (m : M) × (get_elem? xs 0 ≡ some (Some m)) ×
       GateEnds past settings o faces m → GateEnds past settings o faces y

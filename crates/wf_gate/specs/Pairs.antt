@@ -1,4 +1,4 @@
--- For tests: a gate of two seats.
+-- Defines, for tests, that two seats are all seats of a gate.
 use Rattle.std.specs.Prelude.{◌≡◌, length}
 use Rattle.wf_gate.specs.Seats.{GateView, SeatView, IsOf}
 

@@ -1,4 +1,4 @@
--- What the steps of a turn say of the pass that makes them.
+-- Defines the conditions on a pass (the token of a seat) before and after each step of a turn.
 use Rattle.std.specs.Prelude.{◌≡◌, ℕ, ◌<◌, ◌≤◌, List, [], ◌∷◌, ◌++◌, length, Option, Some, slice_index_or}
 use mathlib.Core.Option.{some}
 use mathlib.Core.List.{IsPrefix}
@@ -17,7 +17,7 @@ abbrev pub IsTableSized : TableId → Type 0
 IsTableSized z = (z.words ≡ 2) × (z.slots ≡ 1)
 
 module _ {M N : Type 0} where
-  -- the pass is one of the table z, with this opening
+  -- p is a pass of the table z, with the opening o
   abbrev pub IsPassOf : TableId → Opening M → Seat (Option M) (View M N) → Type 0
   IsPassOf z o p = (p.table_id ≡ z) × (p.me.0.opening ≡ Some o)
 
@@ -26,13 +26,14 @@ module _ {M N : Type 0} where
   MayDraw o f = length f.own < slice_index_or o.quotas f.number 0
 
 module _ {M N T : Type 0} (past : M → List (ℕ × N)) (settings : M → T) (spare : M → ℕ) where
-  -- the seat whose view was v has seen h, and has the machine as the entries h left it
+  -- the seat, whose view was v, has its turn with ticket t: it has seen the history h, and has the machine y
+  -- after h
   abbrev pub HasTurn : Opening M → ℕ → View M N → Me (Option M) (View M N) → Type 0
   HasTurn o t v m = (h : List (ℕ × N)) × (y : M) × (read : Option ℕ) × IsPrefix v.face.seen h ×
       (m ≡ (at_turn v t read h, (0, Some y) ∷ [])) × IsAt past settings spare o h y × AllSeats o h ×
       (length h < spare o.machine)
 
-  -- the same of a pass, of which only its own state is known
+  -- the same, for a pass whose earlier view is not known
   abbrev pub AtTurn : Opening M → Me (Option M) (View M N) → Type 0
   AtTurn o m = (t : ℕ) × (m.0.stage ≡ Served t) ×
       ((y : M) × (m.1 ≡ (0, Some y) ∷ []) × IsAt past settings spare o m.0.face.seen y) ×
@@ -41,13 +42,13 @@ module _ {M N T : Type 0} (past : M → List (ℕ × N)) (settings : M → T) (s
 abbrev pub with_read : {M N : Type 0} → View M N → Option ℕ → View M N
 with_read v read = record v { read = read }
 
--- h is what was done at the gate: a seat has seen its beginning, has made its own entries in it, and found no
--- ticket past it
+-- h is the history since the gate was made: the seat has seen a prefix of it, its own entries are those of
+-- its number, and each ticket that it found is at most the length of h
 abbrev pub IsInGate : {N : Type 0} → List (ℕ × N) → Face N → Type 0
 IsInGate h f = IsPrefix f.seen h × (f.own ≡ places f.number 0 h) ×
     ((k : ℕ) (p : ℕ × ℕ) → get_elem? f.looks k ≡ some p → p.1 ≤ length h)
 
--- what is known of the machine once the seats with these faces are back
+-- the machine m after the gate is closed, when the seats with these faces were joined
 abbrev pub GateEnds : {M N T : Type 0} → (M → List (ℕ × N)) → (M → T) → Opening M → List (Face N) → M → Type 0
 GateEnds {M} {N} past settings o faces m = (h : List (ℕ × N)) × (past m ≡ past o.machine ++ h) ×
     (settings m ≡ settings o.machine) × AllSeats o h ×

@@ -1,4 +1,4 @@
--- What contracts see of a gate and its seats, and the facts that they state of them.
+-- Defines what contracts see of a gate and its seats, and the conditions that they state.
 use Rattle.std.specs.Prelude.{◌≡◌, ℕ, ◌-◌, ◌<◌, ◌≤◌, List, [], ◌∷◌, ◌++◌, length, take, drop, Option, Some, None, slice_get, slice_index_or, All, Any, EachIndex}
 use mathlib.Core.Option.{some}
 use lib.ListN.{get_elem?}
@@ -12,43 +12,43 @@ use Rattle.wf_gate.specs.declared.view.Stage.{Stage}
 use Rattle.wf_gate.specs.declared.view.Stage.TheVariants.{Idle}
 use Rattle.wf_gate.specs.Turns.{places, faces_of, opening_of}
 
--- A gate is known by its table, which no other gate has. Its opening is the machine as it was when the gate
--- was made, and the quotas by seat number
+-- A gate is identified by its table. Its opening is the machine at the moment when the gate was made, and the
+-- quotas by seat number.
 pub record GateView (M : Type 0) : Type 0 where
   pub table : TableId
   pub opening : Opening M
 
--- A seat. An entry is its caller's number and its call's note
+-- A seat. An entry is a caller's number and the note of its call.
 pub record SeatView (M N : Type 0) : Type 0 where
-  -- the gate that it is of, which is known by its table, and that gate's opening
+  -- the table and the opening of the seat's gate
   pub table : TableId
   pub opening : Option (Opening M)
   pub number : ℕ
-  -- how many calls it may make, and how many it has made
+  -- how many calls the seat may make, and how many it has made
   pub quota : ℕ
   pub used : ℕ
-  -- the entries made since the gate was made, as far as it has seen them
+  -- the entries made since the gate was made, as far as the seat has seen them
   pub seen : List (ℕ × N)
-  -- the places in `seen` of its own calls, rising
+  -- the indices in `seen` of the seat's own calls, in rising order
   pub own : List ℕ
-  -- of each of its tries that found no turn, the number that it read from serving and the ticket that it
-  -- found
+  -- for each try that did not get a turn: the number loaded from the serving word, and the ticket that the
+  -- exchange found
   pub looks : List (ℕ × ℕ)
-  -- whether it has a ticket or its turn
+  -- whether the seat has a ticket, and whether its ticket is served
   pub stage : Stage
-  -- the number that it last loaded from serving and has not spent yet
+  -- the number last loaded from the serving word, if no step has used it yet
   pub read : Option ℕ
 
--- the gate that is the table with this key
+-- the view of the gate whose table has this key
 abbrev pub gate_of : {M : Type 0} → TableId → Key M → GateView M
 gate_of table key = record { table = table; opening = opening_of key }
 
--- the gate's opening: this machine and these quotas
+-- an opening with this machine and these quotas
 abbrev pub gate_opened : {M : Type 0} → M → List ℕ → Opening M
 gate_opened machine quotas = record { machine = machine; quotas = quotas }
 
 module _ {M N : Type 0} where
-  -- the seat with this number, quota and count of calls, that steps by this pass
+  -- the view of a seat with this number, quota and count of calls, whose pass is p
   abbrev pub view_of : ℕ → ℕ → ℕ → Seat (Option M) (View M N) → SeatView M N
   view_of number quota used p = record {
     table = p.table_id;
@@ -63,8 +63,8 @@ module _ {M N : Type 0} where
     read = p.me.0.read;
   }
 
-  -- true of every seat: it has no ticket, no turn, no number read and no slot, and it counts its calls, which
-  -- are no more than its quota
+  -- the invariant of a seat: it has no ticket, no number read and no slot; its count is that of its own
+  -- calls, and does not exceed its quota
   pub record IsAtGate (number quota used : ℕ) (p : Seat (Option M) (View M N)) : Type 0 where
     pub numbered : number ≡ p.me.0.face.number
     pub counted : used ≡ length p.me.0.face.own
@@ -74,19 +74,19 @@ module _ {M N : Type 0} where
     pub unread : p.me.0.read ≡ None
     pub free : p.me.1 ≡ []
 
-  -- what a seat has seen and done
+  -- the face of a seat: its number, its calls, and the entries that it has seen
   abbrev pub face_of : SeatView M N → Face N
   face_of s = record { number = s.number; seen = s.seen; own = s.own; looks = s.looks }
 
-  -- the view has the face of the seat s, as its own or in a record
+  -- the view v contains the face of the seat s, as its own or in a record
   abbrev pub IsRecorded : SeatView M N → View M N → Type 0
   IsRecorded s v = (i : ℕ) × (get_elem? (faces_of v) i ≡ some (face_of s))
 
-  -- the seat is one of this gate
+  -- the seat s belongs to the gate g
   abbrev pub IsOf : GateView M → SeatView M N → Type 0
   IsOf g s = (s.table ≡ g.table) × (s.opening ≡ Some g.opening)
 
-  -- the seat k of a new gate: with its quota, and three empty lists
+  -- seat k of a new gate: it has its quota, has made no call and seen no entry
   abbrev pub new_seat : GateView M → ℕ → SeatView M N
   new_seat g k = record {
     table = g.table;
@@ -103,30 +103,30 @@ module _ {M N : Type 0} where
         None;
   }
 
-  -- of each seat number, the seat is among these
+  -- for each seat number of the gate, these seats include the one with that number
   abbrev pub AreAll : GateView M → List (SeatView M N) → Type 0
   AreAll g seats = EachIndex g.opening.quotas (λ n. Any (λ s. s.number ≡ n) seats)
 
-  -- it is the same seat of the same gate, with the same quota
+  -- the same seat of the same gate, with the same quota
   pub record IsSameSeat (old new : SeatView M N) : Type 0 where
     pub table : new.table ≡ old.table
     pub opening : new.opening ≡ old.opening
     pub number : new.number ≡ old.number
     pub quota : new.quota ≡ old.quota
 
-  -- it has no ticket, no turn and no number read
+  -- the seat has no ticket, no turn and no number read
   abbrev pub IsAtRest : SeatView M N → Type 0
   IsAtRest s = (s.stage ≡ Idle) × (s.read ≡ None)
 
-  -- each entry's caller is a seat's number
+  -- the caller of each entry is the number of a seat
   abbrev pub AreOfSeats : GateView M → List (ℕ × N) → Type 0
   AreOfSeats g entries = All (λ e. e.0 < length g.opening.quotas) entries
 
--- the places of the entries of the seat with this number
+-- the indices of the entries of the seat with this number
 abbrev pub places_of : {N : Type 0} → ℕ → List (ℕ × N) → List ℕ
 places_of number entries = places number 0 entries
 
--- at these places of the entries stand the calls with these notes of the seat with this number, in order
+-- the entries at these indices are calls of the seat with this number, with these notes, in order
 abbrev pub StandsWithCalls : {N : Type 0} → ℕ → List (ℕ × N) → List ℕ → List N → Type 0
 StandsWithCalls number entries [] [] = Unit {0}
 StandsWithCalls number entries (place ∷ places) (note ∷ notes) =
@@ -140,13 +140,13 @@ EndsWith {A} entries e = (before : List A) × (entries ≡ before ++ e ∷ [])
 abbrev pub last_place : {A : Type 0} → List A → ℕ
 last_place entries = length entries - 1
 
--- the reply to the call is right at this place of the entries: for the opening settings, and the opening
--- history with the entries before the place
+-- the reply to the call is right at this index of the entries: right for the opening settings, after the
+-- opening history followed by the entries before the index
 abbrev pub IsRightAt : {M N T C A : Type 0} → (M → List (ℕ × N)) → (M → T) →
     (T → List (ℕ × N) → ℕ → C → A → Type 0) → GateView M → List (ℕ × N) → ℕ → ℕ → C → A → Type 0
 IsRightAt past settings right g entries place caller call reply =
     right (settings g.opening.machine) (past g.opening.machine ++ take place entries) caller call reply
 
--- the entries of the machine's history that were made since the gate was made
+-- the part of the machine's history that was made since the gate was made
 abbrev pub made_since : {M N : Type 0} → (M → List (ℕ × N)) → GateView M → M → List (ℕ × N)
 made_since past g m = drop (length (past g.opening.machine)) (past m)

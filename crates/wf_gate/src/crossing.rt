@@ -1,4 +1,5 @@
-//! Threads may share a gate, and each may take a seat, at every machine that may be sent to a thread.
+//! Compile-time checks: threads may share a `Gate`, and a `Seat` may be sent to another thread, if the
+//! machine may be sent to another thread.
 use crate::gate::Gate;
 use crate::seat::Seat;
 use wf_machine::Machine;

@@ -1,4 +1,4 @@
-//! How the first seat of a table is cut into all seats, and how they are joined again.
+//! Splits the first seat of a table into all seats of a gate, and joins them again.
 ghost use Rattle.std.specs.Prelude.{◌≡◌, ℕ, Some, ◌<◌, ◌≤◌, [], length, vec_capacity};
 ghost use mathlib.Core.Option.{some};
 ghost use lib.ListN.{get_elem?};
@@ -12,7 +12,8 @@ use crate::seat::{Seat, SeatOf};
 use crate::view::{Pass, Shared};
 use wf_machine::Machine;
 
-/// Cuts the first seat into one for each quota. The last is what is left of the first.
+/// Splits the first seat into one seat for each quota. The last seat of the result is the remainder of the
+/// first.
 pub(crate) fn deal<M: Machine + Drop>(
     shared: &Shared<M>,
     mut first: Pass<M>,

@@ -1,4 +1,4 @@
-//! The gate and its calls.
+//! The gate, its blocking call, and its end.
 ghost use Rattle.std.specs.Prelude.{◌≡◌, ◌+◌, ◌<◌, ◌≤◌, ◌∷◌, [], ◌++◌, length, sum, All, EachIndex, slice_get, Some, IfOk, IfErr, OnOk, OnErr};
 ghost use mathlib.Core.List.{IsPrefix};
 ghost use Rattle.wf_gate.specs.Seats.{IsOf, IsSameSeat, IsAtRest, new_seat, AreAll, EndsWith, last_place, AreOfSeats, IsRightAt, places_of, made_since, gate_opened};
@@ -14,8 +14,8 @@ use std::snapshot::Snapshot;
 use std::sync::Wait;
 use wf_machine::Machine;
 
-/// A gate before a machine. Contracts see it as a `GateView`: which gate it is, the machine as it was when
-/// the gate was made, and the quotas.
+/// A ticket gate in front of a machine that many threads share. Contracts see it as a `GateView`: an
+/// identity, the machine at the moment when the gate was made, and the quotas.
 #[derive(Drop)]
 pub struct Gate<M: Machine> {
     pub(crate) table: Table<Option<M>, View<M, M::Note>, Key<M>, Turns<M>, Global>,
@@ -34,20 +34,23 @@ impl<M: Machine> Model for Gate<M> {
         (0 < length g.table.shared.key.quotas.items) };
 }
 
-/// The seat's quota is used up.
+/// The refusal of a call whose seat has used up its quota.
 #[derive(Debug, Drop)]
 pub struct Spent;
 
 impl<M: Machine + Drop> Gate<M> {
-    /// A gate before the machine, and its seats in the order of their numbers. A list of 2^32 quotas or more,
-    /// which has no numbers for its seats, is answered as want of memory. After that the machine is dropped.
+    /// Returns a gate in front of `machine`, and its seats: seat `k` has number `k` and may make `quotas[k]`
+    /// calls. The sum of the quotas must not exceed the number of calls that the machine still takes.
+    ///
+    /// Fails with `AllocError` if memory runs out, and for 2^32 quotas or more, since a seat's number has 32
+    /// bits. The machine is then dropped.
     pub fn new(
         alloc: Global,
         machine: M,
         quotas: &[u32],
     ) -> Result<(Gate<M>, Vec<Seat<M>>), AllocError>
         requires some { 0 < length quotas.now }
-        requires room { sum quotas.now ≤ M.room machine }
+        requires room { sum quotas.now ≤ M.calls_left machine }
         ensures opening { IfOk result (λ r. r.0.opening ≡ gate_opened machine quotas.now) }
         ensures count { IfOk result (λ r. length r.1.items ≡ length quotas.now) }
         ensures seats { IfOk result (λ r. EachIndex quotas.now
@@ -55,8 +58,8 @@ impl<M: Machine + Drop> Gate<M> {
         ensures own { IfOk result (λ r. All (IsOf r.0) r.1.items) }
         ensures all { IfOk result (λ r. AreAll r.0 r.1.items) }
     {
-        // The machine's room, a `u64`, bounds every ticket.
-        machine.room();
+        // The number of calls that the machine still takes, a `u64`, bounds every ticket.
+        machine.calls_left();
         if quotas.len() >= 1 << 32 {
             return Err(AllocError);
         }
@@ -76,8 +79,10 @@ impl<M: Machine + Drop> Gate<M> {
         }
     }
 
-    /// One call of the machine, made once the seats that drew their tickets before have made theirs. It may
-    /// wait for them.
+    /// Makes one call of the machine and returns its reply. Waits until all calls with earlier tickets have
+    /// been made.
+    ///
+    /// Fails with `Spent` if the seat's quota is used up, and then returns the call.
     pub fn call<R: Wait>(
         &self,
         rt: &R,
@@ -88,7 +93,7 @@ impl<M: Machine + Drop> Gate<M> {
         ensures same { IsSameSeat seat.old seat.new }
         ensures rest { IsAtRest seat.new }
 
-        // The call was made.
+        // If the call was made.
         ensures left { OnOk result (seat.old.used < seat.old.quota) }
         ensures used { OnOk result (seat.new.used ≡ seat.old.used + 1) }
         ensures seen { OnOk result (IsPrefix seat.old.seen seat.new.seen) }
@@ -99,7 +104,7 @@ impl<M: Machine + Drop> Gate<M> {
         ensures reply { IfOk result (IsRightAt M.past M.settings M.right self.now seat.new.seen
             (last_place seat.new.seen) seat.old.number call) }
 
-        // The quota was used up.
+        // If the quota was used up.
         ensures spent { OnErr result (seat.old.used ≡ seat.old.quota) }
         ensures unchanged { OnErr result (seat.new ≡ seat.old) }
         ensures back { IfErr result (λ e. e.1 ≡ call) }
@@ -115,7 +120,7 @@ impl<M: Machine + Drop> Gate<M> {
         Ok(reply)
     }
 
-    /// The machine, once all seats have come back.
+    /// Ends the gate and returns the machine. `seats` must contain all seats of the gate.
     pub fn close(self, seats: Vec<Seat<M>>) -> M
         requires own { All (IsOf self) seats.items }
         requires all { AreAll self seats.items }

@@ -1,7 +1,17 @@
-//! A gate before a machine that many threads share: a ticket lock whose seats know what they have seen.
+//! A ticket gate: many threads make calls on one machine, one after another.
 //!
-//! A seat draws a ticket, waits until its number is served, makes one step of the machine and serves the next
-//! number. So all calls stand in one history, each once, in the order of their tickets.
+//! A gate is a ticket lock with ghost state: each seat knows a prefix of the machine's history. A call of a
+//! seat draws a ticket, waits until its ticket is served, makes one step of the machine, and serves the next
+//! ticket. So the history contains each call exactly once, in the order of the tickets.
+//!
+//! ```text
+//! let (gate, mut seats) = Gate::new(alloc, machine, &[2, 1])?;   // seat 0 may make 2 calls, seat 1 one
+//! let mut one = seats.pop().expect(&rt, "a seat");
+//! let mut zero = seats.pop().expect(&rt, "a seat");
+//! gate.call(&rt, &mut zero, call)?;                              // waits for its turn
+//! gate.try_call(&mut one, call)?;                                // or fails, if another call is under way
+//! let machine = gate.close(seats);                               // once both seats are pushed back
+//! ```
 #![tactic(auto)]
 
 mod crossing;

@@ -1,4 +1,5 @@
-//! What each step on the table tells.
+//! The atomic steps on the gate's table. The ghost members of each say how it changes the view of the seat
+//! that makes it.
 ghost use Rattle.wf_gate.specs.Turns.{drawn, looked, peeked, tried, served, deal_left, deal_right, joined, spent};
 
 use crate::view::View;
@@ -6,48 +7,49 @@ use atomic_table::{Join, Play, Split};
 use std::marker::PhantomData;
 use wf_machine::Machine;
 
-/// A ticket is drawn.
+/// Draws a ticket.
 pub(crate) struct Draw;
 
 impl<M, N> Play<Option<M>, View<M, N>> for Draw {
     ghost then = { drawn };
 }
 
-/// A seat with a ticket reads the number served, and takes the slot where that is its own.
+/// Loads the serving word, by a seat with a ticket. The seat takes the slot if its ticket is served.
 pub(crate) struct Look<M> {
     machine: PhantomData<M>,
 }
 
 impl<M: Machine> Play<Option<M>, View<M, M::Note>> for Look<M> {
-    ghost then = { looked M.past M.settings M.room };
+    ghost then = { looked M.past M.settings M.calls_left };
 }
 
-/// A seat gives the slot back, and the next number is served.
+/// Returns the slot and serves the next ticket.
 pub(crate) struct Serve<M> {
     machine: PhantomData<M>,
 }
 
 impl<M: Machine> Play<Option<M>, View<M, M::Note>> for Serve<M> {
-    ghost then = { served M.past M.settings M.room };
+    ghost then = { served M.past M.settings M.calls_left };
 }
 
-/// A seat with no ticket reads the number served.
+/// Loads the serving word, by a seat without a ticket.
 pub(crate) struct Peek;
 
 impl<M, N> Play<Option<M>, View<M, N>> for Peek {
     ghost then = { peeked };
 }
 
-/// A seat draws the ticket that it has seen served, and takes the slot, or finds another ticket.
+/// Draws the ticket that the seat has seen served, and takes the slot; or finds that another ticket is the
+/// next, and draws none.
 pub(crate) struct Try<M> {
     machine: PhantomData<M>,
 }
 
 impl<M: Machine> Play<Option<M>, View<M, M::Note>> for Try<M> {
-    ghost then = { tried M.past M.settings M.room };
+    ghost then = { tried M.past M.settings M.calls_left };
 }
 
-/// A new seat is cut off.
+/// Splits a new seat off.
 pub(crate) struct Deal;
 
 impl<M, N> Split<View<M, N>> for Deal {
@@ -56,7 +58,7 @@ impl<M, N> Split<View<M, N>> for Deal {
     ghost right = { deal_right };
 }
 
-/// A seat is joined into another, which keeps a record of it.
+/// Joins a seat into another, which keeps a record of it.
 pub(crate) struct Gather;
 
 impl<M, N> Join<View<M, N>> for Gather {

@@ -1,12 +1,12 @@
-//! A seat at the gate.
+//! The seats of a gate.
 ghost use Rattle.std.specs.Prelude.{◌≡◌, ◌≤◌, length};
 
 use crate::view::View;
 use std::marker::Model;
 use wf_machine::Machine;
 
-/// A seat at the gate, by which one caller makes its calls. `Seat<M>` is its name at a machine M.
-/// Contracts see it as a `SeatView`: its number, its quota, and what it has seen and done.
+/// A seat of a gate, with which one caller makes its calls; usually written `Seat<M>`. Contracts see it as a
+/// `SeatView`: its number, its quota, the entries of the history that it has seen, and its own calls.
 #[derive(Drop)]
 pub struct SeatOf<S, N> {
     pub(crate) pass: atomic_table::Seat<Option<S>, View<S, N>>,
@@ -25,25 +25,25 @@ impl<S, N> Model for SeatOf<S, N> {
     ghost invariant = { λ s. IsAtGate s.number s.quota s.used s.pass };
 }
 
-/// A seat at the gate of the machine M.
+/// A seat of a gate in front of the machine `M`.
 pub type Seat<M> = SeatOf<M, <M as Machine>::Note>;
 
 impl<S, N> SeatOf<S, N> {
-    /// The seat's number: its place in the list that `Gate::new` gave.
+    /// Returns the seat's number: its index in the list that `Gate::new` returned.
     pub fn number(&self) -> u32
         ensures number { result ≡ self.now.number }
     {
         self.number
     }
 
-    /// How many calls the seat may make.
+    /// Returns how many calls the seat may make in all.
     pub fn quota(&self) -> u32
         ensures quota { result ≡ self.now.quota }
     {
         self.quota
     }
 
-    /// How many calls the seat has made.
+    /// Returns how many calls the seat has made.
     pub fn used(&self) -> u32
         ensures used { result ≡ self.now.used }
         ensures own { result ≡ length self.now.own }

@@ -1,4 +1,4 @@
-//! A try, which waits for nobody.
+//! The call that never waits.
 ghost use Rattle.std.specs.Prelude.{◌≡◌, ◌+◌, ◌-◌, ◌<◌, ◌≤◌, ◌∷◌, [], ◌++◌, length, IfOk, IfErr, OnOk};
 ghost use mathlib.Core.List.{IsPrefix};
 ghost use Rattle.wf_gate.specs.Seats.{IsOf, IsSameSeat, IsAtRest, EndsWith, last_place, AreOfSeats, IsRightAt};
@@ -9,19 +9,22 @@ use crate::seat::Seat;
 use crate::turn::{attempt, serve};
 use wf_machine::Machine;
 
-/// Why a try made no call.
+/// The reason why a `try_call` made no call.
 #[derive(Debug, Drop)]
 pub enum TryFault {
     /// The seat's quota is used up.
     Spent,
-    /// Other calls were under way: the next ticket, which the one exchange on the ticket word found, was past
-    /// the number served, which was loaded before. Both count the entries and tickets since the gate was
-    /// made.
+    /// Other calls were under way: the serving word was loaded first, and the compare-and-exchange of the
+    /// ticket word then found a greater number. `serving` counts the calls made, and `ticket` the tickets
+    /// drawn, since the gate was made.
     Busy { ticket: u64, serving: u64 },
 }
 
 impl<M: Machine + Drop> Gate<M> {
-    /// One call of the machine, made where no other call is under way. It waits for nobody.
+    /// Makes one call of the machine and returns its reply, if no other call is under way. It never waits.
+    ///
+    /// Fails with `Spent` if the seat's quota is used up, and with `Busy` if other calls are under way. Both
+    /// return the call.
     pub fn try_call(
         &self,
         seat: &mut Seat<M>,
@@ -31,7 +34,7 @@ impl<M: Machine + Drop> Gate<M> {
         ensures same { IsSameSeat seat.old seat.new }
         ensures rest { IsAtRest seat.new }
 
-        // The call was made.
+        // If the call was made.
         ensures left { OnOk result (seat.old.used < seat.old.quota) }
         ensures used { OnOk result (seat.new.used ≡ seat.old.used + 1) }
         ensures seen { OnOk result (IsPrefix seat.old.seen seat.new.seen) }
@@ -42,11 +45,11 @@ impl<M: Machine + Drop> Gate<M> {
         ensures reply { IfOk result (IsRightAt M.past M.settings M.right self.now seat.new.seen
             (last_place seat.new.seen) seat.old.number call) }
 
-        // The quota was used up.
+        // If the quota was used up.
         ensures spent { IfErr result (λ e. IfSpent e.0 (seat.old.used ≡ seat.old.quota)) }
         ensures unchanged { IfErr result (λ e. IfSpent e.0 (seat.new ≡ seat.old)) }
 
-        // Other calls were under way. Serving was read in this call, and so was the ticket found.
+        // If other calls were under way. Both numbers were read in this call.
         ensures busy { IfErr result (λ e. IfBusy e.0
             (λ ticket serving. (length seat.old.seen ≤ serving) × (serving < ticket))) }
         ensures busy_left { IfErr result (λ e. IfBusy e.0 (λ _ _. seat.old.used < seat.old.quota)) }

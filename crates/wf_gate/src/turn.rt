@@ -10,10 +10,11 @@ use std::sync::Wait;
 use std::{hint, thread};
 use wf_machine::Machine;
 
-/// How often a seat that waits looks again at once, before it yields its processor at each further look.
+/// How often a seat that waits looks again without yielding; after that, it yields its processor before each
+/// further look.
 const LOOKS: u32 = 128;
 
-/// Draws the next ticket.
+/// Draws the next ticket and returns it.
 pub(crate) fn draw<M: Machine + Drop>(shared: &Shared<M>, pass: &mut Pass<M>) -> u64
     requires table { IsTableSized shared.now.table_id }
     requires own { IsPassOf shared.now.table_id (opening_of shared.now.key) pass.old }
@@ -25,8 +26,9 @@ pub(crate) fn draw<M: Machine + Drop>(shared: &Shared<M>, pass: &mut Pass<M>) ->
     shared.fetch_add::<Draw>(pass, TICKET, 1)
 }
 
-/// What a seat does after it has looked in vain so often, LOOKS at most. Where threads are more than
-/// processors, one that only turned would keep a processor from the seat that is served.
+/// Pauses after a look at which the ticket was not served, and returns the new number of looks, at most
+/// `LOOKS`. A seat yields after that many, so that it does not keep a processor from the seat that is served
+/// if there are more threads than processors.
 fn pause(looks: u32) -> u32 {
     if looks < LOOKS {
         hint::spin_loop();
@@ -36,7 +38,7 @@ fn pause(looks: u32) -> u32 {
     looks
 }
 
-/// Waits until the ticket is served, and takes the slot.
+/// Waits until `ticket` is served, and takes the slot.
 pub(crate) fn wait<M: Machine + Drop, R: Wait>(
     rt: &R,
     shared: &Shared<M>,
@@ -47,7 +49,7 @@ pub(crate) fn wait<M: Machine + Drop, R: Wait>(
     requires own { IsPassOf shared.now.table_id (opening_of shared.now.key) pass.old }
     requires waits { (pass.old.me.0.stage ≡ Waits ticket) × (pass.old.me.1 ≡ []) }
     ensures { (pass.new.table_id ≡ pass.old.table_id) × (pass.new.id ≡ pass.old.id) ×
-        HasTurn M.past M.settings M.room (opening_of shared.now.key) ticket pass.old.me.0 pass.new.me }
+        HasTurn M.past M.settings M.calls_left (opening_of shared.now.key) ticket pass.old.me.0 pass.new.me }
 {
     let mut looks = 0;
     for _ in rt.forever() {
@@ -60,8 +62,8 @@ pub(crate) fn wait<M: Machine + Drop, R: Wait>(
     unreachable!()
 }
 
-/// Reads the number served and tries to draw that very ticket. Gives the number and the ticket found: where
-/// they are one, the seat has its turn.
+/// Loads the ticket that is served and tries to draw it. Returns that ticket and the next one that the
+/// exchange found; if they are equal, the seat has its turn.
 pub(crate) fn attempt<M: Machine + Drop>(shared: &Shared<M>, pass: &mut Pass<M>) -> (u64, u64)
     requires table { IsTableSized shared.now.table_id }
     requires own { IsPassOf shared.now.table_id (opening_of shared.now.key) pass.old }
@@ -69,7 +71,7 @@ pub(crate) fn attempt<M: Machine + Drop>(shared: &Shared<M>, pass: &mut Pass<M>)
     requires left { MayDraw (opening_of shared.now.key) pass.old.me.0.face }
     ensures same { (pass.new.table_id ≡ pass.old.table_id) × (pass.new.id ≡ pass.old.id) ×
         (length pass.old.me.0.face.seen ≤ result.0) }
-    ensures turn { result.1 ≡ result.0 → HasTurn M.past M.settings M.room
+    ensures turn { result.1 ≡ result.0 → HasTurn M.past M.settings M.calls_left
         (opening_of shared.now.key) result.0 pass.old.me.0 pass.new.me }
     ensures vain { result.1 ≢ result.0 → (pass.new.me ≡ (in_vain pass.old.me.0 result.0 result.1, [])) ×
         (result.0 < result.1) }
@@ -79,7 +81,8 @@ pub(crate) fn attempt<M: Machine + Drop>(shared: &Shared<M>, pass: &mut Pass<M>)
     (serving, ticket)
 }
 
-/// Makes one step of the machine where it lies, by the seat whose turn has come, and serves the next number.
+/// Makes one step of the machine in the table's slot, and serves the next ticket. The seat must have its
+/// turn.
 pub(crate) fn serve<M: Machine + Drop>(
     shared: &Shared<M>,
     pass: &mut Pass<M>,
@@ -88,7 +91,7 @@ pub(crate) fn serve<M: Machine + Drop>(
 ) -> M::Reply
     requires table { IsTableSized shared.now.table_id }
     requires own { IsPassOf shared.now.table_id (opening_of shared.now.key) pass.old }
-    requires turn { AtTurn M.past M.settings M.room (opening_of shared.now.key) pass.old.me }
+    requires turn { AtTurn M.past M.settings M.calls_left (opening_of shared.now.key) pass.old.me }
     requires number { number ≡ pass.old.me.0.face.number }
     ensures seat { (pass.new.table_id ≡ pass.old.table_id) × (pass.new.id ≡ pass.old.id) ×
         (pass.new.me ≡ (after_turn pass.old.me.0 (number, M.note call), [])) }

@@ -1,15 +1,15 @@
-//! A hook round each gate call of a worker, by which a test can order what threads do.
+//! A hook around each call of a worker at a gate, with which a test can order the threads' calls.
 
-/// What is called before and after each gate call of a worker.
+/// Is called before and after each call of a worker at a gate.
 pub trait Turnstile {
-    /// The worker of this number is about to make a call.
+    /// Is called before worker number `worker` makes a call.
     fn before(&self, worker: u32);
 
-    /// The worker of this number has made its call.
+    /// Is called after worker number `worker` has made its call.
     fn after(&self, worker: u32);
 }
 
-/// A turnstile that lets all through.
+/// A turnstile that does nothing.
 #[derive(Clone, Copy, Debug, PartialEq, Eq)]
 pub struct Free;
 

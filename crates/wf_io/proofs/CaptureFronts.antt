@@ -1,11 +1,11 @@
--- What a sink holds after a text of two parts was written to it, or some of it.
+-- Proves what a sink contains after a text of two parts, or a prefix of it, was written.
 use Rattle.std.proofs.Common.{◌≡◌, ℕ, ◌+◌, ◌≤◌, List, ◌++◌, length, take, refl, sym, ◌∙◌, ap, append_assoc, arith}
 use Rattle.std.specs.Prelude.{Option, None, Some}
 use Rattle.std.specs.Io.KnownBytes.{append_known}
 use Rattle.std.proofs.lemmas.List.{take-append-le, length-append}
 use Rattle.std.proofs.Math.Seq.{take-append-add}
 
--- octets of a text's front were written
+-- a prefix of the text was written
 abbrev pub HasFront : Option (List ℕ) → Option (List ℕ) → List ℕ → Type 0
 HasFront old new text = (n : ℕ) × (n ≤ length text) × (new ≡ append_known old (take n text))
 

@@ -1,4 +1,4 @@
--- The value of digits never falls below that of the first of them, and powers of ten.
+-- Proves that further digits do not make a value smaller, and that greater powers of ten are greater.
 use Rattle.std.proofs.Common.{ℕ, ◌+◌, ◌-◌, ◌*◌, ◌^◌, ◌≤◌, List, [], ◌∷◌, arith}
 use Rattle.std.proofs.Math.Nat.{pow-le-pow_right}
 use Rattle.wf_io.specs.Digits.{value_from}

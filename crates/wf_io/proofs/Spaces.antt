@@ -1,4 +1,4 @@
--- Words in a row.
+-- Proves how words with spaces between them are appended to a line.
 use Rattle.std.proofs.Common.{◌≡◌, ℕ, ◌+◌, ◌<◌, ◌≤◌, List, [], ◌∷◌, ◌++◌, length, take, drop, get_or, refl, sym, ◌∙◌, ap, append_assoc, append-nil, arith}
 use Rattle.std.specs.Prelude.{map, sum_by}
 use Rattle.std.proofs.lemmas.List.{take_more, take-append-drop, map_more}
@@ -7,13 +7,13 @@ use Rattle.std.specs.List.{join_with_byte}
 use Rattle.wf_io.specs.Words.{words_text, width_of, spaced}
 use Rattle.wf_io.specs.declared.line.Word.{Word}
 
--- a word and others behind it
+-- a word followed by others
 pub join-spaced : (word : List ℕ) (words : List (List ℕ)) →
     join_with_byte 32 (word ∷ words) ≡ word ++ spaced words
 join-spaced word [] = sym (append-nil word)
 join-spaced word (next ∷ words) = refl
 
--- words behind others, as a line
+-- words after the beginning of a line
 pub line_behind : (front word : List ℕ) (words : List (List ℕ)) →
     ((front ++ word) ++ spaced words) ++ 10 ∷ [] ≡ front ++ (join_with_byte 32 (word ∷ words) ++ 10 ∷ [])
 line_behind front word words = rw (join-spaced word words) (simp append_assoc)
@@ -24,7 +24,7 @@ spaced-append (x ∷ xs) ys =
     ap (λ l. 32 ∷ l) (join-spaced x (xs ++ ys) ∙ ap (λ l. x ++ l) (spaced-append xs ys)
     ∙ sym (append_assoc x (spaced xs) (spaced ys)) ∙ ap (λ l. l ++ spaced ys) (sym (join-spaced x xs)))
 
--- one word more
+-- one more word
 pub more_words : (words : List Word) (i : ℕ) (d : Word) (front : List ℕ) → i < length words →
     ((front ++ spaced (map words_text (take i words))) ++ 32 ∷ []) ++ words_text (get_or words i d) ≡ front
     ++ spaced (map words_text (take (i + 1) words))

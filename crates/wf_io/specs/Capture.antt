@@ -1,26 +1,26 @@
--- Capture files in the format of libpcap: a file header of 24 octets, then packets, each a header of 16
--- octets and the octets that were captured.
+-- Defines capture files in the format of libpcap: a file header of 24 octets, then packets, each with a
+-- header of 16 octets and the captured octets.
 use Rattle.std.specs.Prelude.{◌≡◌, ℕ, ◌/◌, ◌%◌, ◌≤◌, Bool, false, if◌then◌else◌, List, ◌++◌, length, drop}
 use Rattle.byteorder.specs.Endian.{big_number, little_number, little_bytes}
 use Rattle.wf_io.specs.declared.pcap.reading.Form.{Form}
 use Rattle.wf_io.specs.declared.pcap.reading.Packet.{Packet}
 
--- the number in the `count` octets from a place on, the highest octet first (`big`) or the lowest first
+-- the number in the `count` octets at a place, big-endian (`big`) or little-endian
 abbrev pub number_in_order : Bool → ℕ → List ℕ → ℕ → ℕ
 number_in_order big count octets place = if big then big_number count (drop place octets)
     else little_number count (drop place octets)
 
--- the number that a file begins with: its packets tell the parts of a second in nanoseconds, or in
+-- the number that a file begins with; it says whether fractions of a second are in nanoseconds or in
 -- microseconds
 abbrev pub magic_of : Bool → ℕ
 magic_of nanos = if nanos then 0xa1b23c4d else 0xa1b2c3d4
 
--- the link type of IEEE 802.11 frames with no radio fields before them
+-- the link type of IEEE 802.11 frames without radio fields before them
 abbrev pub link_of_frames : ℕ
 link_of_frames = 105
 
 -- A file header: the magic number, version 2.4, zone, accuracy and snap length, which are free, and the link
--- type, which stands in the low 16 bits of its field.
+-- type in the low 16 bits of its field.
 pub record IsHead (octets : List ℕ) (form : Form) : Type 0 where
   pub size : 24 ≤ length octets
   pub magic : number_in_order form.big 4 octets 0 ≡ magic_of form.nanos
@@ -48,12 +48,12 @@ file_head_octets =
     ++ little_bytes 4 0 ++ little_bytes 4 65535
     ++ little_bytes 4 link_of_frames
 
--- the header that is written of a packet of so many octets, at a time in microseconds: of the seconds it has
--- the low 32 bits
+-- the header of a written packet of `count` octets at a time in microseconds; it has the low 32 bits of the
+-- seconds
 abbrev pub packet_head : ℕ → ℕ → List ℕ
 packet_head at count = little_bytes 4 (at / 1000000) ++ little_bytes 4 (at % 1000000) ++ little_bytes 4 count
     ++ little_bytes 4 count
 
--- a packet that is written: its header and its octets, all of them captured
+-- a written packet: its header and its octets, all of them captured
 abbrev pub packet_octets : ℕ → List ℕ → List ℕ
 packet_octets at octets = packet_head at (length octets) ++ octets

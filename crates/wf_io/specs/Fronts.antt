@@ -1,11 +1,11 @@
--- Octets of the front of others, and what a sink holds after some of a text was written to it.
+-- Defines prefixes of octets, and the contents of a sink after a prefix of a text was written to it.
 use Rattle.std.specs.Prelude.{◌≡◌, ℕ, List, ◌++◌, Option}
 use Rattle.std.specs.Io.KnownBytes.{append_known}
 
 abbrev pub IsFrontOf : List ℕ → List ℕ → Type 0
 IsFrontOf front whole = (rest : List ℕ) × (whole ≡ front ++ rest)
 
--- octets of a text's front were written
+-- a prefix of the text was written
 pub record HoldsFront (old new : Option (List ℕ)) (text : List ℕ) : Type 0 where
   pub written : List ℕ
   pub rest : List ℕ

@@ -1,8 +1,8 @@
--- What contracts see of a source and a sink in memory.
+-- Defines what contracts see of a source and a sink in memory.
 use Rattle.std.specs.Prelude.{ℕ, List}
 
--- the octets still to come, the most that one read gives, the calls that fail, and how many calls and faults
--- there were
+-- the octets still to come, the greatest size of one read, the calls that fail, and the counts of calls and
+-- faults
 pub record GivenValue : Type 0 where
   pub left : List ℕ
   pub piece : ℕ
@@ -10,7 +10,7 @@ pub record GivenValue : Type 0 where
   pub calls : ℕ
   pub faults : ℕ
 
--- the octets taken, the most that are taken in all and in one write, and the rest as above
+-- the octets written, the greatest total size, the greatest size of one write, and the other fields as above
 pub record KeptValue : Type 0 where
   pub held : List ℕ
   pub room : ℕ

@@ -1,4 +1,4 @@
--- Words of a line, and how they are written.
+-- Defines the words of a line, and how they are written.
 use Rattle.std.specs.Prelude.{ℕ, List, [], ◌∷◌, length, decimal}
 use Rattle.std.specs.Fmt.{signed_decimal}
 use Rattle.std.specs.List.{join_with_byte}
@@ -10,13 +10,13 @@ words_text (Text text) = text.now
 words_text (Number number) = decimal number
 words_text (Signed number) = signed_decimal number
 
--- the most octets that it takes
+-- the greatest width of a word in octets
 abbrev pub width_of : Word → ℕ
 width_of (Text text) = length text.now
 width_of (Number number) = 20
 width_of (Signed number) = 21
 
--- words with a space in front of each
+-- words with a space before each
 abbrev pub spaced : List (List ℕ) → List ℕ
 spaced [] = []
 spaced (word ∷ words) = 32 ∷ join_with_byte 32 (word ∷ words)

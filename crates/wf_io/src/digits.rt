@@ -1,10 +1,10 @@
-//! Decimal digits.
+//! The value of decimal digits.
 
 ghost use Rattle.std.specs.Prelude.{◌≡◌, ◌≤◌, ◌^◌, length, IsSome, IsTrue, MatchOption};
 ghost use Rattle.std.specs.List.{list_all};
 ghost use Rattle.wf_io.specs.Digits.{is_digit, value_from};
 
-/// The value of decimal digits, unless it goes past 64 bits, as that of at most 19 digits never does.
+/// Returns the value of decimal digits, or None if it exceeds 64 bits. At most 19 digits never do.
 pub fn value_of(digits: &[u8]) -> Option<u64>
     requires { IsTrue (list_all is_digit digits.now) }
     ensures value { MatchOption result (2 ^ 64 ≤ value_from 0 digits.now)

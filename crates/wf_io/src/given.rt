@@ -7,7 +7,8 @@ ghost use Rattle.wf_io.specs.Faults.{CountsFaults};
 use crate::{Failed, Source};
 use std::marker::Model;
 
-/// A source in memory: it gives its octets in pieces, and fails at the listed calls, counted from 0.
+/// A source in memory, for tests: it returns its octets in pieces, and fails at the listed calls, counted
+/// from 0.
 #[derive(Drop)]
 pub struct Given {
     octets: Vec<u8>,
@@ -36,7 +37,8 @@ impl Model for Given {
 }
 
 impl Given {
-    /// A source that has `octets` left and gives at most `piece` of them per read.
+    /// Returns a source that has `octets` left, returns at most `piece` of them per read, and fails at the
+    /// calls in `failing`.
     pub fn new(octets: Vec<u8>, piece: usize, failing: Vec<u64>) -> Self
         requires { 0 < piece }
         ensures { result ≡ record {
@@ -63,7 +65,7 @@ impl Source for Given {
 
     ghost faults = { λ g. g.faults };
 
-    // It fails at the listed calls alone, and its faults rise there and nowhere else.
+    // It fails exactly at the listed calls, and counts exactly those faults.
     fn read(&mut self, buffer: &mut [u8]) -> Result<usize, Failed>
         requires { 0 < length buffer.old }
         ensures count { IfOk result (λ n. n ≤ length buffer.new) }

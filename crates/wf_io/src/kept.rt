@@ -8,8 +8,8 @@ use crate::{Failed, Sink};
 use std::alloc::{AllocError, Global};
 use std::marker::Model;
 
-/// A sink in memory: it holds at most `room` octets, and fails at the listed calls, counted from 0, and where
-/// it is full.
+/// A sink in memory, for tests: it holds at most `room` octets, and fails at the listed calls, counted from
+/// 0, and when it is full.
 #[derive(Drop)]
 pub struct Kept {
     octets: Vec<u8>,
@@ -39,8 +39,8 @@ impl Model for Kept {
 }
 
 impl Kept {
-    /// An empty sink that takes at most `piece` octets per write. Its room is taken here, and no memory
-    /// later.
+    /// Returns an empty sink that takes at most `piece` octets per write, and fails at the calls in
+    /// `failing`. It allocates its room here, and nothing later. Fails if memory runs out.
     pub fn new(
         alloc: Global,
         room: usize,
@@ -68,7 +68,7 @@ impl Kept {
         })
     }
 
-    /// The octets taken so far.
+    /// Returns the octets that were written.
     pub fn octets(&self) -> &[u8]
         ensures { result.now ≡ self.now.held }
     {
@@ -81,7 +81,7 @@ impl Sink for Kept {
 
     ghost faults = { λ k. k.faults };
 
-    // It fails at the listed calls and where it is full, and its faults rise there and nowhere else.
+    // It fails exactly at the listed calls and when it is full, and counts exactly those faults.
     fn write(&mut self, octets: &[u8]) -> Result<usize, Failed>
         requires { 0 < length octets.now }
         ensures count { IfOk result (λ n. (0 < n) × (n ≤ length octets.now)) }

@@ -1,9 +1,14 @@
-//! Input and output of octets: `Source` and `Sink`, which count their faults, in memory (`Given`, `Kept`) and
-//! over std; a line of octets (`Line`) and the value of decimal digits; how much of an input a command reads;
-//! and how a command ends (`Status`), the number of that, and what a sink holds after some of a text was
-//! written.
+//! Input and output of octets. A `Source` and a `Sink` count their faults; there are some in memory (`Given`,
+//! `Kept`) and over std (`StdSource`, `StdSink`). A `Line` is a buffer in which a line of text is built,
+//! `value_of` reads decimal digits, and `Status` says how a command ends. The module `pcap` reads and writes
+//! capture files in the format of libpcap.
 //!
-//! Capture files, in the format of libpcap, are the module `pcap`.
+//! ```text
+//! let mut sink = Kept::new(alloc, 64, 64, failing)?;
+//! let mut line = Line::new();
+//! line.push_line(b"now", &[Word::Number(5)]);
+//! write_line(&mut sink, &line)?;                   // sink.octets() is b"now 5\n"
+//! ```
 #![tactic(auto)]
 
 mod digits;

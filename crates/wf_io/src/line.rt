@@ -1,4 +1,4 @@
-//! A line that is being made.
+//! A buffer in which a line of text is built.
 
 ghost use Rattle.std.specs.Prelude.{◌≡◌, ◌+◌, ◌<◌, ◌≤◌, List, [], ◌∷◌, ◌++◌, ℕ, length, map, sum_by, decimal};
 ghost use Rattle.std.specs.Fmt.{signed_decimal};
@@ -11,15 +11,15 @@ use std::marker::Model;
 /// A word of a line.
 #[derive(Clone, Copy)]
 pub enum Word {
-    /// A word as it stands.
+    /// The text itself.
     Text(&'static [u8]),
     /// A number in decimal digits.
     Number(u64),
-    /// A number in decimal digits, with `-` in front where it is below 0.
+    /// A number in decimal digits, with `-` before it if it is below 0.
     Signed(i64),
 }
 
-/// The octets of a line that is being made: at most 8192, in a buffer of fixed size.
+/// The octets of a line: at most 8192, in a buffer of fixed size.
 #[derive(Drop)]
 pub struct Line {
     buffer: ArrayVec<u8, 8192>,
@@ -34,7 +34,7 @@ impl Model for Line {
 impl Line {
     ghost use Rattle.wf_io.specs.Words.{words_text, width_of, spaced};
 
-    /// The empty line.
+    /// Returns the empty line.
     pub fn new() -> Self
         ensures { result ≡ [] }
     {
@@ -43,7 +43,7 @@ impl Line {
         }
     }
 
-    /// Appends an octet; the line must have fewer than 8192.
+    /// Appends an octet. The line must have fewer than 8192.
     pub fn push(&mut self, octet: u8)
         requires { length self.old < 8192 }
         ensures { self.new ≡ self.old ++ octet ∷ [] }
@@ -51,7 +51,7 @@ impl Line {
         self.buffer.push(octet);
     }
 
-    /// Appends octets; with them the line must have at most 8192.
+    /// Appends octets. The line must have at most 8192 afterwards.
     pub fn push_all(&mut self, octets: &[u8])
         requires { length self.old + length octets.now ≤ 8192 }
         ensures octets { self.new ≡ self.old ++ octets.now }
@@ -60,7 +60,7 @@ impl Line {
         self.buffer.try_extend_from_slice(octets).unwrap();
     }
 
-    /// Appends a number in decimal digits, at most 20.
+    /// Appends a number in decimal digits, at most 20. There must be room for 20 octets.
     pub fn push_number(&mut self, number: u64)
         requires { length self.old + 20 ≤ 8192 }
         ensures digits { self.new ≡ self.old ++ decimal number }
@@ -74,7 +74,8 @@ impl Line {
         self.push_all(digits.format(number).as_bytes());
     }
 
-    /// Appends a number in decimal digits, with `-` in front where it is below 0: at most 21 octets.
+    /// Appends a number in decimal digits, with `-` before it if it is below 0: at most 21 octets, for which
+    /// there must be room.
     pub fn push_signed(&mut self, number: i64)
         requires { length self.old + 21 ≤ 8192 }
         ensures digits { self.new ≡ self.old ++ signed_decimal number }
@@ -86,7 +87,7 @@ impl Line {
         self.push_number(number.unsigned_abs());
     }
 
-    /// Appends a word; with it the line must have room for at most 8192 octets.
+    /// Appends a word. There must be room for its greatest width.
     pub fn push_word(&mut self, word: Word)
         requires { length self.old + width_of word ≤ 8192 }
         ensures text { self.new ≡ self.old ++ words_text word }
@@ -99,7 +100,7 @@ impl Line {
         }
     }
 
-    /// Appends words, each with a space in front.
+    /// Appends words, with a space before each. There must be room for their greatest widths and the spaces.
     pub fn push_words(&mut self, words: &[Word])
         requires { length self.old + sum_by (λ w. width_of w + 1) words.now ≤ 8192 }
         ensures text { self.new ≡ self.old ++ spaced (map words_text words.now) }
@@ -111,7 +112,7 @@ impl Line {
         }
     }
 
-    /// Appends a line: a word, others with a space in front of each, and the octet 10.
+    /// Appends a whole line: a word, further words with a space before each, and the octet 10.
     pub fn push_line(&mut self, word: &'static [u8], words: &[Word])
         requires { length self.old + length word.now + sum_by (λ w. width_of w + 1) words.now < 8192 }
         ensures text { self.new ≡ self.old
@@ -124,7 +125,7 @@ impl Line {
         self.push(b'\n');
     }
 
-    /// The octets so far.
+    /// Returns the octets of the line.
     pub fn octets(&self) -> &[u8]
         ensures { result.now ≡ self.now }
     {

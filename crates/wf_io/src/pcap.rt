@@ -1,6 +1,6 @@
-//! Capture files in the format of libpcap, which packet analysers read, of IEEE 802.11 frames: `write_head`
-//! and `write_packet` append exactly the file header and a packet; `read_head` and `read_packet` give the
-//! form and the fields in either byte order, or the first fault.
+//! Capture files of IEEE 802.11 frames in the format of libpcap, which packet analysers read. `write_head`
+//! and `write_packet` append the file header and a packet. `read_head` and `read_packet` read them in either
+//! byte order, and return the first fault if there is one.
 
 mod laws;
 mod reading;

@@ -1,4 +1,4 @@
-//! Where octets go.
+//! Where octets are written.
 
 ghost use Rattle.std.specs.Prelude.{◌≡◌, ℕ, ◌<◌, ◌≤◌, List, length, take, IfOk, OnOk, OnErr, Option};
 ghost use Rattle.std.specs.Io.KnownBytes.{append_known};
@@ -7,15 +7,15 @@ ghost use Rattle.wf_io.specs.Fronts.{HoldsFront};
 
 use crate::{Failed, Line};
 
-/// Octets that go to the outside.
+/// A destination of octets.
 pub trait Sink {
-    /// The octets taken so far, where the sink tells them.
+    /// The octets written so far, if contracts know them.
     ghost held: { Self → Option (List ℕ) };
 
     /// How often the sink has failed.
     ghost faults: { Self → ℕ };
 
-    /// Takes octets from the front, at least one; there must be some.
+    /// Writes a prefix of `octets`, which must not be empty, and returns its length, at least 1.
     fn write(&mut self, octets: &[u8]) -> Result<usize, Failed>
         requires { 0 < length octets.now }
         ensures count { IfOk result (λ n. (0 < n) × (n ≤ length octets.now)) }
@@ -24,7 +24,7 @@ pub trait Sink {
         ensures cause { CountsFaults (faults self.old) (faults self.new) result };
 }
 
-/// Writes all the octets. After a fault, some from their front have been written.
+/// Writes all octets. After a fault, a prefix of them has been written.
 pub fn write_all<K: Sink>(sink: &mut K, octets: &[u8]) -> Result<(), Failed>
     ensures written { OnOk result (K.held sink.new ≡ append_known (K.held sink.old) octets.now) }
     ensures prefix { (n : ℕ) × (n ≤ length octets.now)
@@ -38,7 +38,7 @@ pub fn write_all<K: Sink>(sink: &mut K, octets: &[u8]) -> Result<(), Failed>
     Ok(())
 }
 
-/// Writes the octets of a line. After a fault, some from their front have been written.
+/// Writes the octets of a line. After a fault, a prefix of them has been written.
 pub fn write_line<K: Sink>(sink: &mut K, line: &Line) -> Result<(), Failed>
     ensures written { OnOk result (K.held sink.new ≡ append_known (K.held sink.old) line.now) }
     ensures front { HoldsFront (K.held sink.old) (K.held sink.new) line.now }

@@ -1,28 +1,28 @@
-//! Where octets come from.
+//! Where octets are read from.
 
 ghost use Rattle.std.specs.Prelude.{◌≡◌, ℕ, ◌<◌, ◌≤◌, List, length, take, IfOk, OnErr, Option};
 ghost use Rattle.std.specs.Io.KnownBytes.{prepend_known, IsAtEnd};
 ghost use Rattle.wf_io.specs.Faults.{CountsFaults};
 
-/// The most octets of an input that a command reads, 2^40: a trace, a script or a capture that goes on behind
-/// them is at fault. A trace of 4,294,967,295 calls, of 78 octets each at most as `live` writes them, ends
-/// before.
+/// The most octets that a command reads from an input, 2^40. A longer trace, script or capture is refused
+/// with a fault. A trace of 4,294,967,295 calls as `live` writes them, with at most 78 octets each, is
+/// shorter.
 pub const MOST_OCTETS: u64 = 1_099_511_627_776;
 
-/// A read or a write failed. The count of faults of its source or sink rose in that call.
+/// A read or a write failed. Its source or sink has counted the fault.
 #[derive(Clone, Copy, Debug, PartialEq, Eq)]
 pub struct Failed;
 
-/// Octets that come from outside.
+/// A source of octets.
 pub trait Source {
-    /// The octets still to come, where the source tells them.
+    /// The octets still to come, if contracts know them.
     ghost left: { Self → Option (List ℕ) };
 
     /// How often the source has failed.
     ghost faults: { Self → ℕ };
 
-    /// Takes octets and puts them at the front of the buffer, which must not be empty. Without any, the input
-    /// has ended.
+    /// Reads octets into the beginning of `buffer`, which must not be empty, and returns how many there are.
+    /// 0 means that the input has ended.
     fn read(&mut self, buffer: &mut [u8]) -> Result<usize, Failed>
         requires { 0 < length buffer.old }
         ensures count { IfOk result (λ n. n ≤ length buffer.new) }

@@ -1,4 +1,4 @@
-//! The real source and sink, over std's readers and writers. They tell no octets.
+//! The source and the sink over std's readers and writers. Contracts do not know their octets.
 
 ghost use Rattle.std.specs.Prelude.{◌≡◌, None};
 
@@ -6,14 +6,14 @@ use crate::{Failed, Sink, Source};
 use std::io::{Read, Write};
 use std::marker::Model;
 
-/// A source over a reader of std. Its count rises at each error.
+/// A source over a reader of std. It counts each error as a fault.
 #[derive(Drop)]
 pub struct StdSource<I> {
     reader: I,
     faults: u64,
 }
 
-// Contracts see its count of faults.
+// Contracts see the count of faults.
 impl<I> Model for StdSource<I> {
     ghost use Rattle.std.specs.Prelude.{ℕ};
 
@@ -23,7 +23,7 @@ impl<I> Model for StdSource<I> {
 }
 
 impl<I: Read> StdSource<I> {
-    /// A source that has not failed yet.
+    /// Returns a source without faults so far.
     pub fn new(reader: I) -> StdSource<I>
         ensures { result ≡ 0 }
     {
@@ -47,14 +47,14 @@ impl<I: Read> Source for StdSource<I> {
     }
 }
 
-/// A sink over a writer of std. Its count rises at each error, and at a write that took nothing.
+/// A sink over a writer of std. It counts each error as a fault, and each write that took no octets.
 #[derive(Drop)]
 pub struct StdSink<O> {
     writer: O,
     faults: u64,
 }
 
-// Contracts see its count of faults.
+// Contracts see the count of faults.
 impl<O> Model for StdSink<O> {
     ghost use Rattle.std.specs.Prelude.{ℕ};
 
@@ -64,7 +64,7 @@ impl<O> Model for StdSink<O> {
 }
 
 impl<O: Write> StdSink<O> {
-    /// A sink that has not failed yet.
+    /// Returns a sink without faults so far.
     pub fn new(writer: O) -> StdSink<O>
         ensures { result ≡ 0 }
     {

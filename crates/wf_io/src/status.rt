@@ -3,33 +3,33 @@
 ghost use Rattle.std.specs.Prelude.{◌≡◌};
 ghost use Rattle.wf_io.specs.Statuses.{status_code};
 
-/// How a run ends.
+/// The outcome of a command.
 #[derive(Clone, Copy, Debug, PartialEq, Eq)]
 pub enum Status {
-    /// The text was written whole.
+    /// The whole output was written.
     Done = 0,
-    /// The words are no command.
+    /// The arguments are not a command.
     Usage = 1,
-    /// The input has a fault; the text up to it was written, and its line.
+    /// The input has a fault; the output before it and the fault line were written.
     BadTrace = 2,
-    /// The source failed.
+    /// A read failed.
     ReadFault = 3,
-    /// The sink failed.
+    /// A write failed.
     WriteFault = 4,
-    /// There was no memory.
+    /// Memory ran out.
     NoMemory = 5,
 }
 
 impl Status {
-    /// The number that the program ends with, 0 to 5.
+    /// Returns the program's exit status, 0 to 5.
     pub fn code(self) -> u8
         ensures { result ≡ status_code self }
     {
         self as u8
     }
 
-    /// The line that the program writes on standard error, without its end; empty where standard output has
-    /// said all.
+    /// Returns the line that the program writes to standard error, without its end. It is empty if standard
+    /// output says everything.
     pub fn message(self) -> &'static str {
         match self {
             Status::Done | Status::BadTrace => "",

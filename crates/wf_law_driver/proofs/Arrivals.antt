@@ -1,4 +1,5 @@
--- Transmissions of one exchange arrive, one after another.
+-- Proves what the inferred calls leave: transmissions of one exchange arrive, one after another, and then
+-- the receiver answers. By induction over the transmissions.
 use Rattle.std.proofs.Common.{◌≡◌, ◌≢◌, refl, ap, sym, ◌∙◌, subst, arith, ℕ, suc, ◌<◌, ◌≤◌, ◌==◌, nat_le, true, false, ◌⊎◌, inl, inr, List, [], ◌∷◌, ◌++◌, length, find, Option, Some, None, is_some, is_none}
 use Rattle.wf_frame.specs.declared.notes.Ask.TheVariants.{Arrive, Answer}
 use Rattle.wf_frame.specs.declared.notes.Note.TheVariants.{Asked}
@@ -15,7 +16,7 @@ use Rattle.wf_law_runs.proofs.Windows.Sides.{Side, Same, each_side_on, side_on, 
 use Rattle.wf_law_runs.proofs.Windows.Opened.{Each}
 use Rattle.wf_law_runs.proofs.Frames.Fates.{world_after-append}
 use Rattle.wf_law_runs.proofs.Windows.Agreed.{each_map_if, with_member_some}
-use Rattle.wf_law_driver.specs.Told.{arrivals, answer_told, AreAnswered}
+use Rattle.wf_law_driver.specs.Inferred.{arrivals, answer_inferred, AreAnswered}
 use Rattle.wf_law_driver.specs.Unheard.{unmarked, IsUnmarked}
 use Rattle.wf_law_driver.proofs.Opened.{found_replaced, found_number, none_refuses, step_done, one_entry, with_replaced}
 
@@ -34,12 +35,12 @@ abbrev pub AreIndices : ℕ → ℕ → List ℕ → Type 0
 AreIndices lo hi [] = Unit {0}
 AreIndices lo hi (i ∷ is) = (lo ≤ i) × (i < hi) × AreIndices (suc i) hi is
 
--- an exchange of another number has no mark
+-- an exchange with another number has no mark
 abbrev pub IsOther : ℕ → Exchange → Type 0
 IsOther e y = y.number ≢ e → IsUnmarked y
 
--- From v to u nothing changed but exchange e, which was x and is z, and what came to its receiver: numbers
--- that are G.
+-- From v to u only exchange e changed, from x to z, and what its receiver has: it got the numbers for which
+-- G holds.
 pub record IsAfter (e : ℕ) (x z : Exchange) (G : ℕ → Type 0) (v u : World) : Type 0 where
   pub found : exchange u e ≡ Some z
   pub same : unmarked z ≡ unmarked x
@@ -84,7 +85,7 @@ arrived_new (Frames ms) i r n e = subst (λ (k : ℕ). has (with_member (at no_m
     ≡ true) e (has_new r.arrived (at no_mpdu ms i).number)
 arrived_new (Request f) i r n e = absurd e
 
--- what the world of an arrival is before its station is listed
+-- the world after an arrival, before its station is listed
 arrived_world : (v : World) (e : ℕ) (x : Exchange) (k : ℕ) → exchange v e ≡ Some x →
     IsAfter e x (with_arrival k x) (IsNumber x.content k) v (arrive_outcome v x k).world
 unfolding arrive_outcome with_exchange on_receiver
@@ -118,7 +119,7 @@ arrived_world v e x k found =
           (sym (side_on v x.station x.tid g live)) (arrived_new x.content k r n is);
     }
 
--- what follows changes nothing of it
+-- this also holds in a world with the same receivers, sessions, live stations and open exchanges
 after_same : (e : ℕ) (x z : Exchange) (G : ℕ → Type 0) (v u t : World) → Same u t → IsAfter e x z G v u →
     IsAfter e x z G v t
 after_same e x z G v u t h a = record {
@@ -133,7 +134,7 @@ after_same e x z G v u t h a = record {
   new = λ live n is. ap (λ (s : Side). has s.receiver.arrived n) (h.sides x.station x.tid) ∙ a.new live n is;
 }
 
--- may arrive: there is no answer, and it has not arrived
+-- an Arrive is not refused if no answer is kept and the transmission has not arrived
 not_refused : (v : World) (e : ℕ) (x : Exchange) (k : ℕ) → exchange v e ≡ Some x → x.answer ≡ None →
     has x.arrived k ≡ false → k < transmissions x.content → refusal v (Asked (Arrive e k)) ≡ None
 not_refused v e x k found open_still fresh within = none_refuses _ (
@@ -199,7 +200,7 @@ after_then e x z y G H v u t f s =
     earlier i j n (inl was) = inl was
     earlier i j n (inr is) = inr (is.0, is.1, inl is.2)
 
--- the same, of fewer numbers
+-- the same for a predicate that holds for the same numbers
 pub after_of : (e : ℕ) (x z : Exchange) (G H : ℕ → Type 0) (v u : World) → ((n : ℕ) → G n → H n) →
     ((n : ℕ) → H n → G n) → IsAfter e x z G v u → IsAfter e x z H v u
 after_of e x z G H v u there back a = record {
@@ -317,7 +318,7 @@ answered_step v e x found fine =
     subst (IsAfter e x z (λ n. ⊥) v) (sym same_step)
     (after_same e x z (λ n. ⊥) v u _ (same_listed (Some x.station) u) (answered_world v e x found))
 
--- ---- all that is told
+-- ---- all inferred calls
 
 answered_append : (xs ys : List Entry) (w : World) → AreAnswered w xs → AreAnswered (world_after w xs) ys →
     AreAnswered w (xs ++ ys)
@@ -326,17 +327,17 @@ answered_append [] ys w a b = b
 answered_append (x ∷ xs) ys w a b = (a.0, answered_append xs ys (step w x.1).world a.1 b)
 
 -- after the arrivals of these transmissions, and an answer
-pub record AllTold (caller e : ℕ) (x : Exchange) (is : List ℕ) (w : World) : Type 0 where
+pub record AllInferred (caller e : ℕ) (x : Exchange) (is : List ℕ) (w : World) : Type 0 where
   pub last : Exchange
   pub answer : Score
-  pub answered : AreAnswered w (arrivals caller e is ++ answer_told caller e is)
+  pub answered : AreAnswered w (arrivals caller e is ++ answer_inferred caller e is)
   pub after : IsAfter e x last (IsAmong x.content is) w
-      (world_after w (arrivals caller e is ++ answer_told caller e is))
+      (world_after w (arrivals caller e is ++ answer_inferred caller e is))
   pub kept : last.answer ≡ Some answer
 
-pub all_told : (i : ℕ) (is : List ℕ) (caller e : ℕ) (w : World) (x : Exchange) → exchange w e ≡ Some x →
-    IsUnmarked x → AreIndices 0 (transmissions x.content) (i ∷ is) → AllTold caller e x (i ∷ is) w
-all_told i is caller e w x found un r =
+pub all_inferred : (i : ℕ) (is : List ℕ) (caller e : ℕ) (w : World) (x : Exchange) → exchange w e ≡ Some x →
+    IsUnmarked x → AreIndices 0 (transmissions x.content) (i ∷ is) → AllInferred caller e x (i ∷ is) w
+all_inferred i is caller e w x found un r =
     let entries : List Entry = arrivals caller e (i ∷ is) in
     let v : World = world_after w entries in
     let first : AllArrive caller e x (i ∷ is) w =
@@ -347,14 +348,14 @@ all_told i is caller e w x found un r =
     let fine : refusal v (Asked (Answer e)) ≡ None = may_answer v e z first.after.found first.silent marked in
     let second = answered_step v e z first.after.found fine in
     let b : Score = answer_now v z in
-    let told_world : world_after w (entries ++ answer_told caller e (i ∷ is))
-    ≡ (step v (Asked (Answer e))).world = world_after-append entries w (answer_told caller e (i ∷ is))
+    let inferred_world : world_after w (entries ++ answer_inferred caller e (i ∷ is))
+    ≡ (step v (Asked (Answer e))).world = world_after-append entries w (answer_inferred caller e (i ∷ is))
     ∙ one_entry v (by caller (Asked (Answer e))) in
     record {
       last = with_answer b z;
       answer = b;
-      answered = answered_append entries (answer_told caller e (i ∷ is)) w first.answered (fine, tt);
-      after = subst (IsAfter e x (with_answer b z) (IsAmong x.content (i ∷ is)) w) (sym told_world)
+      answered = answered_append entries (answer_inferred caller e (i ∷ is)) w first.answered (fine, tt);
+      after = subst (IsAfter e x (with_answer b z) (IsAmong x.content (i ∷ is)) w) (sym inferred_world)
           (after_of e x (with_answer b z) (λ n. IsAmong x.content (i ∷ is) n ⊎ ⊥)
           (IsAmong x.content (i ∷ is)) w _ (λ n k. elim k [ inl g ↦ g | inr never ↦ absurd never ])
           (λ n k. inl k)

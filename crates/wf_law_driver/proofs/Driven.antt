@@ -1,18 +1,18 @@
--- Whatever a driver does, its history leaves the machine in an unheard world.
+-- Proves that the history of a driver leaves the machine in an unheard world, by induction over its deeds.
 use Rattle.std.proofs.Common.{◌≡◌, refl, sym, ◌∙◌, subst, ℕ, Bool, true, List, [], ◌∷◌, ◌++◌, Option, Some, None, false, if◌then◌else◌}
 use Rattle.wf_frame.specs.declared.settings.Config.{Config}
 use Rattle.wf_frame.specs.declared.notes.Ask.TheVariants.{Done}
 use Rattle.wf_frame.specs.declared.notes.Note.TheVariants.{Asked}
 use Rattle.wf_def_world.specs.World.{World, Exchange, exchange, opening}
-use Rattle.wf_def_world.specs.Refusals.{is_bad_air}
+use Rattle.wf_frame.specs.Settings.{is_bad_air}
 use Rattle.wf_def_world.specs.Run.{Entry, by, world_after}
 use Rattle.wf_law_runs.proofs.Frames.Fates.{world_after-append}
 use Rattle.wf_law_driver.specs.Driven.{Deed, Call, Heard, ending, entries_of, history_of, AreSilent, IsSilentDeed, DrivenLaw}
-use Rattle.wf_law_driver.specs.Told.{told, done_told}
+use Rattle.wf_law_driver.specs.Inferred.{inferred, done_inferred}
 use Rattle.wf_law_driver.specs.Unheard.{IsUnheard}
 use Rattle.wf_law_driver.proofs.Opened.{one_entry}
 use Rattle.wf_law_driver.proofs.Silent.{silent_law, opening_unheard}
-use Rattle.wf_law_driver.proofs.Told.{told_law}
+use Rattle.wf_law_driver.proofs.Inferred.{inferred_law}
 
 module _ (config : Config) where
   -- the world after a history
@@ -33,10 +33,10 @@ module _ (config : Config) where
   ended (Some x) h caller e shown air at_e un = either (is_bad_air (after h).config air) refl
     where
       es : List Entry
-      es = told caller e shown x.content
+      es = inferred caller e shown x.content
 
       last : Entry
-      last = by caller (done_told e shown air x.content)
+      last = by caller (done_inferred e shown air x.content)
 
       either : (bad : Bool) → is_bad_air (after h).config air ≡ bad →
           IsUnheard (world_after (after h)
@@ -44,7 +44,7 @@ module _ (config : Config) where
       either true is = lost h caller e air un
       either false is = subst IsUnheard (sym (world_after-append es (after h) (last ∷ [])
           ∙ one_entry (world_after (after h) es) last))
-          (told_law config h caller e shown air x un at_e is).unheard
+          (inferred_law config h caller e shown air x un at_e is).unheard
 
   one_deed : (d : Deed) (h : List Entry) (caller : ℕ) → IsSilentDeed d → IsUnheard (after h) →
       IsUnheard (world_after (after h) (entries_of (after h) caller d))

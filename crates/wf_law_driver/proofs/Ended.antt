@@ -1,4 +1,5 @@
--- Worlds of runs, and what the end of an exchange leaves of receivers and sessions.
+-- Applies laws of runs to the world after a history, and proves what the end of an exchange leaves of
+-- receivers and sessions.
 use Rattle.std.proofs.Common.{◌≡◌, refl, ap, sym, ◌∙◌, subst, arith, ℕ, ◌<◌, ◌≤◌, ◌==◌, Bool, true, false, not, List, [], length, Option, Some, None, is_some, is_none}
 use Rattle.std.proofs.Math.Seq.{take-length}
 use Rattle.wf_frame.specs.declared.settings.Config.{Config}
@@ -11,7 +12,8 @@ use Rattle.wf_def_agreement.specs.Receiver.{Score}
 use Rattle.wf_def_agreement.specs.Session.{Session, State, slot, next_number}
 use Rattle.wf_def_world.specs.World.{World, Station, Exchange, session, receiver, is_live, exchange, without_exchange, opening}
 use Rattle.wf_def_world.specs.CanSend.{with_listings_of}
-use Rattle.wf_def_world.specs.Refusals.{refusal, exchange_has, is_bad_air}
+use Rattle.wf_def_world.specs.Refusals.{refusal, exchange_has}
+use Rattle.wf_frame.specs.Settings.{is_bad_air}
 use Rattle.wf_def_world.specs.Step.{done_outcome, outcome_where_open, outcome_of, station_of, step}
 use Rattle.wf_def_world.specs.Run.{Entry, world_after}
 use Rattle.wf_law_runs.specs.Kept.{KeepsNumbers, KeepsByCall}
@@ -28,7 +30,7 @@ use Rattle.wf_law_driver.specs.Unheard.{IsUnmarked, HasAcked}
 use Rattle.wf_law_driver.proofs.Opened.{none_refuses, first_refuses, passes, step_done, found_number}
 use Rattle.wf_law_driver.proofs.Arrivals.{IsOther}
 
--- ---- the laws, of the world after a history
+-- ---- the laws, in the world after a history
 
 pub windows_after : (config : Config) (h : List Entry) → KeepsWindows (world_after (opening config) h)
 windows_after config h = subst (λ (es : List Entry). KeepsWindows (world_after (opening config) es))
@@ -45,7 +47,7 @@ pub kept_after : (config : Config) (h : List Entry) (note : Note) →
 kept_after config h note = subst (λ (es : List Entry). KeepsByCall (world_after (opening config) es) note)
     (take-length h) ((kept_law config h).calls (length h) note)
 
--- ---- who has numbers is live
+-- ---- a station with numbers is live
 
 live_given : (o : Option Station) (t n : ℕ) → (sides_of o t).session.first ≤ n →
     n < next_number (sides_of o t).session → is_some o ≡ true
@@ -137,7 +139,7 @@ may_end_heard w e x b air found kept fine = none_refuses _ (
   ),
 )
 
--- an airtime that may not be named is the last fault of a Done
+-- an airtime that may not be given is the last fault of a Done
 pub bad_lost : (w : World) (e : ℕ) (x : Exchange) (air : Option ℕ) → exchange w e ≡ Some x →
     is_bad_air w.config air ≡ true → refusal w (Asked (Done e false air)) ≡ Some BadAir
 bad_lost w e x air found bad = passes (is_none (exchange w e), NoExchange) _ (ap is_none found)

@@ -1,11 +1,12 @@
--- The indices of the numbers that a BlockAck shows.
+-- Proves that the inferred indices rise, and are those of the numbers that a BlockAck shows. By induction
+-- over the numbers of the exchange.
 use Rattle.std.proofs.Common.{◌≡◌, ap, subst, sym, ◌∙◌, arith, ℕ, zero, suc, ◌+◌, ◌<◌, ◌≤◌, Bool, true, inl, inr, List, [], ◌∷◌, length}
 use Rattle.wf_def_lists.specs.Table.{at}
 use Rattle.wf_law_rules.proofs.Lemmas.Numbers.{on_if}
 use Rattle.wf_def_world.specs.World.{Mpdu, Content, Frames, Request}
 use Rattle.wf_def_world.specs.Exchanges.{transmissions, no_mpdu, mpdus_of}
 use Rattle.wf_law_runs.specs.Windows.{EachMpdu}
-use Rattle.wf_law_driver.specs.Told.{shown_indices, indices_told}
+use Rattle.wf_law_driver.specs.Inferred.{shown_indices, indices_inferred}
 use Rattle.wf_law_driver.proofs.Arrivals.{IsAmong, AreIndices}
 
 pub each_mpdu : (P Q : Mpdu → Type 0) (ms : List Mpdu) → ((m : Mpdu) → P m → Q m) → EachMpdu P ms →
@@ -35,11 +36,12 @@ indices_rise shown i hi (m ∷ ms) h =
     (λ _. (omega arith, omega (arith, h), rest)) (λ _.
     from_before (suc i) i hi (shown_indices shown (suc i) ms) (omega arith) rest)
 
-pub told_rise : (shown : ℕ → Bool) (c : Content) → AreIndices 0 (transmissions c) (indices_told shown c)
-told_rise shown (Frames ms) = indices_rise shown 0 (length ms) ms (omega arith)
-told_rise shown (Request f) = (omega arith, omega arith, tt)
+pub inferred_rise : (shown : ℕ → Bool) (c : Content) → AreIndices 0 (transmissions c)
+    (indices_inferred shown c)
+inferred_rise shown (Frames ms) = indices_rise shown 0 (length ms) ms (omega arith)
+inferred_rise shown (Request f) = (omega arith, omega arith, tt)
 
--- ---- they are those of the numbers that are shown: ms stands in `all` from index i on
+-- ---- they are those of the numbers that are shown: `ms` is the part of `all` from index i on
 
 abbrev StandsFrom : ℕ → List Mpdu → List Mpdu → Type 0
 StandsFrom i ms all = (k : ℕ) → at no_mpdu all (i + k) ≡ at no_mpdu ms k
@@ -78,17 +80,17 @@ shown_among shown i (m ∷ ms) all h =
     ))
     (λ no. ((λ yes. absurd (cc (yes, no))), later))
 
-pub told_shown : (shown : ℕ → Bool) (c : Content) (n : ℕ) → IsAmong c (indices_told shown c) n →
+pub inferred_shown : (shown : ℕ → Bool) (c : Content) (n : ℕ) → IsAmong c (indices_inferred shown c) n →
     shown n ≡ true
-told_shown shown (Frames ms) n a = among_shown shown 0 ms ms n (λ k. ap (at no_mpdu ms) (omega arith)) a
-told_shown shown (Request f) n a = elim a [ inl never ↦ absurd never | inr never ↦ absurd never ]
+inferred_shown shown (Frames ms) n a = among_shown shown 0 ms ms n (λ k. ap (at no_mpdu ms) (omega arith)) a
+inferred_shown shown (Request f) n a = elim a [ inl never ↦ absurd never | inr never ↦ absurd never ]
 
-pub shown_told : (shown : ℕ → Bool) (c : Content) →
-    EachMpdu (λ m. shown m.number ≡ true → IsAmong c (indices_told shown c) m.number) (mpdus_of c)
-shown_told shown (Frames ms) = shown_among shown 0 ms ms (λ k. ap (at no_mpdu ms) (omega arith))
-shown_told shown (Request f) = tt
+pub shown_inferred : (shown : ℕ → Bool) (c : Content) →
+    EachMpdu (λ m. shown m.number ≡ true → IsAmong c (indices_inferred shown c) m.number) (mpdus_of c)
+shown_inferred shown (Frames ms) = shown_among shown 0 ms ms (λ k. ap (at no_mpdu ms) (omega arith))
+shown_inferred shown (Request f) = tt
 
--- ---- what holds of each number of an exchange holds of those that are told
+-- ---- what holds for each number of an exchange holds for those that are inferred to arrive
 
 at_each : (P : ℕ → Type 0) (ms : List Mpdu) (k n : ℕ) → k < length ms → (at no_mpdu ms k).number ≡ n →
     EachMpdu (λ m. P m.number) ms → P n

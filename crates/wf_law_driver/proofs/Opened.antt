@@ -1,4 +1,4 @@
--- Lists of open exchanges, and single calls.
+-- Laws of lists of open exchanges, and of the refusals of single calls.
 use Rattle.std.proofs.Common.{◌≡◌, refl, ap, sym, ◌∙◌, subst, ℕ, ◌==◌, Bool, true, if◌then◌else◌, List, [], ◌∷◌, map, find, Option, Some, None, IfSome, false}
 use Rattle.wf_frame.specs.declared.notes.Note.{Note}
 use Rattle.wf_frame.specs.declared.notes.Refusal.{Refusal}
@@ -11,9 +11,9 @@ use Rattle.wf_def_world.specs.Run.{Entry, world_after}
 use Rattle.wf_law_runs.specs.Windows.{EachOpen}
 use Rattle.wf_law_runs.proofs.Windows.Opened.{Each, each_find, NoRow}
 
--- ---- the exchange of a number
+-- ---- the exchange with a number
 
--- the exchanges, with z in place of the one of its number
+-- the exchanges, with z instead of the one with its number
 abbrev pub with_replaced : Exchange → List Exchange → List Exchange
 with_replaced z xs = map (λ y. if y.number == z.number then z else y) xs
 

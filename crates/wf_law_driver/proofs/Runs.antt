@@ -1,4 +1,4 @@
--- The calls that are told go on a history.
+-- Proves that the inferred calls continue a history: they bring no frame. By induction over the calls.
 use Rattle.std.proofs.Common.{ℕ, Bool, List, [], ◌∷◌, ◌++◌}
 use Rattle.wf_frame.specs.declared.settings.Config.{Config}
 use Rattle.wf_frame.specs.declared.notes.Ask.TheVariants.{Arrive, Answer}
@@ -8,7 +8,7 @@ use Rattle.wf_def_world.specs.Step.{step}
 use Rattle.wf_def_world.specs.Run.{Entry, world_after}
 use Rattle.wf_law_runs.specs.Queues.{HaveLengths, AreAtMost}
 use Rattle.wf_law_runs.proofs.Frames.Fates.{world_after-append}
-use Rattle.wf_law_driver.specs.Told.{arrivals, answer_told, indices_told, told, RunLaw}
+use Rattle.wf_law_driver.specs.Inferred.{arrivals, answer_inferred, indices_inferred, inferred, RunLaw}
 
 lengths_append : (h es : List Entry) → HaveLengths h → HaveLengths es → HaveLengths (h ++ es)
 lengths_append [] es a b = b
@@ -18,38 +18,39 @@ most_append : (n : ℕ) (h es : List Entry) → AreAtMost n h → AreAtMost n es
 most_append n [] es a b = b
 most_append n (e ∷ h) es a b = (a.0, most_append n h es a.1 b)
 
-told_lengths : (is js : List ℕ) (caller e : ℕ) → HaveLengths (arrivals caller e is ++ answer_told caller e js)
-told_lengths [] [] caller e = tt
-told_lengths [] (j ∷ js) caller e = (tt, tt)
-told_lengths (i ∷ is) js caller e = (tt, told_lengths is js caller e)
+inferred_lengths : (is js : List ℕ) (caller e : ℕ) → HaveLengths
+    (arrivals caller e is ++ answer_inferred caller e js)
+inferred_lengths [] [] caller e = tt
+inferred_lengths [] (j ∷ js) caller e = (tt, tt)
+inferred_lengths (i ∷ is) js caller e = (tt, inferred_lengths is js caller e)
 
-told_most : (n : ℕ) (is js : List ℕ) (caller e : ℕ) →
-    AreAtMost n (arrivals caller e is ++ answer_told caller e js)
-told_most n [] [] caller e = tt
-told_most n [] (j ∷ js) caller e = (tt, tt)
-told_most n (i ∷ is) js caller e = (tt, told_most n is js caller e)
+inferred_most : (n : ℕ) (is js : List ℕ) (caller e : ℕ) →
+    AreAtMost n (arrivals caller e is ++ answer_inferred caller e js)
+inferred_most n [] [] caller e = tt
+inferred_most n [] (j ∷ js) caller e = (tt, tt)
+inferred_most n (i ∷ is) js caller e = (tt, inferred_most n is js caller e)
 
 pub run_law : (config : Config) (h : List Entry) → RunLaw config h
 run_law config h caller e shown content =
-    let is : List ℕ = indices_told shown content in
+    let is : List ℕ = indices_inferred shown content in
     record {
-      world = world_after-append h (opening config) (told caller e shown content);
-      lengths = λ a. lengths_append h (told caller e shown content) a (told_lengths is is caller e);
-      most = λ n a. most_append n h (told caller e shown content) a (told_most n is is caller e);
+      world = world_after-append h (opening config) (inferred caller e shown content);
+      lengths = λ a. lengths_append h (inferred caller e shown content) a (inferred_lengths is is caller e);
+      most = λ n a. most_append n h (inferred caller e shown content) a (inferred_most n is is caller e);
     }
 
--- What an Arrive keeps, and an Answer, all calls that are told keep. For crates above.
+-- All inferred calls keep what each Arrive and each Answer keeps. Other crates use this.
 module _ (P : World → Type 0) (arrive : (w : World) (e i : ℕ) → P w → P (step w (Asked (Arrive e i))).world)
     (answer : (w : World) (e : ℕ) → P w → P (step w (Asked (Answer e))).world) where
   all_kept : (is js : List ℕ) (caller e : ℕ) (w : World) → P w →
-      P (world_after w (arrivals caller e is ++ answer_told caller e js))
+      P (world_after w (arrivals caller e is ++ answer_inferred caller e js))
   unfolding world_after
   all_kept [] [] caller e w h = h
   all_kept [] (j ∷ js) caller e w h = answer w e h
   all_kept (i ∷ is) js caller e w h = all_kept is js caller e (step w (Asked (Arrive e i))).world
       (arrive w e i h)
 
-  pub told_keeps : (w : World) (caller e : ℕ) (shown : ℕ → Bool) (content : Content) → P w →
-      P (world_after w (told caller e shown content))
-  told_keeps w caller e shown content h = all_kept (indices_told shown content)
-      (indices_told shown content) caller e w h
+  pub inferred_keeps : (w : World) (caller e : ℕ) (shown : ℕ → Bool) (content : Content) → P w →
+      P (world_after w (inferred caller e shown content))
+  inferred_keeps w caller e shown content h = all_kept (indices_inferred shown content)
+      (indices_inferred shown content) caller e w h

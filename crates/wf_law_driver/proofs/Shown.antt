@@ -1,15 +1,18 @@
--- How an exchange ends goes by what is shown of its numbers.
+-- Proves that the end of an exchange depends only on which of its numbers are shown, by induction over the
+-- numbers.
 use Rattle.std.proofs.Common.{◌≡◌, refl, ap, sym, ◌∙◌, subst, ℕ, Bool, true, false, List, [], ◌∷◌, Option, Some, None}
 use Rattle.wf_frame.specs.declared.notes.Ask.TheVariants.{Done}
 use Rattle.wf_frame.specs.declared.notes.Note.TheVariants.{Asked}
 use Rattle.wf_frame.specs.declared.notes.Refusal.TheVariants.{BadAir}
-use Rattle.wf_frame.specs.declared.notes.ReplyNote.TheVariants.{Ended, Refused}
+use Rattle.wf_frame.specs.declared.notes.ReplyNote.TheVariants.{Refused}
+use Rattle.wf_frame.specs.declared.notes.ReplyNote.TheVariants as reply
 use Rattle.wf_def_agreement.specs.Receiver.{Score, shows}
 use Rattle.wf_def_agreement.specs.Session.{is_acknowledged, is_waiting, is_failed}
 use Rattle.wf_def_world.specs.World.{World, Exchange, Mpdu, Content, Frames, Request, exchange, without_exchange}
 use Rattle.wf_def_world.specs.CanSend.{is_request, with_listings_of}
 use Rattle.wf_def_world.specs.Exchanges.{is_acked, mpdus_of, after_charge, with_settled, with_all_settled, after_done, count_in}
-use Rattle.wf_def_world.specs.Refusals.{refusal, is_bad_air}
+use Rattle.wf_def_world.specs.Refusals.{refusal}
+use Rattle.wf_frame.specs.Settings.{is_bad_air}
 use Rattle.wf_def_world.specs.Step.{Outcome, done_outcome, outcome_where_open, outcome_of, after_refusal, judged_outcome, station_of, step}
 use Rattle.wf_law_runs.specs.Windows.{EachMpdu}
 use Rattle.wf_law_driver.specs.Shown.{SettlesAlike, EndsAsLost}
@@ -47,11 +50,11 @@ done_none w x b air kept frames h =
     ap {B = Outcome} (λ (v : World). record {
       world = v;
       reply =
-          Ended (count_in v x is_acknowledged) (count_in v x is_waiting) (count_in v x is_failed);
+          reply.Done (count_in v x is_acknowledged) (count_in v x is_waiting) (count_in v x is_failed);
     })
     (after_none x.content (after_charge (without_exchange w x.number) x air) x b kept frames h)
 
--- an answered Done, by what it does to the exchange
+-- the outcome of a Done that is not refused
 done_step : (w : World) (e : ℕ) (x : Exchange) (heard : Bool) (air : Option ℕ) → exchange w e ≡ Some x →
     refusal w (Asked (Done e heard air)) ≡ None →
     step w (Asked (Done e heard air)) ≡ record (done_outcome w x heard air) {

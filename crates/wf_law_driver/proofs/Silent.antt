@@ -1,4 +1,4 @@
--- Calls that tell of no receiver.
+-- Proves that calls which report nothing of a receiver keep a world unheard, by cases of the call.
 use Rattle.std.proofs.Common.{◌≡◌, refl, ap, sym, ◌∙◌, subst, ℕ, ◌==◌, Bool, true, false, not, List, [], ◌∷◌, Option, Some, None, IfSome}
 use Rattle.wf_frame.specs.declared.settings.Config.{Config}
 use Rattle.wf_frame.specs.declared.classes.Class.{Class}
@@ -25,7 +25,7 @@ use Rattle.wf_law_driver.specs.Unheard.{IsUnmarked, HasAcked, IsUnheard, IsSilen
 use Rattle.wf_law_driver.proofs.Opened.{to_each, of_each}
 use Rattle.wf_law_driver.proofs.Ended.{kept_after, live_acked, live_arrived, kept_acked}
 
--- no receiver has anything new, and no exchange a mark
+-- no receiver gets a number, and no exchange a mark
 record Silence (w v : World) : Type 0 where
   arrived : (i j n : ℕ) → has (receiver v i j).arrived n ≡ true → has (receiver w i j).arrived n ≡ true
   marks : Each IsUnmarked w.opened → Each IsUnmarked v.opened

@@ -1,4 +1,5 @@
--- What a transmit path keeps stays while it is told of a receiver.
+-- Proves that an Arrive and an Answer do not change what a transmit path keeps. They change receivers and
+-- marks, on which readiness does not depend, so no station is listed by them.
 use Rattle.std.proofs.Common.{◌≡◌, refl, ap, ap₂, sym, ◌∙◌, subst, arith, ℕ, suc, ◌<◌, ◌==◌, nat_lt, Bool, true, false, not, ◌&&◌, ◌||◌, if◌then◌else◌, List, [], ◌∷◌, ◌++◌, length, map, find, sum_by, Option, Some, None, is_some, unwrap_or, option_map}
 use Rattle.std.specs.List.{list_any}
 use Rattle.std.proofs.Math.Seq.{take-length}
@@ -25,7 +26,7 @@ use Rattle.wf_law_runs.specs.Windows.{OpenRises}
 use Rattle.wf_law_runs.proofs.Deficits.Law.{deficits}
 use Rattle.wf_law_runs.proofs.Frames.Fates.{world_after-append}
 use Rattle.wf_law_runs.proofs.Windows.Sides.{on_tids}
-use Rattle.wf_law_driver.specs.Told.{arrivals, answer_told, indices_told, told}
+use Rattle.wf_law_driver.specs.Inferred.{arrivals, answer_inferred, indices_inferred, inferred}
 use Rattle.wf_law_driver.specs.Transmit.{without_tids, HasSameTransmit, TransmitLaw}
 use Rattle.wf_law_driver.specs.Unheard.{unmarked}
 use Rattle.wf_law_driver.proofs.Opened.{with_replaced, found_number}
@@ -62,7 +63,7 @@ then_transmit u v w h k = record {
   finished = k.finished ∙ h.finished;
 }
 
--- ---- one exchange is replaced by another that is the same but for its marks
+-- ---- one exchange is replaced by another that differs only in its marks
 
 untouched : (lo hi : ℕ) (xs : List Exchange) (z : Exchange) → z.number < lo → OpenRises lo hi xs →
     with_replaced z xs ≡ xs
@@ -169,7 +170,7 @@ unfolding answer_outcome
 answered_transmit w e x r found = with_exchange_transmit w e x (with_answer (answer_now w x) x) r found
     (found_number w e x found) refl
 
--- ---- who is ready stays so
+-- ---- the same stations are ready
 
 any_unmarked : (s t : ℕ) (xs : List Exchange) →
     list_any (λ x. (x.station == s) && ((x.tid == t) && is_request x.content)) xs
@@ -183,7 +184,8 @@ request_open_same w u s t h = any_unmarked s t u.opened
     ∙ (ap (list_any (λ (x : Exchange). (x.station == s) && ((x.tid == t) && is_request x.content))) h.opened
     ∙ sym (any_unmarked s t w.opened))
 
--- whether a TID can send, by its session, whether a request of it is open, the queues and those that it lists
+-- whether a TID can send, given its session, whether a request of it is open, the queues, and those that it
+-- lists
 abbrev sends_by : Session → Bool → List Queue → Rotation → Bool
 sends_by y asked qs r = if request_due y then not asked
     else (nat_lt 0 (length (waiting_numbers y))
@@ -232,9 +234,9 @@ ready_same w u c s h =
     ∙ (ap (λ (b : Bool). is_live w s && ((can_send w s (lower_tid c) || b) && may_receive u s c)) upper
     ∙ ap (λ (b : Bool). is_live w s && (can_send_in w s c && b)) may))
 
--- ---- so nobody is listed anew
+-- ---- so no station is listed
 
--- each ready station is listed
+-- each ready station is listed already
 abbrev ListsReady : World → Type 0
 ListsReady w = (s : ℕ) (c : Class) → is_ready w c s ≡ true → has_key (rotation w c) s ≡ true
 
@@ -341,15 +343,16 @@ tells_run (e ∷ es) config h range k =
     (subst (λ (v : World). HasSameTransmit v (world_after v es)) one_more
     (tells_run es config (h ++ e ∷ []) range k.1))
 
-told_tell : (is js : List ℕ) (caller e : ℕ) → AllTell (arrivals caller e is ++ answer_told caller e js)
-told_tell [] [] caller e = tt
-told_tell [] (j ∷ js) caller e = (tt, tt)
-told_tell (i ∷ is) js caller e = (tt, told_tell is js caller e)
+inferred_tell : (is js : List ℕ) (caller e : ℕ) → AllTell
+    (arrivals caller e is ++ answer_inferred caller e js)
+inferred_tell [] [] caller e = tt
+inferred_tell [] (j ∷ js) caller e = (tt, tt)
+inferred_tell (i ∷ is) js caller e = (tt, inferred_tell is js caller e)
 
 pub transmit_law : (config : Config) (h : List Entry) → IsInRange config → TransmitLaw config h
 transmit_law config h range = record {
   arrive = λ e i. tells_step (Asked (Arrive e i)) config h range tt;
   answer = λ e. tells_step (Asked (Answer e)) config h range tt;
-  told = λ caller e shown content. tells_run (told caller e shown content) config h range
-      (told_tell (indices_told shown content) (indices_told shown content) caller e);
+  inferred = λ caller e shown content. tells_run (inferred caller e shown content) config h range
+      (inferred_tell (indices_inferred shown content) (indices_inferred shown content) caller e);
 }

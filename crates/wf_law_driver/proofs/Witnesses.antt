@@ -1,6 +1,5 @@
--- A driver's run in which the laws speak of something, computed: three frames in one aggregate, whose numbers
--- go across the wrap. The first BlockAck shows the second number alone, the next shows nothing, and the last
--- shows the two that are left.
+-- Proves, by computing, an example of the laws: three frames in one aggregate, whose numbers wrap. The
+-- first BlockAck shows only the second number, the next shows none, and the last shows the other two.
 use Rattle.std.proofs.Common.{◌≡◌, refl, ℕ, ◌==◌, true, false, List, [], ◌∷◌, None, map}
 use Rattle.wf_frame.specs.Settings.{standard}
 use Rattle.wf_frame.specs.declared.classes.Class.TheVariants.{Be}

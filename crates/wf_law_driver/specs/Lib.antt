@@ -1,5 +1,5 @@
 pub mod Unheard
-pub mod Told
+pub mod Inferred
 pub mod Transmit
 pub mod Driven
 pub mod Shown

@@ -1,5 +1,4 @@
--- How an exchange ends goes by what its kept answer shows of its own numbers, and by nothing else of that
--- answer.
+-- Defines that the end of an exchange depends only on which of its own numbers the kept answer shows.
 use Rattle.std.specs.Prelude.{◌≡◌, ℕ, Bool, true, false, List, Option, Some}
 use Rattle.wf_frame.specs.declared.notes.Ask.TheVariants.{Done}
 use Rattle.wf_frame.specs.declared.notes.Note.TheVariants.{Asked}
@@ -10,14 +9,14 @@ use Rattle.wf_def_world.specs.Exchanges.{mpdus_of, with_all_settled}
 use Rattle.wf_def_world.specs.Step.{step}
 use Rattle.wf_law_runs.specs.Windows.{EachMpdu}
 
--- two tests that say the same of each of these numbers settle them alike
+-- two tests with the same result for each of these numbers settle them alike
 abbrev pub SettlesAlike : World → Type 0
 SettlesAlike w =
     (s t : ℕ) (p q : ℕ → Bool) (mpdus : List Mpdu) → EachMpdu (λ m. p m.number ≡ q m.number) mpdus →
     with_all_settled w s t p mpdus ≡ with_all_settled w s t q mpdus
 
--- Where the kept answer shows none of an aggregate's numbers, a Done that was heard is as one that was not,
--- in world and reply.
+-- If the kept answer shows none of an aggregate's numbers, a Done that is heard has the same world and
+-- reply as one that is not.
 abbrev pub EndsAsLost : World → Type 0
 EndsAsLost w =
     (e : ℕ) (x : Exchange) (b : Score) (air : Option ℕ) → exchange w e ≡ Some x → x.answer ≡ Some b →

@@ -1,5 +1,5 @@
--- What a transmit path keeps of a world: all but what the receivers have, and the marks of the open
--- exchanges.
+-- Defines what a transmit path keeps of a world: everything except what the receivers have, and the marks
+-- of open exchanges.
 use Rattle.std.specs.Prelude.{◌≡◌, ℕ, Bool, List, [], None, option_map, map}
 use Rattle.wf_frame.specs.declared.settings.Config.{Config}
 use Rattle.wf_frame.specs.declared.notes.Ask.TheVariants.{Arrive, Answer}
@@ -8,14 +8,14 @@ use Rattle.wf_def_lists.specs.Table.{at}
 use Rattle.wf_def_world.specs.World.{World, Station, Content, session, tid_of, opening}
 use Rattle.wf_def_world.specs.Step.{step}
 use Rattle.wf_def_world.specs.Run.{Entry, world_after}
-use Rattle.wf_law_driver.specs.Told.{after_told}
+use Rattle.wf_law_driver.specs.Inferred.{after_inferred}
 use Rattle.wf_law_driver.specs.Unheard.{unmarked}
 
 -- a station without its TIDs
 abbrev pub without_tids : Station → Station
 without_tids x = record x { tids = [] }
 
--- two worlds that a transmit path does not tell apart
+-- two worlds in which a transmit path keeps the same
 pub record HasSameTransmit (w u : World) : Type 0 where
   pub config : u.config ≡ w.config
   pub clock : u.clock ≡ w.clock
@@ -30,14 +30,13 @@ pub record HasSameTransmit (w u : World) : Type 0 where
   pub frames : u.frames ≡ w.frames
   pub finished : u.finished ≡ w.finished
 
--- the calls by which a receiver is heard of before a Done, one by one and together, change nothing that a
--- transmit path keeps
+-- an Arrive, an Answer, and all inferred calls together do not change what a transmit path keeps
 pub record KeepsTransmit (w : World) : Type 0 where
   pub arrive : (e i : ℕ) → HasSameTransmit w (step w (Asked (Arrive e i))).world
   pub answer : (e : ℕ) → HasSameTransmit w (step w (Asked (Answer e))).world
-  pub told : (caller e : ℕ) (shown : ℕ → Bool) (content : Content) →
-      HasSameTransmit w (after_told w caller e shown content)
+  pub inferred : (caller e : ℕ) (shown : ℕ → Bool) (content : Content) →
+      HasSameTransmit w (after_inferred w caller e shown content)
 
--- in the world after a history
+-- this holds in the world after a history
 abbrev pub TransmitLaw : Config → List Entry → Type 0
 TransmitLaw config history = KeepsTransmit (world_after (opening config) history)

@@ -1,5 +1,5 @@
--- Worlds in which no receiver has anything of which its sender does not know. A driver that tells of a
--- receiver by the bits of a BlockAck alone, when an exchange ends, leaves the machine in such worlds.
+-- Defines unheard worlds: no receiver has anything that its sender does not know of. A driver that reports
+-- a receiver only by the bits of a BlockAck, when an exchange ends, leaves the machine in such worlds.
 use Rattle.std.specs.Prelude.{◌≡◌, ℕ, ◌<◌, ◌≤◌, true, List, [], None}
 use Rattle.wf_frame.specs.declared.settings.Config.{Config}
 use Rattle.wf_frame.specs.declared.notes.Ask.TheVariants.{Arrive, Answer, Done}
@@ -16,12 +16,12 @@ use Rattle.wf_law_runs.specs.Windows.{EachOpen}
 abbrev pub unmarked : Exchange → Exchange
 unmarked x = record x { arrived = []; answer = None }
 
--- of this exchange nothing has arrived, and no answer is kept
+-- nothing of this exchange has arrived, and no answer is kept
 pub record IsUnmarked (x : Exchange) : Type 0 where
   pub arrived : x.arrived ≡ []
   pub answer : x.answer ≡ None
 
--- the number is given, and its frame is acknowledged
+-- the number was given, and its frame is acknowledged
 pub record HasAcked (y : Session) (n : ℕ) : Type 0 where
   pub from : y.first ≤ n
   pub below : n < next_number y
@@ -32,14 +32,14 @@ pub record IsUnheard (w : World) : Type 0 where
   pub marks : EachOpen IsUnmarked w.opened
   pub acked : (s t n : ℕ) → has (receiver w s t).arrived n ≡ true → HasAcked (session w s t) n
 
--- a call that tells of no receiver: any but an Arrive, an Answer and a Done that is heard
+-- a call that reports nothing of a receiver: any except an Arrive, an Answer and a Done that is heard
 abbrev pub IsSilent : Note → Type 0
 IsSilent (Asked (Arrive e i)) = ⊥
 IsSilent (Asked (Answer e)) = ⊥
 IsSilent (Asked (Done e true air)) = ⊥
 IsSilent note = Unit {0}
 
--- in the world after a history
+-- such calls keep the world after a history unheard
 abbrev pub SilentLaw : Config → List Entry → Type 0
 SilentLaw config history =
     let w : World = world_after (opening config) history in

@@ -1,9 +1,19 @@
-//! Whatever bits a driver hands in when an exchange ends, some run of the machine has them.
+//! Laws of drivers that report receivers only by BlockAcks.
 //!
-//! A transmit path has no receivers: a driver tells it of them, by the start and the bitmap of a BlockAck.
-//! Its world is that of the run in which exactly the numbers that were shown arrived, just before their Done.
-//! Such worlds are *unheard*: no receiver has anything of which its sender does not know. Each law here is a
-//! function without a body that names it in its contract.
+//! A transmit path has no receivers: when an exchange ends, a driver gives it the start and the bitmap of
+//! the BlockAck. From a BlockAck the laws *infer* calls of the machine just before the Done: exactly the
+//! exchange's numbers that it shows arrive, and the receiver answers. So for any bits that a driver gives
+//! there is a run of the machine, and the path is in the world of that run. Such worlds are *unheard*: no
+//! receiver has anything that its sender does not know of.
+//!
+//! Each function here has no body; its contract states a law. For example, if the BlockAck of exchange 0
+//! shows only the second of its numbers, the inferred calls and the Done are
+//!
+//! ```text
+//! arrive 0 1
+//! answer 0
+//! done 0 heard
+//! ```
 #![tactic(auto)]
 
 ghost use Rattle.std.specs.Prelude.{ℕ, List};
@@ -13,16 +23,17 @@ ghost use Rattle.wf_def_world.specs.Run.{Entry};
 ghost use Rattle.wf_def_world.specs.World.{World, opening};
 ghost use Rattle.wf_law_driver.specs.Driven.{Deed, DrivenLaw};
 ghost use Rattle.wf_law_driver.specs.Shown.{EndsAsLost, SettlesAlike};
-ghost use Rattle.wf_law_driver.specs.Told.{RunLaw, ToldLaw};
+ghost use Rattle.wf_law_driver.specs.Inferred.{RunLaw, InferredLaw};
 ghost use Rattle.wf_law_driver.specs.Transmit.{TransmitLaw};
 ghost use Rattle.wf_law_driver.specs.Unheard.{IsUnheard, SilentLaw};
 
-/// In an unheard world of a run, a BlockAck that shows any of an open exchange's numbers tells of calls that
-/// are all answered, and the exchange then keeps an answer that shows exactly those. After its Done, be its
-/// airtime computed or named, exactly those are acknowledged, and the world is unheard. One that shows none
-/// of them tells of nothing, and its Done is not heard.
-pub fn told_law()
-    ensures told { (config : Config) (history : List Entry) → ToldLaw config history }
+/// In an unheard world of a run, the calls that are inferred from a BlockAck for an open exchange are all
+/// answered. If there are any, the exchange then keeps an answer that shows exactly those of its numbers
+/// that the BlockAck shows. After the Done, with any airtime that it may give, exactly these numbers are
+/// acknowledged, and the world is unheard. If the BlockAck shows none of an aggregate's numbers, no calls
+/// are inferred, and the Done is not heard.
+pub fn inferred_law()
+    ensures inferred { (config : Config) (history : List Entry) → InferredLaw config history }
 {}
 
 /// The world before the first call is unheard.
@@ -30,33 +41,32 @@ pub fn opening_law()
     ensures unheard { (config : Config) → IsUnheard (opening config) }
 {}
 
-/// Each call that tells of no receiver leaves an unheard world of a run unheard: every call but an Arrive, an
-/// Answer and a Done that is heard.
+/// Each call that reports nothing of a receiver keeps a world of a run unheard: each call except an Arrive,
+/// an Answer and a Done that is heard.
 pub fn silent_law()
     ensures silent { (config : Config) (history : List Entry) → SilentLaw config history }
 {}
 
-/// The calls that a BlockAck tells of go on the run, and bring no frame.
+/// The calls that are inferred from a BlockAck continue a run, and bring no frame.
 pub fn run_law()
     ensures run { (config : Config) (history : List Entry) → RunLaw config history }
 {}
 
-/// An Arrive and an Answer, and so all calls that a BlockAck tells of, change nothing that a transmit path
-/// keeps.
+/// An Arrive and an Answer, and so all inferred calls, do not change what a transmit path keeps.
 pub fn transmit_law()
     ensures transmit { (config : Config) (history : List Entry) → IsInRange config →
         TransmitLaw config history }
 {}
 
-/// Whatever a driver does, in whatever order, some history of the machine has its calls, and just before each
-/// Done the arrivals and the answer that its BlockAck tells of; and that history leaves the machine in an
+/// Whatever a driver does, in any order, there is a history of the machine that has its calls and, just
+/// before each Done, the calls that are inferred from its BlockAck. This history leaves the machine in an
 /// unheard world.
 pub fn driven_law()
     ensures driven { (config : Config) (deeds : List (ℕ × Deed)) → DrivenLaw config deeds }
 {}
 
-/// Of the answer that an exchange keeps, its Done goes by what it shows of the exchange's own numbers alone.
-/// Where it shows none of an aggregate's, the Done is as one that was not heard.
+/// A Done depends only on which of the exchange's own numbers the kept answer shows. If it shows none of an
+/// aggregate's numbers, the Done has the same outcome as one that is not heard.
 pub fn shown_law()
     ensures alike { (w : World) → SettlesAlike w }
     ensures none { (w : World) → EndsAsLost w }

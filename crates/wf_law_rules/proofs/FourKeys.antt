@@ -1,4 +1,4 @@
--- The worked example, computed both ways.
+-- Proves the worked example of specs/FourKeys by computing the loop and the pick.
 use Rattle.std.proofs.Common.{refl}
 use Rattle.wf_def_rotation.specs.Rotation.{pick}
 use Rattle.wf_law_rules.specs.FourKeys.{LoopEnds, FourKeysGive}

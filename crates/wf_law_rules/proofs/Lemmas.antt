@@ -1,14 +1,17 @@
--- Lemmas over the shared definitions, made for the proofs of other crates.
+-- Lemmas about the shared definitions, for the proofs of other crates.
 --
--- Tables, Sums: tables, and sums over them.
--- Numbers: tests of numbers, rising lists, and what a receiver releases and shows.
--- Joined: lists put together. Counts: how often a number stands on a list, and which stands first.
--- Members: which keys stand on a part of a list.
--- Picks: a pick under other names, of the same keys, and of keys that are not ready.
--- Rotations: what a pick does to the lists, their order and the quanta.
--- Turns: the law over one turn of the loop.
--- Drops: CoDel's looks and drops one after the other. Dequeues: what holds of each dequeue.
--- Stepped: the RFC's loop and the closed form are one. Roots: whole roots.
+-- - Tables, Sums: entries of tables, and sums over them.
+-- - Numbers: tests of numbers, increasing lists, and what a receiver releases and shows.
+-- - Joined: lists that are appended.
+-- - Counts: how often a number occurs in a list, and which of two comes first.
+-- - Members: the members of parts of a list.
+-- - Picks: a pick with other numbers, with the same keys, and without ready keys.
+-- - Rotations: what a pick does to the lists, their order and the quanta.
+-- - Visits: the law of one turn of the loop.
+-- - Drops: CoDel's looks and drops in sequence.
+-- - Dequeues: statements that hold for each dequeue.
+-- - Stepped: the RFC's loop equals the closed form.
+-- - Roots: integer square roots.
 pub mod Tables
 pub mod Sums
 pub mod Numbers
@@ -17,7 +20,7 @@ pub mod Counts
 pub mod Members
 pub mod Picks
 pub mod Rotations
-pub mod Turns
+pub mod Visits
 pub mod Drops
 pub mod Stepped
 pub mod Roots

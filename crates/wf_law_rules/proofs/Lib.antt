@@ -1,9 +1,8 @@
--- What other crates use of these proofs stands in Lemmas, and nothing else of them does. The rest
--- answers the laws of lib.rt.
+-- Other crates use only Lemmas. The other modules serve the proofs of the laws of lib.rt.
 pub mod Lemmas
 mod Renamings
 mod Order
-mod OneTurn
+mod OneVisit
 mod LoopLaw
 mod LoopEnds
 mod FourKeys

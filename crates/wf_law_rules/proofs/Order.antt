@@ -1,10 +1,10 @@
--- Where a key stands in a list.
+-- Proves at which index a key is in a list, in a filtered list, and in a list that is split at a key.
 use Rattle.wf_def_lists.specs.Lists.{IsOnce}
 use Rattle.std.proofs.Common.{◌≡◌, ◌≢◌, refl, ap, sym, ◌∙◌, subst, arith, ℕ, suc, ◌+◌, ◌<◌, ◌≤◌, Bool, true, false, if◌then◌else◌, ◌||◌, ◌==◌, nat_lt, List, [], ◌∷◌, ◌++◌, length, filter}
 use Rattle.wf_def_lists.specs.Table.{has}
 use Rattle.wf_def_rotation.specs.Rotation.{keys_before, keys_from}
 
--- the place of the first k, or the length
+-- Returns the index of the first k in a list, or the length of the list if it has no k.
 abbrev pub place : ℕ → List ℕ → ℕ
 place k [] = 0
 place k (y ∷ ys) = if y == k then 0 else suc (place k ys)
@@ -22,7 +22,7 @@ pub or_true : (a b : Bool) → a || b ≡ true → a ≡ false → b ≡ true
 or_true true b h e = absurd (cc e)
 or_true false b h e = h
 
--- ---- in a list and one after it
+-- ---- an appended list
 
 front_if : (b : Bool) (m n : ℕ) (P : Bool) → (b || P) ≡ true → (b ≡ false → P ≡ true → m ≡ n) →
     (if b then 0 else suc m) ≡ (if b then 0 else suc n)
@@ -51,7 +51,7 @@ pub place_inside : (xs : List ℕ) (k : ℕ) → has xs k ≡ true → place k x
 place_inside [] k h = absurd (cc h)
 place_inside (x ∷ xs) k h = inside_if (x == k) (has xs k) _ _ h (place_inside xs k)
 
--- ---- before a key, and from it on
+-- ---- the parts of a list before a key and from it on
 
 pub record IsParted (w k : ℕ) (xs : List ℕ) : Type 0 where
   pub early : has (keys_before w xs) k ≡ true → (place k xs < place w xs) ×
@@ -69,7 +69,7 @@ parted_here w k y ys e = record {
       (omega arith, yes, omega arith);
 }
 
--- the head is not w: b says whether it is k
+-- The head of the list is not w. b says whether the head is k.
 step_early : (b : Bool) (B X : Bool) (kb kx w : ℕ) → (b || B) ≡ true →
     (B ≡ true → (kx < w) × (kb ≡ kx) × (X ≡ true)) → ((if b then 0 else suc kx) < suc w) ×
     ((if b then 0 else suc kb) ≡ (if b then 0 else suc kx)) × ((b || X) ≡ true)
@@ -111,7 +111,7 @@ parted [] w k = record { early = λ h. absurd (cc h); later = λ h yes. absurd (
 parted (y ∷ ys) w k = by_bool (IsParted w k (y ∷ ys)) (y == w) (parted_here w k y ys)
     (λ no. parted_there w k y ys no (parted ys w k))
 
--- ---- lists without a key twice
+-- ---- lists without repeats
 
 pub before_from : (w : ℕ) (xs : List ℕ) → keys_before w xs ++ keys_from w xs ≡ xs
 before_from w [] = refl

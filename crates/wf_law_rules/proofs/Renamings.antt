@@ -1,4 +1,4 @@
--- Lists of keys under other names.
+-- Proves that filters, searches and splits of a list give the same result if its keys have other numbers.
 use Rattle.std.proofs.Common.{◌≡◌, refl, ap, sym, ◌∙◌, ℕ, Bool, true, false, ◌||◌, cond, List, [], ◌∷◌, ◌++◌, map, Option, Some, None, eqb, nat_le, eq-eqb, inl, inr}
 use Rattle.std.specs.Prelude.{filter, find, option_map}
 use Rattle.std.proofs.lemmas.Bool.{cases_eq, ne_eqb}
@@ -7,7 +7,7 @@ use Rattle.wf_def_rotation.specs.Rotation.{keys_before, keys_from, first_of_two,
 use Rattle.wf_law_rules.specs.Renamed.{KeepsApart}
 use Rattle.wf_law_rules.proofs.Lemmas.Members.{has_head, has_tail, has_least}
 
--- what is said of each key of a list stands under the other names
+-- q of a key's other number equals p of the key, for each key of the list.
 abbrev pub IsKeptOn : {X : Type 0} → (ℕ → ℕ) → List ℕ → (ℕ → X) → (ℕ → X) → Type 0
 IsKeptOn f xs p q = (key : ℕ) → has xs key ≡ true → q (f key) ≡ p key
 

@@ -1,10 +1,10 @@
--- All laws of a history together.
+-- Proves all laws of a history together, from the proof of each.
 use Rattle.std.specs.Prelude.{List}
 use Rattle.wf_frame.specs.declared.settings.Config.{Config}
 use Rattle.wf_frame.specs.Settings.{IsInRange}
 use Rattle.wf_def_world.specs.Run.{Entry}
 use Rattle.wf_law_runs.specs.Laws.{Laws}
-use Rattle.wf_law_rules.proofs.Lemmas.Turns.{turn_law}
+use Rattle.wf_law_rules.proofs.Lemmas.Visits.{visit_law}
 use Rattle.wf_law_runs.proofs.Windows.Law.{window_law}
 use Rattle.wf_law_runs.proofs.Windows.Answers.{answer_law}
 use Rattle.wf_law_runs.proofs.Releases.Named.{release_law}
@@ -17,6 +17,8 @@ use Rattle.wf_law_runs.proofs.Frames.Tallies.{tally_law}
 use Rattle.wf_law_runs.proofs.Deficits.Law.{deficits}
 use Rattle.wf_law_runs.proofs.Deficits.Quiet.{quiet}
 use Rattle.wf_law_runs.proofs.Fairness.Law.{fairness}
+use Rattle.wf_law_runs.proofs.Shares.Law.{share_law}
+use Rattle.wf_law_runs.proofs.Shares.Waits.{waiting_law, sparse_law}
 use Rattle.wf_law_runs.proofs.Rotations.Law.{rotation_law}
 use Rattle.wf_law_runs.proofs.Frames.Places.{place_law}
 use Rattle.wf_law_runs.proofs.Frames.Rooms.{room_law}
@@ -46,7 +48,10 @@ laws config h range = record {
   deficits = deficits config h range;
   quiet = quiet config h range;
   fairness = fairness config h range;
-  turns = turn_law;
+  shares = share_law config h range;
+  waiting = waiting_law config h range;
+  sparse = sparse_law config h;
+  turns = visit_law;
   rotations = rotation_law config h range;
   twelve_bits = twelve_bit_law config h;
   queues = queue_law config h range;

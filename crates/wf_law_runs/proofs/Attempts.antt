@@ -1,2 +1,2 @@
--- The law of how often a number is sent in vain.
+-- The proof of the law of attempts.
 pub mod Law

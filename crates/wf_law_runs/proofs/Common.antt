@@ -1,3 +1,3 @@
--- What any of the laws may use: a history cut at its moments. Lemmas over the shared definitions alone stand
--- in wf_law_rules.
+-- Lemmas that any of the laws may use, about the moments of a history. Lemmas about the shared definitions
+-- are in wf_law_rules.
 pub mod Moments

@@ -1,9 +1,15 @@
--- The deficit law. Books is the part of a world that it speaks of, and BookSteps what each part of a call
--- does to it, one equation each. Kept is what the books keep, one lemma for each kind of change, with
--- Openings (lists of open exchanges), Bounds (how far a deficit goes) and LongestCharge; KeptStep carries it
--- over every call. Accounts has the sum exactly. Mild and MildStep: a call lets only the station that it
--- concerns become ready; Ready: so every ready station is listed. Quiet: what a receive charge shows.
--- Numbers: how large charges and deficits get.
+-- The proofs of the laws of the deficits.
+--
+-- - Books: the part of a world that these laws refer to. BookSteps: one equation for each part of a call,
+--   which says how it changes the books.
+-- - Kept: an invariant of the books, with one lemma for each kind of change. It uses Openings (lists of
+--   open exchanges), Bounds (bounds of a deficit) and LongestCharge. KeptStep: each call keeps the
+--   invariant.
+-- - Accounts: the exact value of a deficit.
+-- - Mild, MildStep: only the station that a call concerns can become ready. Ready: so every ready station
+--   is listed.
+-- - Quiet: when a station's received airtime is 0.
+-- - Numbers: the greatest charges and deficits.
 pub mod Books
 pub mod BookSteps
 pub mod Openings

@@ -1,4 +1,4 @@
--- The fairness law. OldOrder: over each call the numbers of quanta of two stations and their order on the old
--- list change together. Law: so over a stretch, and so the charges.
+-- The proof of the law of fairness. OldOrder: in each call, the quanta of two stations and their order on
+-- the old list change together. Law: so this holds over a stretch, and bounds the charges.
 pub mod OldOrder
 pub mod Law

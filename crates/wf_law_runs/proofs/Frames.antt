@@ -1,9 +1,16 @@
--- What becomes of frames. Fewer: what queues no more frames and acknowledges only some. Delivered: each frame
--- that is acknowledged has arrived; DeliveryLaw: at its own receiver. Untouched: what leaves the frames
--- alone. Fates: a fate stays, since only held frames are in hand, and each that gets one goes on the finished
--- list. FinishedLaw: so it is there once, until it is reaped. Owners: whose the frames at unsettled numbers
--- are. Covered and CoveredStep: each held frame is in hand. Places: so it stands in one place. Counted: so
--- there are as many as stand in places. Rooms: so there is room for them. Tallies: the counts by fate add up.
+-- The proofs of the laws of frames.
+--
+-- - Fewer: changes that add no frame to a queue and acknowledge only some frames.
+-- - Delivered: each acknowledged frame has arrived. DeliveryLaw: it arrived at its own receiver.
+-- - Untouched: changes that do not affect the frames.
+-- - Fates: a fate other than Held never changes, because only held frames are in queues and at unsettled
+--   numbers, and each frame that gets a fate goes on the finished list. FinishedLaw: so it is there once,
+--   until it is reaped.
+-- - Owners: the TID of each frame at a number.
+-- - Covered, CoveredStep: each held frame is in a queue or at an unsettled number. Places: so it is in one
+--   place.
+-- - Counted: so there are as many held frames as frames in places. Rooms: the law of room.
+-- - Tallies: the counts of frames by fate add up.
 pub mod Fewer
 pub mod Delivered
 pub mod Untouched

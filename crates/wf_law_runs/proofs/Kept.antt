@@ -1,4 +1,4 @@
--- The law of kept numbers. Lasting: what keeps the ids of a session's numbers, and its settled numbers as
--- they are. Law: so it is over every call and every stay, answered.
+-- The proof of the law of numbers. Lasting: changes that keep the ids of a session's numbers and the states
+-- of its settled numbers. Law: every call and every stay keeps them.
 pub mod Lasting
 pub mod Law

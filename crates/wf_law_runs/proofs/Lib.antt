@@ -1,24 +1,26 @@
--- The proofs of the laws, a folder for each law. A file named Law, or the law's own name, ends in the lemma
--- that answers it; AllLaws puts them together.
+-- The proofs of the laws, in a folder for each group of laws. A file Law, or one with the name of the law,
+-- contains the lemma that proves the law. AllLaws combines them.
 --
---   law of lib.rt                               ends in
+--   law of lib.rt                               proved in
 --   window_law, answer_law, twelve_bit_law      Windows (Law, Answers, TwelveBits)
 --   release_law, once_law                       Releases (Named, Placed)
---   delivery_law, fate_law, finished_law,       Frames (DeliveryLaw, FateLaw, FinishedLaw, Places, Rooms, Tallies)
---   place_law, room_law, tally_law
+--   delivery_law, fate_law, finished_law,       Frames (DeliveryLaw, FateLaw, FinishedLaw, Places, Rooms,
+--     place_law, room_law, tally_law              Tallies)
 --   kept_law                                    Kept (Law)
 --   queue_law, queue_deficit_law, limit_law     Queues (Law, Limit)
 --   range_law                                   Ranges (Law)
 --   deficit_law, quiet_law, number_law          Deficits (Law, Quiet, Numbers)
 --   fairness_law                                Fairness (Law)
+--   share_law, waiting_law, sparse_law          Shares (Law, Waits)
 --   sum_law                                     Sums (Law)
 --   sent_law                                    Sent (Law)
 --   attempts_law                                Attempts (Law)
 --   rotation_law                                Rotations (Law)
 --
--- Each law is an invariant of worlds or a relation between a world and a later one. A lemma for each part of
--- a call, named after that part, keeps it; then the call by cases (.._done), the refusal (.._refused), the
--- answer (.._answer), the step (.._step) and the run (.._run).
+-- Each law is an invariant of worlds, or a relation between a world and a later one. For each part of a
+-- call, a lemma with the name of this part proves that the part keeps it. Further lemmas prove the same for
+-- each case of the call (.._done), the refusal (.._refused), the answer (.._answer), the step (.._step) and
+-- the run (.._run).
 mod Common
 pub mod Sessions
 pub mod Windows
@@ -29,6 +31,7 @@ pub mod Queues
 pub mod Deficits
 pub mod Ranges
 mod Fairness
+pub mod Shares
 pub mod Sums
 pub mod Sent
 pub mod Attempts

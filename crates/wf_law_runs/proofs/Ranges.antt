@@ -1,4 +1,4 @@
--- The law of the ranges. Traits: what a station has besides its shares and TIDs. Law joins it with the
--- windows' sizes, the stations' numbers and CoDel's counts, and answers.
+-- The proof of the law of ranges. Traits: the values of a station except its shares and TIDs. Law: these
+-- values, the sizes of windows, the numbers of stations and CoDel's counts.
 pub mod Traits
 pub mod Law

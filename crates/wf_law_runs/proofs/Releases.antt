@@ -1,5 +1,6 @@
--- What the receivers pass up. Kept: receivers, and ids of numbers. Released: one session, in order. Placed:
--- each frame has one place, so no id is passed up twice. Named: which numbers are passed up so far.
+-- The proofs of the laws of released frames. Kept: changes that keep receivers and the ids of numbers.
+-- Released: one session releases its frames in order. Placed: each frame has one place, so no id is
+-- released twice. Named: which numbers are released so far.
 pub mod Passing
 pub mod Kept
 pub mod Released

@@ -1,2 +1,2 @@
--- The lists of stations. Law reads their law off the deficits' invariant, and answers.
+-- The proof of the law of rotations, from the invariant of the deficits.
 pub mod Law

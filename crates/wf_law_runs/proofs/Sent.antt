@@ -1,4 +1,4 @@
--- The law of what an open exchange sends.
+-- The proof of the law of sent frames.
 pub mod Lengths
 pub mod Given
 pub mod Alone

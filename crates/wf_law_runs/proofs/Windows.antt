@@ -1,8 +1,13 @@
--- The window law. Agreement has one TID alone: what holds between the two sides, and what keeps it. Sides and
--- Opened say what leaves all sides and all open exchanges alone; Agreed carries the agreement over every
--- call; Settling, Waits and Flying have what a Done makes of its numbers, that no number is given while a
--- request is due, and that a flying number is in an open exchange. Law and Answers answer; Sizes, Answered,
--- which has where a kept answer starts, and TwelveBits bound the numbers that are compared.
+-- The proofs of the window law, the law of answers and the law of twelve-bit numbers.
+--
+-- - Agreement: an invariant of both sides of one TID, and the changes that keep it.
+-- - Sides, Opened: changes that affect neither sides nor open exchanges.
+-- - Agreed: every call keeps the invariant.
+-- - Settling: how a Done changes its numbers. Waits: no number is assigned while a request is due. Flying:
+--   a number on the air is in an open exchange.
+-- - Law, Answers: the laws.
+-- - Sizes, Answered (the start of an open exchange's answer), TwelveBits: bounds on the numbers that are
+--   compared.
 pub mod Opened
 pub mod Sides
 pub mod Agreement

@@ -1,5 +1,7 @@
--- Histories in which the laws speak of something, computed.
+-- Computed histories that satisfy the conditions of the laws, which shows that the laws are not empty.
 pub mod Airtime
+pub mod Shares
+pub mod Waiting
 pub mod Releases
 pub mod Places
 pub mod Rotations

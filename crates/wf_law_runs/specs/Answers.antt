@@ -1,5 +1,5 @@
--- An answer stands: what had arrived of an exchange when its Answer was made is what has arrived of it as
--- long as it is open.
+-- Defines the law of answers: as long as an exchange is open, exactly those of its numbers have arrived
+-- that had arrived when its Answer was made.
 use Rattle.std.specs.Prelude.{◌≡◌, ℕ, List, ◌∷◌, ◌++◌, IfSome}
 use Rattle.wf_frame.specs.declared.settings.Config.{Config}
 use Rattle.wf_frame.specs.declared.notes.Ask.TheVariants.{Answer}
@@ -13,18 +13,20 @@ use Rattle.wf_def_world.specs.Step.{step}
 use Rattle.wf_def_world.specs.Run.{Entry, by, world_after}
 use Rattle.wf_law_runs.specs.Windows.{EachMpdu}
 
+-- The reply is a BlockAck.
 abbrev pub IsBa : ReplyNote → Type 0
 IsBa (Ba start b0 b1 b2 b3 wide) = Unit {0}
 IsBa reply = ⊥
 
--- u: the world in which the Answer was made; w: a later one
+-- The same numbers of exchange x have arrived in w and in u. u is the world in which the Answer was made,
+-- and w a later one.
 abbrev pub StandsAsThen : World → World → Exchange → Type 0
 StandsAsThen u w x =
     EachMpdu (λ m. has (receiver w x.station x.tid).arrived m.number
     ≡ has (receiver u x.station x.tid).arrived m.number) (mpdus_of x.content)
 
--- Where an Answer was made for an exchange after the entries `before`, and the exchange is open after
--- `after`, its answer stands as then.
+-- If an Answer was made for an exchange after the entries `before`, and the exchange is still open after
+-- the entries `after`, the same numbers of it have arrived as then.
 abbrev pub AnswerLaw : Config → List Entry → Type 0
 AnswerLaw config history =
     (before : List Entry) (caller e : ℕ) (after rest : List Entry) →

@@ -1,4 +1,5 @@
--- The laws of the deficits: how far they go, and that they are fair.
+-- Defines the laws of the deficits of stations: their value, their bounds, and airtime fairness ("Ending
+-- the Anomaly", USENIX ATC 2017, section 3.2).
 use Rattle.std.specs.Prelude.{◌≡◌, ℕ, ◌+◌, ◌-◌, ◌*◌, ◌≤◌, ◌==◌, max, pos, ◌-ℤ◌, ◌≤ℤ◌, ◌&&◌, List, [], ◌∷◌, IsTrue, if◌then◌else◌, is_none, take}
 use Rattle.wf_frame.specs.declared.settings.Config.{Config}
 use Rattle.wf_frame.specs.declared.classes.Class.{Class}
@@ -16,29 +17,33 @@ use Rattle.wf_def_world.specs.Step.{step}
 use Rattle.wf_def_world.specs.Run.{Entry}
 use Rattle.wf_def_world.specs.Stretches.{world_at, charged_between, IsStretch, IsQuiet}
 
--- the greatest charge that is computed of an exchange, in microseconds: the greatest time of its data, the
--- pause and the longest BlockAck
+-- Returns the greatest computed charge of an exchange, in microseconds: the greatest time of its data, the
+-- pause and the longest BlockAck.
 abbrev pub longest_computed : Config → ℕ
 longest_computed config = config.cap + longest_answer
 
--- the greatest charge of an exchange, in microseconds, be it computed or named by its Done
+-- Returns the greatest charge of an exchange, in microseconds, computed or given by its Done.
 abbrev pub longest_exchange : Config → ℕ
 longest_exchange config = max (longest_computed config) config.charge
 
--- what the open exchanges of a class can be charged together, in microseconds
+-- Returns the greatest charge of all open exchanges of a class together, in microseconds.
 abbrev pub most_owed : Config → ℕ
 most_owed config = config.inflight * longest_exchange config
 
--- the computed charges of the open exchanges of a station in a class
+-- Returns the sum of the computed charges of a station's open exchanges in a class.
 abbrev pub owed : ℕ → Class → List Exchange → ℕ
 owed s c [] = 0
 owed s c (x ∷ xs) = (if (x.station == s) && same_class x.class c then x.charge else 0) + owed s c xs
 
--- a station's quantum: its weight's share of the setting
+-- Returns a station's quantum in microseconds: the setting `quantum` times its weight.
 abbrev pub own_quantum : Config → World → ℕ → ℕ
 own_quantum config w s = config.quantum * (station w s).weight
 
--- what holds of the deficit of a live station in a class
+-- The deficit of a live station in a class, in microseconds. `exact`: it is the quantum of the join and the
+-- quanta of the visits since then, less the charged and the received airtime. `most`: it is at most one
+-- quantum. `least`: it is at least 0 - (greatest_debt + most_owed). `quiet`, `floor`: without receive
+-- charges since the join, it is at least 1 - most_owed, also after the computed charges of the station's
+-- own open exchanges are subtracted. `ready`: a ready station is listed.
 pub record IsAccounted (config : Config) (w : World) (s : ℕ) (c : Class) : Type 0 where
   pub exact : (share w s c).deficit ≡ pos (own_quantum config w s + own_quantum config w s *
       (share w s c).quanta) -ℤ pos ((share w s c).charged + (share w s c).received)
@@ -49,38 +54,45 @@ pub record IsAccounted (config : Config) (w : World) (s : ℕ) (c : Class) : Typ
   pub floor : IsQuiet w s c → (pos 1 -ℤ pos (most_owed config)) ≤ℤ (share w s c).deficit
   pub ready : IsTrue (is_ready w c s) → IsTrue (has_key (rotation w c) s)
 
--- after each entry, for each live station and class
+-- The law of deficits: `IsAccounted` holds after each entry, for each live station and class.
 abbrev pub DeficitLaw : Config → List Entry → Type 0
 DeficitLaw config h = (m s : ℕ) (c : Class) → IsTrue (is_live (world_at config h m) s) →
     IsAccounted config (world_at config h m) s c
 
--- the quanta that a station got after the first a entries and among the first b
+-- Returns how many quanta a station got between moment a, after the first a entries, and moment b.
 abbrev pub got_between : Config → List Entry → ℕ → Class → ℕ → ℕ → ℕ
 got_between config h s c a b = (share (world_at config h b) s c).quanta -
     (share (world_at config h a) s c).quanta
 
--- m and n differ by at most d
+-- m and n differ by at most d.
 abbrev pub IsNear : ℕ → ℕ → ℕ → Type 0
 IsNear d m n = (m ≤ n + d) × (n ≤ m + d)
 
+-- Returns the weight of station s after m entries.
 abbrev pub weight_at : Config → List Entry → ℕ → ℕ → ℕ
 weight_at config h m s = (station (world_at config h m) s).weight
 
+-- Returns the greatest difference of the charged airtimes of two stations with the weights g and h, in
+-- microseconds, if each airtime is multiplied by the other's weight.
 abbrev pub fair_bound : Config → ℕ → ℕ → ℕ
 fair_bound config g h = 3 * config.quantum * g * h + (g + h) * most_owed config
 
+-- Two stations are served alike between the moments a and b: the numbers of their quanta differ by at most
+-- 1, and their charged airtimes, each times the other's weight, by at most the bound.
 pub record IsFairStretch (config : Config) (h : List Entry) (i j : ℕ) (c : Class) (a b : ℕ) : Type 0 where
   pub quanta : IsNear 1 (got_between config h i c a b) (got_between config h j c a b)
   pub charged : IsNear (fair_bound config (weight_at config h b i) (weight_at config h b j))
       (charged_between config h i c a b * weight_at config h b j)
       (charged_between config h j c a b * weight_at config h b i)
 
--- two stations that stay on one class's old list with no receive charge are charged alike
+-- The law of fairness: two stations that stay on one class's old list, without receive charges, are served
+-- alike.
 abbrev pub FairnessLaw : Config → List Entry → Type 0
 FairnessLaw config h = (i j : ℕ) (c : Class) (a b : ℕ) → IsStretch config h i j c a b →
     IsQuiet (world_at config h b) i c → IsQuiet (world_at config h b) j c → IsFairStretch config h i j c a b
 
--- how many receive charges of a class a station had since its join, after a call: n is how many before it
+-- Returns how many receive charges of a class a station had since its join, after a call. n is their number
+-- before the call.
 abbrev pub receive_charges_by : World → ℕ → Class → Note → ℕ → ℕ
 receive_charges_by w s c (Asked (Join i window start exponent weight)) n =
     if is_none (refusal w (Asked (Join i window start exponent weight))) && (i == s) then 0 else n
@@ -88,12 +100,15 @@ receive_charges_by w s c (Asked (Rx i d air)) n =
     if is_none (refusal w (Asked (Rx i d air))) && ((i == s) && same_class d c) then n + 1 else n
 receive_charges_by w s c _ n = n
 
+-- Returns how many receive charges of a class a station had since its join, after the entries of a history.
+-- n is their number before these.
 abbrev pub receive_charges_in : World → ℕ → Class → List Entry → ℕ → ℕ
 receive_charges_in w s c [] n = n
 receive_charges_in w s c (e ∷ es) n = receive_charges_in (step w e.1).world s c es
     (receive_charges_by w s c e.1 n)
 
--- a live station is quiet exactly where none of its calls Rx in the class was answered Charged since its join
+-- The law of quiet stations: a live station is quiet in a class if and only if none of its Rx calls in the
+-- class was answered Charged since its join.
 abbrev pub QuietLaw : Config → List Entry → Type 0
 QuietLaw config h = (m s : ℕ) (c : Class) → IsTrue (is_live (world_at config h m) s) →
     (receive_charges_in (opening config) s c (take m h) 0 ≡ 0 → IsQuiet (world_at config h m) s c) ×

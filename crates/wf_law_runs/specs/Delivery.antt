@@ -1,4 +1,4 @@
--- Each acknowledged frame reached its own receiver.
+-- Defines the law of delivery: each acknowledged frame has reached the receiver for which it was enqueued.
 use Rattle.std.specs.Prelude.{◌≡◌, ℕ, ◌<◌, ◌≤◌, true, List, [], ◌∷◌, ◌++◌, map, Option, None, Some}
 use Rattle.wf_frame.specs.declared.notes.Ask.TheVariants.{Done}
 use Rattle.wf_frame.specs.declared.notes.Note.{Note}
@@ -13,8 +13,8 @@ use Rattle.wf_def_world.specs.Exchanges.{mpdus_of}
 use Rattle.wf_def_world.specs.Run.{Entry, world_after}
 use Rattle.wf_law_runs.specs.Queues.{IsFor}
 
--- a number of the station and TID that the frame's own Enqueue names carries it, is acknowledged, and is in
--- its receiver's set
+-- A number of the station and TID of the frame's Enqueue carries the frame, is acknowledged, and has
+-- arrived at the receiver.
 pub record HasReached (w : World) (id : ℕ) : Type 0 where
   pub station : ℕ
   pub tid : ℕ
@@ -27,18 +27,18 @@ pub record HasReached (w : World) (id : ℕ) : Type 0 where
   pub acked : (slot (session w station tid) number).state ≡ State.Acked
   pub arrived : has (receiver w station tid).arrived number ≡ true
 
--- the ids of the frames that an exchange sends, where it is open
+-- Returns the ids of the frames that an exchange sends, or none if it is not open.
 abbrev pub ids_sent : Option Exchange → List ℕ
 ids_sent None = []
 ids_sent (Some x) = map (λ m. m.id) (mpdus_of x.content)
 
--- a call ends an exchange that sends the frame, and its answer was heard
+-- The call is a Done of an exchange that sends the frame, and the answer was heard.
 abbrev pub EndsHeard : World → Note → ℕ → Type 0
 EndsHeard w (Asked (Done e true air)) id = has (ids_sent (exchange w e)) id ≡ true
 EndsHeard w note id = ⊥
 
--- The entries have a Done of an exchange that sends the frame. It was heard, before it the frame's
--- fate was Held and after it Acked, and the frame had reached its receiver.
+-- The entries contain a Done of an exchange that sends the frame, and it was heard. The frame's fate was
+-- Held before this Done and Acked after it, and the frame had reached its receiver.
 pub record ReachedWithin (w : World) (entries : List Entry) (id : ℕ) : Type 0 where
   pub before : List Entry
   pub end : Entry
@@ -49,7 +49,8 @@ pub record ReachedWithin (w : World) (entries : List Entry) (id : ℕ) : Type 0 
   pub fate : (frame (step (world_after w before) end.1).world id).fate ≡ Acked
   pub reached : HasReached (step (world_after w before) end.1).world id
 
--- where a frame's fate is Acked: in the prefix of the history that ends with its Done it reached its receiver
+-- The law of delivery: a frame whose fate is Acked reached its receiver in the part of the history that
+-- ends with its Done.
 abbrev pub DeliveryLaw : Config → List Entry → Type 0
 DeliveryLaw config history =
     (id : ℕ) → (frame (world_after (opening config) history) id).fate ≡ Acked →

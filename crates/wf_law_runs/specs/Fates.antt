@@ -1,4 +1,4 @@
--- What became of a frame stays so.
+-- Defines the law of fates: a fate other than Held never changes.
 use Rattle.std.specs.Prelude.{◌≡◌, ℕ, ◌≤◌, ◌⊎◌, List}
 use Rattle.wf_frame.specs.declared.settings.Config.{Config}
 use Rattle.wf_frame.specs.declared.classes.Fate.TheVariants.{Held}
@@ -6,7 +6,7 @@ use Rattle.wf_def_world.specs.World.{frame}
 use Rattle.wf_def_world.specs.Run.{Entry}
 use Rattle.wf_def_world.specs.Stretches.{world_at}
 
--- a fate other than Held never changes
+-- At entries m and n with m ≤ n, the fate was Held at m, or it is the same at n.
 abbrev pub FateLaw : Config → List Entry → Type 0
 FateLaw config history =
     (id m n : ℕ) → m ≤ n → ((frame (world_at config history m) id).fate ≡ Held) ⊎

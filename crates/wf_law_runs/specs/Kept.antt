@@ -1,4 +1,4 @@
--- A number keeps the frame that it was given, as long as its station's session lasts.
+-- Defines the law of numbers: a number keeps its frame as long as the session of its station lasts.
 use Rattle.std.specs.Prelude.{◌≡◌, ℕ, ◌≤◌, ◌<◌, ◌==◌, Bool, true, false, List}
 use Rattle.wf_frame.specs.declared.settings.Config.{Config}
 use Rattle.wf_frame.specs.declared.notes.Ask.TheVariants.{Leave}
@@ -10,13 +10,14 @@ use Rattle.wf_def_world.specs.Step.{step}
 use Rattle.wf_def_world.specs.Run.{Entry}
 use Rattle.wf_def_world.specs.Stretches.{world_at}
 
--- whether a call asks that station s leaves
+-- Returns whether a call asks that station s leaves.
 abbrev pub is_leave_of : ℕ → Note → Bool
 is_leave_of s (Asked (Leave i)) = i == s
 is_leave_of s note = false
 
--- A session y and the same one later, z: its first number and its window stay, its next number does not fall,
--- a number that was given keeps its id, and what became of a number stays so.
+-- y is a session and z the same session later. The first number and the window do not change, the next
+-- number does not fall, an assigned number keeps its frame's id, and an acknowledged or failed number stays
+-- in that state.
 pub record KeepsNumbers (y z : Session) : Type 0 where
   pub first : z.first ≡ y.first
   pub size : z.size ≡ y.size
@@ -27,20 +28,21 @@ pub record KeepsNumbers (y z : Session) : Type 0 where
   pub failed : (n : ℕ) → y.first ≤ n → n < next_number y → (slot y n).state ≡ State.Failed →
       (slot z n).state ≡ State.Failed
 
--- the sessions of one join of a station: it is live at each moment from a to b, so no Leave of it was
--- answered Gone in between
+-- Station s is live at each moment from a to b. So no Leave of it was answered Left between them, and its
+-- sessions are those of one join.
 pub record IsOneStay (config : Config) (history : List Entry) (s a b : ℕ) : Type 0 where
   pub order : a ≤ b
   pub live : (m : ℕ) → a ≤ m → m ≤ b → is_live (world_at config history m) s ≡ true
 
--- any one call: a live station stays so unless it is asked to leave, and where it is live after the call its
--- sessions are the same ones
+-- Any one call: a live station stays live unless the call asks it to leave, and if it is live after the
+-- call, its sessions keep their numbers.
 pub record KeepsByCall (w : World) (note : Note) : Type 0 where
   pub live : (s : ℕ) → is_live w s ≡ true → is_leave_of s note ≡ false → is_live (step w note).world s ≡ true
   pub numbers : (s t : ℕ) → is_live w s ≡ true → is_live (step w note).world s ≡ true →
       KeepsNumbers (session w s t) (session (step w note).world s t)
 
--- over each call that could come at any moment of a history, and over each stay
+-- The law: `KeepsByCall` holds for each call that could come at any moment of a history, and `KeepsNumbers`
+-- for the sessions of each stay of a station.
 pub record KeptLaw (config : Config) (history : List Entry) : Type 0 where
   pub calls : (m : ℕ) (note : Note) → KeepsByCall (world_at config history m) note
   pub stays : (s t a b : ℕ) → IsOneStay config history s a b →

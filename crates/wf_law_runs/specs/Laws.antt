@@ -1,7 +1,7 @@
--- All laws of a history together. Each speaks of the worlds after each of its entries.
+-- Defines all laws of a history together. Each law is a statement about the worlds after each entry.
 use Rattle.std.specs.Prelude.{List}
 use Rattle.wf_frame.specs.declared.settings.Config.{Config}
-use Rattle.wf_def_rotation.specs.Loop.{TurnLaw}
+use Rattle.wf_def_rotation.specs.Loop.{VisitLaw}
 use Rattle.wf_def_world.specs.Run.{Entry}
 use Rattle.wf_law_runs.specs.Windows.{WindowLaw}
 use Rattle.wf_law_runs.specs.Answers.{AnswerLaw}
@@ -16,6 +16,8 @@ use Rattle.wf_law_runs.specs.Room.{RoomLaw, LimitLaw}
 use Rattle.wf_law_runs.specs.TwelveBits.{TwelveBitLaw}
 use Rattle.wf_law_runs.specs.Queues.{QueueLaw, QueueDeficitLaw}
 use Rattle.wf_law_runs.specs.Deficits.{DeficitLaw, QuietLaw, FairnessLaw}
+use Rattle.wf_law_runs.specs.Shares.{ShareLaw}
+use Rattle.wf_law_runs.specs.Waiting.{WaitingLaw, SparseLaw}
 use Rattle.wf_law_runs.specs.Ranges.{RangeLaw}
 use Rattle.wf_law_runs.specs.Numbers.{NumberLaw}
 use Rattle.wf_law_runs.specs.Sums.{SumLaw}
@@ -23,46 +25,54 @@ use Rattle.wf_law_runs.specs.Sent.{SentLaw}
 use Rattle.wf_law_runs.specs.Attempts.{AttemptsLaw}
 use Rattle.wf_law_runs.specs.Rotations.{RotationLaw}
 
+-- The laws of a history.
 pub record Laws (config : Config) (history : List Entry) : Type 0 where
-  -- the window law, how far the two sides of an agreement lie apart; the answer that a Done uses; and what is
-  -- released
+  -- How far the numbers of both sides of an agreement are from each other, which answer a Done uses, and
+  -- which frames are released.
   pub windows : WindowLaw config history
   pub answers : AnswerLaw config history
   pub releases : ReleaseLaw config history
-  -- no id is released twice, each acknowledged frame reached its own receiver, and a fate stays
+  -- No id is released twice, each acknowledged frame has reached its receiver, and no fate other than Held
+  -- changes.
   pub once : OnceLaw config history
   pub delivery : DeliveryLaw config history
   pub fates : FateLaw config history
-  -- a number keeps its frame, and what became of it stays
+  -- A number keeps its frame, and stays acknowledged or failed.
   pub kept : KeptLaw config history
-  -- each frame with a fate is on the finished list once, until it is reaped, once
+  -- Each frame with a fate other than Held is on the finished list once, until it is reaped once.
   pub finished : FinishedLaw config history
-  -- the counts of frames by fate add up to the accepted ones
+  -- The counts of frames by fate add up to the number of accepted frames.
   pub tallies : TallyLaw config history
-  -- each held frame stands in one place
+  -- Each held frame is in exactly one place.
   pub places : PlaceLaw config history
-  -- the frames that are inside are those accepted less those reaped, and there is room for them; the flow
-  -- queues stay within their limit
+  -- The frames that are inside are those that were accepted and not reaped, and there are not too many of
+  -- them. The flow queues stay within their limit.
   pub room : RoomLaw config history
   pub limit : LimitLaw config history
-  -- the deficit law, which receive charges make a station one that is not quiet, and the fairness law
+  -- The deficits of stations, which stations are quiet, and airtime fairness.
   pub deficits : DeficitLaw config history
   pub quiet : QuietLaw config history
   pub fairness : FairnessLaw config history
-  -- the pick in closed form is the paper's loop, turn by turn
-  pub turns : TurnLaw
-  -- the lists of stations, where a Pull is Idle, and that each pick of the run is the loop's
+  -- No station gets more for its weight than a backlogged one. Nobody starves. A station of the new list with
+  -- airtime left is next.
+  pub shares : ShareLaw config history
+  pub waiting : WaitingLaw config history
+  pub sparse : SparseLaw config history
+  -- The pick in closed form has the result of the paper's loop, turn by turn.
+  pub turns : VisitLaw
+  -- The lists of stations, when a Pull is Idle, and that each pick of the run has the result of the loop.
   pub rotations : RotationLaw config history
-  -- what code with 12-bit numbers and with linked queues goes by
+  -- The laws that code with twelve-bit numbers and with linked queues relies on.
   pub twelve_bits : TwelveBitLaw config history
   pub queues : QueueLaw config history
   pub queue_deficits : QueueDeficitLaw config history
-  -- what code with numbers of so many bits goes by
+  -- The laws that code with numbers of fixed width relies on.
   pub ranges : RangeLaw config history
   pub numbers : NumberLaw config history
-  -- the sums of airtime are those of the calls since the join, and no sum or count outgrows the entries
+  -- The sums of airtime are those of the calls since the join, and the sums and counts are bounded by the
+  -- number of entries.
   pub sums : SumLaw config history
-  -- what an open exchange sends
+  -- What an open exchange sends.
   pub sent : SentLaw config history
-  -- how often a number is sent in vain
+  -- How often a number is sent without being acknowledged.
   pub attempts : AttemptsLaw config history

@@ -19,3 +19,5 @@ pub mod Sent
 pub mod Attempts
 pub mod Rotations
 pub mod Finished
+pub mod Shares
+pub mod Waiting

@@ -1,4 +1,4 @@
--- What stays in its range, after every entry of every run.
+-- Defines the law of ranges: which values stay in their ranges after every entry of every run.
 use Rattle.std.specs.Prelude.{◌≡◌, ℕ, ◌<◌, ◌≤◌, true, List, IfSome}
 use Rattle.wf_frame.specs.declared.settings.Config.{Config}
 use Rattle.wf_def_air.specs.Airtime.{IsRate}
@@ -8,27 +8,30 @@ use Rattle.wf_def_world.specs.World.{World, station, session, receiver, queue, i
 use Rattle.wf_def_world.specs.Run.{Entry}
 use Rattle.wf_def_world.specs.Stretches.{world_at}
 
--- a live station
+-- The values of a live station.
 pub record IsStation (config : Config) (w : World) (s : ℕ) : Type 0 where
   pub number : s < config.stations
   pub weight : (1 ≤ (station w s).weight) × ((station w s).weight ≤ greatest_weight)
   pub exponent : (station w s).exponent ≤ greatest_exponent
   pub rate : IsRate (station w s).rate
-  -- only a station that sleeps has a credit
+  -- Only a sleeping station has a credit.
   pub credit : IfSome (station w s).credit (λ _. (station w s).asleep ≡ true)
-  -- both sides of each TID's agreement have its window
+  -- Both sides of each TID's agreement have its window.
   pub window : (t : ℕ) → t < 8 → (1 ≤ (session w s t).size) × ((session w s t).size ≤ greatest_window)
   pub both : (t : ℕ) → (receiver w s t).size ≡ (session w s t).size
 
--- CoDel's counts: at least 1 while it drops, so that a next drop is due, and never past 32 bits
+-- CoDel's counts: the count is at least 1 while CoDel drops, so the control law can compute the next drop,
+-- and both counts fit 32 bits.
 pub record CountsRight (c : Codel) : Type 0 where
   pub some : c.dropping ≡ true → 1 ≤ c.count
   pub count : c.count ≤ greatest_count
   pub last : c.last_count ≤ greatest_count
 
+-- The values of the live stations and the queues of a world.
 pub record KeepsRanges (config : Config) (w : World) : Type 0 where
   pub stations : (s : ℕ) → is_live w s ≡ true → IsStation config w s
   pub queues : (q : ℕ) → CountsRight (queue w q).codel
 
+-- The law: `KeepsRanges` holds after each entry of a history.
 abbrev pub RangeLaw : Config → List Entry → Type 0
 RangeLaw config history = (m : ℕ) → KeepsRanges config (world_at config history m)

@@ -1,5 +1,5 @@
--- The lists of stations after every entry of every run, and the picks from them and from the lists of
--- queues ("Ending the Anomaly", USENIX ATC 2017, section 3, algorithms 2 and 3).
+-- Defines the law of rotations: the lists of stations after every entry of every run, and the picks from
+-- them and from the lists of queues ("Ending the Anomaly", USENIX ATC 2017, section 3, algorithms 2 and 3).
 use Rattle.std.specs.Prelude.{◌≡◌, ◌↔◌, ℕ, ◌<◌, ◌≤◌, true, false, List, Some}
 use Rattle.wf_frame.specs.declared.settings.Config.{Config}
 use Rattle.wf_frame.specs.declared.classes.Class.{Class}
@@ -7,7 +7,7 @@ use Rattle.wf_frame.specs.declared.notes.Ask.TheVariants.{Pull}
 use Rattle.wf_frame.specs.declared.notes.Note.TheVariants.{Asked}
 use Rattle.wf_frame.specs.declared.notes.Refusal.TheVariants.{Idle}
 use Rattle.wf_def_lists.specs.Lists.{IsOnce}
-use Rattle.wf_def_rotation.specs.Loop.{MeetsTurn, turn}
+use Rattle.wf_def_rotation.specs.Loop.{MeetsVisit, visit}
 use Rattle.wf_def_rotation.specs.Rotation.{has_key, in_order}
 use Rattle.wf_def_world.specs.World.{World, share, queue, quantum, rotation, tid_of, is_live}
 use Rattle.wf_def_world.specs.FlowQueues.{has_frames}
@@ -16,39 +16,40 @@ use Rattle.wf_def_world.specs.Refusals.{refusal, open_of_class}
 use Rattle.wf_def_world.specs.Run.{Entry}
 use Rattle.wf_def_world.specs.Stretches.{world_at}
 
--- no live station is ready in the class
+-- No station is ready in the class.
 abbrev pub NoneReady : World → Class → Type 0
 NoneReady w c = (s : ℕ) → is_ready w c s ≡ false
 
--- the class has fewer open exchanges than it may: the setting `inflight`
+-- The class has fewer open exchanges than the setting `inflight`.
 abbrev pub MayOpen : World → Class → Type 0
 MayOpen w c = open_of_class w c < w.config.inflight
 
--- One turn of the paper's loop over the stations of a class: what the pick gives before the turn, it
--- gives after it, and where a station wins in this turn, the pick names it.
+-- One turn of the paper's loop over the stations of a class: the pick has the same result before and after
+-- the turn, or gives the station that wins in this turn.
 abbrev pub PicksStationByTurns : World → Class → Type 0
 PicksStationByTurns w c =
-    MeetsTurn (quantum w) (λ s. (share w s c).deficit) (is_ready w c) (rotation w c)
-    (turn (quantum w) (λ s. (share w s c).deficit) (is_ready w c) (rotation w c))
+    MeetsVisit (quantum w) (λ s. (share w s c).deficit) (is_ready w c) (rotation w c)
+    (visit (quantum w) (λ s. (share w s c).deficit) (is_ready w c) (rotation w c))
 
--- the same over the queues of a TID
+-- The same for the queues of a TID.
 abbrev pub PicksQueueByTurns : World → ℕ → ℕ → Type 0
 PicksQueueByTurns w s t =
-    MeetsTurn (λ q. w.config.flow_quantum) (λ q. (queue w q).deficit) (has_frames w) (tid_of w s t).queues
-    (turn (λ q. w.config.flow_quantum) (λ q. (queue w q).deficit) (has_frames w) (tid_of w s t).queues)
+    MeetsVisit (λ q. w.config.flow_quantum) (λ q. (queue w q).deficit) (has_frames w) (tid_of w s t).queues
+    (visit (λ q. w.config.flow_quantum) (λ q. (queue w q).deficit) (has_frames w) (tid_of w s t).queues)
 
+-- The rotations of a world.
 pub record KeepsRotations (w : World) : Type 0 where
-  -- a class lists live stations alone, each once on both lists together
+  -- A class lists only live stations, each at most once on both lists together.
   pub live : (c : Class) (s : ℕ) → has_key (rotation w c) s ≡ true → is_live w s ≡ true
   pub once : (c : Class) → IsOnce (in_order (rotation w c))
-  -- a Pull is refused as Idle exactly where the class may open an exchange and no station is ready
+  -- A Pull is refused as Idle if and only if the class may open an exchange and no station is ready.
   pub idle : (c : Class) → (refusal w (Asked (Pull c)) ≡ Some Idle) ↔ (MayOpen w c × NoneReady w c)
-  -- each quantum is at least 1 microsecond, or octet, so a turn of the loop is a turn of the pick
+  -- Each quantum is at least 1 microsecond or octet, as the law of one turn requires.
   pub quanta : (s : ℕ) → 1 ≤ quantum w s
   pub octets : 1 ≤ w.config.flow_quantum
   pub stations : (c : Class) → PicksStationByTurns w c
   pub queues : (s t : ℕ) → PicksQueueByTurns w s t
 
--- the law after each entry of a history
+-- The law: `KeepsRotations` holds after each entry of a history.
 abbrev pub RotationLaw : Config → List Entry → Type 0
 RotationLaw config history = (m : ℕ) → KeepsRotations (world_at config history m)

@@ -1,5 +1,4 @@
--- What an open exchange sends (IEEE 802.11-2012, 9.21.7.7): numbers in rising order, within a window of each
--- other.
+-- Defines the law of sent frames: what an open exchange sends (IEEE 802.11-2012, 9.21.7.7).
 use Rattle.std.specs.Prelude.{◌≡◌, ℕ, suc, ◌≤◌, false, List, [], ◌∷◌, length}
 use Rattle.wf_frame.specs.declared.settings.Config.{Config}
 use Rattle.wf_frame.specs.Settings.{IsInRange}
@@ -14,31 +13,32 @@ use Rattle.wf_def_world.specs.Stretches.{world_at}
 use Rattle.wf_law_runs.specs.Queues.{AreAtMost}
 use Rattle.wf_law_runs.specs.Windows.{EachMpdu, EachOpen}
 
--- the numbers rise strictly, from lo on
+-- The numbers increase strictly, and the first is at least lo.
 abbrev pub NumbersRise : ℕ → List Mpdu → Type 0
 NumbersRise lo [] = Unit {0}
 NumbersRise lo (m ∷ ms) = (lo ≤ m.number) × NumbersRise (suc m.number) ms
 
--- an open exchange; for a request there is nothing to say
+-- An open exchange. The conditions are empty for a request.
 pub record IsSent (w : World) (x : Exchange) : Type 0 where
   pub most : length (mpdus_of x.content) ≤ greatest_window
   pub rising : NumbersRise (session w x.station x.tid).first (mpdus_of x.content)
-  -- each transmission has the id of the frame that its number carries
+  -- Each transmission has the id of the frame that its number carries.
   pub ids : EachMpdu (λ m. (slot (session w x.station x.tid) m.number).id ≡ m.id) (mpdus_of x.content)
-  -- and the length that the call which brought this frame gave it
+  -- Each transmission has the length that the frame's Enqueue gave.
   pub lens : EachMpdu (λ m. len_of (frame w m.id).note ≡ m.len) (mpdus_of x.content)
 
--- an exchange of data has at least one transmission
+-- An exchange of data has at least one transmission.
 abbrev pub HasSome : Exchange → Type 0
 HasSome x = is_request x.content ≡ false → 1 ≤ length (mpdus_of x.content)
 
--- in one world of a history
+-- The open exchanges of a world of a history.
 pub record KeepsSent (config : Config) (history : List Entry) (w : World) : Type 0 where
   pub opened : EachOpen (IsSent w) w.opened
-  -- where the settings are in their ranges and no frame is longer than the greatest body, for each frame fits
-  -- by itself: even at the lowest rate it takes at most 2920 microseconds
+  -- This holds if the settings are in their ranges and no frame is longer than the greatest body, because
+  -- then each frame fits alone: at every rate it takes at most 3000 microseconds, the least value of the
+  -- setting `cap`.
   pub some : IsInRange config → AreAtMost greatest_body history → EachOpen HasSome w.opened
 
--- after each entry of a history
+-- The law: `KeepsSent` holds after each entry of a history.
 abbrev pub SentLaw : Config → List Entry → Type 0
 SentLaw config history = (m : ℕ) → KeepsSent config history (world_at config history m)

@@ -1,8 +1,11 @@
-//! The laws that hold over every run of the machine, for all settings in their ranges and every history
-//! whatever.
+//! The laws of the machine: statements that hold after every call of every run, for all settings in their
+//! ranges and every history of calls.
 //!
-//! Each law is a relation over settings and a history, in specs/; a function without a body names it in its
-//! contract. `laws` has them all, so a crate above cites one word for each law and answers with one lemma.
+//! Each law is a relation over the settings and a history, defined in specs/. A function without a body
+//! states it in its contract, and `laws` states all of them together, so a crate that depends on this one
+//! cites a law by one name and proves it with one lemma. For example, `FateLaw config history` states that
+//! a fate other than Held never changes in this history, and `fate_law` states this for all settings and
+//! histories.
 #![tactic(auto)]
 
 ghost use Rattle.std.specs.Prelude.{List};
@@ -24,160 +27,186 @@ ghost use Rattle.wf_law_runs.specs.Ranges.{RangeLaw};
 ghost use Rattle.wf_law_runs.specs.Releases.{OnceLaw, ReleaseLaw};
 ghost use Rattle.wf_law_runs.specs.Room.{LimitLaw, RoomLaw};
 ghost use Rattle.wf_law_runs.specs.Sent.{SentLaw};
+ghost use Rattle.wf_law_runs.specs.Shares.{ShareLaw};
 ghost use Rattle.wf_law_runs.specs.Sums.{SumLaw};
 ghost use Rattle.wf_law_runs.specs.Rotations.{RotationLaw};
 ghost use Rattle.wf_law_runs.specs.Tallies.{TallyLaw};
 ghost use Rattle.wf_law_runs.specs.TwelveBits.{TwelveBitLaw};
+ghost use Rattle.wf_law_runs.specs.Waiting.{SparseLaw, WaitingLaw};
 ghost use Rattle.wf_law_runs.specs.Windows.{WindowLaw};
 
-/// After every entry, what the sender keeps of each agreement and what its receiver has stay within a window
-/// of each other; a request is due while one is open; an acknowledged number has arrived; and no number is
-/// given while a request is due.
+/// After every entry, the numbers of an agreement's sender and of its receiver stay within a window of each
+/// other, or two windows for the scoreboard. A request is due while one is open, an acknowledged number has
+/// arrived, and no number is assigned while a request is due (specs/Windows).
 pub fn window_law()
     ensures { (config : Config) → (history : List Entry) → WindowLaw config history }
 {}
 
-/// From an Answer on, as long as its exchange is open, the exchange's numbers have arrived exactly where they
-/// had when the Answer was made.
+/// From an Answer on and as long as its exchange is open, exactly those numbers of the exchange have
+/// arrived that had arrived when the Answer was made (specs/Answers).
 pub fn answer_law()
     ensures { (config : Config) → (history : List Entry) → AnswerLaw config history }
 {}
 
-/// What the replies of one session release is the ids of its arrived numbers below the release's start, in
-/// strictly rising order of the numbers; and each of these frames was enqueued for that station and TID.
+/// The replies to one session's arrivals release the ids of its arrived numbers below the receiver's
+/// release start, in strictly increasing order of the numbers. Each of these frames was enqueued for this
+/// station and TID (specs/Releases).
 pub fn release_law()
     ensures { (config : Config) → (history : List Entry) → IsInRange config → ReleaseLaw config history }
 {}
 
-/// No id is released twice in a run.
+/// No id is released twice in a run (specs/Releases).
 pub fn once_law()
     ensures { (config : Config) → (history : List Entry) → OnceLaw config history }
 {}
 
-/// Each acknowledged frame was held until the heard Done of an exchange that sent it, and had then reached
-/// the receiver of the station and TID for which it was enqueued.
+/// Each acknowledged frame was held until a Done of an exchange that sent it ended as heard. By then it had
+/// reached the receiver of the station and TID for which it was enqueued (specs/Delivery).
 pub fn delivery_law()
     ensures { (config : Config) → (history : List Entry) → IsInRange config → DeliveryLaw config history }
 {}
 
-/// A fate other than Held never changes.
+/// A fate other than Held never changes (specs/Fates).
 pub fn fate_law()
     ensures { (config : Config) → (history : List Entry) → FateLaw config history }
 {}
 
-/// As long as a station stays, each number that a session of it gave keeps its frame's id, and one that is
-/// acknowledged or has failed stays so.
+/// As long as a station is joined, each number that its sessions assigned keeps its frame's id, and a
+/// number that is acknowledged or failed stays in that state (specs/Kept).
 pub fn kept_law()
     ensures { (config : Config) → (history : List Entry) → KeptLaw config history }
 {}
 
-/// After every entry, the ids that were reaped and those on the finished list are exactly those of frames
-/// with a fate other than Held, each once.
+/// After every entry, the ids that were reaped and the ids on the finished list are together exactly the
+/// ids of the frames with a fate other than Held, without repeats (specs/Finished).
 pub fn finished_law()
     ensures { (config : Config) → (history : List Entry) → FinishedLaw config history }
 {}
 
-/// Each accepted frame has one fate: the counts by fate add up to the accepted frames.
+/// Each accepted frame has exactly one fate: the counts of frames by fate add up to the number of accepted
+/// frames (specs/Tallies).
 pub fn tally_law()
     ensures { (config : Config) → (history : List Entry) → TallyLaw config history }
 {}
 
-/// A held frame stands in exactly one place: a flow queue that its TID lists, or a number of its TID that
-/// waits or is in flight. Nothing else stands there.
+/// A held frame is in exactly one place: in a flow queue that its TID lists, or at a number of its TID that
+/// waits or is on the air. Only held frames are in these places (specs/Places).
 pub fn place_law()
     ensures { (config : Config) → (history : List Entry) → IsInRange config → PlaceLaw config history }
 {}
 
-/// After every entry, the frames in flow queues, those at numbers that wait or are in flight, and those on
-/// the finished list are together the frames accepted less those reaped, and at most as many as the setting
-/// `room` has room for.
+/// After every entry, the frames in flow queues, the frames at numbers that wait or are on the air, and the
+/// frames on the finished list are together all frames that were accepted and not reaped. There are at most
+/// as many of them as the setting `room` (specs/Room).
 pub fn room_law()
     ensures { (config : Config) → (history : List Entry) → IsInRange config → RoomLaw config history }
 {}
 
-/// Where each frame has an octet or more, all flow queues together have at most as many frames as the setting
-/// `limit` after every entry.
+/// If each frame has at least one octet, all flow queues together have at most as many frames as the
+/// setting `limit`, after every entry (specs/Room).
 pub fn limit_law()
     ensures { (config : Config) → (history : List Entry) → IsInRange config → LimitLaw config history }
 {}
 
-/// After every entry, what a live station has is in its range: number, weight, rate, exponent and windows;
-/// only a station that sleeps has a credit; and CoDel's counts are at least 1 while it drops and fit 32 bits.
+/// After every entry, the values of a live station are in their ranges: its number, weight, rate, exponent
+/// and windows. Only a sleeping station has a credit. CoDel's count is at least 1 while it drops, and
+/// CoDel's counts fit 32 bits (specs/Ranges).
 pub fn range_law()
     ensures { (config : Config) → (history : List Entry) → IsInRange config → RangeLaw config history }
 {}
 
-/// After every entry, a station's deficit is what it was given less what it was charged, it stays between its
-/// bounds, and every ready station is listed.
+/// After every entry, a station's deficit is its quanta less its charges, it stays between its bounds, and
+/// every ready station is listed (specs/Deficits).
 pub fn deficit_law()
     ensures { (config : Config) → (history : List Entry) → IsInRange config → DeficitLaw config history }
 {}
 
-/// A live station's received airtime in a class is 0 exactly where it had no receive charge there since its
-/// join.
+/// A live station's received airtime in a class is 0 if and only if it had no receive charge there since
+/// its join (specs/Deficits).
 pub fn quiet_law()
     ensures { (config : Config) → (history : List Entry) → IsInRange config → QuietLaw config history }
 {}
 
-/// Two stations that stay on one class's old list, with no receive charge, are charged alike, each by its
-/// weight.
+/// Two stations that stay on one class's old list, without receive charges, are charged alike in proportion
+/// to their weights, within a bound (specs/Deficits).
 pub fn fairness_law()
     ensures { (config : Config) → (history : List Entry) → IsInRange config → FairnessLaw config history }
 {}
 
-/// After every entry, each class lists live stations alone, each once; a Pull is Idle exactly where none is
-/// ready; and each pick of a station or a queue is the paper's loop.
+/// No station gets more airtime for its weight than one that stays on the class's old list, up to a constant.
+pub fn share_law()
+    ensures { (config : Config) → (history : List Entry) → IsInRange config → ShareLaw config history }
+{}
+
+/// While a station is ready and sends nothing, it gets few quanta, and no other station gets more than one
+/// quantum more.
+pub fn waiting_law()
+    ensures { (config : Config) → (history : List Entry) → IsInRange config → WaitingLaw config history }
+{}
+
+/// If a ready station with a deficit above 0 is on the new list, a Pull that sends, sends to this station or
+/// to one that is before it on the new list.
+pub fn sparse_law()
+    ensures { (config : Config) → (history : List Entry) → SparseLaw config history }
+{}
+
+/// After every entry, each class lists only live stations, each at most once. A Pull is refused as Idle if
+/// and only if the class may open an exchange and no station is ready. Each pick of a station or a queue
+/// has the result of the paper's loop (specs/Rotations).
 pub fn rotation_law()
     ensures { (config : Config) → (history : List Entry) → IsInRange config → RotationLaw config history }
 {}
 
-/// All numbers of one agreement that are ever compared lie within 2047 of each other, so their low twelve
-/// bits compare as the whole numbers do.
+/// All numbers of one agreement that are ever compared are within 2047 of each other, so their low twelve
+/// bits are enough to compare them (specs/TwelveBits).
 pub fn twelve_bit_law()
     ensures { (config : Config) → (history : List Entry) → TwelveBitLaw config history }
 {}
 
-/// No queue with frames is unlisted; a queue is listed by one TID alone; all its frames are of that TID, in
-/// the order of their ids and stamps.
+/// A queue with frames is listed, and by only one TID. All its frames are for that TID, in the order of
+/// their ids and stamps (specs/Queues).
 pub fn queue_law()
     ensures { (config : Config) → (history : List Entry) → IsInRange config → QueueLaw config history }
 {}
 
-/// The deficit of a listed queue is at most the setting, and above 0 less the longest frame.
+/// The deficit of a listed queue is at most the setting `flow_quantum`, and greater than 0 less the longest
+/// frame (specs/Queues).
 pub fn queue_deficit_law()
     ensures { (config : Config) → (history : List Entry) → IsInRange config → QueueDeficitLaw config history }
 {}
 
-/// After every entry, what is computed of an open exchange is 1 to 5456 microseconds (the greatest time of
-/// data, 5400, with SIFS and the longest BlockAck), a class has at most eight of them, and the deficits of
-/// live stations lie between figures far within 32 bits; so do those of listed queues, where no frame is
-/// longer than the greatest body.
+/// After every entry, the computed charge of an open exchange is 1 to 5456 microseconds: the greatest time
+/// of data, 5400, SIFS and the longest BlockAck. A class has at most eight open exchanges. The deficits of
+/// live stations are between bounds that are far within 32 bits. If no frame is longer than the greatest
+/// body, the deficits of listed queues are too (specs/Numbers).
 pub fn number_law()
     ensures { (config : Config) → (history : List Entry) → IsInRange config → NumberLaw config history }
 {}
 
-/// A live station's charged airtime in a class is the sum of the charges of its Dones that were answered
-/// Ended since its join, and its received airtime that of its Rxs that were answered Charged. After m entries
-/// the clock is at most 10,000,000 m microseconds, accepted frames and exchanges are at most m, and the two
-/// sums at most 65,535 m microseconds each.
+/// A live station's charged airtime in a class is the sum of the charges of its Done calls that were
+/// answered Ended since its join. Its received airtime is the sum of the airtimes of its Rx calls that were
+/// answered Charged. After m entries the clock is at most 10,000,000 m microseconds, there are at most m
+/// accepted frames and at most m exchanges, and the two sums are at most 65,535 m microseconds each
+/// (specs/Sums).
 pub fn sum_law()
     ensures { (config : Config) → (history : List Entry) → IsInRange config → SumLaw config history }
 {}
 
-/// After every entry, each open exchange has at most 256 transmissions, in strictly rising order of their
-/// numbers, and each has the id of its number's frame and the length that the frame's call gave it. Where no
-/// frame is longer than the greatest body, an exchange of data has at least one.
+/// After every entry, each open exchange has at most 256 transmissions, in strictly increasing order of
+/// their numbers. Each has the id of its number's frame and the length of that frame's Enqueue. If no frame
+/// is longer than the greatest body and the settings are in their ranges, an exchange of data has at least
+/// one transmission (specs/Sent).
 pub fn sent_law()
     ensures { (config : Config) → (history : List Entry) → SentLaw config history }
 {}
 
-/// After every entry, a number that waits, is in flight or was acknowledged was sent in vain less often than
-/// the setting `attempts` says, and one that failed exactly so often.
+/// After every entry, a number that waits, is on the air or is acknowledged has fewer failed attempts than
+/// the setting `attempts`, and a failed number has exactly that many (specs/Attempts).
 pub fn attempts_law()
     ensures { (config : Config) → (history : List Entry) → IsInRange config → AttemptsLaw config history }
 {}
 
-/// All laws of a history.
+/// All laws of a history (specs/Laws).
 pub fn laws()
     ensures { (config : Config) → (history : List Entry) → IsInRange config → Laws config history }
 {}

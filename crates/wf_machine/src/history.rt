@@ -1,4 +1,4 @@
-//! A history that takes no memory: clauses alone see its entries.
+//! A history that takes no memory, because its entries exist only in contracts.
 
 ghost use Rattle.std.specs.Prelude.{◌≡◌, [], ◌∷◌, ◌++◌};
 
@@ -6,17 +6,17 @@ use std::marker::Model;
 use std::mem;
 use std::snapshot::Snapshot;
 
-/// Entries, each behind the ones before it. A `Snapshot` has no bytes.
+/// A chain of entries, the last one first. A `Snapshot` has no bytes.
 #[derive(Drop)]
 enum Chain<N> {
     /// No entry.
     Start,
-    /// One entry more, its caller and its note.
+    /// The entries before, and one more: its caller and its note.
     Then(Snapshot<Chain<N>>, u32, Snapshot<N>),
 }
 
-/// The entries of a history: of each its caller and its note. It takes no memory, and at run time its calls
-/// do nothing.
+/// The entries of a history: the caller and the note of each. It takes no memory, and at run time its
+/// functions do nothing.
 #[derive(Drop)]
 pub struct History<N> {
     chain: Snapshot<Chain<N>>,
@@ -32,7 +32,7 @@ impl<N> Model for History<N> {
 }
 
 impl<N> History<N> {
-    /// No entry yet.
+    /// A history without an entry.
     pub fn new() -> History<N>
         ensures { result ≡ [] }
     {
@@ -41,7 +41,7 @@ impl<N> History<N> {
         }
     }
 
-    /// One entry more.
+    /// Appends one entry.
     pub fn push(&mut self, caller: u32, note: &N)
         ensures { self.new ≡ self.old ++ (caller, note.now) ∷ [] }
     {

@@ -1,4 +1,4 @@
--- What the checks of a block frame leave, and that its octets have one reading.
+-- Proves what follows if all checks of a block frame pass, and that its octets can be read in only one way.
 use Rattle.std.proofs.Common.{◌≡◌, ℕ, ◌+◌, ◌/◌, ◌%◌, ◌<◌, ◌≤◌, ◌==◌, ◌&&◌, not, Bool, true, false, List, length, take, drop, get_or, Option, Some, None, refl, sym, ◌∙◌, ap, arith, if◌then◌else◌, ◌++◌, take_all, length-take}
 use Rattle.std.proofs.lemmas.Bool.{not-false, eqb-true}
 use Rattle.std.proofs.Math.Seq.{drop-append_seam, take-append_seam}
@@ -63,7 +63,7 @@ head_read need first wide octets small c = record {
   start = omega (arith, c.whole, number_small octets 18 small);
 }
 
--- ---- one reading
+-- ---- only one reading
 bar_same : (a b : Bar) → a.ra ≡ b.ra → a.ta ≡ b.ta → a.duration ≡ b.duration → a.tid ≡ b.tid →
     a.start ≡ b.start → a ≡ b
 bar_same a b p q r s t i = record { ra = p i; ta = q i; duration = r i; tid = s i; start = t i }

@@ -1,4 +1,4 @@
--- The octets before the bitmap, free bits 0, are those of their fields.
+-- Proves that the octets before the bitmap, with free bits 0, are read as the fields that were written.
 use Rattle.std.proofs.Common.{◌≡◌, ℕ, ◌+◌, ◌*◌, ◌/◌, ◌<◌, ◌⊎◌, true, false, List, [], ◌∷◌, ◌++◌, length, take, get_or, refl, ◌∙◌, ap, inl, inr, arith}
 use Rattle.wf_octets.specs.Fields.{is_set, number_at, part, two_octets}
 use Rattle.wf_octets.proofs.Places.{front_octet, front_number, front_part, six}

@@ -1,11 +1,11 @@
--- The distance of sequence numbers is that of the whole numbers that they stand for.
+-- Proves that the distance of two sequence numbers is that of the whole numbers that they represent.
 use Rattle.std.proofs.Common.{◌≡◌, ℕ, ◌+◌, ◌<◌, ◌≤◌, arith}
 use Rattle.wf_octets.specs.Distance.{distance, TwelveBitsStandFor}
 
 pub distance_whole : (s t n b : ℕ) → TwelveBitsStandFor s n → TwelveBitsStandFor t b → distance s t ≡ distance n b
 distance_whole s t n b p q = omega arith
 
--- a number that is less than 4096 past another
+-- a number that is less than 4096 above another
 pub distance_near : (n b : ℕ) → b ≤ n → n < b + 4096 → b + distance n b ≡ n
 distance_near n b p q = omega arith
 

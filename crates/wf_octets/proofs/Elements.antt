@@ -1,4 +1,5 @@
--- The shortest element of the AIDs that are present is of the layout.
+-- Proves that the shortest TIM element has the layout, and that the loop over the entries computes its bitmap
+-- and its first and last AID.
 use Rattle.std.proofs.Common.{◌≡◌, ℕ, ◌+◌, ◌-◌, ◌*◌, ◌/◌, ◌%◌, ◌^◌, ◌<◌, ◌≤◌, ◌==◌, nat_lt, nat_le, zero, suc, Bool, true, false, cond, ◌&&◌, List, [], ◌∷◌, ◌++◌, length, map, get_or, take, drop, Option, Some, None, IfSome, refl, sym, ◌∙◌, ap, subst, inl, inr, ◌⊎◌, arith, set, add-one, get_or-set_other, min, append-nil, drop-cons, pow_mono, if◌then◌else◌}
 use Rattle.std.proofs.lemmas.Bool.{cases_Bool, cases_eq, cases_lt, lt-ltb, le-ltb, le-leb, lt-leb, both_ways, false_from_ne_true}
 use Rattle.std.proofs.lemmas.Nat.Bits.{bit_at-zero, bit_at-lt, same_from_bits_below}
@@ -7,7 +8,7 @@ use Rattle.std.proofs.lemmas.Grind.{get_or-set_at}
 use Rattle.std.proofs.lemmas.Nat.{one_shl}
 use Rattle.std.specs.Int.{bit_at}
 use Rattle.wf_octets.specs.Fields.{is_set}
-use Rattle.wf_octets.specs.declared.tim.tim.Tim.{Tim}
+use Rattle.wf_octets.specs.declared.tim.Tim.{Tim}
 use Rattle.wf_octets.specs.Tim.{IsTim, whole_octet, aids_of, ends_of, octets_between}
 use Rattle.wf_def_tim.specs.Tim.{map_octet, last_of, tim_element}
 use Rattle.wf_def_lists.specs.Table.{count_from}
@@ -57,7 +58,7 @@ none_of present m n empty less here =
 lower : (m n : ℕ) → (n ≡ m → ⊥) → n < suc m → n < m
 lower m n o less = elim (cases_lt n m) [ inl l ↦ l | inr g ↦ absurd (o (omega arith)) ]
 
--- one entry more that is false
+-- one more entry, which is false
 span_same : (present : List Bool) (m low high : ℕ) → get_or present m false ≡ false →
     Span present m low high → Span present (suc m) low high
 span_same present m low high gone s = record {
@@ -78,7 +79,7 @@ span_same present m low high gone s = record {
     never : (n : ℕ) → n ≡ m → get_or present n false ≡ true → ⊥
     never n e here = both_ways (get_or present n false) (ap (λ i. get_or present i false) e ∙ gone) here
 
--- one entry more that is true, the first such or a later one
+-- one more entry, which is true: the first such entry or a later one
 span_first : (present : List Bool) (m : ℕ) → below present m ≡ [] → Span present (suc m) m m
 span_first present m empty = record {
   least = λ n less here. elim (cases_eq n m) [
@@ -139,7 +140,7 @@ pub span_of : (present : List Bool) (m a : ℕ) (others : List ℕ) → below pr
 span_of present zero a others is = absurd (cc)
 span_of present (suc m) a others is = span_more present m a others is (λ b bs e. span_of present m b bs e)
 
--- an octet before the first or past the last is 0
+-- an octet before the first or after the last is 0
 outside_zero : (present : List Bool) (k : ℕ) →
     ((j : ℕ) → j < 8 → get_or present (8 * k + j) false ≡ true → ⊥) → map_octet (aids_of present) k ≡ 0
 outside_zero present k none = same_from_bits_below 8 (map_octet (aids_of present) k) 0 small
@@ -171,7 +172,7 @@ get_or-count_from f from (suc n) zero less = ap f (omega arith)
 get_or-count_from f from (suc n) (suc i) less =
     get_or-count_from f (suc from) n i (omega arith) ∙ ap f (omega arith)
 
--- the part of a list that f gives
+-- a part of a list whose elements are f of their places
 pub part_is_map : (f : ℕ → ℕ) (xs : List ℕ) (from n : ℕ) → from + n ≤ length xs →
     ((k : ℕ) → k < length xs → get_or xs k 0 ≡ f k) → take n (drop from xs) ≡ map f (count_from from n)
 part_is_map f xs from zero room each = refl
@@ -307,7 +308,7 @@ pub shortest_is_tim : (present : List Bool) (tim : Tim) (xs : List ℕ) → leng
 shortest_is_tim present tim [] room group is = empty_is_tim present tim group is
 shortest_is_tim present tim (a ∷ others) room group is = some_is_tim present tim a others room group is
 
--- ---- what is written
+-- ---- the octets that are written
 pub element_is : (xs bitmap : List ℕ) (count period first last : ℕ) →
     first ≡ (octets_between (ends_of xs)).0 → last ≡ (octets_between (ends_of xs)).1 → length bitmap ≡ 251
     → ((k : ℕ) → k < 251 → get_or bitmap k 0 ≡ map_octet xs k) → first ≤ last → last < 251
@@ -335,7 +336,7 @@ element_is (a ∷ others) bitmap count period first last f l long each order sma
     one_more : n2 + 1 - n1 ≡ n2 - n1 + 1
     one_more = omega (arith, f, l)
 
--- ---- a turn of the loop over the entries
+-- ---- one iteration of the loop over the entries
 pub bit_added : (present : List Bool) (bitmap : List ℕ) (aid : ℕ) → length bitmap ≡ 251 → aid < 2008 →
     get_or present aid false ≡ true
     → ((k : ℕ) → k < 251 → get_or bitmap k 0 ≡ map_octet (below present aid) k) → (k : ℕ) → k < 251
@@ -363,7 +364,7 @@ pub bit_not_added : (present : List Bool) (aid k : ℕ) → get_or present aid f
 bit_not_added present aid k gone = sym (octet_without present k aid gone)
     ∙ ap (λ m. map_octet (below present m) k) (sym (add-one aid))
 
--- the sum fits an octet
+-- the sum fits into an octet
 pub bit_fits : (present : List Bool) (bitmap : List ℕ) (aid : ℕ) → aid < 2008 →
     ((k : ℕ) → k < 251 → get_or bitmap k 0 ≡ map_octet (below present aid) k) →
     get_or bitmap (aid / 8) 0 + 1 * 2 ^ (aid % 8) % 256 < 256
@@ -375,7 +376,7 @@ bit_fits present bitmap aid few each =
     let top : 2 ^ (aid % 8) ≤ 2 ^ 7 = pow_mono {j = 7} (omega arith) in
     omega (arith, each (aid / 8) (omega arith), one_shl (aid % 8) 8 (omega arith))
 
--- the ends after an entry
+-- the first and last AID after one more entry
 pub ends_added : (present : List Bool) (aid : ℕ) → get_or present aid false ≡ true →
     ends_with (below present aid) aid ≡ ends_of (below present (aid + 1))
 ends_added present aid here =
@@ -390,7 +391,7 @@ ends_not_added present aid gone =
     ∙ ap (λ b. ends_of (below present aid ++ cond b (aid ∷ []) [])) (sym gone)
     ∙ ap ends_of (sym (below_more present aid)) ∙ ap (λ m. ends_of (below present m)) (sym (add-one aid))
 
--- by the ends before it
+-- computed from the first and last AID before it
 pub ends_first : (xs : List ℕ) (n : ℕ) → None ≡ ends_of xs → Some (n, n) ≡ ends_with xs n
 ends_first [] n e = refl
 ends_first (a ∷ others) n e = absurd (cc)
@@ -403,7 +404,7 @@ pub ends_next : (xs : List ℕ) (low high n : ℕ) → Some (low, high) ≡ ends
 ends_next [] low high n e = absurd (cc)
 ends_next (a ∷ others) low high n e = ap (λ p. Some (p.0, n)) (some_pair (low, high) (a, last_of a others) e)
 
--- what is known of the octets by what is known of the ends
+-- bounds of the octets from bounds of the first and last AID
 pub octets_bound : (o : Option (ℕ × ℕ)) (n : ℕ) → n ≤ 2008 → IfSome o (λ e. (e.0 ≤ e.1) × (e.1 < n)) →
     ((octets_between o).0 ≤ (octets_between o).1) × ((octets_between o).1 < 251)
 octets_bound None n few within = (omega arith, omega arith)

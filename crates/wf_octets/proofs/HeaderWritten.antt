@@ -1,4 +1,4 @@
--- The octets of a plain header, its free bits 0, begin with it.
+-- Proves that the octets of a plain header, with free bits 0, begin with that header.
 use Rattle.std.proofs.Common.{◌≡◌, ℕ, ◌+◌, ◌*◌, ◌≤◌, ◌==◌, Bool, true, false, List, [], ◌∷◌, ◌++◌, length, take, get_or, refl, sym, ◌∙◌, ap, subst, arith, MatchBool, length-take, if◌then◌else◌}
 use Rattle.wf_octets.proofs.Places.{front_octet, front_number, front_part, six}
 use Rattle.std.proofs.lemmas.Bool.{both_ways}
@@ -19,7 +19,7 @@ short o f d a1 a2 = (o ∷ f ∷ []) ++ two_octets d ++ a1 ++ a2
 abbrev pub qos : ℕ → ℕ → ℕ → List ℕ → List ℕ → List ℕ → ℕ → ℕ → List ℕ
 qos o f d a1 a2 a3 s t = (o ∷ f ∷ []) ++ two_octets d ++ a1 ++ a2 ++ a3 ++ two_octets s ++ (t ∷ 0 ∷ [])
 
--- how long the last is
+-- the size of the QoS layout
 pub qos_long : (o f d : ℕ) (a1 a2 a3 : List ℕ) (s t : ℕ) → length a1 ≡ 6 → length a2 ≡ 6 → length a3 ≡ 6 →
     length (qos o f d a1 a2 a3 s t) ≡ 26
 qos_long o f d a1 a2 a3 s t l1 l2 l3 = six (λ a1. length (qos o f d a1 a2 a3 s t) ≡ 26)

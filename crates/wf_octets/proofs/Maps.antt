@@ -1,4 +1,4 @@
--- The bitmap of the AIDs that are present: its octets as sums, their bits, and where it begins and ends.
+-- Computes the bitmap of the AIDs that are present: its octets as sums of powers of 2, and their bits.
 use Rattle.std.proofs.Common.{◌≡◌, ℕ, ◌+◌, ◌-◌, ◌*◌, ◌/◌, ◌%◌, ◌^◌, ◌<◌, ◌≤◌, ◌==◌, nat_lt, zero, suc, min, Bool, true, false, cond, ◌&&◌, List, [], ◌∷◌, ◌++◌, filter, get_or, sum_by, refl, sym, ◌∙◌, ap, subst, inl, inr, arith, if◌then◌else◌, pow_mono}
 use Rattle.std.proofs.lemmas.Bool.{cases_Bool, cases_eq, cases_lt, eq-eqb, ne_eqb, lt-ltb, le-ltb, and_right}
 use Rattle.std.proofs.lemmas.List.Sums.{sum_by-append}
@@ -50,7 +50,7 @@ octet_more present k m =
     one true = omega arith
     one false = refl
 
--- one AID more: its bit where it stands in this octet, else nothing
+-- one more AID: its bit is added if it belongs to this octet
 pub octet_with : (present : List Bool) (k m : ℕ) → get_or present m false ≡ true → m / 8 ≡ k →
     map_octet (below present (suc m)) k ≡ map_octet (below present m) k + 2 ^ (m % 8)
 octet_with present k m here at = octet_more present k m
@@ -100,7 +100,7 @@ octet_small present k (suc m) = elim (cases_eq (m / 8) k) [
         let twice : 2 ^ (m % 8 + 1) ≡ 2 ^ (m % 8) * 2 = pow-add 2 (m % 8) 1 in
         subst (λ e. map_octet (below present m) k + 2 ^ (m % 8) < 2 ^ e) (sym after) (omega arith)
 
--- ---- its bits are entries
+-- ---- the bits of an octet are entries
 -- whether an entry below m is true
 abbrev entry_below : List Bool → ℕ → ℕ → Bool
 entry_below present m n = nat_lt n m && get_or present n false
@@ -130,7 +130,7 @@ one_above : (i : ℕ) → 0 < i → is_set 1 i ≡ false
 one_above zero some = absurd (omega arith)
 one_above (suc i) some = ap (λ b. b == 1) (bit_at-suc 1 i ∙ bit_at-zero i)
 
--- the bit that one AID more sets, and the others
+-- the bit that one more AID sets, and the other bits
 bit_with : (v i j : ℕ) → v < 2 ^ i → j < i → is_set (v + 2 ^ i) j ≡ is_set v j
 bit_with v i j small low = ap (λ x. is_set x j) (turned v (2 ^ i))
     ∙ ap (λ b. b == 1) (bit_at_cat_low 1 i v j low)
@@ -165,7 +165,7 @@ bit_more present v k j m small at few here before = elim (cases_lt j (m % 8)) [
     place : m % 8 ≤ j → j ≤ m % 8 → 8 * k + j ≡ m
     place high equal = omega arith
 
--- each bit of it is an entry
+-- each bit of the octet is an entry
 pub octet_bit : (present : List Bool) (k j m : ℕ) → j < 8 →
     is_set (map_octet (below present m) k) j ≡ (nat_lt (8 * k + j) m && get_or present (8 * k + j) false)
 octet_bit present k j zero few = ap (λ b. b == 1) (bit_at-zero j)

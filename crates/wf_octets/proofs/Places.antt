@@ -1,9 +1,9 @@
--- Fields at their places, in a list and in what a list begins with.
+-- Proves how fields at their places are read from a list and from its prefixes.
 use Rattle.std.proofs.Common.{◌≡◌, ℕ, ◌+◌, ◌*◌, ◌/◌, ◌%◌, ◌<◌, List, [], ◌∷◌, ◌++◌, length, take, drop, get_or, sym, ◌∙◌, ap, arith}
 use Rattle.std.proofs.lemmas.List.{get_or-take, drop-take, take-take}
 use Rattle.wf_octets.specs.Fields.{number_at, part}
 
--- ---- what a front of a list says of the list
+-- ---- reading from a prefix
 pub front_octet : (xs ys : List ℕ) (n i : ℕ) → take n xs ≡ ys → i < n → get_or xs i 0 ≡ get_or ys i 0
 front_octet xs ys n i same below = sym (get_or-take n xs i 0 below) ∙ ap (λ zs. get_or zs i 0) same
 
@@ -21,7 +21,7 @@ front_part xs ys n i k m same is =
 pub number_of_two : (n : ℕ) → n < 65536 → n % 256 + 256 * (n / 256 % 256) ≡ n
 number_of_two n small = omega arith
 
--- ---- a claim on each list of six octets, as an address
+-- ---- a statement about lists of six octets, such as addresses, follows from six given octets
 pub six : (P : List ℕ → Type 0) → ((a b c d e f : ℕ) → P (a ∷ b ∷ c ∷ d ∷ e ∷ f ∷ [])) → (xs : List ℕ) →
     length xs ≡ 6 → P xs
 six P each [] long = absurd (omega arith)
@@ -33,7 +33,7 @@ six P each (a ∷ b ∷ c ∷ d ∷ e ∷ []) long = absurd (omega arith)
 six P each (a ∷ b ∷ c ∷ d ∷ e ∷ f ∷ []) long = each a b c d e f
 six P each (a ∷ b ∷ c ∷ d ∷ e ∷ f ∷ g ∷ xs) long = absurd (omega arith)
 
--- ---- fields written one after the other
+-- ---- fields written one after another
 pub then_put : {before after front written field : List ℕ} → after ≡ before ++ written → before ≡ front →
     written ≡ field → after ≡ front ++ field
 then_put {front = front} {written = written} step same is =

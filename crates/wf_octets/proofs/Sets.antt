@@ -1,5 +1,5 @@
--- Laws of sets of offsets as rising lists: two with the same offsets are one list, and what a set has after
--- each change.
+-- Proves laws of sets of offsets as rising lists: sets with the same offsets are the same list, and the
+-- members after each change.
 use Rattle.std.proofs.Common.{◌≡◌, ℕ, ◌+◌, ◌-◌, ◌<◌, ◌≤◌, ◌==◌, nat_lt, nat_le, zero, suc, Bool, true, false, cond, ◌||◌, List, [], ◌∷◌, map, filter, refl, sym, ◌∙◌, ap, inl, inr, arith}
 use Rattle.std.proofs.lemmas.Bool.{cases_Bool, cases_eq, cases_lt, or_cases, or_left, or_from, eq-eqb, ne_eqb, eqb-true, le-leb, lt-leb, lt-ltb, le-ltb, both_ways, false_from_ne_true, cond-true, cond-false}
 use Rattle.std.specs.List.{range_with_len}
@@ -33,7 +33,7 @@ rises_wider from end low high (x ∷ xs) p q r =
     let first : from ≤ x = r.0 in let last : x < end = r.1 in
     (omega arith, omega arith, rises_wider (suc x) end (suc x) high xs (omega arith) q r.2)
 
--- the tests of a first member
+-- membership of the first member and of later ones
 has_first : (x : ℕ) (xs : List ℕ) → has (x ∷ xs) x ≡ true
 has_first x xs = or_left (x == x) (has xs x) (eq-eqb x x refl)
 

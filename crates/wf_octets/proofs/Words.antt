@@ -1,5 +1,5 @@
--- A number holds a set of offsets by its bits: what set, shift and count do to the one is what they do to the
--- other.
+-- Proves that changes of a number's bits are changes of the set of offsets that it represents: set, shift and
+-- count.
 use Rattle.std.proofs.Common.{◌≡◌, ℕ, ◌+◌, ◌-◌, ◌*◌, ◌/◌, ◌%◌, ◌^◌, ◌<◌, ◌≤◌, ◌==◌, zero, suc, max, Bool, true, false, cond, ◌&&◌, ◌||◌, List, [], ◌∷◌, length, filter, get_or, set, sum_by, length-set, get_or-set_other, mod-eq_of_lt, add_comm, add-one, subst, refl, sym, ◌∙◌, ap, inl, inr, arith, bit_or, count_ones, eqb, length-append}
 use Rattle.std.proofs.lemmas.Bool.{cases_eq, cases_lt, eq-eqb, ne_eqb}
 use Rattle.std.proofs.Math.Nat.{div-eq_of_lt, div-eq-sub-div, mod-eq-sub-mod}
@@ -18,7 +18,7 @@ use Rattle.wf_octets.specs.BitsView.{set_of, number_of_bits}
 use Rattle.wf_octets.specs.BitsInverse.{bit_at-shr, set_of_more, set_of_none, digit_more, DigitsBelow, digits_below, number_of-lt, words_of_four}
 use Rattle.wf_octets.proofs.Sets.{rises-filter_range, has-filter_range, has_not_above, same_members, has-with_member, rises-with_member, has-moved_down, rises-moved_down, rises_wider}
 
--- ---- a set by its number
+-- ---- a set and its number
 pub set_of_is_offsets : (end n : ℕ) → IsOffsets end (set_of end n)
 unfolding set_of
 set_of_is_offsets end n = rises_wider 0 (0 + end) 0 end (filter (λ i. bit_at n i == 1) (range_with_len 0 end))
@@ -28,7 +28,7 @@ pub has-set_of : (end n i : ℕ) → i < end → has (set_of end n) i ≡ (bit_a
 unfolding set_of
 has-set_of end n i below = has-filter_range (λ i. bit_at n i == 1) 0 end i (omega arith) (omega arith)
 
--- a set of offsets below `end` is that of a number whose bits say so
+-- the set of a number whose bits say which offsets are in the set
 pub set_of_from_bits : (end n : ℕ) (xs : List ℕ) → IsOffsets end xs →
     ((i : ℕ) → i < end → (bit_at n i == 1) ≡ has xs i) → set_of end n ≡ xs
 set_of_from_bits end n xs offsets same = same_members 0 0 end end (set_of end n) xs
@@ -98,7 +98,7 @@ set_of-shifted end n m k bits small = set_of_from_bits end m (moved_down k (set_
 pub set_of-zero : (end : ℕ) → set_of end 0 ≡ []
 set_of-zero end = set_of_from_bits end 0 [] tt (λ i below. ap (λ x. x == 1) (bit_at-zero i))
 
--- the count of the set is that of the number's ones
+-- the size of the set is the number of ones
 pub length-set_of_mod : (n m : ℕ) → length (set_of m n) ≡ count_ones (n % 2 ^ m)
 length-set_of_mod n zero = ap length (set_of_none n) ∙ sym (ap count_ones (mod_one n) ∙ ones-ones 0)
   where
@@ -143,7 +143,7 @@ length-set_of-number_of (d ∷ ds) small =
     (length-set_of-number_of ds small.1) ∙ add_comm (sum_by count_ones ds) (count_ones d)
     ∙ sym (sum_by-cons count_ones d ds)
 
--- ---- the offsets that octets show
+-- ---- the offsets in a bitmap of octets
 pub offsets_in_are_offsets : (octets : List ℕ) → IsOffsets (8 * length octets) (offsets_in octets)
 unfolding offsets_in
 offsets_in_are_offsets octets = rises_wider 0 (0 + 8 * length octets) 0 (8 * length octets)
@@ -183,7 +183,7 @@ octet_of n (suc (suc (suc (suc (suc (suc zero)))))) p = refl
 octet_of n (suc (suc (suc (suc (suc (suc (suc zero))))))) p = refl
 octet_of n (suc (suc (suc (suc (suc (suc (suc (suc k)))))))) p = absurd (omega arith)
 
--- the octets of a word of 64 bits show its set
+-- the octets of a word of 64 bits represent the same set as the word
 pub bit_at-octets : (n i : ℕ) → i < 64 → bit_at (get_or (to_le_bytes w64 n) (i / 8) 0) (i % 8) ≡ bit_at n i
 bit_at-octets n i below =
     ap (λ o. bit_at o (i % 8)) (octet_of n (i / 8) (omega arith))
@@ -285,7 +285,7 @@ set_of-set_word ds k i below long small is = set_of_from_bits 256 (number_of_bit
         ∙ ap (λ b. (i == j) || b) (sym (has-set_of 256 number j within))
         ∙ sym (has-with_member i (set_of 256 number) j)
 
--- four words, by their bits
+-- four words and their bits
 pub bit_at-four : (a b c d : ℕ) (bit : ℕ → ℕ) → a < 2 ^ 64 → b < 2 ^ 64 → c < 2 ^ 64 → d < 2 ^ 64
     → ((i : ℕ) → i < 64 → bit_at a i ≡ bit i) → ((i : ℕ) → i < 64 → bit_at b i ≡ bit (i + 64))
     → ((i : ℕ) → i < 64 → bit_at c i ≡ bit (i + 128)) → ((i : ℕ) → i < 64 → bit_at d i ≡ bit (i + 192))
@@ -301,7 +301,7 @@ bit_at-four a b c d bit sa sb sc sd pa pb pc pd i below =
     pick (suc (suc (suc zero))) j few low = pd j low
     pick (suc (suc (suc (suc k)))) j few low = absurd (omega arith)
 
--- 64 bits that lie in two words
+-- 64 bits across two words
 pub bit_at-pair : (ds : List ℕ) (from i : ℕ) → ((k : ℕ) → get_or ds k 0 < 2 ^ 64) → 0 < from % 64 → i < 64
     → bit_at (bit_or (get_or ds (from / 64) 0 / 2 ^ (from % 64))
     (get_or ds (from / 64 + 1) 0 * 2 ^ (64 - from % 64) % 2 ^ 64)) i
@@ -348,7 +348,7 @@ bit_at-pair ds from i small some below = bit_at_or (low / 2 ^ (from % 64))
     bit_at-shl_high i more = ap (λ m. bit_at m i) (omega arith)
         ∙ bit_at_cat_high high (64 - from % 64) 0 i (pow_pos (64 - from % 64)) more
 
--- octet by octet, the octets of the words show their set
+-- the octets of the words represent the same set as the words, octet by octet
 pub set_of-words : (ds octets : List ℕ) → length octets ≡ 32 → ((k : ℕ) → get_or ds k 0 < 2 ^ 64)
     → ((k : ℕ) → k < 32 → get_or octets k 0 ≡ get_or (to_le_bytes w64 (get_or ds (k / 8) 0)) (k % 8) 0) →
     set_of 256 (number_of_bits 64 ds) ≡ offsets_in octets
@@ -399,7 +399,7 @@ pub four_words-lt : (ds : List ℕ) → length ds ≡ 4 → ((k : ℕ) → get_o
 four_words-lt ds long small = subst (λ n. number_of_bits 64 ds < 2 ^ (64 * n)) long
     (number_of-lt 64 ds (digits_below (2 ^ 64) ds small))
 
--- a set of 256 offsets has the ones of its four words
+-- the size of a set of 256 offsets is the number of ones in its four words
 pub length-words : (ds : List ℕ) → length ds ≡ 4 → ((k : ℕ) → get_or ds k 0 < 2 ^ 64) →
     sum_by count_ones ds ≡ length (set_of 256 (number_of_bits 64 ds))
 length-words ds long small = sym (length-set_of 256 (number_of_bits 64 ds) (four_words-lt ds long small)

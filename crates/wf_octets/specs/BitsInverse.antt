@@ -1,4 +1,4 @@
--- The words of a set give back the number that holds it. `Copy` and `==` of the sets rest on this.
+-- Proves that a set's words can be computed from the set. `Copy` and `==` of the sets depend on this.
 use Rattle.std.specs.Prelude.{◌≡◌, ℕ, ◌+◌, ◌-◌, ◌*◌, ◌/◌, ◌%◌, ◌^◌, ◌<◌, ◌≤◌, ◌==◌, nat_lt, nat_le, zero, suc, min, ◌&&◌, List, [], ◌∷◌, ◌++◌, length, filter, sum_by, if◌then◌else◌}
 use Rattle.std.proofs.Common.{◌∙◌, refl, sym, ap, subst, inl, inr, cond, get_or, arith, mod-eq_of_lt, mul-le-mul_right}
 use Rattle.std.proofs.lemmas.Bool.{cases_Bool, cases_lt, le-leb, lt-leb, lt-ltb, le-ltb}
@@ -103,7 +103,7 @@ sum_worth low size n (suc m) =
       ]
     ]
 
--- the word of a set is that part of its number
+-- the word of a set is the corresponding part of the number
 pub word_of-set_of : (k end n : ℕ) → 64 * k + 64 ≤ end →
     bits_word k (set_of end n) ≡ n / 2 ^ (64 * k) % 2 ^ 64
 unfolding worth
@@ -116,7 +116,7 @@ abbrev pub DigitsBelow : ℕ → List ℕ → Type 0
 DigitsBelow bound [] = Unit {0}
 DigitsBelow bound (d ∷ ds) = (d < bound) × DigitsBelow bound ds
 
--- the digits are below a bound, by places
+-- each digit is below a bound, if this holds place by place
 pub digits_below : (bound : ℕ) (ds : List ℕ) → ((k : ℕ) → get_or ds k 0 < bound) → DigitsBelow bound ds
 digits_below bound [] small = tt
 digits_below bound (d ∷ ds) small = (small 0, digits_below bound ds (λ k. small (suc k)))
@@ -162,7 +162,7 @@ digit_of size (d ∷ ds) (suc k) small =
     more : (n k : ℕ) → n * suc k ≡ n + n * k
     more n k = omega arith
 
--- the words of a set of 256 offsets
+-- the four words of a set of 256 offsets
 pub word_of_four : (ds : List ℕ) (k : ℕ) → k < 4 → ((k : ℕ) → get_or ds k 0 < 2 ^ 64) →
     bits_word k (set_of 256 (number_of_bits 64 ds)) ≡ get_or ds k 0
 word_of_four ds k few small = word_of-set_of k 256 (number_of_bits 64 ds) (omega arith)

@@ -1,10 +1,11 @@
--- The checks of a block frame, in their order.
+-- Defines the checks of a BlockAckReq or BlockAck, in order.
 use Rattle.std.specs.Prelude.{ℕ, ◌%◌, ◌==◌, ◌&&◌, not, Bool, List, length, slice_index, Option, Some, None, if◌then◌else◌}
 use Rattle.wf_octets.specs.Fields.{is_set, number_at}
 use Rattle.wf_octets.specs.declared.block.decoding.BlockFault.{BlockFault}
 use Rattle.wf_octets.specs.declared.block.decoding.BlockFault.TheVariants.{Length, Kind, NotCompressed, MultiTid, Fragment, NotWide}
 
--- the first check that fails of a frame of `need` octets that begins with `first`, in the wide form or not
+-- the first fault of a frame of `need` octets that begins with `first`; `wide` says whether it has the wide
+-- form
 abbrev pub first_block_fault : ℕ → ℕ → Bool → List ℕ → Option BlockFault
 first_block_fault need first wide octets =
     if not (length octets == need) then Some (Length need (length octets))

@@ -1,5 +1,6 @@
--- BlockAckReq and BlockAck in the compressed form, whole (IEEE 802.11-2012, 8.3.1.8 and 8.3.1.9), and this
--- project's BlockAck of 256 numbers, as relations between octets and fields. All numbers are little-endian.
+-- Defines the layouts of BlockAckReq and BlockAck with a compressed bitmap (IEEE 802.11-2012, 8.3.1.8 and
+-- 8.3.1.9), and of this project's BlockAck of 256 numbers, as relations between octets and fields. All
+-- numbers are little-endian.
 use Rattle.std.specs.Prelude.{◌≡◌, ℕ, ◌+◌, ◌*◌, ◌/◌, ◌%◌, true, false, List, [], ◌∷◌, ◌++◌, length, drop, slice_index}
 use Rattle.wf_octets.specs.Fields.{is_set, number_at, part, two_octets}
 use Rattle.wf_octets.specs.Offsets.{offsets_in}
@@ -14,10 +15,10 @@ request = 0x84
 abbrev pub answer : ℕ
 answer = 0x94
 
--- What the frames begin with: Duration, the recipient, the transmitter, the control field with Compressed
--- Bitmap (bit 2) set, Multi-TID (bit 1) clear and the TID in its bits 12 to 15, and Starting Sequence Control
--- with fragment number 0 in its bits 0 to 3. The second octet of Frame Control and the other bits of the
--- control field are free.
+-- The fields that all these frames begin with: Duration, the recipient, the transmitter, the control field
+-- with Compressed Bitmap (bit 2) set, Multi-TID (bit 1) clear and the TID in bits 12 to 15, and Starting
+-- Sequence Control with fragment number 0 in bits 0 to 3. The second octet of Frame Control and the other
+-- bits of the control field are free.
 pub record HasHead (octets : List ℕ) (first : ℕ) (h : Bar) : Type 0 where
   pub kind : slice_index octets 0 ≡ first
   pub duration : number_at octets 2 ≡ h.duration
@@ -34,38 +35,39 @@ head_of_ba b = record { ra = b.ra; ta = b.ta; duration = b.duration; tid = b.tid
 abbrev pub head_of_wide : WideBa → Bar
 head_of_wide b = record { ra = b.ra; ta = b.ta; duration = b.duration; tid = b.tid; start = b.start }
 
--- the octets of a BlockAckReq
+-- the octets are the BlockAckReq b
 pub record IsBar (octets : List ℕ) (b : Bar) : Type 0 where
   pub size : length octets ≡ 20
   pub head : HasHead octets request b
 
--- the octets of a BlockAck, whose bitmap has eight octets
+-- the octets are the BlockAck b, whose bitmap has eight octets
 pub record IsBlockAck (octets : List ℕ) (b : Ba) : Type 0 where
   pub size : length octets ≡ 28
   pub head : HasHead octets answer (head_of_ba b)
   pub bitmap : offsets_in (drop 20 octets) ≡ b.bits
 
--- the octets of the BlockAck of 256 numbers, whose control field has bit 3 set and whose bitmap has 32 octets
+-- the octets are the BlockAck b of 256 numbers, whose control field has bit 3 set and whose bitmap has 32
+-- octets
 pub record IsWideBa (octets : List ℕ) (b : WideBa) : Type 0 where
   pub size : length octets ≡ 52
   pub head : HasHead octets answer (head_of_wide b)
   pub wide : is_set (slice_index octets 16) 3 ≡ true
   pub bitmap : offsets_in (drop 20 octets) ≡ b.bits
 
--- the octets before the bitmap, every free bit 0; `form` is the low octet of the control field
+-- the octets before the bitmap, with free bits 0; `form` is the low octet of the control field
 abbrev pub head_octets : ℕ → ℕ → Bar → List ℕ
 head_octets first form h =
     (first ∷ 0 ∷ []) ++ two_octets h.duration ++ h.ra ++ h.ta ++ (form ∷ 16 * h.tid ∷ [])
     ++ two_octets (16 * h.start)
 
--- Compressed Bitmap alone, and with it the bit of the wide form
+-- only Compressed Bitmap, and together with the bit of the wide form
 abbrev pub narrow_form : ℕ
 narrow_form = 4
 
 abbrev pub wide_form : ℕ
 wide_form = 12
 
--- the fields before the bitmap, at their places
+-- the fields before the bitmap, read at their places
 abbrev pub head_in : List ℕ → Bar
 head_in octets =
     record {

@@ -1,4 +1,4 @@
--- The checks of a header, in their order.
+-- Defines the checks of a MAC header, in order.
 use Rattle.std.specs.Prelude.{ℕ, ◌%◌, ◌==◌, ◌&&◌, ◌||◌, not, nat_lt, Bool, List, length, slice_index, Option, Some, None, if◌then◌else◌}
 use Rattle.wf_octets.specs.Fields.{is_set, number_at}
 use Rattle.wf_octets.specs.declared.header.header.Kind.{Kind}
@@ -18,8 +18,8 @@ kind_of octet =
     else (if octet == 0x84 then Some BlockAckReq
     else (if octet == 0x94 then Some BlockAck else None)))))
 
--- what a QoS header may not have: both DS flags, More Fragments, Protected, Order, a fragment number, an
--- A-MSDU
+-- a QoS header has something that is not supported: both DS flags, More Fragments, Protected, Order, a
+-- fragment number, or an A-MSDU
 abbrev pub is_malformed : List ℕ → Bool
 is_malformed octets =
     (is_set (slice_index octets flags_at) 0 && is_set (slice_index octets flags_at) 1)
@@ -33,7 +33,7 @@ fault_of_kind octets kind =
     if nat_lt (length octets) (size_of kind) then Some (Short (size_of kind) (length octets))
     else (if is_qos kind && is_malformed octets then Some Form else None)
 
--- the first check that fails
+-- the first fault of a header
 abbrev pub first_header_fault : List ℕ → Option HeaderFault
 first_header_fault octets =
     if nat_lt (length octets) 2 then Some (Short 2 (length octets))

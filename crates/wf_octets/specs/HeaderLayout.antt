@@ -1,4 +1,4 @@
--- The headers of frames on the air (IEEE 802.11-2012, 8.2.4 and 8.3), as a relation between octets and
+-- Defines the layouts of MAC headers (IEEE 802.11-2012, 8.2.4 and 8.3), as relations between octets and
 -- fields. All numbers are little-endian.
 use Rattle.std.specs.Prelude.{◌≡◌, ℕ, ◌+◌, ◌*◌, ◌%◌, ◌<◌, ◌≤◌, ◌&&◌, Bool, true, false, List, [], ◌∷◌, ◌++◌, length, slice_index, MatchBool, if◌then◌else◌}
 use Rattle.wf_octets.specs.Fields.{is_set, number_at, part, two_octets}
@@ -15,8 +15,8 @@ first_octet Ack = 0xD4
 first_octet BlockAckReq = 0x84
 first_octet BlockAck = 0x94
 
--- where a header's fields begin, in octets (8.2.4): the second octet of Frame Control, Duration, the
--- addresses, and a QoS frame's Sequence Control and QoS Control
+-- the offsets of a header's fields in octets (8.2.4): the second octet of Frame Control, Duration, the
+-- addresses, and Sequence Control and QoS Control of a QoS frame
 abbrev pub flags_at : ℕ
 flags_at = 1
 
@@ -38,11 +38,11 @@ sequence_at = 22
 abbrev pub qos_at : ℕ
 qos_at = 24
 
--- the octets of an address (8.2.4.3)
+-- the size of an address in octets (8.2.4.3)
 abbrev pub address_octets : ℕ
 address_octets = 6
 
--- the octets of a header
+-- the size of a header in octets
 abbrev pub size_of : Kind → ℕ
 size_of QosData = 26
 size_of QosNull = 26
@@ -70,7 +70,7 @@ has_address_2 BlockAck = true
 abbrev pub no_address : List ℕ
 no_address = 0 ∷ 0 ∷ 0 ∷ 0 ∷ 0 ∷ 0 ∷ []
 
--- a header without flags
+-- all flags of the header are false
 pub record HasNoFlags (h : Header) : Type 0 where
   pub to_ds : h.to_ds ≡ false
   pub from_ds : h.from_ds ≡ false
@@ -78,8 +78,8 @@ pub record HasNoFlags (h : Header) : Type 0 where
   pub power : h.power ≡ false
   pub more : h.more ≡ false
 
--- QoS Data and QoS Null, past Address 1: the second octet of Frame Control, two addresses, Sequence Control
--- with fragment number 0 in its bits 0 to 3, and QoS Control, of which bits 4 to 6 and 8 to 15 are free
+-- QoS Data and QoS Null after Address 1: the second octet of Frame Control, two addresses, Sequence Control
+-- with fragment number 0 in bits 0 to 3, and QoS Control, whose bits 4 to 6 and 8 to 15 are free
 pub record HasQosFields (octets : List ℕ) (h : Header) : Type 0 where
   pub to_ds : is_set (slice_index octets flags_at) 0 ≡ h.to_ds
   pub from_ds : is_set (slice_index octets flags_at) 1 ≡ h.from_ds
@@ -96,8 +96,8 @@ pub record HasQosFields (octets : List ℕ) (h : Header) : Type 0 where
   pub tid : slice_index octets qos_at % 16 ≡ h.tid
   pub a_msdu : is_set (slice_index octets qos_at) 7 ≡ false
 
--- Ack, PS-Poll, BlockAckReq and BlockAck, past Address 1: the second octet of Frame Control is free, an Ack
--- has no Address 2, and the fields that such a header does not carry are false or 0
+-- Ack, PS-Poll, BlockAckReq and BlockAck after Address 1: the second octet of Frame Control is free, an Ack
+-- has no Address 2, and the fields that such a header does not have are false or 0
 pub record HasShortFields (octets : List ℕ) (h : Header) : Type 0 where
   pub flags : HasNoFlags h
   pub address_2 : h.a2 ≡ (if has_address_2 h.kind then part octets address_2_at address_octets
@@ -114,8 +114,8 @@ pub record BeginsWithHeader (octets : List ℕ) (h : Header) : Type 0 where
   pub address_1 : part octets address_1_at address_octets ≡ h.a1
   pub others : MatchBool (is_qos h.kind) (HasQosFields octets h) (HasShortFields octets h)
 
--- each field that the header's kind does not carry is false or 0, not both DS flags are set, and the TID has
--- four bits
+-- a header that can be written: each field that its kind does not have is false or 0, at most one DS flag is
+-- set, and the TID has four bits
 pub record IsPlainQos (h : Header) : Type 0 where
   pub not_both : (h.to_ds && h.from_ds) ≡ false
   pub tid : h.tid < 16
@@ -139,7 +139,7 @@ abbrev pub flags_octet : Header → ℕ
 flags_octet h = bit_of h.to_ds + 2 * bit_of h.from_ds + 8 * bit_of h.retry + 16 * bit_of h.power + 32 * bit_of
     h.more
 
--- the octets of a header whose free bits are 0
+-- the octets of a header, with free bits 0
 abbrev pub header_as_octets : Header → List ℕ
 header_as_octets h =
     (first_octet h.kind ∷ flags_octet h ∷ []) ++ two_octets h.duration ++ h.a1

@@ -8,6 +8,5 @@ pub mod HeaderLayout
 pub mod HeaderFaults
 pub mod BlockFaults
 pub mod BlockLayout
-pub mod Sleepers
 pub mod Tim
 pub mod TimFaults

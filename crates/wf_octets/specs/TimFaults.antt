@@ -1,10 +1,10 @@
--- The checks of a TIM element, in their order.
+-- Defines the checks of a TIM element, in order.
 use Rattle.std.specs.Prelude.{ℕ, ◌+◌, ◌-◌, ◌==◌, ◌||◌, not, nat_lt, List, length, slice_index, Option, Some, None, if◌then◌else◌}
-use Rattle.wf_octets.specs.declared.tim.tim.TimFault.{TimFault}
-use Rattle.wf_octets.specs.declared.tim.tim.TimFault.TheVariants.{Short, Id, Length}
+use Rattle.wf_octets.specs.declared.tim.TimFault.{TimFault}
+use Rattle.wf_octets.specs.declared.tim.TimFault.TheVariants.{Short, Id, Length}
 use Rattle.wf_octets.specs.Tim.{first_octet_of_bitmap}
 
--- the first check that fails
+-- the first fault of a TIM element
 abbrev pub first_tim_fault : List ℕ → Option TimFault
 first_tim_fault octets =
     if nat_lt (length octets) 6 then Some (Short (length octets))

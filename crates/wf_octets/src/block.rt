@@ -1,9 +1,8 @@
-//! Block frames: BlockAckReq and BlockAck, by which a recipient says what it got (IEEE 802.11-2012, 8.3.1.8,
-//! 8.3.1.9 and 9.21). A session with a window above 64 has a BlockAck of this project's own, with a bitmap of
-//! 256 bits.
+//! The frames of block acknowledgement: BlockAckReq and BlockAck (IEEE 802.11-2012, 8.3.1.8, 8.3.1.9 and
+//! 9.21). A session with a window above 64 uses a BlockAck of this project's own, with a bitmap of 256 bits.
 //!
-//! Writers write the layout with reserved bits 0; readers answer Ok exactly for octets of the layout, else
-//! the first fault in order.
+//! Writers write the layout with reserved bits 0. Readers return Ok exactly for octets of the layout, and
+//! otherwise the first fault.
 
 mod decoding;
 mod encoding;

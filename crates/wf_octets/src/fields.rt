@@ -1,12 +1,12 @@
-//! Fields of frames on the air: numbers of two octets, the lower octet first, addresses of six octets,
-//! and single bits (IEEE 802.11-2012, 8.2.2).
+//! Fields of frames on the air: numbers of two octets, the low octet first, addresses of six octets, and
+//! single bits (IEEE 802.11-2012, 8.2.2).
 
 ghost use Rattle.std.specs.Prelude.{◌≡◌, ℕ, ◌+◌, ◌<◌, ◌≤◌, ◌++◌, length, take, drop};
 ghost use Rattle.wf_octets.specs.Fields.{is_set, number_at, part, two_octets};
 
 use byteorder::{ByteOrder, LittleEndian};
 
-/// The number in the two octets from `place` on.
+/// Returns the number in the two octets at `place`.
 pub fn number_at(octets: &[u8], place: usize) -> u16
     requires { place + 2 ≤ length octets.now }
     ensures { result ≡ number_at octets.now place }
@@ -14,7 +14,7 @@ pub fn number_at(octets: &[u8], place: usize) -> u16
     LittleEndian::read_u16(&octets[place..])
 }
 
-/// The address in the six octets from `place` on.
+/// Returns the address in the six octets at `place`.
 pub fn address_at(octets: &[u8], place: usize) -> [u8; 6]
     requires { place + 6 ≤ length octets.now }
     ensures { result ≡ part octets.now place 6 }
@@ -24,7 +24,7 @@ pub fn address_at(octets: &[u8], place: usize) -> [u8; 6]
     address
 }
 
-/// Whether bit `k` of an octet is 1.
+/// Returns whether bit `k` of an octet is 1. Bit 0 is the least significant.
 pub fn is_set(octet: u8, k: u32) -> bool
     requires { k < 8 }
     ensures { result ≡ is_set octet k }
@@ -32,7 +32,7 @@ pub fn is_set(octet: u8, k: u32) -> bool
     (octet >> k) & 1 == 1
 }
 
-/// A number as two octets.
+/// Returns a number as two octets, the low one first.
 pub fn two_octets(n: u16) -> [u8; 2]
     ensures octets { result ≡ two_octets n }
     ensures read_back { number_at (two_octets n) 0 ≡ n }
@@ -42,7 +42,7 @@ pub fn two_octets(n: u16) -> [u8; 2]
     octets
 }
 
-/// Writes a field at `place`, and answers the place after it.
+/// Writes a field at `place`, and returns the place after it.
 pub fn put(out: &mut [u8], place: usize, field: &[u8]) -> usize
     requires { place + length field.now ≤ length out.old }
     ensures place { result ≡ place + length field.now }

@@ -1,4 +1,5 @@
--- A transmission of data: its number flies in the window of its TID, and its frame has its id.
+-- Proves that the number of a data transmission flies in the window of its TID, and that its
+-- frame is the frame with its id. The end of its exchange could begin, so the facts of an ending hold.
 use Rattle.std.proofs.Common.{◌≡◌, refl, ap, sym, ◌∙◌, subst, ℕ, zero, suc, ◌<◌, ◌==◌, true, false, List, [], ◌∷◌, map, Option, Some, None, option_map, eq-eqb}
 use Rattle.std.specs.Prelude.{find, option_and_then, slice_get}
 use Rattle.std.proofs.lemmas.Bool.{or_left, or_right}
@@ -17,11 +18,11 @@ use Rattle.wf_send_parts.proofs.Numbers.{open_number}
 use Rattle.wf_send_parts.proofs.Callers.{state_is}
 use Rattle.wf_send_parts.specs.Windows.{window_of}
 use Rattle.wf_send_parts.specs.Ending.{IsFlyingIn}
-use Rattle.wf_send_half_refines.specs.Half.{TransmitValue}
-use Rattle.wf_send_half_refines.specs.Standing.{sending_of, open_of, numbers_on_air, StandsFor}
-use Rattle.wf_send_half_refines.specs.Ending.{after_close, ending_of, IsLoose, IsEnding}
-use Rattle.wf_send_half_refines.specs.Views.{Agreements}
-use Rattle.wf_send_half_refines.proofs.Endings.{closed_agreements}
+use Rattle.wf_send_half_model.specs.Half.{TransmitValue}
+use Rattle.wf_send_half_model.specs.Standing.{sending_of, open_of, numbers_on_air, StandsFor}
+use Rattle.wf_send_half_model.specs.Ending.{after_close, ending_of, IsLoose, IsEnding}
+use Rattle.wf_send_half_model.specs.Views.{Agreements}
+use Rattle.wf_send_half_model.proofs.Endings.{closed_agreements}
 use Rattle.wf_send_half.specs.Half.{HasWorld}
 use Rattle.wf_send_half.proofs.Dones.{IsKnown, known_of, none_open, low_tid as low}
 use Rattle.wf_send_half.proofs.Ends.{IsData, sends as data_sent, begun}
@@ -35,7 +36,7 @@ use Rattle.wf_octets.specs.declared.header.header.Header.{Header}
 use Rattle.wf_path.specs.Flights.{IsInFlight, Flies}
 use Rattle.wf_path.proofs.Opened.{live, within}
 
--- ---- one of a list
+-- ---- one element of a list
 
 each_at : (P : Mpdu → Type 0) (ms : List Mpdu) (i : ℕ) (m : Mpdu) → EachMpdu P ms → slice_get ms i ≡ Some m →
     P m
@@ -48,13 +49,13 @@ has_at [] i n is = absurd (cc is)
 has_at (x ∷ xs) zero n is = let same : x ≡ n = cc is in or_left (x == n) (has xs n) (eq-eqb x n same)
 has_at (x ∷ xs) (suc i) n is = or_right (x == n) (has xs n) (has_at xs i n is)
 
--- what sends a frame sends data
+-- an exchange with a frame sends data
 data_of : (c : Content) (i : ℕ) (m : Mpdu) → slice_get (mpdus_of c) i ≡ Some m →
     sending_of c ≡ Data (numbers_on_air (mpdus_of c))
 data_of (Frames mpdus) i m is = refl
 data_of (Request start) i m is = absurd (cc is)
 
--- its number, as it stands on the air
+-- its number, modulo 4096
 air_of : (c : Content) (i seq : ℕ) (m : Mpdu) → slice_get (mpdus_of c) i ≡ Some m →
     number_carried (sending_of c) i ≡ Some seq → seq ≡ on_air m.number
 air_of (Frames mpdus) i seq m is carries =
@@ -134,7 +135,7 @@ module _ (v : TransmitValue) (o : Open) (index : ℕ) (w : World) (bodies : ℕ 
   pub tid_low : o.tid < 8
   tid_low = subst (λ (k : Open). k.tid < 8) (sym f.same) (low v w bodies f.stands f.number x f.known)
 
-  -- by the number that it carries on the air
+  -- by its number modulo 4096
   module _ (seq : ℕ) (carries : number_carried o.sending index ≡ Some seq) where
     pub air : seq ≡ on_air m.number
     air = air_of x.content index seq m f.among (subst
@@ -147,7 +148,7 @@ module _ (v : TransmitValue) (o : Open) (index : ℕ) (w : World) (bodies : ℕ 
     held_there = ap holds_parcel (state_is (window_of v.windows o.station o.tid) y bodies window_stands
         m.number seq is_number) ∙ held
 
--- of one that flies in some world
+-- for a transmission that flies in some world
 module _ (v : TransmitValue) (o : Open) (index seq : ℕ) (r : Flies v o index seq) where
   pub some_within : o.station < v.config.stations
   some_within = station_within v o index r.world r.bodies r.exchange_is r.mpdu r.flight
@@ -248,7 +249,7 @@ module _ (v : TransmitValue) (e : ℕ) (o : Open) (index seq : ℕ)
       ap Some own ∙ sym (ap (option_map (λ (z : Mpdu). (bodies z.id).tag)) k.flight.among)
       ∙ sym (ap (option_and_then (λ x. transmission_tag bodies x index)) k.known)
 
-  -- its header, and that there is one
+  -- its header exists
   module _ (w : World) (bodies : ℕ → FrameValue) (h : StandsFor v w bodies) where
     pub header_is : (a : Addresses) (header : Header) (head : List ℕ) →
         ((x : Exchange) (m : Mpdu) → IsInFlight v o index w bodies x m → header ≡ header_of a w bodies x m) →

@@ -1,4 +1,5 @@
--- The association identifiers that are present are those of the stations that sleep and have traffic.
+-- Proves that the association identifiers that are present belong to the stations that sleep and
+-- have traffic, by induction over the stations.
 use Rattle.std.proofs.Common.{◌≡◌, refl, ap, ap₂, sym, ◌∙◌, arith, ℕ, zero, suc, ◌+◌, ◌-◌, ◌<◌, ◌≤◌, Bool, true, false, cond, ◌&&◌, List, [], ◌∷◌, length, map, filter, get_or, get_or-set_other, set, replicate, inl, inr}
 use Rattle.std.specs.List.{range_with_len}
 use Rattle.wf_def_lists.specs.Table.{count_from, upto}
@@ -11,17 +12,17 @@ use Rattle.wf_def_world.specs.World.{World, station, is_live}
 use Rattle.wf_def_world.specs.Exchanges.{has_more}
 use Rattle.wf_def_world.specs.Text.{with_traffic}
 use Rattle.wf_octets.specs.Tim.{aids_of}
-use Rattle.wf_octets.specs.Sleepers.{sleeper}
-use Rattle.wf_send_half_refines.specs.Half.{TransmitValue}
-use Rattle.wf_send_half_refines.specs.Pulling.{has_more_of}
-use Rattle.wf_send_half_refines.specs.Standing.{StandsFor}
-use Rattle.wf_send_half_refines.proofs.Readers.{live_same}
-use Rattle.wf_send_half_refines.proofs.Pulls.{more_same}
+use Rattle.wf_send_parts.specs.Sleepers.{sleeper}
+use Rattle.wf_send_half_model.specs.Half.{TransmitValue}
+use Rattle.wf_send_half_model.specs.Pulling.{has_more_of}
+use Rattle.wf_send_half_model.specs.Standing.{StandsFor}
+use Rattle.wf_send_half_model.proofs.Readers.{live_same}
+use Rattle.wf_send_half_model.proofs.Pulls.{more_same}
 use Rattle.wf_path.specs.Traffic.{has_traffic_of, ArePresent}
 
 -- ---- the identifiers that are present
 
--- past the last station none is
+-- no identifier past the last station is present
 none_past : (present : ℕ → Bool) (n a m : ℕ) → n < a → ((k : ℕ) → n < k → present k ≡ false) →
     filter present (range_with_len a m) ≡ []
 none_past present n a zero past none = refl
@@ -32,7 +33,7 @@ none_past present n a (suc m) past none =
 
 module _ (present traffic : ℕ → Bool) (n : ℕ) (within : (s : ℕ) → s < n → present (s + 1) ≡ traffic s)
     (past : (k : ℕ) → n < k → present k ≡ false) where
-  -- j stations from i on are left, and then m identifiers more
+  -- j stations from i on are left, then m more identifiers
   from_station : (j i m : ℕ) → i + j ≡ n → filter present (range_with_len (i + 1) (j + m))
       ≡ map (λ s. s + 1) (filter traffic (count_from i j))
   from_station zero i m is = none_past present n (i + 1) (zero + m) (omega (arith, is)) past
@@ -56,7 +57,7 @@ module _ (present traffic : ℕ → Bool) (n : ℕ) (within : (s : ℕ) → s < 
       either true = refl
       either false = refl
 
-  -- 0 is of no station
+  -- 0 belongs to no station
   from_none : (count : ℕ) → n < count → present 0 ≡ false →
       filter present (range_with_len 0 count) ≡ map (λ s. s + 1) (filter traffic (upto n))
   from_none zero low none = absurd (omega (arith, low))
@@ -108,7 +109,7 @@ one_more present traffic i here few is h = record {
 
 -- ---- the stations that have traffic
 
--- of those that pass one test, those that pass another are those that pass both
+-- a filter of a filter is the filter by both tests
 pub filter_both : (p q both : ℕ → Bool) → ((x : ℕ) → both x ≡ (p x && q x)) → (xs : List ℕ) →
     filter q (filter p xs) ≡ filter both xs
 filter_both p q both is [] = refl
@@ -134,7 +135,7 @@ module _ (v : TransmitValue) (w : World) (bodies : ℕ → FrameValue) (h : Stan
         ∙ ap (λ b. b && ((station w s).asleep && has_more w s)) (sym off)
   ]
 
-  -- the identifiers that are present are those of the machine
+  -- the identifiers that are present are the machine's
   pub traffic_are : (present : List Bool) → ArePresent present (has_traffic_of v) v.config.stations →
       aids_of present ≡ with_traffic w
   traffic_are present are =

@@ -1,4 +1,5 @@
--- Calls of a path: what becomes of the frames, and which comes back.
+-- Proves for each call of a path which frame it returns, and that it leaves an unheard world unheard. By
+-- cases of the call.
 use Rattle.std.proofs.Common.{◌≡◌, refl, sym, subst, ℕ, List, Option, None}
 use Rattle.wf_frame.specs.Answers.{reply_with}
 use Rattle.wf_frame.specs.Frames.{FrameValue}
@@ -10,14 +11,14 @@ use Rattle.wf_frame.specs.declared.notes.ReplyNote.{ReplyNote}
 use Rattle.wf_def_world.specs.World.{World}
 use Rattle.wf_def_world.specs.Step.{step}
 use Rattle.wf_law_driver.specs.Unheard.{IsSilent, IsUnheard}
-use Rattle.wf_send_half_refines.specs.Half.{TransmitValue}
-use Rattle.wf_send_half_refines.specs.Standing.{StandsFor, Meets}
+use Rattle.wf_send_half_model.specs.Half.{TransmitValue}
+use Rattle.wf_send_half_model.specs.Standing.{StandsFor, Meets}
 use Rattle.wf_path.specs.Jobs.{IsHeard, IsBrief, note_of, bodies_after, frame_given_back}
 use Rattle.wf_path.specs.declared.job.Job.{Job}
 use Rattle.wf_path.specs.declared.job.Job.TheVariants.{Give, Call}
-use Rattle.wf_path.proofs.Kept.{silent_at}
+use Rattle.wf_send_half.proofs.Kept.{silent_at}
 
--- a call that is answered by a brief brings no frame back
+-- a call whose answer has no lists and no frame returns no frame
 none_for : (bodies : ℕ → FrameValue) (ask : Ask) (reply : ReplyNote) → IsBrief ask →
     ◌≡◌ {A = Option FrameValue} None (frame_given_back bodies (Call ask) reply)
 none_for bodies (Join s window start exponent weight) reply is = refl
@@ -49,7 +50,7 @@ asked_meets v u job ask same b pairs ids w bodies m =
     subst (λ (j : Job). Meets w (bodies_after v j (reply_with b pairs ids) bodies) (note_of j) u
     (reply_with b pairs ids)) (sym same) m
 
--- ---- no call tells of a receiver
+-- ---- no call is about a receiver
 
 silent_job : (job : Job) → IsHeard job → IsSilent (note_of job)
 silent_job (Give f) is = tt

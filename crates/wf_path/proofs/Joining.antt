@@ -1,4 +1,5 @@
--- Who is live after a call, and was not before, has just joined, so its sums begin anew.
+-- Proves that a station that is live only since a call has joined by this call, so its airtimes begin at 0.
+-- By cases of the call.
 use Rattle.std.proofs.Common.{◌≡◌, refl, ap, sym, ◌∙◌, ℕ, ◌==◌, ◌&&◌, Bool, true, false, if◌then◌else◌, List, [], ◌∷◌, Option, Some, None, is_none, IfSome}
 use Rattle.wf_frame.specs.declared.notes.Ask.TheVariants.{Join, Leave, Rate, Tick, Pull, Arrive, Answer, Done, Sleep, Wake, Poll, Rx, Reap}
 use Rattle.wf_frame.specs.declared.notes.Note.{Note}
@@ -18,12 +19,12 @@ use Rattle.wf_law_runs.proofs.Releases.Released.{live_with_station, live_own_sta
 use Rattle.wf_law_runs.proofs.Frames.Delivered.{same_enqueued}
 use Rattle.wf_law_runs.proofs.Kept.Lasting.{Last, last_pulled, last_arrived, last_answered, last_ended}
 
--- whether a call asks that station s joins
+-- whether a call is a Join of station s
 abbrev is_join_of : ℕ → Note → Bool
 is_join_of s (Asked (Join i window start exponent weight)) = i == s
 is_join_of s note = false
 
--- who is live in v was so in w, but for a station that a call has join
+-- each station that is live in v was live in w, except the station that the call joins
 abbrev Were : Note → World → World → Type 0
 Were note w v = (s : ℕ) → is_join_of s note ≡ false → is_live v s ≡ true → is_live w s ≡ true
 
@@ -128,7 +129,7 @@ new_answer None w note s n e i dead live = on_bool (is_join_of s note)
           (sym ((same_listed (concerned_station w note) (outcome_of w note).world).live s) ∙ live),
     )))
 
--- a station that was not live before a call and is live after it has sums that begin at 0
+-- the airtimes of a station that is live after a call and was not before begin at 0
 pub new_sum : (w : World) (note : Note) (s n : ℕ) → IsLawful w → is_live w s ≡ false →
     is_live (step w note).world s ≡ true → since_join w s note n ≡ 0
 unfolding step

@@ -1,13 +1,11 @@
 mod CallAnswers
 mod Counts
 mod Dones
-mod Enqueues
-mod Flags
 mod Flying
+mod Given
 mod Identifiers
 mod Jobs
 mod Joining
-mod Kept
 pub mod MadeUp
 mod Opened
 mod Openings

@@ -1,4 +1,5 @@
--- The made-up addresses, and what is sent from and to them.
+-- Proves that the transmissions of a path with the placeholder addresses are those that a definition with
+-- fixed addresses gives.
 use Rattle.std.proofs.Common.{◌≡◌, refl, ap, ap₂, arith, ℕ, List, [], ◌∷◌, ◌++◌, map, length, inl, inr, Option, Some, None}
 use Rattle.std.specs.Prelude.{option_and_then, slice_get}
 use Rattle.std.specs.List.{range_with_len}
@@ -32,11 +33,11 @@ made_up_address s = elim (cases_lt s station_numbers) [
       (omega (arith, past, length-map-range_with_len address_of_station 0 station_numbers))
 ]
 
--- addresses that compute to the made-up ones
+-- the placeholder addresses, in a form that computes
 abbrev pub plain : Addresses
 plain = record { base = base; stations = [] }
 
--- ---- what is sent is sent from and to these
+-- ---- transmissions from and to these addresses
 
 module _ (w : World) (bodies : ℕ → FrameValue) where
   header_plain : (x : Exchange) (m : Mpdu) → header_of made_up w bodies x m ≡ header_of plain w bodies x m

@@ -1,4 +1,5 @@
--- An open exchange, as the half keeps it and as the world has it.
+-- Proves that an open exchange of the half agrees with the world's: its station and TID are in range, its answer
+-- and its summary agree.
 use Rattle.std.proofs.Common.{◌≡◌, refl, ap, sym, ◌∙◌, subst, arith, ℕ, ◌<◌, ◌==◌, Bool, true, List, Some, None, option_map}
 use Rattle.std.specs.Prelude.{find}
 use Rattle.std.specs.Option.{option_map_or}
@@ -11,11 +12,11 @@ use Rattle.wf_def_world.specs.Exchanges.{transmissions}
 use Rattle.wf_send_parts.specs.Window.{on_air}
 use Rattle.wf_send_parts.specs.declared.exchanges.opened.Open.{Open}
 use Rattle.wf_send_parts.specs.Exchanges.{transmissions_of, sending_is_request as asks_for}
-use Rattle.wf_send_half_refines.specs.Half.{TransmitValue}
-use Rattle.wf_send_half_refines.specs.Standing.{sending_of, StandsFor}
-use Rattle.wf_send_half_refines.proofs.Endings.{open_live}
-use Rattle.wf_send_half_refines.specs.Pulling.{is_wide_of}
-use Rattle.wf_send_half_refines.proofs.Pulls.{wide_same}
+use Rattle.wf_send_half_model.specs.Half.{TransmitValue}
+use Rattle.wf_send_half_model.specs.Standing.{sending_of, StandsFor}
+use Rattle.wf_send_half_model.proofs.Endings.{open_live}
+use Rattle.wf_send_half_model.specs.Pulling.{is_wide_of}
+use Rattle.wf_send_half_model.proofs.Pulls.{wide_same}
 use Rattle.wf_send_half.specs.Half.{HasWorld}
 use Rattle.wf_send_half.proofs.Dones.{IsKnown, known_of, none_open, low_tid}
 use Rattle.wf_path.specs.Transmissions.{sent_of}
@@ -23,7 +24,7 @@ use Rattle.wf_path.specs.Addresses.{Addresses}
 use Rattle.wf_path.specs.Answers.{answer_fault, read_fault}
 use Rattle.wf_path.specs.declared.faults.DoneFault.TheVariants.{NoExchange}
 
--- its station is live and within the settings
+-- its station is live, and its number is below the setting
 module _ (v : TransmitValue) (w : World) (bodies : ℕ → FrameValue) (h : StandsFor v w bodies) (e : ℕ)
     (x : Exchange) (known : exchange w e ≡ Some x) where
   pub live : is_live w x.station ≡ true
@@ -36,7 +37,7 @@ module _ (v : TransmitValue) (w : World) (bodies : ℕ → FrameValue) (h : Stan
     ap (λ (k : Config). k.stations) h.parts.others.config,
   )
 
--- the same of what the half keeps
+-- the same in the half
 module _ (v : TransmitValue) (some : HasWorld v) (e : ℕ) (o : Open)
     (is : Some o ≡ find (λ x. x.number == e) v.opened) where
   it : IsKnown some.world e o
@@ -70,7 +71,7 @@ module _ (v : TransmitValue) (w : World) (bodies : ℕ → FrameValue) (h : Stan
       ∙ sym (ap (λ o. option_map_or (λ y. answer_fault a (is_wide w y.station y.tid) y.station y.tid octets) o
       (Some NoExchange)) k.known)
 
--- ---- what it sends, in short
+-- ---- its summary
 
 count_same : (c : Content) → transmissions_of (sending_of c) ≡ transmissions c
 count_same (Frames mpdus) = length-map mpdus (λ m. on_air m.number)

@@ -1,4 +1,5 @@
--- No count of a path rises by more than 10,000,000 in a call of the machine.
+-- Proves that no count of a path rises by more than 10,000,000 in a call, from the laws of the sums over a
+-- run.
 use Rattle.std.proofs.Common.{◌≡◌, refl, ap, sym, ◌∙◌, subst, arith, ℕ, ◌+◌, ◌≤◌, ◌<◌, ◌==◌, ◌&&◌, Bool, true, false, if◌then◌else◌, List, [], ◌∷◌, ◌++◌, Option, Some, None, is_some, is_none, IfSome, unwrap_or, inl, inr, ◌⊎◌}
 use Rattle.std.proofs.lemmas.Bool.{and_parts, not-false}
 use Rattle.wf_frame.specs.Classes.{same_class}
@@ -31,8 +32,8 @@ use Rattle.wf_sched_refines.specs.Standing.{share_in}
 use Rattle.wf_send_parts.specs.Members.{member, charged_in, received_in}
 use Rattle.wf_send_parts.specs.Tally.{Counts}
 use Rattle.wf_send_parts.specs.declared.stations.members.Member.{Member}
-use Rattle.wf_send_half_refines.specs.Half.{TransmitValue}
-use Rattle.wf_send_half_refines.specs.Standing.{StandsFor, Meets, IsReached, AreBoth, IsMember}
+use Rattle.wf_send_half_model.specs.Half.{TransmitValue}
+use Rattle.wf_send_half_model.specs.Standing.{StandsFor, Meets, IsReached, AreBoth, IsMember}
 use Rattle.wf_path.specs.Paths.{IsPath, HasCountsBelow, RiseLittle}
 use Rattle.wf_path.proofs.Joining.{new_sum}
 use Rattle.wf_def_world.specs.Exchanges.{charge_of}
@@ -40,7 +41,7 @@ use Rattle.wf_law_runs.proofs.Deficits.KeptStep.{charge_within, kept}
 use Rattle.wf_law_runs.proofs.Deficits.Kept.{IsKept}
 use Rattle.wf_law_runs.proofs.Deficits.Books.{books}
 
--- ---- what one call adds
+-- ---- the rise by one call
 
 at_most_if : (b : Bool) (m n : ℕ) → m ≤ n → (if b then m else 0) ≤ n
 at_most_if true m n h = h
@@ -98,7 +99,7 @@ air_little : (note : Note) (w : World) (s : ℕ) (c : Class) → air_by w s c no
 air_little (Asked (Rx i d air)) w s c = air_row s i d c air w (refusal w (Asked (Rx i d air))) refl
 air_little _ w s c = omega arith
 
--- ---- one entry more
+-- ---- one more entry
 
 charged_then : (h : List Entry) (w : World) (s : ℕ) (c : Class) (e : Entry) (n : ℕ) →
     charged_over w s c (h ++ e ∷ []) n
@@ -147,7 +148,7 @@ module _ (config : Config) (h : List Entry) (note : Note) (range : IsInRange con
       (received_over (opening config) s c longer 0) (share u s c)) longer_is
       (added config longer s c range (subst (λ (u : World). is_live u s ≡ true) (sym longer_is) live))
 
-  -- a sum that a call begins anew or leaves, and then adds little to
+  -- a sum that a call resets or keeps, and then adds little to
   sum_little : (n old new since by_call : ℕ) → new ≡ since + by_call → by_call ≤ greatest_tick → 0 < n →
       (since ≡ 0) ⊎ ((since ≤ old) × (old < n)) → new < n + greatest_tick
   sum_little n old new since by_call is little some (inl none) = omega (arith, is, little, some, none)
@@ -191,14 +192,14 @@ module _ (config : Config) (h : List Entry) (note : Note) (range : IsInRange con
             )));
       }
 
--- of any world of a run
+-- for any world of a run
 reached_below : (w : World) (note : Note) → IsReached w → (n : ℕ) → AreBelow n w →
     AreBelow (n + greatest_tick) (step w note).world
 reached_below w note r n =
     subst (λ (u : World). AreBelow n u → AreBelow (n + greatest_tick) (step u note).world) (sym r.after)
     (below_step w.config r.history note r.in_range n)
 
--- ---- of a path
+-- ---- the counts of a path
 
 member_below : (P : Member → Type 0) (m : Option Member) (x : Option Station) → AreBoth IsMember m x →
     ((k : Member) (y : Station) → x ≡ Some y → IsMember k y → P k) → IfSome m P
@@ -246,18 +247,18 @@ module _ (v : TransmitValue) (w : World) (bodies : ℕ → FrameValue) (st : Sta
             (h.received s c (ap is_some there))));
       }
 
--- v stood for a world, and u stands for what a call makes of it
+-- v represents a world before a call, and u the world after it
 pub rise_little : (v u : TransmitValue) (w : World) (bodies after : ℕ → FrameValue) (note : Note) →
     StandsFor v w bodies → StandsFor u (step w note).world after → RiseLittle v u
 rise_little v u w bodies after note h k n small = path_below u (step w note).world after k (n + greatest_tick)
     (reached_below w note h.reached n (world_below v w bodies h n small))
 
--- so it is of a path that answers a call as the machine does
+-- the same for a path that answers a call as the machine does
 pub rises_by : (v u : TransmitValue) (p : IsPath v) (after : ℕ → FrameValue) (note : Note)
     (reply : ReplyNote) → Meets p.world after note u reply → RiseLittle v u
 rises_by v u p after note reply m = rise_little v u p.world p.bodies after note p.stands m.stands
 
--- what is below a number is below a greater one
+-- a bound holds with a greater number
 still_less : (f : Member → ℕ) (n k : ℕ) (o : Option Member) → n ≤ k → IfSome o (λ m. f m < n) →
     IfSome o (λ m. f m < k)
 still_less f n k None more h = tt
@@ -272,6 +273,6 @@ below_more v n k more h = record {
   received = λ s c. still_less (λ m. received_in m c) n k (member v.members s) more (h.received s c);
 }
 
--- what stays does not rise
+-- unchanged counts do not rise
 pub no_rise : (v : TransmitValue) → RiseLittle v v
 no_rise v n = below_more v n (n + greatest_tick) (omega arith)

@@ -1,11 +1,12 @@
--- The sums of stations, each below the most that there are or not live.
+-- Proves that the airtimes of all stations are small from those of stations 0 to 255: no other station is
+-- live.
 use Rattle.std.proofs.Common.{◌≡◌, sym, subst, arith, ℕ, ◌+◌, ◌^◌, ◌<◌, ◌≤◌, Option, None, IfSome, inl, inr}
 use Rattle.std.proofs.lemmas.Bool.{cases_lt}
 use Rattle.std.proofs.lemmas.List.{get_or_past}
 use Rattle.wf_frame.specs.declared.classes.Class.{Class}
 use Rattle.wf_send_parts.specs.declared.stations.members.Member.{Member}
 use Rattle.wf_send_parts.specs.Members.{member, charged_in, received_in}
-use Rattle.wf_send_half_refines.specs.Half.{TransmitValue}
+use Rattle.wf_send_half_model.specs.Half.{TransmitValue}
 use Rattle.wf_path.specs.Paths.{IsPath, IsSmall}
 use Rattle.wf_path.specs.Small.{IsSmallIn}
 
@@ -26,7 +27,7 @@ pub all_small : (v : TransmitValue) → IsPath v → ((s : ℕ) (c : Class) → 
     (s : ℕ) (c : Class) → IsSmallIn v s c
 all_small v h each s c = elim (cases_lt s 256) [ inl low ↦ each s c low | inr far ↦ past v h s c far ]
 
--- the station that a loop has come to, after those before
+-- the stations before a loop's step, and the station of this step
 pub one_more : (v : TransmitValue) (k : ℕ) → ((s : ℕ) (c : Class) → s < k → IsSmallIn v s c) →
     ((c : Class) → IsSmallIn v k c) →
     (s : ℕ) (c : Class) → s < k + 1 → IsSmallIn v s c

@@ -1,6 +1,6 @@
--- The half of a path's value, as its fields show it.
+-- The half and the addresses of a path's value, by its fields.
 use Rattle.std.proofs.Common.{◌≡◌, ap}
-use Rattle.wf_send_half_refines.specs.Half.{TransmitValue}
+use Rattle.wf_send_half_model.specs.Half.{TransmitValue}
 use Rattle.wf_path.specs.Addresses.{Addresses}
 use Rattle.wf_path.specs.Paths.{PathValue}
 

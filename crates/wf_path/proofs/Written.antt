@@ -1,4 +1,5 @@
--- What is written is what the exchange sends.
+-- Proves that the octets that are written are those that the exchange sends. By cases of the exchange: none,
+-- data, a request.
 use Rattle.std.proofs.Common.{◌≡◌, refl, ap, ap₂, sym, ◌∙◌, arith, ℕ, zero, suc, ◌<◌, ◌≤◌, ◌==◌, List, [], ◌∷◌, ◌++◌, length, take, append-nil, Option, Some, None, option_map}
 use Rattle.std.specs.Prelude.{find, option_and_then, slice_get, Result, Ok, Err, IfOk}
 use Rattle.std.specs.Option.{option_map_or}
@@ -15,8 +16,8 @@ use Rattle.wf_send_parts.specs.declared.exchanges.opened.Open.{Open}
 use Rattle.wf_send_parts.specs.declared.exchanges.opened.Sending.TheVariants.{Request as Starts_at}
 use Rattle.wf_send_parts.specs.Exchanges.{number_carried, transmissions_of}
 use Rattle.wf_send_parts.specs.Window.{on_air}
-use Rattle.wf_send_half_refines.specs.Half.{TransmitValue}
-use Rattle.wf_send_half_refines.specs.Standing.{sending_of, open_of, StandsFor}
+use Rattle.wf_send_half_model.specs.Half.{TransmitValue}
+use Rattle.wf_send_half_model.specs.Standing.{sending_of, open_of, StandsFor}
 use Rattle.wf_send_half.proofs.Dones.{IsKnown, known_of, none_open}
 use Rattle.wf_send_half.proofs.Ends.{IsRequest, is_request_of}
 use Rattle.wf_path.specs.Addresses.{Addresses}
@@ -32,13 +33,13 @@ take_whole [] (suc n) is = refl
 take_whole (x ∷ xs) zero is = absurd (omega (arith, is))
 take_whole (x ∷ xs) (suc n) is = ap (λ l. x ∷ l) (take_whole xs n (omega (arith, is)))
 
--- what holds of a value that is Ok leads to another fact of it
+-- a fact about the value of an Ok implies another
 pub where_ok : {T E : Type 0} (P Q : T → Type 0) (r : Result T E) → IfOk r P →
     ((value : T) → P value → Q value) → IfOk r Q
 where_ok P Q (Ok value) h f = f value h
 where_ok P Q (Err fault) h f = tt
 
--- ---- by what the exchange sends
+-- ---- by the content of the exchange
 
 octets_at : (a : Addresses) (w : World) (bodies : ℕ → FrameValue) (x : Exchange) (c : Content) (i : ℕ) (m :
     Mpdu) →
@@ -54,7 +55,7 @@ octets_count a w bodies x (Frames mpdus) = length-map mpdus (data_octets a w bod
     ∙ sym (length-map mpdus (λ m. on_air m.number))
 octets_count a w bodies x (Request start) = refl
 
--- ---- of an exchange that is open, or is not
+-- ---- an exchange that is open, or not
 
 module _ (a : Addresses) (w : World) (bodies : ℕ → FrameValue) (e index : ℕ) where
   sent_is : (x : Exchange) (octets : List ℕ) → exchange w e ≡ Some x →
@@ -90,7 +91,7 @@ module _ (a : Addresses) (v : TransmitValue) (w : World) (bodies : ℕ → Frame
       fault_is a w bodies e index x None room k.known
       (slice_get_past (octets_of_content a w bodies x x.content) index count)
 
--- ---- a transmission of data
+-- ---- a data transmission
 
 module _ (a : Addresses) (v : TransmitValue) (e : ℕ) (o : Open) (index seq : ℕ)
     (is : Some o ≡ find (λ x. x.number == e) v.opened) (carries : number_carried o.sending index ≡ Some seq)
@@ -118,7 +119,7 @@ module _ (a : Addresses) (v : TransmitValue) (e : ℕ) (o : Open) (index seq : �
   pub data_fault : (room : ℕ) → room_fault room (Some (head ++ body)) ≡ write_fault a w bodies e index room
   data_fault room = fault_is a w bodies e index k.exchange_is (Some (head ++ body)) room k.known octets_are
 
--- ---- a transmission of a request
+-- ---- a BlockAckReq
 
 module _ (a : Addresses) (v : TransmitValue) (e : ℕ) (o : Open) (index seq : ℕ)
     (is : Some o ≡ find (λ x. x.number == e) v.opened) (asks : o.sending ≡ Starts_at seq)

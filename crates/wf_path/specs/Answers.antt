@@ -1,5 +1,5 @@
--- The checks of octets that are to be the BlockAck to an open exchange, in their order, and what they then
--- say (IEEE 802.11-2012, 8.3.1.9).
+-- The checks of the octets of a BlockAck to an open exchange, in their order, and the content of the BlockAck
+-- (IEEE 802.11-2012, 8.3.1.9).
 use Rattle.std.specs.Prelude.{ℕ, ◌/◌, ◌==◌, Bool, ◌&&◌, List, drop, slice_index, Option, Some, None, if◌then◌else◌}
 use Rattle.std.specs.Option.{option_map, option_map_or, option_or}
 use Rattle.std.specs.Str.{bytes_eq}
@@ -14,10 +14,10 @@ use Rattle.wf_path.specs.Addresses.{Addresses, address_in}
 use Rattle.wf_path.specs.declared.faults.DoneFault.{DoneFault}
 use Rattle.wf_path.specs.declared.faults.DoneFault.TheVariants.{NoExchange, Block, NotMine, WrongTid}
 
--- ---- what a BlockAck says
+-- ---- the content of a BlockAck
 
--- where its fields begin, in octets: the second octet of BA Control, whose high four bits are the TID,
--- Starting Sequence Control, whose high twelve bits are the start, and the bitmap
+-- the first octets of its fields: the second octet of BA Control, whose high four bits are the TID; Starting
+-- Sequence Control, whose high twelve bits are the start; the bitmap
 abbrev pub tid_octet : ℕ
 tid_octet = 17
 
@@ -36,31 +36,31 @@ transmitter_in octets = part octets address_2_at address_octets
 abbrev pub tid_in : List ℕ → ℕ
 tid_in octets = slice_index octets tid_octet / 16
 
--- its start, and the offsets from there of the numbers that arrived
+-- its start, and the offsets from the start of the numbers that arrived
 abbrev pub block_ack_in : List ℕ → ℕ × List ℕ
 block_ack_in octets = (number_at octets start_at / 16, offsets_in (drop bitmap_at octets))
 
--- ---- the checks: each has its fault, or none
+-- ---- the checks: each gives its fault, or none
 
--- it is a BlockAck of the session's width: of 256 numbers where that is wide, else of 64
+-- a BlockAck of the session's width: of 256 numbers if the session is wide, else of 64
 abbrev pub layout_fault : Bool → List ℕ → Option DoneFault
 layout_fault wide octets = option_map Block (first_block_fault (block_ack_octets wide) answer wide octets)
 
--- it is to the access point, from station s
+-- to the access point, from station s
 abbrev pub address_fault : Addresses → ℕ → List ℕ → Option DoneFault
 address_fault a s octets = if bytes_eq (recipient_in octets) a.base
     && bytes_eq (transmitter_in octets) (address_in a s) then None else Some NotMine
 
--- it is of TID t
+-- of TID t
 abbrev pub tid_fault : ℕ → List ℕ → Option DoneFault
 tid_fault t octets = if tid_in octets == t then None else Some (WrongTid (tid_in octets))
 
--- the first check that fails, of an answer to what is sent to TID t of station s
+-- the first check that fails, for an exchange to TID t of station s
 abbrev pub answer_fault : Addresses → Bool → ℕ → ℕ → List ℕ → Option DoneFault
 answer_fault a wide s t octets = option_or (layout_fault wide octets)
     (option_or (address_fault a s octets) (tid_fault t octets))
 
--- the first check that fails, of an answer to exchange e
+-- the first check that fails, for exchange e
 abbrev pub read_fault : Addresses → World → ℕ → List ℕ → Option DoneFault
 read_fault a w e octets = option_map_or
     (λ x. answer_fault a (is_wide w x.station x.tid) x.station x.tid octets) (exchange w e) (Some NoExchange)

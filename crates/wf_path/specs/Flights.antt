@@ -1,14 +1,14 @@
--- A transmission of data of an open exchange, as the half has it.
+-- A data transmission of an open exchange, in the half and in its world.
 use Rattle.std.specs.Prelude.{◌≡◌, ℕ, Some, slice_get}
 use Rattle.wf_frame.specs.Frames.{FrameValue}
 use Rattle.wf_send_parts.specs.declared.exchanges.opened.Open.{Open}
 use Rattle.wf_send_parts.specs.Exchanges.{number_carried}
 use Rattle.wf_def_world.specs.World.{World, Mpdu, Exchange, exchange}
 use Rattle.wf_def_world.specs.Exchanges.{mpdus_of}
-use Rattle.wf_send_half_refines.specs.Half.{TransmitValue}
-use Rattle.wf_send_half_refines.specs.Standing.{open_of, StandsFor}
+use Rattle.wf_send_half_model.specs.Half.{TransmitValue}
+use Rattle.wf_send_half_model.specs.Standing.{open_of, StandsFor}
 
--- in the world w, for which the half stands, o is the open exchange x, and m is its transmission of this
+-- in the world w, which the half represents, o is the open exchange x, and m is its transmission with this
 -- index
 pub record IsInFlight (v : TransmitValue) (o : Open) (index : ℕ) (w : World) (bodies : ℕ → FrameValue)
     (x : Exchange) (m : Mpdu) : Type 0 where

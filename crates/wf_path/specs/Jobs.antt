@@ -1,4 +1,4 @@
--- Calls of a path, and what comes back of them beside the answer.
+-- The calls of a path, and the frames that they bring and return.
 use Rattle.std.specs.Prelude.{ℕ, ◌+◌, ◌==◌, Bool, true, false, if◌then◌else◌, List, [], ◌∷◌, Option, Some, None}
 use Rattle.wf_frame.specs.Frames.{FrameValue}
 use Rattle.wf_frame.specs.declared.notes.Ask.{Ask}
@@ -12,29 +12,29 @@ use Rattle.wf_frame.specs.declared.notes.ReplyNote.TheVariants.{Accepted, Send, 
 use Rattle.wf_queue_flows_refines.specs.Frames.{with_body}
 use Rattle.wf_send_half.specs.Enqueues.{enqueue_of, as_accepted}
 use Rattle.wf_send_half.specs.Replies.{bodies_sent}
-use Rattle.wf_send_half_refines.specs.Half.{TransmitValue}
+use Rattle.wf_send_half_model.specs.Half.{TransmitValue}
 use Rattle.wf_path.specs.declared.job.Job.{Job}
 use Rattle.wf_path.specs.declared.job.Job.TheVariants.{Give, Call}
 
--- the call of the machine that a job is
+-- the machine's call of a job
 abbrev pub note_of : Job → Note
 note_of (Give f) = enqueue_of f
 note_of (Call ask) = Asked ask
 
--- the frame that a job brings, if any
+-- the frame of a job, if it has one
 abbrev pub frame_of : Job → Option FrameValue
 frame_of (Give f) = Some f
 frame_of (Call ask) = None
 
--- the calls that a path hears: all but an Arrive, an Answer and a Done
+-- the calls that `Path::call` takes: all except an Arrive, an Answer and a Done
 abbrev pub IsHeard : Job → Type 0
 IsHeard (Call (Arrive exchange index)) = ⊥
 IsHeard (Call (Answer exchange)) = ⊥
 IsHeard (Call (Done exchange heard air)) = ⊥
 IsHeard job = Unit {0}
 
--- the calls whose answer is a brief alone: no pull, which tells of its frames too, none of exchanges that
--- are open, and no reap
+-- the calls whose answer has no lists and no frame: all except a pull, a reap, and those about an open
+-- exchange
 abbrev pub IsBrief : Ask → Type 0
 IsBrief (Pull class) = ⊥
 IsBrief (Arrive exchange index) = ⊥
@@ -43,15 +43,14 @@ IsBrief (Done exchange heard air) = ⊥
 IsBrief Reap = ⊥
 IsBrief ask = Unit {0}
 
--- The frames of the ids after a call of v, each as it was accepted but for how often it was sent since: with
--- the frame that the call brought, where that is accepted; and those that a pull sends, by its reply, are
--- sent once more.
+-- The frame of each id after a call of v, as it was accepted, with the number of its transmissions since. An
+-- accepted frame is added; the frames that a pull sends, by its reply, count one more transmission.
 abbrev pub bodies_after : TransmitValue → Job → ReplyNote → (ℕ → FrameValue) → ℕ → FrameValue
 bodies_after v (Give f) (Accepted id dropped) bodies = with_body bodies (as_accepted v f)
 bodies_after v (Call (Pull class)) reply bodies = bodies_sent reply bodies
 bodies_after v job reply bodies = bodies
 
--- how often an id stands in these pairs
+-- how often an id is in these pairs
 abbrev pub times_in : List (ℕ × ℕ) → ℕ → ℕ
 times_in [] id = 0
 times_in (pair ∷ pairs) id = (if id == pair.0 then 1 else 0) + times_in pairs id
@@ -61,15 +60,14 @@ abbrev pub times_sent : ReplyNote → ℕ → ℕ
 times_sent (Send exchange station tid air (Mpdus pairs) more) id = times_in pairs id
 times_sent reply id = 0
 
--- The frame that comes back: the one that a call brought, where it is refused; the frame of the reaped id,
--- with its fate; else none.
+-- The frame that a call returns: its own frame if it is refused; the frame of the reaped id, with its fate;
+-- else none.
 abbrev pub frame_given_back : (ℕ → FrameValue) → Job → ReplyNote → Option FrameValue
 frame_given_back bodies (Give f) (Refused reason) = Some f
 frame_given_back bodies (Call Reap) (Reaped id fate) = Some (record (bodies id) { fate = fate })
 frame_given_back bodies job reply = None
 
--- whether a reply refuses its call, which then changes nothing: any refusal but that of a pull which finds
--- nobody ready
+-- whether a reply says that its call changed nothing: any refusal except Idle
 abbrev pub changes_nothing : ReplyNote → Bool
 changes_nothing (Refused Idle) = false
 changes_nothing (Refused reason) = true

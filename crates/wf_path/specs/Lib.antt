@@ -1,7 +1,6 @@
 pub mod Addresses
 pub mod Answers
 pub mod Driver
-pub mod Flags
 pub mod Flights
 pub mod Jobs
 pub mod Paths

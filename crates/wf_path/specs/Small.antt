@@ -1,10 +1,10 @@
--- The sums of a path that must be small.
+-- The airtimes of a station that must be small.
 use Rattle.std.specs.Prelude.{ℕ, ◌<◌, ◌^◌, IfSome}
 use Rattle.wf_frame.specs.declared.classes.Class.{Class}
 use Rattle.wf_send_parts.specs.Members.{member, charged_in, received_in}
-use Rattle.wf_send_half_refines.specs.Half.{TransmitValue}
+use Rattle.wf_send_half_model.specs.Half.{TransmitValue}
 
--- the airtime that station s was charged and used in class c is below 2^62 microseconds, where it is live
+-- if station s is live, the airtimes that it was charged and used in class c are below 2^62 microseconds
 pub record IsSmallIn (v : TransmitValue) (s : ℕ) (c : Class) : Type 0 where
   pub charged : IfSome (member v.members s) (λ m. charged_in m c < 2 ^ 62)
   pub received : IfSome (member v.members s) (λ m. received_in m c < 2 ^ 62)

@@ -1,6 +1,7 @@
--- What an open exchange sends, as octets on the air (IEEE 802.11-2012, 8.2.4, 8.3.1.8 and 8.3.2.1).
+-- The transmissions of an open exchange, as octets (IEEE 802.11-2012, 8.2.4, 8.3.1.8 and 8.3.2.1).
 --
--- A world w has the exchange, `bodies` the frame of each id as it was accepted, and `a` the addresses.
+-- The world `w` has the exchange, `bodies` has the frame of each id as it was accepted, and `a` has the
+-- addresses.
 use Rattle.std.specs.Prelude.{ℕ, ◌+◌, nat_lt, Bool, true, false, List, [], ◌∷◌, ◌++◌, map, slice_get, Option, option_and_then, option_map}
 use Rattle.wf_frame.specs.Frames.{FrameValue}
 use Rattle.wf_def_air.specs.Airtime.{sifs, answer_time}
@@ -19,18 +20,18 @@ use Rattle.wf_path.specs.declared.reading.Sent.{Sent}
 
 -- ---- one transmission
 
--- the Duration of each transmission, in microseconds (8.2.5): how long the medium is taken after it, by the
--- pause and a BlockAck of 64 numbers. It is 48.
+-- the Duration of each transmission, in microseconds (8.2.5): 48, the interframe space and a BlockAck of 64
+-- numbers
 abbrev pub duration : ℕ
 duration = sifs + answer_time false
 
--- whether the frame of number n of TID t of station s was sent in vain before: the Retry bit (8.2.4.1.6)
+-- the Retry bit (8.2.4.1.6): whether number n of TID t of station s was sent before
 abbrev pub is_retried : World → ℕ → ℕ → ℕ → Bool
 is_retried w s t n = nat_lt 0 (slot (session w s t) n).attempts
 
--- the header of a transmission of data (8.3.2.1), from the distribution system: to the station, of the access
--- point, from the source of its frame. It has its sequence number modulo 4096, and the More Data bit of its
--- exchange (8.2.4.1.8).
+-- the header of a data transmission from the distribution system (8.3.2.1): to the station, from the access
+-- point, with the source of its frame, the sequence number modulo 4096, and the More Data bit of its exchange
+-- (8.2.4.1.8)
 abbrev pub header_of : Addresses → World → (ℕ → FrameValue) → Exchange → Mpdu → Header
 header_of a w bodies x m = record {
   kind = QosData;
@@ -47,11 +48,11 @@ header_of a w bodies x m = record {
   tid = x.tid;
 }
 
--- the octets of a transmission of data: the header, and the body of the frame that it carries
+-- the octets of a data transmission: the header, and the body of its frame
 abbrev pub data_octets : Addresses → World → (ℕ → FrameValue) → Exchange → Mpdu → List ℕ
 data_octets a w bodies x m = header_as_octets (header_of a w bodies x m) ++ (bodies m.id).body
 
--- the BlockAckReq of an exchange with this start (8.3.1.8): to the station, of the access point
+-- the BlockAckReq of an exchange with this start (8.3.1.8): to the station, from the access point
 abbrev pub bar_of : Addresses → Exchange → ℕ → Bar
 bar_of a x start = record {
   ra = address_in a x.station;
@@ -65,9 +66,9 @@ bar_of a x start = record {
 abbrev pub bar_octets : Addresses → Exchange → ℕ → List ℕ
 bar_octets a x start = head_octets request narrow_form (bar_of a x start)
 
--- ---- all that an exchange sends
+-- ---- the transmissions of an exchange
 
--- the octets of each transmission of such a content: one for each frame, or the one BlockAckReq
+-- the octets of each transmission of this content: one for each frame, or one BlockAckReq
 abbrev pub octets_of_content : Addresses → World → (ℕ → FrameValue) → Exchange → Content → List (List ℕ)
 octets_of_content a w bodies x (Frames mpdus) = map (data_octets a w bodies x) mpdus
 octets_of_content a w bodies x (Request start) = bar_octets a x start ∷ []
@@ -76,25 +77,24 @@ octets_of_content a w bodies x (Request start) = bar_octets a x start ∷ []
 abbrev pub frames_on_air : Addresses → World → (ℕ → FrameValue) → Exchange → List (List ℕ)
 frames_on_air a w bodies x = octets_of_content a w bodies x x.content
 
--- the octets of the transmission of this index, counted from 0: none where the exchange has no such
--- transmission
+-- the octets of the transmission with this index, from 0; none if the exchange has fewer transmissions
 abbrev pub transmission_octets : Addresses → World → (ℕ → FrameValue) → Exchange → ℕ → Option (List ℕ)
 transmission_octets a w bodies x index = slice_get (frames_on_air a w bodies x) index
 
--- the id of the frame that it carries: none where it is a BlockAckReq
+-- the id of its frame; none if it is a BlockAckReq
 abbrev pub transmission_id : Exchange → ℕ → Option ℕ
 transmission_id x index = option_map (λ m. m.id) (slice_get (mpdus_of x.content) index)
 
--- the header of the transmission of this index, as octets: none where it is a BlockAckReq
+-- the header of the transmission with this index, as octets; none if it is a BlockAckReq
 abbrev pub transmission_header : Addresses → World → (ℕ → FrameValue) → Exchange → ℕ → Option (List ℕ)
 transmission_header a w bodies x index =
     option_map (λ m. header_as_octets (header_of a w bodies x m)) (slice_get (mpdus_of x.content) index)
 
--- the tag of the frame that it carries: none where it is a BlockAckReq
+-- the tag of its frame; none if it is a BlockAckReq
 abbrev pub transmission_tag : (ℕ → FrameValue) → Exchange → ℕ → Option ℕ
 transmission_tag bodies x index = option_map (λ m. (bodies m.id).tag) (slice_get (mpdus_of x.content) index)
 
--- what an exchange sends, in short
+-- a summary of an exchange: its station, its TID, the number of transmissions, and whether it is a request
 abbrev pub sent_of : Exchange → Sent
 sent_of x = record {
   station = x.station;
@@ -104,7 +104,7 @@ sent_of x = record {
       is_request x.content;
 }
 
--- ---- the same of the exchange with number e: none where it is not open
+-- ---- the same for the exchange with number e; none if it is not open
 
 abbrev pub octets_sent : Addresses → World → (ℕ → FrameValue) → ℕ → ℕ → Option (List ℕ)
 octets_sent a w bodies e index = option_and_then (λ x. transmission_octets a w bodies x index) (exchange w e)

@@ -1,4 +1,4 @@
--- The checks of a transmission that is to be written, in their order.
+-- The checks before a transmission is written, in their order.
 use Rattle.std.specs.Prelude.{ℕ, nat_lt, List, length, Option, Some, None, if◌then◌else◌}
 use Rattle.std.specs.Option.{option_map_or}
 use Rattle.wf_frame.specs.Frames.{FrameValue}
@@ -8,23 +8,23 @@ use Rattle.wf_path.specs.declared.faults.PathFault.{PathFault}
 use Rattle.wf_path.specs.declared.faults.PathFault.TheVariants.{NoExchange, BadIndex, SmallBuffer}
 use Rattle.wf_path.specs.Transmissions.{transmission_octets, transmission_id}
 
--- there is such a transmission, and there is room for so many octets at least as it has
+-- the transmission exists, and the buffer has room for it
 abbrev pub room_fault : ℕ → Option (List ℕ) → Option PathFault
 room_fault room None = Some BadIndex
 room_fault room (Some octets) = if nat_lt room (length octets) then Some (SmallBuffer (length octets))
     else None
 
--- the first check that fails, of a transmission of exchange e, where there is room for so many octets
+-- the first check that fails, for a transmission of exchange e and a buffer with this room, in octets
 abbrev pub write_fault : Addresses → World → (ℕ → FrameValue) → ℕ → ℕ → ℕ → Option PathFault
 write_fault a w bodies e index room = option_map_or
     (λ x. room_fault room (transmission_octets a w bodies x index)) (exchange w e) (Some NoExchange)
 
--- there is such a transmission of data
+-- the transmission exists and carries data
 abbrev pub no_data_fault : Option ℕ → Option PathFault
 no_data_fault None = Some BadIndex
 no_data_fault (Some id) = None
 
--- the first check that fails, of the header of a transmission of exchange e
+-- the first check that fails, for the header of a transmission of exchange e
 abbrev pub write_header_fault : World → ℕ → ℕ → Option PathFault
 write_header_fault w e index = option_map_or
     (λ x. no_data_fault (transmission_id x index)) (exchange w e) (Some NoExchange)

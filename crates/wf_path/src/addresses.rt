@@ -32,7 +32,7 @@ impl Model for AddressBook {
 }
 
 impl AddressBook {
-    // The made-up ones.
+    // Makes the placeholder addresses.
     pub(crate) fn new(alloc: Global) -> Result<AddressBook, AllocError>
         ensures { IfOk result (λ made. made ≡ made_up) }
     {
@@ -46,14 +46,14 @@ impl AddressBook {
         })
     }
 
-    // The access point's.
+    // Returns the access point's address.
     pub(crate) fn base(&self) -> [u8; 6]
         ensures { result ≡ self.now.base }
     {
         self.base
     }
 
-    // A station's.
+    // Returns a station's address.
     pub(crate) fn of(&self, station: u16) -> [u8; 6]
         ensures { result ≡ address_in self.now station }
     {
@@ -63,14 +63,14 @@ impl AddressBook {
         }
     }
 
-    // Takes another one of the access point.
+    // Replaces the access point's address.
     fn set_base(&mut self, address: [u8; 6])
         ensures { self.new ≡ with_base self.old address }
     {
         self.base = address;
     }
 
-    // Takes another one of a station.
+    // Replaces a station's address.
     fn set(&mut self, station: u16, address: [u8; 6])
         requires { station < 256 }
         ensures set { self.new ≡ with_address self.old station address }
@@ -80,7 +80,7 @@ impl AddressBook {
     }
 }
 
-// Whether an address is a group's.
+// Refuses an address that is a group's.
 fn check_group(address: [u8; 6]) -> Result<(), BadAddress>
     ensures { result_err result ≡ group_fault address }
 {
@@ -91,16 +91,16 @@ fn check_group(address: [u8; 6]) -> Result<(), BadAddress>
 }
 
 impl Path {
-    /// The access point's address: that from which transmissions go, and to which BlockAcks go. At first it
-    /// is 02:00:00:00:00:00.
+    /// Returns the access point's address, which sends the transmissions and receives the BlockAcks. A new
+    /// path has 02:00:00:00:00:00.
     pub fn base(&self) -> [u8; 6]
         ensures { result ≡ self.now.addresses.base }
     {
         self.addresses.base()
     }
 
-    /// A station's address. At first it is 02:00:00:01:hh:ll, by the two octets of the station's number. None
-    /// exactly where the number is not below the setting `stations`.
+    /// Returns a station's address. A new path has 02:00:00:01:hh:ll, with the two octets of the station's
+    /// number. None exactly if the number is not below the setting `stations`.
     pub fn address(&self, station: u16) -> Option<[u8; 6]>
         ensures { result ≡ address_told self.now.half.config.stations self.now.addresses station }
     {
@@ -111,7 +111,7 @@ impl Path {
         }
     }
 
-    /// Names the access point's address. Refused as Group where it is a group's: the lowest bit of its first
+    /// Sets the access point's address. Refused as Group if it is a group's: the lowest bit of its first
     /// octet is set (IEEE 802.11-2012, 8.2.4.3).
     pub fn set_base(&mut self, address: [u8; 6]) -> Result<(), BadAddress>
         ensures fault { result_err result ≡ group_fault address }
@@ -125,9 +125,9 @@ impl Path {
         Ok(())
     }
 
-    /// Names a station's address, of one that is live or is not: a join or a leave changes no address. Two
-    /// live stations are to have two addresses, of which the caller takes care. Refused as NoStation where
-    /// the number is not below the setting `stations`, and then as Group where the address is a group's.
+    /// Sets a station's address, whether the station is live or not; a join or a leave changes no address.
+    /// The caller ensures that no two live stations have the same address. Refused as NoStation if the number
+    /// is not below the setting `stations`, then as Group if the address is a group's.
     pub fn set_address(&mut self, station: u16, address: [u8; 6]) -> Result<(), BadAddress>
         ensures fault { result_err result ≡ set_fault self.old.half.config.stations station address }
         ensures set { OnOk result (self.new ≡ record self.old {

@@ -1,11 +1,11 @@
-//! The BlockAck to an open exchange, read back.
+//! Reads the BlockAck to an open exchange.
 
 ghost use Rattle.std.specs.Prelude.{◌≡◌, ◌&&◌, ℕ, IfOk};
 ghost use Rattle.std.specs.Str.{bytes_eq};
 ghost use Rattle.wf_frame.specs.Frames.{FrameValue};
 ghost use Rattle.wf_def_world.specs.World.{World};
 ghost use Rattle.wf_send_half.specs.Half.{HasWorld};
-ghost use Rattle.wf_send_half_refines.specs.Standing.{StandsFor};
+ghost use Rattle.wf_send_half_model.specs.Standing.{StandsFor};
 ghost use Rattle.wf_def_air.specs.Airtime.{block_ack_octets};
 ghost use Rattle.wf_octets.specs.BlockLayout.{answer};
 ghost use Rattle.std.specs.Result.{result_err};
@@ -15,19 +15,16 @@ ghost use Rattle.wf_path.specs.Answers.{recipient_in, transmitter_in, tid_in, an
 
 use crate::DoneFault;
 use crate::addresses::AddressBook;
+use wf_frame::NARROW_WINDOW;
 use wf_octets::bits::Bits256;
 use wf_octets::block::{Ba, BlockFault, WideBa, decode_ba, decode_wide};
 use wf_octets::seq12::Seq12;
 use wf_send_half::Transmit;
 use wf_send_parts::exchanges::widened;
 
-/// The greatest window of a session that is not wide, in numbers: a BlockAck's bitmap of 8 octets has a bit
-/// for each.
-const NARROW_WINDOW: u16 = 64;
-
-/// Reads the BlockAck to the exchange with this number: its start, and the offsets from there of the numbers
-/// that arrived (IEEE 802.11-2012, 8.3.1.9). A session whose window is above 64 has the BlockAck of 256
-/// numbers, each other one that of 64.
+/// Reads the BlockAck to the exchange with this number (IEEE 802.11-2012, 8.3.1.9). Returns its start, and
+/// the offsets from the start of the numbers that arrived. A session whose window is above 64 has the
+/// BlockAck of 256 numbers, each other one that of 64.
 pub(crate) fn read_block_ack(
     half: &Transmit,
     addresses: &AddressBook,
@@ -36,7 +33,7 @@ pub(crate) fn read_block_ack(
 ) -> Result<(Seq12, Bits256), DoneFault>
     requires { HasWorld half.now }
 
-    // refused exactly where a check fails, for the first that does
+    // refused exactly if a check fails, for the first that does
     ensures fault { (w : World) (bodies : ℕ → FrameValue) → StandsFor half.now w bodies →
         result_err result ≡ read_fault addresses.now w number octets.now }
     ensures read { IfOk result (λ read. read ≡ block_ack_in octets.now) }
@@ -48,7 +45,7 @@ pub(crate) fn read_block_ack(
     read_answer(addresses, open.station, open.tid, wide, octets)
 }
 
-/// Reads the BlockAck of this width from a station to what was sent to one of its TIDs.
+/// Reads the BlockAck of this width from a station, for one of its TIDs.
 fn read_answer(
     addresses: &AddressBook,
     station: u16,
@@ -98,7 +95,7 @@ fn decode(wide: bool, octets: &[u8]) -> Result<WideBa, BlockFault>
     })
 }
 
-/// Whether a BlockAck goes from a station to the access point.
+/// Returns whether a BlockAck is from a station to the access point.
 fn is_from(addresses: &AddressBook, station: u16, ba: &WideBa) -> bool
     ensures { result ≡ (bytes_eq ba.now.ra addresses.now.base
         && bytes_eq ba.now.ta (address_in addresses.now station)) }
@@ -106,7 +103,8 @@ fn is_from(addresses: &AddressBook, station: u16, ba: &WideBa) -> bool
     is_same(&ba.ra, &addresses.base()) && is_same(&ba.ta, &addresses.of(station))
 }
 
-/// Whether two addresses are one. It is asked of each BlockAck, and so goes over the octets itself.
+/// Returns whether two addresses are equal. Each BlockAck needs this, so it compares octet by octet rather
+/// than by a call.
 fn is_same(one: &[u8; 6], other: &[u8; 6]) -> bool
     ensures { result ≡ bytes_eq one.now other.now }
 {

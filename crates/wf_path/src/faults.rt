@@ -1,5 +1,4 @@
-//! Why there is no path, why an address is not taken, why a transmission is not written, and why octets are
-//! no answer to it.
+//! The faults: of a new path, of an address, of a transmission to write, and of a BlockAck that was read.
 
 ghost use Rattle.std.specs.Prelude.{◌≡◌};
 ghost use Rattle.wf_path.specs.declared.faults.NewFault.TheVariants.{NoMemory};
@@ -10,13 +9,13 @@ use thiserror::Error;
 use wf_frame::Field;
 use wf_octets::block::BlockFault;
 
-/// Why there is no new path.
+/// Why a path was not made.
 #[derive(Clone, Copy, Debug, PartialEq, Eq, Error)]
 pub enum NewFault {
     /// The first setting that is out of its range.
     #[error("a setting out of its range")]
     BadConfig(Field),
-    /// There is no memory.
+    /// Out of memory.
     #[error("out of memory")]
     NoMemory,
 }
@@ -29,20 +28,20 @@ impl From<AllocError> for NewFault {
     }
 }
 
-/// Why an address is not taken. The variants stand in the order of the checks, and the first check that fails
-/// is told.
+/// Why an address is refused. The variants are in the order of the checks; the first check that fails is
+/// reported.
 #[derive(Clone, Copy, Debug, PartialEq, Eq, Error)]
 pub enum BadAddress {
     /// The station's number is not below the setting `stations`.
     #[error("no such station")]
     NoStation,
-    /// It is a group's address: the lowest bit of its first octet is set (IEEE 802.11-2012, 8.2.4.3).
+    /// The address is a group's: the lowest bit of its first octet is set (IEEE 802.11-2012, 8.2.4.3).
     #[error("a group's address")]
     Group,
 }
 
-/// Why no octets of a transmission were written. The variants stand in the order of the checks, and the first
-/// check that fails is told.
+/// Why a transmission was not written. The variants are in the order of the checks; the first check that
+/// fails is reported.
 #[derive(Clone, Copy, Debug, PartialEq, Eq, Error)]
 pub enum PathFault {
     /// No open exchange has that number.
@@ -51,31 +50,31 @@ pub enum PathFault {
     /// The exchange has no transmission of that index.
     #[error("no such transmission")]
     BadIndex,
-    /// The transmission has more octets than there is room for.
+    /// The transmission is longer than the buffer.
     #[error("a transmission of {need} octets")]
     SmallBuffer {
-        /// The octets of the transmission.
+        /// The length of the transmission, in octets.
         need: usize,
     },
 }
 
-/// Why octets are no BlockAck to an exchange. The variants stand in the order of the checks, and the first
-/// check that fails is told.
+/// Why octets do not end an exchange as its BlockAck. The variants are in the order of the checks; the first
+/// check that fails is reported.
 #[derive(Clone, Copy, Debug, PartialEq, Eq, Error)]
 pub enum DoneFault {
     /// No open exchange has that number.
     #[error("no such exchange")]
     NoExchange,
-    /// They are no BlockAck of the session's width.
+    /// The octets are no BlockAck of the session's width.
     #[error(transparent)]
     Block(BlockFault),
     /// The BlockAck is not to the access point, or not from the exchange's station.
     #[error("a BlockAck from or to another station")]
     NotMine,
-    /// The BlockAck is of another traffic identifier.
+    /// The BlockAck has another traffic identifier.
     #[error("a BlockAck of traffic identifier {found}")]
     WrongTid {
-        /// The traffic identifier that it names.
+        /// The traffic identifier of the BlockAck.
         found: u8,
     },
 }

@@ -1,4 +1,4 @@
-//! A transmission of data: its frame and its header.
+//! The frame and the header of a data transmission.
 
 ghost use Rattle.std.specs.Prelude.{◌≡◌, ℕ, true};
 ghost use Rattle.wf_frame.specs.Frames.{FrameValue};
@@ -15,11 +15,11 @@ use wf_octets::seq12::Seq12;
 use wf_send_half::Transmit;
 use wf_send_parts::exchanges::Open;
 
-/// How long the medium is taken after a transmission, in microseconds: by the pause, 16, and a BlockAck of 64
+/// The Duration field of a transmission, in microseconds: the interframe space, 16, and a BlockAck of 64
 /// numbers, 32.
 pub(crate) const DURATION: u16 = 48;
 
-/// The frame of a transmission that carries this number.
+/// Returns the frame of a transmission that carries this number.
 pub(crate) fn frame_of<'a>(half: &'a Transmit, open: &Open, index: u16, seq: Seq12) -> &'a Frame
     requires { Flies half.now open.now index seq }
     ensures { (w : World) (bodies : ℕ → FrameValue) (x : Exchange) (m : Mpdu) →
@@ -29,7 +29,7 @@ pub(crate) fn frame_of<'a>(half: &'a Transmit, open: &Open, index: u16, seq: Seq
     half.window(open.station, open.tid).frame(seq)
 }
 
-/// The header of a transmission that carries this number.
+/// Returns the header of a transmission that carries this number.
 pub(crate) fn header_of(
     half: &Transmit,
     addresses: &AddressBook,

@@ -1,4 +1,4 @@
-//! What a caller hands in.
+//! What a caller passes to a path.
 
 ghost use Rattle.std.specs.Prelude.{◌≡◌, ℕ, ◌+◌, ◌≤◌};
 ghost use Rattle.wf_frame.specs.Frames.{FrameValue, most_attempts};
@@ -21,7 +21,8 @@ pub enum Job {
 }
 
 impl Job {
-    /// The call as numbers, as a history keeps it: its frame has a length, of at most 2304 octets.
+    /// Returns the call as numbers, as a history stores it. A frame is stored by its length, 1 to 2304
+    /// octets.
     pub fn note(&self) -> Note
         ensures value { result ≡ note_of self.now }
         ensures some { HasLength result }
@@ -41,7 +42,7 @@ impl Job {
         }
     }
 
-    /// The frame that it brings, if any.
+    /// Returns the frame of the call, if it has one.
     pub fn parcel(self) -> Option<Parcel>
         ensures { result ≡ frame_of self }
     {
@@ -52,7 +53,8 @@ impl Job {
     }
 }
 
-/// A frame counts each time that a pull names it. The count ends at 255, far above the setting `attempts`.
+/// Each pull that sends a frame adds 1 to the frame's count of transmissions. The count stops at 255, far
+/// above the setting `attempts`.
 pub fn each_time_that_a_frame_is_sent_counts()
     ensures { (reply : ReplyNote) (bodies : ℕ → FrameValue) (id : ℕ) →
         (bodies id).attempts + times_sent reply id ≤ most_attempts →

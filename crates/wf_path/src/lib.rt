@@ -1,12 +1,15 @@
-//! The path that drivers use, `Path`: a shell round the transmit half. By its invariant there is an unheard
-//! world of a run that it stands for, and its flags tell which stations are ready, so a pull asks nobody.
-//! `call` makes any call but those of a receiver, `done_bits` and `done_bytes` end an exchange by a BlockAck;
-//! `has_small_counts` tells whether these may be called.
+//! The transmit path that drivers use, `Path`: the transmit half, and the octets that it sends and reads.
 //!
-//! What an open exchange sends is told by `sent`, `frame_id`, `frame_tag`, `header` and `mpdu`, as octets
-//! (IEEE 802.11-2012, 8.2.4, 8.3.1.8, 8.3.2.1; specs/Transmissions); its BlockAck is read back (8.3.1.9), and
-//! `tim` is for sleepers (8.4.2.7). The addresses are made up at first, and others are named by `set_base`
-//! and `set_address`. Only `new` takes memory.
+//! `call` makes any call except those of a receiver. `done_bits` and `done_bytes` end an exchange by the
+//! BlockAck that the driver heard. `has_small_counts` returns whether these calls may be made.
+//!
+//! `sent`, `frame_id`, `frame_tag`, `header` and `mpdu` describe the transmissions of an open exchange, as
+//! values and as octets (IEEE 802.11-2012, 8.2.4, 8.3.1.8, 8.3.2.1; specs/Transmissions). `done_bytes` reads
+//! a BlockAck (8.3.1.9), and `tim` writes the TIM element for sleeping stations (8.4.2.7). A new path has
+//! placeholder addresses, which `set_base` and `set_address` replace. Only `new` allocates memory.
+//!
+//! By the invariant of `Path` its transmit half represents an unheard world of a run, so each clause that
+//! holds for every such world says something.
 #![tactic(auto)]
 
 mod addresses;
@@ -18,7 +21,6 @@ mod flights;
 mod job;
 mod path;
 mod reading;
-mod ready;
 mod small;
 mod standing;
 mod traffic;

@@ -9,54 +9,50 @@ ghost use Rattle.wf_send_parts.specs.Tally.{counts_of};
 ghost use Rattle.wf_sched.specs.ClassRotas.{deficit};
 ghost use Rattle.wf_send_parts.specs.Members.{member, charged_in, received_in};
 ghost use Rattle.wf_send_half.specs.Half.{IsLive};
-ghost use Rattle.wf_send_half_refines.specs.Standing.{StandsFor, counts_in};
+ghost use Rattle.wf_send_half_model.specs.Standing.{StandsFor, counts_in};
 ghost use Rattle.wf_path.specs.Addresses.{made_up};
 ghost use Rattle.wf_path.specs.Paths.{IsPath, HasCountsBelow, IsSmall};
 
 use crate::NewFault;
 use crate::addresses::AddressBook;
-use crate::ready::Ready;
 use std::alloc::Global;
 use std::marker::Model;
 use wf_frame::{Class, Config};
 use wf_send_half::Transmit;
 use wf_send_parts::stations::Tally;
 
-/// The transmit path. A contract sees its transmit half, and says of a call what it makes of each world of a
-/// run that the half stands for (`wf_send_half_refines`); there is always one. Beside the half it sees the
-/// addresses, which stay at each call but `set_base` and `set_address`. Only `new` takes memory.
-///
-/// It keeps by class which stations are ready, so that a pull asks nobody.
+/// The transmit path. A contract sees its transmit half, and says what a call makes of each world of a run
+/// that the half stands for (`wf_send_half_model`); there is always one. A contract also sees the addresses,
+/// which only `set_base` and `set_address` change. Only `new` allocates memory.
 pub struct Path {
     pub(crate) half: Transmit,
-    pub(crate) ready: Ready,
     pub(crate) addresses: AddressBook,
 }
 
-// By hand, so that whoever lets a path go proves one call and not the drop of each list in it.
+// Written by hand, so that the proof of a drop is one call rather than the drop of each list.
 impl Drop for Path {
     fn drop(self) {
         let Path {
             half: _half,
-            ready: _ready,
             addresses: _addresses,
         } = self;
     }
 }
 
 impl Model for Path {
-    ghost use Rattle.wf_path.specs.Paths.{PathValue, IsTracked};
+    ghost use Rattle.wf_path.specs.Paths.{PathValue, IsPath};
 
     ghost Value = { PathValue };
 
     ghost view = { λ p. record { half = p.half; addresses = p.addresses } };
 
-    ghost invariant = { λ p. IsTracked p.half p.ready };
+    ghost invariant = { λ p. IsPath p.half };
 }
 
 impl Path {
-    /// A path of these settings: no station is live, no frame was accepted, and the addresses are made up.
-    /// Refused as BadConfig where a setting is out of its range, with the first such setting, or as NoMemory.
+    /// Makes a path with these settings: no station is live, no frame was accepted, and the addresses are the
+    /// placeholders. Refused as BadConfig with the first setting that is out of its range, if there is one,
+    /// or as NoMemory.
     pub fn new(alloc: Global, config: Config) -> Result<Path, NewFault>
         ensures bad { (f : Field) → (result ≡ Err (NewFault.BadConfig f)) ↔
             (first_out_of_range config ≡ Some f) }
@@ -70,18 +66,12 @@ impl Path {
         if let Some(field) = config.check() {
             return Err(NewFault::BadConfig(field));
         }
-        let ready = Ready::new(alloc, config.stations)?;
         let addresses = AddressBook::new(alloc)?;
         let half = Transmit::new(alloc, config)?;
-        Ok(Path {
-            half,
-            ready,
-            addresses,
-        })
+        Ok(Path { half, addresses })
     }
 
-    /// The settings. Clause `path` tells whoever holds a path that there is a world for which it stands, so
-    /// that what the other readers say of such worlds says something.
+    /// Returns the settings. By clause `path` there is a world that the path stands for.
     pub fn config(&self) -> Config
         ensures value { result ≡ self.now.half.config }
         ensures world { (w : World) (bodies : ℕ → FrameValue) → StandsFor self.now.half w bodies →
@@ -91,7 +81,7 @@ impl Path {
         self.half.config()
     }
 
-    /// The clock, in microseconds.
+    /// Returns the clock, in microseconds.
     pub fn now(&self) -> u64
         ensures value { result ≡ self.now.half.clock }
         ensures world { (w : World) (bodies : ℕ → FrameValue) → StandsFor self.now.half w bodies →
@@ -100,7 +90,7 @@ impl Path {
         self.half.now()
     }
 
-    /// How many exchanges were opened.
+    /// Returns how many exchanges were opened.
     pub fn exchanges(&self) -> u64
         ensures value { result ≡ self.now.half.exchanges }
         ensures world { (w : World) (bodies : ℕ → FrameValue) → StandsFor self.now.half w bodies →
@@ -109,7 +99,7 @@ impl Path {
         self.half.exchanges()
     }
 
-    /// How many exchanges are open, at most 32.
+    /// Returns how many exchanges are open, at most 32.
     pub fn open_count(&self) -> u32
         ensures value { result ≡ length self.now.half.opened }
         ensures world { (w : World) (bodies : ℕ → FrameValue) → StandsFor self.now.half w bodies →
@@ -118,7 +108,7 @@ impl Path {
         self.half.open_count()
     }
 
-    /// Whether a station is live; one past the last is not.
+    /// Returns whether a station is live. A number past the last station is not.
     pub fn live(&self, station: u16) -> bool
         ensures value { result ≡ is_some (member self.now.half.members station) }
         ensures world { (w : World) (bodies : ℕ → FrameValue) → StandsFor self.now.half w bodies →
@@ -127,7 +117,7 @@ impl Path {
         self.half.is_live(station)
     }
 
-    /// The accepted frames by what became of them.
+    /// Returns how many frames were accepted, and how many of them have each fate.
     pub fn tally(&self) -> Tally
         ensures value { counts_of result ≡ self.now.half.tally }
         ensures world { (w : World) (bodies : ℕ → FrameValue) → StandsFor self.now.half w bodies →
@@ -136,7 +126,7 @@ impl Path {
         self.half.tally()
     }
 
-    /// The deficit of a live station in a class, in microseconds.
+    /// Returns the deficit of a live station in a class, in microseconds.
     pub fn deficit(&self, station: u16, class: Class) -> i64
         requires live { IsLive self.now.half station }
         ensures value { result ≡ deficit self.now.half.sched class station }
@@ -146,7 +136,7 @@ impl Path {
         self.half.deficit(station, class)
     }
 
-    /// The airtime of a live station's exchanges in a class since its join, in microseconds.
+    /// Returns the airtime of a live station's exchanges in a class since its join, in microseconds.
     pub fn charged(&self, station: u16, class: Class) -> u64
         requires live { IsLive self.now.half station }
         ensures value { option_map (λ m. charged_in m class) (member self.now.half.members station)
@@ -157,7 +147,7 @@ impl Path {
         self.half.charged(station, class)
     }
 
-    /// The airtime that a live station itself used in a class since its join, in microseconds.
+    /// Returns the airtime that a live station itself used in a class since its join, in microseconds.
     pub fn received(&self, station: u16, class: Class) -> u64
         requires live { IsLive self.now.half station }
         ensures value { option_map (λ m. received_in m class) (member self.now.half.members station)

@@ -1,22 +1,22 @@
-//! The element that tells which sleeping stations have traffic.
+//! The TIM element, which lists the sleeping stations that have traffic.
 
 ghost use Rattle.std.specs.Prelude.{◌≡◌, ◌≤◌, ℕ, length, take, drop};
 ghost use Rattle.wf_frame.specs.Frames.{FrameValue};
 ghost use Rattle.wf_def_world.specs.World.{World};
 ghost use Rattle.wf_def_world.specs.Text.{traffic_map, with_traffic};
 ghost use Rattle.wf_send_half.specs.Half.{HasWorld};
-ghost use Rattle.wf_send_half_refines.specs.Standing.{StandsFor};
+ghost use Rattle.wf_send_half_model.specs.Standing.{StandsFor};
 ghost use Rattle.wf_path.specs.Traffic.{has_traffic_of, ArePresent};
 
 use wf_octets::tim::encode_tim;
 use wf_send_half::Transmit;
 
-/// How many association identifiers there are: 0, and one for each of at most 256 stations.
+/// The number of association identifiers: 0, and one for each of at most 256 stations.
 const IDENTIFIERS: usize = 257;
 
 /// Writes the TIM element (IEEE 802.11-2012, 8.4.2.7) of the live stations that sleep and have traffic, with
-/// DTIM count 0 and period 1, and answers its octets. Station s has the association identifier s + 1. The
-/// rest of `out` stays.
+/// DTIM count 0 and period 1, and returns its length in octets. Station s has the association identifier
+/// s + 1. The rest of `out` is unchanged.
 pub fn tim(half: &Transmit, out: &mut [u8; 256]) -> usize
     requires { HasWorld half.now }
     ensures octets { (w : World) (bodies : ℕ → FrameValue) → StandsFor half.now w bodies →
@@ -28,7 +28,7 @@ pub fn tim(half: &Transmit, out: &mut [u8; 256]) -> usize
     encode_tim(&present_in(half), 0, 1, out)
 }
 
-/// Whether each association identifier, from 0 on, is one of a station that sleeps and has traffic.
+/// Returns for each association identifier, from 0, whether its station sleeps and has traffic.
 fn present_in(half: &Transmit) -> [bool; 257]
     requires { half.now.config.stations ≤ 256 }
     ensures { ArePresent result (has_traffic_of half.now) half.now.config.stations }

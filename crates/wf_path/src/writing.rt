@@ -4,7 +4,7 @@ ghost use Rattle.std.specs.Prelude.{◌≡◌, ◌<◌, ◌≤◌, ◌++◌, ℕ
 ghost use Rattle.wf_frame.specs.Frames.{FrameValue};
 ghost use Rattle.wf_def_world.specs.World.{World};
 ghost use Rattle.wf_send_half.specs.Half.{HasWorld};
-ghost use Rattle.wf_send_half_refines.specs.Standing.{StandsFor};
+ghost use Rattle.wf_send_half_model.specs.Standing.{StandsFor};
 ghost use Rattle.wf_path.specs.Transmissions.{octets_sent, header_sent};
 ghost use Rattle.std.specs.Result.{result_err};
 ghost use Rattle.wf_path.specs.Writing.{write_fault, room_fault, write_header_fault};
@@ -14,19 +14,16 @@ use crate::addresses::AddressBook;
 use crate::flights::{DURATION, frame_of, header_of};
 use wf_octets::block::{Bar, encode_bar};
 use wf_octets::fields::put;
-use wf_octets::header::encode;
+use wf_octets::header::{DATA_HEADER_OCTETS, encode};
 use wf_send_half::Transmit;
 use wf_send_parts::exchanges::Sending;
 
-/// The octets of a data frame's header.
-const HEADER: usize = 26;
-
-/// The octets of a BlockAckReq.
+/// The length of a BlockAckReq, in octets.
 const REQUEST: usize = 20;
 
-/// Writes the octets of a transmission of the exchange with this number, by the transmission's index, counted
-/// from 0: a QoS Data frame with its body, or the BlockAckReq (IEEE 802.11-2012, 8.3.2.1 and 8.3.1.8).
-/// Answers how many they are; the rest of `out` stays. After a fault all of it does.
+/// Writes the octets of a transmission of the exchange with this number: a QoS Data frame with its body, or
+/// the BlockAckReq (IEEE 802.11-2012, 8.3.2.1 and 8.3.1.8). `index` is the transmission's, from 0. Returns
+/// their number. The rest of `out` is unchanged; after a fault all of it is.
 pub(crate) fn write_transmission(
     half: &Transmit,
     addresses: &AddressBook,
@@ -36,7 +33,7 @@ pub(crate) fn write_transmission(
 ) -> Result<usize, PathFault>
     requires { HasWorld half.now }
 
-    // refused exactly where a check fails, for the first that does
+    // refused exactly if a check fails, for the first that does
     ensures fault { (w : World) (bodies : ℕ → FrameValue) → StandsFor half.now w bodies →
         result_err result ≡ write_fault addresses.now w bodies number index (length out.old) }
     ensures unchanged { OnErr result (out.new ≡ out.old) }
@@ -56,7 +53,7 @@ pub(crate) fn write_transmission(
     match &open.sending {
         Sending::Data(numbers) => {
             let seq = numbers.at(usize::from(index));
-            let mut header = [0; HEADER];
+            let mut header = [0; DATA_HEADER_OCTETS];
             encode(&header_of(half, addresses, open, index, seq), &mut header);
             write_parts(&header, frame_of(half, open, index, seq).body(), out)
         }
@@ -75,15 +72,15 @@ pub(crate) fn write_transmission(
     }
 }
 
-/// Writes the header alone of a transmission of data of the exchange with this number, by its index, counted
-/// from 0 (IEEE 802.11-2012, 8.3.2.1): its body is that of its frame. Refused as NoExchange where the
-/// exchange is not open, or as BadIndex where it has no data of that index; then `out` stays.
+/// Writes only the header of a data transmission of the exchange with this number (IEEE 802.11-2012,
+/// 8.3.2.1). `index` is the transmission's, from 0. Returns NoExchange if the exchange is not open, or
+/// BadIndex if it has no data of that index; then `out` is unchanged.
 pub(crate) fn write_header(
     half: &Transmit,
     addresses: &AddressBook,
     number: u64,
     index: u16,
-    out: &mut [u8; 26],
+    out: &mut [u8; DATA_HEADER_OCTETS],
 ) -> Result<(), PathFault>
     requires { HasWorld half.now }
     ensures fault { (w : World) (bodies : ℕ → FrameValue) → StandsFor half.now w bodies →
@@ -102,7 +99,7 @@ pub(crate) fn write_header(
     Ok(())
 }
 
-/// Writes a head and a body to the front of `out`, where there is room for both.
+/// Writes a head and a body to the front of `out`, if both fit.
 fn write_parts(head: &[u8], body: &[u8], out: &mut [u8]) -> Result<usize, PathFault>
     requires { length head.now ≤ 26 }
     ensures fault { result_err result ≡ room_fault (length out.old) (Some (head.now ++ body.now)) }

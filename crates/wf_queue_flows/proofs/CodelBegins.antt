@@ -1,4 +1,4 @@
--- CoDel while it is not dropping, and what holds of both.
+-- CoDel while it is not dropping: one look decides whether it begins to drop.
 use Rattle.std.proofs.Common.{◌≡◌, ℕ, zero, suc, ◌+◌, ◌*◌, ◌-◌, ◌==◌, ◌≤◌, ◌<◌, ◌∙◌, refl, sym, ap, arith, Bool, true, false, ◌||◌, ◌&&◌, List, [], ◌∷◌, ◌++◌, length, take, map, if◌then◌else◌, Option, Some, None}
 use Rattle.std.specs.Prelude.{nat_lt, nat_le, slice_get, IsNone, is_some}
 use Rattle.std.specs.Option.{option_map}
@@ -79,7 +79,7 @@ pub plain-empty : (p : Params) (now : ℕ) (c : Codel) → c.dropping ≡ false 
 unfolding state_plain
 plain-empty p now c off = ap (λ b. record c { first_above = 0; dropping = b }) off
 
--- what a dequeue leaves of an empty lane
+-- the state after a dequeue of an empty lane
 pub state-empty : (p : Params) (now : ℕ) (c : Codel) →
     record c { first_above = 0; dropping = false } ≡ state_after p now c []
 state-empty p now c =
@@ -90,7 +90,7 @@ state-empty p now c =
       | false ↦ λ off. sym (state-off p now c [] off ∙ plain-empty p now c off)
     ] refl
 
--- what a look makes of its test
+-- the look whose test has the result b
 abbrev looked : Params → ℕ → ℕ → Bool → Look
 looked p now above b =
     if b then record { first_above = 0; ok = false }

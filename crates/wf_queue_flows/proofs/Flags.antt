@@ -1,4 +1,5 @@
--- The flags of the queues that have frames, and the longest queue.
+-- The flags say which queues have frames after a queue has changed; the longest queue is the one of the
+-- definition.
 use Rattle.std.proofs.Common.{◌≡◌, ℕ, ◌+◌, ◌<◌, true, false, not, eq-eqb, Option, Some, None, drop, take, List, [], ◌∷◌, ◌++◌, length, map, get_or, set, refl, sym, ap, ◌∙◌, inl, inr, arith, length-append}
 use Rattle.std.specs.Prelude.{◌==◌, IfSome}
 use Rattle.std.proofs.Math.Path.{fun_ext}
@@ -9,7 +10,7 @@ use Rattle.wf_frame.specs.Frames.{FrameValue}
 use Rattle.wf_frame.specs.declared.classes.Cause.TheVariants.{Overlimit}
 use Rattle.wf_frame.specs.declared.classes.Fate.TheVariants.{Dropped}
 use Rattle.wf_def_codel.specs.Codel.{octets}
-use Rattle.wf_sched.specs.Rotas.{is_ready}
+use Rattle.wf_rotation.specs.Rotas.{is_ready}
 use Rattle.wf_queue_flows.specs.Backlog.{BacklogValue, frames_at, queue_octets, is_some_frame, flags, item_of, frame_with_fate, after_head_drop, IsLongest}
 use Rattle.wf_queue_flows.proofs.LongestLemmas.{longest_found}
 use Rattle.wf_queue_flows.specs.Flows.{backlog_has_frames, as_queue, longest_queue}
@@ -53,7 +54,7 @@ flag_at b q = elim (cases_lt q (length b.queues)) [
       ∙ sym (ap is_some_frame (get_or_past b.queues q [] past))
 ]
 
--- the flags tell which queues have frames
+-- the flags say which queues have frames
 pub flags_tell : (b : BacklogValue) → is_ready (flags b) ≡ backlog_has_frames b
 flags_tell b = fun_ext (flag_at b)
 

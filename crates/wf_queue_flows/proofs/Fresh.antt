@@ -1,4 +1,4 @@
--- New flow queues keep what flow queues keep.
+-- New flow queues satisfy the invariant, since all queues are empty and no queue is listed.
 use Rattle.std.proofs.Common.{◌≡◌, ℕ, zero, suc, ◌+◌, ◌*◌, Bool, false, List, [], ◌∷◌, None, length, map, replicate, refl, sym, ap, ◌∙◌, subst, inl, inr, arith}
 use Rattle.std.specs.Prelude.{pos, negsuc, ◌≤ℤ◌}
 use Rattle.std.proofs.lemmas.Int.{ints}
@@ -11,8 +11,8 @@ use Rattle.wf_frame.specs.Settings.{first_out_of_range, IsInRange}
 use Rattle.wf_frame.proofs.Ranges.{in_range}
 use Rattle.wf_def_rotation.specs.Rotation.{Rotation, no_keys, in_order}
 use Rattle.wf_def_lists.specs.Lists.{on}
-use Rattle.wf_sched.specs.Lists.{lists_at, on_at}
-use Rattle.wf_sched.specs.Rotas.{Rotas, deficit_at}
+use Rattle.wf_rotation.specs.Lists.{lists_at, on_at}
+use Rattle.wf_rotation.specs.Rotas.{Rotas, deficit_at}
 use Rattle.wf_law_rules.proofs.Lemmas.Counts.{on-nil}
 use Rattle.wf_queue_flows.specs.Backlog.{BacklogValue, held_in_backlog, is_some_frame}
 use Rattle.wf_queue_flows.specs.Flows.{empty_flows, frames_waiting}

@@ -1,6 +1,6 @@
--- What a backlog keeps, and what its tree tells of its queues.
-use Rattle.std.proofs.Common.{◌≡◌, ℕ, zero, suc, ◌+◌, ◌*◌, ◌-◌, ◌<◌, ◌≤◌, ◌^◌, Bool, true, false, not, Option, Some, None, List, [], ◌∷◌, ◌++◌, length, map, replicate, set, get_or, sum_by, refl, ap, sym, ◌∙◌, subst, arith, append_assoc, append-nil, length-set, length-append}
-use Rattle.std.specs.Prelude.{◌==◌, All, slice_index, ◌↔◌, IfNone, IfSome, IsNone, MatchOption}
+-- A backlog keeps its invariant when one queue changes, and its tree of octets finds the longest queue.
+use Rattle.std.proofs.Common.{◌≡◌, ℕ, zero, suc, ◌+◌, ◌*◌, ◌-◌, ◌<◌, ◌≤◌, ◌^◌, Bool, true, false, Option, Some, None, List, [], ◌∷◌, ◌++◌, length, map, replicate, set, get_or, sum_by, refl, ap, sym, ◌∙◌, subst, arith, append_assoc, append-nil, length-set, length-append}
+use Rattle.std.specs.Prelude.{All, slice_index, ◌↔◌, IfNone, IfSome, IsNone}
 use Rattle.std.proofs.lemmas.List.{get_or-map, get_or_read, map-set, set-set, set-get_or, length-replicate, length-map}
 use Rattle.std.proofs.lemmas.List.Sums.{sum_by-cons, sum_by-le, sum_by-set, get_or-le-sum_by}
 use Rattle.std.proofs.lemmas.List.Folds.{sum_by-replicate}
@@ -12,7 +12,7 @@ use Rattle.wf_frame.specs.declared.classes.Cause.TheVariants.{Left}
 use Rattle.wf_def_lists.specs.Lengths.{greatest_body}
 use Rattle.wf_def_codel.specs.Codel.{new_codel}
 use Rattle.wf_queue_flows.specs.Backlog.{BacklogValue, frames_at, in_queues, held_in_backlog, queue_octets, octets_per_queue, is_some_frame, frame_with_fate, with_frames, after_flush, IsLongest, IsBodySized, IsBacklogKept}
-use Rattle.wf_queue_flows.proofs.Flags.{flag_pushed, flag_counted}
+use Rattle.wf_queue_flows.proofs.Flags.{flag_pushed}
 use Rattle.wf_queue_flows.proofs.Fresh.{no_flags}
 
 -- ---- the octets of one queue
@@ -34,7 +34,7 @@ octets_none : (frames : List FrameValue) → length frames ≡ 0 → queue_octet
 octets_none [] none = refl
 octets_none (f ∷ fs) none = absurd (omega arith)
 
--- a queue of no octets has no frame
+-- a queue without octets has no frame
 empty_if_light : (frames : List FrameValue) → All IsBodySized frames → queue_octets frames ≡ 0 → frames ≡ []
 empty_if_light [] sized light = refl
 empty_if_light (f ∷ fs) sized light = absurd (omega
@@ -51,19 +51,18 @@ total_none (l ∷ ls) empty =
       total_none ls (λ q h. empty (suc q) (omega (arith, h))),
     )
 
--- ---- what a backlog keeps
+-- ---- the invariant of a backlog
 
 light_new : (n : ℕ) → replicate {A = ℕ} n 0 ≡ map queue_octets (replicate n [])
 light_new zero = refl
 light_new (suc n) = ap (λ (os : List ℕ). 0 ∷ os) (light_new n)
 
-pub kept_new : (v : BacklogValue) (octets leaves : List ℕ) (ready : List Bool) (n : ℕ) → v.room < 2 ^ 32 →
-    v.queues ≡ replicate n [] → length v.codels ≡ n → v.finished ≡ [] → octets ≡ replicate {A = ℕ} n 0 →
+pub kept_new : (v : BacklogValue) (leaves : List ℕ) (ready : List Bool) (n : ℕ) → v.room < 2 ^ 32 →
+    v.queues ≡ replicate n [] → length v.codels ≡ n → v.finished ≡ [] →
     leaves ≡ replicate {A = ℕ} n 0 → ready ≡ replicate {A = Bool} n false →
-    IsBacklogKept v octets leaves ready 0
-kept_new v octets leaves ready n small empty states none_finished octets_are leaves_are ready_are = record {
+    IsBacklogKept v leaves ready 0
+kept_new v leaves ready n small empty states none_finished leaves_are ready_are = record {
   states = omega (arith, states, ap length empty, length-replicate {A = List FrameValue} n []);
-  octets_are = octets_are ∙ light_new n ∙ sym (ap (map queue_octets) empty);
   leaves_are = leaves_are ∙ light_new n ∙ sym (ap (map queue_octets) empty);
   ready_are = ready_are ∙ no_flags n ∙ sym (ap (map is_some_frame) empty);
   queued_is = sym none;
@@ -81,16 +80,15 @@ kept_new v octets leaves ready n small empty states none_finished octets_are lea
     )
 
 -- the frames of one queue change
-pub kept_set : (v : BacklogValue) (octets leaves leaves2 : List ℕ) (ready : List Bool)
+pub kept_set : (v : BacklogValue) (leaves leaves2 : List ℕ) (ready : List Bool)
     (queued n m q : ℕ) (flag : Bool) (xs : List FrameValue) → q < length v.queues →
-    IsBacklogKept v octets leaves ready queued → leaves2 ≡ set leaves q m → m ≡ queue_octets xs →
+    IsBacklogKept v leaves ready queued → leaves2 ≡ set leaves q m → m ≡ queue_octets xs →
     flag ≡ is_some_frame xs → n + length (frames_at v q) ≡ queued + length xs →
     n + length v.finished ≤ v.room → All IsBodySized xs →
-    IsBacklogKept (with_frames v q xs) (set octets q m) leaves2 (set ready q flag) n
-kept_set v octets leaves leaves2 ready queued n m q flag xs here kept leaf weight some count fits sized =
+    IsBacklogKept (with_frames v q xs) leaves2 (set ready q flag) n
+kept_set v leaves leaves2 ready queued n m q flag xs here kept leaf weight some count fits sized =
     record {
       states = kept.states ∙ sym (length-set v.queues q xs);
-      octets_are = ap (λ (os : List ℕ). set os q m) kept.octets_are ∙ each;
       leaves_are = leaf ∙ ap (λ (os : List ℕ). set os q m) kept.leaves_are ∙ each;
       ready_are = ap (λ (bs : List Bool). set bs q flag) kept.ready_are
           ∙ ap (set (map is_some_frame v.queues) q) some ∙ sym (map-set is_some_frame v.queues q xs);
@@ -108,13 +106,13 @@ kept_set v octets leaves leaves2 ready queued n m q flag xs here kept leaf weigh
 
 -- ---- the queue that is longest
 
-module _ (v : BacklogValue) (octets leaves : List ℕ) (ready : List Bool) (queued : ℕ)
-    (kept : IsBacklogKept v octets leaves ready queued) where
+module _ (v : BacklogValue) (leaves : List ℕ) (ready : List Bool) (queued : ℕ)
+    (kept : IsBacklogKept v leaves ready queued) where
   pub frames_sized : (q : ℕ) → q < length v.queues → All IsBodySized (frames_at v q)
   frames_sized q here = kept.sized q [] here
 
-  pub octets_at : (q : ℕ) → q < length v.queues → slice_index octets q ≡ queue_octets (frames_at v q)
-  octets_at q here = ap (λ (os : List ℕ). slice_index os q) kept.octets_are
+  pub octets_at : (q : ℕ) → q < length v.queues → slice_index leaves q ≡ queue_octets (frames_at v q)
+  octets_at q here = ap (λ (os : List ℕ). slice_index os q) kept.leaves_are
       ∙ get_or-map queue_octets v.queues q [] 0 here
 
   -- a queue's frames are some of all, and its octets are few
@@ -131,24 +129,22 @@ module _ (v : BacklogValue) (octets leaves : List ℕ) (ready : List Bool) (queu
     kept.small,
   )
 
-  octets_read : (q x : ℕ) → q < length v.queues → x ≡ get_or octets q x → x ≡ queue_octets (frames_at v q)
-  octets_read q x here is =
-      get_or_read octets q x
-      (omega (arith, here, ap length kept.octets_are, length-map v.queues queue_octets)) is 0
-      ∙ octets_at q here
+  octets_read : (q x : ℕ) → q < length v.queues → x ≡ slice_index leaves q → x ≡ queue_octets (frames_at v q)
+  octets_read q x here is = is ∙ octets_at q here
 
   -- one queue more octets fit
-  pub push_fits : (q x len : ℕ) → q < length v.queues → x ≡ get_or octets q x → len ≤ greatest_body →
+  pub push_fits : (q x len : ℕ) → q < length v.queues → x ≡ slice_index leaves q → len ≤ greatest_body →
       x + len < 2 ^ 64
   push_fits q x len here is few = omega (arith, octets_read q x here is, octets_few q here, few)
 
-  pub kept_pushed : (q x len : ℕ) (frames now : List FrameValue) (f : FrameValue) (leaves2 : List ℕ) →
-      q < length v.queues → x ≡ get_or octets q x → frames ≡ get_or v.queues q frames →
-      now ≡ frames ++ f ∷ [] → len ≡ length f.body → 0 < len → len ≤ greatest_body →
+  pub kept_pushed : (q x len : ℕ) (frames now : List FrameValue) (f : FrameValue) (leaves2 : List ℕ)
+      (flag : Bool) →
+      q < length v.queues → x ≡ slice_index leaves q → frames ≡ get_or v.queues q frames →
+      now ≡ frames ++ f ∷ [] → flag ≡ true → len ≡ length f.body → 0 < len → len ≤ greatest_body →
       leaves2 ≡ set leaves q (x + len) → held_in_backlog v < v.room →
-      IsBacklogKept (with_frames v q now) (set octets q (x + len)) leaves2 (set ready q true) (queued + 1)
-  kept_pushed q x len frames now f leaves2 here is read longer len_is some few leaf room =
-      kept_set v octets leaves leaves2 ready queued (queued + 1) (x + len) q true now here kept leaf
+      IsBacklogKept (with_frames v q now) leaves2 (set ready q flag) (queued + 1)
+  kept_pushed q x len frames now f leaves2 flag here is read longer flag_is len_is some few leaf room =
+      kept_set v leaves leaves2 ready queued (queued + 1) (x + len) q flag now here kept leaf
       (omega (
         arith,
         octets_read q x here is,
@@ -156,7 +152,7 @@ module _ (v : BacklogValue) (octets leaves : List ℕ) (ready : List Bool) (queu
         ap queue_octets more,
         octets-append (frames_at v q) f,
       ))
-      (sym (ap is_some_frame more ∙ flag_pushed (frames_at v q) f))
+      (flag_is ∙ sym (ap is_some_frame more ∙ flag_pushed (frames_at v q) f))
       (omega (arith, ap length more, length-append (frames_at v q) (f ∷ [])))
       (omega (arith, room, kept.queued_is))
       (subst (All IsBodySized) (sym more) (All-push IsBodySized (frames_at v q) f (frames_sized q here)
@@ -165,14 +161,13 @@ module _ (v : BacklogValue) (octets leaves : List ℕ) (ready : List Bool) (queu
       more : now ≡ frames_at v q ++ f ∷ []
       more = longer ∙ ap (λ (xs : List FrameValue). xs ++ f ∷ []) (get_or_read v.queues q frames here read [])
 
-  pub kept_popped : (q x len left : ℕ) (frames now : List FrameValue) (f : FrameValue) (leaves2 : List ℕ) →
-      q < length v.queues → x ≡ get_or octets q x → frames ≡ get_or v.queues q frames → frames ≡ f ∷ now →
-      len ≡ length f.body → left ≡ length now → leaves2 ≡ set leaves q (x - len) →
-      IsBacklogKept (with_frames v q now) (set octets q (x - len)) leaves2
-      (set ready q (not (left == 0))) (queued - 1)
-  kept_popped q x len left frames now f leaves2 here is read first len_is left_is leaf =
-      kept_set v octets leaves leaves2 ready queued (queued - 1) (x - len) q (not (left == 0)) now here kept
-      leaf
+  pub kept_popped : (q x len : ℕ) (frames now : List FrameValue) (f : FrameValue) (leaves2 : List ℕ)
+      (flag : Bool) →
+      q < length v.queues → x ≡ slice_index leaves q → frames ≡ get_or v.queues q frames → frames ≡ f ∷ now →
+      flag ≡ is_some_frame now → len ≡ length f.body → leaves2 ≡ set leaves q (x - len) →
+      IsBacklogKept (with_frames v q now) leaves2 (set ready q flag) (queued - 1)
+  kept_popped q x len frames now f leaves2 flag here is read first flag_is len_is leaf =
+      kept_set v leaves leaves2 ready queued (queued - 1) (x - len) q flag now here kept leaf
       (omega (
         arith,
         octets_read q x here is,
@@ -180,17 +175,13 @@ module _ (v : BacklogValue) (octets leaves : List ℕ) (ready : List Bool) (queu
         ap queue_octets all,
         octets-cons f now,
       ))
-      (flag_counted left now left_is)
+      flag_is
       (omega (arith, ap length all, frames_within q here))
       (omega (arith, kept.fits, kept.queued_is))
       (All-tail IsBodySized f now (subst (All IsBodySized) all (frames_sized q here)))
     where
       all : frames_at v q ≡ f ∷ now
       all = sym (get_or_read v.queues q frames here read []) ∙ first
-
-  leaf : (q : ℕ) → q < length v.queues → slice_index leaves q ≡ queue_octets (frames_at v q)
-  leaf q here = ap (λ (os : List ℕ). slice_index os q) kept.leaves_are
-      ∙ get_or-map queue_octets v.queues q [] 0 here
 
   long : length leaves ≡ length v.queues
   long = ap length kept.leaves_are ∙ length-map v.queues queue_octets
@@ -203,13 +194,13 @@ module _ (v : BacklogValue) (octets leaves : List ℕ) (ready : List Bool) (queu
       let below : q < length v.queues = omega (arith, best.within, long) in
       record {
         within = below;
-        some = omega (arith, best.some, leaf q below);
-        most = λ other h. omega (arith, best.greatest other, leaf other h, leaf q below);
+        some = omega (arith, best.some, octets_at q below);
+        most = λ other h. omega (arith, best.greatest other, octets_at other h, octets_at q below);
         least = λ other h. omega (
           arith,
           best.least other h,
-          leaf other (omega (arith, h, below)),
-          leaf q below,
+          octets_at other (omega (arith, h, below)),
+          octets_at q below,
         );
       }
 
@@ -219,7 +210,7 @@ module _ (v : BacklogValue) (octets leaves : List ℕ) (ready : List Bool) (queu
 
   all_empty : ((k : ℕ) → slice_index leaves k ≡ 0) → (q : ℕ) → q < length v.queues → frames_at v q ≡ []
   all_empty light q here =
-      empty_if_light (frames_at v q) (frames_sized q here) (sym (leaf q here) ∙ light q)
+      empty_if_light (frames_at v q) (frames_sized q here) (sym (octets_at q here) ∙ light q)
 
   pub best_none : (o : Option ℕ) → IfNone o ((k : ℕ) → slice_index leaves k ≡ 0) →
       IfSome o (IsBest leaves) → IsNone o ↔ (in_queues v ≡ 0)
@@ -237,21 +228,15 @@ module _ (v : BacklogValue) (octets leaves : List ℕ) (ready : List Bool) (queu
 
 -- ---- a queue loses its head, and a queue gains a frame
 
-pub head_is : (o : Option FrameValue) (f : FrameValue) (before after : List FrameValue) → o ≡ Some f →
-    MatchOption o ((before ≡ []) × (after ≡ [])) (λ p. before ≡ p ∷ after) → before ≡ f ∷ after
-head_is o f before after is first =
-    subst (λ (p : Option FrameValue).
-    MatchOption p ((before ≡ []) × (after ≡ [])) (λ q. before ≡ q ∷ after)) is first
-
-module _ (v : BacklogValue) (octets leaves : List ℕ) (ready : List Bool) (queued : ℕ)
-    (kept : IsBacklogKept v octets leaves ready queued) (from x len left : ℕ) (frames now : List FrameValue)
-    (head : FrameValue) (here : from < length v.queues) (read : x ≡ get_or octets from x)
+module _ (v : BacklogValue) (leaves : List ℕ) (ready : List Bool) (queued : ℕ)
+    (kept : IsBacklogKept v leaves ready queued) (from x len : ℕ) (frames now : List FrameValue)
+    (flag : Bool) (head : FrameValue) (here : from < length v.queues) (read : x ≡ slice_index leaves from)
     (at : frames ≡ get_or v.queues from frames) (first : frames ≡ head ∷ now)
-    (len_is : len ≡ length head.body) (left_is : left ≡ length now) where
-  between : IsBacklogKept (with_frames v from now) (set octets from (x - len)) (set leaves from (x - len))
-      (set ready from (not (left == 0))) (queued - 1)
-  between = kept_popped v octets leaves ready queued kept from x len left frames now head _ here read at
-      first len_is left_is refl
+    (flag_is : flag ≡ is_some_frame now) (len_is : len ≡ length head.body) where
+  between : IsBacklogKept (with_frames v from now) (set leaves from (x - len)) (set ready from flag)
+      (queued - 1)
+  between = kept_popped v leaves ready queued kept from x len frames now head _ flag here read at first
+      flag_is len_is refl
 
   still_here : (to : ℕ) → to < length v.queues → to < length (set v.queues from now)
   still_here to there = omega (arith, there, length-set v.queues from now)
@@ -259,26 +244,27 @@ module _ (v : BacklogValue) (octets leaves : List ℕ) (ready : List Bool) (queu
   some_queued : queued - 1 + 1 ≡ queued
   some_queued = omega (
     arith,
-    frames_within v octets leaves ready queued kept from here,
+    frames_within v leaves ready queued kept from here,
     ap length (sym (get_or_read v.queues from frames here at []) ∙ first),
   )
 
-  pub exchange_fits : (to y more : ℕ) → to < length v.queues → y ≡ get_or (set octets from (x - len)) to y →
+  pub exchange_fits : (to y more : ℕ) → to < length v.queues → y ≡ slice_index (set leaves from
+      (x - len)) to →
       more ≤ greatest_body → y + more < 2 ^ 64
-  exchange_fits to y more there = push_fits _ _ _ _ _ between to y more (still_here to there)
+  exchange_fits to y more there = push_fits _ _ _ _ between to y more (still_here to there)
 
-  pub kept_exchanged : (to y more : ℕ) (frames2 now2 : List FrameValue) (f : FrameValue) (leaves2 : List ℕ) →
-      to < length v.queues → y ≡ get_or (set octets from (x - len)) to y →
+  pub kept_exchanged : (to y more : ℕ) (frames2 now2 : List FrameValue) (f : FrameValue) (leaves2 : List ℕ)
+      (flag2 : Bool) → to < length v.queues → y ≡ slice_index (set leaves from (x - len)) to →
       frames2 ≡ get_or (set v.queues from now) to frames2 → now2 ≡ frames2 ++ f ∷ [] →
-      more ≡ length f.body → 0 < more → more ≤ greatest_body →
+      flag2 ≡ true → more ≡ length f.body → 0 < more → more ≤ greatest_body →
       leaves2 ≡ set (set leaves from (x - len)) to (y + more) → held_in_backlog v < v.room →
       IsBacklogKept (record v { queues = set (set v.queues from now) to now2 })
-      (set (set octets from (x - len)) to (y + more)) leaves2 (set (set ready from (not (left == 0))) to true)
-      queued
-  kept_exchanged to y more frames2 now2 f leaves2 there read2 at2 longer more_is some few leaf room =
-      subst (IsBacklogKept _ _ _ _) some_queued
-      (kept_pushed _ _ _ _ _ between to y more frames2 now2 f leaves2 (still_here to there) read2 at2 longer
-      more_is some few leaf (omega (arith, room, kept.queued_is, between.queued_is)))
+      leaves2 (set (set ready from flag) to flag2) queued
+  kept_exchanged to y more frames2 now2 f leaves2 flag2 there read2 at2 longer flag2_is more_is some few
+      leaf room =
+      subst (IsBacklogKept _ _ _) some_queued
+      (kept_pushed _ _ _ _ between to y more frames2 now2 f leaves2 flag2 (still_here to there) read2 at2
+      longer flag2_is more_is some few leaf (omega (arith, room, kept.queued_is, between.queued_is)))
 
   pub held_exchanged : (to : ℕ) (now2 frames2 : List FrameValue) (f : FrameValue) → to < length v.queues →
       frames2 ≡ get_or (set v.queues from now) to frames2 → now2 ≡ frames2 ++ f ∷ [] →
@@ -330,7 +316,7 @@ flush_step v v1 v2 q f first others last =
       finished = finished i;
     })
 
--- where no frame is left, only the state changes
+-- if no frame is left, only the state changes
 pub flush_done : (v : BacklogValue) (q : ℕ) → frames_at v q ≡ [] →
     record v { codels = set v.codels q new_codel } ≡ after_flush v q
 flush_done v q empty =

@@ -1,12 +1,12 @@
--- What the flow queues keep, where their parts change.
+-- The flow queues keep their invariant when one of their parts changes.
 use Rattle.std.proofs.Common.{◌≡◌, ℕ, ◌+◌, ◌*◌, ◌<◌, ◌≤◌, List, length, get_or, set, refl, sym, ap, ◌∙◌, subst, inl, inr, arith, length-set}
 use Rattle.std.specs.Prelude.{sum_by, ℤ, pos, negsuc, ◌≤ℤ◌}
 use Rattle.std.proofs.lemmas.List.{get_or-set_same, get_or-set_other, set_past}
 use Rattle.std.proofs.lemmas.Bool.{cases_eq, cases_lt}
 use Rattle.wf_frame.specs.Frames.{FrameValue}
 use Rattle.wf_def_rotation.specs.Rotation.{in_order, with_new_key}
-use Rattle.wf_sched.specs.Lists.{lists_at, on_at}
-use Rattle.wf_sched.specs.Rotas.{Rotas, deficit_at, quantum_at}
+use Rattle.wf_rotation.specs.Lists.{lists_at, on_at}
+use Rattle.wf_rotation.specs.Rotas.{Rotas, deficit_at, quantum_at}
 use Rattle.wf_queue_flows.specs.Backlog.{BacklogValue}
 use Rattle.wf_queue_flows.specs.Flows.{FlowsValue, tids, frames_of_tid}
 use Rattle.wf_queue_flows.specs.Kept.{depth, AreListed, AreFlowsKept}
@@ -90,7 +90,7 @@ module _ (v : FlowsValue) (counts : List ℕ) (ok : AreFlowsKept v counts) where
       (λ i k some. refl) (length-set v.rotas.deficits q d) refl
       (low-set v.rotas.deficits q d ok.sized.low low))
 
-  -- a queue that nobody lists is listed with a fresh deficit
+  -- a queue that no TID lists is listed with a fresh deficit
   pub kept_fresh : (after : Rotas) (i q : ℕ) (d : ℤ) →
       after ≡ record v.rotas {
         lists = set v.rotas.lists i (with_new_key (lists_at v.rotas.lists i) q);
@@ -125,7 +125,7 @@ module _ (v : FlowsValue) (counts : List ℕ) (ok : AreFlowsKept v counts) where
         | inr few ↦ omega arith
       ]
 
-  -- a queue that nobody lists has no frame
+  -- a queue that no TID lists has no frame
   pub unlisted_empty : (k : ℕ) → ((j : ℕ) → on_at v.rotas.lists j k ≡ 0) → depth v.backlog.queues k ≡ 0
   unlisted_empty k none = elim (cases_lt 0 (depth v.backlog.queues k)) [
     | inl some ↦ absurd (let l : (i : ℕ) × (i < length v.rotas.lists) ×
@@ -153,7 +153,7 @@ module _ (v : FlowsValue) (counts : List ℕ) (ok : AreFlowsKept v counts) where
     waiting_few v.backlog.queues (in_order (lists_at v.rotas.lists i)) (ok.listed.apart.once i),
   )
 
--- the count of a TID is that of the frames in its queues
+-- the count of a TID is the number of frames in its queues
 pub frames_counted : (v now : FlowsValue) (counts : List ℕ) (i : ℕ) → v ≡ now → AreFlowsKept v counts →
     i < tids now → get_or counts i 0 ≡ frames_of_tid now i
 frames_counted v now counts i same ok low =

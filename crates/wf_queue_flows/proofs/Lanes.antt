@@ -1,4 +1,4 @@
--- CoDel on a lane of items of any type.
+-- CoDel on a lane of items of any type is the dequeue of the definition, by induction on the items.
 use Rattle.std.proofs.Common.{◌≡◌, ℕ, suc, ◌+◌, ◌≤◌, ◌<◌, ◌∙◌, refl, sym, ap, Bool, true, false, List, [], ◌∷◌, ◌++◌, append_assoc, take, drop, map, if◌then◌else◌, Option, Some, None}
 use Rattle.std.specs.Prelude.{nat_lt, slice_get}
 use Rattle.wf_def_codel.specs.Codel.{Item, Params, Codel, Look, look_at, control_law, rise, octets, step_of, drops_dropping, state_dropping}
@@ -7,7 +7,7 @@ use Rattle.std.proofs.lemmas.Bool.{lt-ltb, le-ltb}
 use Rattle.wf_queue_flows.specs.CodelLooks.{look_by}
 use Rattle.wf_law_rules.proofs.Lemmas.Drops.{dropped_once, seen, drops-bad, drops-early, drops-more, state-more, state-bad, state-early, state-none, drops-none}
 
--- what a dequeue leaves
+-- the outcome of a dequeue
 pub record Outcome (X : Type 0) : Type 0 where
   pub given : Option X
   pub rest : List X
@@ -18,7 +18,7 @@ abbrev pub gives : {X : Type 0} → List X → Codel → List X → Outcome X
 gives thrown state [] = record { given = None; rest = []; thrown = thrown; state = state }
 gives thrown state (x ∷ rest) = record { given = Some x; rest = rest; thrown = thrown; state = state }
 
--- While dropping: `items` still stand in the lane, and the drop of the first is due at `due`.
+-- While dropping: `items` are still in the lane, and the drop of the first is due at `due`.
 unfoldable pub while_dropping : {X : Type 0} → (X → Item) → (X → X) → Params → ℕ → Codel → ℕ → List X →
     List X → Outcome X
 while_dropping view tossed p now c due thrown [] =
@@ -31,7 +31,7 @@ while_dropping view tossed p now c due thrown (x ∷ rest) =
     (record c { first_above = look.first_above; drop_next = due }) (x ∷ rest) else on)
     else gives thrown (record c { first_above = look.first_above; dropping = false }) (x ∷ rest)
 
--- what n drops leave
+-- the outcome after n drops
 abbrev pub after_drops : {X : Type 0} → (X → X) → List X → List X → ℕ → Codel → Outcome X
 after_drops tossed thrown items n state = record {
   given = slice_get items n;
@@ -157,7 +157,7 @@ module _ {X : Type 0} (view : X → Item) (tossed : X → X) (p : Params) (now :
       while-more view tossed p now c due thrown x rest (saw-ok true good) (le-ltb now due late)
       ∙ rw (saw-above, step_is, count_is, thrown_is, items_is) refl
 
--- what a dequeue that drops while it is dropping has done
+-- a dequeue that drops while it is dropping, step by step
 pub record Finished {X : Type 0} (view : X → Item) (tossed : X → X) (p : Params) (now : ℕ) (c : Codel)
     (before after thrown_before thrown_after : List X) (given : Option X) (state : Codel) : Type 0 where
   pub taken : Takes tossed before after thrown_before thrown_after

@@ -1,4 +1,5 @@
--- What dropping a head and purging a queue keep and leave, and which queue a frame goes to.
+-- A head drop and the purge of a queue keep the invariant; the queue for a frame is the one of the
+-- definition.
 use Rattle.std.proofs.Common.{◌≡◌, ℕ, ◌+◌, ◌*◌, ◌-◌, ◌<◌, ◌≤◌, true, false, not, List, ◌^◌, [], ◌∷◌, ◌++◌, length, get_or, set, drop, map, refl, sym, ap, ◌∙◌, subst, inl, inr, arith, length-drop, length-set, eq-eqb}
 use Rattle.std.specs.Prelude.{◌==◌, ◌%◌}
 use Rattle.std.proofs.lemmas.List.{get_or-map, get_or_past, length-map, get_or_read, get_or_default, get_or-set_same, get_or-set_other, nil_from_length}
@@ -6,9 +7,9 @@ use Rattle.std.proofs.lemmas.Bool.{cases_eq, cases_lt, both_ways, ne_eqb, cond-t
 use Rattle.wf_frame.specs.Frames.{FrameValue}
 use Rattle.wf_def_rotation.specs.Rotation.{Rotation, no_keys, in_order, without_key}
 use Rattle.wf_def_lists.specs.Lists.{on}
-use Rattle.wf_sched.specs.declared.rotation.Side.{Side}
-use Rattle.wf_sched.specs.Lists.{lists_at, on_at, has_on}
-use Rattle.wf_sched.specs.Rotas.{Rotas, IsUnlisted}
+use Rattle.wf_rotation.specs.declared.side.Side.{Side}
+use Rattle.wf_rotation.specs.Lists.{lists_at, on_at, has_on}
+use Rattle.wf_rotation.specs.Rotas.{Rotas, IsUnlisted}
 use Rattle.wf_law_rules.proofs.Lemmas.Counts.{on_order-none}
 use Rattle.wf_law_rules.proofs.Lemmas.Counts.{on-nil, on-append}
 use Rattle.wf_queue_flows.specs.Backlog.{BacklogValue, frames_at, held_in_backlog, with_frames, after_head_drop, after_flush}
@@ -222,7 +223,7 @@ module _ (v now : FlowsValue) (counts : List ℕ) (same : v ≡ now) (ok : AreFl
             (ap (λ (b : BacklogValue). b.room) flush) (low_place i low_i) low_q stands_i
             (omega (arith, purge_fits, count, read i x low_i read_x))
 
-  -- ---- queue_for, where the code reads `flows` of the fields
+  -- ---- queue_for: the code reads `flows` from the fields
 
   flows_same : v.flows ≡ now.flows
   flows_same = ap (λ (w : FlowsValue). w.flows) same

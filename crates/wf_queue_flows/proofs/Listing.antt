@@ -1,11 +1,12 @@
--- What the lists of the TIDs keep, where frames come and go and queues are listed and leave.
+-- The lists of the TIDs keep their invariant when frames are put in and taken out, and queues are listed and
+-- removed.
 use Rattle.std.proofs.Common.{◌≡◌, ℕ, ◌+◌, ◌*◌, ◌<◌, ◌≤◌, List, [], ◌∷◌, ◌++◌, length, get_or, set, sym, ap, ◌∙◌, subst, inl, inr, arith, length-set}
 use Rattle.std.proofs.lemmas.List.{get_or-set_same, get_or-set_other}
 use Rattle.std.proofs.lemmas.Bool.{cases_eq, cases_lt}
 use Rattle.wf_frame.specs.Frames.{FrameValue}
 use Rattle.wf_def_rotation.specs.Rotation.{Rotation, no_keys, in_order, with_new_key}
 use Rattle.wf_def_lists.specs.Lists.{on}
-use Rattle.wf_sched.specs.Lists.{lists_at, on_at}
+use Rattle.wf_rotation.specs.Lists.{lists_at, on_at}
 use Rattle.wf_law_rules.proofs.Lemmas.Counts.{on-nil, on-cons_same, on-cons_other, on-append}
 use Rattle.wf_queue_flows.specs.Flows.{frames_waiting}
 use Rattle.wf_queue_flows.specs.Kept.{depth, AreListed}

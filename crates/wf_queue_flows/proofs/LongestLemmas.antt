@@ -1,4 +1,4 @@
--- The longest queue is the world's.
+-- The longest queue is the longest queue of the world, since both have the same octets.
 use Rattle.std.proofs.Common.{◌≡◌, ℕ, zero, suc, ◌≤◌, inl, inr, List, [], ◌∷◌, length, map, get_or, refl, ap, arith}
 use Rattle.std.proofs.lemmas.List.{get_or_past}
 use Rattle.std.proofs.lemmas.Bool.{cases_lt}

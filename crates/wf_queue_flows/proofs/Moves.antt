@@ -1,4 +1,4 @@
--- What the private calls keep and leave.
+-- The private calls keep the invariant, and leave the flow queues of the definitions.
 use Rattle.std.proofs.Common.{◌≡◌, ℕ, suc, ◌+◌, ◌*◌, ◌-◌, ◌^◌, ◌<◌, ◌≤◌, true, false, not, Some, List, [], ◌∷◌, ◌++◌, length, get_or, set, drop, refl, sym, ap, ap₂, ◌∙◌, subst, inl, inr, arith, length-append, length-drop, eq-eqb}
 use Rattle.std.specs.Prelude.{ℤ, pos, negsuc, ◌-ℤ◌, ◌≤ℤ◌, ◌<ℤ◌, ◌==◌}
 use Rattle.std.proofs.lemmas.Int.{ints}
@@ -10,10 +10,10 @@ use Rattle.wf_def_lists.specs.Table.{has}
 use Rattle.wf_def_lists.specs.Lists.{on}
 use Rattle.wf_def_rotation.specs.Rotation.{Rotation, no_keys, has_key, in_order, with_new_key}
 use Rattle.wf_def_codel.specs.Codel.{Params}
-use Rattle.wf_sched.specs.declared.rotation.Side.{Side}
-use Rattle.wf_sched.specs.declared.rotation.Side.TheVariants.{New, Old}
-use Rattle.wf_sched.specs.Lists.{lists_at, on_at, has_on, side_of}
-use Rattle.wf_sched.specs.Rotas.{Rotas, deficit_at, quantum_at, IsUnlisted}
+use Rattle.wf_rotation.specs.declared.side.Side.{Side}
+use Rattle.wf_rotation.specs.declared.side.Side.TheVariants.{New, Old}
+use Rattle.wf_rotation.specs.Lists.{lists_at, on_at, has_on, side_of}
+use Rattle.wf_rotation.specs.Rotas.{Rotas, deficit_at, quantum_at, IsUnlisted}
 use Rattle.wf_law_rules.proofs.Lemmas.Counts.{on_order-none, on-append}
 use Rattle.wf_queue_flows.specs.Backlog.{BacklogValue, frames_at, held_in_backlog, with_frames, drops_at, given_at, backlog_after_take}
 use Rattle.wf_queue_flows.specs.Flows.{FlowsValue, tids, queues, is_listed, is_listed_by_another, with_listed_queue, frames_of_tid, frames_waiting}
@@ -188,7 +188,7 @@ module _ (v now : FlowsValue) (counts : List ℕ) (same : v ≡ now) (ok : AreFl
       has-last [] k = or_left (k == k) false (eq-eqb k k refl)
       has-last (x ∷ xs) k = or_right (x == k) (has (xs ++ k ∷ []) k) (has-last xs k)
 
-  -- what was listed still is
+  -- a queue that was listed is listed still
   pub list_stays : (i q : ℕ) (d : ℤ) (after : Rotas) → i < tids now → after ≡ fresh i q d → (j k : ℕ) →
       is_listed now j k ≡ true → is_listed (record v { rotas = after }) j k ≡ true
   list_stays i q d after low is j k at =

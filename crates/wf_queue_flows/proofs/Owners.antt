@@ -1,11 +1,11 @@
--- Which TID lists a queue.
+-- The TID that lists a queue is the one that `where_is` returns.
 use Rattle.std.proofs.Common.{◌≡◌, ℕ, zero, suc, ◌+◌, ◌<◌, ◌≤◌, Bool, true, false, not, ◌&&◌, refl, sym, ap, ◌∙◌, inl, inr, arith}
 use Rattle.std.specs.Prelude.{◌==◌}
 use Rattle.std.specs.List.{list_any}
 use Rattle.std.proofs.lemmas.Bool.{cases_eq, cases_lt, cases_Bool, ne_eqb, or_left, or_right, or_from, and_from, and_left, and_right, not_from_true, not_from_false}
 use Rattle.std.proofs.Common.{eq-eqb}
 use Rattle.wf_def_lists.specs.Table.{count_from}
-use Rattle.wf_sched.specs.Lists.{lists_at, on_at}
+use Rattle.wf_rotation.specs.Lists.{lists_at, on_at}
 use Rattle.wf_law_rules.proofs.Lemmas.Counts.{listed-some, listed-none}
 use Rattle.wf_queue_flows.specs.Flows.{FlowsValue, tids, is_listed, is_listed_by_another}
 
@@ -41,7 +41,7 @@ module _ (v : FlowsValue) (i q : ℕ) where
     | inr fails ↦ and_right (not (j == i)) (is_listed v j q) fails
   ])
 
--- a key that a rotation lists stands on it
+-- a key that a rotation lists is on it
 pub on-listed : (v : FlowsValue) (j q : ℕ) → is_listed v j q ≡ true → 0 < on_at v.rotas.lists j q
 on-listed v j q is = elim (cases_lt 0 (on_at v.rotas.lists j q)) [
   | inl some ↦ some

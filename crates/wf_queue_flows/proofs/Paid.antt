@@ -1,4 +1,4 @@
--- The deficits after a pick.
+-- The deficits after a pick, key by key.
 use Rattle.std.proofs.Common.{◌≡◌, ℕ, zero, suc, ◌+◌, ◌*◌, ◌<◌, List, [], ◌∷◌, length, get_or, refl, sym, ap, ◌∙◌, arith}
 use Rattle.std.specs.Prelude.{ℤ, pos, ◌+ℤ◌}
 use Rattle.std.proofs.lemmas.List.{same_lists, get_or_default}
@@ -19,7 +19,7 @@ get_or-paid quanta quantum k (d ∷ ds) (suc q) e low =
     let same : k + suc q ≡ suc k + q = omega arith in
     rw same (get_or-paid quanta quantum (suc k) ds q e (omega arith))
 
--- deficits that rose by so many quanta each
+-- deficits that rose by some quanta each
 pub paid_is : (quanta : ℕ → ℕ) (quantum : ℕ) (ds after : List ℤ) → length after ≡ length ds →
     ((q : ℕ) → q < length ds → get_or after q (pos 0) ≡ get_or ds q (pos 0) +ℤ pos (quanta q * quantum)) →
     after ≡ with_quanta_paid quanta quantum 0 ds

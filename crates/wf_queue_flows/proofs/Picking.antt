@@ -1,4 +1,4 @@
--- What a pick among the queues of a TID keeps and leaves.
+-- A pick among the queues of a TID keeps the invariant, and leaves the queues of the definition.
 use Rattle.std.proofs.Common.{◌≡◌, ℕ, ◌+◌, ◌*◌, ◌<◌, ◌≤◌, Bool, true, List, Option, Some, None, length, set, refl, sym, ap, ◌∙◌, subst, inl, inr, arith, length-set}
 use Rattle.std.specs.Prelude.{ℤ, pos, ◌+ℤ◌, ◌≤ℤ◌, ◌<ℤ◌, IfSome, IfNone}
 use Rattle.std.proofs.lemmas.Int.{ints}
@@ -6,8 +6,8 @@ use Rattle.std.proofs.lemmas.List.{get_or-set_same, get_or-set_other}
 use Rattle.std.proofs.lemmas.Bool.{cases_eq, cases_lt, lt-ltb, ltb-true}
 use Rattle.wf_def_rotation.specs.Rotation.{Rotation, no_keys, has_key, in_order, need_of, Picked, pick}
 use Rattle.wf_def_lists.specs.Lists.{on}
-use Rattle.wf_sched.specs.Lists.{lists_at, on_at}
-use Rattle.wf_sched.specs.Rotas.{Rotas, deficit_at, quantum_at, need_at, is_ready}
+use Rattle.wf_rotation.specs.Lists.{lists_at, on_at}
+use Rattle.wf_rotation.specs.Rotas.{Rotas, deficit_at, quantum_at, need_at, is_ready}
 use Rattle.wf_law_rules.proofs.Lemmas.Counts.{listed-some}
 use Rattle.wf_queue_flows.specs.Backlog.{frames_at, flags}
 use Rattle.wf_queue_flows.specs.Flows.{FlowsValue, tids, is_listed, backlog_has_frames, pick_of_tid, with_quanta_paid, after_pick, frames_of_tid}

@@ -1,4 +1,4 @@
--- What a pick does to the keys of a rotation: which stay on it, and what the winner gets.
+-- A pick removes no key with frames from a rotation, and leaves the winner a deficit above 0.
 use Rattle.std.proofs.Common.{◌≡◌, ℕ, zero, suc, ◌+◌, ◌*◌, ◌/◌, ◌<◌, ◌≤◌, min, Bool, true, false, cond, not, List, [], ◌∷◌, ◌++◌, Option, Some, None, refl, sym, ap, ◌∙◌, inl, inr, arith, eq-eqb}
 use Rattle.std.specs.Prelude.{ℤ, pos, negsuc, ◌+ℤ◌, ◌<ℤ◌, ◌==◌, ◌&&◌, nat_le, find}
 use Rattle.std.specs.List.{filter}
@@ -36,7 +36,7 @@ on-filter_le p (x ∷ xs) y = elim (cases_Bool (p x)) [
   | inr fails ↦ rw fails (omega (arith, on-first x y xs, on-filter_le p xs y))
 ]
 
--- a list is what stands before a key and what stands from it on
+-- a list splits into the keys before a key and the keys from it on
 before_from : (v : ℕ) (xs : List ℕ) → keys_before v xs ++ keys_from v xs ≡ xs
 before_from v [] = refl
 before_from v (x ∷ xs) = elim (cases_Bool (x == v)) [
@@ -62,7 +62,7 @@ least-none f (x ∷ xs) e = absurd (go (first_least f xs) e)
     go None e = cc
     go (Some z) e = some (nat_le (f x) (f z)) z e
 
--- where there is no least ready key, no key of the list is ready
+-- if there is no least ready key, no key of the list is ready
 none-ready : (f : ℕ → ℕ) (ready : ℕ → Bool) (xs : List ℕ) (y : ℕ) → first_least f (filter ready xs) ≡ None →
     ready y ≡ true → on xs y ≡ 0
 none-ready f ready xs y e is =
@@ -128,7 +128,7 @@ module _ (need : ℕ → ℕ) (ready : ℕ → Bool) (r : Rotation) where
         turned w y,
       )
 
-  -- no key comes on the lists
+  -- no key is added to the lists
   pub on-picked_le : (y : ℕ) → on (in_order (pick need ready r).lists) y ≤ on (in_order r) y
   unfolding pick
   on-picked_le y = go (find (λ k. ready k && (need k == 0)) r.new)
@@ -141,7 +141,7 @@ module _ (need : ℕ → ℕ) (ready : ℕ → Bool) (r : Rotation) where
       go None = later (first_least (round need r) (filter ready (in_order r)))
       go (Some w) = omega (arith, on-now w y)
 
-  -- a ready key stays on them
+  -- a ready key stays on the lists
   pub on-picked : (y : ℕ) → ready y ≡ true → on (in_order (pick need ready r).lists) y ≡ on (in_order r) y
   unfolding pick
   on-picked y is = go (find (λ k. ready k && (need k == 0)) r.new)
@@ -195,7 +195,7 @@ module _ (need : ℕ → ℕ) (ready : ℕ → Bool) (r : Rotation) where
           let zero_need : need w ≡ 0 = eqb-true (need w) 0 (and_parts (ready w) (need w == 0) passes).1 in
           none_needed (has (keys_before w r.new) v) (need v) (ap need (sym same) ∙ zero_need)
 
--- what a key needs lifts its deficit above 0
+-- the quanta that a key needs raise its deficit above 0
 pub lifted_above : (d : ℤ) (q : ℕ) → 0 < q → pos 0 <ℤ (d +ℤ pos (need_of q d * q))
 lifted_above (pos zero) q some = omega (arith, ints)
 lifted_above (pos (suc n)) q some = omega (arith, ints)

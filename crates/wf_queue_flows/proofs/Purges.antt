@@ -1,4 +1,4 @@
--- The queues of one TID are purged, the least first.
+-- The queues of one TID are purged, the least first, by induction on the queue numbers.
 use Rattle.std.proofs.Common.{◌≡◌, ℕ, zero, suc, ◌+◌, ◌-◌, ◌*◌, ◌<◌, ◌≤◌, Bool, true, false, not, List, [], ◌∷◌, ◌++◌, length, map, set, refl, sym, ap, ◌∙◌, subst, inl, inr, arith, eq-eqb, length-set, length-append}
 use Rattle.std.specs.Prelude.{◌==◌, ◌||◌, nat_le}
 use Rattle.std.specs.List.{filter}
@@ -8,7 +8,7 @@ use Rattle.std.proofs.lemmas.Bool.{cases_eq, cases_lt, cases_Bool, ne_eqb, le-le
 use Rattle.wf_def_lists.specs.Table.{has, count_from, upto}
 use Rattle.wf_def_rotation.specs.Rotation.{Rotation, no_keys, has_key, in_order, without_key}
 use Rattle.wf_def_lists.specs.Lists.{on}
-use Rattle.wf_sched.specs.Lists.{AreDisjoint, lists_at, on_at}
+use Rattle.wf_rotation.specs.Lists.{AreDisjoint, lists_at, on_at}
 use Rattle.wf_law_rules.proofs.Lemmas.Counts.{on-nil, on-first, on-cons_same, on-cons_other, on-append, on-filter_out, listed-none}
 use Rattle.wf_law_rules.proofs.Lemmas.Counts.{on_order-none}
 use Rattle.wf_queue_flows.specs.Backlog.{BacklogValue, after_flush}
@@ -19,7 +19,7 @@ use Rattle.wf_queue_flows.proofs.Leaves.{at-without}
 
 -- ---- filters
 
--- two tests agree on what stands on the list
+-- two tests agree on the keys of the list
 filter_agree : (p q : ℕ → Bool) (xs : List ℕ) → ((x : ℕ) → 0 < on xs x → p x ≡ q x) →
     filter p xs ≡ filter q xs
 filter_agree p q [] same = refl
@@ -284,7 +284,7 @@ module _ (v : FlowsValue) (i : ℕ) (apart : AreDisjoint
       stands : is_listed v i q ≡ true
       stands = sym (listed_past q past) ∙ listed
 
-      -- the least of its queues is one that there is
+      -- the least of its queues exists
       pub least_there : q < queues v
       least_there = apart.below i q (on-listed v i q stands)
 

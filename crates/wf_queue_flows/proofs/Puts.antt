@@ -1,4 +1,4 @@
--- The parts of a put fit together.
+-- The parts of a put compose to the whole put.
 use Rattle.std.proofs.Common.{◌≡◌, ℕ, refl, inl, inr}
 use Rattle.std.proofs.lemmas.Bool.{cases_Bool}
 use Rattle.wf_frame.specs.Frames.{FrameValue}

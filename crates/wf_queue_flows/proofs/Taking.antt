@@ -1,4 +1,4 @@
--- How many frames CoDel drops, and what it leaves.
+-- The number of frames that CoDel drops, and the queue that it leaves, as in the definition.
 use Rattle.std.proofs.Common.{◌≡◌, ℕ, zero, suc, ◌+◌, ◌-◌, ◌<◌, ◌≤◌, min, Bool, true, false, List, [], ◌∷◌, ◌++◌, Option, Some, None, length, map, set, take, drop, sum_by, if◌then◌else◌, refl, ap, sym, ◌∙◌, arith, length-append}
 use Rattle.std.specs.Prelude.{slice_get, ◌↔◌, IsNone, MatchOption}
 use Rattle.std.proofs.lemmas.List.{length-take-le, set-set, set-get_or, length-map, length-take, length-drop}
@@ -43,7 +43,7 @@ state-dequeued : (p : Params) (now : ℕ) (c : Codel) (items : List Item) →
 unfolding dequeue
 state-dequeued p now c items = refl
 
--- what a change of one queue leaves
+-- the backlog after a change of one queue
 pub same_elsewhere : (v v2 : BacklogValue) (q : ℕ) (frames : List FrameValue) → v2 ≡ with_frames v q frames →
     elsewhere v2 q ≡ elsewhere v q
 same_elsewhere v v2 q frames changed =
@@ -66,7 +66,7 @@ module _ (p : Params) (now : ℕ) (v : BacklogValue) (q : ℕ) (c : Codel) (same
   pub given-is : slice_get (frames_at v q) (drops p now c (map item_of (frames_at v q))) ≡ given_at p now v q
   given-is = ap (λ (n : ℕ). slice_get (frames_at v q) n) drops-is
 
-  -- what the lane leaves, and the queue's new state
+  -- the queue after the dequeue, and its new state
   pub taken-is : (v2 : BacklogValue) (q2 : ℕ) (c2 : Codel) → q2 ≡ q → elsewhere v2 q2 ≡ elsewhere v q →
       frames_at v2 q2 ≡ drop (suc (drops p now c (map item_of (frames_at v q)))) (frames_at v q)
       → v2.finished ≡ v.finished ++ map (frame_with_fate (Dropped By_codel))
@@ -100,7 +100,7 @@ module _ (p : Params) (now : ℕ) (v : BacklogValue) (q : ℕ) (c : Codel) (same
       queues : v2.queues ≡ set v.queues q left
       queues = changed ∙ (λ i. set (emptied i) (here i) (rest i)) ∙ set-set v.queues q [] left
 
--- how many frames there are, but for the one that leaves
+-- the number of frames without the one that leaves
 held_after : (p : Params) (now : ℕ) (v : BacklogValue) (q : ℕ) → q < length v.queues →
     held_in_backlog (backlog_after_take p now v q) + (length (frames_at v q) - drops_at p now v q)
     ≡ held_in_backlog v + (length (frames_at v q) - suc (drops_at p now v q))

@@ -1,11 +1,11 @@
--- The parts of each call make the whole of its definition.
+-- The parts of each call compose to the definition of the call.
 use Rattle.std.proofs.Common.{◌≡◌, ℕ, ◌<◌, true, false, List, Option, Some, None, length, set, refl, sym, ap, ◌∙◌, subst, inl, inr, arith}
 use Rattle.std.specs.Prelude.{pos, ◌-ℤ◌}
 use Rattle.std.proofs.lemmas.Bool.{cases_Bool, cond-true, cond-false}
 use Rattle.wf_frame.specs.Frames.{FrameValue}
 use Rattle.wf_def_codel.specs.Codel.{Params}
-use Rattle.wf_sched.specs.Lists.{on_at}
-use Rattle.wf_sched.specs.Rotas.{Rotas, deficit_at}
+use Rattle.wf_rotation.specs.Lists.{on_at}
+use Rattle.wf_rotation.specs.Rotas.{Rotas, deficit_at}
 use Rattle.wf_queue_flows.specs.Backlog.{BacklogValue, frames_at, first_id, after_head_drop, given_at, backlog_after_take}
 use Rattle.wf_queue_flows.specs.Flows.{FlowsValue, flows_at_limit, is_listed, longest_queue, after_limit, dropped_for_limit, queue_for, with_listed_queue, with_appended, after_put_in, after_put, pick_of_tid, after_pick, TakeGives, taken_by_codel, taken_from_picked, taken_for_tid, AreListedOnce}
 use Rattle.wf_queue_flows.specs.Kept.{AreFlowsKept}
@@ -82,7 +82,7 @@ module _ (v : FlowsValue) (full : flows_at_limit v ≡ true) (k : ℕ)
       (record w { backlog = after_head_drop w.backlog k }) q f) listed
       ∙ ap (λ (w : FlowsValue). with_appended w q f) (dropped_listed i q))
 
--- a frame that CoDel gave is what the take gives, once its length has left the deficit
+-- the frame that CoDel returns is the frame of the take, after its length has left the deficit
 pub picked_gives : (v : FlowsValue) (q len clock : ℕ) (p : Params) (f : FrameValue) (after : BacklogValue)
     (paid : Rotas) → Some f ≡ given_at p clock v.backlog q → after ≡ backlog_after_take p clock v.backlog q →
     len ≡ length f.body →

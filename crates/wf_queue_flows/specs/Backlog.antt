@@ -1,4 +1,5 @@
--- Numbered queues of frames, each with its CoDel state, and the list of the frames that are finished.
+-- Defines numbered queues of frames, each with a CoDel state (RFC 8289, section 5.2), and the list of the
+-- finished frames.
 use Rattle.std.specs.Prelude.{◌≡◌, ◌<◌, ◌≤◌, ◌^◌, ℕ, suc, ◌+◌, ◌-◌, nat_lt, Bool, List, [], ◌∷◌, ◌++◌, Option, Some, None, All, length, map, take, drop, sum_by, slice_get, slice_index_or, slice_set}
 use Rattle.wf_frame.specs.Frames.{FrameValue}
 use Rattle.wf_frame.specs.declared.classes.Fate.{Fate}
@@ -24,14 +25,14 @@ frames_at v q = slice_index_or v.queues q []
 abbrev pub codel_at : BacklogValue → ℕ → Codel
 codel_at v q = slice_index_or v.codels q new_codel
 
--- how many frames wait in the queues, and how many there are in all
+-- the number of frames in the queues, and of all frames
 abbrev pub in_queues : BacklogValue → ℕ
 in_queues v = sum_by length v.queues
 
 abbrev pub held_in_backlog : BacklogValue → ℕ
 held_in_backlog v = in_queues v + length v.finished
 
--- how many more frames there may be
+-- the number of further frames that there is room for
 abbrev pub spare_of : BacklogValue → ℕ
 spare_of v = v.room - held_in_backlog v
 
@@ -39,7 +40,7 @@ abbrev pub first_id : List FrameValue → Option ℕ
 first_id [] = None
 first_id (f ∷ rest) = Some f.id
 
--- a frame as CoDel sees it
+-- the parts of a frame that CoDel reads
 abbrev pub item_of : FrameValue → Item
 item_of f = record { id = f.id; stamp = f.stamp; len = length f.body }
 
@@ -58,7 +59,7 @@ is_some_frame frames = nat_lt 0 (length frames)
 abbrev pub flags : BacklogValue → List Bool
 flags v = map is_some_frame v.queues
 
--- queue q has the most octets, which are not 0, and it is the least of the queues that have so many
+-- queue q has the most octets, which are not 0, and it is the least of the queues with the most
 pub record IsLongest (v : BacklogValue) (q : ℕ) : Type 0 where
   pub within : q < length v.queues
   pub some : 0 < queue_octets (frames_at v q)
@@ -91,18 +92,19 @@ after_flush v q = record v {
   finished = v.finished ++ map (frame_with_fate (Dropped Left)) (frames_at v q);
 }
 
--- CoDel's dequeue on queue q, and how many frames it drops
+-- CoDel's dequeue on queue q, and the number of frames that it drops
 abbrev pub dequeue_at : Params → ℕ → BacklogValue → ℕ → Dequeued
 dequeue_at p now v q = dequeue p now (codel_at v q) (map item_of (frames_at v q))
 
 abbrev pub drops_at : Params → ℕ → BacklogValue → ℕ → ℕ
 drops_at p now v q = length (dequeue_at p now v q).dropped
 
--- the frame that it gives: the one behind those that it drops
+-- the frame that it returns: the one after those that it drops
 abbrev pub given_at : Params → ℕ → BacklogValue → ℕ → Option FrameValue
 given_at p now v q = slice_get (frames_at v q) (drops_at p now v q)
 
--- the frames that it drops go in order last on the finished list, and the one that it gives leaves the queue
+-- the frames that it drops go in order last on the finished list, and the one that it returns leaves the
+-- queue
 abbrev pub backlog_after_take : Params → ℕ → BacklogValue → ℕ → BacklogValue
 backlog_after_take p now v q = record v {
   queues = slice_set v.queues q (drop (suc (drops_at p now v q)) (frames_at v q));
@@ -111,18 +113,16 @@ backlog_after_take p now v q = record v {
       (take (drops_at p now v q) (frames_at v q));
 }
 
--- ---- what it keeps
+-- ---- its invariant
 
 -- the body of a frame has at least one octet, and at most those of the greatest
 abbrev pub IsBodySized : FrameValue → Type 0
 IsBodySized f = (0 < length f.body) × (length f.body ≤ greatest_body)
 
--- the octets are those of the queues, as a list and as the leaves of the tree; the flags tell which queues
--- have frames; the count is that of the queues' frames, and there is room for all
-pub record IsBacklogKept (v : BacklogValue) (octets leaves : List ℕ) (ready : List Bool)
-    (queued : ℕ) : Type 0 where
+-- the leaves of the tree are the octets of the queues; the flags say which queues have frames; the count is
+-- the number of frames in the queues, and there is room for all
+pub record IsBacklogKept (v : BacklogValue) (leaves : List ℕ) (ready : List Bool) (queued : ℕ) : Type 0 where
   pub states : length v.codels ≡ length v.queues
-  pub octets_are : octets ≡ octets_per_queue v
   pub leaves_are : leaves ≡ octets_per_queue v
   pub ready_are : ready ≡ flags v
   pub queued_is : queued ≡ in_queues v

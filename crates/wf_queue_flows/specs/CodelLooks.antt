@@ -1,8 +1,9 @@
--- A look and the start of dropping, by the numbers that the code reads.
+-- Defines a look at a frame and the start of dropping (RFC 8289, section 5.5) by the numbers that the code
+-- reads.
 use Rattle.std.specs.Prelude.{ℕ, ◌+◌, ◌-◌, ◌==◌, ◌*◌, nat_lt, nat_le, false, ◌||◌, ◌&&◌, if◌then◌else◌}
 use Rattle.wf_def_codel.specs.Codel.{Params, Codel, Look, max_packet, recent_intervals, begin_dropping}
 
--- a look at a frame with this stamp, with so many octets behind it
+-- a look at a frame with this stamp and these octets after it
 abbrev pub look_by : Params → ℕ → ℕ → ℕ → ℕ → Look
 look_by p now above stamp left =
     if nat_lt (now - stamp) p.target || nat_le left max_packet then record { first_above = 0; ok = false }

@@ -1,4 +1,4 @@
--- The state of CoDel, from the fields of the code.
+-- Defines the state of CoDel (RFC 8289, section 5.2) from the fields of the code.
 use Rattle.std.specs.Prelude.{◌≤◌, IsTrue}
 use Rattle.wf_def_codel.specs.Codel.{Codel}
 use Rattle.wf_queue_flows.specs.declared.codel.Codel.TheInside.{Inside}
@@ -22,6 +22,6 @@ fields_of c = record {
   dropping = c.dropping;
 }
 
--- while it drops, a frame was dropped: the control law divides by the count
+-- while it drops, at least one frame was dropped, since the control law divides by the count
 abbrev pub CountIsPositive : Inside → Type 0
 CountIsPositive c = IsTrue c.dropping → 1 ≤ c.count

@@ -1,6 +1,6 @@
--- The flow queues: which frames wait in which queue, which TID lists which queues, and how a frame goes in
--- and comes out. "Ending the Anomaly" (USENIX ATC 2017), section 3.1, algorithms 1 and 2; that a queue's
--- deficit is set when it is listed is this project's own rule.
+-- Defines the flow queues of "Ending the Anomaly" (USENIX ATC 2017), section 3.1, algorithms 1 and 2: the
+-- frames in each queue, the queues that each TID lists, and how a frame is put in and taken out. One rule is
+-- this project's own: a queue's deficit is set when the queue is listed.
 use Rattle.std.specs.Prelude.{nat_le, ◌≡◌, ◌<◌, ◌≤◌, ℕ, suc, ◌+◌, ◌*◌, ◌%◌, ◌==◌, nat_lt, ℤ, pos, ◌+ℤ◌, ◌-ℤ◌, Bool, true, not, ◌&&◌, List, [], ◌∷◌, ◌++◌, Option, Some, None, if◌then◌else◌, length, map, filter, replicate, sum_by, slice_index_or, slice_set}
 use Rattle.std.specs.List.{list_any}
 use Rattle.wf_frame.specs.Classes.{tid_number}
@@ -9,8 +9,8 @@ use Rattle.wf_def_lists.specs.Table.{upto}
 use Rattle.wf_frame.specs.declared.settings.Config.{Config}
 use Rattle.wf_def_codel.specs.Codel.{Params, new_codel}
 use Rattle.wf_def_rotation.specs.Rotation.{Rotation, no_keys, has_key, in_order, with_new_key, Picked, pick}
-use Rattle.wf_sched.specs.Lists.{lists_at}
-use Rattle.wf_sched.specs.Rotas.{Rotas, deficit_at, need_at}
+use Rattle.wf_rotation.specs.Lists.{lists_at}
+use Rattle.wf_rotation.specs.Rotas.{Rotas, deficit_at, need_at}
 use Rattle.wf_def_world.specs.World.{Queue}
 use Rattle.wf_def_world.specs.FlowQueues.{longest_of}
 use Rattle.wf_queue_flows.specs.Backlog.{BacklogValue, frames_at, in_queues, first_id, item_of, with_frames, after_head_drop, after_flush, given_at, backlog_after_take}
@@ -25,7 +25,7 @@ pub record FlowsValue : Type 0 where
   pub backlog : BacklogValue
   pub rotas : Rotas
 
--- what no call changes
+-- the settings, which no call changes
 pub record SettingsValue : Type 0 where
   pub flows : ℕ
   pub stations : ℕ
@@ -111,7 +111,7 @@ longest_queue b = longest_of (map as_queue b.queues)
 abbrev pub flows_at_limit : FlowsValue → Bool
 flows_at_limit v = nat_le v.limit (in_queues v.backlog)
 
--- there the head of the longest is dropped as Overlimit
+-- then the head of the longest is dropped as Overlimit
 unfoldable pub after_limit : FlowsValue → FlowsValue
 after_limit v = if flows_at_limit v then record
     v { backlog = after_head_drop v.backlog (longest_queue v.backlog) } else v
@@ -138,7 +138,7 @@ overflow_of_tid v i = v.flows + i
 unfoldable pub queue_for : FlowsValue → ℕ → ℕ → ℕ
 queue_for v i flow = if is_listed_by_another v i (flow % v.flows) then overflow_of_tid v i else flow % v.flows
 
--- the queue goes last on the TID's new list, with a fresh deficit, where it is not listed
+-- the queue goes last on the TID's new list, with a fresh deficit, unless it is listed
 unfoldable pub with_listed_queue : FlowsValue → ℕ → ℕ → FlowsValue
 with_listed_queue v i q =
     if is_listed v i q then v
@@ -179,7 +179,7 @@ after_pick v i = record v {
   };
 }
 
--- what a take leaves and gives
+-- the flow queues after a take, and the frame that it returns
 pub record TakenFromFlows : Type 0 where
   pub flows : FlowsValue
   pub frame : Option FrameValue
@@ -205,7 +205,7 @@ abbrev pub taken_from_picked : FlowsValue → Option ℕ → ℕ → Params → 
 taken_from_picked v None now params = record { flows = v; frame = None }
 taken_from_picked v (Some q) now params = taken_by_codel v q now params (given_at params now v.backlog q)
 
--- the take leaves these flow queues, and gives this frame
+-- the take leaves these flow queues, and returns this frame
 abbrev pub TakeGives : FlowsValue → FrameValue → TakenFromFlows → Type 0
 TakeGives after f t = (after ≡ t.flows) × (Some f ≡ t.frame)
 

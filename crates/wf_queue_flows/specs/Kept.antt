@@ -1,15 +1,16 @@
--- What the flow queues keep.
+-- Defines the invariant of the flow queues of "Ending the Anomaly" (USENIX ATC 2017), section 3.1: who lists
+-- a queue, and the numbers of frames.
 use Rattle.std.specs.Prelude.{◌≡◌, ℕ, ◌+◌, ◌*◌, ◌<◌, ◌≤◌, pos, ◌-ℤ◌, ◌+ℤ◌, ◌≤ℤ◌, Option, IfSome, Bool, true, List, length, map, filter, nat_le, slice_index_or, slice_set, [], get_or}
 use Rattle.wf_frame.specs.Frames.{FrameValue}
 use Rattle.wf_def_lists.specs.Lengths.{greatest_body}
 use Rattle.wf_def_lists.specs.Table.{upto}
 use Rattle.wf_def_rotation.specs.Rotation.{Rotation, has_key as lists_of, in_order, without_key}
-use Rattle.wf_sched.specs.Lists.{AreDisjoint, lists_at, on_at}
-use Rattle.wf_sched.specs.Rotas.{Rotas, deficit_at, quantum_at, picked_at, is_ready as is_ready_of}
+use Rattle.wf_rotation.specs.Lists.{AreDisjoint, lists_at, on_at}
+use Rattle.wf_rotation.specs.Rotas.{Rotas, deficit_at, quantum_at, picked_at, is_ready as is_ready_of}
 use Rattle.wf_queue_flows.specs.Backlog.{after_flush}
 use Rattle.wf_queue_flows.specs.Flows.{FlowsValue, tid_rotation, is_listed, frames_waiting, all_flushed}
 
--- how many frames wait in a queue
+-- the number of frames in a queue
 abbrev pub depth : List (List FrameValue) → ℕ → ℕ
 depth all q = length (slice_index_or all q [])
 
@@ -66,7 +67,7 @@ purged_below v i k = record v {
   rotas = record v.rotas { lists = slice_set v.rotas.lists i (rest_from k (tid_rotation v i)) };
 }
 
--- a pick of one rotation, as the rotations' contract has it
+-- a pick of one rotation, as in the contract of `Rota::pick`
 pub record IsPickOfOne (before : Rotas) (ready : List Bool) (list : ℕ) (after : Rotas)
     (winner : Option ℕ) : Type 0 where
   pub winner_is : winner ≡ (picked_at before ready list).winner

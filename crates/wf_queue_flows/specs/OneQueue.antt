@@ -1,10 +1,10 @@
--- One queue of a backlog, as CoDel's lane.
+-- Defines one queue of a backlog as CoDel's lane (RFC 8289, section 5.5).
 use Rattle.std.specs.Prelude.{◌≡◌, ℕ, []}
 use Rattle.std.proofs.Common.{refl, ◌∙◌}
 use Rattle.wf_queue_flows.specs.Backlog.{BacklogValue, with_frames}
 use Rattle.wf_queue_flows.specs.declared.lane.OneQueue.{OneQueue}
 
--- all that a lane on queue q leaves as it was
+-- the parts of a backlog that a lane on queue q does not change
 abbrev pub elsewhere : BacklogValue → ℕ → BacklogValue
 elsewhere v q = record (with_frames v q []) { finished = [] }
 

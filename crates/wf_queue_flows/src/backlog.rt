@@ -1,8 +1,8 @@
 //! Numbered queues of parcels, each with a CoDel state, and the list of the finished parcels.
 
-ghost use Rattle.std.specs.Prelude.{◌≡◌, ◌+◌, ◌<◌, ◌≤◌, ◌↔◌, [], ◌∷◌, ◌++◌, Some, length, replicate, is_some, if◌then◌else◌, IfOk, IfNone, IfSome, IsNone, MatchOption};
+ghost use Rattle.std.specs.Prelude.{◌≡◌, ◌+◌, ◌^◌, true, slice_index, slice_set, ◌<◌, ◌≤◌, ◌↔◌, [], ◌∷◌, ◌++◌, Some, length, replicate, is_some, if◌then◌else◌, IfOk, IfNone, IfSome, IsNone, MatchOption};
 ghost use Rattle.wf_def_codel.specs.Codel.{new_codel};
-ghost use Rattle.wf_queue_flows.specs.Backlog.{frames_at, in_queues, held_in_backlog, spare_of, first_id, frame_with_fate, with_frames, after_head_drop, after_flush, IsLongest};
+ghost use Rattle.wf_queue_flows.specs.Backlog.{is_some_frame, frames_at, in_queues, held_in_backlog, spare_of, first_id, frame_with_fate, with_frames, after_head_drop, after_flush, IsLongest};
 ghost use Rattle.wf_queue_flows.specs.Flows.{longest_queue};
 
 use crate::codel::Codel;
@@ -13,20 +13,18 @@ use wf_queue_parts::chain::{Chain, Parcel};
 use wf_queue_parts::peak::Peak;
 
 /// Numbered queues of parcels, each with a CoDel state, and the list of the finished parcels. Together they
-/// hold at most `room` parcels. Which queue is the longest, and which have frames, is known at each moment.
-/// No call but `new` takes memory.
+/// hold at most `room` parcels. The longest queue, and the queues that have frames, are known at each moment.
+/// Only `new` allocates.
 #[derive(Drop)]
 pub struct Backlog {
     queues: Vec<Chain>,
-    /// The sum of the body lengths of each queue's frames, in octets.
-    pub(crate) octets: Vec<u64>,
-    /// The same octets, of which the greatest is known.
-    longest: Peak,
+    /// For each queue the sum of the body lengths of its frames, in octets.
+    pub(crate) octets: Peak,
     /// Whether each queue has frames.
     pub(crate) ready: Vec<bool>,
     pub(crate) codels: Vec<Codel>,
     finished: Chain,
-    /// How many parcels are in the queues.
+    /// The number of parcels in the queues.
     pub(crate) queued: u32,
     room: u32,
 }
@@ -35,7 +33,7 @@ pub struct Backlog {
 #[derive(Drop)]
 pub struct Taken {
     pub parcel: Parcel,
-    /// How many that stood before it CoDel dropped.
+    /// The number of parcels before it that CoDel dropped.
     pub dropped: u32,
 }
 
@@ -57,10 +55,10 @@ impl Model for Backlog {
           queues = b.queues.items;
           codels = b.codels.items;
           finished = b.finished;
-        }) b.octets.items b.longest b.ready.items b.queued };
+        }) b.octets b.ready.items b.queued };
 }
 
-// The parcel, once its frame has this fate.
+/// Returns the parcel with this fate of its frame.
 pub(crate) fn settle(mut parcel: Parcel, fate: Fate) -> Parcel
     ensures { result ≡ frame_with_fate fate parcel }
 {
@@ -68,7 +66,37 @@ pub(crate) fn settle(mut parcel: Parcel, fate: Fate) -> Parcel
     parcel
 }
 
-// So many empty chains.
+/// Takes the first parcel of a queue that has one, and sets whether it has more.
+fn take_head(queue: &mut Chain, ready: &mut bool) -> Parcel
+    requires { 0 < length queue.old }
+    ensures first { queue.old ≡ result ∷ queue.new }
+    ensures flag { ready.new ≡ is_some_frame queue.new }
+{
+    let parcel = queue.pop_front().unwrap();
+    *ready = queue.len() != 0;
+    parcel
+}
+
+/// Puts a parcel last in a queue, and sets that the queue has frames.
+fn put_last(queue: &mut Chain, ready: &mut bool, parcel: Parcel)
+    requires { length queue.old + 1 < 2 ^ 32 }
+    ensures last { queue.new ≡ queue.old ++ parcel ∷ [] }
+    ensures flag { ready.new ≡ true }
+{
+    queue.push_back(parcel);
+    *ready = true;
+}
+
+/// Returns the octets of queue `to` once those of queue `from`, which may be the same, are `left`.
+fn octets_then(octets: &Peak, from: u32, left: u64, to: u32) -> u64
+    requires from { from < length octets.now }
+    requires to { to < length octets.now }
+    ensures { result ≡ slice_index (slice_set octets.now from left) to }
+{
+    if from == to { left } else { octets.value(to) }
+}
+
+/// Returns `queues` empty chains. Fails if there is no memory.
 fn empty_queues(alloc: Global, queues: u32) -> Result<Vec<Chain>, AllocError>
     ensures { IfOk result (λ made. made.items ≡ replicate queues []) }
 {
@@ -80,7 +108,8 @@ fn empty_queues(alloc: Global, queues: u32) -> Result<Vec<Chain>, AllocError>
 }
 
 impl Backlog {
-    /// Empty queues, numbered from 0, with new CoDel states, and no finished parcel.
+    /// Creates 1 to 65,536 empty queues, numbered from 0, with new CoDel states and no finished parcel. Fails
+    /// if there is no memory.
     pub fn new(alloc: Global, queues: u32, room: u32) -> Result<Backlog, AllocError>
         requires some { 1 ≤ queues }
         requires small { queues ≤ 65536 }
@@ -92,15 +121,13 @@ impl Backlog {
         }) }
     {
         let count = queues as usize;
-        let octets = vec![in alloc; 0; count]?;
-        let longest = Peak::new(alloc, queues)?;
+        let octets = Peak::new(alloc, queues)?;
         let ready = vec![in alloc; false; count]?;
         let codels = vec![in alloc; Codel::new(); count]?;
         let queues = empty_queues(alloc, queues)?;
         Ok(Backlog {
             queues,
             octets,
-            longest,
             ready,
             codels,
             finished: Chain::new(),
@@ -117,15 +144,13 @@ impl Backlog {
         ensures held { held_in_backlog self.new ≡ held_in_backlog self.old + 1 }
     {
         let at = q as usize;
-        let octets = self.octets[at] + u64::from(parcel.frame().len());
-        self.queues[at].push_back(parcel);
-        self.octets[at] = octets;
-        self.longest.set(q, octets);
-        self.ready[at] = true;
+        let octets = self.octets.value(q) + u64::from(parcel.frame().len());
+        put_last(&mut self.queues[at], &mut self.ready[at], parcel);
+        self.octets.set(q, octets);
         self.queued += 1;
     }
 
-    /// Takes the first parcel of a queue; None exactly where the queue is empty.
+    /// Takes the first parcel of a queue, or returns None if the queue is empty.
     pub(crate) fn pop(&mut self, q: u32) -> Option<Parcel>
         requires { q < length self.old.queues }
         ensures first { MatchOption result ((frames_at self.old q ≡ []) × (self.new ≡ self.old))
@@ -134,21 +159,20 @@ impl Backlog {
         ensures spare { spare_of self.new ≡
             (if is_some result then spare_of self.old + 1 else spare_of self.old) }
     {
+        if self.count(q) == 0 {
+            return None;
+        }
         let at = q as usize;
-        let queue = &mut self.queues[at];
-        let parcel = queue.pop_front()?;
-        let left = queue.len();
-        let octets = self.octets[at] - u64::from(parcel.frame().len());
-        self.octets[at] = octets;
-        self.longest.set(q, octets);
-        self.ready[at] = left != 0;
+        let parcel = take_head(&mut self.queues[at], &mut self.ready[at]);
+        let octets = self.octets.value(q) - u64::from(parcel.frame().len());
+        self.octets.set(q, octets);
         self.queued -= 1;
         Some(parcel)
     }
 
     /// Drops the first frame of a queue for the limit: it goes last on the finished list as
-    /// `Dropped(Overlimit)`. Then puts a parcel last in a queue, the same or another. Gives the id of the
-    /// frame that is dropped.
+    /// `Dropped(Overlimit)`. Then puts a parcel last in a queue, the same or another. Returns the id of the
+    /// dropped frame. The tournament is played once for both queues, so this costs hardly more than a `push`.
     pub fn exchange(&mut self, from: u32, to: u32, parcel: Parcel) -> u64
         requires from { from < length self.old.queues }
         requires to { to < length self.old.queues }
@@ -160,24 +184,19 @@ impl Backlog {
         ensures held { held_in_backlog self.new ≡ held_in_backlog self.old + 1 }
     {
         let (source, target) = (from as usize, to as usize);
-        let queue = &mut self.queues[source];
-        let head = queue.pop_front().unwrap();
-        let count = queue.len();
-        let left = self.octets[source] - u64::from(head.frame().len());
-        self.octets[source] = left;
-        self.ready[source] = count != 0;
-        let more = self.octets[target] + u64::from(parcel.frame().len());
-        self.queues[target].push_back(parcel);
-        self.octets[target] = more;
-        self.ready[target] = true;
-        self.longest.set_both(from, left, to, more);
+        let head = take_head(&mut self.queues[source], &mut self.ready[source]);
+        let left = self.octets.value(from) - u64::from(head.frame().len());
+        let before = octets_then(&self.octets, from, left, to);
+        let more = before + u64::from(parcel.frame().len());
+        put_last(&mut self.queues[target], &mut self.ready[target], parcel);
+        self.octets.set_both(from, left, to, more);
         let id = head.frame().id();
         self.finish(settle(head, Fate::Dropped(Cause::Overlimit)));
         id
     }
 
-    /// Drops all frames of a queue since their station left: from its head on they go last on the finished
-    /// list as `Dropped(Left)`, and its CoDel state becomes new. Gives their count.
+    /// Drops all frames of a queue, since their station left: from the head on they go last on the finished
+    /// list as `Dropped(Left)`, and the queue's CoDel state becomes new. Returns their number.
     pub fn flush(&mut self, q: u32) -> u32
         requires { q < length self.old.queues }
         ensures count { result ≡ length (frames_at self.old q) }
@@ -192,7 +211,7 @@ impl Backlog {
         count
     }
 
-    /// Puts a parcel last on the finished list, as it is.
+    /// Puts a parcel, unchanged, last on the finished list.
     pub fn finish(&mut self, parcel: Parcel)
         requires { held_in_backlog self.old < self.old.room }
         ensures finished { self.new ≡ record self.old { finished = self.old.finished ++ parcel ∷ [] } }
@@ -201,7 +220,7 @@ impl Backlog {
         self.finished.push_back(parcel);
     }
 
-    /// Takes the first parcel of the finished list; None exactly where that is empty.
+    /// Takes the first parcel of the finished list, or returns None if the list is empty.
     pub fn reap(&mut self) -> Option<Parcel>
         ensures first { MatchOption result (self.old.finished ≡ [])
             (λ p. self.old.finished ≡ p ∷ self.new.finished) }
@@ -213,7 +232,7 @@ impl Backlog {
         self.finished.pop_front()
     }
 
-    /// How many frames a queue has.
+    /// Returns the number of frames in a queue.
     pub fn count(&self, q: u32) -> u32
         requires { q < length self.now.queues }
         ensures { result ≡ length (frames_at self.now q) }
@@ -221,7 +240,7 @@ impl Backlog {
         self.queues[q as usize].len()
     }
 
-    /// How many frames there are in all queues.
+    /// Returns the number of frames in all queues.
     pub fn total(&self) -> u32
         ensures count { result ≡ in_queues self.now }
         ensures room { held_in_backlog self.now ≤ self.now.room }
@@ -229,7 +248,8 @@ impl Backlog {
         self.queued
     }
 
-    /// The queue with the most octets, the least number on a tie; None exactly where all queues are empty.
+    /// Returns the queue with the most octets, the least number on a tie, or None if all queues are empty.
+    /// Constant time.
     pub fn longest(&self) -> Option<u32>
         ensures none { IsNone result ↔ (in_queues self.now ≡ 0) }
         ensures some { IfSome result (λ q. q ≡ longest_queue self.now) }
@@ -237,6 +257,6 @@ impl Backlog {
         ensures within { IfSome result (λ q. q < length self.now.queues) }
         ensures has_frames { IfSome result (λ q. 0 < length (frames_at self.now q)) }
     {
-        self.longest.best()
+        self.octets.best()
     }
 }

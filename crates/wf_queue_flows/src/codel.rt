@@ -1,5 +1,5 @@
-//! CoDel (RFC 8289) over any lane of frames, with MAXPACKET 2304 octets. Times are microseconds, lengths
-//! octets.
+//! CoDel (RFC 8289, section 5) over any lane of frames, with MAXPACKET 2,304 octets. Times are in
+//! microseconds, lengths in octets.
 
 ghost use Rattle.std.specs.Prelude.{◌≡◌, ℕ, List, ◌+◌, ◌*◌, ◌/◌, ◌<◌, ◌≤◌, ◌↔◌, ◌^◌, [], ◌∷◌, ◌++◌, IsTrue, IfSome, IsNone, MatchOption, map, take, if◌then◌else◌, is_some};
 ghost use Rattle.std.specs.Option.{option_map};
@@ -12,10 +12,10 @@ ghost use Rattle.wf_queue_flows.specs.CodelParams.{params_of};
 use std::marker::Model;
 use wf_air::time::Rate;
 
-/// The greatest body of a frame, in octets: where no more is left, nothing is dropped (MAXPACKET).
+/// The greatest body of a frame, in octets (MAXPACKET). If no more octets are left, nothing is dropped.
 const MAX_PACKET: u64 = 2304;
 
-/// A station at a rate of fewer kbit/s is slow.
+/// The rate, in kbit/s, below which a station is slow.
 const SLOW_BELOW: u32 = 12_000;
 
 /// The target and the interval of a station that is not slow, in microseconds.
@@ -28,12 +28,12 @@ const SLOW_TARGET: u32 = 50_000;
 
 const SLOW_INTERVAL: u32 = 300_000;
 
-/// For how many intervals after the time of the last drop dropping begins again at the rate that it had (RFC
-/// 8289, 5.5).
+/// The number of intervals after the last drop within which dropping begins again near its last rate (RFC
+/// 8289, section 5.5).
 const RECENT_INTERVALS: u64 = 16;
 
-/// How much later the next drop is due: the greatest d with `d*d*count <= interval*interval`, the interval
-/// over the root of the count, rounded down (control_law of RFC 8289, 5.6).
+/// Returns the time from one drop to the next: the interval over the square root of the count, rounded down
+/// (control_law of RFC 8289, section 5.6). It is the greatest d with `d*d*count <= interval*interval`.
 pub fn root_step(interval: u32, count: u32) -> u64
     requires { 1 ≤ count }
     ensures greatest { IsGreatestStep interval count result }
@@ -43,22 +43,24 @@ pub fn root_step(interval: u32, count: u32) -> u64
     (interval as u64 * interval as u64 / count as u64).isqrt()
 }
 
-/// What CoDel looks at: when a frame was queued, and how many octets stand behind it.
+/// The two numbers that CoDel reads for a frame.
 #[derive(Clone, Copy, Debug, PartialEq, Eq)]
 pub struct Sight {
+    /// The time at which the frame was queued.
     pub stamp: u64,
+    /// The octets of the frames after it in the lane.
     pub left: u64,
 }
 
-/// A queue of frames in order, and a place for those that are thrown away.
+/// A queue of frames in order, and a list of the frames that are discarded.
 pub trait Lane {
-    /// A frame as the lane holds it.
+    /// A frame as the lane stores it.
     type Item;
 
-    // What CoDel sees of an item: its id, its stamp and its length.
+    // The parts of an item that CoDel reads: its id, its stamp and its length.
     ghost look: { Self.Item → Seen };
 
-    // An item as it stands once it is discarded.
+    // An item after it is discarded.
     ghost tossed: { Self.Item → Self.Item };
 
     // The items still in the lane.
@@ -67,14 +69,14 @@ pub trait Lane {
     // The items that were discarded.
     ghost thrown: { Self → List Self.Item };
 
-    // All else that the lane holds is the same.
+    // The rest of the lane is the same.
     ghost same: { Self → Self → Type 0 };
 
     // How many items may still be discarded.
     ghost spare: { Self → ℕ };
 
-    /// Takes the first item, where there is one, and tells when it was queued and the octets of the items
-    /// still in the lane; it may then be discarded.
+    /// Takes the first item, or returns None if there is none. Also returns the time at which it was queued
+    /// and the octets of the items still in the lane. The item may then be discarded.
     fn pop(&mut self) -> Option<(Self::Item, Sight)>
         ensures first { MatchOption result
             ((rest self.old ≡ []) × (rest self.new ≡ []))
@@ -85,7 +87,7 @@ pub trait Lane {
         ensures thrown { thrown self.new ≡ thrown self.old }
         ensures same { same self.old self.new };
 
-    /// Throws an item away, last behind those thrown away before; one may be discarded for each that was
+    /// Puts an item last on the list of the discarded items. One item may be discarded for each that was
     /// popped.
     fn discard(&mut self, item: Self::Item)
         requires { 1 ≤ spare self.old }
@@ -101,8 +103,7 @@ pub trait Lane {
     ghost tossed_look: { (x : Self.Item) → look (tossed x) ≡ look x };
 }
 
-/// How long a frame may wait (the target), and for how long frames have to wait longer before one is dropped
-/// (the interval).
+/// CoDel's parameters, in microseconds (RFC 8289, section 4).
 #[derive(Clone, Copy)]
 pub struct Params {
     pub target: u32,
@@ -110,8 +111,8 @@ pub struct Params {
 }
 
 impl Params {
-    /// The parameters of a station of this rate, in microseconds: 20,000 and 100,000, and 50,000 and 300,000
-    /// below 12,000 kbit/s.
+    /// Returns the parameters of a station of this rate: a target of 20,000 and an interval of 100,000, or of
+    /// 50,000 and 300,000 if the rate is below 12,000 kbit/s ("Ending the Anomaly", section 3.1).
     pub fn of(rate: Rate) -> Params
         ensures { params_of result ≡ params_at rate }
     {
@@ -129,7 +130,7 @@ impl Params {
     }
 }
 
-/// The state of CoDel on one lane.
+/// The state of CoDel on one lane (RFC 8289, section 5.2).
 #[derive(Clone, Copy)]
 pub struct Codel {
     first_above: u64,
@@ -153,7 +154,7 @@ impl Model for Codel {
     ghost inverse = { fields_of };
 }
 
-// What a look makes of `first_above`, and whether it is ok.
+// Returns `first_above` after a look at a frame, and whether the frame may be dropped (RFC 8289, dodequeue).
 fn look(first_above: u64, now: u64, params: Params, sight: Sight) -> (u64, bool)
     requires { now < 2 ^ 62 }
     ensures above { result.0 ≡
@@ -169,7 +170,7 @@ fn look(first_above: u64, now: u64, params: Params, sight: Sight) -> (u64, bool)
     (first_above, first_above <= now)
 }
 
-// The count with which dropping begins again.
+// Returns the count with which dropping begins again.
 fn count_of_start(count: u32, last_count: u32, drop_next: u64, now: u64, params: Params) -> u32
     ensures value { result ≡ count_again (params_of params) now count last_count drop_next }
     ensures positive { 1 ≤ result }
@@ -182,7 +183,7 @@ fn count_of_start(count: u32, last_count: u32, drop_next: u64, now: u64, params:
 }
 
 impl Codel {
-    /// The state of a lane that nothing was taken from.
+    /// Returns the state of a lane from which nothing was taken.
     pub fn new() -> Codel
         ensures { result ≡ new_codel }
     {
@@ -195,9 +196,9 @@ impl Codel {
         }
     }
 
-    /// Takes a frame from the lane: those before it that have waited too long are thrown away. `now` is the
-    /// clock, below 2^62. A lane with frames always gives one, since nothing is dropped where at most 2304
-    /// octets are left.
+    /// Takes a frame from the lane (dequeue of RFC 8289, section 5.5): the frames before it that have waited
+    /// too long are discarded. `now` is the clock, below 2^62. Returns None only if the lane is empty, since
+    /// nothing is dropped if at most 2,304 octets are left.
     pub fn dequeue<L: Lane>(&mut self, now: u64, params: Params, lane: &mut L) -> Option<L::Item>
         requires { now < 2 ^ 62 }
         ensures taken { let queue = map L.look (L.rest lane.old) in
@@ -206,7 +207,7 @@ impl Codel {
             (L.thrown lane.new) dropped result }
         ensures state { self.new ≡ state_after (params_of params) now self.old
             (map L.look (L.rest lane.old)) }
-        // the whole, as CoDel's definition has it
+        // the whole dequeue, as in CoDel's definition
         ensures seen { let queue = map L.look (L.rest lane.old) in
             let dropped = drops (params_of params) now self.old queue in
             dequeue (params_of params) now self.old queue ≡ record {
@@ -248,7 +249,7 @@ impl Codel {
         }
     }
 
-    // The rest of a dequeue while dropping, whose look 0 is at `first`.
+    // Completes a dequeue while dropping, whose first look is at `first`.
     fn keep_dropping<L: Lane>(
         &mut self,
         now: u64,
@@ -303,7 +304,7 @@ impl Codel {
         }
     }
 
-    // Dropping begins after one drop.
+    // Begins to drop, after one drop.
     fn start(&mut self, now: u64, params: Params, first_above: u64)
         requires { now < 2 ^ 62 }
         ensures { self.new ≡ started (params_of params) now self.old first_above }

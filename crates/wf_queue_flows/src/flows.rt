@@ -1,4 +1,4 @@
-//! Putting frames into the flow queues, and taking them out.
+//! The flow queues: frames are put in, taken out and purged.
 
 ghost use Rattle.std.specs.Prelude.{◌≡◌, ℕ, ◌+◌, ◌<◌, ◌≤◌, ◌^◌, ◌↔◌, true, false, length, [], ◌∷◌, ◌++◌, IfOk, IfSome, IfNone, OnSome, IsSome, MatchOption, Some, None, option_map};
 ghost use Rattle.wf_frame.specs.Settings.{first_out_of_range};
@@ -14,9 +14,9 @@ use std::alloc::{AllocError, Global};
 use std::marker::Model;
 use wf_frame::{Config, tid_number};
 use wf_queue_parts::chain::Parcel;
-use wf_sched::rotation::Rota;
+use wf_rotation::Rota;
 
-/// A frame that was dropped for the limit, and whose it was.
+/// A frame that was dropped for the limit, with its station and TID.
 #[derive(Clone, Copy)]
 pub struct Lost {
     pub id: u64,
@@ -24,17 +24,17 @@ pub struct Lost {
     pub tid: u8,
 }
 
-/// A queue, and the number of the TID that lists it.
+/// A queue, and the number of the TID that lists it: 8 times the station plus the TID.
 #[derive(Clone, Copy)]
 struct Listed {
     list: u32,
     queue: u32,
 }
 
-/// The flow queues of all stations, and the list of the frames that are finished.
+/// The flow queues of all stations, and the list of the finished frames.
 ///
-/// There are `flows` queues for all, and one more for each TID, its overflow queue. A queue belongs to the
-/// TID whose rotation lists it.
+/// There are `flows` queues that all TIDs share, and one more for each TID, its overflow queue. A queue
+/// belongs to the TID whose rotation lists it ("Ending the Anomaly", section 3.1).
 #[derive(Drop)]
 pub struct Flows {
     flows: u32,
@@ -73,8 +73,8 @@ impl Model for Flows {
 }
 
 impl Flows {
-    /// No frame, with the numbers of stations and queues, the limit, the room and the flow quantum of these
-    /// settings.
+    /// Creates empty flow queues with the numbers of stations and queues, the limit, the room and the flow
+    /// quantum of these settings. Fails if there is no memory. No other call allocates.
     pub fn new(alloc: Global, config: Config) -> Result<Flows, AllocError>
         requires { first_out_of_range config ≡ None }
         ensures made { IfOk result (λ f. f ≡ empty_flows config) }
@@ -96,7 +96,7 @@ impl Flows {
         })
     }
 
-    /// How many frames of a TID are in queues.
+    /// Returns the number of frames of a TID in the queues.
     pub fn queued(&self, station: u16, tid: u8) -> u32
         requires station { station < self.now.stations }
         requires tid { tid < 8 }
@@ -105,9 +105,8 @@ impl Flows {
         self.queued[tid_number(station, tid) as usize]
     }
 
-    /// How many frames are in queues, those of all TIDs. For whoever uses the queues alone and shows how full
-    /// they are; the contract says too what the queues keep at each moment, that a queue with frames is
-    /// listed by exactly one TID.
+    /// Returns the number of frames of all TIDs in the queues. The contract also states what holds at each
+    /// moment: exactly one TID lists a queue that has frames.
     pub fn total(&self) -> u32
         ensures total { result ≡ in_queues self.now.backlog }
         ensures listed { AreListedOnce self.now }
@@ -115,9 +114,10 @@ impl Flows {
         self.waiting.total()
     }
 
-    /// Puts a frame into a queue of its station and TID, and tells which frame is dropped for the limit, and
-    /// whose: where the queues hold `limit` frames or more, the head of the longest; else None. The queue is
-    /// the flow's number modulo `flows`, or the TID's overflow queue where another TID lists that queue.
+    /// Puts a frame into a queue of its station and TID (algorithm 1 of "Ending the Anomaly"). The queue is
+    /// the flow's number modulo `flows`, or the TID's overflow queue if another TID lists that queue. If the
+    /// queues already hold `limit` frames or more, the head of the longest queue is dropped and returned;
+    /// else this returns None. `now` is the clock in microseconds, which is the frame's stamp.
     pub fn put(&mut self, parcel: Parcel, now: u64) -> Option<Lost>
         requires station { parcel.station < self.old.stations }
         requires tid { parcel.tid < 8 }
@@ -150,10 +150,10 @@ impl Flows {
         }
     }
 
-    /// Takes a frame of a TID out, by deficit rounds among its queues and CoDel on the queue that is picked,
-    /// and tells how many frames CoDel dropped; `now` is the clock in microseconds. None exactly where no
-    /// frame of the TID is in a queue, and then nothing changes: an emptied queue stays listed until a later
-    /// take passes over it.
+    /// Takes a frame of a TID out (algorithm 2 of "Ending the Anomaly"): deficit round robin picks one of its
+    /// queues, and CoDel takes a frame from that queue. Also returns the number of frames that CoDel dropped.
+    /// `now` is the clock in microseconds, below 2^62. Returns None if the TID has no frame in a queue; then
+    /// nothing changes, and an emptied queue stays listed until a later take passes over it.
     pub fn take(&mut self, station: u16, tid: u8, now: u64, params: Params) -> Option<Taken>
         requires station { station < self.old.stations }
         requires tid { tid < 8 }
@@ -188,12 +188,12 @@ impl Flows {
         Some(taken)
     }
 
-    /// Drops all frames of a TID as its station leaves, and gives their count. They go last on the finished
-    /// list, by queue number, each queue from its head. The TID's queues leave its rotation, and their CoDel
-    /// states become new.
+    /// Drops all frames of a TID whose station leaves, and returns their number. They go last on the finished
+    /// list as `Dropped(Left)`, in the order of queue numbers and each queue from its head. The TID's queues
+    /// leave its rotation, and their CoDel states become new.
     ///
-    /// It looks for the least of the TID's queues until it has none, so a TID without queues costs next to
-    /// nothing, and the frames go by rising queue number.
+    /// It purges the least of the TID's queues until the TID has none. A TID without queues takes constant
+    /// time.
     pub fn purge(&mut self, station: u16, tid: u8) -> u32
         requires station { station < self.old.stations }
         requires tid { tid < 8 }
@@ -210,7 +210,7 @@ impl Flows {
         count
     }
 
-    /// Puts a frame last on the finished list.
+    /// Puts a frame last on the finished list, unchanged.
     pub fn finish(&mut self, parcel: Parcel)
         requires { held_in_backlog self.old.backlog < self.old.backlog.room }
         ensures { self.new ≡ record self.old {
@@ -220,7 +220,7 @@ impl Flows {
         self.waiting.finish(parcel);
     }
 
-    /// Takes the first frame off the finished list; None exactly where it is empty.
+    /// Takes the first frame off the finished list, or returns None if the list is empty.
     pub fn reap(&mut self) -> Option<Parcel>
         ensures first { MatchOption result (self.old.backlog.finished ≡ [])
             (λ p. self.old.backlog.finished ≡ p ∷ self.new.backlog.finished) }
@@ -232,7 +232,7 @@ impl Flows {
         self.waiting.reap()
     }
 
-    // Where the queues hold `limit` frames or more: the longest, whose head is to be dropped.
+    // Returns the longest queue if the queues hold `limit` frames or more; its head is to be dropped.
     fn over_limit(&self) -> Option<Listed>
         ensures roomy { IfNone result (flows_at_limit self.now ≡ false) }
         ensures full { IfSome result (λ _. flows_at_limit self.now ≡ true) }
@@ -253,8 +253,7 @@ impl Flows {
         Some(Listed { list, queue: q })
     }
 
-    // Drops the head of a queue for the limit and appends a frame to a queue. Tells which frame was dropped
-    // and whose.
+    // Drops the head of a queue for the limit, and puts a frame last in a queue. Returns the dropped frame.
     fn exchange(&mut self, from: Listed, to: Listed, parcel: Parcel) -> Lost
         requires loser { from.list < tids self.old }
         requires from { from.queue < queues self.old }
@@ -282,7 +281,7 @@ impl Flows {
         }
     }
 
-    // Whether another TID lists a queue.
+    // Returns whether another TID lists a queue. Constant time.
     fn is_listed_elsewhere(&self, list: u32, q: u32) -> bool
         requires list { list < tids self.now }
         requires queue { q < queues self.now }
@@ -294,8 +293,8 @@ impl Flows {
         }
     }
 
-    // The queue for a frame of a flow: the shared one, or the overflow queue of the TID where another TID
-    // lists that one.
+    // Returns the queue for a frame of a flow: the shared queue, or the overflow queue of the TID if another
+    // TID lists the shared one.
     fn queue_for(&self, list: u32, flow: u32) -> u32
         requires { list < tids self.now }
         ensures queue { result ≡ queue_for self.now list flow }
@@ -310,7 +309,7 @@ impl Flows {
         }
     }
 
-    // Lists a queue that no other TID lists, with a fresh deficit, where it is not listed.
+    // Lists a queue that no other TID lists, with a fresh deficit, unless it is listed already.
     fn list_queue(&mut self, list: u32, q: u32)
         requires list { list < tids self.old }
         requires queue { q < queues self.old }
@@ -328,7 +327,7 @@ impl Flows {
         }
     }
 
-    // Appends a frame to a queue that its TID lists.
+    // Puts a frame last in a queue that its TID lists.
     fn append(&mut self, list: u32, q: u32, parcel: Parcel)
         requires list { list < tids self.old }
         requires queue { q < queues self.old }

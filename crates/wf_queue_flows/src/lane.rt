@@ -9,7 +9,7 @@ use crate::codel::{Lane, Params, Sight};
 use wf_frame::{Cause, Fate};
 use wf_queue_parts::chain::Parcel;
 
-/// One queue of a backlog. What it discards goes last on the finished list, as dropped by CoDel.
+/// One queue of a backlog. The frames that it discards go last on the finished list as `Dropped(Codel)`.
 #[derive(Drop)]
 struct OneQueue<'a> {
     backlog: &'a mut Backlog,
@@ -50,7 +50,7 @@ impl<'a> Lane for OneQueue<'a> {
         let backlog: &Backlog = self.backlog;
         let sight = Sight {
             stamp: parcel.frame().stamp(),
-            left: backlog.octets[self.queue as usize],
+            left: backlog.octets.value(self.queue),
         };
         Some((parcel, sight))
     }
@@ -62,10 +62,10 @@ impl<'a> Lane for OneQueue<'a> {
 }
 
 impl Backlog {
-    /// Takes a parcel from a queue by CoDel (RFC 8289). The frames that have waited too long go in order last
-    /// on the finished list as `Dropped(Codel)`, and the one behind them is given; None exactly where the
-    /// queue is empty. `now` is the clock in microseconds, below 2^62; a frame whose stamp is past it has
-    /// waited for 0.
+    /// Takes a parcel from a queue by CoDel (RFC 8289, section 5.5), or returns None if the queue is empty.
+    /// The frames before it that have waited too long go in order last on the finished list as
+    /// `Dropped(Codel)`. `now` is the clock in microseconds, below 2^62; a frame whose stamp is past the
+    /// clock has waited for 0.
     pub fn take(&mut self, q: u32, now: u64, params: Params) -> Option<Taken>
         requires queue { q < length self.old.queues }
         requires time { now < 2 ^ 62 }

@@ -1,13 +1,19 @@
-//! The flow queues of "Ending the Anomaly" (USENIX ATC 2017): whose queue is whose, the TIDs' rotations, the
-//! limit, and `put`, `take` and `purge` as the paper's enqueue and dequeue, exactly. Flows are hashed into
-//! shared queues, each queue belongs to the TID whose rotation lists it, CoDel takes the frames out, and the
-//! longest queue's head goes where there are too many.
+//! The flow queues of "Ending the Anomaly" (USENIX ATC 2017, section 3.1, algorithms 1 and 2), with CoDel
+//! (RFC 8289). `Flows::put` is the paper's enqueue, `Flows::take` its dequeue, and `Flows::purge` drops the
+//! frames of a TID whose station leaves; the contracts state each exactly. A flow's number selects a shared
+//! queue, a queue belongs to the TID whose rotation lists it, CoDel takes the frames out, and at the limit
+//! the head of the longest queue is dropped.
 //!
-//! Below them lie the numbered queues (`backlog`), each with a CoDel state, and the list of the finished
-//! frames, with one shared room. The longest queue is known at each moment. A take is CoDel's dequeue on one
-//! queue, through a private lane.
+//! ```text
+//! let mut flows = Flows::new(alloc, config)?;
+//! let lost = flows.put(parcel, now);              // Some(lost) if the limit drops a frame
+//! let taken = flows.take(station, tid, now, params);
+//! while let Some(parcel) = flows.reap() { .. }    // the frames that were dropped or are finished
+//! ```
 //!
-//! CoDel itself, over any lane of frames, is the module `codel`.
+//! A `Flows` holds a `Backlog`: the numbered queues, each with a CoDel state, and the list of the finished
+//! frames, with one shared room. The longest queue is known at each moment. CoDel itself, over any lane of
+//! frames, is the module `codel`.
 #![tactic(auto)]
 
 ghost use Rattle.std.specs.Prelude.{◌≡◌, ℕ};
@@ -24,7 +30,8 @@ mod lane;
 pub use backlog::{Backlog, Taken};
 pub use flows::{Flows, Lost};
 
-/// The longest queue is that of a world in which each queue has as many octets.
+/// States that the longest queue of a backlog is the longest queue of each world whose queues have the same
+/// octets.
 pub fn longest_is_the_worlds()
     ensures { (v : BacklogValue) (w : World) (q : ℕ) →
         ((k : ℕ) → queue_octets (frames_at v k) ≡ octets (queue w k).items) →

@@ -1,4 +1,5 @@
--- The frames of the flow queues are the accepted ones, through all calls.
+-- Proves that the frames of the flow queues stay the accepted ones through all calls, by the laws of
+-- Each.
 use Rattle.std.proofs.Common.{◌≡◌, refl, ap, sym, ◌∙◌, subst, arith, ℕ, ◌<◌, ◌==◌, List, [], ◌∷◌, length, eq-eqb, inl, inr}
 use Rattle.std.specs.Prelude.{All, IfSome, Option, Some, None}
 use Rattle.std.proofs.lemmas.List.{get_or_past}
@@ -20,7 +21,7 @@ use Rattle.wf_queue_flows_refines.proofs.Changes.{times_at}
 use Rattle.wf_queue_flows_refines.proofs.Opening.{no_frames}
 use Rattle.wf_queue_flows_refines.proofs.Each.{each_put, each_take, each_purge}
 
--- of frames whose ids are below n
+-- a property that follows for ids below n, frame by frame
 each_known : (P Q : FrameValue → Type 0) (n : ℕ) (frames : List FrameValue) →
     ((f : FrameValue) → f.id < n → P f → Q f) → ((id : ℕ) → 0 < on (ids frames) id → id < n) → All P frames →
     All Q frames
@@ -30,7 +31,7 @@ each_known P Q n (f ∷ fs) more known h =
     (each_known P Q n fs more (λ id some. known id (omega (arith, some, on-first f.id id (ids fs))))
     (All-tail P f fs h))
 
--- of the frames of the flow queues, which were all accepted
+-- the same for all frames of the flow queues, since all of them were accepted
 all_known : (P Q R S : FrameValue → Type 0) (v : FlowsValue) (p : Part) → Stands v p →
     ((f : FrameValue) → f.id < p.accepted → P f → Q f) → ((f : FrameValue) → f.id < p.accepted → R f → S f) →
     HasEach P R v.backlog → HasEach Q S v.backlog
@@ -81,7 +82,7 @@ body_other bodies f id other = cond-false (id == f.id) f (bodies id) (ne_eqb id 
 pub body_own : (bodies : ℕ → FrameValue) (f : FrameValue) → with_body bodies f f.id ≡ f
 body_own bodies f = cond-true (f.id == f.id) f (bodies f.id) (eq-eqb f.id f.id refl)
 
--- other frames that are the same of each accepted id
+-- other frames that are the same for each accepted id
 pub frames_same : (v : FlowsValue) (w : World) (bodies others : ℕ → FrameValue) → FlowsStandFor v w →
     ((id : ℕ) → id < accepted_count w → others id ≡ bodies id) → HasFrames v.backlog bodies →
     HasFrames v.backlog others

@@ -1,4 +1,4 @@
--- A queue changes, or the lists of a TID do, on both sides.
+-- Proves that flow queues and world still agree after a change of one queue, or of the lists of one TID.
 use Rattle.std.proofs.Common.{◌≡◌, ap, ap₂, sym, ◌∙◌, subst, arith, ℕ, zero, suc, ◌+◌, ◌<◌, ◌≤◌, true, List, [], ◌++◌, map, length, get_or, set, length-set, inl, inr, ◌⊎◌}
 use Rattle.std.specs.Prelude.{ℤ, pos}
 use Rattle.std.proofs.lemmas.List.{get_or-set_same, get_or-set_other}
@@ -9,7 +9,7 @@ use Rattle.wf_frame.specs.Frames.{FrameValue}
 use Rattle.wf_def_codel.specs.Codel.{Codel, new_codel}
 use Rattle.wf_def_rotation.specs.Rotation.{Rotation, no_keys, has_key, in_order}
 use Rattle.wf_def_lists.specs.Lists.{on}
-use Rattle.wf_sched.specs.Rotas.{deficit_at}
+use Rattle.wf_rotation.specs.Rotas.{deficit_at}
 use Rattle.wf_law_rules.proofs.Lemmas.Counts.{on-nil}
 use Rattle.wf_def_world.specs.World.{World, Queue, queue, accepted_count, on_queue, with_frames_finished}
 use Rattle.wf_queue_flows.specs.Backlog.{BacklogValue, frames_at, item_of, frame_with_fate}
@@ -22,7 +22,7 @@ use Rattle.wf_queue_flows_refines.proofs.Ends.{on_ids-append, stands_finish_all}
 
 -- ---- one entry of a list
 
--- a function and a list that are changed at one number
+-- a property of a function and a list at each number holds after both are changed at the same number
 pub each_changed : {X Y : Type 0} (P : ℕ → X → Y → Type 0) (f : ℕ → X) (xs : List Y) (d : Y) (k : ℕ) (x : X)
     (y : Y) → k < length xs → ((i : ℕ) → P i (f i) (get_or xs i d)) → P k x y → (i : ℕ) →
     P i (upd f k x i) (get_or (set xs k y) i d)
@@ -34,7 +34,7 @@ each_changed P f xs d k x y low h here i = elim (cases_eq i k) [
       (subst (λ z. P i (f i) z) (sym (get_or-set_other xs k i y d other)) (h i))
 ]
 
--- a list that is changed at one number
+-- a property of a list at each place holds after one entry is changed
 pub each_set : {Y : Type 0} (P : ℕ → Y → Type 0) (xs : List Y) (d : Y) (k : ℕ) (y : Y) → k < length xs →
     ((i : ℕ) → P i (get_or xs i d)) → P k y → (i : ℕ) → P i (get_or (set xs k y) i d)
 each_set P xs d k y low h here i = elim (cases_eq i k) [
@@ -45,7 +45,7 @@ each_set P xs d k y low h here i = elim (cases_eq i k) [
 
 -- ---- one queue
 
--- the queue has these frames, this CoDel state and this deficit
+-- the queue gets these frames, this CoDel state and this deficit
 abbrev pub with_queue : FlowsValue → ℕ → List FrameValue → Codel → ℤ → FlowsValue
 with_queue v q frames c d = record v {
   backlog = record v.backlog { queues = set v.backlog.queues q frames; codels = set v.backlog.codels q c };
@@ -64,7 +64,7 @@ times_set b q frames id low = omega (
       (λ (fs : List FrameValue). on (ids fs) id) b.queues q frames [] low,
 )
 
--- what is in a queue is held
+-- an id is queued or finished at least as often as it is in one queue
 pub times_at : (b : BacklogValue) (q : ℕ) (id : ℕ) → q < length b.queues →
     on (ids (frames_at b q)) id ≤ times_held b id
 times_at b q id low = omega (arith, times_set b q [] id low, on-nil id)
@@ -112,7 +112,7 @@ stands_queue v p q frames c d y st low items codel deficit known once = record {
     some_of zero b h = inr (omega (arith, h))
     some_of (suc a) b h = inl (omega arith)
 
--- The first frames of a queue are finished, and of the others these are left.
+-- The first frames of a queue are finished, and some of the others are left.
 module _ (v : FlowsValue) (p : Part) (st : Stands v p) (q : ℕ) (low : q < queue_count v)
     (out rest left : List FrameValue) (split : frames_at v.backlog q ≡ out ++ rest)
     (fewer : (id : ℕ) → on (ids left) id ≤ on (ids rest) id) where
@@ -139,7 +139,7 @@ module _ (v : FlowsValue) (p : Part) (st : Stands v p) (q : ℕ) (low : q < queu
       out_known
       (λ id. omega (arith, fewer id, both_parts id, st.held_once id, times_set v.backlog q left id low_all))
 
--- the same of a world
+-- the same change of a world
 pub part_moved : (w : World) (q : ℕ) (f : Queue → Queue) (fate : Fate) (out : List ℕ) →
     ((id : ℕ) → 0 < on out id → id < accepted_count w) →
     flows_part (with_frames_finished (on_queue w q f) fate out)

@@ -1,4 +1,5 @@
--- What each frame of the flow queues has, through all calls.
+-- Proves that a property of each frame of the flow queues holds after every call: each call only moves
+-- frames.
 use Rattle.std.proofs.Common.{◌≡◌, sym, subst, ℕ, zero, suc, List, [], ◌∷◌, ◌++◌, map, length, get_or, set, take, drop, Option, Some, None, inl, inr}
 use Rattle.std.specs.Prelude.{All, IfSome, slice_get}
 use Rattle.std.proofs.lemmas.List.{set_past}
@@ -15,7 +16,7 @@ use Rattle.wf_queue_flows_refines.specs.Standing.{with_finished}
 use Rattle.wf_queue_flows_refines.specs.Frames.{HasEach, DropsTo}
 use Rattle.wf_queue_flows_refines.proofs.Changes.{each_set}
 
--- one queue has other frames; past the last queue nothing is written
+-- one queue gets other frames; a write past the last queue changes nothing
 each_line : (P : FrameValue → Type 0) (all : List (List FrameValue)) (q : ℕ) (frames : List FrameValue) →
     ((k : ℕ) → All P (get_or all k [])) → All P frames → (k : ℕ) → All P (get_or (set all q frames) k [])
 each_line P all q frames each here = elim (cases_lt q (length all)) [
@@ -25,7 +26,7 @@ each_line P all q frames each here = elim (cases_lt q (length all)) [
 ]
 
 module _ (P R : FrameValue → Type 0) (drops : DropsTo P R) where
-  -- some frames of a queue are finished, and these are left
+  -- some frames of a queue are finished, and some are left
   each_moved : (b : BacklogValue) (q : ℕ) (out left : List FrameValue) (codels : List Codel) (cause : Cause) →
       HasEach P R b → All P out → All P left
       → HasEach P R (record b {

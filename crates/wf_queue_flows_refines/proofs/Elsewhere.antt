@@ -1,4 +1,4 @@
--- The calls of the flow queues change nothing else of a world.
+-- Proves that the calls of the flow queues change no other part of a world.
 use Rattle.std.proofs.Common.{◌≡◌, refl, ap, sym, ◌∙◌, ℕ, if◌then◌else◌, List, [], ◌∷◌, Option, Some, None}
 use Rattle.std.specs.Prelude.{option_map, unwrap_or, is_some}
 use Rattle.wf_frame.specs.declared.classes.Fate.{Fate}
@@ -48,7 +48,7 @@ rest_with_station w s o same sessions receivers =
     (put_upd {Y = ℕ → Receiver} receiver_in None w.stations s o
     ∙ upd_idle (rest_of_world w).receivers s (receiver_in o) receivers)
 
--- a station with other queues on a TID
+-- a station with another rotation for one TID
 abbrev with_listed : ℕ → Rotation → Station → Station
 with_listed t r x = record x { tids = change no_tid x.tids t (λ y. record y { queues = r }) }
 
@@ -102,7 +102,7 @@ unfolding reap_outcome
 rest_reaped w [] = refl
 rest_reaped w (id ∷ ids) = refl
 
--- ---- what the rest says
+-- ---- what follows from an equal rest
 
 bare_live : (o : Option Station) → is_some o ≡ is_some (option_map bare o)
 bare_live None = refl

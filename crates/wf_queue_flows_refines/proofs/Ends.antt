@@ -1,4 +1,4 @@
--- Frames that are finished and frames that are reaped.
+-- Proves that flow queues and world still agree after frames are finished or reaped.
 use Rattle.std.proofs.Common.{◌≡◌, refl, ap, ap₂, sym, ◌∙◌, subst, arith, ℕ, ◌+◌, ◌<◌, ◌≤◌, List, [], ◌∷◌, ◌++◌, map, append_assoc, inl, inr}
 use Rattle.std.proofs.lemmas.List.{map-append, append-nil}
 use Rattle.std.proofs.lemmas.Bool.{cases_eq}
@@ -20,7 +20,7 @@ pub on_ids-append : (xs ys : List FrameValue) (id : ℕ) →
 on_ids-append xs ys id = ap (λ (l : List ℕ). on l id) (map-append (λ (f : FrameValue). f.id) xs ys)
     ∙ on-append (ids xs) (ids ys) id
 
--- a new fate does not disturb frames with other ids
+-- a new fate does not affect frames with other ids
 pub other_fates : (frames : List FrameValue) (fates : ℕ → Fate) (id : ℕ) (fate : Fate) →
     on (ids frames) id ≡ 0 → map (λ (f : FrameValue). upd fates id fate f.id) frames
     ≡ map (λ (f : FrameValue). fates f.id) frames
@@ -46,7 +46,7 @@ same_sizes v frames z = record {
   quanta = z.quanta;
 }
 
--- a frame that is nowhere goes last on the finished list
+-- a frame that is neither queued nor finished goes last on the finished list
 pub stands_finish : (v : FlowsValue) (p : Part) (f : FrameValue) → Stands v p → f.id < p.accepted →
     times_held v.backlog f.id ≡ 0 → Stands (with_finished v (v.backlog.finished ++ f ∷ []))
     (finished_part p f.fate f.id)
@@ -85,7 +85,7 @@ stands_finish v p f st low none = record {
     one_other : (id : ℕ) → (id ≡ f.id → ⊥) → on (f.id ∷ []) id ≡ 0
     one_other id other = omega (arith, on-cons_other f.id id [] (λ e. other (sym e)), on-nil id)
 
--- frames that are nowhere go last on the finished list, one after another
+-- frames that are neither queued nor finished go last on the finished list, one after another
 pub stands_finish_all : (frames : List FrameValue) (v : FlowsValue) (p : Part) (fate : Fate) → Stands v p →
     ((id : ℕ) → 0 < on (ids frames) id → id < p.accepted) →
     ((id : ℕ) → times_held v.backlog id + on (ids frames) id ≤ 1)
@@ -137,7 +137,7 @@ stands_reap v p f rest st e =
       held_once = λ id. omega (arith, st.held_once id, fewer id);
     }
 
--- ---- the same of a world
+-- ---- the same for a world
 
 pub stands_finished : (v : FlowsValue) (w : World) (f : FrameValue) → FlowsStandFor v w →
     f.id < accepted_count w → times_held v.backlog f.id ≡ 0 →

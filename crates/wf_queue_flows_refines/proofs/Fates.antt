@@ -1,4 +1,4 @@
--- How the frames are counted by their fates, through the calls of the flow queues.
+-- Proves how each call of the flow queues changes the number of frames of each fate.
 use Rattle.std.proofs.Common.{◌≡◌, refl, ap, sym, ◌∙◌, subst, arith, ℕ, ◌+◌, ◌<◌, ◌≤◌, true, if◌then◌else◌, List, [], ◌∷◌, map, take, length, length-append, Option, Some, None, inl, inr}
 use Rattle.std.proofs.lemmas.Bool.{cases_lt, cond_both}
 use Rattle.std.proofs.lemmas.List.Sums.{sum_by-append}

@@ -1,4 +1,5 @@
--- Whose frame the limit drops, how many a take drops, and that a queued frame is held.
+-- Proves which TID's frame the limit drops, how many frames a take drops, and that a queued frame is
+-- held.
 use Rattle.std.proofs.Common.{◌≡◌, refl, ap, ap₂, sym, ◌∙◌, subst, arith, ℕ, suc, ◌+◌, ◌<◌, true, false, ◌&&◌, List, ◌++◌, map, length, get_or, set, take, drop, length-append, length-drop, Option, Some, None, inl, inr}
 use Rattle.std.specs.Prelude.{IfSome, nat_le, slice_get, option_map}
 use Rattle.std.proofs.lemmas.List.{get_or-set_same, length-map, length-take, set_past}
@@ -11,7 +12,7 @@ use Rattle.wf_def_lists.specs.Table.{has}
 use Rattle.wf_def_codel.specs.Codel.{Item, Params}
 use Rattle.wf_def_lists.specs.Lists.{on}
 use Rattle.wf_def_rotation.specs.Rotation.{Rotation, no_keys, has_key, in_order, Picked}
-use Rattle.wf_sched.specs.Rotas.{need_at}
+use Rattle.wf_rotation.specs.Rotas.{need_at}
 use Rattle.wf_law_rules.proofs.Lemmas.Counts.{on-has, on_order-none}
 use Rattle.wf_def_world.specs.World.{World, is_live, queue, codel_params}
 use Rattle.wf_def_world.specs.FlowQueues.{frames_queued as world_queued, is_at_limit as world_at_limit, after_limit as world_after_limit, taken_for_tid as world_take}
@@ -52,7 +53,7 @@ module _ (v : FlowsValue) (p : Part) (st : Stands v p) (i : ℕ) (low : i < leng
   stays q some = on-picked (need_at v.rotas) (backlog_has_frames v.backlog) (tid_rotation v i) q
       (lt-ltb 0 (length (frames_at v.backlog q)) some)
 
-  -- the queue that is picked has these frames left
+  -- the frames that are left in the queue that was picked
   left_in : (q n : ℕ) → chosen.winner ≡ Some q → n < length (frames_at v.backlog q)
       → frames_waiting (set v.backlog.queues q (drop (suc n) (frames_at v.backlog q)))
       (in_order chosen.lists) + n + 1 ≡ frames_of_tid v i

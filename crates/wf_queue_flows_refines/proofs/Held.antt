@@ -1,4 +1,5 @@
--- The frames in the queues stay held, through all calls of the flow queues.
+-- Proves that the queued frames stay held through all calls: a call changes the fate only of frames that
+-- it finishes.
 use Rattle.std.proofs.Common.{◌≡◌, refl, ap, sym, ◌∙◌, subst, arith, ℕ, suc, ◌<◌, ◌≤◌, true, List, [], ◌∷◌, ◌++◌, length, get_or, set, drop, Option, Some, None, inl, inr}
 use Rattle.std.proofs.lemmas.List.{set_past, get_or_past}
 use Rattle.std.proofs.lemmas.Bool.{cases_eq, cases_lt, cond_both}
@@ -32,9 +33,9 @@ use Rattle.wf_queue_flows_refines.proofs.Takes.{stands_take}
 use Rattle.wf_queue_flows_refines.proofs.Purges.{stands_left}
 use Rattle.wf_queue_flows_refines.proofs.Through.{through_put_in, through_limit, through_take, through_purge_queue, through_purge}
 
--- ---- what a call finishes
+-- ---- the frames that a call finishes
 
--- the finished list only grows, and a frame that is not on it has the fate that it had
+-- the finished list only grows, and a frame that is not on it keeps its fate
 pub record Finishes (w u : World) : Type 0 where
   pub more : (id : ℕ) → on w.finished id ≤ on u.finished id
   pub fates : (id : ℕ) → on u.finished id ≡ 0 → (frame u id).fate ≡ (frame w id).fate
@@ -73,14 +74,14 @@ at_finish w fate k = record {
       ∙ upd_other (λ i. (frame w i).fate) k id fate other;
 }
 
--- a purge, once the frames of the TID's numbers are finished
+-- a purge, after the waiting frames of the session are finished
 pub finishes_purge : (w : World) (s t : ℕ) → Finishes
     (with_frames_finished w (Dropped Left) (waiting_ids (session w s t).slots)) (after_tid_left w s t)
 finishes_purge = through_purge Finishes nothing both at_queue at_lists at_finish
 
--- ---- what leaves the queues
+-- ---- the frames that leave the queues
 
--- one queue has no more of a frame than before
+-- one queue has a frame no more often than before
 fewer_set : (all : List (List FrameValue)) (q : ℕ) (frames : List FrameValue) (id : ℕ) →
     on (ids frames) id ≤ on (ids (get_or all q [])) id → (k : ℕ) →
     on (ids (get_or (set all q frames) k [])) id ≤ on (ids (get_or all k [])) id
@@ -95,7 +96,7 @@ fewer_drop : (n : ℕ) (frames : List FrameValue) (id : ℕ) →
     on (ids (drop (suc n) frames)) id ≤ on (ids frames) id
 fewer_drop n frames id = omega (arith, split_at n frames id)
 
--- no queue of the second has more of any frame than in the first
+-- no queue of the second backlog has a frame more often than in the first
 abbrev HasFewer : BacklogValue → BacklogValue → Type 0
 HasFewer b c = (q id : ℕ) → on (ids (frames_at c q)) id ≤ on (ids (frames_at b q)) id
 
@@ -139,7 +140,7 @@ unfolding with_listed_queue
 listed_same v i q = cond_both (is_listed v i q) v _ (λ (z : FlowsValue). z.backlog ≡ v.backlog) (λ e. refl)
     (λ e. refl)
 
--- a put brings no other frame than its own
+-- a put adds no frame except its own
 fewer_put : (v : FlowsValue) (i : ℕ) (f : FrameValue) (q id : ℕ) → (f.id ≡ id → ⊥) →
     on (ids (frames_at (after_put v i f).backlog q)) id ≤ on (ids (frames_at v.backlog q)) id
 unfolding after_put
@@ -164,7 +165,7 @@ fewer_put v i f q id other =
 
 -- ---- the calls
 
--- a queued frame is in one of the queues, and was accepted
+-- a queued frame is in a queue below the number of queues
 pub queued_low : (v : FlowsValue) (q id : ℕ) → 0 < on (ids (frames_at v.backlog q)) id →
     q < length v.backlog.queues
 queued_low v q id some = elim (cases_lt q (length v.backlog.queues)) [
@@ -183,7 +184,7 @@ pub queued_known : (v : FlowsValue) (w : World) (q id : ℕ) → FlowsStandFor v
 queued_known v w q id st some = st.accepted id
     (omega (arith, some, times_at v.backlog q id (queued_low v q id some)))
 
--- it is not finished
+-- a queued frame is not finished
 queued_only : (v : FlowsValue) (w : World) (q id : ℕ) → FlowsStandFor v w →
     0 < on (ids (frames_at v.backlog q)) id → on w.finished id ≡ 0
 queued_only v w q id st some = omega (

@@ -1,5 +1,5 @@
--- Which frames are queued or finished: a call changes this by the frame that it takes in or gives out, and by
--- no other.
+-- Proves which frames are queued or finished after a call: only the frame that the call adds or removes
+-- changes this.
 use Rattle.std.proofs.Common.{◌≡◌, refl, ap, ◌∙◌, arith, ℕ, zero, suc, ◌+◌, ◌<◌, true, List, [], ◌∷◌, ◌++◌, map, length, set, take, drop, length-set, Option, Some, None}
 use Rattle.std.specs.Prelude.{slice_get}
 use Rattle.std.proofs.lemmas.Bool.{cond_both}
@@ -10,7 +10,7 @@ use Rattle.wf_frame.specs.Frames.{FrameValue}
 use Rattle.wf_def_lists.specs.Table.{has, upto}
 use Rattle.wf_def_codel.specs.Codel.{Params}
 use Rattle.wf_def_lists.specs.Lists.{on}
-use Rattle.wf_sched.specs.Rotas.{need_at}
+use Rattle.wf_rotation.specs.Rotas.{need_at}
 use Rattle.wf_law_rules.proofs.Lemmas.Counts.{on-nil, on-first}
 use Rattle.wf_law_rules.proofs.Lemmas.Members.{has_filter, has_head, has_tail}
 use Rattle.wf_queue_flows.specs.Backlog.{BacklogValue, frames_at, frame_with_fate, after_head_drop, after_flush, drops_at}
@@ -25,12 +25,12 @@ use Rattle.wf_queue_flows_refines.proofs.Picking.{winner_listed}
 use Rattle.wf_queue_flows_refines.proofs.Puts.{queue_below}
 use Rattle.wf_queue_flows_refines.proofs.Readers.{count_below}
 
--- settling a frame leaves its id
+-- a new fate does not change the id
 settled_ids : (fate : Fate) (frames : List FrameValue) → ids (map (frame_with_fate fate) frames) ≡ ids frames
 settled_ids fate [] = refl
 settled_ids fate (f ∷ fs) = ap (λ (l : List ℕ). f.id ∷ l) (settled_ids fate fs)
 
--- the first frames of a queue are finished, and of the others these are left
+-- the first frames of a queue are finished, and these others are left
 times_moved : (b : BacklogValue) (q : ℕ) (out left : List FrameValue) (fate : Fate) (id : ℕ) →
     q < length b.queues
     → times_held (record b {
@@ -48,7 +48,7 @@ times_moved b q out left fate id low =
       ap (λ (l : List ℕ). on l id) (settled_ids fate out),
     )
 
--- what stands before a place, at it and behind it
+-- a list splits into the frames before a place, the one at it and those after it
 pub split_at : (n : ℕ) (frames : List FrameValue) (id : ℕ) →
     on (ids frames) id ≡ on (ids (take n frames)) id + on (ids_given (slice_get frames n)) id + on
     (ids (drop (suc n) frames)) id
@@ -165,7 +165,7 @@ module _ (v : FlowsValue) (p : Part) (st : Stands v p) (id : ℕ) where
         split_at n (frames_at v.backlog q) id,
       )
 
-  -- the frame that is given is there once less
+  -- the frame that is taken out is there once less
   pub times_take : (i now : ℕ) (params : Params) →
       times_held (take_out v i now params).flows.backlog id + on
       (ids_given (take_out v i now params).frame) id ≡ times_held v.backlog id

@@ -1,4 +1,4 @@
--- What does not matter to the flow queues.
+-- Proves that changes of other parts of the world do not affect the flow queues.
 use Rattle.std.proofs.Common.{◌≡◌, refl, ap, sym, ◌∙◌, subst, ℕ, zero, suc, ◌<◌, Bool, true, false, List, [], ◌∷◌, Option, Some, None, is_some, inl, inr, if◌then◌else◌}
 use Rattle.std.proofs.Math.Path.{fun_ext}
 use Rattle.std.proofs.lemmas.Bool.{cases_eq}
@@ -17,12 +17,12 @@ use Rattle.wf_law_runs.proofs.Deficits.Books.{upd, upd_same, upd_other}
 use Rattle.wf_queue_flows_refines.specs.Standing.{Part, flows_part, Stands, FlowsStandFor}
 use Rattle.wf_queue_flows_refines.proofs.Parts.{lists_in, part_with_station, part_same_lists, part_on_station, part_on_tid}
 
--- the part alone matters
+-- only the part of the world matters
 pub stands_same : (v : FlowsValue) (w x : World) → flows_part x ≡ flows_part w → FlowsStandFor v w →
     FlowsStandFor v x
 stands_same v w x same st = subst (Stands v) (sym same) st
 
--- a change of a station that leaves its TIDs
+-- a change of a station that does not change its TIDs
 pub station_alone : (w : World) (s : ℕ) (f : Station → Station) → ((x : Station) → (f x).tids ≡ x.tids) →
     flows_part (on_station w s f) ≡ flows_part w
 station_alone w s f h = part_on_station w s f (λ x. fun_ext (λ t. ap (λ ts. (at no_tid ts t).queues) (h x)))
@@ -61,13 +61,13 @@ pub opened_alone : (w : World) (count : ℕ) (opened : List Exchange) →
     flows_part (record w { exchanges = count; opened = opened }) ≡ flows_part w
 opened_alone w count opened = refl
 
--- ---- stations that come and go
+-- ---- stations that join and leave
 
 no_lists : (o : Option Station) (t : ℕ) → is_some o ≡ false → lists_in o t ≡ no_keys
 no_lists None t e = refl
 no_lists (Some x) t e = absurd (cc e)
 
--- no TID of these lists a queue
+-- no TID in the list lists a queue
 record ListNothing (ts : List Tid) : Type 0 where
   each : (t : ℕ) → (at no_tid ts t).queues ≡ no_keys
 
@@ -84,7 +84,7 @@ eight_new first size =
     let more = λ (ts : List Tid) (h : ListNothing ts). one_more (new_tid first size) ts refl h in
     more _ (more _ (more _ (more _ (more _ (more _ (more _ (more [] (record { each = λ t. refl }))))))))
 
--- a station comes that was not live: its TIDs list nothing
+-- a station that was not live joins: its TIDs list no queue
 pub join_alone : (w : World) (s window start exponent weight : ℕ) → is_live w s ≡ false →
     flows_part (join_outcome w s window start exponent weight).world ≡ flows_part w
 unfolding join_outcome
@@ -103,7 +103,7 @@ unfolding without_listings
 off_lists_alone [] w s = refl
 off_lists_alone (c ∷ cs) w s = off_lists_alone cs _ s ∙ rotation_alone w c _
 
--- a station goes whose TIDs list nothing
+-- a station leaves whose TIDs list no queue
 pub stands_gone : (v : FlowsValue) (w : World) (s : ℕ) → FlowsStandFor v w →
     ((t : ℕ) → t < 8 → tid_rotation v (tid_number s t) ≡ no_keys) →
     FlowsStandFor v (with_station (without_listings w s all_classes) s None)

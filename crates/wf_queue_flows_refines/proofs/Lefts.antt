@@ -1,4 +1,4 @@
--- The frames that a leave drops are counted by their fate.
+-- Proves that the frames that a leave drops are counted under their fate.
 use Rattle.std.proofs.Common.{◌≡◌, refl, ap, sym, ◌∙◌, subst, arith, ℕ, zero, suc, ◌+◌, ◌<◌, ◌≤◌, true, List, [], ◌∷◌, map, length, get_or, length-append, length-set, Option, inl, inr}
 use Rattle.std.specs.Prelude.{unwrap_or, None}
 use Rattle.std.proofs.lemmas.List.{take_all, length-map}
@@ -30,7 +30,7 @@ use Rattle.wf_queue_flows_refines.proofs.Purges.{item_ids, stands_flush, station
 use Rattle.wf_queue_flows_refines.proofs.Held.{held_flush}
 use Rattle.wf_queue_flows_refines.proofs.Fates.{settled_all, finished_all, frames_queue, finished_queue, frames_lists, finished_lists, tally_same, held_same, first_held}
 
--- from one world to the next, as many held frames get a fate as the finished list grows by
+-- from one world to the next, as many held frames get the fate as the finished list grows by
 record SettlesAll (w u : World) (fate : Fate) : Type 0 where
   count : ℕ
   grown : count + length w.finished ≡ length u.finished
@@ -128,9 +128,9 @@ settled_left v w s t n st h low_s low_t count x =
     let same : n ≡ all.count = omega (arith, count, all.grown) in
     rw same (all.settled x)
 
--- ---- how many a purge drops
+-- ---- the number of frames that a purge drops
 
--- the numbers below a bound, each once
+-- each number below the bound occurs once
 on_before : (n from y : ℕ) → y < from → on (count_from from n) y ≡ 0
 on_before zero from y low = on-nil y
 on_before (suc n) from y low = omega (

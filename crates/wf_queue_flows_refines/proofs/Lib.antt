@@ -1,12 +1,13 @@
--- The proofs of the laws, from the ground up.
+-- The proofs of the laws, in the order in which they depend on each other.
 --
--- Parts: what each change of a world does to the part that the flow queues stand for. Ends: frames are
--- finished and reaped. Changes: one queue changes, or the lists of one TID, on both sides; all other calls
--- are made of these and of Ends. Readers: what is read is the same. Limits and Puts: a frame is put in.
--- Picking and Takes: one is taken out. Rising and Purges: a TID's frames are dropped. Leaves: what does not
--- matter. Holdings: which frames are held. Through and Elsewhere: what the calls leave of a world. Each,
--- Bodies and Notes: the frames are the accepted ones. Heads: whose frames are dropped, and how many. Held,
--- Fates and Lefts: queued frames are held, and the frames are counted by their fates.
+-- Parts: how each change of a world changes the part that the flow queues represent. Ends: frames are
+-- finished and reaped. Changes: one queue changes, or the lists of one TID, on both sides; all other
+-- calls are composed of these and of Ends. Readers: both sides read the same. Limits and Puts: a frame
+-- is put in. Picking and Takes: a frame is taken out. Rising and Purges: the frames of a TID are
+-- dropped. Leaves: changes that do not affect the flow queues. Holdings: which frames are queued or
+-- finished. Through and Elsewhere: the parts of a world that the calls do not change. Each, Bodies and
+-- Notes: the frames are the accepted ones. Heads: which frames are dropped, and how many. Held, Fates
+-- and Lefts: queued frames are held, and the frames are counted by their fates.
 pub mod Parts
 pub mod Ends
 mod Changes

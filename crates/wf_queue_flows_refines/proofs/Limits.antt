@@ -1,4 +1,4 @@
--- The head of the longest queue is dropped for the limit, on both sides.
+-- Proves that flow queues and world still agree after the limit has dropped the head of the longest queue.
 use Rattle.std.proofs.Common.{◌≡◌, refl, ap, ap₂, sym, ◌∙◌, subst, arith, ℕ, ◌<◌, Bool, true, false, if◌then◌else◌, List, [], ◌∷◌, ◌++◌, map, length, set, take, drop, inl, inr}
 use Rattle.std.specs.Prelude.{nat_le, ℤ, pos}
 use Rattle.std.proofs.lemmas.List.{set-get_or, get_or_past}
@@ -9,7 +9,7 @@ use Rattle.wf_frame.specs.declared.classes.Fate.TheVariants.{Dropped}
 use Rattle.wf_frame.specs.Frames.{FrameValue}
 use Rattle.wf_def_codel.specs.Codel.{Item, Codel, new_codel}
 use Rattle.wf_def_lists.specs.Lists.{on}
-use Rattle.wf_sched.specs.Rotas.{deficit_at}
+use Rattle.wf_rotation.specs.Rotas.{deficit_at}
 use Rattle.wf_def_world.specs.World.{World, Queue, is_live, queue, accepted_count, on_queue, with_frame_finished, with_frames_finished, with_fate}
 use Rattle.wf_def_world.specs.FlowQueues.{without_head, longest_queue as world_longest, after_limit as world_within_limit, is_at_limit as world_at_limit}
 use Rattle.wf_queue_flows.specs.Backlog.{BacklogValue, frames_at, codel_at, item_of, frame_with_fate, after_head_drop}
@@ -20,7 +20,7 @@ use Rattle.wf_queue_flows_refines.proofs.Parts.{all_finished}
 use Rattle.wf_queue_flows_refines.proofs.Changes.{with_queue, part_with, out_known, stands_moved, part_moved}
 use Rattle.wf_queue_flows_refines.proofs.Readers.{same_total, same_limit, same_longest}
 
--- a queue with frames is one of the queues
+-- a queue with frames has a number below the number of queues
 pub some_frames : (v : FlowsValue) (p : Part) (q : ℕ) → Stands v p → 0 < length (frames_at v.backlog q) →
     q < queue_count v
 some_frames v p q st some = elim (cases_lt q (length v.backlog.queues)) [
@@ -33,7 +33,7 @@ some_frames v p q st some = elim (cases_lt q (length v.backlog.queues)) [
   ))
 ]
 
--- what was there is put again
+-- writing the CoDel state and the deficit that are already there changes nothing
 pub same_queue : (v : FlowsValue) (q : ℕ) (frames : List FrameValue) →
     with_queue v q frames (codel_at v.backlog q) (deficit_at v.rotas.deficits q)
     ≡ record v { backlog = record v.backlog { queues = set v.backlog.queues q frames } }
@@ -46,8 +46,8 @@ same_queue v q frames =
     } in w)
     (set-get_or v.backlog.codels q new_codel) (set-get_or v.rotas.deficits q (pos 0))
 
--- the world without the head is one in which that frame is finished, with as many stations, live as before,
--- and as many frames accepted
+-- v agrees with the world `after`, which has the same number of stations and of accepted frames as
+-- `before`, and the same live stations
 pub record IsBeside (v : FlowsValue) (before after : World) : Type 0 where
   pub stands : FlowsStandFor v after
   pub accepted : accepted_count after ≡ accepted_count before
@@ -108,7 +108,7 @@ head_gone v w q (f ∷ rest) st e =
       stations = ap (λ (x : Part). x.config.stations) worlds;
     }
 
--- both drop the head of the longest queue where the limit is reached
+-- both sides drop the head of the longest queue if the limit is reached
 pub beside_limit : (v : FlowsValue) (w : World) → FlowsStandFor v w →
     IsBeside (after_limit v) w (world_within_limit w)
 unfolding after_limit world_within_limit

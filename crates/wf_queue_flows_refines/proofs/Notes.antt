@@ -1,4 +1,4 @@
--- The call that brought each frame, through all calls.
+-- Proves that the call that brought each accepted frame stays the same through all calls.
 use Rattle.std.proofs.Common.{◌≡◌, refl, ap, sym, ◌∙◌, subst, arith, ℕ, ◌+◌, ◌<◌, List, [], ◌∷◌, length, inl, inr}
 use Rattle.std.proofs.lemmas.Bool.{cases_eq}
 use Rattle.wf_frame.specs.declared.classes.Fate.{Fate}
@@ -60,7 +60,7 @@ unfolding with_frame
 note_accepted w note = ap (λ (x : Frame). x.note) (end_is w.frames _)
 
 module _ (v : FlowsValue) (w : World) (s t flow len : ℕ) (st : FlowsStandFor v w) where
-  -- the world in which the frame lies in its queue, but is not accepted yet
+  -- the world in which the frame is in its queue, but not accepted yet
   abbrev before : World
   before = after_put_in (after_limit w) s t (queue_for (after_limit w) s t flow) (next_item w len)
 
@@ -85,14 +85,14 @@ module _ (v : FlowsValue) (w : World) (s t flow len : ℕ) (st : FlowsStandFor v
 
 -- ---- the accepted frames
 
--- as many frames, brought by the same calls
+-- the same number of frames, brought by the same calls
 pub accepted_same : (w x : World) (bodies : ℕ → FrameValue) → accepted_count x ≡ accepted_count w →
     notes x ≡ notes w → AreAccepted w bodies → AreAccepted x bodies
 accepted_same w x bodies as_many same ok id low =
     subst (λ (n : Note). IsAccepted id n (bodies id)) (sym (ap (λ (f : ℕ → Note). f id) same))
     (ok id (omega (arith, low, as_many)))
 
--- one more
+-- one more frame
 pub accepted_more : (v : FlowsValue) (w : World) (bodies : ℕ → FrameValue) (f : FrameValue) →
     FlowsStandFor v w → f.id ≡ accepted_count w → length f.source ≡ source_octets → f.fate ≡ Held →
     AreAccepted w bodies →

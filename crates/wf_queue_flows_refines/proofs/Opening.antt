@@ -1,4 +1,5 @@
--- The flow queues of a start stand for the opening world.
+-- Proves that the new flow queues agree with the opening world, since all queues are empty and no TID
+-- lists any.
 use Rattle.std.proofs.Common.{◌≡◌, refl, ap, sym, ◌∙◌, arith, ℕ, ◌+◌, ◌*◌, List, [], map, get_or, replicate, inl, inr}
 use Rattle.std.specs.Prelude.{sum_by, pos}
 use Rattle.std.proofs.lemmas.List.{get_or-replicate, get_or_past, length-replicate}
@@ -16,7 +17,7 @@ use Rattle.wf_def_lists.specs.Lists.{on}
 use Rattle.wf_law_rules.proofs.Lemmas.Counts.{on-nil}
 use Rattle.wf_queue_flows_refines.specs.Standing.{ids, times_held, FlowsStandFor}
 
--- all entries are the one that stands past the end too
+-- every entry of a list of equal entries is that entry, also past the end if it is the default
 pub read_replicate : {X : Type 0} (n k : ℕ) (x : X) → get_or (replicate n x) k x ≡ x
 read_replicate {X} n k x = elim (cases_lt k n) [
   | inl low ↦ get_or-replicate n k x x low

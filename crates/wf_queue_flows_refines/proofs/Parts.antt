@@ -1,4 +1,4 @@
--- The part of a world that the flow queues stand for, after each change of a world.
+-- Computes how each change of a world changes the part that the flow queues represent.
 use Rattle.std.proofs.Common.{◌≡◌, refl, ap, sym, ◌∙◌, arith, ℕ, zero, suc, ◌+◌, ◌*◌, ◌<◌, pos, ◌+ℤ◌, true, List, [], ◌∷◌, ◌++◌, length, Option, Some, None, is_some, unwrap_or, option_map, inl, inr}
 use Rattle.std.proofs.Math.Path.{fun_ext}
 use Rattle.std.proofs.lemmas.List.{length-append}
@@ -33,7 +33,7 @@ unfolding with_station
 part_with_station w s o = ap (λ (f : ℕ → ℕ → Rotation). record (flows_part w) { lists = f })
     (put_upd {Y = ℕ → Rotation} lists_in None w.stations s o)
 
--- a station that lists what was listed
+-- a station whose lists stay the same
 pub part_same_lists : (w : World) (s : ℕ) (o : Option Station) →
     lists_in o ≡ lists_in (at None w.stations s) → flows_part (with_station w s o) ≡ flows_part w
 part_same_lists w s o same = part_with_station w s o
@@ -45,7 +45,7 @@ mapped_lists : (f : Station → Station) → ((x : Station) → lists_in (Some (
 mapped_lists f h None = refl
 mapped_lists f h (Some x) = h x
 
--- a change of a station that leaves what it lists
+-- a change of a station that does not change its lists
 pub part_on_station : (w : World) (s : ℕ) (f : Station → Station) →
     ((x : Station) → lists_in (Some (f x)) ≡ lists_in (Some x)) → flows_part (on_station w s f) ≡ flows_part w
 unfolding on_station
@@ -61,7 +61,7 @@ unfolding on_tid
 part_on_tid w s t f h = part_on_station w s _
     (λ x. tid_put x t (f (at no_tid x.tids t)) ∙ upd_idle (lists_in (Some x)) t _ (h (at no_tid x.tids t)))
 
--- a TID of a live station lists other queues
+-- a TID of a live station gets other lists
 pub part_with_queues : (w : World) (s t : ℕ) (r : Rotation) → is_live w s ≡ true →
     flows_part (with_queues w s t r) ≡ record
     (flows_part w) { lists = upd (flows_part w).lists s (upd ((flows_part w).lists s) t r) }
@@ -178,7 +178,7 @@ paid_elsewhere [] w quanta g = refl
 paid_elsewhere (q ∷ qs) w quanta g = paid_elsewhere qs
     (on_queue w q (λ y. record y { deficit = y.deficit +ℤ pos (quanta q * w.config.flow_quantum) })) quanta g
 
--- each queue gets its quanta as often as it stands among these
+-- each queue gets its quanta as often as it occurs among these
 pub part_pay_queues : (qs : List ℕ) (w : World) (quanta : ℕ → ℕ) →
     flows_part (with_queues_paid w quanta qs)
     ≡ record (flows_part w) {

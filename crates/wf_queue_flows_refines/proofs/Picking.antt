@@ -1,11 +1,12 @@
--- The pick among a TID's queues, on both sides: who wins, and what each queue gets.
+-- Proves that a pick among a TID's queues has the same winner and pays the same quanta in the code as in the
+-- world.
 use Rattle.std.proofs.Common.{◌≡◌, refl, ap, ap₂, sym, ◌∙◌, subst, ℕ, ◌<◌, ◌==◌, min, Bool, true, false, cond, ◌&&◌, ◌||◌, List, [], ◌∷◌, filter, length, Option, Some, None, eq-eqb}
 use Rattle.std.specs.Prelude.{find, nat_lt}
 use Rattle.std.proofs.lemmas.List.{length-map}
 use Rattle.wf_def_lists.specs.Table.{has}
 use Rattle.wf_def_codel.specs.Codel.{Item}
 use Rattle.wf_def_rotation.specs.Rotation.{Rotation, has_key, in_order, need_of, keys_before, round, first_least, pick_later, pick_from, pick}
-use Rattle.wf_sched.specs.Rotas.{need_at}
+use Rattle.wf_rotation.specs.Rotas.{need_at}
 use Rattle.wf_law_rules.specs.Renamed.{Agrees, IsSame}
 use Rattle.wf_law_rules.proofs.Lemmas.Numbers.{eq_yes, or_left, or_right}
 use Rattle.wf_law_rules.proofs.Lemmas.Members.{has_filter, has_before, has_least}
@@ -50,7 +51,7 @@ module _ (need : ℕ → ℕ) (ready : ℕ → Bool) (r : Rotation) where
       go (Some w) found h = or_left (has r.new z) (has r.old z)
           (found_has (λ k. ready k && (need k == 0)) r.new z (found ∙ h))
 
-  -- a key that is not listed gets nothing
+  -- a key that is not listed gets no quanta
   pub quanta_unlisted : (y : ℕ) → has_key r y ≡ false → (pick need ready r).quanta y ≡ 0
   unfolding pick
   quanta_unlisted y off = go (find (λ k. ready k && (need k == 0)) r.new)
@@ -74,7 +75,7 @@ module _ (need : ℕ → ℕ) (ready : ℕ → Bool) (r : Rotation) where
 
 module _ (v : FlowsValue) (w : World) (st : FlowsStandFor v w) (s t : ℕ) (low_s : s < v.stations)
     (low_t : t < 8) where
-  -- each listed queue has the same need, and frames on both sides or on neither
+  -- each listed queue has the same need on both sides, and has frames on both sides or on neither
   agrees : Agrees (λ key. key) (tid_rotation v (tid_number s t)) (need_at v.rotas) (queue_need w)
       (backlog_has_frames v.backlog) (world_has_frames w)
   agrees = record {

@@ -1,4 +1,5 @@
--- The frames of a TID are dropped as its station leaves, on both sides.
+-- Proves that flow queues and world still agree after the frames of a TID are dropped because its station
+-- leaves.
 use Rattle.std.proofs.Common.{◌≡◌, refl, ap, sym, ◌∙◌, subst, arith, ℕ, ◌<◌, true, List, [], ◌∷◌, ◌++◌, map, Option, None, is_some, unwrap_or}
 use Rattle.std.specs.Prelude.{ℤ, pos}
 use Rattle.std.proofs.lemmas.List.{append-nil, set-get_or, get_or-set_same, get_or-set_other}
@@ -10,7 +11,7 @@ use Rattle.wf_def_lists.specs.Table.{at, has, upto}
 use Rattle.wf_def_codel.specs.Codel.{Item, new_codel}
 use Rattle.wf_def_rotation.specs.Rotation.{Rotation, no_keys, has_key, in_order}
 use Rattle.wf_def_lists.specs.Lists.{on}
-use Rattle.wf_sched.specs.Rotas.{deficit_at}
+use Rattle.wf_rotation.specs.Rotas.{deficit_at}
 use Rattle.wf_law_rules.proofs.Lemmas.Counts.{on-nil}
 use Rattle.wf_law_rules.proofs.Lemmas.Members.{has_head, has_tail, has_filter}
 use Rattle.wf_def_world.specs.World.{World, Station, Queue, with_station, on_station, on_tid, no_station, no_tid, is_live, queue, tid_of, session, accepted_count, on_queue, with_queues, with_fate, with_frame_finished, with_frames_finished}
@@ -119,8 +120,8 @@ stands_purged v w s t st live high low_t =
     (stands_list u (flows_part w') s t no_keys flushed_all low_s low_t (λ q. omega (arith, on-nil q))
     (λ q h. absurd (cc h)) (λ q h. absurd (cc h))))
 
--- where v stands for the world without the frames of the TID's numbers, what is left of v stands for the
--- world without the TID's
+-- if v agrees with the world after the waiting frames of the session are finished, then the purged v
+-- agrees with the world after the TID has left
 pub stands_left : (v : FlowsValue) (w : World) (s t : ℕ) →
     FlowsStandFor v (with_frames_finished w (Dropped Left) (waiting_ids (session w s t).slots)) →
     is_live w s ≡ true → s < w.config.stations → t < 8
@@ -193,7 +194,7 @@ accepted_left v w s t st low_s low_t =
     ∙ rising_listed (tid_rotation v i) (queue_count v) (st.below i))
     ∙ accepted_purge_queues (queues_of v i) v w' st low
 
--- a purge leaves the TID nothing, and the others what they list
+-- a purge empties the lists of the TID and does not change those of other TIDs
 pub purged_lists : (v : FlowsValue) (w : World) (s t : ℕ) → FlowsStandFor v w → s < v.stations → t < 8 →
     tid_rotation (after_purge v (tid_number s t)) (tid_number s t) ≡ no_keys
 unfolding after_purge

@@ -1,4 +1,5 @@
--- A frame is accepted and put in, on both sides.
+-- Proves that flow queues and world still agree after a put: the limit, the accepted frame, its queue and the
+-- listing compose.
 use Rattle.std.proofs.Common.{◌≡◌, refl, ap, ap₂, sym, ◌∙◌, subst, arith, ℕ, ◌+◌, ◌%◌, ◌<◌, ◌≤◌, Bool, true, false, if◌then◌else◌, List, [], ◌∷◌, ◌++◌, length, set, inl, inr}
 use Rattle.std.specs.Prelude.{ℤ, pos}
 use Rattle.std.proofs.lemmas.List.{map-append, get_or-set_same, set-get_or}
@@ -12,7 +13,7 @@ use Rattle.wf_frame.specs.Frames.{FrameValue}
 use Rattle.wf_def_codel.specs.Codel.{Item, Codel, new_codel}
 use Rattle.wf_def_rotation.specs.Rotation.{Rotation, has_key, in_order, with_new_key}
 use Rattle.wf_def_lists.specs.Lists.{on}
-use Rattle.wf_sched.specs.Rotas.{deficit_at}
+use Rattle.wf_rotation.specs.Rotas.{deficit_at}
 use Rattle.wf_law_rules.proofs.Lemmas.Counts.{on-nil, on-cons_same, on-cons_other, on-append}
 use Rattle.wf_law_rules.proofs.Lemmas.Counts.{listed-some, listed-none, on_order-none}
 use Rattle.wf_def_world.specs.World.{World, Queue, is_live, tid_of, accepted_count, on_queue, with_queues}
@@ -32,7 +33,7 @@ use Rattle.wf_queue_flows_refines.proofs.Readers.{same_queue_for, same_dropped}
 
 -- ---- one more frame is accepted
 
--- the next id is nowhere yet
+-- the next id is neither queued nor finished
 pub next_nowhere : (v : FlowsValue) (p : Part) → Stands v p → times_held v.backlog p.accepted ≡ 0
 next_nowhere v p st = elim (cases_lt 0 (times_held v.backlog p.accepted)) [
   | inl some ↦ absurd (omega (arith, st.accepted p.accepted some))
@@ -240,9 +241,9 @@ part_listed w s t q live = go (has_key (tid_of w s t).queues q)
         ∙ ap (λ (p : Part). part_with_list p s t (with_new_key (tid_of w s t).queues q))
         (part_on_queue w q (λ y. record y { deficit = pos w.config.flow_quantum }))
 
--- ---- all of it
+-- ---- the whole put
 
--- the queue of a frame is one of the queues
+-- the queue for a frame has a number below the number of queues
 pub queue_below : (v : FlowsValue) (s t flow : ℕ) → 1 ≤ v.flows → s < v.stations → t < 8 →
     queue_for v (tid_number s t) flow < queue_count v
 unfolding queue_for
@@ -250,7 +251,7 @@ queue_below v s t flow some low_s low_t = cond_both (is_listed_by_another v (tid
     (v.flows + tid_number s t) (flow % v.flows) (λ (n : ℕ). n < queue_count v)
     (λ e. omega arith) (λ e. let m : flow % v.flows < v.flows = mod-lt flow some in omega arith)
 
--- the frame may be accepted first
+-- the frame may be accepted before it is put in
 accepted_listed : (p : Part) (s t q : ℕ) (x : Item) →
     accepted_part (listed_part (appended_part p q x) s t q)
     ≡ listed_part (appended_part (accepted_part p) q x) s t q
@@ -311,7 +312,7 @@ stands_put v w s t f st live high_s low_t next now =
     (b.live s ∙ live)))
     all
 
--- the same frame is dropped for the limit
+-- both sides drop the same frame for the limit
 pub reply_put : (v : FlowsValue) (w : World) (s t : ℕ) (f : FrameValue) → FlowsStandFor v w →
     f.id ≡ accepted_count w → (enqueue_outcome w s t f.flow (length f.body)).reply
     ≡ Accepted f.id (dropped_for_limit v)

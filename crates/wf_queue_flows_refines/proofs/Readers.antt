@@ -1,4 +1,4 @@
--- What is read of the flow queues is what is read of the world.
+-- Proves that each reader of the flow queues returns what the world's reader returns.
 use Rattle.std.proofs.Common.{◌≡◌, refl, ap, ap₂, sym, ◌∙◌, arith, ℕ, zero, suc, ◌+◌, ◌*◌, ◌/◌, ◌%◌, ◌<◌, ◌≤◌, ◌==◌, Bool, true, false, not, ◌&&◌, ◌||◌, if◌then◌else◌, List, [], ◌∷◌, map, filter, length, get_or, Option, Some, None, is_some, unwrap_or, eq-eqb, inl, inr}
 use Rattle.std.specs.Prelude.{nat_le, sum_by}
 use Rattle.std.specs.List.{list_any}
@@ -22,7 +22,7 @@ use Rattle.wf_queue_flows_refines.specs.Standing.{FlowsStandFor}
 
 -- ---- counts
 
--- the frames of a TID
+-- the number of queued frames of a TID
 pub same_queued : (v : FlowsValue) (w : World) (s t : ℕ) → FlowsStandFor v w → s < v.stations → t < 8 →
     frames_of_tid v (tid_number s t) ≡ world_queued w s t
 same_queued v w s t st low_s low_t =
@@ -57,7 +57,7 @@ same_sums (x ∷ xs) (q ∷ qs) h =
       same_sums xs qs (λ k. h (suc k)),
     )
 
--- the frames of all queues
+-- the number of frames in all queues
 pub same_total : (v : FlowsValue) (w : World) → FlowsStandFor v w → in_queues v.backlog ≡ total_queued w
 same_total v w st = same_sums v.backlog.queues w.queues
     (λ k. ap (length {A = Item}) (st.items k) ∙ length-map (frames_at v.backlog k) item_of)
@@ -80,7 +80,7 @@ head_is : (frames : List FrameValue) → first_id frames ≡ head_id (map item_o
 head_is [] = refl
 head_is (f ∷ fs) = refl
 
--- the same limit
+-- the same limit and the same frame to drop
 pub same_limit : (v : FlowsValue) (w : World) → FlowsStandFor v w → v.limit ≡ w.config.limit
 same_limit v w st = ap (λ (x : SettingsValue). x.limit) st.settings
 

@@ -1,5 +1,5 @@
--- The queues of a TID, by their numbers: the rising list of those that its rotation holds is what stays of
--- all numbers below a bound.
+-- Proves that the rising list of a TID's queues is the list of all queue numbers below a bound, filtered
+-- by whether its rotation lists them.
 use Rattle.std.proofs.Common.{◌≡◌, refl, ap, sym, ◌∙◌, arith, ℕ, zero, suc, ◌+◌, ◌<◌, ◌≤◌, ◌==◌, Bool, true, false, ◌||◌, if◌then◌else◌, List, [], ◌∷◌, filter, eq-eqb, inl, inr}
 use Rattle.std.proofs.Math.Path.{fun_ext}
 use Rattle.std.proofs.lemmas.Bool.{cases_Bool, cases_eq, ne_eqb, lt-ltb, le-ltb}
@@ -23,7 +23,7 @@ filter_none : (n from : ℕ) → filter (λ k. false) (count_from from n) ≡ []
 filter_none zero from = refl
 filter_none (suc n) from = filter_none n (suc from)
 
--- a number below all others comes first
+-- a number below all others is inserted first
 member_first : (n from x : ℕ) (p : ℕ → Bool) → x < from →
     with_member x (filter p (count_from from n)) ≡ x ∷ filter p (count_from from n)
 member_first zero from x p low = refl

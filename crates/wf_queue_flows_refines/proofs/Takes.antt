@@ -1,4 +1,5 @@
--- A frame is taken out, on both sides.
+-- Proves that flow queues and world still agree after a take: the pick among the TID's queues, then CoDel's
+-- dequeue.
 use Rattle.std.proofs.Common.{◌≡◌, refl, ap, ap₂, sym, ◌∙◌, subst, arith, ℕ, zero, suc, ◌+◌, ◌*◌, ◌<◌, ◌≤◌, true, if◌then◌else◌, List, [], ◌∷◌, ◌++◌, map, length, take, drop, Option, Some, None, inl, inr}
 use Rattle.std.specs.Prelude.{ℤ, pos, ◌+ℤ◌, ◌-ℤ◌, option_map, unwrap_or, slice_get}
 use Rattle.std.proofs.lemmas.List.{take-append-drop}
@@ -12,7 +13,7 @@ use Rattle.wf_def_codel.specs.Parameters.{is_slow}
 use Rattle.wf_def_codel.specs.Codel.{Codel, Params, Dequeued, dequeued_after, drops, state_after, dequeue}
 use Rattle.wf_def_rotation.specs.Rotation.{Rotation, has_key, in_order}
 use Rattle.wf_def_lists.specs.Lists.{on}
-use Rattle.wf_sched.specs.Rotas.{deficit_at, need_at}
+use Rattle.wf_rotation.specs.Rotas.{deficit_at, need_at}
 use Rattle.wf_law_rules.proofs.Lemmas.Counts.{on-first}
 use Rattle.wf_law_rules.proofs.Lemmas.Counts.{listed-some, listed-none}
 use Rattle.wf_law_rules.specs.Renamed.{IsSame}
@@ -29,7 +30,7 @@ use Rattle.wf_queue_flows_refines.proofs.Parts.{accepted_all, part_with_queues, 
 use Rattle.wf_queue_flows_refines.proofs.Changes.{part_with, with_queue, out_known, stands_moved, part_moved, with_list, part_with_list, stands_list}
 use Rattle.wf_queue_flows_refines.proofs.Picking.{winner_listed, quanta_unlisted, same_picked}
 
--- ---- what a pick pays
+-- ---- the quanta that a pick pays
 
 length_paid : (quanta : ℕ → ℕ) (quantum k : ℕ) (ds : List ℤ) →
     length (with_quanta_paid quanta quantum k ds) ≡ length ds
@@ -68,7 +69,7 @@ stations_paid [] w quanta = refl
 stations_paid (q ∷ qs) w quanta = stations_paid qs
     (on_queue w q (λ y. record y { deficit = y.deficit +ℤ pos (quanta q * w.config.flow_quantum) })) quanta
 
--- a station keeps its rate, whatever its TID lists
+-- a station keeps its rate when a TID of it gets other lists
 rate_kept : (w : World) (s t : ℕ) (r : Rotation) → (station (with_queues w s t r) s).rate ≡ (station w s).rate
 unfolding with_queues on_tid on_station with_station
 rate_kept w s t r = ap (λ (o : Option Station). (unwrap_or o no_station).rate)
@@ -84,7 +85,7 @@ clock_kept : (w : World) (s t : ℕ) (r : Rotation) → (with_queues w s t r).cl
 unfolding with_queues on_tid on_station with_station
 clock_kept w s t r = refl
 
--- the world after a pick of a TID's queues
+-- the world after a pick among a TID's queues
 abbrev pub after_world : World → ℕ → ℕ → World
 after_world w s t = with_queues (with_queues_paid w (picked_queue w s t).quanta
     (in_order (tid_of w s t).queues)) s t (picked_queue w s t).lists
@@ -109,7 +110,7 @@ module _ (v : FlowsValue) (w : World) (st : FlowsStandFor v w) (s t : ℕ) (live
     };
   }
 
-  -- as many quanta on both sides
+  -- the same number of quanta on both sides
   as_many : (q : ℕ) → on (in_order (tid_of w s t).queues) q * (picked_queue w s t).quanta q
       ≡ (pick_of_tid v (tid_number s t)).quanta q
   as_many q =
@@ -194,9 +195,9 @@ in_after : (v : FlowsValue) (i q : ℕ) → q < queue_count v → q < queue_coun
 unfolding after_pick
 in_after v i q low = low
 
--- ---- what CoDel takes
+-- ---- CoDel's dequeue
 
--- the dequeue of a queue seen as items is that of its frames
+-- a dequeue of a queue of items cuts the queue of frames at the same place
 pub record IsCut (frames : List FrameValue) (d : Dequeued) : Type 0 where
   pub rest : d.rest ≡ map item_of (drop (suc (length d.dropped)) frames)
   pub dropped : map (λ x. x.id) d.dropped ≡ ids (take (length d.dropped) frames)
@@ -227,7 +228,7 @@ fewer_left (suc m) [] id = omega arith
 fewer_left zero (f ∷ fs) id = omega (arith, on-first f.id id (ids fs))
 fewer_left (suc m) (f ∷ fs) id = fewer_left m fs id
 
--- the flow queues stand for the world that a take leaves, and the frame is the world's item
+-- the flow queues agree with the world after a take, and the frame is the world's item
 pub record BothGive (after : TakenFromFlows) (world : World_taken) : Type 0 where
   pub stands : FlowsStandFor after.flows world.world
   pub item : world.item ≡ option_map item_of after.frame

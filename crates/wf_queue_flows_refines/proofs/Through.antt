@@ -1,5 +1,5 @@
--- What holds from each change of the flow queues to the next holds through their calls: from a change of a
--- queue, of what a TID lists, and of a frame's fate.
+-- Proves that a relation of worlds holds through each call of the flow queues, if it holds for each
+-- elementary change: of a queue, of a TID's lists and of a frame's fate.
 use Rattle.std.proofs.Common.{◌≡◌, refl, ◌∙◌, ℕ, List, [], ◌∷◌, Option, Some, None}
 use Rattle.std.proofs.lemmas.Bool.{cond_both}
 use Rattle.wf_frame.specs.declared.classes.Cause.TheVariants.{Left}
@@ -76,7 +76,7 @@ module _ (R : World → World → Type 0) (same : (w : World) → R w w)
       through_purge_queues (q ∷ qs) w = join _ _ _ (through_purge_queue w q)
           (through_purge_queues qs (after_queue_left w q))
 
-      -- a leave of a TID, from where the frames of its numbers are finished
+      -- a leave of a TID, after the waiting frames of its session are finished
       pub through_purge : (w : World) (s t : ℕ) → R
           (with_frames_finished w (Dropped Left) (waiting_ids (session w s t).slots)) (after_tid_left w s t)
       unfolding after_tid_left
@@ -86,7 +86,7 @@ module _ (R : World → World → Type 0) (same : (w : World) → R w w)
       through_left w s t = join _ _ _ (through_finish_all (waiting_ids (session w s t).slots) w
           (Dropped Left)) (through_purge w s t)
 
--- ---- what is read of a world, and stays
+-- ---- a value read from a world that no call changes
 
 module _ {X : Type 0} (read : World → X) (queues : (w : World) (q : ℕ) (f : Queue → Queue) →
     read (on_queue w q f) ≡ read w) where

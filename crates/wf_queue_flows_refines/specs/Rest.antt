@@ -1,4 +1,4 @@
--- All of a world but what the flow queues stand for.
+-- Defines the part of a world that the flow queues do not represent.
 use Rattle.std.specs.Prelude.{ℕ, List, [], Option, None, option_map, unwrap_or}
 use Rattle.wf_frame.specs.declared.settings.Config.{Config}
 use Rattle.wf_def_lists.specs.Table.{at}

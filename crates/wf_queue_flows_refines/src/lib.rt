@@ -1,10 +1,12 @@
-//! The flow queues of the code stand for those of the machine's world, before and after every call; each call
-//! leaves all else of the world, and the frames stay the accepted ones.
+//! Laws by which the flow queues of the code (`wf_queue_flows`) behave like the flow queues of the
+//! machine's world (`wf_def_world`). If the two agree before a call, they agree after it
+//! (`FlowsStandFor`), and the reply is the same. A call changes no other part of the world, nor any
+//! accepted frame except its fate.
 //!
-//! The code (`wf_queue_flows`) has its queues, CoDel states, deficits and rotations as lists of a fixed
-//! length, with the frames themselves in the queues. The machine (`wf_def_world`) has tables that grow, by
-//! the paper's section 3.1. What the code answers is what the machine does. Each law is a function without a
-//! body that names it in its contract.
+//! The code stores queues, CoDel states, deficits and rotations in lists of a fixed length, with the
+//! frames themselves in the queues. The world has tables that grow, after section 3.1 of the paper, and
+//! stores of a frame only what CoDel needs. Each law is a function without a body, whose contract states
+//! the law.
 #![tactic(auto)]
 
 ghost use Rattle.std.specs.Prelude.{◌≡◌, ℕ, ◌+◌, ◌<◌, ◌≤◌, Bool, true, false, List, [], ◌∷◌, ◌++◌, Option, None, IfSome, length, option_map};
@@ -36,14 +38,14 @@ ghost use Rattle.wf_queue_flows_refines.specs.Standing.{flows_part, ids, ids_giv
 ghost use Rattle.wf_queue_flows_refines.specs.Rest.{rest_of_world};
 ghost use Rattle.wf_queue_flows_refines.specs.Frames.{HasEach, Passes, DropsTo, AreAccepted, IsBody, IsBodySettled, HasFrames, notes, with_body, loses_next_in, counts_as, HaveSettled, AreHeld, QueuedAreHeld};
 
-/// At the start, with the same settings.
+/// The new flow queues agree with the opening world, with the same settings.
 pub fn the_flow_queues_open()
     ensures { (c : Config) → IsInRange c → FlowsStandFor (empty_flows c) (opening c) }
 {}
 
-/// What is read of the flow queues is what is read of the world: how many frames a TID has in queues and how
-/// many there are in all, the longest queue and whose head is dropped for the limit, who lists a queue, and
-/// which queue a frame of a flow goes to.
+/// Each reader of the flow queues returns what the world's reader returns: the number of queued frames
+/// of a TID and in total, the longest queue, the frame that the limit drops, whether another TID lists a
+/// queue, and the queue for a frame of a flow.
 pub fn the_readers_agree()
     ensures queued { (v : FlowsValue) (w : World) (s t : ℕ) → FlowsStandFor v w → s < v.stations → t < 8 →
         frames_of_tid v (tid_number s t) ≡ world_queued w s t }
@@ -60,8 +62,8 @@ pub fn the_readers_agree()
         queue_for v (tid_number s t) flow ≡ world_queue_for w s t flow }
 {}
 
-/// A frame with the next id, stamped by the clock, is put in where the machine accepts it, and the answer
-/// names the frame that the code drops for the limit.
+/// Both sides still agree after an enqueue, if the frame has the next id and the world's clock as its
+/// stamp. The reply contains the id and the frame that the code drops for the limit, if any.
 pub fn a_frame_is_put_in()
     ensures stands { (v : FlowsValue) (w : World) (s t : ℕ) (f : FrameValue) → FlowsStandFor v w →
         is_live w s ≡ true → s < w.config.stations → t < 8 →
@@ -72,8 +74,8 @@ pub fn a_frame_is_put_in()
         (enqueue_outcome w s t f.flow (length f.body)).reply ≡ AcceptedReply f.id (dropped_for_limit v) }
 {}
 
-/// A TID takes a frame out, by the world's clock and its station's CoDel parameters: the frame is the
-/// machine's item.
+/// Both sides still agree after a TID takes a frame out, by the world's clock and the CoDel parameters
+/// of its station. The frame is the one that the machine takes.
 pub fn a_frame_is_taken_out()
     ensures stands { (v : FlowsValue) (w : World) (s t : ℕ) → FlowsStandFor v w → is_live w s ≡ true →
         s < w.config.stations → t < 8 →
@@ -85,8 +87,8 @@ pub fn a_frame_is_taken_out()
         (taken_for_tid v (tid_number s t) w.clock (codel_params w s)).frame }
 {}
 
-/// An accepted frame that is in no queue and not finished goes last on the finished list, with its fate. Many
-/// frames are finished one after another.
+/// Both sides still agree after an accepted frame that is neither queued nor finished is appended to the
+/// finished list, with its fate. Finishing a list of frames is finishing each of them in order.
 pub fn a_frame_is_finished()
     ensures stands { (v : FlowsValue) (w : World) (f : FrameValue) → FlowsStandFor v w →
         f.id < accepted_count w → times_held v.backlog f.id ≡ 0 →
@@ -96,8 +98,8 @@ pub fn a_frame_is_finished()
         ≡ with_frame_finished (with_frames_finished w fate ids) fate id }
 {}
 
-/// The first finished frame is reaped, with the fate that the machine answers. Neither has one where the
-/// other has none.
+/// Both sides still agree after the first finished frame is reaped, and the reply has its id and its
+/// fate. If the code has no finished frame, the world has none.
 pub fn a_frame_is_reaped()
     ensures stands { (v : FlowsValue) (w : World) (f : FrameValue) (behind : List FrameValue) →
         FlowsStandFor v w → v.backlog.finished ≡ f ∷ behind →
@@ -109,8 +111,9 @@ pub fn a_frame_is_reaped()
         w.finished ≡ [] }
 {}
 
-/// The queued frames of a TID are dropped as its station leaves, by queue number. With the frames of its
-/// numbers finished before, this is the machine's leave of the TID.
+/// Both sides still agree after the queued frames of a TID are dropped because its station leaves, in
+/// the order of the queue numbers. If the waiting frames of its session were finished before, the result
+/// is the machine's world after the TID has left.
 pub fn a_tid_is_purged()
     ensures stands { (v : FlowsValue) (w : World) (s t : ℕ) → FlowsStandFor v w → is_live w s ≡ true →
         s < w.config.stations → t < 8 →
@@ -126,9 +129,10 @@ pub fn a_tid_is_purged()
         tid_rotation (after_purge v i) j ≡ tid_rotation v j }
 {}
 
-/// Which frames are queued or finished. Each was accepted and is there once, and the next id is not there
-/// yet. A frame that is put in or finished is there once more, one that is given out once less, and all
-/// others are as before: a drop and a purge only move frames from the queues to the finished list.
+/// How often an id is queued or finished. Each such frame was accepted and is there once; the next id is
+/// not there. A put or a finish adds its frame once, a take or a reap removes it once, and no call
+/// changes the count of any other frame: a drop or a purge only moves frames from the queues to the
+/// finished list.
 pub fn each_frame_is_held_once()
     ensures once { (v : FlowsValue) (w : World) (id : ℕ) → FlowsStandFor v w → times_held v.backlog id ≤ 1 }
     ensures accepted { (v : FlowsValue) (w : World) (id : ℕ) → FlowsStandFor v w →
@@ -151,8 +155,8 @@ pub fn each_frame_is_held_once()
         times_held (after_purge v i).backlog id ≡ times_held v.backlog id }
 {}
 
-/// How many frames the world has accepted: one more where one is put in, and as many as before where one is
-/// taken out or finished, or a TID's are dropped.
+/// The number of frames that the world has accepted grows by one in a put. A take, a finish and a leave
+/// do not change it.
 pub fn accepted_frames_stay()
     ensures put { (v : FlowsValue) (w : World) (s t flow len : ℕ) → FlowsStandFor v w →
         accepted_count (enqueue_outcome w s t flow len).world ≡ accepted_count w + 1 }
@@ -167,7 +171,8 @@ pub fn accepted_frames_stay()
         ≡ accepted_count (with_frames_finished w (Dropped Left) (waiting_ids (session w s t).slots)) }
 {}
 
-/// A station that was not live joins, and one whose TIDs list no queue goes.
+/// Both sides still agree after a station that was not live joins, and after a station leaves whose TIDs
+/// list no queue.
 pub fn stations_come_and_go()
     ensures joins { (v : FlowsValue) (w : World) (s window start exponent weight : ℕ) → is_live w s ≡ false →
         FlowsStandFor v w →
@@ -177,9 +182,9 @@ pub fn stations_come_and_go()
         FlowsStandFor v (with_station (without_listings w s all_classes) s None) }
 {}
 
-/// The flow queues stand for a part of the world, and for every world with the same part. No change of the
-/// clock, of a station's rate, sleep, credit or shares, of a session or a receiver, of the stations'
-/// rotations or of the open exchanges changes that part.
+/// The flow queues depend on one part of the world only (`flows_part`), so they agree with every world
+/// that has the same part. That part does not depend on the clock, on a station's rate, sleep, credit or
+/// shares, on sessions, receivers, the stations' rotations or the open exchanges.
 pub fn the_rest_does_not_matter()
     ensures same { (v : FlowsValue) (w x : World) → flows_part x ≡ flows_part w → FlowsStandFor v w →
         FlowsStandFor v x }
@@ -204,8 +209,8 @@ pub fn the_rest_does_not_matter()
     ensures listed { (w : World) (o : Option ℕ) → flows_part (with_listings_of w o) ≡ flows_part w }
 {}
 
-/// The calls of the flow queues change nothing else of the world: neither its clock, nor the stations, nor
-/// their sessions, receivers and rotations, nor the open exchanges. So a station is live as before, with the
+/// A call of the flow queues changes no other part of the world: not the clock, the stations, their
+/// sessions, receivers and rotations, nor the open exchanges. So the same stations are live, with the
 /// same CoDel parameters.
 pub fn nothing_else_changes()
     ensures put { (w : World) (s t flow len : ℕ) →
@@ -222,10 +227,10 @@ pub fn nothing_else_changes()
         codel_params x s ≡ codel_params w s }
 {}
 
-/// What each frame has: where each queued frame passes one test and each finished one another, and what
-/// passes the first passes the second once it is dropped, for whatever cause, this stays so through each
-/// call. A frame that is put in must pass the first, and one that is finished the second; one that is taken
-/// out passes the first, and one that is reaped the second.
+/// Each call keeps a property of the frames. Assume that each queued frame passes a test `p` and each
+/// finished one a test `r`, and that a frame which passes `p` passes `r` once it is dropped, for any
+/// cause. Then this holds after each call, if a frame that is put in passes `p` and one that is finished
+/// passes `r`. A frame that is taken out passes `p`, and one that is reaped passes `r`.
 pub fn each_frame_keeps_what_it_has()
     ensures put { (p r : FrameValue → Bool) (v : FlowsValue) (i : ℕ) (f : FrameValue) →
         DropsTo (Passes p) (Passes r) → HasEach (Passes p) (Passes r) v.backlog → p f ≡ true →
@@ -248,8 +253,9 @@ pub fn each_frame_keeps_what_it_has()
         HasEach (Passes p) (Passes r) v.backlog → v.backlog.finished ≡ f ∷ behind → r f ≡ true }
 {}
 
-/// The queued frames are the accepted ones, as they were, and the finished ones are they but for their fates:
-/// this stays so through each call, and of other frames that are the same of each accepted id.
+/// Each queued frame equals the frame that was accepted under its id, and each finished one differs from
+/// it only in its fate. Each call keeps this. It also holds for any other function from ids to frames
+/// that is the same for all accepted ids.
 pub fn the_frames_are_the_accepted_ones()
     ensures open { (c : Config) (bodies : ℕ → FrameValue) → HasFrames (empty_flows c).backlog bodies }
     ensures same { (v : FlowsValue) (w : World) (bodies others : ℕ → FrameValue) → FlowsStandFor v w →
@@ -276,8 +282,7 @@ pub fn the_frames_are_the_accepted_ones()
         HasFrames v.backlog bodies → v.backlog.finished ≡ f ∷ behind → IsBodySettled bodies f }
 {}
 
-/// Which frames the world accepted, and by which calls. A call of the flow queues changes neither but where a
-/// frame is put in, which is then accepted: so the accepted frames stay what they were.
+/// The accepted frames, and the calls that brought them, stay the same. Only a put adds one.
 pub fn the_accepted_frames_are_kept()
     ensures same { (w x : World) (bodies : ℕ → FrameValue) → accepted_count x ≡ accepted_count w →
         notes x ≡ notes w → AreAccepted w bodies → AreAccepted x bodies }
@@ -293,9 +298,8 @@ pub fn the_accepted_frames_are_kept()
     ensures reap { (w : World) → notes (reap_outcome w w.finished).world ≡ notes w }
 {}
 
-/// Each frame in the queues has the fate Held in the world: so where frames stand in one place each, as in
-/// the world of each run, and so it stays through each call, also where that world is one in the midst of a
-/// step.
+/// Each queued frame has the fate Held in the world. This holds in the world of each run, in which a
+/// frame has one place, and each call keeps it, also for a world in the middle of a step.
 pub fn queued_frames_are_held()
     ensures places { (v : FlowsValue) (w : World) → FlowsStandFor v w → KeepsPlaces w → QueuedAreHeld v w }
     ensures put { (v : FlowsValue) (w : World) (s t : ℕ) (f : FrameValue) → FlowsStandFor v w →
@@ -318,8 +322,8 @@ pub fn queued_frames_are_held()
         QueuedAreHeld (after_purge v (tid_number s t)) (after_tid_left w s t) }
 {}
 
-/// How many frames a take drops, by which the finished list grows: those of the TID queued before, less the
-/// one that is given, less those queued after.
+/// The number of frames that a take drops, by which the finished list grows: the frames of the TID
+/// queued before, minus the frame that is taken out, minus those queued afterwards.
 pub fn a_take_drops_what_it_does_not_give()
     ensures code { (v : FlowsValue) (w : World) (s t now : ℕ) (params : Params) → FlowsStandFor v w →
         s < v.stations → t < 8 →
@@ -333,14 +337,14 @@ pub fn a_take_drops_what_it_does_not_give()
         (world_take w s t).world s t + 1 ≡ length w.finished + world_queued w s t) }
 {}
 
-/// A purge drops all that is queued of the TID: the finished list grows by as many.
+/// A purge drops all queued frames of the TID: the finished list grows by their number.
 pub fn a_purge_drops_all_that_is_queued()
     ensures { (v : FlowsValue) (w : World) (i : ℕ) → FlowsStandFor v w →
         length (after_purge v i).backlog.finished ≡ length v.backlog.finished + frames_of_tid v i }
 {}
 
-/// Whose frame the limit drops: that of the TID that lists the longest queue, in the code as in the world.
-/// All other TIDs have as many frames queued as before.
+/// The limit drops a frame of the TID that lists the longest queue, in the code as in the world. The
+/// number of queued frames of every other TID is unchanged.
 pub fn the_limit_drops_a_frame_of_one_tid()
     ensures loses { (v : FlowsValue) (w : World) (s t : ℕ) → FlowsStandFor v w → s < v.stations → t < 8 →
         loses_next v s t ≡ loses_next_in w s t }
@@ -350,9 +354,9 @@ pub fn the_limit_drops_a_frame_of_one_tid()
         loses_next_in w s t ≡ false → world_queued (world_after_limit w) s t ≡ world_queued w s t }
 {}
 
-/// How the frames are counted by their fates: held frames that are finished, each once, count as held no
-/// more, and with their fate; so do the frames that the limit and a take drop, as many as the finished list
-/// grows by; and a frame that is put in counts as held.
+/// How each call changes the number of frames of each fate. Finishing n different held frames moves n
+/// from Held to their fate. This includes the frames that the limit, a take or a leave drops, whose
+/// number is the growth of the finished list. A frame that is put in counts as held.
 pub fn the_fates_are_counted()
     ensures finish { (w : World) (fate : Fate) (id : ℕ) → id < accepted_count w → (frame w id).fate ≡ Held →
         HaveSettled w (with_frame_finished w fate id) fate 1 }

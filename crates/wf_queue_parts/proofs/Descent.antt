@@ -43,8 +43,8 @@ leaf_under nodes count t (suc h) k q some least most within =
           omega (arith, below, over)
     ]
 
--- Where the way down stands: the leaves below the node stand together, all before them are worth less, and
--- one of them is not.
+-- A node on the way down: the leaves below the node are consecutive, all leaves before them are worth less,
+-- and one of them is not.
 pub record IsOnTheWay (nodes : List Candidate) (count low node : ℕ) : Type 0 where
   pub height : ℕ
   pub some : 0 < node

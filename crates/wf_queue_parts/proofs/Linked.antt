@@ -1,4 +1,4 @@
--- What stays linked where a node comes or goes.
+-- The nodes of a run stay linked when a node is added at its end or taken off its front.
 use Rattle.std.proofs.Common.{◌≡◌, ◌<◌, List, [], ◌∷◌, ◌++◌, length, refl, ap, arith}
 use mathlib.Core.Logic.{∥∥₁_elim}
 use base.Stored.{Coded-set}

@@ -1,4 +1,5 @@
--- What a tournament's root holds, and how a node is played again.
+-- The root of a tournament holds the best leaf, by induction on the nodes; a node is played again after a
+-- leaf is set.
 use Rattle.std.proofs.Common.{◌≡◌, ◌≢◌, ℕ, zero, suc, ◌+◌, ◌-◌, ◌*◌, ◌/◌, ◌%◌, ◌^◌, ◌<◌, ◌≤◌, Bool, true, false, cond, ◌⊎◌, inl, inr, List, ◌∷◌, length, map, drop, replicate, set, get_or, refl, sym, ap, ◌∙◌, arith, get_or-set_other, get_or-set_same}
 use Rattle.std.proofs.Math.ListN.{length-set, get_or-map}
 use Rattle.std.proofs.lemmas.List.{get_or_past, get_or_read, length-map, length-drop, get_or-drop, drop-set-lt, drop-set-add, map-set, set-get_or, get_or-replicate, length-replicate, drop-replicate}
@@ -129,7 +130,7 @@ winner_above nodes n = elim (sibling_is n) [
       ∙ winner_turned (node_at nodes (2 * (n / 2) + 1)) (node_at nodes (2 * (n / 2)))
 ]
 
--- so is the winner of a node and of what was read beside it
+-- and so does the winner of a node and of its sibling that was read
 pub winner_read : (nodes : List Candidate) (count n : ℕ) (mine beside won : Candidate) →
     length nodes ≡ 2 * count → n < 2 * count → mine ≡ node_at nodes n →
     beside ≡ get_or nodes (bit_xor n 1) beside → won ≡ winner_of mine beside →
@@ -318,7 +319,7 @@ values_kept nodes count k c low = rw (drop-set-lt count nodes k c low) refl
 
 -- ---- how far the value of a leaf has come
 
--- A leaf of these values got another one, and its winners stand on the nodes up to this one.
+-- A leaf got another value, and the nodes above it up to this one hold their new winners.
 pub record HasClimbed (values : List ℕ) (leaf value : ℕ) (nodes : List Candidate) (count node : ℕ)
     (winner : Candidate) : Type 0 where
   pub played : IsPlayedBut nodes count (node / 2)

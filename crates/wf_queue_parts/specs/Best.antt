@@ -1,4 +1,5 @@
--- The best of numbered leaves.
+-- Defines the best of numbered leaves, which is the longest queue in algorithm 1 of "Ending the Anomaly"
+-- (USENIX ATC 2017), and the first leaf from a value on.
 use Rattle.std.specs.Prelude.{◌≡◌, ℕ, ◌^◌, ◌<◌, ◌≤◌, List, length, slice_index}
 
 -- the leaf has the greatest value, which is not 0, and it is the least of these leaves

@@ -1,4 +1,5 @@
--- How the nodes of a run lead to one another, and what nodes own and lend.
+-- Defines how the nodes of a run are linked, and the memory that nodes own and lend. The representation is
+-- this crate's; no document defines it.
 use Rattle.std.specs.Prelude.{◌≡◌, List, [], ◌∷◌, ◌++◌, map}
 use base.Fml.{Fml, Lft, ftrue, fsep}
 use denote.RawPtr.{Ptr}
@@ -10,7 +11,7 @@ use Rattle.wf_frame.specs.Frames.{FrameValue}
 use Rattle.wf_queue_parts.specs.declared.chain.node.Node.{Node}
 use Rattle.wf_queue_parts.specs.contracts.chain.node.Node.{the_row}
 
--- a node and where it lies
+-- a node and its place
 abbrev pub Placed : Type 0
 Placed = Ptr × Node
 
@@ -23,7 +24,7 @@ abbrev pub LeadsTo : Ptr → List Placed → Type 0
 LeadsTo h [] = Unit {0}
 LeadsTo h (n ∷ ns) = (h ≡ n.0) × LeadsTo n.1.next ns
 
--- the nodes come after one at a, and t is the place of the last
+-- the nodes follow one at a, and t is the place of the last
 abbrev pub EndsAfter : Ptr → List Placed → Ptr → Type 0
 EndsAfter a [] t = t ≡ a
 EndsAfter a (n ∷ ns) t = EndsAfter n.0 ns t
@@ -44,7 +45,7 @@ abbrev pub nodes_own : List Placed → Fml
 nodes_own [] = ftrue
 nodes_own (n ∷ ns) = fsep (node_owns n) (nodes_own ns)
 
--- what a `&` to a run holds: the first node
+-- a `&` to a run lends the first node
 abbrev pub first_lent : List Placed → Lft → Fml
 first_lent [] = nothing
 first_lent (n ∷ ns) = lent_at the_row n.0 n.1

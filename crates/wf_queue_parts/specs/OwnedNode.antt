@@ -1,4 +1,5 @@
--- What is left behind a `&mut` to an owned node.
+-- Defines the value of an owned node after a `&mut` to it has ended. The representation is this crate's; no
+-- document defines it.
 use Rattle.std.specs.Borrow.{Fml, Lends, MutBor}
 use Rattle.std_heap.specs.declared.Global.{Global}
 use Rattle.std_heap.specs.contracts.Global.{the_row as GlobalRow}
@@ -12,6 +13,6 @@ use Rattle.wf_queue_parts.specs.contracts.chain.unboxed.Unboxed.{the_row}
 abbrev pub with_node : Unboxed Node Global → Node → Unboxed Node Global
 with_node u n = record { at = u.at; alloc = u.alloc; value = n }
 
--- u ends with the last node behind r
+-- u ends with the last node of the reference r
 abbrev pub LendsNode : MutBor (Unboxed Node Global) → MutBor Node → Fml
 LendsNode u r = Lends (the_row NodeRow GlobalRow ghosts) NodeRow u r (with_node u.now)

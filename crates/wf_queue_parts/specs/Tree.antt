@@ -1,5 +1,6 @@
--- A tournament among leaves, kept as the list of its nodes: node 1 is the root, 2 * k and 2 * k + 1 are the
--- children of node k, and the last half of the nodes are the leaves.
+-- Defines a tournament tree as the list of its nodes: node 1 is the root, 2 * k and 2 * k + 1 are the
+-- children of node k, and the last half of the nodes are the leaves. The representation is this crate's; no
+-- document defines it.
 use Rattle.std.specs.Prelude.{◌≡◌, ◌≢◌, ℕ, ◌+◌, ◌*◌, ◌<◌, ◌≤◌, ◌==◌, nat_lt, Bool, ◌&&◌, ◌||◌, if◌then◌else◌, List, length, map, drop, replicate, slice_index_or}
 use Rattle.wf_queue_parts.specs.declared.peak.Candidate.{Candidate}
 

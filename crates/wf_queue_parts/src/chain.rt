@@ -1,7 +1,7 @@
-//! Chains of frames: owned nodes on raw pointers, and chains of them. No push takes memory.
+//! Lists of frames in owned nodes, linked by raw pointers. A push allocates nothing.
 //!
-//! No other crate sees a pointer but wf_c, whose handles keep a box as `Unboxed`. Twelve small functions have one
-//! here, nine of them proved by hand.
+//! No other crate uses a pointer, except wf_c, whose handles store a box as `Unboxed`. Twelve small functions
+//! here use one; nine of them are proved by hand.
 
 mod chain;
 mod node;

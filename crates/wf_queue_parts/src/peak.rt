@@ -1,5 +1,5 @@
-//! A tournament tree over numbered leaves: which leaf has the greatest value is known at each moment, and a
-//! leaf is set level by level.
+//! A tournament tree over numbered leaves. It knows the leaf of the greatest value at each moment; a leaf is
+//! set level by level.
 
 ghost use Rattle.std.specs.Prelude.{◌≡◌, ℕ, ◌+◌, ◌-◌, ◌*◌, ◌^◌, ◌<◌, ◌≤◌, length, replicate, slice_index, slice_set, IfOk, IfNone, IfSome};
 ghost use Rattle.wf_queue_parts.specs.Best.{IsBest, IsFirstFrom, IsPowerOfTwo};
@@ -8,14 +8,15 @@ ghost use Rattle.wf_queue_parts.specs.Tree.{node_at, winner_of};
 use std::alloc::{AllocError, Global};
 use std::marker::Model;
 
-/// A leaf with its value, as it stands on the nodes that it has won.
+/// A leaf with its value. Each node of the tree holds the candidate that wins below it.
 #[derive(Clone, Copy)]
 struct Candidate {
     value: u64,
     leaf: u32,
 }
 
-/// Numbered leaves, each with a value. Contracts see the list of the values.
+/// A tournament tree over 1 to 65,536 leaves, numbered from 0, each with a value. Contracts see the list of
+/// the values.
 #[derive(Drop)]
 pub struct Peak {
     nodes: Vec<Candidate>,
@@ -33,7 +34,7 @@ impl Model for Peak {
     ghost invariant = { λ p. IsPlayedBut p.nodes.items p.count 0 };
 }
 
-/// The winner of two: the greater value, and on a tie the lesser leaf.
+/// Returns the winner of two candidates: the greater value, and on a tie the lesser leaf.
 fn winner_of(first: Candidate, second: Candidate) -> Candidate
     ensures { result ≡ winner_of first second }
 {
@@ -46,7 +47,8 @@ fn winner_of(first: Candidate, second: Candidate) -> Candidate
     }
 }
 
-/// What a node holds before any leaf is set: a leaf itself, or the winner of its two children.
+/// Returns the candidate of a node before any leaf is set: the leaf itself, or the winner of its two
+/// children.
 fn opening_of(nodes: &[Candidate], count: usize, node: usize) -> Candidate
     requires size { length nodes.now ≡ 2 * count }
     requires within { node < 2 * count }
@@ -66,7 +68,8 @@ fn opening_of(nodes: &[Candidate], count: usize, node: usize) -> Candidate
 }
 
 impl Peak {
-    /// All leaves are 0. Takes memory for twice as many nodes as there are leaves.
+    /// Creates a tree in which all leaves are 0. It allocates two nodes for each leaf, and fails if there is
+    /// no memory.
     pub fn new(alloc: Global, leaves: u32) -> Result<Peak, AllocError>
         requires some { 1 ≤ leaves }
         requires small { leaves ≤ 65536 }
@@ -83,8 +86,8 @@ impl Peak {
         Ok(Peak { nodes, count })
     }
 
-    /// Sets the value of a leaf, and gives how many levels it climbed: at most as many as the number of
-    /// leaves has binary digits.
+    /// Sets the value of a leaf, and returns the number of levels that it climbed: at most the number of
+    /// binary digits of the number of leaves.
     pub fn set(&mut self, leaf: u32, value: u64) -> u32
         requires { leaf < length self.old }
         ensures values { self.new ≡ slice_set self.old leaf value }
@@ -105,9 +108,9 @@ impl Peak {
         levels
     }
 
-    /// Sets the value of one leaf, and then that of a second, which may be the same. Where the first had the
-    /// greatest value, and the second does not come to have it, this costs hardly more than to set one: the
-    /// second is set first, and the nodes above the place where it meets the first keep their winner then.
+    /// Sets the value of one leaf, and then the value of a second, which may be the same. If the first leaf
+    /// had the greatest value, and the second does not get it, this costs hardly more than one `set`: the
+    /// second leaf is set first, up to the first node that keeps its winner.
     pub fn set_both(&mut self, first: u32, value: u64, second: u32, other: u64)
         requires first { first < length self.old }
         requires second { second < length self.old }
@@ -119,7 +122,7 @@ impl Peak {
         }
     }
 
-    // Sets the value of a leaf, and plays the nodes above it up to the first that keeps its winner.
+    // Sets the value of a leaf, and the winners of the nodes above it up to the first that keeps its winner.
     fn set_until_kept(&mut self, leaf: u32, value: u64)
         requires { leaf < length self.old }
         ensures { self.new ≡ slice_set self.old leaf value }
@@ -139,7 +142,16 @@ impl Peak {
         }
     }
 
-    /// The leaf of the greatest value, the least of these on a tie. None where all values are 0.
+    /// Returns the value of a leaf.
+    pub fn value(&self, leaf: u32) -> u64
+        requires { leaf < length self.now }
+        ensures { result ≡ slice_index self.now leaf }
+    {
+        self.nodes[self.count + leaf as usize].value
+    }
+
+    /// Returns the leaf of the greatest value, the least leaf on a tie, or None if all values are 0. Constant
+    /// time.
     pub fn best(&self) -> Option<u32>
         ensures none { IfNone result ((leaf : ℕ) → slice_index self.now leaf ≡ 0) }
         ensures some { IfSome result (λ leaf. IsBest self.now leaf) }
@@ -148,9 +160,9 @@ impl Peak {
         if top.value > 0 { Some(top.leaf) } else { None }
     }
 
-    /// The least leaf whose value is at least `least`, in one look for each level. None where no leaf has
-    /// such a value. The leaves must be as many as a power of two, so that those below a node follow one
-    /// another.
+    /// Returns the least leaf whose value is at least `least`, or None if there is none. It takes one step
+    /// for each level. The number of leaves must be a power of two, so that the leaves below a node are
+    /// consecutive.
     pub fn first_from(&self, least: u64) -> Option<u32>
         requires { IsPowerOfTwo (length self.now) }
         ensures none { IfNone result

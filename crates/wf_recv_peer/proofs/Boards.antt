@@ -1,4 +1,4 @@
--- The offsets of a scoreboard when its window moves.
+-- Proves how the offsets of a scoreboard change when its window moves.
 use Rattle.std.proofs.Common.{◌≡◌, ℕ, ◌+◌, ◌-◌, ◌%◌, ◌<◌, ◌≤◌, ◌↔◌, IsTrue, Bool, true, false, cond, min, List, [], ◌∷◌, refl, ap, ap₂, ◌∙◌, sym, inl, inr, arith}
 use Rattle.std.proofs.lemmas.Bool.{cases_lt, lt-leb, le-leb}
 use Rattle.wf_def_lists.specs.Table.{with_member}
@@ -7,20 +7,20 @@ use Rattle.wf_octets.proofs.Sets.{has_not_above, has-moved_down, rises-moved_dow
 use Rattle.wf_octets.specs.Distance.{distance}
 use Rattle.wf_recv_peer.specs.Board.{Board, with_start_moved, after_start, after_start_at}
 
--- a move by nothing leaves each offset as it is
+-- a move by 0 leaves each offset unchanged
 pub moved_by_none : (xs : List ℕ) → moved_down 0 xs ≡ xs
 moved_by_none [] = refl
 moved_by_none (x ∷ xs) =
     let same : x - 0 ≡ x = omega arith in
     rw (le-leb 0 x (omega arith)) (ap₂ (λ (y : ℕ) (ys : List ℕ). y ∷ ys) same (moved_by_none xs))
 
--- a move past every offset leaves none
+-- a move past all offsets leaves none
 pub moved_past : (from end n : ℕ) (xs : List ℕ) → RisesBetween from end xs → end ≤ n → moved_down n xs ≡ []
 moved_past from end n xs rises past =
     same_members (from - n) 0 (end - n) 0 (moved_down n xs) [] (rises-moved_down from end n xs rises) tt
     (λ i. has-moved_down n xs i ∙ has_not_above from end xs (i + n) rises (omega arith))
 
--- a move of more than 256 numbers is as one of 256
+-- a move by more than 256 numbers is the same as one by 256
 pub moved_least : (size n : ℕ) (xs : List ℕ) → size ≤ 256 → IsOffsets size xs →
     moved_down (min n 256) xs ≡ moved_down n xs
 moved_least size n xs small rises = elim (cases_lt 256 n) [
@@ -43,7 +43,7 @@ board size start offsets = record { start = start; size = size; offsets = offset
 pub same_board : (size s t : ℕ) (xs ys : List ℕ) → s ≡ t → xs ≡ ys → board size s xs ≡ board size t ys
 same_board size s t xs ys e f = ap₂ (board size) e f
 
--- a request that starts at the window's start, or behind it, changes nothing
+-- a request whose start is at or before the window's start changes nothing
 pub start_not_newer : (r : Bool) (s : ℕ) (b : Board) → b.start < 4096 → r ≡ false →
     (IsTrue r ↔ ((1 ≤ distance s b.start) × (distance s b.start ≤ 2047))) → b ≡ after_start s b
 start_not_newer r s b small is_false newer = elim (cases_lt 2047 (distance s b.start)) [

@@ -1,4 +1,5 @@
--- Bitmaps whose offsets are all below 64, the wide answer, and agreements that are all alike.
+-- Proves properties of bitmaps whose offsets are all below 64, of the BlockAck of 256 bits, and of lists with
+-- equal agreements.
 use Rattle.std.proofs.Common.{◌≡◌, ℕ, ◌*◌, ◌/◌, ◌%◌, ◌<◌, ◌≤◌, ◌==◌, true, MatchBool, nat_lt, inl, inr, List, length, take, get_or, replicate, sym, ap, subst, ◌∙◌, arith}
 use Rattle.std.proofs.lemmas.Bool.{cases_lt}
 use Rattle.std.proofs.lemmas.List.{get_or-take, get_or-replicate, length-replicate, length-take-le, same_lists, take_all}
@@ -10,7 +11,7 @@ use Rattle.wf_octets.proofs.Words.{offsets_in_are_offsets, has-offsets_in}
 use Rattle.wf_recv_peer.specs.Board.{Board}
 use Rattle.wf_recv_peer.specs.Answering.{IsAnswer, IsWritten, IsWrittenWide, narrow_answer, wide_answer}
 
--- the first eight octets show the same offsets
+-- the first eight octets contain the same offsets
 pub offsets_of_front : (octets : List ℕ) → length octets ≡ 32 → IsOffsets 64 (offsets_in octets) →
     offsets_in (take 8 octets) ≡ offsets_in octets
 offsets_of_front octets long low = same_members 0 0 64 64 (offsets_in (take 8 octets))
@@ -34,7 +35,7 @@ offsets_of_front octets long low = same_members 0 0 64 64 (offsets_in (take 8 oc
           ∙ sym (has_not_above 0 64 (offsets_in octets) i low above)
     ]
 
--- offsets of a narrow window
+-- the offsets of a narrow window are below 64
 pub offsets_within : (size : ℕ) (xs : List ℕ) → size ≤ 64 → IsOffsets size xs → IsOffsets 64 xs
 offsets_within size xs narrow rises = rises_wider 0 size 0 64 xs (omega arith) narrow rises
 

@@ -1,4 +1,5 @@
--- What is stored in a window when its places turn, one after the other.
+-- Proves which items a buffer holds as its places turn, that they fit into 256, and that each item is passed
+-- up or stored exactly once. By induction over the places.
 use Rattle.std.proofs.Common.{◌≡◌, ℕ, zero, suc, ◌+◌, ◌-◌, ◌<◌, ◌≤◌, min, true, false, List, [], ◌∷◌, ◌++◌, length, take, drop, replicate, get_or, set, Option, None, Some, is_some, refl, ap, ap₂, ◌∙◌, sym, subst, arith, append_assoc, length-append, length-drop, add-one}
 use Rattle.std.specs.Option.{option_map}
 use Rattle.std.proofs.lemmas.List.{append-nil, take_more, take-append-drop, drop-append-le, drop-drop, replicate_more, get_or_append_left, get_or-drop, at_drop_more, at_drop_all, take_min, drop_min, length_push, length-set, length-replicate, drop_more, set_split, get_or-append_right}
@@ -20,7 +21,7 @@ items_few [] = omega arith
 items_few (None ∷ xs) = omega (arith, items_few xs)
 items_few (Some x ∷ xs) = omega (arith, items_few xs)
 
--- where the first place is empty, they are one fewer than the places
+-- if the first place is empty, there is at least one item fewer than places
 pub items_fewer : (xs : List (Option ℕ)) → run_of xs ≡ 0 → 1 ≤ length xs →
     length (items_of xs) + 1 ≤ length xs
 items_fewer [] h l = omega (arith, l)
@@ -50,7 +51,7 @@ pub items_turned : (n m : ℕ) (xs : List (Option ℕ)) →
 items_turned n m xs = items_append (drop n xs) (replicate m None)
     ∙ ap (λ ys. items_of (drop n xs) ++ ys) (no_items m) ∙ append-nil (items_of (drop n xs))
 
--- ---- how many there are
+-- ---- the number of items
 
 pub stored_none : (xs : List (Option ℕ)) (n : ℕ) → xs ≡ replicate n None → 0 ≡ length (items_of xs)
 stored_none xs n e = sym (ap (λ (ys : List (Option ℕ)). length (items_of ys)) e ∙ ap length (no_items n))
@@ -195,7 +196,7 @@ same_from_first (Some d) = ap Some (omega arith)
 pub first_from_0 : (xs : List (Option ℕ)) → first_from 0 xs ≡ first_stored xs
 first_from_0 xs = same_from_first (first_stored xs)
 
--- ---- room for the items that go up
+-- ---- room for the items that are passed up
 
 pub items_first : (i n : ℕ) (xs : List (Option ℕ)) → i ≤ n →
     length (items_of (take i xs)) ≤ length (items_of (take n xs))
@@ -219,7 +220,7 @@ room_for_one up xs i n x below within e fits =
 pub room_in_window : (n : ℕ) (xs : List (Option ℕ)) → length xs ≤ 256 → length (items_of (take n xs)) ≤ 256
 room_in_window n xs h = omega (arith, items_within n xs, items_few xs)
 
--- after a move of the window, whatever goes up next
+-- after a move of the window, for all items that go up next
 pub room_after_move : (n m r : ℕ) (xs : List (Option ℕ)) → length xs ≤ 256 →
     length (items_of (take n xs)) + length (items_of (take r (drop n xs ++ replicate m None))) ≤ 256
 room_after_move n m r xs h =
@@ -285,7 +286,7 @@ pub settled_after : (up : List ℕ) (b a : Buffer) → IsWindow b → a ≡ (rel
     NothingAtStart a
 settled_after up b a w e = subst NothingAtStart (sym e) (is_settled up b w.0 w.1 w.2 w.3)
 
--- room for what goes up from a window, after a move, after a store, and after both
+-- room for the items that are passed up from a window, after a move, after a store, and after both
 pub first_room : (n : ℕ) (u : List ℕ) (b : Buffer) → IsWindow b → u ≡ [] →
     length u + length (items_below n b) ≤ 256
 first_room n u b w e =
@@ -318,9 +319,9 @@ jumped_room n d x u b m a s f e g =
     subst (λ (t : Buffer). length u + length (items_below (run_of t.places) t) ≤ 256)
     (sym (g ∙ ap (with_stored_item d x) e)) least
 
--- ---- each item once
+-- ---- each item exactly once
 
--- what a release passes up and what it leaves is what there was
+-- a release passes up or keeps each item
 pub released_all : (up : List ℕ) (b : Buffer) →
     (release_outcome up b).up ++ items_of (release_outcome up b).after.places ≡ up ++ items_of b.places
 released_all up b =
@@ -370,7 +371,7 @@ last_is_empty n s xs e moved some =
     (s - 1) None refl short
     ∙ none_there (min n s) (s - 1 - length (drop n xs)))
 
--- what leaves the window and what stays is what there was
+-- a move passes up or keeps each item
 pub moved_all : (n : ℕ) (b : Buffer) → items_below n b ++ items_of (with_start_moved n b).places
     ≡ items_of b.places
 moved_all n b =

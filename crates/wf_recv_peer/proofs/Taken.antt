@@ -1,4 +1,4 @@
--- Each frame for the station passes the checks.
+-- Proves that each frame for the station passes all checks, one check after the other.
 use Rattle.std.proofs.Common.{◌≡◌, refl, sym, ℕ, ◌*◌, ◌/◌, ◌%◌, ◌<◌, ◌≤◌, ◌==◌, nat_lt, ◌&&◌, ◌||◌, not, Bool, true, false, List, [], ◌∷◌, length, Option, Some, None, ap, subst, ◌∙◌, if◌then◌else◌, MatchBool, arith}
 use Rattle.std.specs.Prelude.{slice_index}
 use Rattle.std.specs.Str.{bytes_eq}
@@ -21,7 +21,7 @@ use Rattle.wf_recv_peer.specs.declared.reading.Reading.TheVariants.{Data, Reques
 use Rattle.wf_recv_peer.specs.Frames.{IsDataFor, IsRequestFor}
 use Rattle.wf_recv_peer.specs.Receiving.{tid_read, peer_header_fault, peer_kind_fault, block_fault, peer_address_fault, peer_tid_fault, first_peer_fault}
 
--- a check that does not fail leads to the next one
+-- a check that passes leads to the next one
 passes : {X : Type 0} (b : Bool) (fault : X) (rest : Option X) → b ≡ false → rest ≡ None →
     (if b then Some fault else rest) ≡ None
 passes true fault rest e none = absurd (cc)
@@ -53,7 +53,7 @@ none_fails own base octets header kind block address tid =
 
 -- ---- data
 
--- the fields of data, and its first octet
+-- the fields of a data frame, and its first octet
 qos_fields : (octets : List ℕ) (h : HeaderOf) → BeginsWithHeader octets h → h.kind ≡ QosData →
     HasQosFields octets h
 qos_fields octets h layout kind = subst (λ (k : KindOf). MatchBool (is_qos k) (HasQosFields octets h)
@@ -84,7 +84,7 @@ data_tid octets h first tid low =
     else Request (slice_index octets 17 / 16) (number_at octets 18 / 16)))) first
     ∙ (ap tid_of tid ∙ tid_fine h.tid low)
 
--- the first octet of data, and enough octets
+-- the first octet of a data frame, and enough octets
 header_of_data : (os : List ℕ) → 25 ≤ length os → is_malformed (0x88 ∷ os) ≡ false →
     first_header_fault (0x88 ∷ os) ≡ None
 header_of_data os long fine =
@@ -104,7 +104,7 @@ neither : (a b : Bool) → a ≡ false → b ≡ false → (a || b) ≡ false
 neither true b e f = absurd (cc)
 neither false b e f = f
 
--- a number that ends in four bits of 0
+-- a number whose last four bits are 0
 no_fragment : (n k : ℕ) → n ≡ 16 * k → not (n % 16 == 0) ≡ false
 no_fragment n k is =
     let none : n % 16 ≡ 0 = omega (arith, is) in

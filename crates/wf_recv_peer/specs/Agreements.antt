@@ -1,5 +1,5 @@
--- The receive half of one station: for each traffic identifier (TID) a scoreboard and a reordering buffer,
--- which hear the same numbers.
+-- Defines the receive half of one station: for each traffic identifier (TID) a scoreboard and a reordering
+-- buffer, which handle the same numbers.
 use Rattle.std.specs.Prelude.{◌≡◌, ℕ, List, [], ◌++◌, replicate, slice_set, slice_index_or, Option, MatchOption}
 use Rattle.wf_recv_peer.specs.Board.{Board, empty_board}
 use Rattle.wf_recv_peer.specs.Board.{after_number as board_arrived, after_start as board_requested}
@@ -16,13 +16,13 @@ pub record AgreementValue : Type 0 where
 pub record PeerValue : Type 0 where
   pub own : List ℕ  -- the station's address
   pub base : List ℕ  -- the access point's
-  pub agreements : List AgreementValue  -- eight, by their TIDs
+  pub agreements : List AgreementValue  -- eight, by TID
 
--- nothing has arrived
+-- an agreement of which no number arrived
 abbrev pub new_agreement : ℕ → ℕ → AgreementValue
 new_agreement start size = record { board = empty_board start size; buffer = empty_buffer 256 start size }
 
--- of the station with the address `own`, at the access point with the address `base`
+-- the half of the station with the address `own`, at the access point with the address `base`
 abbrev pub new_peer : List ℕ → List ℕ → ℕ → ℕ → PeerValue
 new_peer own base start size = record {
   own = own;
@@ -35,13 +35,13 @@ new_peer own base start size = record {
 abbrev pub agreement : PeerValue → ℕ → AgreementValue
 agreement p tid = slice_index_or p.agreements tid (new_agreement 0 256)
 
--- ---- a frame is heard
+-- ---- the half after a frame
 
 abbrev pub board_after : Reading → Board → Board
 board_after (Data tid number) b = board_arrived number b
 board_after (Request tid start) b = board_requested start b
 
--- a data frame's item has this id
+-- `id` is the id of a data frame's item
 abbrev pub buffer_outcome : Reading → ℕ → Buffer → BufferOutcome
 buffer_outcome (Data tid number) id b = buffer_arrived number id b
 buffer_outcome (Request tid start) id b = buffer_requested start b
@@ -53,7 +53,7 @@ agreement_after reading id a = record {
       (buffer_outcome reading id a.buffer).after;
 }
 
--- the agreement of the frame's TID hears it, and the others stay
+-- the agreement of the frame's TID handles it, and the others are unchanged
 abbrev pub after_frame : Reading → ℕ → PeerValue → PeerValue
 after_frame reading id p = record p {
   agreements =
@@ -64,12 +64,12 @@ after_frame reading id p = record p {
 abbrev pub buffer_of_tid : Reading → PeerValue → Buffer
 buffer_of_tid reading p = (agreement p (tid_read reading)).buffer
 
--- what that buffer releases
+-- what that buffer passes up, returns and stores
 abbrev pub outcome_of_frame : Reading → ℕ → PeerValue → BufferOutcome
 outcome_of_frame reading id p = buffer_outcome reading id (buffer_of_tid reading p)
 
--- Each item once. Of data: where the new item is not given back, what is passed up and what is stored are
--- what was stored and it. Of a request: they are what was stored.
+-- Each item exactly once. For data: if the new item is not returned, the items that are passed up and stored
+-- are those that were stored before, and the new one. For a request: they are those that were stored before.
 abbrev pub IsEachOnce : Reading → ℕ → List ℕ → Option ℕ → Buffer → Buffer → Type 0
 IsEachOnce (Data tid number) id up back before after =
     MatchOption back (HasOneMore id (items_of before.places) (up ++ items_of after.places))

@@ -1,5 +1,5 @@
--- The BlockAck that a station with the address `own` answers with: from it to the access point, whose address
--- is `base`, with Duration 0 and what the scoreboard of the TID shows.
+-- Defines the BlockAck of a station with the address `own`: it goes to the access point, whose address is
+-- `base`, and has Duration 0 and the start and bits of the TID's scoreboard.
 use Rattle.std.specs.Prelude.{◌≡◌, ℕ, nat_lt, List, take, MatchBool, if◌then◌else◌}
 use Rattle.wf_recv_peer.specs.Board.{Board}
 use Rattle.wf_octets.specs.declared.block.frames.Ba.{Ba}
@@ -26,7 +26,7 @@ wide_answer own base tid b = record {
   bits = b.offsets;
 }
 
--- the octets have the layout, and each free bit is 0
+-- the octets have the layout, and each bit that it leaves open is 0
 pub record IsWritten (octets : List ℕ) (ba : Ba) : Type 0 where
   pub layout : IsBlockAck octets ba
   pub head : take 20 octets ≡ head_octets answer narrow_form (head_of_ba ba)
@@ -35,7 +35,7 @@ pub record IsWrittenWide (octets : List ℕ) (ba : WideBa) : Type 0 where
   pub layout : IsWideBa octets ba
   pub head : take 20 octets ≡ head_octets answer wide_form (head_of_wide ba)
 
--- the wide one answers where the window is above 64
+-- the BlockAck of 256 bits is for windows above 64
 abbrev pub answer_size : Board → ℕ
 answer_size b = if nat_lt 64 b.size then 52 else 28
 

@@ -1,30 +1,30 @@
--- The recipient's reordering buffer of one block acknowledgement agreement, for every sequence of numbers
--- whatever: IEEE 802.11-2012, 9.21.7.6. All comparisons are modulo 4096: a number stands as far past the
--- start as `distance` says, and one that is more than 2047 past it stands behind it.
+-- Defines the recipient's reordering buffer of one block acknowledgement agreement, for every sequence of
+-- numbers (IEEE 802.11-2012, 9.21.7.6). All comparisons are modulo 4096: `distance` says how far a number is
+-- past the start, and a number more than 2047 past it counts as before it.
 use Rattle.std.specs.Prelude.{◌≡◌, ◌≤◌, length, ℕ, suc, ◌+◌, ◌-◌, ◌%◌, min, nat_lt, nat_le, ◌&&◌, List, [], ◌∷◌, ◌++◌, take, drop, replicate, slice_set, slice_index_or, Option, None, Some, is_some, if◌then◌else◌}
 use Rattle.std.specs.Option.{option_map}
 use Rattle.wf_octets.specs.Distance.{distance}
 
--- a window of `size` numbers from the start on, and the item that is stored of each
+-- a window of `size` numbers from the start on, and the stored item of each
 pub record Buffer : Type 0 where
   pub capacity : ℕ  -- the greatest size
   pub start : ℕ  -- 0 to 4095
   pub size : ℕ
   pub places : List (Option ℕ)
 
--- what a call leads to: the items that are passed up, in order, the item that is given back, and the buffer
+-- the outcome of a call: the items that are passed up, in order, the item that is returned, and the buffer
 pub record BufferOutcome : Type 0 where
   pub up : List ℕ
   pub back : Option ℕ
   pub after : Buffer
 
--- the items that are stored, in order
+-- the stored items, in order
 abbrev pub items_of : List (Option ℕ) → List ℕ
 items_of [] = []
 items_of (None ∷ places) = items_of places
 items_of (Some item ∷ places) = item ∷ items_of places
 
--- how many places from the first on hold an item, without a hole
+-- how many places from the first on hold an item without a gap
 abbrev pub run_of : List (Option ℕ) → ℕ
 run_of [] = 0
 run_of (None ∷ places) = 0
@@ -45,11 +45,11 @@ empty_buffer capacity start size = record {
       replicate size None;
 }
 
--- the stored number least ahead of the start
+-- the first stored number from the start on
 abbrev pub first_stored_of : Buffer → Option ℕ
 first_stored_of b = option_map (λ d. (b.start + d) % 4096) (first_stored b.places)
 
--- the item of the number that stands d past the start
+-- the buffer with this item stored d past the start
 abbrev pub with_stored_item : ℕ → ℕ → Buffer → Buffer
 with_stored_item d item b = record b { places = slice_set b.places d (Some item) }
 
@@ -57,7 +57,7 @@ with_stored_item d item b = record b { places = slice_set b.places d (Some item)
 abbrev pub items_below : ℕ → Buffer → List ℕ
 items_below n b = items_of (take n b.places)
 
--- the start moves n numbers on
+-- the start moves on by n
 abbrev pub with_start_moved : ℕ → Buffer → Buffer
 with_start_moved n b = record b {
   start = (b.start + n) % 4096;
@@ -65,7 +65,7 @@ with_start_moved n b = record b {
       drop n b.places ++ replicate (min n b.size) None;
 }
 
--- after the items `up`, those from the start on without a hole are passed up, and the start moves past them
+-- after the items `up`, those from the start on without a gap are passed up, and the start moves past them
 abbrev pub release_outcome : List ℕ → Buffer → BufferOutcome
 release_outcome up b = record {
   up = up ++ items_below (run_of b.places) b;
@@ -77,19 +77,19 @@ release_outcome up b = record {
 abbrev pub give_back_outcome : ℕ → Buffer → BufferOutcome
 give_back_outcome item b = record { up = []; back = Some item; after = b }
 
--- in the window: the item is stored, unless one is stored already
+-- a number in the window: its item is stored, unless one is stored already
 abbrev pub store_outcome : ℕ → ℕ → Buffer → BufferOutcome
 store_outcome d item b =
     if is_some (slice_index_or b.places d None) then give_back_outcome item b
     else release_outcome [] (with_stored_item d item b)
 
--- n numbers past the window: the window moves so that the number is its last, and what is stored below it is
--- passed up
+-- a number n past the end of the window: the window moves so that the number is its last, and the stored
+-- items below the window are passed up
 abbrev pub jump_outcome : ℕ → ℕ → Buffer → BufferOutcome
 jump_outcome n item b = release_outcome (items_below n b)
     (with_stored_item (b.size - 1) item (with_start_moved n b))
 
--- a number arrives that stands d past the start: it is in the window, or past it, or it stands behind
+-- a number arrives, d past the start: it is in the window, or past it, or before it
 abbrev pub number_outcome_at : ℕ → ℕ → Buffer → BufferOutcome
 number_outcome_at d item b =
     if nat_lt d b.size then store_outcome d item b
@@ -98,8 +98,8 @@ number_outcome_at d item b =
 abbrev pub number_outcome : ℕ → ℕ → Buffer → BufferOutcome
 number_outcome n item b = number_outcome_at (distance n b.start) item b
 
--- a BlockAckReq arrives whose start stands d past the start: the window moves to it and what is stored below
--- it is passed up, or nothing changes
+-- a BlockAckReq arrives whose start is d past this one: the window moves to it and the stored items below it
+-- are passed up, or nothing changes
 abbrev pub request_outcome_at : ℕ → Buffer → BufferOutcome
 request_outcome_at d b =
     if nat_le 1 d && nat_le d 2047 then release_outcome (items_below d b) (with_start_moved d b)
@@ -108,7 +108,7 @@ request_outcome_at d b =
 abbrev pub request_outcome : ℕ → Buffer → BufferOutcome
 request_outcome start b = request_outcome_at (distance start b.start) b
 
--- what holds of a buffer between calls: nothing is stored at its start
+-- the invariant of a buffer between calls: nothing is stored at its start
 pub record NothingAtStart (b : Buffer) : Type 0 where
   pub places : length b.places ≡ b.size
   pub least : 1 ≤ b.size
@@ -116,7 +116,7 @@ pub record NothingAtStart (b : Buffer) : Type 0 where
   pub capacity : b.capacity ≤ 256
   pub start : run_of b.places ≡ 0
 
--- `after` is `before` with one item more, and the others in their order
+-- `after` is `before` with one more item, and the others in the same order
 abbrev pub HasOneMore : ℕ → List ℕ → List ℕ → Type 0
 HasOneMore item before after = (left : List ℕ) × (right : List ℕ) × (before ≡ left ++ right) ×
     (after ≡ left ++ item ∷ right)

@@ -1,5 +1,5 @@
--- The frames that a station with the address `own` takes: from the access point, whose address is `base`, to
--- it, of a traffic identifier below 8.
+-- Defines the frames that a station with the address `own` accepts: they are from the access point, whose
+-- address is `base`, to the station, and of a TID below 8.
 use Rattle.std.specs.Prelude.{◌≡◌, ℕ, ◌<◌, List}
 use Rattle.wf_octets.specs.HeaderLayout.{BeginsWithHeader}
 use Rattle.wf_octets.specs.declared.header.header.Kind.TheVariants.{QosData}
@@ -7,7 +7,7 @@ use Rattle.wf_octets.specs.declared.header.header.Header.{Header}
 use Rattle.wf_octets.specs.BlockLayout.{IsBar}
 use Rattle.wf_octets.specs.declared.block.frames.Bar.{Bar}
 
--- data with this header
+-- a data frame with this header
 pub record IsDataFor (own base : List ℕ) (octets : List ℕ) (h : Header) : Type 0 where
   pub layout : BeginsWithHeader octets h
   pub kind : h.kind ≡ QosData

@@ -1,5 +1,5 @@
--- What octets mean to a station that they reach: the checks, in their order, and what a frame that passes
--- them carries.
+-- Defines the checks of octets that reach a station, in their order, and the content of a frame that passes
+-- them.
 use Rattle.std.specs.Prelude.{ℕ, ◌/◌, ◌%◌, ◌==◌, nat_lt, Bool, false, ◌&&◌, ◌||◌, List, slice_index, Option, Some, None, if◌then◌else◌}
 use Rattle.std.specs.Option.{option_map, option_or}
 use Rattle.std.specs.Str.{bytes_eq}
@@ -20,9 +20,9 @@ is_data_to_peer octets = slice_index octets 0 == first_octet QosData
 abbrev pub is_request_to_peer : List ℕ → Bool
 is_request_to_peer octets = slice_index octets 0 == first_octet BlockAckReq
 
--- what a frame carries: of data the TID in the low four bits of QoS Control and the number in the high twelve
--- of Sequence Control, of a request the TID in the high four bits of the control field and the start in the
--- high twelve of Starting Sequence Control
+-- The content of a frame. A data frame has the TID in the low four bits of QoS Control and the number in the
+-- high twelve of Sequence Control. A request has the TID in the high four bits of the control field and the
+-- start in the high twelve of Starting Sequence Control.
 abbrev pub reading_of : List ℕ → Reading
 reading_of octets =
     if is_data_to_peer octets then Data (slice_index octets qos_at % 16) (number_at octets sequence_at / 16)
@@ -32,7 +32,7 @@ abbrev pub tid_read : Reading → ℕ
 tid_read (Data tid number) = tid
 tid_read (Request tid start) = tid
 
--- ---- the checks: each has its fault, or none
+-- ---- the checks: each returns its fault, or none
 
 abbrev pub peer_header_fault : List ℕ → Option PeerFault
 peer_header_fault octets = option_map Header (first_header_fault octets)
@@ -45,7 +45,7 @@ abbrev pub block_fault : List ℕ → Option PeerFault
 block_fault octets = if is_request_to_peer octets
     then option_map Block (first_block_fault 20 request false octets) else None
 
--- Address 1 is to be the station's, and Address 2 the access point's
+-- Address 1 has to be the station's, and Address 2 the access point's
 abbrev pub peer_address_fault : List ℕ → List ℕ → List ℕ → Option PeerFault
 peer_address_fault own base octets =
     if bytes_eq (part octets address_1_at address_octets) own
@@ -55,7 +55,7 @@ abbrev pub peer_tid_fault : List ℕ → Option PeerFault
 peer_tid_fault octets = if nat_lt (tid_read (reading_of octets)) 8 then None
     else Some (Tid (tid_read (reading_of octets)))
 
--- the first check that fails, at a station with the address `own` whose access point has the address `base`
+-- the first check that fails at a station with the address `own`, whose access point has the address `base`
 abbrev pub first_peer_fault : List ℕ → List ℕ → List ℕ → Option PeerFault
 first_peer_fault own base octets =
     option_or (peer_header_fault octets)

@@ -9,16 +9,13 @@ use crate::reading::Reading;
 use crate::recipient::{Reorder, Score};
 use std::alloc::{AllocError, Global};
 use std::marker::Model;
-use wf_frame::Ids;
+use wf_frame::{GREATEST_WINDOW, Ids, NARROW_WINDOW};
 use wf_octets::bits::{Bits64, Bits256};
 use wf_octets::block::{Ba, WideBa, encode_ba, encode_wide};
 use wf_octets::fields::put;
 use wf_octets::seq12::Seq12;
 
-/// The greatest size of a window.
-const LARGEST: u16 = 256;
-
-/// The scoreboard and the reordering buffer of one traffic identifier.
+/// The scoreboard and the reordering buffer of one TID.
 #[derive(Drop)]
 pub(crate) struct Agreement {
     score: Score,
@@ -37,18 +34,19 @@ impl Model for Agreement {
 }
 
 impl Agreement {
-    /// A window of 256 numbers from 0 on, none of which arrived.
+    /// Creates an agreement with a window of 256 numbers from 0 on, of which none arrived. Fails only if
+    /// memory runs out.
     pub(crate) fn new(alloc: Global) -> Result<Agreement, AllocError>
         ensures { IfOk result (λ a. a ≡ new_agreement 0 256) }
     {
-        let reorder = Reorder::new(alloc, LARGEST)?;
+        let reorder = Reorder::new(alloc, GREATEST_WINDOW)?;
         Ok(Agreement {
             score: Score::new(),
             reorder,
         })
     }
 
-    /// A new agreement: its first number and its window size, 1 to 256 numbers.
+    /// Begins a new agreement with first number `start` and a window of `size`, 1 to 256.
     pub(crate) fn reset(&mut self, start: Seq12, size: u16)
         requires { (1 ≤ size) × (size ≤ 256) }
         ensures { self.new ≡ new_agreement start size }
@@ -57,8 +55,8 @@ impl Agreement {
         self.reorder.reset(start, size);
     }
 
-    /// A frame of its traffic identifier arrived. A data frame has this id, which is handed back exactly
-    /// where it is discarded. What is passed up is put into `up`, which must be empty.
+    /// Handles a frame of its TID. `id` is the id of a data frame. `up` must be empty, and gets the ids that
+    /// the buffer passes up. Returns `id` if, and only if, the frame is discarded.
     pub(crate) fn hear(&mut self, reading: Reading, id: u64, up: &mut Ids) -> Option<u64>
         requires { up.old ≡ [] }
         ensures after { self.new ≡ agreement_after reading id self.old }
@@ -79,15 +77,15 @@ impl Agreement {
         }
     }
 
-    /// Whether its window has more numbers than the BlockAck of 64 shows.
+    /// Returns whether the window is above 64, the number of bits of the compressed BlockAck.
     fn is_wide(&self) -> bool
         ensures { result ≡ nat_lt 64 self.now.board.size }
     {
-        self.score.size() > 64
+        self.score.size() > NARROW_WINDOW
     }
 
-    /// Writes the BlockAck of a traffic identifier, from the station with the address `own` to the access
-    /// point with the address `base`, and answers its size in octets.
+    /// Writes the BlockAck of a TID, from the station with the address `own` to the access point with the
+    /// address `base`, and returns its size in octets.
     pub(crate) fn answer(&self, own: [u8; 6], base: [u8; 6], tid: u8, out: &mut [u8; 52]) -> usize
         requires { tid < 8 }
         ensures length { result ≡ answer_size self.now.board }
@@ -104,7 +102,7 @@ impl Agreement {
     }
 }
 
-/// Writes the BlockAck of 256 numbers.
+/// Writes the BlockAck of 256 bits.
 fn write_wide(score: &Score, own: [u8; 6], base: [u8; 6], tid: u8, out: &mut [u8; 52])
     requires { tid < 8 }
     ensures { IsWrittenWide out.new (wide_answer own base tid score.now) }
@@ -121,7 +119,7 @@ fn write_wide(score: &Score, own: [u8; 6], base: [u8; 6], tid: u8, out: &mut [u8
     encode_wide(&ba, out);
 }
 
-/// Writes the BlockAck of 64 numbers.
+/// Writes the BlockAck of 64 bits.
 fn write_narrow(score: &Score, own: [u8; 6], base: [u8; 6], tid: u8, out: &mut [u8; 52])
     requires tid { tid < 8 }
     requires narrow { score.now.size ≤ 64 }
@@ -142,7 +140,7 @@ fn write_narrow(score: &Score, own: [u8; 6], base: [u8; 6], tid: u8, out: &mut [
     put(out, 0, &octets);
 }
 
-/// The same offsets, all of which are below 64.
+/// Returns a bitmap of 64 bits with the same offsets, all of which are below 64.
 fn narrowed(bits: Bits256) -> Bits64
     requires { IsOffsets 64 bits }
     ensures { result ≡ bits }

@@ -1,3 +1,5 @@
+//! Why a station refuses octets off the air.
+
 ghost use Rattle.std.specs.Prelude.{◌≡◌};
 ghost use Rattle.wf_recv_peer.specs.declared.fault.PeerFault.TheVariants.{Header, Block};
 
@@ -5,23 +7,23 @@ use thiserror::Error;
 use wf_octets::block::BlockFault;
 use wf_octets::header::HeaderFault;
 
-/// Why octets off the air are no frame for the station. The variants stand in the order of the checks, and
-/// the first check that fails is told.
+/// Why octets off the air are no frame for the station. The variants are in the order of the checks; the
+/// first check that fails is the fault.
 #[derive(Clone, Copy, Debug, PartialEq, Eq, Error)]
 pub enum PeerFault {
-    /// They begin with no header.
+    /// The octets begin with no header.
     #[error(transparent)]
     Header(HeaderFault),
-    /// The frame is neither QoS Data nor a BlockAckReq. This is its first octet.
+    /// The frame is neither QoS Data nor a BlockAckReq. Contains its first octet.
     #[error("a frame that is neither data nor a request, {0:#04x}")]
     Kind(u8),
-    /// It begins as a BlockAckReq and is none.
+    /// The first octet is that of a BlockAckReq, but the frame is none.
     #[error(transparent)]
     Block(BlockFault),
-    /// Address 1 is not the station's, or Address 2 not the access point's.
+    /// Address 1 is not the station's, or Address 2 is not the access point's.
     #[error("a frame from or to another station")]
     NotMine,
-    /// The traffic identifier is above 7.
+    /// The TID is above 7. Contains the TID.
     #[error("traffic identifier {0}, past 7")]
     Tid(u8),
 }

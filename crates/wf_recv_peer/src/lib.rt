@@ -1,9 +1,19 @@
-//! The receive half of one station, `Peer`, for all octets whatever: `receive` takes octets off the air and
-//! refuses for the first check that fails and changes nothing, else the scoreboard and the reordering buffer
-//! of the octets' traffic identifier (TID) hear the number or the start; `answer` writes the scoreboard's
-//! BlockAck, the wide one for windows above 64 (IEEE 802.11-2012, 9.21.7).
+//! The receive half of one station (`Peer`). It handles all octets: `receive` takes octets off the air and
+//! checks them. If a check fails, it returns the first that does and changes nothing. Otherwise the
+//! scoreboard and the reordering buffer of the frame's traffic identifier (TID) handle its number or start.
+//! `answer` writes the BlockAck of the scoreboard, with 256 bits for windows above 64 (IEEE 802.11-2012,
+//! 9.21.7).
 //!
-//! The scoreboard and the reordering buffer of one agreement are the module `recipient`.
+//! ```text
+//! let mut peer = Peer::new(alloc, own, base)?;
+//! peer.reset(Seq12::of(500), 64);                  // each TID begins at 500 with a window of 64
+//! let mut up = Ids::new();
+//! let back = peer.receive(octets, id, &mut up)?;   // up: the ids that go up now, in order
+//! let mut out = [0; 52];
+//! let size = peer.answer(5, &mut out);             // the BlockAck of TID 5, 28 octets
+//! ```
+//!
+//! The module `recipient` has the scoreboard and the reordering buffer of one agreement.
 #![tactic(auto)]
 
 mod agreement;

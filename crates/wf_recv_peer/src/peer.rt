@@ -18,11 +18,11 @@ use std::marker::Model;
 use wf_frame::Ids;
 use wf_octets::seq12::Seq12;
 
-/// How many traffic identifiers have an agreement.
+/// The number of TIDs that have an agreement.
 const TIDS: usize = 8;
 
-/// The receive half of one station: its own address and the access point's, and for each traffic identifier 0
-/// to 7 a block acknowledgement agreement with the access point.
+/// The receive half of one station: its own address and the access point's, and a block acknowledgement
+/// agreement with the access point for each TID, 0 to 7.
 #[derive(Drop)]
 pub struct Peer {
     own: [u8; 6],
@@ -61,13 +61,12 @@ fn reset_all(agreements: &mut [Agreement], start: Seq12, size: u16)
 }
 
 impl Peer {
-    /// The receive half of the station with the address `own`, at the access point with the address `base`.
-    /// It takes frames from `base` to `own`, and its BlockAcks go from `own` to `base`. Both are octets as
-    /// they are in a frame, the first one first (IEEE 802.11-2012, 8.2.4.3). Any six octets will do: no call
-    /// refuses a group address, whose first octet is odd. Each window is of 256 numbers from 0 on, and
-    /// nothing has arrived.
+    /// Creates the receive half of the station with the address `own`, at the access point with the address
+    /// `base`. It accepts frames from `base` to `own`, and its BlockAcks go from `own` to `base`. An address
+    /// has its octets in the order of a frame (IEEE 802.11-2012, 8.2.4.3). All addresses are allowed, group
+    /// addresses included. Each window is of 256 numbers from 0 on, of which none arrived.
     ///
-    /// Fails for want of memory, which no other call takes.
+    /// Fails only if memory runs out; no other call allocates.
     pub fn new(alloc: Global, own: [u8; 6], base: [u8; 6]) -> Result<Peer, AllocError>
         ensures { IfOk result (λ p. p ≡ new_peer own base 0 256) }
     {
@@ -79,8 +78,8 @@ impl Peer {
         })
     }
 
-    /// New agreements for all eight traffic identifiers: their first number, and their window size, 1 to 256
-    /// numbers. What is stored goes.
+    /// Begins new agreements for all eight TIDs, with first number `start` and a window of `size`, 1 to 256.
+    /// Stored items are dropped.
     pub fn reset(&mut self, start: Seq12, size: u16)
         requires { (1 ≤ size) × (size ≤ 256) }
         ensures { self.new ≡ new_peer self.old.own self.old.base start size }
@@ -88,10 +87,11 @@ impl Peer {
         reset_all(&mut self.agreements, start, size);
     }
 
-    /// Octets reached the station: a data frame, whose item has this id, or a BlockAckReq. The scoreboard and
-    /// the reordering buffer of its traffic identifier hear of it. What the buffer passes up, in the order of
-    /// its numbers, is put into `up`, which must be empty. The id is handed back exactly where its item is
-    /// discarded: its number is stored already, or stands behind the window.
+    /// Handles octets that reached the station: a data frame, whose item has this id, or a BlockAckReq. The
+    /// scoreboard and the reordering buffer of its TID handle it. `up` must be empty, and gets the items that
+    /// the buffer passes up, in the order of their numbers. Returns the id if, and only if, its item is
+    /// discarded because its number is already stored or is before the window. If the octets are no frame for
+    /// the station, returns the first check that fails and changes nothing.
     pub fn receive(
         &mut self,
         octets: &[u8],
@@ -100,18 +100,18 @@ impl Peer {
     ) -> Result<Option<u64>, PeerFault>
         requires { up.old ≡ [] }
 
-        // refused exactly where a check fails, for the first that does
+        // refused exactly if a check fails, with the first that does
         ensures fault { result_err result ≡ first_peer_fault self.old.own self.old.base octets.now }
         ensures unchanged { OnErr result (self.new ≡ self.old) }
         ensures nothing_up { OnErr result (up.new ≡ []) }
 
-        // so each frame for the station is taken, and read as its header or its fields say
+        // so each frame for the station is accepted, and read as its header or its fields say
         ensures data { (h : Header) → IsDataFor self.old.own self.old.base octets.now h →
             IsOk result × (reading_of octets.now ≡ Data h.tid h.seq) }
         ensures request { (b : Bar) → IsRequestFor self.old.own self.old.base octets.now b →
             IsOk result × (reading_of octets.now ≡ Request b.tid b.start) }
 
-        // then one agreement hears of it, and the others stay
+        // then one agreement handles it, and the others are unchanged
         ensures after { OnOk result (self.new ≡ after_frame (reading_of octets.now) id self.old) }
         ensures up { OnOk result (up.new ≡ (outcome_of_frame (reading_of octets.now) id self.old).up) }
         ensures back { IfOk result (λ back. back
@@ -126,8 +126,8 @@ impl Peer {
         Ok(agreement.hear(reading, id, up))
     }
 
-    /// Writes the BlockAck of a traffic identifier below 8, and answers its size in octets: 52 where the
-    /// window is above 64 numbers, else 28. The rest of `out` stays.
+    /// Writes the BlockAck of a TID, 0 to 7, and returns its size in octets: 52 if the window is above 64,
+    /// otherwise 28. The rest of `out` is unchanged.
     pub fn answer(&self, tid: u8, out: &mut [u8; 52]) -> usize
         requires { tid < 8 }
         ensures length { result ≡ answer_size (agreement self.now tid).board }

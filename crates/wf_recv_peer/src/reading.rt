@@ -1,4 +1,4 @@
-//! What octets off the air mean to a station.
+//! Reads octets off the air.
 
 ghost use Rattle.std.specs.Prelude.{◌≡◌, ◌<◌, ◌&&◌, IfOk, OnOk};
 ghost use Rattle.std.specs.Option.{option_or};
@@ -13,17 +13,17 @@ use wf_octets::block::decode_bar;
 use wf_octets::header::{Header, Kind, decode};
 use wf_octets::seq12::Seq12;
 
-/// A frame for the station, as far as its agreements go.
+/// The content of a frame for the station, as its agreements need it.
 #[derive(Clone, Copy)]
 pub(crate) enum Reading {
     /// A number of a TID arrived.
     Data { tid: u8, number: Seq12 },
-    /// The originator asks for a BlockAck of a TID, from this number on.
+    /// The originator requests a BlockAck of a TID with this start.
     Request { tid: u8, start: Seq12 },
 }
 
 impl Reading {
-    /// The traffic identifier.
+    /// Returns the TID.
     pub(crate) fn tid(&self) -> u8
         ensures { result ≡ tid_read self.now }
     {
@@ -34,6 +34,7 @@ impl Reading {
 }
 
 /// Reads octets that reach the station with the address `own`, whose access point has the address `base`.
+/// Returns the first check that fails, if any does.
 pub(crate) fn read(own: [u8; 6], base: [u8; 6], octets: &[u8]) -> Result<Reading, PeerFault>
     ensures fault { result_err result ≡ first_peer_fault own base octets.now }
     ensures reading { IfOk result (λ reading. reading ≡ reading_of octets.now) }
@@ -51,7 +52,7 @@ pub(crate) fn read(own: [u8; 6], base: [u8; 6], octets: &[u8]) -> Result<Reading
     Ok(reading)
 }
 
-/// What a frame with this header carries.
+/// Reads the content of a frame with this header.
 fn carried(header: &Header, octets: &[u8]) -> Result<Reading, PeerFault>
     requires { BeginsWithHeader octets.now header.now }
     ensures fault { result_err result ≡ option_or (peer_kind_fault octets.now) (block_fault octets.now) }
@@ -77,7 +78,8 @@ fn carried(header: &Header, octets: &[u8]) -> Result<Reading, PeerFault>
     }
 }
 
-/// Whether a frame goes to the station with the address `own`, from the access point with the address `base`.
+/// Returns whether a frame is from the access point with the address `base` to the station with the address
+/// `own`.
 fn is_mine(own: [u8; 6], base: [u8; 6], header: &Header) -> bool
     ensures { result ≡ (bytes_eq header.now.a1 own && bytes_eq header.now.a2 base) }
 {

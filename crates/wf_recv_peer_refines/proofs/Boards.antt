@@ -1,4 +1,5 @@
--- The scoreboard that stands for a receiver, when a number or a request start arrives.
+-- Proves that the scoreboard represents its receiver after a number or the start of a request arrives. By
+-- cases: in the window, past it, or before it.
 use Rattle.std.proofs.Common.{◌≡◌, ℕ, suc, ◌+◌, ◌-◌, ◌%◌, ◌<◌, ◌≤◌, ◌==◌, max, Bool, ◌||◌, List, sym, ◌∙◌, ap, ap₂, inl, inr, arith}
 use Rattle.std.proofs.lemmas.Bool.{cases_eq, cases_lt, eq-eqb, ne_eqb, le-leb, lt-leb, lt-ltb, le-ltb}
 use Rattle.wf_def_lists.specs.Table.{has, with_member}
@@ -18,7 +19,7 @@ rises_down : (end s : ℕ) (xs : List ℕ) → RisesBetween 0 end xs → RisesBe
 rises_down end s xs r = rises_wider (0 - s) (end - s) 0 (end - s) (moved_down s xs) (omega arith)
     (omega arith) (rises-moved_down 0 end s xs r)
 
--- an offset more, put in before or after the move
+-- adding an offset before or after the move gives the same
 put_down : (end n s : ℕ) (xs : List ℕ) → s ≤ n → n < end → RisesBetween 0 end xs →
     with_member (n - s) (moved_down s xs) ≡ moved_down s (with_member n xs)
 put_down end n s xs low high r =
@@ -37,7 +38,7 @@ put_down end n s xs low high r =
       | inr o ↦ ne_eqb (n - s) i (λ q. o (omega arith)) ∙ sym (ne_eqb n (i + s) o)
     ]
 
--- moved down twice
+-- two moves are one
 down_twice : (end m s : ℕ) (xs : List ℕ) → RisesBetween 0 end xs →
     moved_down m (moved_down s xs) ≡ moved_down (s + m) xs
 down_twice end m s xs r =
@@ -49,11 +50,11 @@ down_twice end m s xs r =
     assoc : (i : ℕ) → i + m + s ≡ i + (s + m)
     assoc i = omega arith
 
--- what a scoreboard shows: no number stands past its window
+-- the offsets that a scoreboard shows; no number is past its window
 pub offsets-down : (r : Receiver) → IsOrderly r → (score r).offsets ≡ moved_down (score_start r) r.arrived
 offsets-down r o = down_from 0 (score_start r) (score_start r + r.size) r.arrived o.rising
 
--- a scoreboard of a window from s on, where these numbers arrived
+-- the scoreboard of a window from s on, with these numbers arrived
 abbrev pub board_at : ℕ → ℕ → List ℕ → Board
 board_at w s xs = record { start = s % 4096; size = w; offsets = moved_down s xs }
 
@@ -84,7 +85,7 @@ after_inside end w s n d xs r high e low inside =
     ∙ ap (λ (os : List ℕ). record { start = s % 4096; size = w; offsets = os })
     (ap (λ (k : ℕ). with_member k (moved_down s xs)) e ∙ put_down end n s xs low high r)
 
--- past it: the window moves so that the number is its last
+-- past the window: it moves so that the number is its last
 after_jump : (end w s t n d : ℕ) (xs : List ℕ) → RisesBetween 0 end xs → n < end → d ≡ n - s → s ≤ n → w ≤ d →
     d ≤ 2047 → 1 ≤ w → t ≡ suc n - w →
     after_number_at d (board_at w s xs) ≡ board_at w t (with_member n xs)

@@ -1,4 +1,5 @@
--- The reordering buffer that stands for a receiver, when a number or a request start arrives.
+-- Proves that the reordering buffer represents its receiver after a number or the start of a request arrives,
+-- and passes up the same numbers. By cases: in the window, past it, or before it.
 use Rattle.std.proofs.Common.{◌≡◌, ℕ, ◌+◌, ◌-◌, ◌%◌, ◌<◌, ◌≤◌, nat_lt, nat_le, Bool, true, false, cond, ◌&&◌, List, [], ◌∷◌, ◌++◌, map, filter, get_or, set, Option, None, Some, is_some, refl, sym, ◌∙◌, ap, ap₂, ◌⊎◌, inl, inr, arith}
 use Rattle.std.proofs.lemmas.Bool.{cases_Bool, cases_eq, cases_lt, le-leb, lt-leb, lt-ltb, le-ltb, both_ways}
 use Rattle.wf_def_lists.specs.Table.{has, with_member, count_from}
@@ -42,7 +43,7 @@ asked_here b = refl
 asked_behind : (d : ℕ) (b : Buffer) → 1 ≤ d → 2047 < d → request_outcome_at d b ≡ unchanged b
 asked_behind d b h k = rw (le-leb 1 d h, lt-leb d 2047 k)
 
--- ---- a buffer of a window from b on, where these numbers arrived
+-- ---- the buffer of a window from b on, with these numbers arrived
 
 abbrev pub buffer_at : ℕ → (ℕ → ℕ) → ℕ → ℕ → List ℕ → Buffer
 buffer_at capacity ids w b xs = record {
@@ -53,7 +54,7 @@ buffer_at capacity ids w b xs = record {
       map (stored_of ids xs) (count_from b w);
 }
 
--- nothing is stored past the window
+-- no number past the window has arrived
 abbrev IsClear : ℕ → ℕ → List ℕ → Type 0
 IsClear w b xs = (k : ℕ) → b + w ≤ k → has xs k ≡ false
 
@@ -65,7 +66,7 @@ moved capacity ids w b m d xs h e clear =
     (window_turned (stored_of ids xs) b d w h (λ k l. stored_not ids xs k (clear k l))
     ∙ ap (λ (k : ℕ). map (stored_of ids xs) (count_from k w)) e)
 
--- what is passed up first, and then all from b on to the next number that is missing
+-- a release passes up `up`, and then all from b on to the next missing number
 release : (capacity : ℕ) (ids : ℕ → ℕ) (w b m : ℕ) (xs up : List ℕ) → b ≤ m → m ≤ b + w → IsClear w b xs →
     ((k : ℕ) → b ≤ k → k < m → has xs k ≡ true) → has xs m ≡ false →
     release_outcome up (buffer_at capacity ids w b xs)
@@ -90,7 +91,7 @@ release capacity ids w b m xs up low high clear below out =
     run = run_window ids xs b w (m - b) (omega arith) (λ k p q. below k p (omega arith))
         (ap (has xs) (omega arith) ∙ out)
 
--- the numbers of an empty stretch
+-- no number is in an empty range
 none_between : (b : ℕ) (xs : List ℕ) → filter (λ k. nat_le b k && nat_lt k b) xs ≡ []
 none_between b [] = refl
 none_between b (x ∷ xs) = step (nat_le b x && nat_lt x b) (outside (cases_lt x b)) (none_between b xs)
@@ -107,7 +108,7 @@ none_between b (x ∷ xs) = step (nat_le b x && nat_lt x b) (outside (cases_lt x
 
 -- ---- a number arrives
 
--- what is given back: the id, where the number had arrived
+-- the returned item: the id, if the number had arrived before
 abbrev pub back_of : (ℕ → ℕ) → Receiver → ℕ → Option ℕ
 back_of ids r n = stored_of ids r.arrived n
 
@@ -119,7 +120,7 @@ outcome_of capacity ids r back after = record {
       buffer_of capacity ids after;
 }
 
--- where it had arrived, nothing changes
+-- if it had arrived before, nothing changes
 again : (capacity : ℕ) (ids : ℕ → ℕ) (r : Receiver) (n : ℕ) → IsOrderly r → has r.arrived n ≡ true →
     give_back_outcome (ids n) (buffer_of capacity ids r)
     ≡ outcome_of capacity ids r (back_of ids r n) (with_arrived n r)
@@ -221,7 +222,7 @@ buffer_takes capacity ids r n o reach = elim (cases_lt n b) [
 
 -- ---- a request start arrives
 
--- a start at or below what was passed up changes nothing
+-- a start at or below the next number to be passed up changes nothing
 asked_low : (capacity : ℕ) (ids : ℕ → ℕ) (r : Receiver) (f : ℕ) → IsOrderly r → f ≤ release_start r →
     unchanged (buffer_of capacity ids r) ≡ outcome_of capacity ids r None (with_start f r)
 asked_low capacity ids r f o low =

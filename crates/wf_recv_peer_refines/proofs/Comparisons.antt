@@ -1,13 +1,13 @@
--- Two numbers that are at most 2047 apart, and the 12-bit numbers that stand for them.
+-- Proves how two numbers that are at most 2047 apart compare modulo 4096, by linear arithmetic.
 use Rattle.std.proofs.Common.{◌≡◌, ℕ, ◌+◌, ◌-◌, ◌%◌, ◌<◌, ◌≤◌, arith}
 use Rattle.wf_octets.specs.Distance.{distance}
 use Rattle.wf_recv_peer_refines.specs.Half.{ComparesRight}
 
--- as far ahead
+-- n is at or past b
 pub distance_ahead : (n b : ℕ) → b ≤ n → n ≤ b + 2047 → distance (n % 4096) (b % 4096) ≡ n - b
 distance_ahead n b p q = omega arith
 
--- behind
+-- n is below b
 pub distance_back : (n b : ℕ) → n < b → b ≤ n + 2047 → 2047 < distance (n % 4096) (b % 4096)
 distance_back n b p q = omega arith
 
@@ -18,6 +18,6 @@ compares n b p q = record {
   behind = λ h. distance_back n b h q;
 }
 
--- the 12-bit number that is so many past another
+-- the number d past another, modulo 4096
 pub moved_start : (b d : ℕ) → (b % 4096 + d) % 4096 ≡ (b + d) % 4096
 moved_start b d = omega arith

@@ -1,4 +1,4 @@
--- A receive half and the receiver that it stands for: the laws.
+-- Proves the laws of a receive half from the lemmas about its scoreboard and its buffer.
 use Rattle.std.proofs.Common.{◌≡◌, ℕ, ◌+◌, ◌-◌, ◌%◌, ◌≤◌, true, List, [], map, Option, None, Some, refl, sym, ◌∙◌, ap, ap₂, inl, inr, arith}
 use Rattle.std.proofs.lemmas.Bool.{cases_Bool}
 use Rattle.wf_def_lists.specs.Table.{has, bits_word}

@@ -1,5 +1,5 @@
--- The proofs of the laws, from the ground up: how 12-bit numbers compare, rising lists, the receiver's two
--- starts, the scoreboard, the buffer, and what answers the functions.
+-- The proofs of the laws, from the lowest up: comparisons of 12-bit numbers, rising lists, the receiver's two
+-- starts, the scoreboard, the buffer, and the laws.
 mod Comparisons
 mod Rising
 mod Starts

@@ -1,11 +1,12 @@
--- Rising lists of numbers as sets: a member more, a filter, and a stretch of numbers.
+-- Proves properties of rising lists of numbers as sets: adding a member, filtering, and the numbers of a
+-- range.
 use Rattle.std.proofs.Common.{◌≡◌, ℕ, zero, suc, ◌+◌, ◌-◌, ◌<◌, ◌≤◌, ◌==◌, nat_lt, nat_le, Bool, true, false, cond, ◌&&◌, ◌||◌, List, [], ◌∷◌, map, filter, refl, sym, ◌∙◌, ap, subst, inl, inr, arith}
 use Rattle.std.proofs.lemmas.Bool.{cases_eq, cases_lt, or_left, or_right, eq-eqb, ne_eqb, eqb-true, le-leb, lt-leb, lt-ltb, le-ltb, both_ways}
 use Rattle.wf_def_lists.specs.Table.{has, with_member, count_from}
 use Rattle.wf_octets.specs.Offsets.{RisesBetween, moved_down}
 use Rattle.wf_octets.proofs.Sets.{has_from, has_not_below, has_not_above, rises_wider, same_members, has-with_member, rises-with_member}
 
--- ---- a member more
+-- ---- one more member
 
 pub has-with : (n : ℕ) (xs : List ℕ) (k : ℕ) → has (with_member n xs) k ≡ ((n == k) || has xs k)
 has-with n xs k = has-with_member n xs k
@@ -23,7 +24,7 @@ pub rises-with : (end n : ℕ) (xs : List ℕ) → n < end → RisesBetween 0 en
     RisesBetween 0 end (with_member n xs)
 rises-with end n xs high r = rises-with_member 0 end n xs (omega arith) high r
 
--- a member that the set has already
+-- adding a number that is already a member changes nothing
 pub with_known : (end n : ℕ) (xs : List ℕ) → RisesBetween 0 end xs → has xs n ≡ true → with_member n xs ≡ xs
 with_known end n xs r h =
     let below : (0 ≤ n) × (n < end) = has_from 0 end xs n r h in
@@ -37,7 +38,7 @@ with_known end n xs r h =
       | inr other ↦ ap (λ (b : Bool). b || has xs k) (ne_eqb n k other)
     ]
 
--- ---- what passes a test
+-- ---- the members that pass a test
 
 pub has-filter : (p : ℕ → Bool) (xs : List ℕ) (n : ℕ) → has (filter p xs) n ≡ (p n && has xs n)
 has-filter p [] n = none (p n)
@@ -72,7 +73,7 @@ rises-filter p from end (x ∷ xs) r = first (p x) (rises-filter p (suc x) end x
     first false h = let low : from ≤ x = r.0 in rises_wider (suc x) end from end (filter p xs) (omega arith)
         (omega arith) h
 
--- ---- a stretch of numbers
+-- ---- a range of numbers
 
 pub rises-count : (from n : ℕ) → RisesBetween from (from + n) (count_from from n)
 rises-count from zero = tt
@@ -103,7 +104,7 @@ has-count from n k = elim (cases_lt k from) [
           (there (suc from) n (omega arith) (omega arith))
     ]
 
--- the members of a stretch, in order
+-- the members in a range, in order
 pub stretch_of : (end from n : ℕ) (xs : List ℕ) → RisesBetween 0 end xs →
     filter (has xs) (count_from from n) ≡ filter (λ k. nat_le from k && nat_lt k (from + n)) xs
 stretch_of end from n xs r =
@@ -120,7 +121,7 @@ stretch_of end from n xs r =
     turned false true = refl
     turned false false = refl
 
--- where no member is past the end, those from s on are all those between
+-- if no member is past the end, the members from s on are those from s to the end
 pub down_from : (from s end : ℕ) (xs : List ℕ) → RisesBetween from end xs →
     map (λ n. n - s) (filter (λ n. nat_le s n && nat_lt n end) xs) ≡ moved_down s xs
 down_from from s end [] r = refl

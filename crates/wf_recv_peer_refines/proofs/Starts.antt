@@ -1,4 +1,5 @@
--- The receiver's two starts: the least number that is missing, and the start of the scoreboard.
+-- Proves how the receiver's two starts change: the least missing number, and the start of the scoreboard. By
+-- induction over the numbers that arrived.
 use Rattle.std.proofs.Common.{◌≡◌, ℕ, suc, ◌+◌, ◌-◌, ◌<◌, ◌≤◌, ◌==◌, max, nat_lt, Bool, true, false, cond, ◌||◌, List, [], ◌∷◌, map, refl, sym, ◌∙◌, ap, inl, inr, arith}
 use Rattle.std.proofs.lemmas.Bool.{cases_eq, cases_lt, or_left, or_right, eq-eqb, ne_eqb, eqb-true, both_ways}
 use Rattle.wf_def_lists.specs.Table.{has, with_member}
@@ -14,7 +15,7 @@ pub greatest_least : (n : ℕ) (xs : List ℕ) → n ≤ greatest n xs
 greatest_least n [] = omega arith
 greatest_least n (x ∷ xs) = omega (arith, greatest_least n xs)
 
--- from a greater number on
+-- starting from a greater number
 pub greatest_max : (f n : ℕ) (xs : List ℕ) → greatest (max f n) xs ≡ max f (greatest n xs)
 greatest_max f n [] = refl
 greatest_max f n (x ∷ xs) = ap (λ (k : ℕ). max x k) (greatest_max f n xs) ∙ omega arith
@@ -46,7 +47,7 @@ score_with n g w (x ∷ xs) = step (nat_lt n x) (x == n) (λ e. eqb-true x n e) 
     step false true e h = let same : x ≡ n = e refl in omega arith
     step false false e h = ap (λ (k : ℕ). max (suc x - w) k) h ∙ omega arith
 
--- ---- the least number that is missing
+-- ---- the least missing number
 
 pub missing_least : (n : ℕ) (xs : List ℕ) → n ≤ first_missing n xs
 missing_least n [] = omega arith
@@ -57,7 +58,7 @@ missing_least n (x ∷ xs) = step (x == n) (missing_least (suc n) xs) (missing_l
     step true h k = omega (arith, h)
     step false h k = k
 
--- a rising list has each number below it, and not it
+-- each number below it is in the list
 pub missing_below : (n : ℕ) (xs : List ℕ) (k : ℕ) → n ≤ k → k < first_missing n xs → has xs k ≡ true
 missing_below n [] k low high = absurd (omega (arith, high))
 missing_below n (x ∷ xs) k low high = step (x == n) (λ e. eqb-true x n e) (missing_below (suc n) xs k)
@@ -72,7 +73,7 @@ missing_below n (x ∷ xs) k low high = step (x == n) (λ e. eqb-true x n e) (mi
     ]
     step false e f g h = or_right (x == k) (has xs k) (g h)
 
--- the only number with the list's members from n to below it, and not itself a member
+-- it is the only number that is not in the list while all from n to below it are
 pub missing_is : (from end n m : ℕ) (xs : List ℕ) → RisesBetween from end xs → n ≤ m →
     ((k : ℕ) → n ≤ k → k < m → has xs k ≡ true) →
     has xs m ≡ false → first_missing n xs ≡ m
@@ -95,7 +96,7 @@ missing_is from end n m (x ∷ xs) r low below not_there = elim (cases_eq x n) [
     out : has xs m ≡ false
     out = sym (has_later x xs m apart) ∙ not_there
 
-    -- the number n itself is a member at or past x, so x is not past it
+    -- the number n itself is in the list and at or past x, so x is not past it
     past : (x ≡ n → ⊥) → (k : ℕ) → n ≤ k → k < m → x ≡ k → ⊥
     past other k p q e =
         let least : (x ≤ n) × (n < end) = has_from x end (x ∷ xs) n (omega arith, r.1, r.2)
@@ -123,7 +124,7 @@ missing_not from end n (x ∷ xs) r = elim (cases_eq x n) [
           (has_not_below (suc x) end xs n r.2 (omega arith)))
     ]
 
--- with more members and from a later number on, it is no less
+-- with more members, and from a later number on, it is at least the same
 pub missing_grows : (from end n m : ℕ) (xs ys : List ℕ) → RisesBetween from end ys → n ≤ m →
     ((k : ℕ) → has xs k ≡ true → has ys k ≡ true) →
     first_missing n xs ≤ first_missing m ys
@@ -135,9 +136,9 @@ missing_grows from end n m xs ys r low more = elim (cases_lt (first_missing m ys
   | inr at ↦ at
 ]
 
--- ---- what holds of a receiver
+-- ---- properties of a receiver
 
--- the first number and every request start, the greatest of them
+-- the greatest of the first number and all starts of requests
 abbrev pub told : Receiver → ℕ
 told r = greatest r.first r.starts
 
@@ -151,7 +152,7 @@ pub arrived_below : (r : Receiver) → IsOrderly r → (n : ℕ) → has r.arriv
     n < score_start r + r.size
 arrived_below r o n h = (has_from 0 (score_start r + r.size) r.arrived n o.rising h).1
 
--- nothing that arrived is a window past what was passed up
+-- no number arrived that is a window or more past the next number to be passed up
 pub none_past : (r : Receiver) → IsOrderly r → (n : ℕ) → release_start r + r.size ≤ n →
     has r.arrived n ≡ false
 none_past r o n h = has_not_above 0 (score_start r + r.size) r.arrived n o.rising
@@ -163,7 +164,7 @@ passed_up r n = missing_below (told r) r.arrived n
 pub not_passed_up : (r : Receiver) → IsOrderly r → has r.arrived (release_start r) ≡ false
 not_passed_up r o = missing_not 0 (score_start r + r.size) (told r) r.arrived o.rising
 
--- what was passed up ends at most a window past the scoreboard's start
+-- the next number to be passed up is at most a window past the scoreboard's start
 pub release_score : (r : Receiver) → IsOrderly r → release_start r ≤ score_start r + r.size
 release_score r o = elim (cases_lt (told r) (release_start r)) [
   | inl more ↦
@@ -173,7 +174,7 @@ release_score r o = elim (cases_lt (told r) (release_start r)) [
   | inr none ↦ omega (arith, told_score r)
 ]
 
--- ---- a number more
+-- ---- one more number
 
 pub score_arrived : (r : Receiver) (n : ℕ) → score_start (with_arrived n r)
     ≡ max (suc n - r.size) (score_start r)
@@ -200,7 +201,7 @@ orderly_arrived r n o reach = record {
     grows = missing_grows 0 end (told r) (told r) r.arrived (with_member n r.arrived) rising (omega arith)
         (has_old n r.arrived)
 
--- ---- a request start more
+-- ---- one more start of a request
 
 pub told_start : (r : Receiver) (f : ℕ) → told (with_start f r) ≡ max f (told r)
 told_start r f = greatest_with f r.first r.starts

@@ -1,4 +1,5 @@
--- A window of numbers, as the list of what is stored of each, when its places turn.
+-- Proves how the places of a window change as they turn, with a window as the list of its numbers' stored
+-- ids.
 use Rattle.std.proofs.Common.{◌≡◌, ℕ, zero, suc, ◌+◌, ◌-◌, ◌<◌, ◌≤◌, min, nat_lt, nat_le, Bool, true, false, cond, ◌&&◌, List, ◌∷◌, ◌++◌, length, take, drop, replicate, map, filter, get_or, set, Option, None, Some, refl, sym, ◌∙◌, ap, ap₂, arith}
 use Rattle.wf_def_lists.specs.Table.{has, count_from}
 use Rattle.wf_octets.specs.Offsets.{RisesBetween}
@@ -6,9 +7,9 @@ use Rattle.wf_recv_peer.specs.Buffer.{items_of, run_of}
 use Rattle.wf_recv_peer_refines.specs.Half.{stored_of}
 use Rattle.wf_recv_peer_refines.proofs.Rising.{stretch_of}
 
--- ---- what a test or a value says of each of n numbers from b on
+-- ---- the values of a function for n numbers from b on
 
--- n numbers and m more
+-- m numbers, and n more
 pub window_joined : (p : ℕ → Option ℕ) (b m n k : ℕ) → m + n ≡ k →
     map p (count_from b m) ++ map p (count_from (b + m) n) ≡ map p (count_from b k)
 window_joined p b zero n k e = ap₂ (λ (i j : ℕ). map p (count_from i j)) (omega arith) (omega arith)
@@ -66,7 +67,7 @@ set-window p q b (suc n) (suc d) k v h e f g =
     ap₂ (λ (x : Option ℕ) (xs : List (Option ℕ)). x ∷ xs) (sym (g b (λ s. omega arith)))
     (set-window p q (suc b) n d k v (omega arith) (omega arith) f g)
 
--- the places turn: the first m leave, and m come whose numbers have nothing stored
+-- turning the places drops the first m, and adds m numbers without an id
 pub window_turned : (p : ℕ → Option ℕ) (b m w : ℕ) → m ≤ w → ((k : ℕ) → b + w ≤ k → p k ≡ None) →
     drop m (map p (count_from b w)) ++ replicate (min m w) None ≡ map p (count_from (b + m) w)
 window_turned p b m w h none =
@@ -75,7 +76,7 @@ window_turned p b m w h none =
     ∙ window_none p (b + m + (w - m)) m (λ k l. none k (omega arith)))
     ∙ window_joined p (b + m) (w - m) m w (omega arith)
 
--- ---- what is stored of numbers that arrived
+-- ---- the stored ids of numbers that arrived
 
 pub stored_there : (ids : ℕ → ℕ) (xs : List ℕ) (n : ℕ) → has xs n ≡ true → stored_of ids xs n ≡ Some (ids n)
 stored_there ids xs n h = rw h
@@ -99,14 +100,14 @@ items_stretch ids xs b zero = refl
 items_stretch ids xs b (suc n) = items_step ids (has xs b) b (map (stored_of ids xs) (count_from (suc b) n))
     (filter (has xs) (count_from (suc b) n)) (items_stretch ids xs (suc b) n)
 
--- the items are the ids of those that arrived, in order
+-- the items are the ids of the numbers that arrived, in order
 pub items_between : (ids : ℕ → ℕ) (end b n m : ℕ) (xs : List ℕ) → RisesBetween 0 end xs → b + n ≡ m →
     items_of (map (stored_of ids xs) (count_from b n)) ≡ map ids (filter (λ k. nat_le b k && nat_lt k m) xs)
 items_between ids end b n m xs r e =
     items_stretch ids xs b n ∙ ap (map ids) (stretch_of end b n xs r)
     ∙ ap (λ (i : ℕ). map ids (filter (λ k. nat_le b k && nat_lt k i) xs)) e
 
--- the first number that is missing ends the run
+-- the first missing number ends the run
 pub run_window : (ids : ℕ → ℕ) (xs : List ℕ) (b n c : ℕ) → c ≤ n →
     ((k : ℕ) → b ≤ k → k < b + c → has xs k ≡ true) → has xs (b + c) ≡ false →
     run_of (map (stored_of ids xs) (count_from b n)) ≡ c

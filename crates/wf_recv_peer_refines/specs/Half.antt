@@ -1,8 +1,8 @@
--- The receive half of one agreement, a scoreboard and a reordering buffer over sequence numbers of 12 bits,
--- beside a receiver, whose numbers have no bound (IEEE 802.11-2012, 9.21.7.3 to 9.21.7.6).
+-- Defines when the receive half of one agreement, with sequence numbers of 12 bits, represents a receiver,
+-- whose numbers are unbounded (IEEE 802.11-2012, 9.21.7.3 to 9.21.7.6).
 --
--- Of a receiver r with a window of w numbers: `release_start r` is the least number that has not arrived and
--- is below no start that did, and `score_start r` is where its scoreboard starts.
+-- For a receiver r, `release_start r` is the least number that has not arrived and is at or past every start
+-- that did, and `score_start r` is the start of its scoreboard.
 use Rattle.std.specs.Prelude.{◌≡◌, ℕ, ◌+◌, ◌%◌, ◌<◌, ◌≤◌, List, map, Option, Some, None, if◌then◌else◌}
 use Rattle.wf_def_lists.specs.Table.{has, count_from}
 use Rattle.wf_def_agreement.specs.Receiver.{Receiver, release_start, score_start, score}
@@ -11,17 +11,17 @@ use Rattle.wf_octets.specs.Distance.{distance}
 use Rattle.wf_recv_peer.specs.Board.{Board}
 use Rattle.wf_recv_peer.specs.Buffer.{Buffer}
 
--- the scoreboard that stands for r: its start modulo 4096, and how far past it each number of the window
--- stands that arrived
+-- the scoreboard that represents r: its start modulo 4096, and how far past it each arrived number of the
+-- window is
 abbrev pub board_of : Receiver → Board
 board_of r = record { start = score_start r % 4096; size = r.size; offsets = (score r).offsets }
 
--- what is stored of the number n, where these arrived: the id that it carries
+-- the id that is stored for the number n, if n is among those that arrived
 abbrev pub stored_of : (ℕ → ℕ) → List ℕ → ℕ → Option ℕ
 stored_of ids arrived n = if has arrived n then Some (ids n) else None
 
--- the buffer that stands for r, where the number n carries the id `ids n`: its start modulo 4096, and what is
--- stored of each number of the window
+-- the buffer that represents r, if number n has the id `ids n`: its start modulo 4096, and the stored id of
+-- each number of the window
 abbrev pub buffer_of : ℕ → (ℕ → ℕ) → Receiver → Buffer
 buffer_of capacity ids r =
     record {
@@ -32,40 +32,39 @@ buffer_of capacity ids r =
           map (stored_of ids r.arrived) (count_from (release_start r) r.size);
     }
 
--- What holds of a receiver that only numbers within reach arrive at: its numbers rise, the last is in the
--- scoreboard's window, and the scoreboard does not start past what was passed up.
+-- The invariant of a receiver at which only numbers within reach arrive: its numbers rise, the last one is in
+-- the scoreboard's window, and the scoreboard starts at or below the next number to be passed up.
 pub record IsOrderly (r : Receiver) : Type 0 where
   pub least : 1 ≤ r.size
   pub most : r.size ≤ 256
   pub rising : RisesBetween 0 (score_start r + r.size) r.arrived
   pub score_release : score_start r ≤ release_start r
 
--- a receive half stands for a receiver, whose numbers carry these ids
+-- a receive half represents a receiver whose numbers have these ids
 pub record ReceiveHalfStandsFor (ids : ℕ → ℕ) (r : Receiver) (board : Board) (buffer : Buffer) : Type 0 where
   pub receiver : IsOrderly r
   pub scoreboard : board ≡ board_of r
   pub reordering : buffer ≡ buffer_of buffer.capacity ids r
 
--- A number that may arrive in a frame: the scoreboard has not left it behind, and it is less than a window
--- past what was passed up. The window law has both of each number in flight.
+-- A number that may arrive in a frame: it is at or past the scoreboard's start, and less than a window past
+-- the next number to be passed up. The window law says both for each number in flight.
 pub record IsInReach (r : Receiver) (n : ℕ) : Type 0 where
   pub score : score_start r ≤ n
   pub release : n < release_start r + r.size
 
--- A start that may arrive in a BlockAckReq: at most a window behind the scoreboard's start, and at most a
--- window past what was passed up. The window law has both of the start of each open request.
+-- A start that may arrive in a BlockAckReq: it is at most a window below the scoreboard's start, and at most
+-- a window past the next number to be passed up. The window law says both for the start of each open request.
 pub record IsRequestInReach (r : Receiver) (f : ℕ) : Type 0 where
   pub score : score_start r ≤ f + r.size
   pub release : f ≤ release_start r + r.size
 
--- of two numbers, the 12-bit ones that stand for them compare as they do: as far ahead, or more than 2047
--- ahead where the number is behind
+-- the 12 bits of n and b compare as n and b do: n is as far ahead, or more than 2047 ahead if it is below b
 pub record ComparesRight (n b : ℕ) : Type 0 where
   pub ahead : b ≤ n → b + distance (n % 4096) (b % 4096) ≡ n
   pub near : b ≤ n → distance (n % 4096) (b % 4096) ≤ 2047
   pub behind : n < b → 2047 < distance (n % 4096) (b % 4096)
 
--- all comparisons that the half makes, of a number or of a start, are those of the whole numbers
+-- all comparisons that the half makes, of a number or of a start, are those of the unbounded numbers
 pub record ComparesBoth (r : Receiver) (n : ℕ) : Type 0 where
   pub score : ComparesRight n (score_start r)
   pub release : ComparesRight n (release_start r)

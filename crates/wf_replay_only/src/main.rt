@@ -1,5 +1,4 @@
-//! `wf replay` alone. There is less of it to compile, so `./wf` runs it, unproved, until the whole program is
-//! proved.
+//! The command `wf replay` alone, as a program. It compiles sooner than the whole program.
 #![tactic(auto)]
 
 use std::process::ExitCode;

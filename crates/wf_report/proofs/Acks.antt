@@ -1,4 +1,4 @@
--- The octets of a BlockAck, head and bitmap.
+-- Proves the octets of a BlockAck: its head, followed by its bitmap.
 use Rattle.std.proofs.Common.{◌≡◌, refl, ap, sym, ◌∙◌, ℕ, true, List, [], ◌∷◌, ◌++◌, length, take, arith, append_assoc}
 use Rattle.std.proofs.lemmas.List.{take_all}
 use Rattle.byteorder.specs.Endian.{little_bytes}
@@ -14,7 +14,7 @@ pub head_is : (s t start : ℕ) (ra ta : List ℕ) (first : ℕ) → ra ≡ base
     ≡ block_ack_head s t start
 head_is s t start ra ta first to from same = rw (to, from, same) refl
 
--- a head and four words
+-- A head and four words.
 pub wide_is : (s t start a b c d n m k l : ℕ) (head : Bar) (written one two three out : List ℕ) →
     head ≡ block_ack_head s t start → take 20 written ≡ head_octets answer wide_form head →
     n ≡ 28 → take n one ≡ take 20 written ++ little_bytes 8 a → m ≡ 36 →

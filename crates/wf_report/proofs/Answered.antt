@@ -1,4 +1,4 @@
--- The packet of a BlockAck.
+-- Proves which BlockAck is written for an answer, and which octets of it a sink holds.
 use Rattle.std.proofs.Common.{◌≡◌, refl, ap, sym, ◌∙◌, subst, ℕ, ◌≤◌, Bool, List, [], length, take, Option, Some, None, append-nil}
 use Rattle.std.specs.Prelude.{option_map, Result, Ok, Err, OnOk}
 use Rattle.std.specs.Io.KnownBytes.{append_known}
@@ -12,7 +12,7 @@ use Rattle.wf_report.specs.BlockAcks.{block_ack_frame}
 use Rattle.wf_report.specs.Packets.{block_acks, words_told, packets_at, octets_of_packets}
 use Rattle.wf_report.proofs.SentPackets.{is_open}
 
--- ---- which one it is
+-- ---- the BlockAck of an answer
 
 pub acks_none : (at start : ℕ) (words : List ℕ) (wide : Bool) (w : World) (e : ℕ) →
     None ≡ option_map sent_of (exchange w e) →
@@ -36,7 +36,7 @@ acks_one at start words wide w e told is =
     ∙ ap (λ (t : Told). packet_octets at (block_ack_frame t.station t.tid start (words_told wide words) wide))
     (sym o.2)
 
--- ---- what a sink holds of it
+-- ---- the octets that a sink holds
 
 append_none : (held : Option (List ℕ)) → held ≡ append_known held []
 append_none None = refl
@@ -64,7 +64,7 @@ one_front held new at clock f g all time same is wrote =
     ∙ sym is in
     subst (HoldsFront held new) whole (front_partly (packet_octets at f) held new wrote)
 
--- what follows of a call that succeeded
+-- A consequence of a fact that holds after success.
 pub on_ok : {T E A B : Type 0} (result : Result T E) → (A → B) → OnOk result A → OnOk result B
 on_ok (Ok value) then is = then is
 on_ok (Err fault) then is = tt

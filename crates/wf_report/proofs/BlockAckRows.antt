@@ -1,6 +1,6 @@
 -- Worked BlockAcks: to the access point from station 0, of TID 0, with the start 100, octet by octet as IEEE
--- 802.11-2012, 8.3.1.9, lays them out. The least significant bit of a bitmap's first octet is the start, so
--- 100 and 163 arrived of the narrow one, and 164 and 355 too of the wide one.
+-- 802.11-2012, 8.3.1.9 defines them. The least significant bit of a bitmap's first octet belongs to the
+-- start, so the narrow one shows 100 and 163, and the wide one also 164 and 355.
 use Rattle.std.specs.Prelude.{◌≡◌, ◌^◌, ◌+◌, [], ◌∷◌, true, false}
 use Rattle.std.proofs.Common.{refl}
 use Rattle.wf_report.specs.BlockAcks.{block_ack_frame}

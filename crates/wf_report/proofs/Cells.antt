@@ -1,4 +1,5 @@
--- A cell whose frames are samples: a new one, one after a call, and what its path says.
+-- Proves that a new cell has only sample frames, and that a call of a trace keeps this; and what the path of
+-- such a cell returns.
 use Rattle.std.proofs.Common.{◌≡◌, refl, ap, ap₂, sym, ◌∙◌, subst, ℕ, ◌+◌, ◌-◌, ◌<◌, List, [], ◌∷◌, ◌++◌, length, Option, Some, None, arith, length-append}
 use Rattle.std.specs.Prelude.{slice_get, option_map, IfSome}
 use Rattle.wf_frame.specs.Frames.{FrameValue, new_frame}
@@ -8,7 +9,7 @@ use Rattle.wf_frame.specs.declared.settings.Config.{Config}
 use Rattle.wf_def_world.specs.World.{World, exchange, opening}
 use Rattle.wf_def_world.specs.Run.{Entry, Past, by, world_of}
 use Rattle.wf_def_world.specs.Step.{step}
-use Rattle.wf_send_half_refines.specs.Standing.{StandsFor, IsReached}
+use Rattle.wf_send_half_model.specs.Standing.{StandsFor, IsReached}
 use Rattle.wf_path.specs.declared.reading.Sent.{Sent}
 use Rattle.wf_path.specs.Transmissions.{sent_of}
 use Rattle.wf_path.specs.declared.job.Job.{Job}
@@ -24,7 +25,7 @@ use Rattle.wf_report.proofs.Sampled.{no_sample, after_sample}
 abbrev no_frames : ℕ → FrameValue
 no_frames id = new_frame 0 0 0 []
 
--- ---- for callers: a new cell has such frames alone, and so has one after a call of a trace
+-- ---- for callers: a new cell has only sample frames, and so does one after a call of a trace
 
 pub new_is : (c : CellValue) (config : Config) → c.past ≡ record { config = config; history = [] } →
     world_behind c ≡ opening config
@@ -48,11 +49,11 @@ then_sampled old new job answered s brought stands = record {
   samples = after_sample old.half job answered s.bodies s.samples brought;
 }
 
--- the world behind one call more
+-- The world after one more call.
 pub world_is : (p q : Past) (e : Entry) → q ≡ with_entry e p → world_of q ≡ (step (world_of p) e.1).world
 world_is p q e is = ap world_of is ∙ world_then p.history (opening p.config) e
 
--- ---- what an exchange sends is of a TID below 8
+-- ---- the TID of an exchange is at most 7
 
 pub told_low : (w : World) (e : ℕ) → IsReached w → (o : Option Sent) → o ≡ option_map sent_of (exchange w e) →
     IfSome o (λ sent. sent.tid < 8)
@@ -75,7 +76,7 @@ last_entry p q e is =
     ap (λ k. slice_get q.history k) at ∙ ap (λ (x : Past). slice_get x.history (length p.history)) is
     ∙ last_is p.history e
 
--- ---- the packets of a call, by the world behind it
+-- ---- the packets of a call, by the world after it
 
 packets_are : (c : CellValue) (p : Past) (caller : ℕ) (note : Note) (answered : ReplyNote) →
     c.past ≡ with_entry (by caller note) p → answered ≡ (step (world_of p) note).reply →

@@ -1,4 +1,4 @@
--- Without a fault of its source and sink a capture is answered as it ends.
+-- Proves how `frames` ends if its source and its sink do not fail.
 use Rattle.std.proofs.Common.{inl, inr, ℕ, List, refl, sym, subst}
 use Rattle.std.specs.Prelude.{Option, Some, None}
 use Rattle.wf_io.specs.declared.status.Status.TheVariants.{Done, Usage, BadTrace, ReadFault, WriteFault, NoMemory}

@@ -1,10 +1,10 @@
--- The frames that are held are those that have no other fate.
+-- Proves that the held frames are those without another fate.
 use Rattle.std.proofs.Common.{◌≡◌, ◌∙◌, ap, arith}
 use Rattle.wf_send_parts.specs.Tally.{Counts, held_in}
 use Rattle.wf_frame.specs.declared.classes.Fate.TheVariants.{Held}
 use Rattle.wf_law_runs.specs.Tallies.{AddsUp}
 use Rattle.wf_law_runs.proofs.Frames.Tallies.{counts_add}
-use Rattle.wf_send_half_refines.specs.Standing.{counts_in}
+use Rattle.wf_send_half_model.specs.Standing.{counts_in}
 use Rattle.wf_def_world.specs.World.{World}
 use Rattle.wf_def_world.specs.Text.{tally}
 

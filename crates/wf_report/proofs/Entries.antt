@@ -1,4 +1,4 @@
--- A capture grows by the packets of each call.
+-- Proves that a capture grows by the packets of each call.
 use Rattle.std.proofs.Common.{◌≡◌, refl, ap, sym, ◌∙◌, List, [], ◌∷◌, ◌++◌, append_assoc, append-nil}
 use Rattle.wf_frame.specs.declared.settings.Config.{Config}
 use Rattle.wf_io.specs.Capture.{file_head_octets, packet_octets}
@@ -25,7 +25,7 @@ packets_more (x ∷ xs) w e =
     ∙ sym (append_assoc (packets_by w x.1) (packets_from (step w x.1).world xs)
     (packets_by (world_after (step w x.1).world xs) e.1))
 
--- before the first call it is the file header
+-- Before the first call it is the file header.
 pub capture_none : (config : Config) → capture_of config [] ≡ file_head_octets
 unfolding packets_from
 capture_none config = append-nil file_head_octets
@@ -48,7 +48,7 @@ packets_split (x ∷ xs) rest w =
     ∙ sym (append_assoc (packets_by w x.1) (packets_from (step w x.1).world xs)
     (packets_from (world_after (step w x.1).world xs) rest))
 
--- the capture of the calls so far begins that of more calls
+-- The capture of the calls so far is a prefix of that of more calls.
 pub capture_front : (config : Config) (h rest : List Entry) →
     capture_of config (h ++ rest) ≡ capture_of config h
     ++ octets_of_packets (packets_from (world_after (opening config) h) rest)

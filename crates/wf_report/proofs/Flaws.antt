@@ -1,4 +1,4 @@
--- What is wrong with a packet, and that of a packet nothing is.
+-- Proves which fault a packet has, if any, by the places at which the packet and the input end.
 use Rattle.std.proofs.Common.{◌≡◌, inl, inr, ℕ, ◌+◌, ◌-◌, ◌<◌, ◌≤◌, ◌&&◌, Bool, true, false, cond, List, [], ◌++◌, length, refl, sym, ◌∙◌, ap, subst, arith, append-nil, length-append}
 use Rattle.std.proofs.lemmas.List.{length-replicate}
 use Rattle.std.specs.Prelude.{Option, Some, None, Result, Ok, Err, IsErr, MatchResult, nat_lt, replicate}
@@ -30,7 +30,7 @@ pick_not_second : {A : Type 0} (b c : Bool) (x y : A) → c ≡ false → cond (
 pick_not_second true c x y p = rw (p) refl
 pick_not_second false c x y p = refl
 
--- ---- by where the packet and the input end
+-- ---- by the ends of the packet and the input
 pub flaw_big : (form : Form) (place : ℕ) (octets : List ℕ) → most_octets_read < place + length octets →
     most_octets_read < place + packet_size form octets →
     packet_flaw form (place + length octets) octets ≡ Some TooBig
@@ -60,7 +60,7 @@ flaw_fits form place octets packet =
     (not_below (place + length octets - length octets + packet_size form octets) most_octets_read
     (omega arith))
 
--- ---- behind a whole header
+-- ---- after a complete header
 pub size_behind : (form : Form) (head more : List ℕ) → 16 ≤ length head →
     packet_size form (head ++ more) ≡ 16 + captured_in form head
 size_behind form head more fits =
@@ -68,7 +68,7 @@ size_behind form head more fits =
     (not_below 16 (length (head ++ more)) (omega (arith, length-append head more)))
     ∙ ap (λ n. 16 + n) (captured_front form head more fits)
 
--- a header is refused for its captured octets alone
+-- A header is refused only for its captured length.
 pub long_only : (form : Form) (head : List ℕ) (fault : PcapFault) → 16 ≤ length head →
     Some fault ≡ packet_fault form head → captured_of fault ≡ captured_in form head
 long_only form head fault fits is =
@@ -82,7 +82,7 @@ long_only form head fault fits is =
     by_test true same = ap captured_of (let e : fault ≡ pcap.Long (captured_in form head) = cc in e)
     by_test false same = absurd (cc)
 
--- the input ends inside the captured octets
+-- The input ends inside the captured octets.
 pub small_short : (form : Form) (head octets : List ℕ) → 16 ≤ length head → None ≡ packet_fault form head →
     length (head ++ octets) < 16 + captured_in form head →
     small_flaw form (head ++ octets) (packet_fault form (head ++ octets)) ≡ Some Short
@@ -107,7 +107,7 @@ small_none form head octets fits sound ends =
     (not_below (packet_size form (head ++ octets)) (length (head ++ octets))
     (omega (arith, size_behind form head octets fits, ends)))
 
--- nothing is wrong with a whole packet that fits, whatever follows it
+-- A complete packet that fits has no fault, whatever follows it.
 pub sound_flaw : (form : Form) (place : ℕ) (octets more : List ℕ) → 16 ≤ length octets →
     None ≡ packet_fault form octets → 16 + captured_in form octets ≤ length octets →
     place + 16 + captured_in form octets ≤ most_octets_read →
@@ -116,9 +116,9 @@ sound_flaw form place octets more fits sound whole few =
     flaw_fits form place (octets ++ more) (omega (arith, size_behind form octets more fits, few))
     ∙ small_none form octets more fits sound (omega (arith, length-append octets more, whole))
 
--- ---- a part of a packet
+-- ---- an incomplete packet
 
--- so many octets
+-- n octets.
 unfoldable padding : ℕ → List ℕ
 padding n = replicate n 0
 
@@ -126,7 +126,7 @@ padding_length : (n : ℕ) → length (padding n) ≡ n
 unfolding padding
 padding_length n = length-replicate n 0
 
--- with so many octets behind it a packet is not short
+-- A packet with enough octets is not short.
 long_not_short : (form : Form) (octets : List ℕ) → 16 ≤ length octets →
     packet_size form octets ≤ length octets → small_flaw form octets (packet_fault form octets) ≡ Some Short →
     ⊥
@@ -159,7 +159,7 @@ big_not_short form place octets many is = by_size
         long_not_short form octets (omega (arith, many)) (omega (arith, many, small))
         (sym (flaw_fits form place octets small) ∙ is)
 
--- what is short so far may be something else with more octets
+-- A packet that is short so far may have another fault with more octets.
 part_short : (form : Form) (place : ℕ) (octets : List ℕ) → place + length octets ≤ most_octets_read →
     small_flaw form octets (packet_fault form octets) ≡ Some Short → IsPart form place octets
 part_short form place octets few small = record {
@@ -181,19 +181,19 @@ short_head form octets less =
     (cond (nat_lt 262144 (captured_in form octets)) (Some (pcap.Long (captured_in form octets))) None)))
     (below (length octets) 16 less)
 
--- the source failed inside a header
+-- The source failed inside a header.
 pub part_head : (form : Form) (place : ℕ) (octets : List ℕ) → length octets < 16 →
     place + length octets ≤ most_octets_read → IsPart form place octets
 part_head form place octets less few = part_short form place octets few (short_head form octets less)
 
--- inside the captured octets
+-- The source failed inside the captured octets.
 pub part_body : (form : Form) (place : ℕ) (head octets : List ℕ) → 16 ≤ length head →
     None ≡ packet_fault form head → place + length (head ++ octets) ≤ most_octets_read →
     length (head ++ octets) < 16 + captured_in form head → IsPart form place (head ++ octets)
 part_body form place head octets fits sound few ends =
     part_short form place (head ++ octets) few (small_short form head octets fits sound ends)
 
--- or before the end of the octets that are read, and the packet goes past them
+-- The source failed before the end of the octets that are read, and the packet goes beyond them.
 pub part_past : (form : Form) (place : ℕ) (kind : FaultKind) (head octets : List ℕ) → 16 ≡ length head →
     most_octets_read < place + 16 + captured_in form head →
     (place + length (head ++ octets) ≤ most_octets_read →
@@ -220,14 +220,14 @@ part_past form place kind head octets fits packet small other few =
           let same : kind ≡ TooBig = cc in same);
     }
 
--- a call that fails took such a part
+-- A call that fails has read such an incomplete packet.
 pub fails_inside : (form : Form) (place : ℕ) (result : Result Next Failed) (body octets : List ℕ)
     (left : Option (List ℕ)) → IsErr result → IsPart form place octets →
     SaysPacket form place result body left octets
 fails_inside form place (Ok found) body octets left fails part = absurd (cc)
 fails_inside form place (Err failed) body octets left fails part = part
 
--- no check of a header is that of the octets that are read
+-- No check of a header has the fault `TooBig`.
 pub kind_not_big : (fault : PcapFault) → kind_of fault ≡ TooBig → ⊥
 kind_not_big (pcap.Short need have) is = absurd (cc)
 kind_not_big pcap.Magic is = absurd (cc)
@@ -238,8 +238,8 @@ kind_not_big (pcap.Long captured) is = absurd (cc)
 pub short_not_big : Short ≡ TooBig → ⊥
 short_not_big is = absurd (cc)
 
--- ---- what a call says that found a fault
--- at the end of the input
+-- ---- the result of a call that found a fault
+-- At the end of the input.
 at_end : (form : Form) (place : ℕ) (kind : FaultKind) (left : Option (List ℕ)) (octets : List ℕ) →
     0 < length octets → IsAtEnd left → packet_flaw form (place + length octets) octets ≡ Some kind →
     IsFlawed form place kind left octets
@@ -249,7 +249,7 @@ at_end form place kind left octets some over is = (
       (sym (ap (λ m. octets ++ m) (ended left more over told) ∙ append-nil octets)) is,
 )
 
--- the input and the packet go on past the octets that are read
+-- The input and the packet go beyond the octets that are read.
 pub flawed_big : (form : Form) (place : ℕ) (left : Option (List ℕ)) (head octets : List ℕ) →
     16 ≤ length head → most_octets_read < place + 16 + captured_in form head →
     most_octets_read < place + length (head ++ octets) → IsFlawed form place TooBig left (head ++ octets)
@@ -266,7 +266,7 @@ flawed_big form place left head octets fits packet input = (
       )),
 )
 
--- the input ends before
+-- The input ends before.
 pub flawed_end : (form : Form) (place : ℕ) (kind : FaultKind) (left : Option (List ℕ))
     (head octets : List ℕ) → 16 ≤ length head → IsAtEnd left →
     place + length (head ++ octets) ≤ most_octets_read →
@@ -276,7 +276,7 @@ flawed_end form place kind left head octets fits over few small =
     at_end form place kind left (head ++ octets) (omega (arith, length-append head octets)) over
     (flaw_ends form place (head ++ octets) few ∙ small)
 
--- the header is refused, and the packet fits
+-- The header is refused, and the packet fits.
 pub flawed_head : (form : Form) (place : ℕ) (left : Option (List ℕ)) (head : List ℕ) (fault : PcapFault) →
     16 ≤ length head → Some fault ≡ packet_fault form head →
     place + 16 + captured_in form head ≤ most_octets_read →
@@ -289,7 +289,7 @@ flawed_head form place left head fault fits is few = (
       ∙ small_fault form head more fault fits is),
 )
 
--- the packet goes past the octets that are read
+-- The packet goes beyond the octets that are read.
 pub past : (form : Form) (place : ℕ) (kind : FaultKind) (head octets body : List ℕ) (left : Option (List ℕ))
     (result : Result Next Failed) → 16 ≡ length head → most_octets_read < place + 16 + captured_in form head →
     (place + length (head ++ octets) ≤ most_octets_read →
@@ -309,7 +309,7 @@ past form place kind head octets body left (Ok found) fits packet small other go
           (small (omega (arith, size, end.1))))
     ]
 
--- a header that is not refused
+-- A header that is not refused.
 pub captured_most : (form : Form) (head : List ℕ) → 16 ≤ length head → None ≡ packet_fault form head →
     captured_in form head ≤ 262144
 captured_most form head fits sound =

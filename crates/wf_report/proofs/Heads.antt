@@ -1,4 +1,4 @@
--- What a header says does not depend on what follows it.
+-- Proves that the fields of a header do not depend on the octets after it.
 use Rattle.std.proofs.Common.{◌≡◌, ℕ, ◌+◌, ◌<◌, ◌≤◌, Bool, true, false, List, ◌++◌, length, drop, get_or, refl, sym, ◌∙◌, arith, length-append}
 use Rattle.std.specs.Prelude.{Option, Some, None, nat_lt}
 use Rattle.std.proofs.lemmas.List.{get_or_append_left, get_or-drop}
@@ -13,7 +13,7 @@ octet_front front more place k fits =
     get_or-drop place (front ++ more) k 0 ∙ get_or_append_left front more 0 (place + k) fits
     ∙ sym (get_or-drop place front k 0)
 
--- a number that stands within the front
+-- A number that is completely in the front.
 four_front : (big : Bool) (front more : List ℕ) (place : ℕ) → place + 4 ≤ length front →
     number_in_order big 4 (front ++ more) place ≡ number_in_order big 4 front place
 four_front true front more place fits =
@@ -42,7 +42,7 @@ two_front false front more place fits = rw (
   octet_front front more place 1 (omega arith),
 ) refl
 
--- a packet header
+-- A packet header.
 pub captured_front : (form : Form) (front more : List ℕ) → 16 ≤ length front →
     captured_in form (front ++ more) ≡ captured_in form front
 captured_front form front more fits = four_front form.big front more 8 (omega arith)
@@ -56,7 +56,7 @@ packet_front form front more fits =
     let d = four_front form.big front more 12 (omega arith) in
     rw (a, b, c, d) refl
 
--- tests of lengths
+-- Comparisons of lengths.
 pub not_below : (k n : ℕ) → k ≤ n → nat_lt n k ≡ false
 not_below k n long = grind arith
 
@@ -69,7 +69,7 @@ packet_fault_front form front more fits =
       captured_front form front more fits,
     ) refl
 
--- a file header
+-- A file header.
 pub form_front : (front more : List ℕ) → 24 ≤ length front → form_of (front ++ more) ≡ form_of front
 form_front front more fits = rw (
   four_front false front more 0 (omega arith),

@@ -2,8 +2,8 @@ mod Rows
 mod ShareLaws
 mod Counted
 mod Takes
--- Octets that were taken; the header that octets begin with; what is wrong with a packet; one packet behind
--- another; a part of one; a capture that is being listed; its file header; captures that are written.
+-- Octets that were read; headers; the faults of a packet; packets in order; incomplete packets; a list in
+-- progress; the file header; captures that are written.
 mod TakenOctets
 mod Heads
 mod Flaws

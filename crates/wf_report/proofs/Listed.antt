@@ -1,4 +1,4 @@
--- The packets of a run are ones that a capture can have, so `frames` lists each of them.
+-- Proves that the packets of a run can be in a capture, so that `frames` lists each of them.
 use Rattle.std.proofs.Common.{◌≡◌, refl, sym, subst, ℕ, ◌+◌, ◌*◌, ◌^◌, ◌<◌, ◌≤◌, Bool, true, false, List, [], ◌∷◌, ◌++◌, length, map, Option, Some, None, lit≤, arith, length-append}
 use Rattle.std.specs.Prelude.{option_and_then}
 use Rattle.wf_frame.specs.Settings.{IsInRange}
@@ -26,7 +26,7 @@ use Rattle.wf_report.specs.Captures.{most_calls_timed, sample_of, samples, packe
 use Rattle.wf_report.specs.Packets.{frames_sent, frames_by, block_acks, exchange_answered, packets_at}
 use Rattle.wf_report.proofs.Sampled.{length_sample}
 
--- ---- frames that a packet can have
+-- ---- frames that fit in a packet
 
 abbrev IsShort : List ℕ → Type 0
 IsShort octets = length octets ≤ 65535
@@ -35,12 +35,12 @@ abbrev AreShort : List (List ℕ) → Type 0
 AreShort [] = Unit {0}
 AreShort (f ∷ frames) = IsShort f × AreShort frames
 
--- the sample of a call has as many octets as the call says
+-- The sample of a call has the length in the call.
 sample_length : (note : Note) → length (sample_of note).body ≡ len_of note
 sample_length (Enqueue s t flow len) = length_sample flow len
 sample_length (Asked ask) = refl
 
--- and a source of six
+-- Its source has six octets.
 sample_source : (note : Note) → length (sample_of note).source ≡ 6
 sample_source (Enqueue s t flow len) = refl
 sample_source (Asked ask) = refl

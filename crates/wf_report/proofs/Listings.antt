@@ -1,4 +1,4 @@
--- A capture that is being listed, and the ways out of it.
+-- Proves the invariant of a list in progress, and each way in which it ends.
 use Rattle.std.proofs.Common.{◌≡◌, ℕ, ◌+◌, ◌≤◌, List, [], ◌∷◌, ◌++◌, length, take, drop, refl, sym, ◌∙◌, ap, arith, append_assoc, append-nil, length-append}
 use Rattle.std.specs.Prelude.{Option, Some, None, Ok}
 use Rattle.std.specs.Io.KnownBytes.{prepend_known, append_known}
@@ -39,7 +39,7 @@ lines-one : (packets : List Captured) (p : Captured) →
     packet_lines (packets ++ p ∷ []) ≡ packet_lines packets ++ packet_line p
 lines-one packets p = sym (flat_map_more packet_line [] packets p)
 
--- the text begins with their lines
+-- The text begins with their lines.
 text_with : (packets : List Captured) (l : Listing) →
     IsFrontOf (packet_lines packets) (listing_text (with_packets packets l))
 text_with packets l = (
@@ -49,7 +49,7 @@ text_with packets l = (
       (last_line (length (packets ++ l.packets)) l.fault),
 )
 
--- ---- so many packets were read, and their lines written
+-- ---- `count` packets were read, and their lines were written
 pub record Begun (form : Form) (place count : ℕ)
     (left left_now held held_now : Option (List ℕ)) : Type 0 where
   pub taken : List ℕ
@@ -71,7 +71,7 @@ begun_none form left held = record {
   wrote = written_none held;
 }
 
--- what is listed of the whole input, where so many octets more were taken
+-- The list of the complete input after more octets were read.
 listed_on : (form : Form) (place count : ℕ) (left left_now left_new held held_now : Option (List ℕ))
     (b : Begun form place count left left_now held held_now) (octets more : List ℕ) →
     behind_head form (b.taken ++ octets ++ more) ≡ with_packets b.packets
@@ -79,7 +79,7 @@ listed_on : (form : Form) (place count : ℕ) (left left_now left_new held held_
 listed_on form place count left left_now left_new held held_now b octets more =
     ap (behind_head form) (append_assoc b.taken octets more) ∙ b.same (octets ++ more)
 
--- a packet as its header and a buffer have it
+-- A packet, from its header and the buffer.
 abbrev pub packet_as : Packet → List ℕ → Captured
 packet_as p body = record { header = p; octets = take p.captured body }
 
@@ -89,7 +89,7 @@ as_read form p body octets header same =
     ap (λ (h : Packet). let r : Captured = record { header = h; octets = drop 16 octets } in r) (sym header)
     ∙ ap (λ (l : List ℕ). let r : Captured = record { header = p; octets = l } in r) (sym same)
 
--- behind a packet more
+-- After one more packet.
 pub begun_more : (form : Form) (place count : ℕ)
     (left left_now left_new held held_now held_new : Option (List ℕ)) (p : Packet) (body octets : List ℕ) →
     Begun form place count left left_now held held_now → left_now ≡ prepend_known octets left_new →
@@ -117,15 +117,15 @@ begun_more form place count left left_now left_new held held_now held_new p body
           ∙ sym (lines-one b.packets (packet_of form octets)));
     }
 
--- ---- the ways out
--- octets were taken and octets written, and by them this is the outcome
+-- ---- the ends of a run
+-- Octets were read and octets were written, and this is the outcome for them.
 abbrev pub Ends : Form → Status → Option (List ℕ) → Option (List ℕ) → Option (List ℕ) → Option (List ℕ) →
     Type 0
 Ends form status left left_new held held_new = (taken written : List ℕ) ×
     (left ≡ prepend_known taken left_new) × (held_new ≡ append_known held written)
     × ((input : List ℕ) → left ≡ Some input → OutcomeOf (behind_head form) status input taken written)
 
--- what is listed of the input
+-- The list of the input.
 all_listed : (form : Form) (place count : ℕ) (left left_now left_new held held_now : Option (List ℕ))
     (b : Begun form place count left left_now held held_now) (octets : List ℕ) →
     left_now ≡ prepend_known octets left_new → (input : List ℕ) → left ≡ Some input →
@@ -169,13 +169,13 @@ ends_read form place count left left_now left_new held held_now octets b took pa
       ),
 )
 
--- the line of what was found
+-- The line of the item that was found.
 abbrev pub line_at : ℕ → List ℕ → Next → List ℕ
 line_at count body (next.Packet p) = packet_line (packet_as p body)
 line_at count body (next.Bad kind) = capture_fault_line (record { packet = count + 1; kind = kind })
 line_at count body next.Over = count_line count
 
--- where the capture ends, what it lists
+-- The end of the list, if the capture ends.
 abbrev pub Final : Next → ℕ → Option Fault → Type 0
 Final (next.Packet p) count fault = ⊥
 Final (next.Bad kind) count fault = fault ≡ Some (record { packet = count + 1; kind = kind })
@@ -218,7 +218,7 @@ final_text packets count fault next.Over body many is =
     ap (λ (f : Option Fault). packet_lines packets ++ last_line (length packets) f) is
     ∙ ap (λ n. packet_lines packets ++ count_line n) many
 
--- the text goes on with the line of what was found
+-- The text goes on with the line of the item that was found.
 text_on : (form : Form) (place count : ℕ) (left left_now left_new held held_now : Option (List ℕ))
     (found : Next) (body octets : List ℕ)
     (b : Begun form place count left left_now held held_now) → left_now ≡ prepend_known octets left_new →
@@ -257,7 +257,7 @@ text_on form place count left left_now left_new held held_now next.Over body oct
           ∙ sym (append-nil (packet_lines b.packets ++ line_at count body next.Over)),
     )
 
--- the sink failed within that line
+-- The sink failed within that line.
 pub ends_write : (form : Form) (place count : ℕ)
     (left left_now left_new held held_now held_new : Option (List ℕ)) (found : Next) (body octets : List ℕ) →
     Begun form place count left left_now held held_now → left_now ≡ prepend_known octets left_new →
@@ -281,7 +281,7 @@ ends_write form place count left left_now left_new held held_now held_new found 
           ),
     )
 
--- the last line was written
+-- The last line was written.
 pub ends_done : (form : Form) (place count : ℕ)
     (left left_now left_new held held_now held_new : Option (List ℕ)) (body octets : List ℕ) →
     Begun form place count left left_now held held_now → left_now ≡ prepend_known octets left_new →

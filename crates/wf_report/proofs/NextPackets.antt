@@ -1,4 +1,4 @@
--- One packet behind another.
+-- Proves that the list of a capture is its first packet followed by the list of the rest.
 use Rattle.std.proofs.Common.{◌≡◌, ℕ, zero, suc, ◌+◌, ◌≤◌, List, [], ◌∷◌, ◌++◌, length, take, drop, refl, sym, ◌∙◌, ap, arith, length-drop}
 use Rattle.std.specs.Prelude.{Option, Some}
 use Rattle.std.proofs.lemmas.List.{take_at, drop-append-le}
@@ -26,7 +26,7 @@ from_packet form (octet ∷ octets) more whole =
     (inside form (15 + captured_in form (octet ∷ (octets ++ more))) octets more
     (omega (arith, whole.size, captured_front form (octet ∷ octets) more whole.head)))
 
--- the packet that whole octets are
+-- The packet that complete octets are.
 abbrev pub packet_of : Form → List ℕ → Captured
 packet_of form octets = record { header = packet_in form octets; octets = drop 16 octets }
 
@@ -45,7 +45,7 @@ at_front form octets more whole =
     } in p) header
     ∙ ap (λ (l : List ℕ). let p : Captured = record { header = packet_in form octets; octets = l } in p) body
 
--- a whole packet stands in front of those behind it
+-- A complete packet comes before the packets after it.
 pub packet_first : (form : Form) (place number : ℕ) (octets more : List ℕ) → IsWhole form octets →
     place + length octets ≤ most_octets_read →
     packets_from form (place + length (octets ++ more)) number (from_each form 0 (octets ++ more))
@@ -60,7 +60,7 @@ packet_first form place number octets more whole few =
     (omega (arith, whole.size)))
     ∙ ap (λ (p : Captured). with_packet p others) (at_front form octets more whole)
 
--- and at a packet with a fault the listing stops
+-- The list stops at a packet with a fault.
 pub stops : (form : Form) (place number : ℕ) (kind : FaultKind) (left : Option (List ℕ))
     (octets more : List ℕ) → IsFlawed form place kind left octets → left ≡ Some more →
     packets_from form (place + length (octets ++ more)) number (from_each form 0 (octets ++ more))

@@ -1,4 +1,4 @@
--- What a capture lists, by what its file header is.
+-- Proves the list of a capture, by cases of its file header.
 use Rattle.std.proofs.Common.{◌≡◌, ℕ, ◌<◌, ◌≤◌, Bool, true, false, List, [], ◌++◌, length, take, drop, refl, sym, ◌∙◌, ap, arith, append_assoc, append-nil}
 use Rattle.std.specs.Prelude.{Option, Some, None, nat_lt}
 use Rattle.std.specs.Io.KnownBytes.{prepend_known, append_known, IsAtEnd}
@@ -19,7 +19,7 @@ use Rattle.wf_report.proofs.Heads.{form_front, head_fault_front}
 use Rattle.wf_report.proofs.PacketParts.{head_part, head_untold}
 use Rattle.wf_report.proofs.Listings.{Ends}
 
--- the file header passes its checks
+-- The file header passes its checks.
 opened : (form : Form) (head more : List ℕ) → length head ≡ 24 → None ≡ head_fault head →
     form_of head ≡ Some form → listing (head ++ more) ≡ behind_head form more
 opened form head more size sound is =
@@ -29,7 +29,7 @@ opened form head more size sound is =
     ∙ ap (λ (f : Option Form). listed input None f) (form_front head more (omega (arith, size)) ∙ is)
     ∙ ap (behind_head form) (drop_at head more 24 size)
 
--- it is refused; where it is short the input ends
+-- The file header is refused. If it is short, the input ends.
 fault_on : (head more : List ℕ) (fault : PcapFault) → length head ≤ 24 → (length head < 24 → more ≡ []) →
     Some fault ≡ head_fault head → head_fault (head ++ more) ≡ Some fault
 fault_on head more fault size over is = by_test (nat_lt (length head) 24) refl
@@ -45,7 +45,7 @@ refused head more fault size over is =
     let input = head ++ more in ap (λ (f : Option PcapFault). listed input f (form_of input))
     (fault_on head more fault size over is)
 
--- ---- the ways out, of the whole capture
+-- ---- the ends of a run, for the complete capture
 abbrev pub EndsAll : Status → Option (List ℕ) → Option (List ℕ) → Option (List ℕ) → Option (List ℕ) → Type 0
 EndsAll status left left_new held held_new = (taken written : List ℕ) ×
     (left ≡ prepend_known taken left_new) × (held_new ≡ append_known held written)
@@ -115,7 +115,7 @@ ends_behind status form left left_now left_new held held_new head took size soun
       (λ octets. opened form head octets size sound is) rest.2 (e.4 rest.0 rest.1),
 )
 
--- what is listed where the file header is refused
+-- The list if the file header is refused.
 all_refused : (left left_now : Option (List ℕ)) (head : List ℕ) (fault : PcapFault) →
     left ≡ prepend_known head left_now → length head ≤ 24 → (length head < 24 → IsAtEnd left_now) →
     Some fault ≡ head_fault head →

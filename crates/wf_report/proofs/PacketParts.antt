@@ -1,4 +1,4 @@
--- Octets that end before a packet does, or before it is known what is wrong with it.
+-- Proves that no fault follows from octets that end inside a packet or inside the file header.
 use Rattle.std.proofs.Common.{◌≡◌, ℕ, ◌+◌, ◌-◌, ◌<◌, ◌≤◌, Bool, true, false, cond, List, [], ◌∷◌, ◌++◌, length, refl, sym, ◌∙◌, ap, arith, length-append}
 use Rattle.std.specs.Prelude.{Option, Some, None, not, ◌==◌, ◌&&◌, ◌%◌, replicate}
 use Rattle.std.proofs.lemmas.List.{drop_all, length-replicate}
@@ -18,9 +18,9 @@ use Rattle.wf_report.proofs.Flaws.{below}
 abbrev short_header : Fault
 short_header = record { packet = 0; kind = Short }
 
--- ---- a part of a packet
+-- ---- an incomplete packet
 
--- nothing is listed of it
+-- It adds nothing to the list.
 pub part_listed : (form : Form) (place number : ℕ) (octets : List ℕ) → IsPart form place octets →
     let l : Listing = packets_from form (place + length octets) number (from_each form 0 octets) in
     l.packets ≡ []
@@ -32,7 +32,7 @@ part_listed form place number (octet ∷ octets) part =
     judged f number (packet_at form (octet ∷ octets)) (packets_from form total (number + 1) after) in
     l.packets) part.now
 
--- a fault is that of a packet from the number on
+-- A fault belongs to a packet from the number on.
 later_fault : (form : Form) (total number : ℕ) (each : List (List ℕ)) (fault : Fault) →
     (let l : Listing = packets_from form total number each in l.fault ≡ Some fault) → number ≤ fault.packet
 later_fault form total number [] fault is = absurd (cc)
@@ -48,7 +48,7 @@ later_fault form total number (octets ∷ others) fault is =
         let here : Fault = record { packet = number; kind = kind } in
         let e : here ≡ fault = cc in omega (arith, ap (λ (f : Fault). f.packet) e)
 
--- what would be wrong with it at the end of the input is not wrong with more octets
+-- Its fault at the end of the input is not a fault with more octets.
 pub part_told : (form : Form) (place number : ℕ) (octets : List ℕ) (part : IsPart form place octets)
     (fault : Fault) →
     (let l : Listing = packets_from form (place + length octets) number (from_each form 0 octets) in
@@ -89,15 +89,15 @@ part_told form place number (octet ∷ octets) part fault now later =
         let e : there ≡ fault = cc in
         part.later (is ∙ ap Some (ap (λ (f : Fault). f.kind) (e ∙ sym first)))
 
--- ---- a part of a file header
+-- ---- an incomplete file header
 
--- it is short, and nothing is listed of it
+-- It is short, and nothing is listed.
 pub head_part : (octets : List ℕ) → length octets < 24 → listing octets ≡ stopped 0 Short
 head_part octets less =
     ap (λ (b : Bool). listed octets (cond b (Some (pcap.Short 24 (length octets)))
     (fault_past_magic octets (form_of octets))) (form_of octets)) (below (length octets) 24 less)
 
--- a whole one is not
+-- A complete one is not short.
 kind_told : (kind : FaultKind) → (let l : Listing = stopped 0 kind in l.fault ≡ Some short_header) →
     kind ≡ Short
 kind_told kind is =
@@ -147,7 +147,7 @@ whole_not_short octets size is =
     (cond b (Some (pcap.Short 24 (length octets))) (fault_past_magic octets (form_of octets)))
     (form_of octets) in l.fault) (not_below 24 (length octets) (omega (arith, size)))) ∙ is)
 
--- so it tells no fault
+-- So no fault follows from it.
 pub head_untold : (octets : List ℕ) → length octets < 24 → TellsNoFault listing octets
 head_untold octets less = λ fault each.
     let zero_octet : ℕ = 0 in

@@ -1,4 +1,4 @@
--- Words in a row, and pieces put one behind the other.
+-- Proves laws of rows of words, and of texts that are joined from pieces.
 use Rattle.std.proofs.Common.{◌≡◌, ℕ, zero, suc, Bool, true, false, cond, ◌+◌, List, [], ◌∷◌, ◌++◌, take, refl, sym, ◌∙◌, ap, append_assoc, append-nil, arith}
 use Rattle.std.specs.Prelude.{map, filter, Some, slice_get}
 use Rattle.std.specs.List.{join_with_byte, concat}
@@ -8,7 +8,7 @@ use Rattle.wf_io.specs.Words.{spaced}
 use Rattle.wf_io.proofs.Spaces.{join-spaced, spaced-append}
 use Rattle.wf_io.proofs.FrontLaws.{take_got}
 
--- one more word
+-- One more word.
 pub more_spaced : {X : Type 0} → (f : X → List ℕ) (xs : List X) (i : ℕ) (x : X) (front : List ℕ) →
     slice_get xs i ≡ Some x →
     ((front ++ spaced (map f (take i xs))) ++ 32 ∷ []) ++ f x ≡ front ++ spaced (map f (take (i + 1) xs))
@@ -28,7 +28,7 @@ joined_three word head part more =
     rw (join-spaced word (head ++ (part ++ more)), spaced-append head (part ++ more), spaced-append part more)
     (simp append_assoc)
 
--- the same as a line
+-- The same as a line.
 pub line_of_three : (word : List ℕ) (head part more : List (List ℕ)) →
     ((word ++ spaced head) ++ spaced part) ++ (spaced more ++ 10 ∷ [])
     ≡ join_with_byte 32 (word ∷ (head ++ (part ++ more))) ++ 10 ∷ []
@@ -45,7 +45,7 @@ joined_last out word head last =
 pub three : (front a b c : List ℕ) → ((front ++ a) ++ b) ++ c ≡ front ++ ((a ++ b) ++ c)
 three front a b c = simp append_assoc
 
--- one piece more
+-- One more piece.
 pub concat-append : (xs ys : List (List ℕ)) → concat (xs ++ ys) ≡ concat xs ++ concat ys
 concat-append [] ys = refl
 concat-append (x ∷ xs) ys = ap (λ l. x ++ l) (concat-append xs ys)
@@ -60,7 +60,7 @@ concat-more f xs x front =
 pub four_lines : (a b c d : List ℕ) → ((a ++ b) ++ c) ++ d ≡ concat (a ∷ b ∷ c ∷ d ∷ [])
 four_lines a b c d = simp (append_assoc, append-nil)
 
--- the numbers below one more
+-- The numbers below n + 1.
 count_from-more : (from n : ℕ) → count_from from (n + 1) ≡ count_from from n ++ (from + n) ∷ []
 count_from-more from zero = let same : from ≡ from + 0 = omega arith in ap (λ k. k ∷ []) same
 count_from-more from (suc n) =

@@ -1,4 +1,4 @@
--- The frames of a cell stay those that the calls of its trace brought, and what goes on the air has their
+-- Proves that the frames of a cell stay those of its trace's calls, and that the frames on the air have their
 -- bodies.
 use Rattle.std.proofs.Common.{◌≡◌, refl, ap, ap₂, sym, ◌∙◌, ℕ, zero, suc, Bool, true, false, List, [], ◌∷◌, ◌++◌, ◌+◌, ◌%◌, length, map, Option, Some, None, arith, length-append}
 use Rattle.std.specs.Prelude.{◌==◌, slice_get, if◌then◌else◌}
@@ -15,8 +15,8 @@ use Rattle.wf_queue_flows_refines.specs.Frames.{with_body}
 use Rattle.wf_send_parts.specs.Sent.{with_one_sent, with_all_sent}
 use Rattle.wf_send_half.specs.Enqueues.{as_accepted}
 use Rattle.wf_send_half.specs.Replies.{bodies_sent}
-use Rattle.wf_send_half_refines.specs.Half.{TransmitValue}
-use Rattle.wf_send_half_refines.specs.Standing.{StandsFor}
+use Rattle.wf_send_half_model.specs.Half.{TransmitValue}
+use Rattle.wf_send_half_model.specs.Standing.{StandsFor}
 use Rattle.wf_path.specs.Addresses.{made_up}
 use Rattle.wf_path.specs.Transmissions.{header_of, data_octets, octets_of_content}
 use Rattle.wf_path.specs.declared.job.Job.{Job}
@@ -81,7 +81,7 @@ after_sample v (Call (Pull class)) answered bodies all brought = of answered
     of _ = all
 after_sample v _ _ bodies all brought = all
 
--- ---- what goes on the air
+-- ---- frames on the air
 
 map_same : {A B : Type 0} (f g : A → B) (xs : List A) →
     ((k : ℕ) (x : A) → slice_get xs k ≡ Some x → f x ≡ g x) → map f xs ≡ map g xs

@@ -1,4 +1,4 @@
--- Packets that are written one after another.
+-- Proves the packets of an exchange, which are written one by one.
 use Rattle.std.proofs.Common.{◌≡◌, refl, ap, sym, ◌∙◌, subst, ℕ, zero, suc, ◌+◌, ◌<◌, ◌≤◌, List, [], ◌∷◌, ◌++◌, length, map, take, drop, Option, Some, None, arith, length-append, append_assoc, append-nil}
 use Rattle.std.specs.Prelude.{slice_get, option_map, option_and_then}
 use Rattle.std.specs.Io.KnownBytes.{append_known}
@@ -13,8 +13,8 @@ use Rattle.wf_def_world.specs.Exchanges.{transmissions}
 use Rattle.wf_path.specs.declared.reading.Sent.{Sent as Told}
 use Rattle.wf_path.specs.Addresses.{made_up}
 use Rattle.wf_path.specs.Transmissions.{sent_of, octets_sent, transmission_octets, bar_octets, data_octets, header_of, octets_of_content}
-use Rattle.wf_send_half_refines.specs.Half.{TransmitValue}
-use Rattle.wf_send_half_refines.specs.Standing.{StandsFor}
+use Rattle.wf_send_half_model.specs.Half.{TransmitValue}
+use Rattle.wf_send_half_model.specs.Standing.{StandsFor}
 use Rattle.wf_report.specs.Packets.{frames_sent, packets_at, octets_of_packets}
 use Rattle.wf_report.specs.Captures.{samples}
 use Rattle.wf_report.specs.Samples.{IsSample, HasTransmission}
@@ -40,7 +40,7 @@ packets_append at (f ∷ one) two =
 one_packet : (at : ℕ) (f : List ℕ) → octets_of_packets (packets_at at (f ∷ [])) ≡ packet_octets at f
 one_packet at f = append-nil (packet_octets at f)
 
--- the frame of an index is the one that is sent by it
+-- The frame with an index is the transmission with this index.
 sent_by_index : (w : World) (bodies : ℕ → FrameValue) (e k : ℕ) →
     slice_get (frames_sent w bodies e) k ≡ octets_sent made_up w bodies e k
 sent_by_index w bodies e k = of (exchange w e) refl
@@ -57,7 +57,7 @@ octets_same v w bodies stands all e k =
     sym (sent_by_index w bodies e k) ∙ ap (λ l. slice_get l k) (sent_same v w bodies stands all e)
     ∙ sent_by_index w (samples w) e k
 
--- one packet more
+-- One more packet.
 pub packet_more : (w : World) (bodies : ℕ → FrameValue) (e k at : ℕ) (f : List ℕ) →
     octets_sent made_up w bodies e k ≡ Some f →
     octets_of_packets (packets_at at (take (k + 1) (frames_sent w bodies e)))
@@ -70,7 +70,7 @@ packet_more w bodies e k at f sent =
     ap (λ l. octets_of_packets (packets_at at l)) more ∙ packets_append at (take k frames) (f ∷ [])
     ∙ ap (λ l. octets_of_packets (packets_at at (take k frames)) ++ l) (one_packet at f)
 
--- the packets up to an index are the front of all
+-- The packets up to an index are a prefix of all packets.
 pub packets_front : (w : World) (bodies : ℕ → FrameValue) (e k at : ℕ) →
     octets_of_packets (packets_at at (frames_sent w bodies e))
     ≡ octets_of_packets (packets_at at (take k (frames_sent w bodies e)))
@@ -80,7 +80,7 @@ packets_front w bodies e k at =
     ap (λ l. octets_of_packets (packets_at at l)) (sym (take-append-drop k frames))
     ∙ packets_append at (take k frames) (drop k frames)
 
--- ---- how many there are
+-- ---- the number of packets
 
 count_of : (w : World) (bodies : ℕ → FrameValue) (x : Exchange) (c : Content) →
     length (octets_of_content made_up w bodies x c) ≡ transmissions c
@@ -114,7 +114,7 @@ none_sent w bodies e is = of (exchange w e) refl
     of None none = rw none refl
     of (Some x) known = absurd (let bad : None ≡ Some (sent_of x) = is ∙ ap (option_map sent_of) known in cc)
 
--- an exchange that is told of is open
+-- An exchange that the path returns is open.
 pub is_open : (w : World) (e : ℕ) (told : Told) → Some told ≡ option_map sent_of (exchange w e) →
     (x : Exchange) × (exchange w e ≡ Some x) × (told ≡ sent_of x)
 is_open w e told is = of (exchange w e) refl
@@ -125,14 +125,14 @@ is_open w e told is = of (exchange w e) refl
     of (Some x) known = let same : Some told ≡ Some (sent_of x) = is ∙ ap (option_map sent_of) known in
         (x, known, cc)
 
--- and has the transmissions that are told of
+-- It has the transmissions that the path returns.
 pub is_sending : (w : World) (e k : ℕ) (told : Told) → Some told ≡ option_map sent_of (exchange w e) →
     k < told.count → HasTransmission w e k
 is_sending w e k told is few =
     let o = is_open w e told is in
     record { sending = o.0; known = o.1; within = omega (arith, few, ap (λ (t : Told). t.count) o.2) }
 
--- each transmission has an octet
+-- Each transmission has at least one octet.
 pub some_octets : (w : World) (bodies : ℕ → FrameValue) (e k : ℕ) (f : List ℕ) →
     octets_sent made_up w bodies e k ≡ Some f → 0 < length f
 some_octets w bodies e k f sent = of (exchange w e) refl
@@ -162,7 +162,7 @@ some_octets w bodies e k f sent = of (exchange w e) refl
     of (Some x) known = content_long x x.content k
         (sym (ap (option_and_then (λ y. transmission_octets made_up w bodies y k)) known) ∙ sent)
 
--- ---- what a sink holds of them
+-- ---- the octets that a sink holds
 
 drop_next : {A : Type 0} (xs : List A) (k : ℕ) (x : A) → slice_get xs k ≡ Some x →
     drop k xs ≡ x ∷ drop (suc k) xs
@@ -174,7 +174,7 @@ module _ (held now new : Option (List ℕ)) (w : World) (bodies : ℕ → FrameV
     (sent : octets_sent made_up w bodies e k ≡ Some f) (clock : at ≡ w.clock)
     (so_far : now ≡ append_known held (octets_of_packets
     (packets_at w.clock (take k (frames_sent w bodies e))))) where
-  -- one packet more was written
+  -- One more packet was written.
   pub more_sent : new ≡ append_known now (packet_octets at f) →
       new ≡ append_known held (octets_of_packets (packets_at w.clock (take (k + 1) (frames_sent w bodies e))))
   more_sent wrote =
@@ -182,7 +182,7 @@ module _ (held now new : Option (List ℕ)) (w : World) (bodies : ℕ → FrameV
       (packet_octets w.clock f) so_far (wrote ∙ ap (λ n. append_known now (packet_octets n f)) clock)
       ∙ ap (append_known held) (sym (packet_more w bodies e k w.clock f sent))
 
-  -- or some of it
+  -- A prefix of one more packet was written.
   pub some_sent : (n : ℕ) × (n ≤ length (packet_octets at f)) ×
       (new ≡ append_known now (take n (packet_octets at f))) →
       HoldsFront held new (octets_of_packets (packets_at w.clock (frames_sent w bodies e)))
@@ -204,7 +204,7 @@ module _ (held now new : Option (List ℕ)) (w : World) (bodies : ℕ → FrameV
       (packet_octets w.clock f ++ others) so_far
       (front_first now new (packet_octets w.clock f) others partly))
 
--- all of them
+-- All packets were written.
 pub whole_sent : (held new : Option (List ℕ)) (w : World) (bodies : ℕ → FrameValue) (e : ℕ) (told : Told) →
     Some told ≡ option_map sent_of (exchange w e) →
     new ≡ append_known held (octets_of_packets (packets_at w.clock
@@ -218,7 +218,7 @@ append_none : (held : Option (List ℕ)) → held ≡ append_known held []
 append_none None = refl
 append_none (Some xs) = ap Some (sym (append-nil xs))
 
--- none, where the exchange is not open
+-- Nothing was written, since the exchange is not open.
 pub nothing_sent : (held : Option (List ℕ)) (w : World) (bodies : ℕ → FrameValue) (e : ℕ) →
     None ≡ option_map sent_of (exchange w e) →
     held ≡ append_known held (octets_of_packets (packets_at w.clock (frames_sent w bodies e)))

@@ -1,4 +1,4 @@
--- The lines of the stations, one station after the other.
+-- Proves the lines of the stations, which are written station by station.
 use Rattle.std.proofs.Common.{◌≡◌, ℕ, zero, suc, ◌+◌, ◌-◌, ◌≤◌, ◌<◌, List, [], ◌∷◌, ◌++◌, Bool, true, false, cond, refl, sym, ◌∙◌, ap, append_assoc, append-nil, arith}
 use Rattle.std.specs.Prelude.{Option, map, filter}
 use Rattle.std.specs.List.{concat}
@@ -12,7 +12,7 @@ use Rattle.wf_io.proofs.FrontLaws.{front_first, front_next}
 use Rattle.wf_report.specs.Parts.{lines_of, shares_of}
 use Rattle.wf_report.proofs.Rows.{upto-more, kept-more, kept-same, concat-append, filter-append}
 
--- the lines of the stations below a number
+-- The lines of the stations below a number.
 abbrev pub shares_below : World → ℕ → List ℕ
 shares_below w n = concat (map (share_lines w) (filter (is_live w) (upto n)))
 
@@ -54,7 +54,7 @@ shares-rest w n below =
           (map (share_lines w) (filter (is_live w) rest.0)),
     )
 
--- a station's lines were written in part
+-- A prefix of a station's lines was written.
 pub front_share : (w : World) (n : ℕ) (old now new : Option (List ℕ)) → n < w.config.stations →
     now ≡ append_known old (shares_below w n) → HoldsFront now new (lines_of w n) →
     HoldsFront old new (shares_of w)

@@ -1,4 +1,4 @@
--- Octets that were taken and octets that were written, one after the other.
+-- Proves laws of octets that are read, and of octets that are written, one part after another.
 use Rattle.std.proofs.Common.{◌≡◌, ℕ, ◌+◌, ◌≤◌, List, [], ◌++◌, length, take, refl, sym, ◌∙◌, ap, subst, append_assoc, append-nil, arith, length-append}
 use Rattle.std.specs.Prelude.{Option, Some, None}
 use Rattle.std.specs.Io.KnownBytes.{prepend_known, append_known, IsAtEnd}
@@ -26,23 +26,23 @@ written_more one two None now new first second = second ∙ ap (λ h. append_kno
 written_more one two (Some xs) now new first second =
     second ∙ ap (λ h. append_known h two) first ∙ ap Some (append_assoc xs one two)
 
--- what is left of an input that is told
+-- The rest of a known input.
 pub rest_of : (taken : List ℕ) (left now : Option (List ℕ)) (input : List ℕ) → left ≡ Some input →
     left ≡ prepend_known taken now → (more : List ℕ) × (now ≡ Some more) × (input ≡ taken ++ more)
 rest_of taken left None input told took = absurd (let e : Some input ≡ None = sym told ∙ took in cc)
 rest_of taken left (Some more) input told took =
     (more, refl, let e : Some input ≡ Some (taken ++ more) = sym told ∙ took in cc)
 
--- an input that has ended has nothing left
+-- An input that has ended has no rest.
 pub ended : (left : Option (List ℕ)) (more : List ℕ) → IsAtEnd left → left ≡ Some more → more ≡ []
 ended left more over told = subst (λ (l : Option (List ℕ)). IsAtEnd l) told over
 
--- nothing was taken at the end, so it is the end still
+-- If nothing was read at the end of the input, it is still the end.
 pub still_ended : (left now : Option (List ℕ)) → IsAtEnd left → left ≡ prepend_known [] now → IsAtEnd now
 still_ended left None over took = tt
 still_ended left (Some xs) over took = subst (λ (l : Option (List ℕ)). IsAtEnd l) took over
 
--- octets were put into a buffer behind others
+-- Octets are written to a buffer after others.
 pub put_long : (at n k : ℕ) (xs ys : List ℕ) → at ≤ length xs → n ≤ length ys →
     at + n ≤ length (put_mid at k xs ys)
 put_long at n k xs ys fits few =

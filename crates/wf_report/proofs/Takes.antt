@@ -1,4 +1,4 @@
--- No more can be taken than there is.
+-- Proves that no more octets can be taken than there are.
 use Rattle.std.proofs.Common.{◌≡◌, ℕ, zero, suc, List, [], ◌∷◌, length, take, min, ap, ◌∙◌, sym, arith}
 
 take_least : {X : Type 0} → (n : ℕ) (xs : List X) → take (min n (length xs)) xs ≡ take n xs

@@ -1,4 +1,5 @@
--- A capture that is written packet by packet is listed packet by packet.
+-- Proves that a capture that is written packet by packet is listed packet by packet. By induction on the
+-- packets.
 use Rattle.std.proofs.Common.{◌≡◌, ℕ, ◌+◌, ◌*◌, ◌/◌, ◌%◌, ◌^◌, ◌<◌, ◌≤◌, List, [], ◌∷◌, ◌++◌, length, map, rules, refl, sym, ◌∙◌, ap, arith, length-append}
 use Rattle.std.specs.Prelude.{Option, Some, None, flat_map}
 use Rattle.std.proofs.lemmas.Grind.{common_steps}
@@ -15,7 +16,7 @@ use Rattle.wf_report.proofs.NextPackets.{packet_of, packet_first}
 abbrev pub octets_of : List Sent → List ℕ
 octets_of packets = flat_map (λ (p : Sent). packet_octets p.at p.octets) packets
 
--- a packet as it is written
+-- The header of a written packet.
 in_header : (at : ℕ) (octets : List ℕ) → at < 2 ^ 32 * 1000000 → length octets ≤ 65535 →
     packet_in written_form (packet_octets at octets)
     ≡ record {
@@ -49,7 +50,7 @@ as_seen : (p : Sent) → IsWritable p → packet_of written_form (packet_octets 
 as_seen p is = ap (λ (h : Packet). let r : Captured = record { header = h; octets = p.octets } in r)
     (in_header p.at p.octets is.time is.most)
 
--- packets one behind the other, the first of them behind so many octets
+-- Packets in order, the first of them after `place` octets.
 from_here : (packets : List Sent) (place number total : ℕ) → AreWritable packets →
     total ≡ place + length (octets_of packets) → total ≤ most_octets_read →
     packets_from written_form total number (from_each written_form 0 (octets_of packets))

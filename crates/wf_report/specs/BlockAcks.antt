@@ -1,4 +1,4 @@
--- The octets of a BlockAck that a reply tells (IEEE 802.11-2012, 8.3.1.9).
+-- Defines the octets of a BlockAck in a reply (IEEE 802.11-2012, 8.3.1.9).
 use Rattle.std.specs.Prelude.{ℕ, Bool, List, ◌++◌, flat_map, if◌then◌else◌}
 use Rattle.byteorder.specs.Endian.{little_bytes}
 use Rattle.wf_octets.specs.Addresses.{base, address_of_station}
@@ -6,7 +6,8 @@ use Rattle.wf_octets.specs.BlockLayout.{head_octets, answer, narrow_form, wide_f
 use Rattle.wf_octets.specs.declared.block.frames.Bar.{Bar}
 use Rattle.wf_send_parts.specs.Window.{on_air}
 
--- all but its bitmap: to the access point, from station s, with Duration 0, of TID t, with this start
+-- All fields except the bitmap: to the access point, from station s, with Duration 0, of TID t, with this
+-- start.
 abbrev pub block_ack_head : ℕ → ℕ → ℕ → Bar
 block_ack_head s t start = record {
   ra = base;
@@ -17,11 +18,11 @@ block_ack_head s t start = record {
       on_air start;
 }
 
--- a bitmap of words of 64 bits, the lowest octet of each first
+-- A bitmap of words of 64 bits, the lowest octet of each word first.
 abbrev pub bitmap_octets : List ℕ → List ℕ
 bitmap_octets words = flat_map (little_bytes 8) words
 
--- a BlockAck that tells of 64 numbers by one word, or a wide one that tells of 256 by four
+-- A BlockAck of 64 numbers, with one word, or a wide one of 256 numbers, with four.
 abbrev pub block_ack_frame : ℕ → ℕ → ℕ → List ℕ → Bool → List ℕ
 block_ack_frame s t start words wide =
     head_octets answer (if wide then wide_form else narrow_form) (block_ack_head s t start)

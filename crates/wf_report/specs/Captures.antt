@@ -1,4 +1,4 @@
--- *Capture*: the capture file of a run.
+-- Defines the *capture*: the capture file of a run.
 use Rattle.std.specs.Prelude.{ℕ, List, [], ◌∷◌, ◌++◌}
 use Rattle.wf_frame.specs.Frames.{FrameValue, new_frame, sample_body}
 use Rattle.wf_frame.specs.declared.notes.Note.{Note}
@@ -10,38 +10,38 @@ use Rattle.wf_def_world.specs.Run.{Entry}
 use Rattle.wf_def_world.specs.Step.{Outcome, step}
 use Rattle.wf_report.specs.Packets.{frames_by, packets_at, octets_of_packets}
 
--- the frame that a call brings: octet j of its body is the low octet of its flow's number plus j
+-- The frame of an enqueue: octet j of its body is the low octet of its flow's number plus j.
 abbrev pub sample_of : Note → FrameValue
 sample_of (Enqueue s t flow len) = new_frame s t flow (sample_body flow len)
 sample_of (Asked ask) = new_frame 0 0 0 []
 
--- the frame of each id: that of the call that brought it
+-- The frame of each id: that of its enqueue.
 abbrev pub samples : World → ℕ → FrameValue
 samples w id = sample_of (frame w id).note
 
--- A packet's header has 32 bits for the seconds. So many calls, each of at most ten seconds, end before the
--- seconds begin anew.
+-- A packet's header has 32 bits for the seconds. This number of calls, each of at most ten seconds, ends
+-- before the seconds wrap.
 abbrev pub most_calls_timed : ℕ
 most_calls_timed = 429496729
 
--- the packets of a call from a world, at the time of the clock
+-- The packets of a call in a world, at the time of the clock.
 abbrev pub packets_by : World → Note → List Sent
 packets_by w note = let o : Outcome = step w note in
     packets_at o.world.clock (frames_by o.world (samples o.world) note o.reply)
 
--- the octets that they add to a capture
+-- The octets that they add to a capture.
 abbrev pub packets_of : World → Note → List ℕ
 packets_of w note = octets_of_packets (packets_by w note)
 
--- the packets of a history, call by call
+-- The packets of a history, call by call.
 unfoldable pub packets_from : World → List Entry → List Sent
 packets_from w [] = []
 packets_from w (e ∷ es) = packets_by w e.1 ++ packets_from (step w e.1).world es
 
--- the packets of the run of a history
+-- The packets of the run of a history.
 abbrev pub packets_in : Config → List Entry → List Sent
 packets_in config history = packets_from (opening config) history
 
--- its capture: the file header, and the packets one behind the other
+-- The capture of a history: the file header, and then the packets in order.
 abbrev pub capture_of : Config → List Entry → List ℕ
 capture_of config history = file_of (packets_in config history)

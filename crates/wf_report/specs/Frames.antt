@@ -1,4 +1,4 @@
--- What octets are as a frame.
+-- Defines which frame octets encode.
 use Rattle.std.specs.Prelude.{ℕ, ◌/◌, ◌%◌, ◌==◌, ◌&&◌, ◌||◌, Bool, true, false, is_none, List, slice_index, if◌then◌else◌}
 use Rattle.wf_octets.specs.Fields.{number_at}
 use Rattle.wf_octets.specs.declared.header.header.Kind.TheVariants.{QosData}
@@ -9,24 +9,23 @@ use Rattle.wf_octets.specs.BlockFaults.{first_block_fault as block_fault}
 use Rattle.wf_report.specs.declared.captures.listing.frame.Frame.{Frame}
 use Rattle.wf_report.specs.declared.captures.listing.frame.Frame.TheVariants.{Data, Bar, Ba, Other}
 
--- they begin with a header that passes all its checks, and it is that of QoS Data
+-- The octets begin with a header of QoS Data that passes all checks.
 abbrev pub is_qos_data : List ℕ → Bool
 is_qos_data octets = is_none (header_fault octets) && slice_index octets 0 == first_octet QosData
 
--- they pass all checks of a BlockAckReq; of a BlockAck of 64 numbers, or of one of 256
+-- The octets pass all checks of a BlockAckReq, of a BlockAck with 64 numbers, or of one with 256.
 abbrev pub is_bar : List ℕ → Bool
 is_bar octets = is_none (block_fault 20 request false octets)
 
 abbrev pub is_ba : List ℕ → Bool
 is_ba octets = is_none (block_fault 28 answer false octets) || is_none (block_fault 52 answer true octets)
 
--- of QoS Data the traffic identifier, bits 0 to 3 of QoS Control, and the sequence number, bits 4 to 15 of
--- Sequence Control
+-- QoS Data: the TID is bits 0 to 3 of QoS Control, and the sequence number bits 4 to 15 of Sequence Control.
 abbrev pub data_in : List ℕ → Frame
 data_in octets = Data (slice_index octets qos_at % 16) (number_at octets sequence_at / 16)
 
--- of a block frame the traffic identifier, bits 12 to 15 of the control field, and the number that the window
--- begins with, bits 4 to 15 of Starting Sequence Control
+-- A BlockAckReq or BlockAck: the TID is bits 12 to 15 of the control field, and the first number of the
+-- window bits 4 to 15 of Starting Sequence Control.
 abbrev pub block_tid : List ℕ → ℕ
 block_tid octets = slice_index octets 17 / 16
 

@@ -1,4 +1,4 @@
--- Text: what is written for a capture.
+-- Defines the text that `frames` writes for a capture.
 use Rattle.std.specs.Prelude.{ℕ, List, [], ◌∷◌, ◌++◌, length, codes, decimal, flat_map, Option, Some, None}
 use Rattle.wf_frame.specs.Words.{line}
 use Rattle.wf_report.specs.declared.captures.listing.fault.Fault.{Fault}
@@ -9,14 +9,14 @@ use Rattle.wf_report.specs.declared.captures.listing.frame.Frame.TheVariants.{Da
 use Rattle.wf_report.specs.Frames.{frame_listed}
 use Rattle.wf_report.specs.ListedPackets.{Captured, Listing, listing}
 
--- what a frame is
+-- The words of a frame.
 abbrev pub frame_words : Frame → List (List ℕ)
 frame_words (Data tid seq) = codes "data" ∷ codes "tid" ∷ decimal tid ∷ codes "seq" ∷ decimal seq ∷ []
 frame_words (Bar tid start) = codes "bar" ∷ codes "tid" ∷ decimal tid ∷ codes "start" ∷ decimal start ∷ []
 frame_words (Ba tid start) = codes "ba" ∷ codes "tid" ∷ decimal tid ∷ codes "start" ∷ decimal start ∷ []
 frame_words Other = codes "other" ∷ []
 
--- the line of a packet: its time as its header has it, how many octets were captured, and what frame they are
+-- The line of a packet: its time as in its header, its captured length, and the words of its frame.
 abbrev pub packet_line : Captured → List ℕ
 packet_line p =
     line (decimal p.header.seconds ∷ decimal p.header.fraction ∷ codes "len" ∷ decimal p.header.captured ∷ frame_words (frame_listed p.octets))
@@ -38,7 +38,7 @@ capture_fault_line fault = line (codes "fault" ∷ codes "packet" ∷ decimal fa
 abbrev pub count_line : ℕ → List ℕ
 count_line count = line (codes "packets" ∷ decimal count ∷ [])
 
--- behind so many packets the line of the fault, or how many there were
+-- The last line: the fault line, or the number of packets.
 abbrev pub last_line : ℕ → Option Fault → List ℕ
 last_line count None = count_line count
 last_line count (Some fault) = capture_fault_line fault
@@ -46,6 +46,6 @@ last_line count (Some fault) = capture_fault_line fault
 abbrev pub listing_text : Listing → List ℕ
 listing_text l = packet_lines l.packets ++ last_line (length l.packets) l.fault
 
--- what is written for a capture
+-- The text that is written for a capture.
 abbrev pub text : List ℕ → List ℕ
 text octets = listing_text (listing octets)

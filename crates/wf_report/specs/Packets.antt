@@ -1,4 +1,4 @@
--- What goes on the air with a call: the octets of its frames, and the packets that show them.
+-- Defines what a call puts on the air: the octets of its frames, and their packets.
 use Rattle.std.specs.Prelude.{ℕ, Bool, true, false, List, [], ◌∷◌, map, flat_map, Option, Some, None, option_and_then}
 use Rattle.std.specs.Option.{option_map_or}
 use Rattle.wf_frame.specs.Frames.{FrameValue}
@@ -14,39 +14,39 @@ use Rattle.wf_path.specs.Addresses.{made_up}
 use Rattle.wf_path.specs.Transmissions.{frames_on_air}
 use Rattle.wf_report.specs.BlockAcks.{block_ack_frame}
 
--- the octets of each transmission of exchange e, by index, from and to made-up addresses, where `bodies` has
--- the frame of each id: none where it is not open
+-- The octets of each transmission of exchange e, by index, with placeholder addresses, or none if it is not
+-- open; `bodies` has the frame of each id.
 abbrev pub frames_sent : World → (ℕ → FrameValue) → ℕ → List (List ℕ)
 frames_sent w bodies e = option_map_or (λ x. frames_on_air made_up w bodies x) (exchange w e) []
 
--- the exchange that a call asks its station to answer
+-- The exchange that a call answers.
 abbrev pub exchange_answered : Note → Option ℕ
 exchange_answered (Asked (Answer e)) = Some e
 exchange_answered note = None
 
--- the words of a bitmap, of four: all of them for 256 numbers, the first for 64
+-- The words of a bitmap that are sent: all four for 256 numbers, the first for 64.
 abbrev pub words_told : Bool → List ℕ → List ℕ
 words_told true words = words
 words_told false [] = []
 words_told false (word ∷ words) = word ∷ []
 
--- the BlockAck to an exchange, from its station, of its TID
+-- The BlockAck of an exchange, from its station and of its TID.
 abbrev pub block_acks : ℕ → List ℕ → Bool → Option Exchange → List (List ℕ)
 block_acks start words wide None = []
 block_acks start words wide (Some x) = block_ack_frame x.station x.tid start (words_told wide words) wide ∷ []
 
--- The frames that go on the air with a call, by the world behind it and its reply: each transmission of the
--- exchange that opens, by index, or the BlockAck to the exchange that it names.
+-- The frames that a call puts on the air, by the world after it and its reply: each transmission of the
+-- exchange that begins, by index, or the BlockAck of the exchange that is answered.
 abbrev pub frames_by : World → (ℕ → FrameValue) → Note → ReplyNote → List (List ℕ)
 frames_by w bodies note (Send e s t air part more) = frames_sent w bodies e
 frames_by w bodies note (Ba start b0 b1 b2 b3 wide) =
     block_acks start (b0 ∷ b1 ∷ b2 ∷ b3 ∷ []) wide (option_and_then (exchange w) (exchange_answered note))
 frames_by w bodies note reply = []
 
--- packets of these frames, all at one time
+-- The packets of these frames, all with the same time.
 abbrev pub packets_at : ℕ → List (List ℕ) → List Sent
 packets_at at frames = map (λ octets. let p : Sent = record { at = at; octets = octets } in p) frames
 
--- packets one behind the other
+-- The octets of packets, in order.
 abbrev pub octets_of_packets : List Sent → List ℕ
 octets_of_packets packets = flat_map (λ (p : Sent). packet_octets p.at p.octets) packets

@@ -1,11 +1,11 @@
--- The parts of a summary.
+-- Defines the parts of a summary.
 use Rattle.std.specs.Prelude.{ℕ, List, [], ◌∷◌, ◌++◌, if◌then◌else◌, codes, decimal, length, map}
 use Rattle.std.specs.List.{concat}
 use Rattle.wf_def_world.specs.World.{World, is_live, live_stations}
 use Rattle.wf_frame.specs.Words.{line}
 use Rattle.wf_def_world.specs.Text.{share_lines, tally_words, traffic_map, with_traffic, hex}
 
--- the first four lines of a summary, those of a station and of all stations, and the last
+-- The first four lines of a summary, those of one station, those of all stations, and the last line.
 abbrev pub counts_of_summary : World → ℕ → List ℕ
 counts_of_summary w calls =
     line (codes "calls" ∷ decimal calls ∷ []) ++ line (codes "now" ∷ decimal w.clock ∷ []) ++ line (tally_words w)

@@ -1,8 +1,8 @@
-//! Captures of traces: what goes on the air with each call of a trace, as packets of a capture file, each
-//! transmission of the access point and each BlockAck of its stations (IEEE 802.11-2012, 8.3.1.8, 8.3.1.9 and
-//! 8.3.2.1); and that `frames` lists them.
+//! Captures: writes what each call of a trace puts on the air as packets of a capture file. Each transmission
+//! of the access point and each BlockAck of its stations is a packet (IEEE 802.11-2012, 8.3.1.8, 8.3.1.9 and
+//! 8.3.2.1). A law states that `frames` lists them.
 //!
-//! The module `listing` reads captures: the command `frames`.
+//! The module `listing` reads captures: it is the command `frames`.
 
 mod frames;
 mod law;

@@ -1,6 +1,10 @@
-//! What a run writes: `print_reply` is the answer line of each answer, `summary` that of the world after a
-//! cell's history, and the module `captures` has what goes on the air with each call, as packets of a capture
-//! file.
+//! Writes the output of a run: `print_reply` writes the answer line of an answer, `summary` the summary of a
+//! cell, and the module `captures` what each call puts on the air, as packets of a capture file.
+//!
+//! ```text
+//! print_reply(&answer, &mut line);    // "accepted 0" and the octet 10
+//! summary(&cell, &mut sink)?;         // "calls 10", "now 0", ..
+//! ```
 #![tactic(auto)]
 
 pub mod captures;

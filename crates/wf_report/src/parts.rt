@@ -1,25 +1,9 @@
-//! Parts of lines: names, and hexadecimal digits.
+//! Appends hexadecimal digits to a line.
 
 ghost use Rattle.std.specs.Prelude.{◌≡◌, ◌+◌, ◌<◌, ◌≤◌, ◌++◌, length};
-ghost use Rattle.wf_def_world.specs.Text.{fate_name as name_of_fate, hex, hex_digit as digit_of};
+ghost use Rattle.wf_def_world.specs.Text.{hex, hex_digit as digit_of};
 
-use wf_frame::{Cause, Fate};
 use wf_io::Line;
-
-/// The word of a fate.
-pub fn fate_name(fate: Fate) -> &'static [u8]
-    ensures name { result.now ≡ name_of_fate fate }
-    ensures short { length result.now ≤ 9 }
-{
-    match fate {
-        Fate::Held => b"held",
-        Fate::Acked => b"acked",
-        Fate::Dropped(Cause::Overlimit) => b"overlimit",
-        Fate::Dropped(Cause::Codel) => b"codel",
-        Fate::Dropped(Cause::Retries) => b"retries",
-        Fate::Dropped(Cause::Left) => b"left",
-    }
-}
 
 fn hex_digit(value: u8) -> u8
     requires { value < 16 }

@@ -1,18 +1,18 @@
-//! The answer line of an answer.
+//! Writes the answer line of an answer.
 
 ghost use Rattle.std.specs.Prelude.{◌≡◌, ◌+◌, ◌≤◌, ◌++◌, ◌∷◌, [], length, map, decimal, codes, slice_index, ◌*◌, if◌then◌else◌, true};
 ghost use Rattle.wf_io.specs.Words.{spaced};
 ghost use Rattle.wf_def_world.specs.Text.{answer_line, part_words, score_digits};
 ghost use Rattle.wf_frame.specs.Answers.{part_sent, reply_of};
-ghost use Rattle.wf_frame.specs.declared.notes.ReplyNote.TheVariants.{Accepted, Ended, Reaped, Refused};
+ghost use Rattle.wf_frame.specs.declared.notes.ReplyNote.TheVariants.{Accepted, Done, Reaped, Refused};
 ghost use Rattle.wf_frame.specs.Words.{line};
 ghost use Rattle.wf_report.specs.Replies.{pair_text};
 
-use crate::parts::{fate_name, push_hex};
+use crate::parts::push_hex;
 use wf_frame::{Answer, Brief, Fate, Ids, Pairs, Refusal};
 use wf_io::{Line, Word};
 
-// The line of a refusal, with the number that it tells, where it tells one.
+// Writes the line of a refusal, with its number if it has one.
 fn push_refusal(out: &mut Line, refusal: Refusal)
     requires { out.old ≡ [] }
     ensures { out.new ≡ answer_line (Refused refusal) }
@@ -24,7 +24,7 @@ fn push_refusal(out: &mut Line, refusal: Refusal)
     }
 }
 
-// The line of a word and of a number.
+// Writes the line of a word and a number.
 fn push_numbered(out: &mut Line, word: &'static [u8], number: u64)
     requires empty { out.old ≡ [] }
     requires short { length word.now ≤ 8 }
@@ -36,7 +36,7 @@ fn push_numbered(out: &mut Line, word: &'static [u8], number: u64)
     out.push(b'\n');
 }
 
-// The frames of an aggregate, each with its sequence number.
+// Appends the frames of an aggregate, each with its sequence number.
 fn push_pairs(out: &mut Line, pairs: &Pairs)
     requires { length out.old ≤ 200 }
     ensures text { out.new ≡ out.old ++ spaced (map pair_text pairs.now) }
@@ -51,7 +51,7 @@ fn push_pairs(out: &mut Line, pairs: &Pairs)
     }
 }
 
-// A number of at most five digits.
+// Appends a number of at most five digits.
 fn push_short(out: &mut Line, number: u16)
     requires { length out.old + 20 ≤ 8192 }
     ensures text { out.new ≡ out.old ++ decimal number }
@@ -60,7 +60,7 @@ fn push_short(out: &mut Line, number: u16)
     out.push_number(u64::from(number));
 }
 
-// The ids of the frames that were passed up.
+// Appends the ids of the frames that were passed up.
 fn push_ids(out: &mut Line, ids: &Ids)
     requires { length out.old ≤ 200 }
     ensures text { out.new ≡ out.old ++ spaced (map decimal ids.now) }
@@ -72,7 +72,7 @@ fn push_ids(out: &mut Line, ids: &Ids)
     }
 }
 
-// What an exchange sends.
+// Appends the frames or the request of an exchange.
 fn push_part(out: &mut Line, request: Option<u16>, pairs: &Pairs)
     requires { length out.old ≤ 190 }
     ensures text { out.new ≡ out.old ++ spaced (part_words (part_sent request pairs.now)) }
@@ -89,7 +89,7 @@ fn push_part(out: &mut Line, request: Option<u16>, pairs: &Pairs)
     }
 }
 
-// The More Data bit, as a word where it is set, and the end of the line.
+// Appends `more` if the More Data bit is set, and ends the line.
 fn push_more(out: &mut Line, more: bool)
     requires { length out.old ≤ 7200 }
     ensures { out.new ≡ out.old ++ (spaced (if more then codes "more" ∷ [] else []) ++ 10 ∷ []) }
@@ -101,7 +101,7 @@ fn push_more(out: &mut Line, more: bool)
     }
 }
 
-// The bits of a wide block acknowledgement, offset 255 first.
+// Appends the bits of a wide BlockAck, offset 255 first.
 fn push_wide(out: &mut Line, words: &[u64; 4])
     requires { length out.old ≤ 100 }
     ensures text { out.new ≡ out.old ++ score_digits (slice_index words.now 0) (slice_index words.now 1)
@@ -114,7 +114,7 @@ fn push_wide(out: &mut Line, words: &[u64; 4])
     push_hex(out, 16, words[0]);
 }
 
-// The bits of a block acknowledgement.
+// Appends the bits of a BlockAck.
 fn push_bits(out: &mut Line, words: &[u64; 4], wide: bool)
     requires { length out.old ≤ 100 }
     ensures text { out.new ≡ out.old ++ score_digits (slice_index words.now 0) (slice_index words.now 1)
@@ -128,7 +128,7 @@ fn push_bits(out: &mut Line, words: &[u64; 4], wide: bool)
     }
 }
 
-// The line of a block acknowledgement: its start and its bits.
+// Writes the line of a BlockAck: its start and its bits.
 fn push_answer(out: &mut Line, first: u16, words: &[u64; 4], wide: bool)
     requires { out.old ≡ [] }
     ensures { out.new ≡ line (codes "ba" ∷ decimal first
@@ -142,10 +142,10 @@ fn push_answer(out: &mut Line, first: u16, words: &[u64; 4], wide: bool)
     out.push(b'\n');
 }
 
-// The line of an end: how many frames were acknowledged, wait for another transmission, and failed.
+// Writes the line of a `done`: how many frames were acknowledged, wait for another transmission, and failed.
 fn push_ended(out: &mut Line, acked: u16, waiting: u16, failed: u16)
     requires { out.old ≡ [] }
-    ensures { out.new ≡ answer_line (Ended acked waiting failed) }
+    ensures { out.new ≡ answer_line (Done acked waiting failed) }
 {
     out.push_line(
         b"done",
@@ -160,7 +160,7 @@ fn push_ended(out: &mut Line, acked: u16, waiting: u16, failed: u16)
     );
 }
 
-// The line of a frame that was accepted, and of the one that was dropped for it, if any.
+// Writes the line of an accepted frame, and of the frame that was dropped for the limit, if any.
 fn push_accepted(out: &mut Line, id: u64, dropped: Option<u64>)
     requires { out.old ≡ [] }
     ensures { out.new ≡ answer_line (Accepted id dropped) }
@@ -174,7 +174,7 @@ fn push_accepted(out: &mut Line, id: u64, dropped: Option<u64>)
     out.push(b'\n');
 }
 
-// An exchange to send, but for what it sends.
+// Writes the line of a pull, up to the frames or the request.
 fn push_exchange(out: &mut Line, exchange: u64, station: u16, tid: u8, air: u32)
     requires { out.old ≡ [] }
     ensures text { out.new ≡ codes "send" ++ spaced
@@ -195,15 +195,15 @@ fn push_exchange(out: &mut Line, exchange: u64, station: u16, tid: u8, air: u32)
     out.push_words(&words);
 }
 
-// The line of a frame that was reaped, and of its fate.
+// Writes the line of a reaped frame and its fate.
 fn push_reaped(out: &mut Line, id: u64, fate: Fate)
     requires { out.old ≡ [] }
     ensures { out.new ≡ answer_line (Reaped id fate) }
 {
-    out.push_line(b"reaped", &[Word::Number(id), Word::Text(fate_name(fate))]);
+    out.push_line(b"reaped", &[Word::Number(id), Word::Text(fate.word())]);
 }
 
-// The line of the frames that a receiver passed up.
+// Writes the line of the frames that a receiver passed up.
 fn push_released(out: &mut Line, ids: &Ids)
     requires { out.old ≡ [] }
     ensures { out.new ≡ line (codes "released" ∷ map decimal ids.now) }
@@ -220,9 +220,9 @@ pub fn print_reply(answer: &Answer, out: &mut Line)
 {
     match answer.brief {
         Brief::Joined => out.push_line(b"joined", &[]),
-        Brief::Gone { dropped } => push_numbered(out, b"left", u64::from(dropped)),
-        Brief::RateSet => out.push_line(b"set", &[]),
-        Brief::Ticked { now } => push_numbered(out, b"now", now),
+        Brief::Left { dropped } => push_numbered(out, b"left", u64::from(dropped)),
+        Brief::Set => out.push_line(b"set", &[]),
+        Brief::Now { now } => push_numbered(out, b"now", now),
         Brief::Accepted { id, dropped } => push_accepted(out, id, dropped),
         Brief::Send {
             exchange,
@@ -245,14 +245,14 @@ pub fn print_reply(answer: &Answer, out: &mut Line)
             b3,
             wide,
         } => push_answer(out, start, &[b0, b1, b2, b3], wide),
-        Brief::Ended {
+        Brief::Done {
             acked,
             waiting,
             failed,
         } => push_ended(out, acked, waiting, failed),
         Brief::Slept => out.push_line(b"slept", &[]),
         Brief::Woken => out.push_line(b"woken", &[]),
-        Brief::Credited { class } => out.push_line(b"polled", &[Word::Text(class.word())]),
+        Brief::Polled { class } => out.push_line(b"polled", &[Word::Text(class.word())]),
         Brief::Charged { deficit } => out.push_line(b"charged", &[Word::Signed(deficit)]),
         Brief::Reaped { id, fate } => push_reaped(out, id, fate),
         Brief::Refused(refusal) => push_refusal(out, refusal),

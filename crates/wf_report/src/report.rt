@@ -1,4 +1,4 @@
-//! The summary of a cell.
+//! Writes the summary of a cell.
 
 ghost use Rattle.std.specs.Prelude.{◌≡◌, ◌+◌, ◌≤◌, ◌++◌, [], length, map, OnOk, ◌*◌, true};
 ghost use Rattle.std.specs.List.{concat};
@@ -17,7 +17,7 @@ use wf_cell::Cell;
 use wf_frame::Class;
 use wf_io::{Failed, Line, Sink, Word, write_line};
 
-// The lines of calls, clock, frames and exchanges.
+// Writes the lines of the calls, the clock, the frames and the exchanges.
 fn push_counts(cell: &Cell, out: &mut Line)
     requires { out.old ≡ [] }
     ensures { out.new ≡ counts_of_summary (world_of cell.now.past) (length cell.now.past.history) }
@@ -53,7 +53,7 @@ fn push_counts(cell: &Cell, out: &mut Line)
     );
 }
 
-// The line of what a live station has in a class, if it used any airtime.
+// Appends the line of a live station in a class, if it used any airtime.
 fn push_share(cell: &Cell, station: u16, class: Class, out: &mut Line)
     requires live { is_live (world_of cell.now.past) station ≡ true }
     requires room { length out.old ≤ 4096 }
@@ -81,7 +81,7 @@ fn push_share(cell: &Cell, station: u16, class: Class, out: &mut Line)
     );
 }
 
-// The lines of a live station, class by class.
+// Writes the lines of a live station, class by class.
 fn push_shares(cell: &Cell, station: u16, out: &mut Line)
     requires live { is_live (world_of cell.now.past) station ≡ true }
     requires empty { out.old ≡ [] }
@@ -124,7 +124,7 @@ fn write_shares<K: Sink>(cell: &Cell, sink: &mut K) -> Result<(), Failed>
     Ok(())
 }
 
-// Octets in hexadecimal digits.
+// Appends octets as hexadecimal digits.
 fn push_octets(out: &mut Line, octets: &[u8])
     requires few { length octets.now ≤ 256 }
     requires room { length out.old ≤ 100 }
@@ -136,7 +136,7 @@ fn push_octets(out: &mut Line, octets: &[u8])
     }
 }
 
-// The line of the TIM element.
+// Writes the line of the TIM element.
 fn push_map(cell: &Cell, out: &mut Line)
     requires { out.old ≡ [] }
     ensures { out.new ≡ map_line (world_of cell.now.past) }
@@ -148,8 +148,8 @@ fn push_map(cell: &Cell, out: &mut Line)
     out.push(b'\n');
 }
 
-/// Writes the summary of the world in which a cell is, after the calls of its history. After a fault, some of
-/// it from its front has been written.
+/// Writes the summary of a cell: the state of its world after all calls. After a failed write the sink holds
+/// a prefix of it.
 pub fn summary<K: Sink>(cell: &Cell, sink: &mut K) -> Result<(), Failed>
     ensures written { OnOk result
         (K.held sink.new ≡ append_known (K.held sink.old)
@@ -165,7 +165,7 @@ pub fn summary<K: Sink>(cell: &Cell, sink: &mut K) -> Result<(), Failed>
     write_parts(cell, &counts, &last, sink)
 }
 
-// Writes the summary, whose first and last lines are at hand.
+// Writes the summary, from its first and last lines.
 fn write_parts<K: Sink>(cell: &Cell, counts: &Line, last: &Line, sink: &mut K) -> Result<(), Failed>
     requires counts { counts.now ≡ counts_of_summary (world_of cell.now.past) (length cell.now.past.history) }
     requires last { last.now ≡ map_line (world_of cell.now.past) }

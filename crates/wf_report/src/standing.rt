@@ -1,4 +1,4 @@
-//! What a summary asks of a cell: its path says where the world is after the history.
+//! The questions that a summary asks a cell. The answers describe the world after the cell's history.
 
 ghost use Rattle.std.specs.Prelude.{◌≡◌, ◌≤◌, length, take, true};
 ghost use Rattle.wf_send_parts.specs.Tally.{held_in, counts_of};
@@ -12,28 +12,28 @@ use wf_cell::Cell;
 use wf_frame::Class;
 use wf_send_parts::stations::Tally;
 
-/// How many station numbers there are, 1 to 256.
+/// Returns the number of station numbers, 1 to 256.
 pub fn stations(cell: &Cell) -> u16
     ensures { result ≡ (world_of cell.now.past).config.stations }
 {
     cell.path().config().stations as u16
 }
 
-/// How many exchanges were opened.
+/// Returns the number of exchanges that have begun.
 pub fn exchanges(cell: &Cell) -> u64
     ensures { result ≡ (world_of cell.now.past).exchanges }
 {
     cell.path().exchanges()
 }
 
-/// How many of them are open.
+/// Returns the number of open exchanges.
 pub fn open_exchanges(cell: &Cell) -> u64
     ensures { result ≡ length (world_of cell.now.past).opened }
 {
     u64::from(cell.path().open_count())
 }
 
-/// The accepted frames by what became of them.
+/// Returns the counts of accepted frames, by fate.
 pub fn tally(cell: &Cell) -> Tally
     ensures accepted { result.accepted ≡ accepted_count (world_of cell.now.past) }
     ensures acked { result.acked ≡ tally_in (world_of cell.now.past) Acked }
@@ -46,14 +46,14 @@ pub fn tally(cell: &Cell) -> Tally
     cell.path().tally()
 }
 
-/// Whether a station is live.
+/// Returns whether a station is live.
 pub fn live(cell: &Cell, station: u16) -> bool
     ensures { result ≡ is_live (world_of cell.now.past) station }
 {
     cell.path().live(station)
 }
 
-/// The deficit of a live station in a class, in microseconds.
+/// Returns the deficit of a live station in a class, in microseconds.
 pub fn deficit(cell: &Cell, station: u16, class: Class) -> i64
     requires { is_live (world_of cell.now.past) station ≡ true }
     ensures { result ≡ (share (world_of cell.now.past) station class).deficit }
@@ -61,7 +61,7 @@ pub fn deficit(cell: &Cell, station: u16, class: Class) -> i64
     cell.path().deficit(station, class)
 }
 
-/// The airtime of a live station's exchanges in a class since its join, in microseconds.
+/// Returns the airtime of a live station's exchanges in a class since its join, in microseconds.
 pub fn charged(cell: &Cell, station: u16, class: Class) -> u64
     requires { is_live (world_of cell.now.past) station ≡ true }
     ensures { result ≡ (share (world_of cell.now.past) station class).charged }
@@ -69,7 +69,7 @@ pub fn charged(cell: &Cell, station: u16, class: Class) -> u64
     cell.path().charged(station, class)
 }
 
-/// The airtime that a live station itself used in a class since its join, in microseconds.
+/// Returns the airtime that a live station used to send in a class since its join, in microseconds.
 pub fn received(cell: &Cell, station: u16, class: Class) -> u64
     requires { is_live (world_of cell.now.past) station ≡ true }
     ensures { result ≡ (share (world_of cell.now.past) station class).received }
@@ -77,7 +77,7 @@ pub fn received(cell: &Cell, station: u16, class: Class) -> u64
     cell.path().received(station, class)
 }
 
-/// Writes the TIM element (IEEE 802.11-2012, 8.4.2.7), and gives how many octets it has.
+/// Writes the TIM element (IEEE 802.11-2012, 8.4.2.7), and returns its number of octets.
 pub fn traffic(cell: &Cell, out: &mut [u8; 256]) -> usize
     ensures count { result ≤ length out.new }
     ensures octets { take result out.new ≡ traffic_map (with_traffic (world_of cell.now.past)) }

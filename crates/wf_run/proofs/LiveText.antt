@@ -1,4 +1,5 @@
--- What a replay of a written history says, and how long the history's frames are.
+-- Proves that a replay of the trace that `live` writes ends with the summary that it writes, and that its
+-- history obeys all laws and has frames of valid length.
 use Rattle.std.proofs.Common.{◌≡◌, ℕ, ◌≤◌, List, [], ◌∷◌, refl, ap, ◌∙◌, true}
 use Rattle.wf_frame.specs.Settings.{standard}
 use Rattle.wf_frame.specs.declared.notes.Note.{Note}
@@ -15,9 +16,9 @@ use Rattle.wf_trace.specs.Printing.{IsPrintable}
 use Rattle.wf_trace.specs.Reading.{reading}
 use Rattle.wf_def_world.specs.Run.{Entry}
 use Rattle.wf_def_world.specs.Text.{text_of}
-use Rattle.wf_law_trace.specs.Histories.{history_among}
+use Rattle.wf_trace_laws.specs.Histories.{history_among}
 use Rattle.wf_run_replay.specs.Texts.{text}
-use Rattle.wf_law_trace.proofs.Ranges.{standard_in}
+use Rattle.wf_trace_laws.proofs.Ranges.{standard_in}
 
 same_history : (history : List Entry) → history_among (entry_items history) ≡ history
 same_history [] = refl
@@ -31,7 +32,7 @@ pub live_laws : (seed senders frames : ℕ) (history : List Entry) → IsLiveHis
     Laws standard history
 live_laws seed senders frames history live = laws standard history standard_in
 
--- what can be printed has at least one octet, and at most those of the greatest body
+-- The body of a printable enqueue has at least one octet, and at most the greatest length of a body.
 sized : (note : Note) → IsPrintable note → HasLength note × IsAtMost greatest_body note
 sized (Enqueue station tid flow len) is = is.1.1.1.0
 sized (Asked ask) is = (tt, tt)

@@ -1,7 +1,7 @@
--- The laws of the program hold.
+-- Proves the laws of the program, by the laws of each command.
 use Rattle.std.proofs.Common.{ℕ, List, true}
 use Rattle.std.specs.Prelude.{Option}
-use Rattle.wf_law_trace.proofs.Ranges.{trace_laws}
+use Rattle.wf_trace_laws.proofs.Ranges.{trace_laws}
 use Rattle.wf_run_scripts.proofs.SessionLaw.{session_law}
 use Rattle.wf_run_scripts.proofs.UplinkScripts.{uplink_law}
 use Rattle.wf_report.proofs.WrittenCaptures.{frames_law}

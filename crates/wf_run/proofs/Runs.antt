@@ -1,4 +1,5 @@
--- What every run says of its faults, and of words that are no command, by how the runs of its command end.
+-- Proves the clauses of `run` about faults and about words that are no command, and splits the end of a
+-- run into one statement per command. By cases of the command.
 use Rattle.std.proofs.Common.{◌≡◌, ℕ, List, ap, refl, subst}
 use Rattle.std.specs.Prelude.{◌≢◌, Option, Some, None}
 use Rattle.wf_io.specs.declared.status.Status.{Status}
@@ -7,7 +8,7 @@ use Rattle.wf_trace.specs.CommandEnds.{TellsFault, CommandEnds, CommandWrites}
 use Rattle.wf_run.specs.declared.help.words.Command.{Command}
 use Rattle.wf_run.specs.declared.help.words.Command.TheVariants.{Replay, Soak, Live, Session, Uplink, Frames, Capture, Help, Version}
 use Rattle.wf_run.specs.Runs.{EndsBy, RunEnds}
-use Rattle.wf_law_trace.specs.Endings.{TraceAnswered}
+use Rattle.wf_trace_laws.specs.Endings.{TraceAnswered}
 use Rattle.wf_run_replay.specs.Outcome.{StatusSays}
 use Rattle.wf_run_replay.specs.CaptureOutcome.{CaptureOutcome}
 use Rattle.wf_run_scripts.specs.SessionOutcome.{SessionOutcome, SessionAnswered}
@@ -19,7 +20,7 @@ use Rattle.wf_run.specs.Topics.{help_text, version_text}
 use Rattle.wf_run.specs.Outcome.{SoakStatusSays}
 use Rattle.wf_run.specs.declared.help.topic.Topic.{Topic}
 
--- what every run says: whether its words are a command, and of its faults
+-- For every command: when the status is `Usage`, and how the status depends on faults.
 pub record RunSays {S K : Type 0} (command : Option Command) (read_faults : S → ℕ) (write_faults : K → ℕ)
     (source source_new : S) (sink sink_new : K) (status : Status) : Type 0 where
   pub usage : status ≡ Usage → command ≡ None
@@ -29,7 +30,7 @@ pub record RunSays {S K : Type 0} (command : Option Command) (read_faults : S �
   pub read : TellsFault ReadFault (read_faults source) (read_faults source_new) status
   pub write : TellsFault WriteFault (write_faults sink) (write_faults sink_new) status
 
--- a command that reads tells of both itself
+-- A command that reads the source: both facts are in how it ends.
 of_reader : {S K : Type 0} (command : Command) (left : S → Option (List ℕ)) (read_faults : S → ℕ)
     (held : K → Option (List ℕ)) (write_faults : K → ℕ)
     (outcome : Status → List ℕ → List ℕ → List ℕ → Type 0) (answered : List ℕ → Status → Type 0)
@@ -46,7 +47,7 @@ of_reader command left read_faults held write_faults outcome answered source sou
       write = ends.write;
     }
 
--- a command that leaves the source as it was has no status that tells of it, and none of words
+-- A command that does not read the source never ends with `ReadFault` or `Usage`.
 of_writer : {S K : Type 0} (command : Command) (read_faults : S → ℕ) (held : K → Option (List ℕ))
     (write_faults : K → ℕ) (outcome : Status → List ℕ → Type 0) (source source_new : S) (sink sink_new : K)
     (status : Status) → ((written : List ℕ) → outcome Usage written → ⊥) →
@@ -70,7 +71,7 @@ of_writer command read_faults held write_faults outcome source source_new sink s
       write = ends.1.write;
     }
 
--- words that are no command touch nothing
+-- No command: neither source nor sink changes.
 of_none : {S K : Type 0} (read_faults : S → ℕ) (write_faults : K → ℕ) (source source_new : S)
     (sink sink_new : K) (status : Status) →
     (status ≡ Usage) × (source_new ≡ source) × (sink_new ≡ sink) →
@@ -124,7 +125,7 @@ pub run_says : {S K : Type 0} (command : Option Command) (left : S → Option (L
 run_says command left read_faults held write_faults source source_new sink sink_new status run =
     says_by command left read_faults held write_faults source source_new sink sink_new status run.ends
 
--- how a run ends, command by command
+-- How a run ends, as one statement for each command.
 pub record EndsAsAsked {S K : Type 0} (command : Option Command) (left : S → Option (List ℕ)) (read_faults
     : S → ℕ)
     (held : K → Option (List ℕ)) (write_faults : K → ℕ) (source source_new : S) (sink sink_new : K)
@@ -172,7 +173,7 @@ ends_as_asked command left read_faults held write_faults source source_new sink 
       version = λ is. by_command (Some Version) is;
     }
 
--- what is said of one command is said of another that is the same
+-- Carries the end of a run over to an equal command.
 pub of_same : {S K : Type 0} (command other : Option Command) (left : S → Option (List ℕ))
     (read_faults : S → ℕ) (held : K → Option (List ℕ)) (write_faults : K → ℕ) (source source_new : S)
     (sink sink_new : K) (status : Status) → command ≡ other →

@@ -1,4 +1,5 @@
--- What is written of a soak, and how long its frames are.
+-- Proves that a soak writes the summary of its history, and that this history obeys all laws and
+-- has frames of valid length.
 use Rattle.std.proofs.Common.{◌≡◌, ℕ, List, [], ◌∷◌, length, ap, ap₂, arith, ◌∙◌}
 use Rattle.wf_frame.specs.declared.notes.Note.{Note}
 use Rattle.wf_frame.specs.declared.notes.Note.TheVariants.{Enqueue, Asked}
@@ -14,7 +15,7 @@ use Rattle.wf_def_world.specs.Run.{Entry, Past, world_of}
 use Rattle.wf_def_world.specs.Text.{summary}
 use Rattle.wf_law_runs.specs.Lengths.{HasLengths}
 use Rattle.wf_run.specs.Outcome.{soak_text}
-use Rattle.wf_law_trace.proofs.Ranges.{standard_in}
+use Rattle.wf_trace_laws.proofs.Ranges.{standard_in}
 
 pub is_soak_text : (p : Past) (seed calls : ℕ) →
     p ≡ record { config = standard; history = soak_history seed calls } →
@@ -27,7 +28,7 @@ is_soak_text p seed calls played counted = ap₂ summary (ap world_of played)
 pub soak_laws : (seed calls : ℕ) → Laws standard (soak_history seed calls)
 soak_laws seed calls = laws standard (soak_history seed calls) standard_in
 
--- 64 to 1500 octets are at least one, and at most those of the greatest body
+-- The frames of a soak have 64 to 1500 octets: at least one, and at most the greatest length of a body.
 sized : (note : Note) → HasSoakLength note → HasLength note × IsAtMost greatest_body note
 sized (Enqueue station tid flow len) has = (omega (arith, has.0), omega (arith, has.1))
 sized (Asked ask) has = (tt, tt)

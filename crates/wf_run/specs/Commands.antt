@@ -1,4 +1,4 @@
--- The commands, by the words of the command line.
+-- Defines which command the words of a command line ask for.
 use Rattle.std.specs.Prelude.{ℕ, Bool, ◌≤◌, ◌^◌, ◌-◌, nat_le, ◌&&◌, List, [], ◌∷◌, codes, Option, Some, None, option_map, ◌||◌, if◌then◌else◌}
 use Rattle.std.specs.List.{list_any}
 use Rattle.std.specs.Str.{bytes_eq}
@@ -10,7 +10,7 @@ use Rattle.wf_run.specs.declared.help.topic.Topic.TheVariants.{Overview}
 use Rattle.wf_run.specs.declared.help.words.Command.{Command}
 use Rattle.wf_run.specs.declared.help.words.Command.TheVariants.{Replay, Soak, Live, Session, Uplink, Frames, Capture, Help, Version}
 
--- the number that a word is, where it lies between two
+-- The number that a word is, if it is between `low` and `high`, both included.
 unfoldable pub number_within : ℕ → ℕ → List ℕ → Option ℕ
 number_within low high word =
     if is_plain_number word && nat_le low (value_from 0 word) && nat_le (value_from 0 word) high
@@ -27,14 +27,14 @@ live_of (Some seed) (Some senders) None = None
 live_of (Some seed) None frames = None
 live_of None senders frames = None
 
--- a soak has 1 to 1,000,000 calls; live has 1 to 8 senders, with 1 to 10,000 frames each
+-- A soak has 1 to 1,000,000 calls; `live` has 1 to 8 senders, with 1 to 10,000 frames each.
 abbrev pub HasCallsInRange : Command → Type 0
 HasCallsInRange (Soak seed calls) = (1 ≤ calls) × (calls ≤ 1000000)
 HasCallsInRange (Live seed senders frames) = ((1 ≤ senders) × (senders ≤ 8)) ×
     ((1 ≤ frames) × (frames ≤ 10000))
 HasCallsInRange command = Unit {0}
 
--- a command of one word
+-- The command of one word.
 unfoldable pub word_command : List ℕ → Option Command
 word_command word =
     if bytes_eq word (codes "replay") then Some Replay
@@ -44,24 +44,24 @@ word_command word =
     else (if bytes_eq word (codes "help") then Some (Help Overview)
     else (if bytes_eq word (codes "--version") then Some Version else None)))))
 
--- the help on the command that a word names
+-- The command that writes the help on the topic with this word.
 unfoldable pub help_on : List ℕ → Option Command
 help_on word = option_map Help (topic_named word)
 
--- a command of two words
+-- The command of two words.
 unfoldable pub two_words_command : List ℕ → List ℕ → Option Command
 two_words_command word option =
     if bytes_eq word (codes "replay") && bytes_eq option (codes "--pcap") then Some Capture
     else (if bytes_eq word (codes "help") then help_on option else None)
 
--- a command of three words
+-- The command of three words.
 unfoldable pub soak_command : List ℕ → List ℕ → List ℕ → Option Command
 soak_command word seed calls =
     if bytes_eq word (codes "soak")
     then soak_of (number_within 0 (2 ^ 64 - 1) seed) (number_within 1 1000000 calls)
     else None
 
--- a command of four words
+-- The command of four words.
 unfoldable pub live_command : List ℕ → List ℕ → List ℕ → List ℕ → Option Command
 live_command word seed senders frames =
     if bytes_eq word (codes "live")
@@ -69,8 +69,8 @@ live_command word seed senders frames =
     (number_within 1 10000 frames)
     else None
 
--- `replay`, `session`, `uplink`, `frames`, `help`, `--version`, `replay --pcap`, `help COMMAND`,
--- `soak SEED CALLS`, and `live SEED SENDERS FRAMES`
+-- The command of words that do not ask for help by `--help` or `-h`: `replay`, `session`, `uplink`, `frames`,
+-- `help`, `--version`, `replay --pcap`, `help COMMAND`, `soak SEED CALLS` and `live SEED SENDERS FRAMES`.
 abbrev pub played_command_of : List (List ℕ) → Option Command
 played_command_of [] = None
 played_command_of (word ∷ []) = word_command word
@@ -79,21 +79,21 @@ played_command_of (word ∷ seed ∷ calls ∷ []) = soak_command word seed call
 played_command_of (word ∷ seed ∷ senders ∷ frames ∷ []) = live_command word seed senders frames
 played_command_of (word ∷ seed ∷ senders ∷ frames ∷ other ∷ words) = None
 
--- a word that asks for help wherever it stands
+-- A word that asks for help, wherever it is in the command line.
 abbrev pub asks_help : List ℕ → Bool
 asks_help word = bytes_eq word (codes "--help") || bytes_eq word (codes "-h")
 
--- the command that such a word asks about, behind an answer for the first word
+-- The first topic if there is one, otherwise the second.
 abbrev pub topic_or : Option Topic → Topic → Topic
 topic_or (Some topic) other = topic
 topic_or None other = other
 
--- the first command that one of the words names, or all commands
+-- The topic of the first word that has one, or all commands.
 abbrev pub topic_among : List (List ℕ) → Topic
 topic_among [] = Overview
 topic_among (word ∷ words) = topic_or (topic_named word) (topic_among words)
 
--- the command that the words of the command line are
+-- The command that the words of the command line ask for.
 abbrev pub command_of : List (List ℕ) → Option Command
 command_of words =
     if list_any asks_help words then Some (Help (topic_among words))

@@ -1,4 +1,4 @@
--- What the status of a soak says, and the laws of the program.
+-- Defines what the status of a soak means, and the laws of the program.
 use Rattle.std.specs.Prelude.{◌≡◌, ◌≤◌, ℕ, List, length, true, Option, Some}
 use Rattle.wf_frame.specs.Settings.{standard}
 use Rattle.wf_io.specs.Fronts.{IsFrontOf}
@@ -10,7 +10,7 @@ use Rattle.wf_def_world.specs.Run.{Entry, world_after}
 use Rattle.wf_def_world.specs.Text.{summary, text_of}
 use Rattle.wf_law_runs.specs.Laws.{Laws}
 use Rattle.wf_law_runs.specs.Lengths.{HasLengths}
-use Rattle.wf_law_trace.specs.Laws.{HasLaws}
+use Rattle.wf_trace_laws.specs.Laws.{HasLaws}
 use Rattle.wf_run_replay.specs.Texts.{text}
 use Rattle.wf_run_replay.specs.CaptureOutcome.{CaptureLaw}
 use Rattle.wf_run_scripts.specs.SessionOutcome.{SessionLaw}
@@ -19,11 +19,12 @@ use Rattle.wf_report.specs.ListingLaw.{FramesLaw}
 use Rattle.wf_run_histories.specs.Soak.{soak_history}
 use Rattle.wf_run_histories.specs.Lives.{IsLiveHistory, TellsOf}
 
--- what is written of a soak: the summary of its history
+-- The text that a soak writes: the summary of its history.
 unfoldable pub soak_text : ℕ → ℕ → List ℕ
 soak_text seed calls = summary (world_after (opening standard) (soak_history seed calls)) calls
 
--- by the seed and the number of calls of a soak, and the octets that were written: its summary, or some of it
+-- The part of a soak's summary that was written, by its status: all of it after `Done`, a prefix after a
+-- failed write or out of memory.
 abbrev pub SoakStatusSays : Status → ℕ → ℕ → List ℕ → Type 0
 SoakStatusSays Done seed calls written = (written ≡ soak_text seed calls) ×
     (length (soak_history seed calls) ≡ calls)
@@ -33,22 +34,22 @@ SoakStatusSays BadTrace seed calls written = ⊥
 SoakStatusSays ReadFault seed calls written = ⊥
 SoakStatusSays Usage seed calls written = ⊥
 
--- The laws of what the commands do: of the source's input where it tells it, of every soak, and of every
+-- The laws of the commands. They hold for the source's input, if it is known, for every soak, and for every
 -- history of `live`.
 pub record ProgramLaws (left : Option (List ℕ)) : Type 0 where
-  -- all laws hold of the run of the trace that the input is
+  -- All laws hold for the run of the trace that is the input.
   pub laws : (input : List ℕ) → left ≡ Some input → HasLaws (reading true input)
-  -- its capture is listed by `frames`, packet by packet
+  -- `frames` lists the packets of its capture, in order.
   pub capture_law : (input : List ℕ) → left ≡ Some input → CaptureLaw input
-  -- the law of agreements, of the script that it is
+  -- The law of agreements holds for the script that is the input.
   pub session_law : (input : List ℕ) → left ≡ Some input → SessionLaw input
-  -- the laws of the uplink, of the script that it is
+  -- The laws of the uplink hold for the script that is the input.
   pub uplink_law : (input : List ℕ) → left ≡ Some input → UplinkLaw input
-  -- the law of lists of captures
+  -- The law of lists holds for the capture that is the input.
   pub frames_law : (input : List ℕ) → left ≡ Some input → FramesLaw input
   pub soak_laws : (seed calls : ℕ) → Laws standard (soak_history seed calls)
   pub soak_lengths : (seed calls : ℕ) → HasLengths (soak_history seed calls)
-  -- a replay of the trace that `live` writes ends with the summary that it writes
+  -- A replay of the trace that `live` writes ends with the summary that `live` writes.
   pub live_again : (history : List Entry) (written : List ℕ) → TellsOf history written →
       text (reading true written) ≡ text_of standard history
   pub live_laws : (seed senders frames : ℕ) (history : List Entry) →

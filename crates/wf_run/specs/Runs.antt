@@ -1,9 +1,9 @@
--- How a run ends, by the command that its words are.
+-- Defines how a run ends, by its command.
 use Rattle.std.specs.Prelude.{◌≡◌, ℕ, List, Option, Some, None}
 use Rattle.wf_io.specs.declared.status.Status.{Status}
 use Rattle.wf_io.specs.declared.status.Status.TheVariants.{Usage}
 use Rattle.wf_trace.specs.CommandEnds.{CommandEnds, CommandWrites}
-use Rattle.wf_law_trace.specs.Endings.{TraceAnswered}
+use Rattle.wf_trace_laws.specs.Endings.{TraceAnswered}
 use Rattle.wf_run_replay.specs.Outcome.{StatusSays}
 use Rattle.wf_run_replay.specs.CaptureOutcome.{CaptureOutcome}
 use Rattle.wf_run_scripts.specs.SessionOutcome.{SessionOutcome, SessionAnswered}
@@ -16,8 +16,8 @@ use Rattle.wf_run.specs.declared.help.words.Command.{Command}
 use Rattle.wf_run.specs.declared.help.words.Command.TheVariants.{Replay, Soak, Live, Session, Uplink, Frames, Capture, Help, Version}
 use Rattle.wf_run.specs.Outcome.{SoakStatusSays}
 
--- How a run ends by its command, and by what is seen of source and sink, as in `CommandEnds`: words that are
--- no command leave both as they were, and a command that does not read leaves the source so.
+-- How a run ends, by its command and by the contents of source and sink, as in `CommandEnds`. Words that are
+-- no command leave both unchanged; a command that does not read leaves the source unchanged.
 abbrev pub EndsBy : {S K : Type 0} → Option Command → (S → Option (List ℕ)) → (S → ℕ) →
     (K → Option (List ℕ)) → (K → ℕ) → S → S → K → K → Status → Type 0
 EndsBy None left read_faults held write_faults source source_new sink sink_new status =
@@ -51,7 +51,7 @@ EndsBy (Some Version) left read_faults held write_faults source source_new sink 
     (source_new ≡ source) × CommandWrites held write_faults
     (λ ended written. TellingStatusSays ended version_text written) sink sink_new status
 
--- how a run ends whose words are this command
+-- How a run of this command ends.
 pub record RunEnds {S K : Type 0} (command : Option Command) (left : S → Option (List ℕ)) (read_faults : S
     → ℕ)
     (held : K → Option (List ℕ)) (write_faults : K → ℕ) (source source_new : S) (sink sink_new : K)

@@ -1,4 +1,4 @@
-//! The commands, by their words.
+//! Runs the command that the words of a command line ask for.
 
 ghost use Rattle.std.specs.Prelude.{◌≡◌, ◌≤◌, ◌↔◌, ℕ, IfSome, Some, None, map, string_bytes};
 ghost use Rattle.wf_trace.specs.CommandEnds.{CommandEnds, CommandWrites, TellsFault};
@@ -6,7 +6,7 @@ ghost use Rattle.wf_run.specs.Commands.{command_of, HasCallsInRange};
 ghost use Rattle.wf_run.specs.Telling.{TellingStatusSays};
 ghost use Rattle.wf_run.specs.Topics.{help_text, version_text};
 ghost use Rattle.wf_run.specs.declared.help.topic.Topic.{Topic};
-ghost use Rattle.wf_law_trace.specs.Endings.{TraceAnswered};
+ghost use Rattle.wf_trace_laws.specs.Endings.{TraceAnswered};
 ghost use Rattle.wf_run_replay.specs.Outcome.{StatusSays};
 ghost use Rattle.wf_run_replay.specs.CaptureOutcome.{CaptureOutcome};
 ghost use Rattle.wf_run_scripts.specs.SessionOutcome.{SessionOutcome, SessionAnswered};
@@ -31,7 +31,9 @@ use wf_run_replay::replay;
 use wf_run_scripts::session::session;
 use wf_run_scripts::uplink::uplink;
 
-/// Writes the summary of the soak of a seed and a number of calls, 1 to 1,000,000.
+/// Runs the soak of a seed and a number of calls, 1 to 1,000,000, and writes its summary.
+///
+/// `Status::NoMemory` means that memory ran out, and `Status::WriteFault` that the sink failed.
 pub fn soaked<K: Sink>(alloc: Global, seed: u64, calls: u32, sink: &mut K) -> Status
     requires { (1 ≤ calls) × (calls ≤ 1000000) }
     ensures ends { CommandWrites K.held K.faults (λ status written. SoakStatusSays status seed calls written)
@@ -46,10 +48,12 @@ pub fn soaked<K: Sink>(alloc: Global, seed: u64, calls: u32, sink: &mut K) -> St
     }
 }
 
-/// Runs the command that the words are, on this source and sink: `replay`, `replay --pcap`, `soak SEED
-/// CALLS`, `live SEED SENDERS FRAMES`, `session`, `uplink` or `frames`; or tells of them, by `help`, `help
-/// COMMAND`, and `--help` or `-h` anywhere, or of the version, by `--version`. Only `live` makes threads and
-/// may wait; it calls the turnstile round each call at its gate.
+/// Runs the command that the words ask for, on this source and sink.
+///
+/// The commands are `replay`, `replay --pcap`, `soak SEED CALLS`, `live SEED SENDERS FRAMES`, `session`,
+/// `uplink` and `frames`. `help` and `help COMMAND`, or `--help` or `-h` anywhere, write the help, and
+/// `--version` writes the version. Only `live` creates threads and may wait; it calls the turnstile around
+/// each call at its gate.
 pub fn run<R: Threads + Wait + Sync, S: Source, K: Sink, T: Turnstile + Sync>(
     rt: &R,
     alloc: Global,
@@ -78,7 +82,7 @@ pub fn run<R: Threads + Wait + Sync, S: Source, K: Sink, T: Turnstile + Sync>(
         CommandEnds S.left S.faults K.held K.faults FramesOutcome FramesAnswered
         source.old source.new sink.old sink.new result }
 
-    // the commands that do not
+    // the commands that do not read it
     ensures soak { (seed calls : ℕ) →
         command_of (map string_bytes words.now) ≡ Some (Command.Soak seed calls) →
         (source.new ≡ source.old) × CommandWrites K.held K.faults
@@ -102,7 +106,7 @@ pub fn run<R: Threads + Wait + Sync, S: Source, K: Sink, T: Turnstile + Sync>(
     carry_out(rt, alloc, command_from(words), source, sink, turnstile)
 }
 
-// Carries out a command, or does nothing where there is none.
+// Runs a command, or does nothing if there is none.
 fn carry_out<R: Threads + Wait + Sync, S: Source, K: Sink, T: Turnstile + Sync>(
     rt: &R,
     alloc: Global,

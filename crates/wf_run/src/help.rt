@@ -1,6 +1,6 @@
-//! What the program is asked by the words of the command line (`command_from`), and what it says of itself:
-//! `help` writes the help of a command, `version` the version; `usage` is said where the words are no
-//! command.
+//! Parses the words of the command line (`command_from`), and writes what the program says of itself: `help`
+//! writes the help on a topic, `version` writes the version, and `usage` returns the text for words that are
+//! no command.
 
 mod telling;
 mod texts;

@@ -1,8 +1,14 @@
-//! All commands of the program, over any source and sink: `run`, the one call of them all, and `soaked`, with
-//! the headline's clauses: a replay of a trace, and its capture, a soak, a run on threads, a session, an
-//! uplink, the list of a capture, help and the version.
+//! All commands of the program `wf`, over any source and sink.
 //!
-//! What the words of a command line ask, and what the program says of itself, is the module `help`.
+//! `run` runs the command that the words of a command line ask for: a replay of a trace, its capture, a soak,
+//! a run on threads, a session, an uplink, the list of a capture, the help or the version. `soaked` runs a
+//! soak alone. Their contracts state what the status of each command means.
+//!
+//! ```text
+//! let status = run(rt, alloc, &words, &mut source, &mut sink, &Free);    // the words "soak", "1", "200000"
+//! ```
+//!
+//! The module `help` parses the words of the command line, and writes the help and the version.
 #![tactic(auto)]
 
 mod commands;

@@ -1,4 +1,5 @@
--- What the workers did, once all seats are back.
+-- Proves that the history is a history of `live` when all seats are returned. The entries since the gate
+-- opened come from the seats, and each seat has the calls of its worker.
 use Rattle.std.proofs.Common.{◌≡◌, ℕ, ◌+◌, ◌-◌, ◌<◌, ◌≤◌, List, ◌++◌, length, map, replicate, sym, ◌∙◌, ap, subst, arith, inl, inr}
 use Rattle.std.specs.Prelude.{◌⊎◌, All, slice_index_or}
 use Rattle.std.proofs.lemmas.List.{length-replicate, get_or-append-add, get_or-replicate}
@@ -42,7 +43,7 @@ module _ (g : CellGate) (seed senders frames : ℕ) (calls : List Entry) (seats 
     count : length g.opening.quotas ≡ senders + driver_count
     count = ap length quotas ∙ count_of senders frames
 
-    -- the seat with a number
+    -- The seat with a number.
     record HasSeat (n : ℕ) : Type 0 where
       s : CellSeat
       numbered : s.number ≡ n
@@ -61,7 +62,7 @@ module _ (g : CellGate) (seed senders frames : ℕ) (calls : List Entry) (seats 
           works = subst (IsWorked g seed senders frames) a.3 (worked a.0 a.1 a.2);
         }
 
-    -- all calls of a seat
+    -- All calls of a seat.
     made_is : (n : ℕ) (h : HasSeat n) (made : List Made) → StandAt g h.s.number h.s.seen h.s.own made →
         made ≡ made_by n (opened_world senders) calls
     made_is n h made stand =

@@ -1,4 +1,4 @@
--- The exchange that a reply names: it is one of those that were begun by then.
+-- Proves that an exchange that a reply names has begun by then. By cases of the call.
 use Rattle.std.proofs.Common.{◌≡◌, ℕ, ◌<◌, ◌≤◌, Bool, true, false, if◌then◌else◌, List, [], ◌∷◌, Option, Some, None, refl, sym, ◌∙◌, subst, arith}
 use Rattle.wf_frame.specs.declared.classes.Class.{Class}
 use Rattle.wf_frame.specs.declared.notes.Ask.TheVariants.{Join, Leave, Rate, Tick, Pull, Arrive, Answer, Done, Sleep, Wake, Poll, Rx, Reap}
@@ -14,12 +14,12 @@ use Rattle.wf_def_world.specs.Exchanges.{Prepared, picked_station, after_pick, w
 use Rattle.wf_def_world.specs.Refusals.{refusal}
 use Rattle.wf_def_world.specs.Step.{Outcome, join_outcome, leave_outcome, rate_outcome, tick_outcome, enqueue_outcome, send_outcome, pull_outcome_for, pull_outcome, arrive_outcome, answer_outcome, done_outcome, outcome_where_open, sleep_outcome, wake_outcome, poll_outcome, rx_outcome, reap_outcome, outcome_of, concerned_station, judged_outcome, step}
 
--- where a reply names the exchange that it begins, its number is below n
+-- If a reply names the exchange that it begins, the number is below n.
 abbrev pub NamesBelow : ℕ → ReplyNote → Type 0
 NamesBelow n (Send e s t air part more) = e < n
 NamesBelow n _ = Unit {0}
 
--- the same of what a call comes to: its exchange is one of those begun by then
+-- The same for the outcome of a call, with the number of exchanges that have begun by then.
 abbrev NamesOwn : Outcome → Type 0
 NamesOwn o = NamesBelow o.world.exchanges o.reply
 
@@ -77,7 +77,7 @@ own_outcome (Asked (Poll s)) w = tt
 own_outcome (Asked (Rx s c air)) w = tt
 own_outcome (Asked Reap) w = own_reaped w.finished w
 
--- a listing begins no exchange
+-- Listing a station begins no exchange.
 same_if : (b : Bool) (u w : World) → u.exchanges ≡ w.exchanges → (if b then u else w).exchanges ≡ w.exchanges
 same_if true u w is = is
 same_if false u w is = refl
@@ -103,12 +103,12 @@ own_judged None w note =
     subst (λ n. NamesBelow n (outcome_of w note).reply)
     (sym (same_listed (concerned_station w note) (outcome_of w note).world)) (own_outcome note w)
 
--- a call's reply names an exchange that was begun by then
+-- The reply to a call names an exchange that has begun by then.
 pub names_own : (w : World) (note : Note) → NamesBelow (step w note).world.exchanges (step w note).reply
 unfolding step
 names_own w note = own_judged (refusal w note) w note
 
--- more exchanges
+-- The bound may grow.
 pub names_more : (r : ReplyNote) (m n : ℕ) → m ≤ n → NamesBelow m r → NamesBelow n r
 names_more (Send e s t air part more) m n le is = omega (arith, le, is)
 names_more _ m n le is = tt

@@ -1,4 +1,5 @@
--- The calls of a caller, by the places at which they stand in the entries that were made since the gate was.
+-- Proves that the calls at the places of a caller, among the entries since the gate opened, are all calls
+-- that it made.
 use Rattle.std.proofs.Common.{◌≡◌, ℕ, zero, suc, ◌<◌, Bool, true, false, cond, List, [], ◌∷◌, ◌++◌, length, map, take, Some, refl, sym, ◌∙◌, ap, ap₂, subst, append_assoc, length-append, arith}
 use Rattle.std.specs.Prelude.{eqb, slice_get}
 use Rattle.std.proofs.Math.Seq.{take-append_seam}
@@ -17,7 +18,7 @@ use Rattle.wf_run_histories.specs.Workloads.{Made}
 use Rattle.wf_run_histories.specs.Makings.{made_by}
 use Rattle.wf_run_histories.specs.Crew.{CellGate, StandAt, reply_at}
 
--- the world in which a gate was made
+-- The world in which the gate opened.
 abbrev pub world_at_gate : CellGate → World
 world_at_gate g = world_after (opening g.opening.machine.past.config) g.opening.machine.past.history
 
@@ -36,7 +37,7 @@ still_there xs ys k e p at = subst (λ (l : List Entry). slice_get l k ≡ Some 
 same_before : (xs ys : List Entry) (k : ℕ) → IsPrefix xs ys → k < length xs → take k ys ≡ take k xs
 same_before xs ys k p below = ap (take k) (sym p.1) ∙ take-append-le k xs p.0 (omega arith)
 
--- what stands at these places still stands there
+-- The calls at these places stay there when entries are appended.
 pub stand_longer : (g : CellGate) (caller : ℕ) (xs ys : List Entry) (own : List ℕ) (made : List Made) →
     IsPrefix xs ys → StandAt g caller xs own made → StandAt g caller ys own made
 stand_longer g caller xs ys [] [] p stand = stand
@@ -51,7 +52,7 @@ stand_longer g caller xs ys (place ∷ own) [] p stand = absurd stand
 
 -- ---- all calls of a caller
 
--- the world after one entry more
+-- The world after one more entry.
 after_one : (es : List Entry) (w : World) (e : Entry) →
     world_after w (es ++ e ∷ []) ≡ (step (world_after w es) e.1).world
 unfolding world_after
@@ -69,7 +70,7 @@ none_made : (g : CellGate) (caller : ℕ) (entries : List Entry) (made : List Ma
 none_made g caller entries [] stand = refl
 none_made g caller entries (m ∷ ms) stand = absurd stand
 
--- a fact of the entries that are left, with one of them gone
+-- Moves the first of the remaining entries to those that are done.
 shifted : (P : List Entry → List ℕ → Type 0) (caller : ℕ) (done : List Entry) (e : Entry) (es : List Entry) →
     P (done ++ e ∷ es) (places caller (suc (length done)) es) →
     P ((done ++ e ∷ []) ++ es) (places caller (length (done ++ e ∷ [])) es)
@@ -95,7 +96,7 @@ first_made g caller done e es m at right =
     ∙ ap (λ (n : Note). (step (world_after (world_at_gate g) done) n).reply) note in
     ap₂ (λ (n : Note) (r : ReplyNote). (n, r)) note reply
 
--- the caller's calls, by whether it made the first entry
+-- The caller's calls, by whether it made the first entry.
 made_if : (b : Bool) (g : CellGate) (caller : ℕ) (done : List Entry) (e : Entry) (es : List Entry)
     (made : List Made) →
     StandAt g caller (done ++ e ∷ es) (cond b (length done ∷ places caller (suc (length done)) es)
@@ -122,13 +123,13 @@ made_from (e ∷ es) done g caller made stand =
     (shifted (λ entries own. StandAt g caller entries own ms) caller done e es left)
     ∙ ap (λ (w : World). made_by caller w es) (after_one done (world_at_gate g) e))
 
--- what stands at the places of a caller is all that it made
+-- The calls at the places of a caller are all calls that it made.
 pub all_made : (entries : List Entry) (g : CellGate) (caller : ℕ) (made : List Made) →
     StandAt g caller entries (places_of caller entries) made → made ≡ made_by caller (world_at_gate g) entries
 unfolding world_after
 all_made entries g caller made stand = made_from entries [] g caller made stand
 
--- ---- the same of calls whose replies are not told
+-- ---- the same for calls without replies
 
 calls_longer : (caller : ℕ) (xs ys : List Entry) (own : List ℕ) (notes : List Note) → IsPrefix xs ys →
     StandsWithCalls caller xs own notes → StandsWithCalls caller ys own notes
@@ -172,7 +173,7 @@ called_from (e ∷ es) done w caller notes calls =
     (λ ns left. called_from es (done ++ e ∷ []) (step w e.1).world caller ns
     (shifted (λ entries own. StandsWithCalls caller entries own ns) caller done e es left))
 
--- the calls at the places of a caller, which a seat has seen, are all that it made
+-- The calls at the places of a caller, in the entries that a seat has seen, are all calls that it made.
 pub all_called : (seen entries : List Entry) (w : World) (caller : ℕ) (notes : List Note) →
     IsPrefix seen entries → StandsWithCalls caller seen (places_of caller entries) notes →
     notes ≡ map (λ (m : Made). m.0) (made_by caller w entries)

@@ -1,4 +1,5 @@
--- A line has room for each entry of a history of `live`.
+-- Proves that each entry of a history of `live` can be printed as a line of a trace: each caller is a sender
+-- or a driver, and the calls of both can be printed.
 use Rattle.std.proofs.Common.{◌≡◌, ℕ, zero, suc, ◌+◌, ◌-◌, ◌<◌, ◌≤◌, ◌^◌, Bool, true, false, cond, List, [], ◌∷◌, ◌++◌, length, map, refl, sym, ◌∙◌, ap, subst, length-append, arith, nat_lt}
 use Rattle.std.specs.Prelude.{All, ◌==◌}
 use Rattle.std.proofs.lemmas.List.Elements.{All-nil, All-cons, All-head, All-tail}
@@ -27,7 +28,7 @@ openings zero = tt
 openings (suc n) = both (opening_calls n) (station_calls n) (openings n)
     ((omega arith, (tt, (tt, (tt, (tt, (tt, tt)))))), ((omega arith, (tt, (tt, (tt, (tt, tt))))), tt))
 
--- the notes of calls that can be printed
+-- If the notes can be printed, the calls can.
 of_notes : (made : List Made) → All IsPrintable (map (λ (m : Made). m.0) made) → CanBePrinted made
 of_notes [] all = All-nil (λ (m : Made). IsPrintable m.0)
 of_notes (m ∷ ms) all =
@@ -46,7 +47,7 @@ first_of : (b : Bool) (m : Made) (ms : List Made) → b ≡ true → CanBePrinte
 first_of true m ms is all = All-head (λ (x : Made). IsPrintable x.0) m ms all
 first_of false m ms is all = absurd (cc)
 
--- entries whose callers can print all their calls
+-- Entries can be printed if all calls of each caller can.
 by_callers : (most : ℕ) (es : List Entry) (w : World) → most ≤ greatest_caller + 1 →
     All (λ (e : Entry). e.0 < most) es → ((n : ℕ) → n < most → CanBePrinted (made_by n w es)) →
     ArePrintable es
@@ -63,7 +64,7 @@ by_callers most (e ∷ es) w few below each =
           (λ n less. rest_of (e.0 == n) (e.1, o.reply) (made_by n o.world es) (each n less)),
     )
 
--- a sender or a driver
+-- The calls of a sender or a driver can be printed.
 each_prints : (seed senders frames : ℕ) (history : List Entry)
     (live : IsLiveHistory seed senders frames history) → length history ≤ 2 ^ 32 → (n : ℕ) →
     n < senders + driver_count →

@@ -1,4 +1,5 @@
--- The calls of workers can be printed.
+-- Proves that the calls of workers can be printed. A driver's calls name only exchanges that have begun, and
+-- a history of 2^32 entries begins at most 2^32 of them.
 use Rattle.std.proofs.Common.{◌≡◌, ℕ, zero, suc, ◌+◌, ◌<◌, ◌≤◌, ◌^◌, Bool, true, false, ◌||◌, if◌then◌else◌, List, [], ◌∷◌, length, Option, Some, None, map, sym, subst, arith}
 use Rattle.std.specs.Prelude.{All, ◌==◌}
 use Rattle.std.proofs.lemmas.List.Elements.{All-nil, All-cons, All-head, All-tail, All-append}
@@ -54,11 +55,11 @@ sender_law seed s frames =
 
 -- ---- drivers
 
--- the numbers of exchanges that a line has room for
+-- The numbers of exchanges that fit in a line.
 abbrev room : ℕ
 room = 2 ^ 32
 
--- what a driver owes can be printed
+-- The remaining calls of a driver can be printed.
 abbrev Fits : Phase → Type 0
 Fits (Owes calls) = All IsPrintable calls
 Fits _ = Unit {0}
@@ -81,7 +82,7 @@ printed_left : (e : ℕ) (some : Bool) (indices : List ℕ) → e < room →
 printed_left e some indices below = All-append IsPrintable _ _ (printed_arrivals e indices below)
     (printed_last e (some || some_of indices) below)
 
--- an exchange that a reply begins
+-- An exchange that a reply begins.
 abbrev BeginsBelow : Option (ℕ × ℕ) → Type 0
 BeginsBelow (Some x) = x.0 < room
 BeginsBelow None = Unit {0}

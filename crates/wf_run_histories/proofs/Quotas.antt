@@ -1,11 +1,11 @@
--- What the quotas add up to, and the numbers of the seats.
+-- Proves that the sum of the quotas fits in the cell, and that the seats of a new gate are numbered in order.
 use Rattle.std.proofs.Common.{◌≡◌, ℕ, zero, suc, ◌+◌, ◌*◌, ◌-◌, ◌<◌, ◌≤◌, List, [], ◌∷◌, ◌++◌, length, map, replicate, Some, refl, ◌∙◌, ap, ap₂, length-append, arith}
 use Rattle.std.specs.Prelude.{EachIndex, slice_get, sum}
 use Rattle.std.proofs.lemmas.List.{length-replicate}
 use Rattle.std.proofs.lemmas.List.Sums.{sum_by-cons}
 use Rattle.wf_frame.specs.Settings.{standard}
 use Rattle.wf_def_world.specs.Run.{Past}
-use Rattle.wf_cell.specs.Cells.{room_in}
+use Rattle.wf_cell.specs.Cells.{calls_left_in}
 use Rattle.wf_gate.specs.Turns.{numbers_from}
 use Rattle.wf_gate.specs.Seats.{new_seat}
 use Rattle.wf_run_histories.specs.Opening.{opening_calls}
@@ -19,18 +19,18 @@ sum_most (suc n) x rest few =
     sum_by-cons (λ (y : ℕ). y) x (replicate n x ++ rest) in
     omega (arith, sum_most n x rest few, one, few)
 
--- the cell has room for all calls
+-- The cell has room for all calls.
 pub has_room : (senders frames : ℕ) (p : Past) → senders ≤ 8 → frames ≤ 10000 →
     p ≡ record { config = standard; history = opening_calls senders } →
-    sum (quotas_of senders frames) ≤ room_in p
+    sum (quotas_of senders frames) ≤ calls_left_in p
 has_room senders frames p few short is =
     let all = sum_most senders (frames + 1) (replicate driver_count driver_quota) (omega (arith, short)) in
     let drivers : sum (replicate driver_count driver_quota) ≡ 600000 = refl in
     let opened = opening_length senders in
-    let room : room_in p ≡ 1048576 - length (opening_calls senders) = ap room_in is in
+    let room : calls_left_in p ≡ 1048576 - length (opening_calls senders) = ap calls_left_in is in
     omega (arith, all, drivers, opened, room, few)
 
--- there is a quota for each sender and each driver
+-- There is one quota for each sender and each driver.
 pub count_of : (senders frames : ℕ) → length (quotas_of senders frames) ≡ senders + driver_count
 count_of senders frames =
     let all = length-append (replicate senders (frames + 1)) (replicate driver_count driver_quota) in
@@ -38,18 +38,18 @@ count_of senders frames =
     let last = length-replicate driver_count driver_quota in
     omega (arith, all, first, last)
 
--- and so many seats
+-- There are as many seats as quotas.
 pub seat_count : (senders frames : ℕ) (quotas : List ℕ) (seats : List CellSeat) →
     length seats ≡ length quotas → quotas ≡ quotas_of senders frames → length seats ≡ senders + driver_count
 seat_count senders frames quotas seats count is = count ∙ ap length is ∙ count_of senders frames
 
--- the senders are those that are no drivers
+-- The number of senders is the number of seats without the drivers'.
 pub sender_count : (senders frames : ℕ) (quotas : List ℕ) (seats : List CellSeat) →
     length seats ≡ length quotas → quotas ≡ quotas_of senders frames → senders ≡ length seats - driver_count
 sender_count senders frames quotas seats count is = let all =
     seat_count senders frames quotas seats count is in omega (arith, all)
 
--- the seats of a new gate have the numbers of their places
+-- Each seat of a new gate has the number of its place.
 numbered : (g : CellGate) (quotas : List ℕ) (seats : List CellSeat) (from : ℕ) →
     length seats ≡ length quotas → ((k : ℕ) → k < length quotas →
     slice_get seats k ≡ Some (new_seat g (from + k))) →

@@ -1,4 +1,5 @@
--- The transmissions of an exchange, one by one.
+-- Proves the loop over the transmissions of an exchange: each draws one word, and its Arrive is the driver's
+-- next call if it arrives.
 use Rattle.std.proofs.Common.{◌≡◌, ℕ, ◌+◌, ◌-◌, ◌<◌, ◌≤◌, ◌||◌, not, Bool, List, sym, ◌∙◌, ap, arith}
 use Rattle.std.specs.Prelude.{◌==◌, ◌%◌}
 use Rattle.rand_pcg.specs.Lcg.{Lcg}

@@ -1,7 +1,7 @@
--- What a call does to a soak, and what a loop has still to do.
+-- Proves the effect of a call on a soak, and rewrites the rest of each loop by one step.
 use Rattle.std.proofs.Common.{◌≡◌, ℕ, zero, suc, ◌+◌, ◌-◌, ◌%◌, ◌<◌, ◌≤◌, ◌==◌, ◌||◌, Bool, true, false, List, [], ◌∷◌, ◌++◌, length, Some, None, refl, ap, sym, ◌∙◌, arith}
 use Rattle.std.proofs.lemmas.List.{length-append}
-use Rattle.wf_cell.specs.Cells.{room_in, with_entry}
+use Rattle.wf_cell.specs.Cells.{calls_left_in, with_entry}
 use Rattle.wf_frame.specs.Frames.{FrameValue, new_frame, sample_body}
 use Rattle.wf_path.specs.Jobs.{note_of}
 use Rattle.wf_path.specs.declared.job.Job.TheVariants.{Give}
@@ -19,14 +19,14 @@ pub nothing_past : (w : World) → world_after w [] ≡ w
 unfolding world_after
 nothing_past w = refl
 
--- the world after one call more
+-- The world after one more call.
 pub one_more : (es : List Entry) (w : World) (e : Entry) →
     world_after w (es ++ e ∷ []) ≡ (step (world_after w es) e.1).world
 unfolding world_after
 one_more [] w e = refl
 one_more (x ∷ es) w e = one_more es (step w x.1).world e
 
--- a frame of a trace has the length that its line names
+-- The sample body of a frame has the length that was asked for.
 pub sample_len : (flow n : ℕ) → length (sample_body flow n) ≡ n
 sample_len flow zero = refl
 sample_len flow (suc n) =
@@ -43,7 +43,7 @@ frame_named f station tid flow len is =
 -- ---- the cell of a soak
 
 pub has_room : (p : Past) (left : ℕ) → p.config ≡ standard → length p.history + left ≤ 1000000 → 0 < left →
-    0 < room_in p
+    0 < calls_left_in p
 has_room p left is few some =
     let calls : p.config.calls ≡ 1048576 = ap (λ (c : Config). c.calls) is in
     omega (arith, calls, few, some)
@@ -61,7 +61,7 @@ as_standard p is = ap (λ (c : Config). world_after (opening c) p.history) is
 
 -- ---- a call
 
--- no call is left
+-- If no call is left, nothing changes.
 pub call_none : (note : Note) (k : Soak) → k.left ≡ 0 → call note k ≡ k
 unfolding call
 call_none note k none = rw none refl
@@ -73,7 +73,7 @@ reply_none note k none = rw none refl
 not_zero : (n : ℕ) → 0 < n → (n == 0) ≡ false
 not_zero n some = grind arith
 
--- a call is left
+-- If a call is left, it is made.
 abbrev pub one_less : List Entry → Soak → Soak
 one_less past k = record k { past = past; left = k.left - 1 }
 
@@ -86,7 +86,7 @@ pub reply_one : (note : Note) (k : Soak) → 0 < k.left →
 unfolding reply_to
 reply_one note k some = rw (not_zero k.left some) refl
 
--- ---- what a loop has still to do
+-- ---- the rest of each loop
 
 pub joins_on : (s : ℕ) (k : Soak) → s < 16 → stations_join (s + 1) (16 - (s + 1)) (station_joins s k)
     ≡ stations_join s (16 - s) k

@@ -1,4 +1,4 @@
--- Each frame of a soak has 64 to 1500 octets.
+-- Proves that each frame of a soak has 64 to 1500 octets, which every step of a round preserves.
 use Rattle.std.proofs.Common.{◌==◌, ◌-◌, ◌+◌, ◌/◌, ◌%◌, ℕ, zero, suc, Bool, true, false, List, [], ◌∷◌, ◌++◌, arith, if◌then◌else◌}
 use Rattle.std.specs.Prelude.{Option, Some, None}
 use Rattle.wf_frame.specs.declared.classes.Class.{Class}
@@ -12,7 +12,7 @@ use Rattle.wf_run_histories.specs.Stations.{standard_join, standard_rate}
 use Rattle.wf_run_histories.specs.Lengths.{HasSoakLength, HaveSoakLengths}
 use Rattle.wf_run_histories.specs.Soak.{Soak, call, reply_to, stations_join, station_joins, frame_for, frame_put, word, drawn, air_used, sleeper_called, lets_arrive, transmission_sent, all_sent, some_arrive, after_answer_if, exchange_ended, exchange_played, sending, sending_played, class_in_round, after_pull, is_nothing, after_reaps, round_played, rounds_played, soak_begun, soak_history}
 
--- the frames of the calls so far
+-- The frames of the calls so far have such lengths.
 abbrev pub Keeps : Soak → Type 0
 Keeps k = HaveSoakLengths k.past
 
@@ -31,7 +31,7 @@ called note k has before =
     either_way (k.left == 0) k (record k { past = k.past ++ by 0 note ∷ []; left = k.left - 1 }) before
     (behind k.past (by 0 note) before has)
 
--- a call that brings no frame
+-- A call without a frame.
 asked : (ask : Ask) (k : Soak) → Keeps k → Keeps (call (Asked ask) k)
 asked ask k before = called (Asked ask) k tt before
 
@@ -96,7 +96,7 @@ reaped (suc n) k before =
     (after_reaps n (call (Asked Reap) k)) (asked Reap k before)
     (reaped n (call (Asked Reap) k) (asked Reap k before))
 
--- the frames and the tick that begin a round
+-- The frames and the tick at the beginning of a round.
 abbrev begun : Soak → Soak
 begun k = call (Asked (Tick 1000)) (frame_put (frame_put (frame_put (frame_put k))))
 

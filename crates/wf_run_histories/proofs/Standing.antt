@@ -1,4 +1,5 @@
--- One call more of a seat.
+-- Proves that a call at the gate adds one call with the right reply to its seat, and bounds the looks of the
+-- seat.
 use Rattle.std.proofs.Common.{◌≡◌, ℕ, zero, suc, ◌+◌, ◌<◌, ◌≤◌, true, cond, List, [], ◌∷◌, ◌++◌, length, length-append, take, refl, sym, ◌∙◌, ap, subst, arith, Some}
 use Rattle.std.specs.Prelude.{Result, Ok, Err, OnOk, OnErr, slice_get, slice_index_or}
 use Rattle.std.proofs.lemmas.List.Sums.{sum_by_push}
@@ -40,7 +41,7 @@ module _ {A : Type 0} where
       (arith, ap length ends.1, length-append ends.0 (x ∷ [])) in
       ap (slice_get xs) last ∙ ap (λ (l : List A). slice_get l (length ends.0)) ends.1 ∙ get_last ends.0 x
 
--- the right reply, by what comes before a place and by how the gate was opened
+-- The right reply, from the entries before it and the opening of the gate.
 reply_by : Opening CellValue → List Entry → Note → ReplyNote
 reply_by o before note = (step (world_after (opening o.machine.past.config)
     (o.machine.past.history ++ before)) note).reply
@@ -84,11 +85,11 @@ module _ (g : CellGate) (caller : ℕ) where
       subst (λ (l : List ℕ). StandAt g caller ys l (made ++ m ∷ [])) (sym grown)
       (stand_more ys places made (last_place ys) m (get_end ys (caller, m.0) ends) right longer)
 
--- gates to which one seat belongs have one opening
+-- Gates to which the same seat belongs have the same opening.
 one_opening : (g h : CellGate) (s : CellSeat) → IsOf g s → IsOf h s → g.opening ≡ h.opening
 one_opening g h s one two = same_some g.opening h.opening (sym one.1 ∙ two.1)
 
--- as `call` and `try_call` tell it
+-- From the contracts of `call` and `try_call`.
 pub one_more : (gate : CellGate) (old new : CellSeat) (note : Note) (reply : ReplyNote) → IsOf gate old →
     IsSameSeat old new → old.used < old.quota → new.used ≡ old.used + 1 → IsPrefix old.seen new.seen →
     EndsWith new.seen (old.number, note) → new.own ≡ old.own ++ last_place new.seen ∷ [] →
@@ -121,9 +122,9 @@ dones_more : (made : List Made) (note : Note) (reply : ReplyNote) →
     done_count (made ++ (note, reply) ∷ []) ≡ done_count made + cond (ends_exchange note) 1 0
 dones_more made note reply = sum_by_push (λ (m : Made). cond (ends_exchange m.0) 1 0) made (note, reply)
 
--- of a desk with a seat
+-- For desks with a seat.
 module _ {D : Type 0} (seat_of : D → CellSeat) (old new : D) where
-  -- a call that looked no oftener than it may
+  -- A call that adds at most as many looks as it may.
   adds_and_looks : (note : Note) (reply : ReplyNote) →
       Adds HasMade left_of (seat_of old) (seat_of new) note reply →
       length (seat_of new).looks ≤ length (seat_of old).looks + cond (ends_exchange note) 1 0 →
@@ -137,7 +138,7 @@ module _ {D : Type 0} (seat_of : D → CellSeat) (old new : D) where
     );
   }
 
-  -- a call in its turn looks at nothing
+  -- A call that waits for its turn adds no look.
   pub adds_in_turn : (note : Note) (reply : ReplyNote) →
       Adds HasMade left_of (seat_of old) (seat_of new) note reply →
       (seat_of new).looks ≡ (seat_of old).looks →
@@ -145,7 +146,7 @@ module _ {D : Type 0} (seat_of : D → CellSeat) (old new : D) where
       note reply
   adds_in_turn note reply adds same = adds_and_looks note reply adds (omega (arith, ap length same))
 
-  -- one that ends an exchange looks once at most
+  -- A call that ends an exchange adds at most one look.
   pub adds_at_once : (note : Note) (reply : ReplyNote) →
       Adds HasMade left_of (seat_of old) (seat_of new) note reply →
       length (seat_of new).looks ≤ length (seat_of old).looks + 1 → ends_exchange note ≡ true →
@@ -153,7 +154,7 @@ module _ {D : Type 0} (seat_of : D → CellSeat) (old new : D) where
       note reply
   adds_at_once note reply adds looks ends = adds_and_looks note reply adds (rw ends looks)
 
-  -- a call that was not made leaves the seat as it was
+  -- A call that was not made leaves the seat unchanged.
   pub refuses_and_looks : Refuses HasMade left_of (seat_of old) (seat_of new) → seat_of new ≡ seat_of old →
       Refuses (λ d place made. HasMadeAndLooked (seat_of d) place made) (λ d. left_of (seat_of d)) old new
   refuses_and_looks refuses same = record {
@@ -163,7 +164,7 @@ module _ {D : Type 0} (seat_of : D → CellSeat) (old new : D) where
         subst (λ (s : CellSeat). HasMadeAndLooked s place before) (sym same) had;
   }
 
--- two facts where a call was made, or where it was not
+-- Combines two facts of a call that was made, or of one that was not.
 pub on_both : {T E P Q S : Type 0} (r : Result T E) → OnOk r P → OnOk r Q → (P → Q → S) → OnOk r S
 on_both (Ok x) p q f = f p q
 on_both (Err e) p q f = tt

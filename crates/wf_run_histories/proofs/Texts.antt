@@ -1,4 +1,5 @@
--- What is written of a history.
+-- Proves that the trace and the summary that are written are the text of the history, and that the trace is
+-- read as this history.
 use Rattle.std.proofs.Common.{◌≡◌, ℕ, List, length, refl, ◌∙◌, ap, subst}
 use Rattle.std.specs.Prelude.{Option, Result, Ok, Err, OnOk}
 use Rattle.std.specs.Io.KnownBytes.{append_known}
@@ -13,7 +14,7 @@ use Rattle.wf_def_world.specs.Run.{Entry, Past, world_of, world_after}
 use Rattle.wf_def_world.specs.Text.{summary, history_summary}
 use Rattle.wf_run_histories.specs.Lives.{IsLiveHistory, TellsOf, live_text}
 
--- the summary of a cell with the standard settings
+-- The summary of a cell with the standard settings.
 pub summary_is : (p : Past) → p.config ≡ standard →
     summary (world_of p) (length p.history) ≡ history_summary standard p.history
 summary_is p is = ap (λ (c : Config). summary (world_after (opening c) p.history) (length p.history)) is
@@ -26,7 +27,7 @@ text_written p is old now new first second =
     two_written old now new (trace_of p.history) (history_summary standard p.history) first
     (second ∙ ap (append_known now) (summary_is p is))
 
--- what follows of a fact where a call succeeded
+-- A consequence of a fact that holds after success.
 pub on_ok : {T E P Q : Type 0} (r : Result T E) → OnOk r P → (P → Q) → OnOk r Q
 on_ok (Ok x) p follows = follows p
 on_ok (Err e) p follows = tt
@@ -43,7 +44,7 @@ text_front p is old now new first front =
     front_next old now new (trace_of p.history) (history_summary standard p.history) first
     (subst (HoldsFront now new) (summary_is p is) front)
 
--- the whole text tells of the history
+-- The complete text has the trace of the history, which is read as this history.
 pub tells : (seed senders frames : ℕ) (history : List Entry) → IsLiveHistory seed senders frames history →
     CanBeNamed history → TellsOf history (live_text history)
 tells seed senders frames history live range =

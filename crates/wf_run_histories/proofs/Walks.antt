@@ -1,4 +1,4 @@
--- Walks put one behind another.
+-- Proves that walks, and lists of calls, can be joined.
 use Rattle.std.proofs.Common.{◌≡◌, ℕ, List, [], ◌∷◌, ◌++◌, refl, sym, ◌∙◌, ap, subst, append_assoc, append-nil, arith, inl, inr}
 use Rattle.std.specs.Prelude.{Some, ◌⊎◌, Result, Ok, Err, OnOk, OnErr, map}
 use Rattle.wf_frame.specs.declared.notes.Note.{Note}
@@ -21,7 +21,7 @@ notes-append : (one two : List Made) → map (λ (m : Made). m.0) (one ++ two) �
 notes-append [] two = refl
 notes-append (m ∷ ms) two = ap (λ l. m.0 ∷ l) (notes-append ms two)
 
--- a fact where a call failed
+-- A fact that holds after failure.
 pub on_err : {T E P : Type 0} (r : Result T E) → P → OnErr r P
 on_err (Ok x) p = tt
 on_err (Err e) p = p
@@ -70,11 +70,11 @@ module _ {D P : Type 0} {has : D → P → List Made → Type 0} {left : D → �
     has_them = adds.added;
   }
 
-  -- the same walk, of which it is known where it leads
+  -- Replaces the end of a walk by an equal one.
   pub walks_to : {a b : D} {d e f : Driver} → Walks has left a b d e → e ≡ f → Walks has left a b d f
   walks_to {a} {b} {d} walks is = subst (λ (x : Driver). Walks has left a b d x) is walks
 
-  -- and of which it is known where it begins
+  -- Replaces the beginning of a walk by an equal one.
   pub walks_from : {a b : D} {d e f : Driver} → d ≡ e → Walks has left a b e f → Walks has left a b d f
   walks_from {a} {b} {d} {e} {f} is walks = subst (λ (x : Driver). Walks has left a b x f) (sym is) walks
 
@@ -116,12 +116,12 @@ module _ {D P : Type 0} {has : D → P → List Made → Type 0} {left : D → �
     has_them = has_both has a b c first.made ((note, reply) ∷ []) first.has_them adds.added;
   }
 
-  -- the notes, by another name
+  -- Replaces the list of calls by an equal one.
   pub makes_same : {a b : D} {notes others : List Note} → Makes has left a b notes → notes ≡ others →
       Makes has left a b others
   makes_same {a} {b} makes is = subst (λ (l : List Note). Makes has left a b l) is makes
 
-  -- a driver that ended, or had no call left
+  -- The driver has ended, or no call was left.
   pub ends : {T E : Type 0} {begin from : Driver} (a b : D) (to : Driver) → begin ≡ from → to.phase ≡ Ends →
       (r : Result T E) → OnOk r (Walks has left a b from to) → OnErr r (Stops has left a b from) →
       (last : Driver) × Walks has left a b begin last × ((last.phase ≡ Ends) ⊎ (left b ≡ 0))

@@ -1,4 +1,4 @@
--- Words that are drawn one by one.
+-- Proves how the words, the transmissions and the frames that are left change when one word is drawn.
 use Rattle.std.proofs.Common.{◌≡◌, ℕ, zero, suc, ◌+◌, ◌-◌, ◌<◌, ◌≤◌, List, [], ◌∷◌, ◌++◌, Bool, true, false, ◌||◌, not, cond, length, length-append, refl, sym, ◌∙◌, ap, append_assoc, append-nil, arith}
 use Rattle.std.specs.Prelude.{◌==◌, ◌%◌, ◌/◌, ◌*◌}
 use Rattle.rand_pcg.specs.Lcg.{Lcg}
@@ -16,7 +16,7 @@ pub behind_one : (n : ℕ) (words : Lcg) → words_behind (suc n) words ≡ word
 unfolding words_behind
 behind_one n words = refl
 
--- the same, counted up to some number of words
+-- The same, with a counter up to a number of words.
 pub behind_next : (i n : ℕ) (words : Lcg) → i < n →
     words_behind (n - (i + 1)) (words_after words) ≡ words_behind (n - i) words
 behind_next i n words below =
@@ -27,7 +27,7 @@ pub arrivals_none : (i : ℕ) (words : Lcg) → arrivals i 0 words ≡ []
 unfolding arrivals
 arrivals_none i words = refl
 
--- the first transmission, by whether its word lets it arrive
+-- The first transmission, by whether its word lets it arrive.
 pub left_one : (e i n : ℕ) (some : Bool) (words : Lcg) →
     calls_left e some (arrivals i (suc n) words)
     ≡ arrive_if (not (word_in words % 10 == 0)) e i
@@ -51,7 +51,7 @@ left_one e i n some words = by_word (word_in words % 10 == 0)
     by_word true = rw (or_false some) refl
     by_word false = rw (by_some some) refl
 
--- the same, counted up to some number of transmissions
+-- The same, with a counter up to a number of transmissions.
 pub left_next : (e i n : ℕ) (some : Bool) (words : Lcg) → i < n →
     calls_left e some (arrivals i (n - i) words)
     ≡ arrive_if (not (word_in words % 10 == 0)) e i
@@ -85,7 +85,7 @@ pub frames_one : (s n : ℕ) (words : Lcg) → frames_from s (suc n) words ≡ f
 unfolding frames_from
 frames_one s n words = refl
 
--- the same, counted up to some number of frames
+-- The same, with a counter up to a number of frames.
 pub frames_next : (s i n : ℕ) (words : Lcg) → i < n →
     frames_from s (n - i) words ≡ frame_from s (word_in words)
     ∷ frames_from s (n - (i + 1)) (words_after words)
@@ -93,7 +93,7 @@ frames_next s i n words below =
     let rest : n - i ≡ suc (n - (i + 1)) = omega arith in
     ap (λ m. frames_from s m words) rest ∙ frames_one s (n - (i + 1)) words
 
--- one frame more of a sender's
+-- A sender has made one more frame.
 pub sent_more : (s i n : ℕ) (before all : List Note) (words now : Lcg) (word : ℕ) → i < n →
     before ++ frames_from s (n - i) words ≡ all → word ≡ word_in words → now ≡ words_after words →
     (before ++ frame_from s word ∷ []) ++ frames_from s (n - (i + 1)) now ≡ all
@@ -103,7 +103,7 @@ sent_more s i n before all words now word below is first rest =
     ∙ ap (λ (l : Lcg). before ++ (frame_from s (word_in words) ∷ frames_from s (n - (i + 1)) l)) rest
     ∙ ap (λ l. before ++ l) (sym (frames_next s i n words below)) ∙ is
 
--- the frame that a word makes, by what the frame is made of
+-- The note of the frame that a word makes.
 pub note_same : (s word flow : ℕ) (f : FrameValue) →
     f ≡ new_frame s ((word / 16) % 8) (256 * s + (word / 128) % 16)
     (sample_body flow (64 + (word / 32768) % 1437)) →

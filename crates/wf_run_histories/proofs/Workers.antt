@@ -1,4 +1,5 @@
--- What a worker made, and what all of them give back.
+-- Proves that each worker does its work at its seat, and that the seats of all workers are returned in their
+-- order with their work done.
 use Rattle.std.proofs.Common.{◌≡◌, ℕ, zero, suc, ◌+◌, ◌-◌, ◌<◌, ◌≤◌, List, [], ◌∷◌, ◌++◌, length, get_or, map, replicate, refl, sym, ◌∙◌, ap, subst, arith, inl, inr, Some}
 use Rattle.std.specs.Prelude.{◌⊎◌, All, EachIndex, Result, Ok, Err, IfOk, OnOk, slice_get}
 use Rattle.std.proofs.lemmas.Option.{get_or_from_slice_get}
@@ -15,7 +16,7 @@ use Rattle.wf_run_histories.specs.Sitting.{HasMade, HasMadeAndLooked, left_of, I
 
 -- ---- one worker
 
--- a seat that is ready has made nothing
+-- A ready seat has made no call.
 pub unused : (g : CellGate) (senders frames : ℕ) (s : CellSeat) → IsReady g senders frames s → s.used ≡ 0
 unused g senders frames s ready = ap (λ (x : CellSeat). x.used) ready.is_new
 
@@ -32,13 +33,13 @@ begun g senders frames s ready =
           (sym (ap (λ (x : CellSeat). x.own) ready.is_new)) tt;
     }
 
--- and looked at nothing
+-- A ready seat has no look.
 begun_and_looked : (g : CellGate) (senders frames : ℕ) (s : CellSeat) → IsReady g senders frames s →
     HasMadeAndLooked s (g, s.number) []
 begun_and_looked g senders frames s ready = let none = ap (λ (x : CellSeat). length x.looks) ready.is_new in
     (begun g senders frames s ready, omega arith)
 
--- a sender has a call left for each frame, and one more
+-- A sender has one call left for each frame, and one more.
 pub room_to_send : (g : CellGate) (senders frames : ℕ) (s : CellSeat) → IsReady g senders frames s →
     s.number < senders → frames < left_of s
 room_to_send g senders frames s ready below = let none = unused g senders frames s ready in
@@ -58,7 +59,7 @@ ended_of : (from to : Driver) (made : List Made) (s : CellSeat) → walked from 
 ended_of from to made s leads within count (inl over) = inl (ap (λ (d : Driver). d.phase) leads ∙ over)
 ended_of from to made s leads within count (inr none) = inr (omega arith)
 
--- a fact that goes with what was made
+-- A consequence of a fact that holds after success.
 pub on_ok : {T E P Q : Type 0} (r : Result T E) → OnOk r P → (P → Q) → OnOk r Q
 on_ok (Ok x) p f = f p
 on_ok (Err e) p f = tt
@@ -122,14 +123,14 @@ module _ {D : Type 0} (seat_of : D → CellSeat) (g : CellGate) (seed senders fr
         };
       }
 
--- ---- all of them
+-- ---- all workers
 
 quota_at : (n i a d : ℕ) (rest : List ℕ) → i < n → get_or (replicate n a ++ rest) i d ≡ a
 quota_at zero i a d rest below = absurd (omega arith)
 quota_at (suc n) zero a d rest below = refl
 quota_at (suc n) (suc i) a d rest below = quota_at n i a d rest (omega arith)
 
--- the seats of a new gate are ready
+-- The seats of a new gate are ready.
 module _ (g : CellGate) (frames : ℕ) (seats : List CellSeat)
     (new : EachIndex g.opening.quotas (λ k. slice_get seats k ≡ Some (new_seat g k)))
     (count : length seats ≡ length g.opening.quotas) where
@@ -171,7 +172,7 @@ module _ {S E : Type 0} where
   ok_at (x ∷ xs) zero d r below = refl
   ok_at (x ∷ xs) (suc k) d r below = ok_at xs k d r (omega arith)
 
-  -- what is true of each result, where all are there
+  -- A fact that holds for each result holds for each value, if there is no error.
   pub each_value : (R : ℕ → S → Type 0) (values : List S) (results : List (Result S E)) →
       results ≡ map (λ v. Ok v) values → ((k : ℕ) (r : Result S E) → k < length results →
       IfOk (get_or results k r) (R k)) →
@@ -198,7 +199,7 @@ pub if_ok : {T E : Type 0} {P Q : T → Type 0} (r : Result T E) → IfOk r P �
 if_ok (Ok x) p f = f x p
 if_ok (Err e) p f = tt
 
--- what the seats that come back are, by what each worker made of its own
+-- The returned seats, from the result of each worker.
 module _ (g : CellGate) (seed senders frames : ℕ) (seats back : List CellSeat) {E : Type 0}
     (results : List (Result CellSeat E)) (whole : results ≡ map (λ v. Ok v) back)
     (count : length results ≡ length seats)

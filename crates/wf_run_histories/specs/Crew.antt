@@ -1,4 +1,4 @@
--- What the workers of `live` have done at a gate before a cell, as their seats tell it.
+-- Defines the work of the workers of `live` at a gate, as their seats record it.
 use Rattle.std.specs.Prelude.{◌≡◌, ◌⊎◌, ℕ, ◌+◌, ◌-◌, ◌<◌, ◌≤◌, Bool, false, List, [], ◌∷◌, ◌++◌, length, take, replicate, count_by, Some, slice_get, slice_index_or}
 use Rattle.wf_frame.specs.declared.classes.Class.{Class}
 use Rattle.wf_frame.specs.declared.classes.Class.TheVariants.{Bk, Be, Vi, Vo}
@@ -14,7 +14,7 @@ use Rattle.wf_cell.specs.Cells.{CellValue}
 use Rattle.wf_run_histories.specs.Workloads.{Made, IsWalk, walked, driver_of, is_done, sender_calls}
 use Rattle.wf_run_histories.specs.Workloads.Phase.{Ends}
 
--- a gate before a cell, and a seat at it
+-- A gate to a cell, and a seat at it.
 abbrev pub CellGate : Type 0
 CellGate = GateView CellValue
 
@@ -23,30 +23,30 @@ CellSeat = SeatView CellValue Note
 
 -- ---- the seats of a crew
 
--- four drivers, one for each class, behind the senders
+-- The number of drivers, one for each class. Their seats follow those of the senders.
 abbrev pub driver_count : ℕ
 driver_count = 4
 
 abbrev pub class_of_driver : ℕ → Class
 class_of_driver driver = at Vo (Bk ∷ Be ∷ Vi ∷ []) driver
 
--- the most calls that a driver makes
+-- The most calls that a driver makes.
 abbrev pub driver_quota : ℕ
 driver_quota = 150000
 
--- the quotas by seat number: a sender makes a call for each of its frames, and one more
+-- The quotas by seat number: a sender makes one call for each of its frames, and one more.
 abbrev pub quotas_of : ℕ → ℕ → List ℕ
 quotas_of senders frames = replicate senders (frames + 1) ++ replicate driver_count driver_quota
 
--- ---- what a seat has made
+-- ---- the calls of a seat
 
--- the right reply to a call, where it stands at this place of the entries made since the gate was
+-- The right reply to a call at this place of the entries that were made since the gate opened.
 abbrev pub reply_at : CellGate → List Entry → ℕ → Note → ReplyNote
 reply_at g entries place note =
     (step (world_after (opening g.opening.machine.past.config)
     (g.opening.machine.past.history ++ take place entries)) note).reply
 
--- at these places of the entries stand these calls of a caller, in order, and these replies are right there
+-- The entries have these calls of a caller at these places, in order, and these replies are right there.
 abbrev pub StandAt : CellGate → ℕ → List Entry → List ℕ → List Made → Type 0
 StandAt g caller entries [] [] = Unit {0}
 StandAt g caller entries (place ∷ places) (m ∷ ms) =
@@ -54,21 +54,21 @@ StandAt g caller entries (place ∷ places) (m ∷ ms) =
     StandAt g caller entries places ms
 StandAt g caller entries _ _ = ⊥
 
--- whether a note is of a call that ends an exchange
+-- Whether a note is a call that ends an exchange.
 abbrev pub ends_exchange : Note → Bool
 ends_exchange (Asked ask) = is_done ask
 ends_exchange (Enqueue station tid flow len) = false
 
--- how many of these calls end an exchange
+-- The number of these calls that end an exchange.
 abbrev pub done_count : List Made → ℕ
 done_count made = count_by (λ m. ends_exchange m.0) made
 
--- a sender's seat: at the places of its own calls stands its list, whole and in order
+-- A sender's seat: the entries have exactly the sender's list of calls at the seat's places, in order.
 abbrev pub HasSent : ℕ → ℕ → CellSeat → Type 0
 HasSent seed frames s = StandsWithCalls s.number s.seen s.own (sender_calls seed s.number frames)
 
--- a driver's seat: its calls, with the replies that are right there, are a walk, which ended, or led on until
--- no call was left. A look comes of a try in vain: it has at most one for each call that ends an exchange
+-- A driver's seat: its calls, with the right replies, are a walk that ended, or that went on until no call
+-- was left. A look is a failed try, so there is at most one for each call that ends an exchange.
 pub record HasDriven (g : CellGate) (seed senders driver : ℕ) (s : CellSeat) : Type 0 where
   pub made : List Made
   pub stand : StandAt g s.number s.seen s.own made
@@ -78,7 +78,7 @@ pub record HasDriven (g : CellGate) (seed senders driver : ℕ) (s : CellSeat) :
   pub allotted : s.quota ≡ slice_index_or g.opening.quotas s.number 0
   pub looked : length s.looks ≤ done_count made
 
--- the work of a seat is done: the first seats are the senders', and those behind them the drivers'
+-- The work of a seat is done. The first seats are the senders', and the drivers' follow.
 pub record IsWorked (g : CellGate) (seed senders frames : ℕ) (s : CellSeat) : Type 0 where
   pub sender : s.number < senders → HasSent seed frames s
   pub driver : senders ≤ s.number → HasDriven g seed senders (s.number - senders) s

@@ -1,4 +1,4 @@
--- How long the frames of a soak are, in octets.
+-- Defines the lengths of the frames of a soak, in octets.
 use Rattle.std.specs.Prelude.{ℕ, ◌≤◌, List, [], ◌∷◌}
 use Rattle.wf_frame.specs.declared.notes.Note.{Note}
 use Rattle.wf_frame.specs.declared.notes.Note.TheVariants.{Enqueue, Asked}
@@ -10,7 +10,7 @@ least_length = 64
 abbrev pub greatest_length : ℕ
 greatest_length = 1500
 
--- a call that brings a frame brings one of a length between the two
+-- If the call has a frame, its length is between the two, both included.
 abbrev pub HasSoakLength : Note → Type 0
 HasSoakLength (Enqueue station tid flow len) = (least_length ≤ len) × (len ≤ greatest_length)
 HasSoakLength (Asked ask) = Unit {0}

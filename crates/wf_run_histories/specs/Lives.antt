@@ -1,4 +1,4 @@
--- What the command `live` does: one history, which its workers made, and what is written of it.
+-- Defines the command `live`: the histories that its workers can make, and the text that it writes.
 use Rattle.std.specs.Prelude.{◌≡◌, ◌⊎◌, ℕ, ◌+◌, ◌<◌, ◌≤◌, Bool, List, [], ◌++◌, length, map, All}
 use Rattle.wf_frame.specs.Settings.{standard}
 use Rattle.wf_trace.specs.Traces.{trace_of, trace_items}
@@ -15,42 +15,41 @@ use Rattle.wf_run_histories.specs.Workloads.Phase.{Ends}
 use Rattle.wf_run_histories.specs.Makings.{made_by}
 use Rattle.wf_run_histories.specs.Crew.{driver_count, driver_quota, class_of_driver}
 
--- the world in which the gate opens
+-- The world in which the gate opens.
 abbrev pub opened_world : ℕ → World
 opened_world senders = world_after (opening standard) (opening_calls senders)
 
--- the calls of a driver are a walk, which ended where nobody was ready and the clock had shown that all
--- senders had ended, or led on until all calls of its seat were made
+-- The calls of a driver are a walk. It ended when nobody was ready and the clock had shown that all senders
+-- had ended, or it went on until all calls of its seat were made.
 pub record IsDriven (d : Driver) (made : List Made) : Type 0 where
   pub walk : IsWalk d made
   pub ended : ((walked d made).phase ≡ Ends) ⊎ (length made ≡ driver_quota)
 
--- one history: the opening calls, and behind them the workers', each of which stands there once
+-- A history of `live`: the opening calls, followed by the calls of the workers, each exactly once.
 pub record IsLiveHistory (seed senders frames : ℕ) (history : List Entry) : Type 0 where
   pub calls : List Entry
   pub is : history ≡ opening_calls senders ++ calls
   pub few : length history ≤ standard.calls
-  -- every caller is a sender or a driver
+  -- Every caller is a sender or a driver.
   pub callers : All (λ e. e.0 < senders + driver_count) calls
-  -- the calls of each sender, whole and in order
+  -- All calls of each sender, in order.
   pub sent : (s : ℕ) → s < senders → map (λ m. m.0) (made_by s (opened_world senders) calls)
       ≡ sender_calls seed s frames
-  -- the calls of each driver, with their replies
+  -- The calls of each driver, with their replies.
   pub driven : (driver : ℕ) → driver < driver_count →
       IsDriven (driver_of seed driver (class_of_driver driver) senders)
       (made_by (senders + driver) (opened_world senders) calls)
 
--- what is written of a history: its trace and its summary
+-- The text that is written for a history: its trace and its summary.
 abbrev pub live_text : List Entry → List ℕ
 live_text history = trace_of history ++ history_summary standard history
 
--- what was written of a history is its text, whose trace is read as this history
+-- The written octets are the text of the history, and the trace in them is read as this history.
 pub record TellsOf (history : List Entry) (written : List ℕ) : Type 0 where
   pub text : written ≡ live_text history
   pub read : (closed : Bool) → reading closed written ≡ trace_items history
 
--- by the seed and the numbers of senders and of frames, and the octets that were written: all of a history,
--- some of it, or nothing
+-- The octets that were written, by the status: the text of a history of `live`, a prefix of one, or nothing.
 abbrev pub LiveStatusSays : Status → ℕ → ℕ → ℕ → List ℕ → Type 0
 LiveStatusSays Done seed senders frames written = (history : List Entry) ×
     IsLiveHistory seed senders frames history × TellsOf history written

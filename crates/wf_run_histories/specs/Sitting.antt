@@ -1,4 +1,4 @@
--- For the contracts of a worker's parts: what a seat is to a worker that sits there.
+-- Defines the state of a worker's seat, for the contracts of a worker's parts.
 use Rattle.std.specs.Prelude.{◌≡◌, ℕ, ◌+◌, ◌-◌, ◌<◌, ◌≤◌, List, length, slice_index_or, Option, Some, None, Result, IfOk}
 use Rattle.std.specs.Global.{Box}
 use Rattle.wf_frame.specs.Answers.{reply_of}
@@ -10,7 +10,7 @@ use Rattle.wf_gate.specs.Seats.{IsOf, new_seat}
 use Rattle.wf_run_histories.specs.Workloads.{Made}
 use Rattle.wf_run_histories.specs.Crew.{CellGate, CellSeat, StandAt, IsWorked, driver_count, done_count}
 
--- a seat at a gate has this number, and these are all its calls, each with the right reply
+-- A seat at a gate has this number, and these are all its calls, each with the right reply.
 pub record HasMade (s : CellSeat) (place : CellGate × ℕ) (made : List Made) : Type 0 where
   pub is_of : IsOf place.0 s
   pub number : s.number ≡ place.1
@@ -19,33 +19,33 @@ pub record HasMade (s : CellSeat) (place : CellGate × ℕ) (made : List Made) :
   pub allotted : s.quota ≡ slice_index_or place.0.opening.quotas s.number 0
   pub stand : StandAt place.0 s.number s.seen s.own made
 
--- and it has at most one look for each of them that ends an exchange
+-- The seat also has at most one look for each of its calls that ends an exchange.
 abbrev pub HasMadeAndLooked : CellSeat → CellGate × ℕ → List Made → Type 0
 HasMadeAndLooked s place made = HasMade s place made × (length s.looks ≤ done_count made)
 
--- how many calls it may still make
+-- The number of calls that the seat may still make.
 abbrev pub left_of : CellSeat → ℕ
 left_of s = s.quota - s.used
 
--- the reply that an answer has, where its box is there
+-- The reply in an answer, if its box is there.
 abbrev pub reply_in : Option (Box Answer) → ReplyNote
 reply_in (Some answer) = reply_of answer.value
 reply_in None = Refused Nothing
 
--- a seat of a crew as it came from a new gate: a sender's has a call for each frame, and one more
+-- A seat of a crew, as a new gate returns it: a sender's has one call for each frame, and one more.
 pub record IsReady (g : CellGate) (senders frames : ℕ) (s : CellSeat) : Type 0 where
   pub is_new : s ≡ new_seat g s.number
   pub inside : s.number < senders + driver_count
   pub few : senders ≤ 8
   pub quota : s.number < senders → frames < s.quota
 
--- the seat after its work
+-- The seat after its work.
 pub record HasWorked (g : CellGate) (seed senders frames : ℕ) (old new : CellSeat) : Type 0 where
   pub is_of : IsOf g new
   pub same : new.number ≡ old.number
   pub worked : IsWorked g seed senders frames new
 
--- what the workers give back, each in its place: its seat after its work, where there was memory for it
+-- The results of the workers, in their order: each is the seat after its work, if memory did not run out.
 abbrev pub AreDone : {E : Type 0} → CellGate → ℕ → ℕ → ℕ → List CellSeat → List (Result CellSeat E) → Type 0
 AreDone {E} g seed senders frames seats back =
     (k : ℕ) (s : CellSeat) (r : Result CellSeat E) → k < length seats →

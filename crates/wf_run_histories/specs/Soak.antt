@@ -1,6 +1,6 @@
--- The soak: a large history made from a number. A draw is the next 32-bit word of the PCG generator XSH RR
--- 64/32 with this seed and stream 0. Which calls are made follows from the machine's own replies, so the
--- history is a function of the seed and of the number of calls.
+-- Defines the soak: a long random history. A draw is the next 32-bit word of the PCG generator XSH RR 64/32
+-- with this seed and stream 0. The calls depend on the machine's replies, so the history is a function of the
+-- seed and of the number of calls.
 use Rattle.std.specs.Prelude.{◌≡◌, ◌≤◌, ℕ, zero, suc, ◌+◌, ◌-◌, ◌/◌, ◌%◌, ◌==◌, Bool, true, false, not, ◌&&◌, ◌||◌, List, [], ◌∷◌, ◌++◌, Option, Some, None, if◌then◌else◌, length}
 use Rattle.rand_pcg.specs.Lcg.{Lcg, started, increment_of}
 use Rattle.rand_pcg.specs.Pcg.{pcg32, multiplier_64}
@@ -21,28 +21,28 @@ use Rattle.wf_def_world.specs.Step.{step}
 use Rattle.wf_def_world.specs.Run.{Entry, by, world_after}
 use Rattle.wf_run_histories.specs.Stations.{standard_join, standard_rate}
 
--- a soak under way: the calls so far, the words to come, and how many calls are left
+-- A soak in progress: the calls so far, the random words to come, and the number of calls that are left.
 pub record Soak : Type 0 where
   pub past : List Entry
   pub words : Lcg
   pub left : ℕ
 
--- the machine, with the standard settings, after the calls so far
+-- The machine, with the standard settings, after the calls so far.
 abbrev pub machine_of : Soak → World
 machine_of k = world_after (opening standard) k.past
 
--- a later state of the same soak: calls were made of those that were left
+-- A later state of the same soak: some of the calls that were left have been made.
 abbrev pub IsLater : Soak → Soak → Type 0
 IsLater k later = (length later.past + later.left ≡ length k.past + k.left) × (later.left ≤ k.left)
 
--- the next word, and the soak without it
+-- The next word, and the soak after it is drawn.
 abbrev pub word : Soak → ℕ
 word k = (pcg32 k.words).0
 
 abbrev pub drawn : Soak → Soak
 drawn k = record k { words = (pcg32 k.words).1 }
 
--- a call is made where one is left, and its reply
+-- The soak after a call, which is made if one is left, and the reply to it.
 unfoldable pub call : Note → Soak → Soak
 call note k = if k.left == 0 then k else record k { past = k.past ++ by 0 note ∷ []; left = k.left - 1 }
 
@@ -51,43 +51,43 @@ reply_to note k = if k.left == 0 then None else Some (step (machine_of k) note).
 
 -- ---- the stations
 
--- a standard station joins, with a window from the number 4080 + s on, and its rate is set
+-- A standard station joins, with a window from the number 4080 + s on, and its rate is set.
 abbrev pub station_joins : ℕ → Soak → Soak
 station_joins s k = call (Asked (standard_rate s)) (call (Asked (standard_join s (4080 + s))) k)
 
--- n stations join, from station s on
+-- n stations join, from station s on.
 unfoldable pub stations_join : ℕ → ℕ → Soak → Soak
 stations_join s zero k = k
 stations_join s (suc n) k = stations_join (suc s) n (station_joins s k)
 
 -- ---- a round
 
--- the frame that a word names
+-- The frame that a word determines.
 abbrev pub frame_for : ℕ → ℕ → Note
 frame_for station w = Enqueue station ((w / 16) % 8) ((w / 128) % 256) (64 + (w / 32768) % 1437)
 
 abbrev pub frame_put : Soak → Soak
 frame_put k = call (frame_for (word k % 16) (word k)) (drawn k)
 
--- every eighth round a station used some airtime
+-- Every eighth round a station is charged for receiving.
 abbrev pub air_used : ℕ → Soak → Soak
 air_used r k = if r % 8 == 0 then call (Asked (Rx ((r / 8) % 16) Be 200)) k else k
 
--- every 64 rounds a station sleeps; it polls 16 rounds later and wakes 32 rounds later
+-- Every 64 rounds a station sleeps; it polls 16 rounds later and wakes 32 rounds later.
 abbrev pub sleeper_called : ℕ → Soak → Soak
 sleeper_called r k =
     if r % 64 == 0 then call (Asked (Sleep ((r / 64) % 16))) k
     else (if r % 64 == 16 then call (Asked (Poll ((r / 64) % 16))) k
     else (if r % 64 == 32 then call (Asked (Wake ((r / 64) % 16))) k else k))
 
--- one transmission of an exchange: nine words in ten let it arrive
+-- One transmission of an exchange, which arrives for nine of ten words.
 abbrev pub lets_arrive : Soak → Bool
 lets_arrive k = not (word k % 10 == 0)
 
 abbrev pub transmission_sent : ℕ → ℕ → Soak → Soak
 transmission_sent e i k = if lets_arrive k then call (Asked (Arrive e i)) (drawn k) else drawn k
 
--- n transmissions, from index i on; whether one arrived
+-- n transmissions, from index i on, and whether one of them arrived.
 unfoldable pub all_sent : ℕ → ℕ → ℕ → Soak → Soak
 all_sent e i zero k = k
 all_sent e i (suc n) k = all_sent e (suc i) n (transmission_sent e i k)
@@ -99,7 +99,7 @@ some_arrive e i (suc n) k = lets_arrive k || some_arrive e (suc i) n (transmissi
 abbrev pub after_answer_if : Bool → ℕ → Soak → Soak
 after_answer_if answered e k = if answered then call (Asked (Answer e)) k else k
 
--- an exchange is heard where it was answered, but for one word in twenty
+-- If an exchange is answered, the answer is heard for nineteen of twenty words.
 abbrev pub exchange_ended : Bool → ℕ → Soak → Soak
 exchange_ended answered e k = call (Asked (Done e (answered && not (word k % 20 == 0)) None)) (drawn k)
 
@@ -112,12 +112,12 @@ exchange_played e n k =
     let answered : Bool = some_arrive e 0 n k in
     exchange_ended answered e (after_answer_if answered e (all_sent e 0 n k))
 
--- the exchange that a reply begins, and how many transmissions it has
+-- The exchange that a reply begins, and its number of transmissions.
 abbrev pub sending : Option ReplyNote → Option (ℕ × ℕ)
 sending (Some (Send e s t air part more)) = Some (e, transmissions_in part)
 sending _ = None
 
--- what follows the reply to a pull
+-- The calls that follow the reply to a pull.
 abbrev pub sending_played : Option (ℕ × ℕ) → Soak → Soak
 sending_played None k = k
 sending_played (Some exchange) k = exchange_played exchange.0 exchange.1 k
@@ -128,7 +128,7 @@ class_in_round r = at Vo (Bk ∷ Be ∷ Vi ∷ []) (r % 4)
 abbrev pub after_pull : Class → Soak → Soak
 after_pull c k = sending_played (sending (reply_to (Asked (Pull c)) k)) (call (Asked (Pull c)) k)
 
--- reap until nothing is left to reap, or no call is left: at most n times
+-- Reaps until no finished frame or no call is left, at most n times.
 abbrev pub is_nothing : Option ReplyNote → Bool
 is_nothing (Some (Refused Nothing)) = true
 is_nothing _ = false
@@ -147,7 +147,7 @@ round_played r k =
     (sleeper_called r (air_used r (call (Asked (Tick 1000))
     (frame_put (frame_put (frame_put (frame_put k))))))))
 
--- rounds from round r on, until no call is left: at most n of them
+-- Rounds from round r on, until no call is left, at most n of them.
 unfoldable pub rounds_played : ℕ → ℕ → Soak → Soak
 rounds_played zero r k = k
 rounds_played (suc n) r k = if k.left == 0 then k else rounds_played n (suc r) (round_played r k)
@@ -160,6 +160,6 @@ soak_begun seed calls = record {
       calls;
 }
 
--- the history of a seed and a number of calls
+-- The history of a seed and a number of calls.
 unfoldable pub soak_history : ℕ → ℕ → List Entry
 soak_history seed calls = (rounds_played calls 0 (stations_join 0 16 (soak_begun seed calls))).past

@@ -1,8 +1,9 @@
-//! The command `live`: the cell with the opening calls, the gate before it, the crew of workers on threads,
-//! each at a desk with a seat of its own, and the trace and summary of what they did.
+//! The command `live`. It makes the opening calls on a record, opens a gate to it, and runs a crew of workers
+//! on threads. Each worker makes its calls at a desk that has a seat at the gate. At the end the command
+//! writes the trace and the summary of the record.
 //!
-//! `work` runs the crew and gives the seats back in their places; its clauses speak of what the seats have
-//! seen and made.
+//! `work` runs the crew and returns the seats in their order. Its contract states which calls the seats have
+//! made and seen.
 
 mod calls;
 mod closed;

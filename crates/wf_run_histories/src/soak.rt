@@ -1,7 +1,7 @@
-//! The command `soak`: the cell whose history is that of a seed and a number of calls.
+//! The command `soak`: the cell after the random history of a seed and a number of calls.
 //!
-//! The module `workers` has the senders and drivers of `live`, on no thread, and the standard stations of
-//! both commands.
+//! The module `workers` contains the senders and drivers of `live` without threads, and the standard stations
+//! of both commands.
 
 mod soaks;
 pub mod workers;

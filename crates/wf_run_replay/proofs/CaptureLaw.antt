@@ -1,4 +1,4 @@
--- The capture of a trace's run is listed, packet by packet.
+-- Proves that `frames` lists the packets of a trace's capture, in order, from the law of written captures.
 use Rattle.std.proofs.Common.{◌≡◌, ℕ, ◌≤◌, List, [], length, Option, Some, None, true, refl, sym, subst}
 use Rattle.wf_frame.specs.declared.settings.Config.{Config}
 use Rattle.wf_trace.specs.Reading.{reading}
@@ -7,8 +7,8 @@ use Rattle.wf_report.specs.ListingLaw.{IsListed, capture_of_packets}
 use Rattle.wf_report.proofs.WrittenCaptures.{written_law}
 use Rattle.wf_report.specs.Captures.{most_calls_timed}
 use Rattle.wf_report.proofs.Listed.{run_listed}
-use Rattle.wf_law_trace.specs.Histories.{settings_among, history_among}
-use Rattle.wf_law_trace.proofs.Ranges.{reading_in, trace_laws}
+use Rattle.wf_trace_laws.specs.Histories.{settings_among, history_among}
+use Rattle.wf_trace_laws.proofs.Ranges.{reading_in, trace_laws}
 use Rattle.wf_run_replay.specs.Captured.{packets_with}
 use Rattle.wf_run_replay.specs.CaptureOutcome.{CaptureLaw}
 

@@ -1,10 +1,11 @@
--- Laws of octets that wait to be written.
+-- Proves laws of octets that wait to be written: the octets written and those that still wait are together
+-- the text.
 use Rattle.std.proofs.Common.{◌≡◌, ℕ, List, [], ◌++◌, refl, sym, ◌∙◌, ap, append_assoc, append-nil}
 use Rattle.std.specs.Prelude.{Option, Result, Ok, Err, OnOk}
 use Rattle.std.specs.Io.KnownBytes.{append_known}
 use Rattle.wf_io.specs.Fronts.{HoldsFront}
-use Rattle.wf_law_trace.specs.Leaving.{Leaves}
-use Rattle.wf_law_trace.proofs.Octets.{append_known-nil, append_known-append}
+use Rattle.wf_trace_laws.specs.Leaving.{Leaves}
+use Rattle.wf_trace_laws.proofs.Octets.{append_known-nil, append_known-append}
 
 pub leaves_all : (held : Option (List ℕ)) (text : List ℕ) → Leaves held held text text
 leaves_all held text = record { written = []; is = refl; holds = append_known-nil held }
@@ -52,18 +53,18 @@ pub front_of_leaves : (held held_new : Option (List ℕ)) (text rest : List ℕ)
 front_of_leaves held held_new text rest some =
     record { written = some.written; rest = rest; is = some.is; holds = some.holds }
 
--- nothing is left
+-- No octet waits.
 pub all_sent : (held held_new : Option (List ℕ)) (text : List ℕ) {rest : List ℕ} →
     Leaves held held_new text rest → rest ≡ [] → held_new ≡ append_known held text
 all_sent held held_new text some none = some.holds
     ∙ ap (append_known held) (sym (some.is ∙ ap (λ l. some.written ++ l) none ∙ append-nil some.written))
 
--- what follows of facts where a call succeeded
+-- A consequence of two facts that hold after success.
 pub on_both : {T E P Q R : Type 0} (r : Result T E) → OnOk r P → OnOk r Q → (P → Q → R) → OnOk r R
 on_both (Ok x) p q follows = follows p q
 on_both (Err e) p q follows = tt
 
--- all that waits is written, and then a line
+-- Everything that waits is written, and then a line.
 pub then_written : (held held_now held_new : Option (List ℕ)) (text line : List ℕ) →
     held_now ≡ append_known held text → held_new ≡ append_known held_now line →
     held_new ≡ append_known held (text ++ line)

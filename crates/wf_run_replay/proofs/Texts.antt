@@ -1,4 +1,4 @@
--- What a replay tells call by call is its text.
+-- Proves that the octets that a replay writes call by call are the text of the trace.
 use Rattle.std.proofs.Common.{◌≡◌, ℕ, List, [], ◌∷◌, ◌++◌, length, true, append-nil, refl, sym, ◌∙◌, ap, subst}
 use Rattle.std.specs.Prelude.{Option, Some, None, option_map, map}
 use Rattle.std.specs.List.{concat}
@@ -12,10 +12,10 @@ use Rattle.wf_def_world.specs.World.{World, opening}
 use Rattle.wf_def_world.specs.Step.{Outcome, step}
 use Rattle.wf_def_world.specs.Run.{Entry as Called, Past, replies, world_of, world_after}
 use Rattle.wf_def_world.specs.Text.{answer_line, summary}
-use Rattle.wf_law_trace.specs.Histories.{settings_among, history_among}
-use Rattle.wf_law_trace.specs.Tellings.{told_calls, begun, world_behind, told_so_far, told_whole}
-use Rattle.wf_law_trace.specs.Outcomes.{TraceOutcome}
-use Rattle.wf_law_trace.proofs.Tellings.{outcome_as}
+use Rattle.wf_trace_laws.specs.Histories.{settings_among, history_among}
+use Rattle.wf_trace_laws.specs.Tellings.{told_calls, begun, world_behind, told_so_far, told_whole}
+use Rattle.wf_trace_laws.specs.Outcomes.{TraceOutcome}
+use Rattle.wf_trace_laws.proofs.Tellings.{outcome_as}
 use Rattle.wf_run_replay.specs.Outcome.{StatusSays}
 use Rattle.wf_run_replay.specs.Running.{closing, closing_of, telling}
 use Rattle.wf_run_replay.specs.Texts.{answers_of, text_by, answers, text}
@@ -62,7 +62,7 @@ whole_of (Some config) history ending =
 whole_is : (r : Reading) → told_whole telling r ≡ text r
 whole_is r = whole_of (settings_among r.items) (history_among r.items) r.ending
 
--- what a status says of the telling is what it says of a replay
+-- The outcome of the telling is the outcome of a replay.
 pub said : (status : Status) (input taken written : List ℕ) →
     TraceOutcome (λ (r : Reading). told_so_far telling r) (λ (r : Reading). told_whole telling r) status input
     taken written → StatusSays status input taken written
@@ -71,11 +71,11 @@ said = outcome_as (λ (r : Reading). told_so_far telling r) answers
     (λ closed octets. so_far_is (reading closed octets))
     (λ closed octets. whole_is (reading closed octets))
 
--- without memory for what waits nothing was taken, and nothing written
+-- If there is no memory for the buffer, nothing was read and nothing written.
 pub unsaid : (input : List ℕ) → StatusSays NoMemory input [] []
 unsaid input = (text (reading true input), refl)
 
--- the last lines of a stage with this history
+-- The last lines of a stage with this history.
 pub closing_is : {T : Type 0} → (past : T → Past) (stage : Option T) (x : T) (p : Past) → stage ≡ Some x →
     p ≡ past x →
     summary (world_of p) (length p.history) ≡ closing_of (option_map past stage)

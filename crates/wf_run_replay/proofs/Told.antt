@@ -1,4 +1,4 @@
--- What is written call by call is the capture of a trace.
+-- Proves that the octets that are written call by call are the capture of the trace.
 use Rattle.std.proofs.Common.{◌≡◌, ℕ, List, [], ◌∷◌, ◌++◌, append-nil, refl, sym, ◌∙◌, ap}
 use Rattle.std.specs.Prelude.{Option, Some, None}
 use Rattle.wf_frame.specs.declared.settings.Config.{Config}
@@ -12,10 +12,10 @@ use Rattle.wf_report.specs.ListingLaw.{capture_of_packets}
 use Rattle.wf_report.specs.Captures.{packets_by, packets_of, packets_from}
 use Rattle.wf_report.specs.Packets.{octets_of_packets}
 use Rattle.wf_report.proofs.Entries.{octets_of-append}
-use Rattle.wf_law_trace.specs.Histories.{settings_among, history_among}
-use Rattle.wf_law_trace.specs.Tellings.{told_calls, begun, told_so_far, told_whole}
-use Rattle.wf_law_trace.specs.Outcomes.{TraceOutcome}
-use Rattle.wf_law_trace.proofs.Tellings.{outcome_as}
+use Rattle.wf_trace_laws.specs.Histories.{settings_among, history_among}
+use Rattle.wf_trace_laws.specs.Tellings.{told_calls, begun, told_so_far, told_whole}
+use Rattle.wf_trace_laws.specs.Outcomes.{TraceOutcome}
+use Rattle.wf_trace_laws.proofs.Tellings.{outcome_as}
 use Rattle.wf_run_replay.specs.Captured.{packets_with, captured, telling}
 use Rattle.wf_run_replay.specs.CaptureOutcome.{CaptureOutcome}
 
@@ -37,7 +37,7 @@ so_far_is r = so_far_of (settings_among r.items) (history_among r.items)
 whole_is : (r : Reading) → told_whole telling r ≡ captured r
 whole_is r = append-nil (told_so_far telling r) ∙ so_far_is r
 
--- what a status says of the telling is what it says of a capture
+-- The outcome of the telling is the outcome of a capture.
 pub said : (status : Status) (input taken written : List ℕ) →
     TraceOutcome (λ (r : Reading). told_so_far telling r) (λ (r : Reading). told_whole telling r) status input
     taken written → CaptureOutcome status input taken written

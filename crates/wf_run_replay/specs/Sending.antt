@@ -1,6 +1,6 @@
--- Octets that wait to be written.
+-- Defines how many octets may wait to be written.
 use Rattle.std.specs.Prelude.{ℕ}
 
--- how many octets may wait
+-- The most octets that may wait.
 abbrev pub room : ℕ
 room = 65536

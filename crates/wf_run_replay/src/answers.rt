@@ -14,7 +14,8 @@ use wf_io::{Failed, Line, Sink};
 use wf_report::{print_reply, summary};
 use wf_trace::{Fault, print_fault};
 
-/// The answer lines of a replay, which wait until the source is read again, and the one being written.
+/// The answer lines of a replay. They wait until the source is read again. `line` is the buffer for the next
+/// one.
 #[derive(Drop)]
 pub(crate) struct AnswerLines {
     outgoing: Outgoing,
@@ -36,7 +37,8 @@ fn close<M: Plays, K: Sink>(stage: &Option<M>, sink: &mut K) -> Result<(), Faile
 }
 
 impl AnswerLines {
-    /// No line waits. The room for those that may is taken here, and no memory later.
+    /// Returns an `AnswerLines` without lines. It allocates the room for waiting lines here, and nothing
+    /// later.
     pub(crate) fn new(alloc: Global) -> Result<Self, AllocError>
         ensures { IfOk result (λ lines. lines.outgoing ≡ []) }
     {

@@ -1,6 +1,7 @@
-//! The command `replay --pcap`: a trace is played on a stage as a capture file, in which each transmission
-//! that the access point sends and each BlockAck of its stations is a packet. The loop is that of `replay`,
-//! `wf_run_replay::play`; `Packets` is what it tells here.
+//! The command `replay --pcap`. It replays a trace on a stage, and writes a capture file in which each
+//! transmission of the access point and each BlockAck of a station is a packet.
+//!
+//! The loop is `wf_run_replay::play`, as for `replay`. `Packets` is what it writes here.
 
 mod command;
 mod packets;

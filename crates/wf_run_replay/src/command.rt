@@ -3,8 +3,8 @@
 ghost use Rattle.std.specs.Prelude.{◌≡◌, ℕ, List, Some, true};
 ghost use Rattle.wf_trace.specs.CommandEnds.{CommandEnds};
 ghost use Rattle.wf_trace.specs.Reading.{reading};
-ghost use Rattle.wf_law_trace.specs.Endings.{TraceAnswered};
-ghost use Rattle.wf_law_trace.specs.Laws.{HasLaws};
+ghost use Rattle.wf_trace_laws.specs.Endings.{TraceAnswered};
+ghost use Rattle.wf_trace_laws.specs.Laws.{HasLaws};
 ghost use Rattle.wf_run_replay.specs.Outcome.{StatusSays};
 
 use crate::answers::AnswerLines;
@@ -12,9 +12,11 @@ use crate::{Stage, play};
 use std::alloc::Global;
 use wf_io::{Sink, Source, Status};
 
-/// Reads a trace from the source and writes the answer lines of the calls read before it reads the source
-/// again, and the summary after the `end` line; where the trace has a fault, the line of the fault in place
-/// of the summary. Octets after the `end` line are not looked at.
+/// Reads a trace from the source and replays it.
+///
+/// It writes the answer lines of all calls that it has read before it reads the source again, and the summary
+/// after the `end` line. If the trace has a fault, it writes the fault line instead of the summary. Octets
+/// after the `end` line are ignored.
 pub fn replay<S: Source, K: Sink>(alloc: Global, source: &mut S, sink: &mut K) -> Status
     ensures ends { CommandEnds S.left S.faults K.held K.faults StatusSays TraceAnswered
         source.old source.new sink.old sink.new result }

@@ -1,11 +1,15 @@
-//! The command `replay`: a trace is played on a cell, and answered call by call.
+//! The commands that replay a trace, over any source and sink: `replay` writes an answer line for each call,
+//! and `capture::capture` writes a capture file.
 //!
-//! `play` is the loop of each command that plays a trace. It is written over `Plays`, which says what a trace
-//! is played on, and over `Tells`, which says what is written of it. The one `impl` of `Plays`, `Stage`, is a
-//! cell with the memory for its frames. Of `Tells` the one here is `AnswerLines`: it gathers the answers in
-//! an `Outgoing`, and they are written before the source is read again.
+//! ```text
+//! let status = replay(alloc, &mut source, &mut sink);    // reads "cell", "join 0 64 100 3", "end"
+//! ```
 //!
-//! The module `capture` is the command `replay --pcap`, over the same loop.
+//! Both run the loop `play`. It makes the calls of the trace on any type that `Plays`, and any type that
+//! `Tells` says what to write for each of them. The one `impl` of `Plays` is `Stage`: a cell, and the
+//! allocator of its frames. `AnswerLines` is the `impl` of `Tells` for `replay`: it collects the answer lines
+//! in an `Outgoing`, and writes them before the source is read again. `capture::Packets` is the one for
+//! captures.
 #![tactic(auto)]
 
 mod answers;

@@ -1,19 +1,19 @@
-//! Lines that wait to be written together.
+//! A buffer of lines, which are written together.
 
 ghost use Rattle.std.specs.Prelude.{◌≡◌, ◌++◌, [], List, ℕ, IsTrue, IfOk, OnOk};
 ghost use Rattle.std.specs.Io.KnownBytes.{append_known};
 ghost use Rattle.wf_io.specs.Faults.{CountsFaults};
 ghost use Rattle.wf_io.specs.Fronts.{HoldsFront};
-ghost use Rattle.wf_law_trace.specs.Leaving.{Leaves};
+ghost use Rattle.wf_trace_laws.specs.Leaving.{Leaves};
 
 use std::alloc::{AllocError, Global};
 use std::marker::Model;
 use wf_io::{Failed, Sink, write_all};
 
-// How many octets may wait.
+// The most octets that may wait.
 const ROOM: usize = 65_536;
 
-/// Lines that wait to be written to a sink, in the order in which they came.
+/// Lines that wait to be written to a sink, in order.
 #[derive(Drop)]
 pub struct Outgoing {
     octets: Vec<u8>,
@@ -31,7 +31,7 @@ impl Model for Outgoing {
 }
 
 impl Outgoing {
-    /// Nothing waits. The room for 65,536 octets is taken here, and no memory later.
+    /// Returns an empty buffer. It allocates room for 65,536 octets here, and nothing later.
     pub fn new(alloc: Global) -> Result<Self, AllocError>
         ensures { IfOk result (λ o. o ≡ []) }
     {
@@ -39,7 +39,7 @@ impl Outgoing {
         Ok(Outgoing { octets })
     }
 
-    /// Writes all that waits. After a fault some of it, from its front, has been written.
+    /// Writes everything that waits. After a failed write the sink holds a prefix of it.
     pub fn send<K: Sink>(&mut self, sink: &mut K) -> Result<(), Failed>
         ensures none { OnOk result (self.new ≡ []) }
         ensures sent { OnOk result (K.held sink.new ≡ append_known (K.held sink.old) self.old) }
@@ -51,9 +51,9 @@ impl Outgoing {
         Ok(())
     }
 
-    /// Adds a line behind what waits, and writes it all where it is due. Where the line does not fit, it is
-    /// written behind what waits. After a fault some octets, from the front of what waited and of the line,
-    /// have been written.
+    /// Appends a line, and writes everything if `due` is set. If the line does not fit, everything that waits
+    /// is written, and then the line. After a failed write the sink holds a prefix of the waiting octets and
+    /// the line.
     pub fn put<K: Sink>(&mut self, line: &[u8], due: bool, sink: &mut K) -> Result<(), Failed>
         ensures leaves { OnOk result (Leaves (K.held sink.old) (K.held sink.new)
             (self.old ++ line.now) self.new) }

@@ -1,7 +1,7 @@
-//! A trace is played: its calls are made to a stage one after the other, and told.
+//! The loop that replays a trace: it makes the calls on a stage, in order, and writes an answer to each.
 
 ghost use Rattle.std.specs.Prelude.{◌≡◌, ◌≢◌, ◌<◌, ◌++◌, [], Err, IsSomeAnd, IsTrue, OnOk, option_map};
-ghost use Rattle.wf_cell.specs.Cells.{room_in, with_entry};
+ghost use Rattle.wf_cell.specs.Cells.{calls_left_in, with_entry};
 ghost use Rattle.wf_io.specs.Faults.{HasRisen};
 ghost use Rattle.wf_law_runs.specs.Queues.{HasLength, IsAtMost};
 ghost use Rattle.wf_def_lists.specs.Lengths.{greatest_body};
@@ -9,11 +9,11 @@ ghost use Rattle.wf_io.specs.Fronts.{HoldsFront};
 ghost use Rattle.wf_trace.specs.CommandEnds.{CommandEnds};
 ghost use Rattle.wf_trace.specs.declared.reader.Item.TheVariants as item;
 ghost use Rattle.wf_def_world.specs.Run.{by};
-ghost use Rattle.wf_law_trace.specs.Endings.{TraceAnswered};
-ghost use Rattle.wf_law_trace.specs.Leaving.{Leaves};
-ghost use Rattle.wf_law_trace.specs.Outcomes.{TraceOutcome};
-ghost use Rattle.wf_law_trace.specs.Running.{world_in};
-ghost use Rattle.wf_law_trace.specs.Tellings.{told_item, told_so_far, told_whole};
+ghost use Rattle.wf_trace_laws.specs.Endings.{TraceAnswered};
+ghost use Rattle.wf_trace_laws.specs.Leaving.{Leaves};
+ghost use Rattle.wf_trace_laws.specs.Outcomes.{TraceOutcome};
+ghost use Rattle.wf_trace_laws.specs.Running.{world_in};
+ghost use Rattle.wf_trace_laws.specs.Tellings.{told_item, told_so_far, told_whole};
 
 use crate::{Plays, Tells};
 use std::alloc::Global;
@@ -22,8 +22,8 @@ use wf_io::{Sink, Source, Status};
 use wf_trace::script::Unanswered;
 use wf_trace::{Item, TraceReader};
 
-// Makes a call on the stage that a trace's head opened, and tells of it. Where there was no memory for its
-// frame, nothing was told.
+// Makes a call on the stage that the head opened, and passes its answer to the teller. If memory for its
+// frame runs out, nothing is written.
 fn make<T: Tells, M: Plays, K: Sink>(
     teller: &mut T,
     stage: &mut Option<M>,
@@ -33,7 +33,7 @@ fn make<T: Tells, M: Plays, K: Sink>(
     due: bool,
     sink: &mut K,
 ) -> Result<(), Unanswered>
-    requires room { IsSomeAnd (option_map M.past stage.old) (λ p. 0 < room_in p) }
+    requires room { IsSomeAnd (option_map M.past stage.old) (λ p. 0 < calls_left_in p) }
     requires some { HasLength note }
     requires most { IsAtMost greatest_body note }
     ensures past { OnOk result (option_map M.past stage.new
@@ -61,9 +61,11 @@ fn make<T: Tells, M: Plays, K: Sink>(
     }
 }
 
-/// Reads a trace from the source, makes its calls to a stage, and tells of it: what the status says of the
-/// octets taken and of those written is by the telling. What was told of the calls read is written before
-/// the source is read again. Octets after the `end` line are not looked at.
+/// Reads a trace from the source, makes its calls on a stage, and passes the answers to the teller.
+///
+/// The status says which octets of the input were read and which octets of the telling were written. The
+/// octets for all calls that were read are written before the source is read again. Octets after the `end`
+/// line are ignored.
 pub fn play<T: Tells, M: Plays, S: Source, K: Sink>(
     alloc: Global,
     teller: &mut T,

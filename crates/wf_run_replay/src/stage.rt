@@ -1,8 +1,8 @@
-//! What a trace is played on.
+//! The stage: the machine on which a trace is played.
 
 ghost use Rattle.std.specs.Prelude.{◌≡◌, ◌<◌, [], IfOk, OnOk};
 ghost use Rattle.wf_report.specs.Samples.{IsSampled};
-ghost use Rattle.wf_cell.specs.Cells.{room_in, with_entry};
+ghost use Rattle.wf_cell.specs.Cells.{calls_left_in, with_entry};
 ghost use Rattle.wf_frame.specs.Answers.{reply_of};
 ghost use Rattle.wf_frame.specs.Settings.{IsInRange};
 ghost use Rattle.wf_law_runs.specs.Queues.{HasLength, IsAtMost};
@@ -16,35 +16,36 @@ use wf_cell::{Cell, Job};
 use wf_frame::{Answer, Config, Frame, Note};
 use wf_queue_parts::chain::Parcel;
 
-/// What the calls of a trace are made to. The commands that play one are proved for whatever has these three
-/// calls, so their proofs see nothing of what a cell is made of.
+/// A machine on which the calls of a trace are made. The commands that play traces are proved for every type
+/// with these three functions, so their proofs do not depend on the parts of a cell.
 pub trait Plays: Drop {
-    /// The settings and the calls that were made.
+    /// The settings, and the calls that were made.
     ghost past: { Self → Past };
 
-    /// A stage with the settings of a head, on which no call was made.
+    /// Returns a stage with these settings and no calls. Fails only if memory runs out.
     fn open(alloc: Global, config: Config) -> Result<Self, AllocError>
     where
         Self: Sized,
         requires { IsInRange config }
         ensures { IfOk result (λ stage. past stage ≡ record { config = config; history = [] }) };
 
-    /// Makes the call that a line names. A frame that comes back is dropped.
+    /// Makes the call of a line. A frame that the call returns is dropped. Fails only if memory for a frame
+    /// runs out.
     fn call(&mut self, caller: u32, note: Note, answer: &mut Answer) -> Result<(), AllocError>
-        requires room { 0 < room_in (past self.old) }
+        requires room { 0 < calls_left_in (past self.old) }
         requires some { HasLength note }
         requires most { IsAtMost greatest_body note }
         ensures past { OnOk result (past self.new ≡ with_entry (by caller note) (past self.old)) }
         ensures reply { OnOk result (reply_of answer.new ≡ (step (world_of (past self.old)) note).reply) };
 
-    /// The cell that it is played on. Its frames are those that the calls of a trace bring: octet j of a body
-    /// is the low octet of its flow's number plus j.
+    /// Returns the cell. Its frames are frames of a trace: octet j of a body is the low octet of the flow's
+    /// number plus j.
     fn cell(&self) -> &Cell
         ensures past { result.now.past ≡ past self.now }
         ensures samples { IsSampled result.now };
 }
 
-/// A cell, and the memory from which the frames of its calls are made.
+/// A cell, and the allocator of its frames.
 #[derive(Drop)]
 pub struct Stage {
     cell: Cell,
@@ -62,7 +63,7 @@ impl Model for Stage {
     ghost invariant = { λ s. IsSampled s.cell };
 }
 
-// A cell with the settings of a head.
+// Returns a cell with these settings. Fails only if memory runs out.
 fn cell_for(alloc: Global, config: Config) -> Result<Cell, AllocError>
     requires { IsInRange config }
     ensures past { IfOk result (λ cell. cell.past ≡ record { config = config; history = [] }) }
@@ -86,7 +87,7 @@ impl Plays for Stage {
     }
 
     fn call(&mut self, caller: u32, note: Note, answer: &mut Answer) -> Result<(), AllocError>
-        requires room { 0 < room_in self.old }
+        requires room { 0 < calls_left_in self.old }
         requires some { HasLength note }
         requires most { IsAtMost greatest_body note }
         ensures past { OnOk result (self.new ≡ with_entry (by caller note) self.old) }

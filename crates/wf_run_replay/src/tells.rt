@@ -1,4 +1,4 @@
-//! What tells of a trace while it is played.
+//! The interface that says what to write while a trace is played.
 
 ghost use Rattle.std.specs.Prelude.{◌≡◌, ◌++◌, [], List, ℕ, Option, Some, IsTrue, OnOk, option_map};
 ghost use Rattle.std.specs.Io.KnownBytes.{append_known};
@@ -11,8 +11,8 @@ ghost use Rattle.wf_trace.specs.declared.reader.Item.TheVariants as item;
 ghost use Rattle.wf_def_world.specs.Run.{Past, by, world_of};
 ghost use Rattle.wf_def_world.specs.Step.{step};
 ghost use Rattle.wf_def_world.specs.World.{World};
-ghost use Rattle.wf_law_trace.specs.Leaving.{Leaves};
-ghost use Rattle.wf_law_trace.specs.Tellings.{Telling};
+ghost use Rattle.wf_trace_laws.specs.Leaving.{Leaves};
+ghost use Rattle.wf_trace_laws.specs.Tellings.{Telling};
 ghost use Rattle.wf_run_replay.specs.Running.{told_at_end};
 
 use crate::Plays;
@@ -20,16 +20,16 @@ use wf_frame::Answer;
 use wf_io::{Failed, Sink};
 use wf_trace::Fault;
 
-/// What tells of a trace while it is played. Some of what was told may wait to be written. After a fault of
-/// the sink some octets, from the front of what waited and of what is told, have been written.
+/// Says what to write while a trace is played, and writes it. Some of the octets may wait to be written.
+/// After a failed write the sink holds a prefix of the waiting octets and the new ones.
 pub trait Tells {
-    /// What is told: the octets ahead of all, those of each call, and the last ones.
+    /// The octets to write: those before all calls, those of each call, and the last ones.
     ghost telling: { Telling };
 
-    /// What was told and waits to be written.
+    /// The octets that wait to be written.
     ghost waiting: { Self → List ℕ };
 
-    /// Writes what stands ahead of all.
+    /// Writes the octets before all calls.
     fn tell_front<K: Sink>(&mut self, sink: &mut K) -> Result<(), Failed>
         requires { waiting self.old ≡ [] }
         ensures written { OnOk result (K.held sink.new ≡ append_known (K.held sink.old) telling.front) }
@@ -37,7 +37,8 @@ pub trait Tells {
         ensures front { HoldsFront (K.held sink.old) (K.held sink.new) telling.front }
         ensures cause { CountsFaults (K.faults sink.old) (K.faults sink.new) result };
 
-    /// Tells of a call, by the stage behind it and its answer, and writes all that waits where that is due.
+    /// Adds the octets of a call, from its answer and the stage after it, and writes everything if `due` is
+    /// set.
     fn tell_call<M: Plays, K: Sink>(
         &mut self,
         stage: &M,
@@ -58,7 +59,8 @@ pub trait Tells {
             (waiting self.old ++ telling.call (world_of past) note) }
         ensures cause { CountsFaults (K.faults sink.old) (K.faults sink.new) result };
 
-    /// Tells of the end of the trace, by the stage behind its calls, if there is one, and writes all.
+    /// Adds the octets of the end of the trace, from the stage after all calls, if there is one, and writes
+    /// everything.
     fn tell_end<M: Plays, K: Sink>(&mut self, stage: &Option<M>, sink: &mut K) -> Result<(), Failed>
         ensures written { OnOk result (K.held sink.new ≡ append_known (K.held sink.old)
             (waiting self.old ++ told_at_end telling (option_map M.past stage.now))) }
@@ -66,7 +68,7 @@ pub trait Tells {
             (waiting self.old ++ told_at_end telling (option_map M.past stage.now)) }
         ensures cause { CountsFaults (K.faults sink.old) (K.faults sink.new) result };
 
-    /// Tells of the fault of the trace, which is the same behind any calls, and writes all.
+    /// Adds the octets of a fault, which do not depend on the calls before it, and writes everything.
     fn tell_fault<K: Sink>(&mut self, fault: Fault, sink: &mut K) -> Result<(), Failed>
         ensures written { OnOk result ((world : Option World) (calls : ℕ) →
             K.held sink.new ≡ append_known (K.held sink.old)

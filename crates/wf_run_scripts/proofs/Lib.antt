@@ -1,8 +1,8 @@
--- Octets that are read as an action, and the law.
+-- Octets that decode to an action, and the law of agreements.
 mod Wires
 pub mod SessionLaw
--- Arguments in their ranges; the line of what goes up; calls one after the other, and that nothing is due
--- behind a tick; the laws.
+-- Arguments in their ranges; the line of a TID's items; calls in order; nothing is due after a step of the
+-- clock; the laws.
 mod UplinkArguments
 mod UplinkWriting
 mod UplinkRoom

@@ -1,4 +1,4 @@
--- The law of agreements holds over every list of events, so over those of a script.
+-- Proves the law of agreements for a script: it holds for every list of events.
 use Rattle.std.proofs.Common.{ℕ, List, true, take}
 use Rattle.wf_session.proofs.Agreements.{agreements}
 use Rattle.wf_run_scripts.specs.SessionLines.{reading}

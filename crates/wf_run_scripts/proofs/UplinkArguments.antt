@@ -1,4 +1,5 @@
--- The arguments that were read lie in their ranges, and the octets of a frame have their place.
+-- Proves that the arguments that were read are in their ranges, and that the octets of a frame fit in their
+-- place.
 use Rattle.std.proofs.Common.{◌≡◌, ◌⊎◌, inl, inr, ℕ, zero, suc, ◌-◌, ◌≤◌, ◌||◌, not, Bool, true, false, List, [], ◌∷◌, ◌++◌, length, take, drop, replicate, refl, sym, ◌∙◌, ap, arith}
 use Rattle.std.specs.Prelude.{Some, Ok, codes}
 use Rattle.std.specs.Str.{bytes_eq}
@@ -81,7 +82,7 @@ rate_read (s ∷ m ∷ w ∷ more) values width is =
     (number_ok 0 short_most (number_of s) a.0 a.2).1 (number_ok 0 greatest_mcs (number_of m) b.0 b.2).1
     (width_read w c.0 width c.2)
 
--- ---- octets come in
+-- ---- a frame is received
 
 take_front : (xs ys : List ℕ) → take (length xs) (xs ++ ys) ≡ xs
 take_front [] ys = refl
@@ -96,7 +97,7 @@ drop_zeros (suc n) zero le = absurd (omega (arith, le))
 drop_zeros (suc n) (suc m) le = let e : suc m - suc n ≡ m - n = omega arith in
     rw e (drop_zeros n m (omega (arith, le)))
 
--- octets in the front of fifty zeros
+-- The octets, written to the front of fifty zeros, are padded octets.
 pub frame_kept : (octets : List ℕ) (size : ℕ) → length octets ≡ length (take size (zeros 50)) → size ≤ 50 →
     (octets ++ drop size (zeros 50) ≡ padded_octets (take size (octets ++ drop size (zeros 50)))) ×
     (length (take size (octets ++ drop size (zeros 50))) ≡ size) × (size ≤ 50)

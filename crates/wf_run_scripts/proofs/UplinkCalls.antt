@@ -1,4 +1,5 @@
--- Calls one after the other, and what is written of them.
+-- Proves the text of calls that are made in order, call by call, and of the holes that are given up after a
+-- step of the clock.
 use Rattle.std.proofs.Common.{◌≡◌, ℕ, zero, suc, ◌*◌, List, [], ◌∷◌, ◌++◌, true, false, refl, sym, ◌∙◌, ap, subst, append_assoc, append-nil, arith}
 use Rattle.std.specs.Prelude.{Option, Some, None, IfSome, is_some, replicate}
 use Rattle.std.specs.Io.KnownBytes.{append_known}
@@ -14,7 +15,7 @@ use Rattle.wf_run_scripts.specs.UplinkRoom.{can_count, lacks_room}
 use Rattle.wf_run_scripts.proofs.UplinkRoom.{later_lacks, expire_lacks}
 use Rattle.wf_run_scripts.proofs.UplinkWriting.{begun_none, begun_next, begun_next_front, begun_written}
 
--- ---- calls one after the other
+-- ---- calls in order
 
 pub after-append : (w : World) (xs ys : List Call) →
     after_calls w (xs ++ ys) ≡ after_calls (after_calls w xs) ys
@@ -31,7 +32,7 @@ text-append w (x ∷ xs) ys =
     ∙ sym (append_assoc (answer_text (answer x w)) (calls_text (after_call x w) xs)
     (calls_text (after_calls (after_call x w) xs) ys))
 
--- one call
+-- One call.
 pub text_one : (w : World) (call : Call) (more : List Call) →
     calls_text w (call ∷ more) ≡ answer_text (answer call w) ++ calls_text (after_call call w) more
 unfolding answers
@@ -57,7 +58,7 @@ text_single w call = text_one w call [] ∙ ap (λ l. answer_text (answer call w
 pub after_single : (w : World) (call : Call) → after_calls w (call ∷ []) ≡ after_call call w
 after_single w call = after_one w call [] ∙ after_none (after_call call w)
 
--- ---- where none is due, that is told as often as one likes
+-- ---- if no hole is due, any number of timeouts writes nothing
 
 pub quiet_after : (w : World) (n : ℕ) → first_due w ≡ None → after_calls w (replicate n Expire) ≡ w
 quiet_after w zero none = after_none w
@@ -74,20 +75,20 @@ quiet_text w (suc n) none =
     ++ calls_text (after_call Expire w) (replicate n Expire)) (nothing_told w none)
     ∙ ap (λ v. calls_text v (replicate n Expire)) (sym (none_after w none)) ∙ quiet_text w n none
 
--- ---- holes are given up, one after another
+-- ---- holes are given up, one by one
 
 due_told : (w : World) (place : ℕ) → first_due w ≡ Some place →
     answer_text (answer Expire w) ≡ up_line false (up_of (timeout_of place w))
 due_told w place is = rw is refl
 
--- what a hole more tells stands in front of what the others tell
+-- The text of one more hole comes before that of the others.
 due_text : (w : World) (place n : ℕ) → first_due w ≡ Some place →
     calls_text w (replicate (suc n) Expire) ≡ up_line false (up_of (timeout_of place w))
     ++ calls_text (after_call Expire w) (replicate n Expire)
 due_text w place n is = text_one w Expire (replicate n Expire)
     ∙ ap (λ l. l ++ calls_text (after_call Expire w) (replicate n Expire)) (due_told w place is)
 
--- a front of the holes' text was written, and these are left
+-- A prefix of the holes' text was written, and `left` timeouts remain.
 pub record GivesUp (old now : Option (List ℕ)) (before w : World) (left : ℕ) : Type 0 where
   pub text : IsBegun old now (calls_text w (replicate left Expire))
       (calls_text before (replicate (tids_of_station * stations) Expire))
@@ -133,7 +134,7 @@ one_front old now new before w place n gives is front =
     (subst (λ l. IsBegun old now l (calls_text before (replicate (tids_of_station * stations) Expire)))
     (due_text w place n is) gives.text) front
 
--- the first that is due gives up its hole, and that is written
+-- The first hole that is due is given up, and its text is written.
 pub due_step : (old now new : Option (List ℕ)) (before v w after : World) (up : Up) (left n : ℕ) → w ≡ v →
     left ≡ suc n → GivesUp old now before v left → is_some (first_due w) ≡ true →
     IfSome (first_due w) (λ place. up ≡ up_of (timeout_of place w)) → after ≡ after_call Expire w →
@@ -166,14 +167,14 @@ due_front old now new before v w up left n view more gives some told front =
         (subst (λ (u : World). GivesUp old now before u left) (sym view) gives)) due
         (subst (λ u. HoldsFront now new (up_line false u)) told front)
 
--- there is no room for the next hole
+-- There is no room for the next hole.
 pub full_front : (old now : Option (List ℕ)) (before w : World) (left n : ℕ) → left ≡ suc n →
     GivesUp old now before w left → can_count w ≡ false →
     lacks_room before (replicate (tids_of_station * stations) Expire) ≡ true
 full_front old now before w left n more gives full =
     gives.room (rw more (expire_lacks w (replicate n Expire) full))
 
--- none is due, or none is left
+-- No hole is due, or no timeout remains.
 pub given_up_text : (old now : Option (List ℕ)) (before w : World) (left : ℕ) →
     GivesUp old now before w left → calls_text w (replicate left Expire) ≡ [] →
     now ≡ append_known old (calls_text before (replicate (tids_of_station * stations) Expire))

@@ -1,4 +1,5 @@
--- Behind as many timeouts as there are TIDs nothing is due: what has given up its hole waits anew.
+-- Proves that nothing is due after as many timeouts as there are TIDs: a TID that gave up its hole starts to
+-- wait again.
 use Rattle.std.proofs.Common.{◌≡◌, ◌≢◌, ◌⊎◌, inl, inr, ℕ, zero, suc, ◌+◌, ◌*◌, ◌<◌, ◌≤◌, ◌==◌, ◌&&◌, ◌||◌, not, nat_le, nat_lt, Bool, true, false, List, [], ◌∷◌, ◌++◌, length, get_or, set, refl, sym, ◌∙◌, ap, arith}
 use Rattle.std.specs.Prelude.{Option, Some, None, replicate}
 use Rattle.std.proofs.lemmas.Bool.Decides.{nat_tests}
@@ -16,7 +17,7 @@ use Rattle.wf_uplink.proofs.Worlds.{same_or_not, IsExpiring, expiring, expired_s
 use Rattle.wf_run_scripts.specs.UplinkAnswers.{stations, first}
 use Rattle.wf_run_scripts.proofs.UplinkCalls.{after_one, after_none, after-append, quiet_after}
 
--- the hole behind the least number stored lies past it
+-- The hole after the least stored number is greater than that number.
 past_first : (x : Stored) (later : List Stored) →
     x.number < first_hole x.number (stored_from x.number (x ∷ later))
 past_first x later =
@@ -27,7 +28,7 @@ past_first x later =
     (λ _. let from = hole_from (x.number + 1) later in omega (arith, from))
     (λ other. absurd (grind (arith, nat_tests, other))))
 
--- what waits since now is not due
+-- A wait that starts now is not due.
 fresh : (now : ℕ) (some : Bool) → (some && nat_le (now + 100000) now) ≡ false
 fresh now true = grind (arith, nat_tests)
 fresh now false = refl
@@ -54,7 +55,7 @@ not_due now r orderly due = by_stored r.stored refl
         moved_anew now r (moved_to (least_stored r.start r.stored) r)
         (rw (first, is) (omega (arith, rising.0, past)))
 
--- none of the first k is due
+-- None of the first k TIDs is due.
 abbrev AreQuiet : ℕ → World → Type 0
 AreQuiet k w = (j : ℕ) → j < k → is_due w.clock (reordering_at w j) ≡ false
 
@@ -124,7 +125,7 @@ quiet_from (suc m) k w is few = by_due (λ n v. quiet_from m n v) (first_due w) 
         ∙ others (place + 1) (expired_at place w) (next_quiet k place w is due)
         (omega (arith, size, few, past))
 
--- behind the timeouts of a step of the clock nothing is due
+-- Nothing is due after the timeouts of a step of the clock.
 pub quiet_behind : (n : ℕ) (w : World) → IsSound w → length w.reorderings ≤ n →
     first_due (after_calls w (replicate n Expire)) ≡ None
 quiet_behind n w sound few = quiet_from n 0 w
@@ -162,7 +163,7 @@ calls_size [] w = ap (λ (v : World). length v.rates) (after_none w)
 calls_size (call ∷ calls) w = ap (λ (v : World). length v.rates) (after_one w call calls)
     ∙ calls_size calls (after_call call w) ∙ call_size call w
 
--- behind a step of the clock, wherever it stands in a list of calls
+-- The same after a step of the clock anywhere in a list of calls.
 pub quiet : (before : List Call) (by : ℕ) → first_due
     (after_calls first (before ++ (Tick by ∷ replicate (tids_of_station * stations) Expire))) ≡ None
 quiet before by =

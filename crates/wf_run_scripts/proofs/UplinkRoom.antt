@@ -1,4 +1,4 @@
--- Where one of some calls finds no room.
+-- Proves that a list of calls lacks room if its first call does, or a later one.
 use Rattle.std.proofs.Common.{◌≡◌, ℕ, ◌+◌, ◌^◌, ◌≤◌, ◌||◌, not, nat_lt, Bool, true, false, List, ◌∷◌, refl, ap, arith}
 use Rattle.std.proofs.lemmas.Bool.Decides.{nat_tests}
 use Rattle.wf_uplink.specs.Soundness.{latest}
@@ -13,7 +13,7 @@ either_second : (a b : Bool) → b ≡ true → (a || b) ≡ true
 either_second true b is = refl
 either_second false b is = is
 
--- the first call finds none, or a later one
+-- The first call finds no room, or a later call finds none.
 pub first_lacks : (w : World) (call : Call) (more : List Call) → is_full call w ≡ true →
     lacks_room w (call ∷ more) ≡ true
 unfolding lacks_room

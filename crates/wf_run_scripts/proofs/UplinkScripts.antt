@@ -1,4 +1,4 @@
--- The laws of a script.
+-- Proves the laws of the uplink for a script, from the laws of its calls.
 use Rattle.std.proofs.Common.{◌≡◌, ℕ, List, [], ◌∷◌, ◌++◌, true, sym, ◌∙◌, ap}
 use Rattle.std.specs.Prelude.{flat_map}
 use Rattle.wf_uplink.specs.World.{World, after_calls}

@@ -1,4 +1,5 @@
--- The line of what goes up, piece by piece.
+-- Proves that the line of a TID's items is written piece by piece: the text so far is the octets written plus
+-- the line in the buffer.
 use Rattle.std.proofs.Common.{◌≡◌, ℕ, ◌+◌, ◌≤◌, List, [], ◌∷◌, ◌++◌, length, take, drop, Bool, refl, sym, ◌∙◌, ap, subst, append_assoc, append-nil}
 use Rattle.std.specs.Prelude.{Option, Some, Result, Ok, Err, OnOk, OnErr, slice_get, codes, decimal, flat_map}
 use Rattle.std.specs.List.{join_with_byte}
@@ -15,7 +16,7 @@ use Rattle.wf_uplink.specs.declared.up.Up.{Up}
 use Rattle.wf_run_scripts.specs.UplinkAnswers.{item_words, air_words, old_words, up_line}
 use Rattle.wf_run_scripts.specs.UplinkPieces.{IsBegun, head_text}
 
--- the line up to its first i items
+-- The line up to its first i items.
 abbrev pub text_to : Bool → Up → ℕ → List ℕ
 text_to is_frame u i = head_text is_frame u ++ spaced (flat_map item_words (take i u.items))
 
@@ -25,7 +26,7 @@ end_text u = spaced (old_words u.old) ++ 10 ∷ []
 pub no_item : (is_frame : Bool) (u : Up) → head_text is_frame u ≡ text_to is_frame u 0
 no_item is_frame u = sym (append-nil (head_text is_frame u))
 
--- one item more
+-- One more item.
 take_got : (items : List UpItem) (i : ℕ) (item : UpItem) → slice_get items i ≡ Some item →
     take (i + 1) items ≡ take i items ++ item ∷ []
 take_got items i item at =
@@ -44,7 +45,7 @@ item_more is_frame u i item at =
     (append_assoc (head_text is_frame u) (spaced (flat_map item_words (take i u.items)))
     (spaced (item_words item)))
 
--- behind the last item the line ends
+-- The line ends after its last item.
 line_parts : (word : List ℕ) (head items old : List (List ℕ)) →
     (join_with_byte 32 (word ∷ head) ++ spaced items) ++ (spaced old ++ 10 ∷ [])
     ≡ join_with_byte 32 (word ∷ (head ++ (items ++ old))) ++ 10 ∷ []
@@ -67,7 +68,7 @@ whole_line is_frame u i all =
     ap (λ (items : List UpItem). (head_text is_frame u ++ spaced (flat_map item_words items)) ++ end_text u)
     (take_all i u.items all) ∙ up_line_is is_frame u
 
--- what stands behind the first i items
+-- The rest of the line after the first i items.
 abbrev rest_text : Up → ℕ → List ℕ
 rest_text u i = spaced (flat_map item_words (drop i u.items)) ++ end_text u
 
@@ -86,12 +87,12 @@ line_from is_frame u i =
     (sym (take-append-drop i u.items))
     ∙ parts_line (head_text is_frame u) (end_text u) (take i u.items) (drop i u.items)
 
--- ---- written and left
+-- ---- the octets written and the line left
 
 pub begun_none : (old : Option (List ℕ)) (line : List ℕ) → IsBegun old old line line
 begun_none old line = record { written = []; is = refl; holds = sym (append_known-nil old) }
 
--- more is appended to what is left
+-- Octets are appended to the line.
 pub begun_more : (old now : Option (List ℕ)) (line more text : List ℕ) → IsBegun old now line text →
     IsBegun old now (line ++ more) (text ++ more)
 begun_more old now line more text begun = record {
@@ -101,7 +102,7 @@ begun_more old now line more text begun = record {
   holds = begun.holds;
 }
 
--- what is left is written
+-- The line is written completely.
 pub begun_written : (old now new : Option (List ℕ)) (line text : List ℕ) → IsBegun old now line text →
     new ≡ append_known now line → new ≡ append_known old text
 begun_written old now new line text begun wrote =
@@ -118,14 +119,14 @@ begun_emptied old now new line text begun wrote =
           begun_written old now new line text begun wrote;
     }
 
--- or some of it is, and the text goes on
+-- A prefix of the line is written, and the text goes on.
 pub begun_front : (old now new : Option (List ℕ)) (line text more : List ℕ) → IsBegun old now line text →
     HoldsFront now new line → HoldsFront old new (text ++ more)
 begun_front old now new line text more begun front =
     rw (begun.is) (front_first old new (begun.written ++ line) more
     (front_next old now new begun.written line begun.holds front))
 
--- the first of what is left is written
+-- The first part of the line is written.
 pub begun_next : (old now new : Option (List ℕ)) (line more text : List ℕ) →
     IsBegun old now (line ++ more) text → new ≡ append_known now line → IsBegun old new more text
 begun_next old now new line more text begun wrote = record {
@@ -134,14 +135,14 @@ begun_next old now new line more text begun wrote = record {
   holds = wrote ∙ ap (λ h. append_known h line) begun.holds ∙ append_known-append old begun.written line;
 }
 
--- or some of it is
+-- A prefix of the first part is written.
 pub begun_next_front : (old now new : Option (List ℕ)) (line more text : List ℕ) →
     IsBegun old now (line ++ more) text → HoldsFront now new line → HoldsFront old new text
 begun_next_front old now new line more text begun front =
     rw (begun.is) (front_next old now new begun.written (line ++ more) begun.holds
     (front_first now new line more front))
 
--- or nothing more
+-- Nothing more is written.
 pub begun_over : (old now : Option (List ℕ)) (line text : List ℕ) → IsBegun old now line text →
     HoldsFront old now text
 begun_over old now line text begun = record {
@@ -152,7 +153,7 @@ begun_over old now line text begun = record {
       begun.holds;
 }
 
--- ---- the line of what goes up is written
+-- ---- the line of a TID's items
 
 pub item_begun : (is_frame : Bool) (u : Up) (i : ℕ) (item : UpItem) (old now : Option (List ℕ))
     (line : List ℕ) → slice_get u.items i ≡ Some item →
@@ -193,7 +194,7 @@ end_front is_frame u i old now new line all begun front =
     (begun_front old now new (line ++ end_text u) (up_line is_frame u) []
     (end_begun is_frame u i old now line all begun) front)
 
--- ---- what is known of a result
+-- ---- facts of a result
 
 pub on_ok : {T E : Type 0} (r : Result T E) (P Q : Type 0) → (P → Q) → OnOk r P → OnOk r Q
 on_ok (Ok value) P Q then p = then p

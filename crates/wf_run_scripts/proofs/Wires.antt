@@ -1,4 +1,5 @@
--- Octets that are read as an action stand for it.
+-- Proves that the octets of a message decode to the action that was sent, and that both ends keep their TID
+-- and limit.
 use Rattle.std.proofs.Common.{◌≡◌, ℕ, zero, suc, ◌==◌, ◌&&◌, nat_lt, List, [], ◌∷◌, refl, sym, ◌∙◌, ap, All, map}
 use Rattle.std.specs.Prelude.{Option, Some, None, Result, Ok, Err, option_map, slice_get}
 use Rattle.std.proofs.lemmas.List.Elements.{All-head, All-tail}
@@ -20,14 +21,14 @@ no_fault : (fault : Option ActionFault) (action other : Action) → action_read 
 no_fault None action other is = refl
 no_fault (Some fault) action other is = absurd (cc)
 
--- octets that are read back
+-- Octets that decode to an action.
 pub is_read : (octets : List ℕ) (action : Action) → decoded_action octets ≡ Ok action → IsRead octets
 is_read octets action is = no_fault (first_action_fault octets) (action_in octets) action is
 
 pub read_as : (octets : List ℕ) → IsRead octets → decoded_action octets ≡ Ok (action_in octets)
 read_as octets is = rw is refl
 
--- the message with a number, among those that were sent
+-- The message with a number, among those that were sent.
 pub message_at : (sent : List (List ℕ)) (index : ℕ) →
     slice_get (map action_in sent) index ≡ option_map action_in (slice_get sent index)
 message_at [] index = refl
@@ -85,7 +86,7 @@ arrives_here o r new asks answers more index octets reply all at is replies send
     sends ∙ ap (with_sent (map action_in answers)) (replies ∙ ap (λ d. accept_reply d r) read) in
     rw (message_action asks index octets at, heard, said) refl
 
--- what arrives changes no end's TID and limit
+-- An arriving message does not change the TID and the limit of an end.
 abbrev Keeps : AcceptValue → AcceptValue → Type 0
 Keeps e new = (new.tid ≡ e.tid) × (new.limit ≡ e.limit)
 

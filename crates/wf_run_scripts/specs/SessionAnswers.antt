@@ -1,5 +1,4 @@
--- The text of the world of both ends: what `session` answers to an event, and what it writes behind the line
--- `end`.
+-- Defines the text that `session` writes: the answer to each event, and the lines after the line `end`.
 use Rattle.std.specs.Prelude.{ℕ, Bool, true, false, ◌&&◌, is_none, List, [], ◌∷◌, ◌++◌, codes, decimal, length, Option, Some, None, option_map, slice_get}
 use Rattle.std.specs.List.{join_with_byte}
 use Rattle.wf_session.specs.declared.agreement.Agreement.{Agreement}
@@ -15,12 +14,12 @@ use Rattle.wf_trace.specs.ScriptTexts.{Manner}
 use Rattle.wf_run_scripts.specs.declared.session.refusal.Refusal.{Refusal}
 use Rattle.wf_run_scripts.specs.declared.session.refusal.Refusal.TheVariants.{Spent, Open, NotAsked, NotOpen, NoMessage}
 
--- why an event does not happen
+-- Why an event is refused.
 abbrev pub refusal_of_offer : OfferFault → Refusal
 refusal_of_offer fault.Spent = Spent
 refusal_of_offer (fault.Open token) = Open token
 
--- refused where something is not there
+-- The event is refused if something is not there.
 abbrev pub unless_there : {T : Type 0} → Refusal → Option T → Option Refusal
 unless_there session_refusal None = Some session_refusal
 unless_there session_refusal (Some thing) = None
@@ -42,16 +41,16 @@ session_refusal_words NotAsked = codes "not-asked" ∷ []
 session_refusal_words NotOpen = codes "not-open" ∷ []
 session_refusal_words NoMessage = codes "no-message" ∷ []
 
--- an end: `-`, or `TOKEN:WINDOW:START` of its agreement
+-- One end: `-`, or `TOKEN:WINDOW:START` of its agreement.
 abbrev pub side_word : Option Agreement → List ℕ
 side_word None = codes "-"
 side_word (Some a) = join_with_byte 58 (decimal a.token ∷ decimal a.window ∷ decimal a.start ∷ [])
 
--- both ends
+-- Both ends.
 abbrev pub ends_line : Parley → List ℕ
 ends_line w = line (codes "a" ∷ side_word (originators w) ∷ codes "b" ∷ side_word (recipients w) ∷ [])
 
--- the answer to an event: both ends behind it, or why it does not happen
+-- The answer to an event: both ends after it, or why it is refused.
 abbrev pub answer_of : Option Refusal → Parley → List ℕ
 answer_of None after = ends_line after
 answer_of (Some session_refusal) after = line (codes "refused" ∷ session_refusal_words session_refusal)
@@ -59,18 +58,18 @@ answer_of (Some session_refusal) after = line (codes "refused" ∷ session_refus
 abbrev pub answer : Parley → Event → List ℕ
 answer w event = answer_of (session_refusal event w) (after_event event w)
 
--- the line of a trace that the agreement stands for, where both ends are open; S is 0 and the A-MPDU length
--- exponent 3
+-- The `join` line of a trace with the parameters of the agreement, if both ends have it open; S is 0 and the
+-- A-MPDU length exponent is 3.
 abbrev pub join_line : Option Agreement → Option Agreement → List ℕ
 join_line None there = line (codes "no" ∷ codes "agreement" ∷ [])
 join_line (Some a) None = line (codes "no" ∷ codes "agreement" ∷ [])
 join_line (Some a) (Some b) = line (codes "join" ∷ codes "0" ∷ decimal a.window ∷ decimal a.start ∷ codes "3" ∷ [])
 
--- behind the line `end`: how many messages each end sent, and what they agreed
+-- The text after the line `end`: how many messages each end sent, and the agreement.
 abbrev pub closing : Parley → List ℕ
 closing w = line (codes "sent" ∷ decimal (length w.asks) ∷ decimal (length w.answers) ∷ []) ++ join_line (originators w) (recipients w)
 
--- the events at which an end may send a message
+-- The events at which an end may send a message.
 abbrev pub may_send : Event → Bool
 may_send (event.Ask window start) = true
 may_send event.Again = true
@@ -81,13 +80,13 @@ may_send event.CloseRecipient = true
 may_send event.RestartOriginator = false
 may_send event.RestartRecipient = false
 
--- memory may be wanting for the message of an event that is not refused
+-- Memory may run out for the message of an event that is not refused.
 abbrev pub wants : Parley → Event → Bool
 wants w event = may_send event && is_none (session_refusal event w)
 
 abbrev pub manner : Manner Event Parley
 manner = record { answer = answer; after = λ w event. after_event event w; wants = wants; closing = closing }
 
--- the ends are for TID 0, and the recipient's limit is 64
+-- Both ends of TID 0. The recipient's limit is 64.
 abbrev pub first : Parley
 first = new_parley 0 64

@@ -1,5 +1,5 @@
--- What the status of `session` says, by the octets of the input, those of them that were taken, and those
--- that were written.
+-- Defines what the status of `session` means, by the octets of the input, those of them that were read, and
+-- those that were written.
 use Rattle.std.specs.Prelude.{ℕ, List, true}
 use Rattle.wf_io.specs.declared.status.Status.{Status}
 use Rattle.wf_trace.specs.ScriptOutcome.{ScriptOutcome, Answered}
@@ -10,10 +10,10 @@ use Rattle.wf_run_scripts.specs.SessionLaws.{HasLaw}
 abbrev pub SessionOutcome : Status → List ℕ → List ℕ → List ℕ → Type 0
 SessionOutcome status input taken written = ScriptOutcome grammar manner first status input taken written
 
--- how a session without faults of its source and sink ends
+-- How a session ends if its source and its sink do not fail.
 abbrev pub SessionAnswered : List ℕ → Status → Type 0
 SessionAnswered input status = Answered (reading true input).ending status
 
--- the law of agreements over the script of an input
+-- The law of agreements for the script that is the input.
 abbrev pub SessionLaw : List ℕ → Type 0
 SessionLaw input = HasLaw (reading true input)

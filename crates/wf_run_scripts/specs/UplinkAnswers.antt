@@ -1,5 +1,4 @@
--- The text of what stations send to the access point: the calls that an event is, and what `uplink` writes of
--- their answers.
+-- Defines the calls that each event makes on the uplink, and the text that `uplink` writes for their answers.
 use Rattle.std.specs.Prelude.{ℕ, ◌*◌, List, [], ◌∷◌, ◌++◌, codes, decimal, flat_map, replicate, Bool, true, false, if◌then◌else◌}
 use Rattle.std.specs.List.{join_with_byte}
 use Rattle.wf_frame.specs.Words.{line}
@@ -13,12 +12,12 @@ use Rattle.wf_uplink.specs.declared.items.UpItem.TheVariants.{Frame, Gap}
 use Rattle.wf_uplink.specs.declared.up.Up.{Up}
 use Rattle.wf_uplink.specs.declared.up.Totals.{Totals}
 use Rattle.wf_uplink.specs.Shown.{up_of, totals_of}
-use Rattle.wf_uplink.specs.World.{World, Call, Open, SetRate, Receive, Tick, Expire, Answer, Opened, NotOpened, RateSet, NotSet, Received, NotReceived, Now, TimedOut, NoneDue, tids_of_station, new_world, after_calls, answers}
+use Rattle.wf_uplink.specs.World.{World, Call, Open, SetRate, Receive, Tick, Expire, Answer, Opened, NotOpened, Set, NotSet, Received, NotReceived, Now, TimedOut, NoneDue, tids_of_station, new_world, after_calls, answers}
 use Rattle.wf_run_scripts.specs.declared.uplink.event.Event.{Event}
 use Rattle.wf_run_scripts.specs.declared.uplink.event.Event.TheVariants as event
 use Rattle.wf_run_scripts.specs.UplinkRoom.{lacks_room}
 
--- how many stations there may be
+-- The number of stations.
 abbrev pub stations : ℕ
 stations = 256
 
@@ -40,21 +39,22 @@ fault_word (Length have) = codes "length"
 abbrev pub refused_line : List ℕ → List ℕ
 refused_line word = line (codes "refused" ∷ word ∷ [])
 
--- ---- what goes up
+-- ---- frames that are passed up
 
--- a frame's id and sequence number, or the numbers that are given up: the first, and how many
+-- The id and the sequence number of a frame; or, for numbers that are given up, the first of them and their
+-- count.
 abbrev pub item_words : UpItem → List (List ℕ)
 item_words (Frame id seq) = join_with_byte 58 (decimal id ∷ decimal seq ∷ []) ∷ []
 item_words (Gap from count) = codes "gap" ∷ join_with_byte 43 (decimal from ∷ decimal count ∷ []) ∷ []
 
--- what a frame is charged; a timeout has no charge
+-- The charge of a frame; a timeout has none.
 abbrev pub air_words : Bool → ℕ → List (List ℕ)
 air_words is_frame air = if is_frame then codes "air" ∷ decimal air ∷ [] else []
 
 abbrev pub old_words : Bool → List (List ℕ)
 old_words old = if old then codes "old" ∷ [] else []
 
--- of a frame, or of a timeout
+-- The line of a frame, or of a timeout.
 abbrev pub up_line : Bool → Up → List ℕ
 up_line is_frame u =
     line (codes "up" ∷ codes "sta" ∷ decimal u.station ∷ codes "tid" ∷ decimal u.tid
@@ -62,11 +62,11 @@ up_line is_frame u =
 
 -- ---- the answers to events
 
--- the line of a call's answer; that no reordering is due is not told
+-- The line of a call's answer. If no reordering is due, there is no line.
 abbrev pub answer_text : Answer → List ℕ
 answer_text Opened = line (codes "opened" ∷ [])
 answer_text (NotOpened fault) = refused_line (open_word fault)
-answer_text RateSet = line (codes "set" ∷ [])
+answer_text Set = line (codes "set" ∷ [])
 answer_text NotSet = refused_line (codes "closed")
 answer_text (Received delivery) = up_line true (up_of delivery)
 answer_text (NotReceived fault) = refused_line (fault_word fault)
@@ -74,25 +74,25 @@ answer_text (Now now) = line (codes "now" ∷ decimal now ∷ [])
 answer_text (TimedOut delivery) = up_line false (up_of delivery)
 answer_text NoneDue = []
 
--- the calls that an event is; behind a step of the clock holes are given up, one after another: there are no
--- more than TIDs
+-- The calls of an event. After a step of the clock holes are given up, one by one; there are no more of them
+-- than TIDs.
 abbrev pub calls_of : Event → List Call
 calls_of (event.Open station window start) = Open station window start ∷ []
 calls_of (event.Rate station rate) = SetRate station rate ∷ []
 calls_of (event.Tick by) = Tick by ∷ replicate (tids_of_station * stations) Expire
 calls_of (event.Frame octets) = Receive octets ∷ []
 
--- what is written of calls
+-- The text that is written for calls.
 abbrev pub calls_text : World → List Call → List ℕ
 calls_text w calls = flat_map answer_text (answers w calls)
 
--- behind the line `end`: how many frames there were, and what became of them
+-- The text after the line `end`: the number of frames, and how many had each outcome.
 abbrev pub totals_line : Totals → List ℕ
 totals_line t =
     line (codes "frames" ∷ decimal t.frames ∷ codes "up" ∷ decimal t.up ∷ codes "old" ∷ decimal t.old ∷ codes "held" ∷ decimal t.held
     ∷ codes "missing" ∷ decimal t.missing ∷ [])
 
--- Want of memory is told only at an event at which the clock or a total has no room left.
+-- `NoMemory` is reported only at an event at which the clock or a total has no room left.
 abbrev pub manner : Manner Event World
 manner = record {
   answer = λ w e. calls_text w (calls_of e);
@@ -101,6 +101,6 @@ manner = record {
   closing = λ w. totals_line (totals_of w);
 }
 
--- no station is opened
+-- No station is open.
 abbrev pub first : World
 first = new_world stations

@@ -1,4 +1,4 @@
--- The laws of the uplink over a script.
+-- Defines the laws of the uplink for a script.
 use Rattle.std.specs.Prelude.{◌≡◌, ℕ, ◌<◌, List, [], ◌∷◌, ◌++◌, None, flat_map}
 use Rattle.wf_uplink.specs.World.{Call, Open, Receive, Delivery, Opened, Received, tids_of_station, first_due, after_calls, answer}
 use Rattle.wf_uplink.specs.Laws.{TidLaw, TotalsLaw, IsCharged}
@@ -8,28 +8,28 @@ use Rattle.wf_run_scripts.specs.declared.uplink.event.Event.{Event}
 use Rattle.wf_run_scripts.specs.declared.uplink.event.Event.TheVariants as event
 use Rattle.wf_run_scripts.specs.UplinkAnswers.{stations, first, manner, calls_of, calls_text}
 
--- the calls of a script, one after the other
+-- The calls of a script, in order.
 abbrev pub calls_in : Script Event → List Call
 calls_in s = flat_map calls_of s.events
 
 pub record HasUplinkLaws (s : Script Event) : Type 0 where
-  -- the answers are what is written of these calls
+  -- The answers are the text that is written for these calls.
   pub told : answers manner first s.events ≡ calls_text first (calls_in s)
-  -- of each TID of a station that was opened, after each later call: what is told stands in the order of the
-  -- numbers, the frames that went up rise strictly, and each number from the first to below B went up once or
-  -- was named by one gap
+  -- For each TID of a station that was opened, after each later call: the items are written in the order of
+  -- their numbers, the numbers of the frames that were passed up rise strictly, and each number from the
+  -- first to below B was passed up exactly once or is in exactly one gap.
   pub tids_in_order : (before later rest : List Call) (station window start tid : ℕ) →
       calls_in s ≡ before ++ Open station window start ∷ (later ++ rest) → tid < tids_of_station →
       answer (Open station window start) (after_calls first before) ≡ Opened →
       TidLaw (after_calls first (before ++ Open station window start ∷ [])) station tid start later
-  -- after each call: each accepted frame went up, was given back or is stored, and the totals count what was
-  -- told
+  -- After each call: each accepted frame was passed up, was returned or is stored, and the totals count the
+  -- items that were written.
   pub totals : (before rest : List Call) → calls_in s ≡ before ++ rest → TotalsLaw stations before
-  -- each accepted frame is charged what it takes at its station's rate
+  -- Each accepted frame is charged its airtime at its station's rate.
   pub charges : (before rest : List Call) (octets : List ℕ) (d : Delivery) →
       calls_in s ≡ before ++ Receive octets ∷ rest →
       answer (Receive octets) (after_calls first before) ≡ Received d →
       IsCharged (after_calls first before) octets d
-  -- behind each step of the clock, and the timeouts that follow it, nothing is due
+  -- After each step of the clock, and the timeouts that follow it, nothing is due.
   pub quiet : (before rest : List Call) (by : ℕ) → calls_in s ≡ before ++ (calls_of (event.Tick by) ++ rest) →
       first_due (after_calls first (before ++ calls_of (event.Tick by))) ≡ None

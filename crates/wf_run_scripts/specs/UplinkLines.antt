@@ -1,4 +1,4 @@
--- The lines of a script of `uplink`: a word and arguments for each event.
+-- Defines the lines of a script of `uplink`: the word and the arguments of each event.
 use Rattle.std.specs.Prelude.{◌≡◌, ◌⊎◌, ℕ, ◌≤◌, List, [], ◌∷◌, codes, find, slice_get, not, ◌||◌, Bool, false, if◌then◌else◌, Option, Some, None, Result, Ok, Err}
 use Rattle.std.specs.Str.{bytes_eq}
 use Rattle.wf_frame.specs.declared.calls.Arg.{Arg}
@@ -17,7 +17,7 @@ use Rattle.wf_run_scripts.specs.declared.uplink.verb.Verb.{Verb}
 use Rattle.wf_run_scripts.specs.declared.uplink.verb.Verb.TheVariants.{Open, Rate, Tick, Frame}
 use Rattle.wf_run_scripts.specs.UplinkOctets.{octets_of_word}
 
--- the word of an event
+-- The word of an event.
 abbrev pub uplink_word : Verb → List ℕ
 uplink_word Open = codes "open"
 uplink_word Rate = codes "rate"
@@ -47,7 +47,7 @@ abbrev pub rate_of : List Value → Event
 rate_of values = event.Rate (long_at values 0)
     (Ht (long_at values 1) (long_at values 2) (guard_at values 3))
 
--- the channel's width is a word, `20` or `40`, and is judged as one
+-- The channel's width is the word `20` or `40`; any other word there is the fault `word`.
 abbrev pub rate_args : List Arg
 rate_args = Number 0 short_most ∷ Number 0 greatest_mcs ∷ Number 20 40 ∷ Guard ∷ []
 
@@ -73,7 +73,7 @@ tick_args = Number 0 greatest_tick ∷ []
 abbrev pub tick_meant : List (List ℕ) → Result Event FaultKind
 tick_meant words = result_seen tick_of (read_args tick_args words)
 
--- ---- octets come in
+-- ---- a frame is received
 
 abbrev pub octets_meant : Option (List ℕ) → Result Event FaultKind
 octets_meant None = Err kind.Number
@@ -97,15 +97,15 @@ abbrev pub meant : List (List ℕ) → Result Event FaultKind
 meant [] = Err kind.Word
 meant (word ∷ words) = named (verb_named word) words
 
--- there is no limit to how many events a script may have
+-- A script may have any number of events.
 abbrev pub grammar : Grammar Event
 grammar = record { meant = meant; most = None }
 
--- the events of a script and how it ends
+-- The events of a script, and how it ends.
 abbrev pub reading : Bool → List ℕ → Script Event
 reading closed octets = script grammar closed octets
 
--- ---- what is known of arguments that were read, and of an event
+-- ---- facts of arguments that were read, and of an event
 
 pub record AreOpening (values : List Value) : Type 0 where
   pub station : long_at values 0 ≤ short_most
@@ -117,7 +117,7 @@ pub record AreRate (values : List Value) : Type 0 where
   pub mcs : long_at values 1 ≤ greatest_mcs
   pub mhz : (long_at values 2 ≡ 20) ⊎ (long_at values 2 ≡ 40)
 
--- the clock goes on by at most 10,000,000 microseconds in one step
+-- The clock advances by at most 10,000,000 microseconds in one step.
 abbrev pub IsValid : Event → Type 0
 IsValid (event.Open station window start) = Unit {0}
 IsValid (event.Rate station rate) = Unit {0}

@@ -1,13 +1,13 @@
--- What is kept of both ends and of the octets between them.
+-- Defines the invariants of both ends, and of the octets between them.
 use Rattle.std.specs.Prelude.{◌≡◌, ℕ, ◌<◌, ◌≤◌, List, None}
 use Rattle.wf_session.specs.Ends.{OfferValue, AcceptValue}
 use Rattle.wf_session.specs.Faults.{first_action_fault}
 
--- octets are read as an action
+-- The octets decode to an action.
 abbrev pub IsRead : List ℕ → Type 0
 IsRead octets = first_action_fault octets ≡ None
 
--- both ends are of one TID, and the recipient has its limit
+-- Both ends have the same TID, and the recipient has its limit.
 pub record HasEnds (tid limit : ℕ) (originator : OfferValue) (recipient : AcceptValue) : Type 0 where
   pub known : tid < 8
   pub least : 1 ≤ limit

@@ -1,8 +1,8 @@
-//! The command `session`: a script of what happens to the two ends of one TID's agreement and to the messages
-//! between them, and its answers.
+//! The command `session`. It runs a script of the events at both ends of one TID's agreement, and answers
+//! each event.
 //!
-//! Each end takes the other's messages as octets. The script says which of the messages ever sent arrives, in
-//! any order, any number of times or never.
+//! Each end receives the other's messages as octets. The script says which of the messages that were sent
+//! arrive, in any order, any number of times or never.
 
 mod answers;
 mod command;

@@ -1,8 +1,8 @@
-//! The command `uplink`: a script of the frames that many stations send and of the time that passes, and its
-//! answers.
+//! The command `uplink`. It runs a script of the frames that stations send and of the time that passes, and
+//! answers each event.
 //!
-//! Each frame comes as hexadecimal octets off the air. What goes up of each traffic identifier is told in the
-//! order of its sequence numbers, and the receive charge of each frame beside it.
+//! Each frame is given as hexadecimal octets. The answers report the frames of each TID in the order of their
+//! sequence numbers, as they are passed up, and the receive charge of each frame.
 
 mod answers;
 mod command;

@@ -1,22 +1,2 @@
-mod LeastLemmas
-mod CountLemmas
-mod ListsLemmas
-mod LinkLemmas
-mod RotateLemmas
-mod ScanLemmas
-mod NewLemmas
-mod NeedLemmas
-mod HomeLemmas
-mod HasLemmas
-mod PassLemmas
-mod PickLemmas
-mod SettleLemmas
-mod WonLemmas
-mod RemoveLemmas
-mod RangeLemmas
-mod TurnLemmas
-mod PaidLemmas
-mod CountedTurns
-mod LowestLemmas
 mod Loops
 pub mod Views

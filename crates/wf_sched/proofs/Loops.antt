@@ -1,12 +1,12 @@
--- A change that a loop makes to the rotation of each class.
+-- A loop that changes the rotation of each class, by induction on the classes that are done.
 use Rattle.std.proofs.Common.{◌≡◌, refl, ap, sym, ◌∙◌, ℕ, ◌+◌, ◌<◌, ◌≤◌, List, [], ◌∷◌, length, get_or, set, map, inl, inr, arith, length-set}
 use Rattle.std.specs.Prelude.{pos}
 use Rattle.std.proofs.lemmas.List.{ext_get_or, get_or-map, length-map, get_or-set_same, get_or-set_other}
 use Rattle.std.proofs.lemmas.List.Elements.{All-map}
 use Rattle.std.proofs.lemmas.Bool.{cases_eq}
 use Rattle.wf_def_rotation.specs.Rotation.{Rotation, without_key}
-use Rattle.wf_sched.specs.Rotas.{Rotas}
-use Rattle.wf_sched.specs.Lists.{lists_at}
+use Rattle.wf_rotation.specs.Rotas.{Rotas}
+use Rattle.wf_rotation.specs.Lists.{lists_at}
 use Rattle.wf_sched.specs.ClassRotas.{ClassRota, class_rota_of, after_station_left, IsOfStations, AreRotasKept}
 
 abbrev pub left_rota : ℕ → Rotas → Rotas
@@ -26,7 +26,7 @@ joined_rota station quantum r = record {
 abbrev pub no_rota : Rotas
 no_rota = record { lists = []; deficits = []; quanta = [] }
 
--- the first count rotations are changed, and the others are as they were
+-- the first count rotations are changed, and the others are not
 pub record IsDone (change : Rotas → Rotas) (old : List Rotas) (count : ℕ) (new : List Rotas) : Type 0 where
   pub done : (i : ℕ) → i < count → get_or new i no_rota ≡ change (get_or old i no_rota)
   pub rest : (i : ℕ) → count ≤ i → get_or new i no_rota ≡ get_or old i no_rota

@@ -1,4 +1,4 @@
--- What one class's rotation is in the value that contracts see.
+-- The rotation of one class in the value that contracts see: a change of one class changes no other class.
 use Rattle.std.proofs.Common.{◌≡◌, refl, ap, sym, subst, ◌∙◌, ℕ, zero, suc, ◌*◌, ◌<◌, ◌≤◌, Bool, true, false, List, [], ◌∷◌, replicate, length, get_or, set, map, Option, None, Some, inl, inr, if◌then◌else◌, arith}
 use Rattle.std.specs.Prelude.{pos, ◌+ℤ◌, ◌-ℤ◌, All}
 use Rattle.std.specs.Option.{IfNone, IfSome, is_some}
@@ -9,10 +9,10 @@ use Rattle.wf_frame.specs.declared.classes.Class.TheVariants.{Bk, Be, Vi, Vo}
 use Rattle.wf_frame.specs.Classes.{class_number}
 use Rattle.wf_def_rotation.specs.Rotation.{Rotation, no_keys, has_key, with_new_key, need_of, Picked, pick}
 use Rattle.wf_def_lists.specs.Table.{has}
-use Rattle.wf_sched.specs.Rotas.{Rotas, deficit_at, quantum_at, picked_at, is_ready, need_at, IsUnlisted}
-use Rattle.wf_sched.specs.Lists.{lists_at, keys_at, has_on}
-use Rattle.wf_sched.specs.declared.rotation.Side.{Side}
-use Rattle.wf_sched.specs.declared.rotation.Side.TheVariants.{New, Old}
+use Rattle.wf_rotation.specs.Rotas.{Rotas, deficit_at, quantum_at, picked_at, is_ready, need_at, IsUnlisted}
+use Rattle.wf_rotation.specs.Lists.{lists_at, keys_at, has_on}
+use Rattle.wf_rotation.specs.declared.side.Side.{Side}
+use Rattle.wf_rotation.specs.declared.side.Side.TheVariants.{New, Old}
 use Rattle.wf_sched.specs.ClassRotas.{ClassRota, SchedValue, no_class_rota, class_rota, class_rota_of, with_class_rota, with_deficit, deficit, with_listing, pick_of_class, IsAfterPick, IsNowhere, IsOfStations, AreRotasKept, IsSchedulerSized}
 use Rattle.wf_sched.proofs.Loops.{no_rota, IsDone, all_done, all_turned}
 use Rattle.wf_law_rules.specs.Renamed.{IsIdle}
@@ -158,7 +158,7 @@ module _ (rotas : List Rotas) (stations quantum : ℕ) (class : Class) (i : ℕ)
       subst P (sym turns_are) (none_idle (lists_at (get_or rotas i d).lists 0) (need_at (get_or rotas i d))
       (is_ready ready) none)
 
--- a pick of the one list of a rotation, in the words of a class
+-- a pick of the only rotation of a `Rota`, stated for a class
 pub picked_one : (old new : Rotas) (ready : List Bool) → length old.lists ≡ 1 →
     new.lists ≡ set old.lists 0 (picked_at old ready 0).lists →
     ((key : ℕ) → deficit_at new.deficits key ≡ deficit_at old.deficits key +ℤ pos
@@ -267,7 +267,7 @@ sized rotas stations quantum kept = record {
       ∙ (kept.each (class_number class) no_rota (omega (arith, class_below class, kept.four))).quanta_keys;
 }
 
--- ---- for callers: the turns of a class that were changed, and those of another class
+-- ---- for callers: the stations of a class that was changed, and those of another class
 
 pub turns-with_same : (v : SchedValue) (class : Class) (t : ClassRota) → length v.classes ≡ 4 →
     class_rota (with_class_rota v class t) class ≡ t

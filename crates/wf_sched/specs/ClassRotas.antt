@@ -1,11 +1,11 @@
--- The station scheduler of "Ending the Anomaly" (USENIX ATC 2017), section 3.2: for each access class a
--- rotation of stations.
+-- Defines the station scheduler of "Ending the Anomaly" (USENIX ATC 2017), section 3.2: for each access class
+-- a rotation of stations.
 use Rattle.std.specs.Prelude.{◌≡◌, ℕ, ◌*◌, ◌≤◌, Bool, false, List, [], length, replicate, get_or, set, All, ℤ, pos, ◌+ℤ◌, if◌then◌else◌}
 use Rattle.wf_frame.specs.declared.classes.Class.{Class}
 use Rattle.wf_frame.specs.Classes.{class_number}
 use Rattle.wf_def_rotation.specs.Rotation.{Rotation, no_keys, has_key, with_new_key, without_key, need_of, Picked, pick}
-use Rattle.wf_sched.specs.Rotas.{Rotas, deficit_at, quantum_at, is_ready}
-use Rattle.wf_sched.specs.Lists.{lists_at}
+use Rattle.wf_rotation.specs.Rotas.{Rotas, deficit_at, quantum_at, is_ready}
+use Rattle.wf_rotation.specs.Lists.{lists_at}
 
 -- the stations of one class: the two lists of the rotation, and by station number the deficit and the
 -- quantum, in microseconds
@@ -14,17 +14,17 @@ pub record ClassRota : Type 0 where
   pub deficits : List ℤ
   pub quanta : List ℕ
 
--- so many stations, the quantum of weight 1, and the turns of each class, the least urgent first
+-- the number of stations, the quantum of weight 1, and the rotation of each class, the least urgent first
 pub record SchedValue : Type 0 where
   pub stations : ℕ
   pub quantum : ℕ
   pub classes : List ClassRota
 
--- what stands where there is no class
+-- the rotation of a class that is not there
 abbrev pub no_class_rota : ClassRota
 no_class_rota = record { rotation = no_keys; deficits = []; quanta = [] }
 
--- the turns of a class; in it the rotation, and a station's deficit and quantum
+-- the stations of a class; then its rotation, and a station's deficit and quantum
 abbrev pub class_rota : SchedValue → Class → ClassRota
 class_rota v class = get_or v.classes (class_number class) no_class_rota
 
@@ -37,7 +37,7 @@ deficit v class station = deficit_at (class_rota v class).deficits station
 abbrev pub quantum_of : SchedValue → Class → ℕ → ℕ
 quantum_of v class station = quantum_at (class_rota v class).quanta station
 
--- v with these turns for the class
+-- v with these stations for the class
 abbrev pub with_class_rota : SchedValue → Class → ClassRota → SchedValue
 with_class_rota v class t = record v { classes = set v.classes (class_number class) t }
 
@@ -46,7 +46,7 @@ abbrev pub with_deficit : SchedValue → Class → ℕ → ℤ → SchedValue
 with_deficit v class station d = with_class_rota v class
     (record (class_rota v class) { deficits = set (class_rota v class).deficits station d })
 
--- nobody is listed
+-- no station is listed
 abbrev pub opening_rota : ℕ → ℕ → ClassRota
 opening_rota stations quantum = record {
   rotation = no_keys;
@@ -84,14 +84,14 @@ abbrev pub with_listing : ℕ → ClassRota → ClassRota
 with_listing station t = if has_key t.rotation station then t
     else record t { rotation = with_new_key t.rotation station }
 
--- the pick of a class: a deficit of 0 or less needs quanta of the station's own
+-- the pick of a class: a deficit of 0 or less needs some of the station's quanta
 abbrev pub need : SchedValue → Class → ℕ → ℕ
 need v class station = need_of (quantum_of v class station) (deficit v class station)
 
 abbrev pub pick_of_class : SchedValue → Class → List Bool → Picked
 pick_of_class v class ready = pick (need v class) (is_ready ready) (class_rotation v class)
 
--- the turns after a pick: each station gets its quanta
+-- the stations of a class after a pick: each station gets its quanta
 pub record IsAfterPick (old : ClassRota) (p : Picked) (new : ClassRota) : Type 0 where
   pub rotation : new.rotation ≡ p.lists
   pub deficits : (station : ℕ) → deficit_at new.deficits station
@@ -99,23 +99,23 @@ pub record IsAfterPick (old : ClassRota) (p : Picked) (new : ClassRota) : Type 0
   pub quanta : new.quanta ≡ old.quanta
   pub stations : length new.deficits ≡ length old.deficits
 
--- what holds of every scheduler: four classes, and a deficit and a quantum for each station
+-- every scheduler has four classes, and in each class a deficit and a quantum for each station
 pub record IsSchedulerSized (v : SchedValue) : Type 0 where
   pub four : length v.classes ≡ 4
   pub deficits : (class : Class) → length (class_rota v class).deficits ≡ v.stations
   pub quanta : (class : Class) → length (class_rota v class).quanta ≡ v.stations
 
--- what a rotation of keys with one list is
+-- the stations of a class, from a `Rota` with one rotation
 abbrev pub class_rota_of : Rotas → ClassRota
 class_rota_of r = record { rotation = lists_at r.lists 0; deficits = r.deficits; quanta = r.quanta }
 
--- four rotations of one list, over as many keys as there are stations
+-- a `Rota` with one rotation, over as many keys as there are stations
 pub record IsOfStations (stations : ℕ) (r : Rotas) : Type 0 where
   pub one_list : length r.lists ≡ 1
   pub deficit_keys : length r.deficits ≡ stations
   pub quanta_keys : length r.quanta ≡ stations
 
--- what the four rotations keep
+-- the invariant of the four rotations
 pub record AreRotasKept (rotas : List Rotas) (stations quantum : ℕ) : Type 0 where
   pub four : length rotas ≡ 4
   pub each : All (IsOfStations stations) rotas

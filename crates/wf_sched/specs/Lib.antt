@@ -1,10 +1,1 @@
-pub mod Rotas
-pub mod Cuts
-pub mod Lists
-pub mod Links
-pub mod Homes
-pub mod Scan
-pub mod Pass
-pub mod Turns
-pub mod Looks
 pub mod ClassRotas

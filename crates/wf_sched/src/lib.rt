@@ -1,7 +1,19 @@
-//! Whose turn it is, by "Ending the Anomaly" (USENIX ATC 2017): many rotations of numbered keys and the
-//! paper's pick (`rotation`), for stations and for flow queues alike; and the scheduler of stations, a
-//! rotation for each class (`stations`).
+//! The airtime scheduler of stations ("Ending the Anomaly", USENIX ATC 2017, section 3.2): it decides which
+//! station of an access class sends next. Each of the four classes has a rotation of stations with deficits
+//! in microseconds of airtime. The contracts state each call exactly.
+//!
+//! ```text
+//! let mut sched = Sched::new(alloc, 2, 300)?;        // 2 stations, a quantum of 300 us
+//! sched.join(0, 1);                                  // station 0 joins with weight 1
+//! sched.list(0, Class::Be);                          // it has a frame
+//! let station = sched.pick(Class::Be, ready);        // Some(0), if ready[0]
+//! sched.charge(0, Class::Be, 1200);                  // the exchange took 1,200 us
+//! ```
 #![tactic(auto)]
 
-pub mod rotation;
-pub mod stations;
+mod debt;
+mod sched;
+
+pub use debt::Debt;
+pub use sched::Sched;
+pub use wf_rotation::Side;

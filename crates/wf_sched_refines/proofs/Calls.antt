@@ -1,4 +1,4 @@
--- Whole calls of the machine.
+-- Proves that scheduler and world still agree after a whole call, by cases of the call and its refusal.
 use Rattle.std.proofs.Common.{◌≡◌, refl, sym, subst, arith, ℕ, ◌-◌, ◌*◌, ◌^◌, ◌<◌, ℤ, pos, negsuc, ◌-ℤ◌, ◌≤ℤ◌, Bool, true, List, Option, Some, None}
 use Rattle.std.proofs.lemmas.Bool.{leb-false}
 use Rattle.std.proofs.lemmas.Int.{ints}
@@ -126,7 +126,7 @@ refusal_stands v u w note r e h k = subst (λ (o : Option Refusal).
 
 -- ---- the worlds of a run
 
--- a deficit less what an exchange may be charged is far from the least number of 64 bits
+-- a live station's deficit minus any charge of 32 bits is far from the least number of 64 bits
 pub charge_fits : (config : Config) (history : List Entry) (m : ℕ) (v : SchedValue) (s : ℕ) (c : Class)
     (air : ℕ) → IsInRange config → SchedulerStandsFor v (world_at config history m) →
     is_live (world_at config history m) s ≡ true → air < 2 ^ 32 →

@@ -1,15 +1,15 @@
--- What a changed scheduler has for each class and station.
+-- Computes the lists, deficits and quanta of a changed scheduler, by class and station.
 use Rattle.std.proofs.Common.{◌≡◌, refl, ap, sym, ◌∙◌, subst, arith, ℕ, ◌<◌, ℤ, pos, length, inl, inr, length-set}
 use Rattle.std.proofs.lemmas.List.{get_or-map, length-map, get_or-set_same, get_or-set_other}
 use Rattle.wf_frame.specs.declared.classes.Class.{Class}
 use Rattle.wf_frame.specs.Classes.{class_number}
 use Rattle.wf_law_runs.proofs.Deficits.Books.{cases_class}
-use Rattle.wf_sched.specs.Rotas.{deficit_at}
+use Rattle.wf_rotation.specs.Rotas.{deficit_at}
 use Rattle.wf_sched.specs.ClassRotas.{ClassRota, SchedValue, no_class_rota, class_rota, deficit, with_class_rota, with_deficit, IsSchedulerSized}
 use Rattle.wf_sched.proofs.Views.{class_below, turns-with_same, turns-with_other}
 use Rattle.wf_sched_refines.specs.Standing.{everywhere}
 
--- what holds of the turns of each class still does where those of one class are changed
+-- a property of each class still holds after one class is changed, if it holds for its new value
 pub each_with : (P : Class → ClassRota → Type 0) (v : SchedValue) (c : Class) (t : ClassRota) →
     length v.classes ≡ 4 → ((d : Class) → P d (class_rota v d)) → P c t → (d : Class) →
     P d (class_rota (with_class_rota v c t) d)

@@ -1,4 +1,4 @@
--- A charge leaves a deficit.
+-- Proves that scheduler and world still agree after a charge is taken off a deficit.
 use Rattle.std.proofs.Common.{◌≡◌, refl, ap, sym, ◌∙◌, subst, arith, ℕ, ◌*◌, ◌<◌, ℤ, pos, ◌-ℤ◌, ◌<ℤ◌, int_lt, ◌↔◌, Bool, true, Option, Some, is_some, option_map, inl, inr}
 use Rattle.wf_frame.specs.declared.classes.Class.{Class}
 use Rattle.wf_frame.specs.declared.notes.ReplyNote.TheVariants.{Charged}
@@ -8,7 +8,7 @@ use Rattle.wf_def_world.specs.Exchanges.{charge_of, after_charge}
 use Rattle.wf_def_world.specs.Step.{rx_outcome, done_outcome}
 use Rattle.wf_law_runs.proofs.Deficits.Books.{cases_class, updc_same, updc_other, Account, Books, books, with_account, on_part}
 use Rattle.wf_law_runs.proofs.Deficits.BookSteps.{charge_share, receive_share, books_charged, books_received, books_ended, without}
-use Rattle.wf_sched.specs.Rotas.{quantum_at}
+use Rattle.wf_rotation.specs.Rotas.{quantum_at}
 use Rattle.wf_sched.specs.ClassRotas.{SchedValue, class_rotation, deficit, quantum_of}
 use Rattle.wf_sched_refines.specs.Standing.{SchedulerStandsFor, with_deficit_charged}
 use Rattle.wf_sched_refines.proofs.Changes.{each_with, sized-deficit, deficit_same, deficit_class, deficit_station}
@@ -82,7 +82,7 @@ pub receive_reply : (v : SchedValue) (w : World) (s : ℕ) (c : Class) (air : �
 unfolding rx_outcome
 receive_reply v w s c air h is = ap (λ (z : ℤ). Charged (z -ℤ pos air)) (sym (h.deficits s c is))
 
--- the test of a receive charge that is refused
+-- both sides refuse a receive charge by the same test
 pub debt_same : (v : SchedValue) (w : World) (s : ℕ) (c : Class) (air : ℕ) → SchedulerStandsFor v w →
     is_live w s ≡ true →
     ((deficit v c s -ℤ pos air) <ℤ deepest_deficit ↔

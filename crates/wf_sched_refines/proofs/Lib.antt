@@ -1,6 +1,6 @@
--- The proofs of the laws. Once: lists without repeats, by counts. Changes: what a changed scheduler keeps for
--- each class. Stands: the relation over the part of a world that it speaks of (the books of `wf_law_runs`),
--- there and back. Then a file for each kind of change.
+-- The proofs of the laws. Once: lists without repeats, by counts. Changes: the parts of a changed scheduler.
+-- Stands: the agreement as a relation to the books of `wf_law_runs`, the part of a world that it depends on.
+-- Then a file for each kind of change.
 mod Once
 mod Changes
 pub mod Stands

@@ -1,4 +1,5 @@
--- A station is put on the lists of the classes in which it is ready.
+-- Proves that scheduler and world still agree after a station is put on the lists of the classes in which it
+-- is ready.
 use Rattle.std.proofs.Common.{◌≡◌, refl, sym, ◌∙◌, subst, arith, ℕ, ◌*◌, ◌<◌, ◌≤◌, Bool, true, false, if◌then◌else◌, not, ◌&&◌, List, [], ◌∷◌, ◌++◌, Some, None, is_some, inl, inr}
 use Rattle.std.proofs.lemmas.Bool.{cases_eq, and_parts}
 use Rattle.std.proofs.lemmas.List.{set-get_or}
@@ -10,7 +11,7 @@ use Rattle.wf_def_world.specs.World.{World, rotation, is_live, with_rotation}
 use Rattle.wf_def_world.specs.CanSend.{is_ready, with_listing_in, with_listings_in, with_listings_of}
 use Rattle.wf_def_lists.specs.Lists.{on}
 use Rattle.wf_law_runs.proofs.Deficits.Books.{Books, books, with_lists, books_with_rotation}
-use Rattle.wf_sched.specs.Rotas.{deficit_at, quantum_at}
+use Rattle.wf_rotation.specs.Rotas.{deficit_at, quantum_at}
 use Rattle.wf_sched.specs.ClassRotas.{ClassRota, SchedValue, no_class_rota, class_rota, with_class_rota, deficit, quantum_of, class_rotation as rotation_of}
 use Rattle.wf_sched_refines.specs.Standing.{SchedulerStandsFor, with_listed, with_listed_where}
 use Rattle.wf_sched_refines.proofs.Once.{once_on, unlisted-on, on-listed, added-on_same, added-on_other}
@@ -18,11 +19,11 @@ use Rattle.wf_sched_refines.proofs.Changes.{each_with, sized_with}
 use Rattle.wf_sched_refines.proofs.Readings.{lists_same}
 use Rattle.wf_sched_refines.proofs.Stands.{Stands, some_account, to_books, with_books, if_same, each_other_class, rotations_with}
 
--- the turns with other lists
+-- a class with other lists
 abbrev pub relisted : Rotation → ClassRota → ClassRota
 relisted r t = record t { rotation = r }
 
--- the lists of one class are changed
+-- the lists of one class are changed on both sides
 pub stands_lists : (v : SchedValue) (b : Books) (c : Class) (r : Rotation) → Stands v b →
     ((y : ℕ) → on (in_order r) y ≤ 1) → ((y : ℕ) → 0 < on (in_order r) y → is_some (b.accounts y) ≡ true) →
     Stands (with_class_rota v c (relisted r (class_rota v c))) (with_lists b c r)
@@ -69,7 +70,7 @@ module _ (v : SchedValue) (w : World) (s : ℕ) (c : Class) (h : SchedulerStands
         (omega (arith, added-on_other (rotation w c) s y other)))
   ]
 
-  -- the station is not listed, and now it is
+  -- a station that was not listed is added
   added : has_key (rotation w c) s ≡ false → is_live w s ≡ true →
       SchedulerStandsFor (with_class_rota v c (relisted (with_new_key (rotation w c) s) (class_rota v c)))
       (with_rotation w c (with_new_key (rotation w c) s))
@@ -77,7 +78,7 @@ module _ (v : SchedValue) (w : World) (s : ℕ) (c : Class) (h : SchedulerStands
       (stands_lists v (books w) c (with_new_key (rotation w c) s) (to_books v w h) (λ y. add_on y off)
       (λ y stands. some_account (at None w.stations y) ∙ add_live y is stands))
 
-  -- the scheduler's turns where the class's are set to what they are
+  -- setting a class to its own value changes nothing
   unchanged : SchedulerStandsFor (with_class_rota v c (class_rota v c)) w
   unchanged = subst (λ (ts : List ClassRota). SchedulerStandsFor (record v { classes = ts }) w)
       (sym (set-get_or v.classes (class_number c) no_class_rota)) h
@@ -124,7 +125,7 @@ unfolding with_rotation
 ready_if true w c r d y = refl
 ready_if false w c r d y = refl
 
--- who is ready does not go by the lists
+-- readiness does not depend on the lists
 pub ready_same : (w : World) (s : ℕ) (c d : Class) (y : ℕ) →
     is_ready (with_listing_in w s c) d y ≡ is_ready w d y
 unfolding with_listing_in
@@ -158,7 +159,7 @@ pub unconcerned_stands : (v : SchedValue) (w : World) → SchedulerStandsFor v w
 unfolding with_listings_of
 unconcerned_stands v w h = h
 
--- ---- one class more
+-- ---- one more class
 
 pub where_more : (v : SchedValue) (s : ℕ) (cs : List Class) (c : Class) (ready : Class → Bool) →
     with_listed_where ready s (cs ++ c ∷ []) v ≡ (if ready c

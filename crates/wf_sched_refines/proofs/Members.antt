@@ -1,4 +1,5 @@
--- A station joins, and one leaves.
+-- Proves that scheduler and world still agree after a station joins or leaves: only its account and the lists
+-- change.
 use Rattle.std.proofs.Common.{◌≡◌, refl, ap, sym, ◌∙◌, subst, arith, ℕ, ◌*◌, ◌<◌, ◌≤◌, pos, Some, None, length-set}
 use Rattle.std.proofs.lemmas.List.{get_or-set_same, get_or-set_other}
 use Rattle.wf_frame.specs.declared.classes.Class.{Class}
@@ -10,7 +11,7 @@ use Rattle.wf_def_world.specs.Step.{without_listings, leave_outcome, join_outcom
 use Rattle.wf_def_lists.specs.Lists.{on}
 use Rattle.wf_law_runs.proofs.Deficits.Books.{Books, books, with_account, books_with_station, books_with_rotation}
 use Rattle.wf_law_runs.proofs.Deficits.BookSteps.{fresh_account, off, all_off, books_joined, books_gone}
-use Rattle.wf_sched.specs.Rotas.{deficit_at, quantum_at}
+use Rattle.wf_rotation.specs.Rotas.{deficit_at, quantum_at}
 use Rattle.wf_sched.specs.ClassRotas.{ClassRota, SchedValue, class_rota, deficit, quantum_of, after_join, after_station_left}
 use Rattle.wf_sched_refines.specs.Standing.{SchedulerStandsFor, everywhere}
 use Rattle.wf_sched_refines.proofs.Once.{without-on, without-on_self}

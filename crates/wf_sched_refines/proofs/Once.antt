@@ -1,5 +1,5 @@
--- A list has each key once exactly where no key stands on it twice; and how often a key stands on the lists
--- of a rotation.
+-- Proves that a list has no repeats exactly if each key occurs at most once, and counts how often a key
+-- occurs in the lists of a rotation.
 use Rattle.std.proofs.Common.{◌≡◌, refl, subst, arith, ℕ, ◌+◌, ◌<◌, ◌≤◌, Bool, true, false, ◌||◌, List, [], ◌∷◌, ◌++◌, not, ◌==◌, eq-eqb, inl, inr}
 use Rattle.std.proofs.lemmas.Bool.{cases_eq, or_parts, cases_Bool, not_from_true}
 use Rattle.wf_def_lists.specs.Table.{has}

@@ -1,4 +1,4 @@
--- The pick of a class.
+-- Proves that the pick of a class is the same in scheduler and world, and that they still agree after it.
 use Rattle.std.proofs.Common.{◌≡◌, refl, ap, ap₂, sym, ◌∙◌, subst, arith, ℕ, ◌*◌, ◌<◌, ◌≤◌, ℤ, pos, ◌+ℤ◌, Bool, true, List, length, is_some, inl, inr}
 use Rattle.wf_frame.specs.declared.classes.Class.{Class}
 use Rattle.wf_frame.specs.Classes.{class_number}
@@ -12,7 +12,7 @@ use Rattle.wf_law_runs.proofs.Deficits.Books.{cases_class, updc_same, updc_other
 use Rattle.wf_law_runs.proofs.Deficits.BookSteps.{pay_share, paid, after, books_after_pick}
 use Rattle.wf_law_rules.specs.Renamed.{IsSame}
 use Rattle.wf_law_rules.proofs.Lemmas.Picks.{same_pick}
-use Rattle.wf_sched.specs.Rotas.{deficit_at, quantum_at, is_ready as entry}
+use Rattle.wf_rotation.specs.Rotas.{deficit_at, quantum_at, is_ready as entry}
 use Rattle.wf_sched.specs.ClassRotas.{ClassRota, SchedValue, class_rota, deficit, quantum_of, need, pick_of_class, with_class_rota, IsAfterPick}
 use Rattle.wf_sched.proofs.Views.{turns-with_same, turns-with_other}
 use Rattle.wf_sched_refines.specs.Standing.{SchedulerStandsFor, TellsReady}
@@ -20,7 +20,7 @@ use Rattle.wf_sched_refines.proofs.Quanta.{gets_once}
 use Rattle.wf_sched_refines.proofs.Changes.{each_with, sized_with}
 use Rattle.wf_sched_refines.proofs.Stands.{Stands, to_books, with_books, if_map, if_both, some_map, each_other_class, rotations_with}
 
--- a list that is right for each station is right for those that are listed
+-- a list that is right for each station is right for the listed ones
 pub tells_listed : (v : SchedValue) (w : World) (c : Class) (ready : List Bool) → SchedulerStandsFor v w →
     ((s : ℕ) → s < w.config.stations → entry ready s ≡ is_ready w c s) → TellsReady w c ready
 tells_listed v w c ready h right s here = right s (h.live s (h.listed s c here))

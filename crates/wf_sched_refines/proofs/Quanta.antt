@@ -1,4 +1,4 @@
--- A pick gives quanta to listed keys alone.
+-- Proves that a pick gives quanta to listed keys only.
 use Rattle.std.proofs.Common.{◌≡◌, refl, sym, subst, arith, ℕ, ◌*◌, ◌<◌, ◌≤◌, Bool, false, inl, inr}
 use Rattle.std.proofs.lemmas.Bool.{ne_eqb, cases_Bool}
 use Rattle.wf_def_lists.specs.Table.{has}
@@ -26,7 +26,7 @@ unlisted_gets_none need ready r y off = pick_is (λ p. p.quanta y ≡ 0) need re
     other v stands e = let here : 0 < on (in_order r) y =
         subst (λ (z : ℕ). 0 < on (in_order r) z) (sym e) stands in omega (arith, none)
 
--- what a key that is listed at most once gets for each time that it is listed
+-- for a key that is listed at most once, paying its quanta for each listing is paying them once
 pub gets_once : (need : ℕ → ℕ) (ready : ℕ → Bool) (r : Rotation) (y : ℕ) → on (in_order r) y ≤ 1 →
     on (in_order r) y * (pick need ready r).quanta y ≡ (pick need ready r).quanta y
 gets_once need ready r y once = elim (cases_Bool (has_key r y)) [

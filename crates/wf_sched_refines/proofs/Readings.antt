@@ -1,4 +1,4 @@
--- The opening, and what a scheduler that stands for a world tells of it.
+-- Proves that a new scheduler agrees with the opening world, and what agreement says of a station.
 use Rattle.std.proofs.Common.{◌≡◌, refl, ap, sym, ◌∙◌, arith, ℕ, ◌<◌, pos, true, false, length, inl, inr}
 use Rattle.std.proofs.lemmas.Bool.{cases_Bool}
 use Rattle.std.proofs.lemmas.List.{length-replicate}

@@ -1,4 +1,5 @@
--- The relation over the books of a world, there and back, and what it keeps where one account changes.
+-- Proves that agreement of a scheduler with a world is a relation to the world's books, and that it holds
+-- after one account changes.
 use Rattle.std.proofs.Common.{◌≡◌, refl, ap, sym, ◌∙◌, subst, ℕ, ◌*◌, ◌<◌, ◌≤◌, ℤ, true, List, length, Option, Some, None, is_some, IfSome, option_map, unwrap_or, eq-eqb, inl, inr}
 use Rattle.std.proofs.lemmas.Bool.{cases_eq, ne_eqb}
 use Rattle.wf_frame.specs.declared.classes.Class.{Class}
@@ -25,7 +26,7 @@ pub record Stands (v : SchedValue) (b : Books) : Type 0 where
   pub listed : (c : Class) (y : ℕ) → 0 < on (in_order (b.rotations c)) y → is_some (b.accounts y) ≡ true
   pub live : (s : ℕ) → is_some (b.accounts s) ≡ true → s < b.config.stations
 
--- ---- there and back
+-- ---- both directions
 
 pub some_account : (o : Option Station) → is_some (option_map account o) ≡ is_some o
 some_account None = refl
@@ -144,7 +145,7 @@ rotations_with v b c t r four same new = each_other_class
     (λ d other. ap (λ (u : ClassRota). u.rotation) (turns-with_other v c d t other) ∙ same d)
     (ap (λ (u : ClassRota). u.rotation) (turns-with_same v c t four) ∙ new)
 
--- u is v but for what it keeps of one station
+-- u differs from v only in the deficits and quanta of one station
 pub record IsOtherwise (s : ℕ) (v u : SchedValue) : Type 0 where
   pub sized : IsSchedulerSized u
   pub stations : u.stations ≡ v.stations
@@ -153,7 +154,7 @@ pub record IsOtherwise (s : ℕ) (v u : SchedValue) : Type 0 where
   pub deficits : (y : ℕ) → (y ≡ s → ⊥) → (c : Class) → deficit u c y ≡ deficit v c y
   pub quanta : (y : ℕ) → (y ≡ s → ⊥) → (c : Class) → quantum_of u c y ≡ quantum_of v c y
 
--- what u keeps of the station is its new account's
+-- u has the deficits and quanta of the station's new account
 pub record IsAccount (u : SchedValue) (b : Books) (s : ℕ) (o : Option Account) : Type 0 where
   pub deficits : (c : Class) → IfSome o (λ a. deficit u c s ≡ (a.shares c).deficit)
   pub quanta : (c : Class) → IfSome o (λ a. quantum_of u c s ≡ b.config.quantum * a.weight)

@@ -1,4 +1,4 @@
--- Changes of a world that a scheduler does not see.
+-- Proves that changes of other parts of a world do not affect the scheduler.
 use Rattle.std.proofs.Common.{◌≡◌, refl, ap, ap₂, sym, ◌∙◌, subst, ℕ, ◌*◌, ◌<◌, Bool, true, false, if◌then◌else◌, List, [], ◌∷◌, Option, Some, None, is_some, IfSome, option_map, inl, inr}
 use Rattle.wf_frame.specs.declared.classes.Class.{Class}
 use Rattle.wf_frame.specs.declared.classes.Fate.{Fate}
@@ -39,7 +39,7 @@ same_turns w u k v h = record {
     was : (s : ℕ) → is_live u s ≡ true → is_live w s ≡ true
     was s is = sym (k.live s) ∙ is
 
--- ---- one after another
+-- ---- one change after another
 
 pub leaves_same : (w u : World) → books u ≡ books w → LeavesRotas w u
 leaves_same w u e v h = with_books v u (books w) e (to_books v w h)
@@ -186,7 +186,7 @@ pub sent_leaves : (s t : ℕ) (c : Class) (p : Prepared) → LeavesRotas p.world
 sent_leaves s t c p v h = with_books v _ _ (books_sent s t c p)
     (stands_opened v (books p.world) _ _ (to_books v p.world h))
 
--- the numbers of an exchange that ends
+-- the numbers of an exchange that ends are settled
 slot_leaves : (w : World) (s t : ℕ) (m : Mpdu) → LeavesRotas w (with_failed_finished w s t m)
 unfolding with_failed_finished
 slot_leaves w s t m = leaves_if _ w _ _ (finish_leaves w _ _) (λ v h. h)

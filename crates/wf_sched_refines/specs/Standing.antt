@@ -1,4 +1,4 @@
--- When the station scheduler stands for the rotations and the deficits of a world.
+-- Defines when the station scheduler agrees with ("stands for") the rotations and deficits of a world.
 use Rattle.std.specs.Prelude.{◌≡◌, ℕ, ◌<◌, pos, ◌-ℤ◌, Bool, true, List, [], ◌∷◌, map, if◌then◌else◌}
 use Rattle.wf_frame.specs.declared.classes.Class.{Class}
 use Rattle.wf_def_rotation.specs.Rotation.{has_key, in_order}
@@ -7,12 +7,12 @@ use Rattle.wf_def_lists.specs.Table.{at}
 use Rattle.wf_def_world.specs.World.{World, Station, Share, no_share, station, share, quantum as own_quantum, rotation, is_live}
 use Rattle.wf_def_world.specs.CanSend.{is_ready}
 use Rattle.wf_def_lists.specs.Lists.{IsOnce}
-use Rattle.wf_sched.specs.Rotas.{is_ready as entry}
+use Rattle.wf_rotation.specs.Rotas.{is_ready as entry}
 use Rattle.wf_sched.specs.ClassRotas.{ClassRota, SchedValue, IsSchedulerSized, class_rota, with_class_rota, with_deficit, deficit, quantum_of, with_listing, class_rotation as rotation_of}
 
--- A class lists the same stations, and a live station has its deficit and its quantum. What the scheduler
--- keeps of a station that is not live does not matter: it is listed nowhere, and its deficit and quantum are
--- set when it joins.
+-- The scheduler v agrees with the world w: each class lists the same stations, and each live station has the
+-- same deficit and quantum. The values that the scheduler has for a station that is not live do not matter:
+-- such a station is not listed, and a join sets its deficit and quantum.
 pub record SchedulerStandsFor (v : SchedValue) (w : World) : Type 0 where
   pub sized : IsSchedulerSized v
   pub stations : v.stations ≡ w.config.stations
@@ -20,19 +20,19 @@ pub record SchedulerStandsFor (v : SchedValue) (w : World) : Type 0 where
   pub rotations : (c : Class) → rotation_of v c ≡ rotation w c
   pub deficits : (s : ℕ) (c : Class) → is_live w s ≡ true → deficit v c s ≡ (share w s c).deficit
   pub quanta : (s : ℕ) (c : Class) → is_live w s ≡ true → quantum_of v c s ≡ own_quantum w s
-  -- and in the world: each class lists a station once, and live ones alone; each live station has a number in
-  -- range
+  -- conditions on the world: each class lists a station at most once, and only live ones; each live station
+  -- has a number in range
   pub once : (c : Class) → IsOnce (in_order (rotation w c))
   pub listed : (s : ℕ) (c : Class) → has_key (rotation w c) s ≡ true → is_live w s ≡ true
   pub live : (s : ℕ) → is_live w s ≡ true → s < w.config.stations
 
 -- ---- changes of a scheduler
 
--- the turns of every class are changed
+-- the lists, deficits and quanta of every class are changed
 abbrev pub everywhere : (ClassRota → ClassRota) → SchedValue → SchedValue
 everywhere f v = record v { classes = map f v.classes }
 
--- airtime leaves the deficit of a station in a class
+-- airtime is taken off the deficit of a station in a class
 abbrev pub with_deficit_charged : SchedValue → ℕ → Class → ℕ → SchedValue
 with_deficit_charged v s c air = with_deficit v c s (deficit v c s -ℤ pos air)
 
@@ -40,12 +40,12 @@ with_deficit_charged v s c air = with_deficit v c s (deficit v c s -ℤ pos air)
 abbrev pub with_listed : SchedValue → ℕ → Class → SchedValue
 with_listed v s c = with_class_rota v c (with_listing s (class_rota v c))
 
--- a station is put on the lists of those of the classes in which it is ready
+-- a station is put on the lists of those classes in which it is ready
 abbrev pub with_listed_where : (Class → Bool) → ℕ → List Class → SchedValue → SchedValue
 with_listed_where ready s [] v = v
 with_listed_where ready s (c ∷ cs) v = with_listed_where ready s cs (if ready c then with_listed v s c else v)
 
--- the list `ready`, of one entry for each station, says of each listed station whether it is ready in the
+-- the list `ready`, with one entry for each station, says for each listed station whether it is ready in the
 -- class
 abbrev pub TellsReady : World → Class → List Bool → Type 0
 TellsReady w c ready = (s : ℕ) → has_key (rotation w c) s ≡ true → entry ready s ≡ is_ready w c s
@@ -54,7 +54,7 @@ TellsReady w c ready = (s : ℕ) → has_key (rotation w c) s ≡ true → entry
 abbrev pub share_in : Station → Class → Share
 share_in x c = at no_share x.shares (class_number c)
 
--- ---- worlds that a scheduler does not tell apart
+-- ---- worlds that are the same for a scheduler
 
 -- the same settings, rotations, live stations, deficits and weights
 pub record HasSameRotas (w u : World) : Type 0 where
@@ -69,6 +69,6 @@ pub record KeepsRotas (f : Station → Station) : Type 0 where
   pub weight : (x : Station) → (f x).weight ≡ x.weight
   pub deficits : (x : Station) (c : Class) → (share_in (f x) c).deficit ≡ (share_in x c).deficit
 
--- each scheduler that stands for w stands for u
+-- each scheduler that agrees with w agrees with u
 abbrev pub LeavesRotas : World → World → Type 0
 LeavesRotas w u = (v : SchedValue) → SchedulerStandsFor v w → SchedulerStandsFor v u

@@ -1,11 +1,10 @@
-//! The station scheduler stands for the rotations and the deficits of a world, at the start and after every
-//! call that concerns them.
+//! Laws by which the station scheduler of the code (`wf_sched`) behaves like the rotations and deficits of
+//! the machine's world (`wf_def_world`). The two agree at the start, and if they agree before a call, they
+//! agree after it (`SchedulerStandsFor`).
 //!
-//! The scheduler (`wf_sched::stations`) keeps for each access class two lists of stations, and each station's
-//! deficit and quantum of airtime ("Ending the Anomaly", USENIX ATC 2017, section 3.2). A world
-//! (`wf_def_world`) has the same, among all else that the machine knows. The laws say when the two agree, and
-//! that they go on to agree when both are changed by the same call. Each is a function without a body that
-//! names it in its contract.
+//! The scheduler stores for each access class two lists of stations, and for each station a deficit and a
+//! quantum of airtime ("Ending the Anomaly", USENIX ATC 2017, section 3.2). A world has the same as a part of
+//! its state. Each law is a function without a body, whose contract states the law.
 #![tactic(auto)]
 
 ghost use Rattle.std.specs.Prelude.{◌≡◌, ◌↔◌, ℕ, ◌*◌, ◌-◌, ◌^◌, ◌<◌, Bool, true, false, if◌then◌else◌, List, [], ◌∷◌, ◌++◌, Option, None, Some, pos, negsuc, ◌-ℤ◌, ◌≤ℤ◌, ◌<ℤ◌, int_lt};
@@ -31,19 +30,20 @@ ghost use Rattle.wf_def_world.specs.Stretches.{world_at};
 ghost use Rattle.wf_def_world.specs.Run.{Entry};
 ghost use Rattle.wf_def_world.specs.Step.{join_outcome as joined_world, outcome_of, concerned_station, step, after_tids_left, without_listings, leave_outcome, rate_outcome, tick_outcome, with_frame, enqueue_outcome, send_outcome, pull_outcome_for, arrive_outcome, answer_outcome, done_outcome, sleep_outcome, wake_outcome, poll_outcome, rx_outcome, reap_outcome};
 ghost use Rattle.wf_law_rules.specs.Renamed.{IsSame};
-ghost use Rattle.wf_sched.specs.Rotas.{is_ready as entry};
+ghost use Rattle.wf_rotation.specs.Rotas.{is_ready as entry};
 ghost use Rattle.wf_sched.specs.ClassRotas.{SchedValue, new_scheduler, class_rota, class_rotation as rotation_of, deficit, with_class_rota, IsNowhere, after_join, after_station_left, pick_of_class, IsAfterPick};
 ghost use Rattle.wf_sched_refines.specs.Calls.{IsCallDone, IsRefused, with_concerned};
 ghost use Rattle.wf_sched_refines.specs.Standing.{SchedulerStandsFor, everywhere, with_deficit_charged, with_listed, with_listed_where, TellsReady, HasSameRotas, KeepsRotas, LeavesRotas};
 
-/// A new scheduler and a new world: nobody is live, and nobody is listed.
+/// A new scheduler agrees with the opening world: no station is live, and none is listed.
 pub fn a_new_scheduler()
     ensures { (config : Config) → SchedulerStandsFor (new_scheduler config.stations config.quantum)
         (opening_world config) }
 {}
 
-/// What the scheduler tells of a station: the deficit of one that is live, whether it is listed, and that one
-/// that is not live is listed nowhere, so that it may join.
+/// What a scheduler and a world that agree have in common: the deficit of a live station, and whether a
+/// station is listed. A live station's number is below the number of stations. A station that is not live is
+/// listed nowhere, so it may join.
 pub fn a_station()
     ensures deficit { (v : SchedValue) (w : World) (s : ℕ) (c : Class) → SchedulerStandsFor v w →
         is_live w s ≡ true → deficit v c s ≡ (share w s c).deficit }
@@ -55,8 +55,9 @@ pub fn a_station()
         IsNowhere v s }
 {}
 
-/// An exchange ends: its charge, computed or named, leaves the deficit of its station in its class. In the
-/// worlds of a run no deficit comes near the ends of 64 bits, whatever 32 bits of airtime it is charged.
+/// Both sides still agree after an exchange ends, when its charge, computed or given by its Done, is taken
+/// off its station's deficit in its class. In the worlds of a run, no deficit gets near the limits of 64
+/// bits, for any charge of 32 bits (microseconds).
 pub fn a_charge()
     ensures charged { (v : SchedValue) (w : World) (x : Exchange) (air : Option ℕ) → SchedulerStandsFor v w →
         SchedulerStandsFor (with_deficit_charged v x.station x.class (charge_of air x))
@@ -72,8 +73,8 @@ pub fn a_charge()
         negsuc (2 ^ 62 - 1) ≤ℤ (deficit v c s -ℤ pos air) }
 {}
 
-/// A station sent a frame itself: its airtime leaves the deficit, which is answered. The charge is refused on
-/// the same test of the scheduler's deficit and of the world's.
+/// Both sides still agree after a receive charge: the airtime that a station used to send is taken off its
+/// deficit. The reply contains the new deficit. Both sides refuse the charge by the same test of the deficit.
 pub fn a_receive_charge()
     ensures received { (v : SchedValue) (w : World) (s : ℕ) (c : Class) (air : ℕ) → SchedulerStandsFor v w →
         SchedulerStandsFor (with_deficit_charged v s c air) (rx_outcome w s c air).world }
@@ -86,7 +87,8 @@ pub fn a_receive_charge()
         int_lt ((share w s c).deficit -ℤ pos air) deepest_deficit ≡ true) }
 {}
 
-/// A station joins: in each class its quantum, and its deficit, are its weight's multiple of the setting.
+/// Both sides still agree after a station joins. Its deficit and its quantum in each class are the setting
+/// `quantum` times its weight.
 pub fn a_join()
     ensures { (v : SchedValue) (w : World) (s window start exponent weight : ℕ) → SchedulerStandsFor v w →
         s < w.config.stations →
@@ -94,7 +96,7 @@ pub fn a_join()
         (joined_world w s window start exponent weight).world }
 {}
 
-/// A station leaves: it comes off the lists of each class.
+/// Both sides still agree after a station leaves, which removes it from the lists of each class.
 pub fn a_leave()
     ensures off { (v : SchedValue) (w : World) (s : ℕ) → SchedulerStandsFor v w →
         SchedulerStandsFor (everywhere (after_station_left s) v)
@@ -103,9 +105,9 @@ pub fn a_leave()
         SchedulerStandsFor (everywhere (after_station_left s) v) (leave_outcome w s).world }
 {}
 
-/// After a call, the station that it concerns is listed in each class in which it is ready. Who is ready does
-/// not go by the lists, so the classes may be found before the first is listed, or one by one; `more` is for
-/// a loop over the classes.
+/// Both sides still agree after the station that a call concerns is listed in each class in which it is
+/// ready. Readiness does not depend on the lists, so it may be computed for all classes before the first
+/// listing, or class by class. `more` adds one class, for a loop over the classes.
 pub fn a_listing()
     ensures ready { (v : SchedValue) (w : World) (s : ℕ) (c : Class) → SchedulerStandsFor v w →
         is_ready w c s ≡ true → SchedulerStandsFor (with_listed v s c) (with_listing_in w s c) }
@@ -129,9 +131,10 @@ pub fn a_listing()
         else with_listed_where ready s classes v) }
 {}
 
-/// The pick of a class, where a list tells which of the listed stations are ready, as one does that is right
-/// for each station. The winner, the lists and the quanta are the same on both sides. Each station is paid
-/// its quanta, and the turns of the other classes stay.
+/// The pick of a class, with a list `ready` that says for each listed station whether it is ready; a list
+/// that is right for every station is right for those (`tells`). The winner, the lists and the quanta are the
+/// same on both sides. Both sides still agree after each station is paid its quanta; the other classes do not
+/// change.
 pub fn a_pick()
     ensures tells { (v : SchedValue) (w : World) (c : Class) (ready : List Bool) → SchedulerStandsFor v w →
         ((s : ℕ) → s < w.config.stations → entry ready s ≡ is_ready w c s) → TellsReady w c ready }
@@ -144,14 +147,14 @@ pub fn a_pick()
         u ≡ with_class_rota v c (class_rota u c) → SchedulerStandsFor u (after_pick w c) }
 {}
 
-/// Two worlds with the same settings, rotations, live stations, deficits and weights: a scheduler that stands
-/// for one stands for the other.
+/// A scheduler that agrees with one world agrees with every other that has the same settings, rotations, live
+/// stations, deficits and weights.
 pub fn the_same_turns()
     ensures { (w u : World) → HasSameRotas w u → LeavesRotas w u }
 {}
 
-/// A change of a station that keeps its weight and its deficits leaves the turns, so a change of its
-/// agreements, of its listed flow queues, of the TID whose turn it is, and of its credit does.
+/// A change of a station that keeps its weight and its deficits does not affect the scheduler: a change of
+/// its agreements, of the flow queues that it lists, of the TID whose turn it is, or of its credit.
 pub fn a_change_of_a_station()
     ensures station { (w : World) (s : ℕ) (f : Station → Station) → KeepsRotas f →
         LeavesRotas w (on_station w s f) }
@@ -163,7 +166,7 @@ pub fn a_change_of_a_station()
     ensures credit { (w : World) (s : ℕ) → LeavesRotas w (without_credit w s) }
 {}
 
-/// Frames and flow queues leave the turns.
+/// Changes of frames and flow queues do not affect the scheduler.
 pub fn a_change_of_frames()
     ensures queue { (w : World) (q : ℕ) (f : Queue → Queue) → LeavesRotas w (on_queue w q f) }
     ensures accepted { (w : World) (note : Note) → LeavesRotas w (with_frame w note) }
@@ -175,8 +178,8 @@ pub fn a_change_of_frames()
     ensures left { (w : World) (s : ℕ) (tids : List ℕ) → LeavesRotas w (after_tids_left w s tids) }
 {}
 
-/// Exchanges leave the turns: what one is to send, that it is open, what its receiver tells, and what becomes
-/// of its numbers.
+/// Changes of exchanges do not affect the scheduler: preparing one, opening and closing it, an arrival or an
+/// answer at its receiver, and settling its numbers.
 pub fn a_change_of_exchanges()
     ensures filled { (w : World) (s t : ℕ) → LeavesRotas w (aggregate_of w s t).world }
     ensures prepared { (w : World) (s t : ℕ) → LeavesRotas w (prepared_exchange w s t).world }
@@ -188,8 +191,8 @@ pub fn a_change_of_exchanges()
         LeavesRotas w (after_done w x heard content) }
 {}
 
-/// The calls that leave the turns, but for the station that they may list at their end. A pull leaves them
-/// once a station is picked.
+/// The calls that do not affect the scheduler, except that they may list a station at their end. `pulled` is
+/// the part of a pull after a station is picked.
 pub fn a_call_that_leaves_the_turns()
     ensures enqueued { (w : World) (s t flow len : ℕ) → LeavesRotas w (enqueue_outcome w s t flow len).world }
     ensures rate { (w : World) (s : ℕ) (rate : AskedRate) →
@@ -205,9 +208,9 @@ pub fn a_call_that_leaves_the_turns()
     ensures reaped { (w : World) (ids : List ℕ) → LeavesRotas w (reap_outcome w ids).world }
 {}
 
-/// A whole call. One that is not refused does to the scheduler what `IsDone` says, and then lists the station
-/// that it concerns; one that is refused leaves it, but for a pull that finds nobody ready. A scheduler that
-/// stood for the world stands for the world after the call.
+/// Both sides still agree after a whole call. A call that is not refused changes the scheduler as
+/// `IsCallDone` says, and then lists the station that it concerns. A call that is refused does not change it,
+/// except a pull for which no station is ready.
 pub fn a_call()
     ensures done { (v u : SchedValue) (w : World) (note : Note) → refusal w note ≡ None →
         SchedulerStandsFor v w → IsCallDone w note v u →

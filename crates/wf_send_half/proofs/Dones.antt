@@ -1,4 +1,4 @@
--- A whole Done, from what it does to the parts of the half.
+-- Proves what a Done does to the half from what it does to its parts.
 use Rattle.std.proofs.Common.{◌≡◌, refl, ap, ap₂, sym, ◌∙◌, subst, arith, ℕ, ◌-◌, ◌^◌, ◌<◌, ◌≤◌, ◌==◌, pos, negsuc, ◌-ℤ◌, ◌≤ℤ◌, Bool, true, false, not, List, [], ◌∷◌, length, Option, Some, None, is_none, option_map, unwrap_or, if◌then◌else◌, is_some, ◌&&◌}
 use Rattle.std.specs.Prelude.{find, filter, IfSome, IfNone}
 use Rattle.wf_frame.specs.declared.notes.Note.TheVariants.{Asked}
@@ -14,7 +14,8 @@ use Rattle.wf_def_agreement.specs.Receiver.{Score, shows}
 use Rattle.wf_def_world.specs.World.{World, Exchange, Mpdu, Content, Frames, Request, exchange, is_live, is_wide}
 use Rattle.wf_def_world.specs.CanSend.{is_request}
 use Rattle.wf_def_world.specs.Exchanges.{mpdus_of, is_acked, charge_of}
-use Rattle.wf_def_world.specs.Refusals.{refusal, is_bad_air}
+use Rattle.wf_def_world.specs.Refusals.{refusal}
+use Rattle.wf_frame.specs.Settings.{is_bad_air}
 use Rattle.wf_def_world.specs.Step.{done_outcome}
 use Rattle.wf_law_runs.specs.Windows.{EachMpdu, EachOpen}
 use Rattle.wf_law_runs.specs.Numbers.{greatest_computed}
@@ -26,15 +27,15 @@ use Rattle.wf_sched.specs.ClassRotas.{SchedValue, deficit}
 use Rattle.wf_sched_refines.specs.Standing.{SchedulerStandsFor as TurnsStandFor, with_deficit_charged as with_turns_charged}
 use Rattle.wf_sched_refines.proofs.Calls.{charge_fits}
 use Rattle.wf_law_driver.proofs.Opened.{found_number, first_refuses}
-use Rattle.wf_send_half_refines.specs.Half.{TransmitValue}
-use Rattle.wf_send_half_refines.specs.Standing.{open_of, sending_of, numbers_on_air, Parts, StandsFor, Meets}
-use Rattle.wf_send_half_refines.specs.Changes.{after_listing_in}
-use Rattle.wf_send_half_refines.specs.Ending.{after_close}
-use Rattle.wf_send_half_refines.proofs.Dones.{done_meets, request_tid}
-use Rattle.wf_send_half_refines.proofs.Endings.{found, open_live}
-use Rattle.wf_send_half_refines.proofs.Meets.{refused_meets}
-use Rattle.wf_send_half_refines.proofs.Reached.{now_is, by_law}
-use Rattle.wf_send_half_refines.proofs.Readers.{exchange_same}
+use Rattle.wf_send_half_model.specs.Half.{TransmitValue}
+use Rattle.wf_send_half_model.specs.Standing.{open_of, sending_of, numbers_on_air, Parts, StandsFor, Meets}
+use Rattle.wf_send_half_model.specs.Changes.{after_listing_in}
+use Rattle.wf_send_half_model.specs.Ending.{after_close}
+use Rattle.wf_send_half_model.proofs.Dones.{done_meets, request_tid}
+use Rattle.wf_send_half_model.proofs.Endings.{found, open_live}
+use Rattle.wf_send_half_model.proofs.Meets.{refused_meets}
+use Rattle.wf_send_half_model.proofs.Reached.{now_is, by_law}
+use Rattle.wf_send_half_model.proofs.Readers.{exchange_same}
 use Rattle.wf_send_half.specs.Bits.{is_shown, AreShown, NoneIsShown, GoesBy, IsClosed, IsChargeSmall, has_bad_air, end_refusal, ended_reply}
 use Rattle.wf_send_half.specs.Half.{HasWorld}
 use Rattle.wf_send_half.specs.declared.finish.Ended.{Ended}
@@ -76,21 +77,21 @@ module _ (v : TransmitValue) (w : World) (bodies : ℕ → FrameValue) (h : Stan
   pub none_open : None ≡ find (λ x. x.number == e) v.opened → exchange w e ≡ None
   none_open is = none_by (exchange w e) (is ∙ exchange_same v w bodies e h.parts)
 
-  -- it is refused where it is not open
+  -- refused if it is not open
   pub refused_done : (answered : Bool) (air : Option ℕ) → None ≡ find (λ x. x.number == e) v.opened →
       Meets w bodies (Asked (Done e answered air)) v (Refused NoExchange)
   refused_done answered air is =
       refused_meets v w bodies (Asked (Done e answered air)) NoExchange h
       (first_refuses (is_none (exchange w e), NoExchange) _ (ap is_none (none_open is))) (λ i. cc i)
 
-  -- and where its airtime may not be named
+  -- refused if the airtime is out of range
   pub bad_done : (answered : Bool) (air : Option ℕ) →
       refusal w (Asked (Done e answered air)) ≡ Some BadAir →
       Meets w bodies (Asked (Done e answered air)) v (Refused BadAir)
   bad_done answered air bad =
       refused_meets v w bodies (Asked (Done e answered air)) BadAir h bad (λ i. cc i)
 
--- why it is refused
+-- the reason of the refusal
 
 pub ends_unknown : (v : TransmitValue) (e : ℕ) (air : Option ℕ) → None ≡ find (λ x. x.number == e) v.opened →
     end_refusal v e air ≡ Some NoExchange
@@ -111,7 +112,7 @@ ends_well v e air o some fine = ap (λ (f : Option Open). if is_none f then Some
     else if is_bad_air v.config air then Some BadAir else None) (sym some)
     ∙ ap (λ (b : Bool). if b then Some BadAir else None) fine
 
--- the exchange is open, and its airtime may not be named
+-- the exchange is open, and its airtime is out of range
 pub record IsBad (v : TransmitValue) (e : ℕ) (air : Option ℕ) : Type 0 where
   pub opened : Open
   pub some : Some opened ≡ find (λ x. x.number == e) v.opened
@@ -125,7 +126,7 @@ bad_of v e air h = go (find (λ x. x.number == e) v.opened) refl h
     go None is k = absurd (cc k)
     go (Some x) is k = record { opened = x; some = sym is; bad = k }
 
--- it may be named, as the half has found
+-- the airtime is in range, by the test of the half
 pub fine_then : (v u : TransmitValue) (e : ℕ) (air : Option ℕ) (o : Open) (found : Bool) → u ≡ v →
     found ≡ has_bad_air v e air → found ≡ false → Some o ≡ find (λ x. x.number == e) u.opened →
     is_bad_air u.config air ≡ false
@@ -150,7 +151,7 @@ module _ (v : TransmitValue) (w : World) (bodies : ℕ → FrameValue) (h : Stan
 
 -- ---- its charge
 
--- what is charged of an exchange that the half keeps is what the machine charges
+-- the half's charge of an exchange is the machine's
 pub at_charge : (v self : TransmitValue) (o : Open) (x : Exchange) (air : Option ℕ) → o ≡ open_of x →
     self ≡ after_close v o (unwrap_or air o.charge) → self ≡ after_close v o (charge_of air x)
 at_charge v self o x air same closed =
@@ -257,7 +258,7 @@ module _ (v : TransmitValue) (some : HasWorld v) (e : ℕ) (o : Open)
     closed = at_charge v self o it.exchange_is air it.same is_closed;
   }
 
--- where it is not open, none is taken out
+-- if it is not open, none is taken out
 pub unopened : (e : ℕ) (xs : List Open) → None ≡ find (λ x. x.number == e) xs →
     filter (λ x. not (x.number == e)) xs ≡ xs
 unopened e [] h = refl
@@ -270,7 +271,7 @@ unopened e (x ∷ xs) h = go (x.number == e) h (unopened e xs)
     go true k later = absurd (cc k)
     go false k later = ap (λ (l : List Open). x ∷ l) (later k)
 
--- ---- what was heard, or was not
+-- ---- a BlockAck was heard, or not
 
 pub where_none : {X : Type 0} (P : Type 0) (heard : Option X) → (heard ≡ None → P) → IfNone heard P
 where_none P None f = f refl
@@ -285,7 +286,7 @@ pub where_some : {X : Type 0} (P : X → Type 0) (heard : Option X) → ((s : X)
 where_some P None f = tt
 where_some P (Some s) f = f s refl
 
--- ---- by what it goes
+-- ---- the BlockAck by which it ends
 
 shown_numbers : (b : Score) (x : Exchange) (p : ℕ → Bool) → x.answer ≡ Some b → (ms : List Mpdu) →
     EachMpdu (λ m. shows b m.number ≡ p m.number) ms →

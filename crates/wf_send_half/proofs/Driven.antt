@@ -1,5 +1,6 @@
--- An exchange whose receiver a driver tells of by a BlockAck alone ends, and the half stands for an unheard
--- world again.
+-- Proves that a half still represents an unheard world after an exchange ends by a BlockAck that a driver
+-- heard. The calls that the BlockAck implies change nothing of the half, and make it the answer that the
+-- receiver keeps.
 use Rattle.std.proofs.Common.{◌≡◌, refl, ap, sym, ◌∙◌, subst, arith, ℕ, suc, ◌==◌, nat_lt, Bool, true, false, if◌then◌else◌}
 use Rattle.std.proofs.Common.{List, [], ◌∷◌, ◌++◌, length, Option, Some, None, is_none, option_map}
 use Rattle.std.specs.Prelude.{find, IfSome, Result, Ok, Err, is_ok, IfErr}
@@ -24,31 +25,31 @@ use Rattle.wf_def_world.specs.Step.{step}
 use Rattle.wf_def_world.specs.Run.{world_after}
 use Rattle.wf_law_runs.specs.Windows.{EachMpdu}
 use Rattle.wf_send_parts.specs.declared.exchanges.opened.Open.{Open}
-use Rattle.wf_law_driver.specs.Told.{shown_indices, arrivals, answer_told, told, tells, after_told, done_told, KeepsAnswer, IsTold}
+use Rattle.wf_law_driver.specs.Inferred.{shown_indices, arrivals, answer_inferred, inferred, tells, after_inferred, done_inferred, KeepsAnswer, IsInferred}
 use Rattle.wf_law_driver.specs.Transmit.{KeepsTransmit}
 use Rattle.wf_law_driver.specs.Unheard.{unmarked, IsSilent, IsUnheard}
-use Rattle.wf_law_driver.proofs.Runs.{told_keeps}
+use Rattle.wf_law_driver.proofs.Runs.{inferred_keeps}
 use Rattle.wf_law_driver.proofs.Silent.{silent_law}
-use Rattle.wf_law_driver.proofs.Told.{told_law}
+use Rattle.wf_law_driver.proofs.Inferred.{inferred_law}
 use Rattle.wf_law_driver.proofs.Transmit.{transmit_law}
-use Rattle.wf_send_half_refines.specs.Half.{TransmitValue, is_ready_of}
-use Rattle.wf_send_half_refines.specs.Standing.{IsReached, StandsFor, Meets, open_of}
-use Rattle.wf_send_half_refines.proofs.Beyond.{ready_ended}
-use Rattle.wf_send_half_refines.proofs.Readers.{exchange_same, ready_same}
-use Rattle.wf_send_half_refines.proofs.Whole.{arrive_stands, answer_stands}
+use Rattle.wf_send_half_model.specs.Half.{TransmitValue, is_ready_of}
+use Rattle.wf_send_half_model.specs.Standing.{IsReached, StandsFor, Meets, open_of}
+use Rattle.wf_send_half_model.proofs.Beyond.{ready_ended}
+use Rattle.wf_send_half_model.proofs.Readers.{exchange_same, ready_same}
+use Rattle.wf_send_half_model.proofs.Whole.{arrive_stands, answer_stands}
 use Rattle.wf_send_half.specs.Bits.{is_shown, AreShown, end_refusal, ended_reply}
 use Rattle.wf_send_half.specs.Driven.{ended_by, outcome_after_done, world_after_done, IsAfterDone, MeetsUnheard}
 use Rattle.wf_send_half.specs.Replies.{reply_of_result}
 use Rattle.wf_send_half.specs.declared.finish.Ended.{Ended}
 use Rattle.wf_send_half.proofs.Dones.{from_none, refused_done, bad_done, ends_unknown, ends_bad}
 use Rattle.wf_send_half.proofs.Worlds.{met_by}
-use Rattle.wf_def_world.specs.Refusals.{is_bad_air}
+use Rattle.wf_frame.specs.Settings.{is_bad_air}
 use Rattle.wf_law_driver.proofs.Ended.{bad_lost}
 use Rattle.wf_frame.specs.declared.settings.Config.{Config}
 
 -- ---- unheard worlds of runs
 
--- a call that tells of no receiver leads from one to one
+-- a call that is not about a receiver leads from an unheard world to an unheard world
 unheard_step : (w : World) (note : Note) → IsReached w → IsSilent note → IsUnheard w →
     IsUnheard (step w note).world
 unheard_step w note r silent =
@@ -57,38 +58,38 @@ unheard_step w note r silent =
 
 told_reached : (w : World) (r : IsReached w) (caller e : ℕ) (shown : ℕ → Bool) (air : Option ℕ)
     (x : Exchange) → IsUnheard w → exchange w e ≡ Some x → is_bad_air w.config air ≡ false
-    → IsTold w caller e shown air x
+    → IsInferred w caller e shown air x
 told_reached w r caller e shown air x =
     subst (λ (u : World). IsUnheard u → exchange u e ≡ Some x → is_bad_air u.config air ≡ false →
-    IsTold u caller e shown air x) (sym r.after) (told_law w.config r.history caller e shown air x)
+    IsInferred u caller e shown air x) (sym r.after) (inferred_law w.config r.history caller e shown air x)
 
--- ---- what a BlockAck tells of
+-- ---- the calls that a BlockAck implies
 
--- it leaves what a half stands for
+-- they change nothing of the half
 told_stands : (v : TransmitValue) (w : World) (bodies : ℕ → FrameValue) → StandsFor v w bodies →
     (caller e : ℕ) (shown : ℕ → Bool) (content : Content) →
-    StandsFor v (after_told w caller e shown content) bodies
+    StandsFor v (after_inferred w caller e shown content) bodies
 told_stands v w bodies h caller e shown content =
-    told_keeps (λ u. StandsFor v u bodies) (λ u d i k. arrive_stands v u bodies d i k)
+    inferred_keeps (λ u. StandsFor v u bodies) (λ u d i k. arrive_stands v u bodies d i k)
     (λ u d k. answer_stands v u bodies d k) w caller e shown content h
 
--- and how wide the BlockAcks of each TID are
+-- nor the width of the BlockAcks of each TID
 told_wide : (w : World) → IsReached w → (caller e : ℕ) (shown : ℕ → Bool) (content : Content) (s t : ℕ) →
-    is_wide (after_told w caller e shown content) s t ≡ is_wide w s t
+    is_wide (after_inferred w caller e shown content) s t ≡ is_wide w s t
 told_wide w r caller e shown content s t =
     let k : KeepsTransmit w = subst KeepsTransmit (sym r.after)
     (transmit_law w.config r.history r.in_range) in
-    ap (λ (y : Session). nat_lt narrow_window y.size) ((k.told caller e shown content).sessions s t)
+    ap (λ (y : Session). nat_lt narrow_window y.size) ((k.inferred caller e shown content).sessions s t)
 
 -- none of these numbers is shown
 abbrev NoneOf : (ℕ → Bool) → List Mpdu → Type 0
 NoneOf shown ms = EachMpdu (λ m. shown m.number ≡ false) ms
 
--- one that tells of nothing shows none of an aggregate's numbers
+-- a BlockAck that implies no call shows none of an aggregate's numbers
 record TellsNothing (caller e : ℕ) (shown : ℕ → Bool) (c : Content) : Type 0 where
   data_is : is_request c ≡ false
   none : NoneOf shown (mpdus_of c)
-  nothing : told caller e shown c ≡ []
+  nothing : inferred caller e shown c ≡ []
 
 none_shown : (shown : ℕ → Bool) (i : ℕ) (ms : List Mpdu) → shown_indices shown i ms ≡ [] → NoneOf shown ms
 none_shown shown i [] h = tt
@@ -110,7 +111,7 @@ tells_nothing (Frames ms) caller e shown h = by_indices (shown_indices shown 0 m
     by_indices [] none = record {
       data_is = refl;
       none = none_shown shown 0 ms none;
-      nothing = ap (λ (js : List ℕ). arrivals caller e js ++ answer_told caller e js) none;
+      nothing = ap (λ (js : List ℕ). arrivals caller e js ++ answer_inferred caller e js) none;
     }
     by_indices (i ∷ is) some = absurd (cc (some, yes_lt 0 (length (i ∷ is)) (omega arith), h))
 
@@ -119,14 +120,14 @@ unfolding world_after
 world_after_none w = refl
 
 told_nothing : (w : World) (caller e : ℕ) (shown : ℕ → Bool) (c : Content) → TellsNothing caller e shown c →
-    after_told w caller e shown c ≡ w
+    after_inferred w caller e shown c ≡ w
 told_nothing w caller e shown c n = ap (world_after w) n.nothing ∙ world_after_none w
 
--- what a BlockAck shows of x, an open exchange of w
+-- the numbers of x, an open exchange of w, that a BlockAck shows
 abbrev shown_of : World → Exchange → ℕ × List ℕ → ℕ → Bool
 shown_of w x score = is_shown (is_wide w x.station x.tid) (Some score)
 
--- what is then kept as the answer shows what the BlockAck does
+-- the answer that is then kept shows the same as the BlockAck
 kept_shows : (w u : World) (e : ℕ) (score : ℕ × List ℕ) (x : Exchange) →
     is_wide u x.station x.tid ≡ is_wide w x.station x.tid →
     (k : KeepsAnswer u e (shown_of w x score) x) → AreShown u k.marked k.answer (Some score)
@@ -136,7 +137,7 @@ kept_shows w u e score x wide k =
     (subst (λ (b : Bool). EachMpdu (λ m. shows k.answer m.number ≡ is_shown b (Some score) m.number)
     (mpdus_of x.content)) (sym wide) k.shows)
 
--- ---- an open exchange of which a BlockAck was heard
+-- ---- an open exchange whose BlockAck was heard
 
 module _ (v : TransmitValue) (w : World) (bodies : ℕ → FrameValue) (h : StandsFor v w bodies)
     (un : IsUnheard w) (e : ℕ) (x : Exchange)
@@ -146,12 +147,12 @@ module _ (v : TransmitValue) (w : World) (bodies : ℕ → FrameValue) (h : Stan
   shown = shown_of w x score
 
   abbrev after : World
-  after = after_told w caller e shown x.content
+  after = after_inferred w caller e shown x.content
 
-  is_told : IsTold w caller e shown air x
+  is_told : IsInferred w caller e shown air x
   is_told = told_reached w h.reached caller e shown air x un known fine
 
-  pub told_unheard : IsUnheard (step after (done_told e shown air x.content)).world
+  pub told_unheard : IsUnheard (step after (done_inferred e shown air x.content)).world
   told_unheard = is_told.unheard
 
   stands_after : StandsFor v after bodies
@@ -160,7 +161,7 @@ module _ (v : TransmitValue) (w : World) (bodies : ℕ → FrameValue) (h : Stan
   nothing_told : tells shown x.content ≡ false → TellsNothing caller e shown x.content
   nothing_told none = tells_nothing x.content caller e shown none
 
-  -- the exchange is open then, as it was
+  -- the exchange is still open then
   record IsOpenThen : Type 0 where
     now : Exchange
     known_then : exchange after e ≡ Some now
@@ -180,9 +181,9 @@ module _ (v : TransmitValue) (w : World) (bodies : ℕ → FrameValue) (h : Stan
   still_open : IsOpenThen
   still_open = open_then (tells shown x.content) refl
 
-  -- its Done leaves who is ready elsewhere
+  -- its Done changes no readiness elsewhere
   told_ready : (i : ℕ) (c : Class) → (i ≡ x.station → class_of x.tid ≡ c → ⊥) →
-      is_ready (step after (done_told e shown air x.content)).world c i ≡ is_ready w c i
+      is_ready (step after (done_inferred e shown air x.content)).world c i ≡ is_ready w c i
   told_ready i c other =
       let o : IsOpenThen = still_open in
       ready_ended after e (tells shown x.content) air o.now stands_after.reached o.known_then i c
@@ -208,13 +209,13 @@ module _ (v : TransmitValue) (w : World) (bodies : ℕ → FrameValue) (h : Stan
         (sym (told_nothing w caller e shown x.content n))
         (done.none_shown w bodies x h known n.data_is n.none)
 
-    pub told_meets : Meets after bodies (done_told e shown air x.content) u
+    pub told_meets : Meets after bodies (done_inferred e shown air x.content) u
         (reply_of_result ended_reply result)
     told_meets = meets_as (tells shown x.content) refl
 
 -- ---- whatever was heard
 
--- where its end is refused, it is answered so, and nothing changes
+-- a refused end is answered by the refusal, and changes nothing
 refused_result : (v u : TransmitValue) (e : ℕ) (air : Option ℕ) (r : Result Ended Refusal) (why : Refusal) →
     end_refusal v e air ≡ Some why → is_ok r ≡ is_none (end_refusal v e air) →
     IfErr r (λ reason. (end_refusal v e air ≡ Some reason) × (u ≡ v)) →
@@ -275,7 +276,8 @@ module _ (v u : TransmitValue) (w : World) (bodies : ℕ → FrameValue) (h : St
 
       either : (bad : Bool) → is_bad_air w.config air ≡ bad →
           MeetsUnheard bodies (if bad then step w (Asked (Done e false air))
-          else step (after_told w caller e shown_of_x x.content) (done_told e shown_of_x air x.content)) u
+          else step (after_inferred w caller e shown_of_x x.content)
+          (done_inferred e shown_of_x air x.content)) u
           (reply_of_result ended_reply result)
       either true bad = lost_meets (bad_meets x known bad)
       either false fine =
@@ -291,7 +293,7 @@ module _ (v u : TransmitValue) (w : World) (bodies : ℕ → FrameValue) (h : St
       (reply_of_result ended_reply result)
   meets_unheard caller = by_case caller heard (exchange w e) refl refl
 
--- ---- who is ready
+-- ---- readiness
 
 module _ (v : TransmitValue) (w : World) (bodies : ℕ → FrameValue) (h : StandsFor v w bodies)
     (un : IsUnheard w) (caller e : ℕ) (x : Exchange)
@@ -306,7 +308,8 @@ module _ (v : TransmitValue) (w : World) (bodies : ℕ → FrameValue) (h : Stan
 
       either : (bad : Bool) → is_bad_air w.config air ≡ bad →
           is_ready (if bad then step w (Asked (Done e false air))
-          else step (after_told w caller e shown_of_x x.content) (done_told e shown_of_x air x.content)).world
+          else step (after_inferred w caller e shown_of_x x.content)
+          (done_inferred e shown_of_x air x.content)).world
           c i ≡ is_ready w c i
       either true bad = ready_ended w e false air x h.reached known i c other
       either false fine = told_ready v w bodies h un e x known score caller air fine i c other
@@ -321,7 +324,7 @@ module _ (v u : TransmitValue) (w : World) (bodies : ℕ → FrameValue) (h : St
     (un : IsUnheard w)
     (e : ℕ) (heard : Option (ℕ × List ℕ)) (air : Option ℕ) (result : Result Ended Refusal)
     (done : IsAfterDone v u e heard air result) (i : ℕ) (c : Class) where
-  -- an open exchange is elsewhere than station i in class c
+  -- the open exchange is not of station i in class c
   abbrev IsElsewhere : Option Open → Type 0
   IsElsewhere o = IfSome o (λ x. i ≡ x.station → class_of x.tid ≡ c → ⊥)
 

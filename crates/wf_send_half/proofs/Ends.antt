@@ -1,9 +1,10 @@
--- An exchange that is open ends: what the half finds of it, and what is left once its numbers are settled.
+-- Proves that an open exchange of the half can end, and that the half then represents the world after
+-- the Done. By cases of the exchange, which sends data or a request.
 use Rattle.std.proofs.Common.{◌≡◌, refl, ap, ap₂, sym, ◌∙◌, subst, arith, ℕ, ◌+◌, ◌-◌, ◌<◌, ◌≤◌, ◌%◌, ◌==◌, Bool, true, false, not, cond, List, [], ◌∷◌, map, length, Option, Some, None, is_some, unwrap_or, max, eq-eqb}
 use Rattle.std.specs.Prelude.{count_by, sum_by}
 use Rattle.std.proofs.lemmas.Bool.{or_left}
 use Rattle.std.proofs.lemmas.List.{length-map}
-use Rattle.wf_frame.specs.declared.notes.ReplyNote.TheVariants.{Ended as Ends}
+use Rattle.wf_frame.specs.declared.notes.ReplyNote.TheVariants.{Done as Ends}
 use Rattle.wf_frame.specs.Frames.{FrameValue}
 use Rattle.wf_def_agreement.specs.Session.{Session, Slot, State, no_slot, slot, start_of, next_number, is_settled, is_acknowledged, is_waiting, is_failed}
 use Rattle.wf_def_lists.specs.Table.{at, has}
@@ -33,19 +34,19 @@ use Rattle.wf_send_parts.specs.Ending.{Ending, IsFlyingIn, AreFlying}
 use Rattle.wf_send_parts.proofs.Ends.{still_fly}
 use Rattle.wf_send_parts.specs.declared.exchanges.opened.Open.{Open}
 use Rattle.wf_send_parts.specs.declared.exchanges.opened.Sending.TheVariants.{Data, Request as Starts_at}
-use Rattle.wf_send_half_refines.specs.Half.{TransmitValue}
-use Rattle.wf_send_half_refines.specs.Standing.{sending_of, open_of, numbers_on_air, Parts, StandsFor}
-use Rattle.wf_send_half_refines.specs.Ending.{after_close, ending_of, IsEnding}
-use Rattle.wf_send_half_refines.specs.Views.{Agreements}
-use Rattle.wf_send_half_refines.proofs.Reached.{by_law}
-use Rattle.wf_send_half_refines.proofs.Dropping.{held_counted, finished_known}
-use Rattle.wf_send_half_refines.proofs.Leavings.{HasPlace, has_place}
-use Rattle.wf_send_half_refines.proofs.Endings.{found, begins, of_windows, open_live, closed_agreements}
-use Rattle.wf_send_half_refines.proofs.Dones.{data_world, done_reply, pending, request_tid, unheard_parts, heard_parts}
+use Rattle.wf_send_half_model.specs.Half.{TransmitValue}
+use Rattle.wf_send_half_model.specs.Standing.{sending_of, open_of, numbers_on_air, Parts, StandsFor}
+use Rattle.wf_send_half_model.specs.Ending.{after_close, ending_of, IsEnding}
+use Rattle.wf_send_half_model.specs.Views.{Agreements}
+use Rattle.wf_send_half_model.proofs.Reached.{by_law}
+use Rattle.wf_send_half_model.proofs.Dropping.{held_counted, finished_known}
+use Rattle.wf_send_half_model.proofs.Leavings.{HasPlace, has_place}
+use Rattle.wf_send_half_model.proofs.Endings.{found, begins, of_windows, open_live, closed_agreements}
+use Rattle.wf_send_half_model.proofs.Dones.{data_world, done_reply, pending, request_tid, unheard_parts, heard_parts}
 use Rattle.wf_law_driver.proofs.Shown.{settles_alike}
 use Rattle.wf_send_half.specs.Bits.{is_shown, CanFinish, IsToSettle, ended_reply, GoesBy}
-use Rattle.wf_send_half_refines.specs.Pulling.{is_wide_of}
-use Rattle.wf_send_half_refines.proofs.Pulls.{wide_same}
+use Rattle.wf_send_half_model.specs.Pulling.{is_wide_of}
+use Rattle.wf_send_half_model.proofs.Pulls.{wide_same}
 use Rattle.wf_send_half.specs.Counts.{AreCounted}
 use Rattle.wf_send_half.specs.declared.finish.Ended.{Ended}
 
@@ -91,7 +92,7 @@ in_session w s t =
 
 -- ---- an exchange of data
 
--- what it sends, as the world has it
+-- its transmissions in the world
 pub record IsData (c : Content) (numbers : List ℕ) : Type 0 where
   pub mpdus : List Mpdu
   pub content : c ≡ Frames mpdus
@@ -101,7 +102,7 @@ pub is_data : (c : Content) (numbers : List ℕ) → sending_of c ≡ Data numbe
 is_data (Frames mpdus) numbers e = record { mpdus = mpdus; content = refl; air = cc e }
 is_data (Request start) numbers e = absurd (cc e)
 
--- what a request sends
+-- the transmission of a request
 pub record IsRequest (c : Content) (seq : ℕ) : Type 0 where
   pub start : ℕ
   pub content : c ≡ Request start
@@ -152,7 +153,7 @@ module _ (v : TransmitValue) (w : World) (bodies : ℕ → FrameValue) (h : Stan
         subst (λ (l : List Mpdu). 1 ≤ length l) content_is
         (found HasSome w.opened e x known sent (ap is_request sends.content))
 
-    -- its numbers begin to be settled
+    -- the settling of its numbers begins
     pub begun : (acked : ℕ → Bool) →
         IsEnding (after_close v (open_of x) (charge_of air x)) closed bodies x.station x.tid
         x.number acked ms (with_all_settled closed x.station x.tid acked ms)
@@ -210,7 +211,7 @@ module _ (v : TransmitValue) (w : World) (bodies : ℕ → FrameValue) (h : Stan
               (omega (arith, adds, held_counted w, room.placed, total, few));
         }
 
-    -- what its numbers leave is what the machine's Done leaves
+    -- after its numbers are settled, the half represents the world after the Done
     module _ (z : TransmitValue) (ended : Ended) (heard : Option (ℕ × List ℕ)) (answered : Bool)
         (alike : EachMpdu (λ m. is_acked answered x.answer m.number
         ≡ is_shown (is_wide w x.station x.tid) heard m.number) (mpdus_of x.content)) where
@@ -314,7 +315,7 @@ module _ (v : TransmitValue) (w : World) (bodies : ℕ → FrameValue) (h : Stan
         (record (after_close v (open_of x) (charge_of air x)) { windows = l })
         (done_outcome w x true air).world bodies) (sym others) there)
 
-  -- ---- of the half that was just closed, and of what it kept of the exchange
+  -- ---- for the half after the exchange is closed, and its entry of the exchange
 
   module _ (self : TransmitValue) (o : Open) (same : o ≡ open_of x)
       (closed_is : self ≡ after_close v o (charge_of air

@@ -1,4 +1,4 @@
--- A frame comes in: how many frames there may be, when it is refused, and what it leaves.
+-- Proves the clauses of an enqueue: the bounds of the numbers of frames, the refusals, and the half after it.
 use Rattle.std.proofs.Common.{◌≡◌, refl, ap, ap₂, sym, ◌∙◌, subst, arith, ℕ, ◌+◌, ◌<◌, ◌≤◌, Bool, true, ◌&&◌, List, [], ◌∷◌, length, Option, Some, None, if◌then◌else◌}
 use Rattle.std.specs.Prelude.{nat_le}
 use Rattle.wf_frame.specs.Classes.{class_of, tid_number}
@@ -14,28 +14,27 @@ use Rattle.wf_def_lists.specs.Lengths.{greatest_body}
 use Rattle.wf_def_rotation.specs.Rotation.{in_order}
 use Rattle.wf_def_world.specs.World.{World, is_live, inside}
 use Rattle.wf_def_world.specs.Refusals.{first_refusal, refusal, queued_in_class, sleeps_full}
-use Rattle.wf_def_world.specs.Step.{step}
 use Rattle.wf_queue_flows.specs.Backlog.{in_queues, held_in_backlog}
 use Rattle.wf_send_parts.specs.Tally.{Counts, one_accepted}
 use Rattle.wf_queue_flows.specs.Flows.{FlowsValue, SettingsValue, tid_rotation, frames_of_tid, dropped_for_limit, after_put}
 use Rattle.wf_queue_flows.proofs.Waiting.{waiting_few}
 use Rattle.wf_queue_flows_refines.specs.Frames.{with_body}
 use Rattle.wf_queue_flows_refines.proofs.Readers.{same_total}
-use Rattle.wf_octets.specs.Sleepers.{sleeper}
-use Rattle.wf_send_half_refines.specs.Half.{TransmitValue}
-use Rattle.wf_send_half_refines.specs.Standing.{StandsFor, Meets}
-use Rattle.wf_send_half_refines.specs.Changes.{after_listing_in, after_enqueue}
-use Rattle.wf_send_half_refines.specs.Counting.{with_overlimit}
-use Rattle.wf_send_half_refines.proofs.Dropping.{finished_known}
-use Rattle.wf_send_half_refines.proofs.Enqueues.{enqueue_meets}
-use Rattle.wf_send_half_refines.proofs.Leavings.{HasPlace, has_place}
-use Rattle.wf_send_half_refines.proofs.Readers.{class_queued_same}
+use Rattle.wf_send_parts.specs.Sleepers.{sleeper}
+use Rattle.wf_send_half_model.specs.Half.{TransmitValue}
+use Rattle.wf_send_half_model.specs.Standing.{StandsFor, Meets}
+use Rattle.wf_send_half_model.specs.Changes.{after_listing_in, after_enqueue}
+use Rattle.wf_send_half_model.specs.Counting.{with_overlimit}
+use Rattle.wf_send_half_model.proofs.Dropping.{finished_known}
+use Rattle.wf_send_half_model.proofs.Enqueues.{enqueue_meets}
+use Rattle.wf_send_half_model.proofs.Leavings.{HasPlace, has_place}
+use Rattle.wf_send_half_model.proofs.Readers.{class_queued_same}
 use Rattle.wf_send_half.specs.Enqueues.{enqueue_of, as_accepted, queued_in_class_of}
 use Rattle.wf_send_half.specs.Half.{HasWorld}
 use Rattle.wf_send_half.proofs.Rows.{last_row, asleep_same, refused_call}
 use Rattle.wf_send_half.proofs.Worlds.{met_by}
 
--- ---- how many frames there may be
+-- ---- bounds of the numbers of frames
 
 module _ (v : TransmitValue) (h : HasWorld v) where
   abbrev placed : HasPlace h.world.config.room h.world
@@ -63,7 +62,7 @@ module _ (v : TransmitValue) (h : HasWorld v) where
         (in_order (tid_rotation v.flows i)) (h.stands.parts.others.flows.once i),
   )
 
-  -- where fewer are inside than there is room for, so are those that are queued and finished
+  -- if fewer frames are inside than there is room for, so are the queued and the finished ones
   pub held_few : v.inside < v.config.room → held_in_backlog v.flows.backlog < v.flows.backlog.room
   held_few low =
       omega (
@@ -77,7 +76,7 @@ module _ (v : TransmitValue) (h : HasWorld v) where
         finished_known v.flows h.world h.stands.parts.others.flows,
       )
 
--- ---- when it is refused
+-- ---- refusals
 
 module _ (v : TransmitValue) (w : World) (bodies : ℕ → FrameValue) (h : StandsFor v w bodies) where
   -- the rows of the room, and of the frames that wait for a sleeper
@@ -119,7 +118,7 @@ module _ (v : TransmitValue) (w : World) (bodies : ℕ → FrameValue) (h : Stan
       ∙ last_row _ _ _ refl
       ∙ sym (sleeping_row s (class_of t) live)
 
--- the same of a frame, by its station and its TID
+-- the same for a frame, by its station and its TID
 pub of_frame : (w : World) (f : FrameValue) (s t : ℕ) (o : Option Refusal) → s ≡ f.station → t ≡ f.tid →
     o ≡ refusal w (Enqueue s t f.flow (length f.body)) → o ≡ refusal w (enqueue_of f)
 of_frame w f s t o to tid is = is ∙ ap₂ (λ (i k : ℕ). refusal w (Enqueue i k f.flow (length f.body))) to tid
@@ -130,9 +129,9 @@ pub enqueue_refused : (v : TransmitValue) (w : World) (bodies : ℕ → FrameVal
 enqueue_refused v w bodies h f r is = refused_call v w bodies (enqueue_of f) r
     (λ e. cc e, (λ e. cc e, (λ e. cc e, (λ e. cc e, (λ e. cc e, tt))))) h is
 
--- ---- what it leaves
+-- ---- the half after it
 
--- x is what the fields of the half v are
+-- x is the value of the fields of the half v
 pub accepted_is : (v x : TransmitValue) → x ≡ v →
     (f p : FrameValue) (s : ℕ) (c : Class) (flows : FlowsValue) (dropped : Option ℕ) (counts : Counts)
     (y : TransmitValue) →
@@ -166,12 +165,3 @@ enqueue_done v w bodies h f y id dropped is next loses source len done =
     (after_listing_in (after_enqueue v (as_accepted v f)) f.station (class_of f.tid)) x)
     (sym (ap₂ (λ (k : ℕ) (o : Option ℕ). Accepted k o) next loses))
     (enqueue_meets v w bodies h (as_accepted v f) (sym done) refl refl source refl len.0 len.1))
-
-pub enqueue_kept : (v : TransmitValue) (f : FrameValue) (y : TransmitValue) (reply : ReplyNote) →
-    ((w : World) (bodies : ℕ → FrameValue) → StandsFor v w bodies →
-    Meets w (with_body bodies (as_accepted v f)) (enqueue_of f) y reply) → HasWorld v → HasWorld y
-enqueue_kept v f y reply meets h = record {
-  world = (step h.world (enqueue_of f)).world;
-  bodies = with_body h.bodies (as_accepted v f);
-  stands = (meets h.world h.bodies h.stands).stands;
-}

@@ -1,4 +1,4 @@
--- An aggregate is filled, one number after the other.
+-- Proves the filling of an aggregate, number by number: waiting numbers, then fresh frames.
 use Rattle.std.proofs.Common.{◌≡◌, refl, ap, sym, ◌∙◌, subst, arith, ℕ, ◌+◌, ◌%◌, ◌<◌, ◌≤◌, ◌&&◌, nat_le, nat_lt, Bool, true, false, if◌then◌else◌, List, [], ◌∷◌, ◌++◌, length, map, Option, Some, None, option_map}
 use Rattle.std.proofs.lemmas.List.{length-map, length-append}
 use Rattle.std.proofs.lemmas.Bool.Decides.{nat_tests}
@@ -7,24 +7,24 @@ use Rattle.wf_def_air.specs.Fit.{fits}
 use Rattle.wf_def_agreement.specs.Session.{Session, slot, start_of, next_number, with_number_given}
 use Rattle.wf_def_world.specs.World.{World, Mpdu, session, codel_params}
 use Rattle.wf_def_world.specs.Exchanges.{Aggregate, aggregate_of, lens_of, mpdu_of}
-use Rattle.wf_air.specs.Rooms.{RoomValue, RoomStandsFor as RoomStandsFor}
+use Rattle.wf_air.specs.Sizes.{AggregateSizeValue, SizeStandsFor as SizeStandsFor}
 use Rattle.wf_frame.specs.Classes.{tid_number}
 use Rattle.wf_queue_flows.specs.Flows.{frames_of_tid}
-use Rattle.wf_octets.specs.Sleepers.{sleeper}
+use Rattle.wf_send_parts.specs.Sleepers.{sleeper}
 use Rattle.wf_send_parts.specs.Listing.{IsListedNext}
 use Rattle.wf_send_parts.specs.Window.{WindowStandsFor as WindowStandsFor, IsNumber, can_take, on_air, waiting_from}
 use Rattle.wf_send_parts.proofs.Listing.{listing_next}
 use Rattle.wf_send_parts.specs.Windows.{window_of}
-use Rattle.wf_send_half_refines.specs.Half.{TransmitValue}
-use Rattle.wf_send_half_refines.specs.Filling.{IsToFill, IsChoosing, IsFilling, IsFilled, after_giving}
-use Rattle.wf_send_half_refines.proofs.Asked.{params_read}
-use Rattle.wf_send_half_refines.proofs.Fills.{choosing_ends, choosing_len, choosing_next, choosing_stops}
-use Rattle.wf_send_half_refines.proofs.Gives.{fresh_own, fresh_goes_on, fresh_stops}
+use Rattle.wf_send_half_model.specs.Half.{TransmitValue}
+use Rattle.wf_send_half_model.specs.Filling.{IsToFill, IsChoosing, IsFilling, IsFilled, after_giving}
+use Rattle.wf_send_half_model.proofs.Asked.{params_read}
+use Rattle.wf_send_half_model.proofs.Fills.{choosing_ends, choosing_len, choosing_next, choosing_stops}
+use Rattle.wf_send_half_model.proofs.Gives.{fresh_own, fresh_goes_on, fresh_stops}
 use Rattle.wf_send_half.specs.Pulls.{most_of, IsSameButFrames, HasTurn, AggregateGoesOn, HasLens, IsGivenNumber}
 
--- ---- how many there are
+-- ---- the number of frames
 
-pub choosing_lens : (room : RoomValue) (numbers : List ℕ) (from : ℕ) (w : World) (s t : ℕ) →
+pub choosing_lens : (room : AggregateSizeValue) (numbers : List ℕ) (from : ℕ) (w : World) (s t : ℕ) →
     IsChoosing room numbers from w s t → room.agg ≤ 256 → HasLens room numbers
 choosing_lens room numbers from w s t h few = record {
   lens = lens_of (map (mpdu_of w s t) h.chosen);
@@ -39,8 +39,9 @@ choosing_lens room numbers from w s t h few = record {
   few = few;
 }
 
--- a room takes at most 256 frames
-pub few_most : (v : TransmitValue) (s : ℕ) (room : RoomValue) → room.agg ≡ most_of v s → v.config.agg ≤ 256 →
+-- an aggregate has at most 256 frames
+pub few_most : (v : TransmitValue) (s : ℕ) (room : AggregateSizeValue) → room.agg ≡ most_of v s →
+    v.config.agg ≤ 256 →
     room.agg ≤ 256
 few_most v s room is few = subst (λ (n : ℕ). n ≤ 256) (sym is) (at (sleeper v.sleepers s).asleep)
   where
@@ -48,9 +49,9 @@ few_most v s room is few = subst (λ (n : ℕ). n ≤ 256) (sym is) (at (sleeper
     at true = omega arith
     at false = few
 
--- where one more fits, there are fewer numbers than an aggregate takes at most
-pub few_chosen : (room : RoomValue) (numbers : List ℕ) (from : ℕ) (w : World) (s t : ℕ) →
-    IsChoosing room numbers from w s t → room.agg ≤ 256 → (len : ℕ) → ((ls : List ℕ) → RoomStandsFor room ls →
+-- if one more fits, the aggregate has fewer numbers than its greatest number
+pub few_chosen : (room : AggregateSizeValue) (numbers : List ℕ) (from : ℕ) (w : World) (s t : ℕ) →
+    IsChoosing room numbers from w s t → room.agg ≤ 256 → (len : ℕ) → ((ls : List ℕ) → SizeStandsFor room ls →
     true ≡ fits room.rate room.exponent room.agg room.cap (ls ++ len ∷ [])) → length numbers < 256
 few_chosen room numbers from w s t h few len exact =
     let lens : HasLens room numbers = choosing_lens room numbers from w s t h few in
@@ -62,14 +63,19 @@ few_chosen room numbers from w s t h few len exact =
     first_of true b e = refl
     first_of false b e = absurd (cc e)
 
-pub same_agg : (room more : RoomValue) → more ≡ record room { count = more.count; octets = more.octets } →
+pub same_agg : (room more : AggregateSizeValue) → more ≡ record room {
+  count = more.count;
+  octets =
+      more.octets;
+} →
     more.agg ≡ room.agg
-same_agg room more kept = ap (λ (r : RoomValue). r.agg) kept
+same_agg room more kept = ap (λ (r : AggregateSizeValue). r.agg) kept
 
 -- ---- waiting numbers
 
 module _ (v : TransmitValue) (w : World) (bodies : ℕ → FrameValue) (s t : ℕ) (to : IsToFill v w bodies s t)
-    (room : RoomValue) (numbers : List ℕ) (from : ℕ) (so_far : IsChoosing room numbers from w s t) where
+    (room : AggregateSizeValue) (numbers : List ℕ) (from : ℕ)
+    (so_far : IsChoosing room numbers from w s t) where
   abbrev y : Session
   y = session w s t
 
@@ -99,18 +105,18 @@ module _ (v : TransmitValue) (w : World) (bodies : ℕ → FrameValue) (s t : �
       abbrev lens : List ℕ
       lens = lens_of (map (mpdu_of w s t) so_far.chosen)
 
-      pub waiting_goes_on : (more : RoomValue) → ((ls : List ℕ) → RoomStandsFor room ls →
+      pub waiting_goes_on : (more : AggregateSizeValue) → ((ls : List ℕ) → SizeStandsFor room ls →
           true ≡ fits room.rate room.exponent room.agg room.cap (ls ++ len ∷ [])) →
-          ((ls : List ℕ) → RoomStandsFor room ls → RoomStandsFor more (ls ++ len ∷ [])) →
+          ((ls : List ℕ) → SizeStandsFor room ls → SizeStandsFor more (ls ++ len ∷ [])) →
           more ≡ record room { count = more.count; octets = more.octets } →
           IsChoosing more (numbers ++ seq ∷ []) ((seq + 1) % 4096) w s t
       waiting_goes_on more exact taken kept =
           choosing_next v w bodies s t to room numbers from so_far seq next more
           (ap (λ (n : ℕ). fits room.rate room.exponent room.agg room.cap (lens ++ n ∷ [])) (sym len_is)
           ∙ sym (exact lens so_far.room_is.lens)) kept
-          (subst (λ (n : ℕ). RoomStandsFor more (lens ++ n ∷ [])) len_is (taken lens so_far.room_is.lens))
+          (subst (λ (n : ℕ). SizeStandsFor more (lens ++ n ∷ [])) len_is (taken lens so_far.room_is.lens))
 
-      pub waiting_ends : ((ls : List ℕ) → RoomStandsFor room ls →
+      pub waiting_ends : ((ls : List ℕ) → SizeStandsFor room ls →
           false ≡ fits room.rate room.exponent room.agg room.cap (ls ++ len ∷ [])) →
           IsFilled v bodies s t room numbers (aggregate_of w s t)
       waiting_ends exact =
@@ -129,7 +135,7 @@ module _ (v : TransmitValue) (w : World) (bodies : ℕ → FrameValue) (s t : �
 
 -- ---- fresh frames
 
--- a frame is queued and the window takes one, or one of both fails
+-- a frame is queued and the window has room, or not
 pub both_give : {n : ℕ} {takes : Bool} → 0 < n → takes ≡ true → (nat_lt 0 n && takes) ≡ true
 both_give some e = grind (arith, nat_tests)
 
@@ -140,7 +146,8 @@ takes_none false takes e = refl
 pub none_queued : (n : ℕ) (takes : Bool) → n ≡ 0 → (nat_lt 0 n && takes) ≡ false
 none_queued n takes e = subst (λ (k : ℕ). (nat_lt 0 k && takes) ≡ false) (sym e) refl
 
-module _ (v : TransmitValue) (bodies : ℕ → FrameValue) (s t : ℕ) (room : RoomValue) (numbers : List ℕ)
+module _ (v : TransmitValue) (bodies : ℕ → FrameValue) (s t : ℕ) (room : AggregateSizeValue)
+    (numbers : List ℕ)
     (after : Aggregate) (h : AggregateGoesOn v bodies s t room numbers after)
     (few : length numbers < room.agg)
     (gives : (nat_lt 0 (frames_of_tid v.flows (tid_number s t)) && can_take (window_of v.windows s t)) ≡ true)
@@ -160,9 +167,9 @@ module _ (v : TransmitValue) (bodies : ℕ → FrameValue) (s t : ℕ) (room : R
       WindowStandsFor given.window (with_number_given (session h.world s t) given.frame.id) bodies
   stays = given.waits (session h.world s t) bodies (left.parts.windows.all.stands s t left.live left.tid) own
 
-  pub goes_on_fresh : (more : RoomValue) → ((ls : List ℕ) → RoomStandsFor room ls →
+  pub goes_on_fresh : (more : AggregateSizeValue) → ((ls : List ℕ) → SizeStandsFor room ls →
       true ≡ fits room.rate room.exponent room.agg room.cap (ls ++ len ∷ [])) →
-      ((ls : List ℕ) → RoomStandsFor room ls → RoomStandsFor more (ls ++ len ∷ [])) →
+      ((ls : List ℕ) → SizeStandsFor room ls → SizeStandsFor more (ls ++ len ∷ [])) →
       more ≡ record room { count = more.count; octets = more.octets } →
       AggregateGoesOn u bodies s t more (numbers ++ number ∷ []) after
   goes_on_fresh more exact taken kept =
@@ -176,11 +183,11 @@ module _ (v : TransmitValue) (bodies : ℕ → FrameValue) (s t : ℕ) (room : R
             given.frame given.out given.window given.room stays.1 few gives more
             (ap (λ (n : ℕ). fits room.rate room.exponent room.agg room.cap (lens_of h.mpdus ++ n ∷ []))
             (sym given.octets) ∙ sym (exact (lens_of h.mpdus) left.room_is.lens)) kept
-            (subst (λ (n : ℕ). RoomStandsFor more (lens_of h.mpdus ++ n ∷ [])) given.octets
+            (subst (λ (n : ℕ). SizeStandsFor more (lens_of h.mpdus ++ n ∷ [])) given.octets
             (taken (lens_of h.mpdus) left.room_is.lens));
       }))
 
-  pub ends_fresh : ((ls : List ℕ) → RoomStandsFor room ls →
+  pub ends_fresh : ((ls : List ℕ) → SizeStandsFor room ls →
       false ≡ fits room.rate room.exponent room.agg room.cap (ls ++ len ∷ [])) →
       IsFilled u bodies s t room numbers after
   ends_fresh exact =
@@ -190,7 +197,8 @@ module _ (v : TransmitValue) (bodies : ℕ → FrameValue) (s t : ℕ) (room : R
       (ap (λ (n : ℕ). fits room.rate room.exponent room.agg room.cap (lens_of h.mpdus ++ n ∷ []))
       (sym given.octets) ∙ sym (exact (lens_of h.mpdus) left.room_is.lens)))
 
-pub turn_of : (v : TransmitValue) (bodies : ℕ → FrameValue) (s t : ℕ) (room : RoomValue) (numbers : List ℕ)
+pub turn_of : (v : TransmitValue) (bodies : ℕ → FrameValue) (s t : ℕ) (room : AggregateSizeValue)
+    (numbers : List ℕ)
     (after : Aggregate) → AggregateGoesOn v bodies s t room numbers after → HasTurn v s t
 turn_of v bodies s t room numbers after h = record {
   world = h.world;

@@ -1,4 +1,4 @@
--- The numbers of an aggregate take off, one after the other.
+-- Proves that the numbers of an aggregate fly after the loop, by induction over the numbers.
 use Rattle.std.proofs.Common.{◌≡◌, refl, ap, ap₂, sym, ◌∙◌, subst, arith, ℕ, zero, suc, ◌+◌, ◌%◌, ◌≤◌, Bool, false, is_some, List, [], ◌∷◌, ◌++◌, length, length-append, take, drop, Some}
 use Rattle.std.proofs.lemmas.List.{map-append, length-map, length-take}
 use Rattle.std.specs.Prelude.{slice_get}
@@ -9,19 +9,19 @@ use Rattle.wf_send_parts.specs.Window.{WindowValue, WindowStandsFor as WindowSta
 use Rattle.wf_send_parts.specs.Sent.{with_one_sent, with_all_sent}
 use Rattle.wf_send_parts.proofs.Sending.{all_sent_then}
 use Rattle.wf_send_parts.specs.Windows.{WindowsHaveRoom, window_of, with_window}
-use Rattle.wf_send_half_refines.specs.Half.{TransmitValue}
-use Rattle.wf_send_half_refines.specs.Standing.{numbers_on_air}
-use Rattle.wf_send_half_refines.specs.Filling.{IsTakingOff, IsFilled, IsToFill}
+use Rattle.wf_send_half_model.specs.Half.{TransmitValue}
+use Rattle.wf_send_half_model.specs.Standing.{numbers_on_air}
+use Rattle.wf_send_half_model.specs.Filling.{IsTakingOff, IsFilled, IsToFill}
 use Rattle.wf_def_air.specs.Airtime.{data_charge}
 use Rattle.wf_def_air.specs.Fit.{aggregate_octets}
-use Rattle.wf_air.specs.Rooms.{RoomValue, RoomStandsFor as RoomStandsFor}
+use Rattle.wf_air.specs.Sizes.{AggregateSizeValue, SizeStandsFor as SizeStandsFor}
 use Rattle.wf_def_world.specs.Exchanges.{Aggregate, aggregate_of, prepared_data, lens_of}
-use Rattle.wf_send_half_refines.proofs.Sends.{filled_charge}
-use Rattle.wf_send_half_refines.proofs.Flies.{off_begins, off_number, off_waits, off_frame, off_own, off_next}
+use Rattle.wf_send_half_model.proofs.Sends.{filled_charge}
+use Rattle.wf_send_half_model.proofs.Flies.{off_begins, off_number, off_waits, off_frame, off_own, off_next}
 use Rattle.wf_send_parts.proofs.Calls.{due_is}
 use Rattle.wf_send_half.specs.Pulls.{IsFlying, pairs_of, IsPreparedAs, IsPrepared, HasToPrepare}
 
--- the transmission at place i sends this number
+-- the transmission with index i has this number
 record IsAt (mpdus : List Mpdu) (i number : ℕ) : Type 0 where
   m : Mpdu
   rest : drop i mpdus ≡ m ∷ drop (suc i) mpdus
@@ -60,7 +60,7 @@ module _ (v : TransmitValue) (bodies : ℕ → FrameValue) (s t e : ℕ) (mpdus 
   k : IsAt mpdus i number
   k = is_at mpdus i number at
 
-  -- the frames once those before have counted it
+  -- the frames after those before have counted it
   abbrev sent : ℕ → FrameValue
   sent = with_all_sent pairs bodies
 
@@ -116,7 +116,7 @@ pub as_many : (mpdus : List Mpdu) (numbers : List ℕ) → numbers ≡ numbers_o
     length numbers ≡ length mpdus
 as_many mpdus numbers is = ap (length {A = ℕ}) is ∙ length-map mpdus (λ (m : Mpdu). on_air m.number)
 
--- as many pairs as places: all have taken off
+-- after the last index all numbers fly
 pub all_fly : (v : TransmitValue) (bodies : ℕ → FrameValue) (s t e : ℕ) (mpdus : List Mpdu) (after : World)
     (i : ℕ) (pairs : List (ℕ × ℕ)) → IsFlying v bodies s t e mpdus after i pairs → length pairs ≡ i →
     length mpdus ≤ i →
@@ -137,9 +137,10 @@ pub one_more_pair : (pairs more : List (ℕ × ℕ)) (p : ℕ × ℕ) (i : ℕ) 
 one_more_pair pairs more p i is count = omega
     (arith, ap (length {A = ℕ × ℕ}) is, length-append pairs (p ∷ []), count)
 
--- ---- an aggregate that is filled takes off
+-- ---- a filled aggregate flies
 
-module _ (v : TransmitValue) (bodies : ℕ → FrameValue) (s t : ℕ) (room : RoomValue) (numbers : List ℕ)
+module _ (v : TransmitValue) (bodies : ℕ → FrameValue) (s t : ℕ) (room : AggregateSizeValue)
+    (numbers : List ℕ)
     (a : Aggregate) (h : IsFilled v bodies s t room numbers a) where
   pub filled_off : IsTakingOff v a.world bodies s t v.exchanges a.mpdus (prepared_data s t a).world
   filled_off =
@@ -153,7 +154,7 @@ module _ (v : TransmitValue) (bodies : ℕ → FrameValue) (s t : ℕ) (room : R
   module _ (w : World) (is : aggregate_of w s t ≡ a) where
     pub filled_flies : (u : TransmitValue) (pairs : List (ℕ × ℕ)) (charge : ℕ) →
         IsFlying u bodies s t v.exchanges a.mpdus (prepared_data s t a).world (length a.mpdus) pairs →
-        ((lens : List ℕ) → RoomStandsFor room lens → charge
+        ((lens : List ℕ) → SizeStandsFor room lens → charge
         ≡ data_charge room.rate (aggregate_octets lens) room.wide) →
         IsPrepared u w bodies s t charge numbers pairs
     filled_flies u pairs charge flying air =
@@ -168,16 +169,16 @@ module _ (v : TransmitValue) (bodies : ℕ → FrameValue) (s t : ℕ) (room : R
           pairs_are = flying.pairs_are ∙ ap pairs_of (take_all a.mpdus);
         })
 
--- ---- what is prepared is an aggregate
+-- ---- an aggregate is prepared
 
--- no request is due where the half found none; x is what the fields of the half v are
+-- no request is due if the half found none; x is the value of the fields of the half v
 pub quiet_now : (x v : TransmitValue) → x ≡ v → (z : WindowValue) (s t : ℕ) → z ≡ window_of x.windows s t →
     (due : Bool) → due ≡ is_some z.due → due ≡ false → is_some (window_of v.windows s t).due ≡ false
 quiet_now x v same z s t at due read none =
     ap (λ (y : TransmitValue). is_some (window_of y.windows s t).due) (sym same)
     ∙ ap (λ (y : WindowValue). is_some y.due) (sym at) ∙ sym read ∙ none
 
--- so it is to fill an aggregate
+-- so the half fills an aggregate
 pub to_fill : (v : TransmitValue) (s t : ℕ) (h : HasToPrepare v s t) →
     is_some (window_of v.windows s t).due ≡ false → IsToFill v h.world h.bodies s t
 to_fill v s t h quiet = record {

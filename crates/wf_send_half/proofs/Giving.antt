@@ -1,4 +1,4 @@
--- A fresh frame gets its number in the middle of a pull.
+-- Proves the step of a pull in which a fresh frame gets its number.
 use Rattle.std.proofs.Common.{◌≡◌, ap, sym, ◌∙◌, subst, arith, ℕ, ◌+◌, ◌-◌, ◌%◌, ◌≤◌, List, length}
 use Rattle.wf_frame.specs.declared.classes.Cause.TheVariants.{Codel as By_codel}
 use Rattle.wf_frame.specs.declared.classes.Fate.TheVariants.{Dropped}
@@ -11,13 +11,13 @@ use Rattle.wf_send_parts.specs.Tally.{Counts, held_in, many_settled_as}
 use Rattle.wf_def_agreement.specs.Session.{Session, next_number, with_number_given}
 use Rattle.wf_send_parts.specs.Window.{WindowValue, WindowStandsFor as WindowStandsFor}
 use Rattle.wf_send_parts.specs.Windows.{WindowsHaveRoom, window_of, with_window}
-use Rattle.wf_send_half_refines.specs.Half.{TransmitValue}
-use Rattle.wf_send_half_refines.specs.Filling.{IsTurned}
-use Rattle.wf_send_half_refines.proofs.Asked.{params_read}
+use Rattle.wf_send_half_model.specs.Half.{TransmitValue}
+use Rattle.wf_send_half_model.specs.Filling.{IsTurned}
+use Rattle.wf_send_half_model.proofs.Asked.{params_read}
 use Rattle.wf_send_half.specs.Pulls.{HasTurn, IsParamsOf, IsTaken, IsGivenNumber}
 use Rattle.wf_send_half.proofs.Taking.{drops_are_held, counted_drops, took}
 
--- x is v once this frame is taken
+-- x is v after this frame is taken
 module _ (v x : TransmitValue) (s t : ℕ) (f : FrameValue) (taken : IsTaken v x s t f)
     (windows : List WindowValue) (others : windows ≡ with_window x.windows s t (window_of windows s t))
     (room : WindowsHaveRoom windows) where
@@ -48,8 +48,8 @@ module _ (v x : TransmitValue) (s t : ℕ) (f : FrameValue) (taken : IsTaken v x
         taken.is;
   }
 
--- a frame is taken out, those that CoDel dropped before it are counted, and it gets its number; x is what the
--- fields of the half v are
+-- a frame is taken out, those that CoDel dropped before it are counted, and it gets its number; x is the
+-- value of the fields of the half v
 module _ (x v : TransmitValue) (same : x ≡ v) (s t : ℕ) (turn : HasTurn v s t) (params : Params)
     (read : IsParamsOf v s params) (flows : FlowsValue) (f : FrameValue)
     (taken : TakeGives flows f (taken_for_tid x.flows (tid_number s t) x.clock params)) (dropped : ℕ)

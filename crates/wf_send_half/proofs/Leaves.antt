@@ -1,10 +1,10 @@
--- The steps of a leave, from what each does to the parts of the half.
+-- Proves the steps of a leave from what each does to the parts of the half.
 use Rattle.std.proofs.Common.{◌≡◌, ap, sym, ◌∙◌, subst, arith, ℕ, suc, ◌+◌, ◌<◌, ◌≤◌, ◌^◌, false, List, [], ◌∷◌, ◌++◌, length, Option, None, set}
 use Rattle.wf_frame.specs.declared.classes.Cause.TheVariants.{Left}
 use Rattle.wf_frame.specs.declared.classes.Fate.TheVariants.{Dropped}
 use Rattle.wf_frame.specs.declared.notes.Ask.TheVariants.{Leave}
 use Rattle.wf_frame.specs.declared.notes.Note.TheVariants.{Asked}
-use Rattle.wf_frame.specs.declared.notes.ReplyNote.TheVariants.{Gone}
+use Rattle.wf_frame.specs.declared.notes.ReplyNote.TheVariants as reply
 use Rattle.wf_frame.specs.Frames.{FrameValue}
 use Rattle.wf_def_agreement.specs.Session.{Session, State, slot, start_of, next_number, with_state}
 use Rattle.wf_def_world.specs.World.{World}
@@ -19,29 +19,29 @@ use Rattle.wf_send_parts.specs.Expelling.{frame_left}
 use Rattle.wf_send_parts.specs.Window.{WindowValue, WindowStandsFor as WindowStandsFor, some_fly}
 use Rattle.wf_send_parts.specs.Windows.{WindowsHaveRoom, window_of, with_window}
 use Rattle.wf_send_parts.specs.declared.stations.members.Member.{Member}
-use Rattle.wf_send_half_refines.specs.Half.{TransmitValue}
-use Rattle.wf_send_half_refines.specs.Leaving.{after_expelled, after_tid_purged, after_leave, IsLeaving, IsExpelling, IsExpelled}
-use Rattle.wf_send_half_refines.specs.Standing.{Meets}
-use Rattle.wf_send_half_refines.proofs.Leavings.{tid_begins, none_flies_now, within, room_for_one, frame_next, window_ends, tid_ends, expelled_few, left_few}
-use Rattle.wf_send_half_refines.proofs.Gone.{dropped_are_held, leave_meets}
+use Rattle.wf_send_half_model.specs.Half.{TransmitValue}
+use Rattle.wf_send_half_model.specs.Leaving.{after_expelled, after_tid_purged, after_leave, IsLeaving, IsExpelling, IsExpelled}
+use Rattle.wf_send_half_model.specs.Standing.{Meets}
+use Rattle.wf_send_half_model.proofs.Leavings.{tid_begins, none_flies_now, within, room_for_one, frame_next, window_ends, tid_ends, expelled_few, left_few}
+use Rattle.wf_send_half_model.proofs.Gone.{dropped_are_held, leave_meets}
 use Rattle.wf_send_half.specs.Leaving.{GivesFrames, SomeGives}
 use Rattle.wf_send_half.proofs.Worlds.{met_by}
 
 -- ---- a frame of a window
 
--- of a window in which some frames wait, the first one is p, and x is what is left
+-- p is the first frame of a window with frames, and x is the window without it
 abbrev pub GivesFirst : WindowValue → FrameValue → WindowValue → Type 0
 GivesFirst before p after = (z : Session) (bodies : ℕ → FrameValue) → WindowStandsFor before z bodies →
     (start_of z < next_number z)
     × (p ≡ frame_left bodies (slot z (start_of z))) ×
     WindowStandsFor after (with_state State.Acked (start_of z) z) bodies
 
--- a window in which none waits
+-- a window without frames
 abbrev pub GivesNone : WindowValue → WindowValue → Type 0
 GivesNone before after = (z : Session) (bodies : ℕ → FrameValue) → WindowStandsFor before z bodies →
     (next_number z ≡ start_of z) × WindowStandsFor after z bodies
 
--- x is what the fields of the half v are
+-- x is the value of the fields of the half v
 module _ (v x : TransmitValue) (same : x ≡ v) (s t : ℕ) where
   expelling_at : (before : TransmitValue) (w : World) (bodies : ℕ → FrameValue) (dropped : ℕ)
       (g : GivesFrames before w bodies s t v dropped) → IsExpelling before w bodies s t x g.frames dropped
@@ -118,7 +118,7 @@ one_more before v w bodies s t dropped count g =
     let e : (dropped + count) + 1 ≡ dropped + (count + 1) = omega arith in
     subst (λ (k : ℕ). GivesFrames before w bodies s t v k) e g
 
--- the frames that are dropped are few
+-- the number of dropped frames is bounded
 pub gives_few : (before v : TransmitValue) (w : World) (bodies : ℕ → FrameValue) (s t dropped : ℕ) →
     GivesFrames before w bodies s t v dropped → dropped < 2 ^ 32
 gives_few before v w bodies s t dropped g =
@@ -133,7 +133,7 @@ leaves_few before v w bodies s t dropped left =
 
 -- ---- the queues of a TID
 
--- x is what the fields of the half v are, whose window of TID t is empty
+-- x is the value of the fields of the half v, whose window of TID t is empty
 module _ (v x : TransmitValue) (same : x ≡ v) (s t : ℕ) where
   pub queues_purged : (flows : FlowsValue) (purged : ℕ) → flows ≡ after_purge x.flows (tid_number s t) →
       purged ≡ frames_of_tid x.flows (tid_number s t) →
@@ -162,7 +162,7 @@ module _ (v x : TransmitValue) (same : x ≡ v) (s t : ℕ) where
 
 -- ---- the end
 
--- all eight TIDs have left v, and x is what its fields are
+-- all eight TIDs have left v, and x is the value of its fields
 module _ (before v x : TransmitValue) (same : x ≡ v) (w : World) (bodies : ℕ → FrameValue) (s dropped : ℕ)
     (left : IsLeaving before w bodies s 8 v dropped) where
   left_at : IsLeaving before w bodies s 8 x dropped
@@ -176,10 +176,10 @@ module _ (before v x : TransmitValue) (same : x ≡ v) (w : World) (bodies : ℕ
       turns ≡ everywhere (without_turns s) x.sched → members ≡ set x.members s None →
       tally ≡ many_settled_as (Dropped Left) dropped x.tally →
       Meets w bodies (Asked (Leave s)) (record x { sched = turns; members = members; tally = tally })
-      (Gone dropped)
+      (reply.Left dropped)
   leave_done turns members tally room e f g =
       met_by (after_leave x s dropped) (record x { sched = turns; members = members; tally = tally }) w bodies
-      (Asked (Leave s)) (Gone dropped)
+      (Asked (Leave s)) (reply.Left dropped)
       (ap (λ (z : SchedValue). record x { sched = z; members = members; tally = tally }) e
       ∙ ap (λ (m : List (Option Member)). record x {
         sched = everywhere (without_turns s) x.sched;

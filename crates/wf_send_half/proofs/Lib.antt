@@ -2,7 +2,7 @@ mod Rows
 mod Polls
 mod Worlds
 mod Resets
-mod Calls
+mod CallSteps
 pub mod Openings
 mod Leaves
 mod Enqueues
@@ -15,3 +15,12 @@ mod Giving
 mod Filling
 mod Flying
 mod Pulling
+mod Listed
+mod FlagSteps
+mod Admissions
+mod Concerned
+mod Endings
+mod ToSend
+mod Tracked
+pub mod Kept
+pub mod Sends

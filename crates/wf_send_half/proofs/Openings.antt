@@ -1,4 +1,4 @@
--- A new half, from what its parts are.
+-- Proves the clauses of a new half from the values of its parts.
 use Rattle.std.proofs.Common.{◌≡◌, refl, ap, sym, ◌∙◌, subst, ℕ, ◌*◌, List, [], Option, None, replicate}
 use Rattle.std.proofs.lemmas.List.{length-replicate}
 use Rattle.wf_frame.specs.declared.settings.Config.{Config}
@@ -12,14 +12,14 @@ use Rattle.wf_send_parts.specs.Window.{WindowValue}
 use Rattle.wf_send_parts.specs.Windows.{new_window}
 use Rattle.wf_send_parts.specs.declared.exchanges.opened.Open.{Open}
 use Rattle.wf_send_parts.specs.declared.stations.members.Member.{Member}
-use Rattle.wf_octets.specs.declared.tim.sleepers.Sleeper.{Sleeper}
-use Rattle.wf_octets.specs.Sleepers.{awake}
-use Rattle.wf_send_half_refines.specs.Half.{TransmitValue, opening_half}
-use Rattle.wf_send_half_refines.specs.Standing.{StandsFor}
-use Rattle.wf_send_half_refines.proofs.Opening.{new_stands}
+use Rattle.wf_send_parts.specs.declared.stations.sleepers.Sleeper.{Sleeper}
+use Rattle.wf_send_parts.specs.Sleepers.{awake}
+use Rattle.wf_send_half_model.specs.Half.{TransmitValue, opening_half}
+use Rattle.wf_send_half_model.specs.Standing.{StandsFor}
+use Rattle.wf_send_half_model.proofs.Opening.{new_stands}
 use Rattle.wf_send_half.specs.Half.{HasSizes}
 
--- some frame, for the ids that are not accepted yet
+-- any frame, for the ids that are not accepted yet
 abbrev pub a_frame : FrameValue
 a_frame = new_frame 0 0 0 []
 

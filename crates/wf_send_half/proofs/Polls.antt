@@ -1,4 +1,4 @@
--- The class that a poll gets a credit of: the most urgent in which the station can send.
+-- Proves that a poll gets a credit for the most urgent class in which the station can send.
 use Rattle.std.proofs.Common.{◌≡◌, refl, ap, ap₂, sym, ◌∙◌, subst, ℕ, Bool, true, false, ◌||◌, List, [], ◌∷◌, Option, Some, None, if◌then◌else◌, inl, inr, arith}
 use Rattle.std.specs.Prelude.{find, unwrap_or}
 use Rattle.std.specs.List.{list_any}
@@ -38,7 +38,7 @@ module _ (p : ℕ → Bool) where
   some_of_eight Bk is = either (p 1) (p 2) (list_any_at p (upto 8) 1 0 (omega arith))
       (list_any_at p (upto 8) 2 0 (omega arith)) is
 
--- ---- the first class that passes
+-- ---- the first class that passes the test
 
 urgent : (a b d e : Bool) (c : Class) → (if a then Some Vo
     else (if b then Some Vi else (if d then Some Be else (if e then Some Bk else None)))) ≡ Some c →
@@ -86,7 +86,7 @@ module _ (q : Class → Bool) where
 
 -- ---- both together
 
--- what a half finds in each class is what the world's TIDs say
+-- the half's result in each class equals the result for the world's TIDs
 module _ (p : ℕ → Bool) (q : Class → Bool) (same : (c : Class) → q c ≡ of_class p c) where
   pub some_sends : (c : Class) → find q (Vo ∷ Vi ∷ Be ∷ Bk ∷ []) ≡ Some c → list_any p (upto 8) ≡ true
   some_sends c is = some_of_eight p c (sym (same c) ∙ found_passes q (Vo ∷ Vi ∷ Be ∷ Bk ∷ []) c is)

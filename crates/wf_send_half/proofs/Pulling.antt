@@ -1,4 +1,4 @@
--- A whole pull: the station that is picked sends what is prepared.
+-- Proves the clauses of a pull: the station that is picked sends a request, or an aggregate.
 use Rattle.std.proofs.Common.{◌≡◌, refl, ap, sym, ◌∙◌, subst, arith, ℕ, ◌<◌, ◌≤◌, ◌==◌, Bool, true, false, not, ◌||◌, if◌then◌else◌, List, [], length, Option, Some, None, IfSome, is_some, option_map, unwrap_or}
 use Rattle.std.specs.Prelude.{All, nat_le, count_by}
 use Rattle.std.proofs.lemmas.Bool.Decides.{nat_tests}
@@ -37,23 +37,23 @@ use Rattle.wf_send_parts.proofs.Calls.{due_is}
 use Rattle.wf_send_parts.specs.declared.stations.members.Member.{Member}
 use Rattle.wf_send_parts.specs.Members.{member, with_upper}
 use Rattle.wf_send_parts.specs.Windows.{window_of}
-use Rattle.wf_send_half_refines.specs.Half.{TransmitValue, can_send_of}
-use Rattle.wf_send_half_refines.specs.Standing.{IsMember, AreBoth, IsReached, Parts, StandsFor, Meets}
-use Rattle.wf_send_half_refines.specs.Changes.{after_listing_in}
-use Rattle.wf_send_half_refines.specs.Filling.{IsTurned}
-use Rattle.wf_send_half_refines.specs.Pulling.{sending_tid_of, after_turn, open_next, after_sending}
-use Rattle.wf_send_half_refines.proofs.Asked.{turn_sends, full_refused, idle_refused, not_refused}
-use Rattle.wf_send_half_refines.proofs.Meets.{refused_meets}
-use Rattle.wf_send_half_refines.proofs.Openings.{opens_above, opens_within}
-use Rattle.wf_send_half_refines.proofs.Pulls.{pick_parts, idle_pull}
-use Rattle.wf_send_half_refines.proofs.Reached.{by_law}
-use Rattle.wf_send_half_refines.proofs.Readers.{can_send_same, live_same, ready_same}
-use Rattle.wf_send_half_refines.proofs.Sends.{winner_live, turn_tid, turned, request_meets, data_meets}
+use Rattle.wf_send_half_model.specs.Half.{TransmitValue, can_send_of}
+use Rattle.wf_send_half_model.specs.Standing.{IsMember, AreBoth, IsReached, Parts, StandsFor, Meets}
+use Rattle.wf_send_half_model.specs.Changes.{after_listing_in}
+use Rattle.wf_send_half_model.specs.Filling.{IsTurned}
+use Rattle.wf_send_half_model.specs.Pulling.{sending_tid_of, after_turn, open_next, after_sending}
+use Rattle.wf_send_half_model.proofs.Asked.{turn_sends, full_refused, idle_refused, not_refused}
+use Rattle.wf_send_half_model.proofs.Meets.{refused_meets}
+use Rattle.wf_send_half_model.proofs.Openings.{opens_above, opens_within}
+use Rattle.wf_send_half_model.proofs.Pulls.{pick_parts, idle_pull}
+use Rattle.wf_send_half_model.proofs.Reached.{by_law}
+use Rattle.wf_send_half_model.proofs.Readers.{can_send_same, live_same, ready_same}
+use Rattle.wf_send_half_model.proofs.Sends.{winner_live, turn_tid, turned, request_meets, data_meets}
 use Rattle.wf_send_parts.specs.Sent.{with_all_sent}
 use Rattle.wf_send_half.specs.Replies.{bodies_sent}
 use Rattle.wf_send_half.specs.Pulls.{IsExponentSmall, IsSameButFrames, IsPreparedAs, TellsWhoIsReady, IsPickedInClass, HasToPrepare, IsRequestDue, IsData, IsPreparedFor, start_sent}
 
--- ---- what holds in the world of a run
+-- ---- facts about the worlds of a run
 
 apt_reached : (w : World) → IsReached w → IsApt w
 apt_reached w r =
@@ -159,7 +159,7 @@ module _ (v u : TransmitValue) (w : World) (bodies : ℕ → FrameValue) (s : �
     exponent_turned = subst (λ (z : TransmitValue). IsExponentSmall z s) (sym half_is)
         (turn_small picked_half s t c picked_within (exponent_small v w bodies h.stands s))
 
-    -- ---- what it sends
+    -- ---- its transmissions
 
     module _ (z : TransmitValue) (charge : ℕ) (pairs : List (ℕ × ℕ)) where
       request_sent : (start : ℕ) → IsRequestDue y z s t charge start →
@@ -219,14 +219,14 @@ module _ (v u : TransmitValue) (w : World) (bodies : ℕ → FrameValue) (s : �
           (sym brief_is)
           (part_sent sending k))
 
-    -- its number is past all that are open
+    -- its number is above those of all open exchanges
     pub opens_next : (z : TransmitValue) → IsSameButFrames y z → All (λ o. o.number < z.exchanges) z.opened
     opens_next z same =
         subst (λ (x : TransmitValue). All (λ o. o.number < x.exchanges) x.opened) (sym same)
         (subst (λ (x : TransmitValue). All (λ o. o.number < x.exchanges) x.opened) (sym half_is)
         (opens_above v w bodies h.stands))
 
--- ---- as many are open as may be
+-- ---- refused as Full
 
 few_open : (n m k : ℕ) → m < n → m ≡ k → nat_le n k ≡ false
 few_open n m k h e = grind (arith, nat_tests)
@@ -250,7 +250,7 @@ pull_full x v same w bodies h c n is full =
 
 -- ---- the pick
 
--- x is what the fields of the half v are
+-- x is the value of the fields of the half v
 module _ (x v : TransmitValue) (same : x ≡ v) (w : World) (bodies : ℕ → FrameValue)
     (stands : StandsFor v w bodies) (c : Class) (ready : List Bool) (told : TellsWhoIsReady v c ready) (n : ℕ)
     (count : n ≡ open_in x c) (less : n < x.config.inflight) where

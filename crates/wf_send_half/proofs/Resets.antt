@@ -1,4 +1,4 @@
--- The windows after all sessions of a station begin anew.
+-- Proves the windows after all sessions of a station are reset.
 use Rattle.std.proofs.Common.{◌≡◌, ◌≢◌, ap, sym, ◌∙◌, ℕ, ◌+◌, ◌*◌, ◌/◌, ◌%◌, ◌<◌, List, length, inl, inr, arith}
 use Rattle.std.specs.Prelude.{slice_index_or}
 use Rattle.std.proofs.lemmas.Bool.{cases_eq}
@@ -7,7 +7,7 @@ use Rattle.wf_def_lists.specs.Bounds.{greatest_window}
 use Rattle.wf_def_agreement.specs.Session.{new_session}
 use Rattle.wf_send_parts.specs.Window.{WindowValue, WindowStandsFor, fresh_window}
 use Rattle.wf_send_parts.specs.Windows.{WindowsHaveRoom, no_window, window_of}
-use Rattle.wf_send_half_refines.specs.Changes.{AreReset}
+use Rattle.wf_send_half_model.specs.Changes.{AreReset}
 
 module _ (before after : List WindowValue) (s size start : ℕ)
     (count : length after ≡ length before)

@@ -1,4 +1,4 @@
--- The rows of a refusal, one after the other: a test of the half refuses where the world's test does.
+-- Proves the refusals row by row: a test of the half refuses exactly if the test of the world does.
 use Rattle.std.proofs.Common.{◌≡◌, refl, ap, sym, ◌∙◌, ℕ, Bool, true, false, not, pos, ◌-ℤ◌, List, [], ◌∷◌, ◌++◌, Option, Some, None, if◌then◌else◌, is_some}
 use Rattle.std.specs.Prelude.{nat_le, int_lt, Result, Ok, Err, IfOk, IfErr}
 use Rattle.wf_frame.specs.Frames.{FrameValue}
@@ -15,11 +15,11 @@ use Rattle.wf_frame.specs.declared.notes.ReplyNote.TheVariants.{Refused}
 use Rattle.wf_def_world.specs.World.{World, is_live, station, share}
 use Rattle.wf_def_world.specs.Refusals.{first_refusal, is_bad_station, is_within, refusals, refusal}
 use Rattle.wf_send_parts.specs.Members.{member}
-use Rattle.wf_octets.specs.Sleepers.{sleeper}
-use Rattle.wf_send_half_refines.specs.Half.{TransmitValue}
-use Rattle.wf_send_half_refines.specs.Standing.{StandsFor, Meets}
-use Rattle.wf_send_half_refines.proofs.Readers.{live_same}
-use Rattle.wf_send_half_refines.proofs.Meets.{refused_meets}
+use Rattle.wf_send_parts.specs.Sleepers.{sleeper}
+use Rattle.wf_send_half_model.specs.Half.{TransmitValue}
+use Rattle.wf_send_half_model.specs.Standing.{StandsFor, Meets}
+use Rattle.wf_send_half_model.proofs.Readers.{live_same}
+use Rattle.wf_send_half_model.proofs.Meets.{refused_meets}
 
 -- ---- one row
 
@@ -37,7 +37,7 @@ row_refuses true true r given rows e is = is
 row_refuses true false r given rows e is = absurd (cc e)
 row_refuses false b r given rows e is = absurd (cc is)
 
--- a row that does not
+-- a row that passes
 pub row_passes : (a b : Bool) (r : Refusal) (rows : List (Bool × Refusal)) → b ≡ a →
     None ≡ (if a then Some r else None) → first_refusal ((b, r) ∷ rows) ≡ first_refusal rows
 unfolding first_refusal
@@ -51,7 +51,7 @@ module _ (v : TransmitValue) (w : World) (bodies : ℕ → FrameValue) (h : Stan
   pub bad_same : is_bad_station w s ≡ nat_le v.config.stations s
   bad_same = ap (λ (c : Config). nat_le c.stations s) (sym h.parts.others.config)
 
-  -- the rows of a station that is to be there
+  -- the rows about the station
   pub out_of_range : (rows : List (Bool × Refusal)) (r : Refusal) →
       Some r ≡ (if nat_le v.config.stations s then Some BadStation else None) →
       Some r ≡ first_refusal ((is_bad_station w s, BadStation) ∷ rows)
@@ -131,7 +131,7 @@ not_idle [] none r is = absurd (cc is)
 not_idle (row ∷ rows) none r is = neither_idle row.0 r row.1 (first_refusal rows) none.0
     (not_idle rows none.1 r) is
 
--- what is refused, but as Idle, leaves all as it is
+-- a refusal other than Idle changes nothing
 pub refused_call : (v : TransmitValue) (w : World) (bodies : ℕ → FrameValue) (note : Note) (r : Refusal) →
     NoIdle (refusals w note) → StandsFor v w bodies → Some r ≡ refusal w note →
     Meets w bodies note v (Refused r)
@@ -144,7 +144,7 @@ pub no_row_left : None ≡ first_refusal []
 unfolding first_refusal
 no_row_left = refl
 
--- the last check of a receive charge: who is not live is refused, and else the debt is still to be looked at
+-- the last check of a receive charge before the debt: a station that is not live is refused
 module _ (result : Result (Unit {0}) Refusal) (v : TransmitValue) (s : ℕ) (c : Class) (air : ℕ)
     (is : result_err result ≡ (if not (is_some (member v.members s)) then Some NoStation else None))
     (low : None ≡ (if nat_le v.config.stations s then Some BadStation else None))

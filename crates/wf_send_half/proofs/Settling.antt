@@ -1,4 +1,4 @@
--- The numbers of an aggregate are settled, one after the other.
+-- Proves the settling of an aggregate, number by number.
 use Rattle.std.proofs.Common.{◌≡◌, ◌≢◌, nat_le, length-append, append_assoc, append-nil, refl, ap, ap₂, sym, ◌∙◌, subst, arith, ℕ, suc, ◌+◌, ◌-◌, ◌<◌, ◌≤◌, nat_lt, Bool, true, false, ◌&&◌, cond, if◌then◌else◌, List, [], ◌∷◌, ◌++◌, map, take, get_or, length, Option, Some, None, inl, inr}
 use Rattle.std.specs.Prelude.{slice_get, count_by}
 use Rattle.std.proofs.lemmas.Bool.{cases_Bool}
@@ -24,16 +24,16 @@ use Rattle.wf_send_parts.specs.Window.{WindowValue, WindowStandsFor as WindowSta
 use Rattle.wf_send_parts.specs.Ending.{Ending, all_settled, HasLeft, IsSettledNext}
 use Rattle.wf_send_parts.specs.Windows.{WindowsHaveRoom, window_of, with_window}
 use Rattle.wf_send_parts.proofs.Ends.{ending_number, ending_flies}
-use Rattle.wf_send_half_refines.specs.Half.{TransmitValue}
-use Rattle.wf_send_half_refines.specs.Standing.{numbers_on_air, Parts}
-use Rattle.wf_send_half_refines.specs.Ending.{after_finish, after_answer, ending_of, IsEnding, state_left}
-use Rattle.wf_send_half_refines.proofs.Settles.{ending_next_one, ending_done}
-use Rattle.wf_send_half_refines.proofs.Ended.{state_at_end}
+use Rattle.wf_send_half_model.specs.Half.{TransmitValue}
+use Rattle.wf_send_half_model.specs.Standing.{numbers_on_air, Parts}
+use Rattle.wf_send_half_model.specs.Ending.{after_finish, after_answer, ending_of, IsEnding, state_left}
+use Rattle.wf_send_half_model.proofs.Settles.{ending_next_one, ending_done}
+use Rattle.wf_send_half_model.proofs.Ended.{state_at_end}
 use Rattle.wf_send_half.specs.declared.finish.Ended.{Ended}
 use Rattle.wf_send_half.specs.Bits.{is_shown, CanFinish, IsToSettle, with_one_more, all_ended}
 use Rattle.wf_send_half.specs.Counts.{count_of, AreCounted, HasFate}
 
--- ---- what is shown goes by a number modulo 4096
+-- ---- whether a number is shown depends on it modulo 4096
 
 distance_on_air : (n b : ℕ) → distance (on_air n) b ≡ distance n b
 distance_on_air n b = omega arith
@@ -46,7 +46,7 @@ shown_on_air wide (Some score) n = ap (λ (d : ℕ). nat_lt d (if wide then 256 
 
 -- ---- the number that is settled next
 
--- the first of these transmissions has the number that is seq on the air
+-- the first of these transmissions has a number that is seq modulo 4096
 pub record IsNext (left : List Mpdu) (seq : ℕ) : Type 0 where
   pub mpdu : Mpdu
   pub behind : List Mpdu
@@ -59,7 +59,7 @@ next_of [] [] seq e = absurd (cc e)
 next_of [] (m ∷ ms) seq e = record { mpdu = m; behind = ms; first = refl; air = cc e }
 next_of (k ∷ ks) left seq e = next_of ks left seq e
 
--- after i of the numbers: these transmissions are settled, those are left
+-- after i numbers: these transmissions are settled, and those are left
 pub record HasSettled (v : TransmitValue) (bodies : ℕ → FrameValue) (s t e : ℕ) (acked : ℕ → Bool) (i : ℕ)
     (mpdus : List Mpdu) (after : World) (ended : Ended) : Type 0 where
   pub world : World
@@ -103,7 +103,7 @@ settling_begins v s t numbers acked place = record {
 
 -- ---- one number
 
--- a window may be asked to settle a number, of which it then tells this
+-- a window may settle a number, with this result
 module _ (v : TransmitValue) (w : World) (bodies : ℕ → FrameValue) (s t e : ℕ) (acked : ℕ → Bool) (m : Mpdu)
     (ms : List Mpdu) (after : World) (ending : IsEnding v w bodies s t e acked (m ∷ ms) after) (seq : ℕ)
     (air : seq ≡ on_air m.number) where
@@ -132,7 +132,7 @@ module _ (v : TransmitValue) (w : World) (bodies : ℕ → FrameValue) (s t e : 
       (ending_flies window bodies ending_e m.number numbers
       (all_settled ending_e (m.number ∷ numbers) (session w s t)) begun seq air)
 
--- one number more is counted
+-- one more number is counted
 count_more : (p : State → Bool) (after : World) (s t : ℕ) (m : Mpdu) (ms : List Mpdu) →
     count_of after s t (ms ++ m ∷ []) p ≡ count_of after s t ms p + cond
     (p (slot (session after s t) m.number).state) 1 0
@@ -185,7 +185,7 @@ counted_more after s t m ms ended a is h =
       failed = omega (arith, z, h.failed);
     }
 
--- one that is shown is one more that is acknowledged
+-- a number that is shown is one more acknowledged number
 acked_more : (b : Bool) (limit : ℕ) (bodies : ℕ → FrameValue) (x : Slot) (ended : Ended) →
     (with_one_more ended (settling_answer b limit bodies x)).acked ≡ ended.acked + as_one b
 unfolding as_one
@@ -213,7 +213,7 @@ one_more ended (Acked f) = omega arith
 one_more ended Waiting = omega arith
 one_more ended (Failed f) = omega arith
 
--- a frame that is finished takes the place of one that was outside the queues
+-- a frame that is finished was outside the queues before
 finish_leaves : (v : TransmitValue) (n : ℕ) (f : FrameValue) → f.fate ≢ Held → CanFinish v (suc n) →
     CanFinish (after_finish v f) n
 finish_leaves v n f session_settled place = record {
@@ -243,7 +243,7 @@ same_config v (Acked f) = refl
 same_config v Waiting = refl
 same_config v (Failed f) = refl
 
--- a window gives no frame that is still held
+-- a window returns no frame that is still held
 answer_fate : (b : Bool) (limit : ℕ) (bodies : ℕ → FrameValue) (x : Slot) →
     HasFate (settling_answer b limit bodies x)
 answer_fate true limit bodies x = λ e. cc e
@@ -288,7 +288,7 @@ module _ (start v : TransmitValue) (s t : ℕ) (numbers : List ℕ) (acked : ℕ
         let parts = ending_here.parts in
         omega (arith, parts.windows.sized, parts.others.turns.live s ending_here.live, ending_here.tid)
 
-    -- what the window then gives
+    -- the result of the window
     module _ (windows : List WindowValue) (a : Settled) (b : Bool) (limit : ℕ) (b_is : b ≡ acked seq)
         (limit_is : limit ≡ v.config.attempts) (alike : (n : ℕ) → acked (on_air n) ≡ acked n)
         (room : WindowsHaveRoom windows)

@@ -1,5 +1,5 @@
--- A frame is taken out of a TID's queues in the middle of a pull: how many frames CoDel dropped, and that
--- they were held.
+-- Proves the step of a pull that takes a frame out of a TID's queues: the number of frames that CoDel
+-- dropped, and that they were held.
 use Rattle.std.proofs.Common.{◌≡◌, ap, sym, ◌∙◌, subst, arith, ℕ, ◌+◌, ◌-◌, ◌<◌, ◌≤◌, length, Option, Some, None}
 use Rattle.std.specs.Prelude.{IfSome}
 use Rattle.wf_frame.specs.declared.classes.Cause.TheVariants.{Codel as By_codel}
@@ -15,13 +15,13 @@ use Rattle.wf_frame.specs.Classes.{tid_number}
 use Rattle.wf_queue_flows.specs.Flows.{FlowsValue, frames_of_tid, TakeGives, taken_for_tid as take_out}
 use Rattle.wf_queue_flows_refines.proofs.Heads.{drops_counted}
 use Rattle.wf_queue_flows_refines.specs.Standing.{flows_part}
-use Rattle.wf_send_half_refines.specs.Half.{TransmitValue}
-use Rattle.wf_send_half_refines.specs.Standing.{counts_in, Parts}
-use Rattle.wf_send_half_refines.specs.Filling.{after_take, IsTurned}
+use Rattle.wf_send_half_model.specs.Half.{TransmitValue}
+use Rattle.wf_send_half_model.specs.Standing.{counts_in, Parts}
+use Rattle.wf_send_half_model.specs.Filling.{after_take, IsTurned}
 use Rattle.wf_send_half.specs.Pulls.{IsParamsOf, IsTaken}
-use Rattle.wf_send_half_refines.proofs.Dropping.{held_counted, finished_known}
-use Rattle.wf_send_half_refines.proofs.Gives.{Placed, placed}
-use Rattle.wf_send_half_refines.proofs.Takes.{take_parts}
+use Rattle.wf_send_half_model.proofs.Dropping.{held_counted, finished_known}
+use Rattle.wf_send_half_model.proofs.Gives.{Placed, placed}
+use Rattle.wf_send_half_model.proofs.Takes.{take_parts}
 
 adds_up : (w : World) → AddsUp w
 adds_up w = counts_add w.frames
@@ -80,8 +80,8 @@ module _ (v : TransmitValue) (w : World) (bodies : ℕ → FrameValue) (s t : �
         ap (λ (c : Counts). c.left) b,
       ))
 
-  -- what the code counts: the frames that were queued before, but the one that is taken and those that still
-  -- are
+  -- the number that the code counts: the frames that were queued before, without the frame that is taken and
+  -- those that are still queued
   module _ (u : FlowsValue) (f : FrameValue) (gives : TakeGives u f
       (take_out v.flows (tid_number s t) v.clock params)) where
     balance : length after.flows.backlog.finished + frames_of_tid after.flows (tid_number s t) + 1
@@ -114,7 +114,7 @@ module _ (v : TransmitValue) (w : World) (bodies : ℕ → FrameValue) (s t : �
         ≡ dropped
     counted_drops = omega (arith, balance, left_is, drops_are_held.1)
 
--- the frame that is taken, once those that CoDel dropped are counted
+-- the frame that is taken, after those that CoDel dropped are counted
 pub took : (v : TransmitValue) (s t : ℕ) (params : Params) (read : IsParamsOf v s params) (u : FlowsValue)
     (f : FrameValue) → TakeGives u f (take_out v.flows (tid_number s t) v.clock params) →
     (count : ℕ) → count ≡ length (take_out v.flows (tid_number s t) v.clock params).flows.backlog.finished -

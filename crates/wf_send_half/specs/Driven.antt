@@ -1,4 +1,4 @@
--- The end of an exchange whose receiver a driver tells of by a BlockAck alone.
+-- The end of an exchange by the BlockAck that a driver heard, without a receiver.
 use Rattle.std.specs.Prelude.{◌≡◌, ℕ, Bool, true, false, List, Option, Some, None, is_none, if◌then◌else◌, IfSome, IfNone, Result, is_ok, IfErr}
 use Rattle.wf_frame.specs.declared.notes.Ask.TheVariants.{Done}
 use Rattle.wf_frame.specs.declared.notes.Note.TheVariants.{Asked}
@@ -8,31 +8,31 @@ use Rattle.wf_frame.specs.Frames.{FrameValue}
 use Rattle.wf_def_agreement.specs.Receiver.{Score}
 use Rattle.wf_def_world.specs.World.{World, Exchange, exchange, is_wide}
 use Rattle.wf_def_world.specs.CanSend.{is_request}
-use Rattle.wf_def_world.specs.Refusals.{is_bad_air}
+use Rattle.wf_frame.specs.Settings.{is_bad_air}
 use Rattle.wf_def_world.specs.Step.{Outcome, step}
-use Rattle.wf_law_driver.specs.Told.{after_told, done_told}
+use Rattle.wf_law_driver.specs.Inferred.{after_inferred, done_inferred}
 use Rattle.wf_law_driver.specs.Unheard.{IsUnheard}
-use Rattle.wf_send_half_refines.specs.Half.{TransmitValue}
-use Rattle.wf_send_half_refines.specs.Standing.{StandsFor, Meets}
+use Rattle.wf_send_half_model.specs.Half.{TransmitValue}
+use Rattle.wf_send_half_model.specs.Standing.{StandsFor, Meets}
 use Rattle.wf_send_half.specs.declared.finish.Ended.{Ended}
 use Rattle.wf_send_half.specs.Bits.{is_shown, AreShown, NoneIsShown, end_refusal, ended_reply}
 use Rattle.wf_send_half.specs.Replies.{reply_of_result}
 
 -- ---- in the machine
 
--- What the machine makes of w where exchange e ends by what was heard. Where that is a BlockAck of x, the
--- open exchange, the calls come first that it tells of (`told`, wf_law_driver): exactly the numbers that it
--- shows arrive, and their receiver answers. Where nothing was heard the Done alone comes, and is lost; where
--- none is open, or the airtime may not be named, it is refused.
+-- The machine's outcome for w if exchange e ends with this BlockAck or with none. For a BlockAck of x, the open exchange,
+-- the calls that it implies come first (`inferred`, wf_law_driver): exactly the numbers that it shows arrive,
+-- and their receiver answers. If nothing was heard, the Done comes alone and is not heard. If no exchange is
+-- open, or the airtime is out of range, the Done is refused.
 abbrev pub ended_by : World → ℕ → ℕ → Option (ℕ × List ℕ) → Option ℕ → Option Exchange → Outcome
 ended_by w caller e None air x = step w (Asked (Done e false air))
 ended_by w caller e (Some score) air None = step w (Asked (Done e false air))
 ended_by w caller e (Some score) air (Some x) =
     let shown : ℕ → Bool = is_shown (is_wide w x.station x.tid) (Some score) in
     if is_bad_air w.config air then step w (Asked (Done e false air))
-    else step (after_told w caller e shown x.content) (done_told e shown air x.content)
+    else step (after_inferred w caller e shown x.content) (done_inferred e shown air x.content)
 
--- the same, of the exchange of that number
+-- the same, by the number of the exchange
 abbrev pub outcome_after_done : World → ℕ → ℕ → Option (ℕ × List ℕ) → Option ℕ → Outcome
 outcome_after_done w caller e heard air = ended_by w caller e heard air (exchange w e)
 
@@ -42,8 +42,8 @@ world_after_done w caller e heard air = (outcome_after_done w caller e heard air
 
 -- ---- in the half
 
--- what `Transmit::done` says, of exchange e, of what was heard of it and of the airtime that was named,
--- where it made u of v and gave this result
+-- `Transmit::done` made u of v with this result, for exchange e, the BlockAck that was heard and the airtime
+-- that was given
 pub record IsAfterDone (v u : TransmitValue) (e : ℕ) (heard : Option (ℕ × List ℕ)) (air : Option ℕ)
     (result : Result Ended Refusal) : Type 0 where
   pub lost : IfNone heard ((w : World) (bodies : ℕ → FrameValue) → StandsFor v w bodies →
@@ -58,7 +58,7 @@ pub record IsAfterDone (v u : TransmitValue) (e : ℕ) (heard : Option (ℕ × L
   pub found : is_ok result ≡ is_none (end_refusal v e air)
   pub refused : IfErr result (λ reason. (end_refusal v e air ≡ Some reason) × (u ≡ v))
 
--- u stands for the world that an outcome leads to, that world is unheard, and the reply is the outcome's
+-- u represents the world that an outcome leads to, that world is unheard, and the reply is the outcome's
 pub record MeetsUnheard (bodies : ℕ → FrameValue) (o : Outcome) (u : TransmitValue)
     (answer : ReplyNote) : Type 0 where
   pub stands : StandsFor u o.world bodies

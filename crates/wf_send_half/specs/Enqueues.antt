@@ -1,4 +1,4 @@
--- A frame that comes in.
+-- An enqueue.
 use Rattle.std.specs.Prelude.{ℕ, ◌+◌, length}
 use Rattle.wf_frame.specs.Classes.{lower_tid, upper_tid, tid_number}
 use Rattle.wf_frame.specs.Frames.{FrameValue}
@@ -7,13 +7,13 @@ use Rattle.wf_frame.specs.declared.classes.Fate.TheVariants.{Held}
 use Rattle.wf_frame.specs.declared.notes.Note.{Note}
 use Rattle.wf_frame.specs.declared.notes.Note.TheVariants.{Enqueue}
 use Rattle.wf_queue_flows.specs.Flows.{frames_of_tid}
-use Rattle.wf_send_half_refines.specs.Half.{TransmitValue}
+use Rattle.wf_send_half_model.specs.Half.{TransmitValue}
 
 -- the call that brings a frame
 abbrev pub enqueue_of : FrameValue → Note
 enqueue_of f = Enqueue f.station f.tid f.flow (length f.body)
 
--- the frame as it is accepted: with the next id, stamped with the clock, not sent yet, and held
+-- the frame as it is accepted: with the next id and the clock as its stamp, not sent yet, and held
 abbrev pub as_accepted : TransmitValue → FrameValue → FrameValue
 as_accepted v f = record f { id = v.tally.accepted; stamp = v.clock; attempts = 0; fate = Held }
 

@@ -1,13 +1,14 @@
--- What is true of every transmit half, and what its calls ask of it.
+-- The facts about every transmit half, and the conditions of its calls.
 use Rattle.std.specs.Prelude.{◌≡◌, ◌<◌, ℕ, ◌*◌, ◌^◌, Bool, true, ◌||◌, length, is_some, IfSome}
 use Rattle.wf_frame.specs.declared.classes.Class.{Class}
 use Rattle.wf_frame.specs.Classes.{lower_tid, upper_tid}
 use Rattle.wf_frame.specs.Frames.{FrameValue}
 use Rattle.wf_frame.specs.Settings.{IsInRange}
 use Rattle.wf_def_world.specs.World.{World}
+use Rattle.wf_law_driver.specs.Unheard.{IsUnheard}
 use Rattle.wf_send_parts.specs.Members.{member, received_in}
-use Rattle.wf_send_half_refines.specs.Half.{TransmitValue, can_send_of}
-use Rattle.wf_send_half_refines.specs.Standing.{StandsFor}
+use Rattle.wf_send_half_model.specs.Half.{TransmitValue, can_send_of}
+use Rattle.wf_send_half_model.specs.Standing.{StandsFor}
 
 -- each setting is in its range, and each part has as many places as there are stations
 pub record HasSizes (v : TransmitValue) : Type 0 where
@@ -18,13 +19,21 @@ pub record HasSizes (v : TransmitValue) : Type 0 where
   pub members : length v.members ≡ v.config.stations
   pub sleepers : length v.sleepers ≡ v.config.stations
 
--- it stands for the transmit half of some world of a run
+-- the half represents some world of a run
 pub record HasWorld (v : TransmitValue) : Type 0 where
   pub world : World
   pub bodies : ℕ → FrameValue
   pub stands : StandsFor v world bodies
 
--- the airtime that a station used in a class, where it is live, is below 2^62 microseconds
+-- it represents the transmit half of some world of a run in which no receiver has a frame that its sender
+-- does not know to have arrived
+pub record HasUnheardWorld (v : TransmitValue) : Type 0 where
+  pub world : World
+  pub bodies : ℕ → FrameValue
+  pub stands : StandsFor v world bodies
+  pub unheard : IsUnheard world
+
+-- if a station is live, the airtime that it used in a class is below 2^62 microseconds
 abbrev pub IsReceiptSmall : TransmitValue → ℕ → Class → Type 0
 IsReceiptSmall v s c = IfSome (member v.members s) (λ m. received_in m c < 2 ^ 62)
 

@@ -1,15 +1,15 @@
--- What the steps of a leave go on from.
+-- The states between the steps of a leave.
 use Rattle.std.specs.Prelude.{◌≡◌, ℕ, None, List}
 use Rattle.wf_frame.specs.Frames.{FrameValue}
 use Rattle.wf_frame.specs.declared.notes.Ask.TheVariants.{Leave}
 use Rattle.wf_frame.specs.declared.notes.Note.TheVariants.{Asked}
 use Rattle.wf_def_world.specs.World.{World}
 use Rattle.wf_def_world.specs.Refusals.{refusal}
-use Rattle.wf_send_half_refines.specs.Half.{TransmitValue}
-use Rattle.wf_send_half_refines.specs.Leaving.{IsLeaving, IsExpelling}
-use Rattle.wf_send_half_refines.specs.Standing.{StandsFor}
+use Rattle.wf_send_half_model.specs.Half.{TransmitValue}
+use Rattle.wf_send_half_model.specs.Leaving.{IsLeaving, IsExpelling}
+use Rattle.wf_send_half_model.specs.Standing.{StandsFor}
 
--- it stands for some world, of which station s may leave
+-- the half represents some world in which station s may leave
 pub record MayLeave (v : TransmitValue) (s : ℕ) : Type 0 where
   pub world : World
   pub bodies : ℕ → FrameValue
@@ -24,13 +24,13 @@ pub record SomeLeaves (v : TransmitValue) (s t : ℕ) : Type 0 where
   pub dropped : ℕ
   pub leaving : IsLeaving before world bodies s t v dropped
 
--- TID t of station s is leaving, and its window has given some frames
+-- TID t of station s is leaving, and some frames of its window are finished
 pub record GivesFrames (before : TransmitValue) (w : World) (bodies : ℕ → FrameValue) (s t : ℕ)
     (v : TransmitValue) (dropped : ℕ) : Type 0 where
   pub frames : List FrameValue
   pub expelling : IsExpelling before w bodies s t v frames dropped
 
--- the same of some world
+-- the same for some world
 pub record SomeGives (v : TransmitValue) (s t : ℕ) : Type 0 where
   pub before : TransmitValue
   pub world : World

@@ -6,3 +6,5 @@ pub mod Enqueues
 pub mod Bits
 pub mod Counts
 pub mod Driven
+pub mod Listed
+pub mod Flags

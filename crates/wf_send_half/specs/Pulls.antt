@@ -1,4 +1,4 @@
--- In the middle of a pull, what its steps ask for and what each has done.
+-- The states between the steps of a pull: the condition and the effect of each step.
 use Rattle.std.specs.Prelude.{◌≡◌, ℕ, ◌%◌, ◌≤◌, Bool, true, false, List, [], length, Option, None, Some, is_some, option_map, map, take, drop, IfSome, if◌then◌else◌}
 use Rattle.wf_frame.specs.declared.classes.Class.{Class}
 use Rattle.wf_frame.specs.declared.notes.Ask.TheVariants.{Pull}
@@ -13,38 +13,38 @@ use Rattle.wf_def_agreement.specs.Session.{Session, next_number, request_due, wi
 use Rattle.wf_def_world.specs.World.{World, Mpdu, session}
 use Rattle.wf_def_world.specs.Exchanges.{Aggregate, aggregate_of, aggregate_charge, prepared_data, picked_station}
 use Rattle.wf_def_world.specs.Refusals.{refusal}
-use Rattle.wf_sched.specs.Rotas.{is_ready as entry}
+use Rattle.wf_rotation.specs.Rotas.{is_ready as entry}
 use Rattle.wf_sched.specs.ClassRotas.{class_rotation}
 use Rattle.wf_sched_refines.specs.Calls.{HasPickedInClass}
 use Rattle.wf_send_parts.specs.declared.exchanges.opened.Sending.{Sending}
 use Rattle.wf_send_parts.specs.declared.exchanges.opened.Sending.TheVariants.{Data, Request as Starts_at}
-use Rattle.wf_air.specs.Rooms.{RoomValue, RoomStandsFor as RoomStandsFor}
+use Rattle.wf_air.specs.Sizes.{AggregateSizeValue, SizeStandsFor as SizeStandsFor}
 use Rattle.wf_frame.specs.Classes.{tid_number}
 use Rattle.wf_queue_flows.specs.Flows.{taken_for_tid}
 use Rattle.wf_send_parts.specs.Members.{member}
-use Rattle.wf_octets.specs.Sleepers.{sleeper}
+use Rattle.wf_send_parts.specs.Sleepers.{sleeper}
 use Rattle.wf_send_parts.specs.Window.{WindowValue, WindowStandsFor as WindowStandsFor}
 use Rattle.wf_send_parts.specs.Sent.{with_all_sent}
 use Rattle.wf_send_parts.specs.Windows.{WindowsHaveRoom, window_of, with_window}
-use Rattle.wf_send_half_refines.specs.Half.{TransmitValue, is_ready_of}
-use Rattle.wf_send_half_refines.specs.Standing.{StandsFor, numbers_on_air}
-use Rattle.wf_send_half_refines.specs.Pulling.{is_wide_of}
+use Rattle.wf_send_half_model.specs.Half.{TransmitValue, is_ready_of}
+use Rattle.wf_send_half_model.specs.Standing.{StandsFor, numbers_on_air}
+use Rattle.wf_send_half_model.specs.Pulling.{is_wide_of}
 use Rattle.wf_send_half.specs.declared.pull.Pulled.{Pulled}
-use Rattle.wf_send_half_refines.specs.Filling.{IsTurned, IsToFill, IsFilling, IsTakingOff, after_take, after_giving}
+use Rattle.wf_send_half_model.specs.Filling.{IsTurned, IsToFill, IsFilling, IsTakingOff, after_take, after_giving}
 
--- the most frames of one aggregate of a station: one where it sleeps
+-- the greatest number of frames in an aggregate to a station: 1 if it sleeps
 abbrev pub most_of : TransmitValue → ℕ → ℕ
 most_of v s = if (sleeper v.sleepers s).asleep then 1 else v.config.agg
 
--- the maximum A-MPDU length exponent of a station is at most 3, where it is live
+-- if a station is live, its maximum A-MPDU length exponent is at most 3
 abbrev pub IsExponentSmall : TransmitValue → ℕ → Type 0
 IsExponentSmall v s = IfSome (member v.members s) (λ m. m.exponent ≤ 3)
 
--- all is the same but the frames: where they are, and what became of them
+-- only the places and the fates of frames differ
 abbrev pub IsSameButFrames : TransmitValue → TransmitValue → Type 0
 IsSameButFrames v u = u ≡ record v { flows = u.flows; windows = u.windows; tally = u.tally }
 
--- ---- some world under way
+-- ---- some world during the pull
 
 -- in some world TID t of station s has had its turn
 pub record HasTurn (v : TransmitValue) (s t : ℕ) : Type 0 where
@@ -58,29 +58,30 @@ pub record HasToFill (v : TransmitValue) (s t : ℕ) : Type 0 where
   pub bodies : ℕ → FrameValue
   pub to_fill : IsToFill v world bodies s t
 
--- in some world this aggregate to TID t of station s goes on, up to that one
-pub record AggregateGoesOn (v : TransmitValue) (bodies : ℕ → FrameValue) (s t : ℕ) (room : RoomValue)
+-- in some world the filling of this aggregate to TID t of station s continues and ends at that aggregate
+pub record AggregateGoesOn (v : TransmitValue) (bodies : ℕ → FrameValue) (s t : ℕ) (room : AggregateSizeValue)
     (numbers : List ℕ) (after : Aggregate) : Type 0 where
   pub world : World
   pub mpdus : List Mpdu
   pub filling : IsFilling v world bodies s t room numbers mpdus after
 
--- it goes on up to some aggregate
-pub record HasFilling (v : TransmitValue) (s t : ℕ) (room : RoomValue) (numbers : List ℕ) : Type 0 where
+-- it continues and ends at some aggregate
+pub record HasFilling (v : TransmitValue) (s t : ℕ) (room : AggregateSizeValue)
+    (numbers : List ℕ) : Type 0 where
   pub bodies : ℕ → FrameValue
   pub after : Aggregate
   pub goes_on : AggregateGoesOn v bodies s t room numbers after
 
--- the numbers of an aggregate are as many as the frames that its room has, which takes at most 256
-pub record HasLens (room : RoomValue) (numbers : List ℕ) : Type 0 where
+-- an aggregate has one number for each frame, and at most 256
+pub record HasLens (room : AggregateSizeValue) (numbers : List ℕ) : Type 0 where
   pub lens : List ℕ
-  pub stands : RoomStandsFor room lens
+  pub stands : SizeStandsFor room lens
   pub as_many : length numbers ≡ length lens
   pub few : room.agg ≤ 256
 
--- ---- a frame is taken out
+-- ---- a frame is taken out of its queue
 
--- CoDel's parameters are those of the rate of station s
+-- CoDel's parameters for the rate of station s
 pub record IsParamsOf (v : TransmitValue) (s : ℕ) (params : Params) : Type 0 where
   pub rate : Rate
   pub is_rate : option_map (λ m. m.rate) (member v.members s) ≡ Some rate
@@ -93,7 +94,7 @@ pub record IsTaken (v u : TransmitValue) (s t : ℕ) (f : FrameValue) : Type 0 w
   pub out : (taken_for_tid v.flows (tid_number s t) v.clock params).frame ≡ Some f
   pub is : u ≡ after_take v (tid_number s t) params
 
--- a frame with so many octets was taken out and got this number on the air, with which it waits in its window
+-- a frame with `len` octets was taken out and got this number, modulo 4096, with which it waits in its window
 pub record IsGivenNumber (v u : TransmitValue) (s t number len : ℕ) : Type 0 where
   pub params : Params
   pub read : IsParamsOf v s params
@@ -107,9 +108,9 @@ pub record IsGivenNumber (v u : TransmitValue) (s t number len : ℕ) : Type 0 w
       (number ≡ next_number y % 4096) × WindowStandsFor window (with_number_given y frame.id) bodies
   pub is : u ≡ after_giving v s t params window
 
--- ---- numbers take off
+-- ---- numbers go into flight
 
--- in some world the half is to let these numbers fly in its next exchange
+-- in some world these numbers are the next to fly
 pub record HasTakingOff (v : TransmitValue) (s t : ℕ) (numbers : List ℕ) : Type 0 where
   pub world : World
   pub bodies : ℕ → FrameValue
@@ -118,11 +119,11 @@ pub record HasTakingOff (v : TransmitValue) (s t : ℕ) (numbers : List ℕ) : T
   pub off : IsTakingOff v world bodies s t v.exchanges mpdus after
   pub on_air : numbers ≡ numbers_on_air mpdus
 
--- the transmissions, each by its id and its number on the air
+-- the transmissions, each by its id and its number modulo 4096
 abbrev pub pairs_of : List Mpdu → List (ℕ × ℕ)
 pairs_of mpdus = map (λ m. (m.id, m.number % 4096)) mpdus
 
--- after those before place i have taken off, the others are still to; the pairs are of those before, whose
+-- the transmissions before index i fly, and the others do not yet; the pairs are those that fly, and their
 -- frames have counted it
 pub record IsFlying (v : TransmitValue) (bodies : ℕ → FrameValue) (s t e : ℕ) (mpdus : List Mpdu)
     (after : World) (i : ℕ) (pairs : List (ℕ × ℕ)) : Type 0 where
@@ -130,9 +131,9 @@ pub record IsFlying (v : TransmitValue) (bodies : ℕ → FrameValue) (s t e : �
   pub off : IsTakingOff v world (with_all_sent pairs bodies) s t e (drop i mpdus) after
   pub pairs_are : pairs ≡ pairs_of (take i mpdus)
 
--- ---- what is sent
+-- ---- the prepared transmissions
 
--- the numbers of this aggregate have taken off, and their frames have counted it
+-- the numbers of this aggregate fly, and their frames have counted it
 pub record IsPreparedAs (v : TransmitValue) (a : Aggregate) (bodies : ℕ → FrameValue) (s t charge : ℕ)
     (numbers : List ℕ) (pairs : List (ℕ × ℕ)) : Type 0 where
   pub world : World
@@ -142,24 +143,24 @@ pub record IsPreparedAs (v : TransmitValue) (a : Aggregate) (bodies : ℕ → Fr
   pub numbers_are : numbers ≡ numbers_on_air a.mpdus
   pub pairs_are : pairs ≡ pairs_of a.mpdus
 
--- those of the aggregate that TID t of station s sends in w
+-- the same for the aggregate that TID t of station s sends in w
 abbrev pub IsPrepared : TransmitValue → World → (ℕ → FrameValue) → ℕ → ℕ → ℕ → List ℕ → List (ℕ × ℕ) → Type 0
 IsPrepared v w bodies s t = IsPreparedAs v (aggregate_of w s t) bodies s t
 
 -- ---- a whole pull
 
--- the list `ready`, of one entry for each station, says of each station that is listed in a class whether it
--- is ready in it
+-- the list `ready` has an entry for each station; for each station that is listed in a class, the entry says
+-- whether it is ready in the class
 pub record TellsWhoIsReady (v : TransmitValue) (c : Class) (ready : List Bool) : Type 0 where
   pub stations : length ready ≡ v.config.stations
   pub tells : (s : ℕ) → has_key (class_rotation v.sched c) s ≡ true → entry ready s ≡ is_ready_of v c s
 
--- where a station sends, it is told whether it is ready then in the class
+-- if a station sends, the result says whether it is ready in the class afterwards
 abbrev pub IsSenderTold : TransmitValue → Class → Pulled → Type 0
 IsSenderTold v c p = (e s t air : ℕ) (request : Option ℕ) (more : Bool) →
     p.brief ≡ Send e s t air request more → p.is_ready ≡ is_ready_of v c s
 
--- u is v once a pull has picked station s in a class, where v stands for w
+-- u is v after a pull picked station s in a class, and v represents w
 pub record IsPickedInClass (v u : TransmitValue) (w : World) (bodies : ℕ → FrameValue) (s : ℕ)
     (c : Class) : Type 0 where
   pub stands : StandsFor v w bodies
@@ -168,15 +169,14 @@ pub record IsPickedInClass (v u : TransmitValue) (w : World) (bodies : ℕ → F
   pub picked : HasPickedInClass w c v.sched u.sched
   pub others : u ≡ record v { sched = u.sched }
 
--- in some world TID t of station s has had its turn; where no request is due, its aggregate is to have some
--- number
+-- in some world TID t of station s has had its turn; if no request is due, its aggregate has a number
 pub record HasToPrepare (v : TransmitValue) (s t : ℕ) : Type 0 where
   pub world : World
   pub bodies : ℕ → FrameValue
   pub turned : IsTurned v world bodies s t
   pub some : request_due (session world s t) ≡ false → 1 ≤ length (aggregate_of world s t).mpdus
 
--- the start of what is sent, where that is a request
+-- the start of a request; none for data
 abbrev pub start_sent : Sending → Option ℕ
 start_sent (Data numbers) = None
 start_sent (Starts_at start) = Some start
@@ -188,14 +188,14 @@ pub record IsRequestDue (v u : TransmitValue) (s t charge start : ℕ) : Type 0 
   pub charge_is : charge ≡ request_charge (is_wide_of v s t)
   pub start_is : start ≡ (window_of v.windows s t).start
 
--- no request is due there, and the numbers of its aggregate have taken off
+-- no request is due there, and the numbers of its aggregate fly
 pub record IsData (v u : TransmitValue) (s t charge : ℕ) (pairs : List (ℕ × ℕ))
     (numbers : List ℕ) : Type 0 where
   pub quiet : is_some (window_of v.windows s t).due ≡ false
   pub prepared : (w : World) (bodies : ℕ → FrameValue) → IsToFill v w bodies s t →
       IsPrepared u w bodies s t charge numbers pairs
 
--- v has prepared this for TID t of station s, and is u then
+-- u is v after it prepared this for TID t of station s
 abbrev pub IsPreparedFor : TransmitValue → TransmitValue → ℕ → ℕ → ℕ → List (ℕ × ℕ) → Sending → Type 0
 IsPreparedFor v u s t charge pairs (Data numbers) = IsData v u s t charge pairs numbers
 IsPreparedFor v u s t charge pairs (Starts_at start) = IsRequestDue v u s t charge start

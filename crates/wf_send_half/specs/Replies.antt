@@ -1,4 +1,4 @@
--- What a call gives, as the machine's reply.
+-- The results of the calls as the machine's replies.
 use Rattle.std.specs.Prelude.{ℕ, Option, Some, None, Result, Ok, Err}
 use Rattle.wf_frame.specs.Frames.{FrameValue}
 use Rattle.wf_frame.specs.declared.notes.Part.TheVariants.{Mpdus}
@@ -8,17 +8,18 @@ use Rattle.wf_frame.specs.declared.notes.ReplyNote.{ReplyNote}
 use Rattle.wf_frame.specs.declared.notes.ReplyNote.TheVariants.{Send, Reaped, Refused}
 use Rattle.wf_send_parts.specs.Sent.{with_all_sent}
 
--- the reply of a call, by what it gives where it is not refused
+-- the reply of a call, by its result
 abbrev pub reply_of_result : {T : Type 0} → (T → ReplyNote) → Result T Refusal → ReplyNote
 reply_of_result reply (Ok given) = reply given
 reply_of_result reply (Err reason) = Refused reason
 
--- the reply of a reap, by the frame that it gives
+-- the reply of a reap, by the frame that it returns
 abbrev pub reaped_reply : Option FrameValue → ReplyNote
 reaped_reply None = Refused Nothing
 reaped_reply (Some f) = Reaped f.id f.fate
 
--- the frames of the ids after a call with this reply: those that it sends are sent once more
+-- the frame of each id after a call with this reply; a frame that the reply sends counts one more
+-- transmission
 abbrev pub bodies_sent : ReplyNote → (ℕ → FrameValue) → ℕ → FrameValue
 bodies_sent (Send exchange station tid air (Mpdus pairs) more) bodies = with_all_sent pairs bodies
 bodies_sent reply bodies = bodies

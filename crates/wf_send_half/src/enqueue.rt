@@ -1,4 +1,4 @@
-//! Frames that come in.
+//! Accepted frames.
 
 ghost use Rattle.std.specs.Prelude.{◌≡◌, ◌<◌, ◌≤◌, ◌^◌, ℕ, true, length, option_map, Some, IfSome, IfOk, IfErr};
 ghost use Rattle.wf_frame.specs.Classes.{class_of};
@@ -12,37 +12,43 @@ ghost use Rattle.wf_def_world.specs.Refusals.{refusal};
 ghost use Rattle.wf_send_parts.specs.Tally.{counts_of, one_accepted};
 ghost use Rattle.wf_queue_flows.specs.Flows.{dropped_for_limit, loses_next};
 ghost use Rattle.wf_queue_flows_refines.specs.Frames.{with_body};
-ghost use Rattle.wf_send_half_refines.specs.Half.{is_ready_of};
-ghost use Rattle.wf_send_half_refines.specs.Changes.{after_enqueue, after_listing_in};
-ghost use Rattle.wf_send_half_refines.specs.Counting.{with_overlimit};
-ghost use Rattle.wf_send_half_refines.specs.Standing.{StandsFor, Meets};
+ghost use Rattle.wf_send_half_model.specs.Half.{is_ready_of};
+ghost use Rattle.wf_send_half_model.specs.Changes.{after_enqueue, after_listing_in};
+ghost use Rattle.wf_send_half_model.specs.Counting.{with_overlimit};
+ghost use Rattle.wf_send_half_model.specs.Standing.{StandsFor, Meets};
 ghost use Rattle.wf_send_half.specs.Enqueues.{enqueue_of, as_accepted, queued_in_class_of};
 ghost use Rattle.wf_send_half.specs.Half.{HasWorld};
 ghost use Rattle.std.specs.Result.{result_err};
 
-use crate::Transmit;
+use crate::half::Half;
 use crate::refuse::refuse_where;
-use wf_frame::{Cause, Class, Fate, Refusal};
+use wf_frame::{Cause, Class, Fate, GREATEST_TID, Refusal};
 use wf_queue_flows::Lost;
 use wf_queue_parts::chain::Parcel;
 use wf_send_parts::stations::Tally;
 
-/// The greatest traffic identifier that has queues (IEEE 802.11-2012, 8.2.4.5.2).
-const GREATEST_TID: u8 = 7;
-
-/// What becomes of a frame that is accepted.
+/// An accepted frame.
 #[derive(Clone, Copy)]
 pub struct Admission {
     /// Its id.
     pub id: u64,
-    /// The frame that is dropped for the limit, if any: the head of the longest queue.
-    pub lost: Option<Lost>,
-    /// Whether its station is ready now in the class of its TID.
-    pub is_ready: bool,
+    /// The id of the frame that was dropped for the limit, if any: the head of the longest queue.
+    pub dropped: Option<u64>,
 }
 
-// The parcel, once its frame is marked with this id and stamp, not sent, and held. Like every frame, it has
-// a source of six octets and a body of 1 to 2304.
+/// An accepted frame, with the facts that set the flags.
+#[derive(Clone, Copy)]
+pub(crate) struct Admitted {
+    /// Its id.
+    pub(crate) id: u64,
+    /// The frame that was dropped for the limit, if any: the head of the longest queue.
+    pub(crate) lost: Option<Lost>,
+    /// Whether its station is ready now in the class of its TID.
+    pub(crate) is_ready: bool,
+}
+
+// Marks the frame of a parcel with this id and stamp, as not sent, and held. Like every frame, it has a
+// source of six octets and a body of 1 to 2304.
 fn marked(mut parcel: Parcel, id: u64, stamp: u64) -> Parcel
     ensures source { length parcel.source ≡ source_octets }
     ensures length { (1 ≤ length parcel.body) × (length parcel.body ≤ greatest_body) }
@@ -55,7 +61,7 @@ fn marked(mut parcel: Parcel, id: u64, stamp: u64) -> Parcel
     parcel
 }
 
-// Counts a frame that is accepted, and the one that is dropped for the limit, if any.
+// Counts an accepted frame, and the frame that is dropped for the limit, if any.
 fn count_accepted(tally: &mut Tally, dropped: Option<Lost>)
     requires { tally.old.accepted < 2 ^ 62 }
     ensures { counts_of tally.new ≡
@@ -67,11 +73,9 @@ fn count_accepted(tally: &mut Tally, dropped: Option<Lost>)
     }
 }
 
-impl Transmit {
-    /// Accepts a frame. Where the queues hold `limit` frames, the head of the longest is dropped. Refused as
-    /// BadStation, BadTid, NoStation, Room where `room` frames are inside, or Sleeping where `sleeping`
-    /// frames of its class are queued for a station that sleeps; then the frame is handed back.
-    pub fn enqueue(&mut self, parcel: Parcel) -> Result<Admission, (Refusal, Parcel)>
+impl Half {
+    // Accepts a frame, or returns it (`Transmit::enqueue`).
+    pub(crate) fn enqueue(&mut self, parcel: Parcel) -> Result<Admitted, (Refusal, Parcel)>
         requires some { HasWorld self.old }
         requires small { self.old.tally.accepted < 2 ^ 62 }
         ensures meets { IfOk result (λ given. (w : World) (bodies : ℕ → FrameValue) →
@@ -92,7 +96,6 @@ impl Transmit {
             Meets w bodies (enqueue_of parcel) self.new (Refused given.0)) }
         ensures refused { IfErr result (λ _. self.new ≡ self.old) }
         ensures handed_back { IfErr result (λ given. given.1 ≡ parcel) }
-        ensures kept { HasWorld self.new }
     {
         let frame = parcel.frame();
         match self.check_enqueue(frame.station(), frame.tid()) {
@@ -101,8 +104,8 @@ impl Transmit {
         }
     }
 
-    // Accepts a frame that is not refused.
-    fn accept(&mut self, parcel: Parcel) -> Admission
+    // Accepts a frame that passed the checks.
+    fn accept(&mut self, parcel: Parcel) -> Admitted
         requires within { parcel.station < self.old.config.stations }
         requires tid { parcel.tid < 8 }
         requires room { self.old.inside < self.old.config.room }
@@ -129,10 +132,10 @@ impl Transmit {
         self.inside += 1;
         count_accepted(&mut self.tally, lost);
         let is_ready = self.list_in(station, class);
-        Admission { id, lost, is_ready }
+        Admitted { id, lost, is_ready }
     }
 
-    // A frame that comes in, whatever its flow and its length.
+    // Checks a frame by its station and its TID.
     fn check_enqueue(&self, station: u16, tid: u8) -> Result<(), Refusal>
         requires some { HasWorld self.now }
         ensures refused { (w : World) (bodies : ℕ → FrameValue) (flow len : ℕ) → StandsFor self.now w bodies →
@@ -153,7 +156,7 @@ impl Transmit {
         refuse_where(self.config.sleeping <= queued, Refusal::Sleeping { queued })
     }
 
-    // How many frames are queued for a station in a class.
+    // Returns how many frames are queued for a station in a class.
     fn queued_in(&self, station: u16, class: Class) -> u32
         requires within { station < self.now.config.stations }
         requires some { HasWorld self.now }

@@ -1,32 +1,31 @@
-//! Filling an aggregate.
+//! Fills an aggregate.
 
 ghost use Rattle.std.specs.Prelude.{◌≡◌, ◌<◌, ◌≤◌, ◌^◌, ℕ, IsTrue, IsFalse};
 ghost use Rattle.wf_frame.specs.Frames.{FrameValue};
 ghost use Rattle.wf_send_parts.specs.Windows.{window_of};
 ghost use Rattle.wf_def_world.specs.World.{World};
 ghost use Rattle.wf_def_world.specs.Exchanges.{Aggregate as Filled, aggregate_of};
-ghost use Rattle.wf_send_half_refines.specs.Filling.{IsToFill, IsChoosing, IsFilled};
+ghost use Rattle.wf_send_half_model.specs.Filling.{IsToFill, IsChoosing, IsFilled};
 ghost use Rattle.wf_send_half.specs.Half.{IsLive};
 ghost use Rattle.wf_send_half.specs.Pulls.{most_of, IsExponentSmall, IsSameButFrames, HasToFill, AggregateGoesOn, HasFilling};
 
-use crate::Transmit;
-use crate::finish::NARROW;
-use wf_air::fit::Room;
-use wf_frame::{Cause, Fate};
+use crate::half::Half;
+use wf_air::fit::AggregateSize;
+use wf_frame::{Cause, Fate, NARROW_WINDOW};
 use wf_queue_flows::Taken;
 use wf_queue_flows::codel::Params;
 use wf_send_parts::exchanges::Numbers;
 
-/// An aggregate under way: the numbers that it sends and the room that is left.
+/// An aggregate that is being filled: its sequence numbers, and its size so far with the limits.
 #[derive(Drop)]
 pub(crate) struct Aggregate {
     pub(crate) numbers: Numbers,
-    pub(crate) room: Room,
+    pub(crate) size: AggregateSize,
 }
 
-impl Transmit {
-    /// The aggregate that a TID sends next: waiting numbers from the lowest up, and, where all of them fit,
-    /// fresh frames. Each fresh frame gets its number; none flies yet.
+impl Half {
+    /// Fills the aggregate that a TID sends next: waiting numbers from the lowest up, and, if all of them
+    /// fit, fresh frames. Each fresh frame gets a number; none flies yet.
     pub(crate) fn fill(&mut self, station: u16, tid: u8) -> Aggregate
         requires within { station < self.old.config.stations }
         requires tid { tid < 8 }
@@ -35,7 +34,7 @@ impl Transmit {
         requires exponent { IsExponentSmall self.old station }
         requires to_fill { HasToFill self.old station tid }
         ensures filled { (w : World) (bodies : ℕ → FrameValue) → IsToFill self.old w bodies station tid →
-            IsFilled self.new bodies station tid result.room result.numbers (aggregate_of w station tid) }
+            IsFilled self.new bodies station tid result.size result.numbers (aggregate_of w station tid) }
         ensures same { IsSameButFrames self.old self.new }
     {
         let member = self.members.member(station);
@@ -46,12 +45,12 @@ impl Transmit {
         };
         let mut aggregate = Aggregate {
             numbers: Numbers::new(),
-            room: Room::new(
+            size: AggregateSize::new(
                 member.rate,
                 member.exponent,
                 most,
                 self.config.cap,
-                self.windows.at(station, tid).size() > NARROW,
+                self.windows.at(station, tid).size() > NARROW_WINDOW,
             ),
         };
         if self.add_waiting(station, tid, &mut aggregate) {
@@ -60,29 +59,29 @@ impl Transmit {
         aggregate
     }
 
-    // Adds the waiting numbers up to the first that does not fit; true where all fit.
+    // Adds the waiting numbers up to the first that does not fit. Returns true if all fit.
     fn add_waiting(&self, station: u16, tid: u8, aggregate: &mut Aggregate) -> bool
         requires within { station < self.now.config.stations }
         requires tid { tid < 8 }
         requires to_fill { HasToFill self.now station tid }
         requires begins { (w : World) (bodies : ℕ → FrameValue) → IsToFill self.now w bodies station tid →
-            IsChoosing aggregate.old.room aggregate.old.numbers
+            IsChoosing aggregate.old.size aggregate.old.numbers
             (window_of self.now.windows station tid).start w station tid }
-        requires most { aggregate.old.room.agg ≡ most_of self.now station }
+        requires most { aggregate.old.size.agg ≡ most_of self.now station }
         ensures all { IsTrue result → (w : World) (bodies : ℕ → FrameValue) →
             IsToFill self.now w bodies station tid →
-            AggregateGoesOn self.now bodies station tid aggregate.new.room aggregate.new.numbers
+            AggregateGoesOn self.now bodies station tid aggregate.new.size aggregate.new.numbers
             (aggregate_of w station tid) }
         ensures some { IsFalse result → (w : World) (bodies : ℕ → FrameValue) →
             IsToFill self.now w bodies station tid →
-            IsFilled self.now bodies station tid aggregate.new.room aggregate.new.numbers
+            IsFilled self.now bodies station tid aggregate.new.size aggregate.new.numbers
             (aggregate_of w station tid) }
-        ensures most { aggregate.new.room.agg ≡ most_of self.now station }
+        ensures most { aggregate.new.size.agg ≡ most_of self.now station }
     {
         let window = self.windows.at(station, tid);
         let mut from = window.start();
-        'waiting: while let Some(number) = window.waiting(from) {
-            if !aggregate.room.add(window.frame(number).len()) {
+        'waiting: while let Some(number) = window.next_waiting(from) {
+            if !aggregate.size.add(window.frame(number).len()) {
                 return false;
             }
             aggregate.numbers.push(number);
@@ -91,20 +90,20 @@ impl Transmit {
         true
     }
 
-    // Adds fresh frames while there are fewer than so many, the window takes one and one is queued: each is
-    // taken out of its queue, those that CoDel drops before it are counted, and it gets the next number. One
-    // that does not fit waits with its number.
+    // Adds fresh frames while the aggregate has fewer than `most`, the window has room and a frame is queued.
+    // Each frame is taken out of its queue and gets the next number; the frames that CoDel drops before it
+    // are counted. A frame that does not fit waits with its number.
     fn add_fresh(&mut self, station: u16, tid: u8, most: u16, aggregate: &mut Aggregate)
         requires within { station < self.old.config.stations }
         requires tid { tid < 8 }
         requires live { IsLive self.old station }
         requires small { self.old.clock < 2 ^ 62 }
-        requires filling { HasFilling self.old station tid aggregate.old.room aggregate.old.numbers }
-        requires most { aggregate.old.room.agg ≡ most }
+        requires filling { HasFilling self.old station tid aggregate.old.size aggregate.old.numbers }
+        requires most { aggregate.old.size.agg ≡ most }
         requires few { most ≤ 256 }
         ensures filled { (bodies : ℕ → FrameValue) (after : Filled) →
-            AggregateGoesOn self.old bodies station tid aggregate.old.room aggregate.old.numbers after →
-            IsFilled self.new bodies station tid aggregate.new.room aggregate.new.numbers after }
+            AggregateGoesOn self.old bodies station tid aggregate.old.size aggregate.old.numbers after →
+            IsFilled self.new bodies station tid aggregate.new.size aggregate.new.numbers after }
         ensures same { IsSameButFrames self.old self.new }
     {
         let params = Params::of(self.members.member(station).rate);
@@ -120,7 +119,7 @@ impl Transmit {
             let Ok(number) = self.windows.give(station, tid, parcel) else {
                 unreachable!()
             };
-            if !aggregate.room.add(len) {
+            if !aggregate.size.add(len) {
                 return;
             }
             aggregate.numbers.push(number);

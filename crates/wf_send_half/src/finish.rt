@@ -1,17 +1,16 @@
 //! The end of an exchange.
 
 ghost use Rattle.std.specs.Prelude.{◌≡◌, ◌≢◌, ◌<◌, ◌==◌, ℕ, Bool, true, false, Some, length, find, is_ok, is_none, is_some, Option, IfOk, IfErr, IfNone, IfSome, List};
-ghost use Rattle.wf_frame.specs.Classes.{class_of};
 ghost use Rattle.wf_frame.specs.Frames.{FrameValue};
 ghost use Rattle.wf_frame.specs.declared.classes.Fate.TheVariants.{Held};
 ghost use Rattle.wf_def_world.specs.World.{World, Mpdu, Exchange, exchange as exchange_in};
 ghost use Rattle.wf_def_world.specs.CanSend.{is_request};
 ghost use Rattle.wf_def_world.specs.Exchanges.{charge_of};
 ghost use Rattle.wf_def_world.specs.Step.{done_outcome};
-ghost use Rattle.wf_send_half_refines.specs.Half.{TransmitValue, is_ready_of};
-ghost use Rattle.wf_send_half_refines.specs.Standing.{StandsFor, Meets, Parts, numbers_on_air, open_of};
-ghost use Rattle.wf_send_half_refines.specs.Ending.{IsEnding, after_close, after_finish, after_answer};
-ghost use Rattle.wf_send_half.specs.Bits.{is_shown, has_bad_air, end_refusal, CanFinish, IsToSettle, IsClosed, GoesBy, with_one_more, all_ended, ended_reply, closed_reply, IsChargeSmall, AreShown, NoneIsShown, count_shown, count_shown_of};
+ghost use Rattle.wf_send_half_model.specs.Half.{TransmitValue};
+ghost use Rattle.wf_send_half_model.specs.Standing.{StandsFor, Meets, Parts, numbers_on_air, open_of};
+ghost use Rattle.wf_send_half_model.specs.Ending.{IsEnding, after_close, after_finish, after_answer};
+ghost use Rattle.wf_send_half.specs.Bits.{is_shown, has_bad_air, end_refusal, CanFinish, IsToSettle, IsClosed, GoesBy, with_one_more, all_ended, ended_reply, closed_reply, HasClosed, IsChargeSmall, AreShown, NoneIsShown, count_shown, count_shown_of};
 ghost use Rattle.wf_send_half.specs.Half.{HasWorld};
 ghost use Rattle.wf_send_half.specs.Replies.{reply_of_result};
 ghost use Rattle.wf_def_agreement.specs.Receiver.{Score};
@@ -19,60 +18,53 @@ ghost use Rattle.wf_frame.specs.declared.notes.Ask.TheVariants.{Done};
 ghost use Rattle.wf_frame.specs.declared.notes.Note.TheVariants.{Asked};
 ghost use Rattle.wf_send_half.specs.Counts.{AreCounted, HasFate};
 
-use crate::Transmit;
-use wf_frame::{Class, Refusal};
+use crate::half::Half;
+use wf_frame::{Class, GREATEST_WINDOW, NARROW_WINDOW, Refusal};
 use wf_octets::bits::Bits256;
 use wf_octets::seq12::Seq12;
 use wf_queue_parts::chain::Parcel;
 use wf_send_parts::exchanges::{Numbers, Open, Sending};
 use wf_send_parts::window::Settled;
 
-/// How many numbers a BlockAck tells of, from its start on.
-pub(crate) const NARROW: u16 = 64;
-
-const WIDE: u16 = 256;
-
-/// What became of the frames of an exchange that ended. They are at most 256.
+/// The numbers of frames of an exchange that ended, by their fate. They are at most 256 together.
 #[derive(Clone, Copy)]
 pub struct Ended {
-    /// Those that were acknowledged.
+    /// The number of acknowledged frames.
     pub acked: u16,
-    /// Those that wait for another transmission.
+    /// The number of frames that wait for another transmission.
     pub waiting: u16,
-    /// Those that were sent as often as the setting `attempts` allows, and are dropped.
+    /// The number of frames that were sent as often as the setting `attempts` allows, and are dropped.
     pub failed: u16,
 }
 
-/// An exchange that ended.
+/// An exchange that ended, with the facts that set the flags.
 #[derive(Clone, Copy)]
-pub struct Closed {
-    pub ended: Ended,
-    /// Whether its station is ready now in the class of its TID.
-    pub is_ready: bool,
+pub(crate) struct Closed {
+    pub(crate) ended: Ended,
+    /// Its station.
+    pub(crate) station: u16,
+    /// The class of its TID.
+    pub(crate) class: Class,
+    /// Whether its station is ready now in this class.
+    pub(crate) is_ready: bool,
 }
 
-// Whether what was heard shows a number.
+// Returns whether the BlockAck that was heard, if any, shows a number.
 fn is_shown(wide: bool, heard: &Option<(Seq12, Bits256)>, number: Seq12) -> bool
     ensures { result ≡ is_shown wide heard.now number }
 {
     match heard {
         Some((start, bits)) => {
             let offset = number.ahead(*start);
-            offset < (if wide { WIDE } else { NARROW }) && bits.has(offset)
+            offset < (if wide { GREATEST_WINDOW } else { NARROW_WINDOW }) && bits.has(offset)
         }
         None => false,
     }
 }
 
-impl Transmit {
-    /// An exchange ends: its station pays for it, and what it sent is settled. `heard` is what was heard in
-    /// answer: the start and the bits of a BlockAck (IEEE 802.11-2012, 8.3.1.9), of which the first 64 count,
-    /// or all 256 where the TID's window is above 64. Each number that it shows is acknowledged, and `acked`
-    /// counts them; each other one waits again, or fails where it was sent `attempts` times. A request is
-    /// heard where anything was. Where `air` is named, the station pays so many microseconds, and not what
-    /// was computed of the exchange. Where the exchange is not open, refused as NoExchange, and then, where
-    /// `air` is 0 or above the setting `charge`, as BadAir.
-    pub fn done(
+impl Half {
+    // Ends an exchange (`Transmit::done`).
+    pub(crate) fn done(
         &mut self,
         exchange: u64,
         heard: Option<(Seq12, Bits256)>,
@@ -95,9 +87,7 @@ impl Transmit {
             (self.new ≡ self.old)) }
         ensures acked { IfOk result (λ closed. IfSome (find (λ x. x.number == exchange) self.old.opened) (λ x.
             closed.ended.acked ≡ count_shown_of self.old heard x)) }
-        ensures ready { IfOk result (λ closed. IfSome (find (λ x. x.number == exchange) self.old.opened) (λ x.
-            closed.is_ready ≡ is_ready_of self.new (class_of x.tid) x.station)) }
-        ensures kept { IfNone heard (HasWorld self.new) }
+        ensures closed { IfOk result (HasClosed self.old self.new exchange) }
     {
         if self.has_bad_air(exchange, air) {
             return Err(Refusal::BadAir);
@@ -109,23 +99,26 @@ impl Transmit {
         self.sched.charge(open.station, open.class, charge);
         self.members.charge(open.station, open.class, charge);
         let ended = self.settle(&open, &heard);
-        let is_ready = self.list_in(open.station, Class::of_tid(open.tid));
-        Ok(Closed { ended, is_ready })
+        let class = Class::of_tid(open.tid);
+        let is_ready = self.list_in(open.station, class);
+        Ok(Closed {
+            ended,
+            station: open.station,
+            class,
+            is_ready,
+        })
     }
 
-    // Whether an exchange is open, and its end may not name this airtime.
+    // Returns whether an exchange is open and this airtime is out of range. It looks the exchange up only if
+    // the airtime is out of range.
     fn has_bad_air(&self, exchange: u64, air: Option<u32>) -> bool
         ensures { result ≡ has_bad_air self.now exchange air }
     {
-        let is_bad = match air {
-            Some(air) => air == 0 || air > self.config.charge,
-            None => false,
-        };
-        self.opened.find(exchange).is_some() && is_bad
+        self.config.is_bad_air(air) && self.opened.find(exchange).is_some()
     }
 
-    // What an exchange sent is settled, once it is closed and charged: the numbers of an aggregate by what
-    // was heard, and a request where anything was.
+    // Settles the transmissions of an exchange that is closed and charged: each number of an aggregate by the
+    // BlockAck that was heard, and a request if anything was heard.
     fn settle(&mut self, open: &Open, heard: &Option<(Seq12, Bits256)>) -> Ended
         requires some { IsClosed self.old open.now }
         ensures settled { (v : TransmitValue) (w : World) (bodies : ℕ → FrameValue) (e : ℕ) (x : Exchange)
@@ -143,7 +136,7 @@ impl Transmit {
     {
         match &open.sending {
             Sending::Data(numbers) => {
-                let wide = self.windows.at(open.station, open.tid).size() > NARROW;
+                let wide = self.windows.at(open.station, open.tid).size() > NARROW_WINDOW;
                 self.settle_all(open.station, open.tid, numbers, wide, heard)
             }
             Sending::Request(start) => {
@@ -159,7 +152,7 @@ impl Transmit {
         }
     }
 
-    // Settles each number of an aggregate, in its order, by what was heard.
+    // Settles each number of an aggregate, in order, by the BlockAck that was heard.
     fn settle_all(
         &mut self,
         station: u16,
@@ -194,7 +187,7 @@ impl Transmit {
         ended
     }
 
-    // What a window gave for a number is counted, and its frame finished where it has its fate.
+    // Counts how a window settled a number, and finishes its frame if it has its fate.
     fn account_for(&mut self, answer: Settled, ended: &mut Ended)
         requires fate { HasFate answer }
         requires room { CanFinish self.old 1 }
@@ -215,7 +208,7 @@ impl Transmit {
         }
     }
 
-    // A frame that has its fate is finished.
+    // Finishes a frame that has its fate.
     fn finish(&mut self, parcel: Parcel)
         requires fate { parcel.fate ≢ Held }
         requires room { CanFinish self.old 1 }

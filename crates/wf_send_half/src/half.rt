@@ -1,32 +1,31 @@
-//! What the transmit half keeps.
+//! The parts of the transmit half.
 
-ghost use Rattle.std.specs.Prelude.{◌≡◌, ◌<◌, ℕ, None, Some, length, is_some, option_map, IfOk};
+ghost use Rattle.std.specs.Prelude.{◌≡◌, ℕ, None, is_some, not, nat_le, count_by, IfOk};
+ghost use Rattle.wf_frame.specs.Classes.{same_class};
 ghost use Rattle.wf_frame.specs.Frames.{FrameValue};
 ghost use Rattle.wf_frame.specs.Settings.{first_out_of_range};
-ghost use Rattle.wf_def_world.specs.World.{World, opening, is_live, share, inside};
-ghost use Rattle.wf_send_parts.specs.Tally.{counts_of};
-ghost use Rattle.wf_sched.specs.ClassRotas.{deficit};
-ghost use Rattle.wf_send_parts.specs.Members.{member, charged_in, received_in};
-ghost use Rattle.wf_send_half_refines.specs.Standing.{StandsFor, counts_in};
-ghost use Rattle.wf_send_half.specs.Half.{HasWorld, IsLive};
+ghost use Rattle.wf_def_world.specs.World.{World, opening, is_live, rotation};
+ghost use Rattle.wf_send_parts.specs.Members.{member};
+ghost use Rattle.wf_send_half_model.specs.Standing.{StandsFor};
+ghost use Rattle.wf_send_half.specs.Listed.{list_of};
 
 use std::alloc::{AllocError, Global};
 use std::marker::Model;
 use wf_frame::{Class, Config};
-use wf_octets::tim::Sleepers;
 use wf_queue_flows::Flows;
-use wf_sched::stations::Sched;
+use wf_rotation::Side;
+use wf_sched::Sched;
 use wf_send_parts::exchanges::Opened;
-use wf_send_parts::stations::{Members, Tally};
+use wf_send_parts::stations::{Members, Sleepers, Tally};
 use wf_send_parts::window::Windows;
 
-/// The transmit half of a cell. A contract sees its parts, and says of a call what it makes of each world of
-/// a run that the half stands for (`wf_send_half_refines`). Only `new` takes memory.
-pub struct Transmit {
+/// The transmit half without the flags of `Transmit`. A contract sees its parts, and says what a call makes
+/// of each world of a run that the half stands for (`wf_send_half_model`).
+pub(crate) struct Half {
     pub(crate) config: Config,
     pub(crate) clock: u64,
     pub(crate) exchanges: u64,
-    /// The frames that are accepted and not reaped.
+    /// The number of frames that were accepted and not reaped.
     pub(crate) inside: u32,
     pub(crate) flows: Flows,
     pub(crate) sched: Sched,
@@ -37,10 +36,10 @@ pub struct Transmit {
     pub(crate) tally: Tally,
 }
 
-// By hand, so that whoever lets a half go proves one call and not the drop of each part of it.
-impl Drop for Transmit {
+// Written by hand, so that the proof of a drop is one call rather than the drop of each part.
+impl Drop for Half {
     fn drop(self) {
-        let Transmit {
+        let Half {
             config: _,
             clock: _,
             exchanges: _,
@@ -56,9 +55,9 @@ impl Drop for Transmit {
     }
 }
 
-impl Model for Transmit {
+impl Model for Half {
     ghost use Rattle.wf_send_parts.specs.Tally.{counts_of};
-    ghost use Rattle.wf_send_half_refines.specs.Half.{TransmitValue};
+    ghost use Rattle.wf_send_half_model.specs.Half.{TransmitValue};
     ghost use Rattle.wf_send_half.specs.Half.{HasSizes};
 
     ghost Value = { TransmitValue };
@@ -92,14 +91,12 @@ impl Model for Transmit {
     }) };
 }
 
-impl Transmit {
-    /// A half in which no station is live and to which no frame came. Each setting must be in its range
+impl Half {
+    /// Makes a half in which no station is live and to which no frame came. Each setting must be in its range
     /// (`Config::check`).
-    pub fn new(alloc: Global, config: Config) -> Result<Transmit, AllocError>
+    pub(crate) fn new(alloc: Global, config: Config) -> Result<Half, AllocError>
         requires { first_out_of_range config ≡ None }
-        ensures stands { IfOk result (λ made. (bodies : ℕ → FrameValue) →
-            StandsFor made (opening config) bodies) }
-        ensures some { IfOk result HasWorld }
+        ensures { IfOk result (λ made. (bodies : ℕ → FrameValue) → StandsFor made (opening config) bodies) }
     {
         let opened = Opened::new(alloc)?;
         let sleepers = Sleepers::new(alloc, config.stations)?;
@@ -107,7 +104,7 @@ impl Transmit {
         let windows = Windows::new(alloc, config.stations)?;
         let sched = Sched::new(alloc, config.stations, config.quantum)?;
         let flows = Flows::new(alloc, config)?;
-        Ok(Transmit {
+        Ok(Half {
             config,
             clock: 0,
             exchanges: 0,
@@ -122,62 +119,8 @@ impl Transmit {
         })
     }
 
-    /// The settings.
-    pub fn config(&self) -> Config
-        ensures value { result ≡ self.now.config }
-        ensures world { (w : World) (bodies : ℕ → FrameValue) → StandsFor self.now w bodies →
-            result ≡ w.config }
-    {
-        self.config
-    }
-
-    /// The clock, in microseconds.
-    pub fn now(&self) -> u64
-        ensures value { result ≡ self.now.clock }
-        ensures world { (w : World) (bodies : ℕ → FrameValue) → StandsFor self.now w bodies →
-            result ≡ w.clock }
-    {
-        self.clock
-    }
-
-    /// How many exchanges were opened.
-    pub fn exchanges(&self) -> u64
-        ensures value { result ≡ self.now.exchanges }
-        ensures world { (w : World) (bodies : ℕ → FrameValue) → StandsFor self.now w bodies →
-            result ≡ w.exchanges }
-    {
-        self.exchanges
-    }
-
-    /// How many exchanges are open, at most 32.
-    pub fn open_count(&self) -> u32
-        ensures value { result ≡ length self.now.opened }
-        ensures world { (w : World) (bodies : ℕ → FrameValue) → StandsFor self.now w bodies →
-            result ≡ length w.opened }
-    {
-        self.opened.len()
-    }
-
-    /// How many frames were accepted and not reaped.
-    pub fn inside(&self) -> u32
-        ensures value { result ≡ self.now.inside }
-        ensures world { (w : World) (bodies : ℕ → FrameValue) → StandsFor self.now w bodies →
-            result ≡ inside w }
-    {
-        self.inside
-    }
-
-    /// The accepted frames by what became of them.
-    pub fn tally(&self) -> Tally
-        ensures value { counts_of result ≡ self.now.tally }
-        ensures world { (w : World) (bodies : ℕ → FrameValue) → StandsFor self.now w bodies →
-            counts_of result ≡ counts_in w }
-    {
-        self.tally
-    }
-
-    /// Whether a station is live; one past the last is not.
-    pub fn is_live(&self, station: u16) -> bool
+    // Returns whether a station is live (`Transmit::is_live`).
+    fn is_live(&self, station: u16) -> bool
         ensures value { result ≡ is_some (member self.now.members station) }
         ensures world { (w : World) (bodies : ℕ → FrameValue) → StandsFor self.now w bodies →
             result ≡ is_live w station }
@@ -185,34 +128,23 @@ impl Transmit {
         u32::from(station) < self.config.stations && self.members.is_live(station)
     }
 
-    /// The deficit of a live station in a class, in microseconds.
-    pub fn deficit(&self, station: u16, class: Class) -> i64
-        requires live { IsLive self.now station }
-        ensures value { result ≡ deficit self.now.sched class station }
-        ensures world { (w : World) (bodies : ℕ → FrameValue) → StandsFor self.now w bodies →
-            result ≡ (share w station class).deficit }
+    // Returns the list of a class that a station is on (`Transmit::listed`).
+    pub(crate) fn listed(&self, station: u16, class: Class) -> Option<Side>
+        ensures { (w : World) (bodies : ℕ → FrameValue) → StandsFor self.now w bodies →
+            result ≡ list_of (rotation w class) station }
     {
-        self.sched.deficit(station, class)
+        if self.is_live(station) {
+            self.sched.listed(station, class)
+        } else {
+            None
+        }
     }
 
-    /// The airtime of a live station's exchanges in a class since its join, in microseconds.
-    pub fn charged(&self, station: u16, class: Class) -> u64
-        requires live { IsLive self.now station }
-        ensures value { option_map (λ m. charged_in m class) (member self.now.members station) ≡ Some result }
-        ensures world { (w : World) (bodies : ℕ → FrameValue) → StandsFor self.now w bodies →
-            result ≡ (share w station class).charged }
+    // Returns whether fewer exchanges of a class are open than the setting `inflight` allows.
+    pub(crate) fn may_open(&self, class: Class) -> bool
+        ensures { result ≡ not (nat_le self.now.config.inflight
+            (count_by (λ x. same_class x.class class) self.now.opened)) }
     {
-        self.members.member(station).charged[class.number()]
-    }
-
-    /// The airtime that a live station itself used in a class since its join, in microseconds.
-    pub fn received(&self, station: u16, class: Class) -> u64
-        requires live { IsLive self.now station }
-        ensures value { option_map (λ m. received_in m class) (member self.now.members station)
-            ≡ Some result }
-        ensures world { (w : World) (bodies : ℕ → FrameValue) → StandsFor self.now w bodies →
-            result ≡ (share w station class).received }
-    {
-        self.members.member(station).received[class.number()]
+        self.opened.of_class(class) < self.config.inflight
     }
 }

@@ -1,35 +1,32 @@
-//! A station that leaves: TID by TID its window gives its frames, and its flow queues are purged.
+//! A station leaves: TID by TID, the frames of its window are finished, and its flow queues are purged.
 
 ghost use Rattle.std.specs.Prelude.{◌≡◌, ◌<◌, ℕ, ◌+◌, true, false, None, length, IfOk, IfErr};
 ghost use Rattle.wf_frame.specs.Frames.{FrameValue};
 ghost use Rattle.wf_frame.specs.declared.notes.Ask.TheVariants.{Leave};
 ghost use Rattle.wf_frame.specs.declared.notes.Note.TheVariants.{Asked};
-ghost use Rattle.wf_frame.specs.declared.notes.ReplyNote.TheVariants.{Gone};
+ghost use Rattle.wf_frame.specs.declared.notes.ReplyNote.TheVariants.{Left};
 ghost use Rattle.wf_def_world.specs.World.{World};
 ghost use Rattle.wf_def_world.specs.Refusals.{refusal};
 ghost use Rattle.wf_send_parts.specs.Windows.{WindowsHaveRoom, window_of};
-ghost use Rattle.wf_send_half_refines.specs.Half.{TransmitValue};
-ghost use Rattle.wf_send_half_refines.specs.Leaving.{IsLeaving, IsExpelled};
-ghost use Rattle.wf_send_half_refines.specs.Standing.{StandsFor, Meets};
+ghost use Rattle.wf_send_half_model.specs.Half.{TransmitValue};
+ghost use Rattle.wf_send_half_model.specs.Leaving.{IsLeaving, IsExpelled};
+ghost use Rattle.wf_send_half_model.specs.Standing.{StandsFor, Meets};
 ghost use Rattle.wf_send_half.specs.Half.{HasWorld};
 ghost use Rattle.wf_send_half.specs.Leaving.{GivesFrames, MayLeave, SomeLeaves, SomeGives};
 ghost use Rattle.std.specs.Result.{result_err};
 ghost use Rattle.wf_send_half.specs.Replies.{reply_of_result};
 
-use crate::Transmit;
+use crate::half::Half;
 use crate::refuse::refuse_where;
 use wf_frame::{Cause, Fate, Refusal};
 
-impl Transmit {
-    /// A station leaves, and its frames are dropped as Left; how many they were. They go last on the finished
-    /// list, by TID: first those that have a number, by their numbers, then those of the flow queues, by
-    /// queue. Refused as BadStation or NoStation, or as StillOpen where exchanges of the station are open.
-    pub fn leave(&mut self, station: u16) -> Result<u32, Refusal>
+impl Half {
+    // A station leaves, and its frames are dropped (`Transmit::leave`).
+    pub(crate) fn leave(&mut self, station: u16) -> Result<u32, Refusal>
         requires some { HasWorld self.old }
         ensures meets { (w : World) (bodies : ℕ → FrameValue) → StandsFor self.old w bodies →
-            Meets w bodies (Asked (Leave station)) self.new (reply_of_result Gone result) }
+            Meets w bodies (Asked (Leave station)) self.new (reply_of_result Left result) }
         ensures refused { IfErr result (λ _. self.new ≡ self.old) }
-        ensures kept { HasWorld self.old → HasWorld self.new }
     {
         self.check_leave(station)?;
         let dropped = self.drop_all(station);
@@ -39,7 +36,7 @@ impl Transmit {
         Ok(dropped)
     }
 
-    // A station of which no exchange is open.
+    // Checks that a station is live and has no open exchange.
     fn check_leave(&self, station: u16) -> Result<(), Refusal>
         ensures refused { (w : World) (bodies : ℕ → FrameValue) → StandsFor self.now w bodies →
             result_err result ≡ refusal w (Asked (Leave station)) }
@@ -48,10 +45,10 @@ impl Transmit {
         self.in_range(station)?;
         self.live(station)?;
         let count = self.opened.of_station(station);
-        refuse_where(0 < count, Refusal::StillOpen { count })
+        refuse_where(0 < count, Refusal::Open { count })
     }
 
-    // Drops the frames of a station, TID by TID, and gives their count. They are not settled yet.
+    // Drops the frames of a station, TID by TID, and returns their number. They are not settled yet.
     fn drop_all(&mut self, station: u16) -> u32
         requires some { MayLeave self.old station }
         ensures left { (w : World) (bodies : ℕ → FrameValue) → StandsFor self.old w bodies →
@@ -66,7 +63,7 @@ impl Transmit {
         dropped
     }
 
-    // Drops the frames of a TID, those of its window and then those of its queues, and gives their count.
+    // Drops the frames of a TID, those of its window and then those of its queues, and returns their number.
     fn drop_tid(&mut self, station: u16, tid: u8) -> u32
         requires tid { tid < 8 }
         requires some { SomeLeaves self.old station tid }
@@ -79,7 +76,7 @@ impl Transmit {
         expelled + self.flows.purge(station, tid)
     }
 
-    // Finishes the frames in the window of a TID, by their numbers, and gives their count.
+    // Finishes the frames in the window of a TID, by their sequence numbers, and returns their number.
     fn expel_all(&mut self, station: u16, tid: u8) -> u32
         requires tid { tid < 8 }
         requires some { SomeLeaves self.old station tid }
@@ -95,7 +92,8 @@ impl Transmit {
         count
     }
 
-    // Finishes the frame of the lowest number in the window of a TID. False where the window holds none.
+    // Finishes the frame with the lowest sequence number in the window of a TID. False if the window is
+    // empty.
     fn expel_one(&mut self, station: u16, tid: u8) -> bool
         requires tid { tid < 8 }
         requires some { SomeGives self.old station tid }

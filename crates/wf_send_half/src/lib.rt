@@ -1,14 +1,18 @@
-//! The transmit half of an access point, `Transmit`: the flow queues, the scheduler, the windows, the
-//! members, the sleepers and the open exchanges, with the readers and a method for each call of the machine
-//! (`wf_def_world`) that it hears.
+//! The transmit half of an access point, `Transmit`: the flow queues, the scheduler, the windows, the live
+//! stations, the sleepers and the open exchanges, and which stations are ready. It has a method for each call
+//! of the machine (`wf_def_world`) except those of receivers, and methods that read it.
 //!
-//! Where a call is refused it changes nothing, but for a pull that is idle. Only `new` takes memory.
-//! `unheard` has the law of a half whose driver tells of receivers by BlockAcks alone.
+//! A refused call changes nothing, except a pull that is idle. Only `new` allocates memory. `Transmit` stores
+//! the flags and the parts, which are a `Half`: the methods of `Half` change the parts, and those of
+//! `Transmit` set the flags afterwards. `unheard` has the law of a half whose driver knows receivers by
+//! BlockAcks alone.
 #![tactic(auto)]
 
+mod calls;
 mod enqueue;
 mod fill;
 mod finish;
+mod flags;
 mod frames;
 mod half;
 mod leave;
@@ -17,9 +21,9 @@ mod readers;
 mod ready;
 mod refuse;
 mod stations;
+mod transmit;
 pub mod unheard;
 
 pub use enqueue::Admission;
-pub use finish::{Closed, Ended};
-pub use half::Transmit;
-pub use pull::Pulled;
+pub use finish::Ended;
+pub use transmit::Transmit;

@@ -1,4 +1,4 @@
-//! What the driver sends next.
+//! The next exchange of a class.
 
 ghost use Rattle.std.specs.Prelude.{◌≡◌, ◌<◌, ◌^◌, ◌||◌, ℕ, List, [], All, true, nat_le, nat_lt, count_by, length};
 ghost use Rattle.wf_frame.specs.Classes.{same_class, tid_number};
@@ -11,31 +11,30 @@ ghost use Rattle.wf_frame.specs.declared.notes.Refusal.TheVariants.{Full};
 ghost use Rattle.wf_queue_flows.specs.Flows.{frames_of_tid};
 ghost use Rattle.wf_send_parts.specs.Windows.{window_of};
 ghost use Rattle.wf_def_world.specs.World.{World, Mpdu};
-ghost use Rattle.wf_send_half_refines.specs.Half.{some_wait, is_ready_of};
-ghost use Rattle.wf_send_half_refines.specs.Standing.{StandsFor, Meets, numbers_on_air};
-ghost use Rattle.wf_send_half_refines.specs.Changes.{after_listing_in};
-ghost use Rattle.wf_send_half_refines.specs.Filling.{IsTakingOff};
-ghost use Rattle.wf_send_half_refines.specs.Pulling.{sending_tid_of, after_turn, has_more_of, open_next, after_sending};
+ghost use Rattle.wf_send_half_model.specs.Half.{some_wait, is_ready_of};
+ghost use Rattle.wf_send_half_model.specs.Standing.{StandsFor, Meets, numbers_on_air};
+ghost use Rattle.wf_send_half_model.specs.Changes.{after_listing_in};
+ghost use Rattle.wf_send_half_model.specs.Filling.{IsTakingOff};
+ghost use Rattle.wf_send_half_model.specs.Pulling.{sending_tid_of, after_turn, has_more_of, open_next, after_sending};
 ghost use Rattle.wf_send_half.specs.Replies.{bodies_sent};
 ghost use Rattle.wf_send_half.specs.Half.{HasWorld, IsLive};
 ghost use Rattle.wf_send_half.specs.Pulls.{IsSenderTold, TellsWhoIsReady, IsExponentSmall, IsSameButFrames, HasTakingOff, IsFlying, HasToPrepare, IsPreparedFor, start_sent};
 
-use crate::Transmit;
-use crate::finish::NARROW;
+use crate::half::Half;
 use wf_air::time::request_charge;
-use wf_frame::{Brief, Class, Pairs, Refusal};
+use wf_frame::{Brief, Class, NARROW_WINDOW, Pairs, Refusal};
 use wf_send_parts::exchanges::{Numbers, Open, Sending};
 
-/// What a pull comes to.
+/// The outcome of a pull.
 #[derive(Clone, Copy)]
-pub struct Pulled {
+pub(crate) struct Pulled {
     /// The answer.
-    pub brief: Brief,
-    /// Whether the station that sends, if one does, is ready in the class again.
-    pub is_ready: bool,
+    pub(crate) brief: Brief,
+    /// Whether the station that sends, if one does, is ready in the class after the pull.
+    pub(crate) is_ready: bool,
 }
 
-/// What an exchange sends, its charge in microseconds, and its start where it is a request.
+/// The transmissions of an exchange, its charge in microseconds, and the start of a request.
 #[derive(Drop)]
 pub(crate) struct Prepared {
     sending: Sending,
@@ -43,13 +42,10 @@ pub(crate) struct Prepared {
     request: Option<u16>,
 }
 
-impl Transmit {
-    /// The driver asks for the next exchange of a class. `ready` has an entry for each station, which tells
-    /// of a listed one whether it is ready in the class. The station whose turn it is sends what is due on
-    /// one of its TIDs: a request, or an aggregate, whose frames are written to `pairs`, each by its id and
-    /// its sequence number, and count that they are sent once more. Refused as Full where as many exchanges
-    /// of the class are open as the setting `inflight` allows, or as Idle where no listed station is ready.
-    pub fn pull(&mut self, class: Class, ready: &[bool], pairs: &mut Pairs) -> Pulled
+impl Half {
+    // Opens the next exchange of a class (`Transmit::pull`). `ready` has an entry for each station; for a
+    // listed station the entry says whether it is ready in the class.
+    pub(crate) fn pull(&mut self, class: Class, ready: &[bool], pairs: &mut Pairs) -> Pulled
         requires some { HasWorld self.old }
         requires told { TellsWhoIsReady self.old class ready.now }
         requires clock { self.old.clock < 2 ^ 62 }
@@ -62,7 +58,6 @@ impl Transmit {
             (count_by (λ x. same_class x.class class) self.old.opened) ≡ true →
             (result.brief ≡ Refused (Full (count_by (λ x. same_class x.class class) self.old.opened))) ×
             (self.new ≡ self.old) }
-        ensures kept { HasWorld self.new }
     {
         let count = self.opened.of_class(class);
         if self.config.inflight <= count {
@@ -84,7 +79,7 @@ impl Transmit {
         }
     }
 
-    // Opens an exchange, which uses up the credit of its station.
+    // Opens an exchange, which spends the credit of its station.
     fn put_on_air(&mut self, station: u16, tid: u8, class: Class, prepared: Prepared) -> Pulled
         requires within { station < self.old.config.stations }
         requires small { self.old.exchanges < 2 ^ 62 }
@@ -128,7 +123,7 @@ impl Transmit {
         Pulled { brief, is_ready }
     }
 
-    // Whether a number waits or a frame is queued on some TID of a station.
+    // Returns whether a number waits or a frame is queued on some TID of a station.
     pub(crate) fn has_more(&self, station: u16) -> bool
         requires within { station < self.now.config.stations }
         ensures { result ≡ has_more_of self.now station }
@@ -143,7 +138,7 @@ impl Transmit {
             || self.has_some(station, 7)
     }
 
-    // Whether a number of a TID waits or a frame is queued.
+    // Returns whether a number of a TID waits or a frame is queued.
     fn has_some(&self, station: u16, tid: u8) -> bool
         requires within { station < self.now.config.stations }
         requires tid { tid < 8 }
@@ -153,7 +148,7 @@ impl Transmit {
         self.windows.at(station, tid).has_waiting() || self.flows.queued(station, tid) > 0
     }
 
-    // A request where one is due, else an aggregate, whose numbers fly from then on.
+    // Prepares a request if one is due, else an aggregate, whose numbers fly from then on.
     fn prepare(&mut self, station: u16, tid: u8, pairs: &mut Pairs) -> Prepared
         requires within { station < self.old.config.stations }
         requires tid { tid < 8 }
@@ -170,12 +165,12 @@ impl Transmit {
             let start = window.start();
             return Prepared {
                 sending: Sending::Request(start),
-                charge: request_charge(window.size() > NARROW),
+                charge: request_charge(window.size() > NARROW_WINDOW),
                 request: Some(start.raw()),
             };
         }
         let aggregate = self.fill(station, tid);
-        let charge = aggregate.room.air();
+        let charge = aggregate.size.air();
         let numbers = aggregate.numbers;
         self.fly_all(station, tid, &numbers, pairs);
         Prepared {
@@ -185,8 +180,8 @@ impl Transmit {
         }
     }
 
-    // The TID that sends: the one whose turn it is, where it can, else the other. The turn goes to the TID
-    // that does not.
+    // Returns the TID that sends: the TID whose turn it is, if it can send, else the other. The next turn is
+    // that of the TID that does not send.
     fn take_turn(&mut self, station: u16, class: Class) -> u8
         requires within { station < self.old.config.stations }
         requires live { IsLive self.old station }
@@ -210,7 +205,8 @@ impl Transmit {
         tid
     }
 
-    // Lets numbers fly in the next exchange, and writes each with the id of its frame, which counts it.
+    // Marks numbers as in flight in the next exchange, and writes each with the id of its frame, which counts
+    // it.
     fn fly_all(&mut self, station: u16, tid: u8, numbers: &Numbers, pairs: &mut Pairs)
         requires within { station < self.old.config.stations }
         requires tid { tid < 8 }

@@ -1,59 +1,178 @@
-//! What a path reads of the half beside its calls.
+//! What a transmit half reports without changing.
 
-ghost use Rattle.std.specs.Prelude.{◌≡◌, ◌<◌, ◌==◌, ◌&&◌, not, nat_le, count_by, is_some, find, option_map};
+ghost use Rattle.std.specs.Prelude.{◌≡◌, ◌<◌, ◌==◌, ◌&&◌, ℕ, length, is_none, is_some, find, option_map, Some};
+ghost use Rattle.wf_frame.specs.Classes.{tid_number};
+ghost use Rattle.wf_frame.specs.Frames.{FrameValue};
+ghost use Rattle.wf_frame.specs.declared.notes.Ask.TheVariants.{Pull};
+ghost use Rattle.wf_frame.specs.declared.notes.Note.TheVariants.{Asked};
+ghost use Rattle.wf_def_world.specs.Refusals.{refusal};
+ghost use Rattle.wf_def_world.specs.World.{World, is_live, share, rotation, inside};
 ghost use Rattle.wf_queue_flows.specs.Flows.{frames_of_tid};
-ghost use Rattle.wf_frame.specs.Classes.{same_class, tid_number};
-ghost use Rattle.wf_send_parts.specs.Members.{member};
-ghost use Rattle.wf_octets.specs.Sleepers.{sleeper};
+ghost use Rattle.wf_sched.specs.ClassRotas.{deficit};
+ghost use Rattle.wf_send_parts.specs.Members.{member, charged_in, received_in};
+ghost use Rattle.wf_send_parts.specs.Sleepers.{sleeper};
+ghost use Rattle.wf_send_parts.specs.Tally.{counts_of};
 ghost use Rattle.wf_send_parts.specs.Windows.{window_of};
-ghost use Rattle.wf_send_half_refines.specs.Pulling.{has_more_of};
+ghost use Rattle.wf_send_half_model.specs.Pulling.{has_more_of};
+ghost use Rattle.wf_send_half_model.specs.Standing.{StandsFor, counts_in};
+ghost use Rattle.wf_send_half.specs.Half.{IsLive};
+ghost use Rattle.wf_send_half.specs.Listed.{list_of};
 
 use crate::Transmit;
-use wf_frame::Class;
+use wf_frame::{Class, Config};
+use wf_rotation::Side;
 use wf_send_parts::exchanges::Open;
+use wf_send_parts::stations::Tally;
 use wf_send_parts::window::Window;
 
 impl Transmit {
-    /// The open exchange with this number. None where it is not open.
+    /// Returns the settings.
+    pub fn config(&self) -> Config
+        ensures value { result ≡ self.now.config }
+        ensures world { (w : World) (bodies : ℕ → FrameValue) → StandsFor self.now w bodies →
+            result ≡ w.config }
+    {
+        self.half.config
+    }
+
+    /// Returns the clock, in microseconds.
+    pub fn now(&self) -> u64
+        ensures value { result ≡ self.now.clock }
+        ensures world { (w : World) (bodies : ℕ → FrameValue) → StandsFor self.now w bodies →
+            result ≡ w.clock }
+    {
+        self.half.clock
+    }
+
+    /// Returns how many exchanges were opened.
+    pub fn exchanges(&self) -> u64
+        ensures value { result ≡ self.now.exchanges }
+        ensures world { (w : World) (bodies : ℕ → FrameValue) → StandsFor self.now w bodies →
+            result ≡ w.exchanges }
+    {
+        self.half.exchanges
+    }
+
+    /// Returns how many exchanges are open, at most 32.
+    pub fn open_count(&self) -> u32
+        ensures value { result ≡ length self.now.opened }
+        ensures world { (w : World) (bodies : ℕ → FrameValue) → StandsFor self.now w bodies →
+            result ≡ length w.opened }
+    {
+        self.half.opened.len()
+    }
+
+    /// Returns how many frames were accepted and not reaped.
+    pub fn inside(&self) -> u32
+        ensures value { result ≡ self.now.inside }
+        ensures world { (w : World) (bodies : ℕ → FrameValue) → StandsFor self.now w bodies →
+            result ≡ inside w }
+    {
+        self.half.inside
+    }
+
+    /// Returns how many frames were accepted, and how many of them have each fate.
+    pub fn tally(&self) -> Tally
+        ensures value { counts_of result ≡ self.now.tally }
+        ensures world { (w : World) (bodies : ℕ → FrameValue) → StandsFor self.now w bodies →
+            counts_of result ≡ counts_in w }
+    {
+        self.half.tally
+    }
+
+    /// Returns whether a station is live. A number past the last station is not.
+    pub fn is_live(&self, station: u16) -> bool
+        ensures value { result ≡ is_some (member self.now.members station) }
+        ensures world { (w : World) (bodies : ℕ → FrameValue) → StandsFor self.now w bodies →
+            result ≡ is_live w station }
+    {
+        u32::from(station) < self.half.config.stations && self.half.members.is_live(station)
+    }
+
+    /// Returns the deficit of a live station in a class, in microseconds.
+    pub fn deficit(&self, station: u16, class: Class) -> i64
+        requires live { IsLive self.now station }
+        ensures value { result ≡ deficit self.now.sched class station }
+        ensures world { (w : World) (bodies : ℕ → FrameValue) → StandsFor self.now w bodies →
+            result ≡ (share w station class).deficit }
+    {
+        self.half.sched.deficit(station, class)
+    }
+
+    /// Returns the list of a class that a station is on, the new one or the old one. None if it is on
+    /// neither, as a station that is not live.
+    pub fn listed(&self, station: u16, class: Class) -> Option<Side>
+        ensures { (w : World) (bodies : ℕ → FrameValue) → StandsFor self.now w bodies →
+            result ≡ list_of (rotation w class) station }
+    {
+        self.half.listed(station, class)
+    }
+
+    /// Returns the airtime of a live station's exchanges in a class since its join, in microseconds.
+    pub fn charged(&self, station: u16, class: Class) -> u64
+        requires live { IsLive self.now station }
+        ensures value { option_map (λ m. charged_in m class) (member self.now.members station) ≡ Some result }
+        ensures world { (w : World) (bodies : ℕ → FrameValue) → StandsFor self.now w bodies →
+            result ≡ (share w station class).charged }
+    {
+        self.half.members.member(station).charged[class.number()]
+    }
+
+    /// Returns the airtime that a live station itself used in a class since its join, in microseconds.
+    pub fn received(&self, station: u16, class: Class) -> u64
+        requires live { IsLive self.now station }
+        ensures value { option_map (λ m. received_in m class) (member self.now.members station)
+            ≡ Some result }
+        ensures world { (w : World) (bodies : ℕ → FrameValue) → StandsFor self.now w bodies →
+            result ≡ (share w station class).received }
+    {
+        self.half.members.member(station).received[class.number()]
+    }
+
+    /// Returns the open exchange with this number. None if it is not open.
     pub fn exchange(&self, number: u64) -> Option<&Open>
         ensures { option_map (λ x. x.now) result ≡ find (λ x. x.number == number) self.now.opened }
     {
-        self.opened.find(number)
+        self.half.opened.find(number)
     }
 
-    /// The window of a TID. The station's number is below the setting `stations`.
+    /// Returns the window of a TID. The station's number is below the setting `stations`.
     pub fn window(&self, station: u16, tid: u8) -> &Window
         requires within { station < self.now.config.stations }
         requires tid { tid < 8 }
         ensures { result.now ≡ window_of self.now.windows station tid }
     {
-        self.windows.at(station, tid)
+        self.half.windows.at(station, tid)
     }
 
-    /// Whether fewer exchanges of a class are open than the setting `inflight` allows.
-    pub fn may_open(&self, class: Class) -> bool
-        ensures { result ≡ not (nat_le self.now.config.inflight
-            (count_by (λ x. same_class x.class class) self.now.opened)) }
+    /// Returns whether a pull of a class would send now: exactly if it would be refused neither as Full nor
+    /// as Idle.
+    pub fn can_pull(&self, class: Class) -> bool
+        ensures { (w : World) (bodies : ℕ → FrameValue) → StandsFor self.now w bodies →
+            result ≡ is_none (refusal w (Asked (Pull class))) }
     {
-        self.opened.of_class(class) < self.config.inflight
+        self.half.may_open(class) && self.ready.has_any(class)
     }
 
-    /// How many frames of a TID are in flow queues. The station's number is below the setting `stations`.
+    /// Returns how many frames of a TID are in flow queues. The station's number is below the setting
+    /// `stations`.
     pub fn queued(&self, station: u16, tid: u8) -> u32
         requires within { station < self.now.config.stations }
         requires tid { tid < 8 }
         ensures { result ≡ frames_of_tid self.now.flows (tid_number station tid) }
     {
-        self.flows.queued(station, tid)
+        self.half.flows.queued(station, tid)
     }
 
-    /// Whether a station is live and sleeps, and a number waits or a frame is queued for it on some TID: what
-    /// its bit of the TIM tells (IEEE 802.11-2012, 8.4.2.7).
+    /// Returns the bit of a station in the TIM (IEEE 802.11-2012, 8.4.2.7): whether it is live and sleeps,
+    /// and a number waits or a frame is queued for it on some TID.
     pub fn has_traffic(&self, station: u16) -> bool
         requires within { station < self.now.config.stations }
         ensures { result ≡ (is_some (member self.now.members station)
             && ((sleeper self.now.sleepers station).asleep && has_more_of self.now station)) }
     {
-        self.members.is_live(station) && self.sleepers.asleep(station) && self.has_more(station)
+        self.half.members.is_live(station)
+            && self.half.sleepers.asleep(station)
+            && self.half.has_more(station)
     }
 }

@@ -1,22 +1,22 @@
-//! Who can send, and who is listed for it.
+//! Which stations are ready, and how the scheduler lists them.
 
 ghost use Rattle.std.specs.Prelude.{◌≡◌, ◌<◌, ℕ};
 ghost use Rattle.wf_frame.specs.Frames.{FrameValue};
 ghost use Rattle.wf_def_world.specs.World.{World};
 ghost use Rattle.wf_def_world.specs.CanSend.{is_ready, has_credit};
-ghost use Rattle.wf_octets.specs.Sleepers.{sleeper};
-ghost use Rattle.wf_send_half_refines.specs.Half.{can_send_of, is_ready_of};
-ghost use Rattle.wf_send_half_refines.specs.Standing.{StandsFor};
-ghost use Rattle.wf_send_half_refines.specs.Changes.{after_listing, after_listing_in};
+ghost use Rattle.wf_send_parts.specs.Sleepers.{sleeper};
+ghost use Rattle.wf_send_half_model.specs.Half.{can_send_of, is_ready_of};
+ghost use Rattle.wf_send_half_model.specs.Standing.{StandsFor};
+ghost use Rattle.wf_send_half_model.specs.Changes.{after_listing, after_listing_in};
 ghost use Rattle.wf_send_half.specs.Half.{can_send_in_of};
 
-use crate::Transmit;
+use crate::half::Half;
 use wf_frame::Class;
 
-impl Transmit {
-    /// Whether a station is ready in a class: it is live, one of the class's two TIDs can send, and it is
-    /// awake or has a credit for the class. The station's number is below the setting `stations`.
-    pub fn is_ready(&self, station: u16, class: Class) -> bool
+impl Half {
+    /// Returns whether a station is ready in a class: it is live, one of the class's two TIDs can send, and
+    /// it is awake or has a credit for the class. The station's number is below the setting `stations`.
+    pub(crate) fn is_ready(&self, station: u16, class: Class) -> bool
         requires within { station < self.now.config.stations }
         ensures value { result ≡ is_ready_of self.now class station }
         ensures world { (w : World) (bodies : ℕ → FrameValue) → StandsFor self.now w bodies →
@@ -27,7 +27,7 @@ impl Transmit {
             && (!self.sleepers.asleep(station) || self.has_credit(station, class))
     }
 
-    // Whether a station has the credit of a class.
+    // Returns whether a station has a credit for a class.
     fn has_credit(&self, station: u16, class: Class) -> bool
         requires within { station < self.now.config.stations }
         ensures value { result ≡ has_credit (sleeper self.now.sleepers station).credit class }
@@ -38,7 +38,7 @@ impl Transmit {
         }
     }
 
-    // Whether one of the two TIDs of a class can send.
+    // Returns whether one of the two TIDs of a class can send.
     pub(crate) fn can_send_in(&self, station: u16, class: Class) -> bool
         requires within { station < self.now.config.stations }
         ensures value { result ≡ can_send_in_of self.now station class }
@@ -47,8 +47,8 @@ impl Transmit {
         self.can_send(station, lower) || self.can_send(station, upper)
     }
 
-    // Whether a TID can send: where a request is due, unless one is in an open exchange; else where a number
-    // waits or a frame is queued that the window takes.
+    // Returns whether a TID can send. If a request is due: whether none is in an open exchange. Else: whether
+    // a number waits, or a frame is queued and the window has room for it.
     pub(crate) fn can_send(&self, station: u16, tid: u8) -> bool
         requires within { station < self.now.config.stations }
         requires tid { tid < 8 }
@@ -73,8 +73,8 @@ impl Transmit {
         self.list_in(station, Class::Vo);
     }
 
-    // Lists a station in a class where it is ready in it and unlisted, and tells whether it is ready in it.
-    // That is enough after a call by which it gets ready in no other class.
+    // Lists a station in a class if it is ready in it and unlisted, and returns whether it is ready in it.
+    // This is enough after a call that makes it ready in no other class.
     pub(crate) fn list_in(&mut self, station: u16, class: Class) -> bool
         requires within { station < self.old.config.stations }
         ensures listed { self.new ≡ after_listing_in self.old station class }

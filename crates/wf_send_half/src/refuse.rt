@@ -1,4 +1,4 @@
-//! When the calls are refused: each for the first reason that holds, in the order of the machine.
+//! The checks of the calls. A call is refused for the first reason that holds, in the order of the machine.
 
 ghost use Rattle.std.specs.Prelude.{◌≡◌, ◌<◌, ◌≤◌, ℕ, ◌-ℤ◌, pos, int_lt, true, false, [], ◌∷◌, None, Some, is_some, not, find, IfOk, IfErr, if◌then◌else◌, nat_le};
 ghost use Rattle.wf_frame.specs.Frames.{FrameValue};
@@ -12,42 +12,27 @@ ghost use Rattle.wf_def_world.specs.Rates.{rate_asked};
 ghost use Rattle.wf_def_world.specs.World.{World, share};
 ghost use Rattle.wf_def_world.specs.Refusals.{refusal, is_within};
 ghost use Rattle.wf_def_world.specs.Step.{class_to_send};
-ghost use Rattle.wf_octets.specs.Sleepers.{sleeper};
-ghost use Rattle.wf_send_half_refines.specs.Standing.{StandsFor};
+ghost use Rattle.wf_send_parts.specs.Sleepers.{sleeper};
+ghost use Rattle.wf_send_half_model.specs.Standing.{StandsFor};
 ghost use Rattle.wf_send_parts.specs.Members.{member};
 ghost use Rattle.wf_send_half.specs.Half.{IsLive, can_send_in_of};
 ghost use Rattle.std.specs.Result.{result_err};
 
-use crate::Transmit;
+use crate::half::Half;
 use wf_air::time::Rate;
-use wf_frame::{AskedRate, Class, Refusal};
+use wf_frame::{
+    AskedRate, Class, GREATEST_AIR, GREATEST_EXPONENT, GREATEST_START, GREATEST_TICK,
+    GREATEST_WEIGHT, GREATEST_WINDOW, Refusal,
+};
 
-/// The most that one tick moves the clock, in microseconds.
-const LONGEST_TICK: u32 = 10_000_000;
-
-/// The most airtime of one receive charge, in microseconds.
-const LONGEST_AIR: u32 = 65_535;
-
-/// The greatest window of an agreement, in frames.
-const GREATEST_WINDOW: u32 = 256;
-
-/// The greatest sequence number, of twelve bits (IEEE 802.11-2012, 8.2.4.4.2).
-const GREATEST_NUMBER: u16 = 4095;
-
-/// The greatest maximum A-MPDU length exponent (8.4.2.58.3).
-const GREATEST_EXPONENT: u8 = 3;
-
-/// The greatest weight of a station, in quanta.
-const GREATEST_WEIGHT: u32 = 16;
-
-// Whether a number is one of 1 to the greatest.
+// Returns whether a number is from 1 to the greatest.
 fn is_within(greatest: u32, number: u32) -> bool
     ensures { result ≡ is_within 1 greatest number }
 {
     1 <= number && number <= greatest
 }
 
-// Refused for this reason where a condition holds.
+// Refuses for this reason if a condition holds.
 pub(crate) fn refuse_where(condition: bool, reason: Refusal) -> Result<(), Refusal>
     ensures refused { result_err result ≡ (if condition then Some reason else None) }
     ensures passed { IfOk result (λ _. condition ≡ false) }
@@ -55,7 +40,7 @@ pub(crate) fn refuse_where(condition: bool, reason: Refusal) -> Result<(), Refus
     if condition { Err(reason) } else { Ok(()) }
 }
 
-// The rate of these numbers, where there is one.
+// Returns the rate of these numbers, if it exists.
 fn made_rate(asked: AskedRate) -> Result<Rate, wf_air::time::BadRate>
     ensures made { IfOk result (λ rate. rate ≡ rate_asked asked) }
     ensures within { IfOk result (λ _. is_rate (rate_asked asked) ≡ true) }
@@ -78,7 +63,7 @@ fn made_rate(asked: AskedRate) -> Result<Rate, wf_air::time::BadRate>
     }
 }
 
-// The rate of these numbers.
+// Returns the rate of these numbers, or refuses them.
 fn rate_of(asked: AskedRate) -> Result<Rate, Refusal>
     ensures refused { result_err result ≡ (if not (is_rate (rate_asked asked)) then Some BadRate else None) }
     ensures rate { IfOk result (λ rate. rate ≡ rate_asked asked) }
@@ -89,15 +74,15 @@ fn rate_of(asked: AskedRate) -> Result<Rate, Refusal>
     }
 }
 
-// The clock moves on.
+// Checks a tick.
 pub(crate) fn check_tick(by: u32) -> Result<(), Refusal>
     ensures { (w : World) → result_err result ≡ refusal w (Asked (Tick by)) }
 {
-    refuse_where(LONGEST_TICK < by, Refusal::BadTick)
+    refuse_where(GREATEST_TICK < by, Refusal::BadTick)
 }
 
-impl Transmit {
-    // A station that joins.
+impl Half {
+    // Checks a join.
     pub(crate) fn check_join(
         &self,
         station: u16,
@@ -116,19 +101,19 @@ impl Transmit {
     {
         self.in_range(station)?;
         refuse_where(
-            !is_within(GREATEST_WINDOW, u32::from(window)),
+            !is_within(GREATEST_WINDOW as u32, u32::from(window)),
             Refusal::BadWindow,
         )?;
-        refuse_where(GREATEST_NUMBER < start, Refusal::BadStart)?;
+        refuse_where(GREATEST_START < start, Refusal::BadStart)?;
         refuse_where(GREATEST_EXPONENT < exponent, Refusal::BadExponent)?;
         refuse_where(
-            !is_within(GREATEST_WEIGHT, u32::from(weight)),
+            !is_within(GREATEST_WEIGHT as u32, u32::from(weight)),
             Refusal::BadWeight,
         )?;
         refuse_where(self.members.is_live(station), Refusal::Live)
     }
 
-    // A station that goes to sleep.
+    // Checks that a station may go to sleep.
     pub(crate) fn check_sleep(&self, station: u16) -> Result<(), Refusal>
         ensures refused { (w : World) (bodies : ℕ → FrameValue) → StandsFor self.now w bodies →
             result_err result ≡ refusal w (Asked (Sleep station)) }
@@ -139,7 +124,7 @@ impl Transmit {
         refuse_where(self.sleepers.asleep(station), Refusal::Asleep)
     }
 
-    // A station that wakes.
+    // Checks that a station may wake.
     pub(crate) fn check_wake(&self, station: u16) -> Result<(), Refusal>
         ensures refused { (w : World) (bodies : ℕ → FrameValue) → StandsFor self.now w bodies →
             result_err result ≡ refusal w (Asked (Wake station)) }
@@ -152,7 +137,7 @@ impl Transmit {
         refuse_where(!self.sleepers.asleep(station), Refusal::Awake)
     }
 
-    // A station that polls; the most urgent class in which it can send.
+    // Checks a poll, and returns the most urgent class in which the station can send.
     pub(crate) fn check_poll(&self, station: u16) -> Result<Class, Refusal>
         ensures refused { (w : World) (bodies : ℕ → FrameValue) → StandsFor self.now w bodies →
             result_err result ≡ refusal w (Asked (Poll station)) }
@@ -170,7 +155,7 @@ impl Transmit {
         }
     }
 
-    // A station that is sent to at another rate.
+    // Checks a change of rate, and returns the rate.
     pub(crate) fn check_rate(&self, station: u16, asked: AskedRate) -> Result<Rate, Refusal>
         ensures refused { (w : World) (bodies : ℕ → FrameValue) → StandsFor self.now w bodies →
             result_err result ≡ refusal w (Asked (Rates station asked)) }
@@ -183,8 +168,8 @@ impl Transmit {
         Ok(rate)
     }
 
-    // A station that used airtime, but for the debt that it may not exceed.
-    pub(crate) fn check_receive(&self, station: u16, class: Class, air: u32) -> Result<(), Refusal>
+    // Checks a charge for received airtime, except for the debt.
+    pub(crate) fn check_rx(&self, station: u16, class: Class, air: u32) -> Result<(), Refusal>
         ensures refused { IfErr result (λ reason. (w : World) (bodies : ℕ → FrameValue) →
             StandsFor self.now w bodies →
             refusal w (Asked (Rx station class air)) ≡ Some reason) }
@@ -197,11 +182,11 @@ impl Transmit {
         ensures live { IfOk result (λ _. IsLive self.now station) }
     {
         self.in_range(station)?;
-        refuse_where(!is_within(LONGEST_AIR, air), Refusal::BadAir)?;
+        refuse_where(!is_within(GREATEST_AIR, air), Refusal::BadAir)?;
         self.live(station)
     }
 
-    // Whether a station has a credit that is not spent.
+    // Returns whether a station has an unspent credit.
     fn is_credited(&self, station: u16) -> bool
         requires { station < self.now.config.stations }
         ensures { result ≡ is_some (sleeper self.now.sleepers station).credit }
@@ -209,7 +194,7 @@ impl Transmit {
         self.sleepers.credit(station).is_some()
     }
 
-    // The most urgent class in which a station can send.
+    // Returns the most urgent class in which a station can send.
     fn class_to_send(&self, station: u16) -> Option<Class>
         requires { station < self.now.config.stations }
         ensures { result ≡ find (can_send_in_of self.now station) (Vo ∷ Vi ∷ Be ∷ Bk ∷ []) }
@@ -227,7 +212,7 @@ impl Transmit {
         }
     }
 
-    // The number of a station that is to be live is below the setting.
+    // Checks that a station's number is below the setting `stations`.
     pub(crate) fn in_range(&self, station: u16) -> Result<(), Refusal>
         ensures refused { result_err result ≡ (if nat_le self.now.config.stations station
             then Some BadStation else None) }
@@ -239,7 +224,7 @@ impl Transmit {
         )
     }
 
-    // A station in range is to be live.
+    // Checks that a station is live.
     pub(crate) fn live(&self, station: u16) -> Result<(), Refusal>
         requires { station < self.now.config.stations }
         ensures refused { result_err result ≡ (if not (is_some (member self.now.members station))

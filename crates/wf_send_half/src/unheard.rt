@@ -1,5 +1,5 @@
-//! What a transmit half stands for whose driver tells of receivers by BlockAcks alone. Each law is a function
-//! without a body that names it in its contract.
+//! The law of a transmit half whose driver knows receivers by BlockAcks alone. It is the contract of a
+//! function without a body.
 
 ghost use Rattle.std.specs.Prelude.{◌≡◌, ◌==◌, ℕ, List, Option, Some, find, IfSome, Result};
 ghost use Rattle.wf_frame.specs.Classes.{class_of};
@@ -9,17 +9,17 @@ ghost use Rattle.wf_frame.specs.declared.notes.Refusal.{Refusal};
 ghost use Rattle.wf_def_world.specs.World.{World, Exchange, exchange};
 ghost use Rattle.wf_def_world.specs.CanSend.{is_ready};
 ghost use Rattle.wf_law_driver.specs.Unheard.{IsUnheard};
-ghost use Rattle.wf_send_half_refines.specs.Half.{TransmitValue, is_ready_of};
-ghost use Rattle.wf_send_half_refines.specs.Standing.{StandsFor};
+ghost use Rattle.wf_send_half_model.specs.Half.{TransmitValue, is_ready_of};
+ghost use Rattle.wf_send_half_model.specs.Standing.{StandsFor};
 ghost use Rattle.wf_send_half.specs.Bits.{ended_reply};
 ghost use Rattle.wf_send_half.specs.Driven.{outcome_after_done, world_after_done, IsAfterDone, MeetsUnheard};
 ghost use Rattle.wf_send_half.specs.Replies.{reply_of_result};
 ghost use Rattle.wf_send_half.specs.declared.finish.Ended.{Ended};
 
-/// An exchange ends, whatever bits were heard and whatever airtime is named. A half that stood for an
-/// unheard world stands for the one in which exactly the numbers that the bits show arrived just before
-/// their Done; that world is unheard too, and the reply is that Done's. So a half is never without a world.
-/// Who is ready stays so, but for the exchange's station in the class of its TID.
+/// An exchange ends, whatever bits were heard and whatever airtime is given. A half that stood for an unheard
+/// world then stands for the world in which exactly the numbers that the bits show arrived just before the
+/// Done. This world is unheard too, and the reply is that of the Done. So a half always has a world. The same
+/// stations are ready as before, except the exchange's station in the class of its TID.
 pub fn an_exchange_ends_as_a_driver_tells()
     ensures meets { (v u : TransmitValue) (w : World) (bodies : ℕ → FrameValue) → StandsFor v w bodies →
         IsUnheard w →

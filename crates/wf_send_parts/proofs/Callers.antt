@@ -1,4 +1,4 @@
--- What a caller needs of a window that stands for a session.
+-- Proves what callers need of a window that represents a session: its queries, and how F and N move.
 use Rattle.std.proofs.Common.{◌≡◌, ℕ, zero, suc, ◌+◌, ◌-◌, ◌%◌, ◌<◌, ◌≤◌, Bool, true, false, if◌then◌else◌, is_some, Option, List, [], ◌∷◌, ◌++◌, length, set, map, refl, ap, sym, ◌∙◌, subst, arith, length-append, length-set}
 use Rattle.std.proofs.lemmas.List.{nil_from_length}
 use Rattle.wf_frame.specs.Frames.{FrameValue}
@@ -13,7 +13,7 @@ use Rattle.wf_send_parts.proofs.Due.{request_due_is}
 use Rattle.wf_send_parts.proofs.Laws.{start_of_is, next_is, places_length, ahead_number, place_is, state_place, slots_changed}
 use Rattle.wf_send_parts.proofs.Finding.{attempts_held, holds_frame}
 
--- a list of slots whose first is changed
+-- replacing one slot by an unsettled one leaves the first slot unsettled
 
 settled_set : (xs : List Slot) (i : ℕ) (y : Slot) → settled_first slot_state xs ≡ false →
     is_settled y.state ≡ false → settled_first slot_state (set xs i y) ≡ false
@@ -103,7 +103,7 @@ module _ (w : WindowValue) (s : Session) (bodies : ℕ → FrameValue) (stands :
       (rest_unsettled slot_state s.slots) open_still) in
       omega (arith, start_with f, ap length none)
 
-  -- the last number that was not settled
+  -- settling the only unsettled number moves F past it
   pub start_past : (f : Slot → Slot) → n ≡ start_of s → next_number s ≡ n + 1 →
       is_settled (f (slot s n)).state ≡ true → start_of (on_slot n f s) ≡ n + 1
   start_past f first last settled =
@@ -114,7 +114,7 @@ module _ (w : WindowValue) (s : Session) (bodies : ℕ → FrameValue) (stands :
       ∙ one_settled (slots_from_start s) (f (slot s n)) one settled in
       omega (arith, start_with f, moved)
 
-  -- the first number that was not settled
+  -- settling the first unsettled number moves F up
   pub start_moves : (f : Slot → Slot) → n ≡ start_of s → is_settled (f (slot s n)).state ≡ true →
       start_of s < start_of (on_slot n f s)
   start_moves f first settled =
@@ -141,7 +141,7 @@ module _ (w : WindowValue) (s : Session) (bodies : ℕ → FrameValue) (stands :
   pub places_none : next_number s ≡ start_of s → w.places ≡ []
   places_none none = nil_from_length w.places (omega (arith, places_length w s bodies stands))
 
-  -- other frames of ids that the session does not hold
+  -- the window still represents the session if the frames differ only for ids that it does not hold
   pub other_bodies : (others : ℕ → FrameValue) →
       map (slot_place bodies) (slots_from_start s) ≡ map (slot_place others) (slots_from_start s) →
       WindowStandsFor w s others

@@ -1,4 +1,4 @@
--- What a window stands for after each call.
+-- Proves that after each call the window represents the session with the call's change.
 use Rattle.std.proofs.Common.{◌≡◌, ℕ, zero, suc, ◌+◌, ◌-◌, ◌%◌, ◌<◌, ◌≤◌, nat_lt, nat_le, min, max, Bool, true, false, not, ◌&&◌, if◌then◌else◌, Option, Some, None, is_some, is_none, List, [], ◌∷◌, ◌++◌, length, set, map, refl, ap, sym, ◌∙◌, subst, arith, length-append}
 use Rattle.std.proofs.lemmas.List.{append_assoc, map-append}
 use Rattle.std.proofs.lemmas.Bool.Decides.{nat_tests}
@@ -13,7 +13,7 @@ use Rattle.wf_send_parts.proofs.Fronts.{front_rest, at_most_both}
 use Rattle.wf_send_parts.proofs.Due.{request_due_is}
 use Rattle.wf_send_parts.proofs.Laws.{next_is, places_length, slots_replaced, start_below, not_moved, begins_unsettled, place_is, slot_changed}
 
--- what a place says of its slot
+-- a place determines its slot
 
 pub record IsWaitingSlot (bodies : ℕ → FrameValue) (x : Slot) (parcel : FrameValue)
     (attempts : ℕ) : Type 0 where
@@ -51,7 +51,7 @@ flying_slot bodies x parcel attempts exchange same =
       | State.Failed ↦ λ e h. absurd (cc)
     ] refl same
 
--- a change in place leaves the first number unsettled
+-- a change in one place leaves the first number unsettled
 pub settled_set : (ps : List (Option Place)) (i : ℕ) (p : Option Place) →
     settled_first state_of_place ps ≡ false → is_settled (state_of_place p) ≡ false →
     settled_first state_of_place (set ps i p) ≡ false

@@ -1,4 +1,4 @@
--- One of many windows changes, or those of one station.
+-- Proves what a change of one window, or of the eight windows of one station, leaves of all others.
 use Rattle.std.proofs.Common.{◌≡◌, ◌≢◌, ◌⊎◌, ℕ, ◌<◌, Bool, true, false, inl, inr, List, [], length, get_or, set, ap, sym, ◌∙◌, subst, arith, length-set}
 use Rattle.std.proofs.lemmas.List.{get_or_read, get_or-set_same, get_or-set_other}
 use Rattle.std.proofs.lemmas.Bool.{cases_eq}
@@ -9,7 +9,7 @@ use Rattle.wf_frame.specs.Classes.{tid_number}
 use Rattle.wf_send_parts.specs.Windows.{no_window, window_of, with_window}
 use Rattle.wf_send_parts.specs.Many.{AllStand, IsSameElsewhere, IsSameAtOthers}
 
--- what a change in place leaves, where `ws` is seen as `now`
+-- a change of one window, with the list `ws` seen as `now`
 
 module _ (ws now : List WindowValue) (is : ws ≡ now) (s t i : ℕ) (place : i ≡ tid_number s t)
     (inside : tid_number s t < length now) (before : WindowValue) (found : before ≡ get_or ws i before) where
@@ -54,7 +54,7 @@ module _ (ws : List WindowValue) (s t : ℕ) (v : WindowValue) where
   pub windows_count : length (with_window ws s t v) ≡ length ws
   windows_count = length-set ws (tid_number s t) v
 
-  -- whether a TID is this one
+  -- a TID is this one, or another
   pub is_this : (x y : ℕ) → ((x ≡ s) × (y ≡ t)) ⊎ (x ≡ s → y ≡ t → ⊥)
   is_this x y = elim (cases_eq x s) [
     | inl a ↦ elim (cases_eq y t) [

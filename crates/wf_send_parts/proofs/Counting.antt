@@ -1,4 +1,5 @@
--- How many places wait, and what the places say of a session's numbers.
+-- Proves that equally many places wait, or fly, as numbers of the session do. Settled places at the front do
+-- not matter, since no settled number waits or flies.
 use Rattle.std.proofs.Common.{◌≡◌, ℕ, suc, ◌+◌, ◌<◌, nat_lt, Bool, true, false, ◌||◌, cond, if◌then◌else◌, Option, None, List, [], ◌∷◌, length, set, map, refl, ap, ap₂, sym, ◌∙◌, arith}
 use Rattle.std.specs.Prelude.{count_by}
 use Rattle.std.specs.List.{list_any}
@@ -13,7 +14,7 @@ use Rattle.wf_send_parts.specs.Expelling.{has_flying}
 use Rattle.wf_send_parts.proofs.Fronts.{lengths}
 use Rattle.wf_send_parts.proofs.Laws.{state_place}
 
--- a count is above 0 where some item passes
+-- a count is above 0 exactly if some item passes the test
 pub some_counted : {X : Type 0} (p : X → Bool) → (xs : List X) → nat_lt 0 (count_by p xs) ≡ list_any p xs
 some_counted p [] = refl
 some_counted p (x ∷ xs) =
@@ -39,9 +40,9 @@ settled_flies (State.Flying e) h = absurd (cc h)
 settled_flies State.Acked h = refl
 settled_flies State.Failed h = refl
 
--- a test of states that no settled one passes
+-- a test of states that no settled state passes
 module _ (test : State → Bool) (open_alone : (st : State) → is_settled st ≡ true → test st ≡ false) where
-  -- some item passes exactly where one from the first open one on does
+  -- some item passes exactly if one from the first unsettled one on does
   pub some_rest : {X : Type 0} (state : X → State) (xs : List X) →
       list_any (λ x. test (state x)) (rest state xs) ≡ list_any (λ x. test (state x)) xs
   some_rest state [] = refl
@@ -61,7 +62,7 @@ module _ (test : State → Bool) (open_alone : (st : State) → is_settled st �
       (state_place bodies x)
       ∙ ap (λ (b : Bool). test x.state || b) (some_map bodies xs)
 
-  -- some place passes exactly where some slot does
+  -- some place passes exactly if some slot does
   some_place : (w : WindowValue) (s : Session) (bodies : ℕ → FrameValue) → WindowStandsFor w s bodies →
       list_any (λ p. test (state_of_place p)) w.places ≡ list_any (λ x. test x.state) s.slots
   some_place w s bodies stands =
@@ -83,13 +84,13 @@ some_number n (x ∷ xs) =
       | false ↦ some_number (suc n) xs
     ]
 
--- ---- how many
+-- ---- counts
 
 count_cons : {X : Type 0} (p : X → Bool) (x : X) (xs : List X) →
     count_by p (x ∷ xs) ≡ cond (p x) 1 0 + count_by p xs
 count_cons p x xs = sum_by-cons (λ y. cond (p y) 1 0) x xs
 
--- as many pass as from the first open one on
+-- equally many items pass from the first unsettled one on
 counted_rest : {X : Type 0} (state : X → State) (xs : List X) →
     count_by (λ x. is_waiting (state x)) (rest state xs) ≡ count_by (λ x. is_waiting (state x)) xs
 counted_rest state [] = refl
@@ -125,7 +126,7 @@ counted_number n (x ∷ xs) =
       | false ↦ omega (arith, counted_number (suc n) xs)
     ]
 
--- as many places wait as numbers do
+-- equally many places wait as numbers do
 pub all_waits : (w : WindowValue) (s : Session) (bodies : ℕ → FrameValue) → WindowStandsFor w s bodies →
     count_by waits w.places ≡ length (waiting_numbers s)
 all_waits w s bodies stands =
@@ -134,7 +135,7 @@ all_waits w s bodies stands =
     ∙ counted_rest slot_state s.slots
     ∙ counted_number s.first s.slots
 
--- some place waits exactly where some number does, and some place flies exactly where some number does
+-- some place waits, or flies, exactly if some number does
 
 pub some_waits : (w : WindowValue) (s : Session) (bodies : ℕ → FrameValue) → WindowStandsFor w s bodies →
     list_any waits w.places ≡ nat_lt 0 (length (waiting_numbers s))
@@ -145,7 +146,7 @@ pub some_flies : (w : WindowValue) (s : Session) (bodies : ℕ → FrameValue) �
     some_fly w ≡ has_flying s
 some_flies w s bodies stands = some_place is_flying settled_flies w s bodies stands
 
--- the first place goes, where no place flies
+-- taking the first place leaves fewer places
 
 pub one_fewer : (ps : List (Option Place)) → 0 < length ps →
     length (rest state_of_place (set ps 0 None)) < length ps

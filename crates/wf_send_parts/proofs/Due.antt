@@ -1,4 +1,5 @@
--- Whether a request is due, by the distance that a window keeps.
+-- Proves that a request is due exactly if the window has a distance, by induction over the settled numbers at
+-- the front.
 use Rattle.std.proofs.Common.{◌≡◌, ℕ, suc, ◌+◌, ◌-◌, ◌≤◌, nat_lt, nat_le, Bool, true, false, ◌&&◌, ◌||◌, if◌then◌else◌, Option, Some, None, is_some, List, [], ◌∷◌, length, refl, ap, sym, ◌∙◌, arith}
 use Rattle.std.specs.List.{list_any}
 use Rattle.std.proofs.lemmas.Bool.Decides.{nat_tests}
@@ -104,7 +105,7 @@ module _ (R F : ℕ) where
             ∙ ap rest_of (ap (λ (st : State). next_since st since) (sym is))
       ] refl e
 
--- a request is due exactly where there is a distance
+-- a request is due exactly if there is a distance
 pub request_due_is : (s : Session) → request_due s ≡ is_some (due_distance s)
 request_due_is s = or_none _ ∙ any_failed s.heard (start_of s) s.slots s.first None tt
     (sym (start_is s.first s.slots))
@@ -121,7 +122,7 @@ none_at_zero : (d : Option ℕ) → IsPast d → is_some (at_most 0 d) ≡ false
 none_at_zero None h = refl
 none_at_zero (Some d) h = some_at_most 0 d ∙ grind (arith, nat_tests)
 
--- no request is due where the newest start was heard
+-- no request is due if the newest start was heard
 pub not_due : (s : Session) → start_of s ≤ s.heard → request_due s ≡ false
 not_due s told =
     let limit : start_of s - s.heard ≡ 0 = omega arith in

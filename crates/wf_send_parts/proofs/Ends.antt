@@ -1,4 +1,4 @@
--- What is left of an exchange that ends.
+-- Proves that the numbers of an exchange that ends are settled one after the other, until none of them flies.
 use Rattle.std.proofs.Common.{◌≡◌, ◌≢◌, ℕ, ◌-◌, ◌%◌, ◌≤◌, ◌==◌, Bool, true, false, ◌||◌, List, [], ◌∷◌, refl, ap, sym, ◌∙◌, subst, arith}
 use Rattle.std.proofs.lemmas.Bool.Decides.{nat_tests}
 use Rattle.wf_frame.specs.Frames.{FrameValue}
@@ -10,7 +10,7 @@ use Rattle.wf_send_parts.proofs.Numbers.{open_number}
 use Rattle.wf_send_parts.proofs.Callers.{state_is, attempts_is}
 use Rattle.wf_send_parts.specs.Ending.{Ending, IsFlyingIn, AreFlying, all_settled, HasLeft, IsSettledNext}
 
--- the first number, and those behind it
+-- the first number flies
 
 first_flies : (s : Session) (ending : Ending) (n : ℕ) (ns : List ℕ) → AreFlying s ending (n ∷ ns) →
     IsFlyingIn s ending n
@@ -29,7 +29,7 @@ slot_other : (s : Session) (n m : ℕ) (f : Slot → Slot) → s.first ≤ n →
 slot_other s n m f a b other = at_put_other no_slot s.slots (n - s.first) (m - s.first) (f (slot s n))
     (λ (e : n - s.first ≡ m - s.first). other (omega arith))
 
--- a number is settled, and those behind it still fly
+-- after one number is settled, the others still fly
 
 others_fly : (s : Session) (ending : Ending) (n : ℕ) (ns : List ℕ) (f : Slot → Slot) →
     AreFlying s ending (n ∷ ns) → AreFlying (on_slot n f s) ending ns

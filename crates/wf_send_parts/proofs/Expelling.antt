@@ -1,4 +1,4 @@
--- The loop that expels the parcels of a window in which nothing flies.
+-- Proves that expelling returns the frames of the waiting numbers in order, if no number flies.
 use Rattle.std.proofs.Common.{◌≡◌, ℕ, zero, suc, ◌-◌, ◌<◌, Bool, true, false, ◌||◌, cond, if◌then◌else◌, List, [], ◌∷◌, ◌++◌, length, map, append_assoc, refl, ap, sym, ◌∙◌, arith}
 use Rattle.std.specs.List.{list_any, filter}
 use Rattle.std.proofs.lemmas.List.{append-nil}
@@ -35,14 +35,14 @@ none_first x xs h = first (is_flying x.state) h
     first true h = absurd (cc h)
     first false h = refl
 
--- what is not settled and does not fly waits
+-- a number that is not settled and does not fly waits
 open_waits : (st : State) → is_settled st ≡ false → is_flying st ≡ false → is_waiting st ≡ true
 open_waits State.Waiting h k = refl
 open_waits (State.Flying e) h k = absurd (cc k)
 open_waits State.Acked h k = absurd (cc h)
 open_waits State.Failed h k = absurd (cc h)
 
--- the first slot that is not settled goes, where nothing flies
+-- taking the first unsettled slot takes the first waiting one
 first_goes : (xs : List Slot) → flying xs ≡ false → 0 < length (rest slot_state xs) →
     waiting xs ≡ at no_slot xs (length (front slot_state xs))
     ∷ waiting (change no_slot xs (length (front slot_state xs)) acked)
@@ -72,7 +72,7 @@ none_left (x ∷ xs) h = elim (is_settled x.state) as
       | false ↦ λ _ h. absurd (omega (arith, h))
     ] refl h
 
--- still nothing flies
+-- still no number flies
 still_none : (xs : List Slot) (k : ℕ) → flying xs ≡ false → flying (change no_slot xs k acked) ≡ false
 still_none [] zero h = refl
 still_none [] (suc k) h = still_none [] k refl

@@ -1,4 +1,5 @@
--- The settled ones in front of a list, the rest, and how far its end is past the last failed one.
+-- Proves the properties of a list's settled front, of its rest, and of the distance from its last failed
+-- number.
 use Rattle.std.proofs.Common.{◌≡◌, ℕ, zero, suc, ◌+◌, ◌<◌, nat_le, min, Bool, true, false, if◌then◌else◌, Option, Some, None, List, [], ◌∷◌, ◌++◌, length, get_or, set, map, refl, ap, ◌∙◌, arith, length-append}
 use Rattle.std.proofs.lemmas.Bool.Decides.{nat_tests}
 use Rattle.wf_def_agreement.specs.Session.{State, Slot, no_slot, is_settled, first_unsettled}

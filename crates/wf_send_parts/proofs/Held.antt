@@ -1,4 +1,4 @@
--- Only the frames of ids that a session holds matter.
+-- Proves that a window depends only on the frames of ids that its session holds.
 use Rattle.std.proofs.Common.{◌≡◌, ℕ, suc, ◌+◌, ◌-◌, ◌<◌, Bool, true, Option, Some, List, [], ◌∷◌, length, get_or, map, refl, ap, sym, ◌∙◌, arith}
 use Rattle.wf_frame.specs.Frames.{FrameValue}
 use Rattle.wf_def_agreement.specs.Session.{Session, Slot, State, no_slot, slot, start_of}

@@ -1,4 +1,4 @@
--- A list that has something of each open exchange, as an exchange opens and as one ends.
+-- Proves that the list of open exchanges keeps its invariant when an exchange opens and when one ends.
 use Rattle.std.proofs.Common.{◌≡◌, ◌∙◌, ℕ, zero, suc, ◌<◌, ◌≤◌, List, [], ◌∷◌, ◌++◌, length, map, ap, sym, subst, arith}
 use Rattle.std.specs.Prelude.{All}
 use Rattle.std.specs.List.{remove}

@@ -1,4 +1,5 @@
--- What a window stands for, after each change.
+-- Proves how a window and its session change together: the place of a number is that of its slot, and settled
+-- numbers at the front are dropped from both.
 use Rattle.std.proofs.Common.{◌≡◌, ℕ, ◌+◌, ◌-◌, ◌%◌, ◌<◌, ◌≤◌, false, Option, None, List, [], ◌∷◌, ◌++◌, length, get_or, set, map, refl, ap, sym, ◌∙◌, subst, arith, length-append, length-set}
 use Rattle.std.proofs.lemmas.List.{map-set, get_or-map, length-map}
 use Rattle.wf_frame.specs.Frames.{FrameValue}
@@ -19,7 +20,7 @@ state_place bodies x = elim x.state as (λ st. x.state ≡ st → state_of_place
   | State.Failed ↦ λ e. simp e
 ] refl
 
--- F, and N
+-- F and N
 pub start_of_is : (s : Session) → start_of s ≡ s.first + length (front slot_state s.slots)
 start_of_is s = start_is s.first s.slots
 
@@ -35,7 +36,7 @@ module _ (w : WindowValue) (s : Session) (bodies : ℕ → FrameValue) (stands :
     length-map (slots_from_start s) (slot_place bodies),
   )
 
-  -- the slots from F on are replaced by others, of which the first ones may be settled
+  -- the slots from F on are replaced by others, the first of which may be settled
   pub slots_replaced : (ys : List Slot) → length ys ≤ s.size →
       WindowStandsFor (moved_on (record w { places = map (slot_place bodies) ys }))
       (record s { slots = front slot_state s.slots ++ ys }) bodies
@@ -89,7 +90,7 @@ module _ (w : WindowValue) (s : Session) (bodies : ℕ → FrameValue) (stands :
         small = stands.small;
       }
 
--- numbers on the air
+-- numbers modulo 4096
 
 pub ahead_number : (f n start seq : ℕ) → start ≡ f % 4096 → seq ≡ n % 4096 → f ≤ n → n < f + 4096 →
     distance seq start ≡ n - f
@@ -99,7 +100,7 @@ pub start_below : (w : WindowValue) (s : Session) (bodies : ℕ → FrameValue) 
     w.start < 4096
 start_below w s bodies stands = omega (arith, stands.start)
 
--- a window that begins with no settled number
+-- a window whose first number is not settled does not move
 pub not_moved : (w : WindowValue) → w.start < 4096 → settled_first state_of_place w.places ≡ false →
     moved_on w ≡ w
 not_moved w small begins =

@@ -15,7 +15,6 @@ pub mod Numbers
 mod Resetting
 pub mod Sending
 mod Steps
-mod Changed
-mod Kept
-mod Rising
+pub mod Kept
+pub mod Rising
 mod Wide

@@ -1,4 +1,4 @@
--- The waiting numbers from one on, and the loop that lists them.
+-- Proves that listing the waiting numbers one after the other lists each of them, in ascending order.
 use Rattle.std.proofs.Common.{◌≡◌, ℕ, suc, ◌+◌, ◌-◌, ◌<◌, ◌≤◌, ◌==◌, nat_le, Bool, true, false, ◌||◌, cond, if◌then◌else◌, Option, Some, None, option_map, inl, inr, List, [], ◌∷◌, ◌++◌, length, append_assoc, refl, ap, sym, ◌∙◌, subst, arith}
 use Rattle.std.specs.List.{find, filter}
 use Rattle.std.proofs.lemmas.List.{append-nil}
@@ -15,7 +15,7 @@ use Rattle.wf_send_parts.proofs.Laws.{ahead_number, next_is, places_length}
 use Rattle.wf_send_parts.proofs.Numbers.{waiting_from_is}
 use Rattle.wf_send_parts.proofs.Counting.{settled_waits}
 
--- a rising list, from a number on
+-- the numbers of a rising list at or past n
 
 abbrev since : ℕ → List ℕ → List ℕ
 since n xs = filter (λ m. nat_le n m) xs
@@ -109,7 +109,7 @@ rise_from_first m (x ∷ xs) = elim (is_settled x.state) as
 pub waiting_rise : (s : Session) → IsRising (start_of s) (waiting_numbers s)
 waiting_rise s = rise_from_first s.first s.slots
 
--- they are the numbers that wait, and no other
+-- they are exactly the numbers that wait
 
 has_low : (xs : List ℕ) (low n : ℕ) → IsRising low xs → n < low → has xs n ≡ false
 has_low [] low n rising h = refl

@@ -1,4 +1,4 @@
--- The loop that takes the settled places off the ring's front.
+-- Proves the loop that drops the settled places at the ring's front.
 use Rattle.std.proofs.Common.{◌≡◌, ℕ, ◌+◌, ◌<◌, ◌≤◌, Bool, true, false, if◌then◌else◌, Option, Some, None, unwrap_or, List, [], ◌∷◌, length, get_or, drop, refl, ap, sym, ◌∙◌, arith}
 use Rattle.wf_def_agreement.specs.Session.{State, is_settled}
 use Rattle.wf_send_parts.specs.declared.window.place.Place.{Place}
@@ -6,7 +6,7 @@ use Rattle.wf_send_parts.specs.Ring.{RingValue}
 use Rattle.wf_send_parts.specs.Places.{state_of_place, front, rest, settled_first, next_since, since_failed}
 use Rattle.wf_send_parts.proofs.Fronts.{front_none, rest_none}
 
--- what the ring began with, and what it holds now, after so many places
+-- the ring before the loop, and the ring and the distance after `moved` places were dropped
 pub record IsMoving (all now : RingValue) (due distance : Option ℕ) (moved : ℕ) : Type 0 where
   pub capacity : now.capacity ≡ all.capacity
   pub rest_same : rest state_of_place now.items ≡ rest state_of_place all.items
@@ -45,7 +45,7 @@ moving_step all capacity (p ∷ ps) due distance moved some settled i =
       counted = omega (arith, i.counted);
     }
 
--- at the end no settled place is in front
+-- at the end, the first place is not settled
 pub record IsMoved (all now : RingValue) (due distance : Option ℕ) (moved : ℕ) : Type 0 where
   pub items : now ≡ record { capacity = all.capacity; items = rest state_of_place all.items }
   pub moved_is : moved ≡ length (front state_of_place all.items)
@@ -75,7 +75,7 @@ pub begins_false : (ps : List (Option Place)) → is_settled (state_of_place (ge
 begins_false [] h = refl
 begins_false (p ∷ ps) h = h
 
--- the distance does not outgrow the places that it passes
+-- the distance rises by at most one for each place that is passed
 pub since_bound : (d : Option ℕ) (ps : List (Option Place)) →
     unwrap_or (since_failed state_of_place d ps) 0 ≤ unwrap_or d 0 + length ps
 since_bound d [] = omega arith

@@ -1,4 +1,4 @@
--- Which numbers wait or fly, for a caller.
+-- Proves which numbers wait or fly, as callers ask.
 use Rattle.std.proofs.Common.{◌≡◌, ℕ, zero, suc, ◌+◌, ◌-◌, ◌%◌, ◌<◌, ◌≤◌, nat_le, Bool, true, false, ◌||◌, cond, if◌then◌else◌, Option, Some, List, [], ◌∷◌, length, get_or, map, refl, ap, sym, ◌∙◌, arith}
 use Rattle.std.specs.List.{find, list_any}
 use Rattle.std.proofs.lemmas.Bool.Decides.{nat_tests}
@@ -11,7 +11,7 @@ use Rattle.wf_send_parts.specs.Window.{WindowValue, WindowStandsFor, IsNumber, s
 use Rattle.wf_send_parts.proofs.Fronts.{at_is, at_rest}
 use Rattle.wf_send_parts.proofs.Laws.{start_of_is, next_is, state_place}
 
--- a number that is not settled lies from F to below N
+-- an unsettled number is from F to below N
 
 pub open_place : (xs : List Slot) (k : ℕ) → is_settled (at no_slot xs k).state ≡ false →
     (length (front slot_state xs) ≤ k) × (k < length xs)
@@ -103,7 +103,7 @@ waiting_from_is s n m h =
     let w : (slot s m).state ≡ State.Waiting = waiting_is (slot s m).state f.waits in
     record { above = f.above; number = open_number s m (m % 4096) f.from (ap is_settled w) refl; waits = w }
 
--- nothing flies
+-- no number flies
 
 module _ (bodies : ℕ → FrameValue) where
   none_of : (ys : List Slot) → ((j : ℕ) → j < length ys → is_flying (get_or ys j no_slot).state ≡ false) →
@@ -127,7 +127,7 @@ none_fly w s bodies stands none =
     ap (λ (x : Slot). is_flying x.state) (sym same)
     ∙ none (start_of s + j) (omega arith) (omega (arith, next_is s, below)))
 
--- one window for one session
+-- two windows of the same capacity that represent the same session are equal
 
 pub one_shown : (w v : WindowValue) (s : Session) (bodies : ℕ → FrameValue) → w.capacity ≡ v.capacity →
     WindowStandsFor w s bodies → WindowStandsFor v s bodies → w ≡ v

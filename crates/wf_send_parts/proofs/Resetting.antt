@@ -1,4 +1,4 @@
--- The loop that begins the sessions of a station's TIDs.
+-- Proves the loop that begins new sessions for the TIDs of a station.
 use Rattle.std.proofs.Common.{◌≡◌, ◌≢◌, ℕ, ◌+◌, ◌<◌, ◌≤◌, inl, inr, List, length, refl, ap, ◌∙◌, arith}
 use Rattle.std.proofs.lemmas.Bool.{cases_eq}
 use Rattle.wf_def_lists.specs.Bounds.{greatest_window}
@@ -7,7 +7,7 @@ use Rattle.wf_frame.specs.Classes.{tid_number}
 use Rattle.wf_send_parts.specs.Windows.{window_of, with_window}
 use Rattle.wf_send_parts.proofs.Changes.{window_same, window_other, windows_count}
 
--- the windows of the first k TIDs of station s are fresh, and all others as before
+-- the windows of the first k TIDs of station s are fresh, and all others are unchanged
 pub record IsResetting (before now : List WindowValue) (s size start k : ℕ) : Type 0 where
   pub count : length now ≡ length before
   pub fresh : (t : ℕ) → t < k → window_of now s t ≡ fresh_window greatest_window size start

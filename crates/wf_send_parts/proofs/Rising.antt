@@ -1,4 +1,5 @@
--- A list whose keys rise, as it grows at its end and as one item is taken out.
+-- Proves the properties of a list with rising keys: as it gets one more item, as one item is taken out, and
+-- as one item is changed.
 use Rattle.std.proofs.Common.{◌≡◌, ◌∙◌, refl, sym, ap, ℕ, zero, suc, ◌<◌, ◌≤◌, ◌==◌, Bool, true, false, not, List, [], ◌∷◌, ◌++◌, length, get_or, set, arith, inl, inr}
 use Rattle.std.specs.Prelude.{map, filter, find, position, All, nat_lt, Some, None, if◌then◌else◌}
 use Rattle.std.specs.List.{remove, position_or_len}
@@ -18,7 +19,7 @@ rising_push key from (x ∷ xs) y low rising above =
           (All-tail (λ z. key z < key y) x xs above),
     )
 
--- a list that rises from a greater number on rises from a lesser one on
+-- a list that rises from a greater number also rises from a lesser one
 pub rising_lower : {X : Type 0} (key : X → ℕ) (low from : ℕ) (xs : List X) → low ≤ from →
     IsRising from (map key xs) → IsRising low (map key xs)
 rising_lower key low from [] le rising = tt
@@ -41,7 +42,7 @@ rising_low key from (x ∷ xs) zero d rising within = rising.0
 rising_low key from (x ∷ xs) (suc i) d rising within = let low : suc (key x) ≤ key (get_or xs i d) =
     rising_low key (suc (key x)) xs i d rising.1 (omega (arith, within)) in omega (arith, low, rising.0)
 
--- a key below all others is no item's
+-- a key below all others belongs to no item
 pub none_below : {X : Type 0} (key : X → ℕ) (from e : ℕ) (xs : List X) → e < from →
     IsRising from (map key xs) → filter (λ x. not (key x == e)) xs ≡ xs
 none_below key from e [] low rising = refl
@@ -49,7 +50,7 @@ none_below key from e (x ∷ xs) low rising =
     let other : (key x == e) ≡ false = ne_eqb (key x) e (omega (arith, rising.0)) in
     rw other (ap (λ ys. x ∷ ys) (none_below key (suc (key x)) e xs (omega (arith, rising.0)) rising.1))
 
--- where a key is below all others, nothing of that key is changed
+-- changing the items of a key below all others changes nothing
 pub same_below : {X : Type 0} (key : X → ℕ) (f : X → X) (from e : ℕ) (xs : List X) → e < from →
     IsRising from (map key xs) → map (λ x. if key x == e then f x else x) xs ≡ xs
 same_below key f from e [] low rising = refl
@@ -57,7 +58,7 @@ same_below key f from e (x ∷ xs) low rising =
     let other : (key x == e) ≡ false = ne_eqb (key x) e (omega (arith, rising.0)) in
     rw other (ap (λ ys. x ∷ ys) (same_below key f (suc (key x)) e xs (omega (arith, rising.0)) rising.1))
 
--- the list without the item of one key is the items of all other keys
+-- removing the item of a key leaves the items of all other keys
 pub remove_is : {X : Type 0} (key : X → ℕ) (from e : ℕ) (xs : List X) (i : ℕ) (d : X) →
     IsRising from (map key xs) → i < length xs → key (get_or xs i d) ≡ e →
     remove xs i ≡ filter (λ x. not (key x == e)) xs
@@ -72,7 +73,7 @@ remove_is key from e (x ∷ xs) (suc i) d rising within is =
     ap (λ ys. x ∷ ys) (remove_is key (suc (key x)) e xs i d rising.1 (omega (arith, within)) is)
     ∙ sym (rw other refl)
 
--- the item of one key is found where it stands
+-- the item of a key is found at its place
 pub find_is : {X : Type 0} (key : X → ℕ) (from e : ℕ) (xs : List X) (i : ℕ) (d : X) →
     IsRising from (map key xs) → i < length xs → key (get_or xs i d) ≡ e →
     find (λ x. key x == e) xs ≡ Some (get_or xs i d)
@@ -97,7 +98,7 @@ past_all test (x ∷ xs) none = elim (cases_Bool (test x)) [
       (rw fail rest.0, rw fail (ap (λ ys. x ∷ ys) rest.1))
 ]
 
--- where no item stands at a place, the item is not found, and nothing goes
+-- if no item has a place, none is found, and none is removed
 pub nowhere : {X : Type 0} (test : X → Bool) (xs : List X) → position test xs ≡ None → (find test xs ≡ None) ×
     (filter (λ x. not (test x)) xs ≡ xs)
 nowhere test xs is = elim (cases_Bool (nat_lt (position_or_len test xs) (length xs))) [
@@ -105,7 +106,7 @@ nowhere test xs is = elim (cases_Bool (nat_lt (position_or_len test xs) (length 
   | inr not_less ↦ past_all test xs (ltb-false (position_or_len test xs) (length xs) not_less)
 ]
 
--- where an item stands at a place, it is the one found, and it alone goes
+-- if an item has a place, it is the one found, and only it is removed
 pub somewhere : {X : Type 0} (key : X → ℕ) (e : ℕ) (xs : List X) (i : ℕ) (d : X) → IsRising 0 (map key xs) →
     position (λ x. key x == e) xs ≡ Some i → (find (λ x. key x == e) xs ≡ Some (get_or xs i d)) ×
     (remove xs i ≡ filter (λ x. not (key x == e)) xs)
@@ -115,7 +116,7 @@ somewhere key e xs i d rising is =
       remove_is key 0 e xs i d rising at.0 (eqb-true (key (get_or xs i d)) e at.1),
     )
 
--- the list with the item of one key changed is the items, each changed where it has the key
+-- changing the item of a key is the same as changing each item that has the key
 pub change_is : {X : Type 0} (key : X → ℕ) (f : X → X) (from e : ℕ) (xs : List X) (i : ℕ) (d : X) →
     IsRising from (map key xs) → i < length xs → key (get_or xs i d) ≡ e →
     set xs i (f (get_or xs i d)) ≡ map (λ x. if key x == e then f x else x) xs
@@ -130,7 +131,7 @@ change_is key f from e (x ∷ xs) (suc i) d rising within is =
     ap (λ ys. x ∷ ys) (change_is key f (suc (key x)) e xs i d rising.1 (omega (arith, within)) is)
     ∙ sym (rw other refl)
 
--- where no item stands at a place, none is changed
+-- if no item has a place, none is changed
 pub unchanged : {X : Type 0} (test : X → Bool) (f : X → X) (xs : List X) → position test xs ≡ None →
     map (λ x. if test x then f x else x) xs ≡ xs
 unchanged test f xs is = elim (cases_Bool (nat_lt (position_or_len test xs) (length xs))) [
@@ -147,7 +148,7 @@ unchanged test f xs is = elim (cases_Bool (nat_lt (position_or_len test xs) (len
           (ap (λ ys. x ∷ ys) (past_all_unchanged test f xs (omega (arith, h))))
     ]
 
--- where an item stands at a place, it alone is changed
+-- if an item has a place, only it is changed
 pub changed_at : {X : Type 0} (key : X → ℕ) (f : X → X) (e : ℕ) (xs : List X) (i : ℕ) (d : X) →
     IsRising 0 (map key xs) → position (λ x. key x == e) xs ≡ Some i →
     set xs i (f (get_or xs i d)) ≡ map (λ x. if key x == e then f x else x) xs

@@ -1,4 +1,5 @@
--- A number that waits flies, and its frame counts that it is sent.
+-- Proves that a waiting number flies and its frame counts an attempt, while all other windows and frames are
+-- unchanged.
 use Rattle.std.proofs.Common.{◌≡◌, ◌≢◌, ℕ, zero, suc, ◌+◌, ◌-◌, ◌<◌, ◌==◌, Bool, true, false, Option, Some, List, [], ◌∷◌, ◌++◌, length, get_or, set, map, refl, ap, sym, ◌∙◌, subst, arith, eq-eqb, inl, inr}
 use Rattle.std.proofs.lemmas.Bool.{cases_eq, ne_eqb, cond-true, cond-false}
 use Rattle.wf_frame.specs.Classes.{tid_number}
@@ -18,7 +19,7 @@ use Rattle.wf_send_parts.proofs.Changes.{is_this, window_same, window_other}
 use Rattle.wf_send_parts.proofs.Held.{same_place, held_stand}
 use Rattle.wf_send_parts.proofs.Laws.{start_of_is, next_is, place_is, distance_is}
 
--- ---- the frames of the ids
+-- ---- the frames by id
 
 pub sent_other : (bodies : ℕ → FrameValue) (id k : ℕ) → k ≢ id → with_one_sent id bodies k ≡ bodies k
 sent_other bodies id k other = cond-false (k == id) (sent_again (bodies k)) (bodies k) (ne_eqb k id other)
@@ -26,7 +27,7 @@ sent_other bodies id k other = cond-false (k == id) (sent_again (bodies k)) (bod
 pub sent_own : (bodies : ℕ → FrameValue) (id : ℕ) → with_one_sent id bodies id ≡ sent_again (bodies id)
 sent_own bodies id = cond-true (id == id) (sent_again (bodies id)) (bodies id) (eq-eqb id id refl)
 
--- what a frame has beside the count stays
+-- only the frame's count of attempts changes
 pub sent_keeps : {X : Type 0} (g : FrameValue → X) → ((f : FrameValue) → g (sent_again f) ≡ g f) →
     (bodies : ℕ → FrameValue) (id k : ℕ) → g (with_one_sent id bodies k) ≡ g (bodies k)
 sent_keeps g keeps bodies id k = elim (cases_eq k id) [
@@ -51,7 +52,7 @@ all_sent_then (q ∷ pairs) p bodies = all_sent_then pairs p (with_one_sent q.0 
 
 -- ---- the places
 
--- two lists of places that are the same but for one
+-- two lists of places that differ in one place only
 set_but_one : (f g : Slot → Option Place) (xs : List Slot) (i : ℕ) (p : Option Place) →
     ((k : ℕ) → k < length xs → k ≢ i → f (get_or xs k no_slot) ≡ g (get_or xs k no_slot)) →
     set (map f xs) i p ≡ set (map g xs) i p
@@ -76,7 +77,7 @@ module _ (w : WindowValue) (s : Session) (bodies : ℕ → FrameValue) (stands :
   abbrev others : ℕ → FrameValue
   others = with_one_sent (slot s n).id bodies
 
-  -- the same window, with the frames that have counted
+  -- the same window, with the frames after the count
   abbrev counted : WindowValue
   counted = record w { places = map (slot_place others) (slots_from_start s) }
 
@@ -135,7 +136,7 @@ module _ (w : WindowValue) (s : Session) (bodies : ℕ → FrameValue) (stands :
 
 module _ (ws : List WindowValue) (s t : ℕ) (v : WindowValue) (is_live : ℕ → Bool)
     (before after : ℕ → ℕ → Session) (bodies others : ℕ → FrameValue) where
-  -- a window changes with its session, and the frames that it holds; those of the others stay
+  -- one window changes with its session and its frames; those of the others are unchanged
   pub one_sent : AllStand ws is_live before bodies → is_live s ≡ true → t < 8 →
       tid_number s t < length ws → IsSameElsewhere before after s t →
       ((x y : ℕ) → is_live x ≡ true → y < 8 → (x ≡ s → y ≡ t → ⊥) →

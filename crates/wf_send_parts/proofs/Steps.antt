@@ -1,4 +1,4 @@
--- What the steps of a window's calls leave, over plain values.
+-- Proves what each step of a window's calls does to the window's value, for use in the proofs of the calls.
 use Rattle.std.proofs.Common.{◌≡◌, ℕ, zero, suc, ◌+◌, ◌-◌, ◌%◌, ◌<◌, ◌≤◌, nat_le, Bool, true, false, ◌||◌, if◌then◌else◌, Option, Some, None, List, [], ◌∷◌, length, get_or, set, refl, ap, sym, ◌∙◌, subst, arith, length-set, max}
 use Rattle.std.proofs.lemmas.List.{set-set}
 use Rattle.wf_frame.specs.Frames.{FrameValue, sent_again}
@@ -23,7 +23,7 @@ use Rattle.wf_send_parts.proofs.Moving.{since_bound}
 use Rattle.wf_send_parts.proofs.Numbers.{waiting_is}
 use Rattle.wf_send_parts.proofs.Laws.{slot_changed, place_is, ahead_number, places_length}
 
--- a window by its parts
+-- a window, from its parts
 abbrev pub shown : ℕ → ℕ → Option ℕ → RingValue → WindowValue
 shown size start due r = record {
   capacity = r.capacity;
@@ -37,14 +37,14 @@ shown size start due r = record {
 abbrev pub with_items : RingValue → List (Option Place) → RingValue
 with_items r ps = record { capacity = r.capacity; items = ps }
 
--- two items put into one place, one after the other
+-- two items put into the same place, one after the other
 pub replaced_twice : (r r1 r2 : RingValue) (i : ℕ) (p q : Option Place) →
     r1 ≡ with_items r (set r.items i p) → r2 ≡ with_items r1 (set r1.items i q) →
     r2 ≡ with_items r (set r.items i q)
 replaced_twice r r1 r2 i p q a b =
     b ∙ ap (λ (v : RingValue). with_items v (set v.items i q)) a ∙ ap (with_items r) (set-set r.items i p q)
 
--- the settled places leave the front
+-- the settled places at the front are dropped
 pub moved_on_is : (size start start2 moved : ℕ) (due due2 : Option ℕ) (r r1 r2 : RingValue)
     (ps : List (Option Place)) → r1 ≡ with_items r ps → r2 ≡ with_items r1 (rest state_of_place r1.items) →
     moved ≡ length (front state_of_place r1.items) →
@@ -59,7 +59,7 @@ moved_on_is size start start2 moved due due2 r r1 r2 ps a b m d e =
     ∙ ap (λ (k : ℕ). (start + k) % 4096) (m ∙ ap
     (λ (v : RingValue). length (front state_of_place v.items)) a))
 
--- what every window keeps
+-- the window's invariant
 
 pub order_kept : (size : ℕ) (due : Option ℕ) (r r2 : RingValue) (i : ℕ) (p : Option Place) →
     r2 ≡ with_items r (set r.items i p) → is_settled (state_of_place p) ≡ false →
@@ -98,7 +98,7 @@ order_moved size due due2 r r1 r2 i p a b d o =
       begins = rest_unsettled state_of_place ps;
     }))
 
--- a place that is in the window
+-- a place that is not acknowledged is in the window
 
 pub in_window : (ps : List (Option Place)) (i : ℕ) → (state_of_place (get_or ps i None) ≡ State.Acked → ⊥) →
     i < length ps
@@ -225,7 +225,7 @@ module _ (size start : ℕ) (due : Option ℕ) (r r1 r2 : RingValue) (now : Wind
         (with_fate (Dropped Retries) (bodies (slot s n).id)) else Is_answer_waiting)
         (sym (is_under limit _ _ more slot_found.attempts_is))
 
--- the first place goes, with its frame
+-- the first place is taken, with its frame
 pub expel_step : (size start start2 moved : ℕ) (due due2 : Option ℕ) (r r1 r2 : RingValue) (now : WindowValue)
     (parcel : FrameValue) (attempts : ℕ) → shown size start due r ≡ now →
     Some (Waits parcel attempts) ≡ get_or r.items 0 None → r1 ≡ with_items r (set r.items 0 None) →
@@ -265,7 +265,7 @@ expel_step size start start2 moved due due2 r r1 r2 now parcel attempts is found
     some_place [] f t h = absurd (cc)
     some_place (p ∷ ps) f t h = omega arith
 
--- the first place waits, where nothing flies
+-- if no number flies, the first place waits
 pub first_waits : (ps : List (Option Place)) → 0 < length ps → settled_first state_of_place ps ≡ false →
     list_any (λ p. is_flying (state_of_place p)) ps ≡ false →
     is_waiting (state_of_place (get_or ps 0 None)) ≡ true
@@ -279,7 +279,7 @@ first_waits (p ∷ ps) some h k = elim (state_of_place p) as
       | State.Failed ↦ λ h k. absurd (cc h)
     ] h k
 
--- a waiting place is found, at this number on the air
+-- a waiting place at distance i is found at its number
 
 module _ (w : WindowValue) (from seq i : ℕ) (on_air : seq ≡ (w.start + i) % 4096)
     (above : distance from w.start ≤ i) (inside : i < length w.places) (small : length w.places ≤ 256) where

@@ -1,4 +1,4 @@
--- A bitmap with octets of zeros behind it shows the same offsets.
+-- Proves that octets of zeros after a bitmap add no offset to it.
 use Rattle.std.proofs.Common.{◌≡◌, refl, ap, ◌∙◌, arith, ℕ, zero, suc, ◌+◌, ◌*◌, ◌^◌, ◌<◌, ◌≤◌, ◌==◌, Bool, false, List, [], ◌∷◌, ◌++◌, ◌-◌, length, length-append, filter, replicate, inl, inr}
 use Rattle.std.specs.Prelude.{◌/◌, ◌%◌, slice_index}
 use Rattle.std.specs.List.{range_with_len}
@@ -13,7 +13,7 @@ none_pass p from zero none = refl
 none_pass p from (suc n) none = rw (none from (omega arith))
     (none_pass p (from + 1) n (λ i low. none i (omega (arith, low))))
 
--- two tests that agree on the first numbers, where the first test passes none behind them
+-- two tests that agree on the first n numbers, if the first test passes none after these
 first_pass : (p q : ℕ → Bool) (from n more : ℕ) → ((i : ℕ) → from ≤ i → i < from + n → p i ≡ q i) →
     ((i : ℕ) → from + n ≤ i → p i ≡ false) → filter p (range_with_len from (n + more))
     ≡ filter q (range_with_len from n)
@@ -30,7 +30,7 @@ first_pass p q from (suc n) more agree none =
       | inr fails ↦ rw (agree from (omega arith) (omega arith) ∙ fails, fails) rest
     ])
 
--- no bit of 0 is 1
+-- the number 0 has no bit
 no_bit : (j : ℕ) → (bit_at 0 j == 1) ≡ false
 no_bit j = ne_eqb (bit_at 0 j) 1 (λ e. omega (arith, e, nothing (2 ^ j)))
   where

@@ -1,4 +1,4 @@
--- What settle answers.
+-- Defines the answer of `settle`.
 use Rattle.std.specs.Prelude.{ℕ, ◌+◌, nat_le, Bool, true, false, if◌then◌else◌}
 use Rattle.wf_frame.specs.declared.classes.Fate.{Fate}
 use Rattle.wf_frame.specs.declared.classes.Fate.TheVariants.{Acked as Is_acked, Dropped}

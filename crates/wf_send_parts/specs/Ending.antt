@@ -1,4 +1,4 @@
--- The numbers of an exchange that ends, settled one after the other.
+-- Defines how the numbers of an exchange that ends are settled, one after the other.
 use Rattle.std.specs.Prelude.{◌≡◌, ℕ, ◌<◌, ◌≤◌, Bool, true, List, [], ◌∷◌}
 use Rattle.wf_frame.specs.Frames.{FrameValue}
 use Rattle.wf_def_lists.specs.Lists.{IsOnce}
@@ -12,13 +12,13 @@ pub record Ending : Type 0 where
   pub acked : ℕ → Bool
   pub limit : ℕ
 
--- number n flies in the exchange, and was sent in vain less often than the limit
+-- number n flies in the exchange, and its attempts in vain are below the limit
 pub record IsFlyingIn (s : Session) (ending : Ending) (n : ℕ) : Type 0 where
   pub from_first : s.first ≤ n
   pub flies : (slot s n).state ≡ State.Flying ending.exchange
   pub below : (slot s n).attempts < ending.limit
 
--- these numbers all fly in the exchange, and none stands twice
+-- these numbers all fly in the exchange, and none occurs twice
 pub record AreFlying (s : Session) (ending : Ending) (numbers : List ℕ) : Type 0 where
   pub each : (n : ℕ) → has numbers n ≡ true → IsFlyingIn s ending n
   pub once : IsOnce numbers
@@ -28,7 +28,7 @@ abbrev pub all_settled : Ending → List ℕ → Session → Session
 all_settled ending [] s = s
 all_settled ending (n ∷ ns) s = all_settled ending ns (session_settled (ending.acked n) ending.limit n s)
 
--- The window stands for a session in which these numbers still fly: once they are settled, it is `after`.
+-- The window represents a session in which these numbers still fly. After they are settled it is `after`.
 pub record HasLeft (w : WindowValue) (bodies : ℕ → FrameValue) (ending : Ending) (numbers : List ℕ)
     (after : Session) : Type 0 where
   pub now : Session
@@ -36,7 +36,7 @@ pub record HasLeft (w : WindowValue) (bodies : ℕ → FrameValue) (ending : End
   pub flying : AreFlying now ending numbers
   pub leads : all_settled ending numbers now ≡ after
 
--- the number that is settled next flies, by the window's own value
+-- the number that is settled next flies, as the window itself shows
 pub record IsSettledNext (w : WindowValue) (seq limit : ℕ) : Type 0 where
   pub flies : is_flying (state_at w seq) ≡ true
   pub below : attempts_of (place_at w seq) < limit

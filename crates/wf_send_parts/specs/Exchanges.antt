@@ -1,4 +1,4 @@
--- An open exchange, by what it sends.
+-- Defines queries of an open exchange.
 use Rattle.std.specs.Prelude.{ℕ, ◌==◌, Bool, true, false, ◌&&◌, List, length, Option, None, slice_get}
 use Rattle.std.specs.List.{list_any}
 use Rattle.wf_send_parts.specs.declared.exchanges.opened.Open.{Open}
@@ -9,12 +9,12 @@ use Rattle.wf_send_parts.specs.declared.exchanges.opened.Sending.TheVariants.{Da
 abbrev pub exchange_number : Open → ℕ
 exchange_number x = x.number
 
--- how many transmissions it has: one for each frame, or the one request
+-- how many transmissions it has: one for each frame, or one for a request
 abbrev pub transmissions_of : Sending → ℕ
 transmissions_of (Data numbers) = length numbers
 transmissions_of (Request start) = 1
 
--- the sequence number of the frame that a transmission carries: none of a request, nor past the last frame
+-- the sequence number of the frame in a transmission; None for a request, or past the last frame
 abbrev pub number_carried : Sending → ℕ → Option ℕ
 number_carried (Data numbers) i = slice_get numbers i
 number_carried (Request start) i = None

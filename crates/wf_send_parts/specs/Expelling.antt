@@ -1,4 +1,5 @@
--- What a window gives where nothing flies and its parcels are expelled, one after the other.
+-- Defines which frames a window returns when no number flies and its parcels are expelled one after the
+-- other.
 use Rattle.std.specs.Prelude.{◌≡◌, ℕ, Bool, false, List, ◌++◌, map, filter}
 use Rattle.std.specs.List.{list_any}
 use Rattle.wf_frame.specs.Frames.{FrameValue}
@@ -24,8 +25,8 @@ frame_left bodies x = with_fate (Dropped Left) (bodies x.id)
 abbrev pub frames_left : (ℕ → FrameValue) → Session → List FrameValue
 frames_left bodies s = map (frame_left bodies) (waiting_slots s)
 
--- A window stood for `before` when its parcels began to be expelled, and these frames were: it now stands for
--- a session that holds the others.
+-- A window represented `before` when the expelling began, and has returned these frames. It now represents a
+-- session that holds the others.
 pub record HasExpelled (w : WindowValue) (before : Session) (bodies : ℕ → FrameValue)
     (frames : List FrameValue) : Type 0 where
   pub now : Session

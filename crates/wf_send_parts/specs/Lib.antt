@@ -10,6 +10,6 @@ pub mod Window
 pub mod Windows
 pub mod Exchanges
 pub mod Kept
-pub mod Marks
 pub mod Members
 pub mod Tally
+pub mod Sleepers

@@ -1,14 +1,14 @@
--- The waiting numbers of a session, as a window lists them from its start on, one after the other.
+-- Defines how a window lists the waiting numbers of a session, one after the other from its start on.
 use Rattle.std.specs.Prelude.{◌≡◌, ℕ, ◌+◌, ◌%◌, ◌≤◌, nat_le, List, [], ◌∷◌, ◌++◌, filter}
 use Rattle.wf_def_agreement.specs.Session.{Session, State, slot, start_of, next_number, waiting_numbers}
 use Rattle.wf_send_parts.specs.Window.{IsNumber}
 
--- the waiting numbers at or past n, rising
+-- the waiting numbers at or past n, in ascending order
 abbrev pub waiting_since : Session → ℕ → List ℕ
 waiting_since s n = filter (λ m. nat_le n m) (waiting_numbers s)
 
--- these waiting numbers were listed, from the lowest on, and the others are at or past a number that is
--- `from` on the air
+-- these waiting numbers were listed, from the lowest on; the others are at or past a number that is `from`
+-- modulo 4096
 pub record HasListed (s : Session) (numbers : List ℕ) (from : ℕ) : Type 0 where
   pub number : ℕ
   pub on_air : from ≡ number % 4096
@@ -16,7 +16,7 @@ pub record HasListed (s : Session) (numbers : List ℕ) (from : ℕ) : Type 0 wh
   pub to_next : number ≤ next_number s
   pub rest : numbers ++ waiting_since s number ≡ waiting_numbers s
 
--- the number that is listed next, which is this on the air: the listing goes on after it
+-- the number that is listed next, which is `seq` modulo 4096; the listing goes on after it
 pub record IsListedNext (s : Session) (numbers : List ℕ) (seq : ℕ) : Type 0 where
   pub number : ℕ
   pub is_number : IsNumber s number seq

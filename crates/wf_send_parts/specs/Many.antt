@@ -1,23 +1,23 @@
--- The windows of all TIDs, and the sessions that they stand for.
+-- Defines when the windows of all TIDs represent the sessions of a world.
 use Rattle.std.specs.Prelude.{◌≡◌, ◌≢◌, ℕ, ◌<◌, ◌≤◌, Bool, true, false, List, []}
 use Rattle.wf_frame.specs.Frames.{FrameValue}
 use Rattle.wf_def_agreement.specs.Session.{Session, slot, start_of, next_number}
 use Rattle.wf_send_parts.specs.Window.{WindowValue, WindowStandsFor, holds_parcel}
 use Rattle.wf_send_parts.specs.Windows.{window_of}
 
--- The eight windows of each live station stand for the sessions of its TIDs, where `bodies` has the frame of
--- each id. Those of a station that is not live hold nothing.
+-- The eight windows of each live station represent the sessions of its TIDs; `bodies` has the frame of each
+-- id. The windows of a station that is not live hold no frames.
 pub record AllStand (windows : List WindowValue) (is_live : ℕ → Bool) (sessions : ℕ → ℕ → Session)
     (bodies : ℕ → FrameValue) : Type 0 where
   pub stands : (s t : ℕ) → is_live s ≡ true → t < 8 →
       WindowStandsFor (window_of windows s t) (sessions s t) bodies
   pub empty : (s t : ℕ) → is_live s ≡ false → t < 8 → (window_of windows s t).places ≡ []
 
--- the sessions are the same but for that of TID t of station s
+-- the sessions are the same, except that of TID t of station s
 pub record IsSameElsewhere (before after : ℕ → ℕ → Session) (s t : ℕ) : Type 0 where
   pub same : (x y : ℕ) → y < 8 → (x ≡ s → y ≡ t → ⊥) → after x y ≡ before x y
 
--- the windows and the sessions of all other stations are the same, and are live or not as before
+-- all stations other than s have the same windows and sessions, and are live or not as before
 pub record IsSameAtOthers (windows others : List WindowValue) (was_live is_live : ℕ → Bool)
     (before after : ℕ → ℕ → Session) (s : ℕ) : Type 0 where
   pub windows_same : (x y : ℕ) → x ≢ s → y < 8 → window_of others x y ≡ window_of windows x y

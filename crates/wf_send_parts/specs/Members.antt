@@ -1,11 +1,11 @@
--- Stations by number, each with what is kept of it while it is live. Airtime is in microseconds.
+-- Defines the state that is kept of each live station, by number. Airtime is in microseconds.
 use Rattle.std.specs.Prelude.{ℕ, ◌+◌, Bool, false, List, [], ◌∷◌, Option, None, option_map, slice_index, slice_index_or, slice_set}
 use Rattle.wf_frame.specs.declared.classes.Class.{Class}
 use Rattle.wf_frame.specs.Classes.{class_number}
 use Rattle.wf_def_air.specs.Airtime.{Rate, lowest_rate}
 use Rattle.wf_send_parts.specs.declared.stations.members.Member.{Member}
 
--- a station that joins: the lowest rate, the lower TID's turn in each class, and no airtime used
+-- a station that joins: it has the lowest rate, the lower TID's turn in each class, and no airtime charged
 abbrev pub new_member : ℕ → Member
 new_member exponent = record {
   rate = lowest_rate;
@@ -15,15 +15,15 @@ new_member exponent = record {
   received = 0 ∷ 0 ∷ 0 ∷ 0 ∷ [];
 }
 
--- what is kept of a station: None where it is not live
+-- the state of a station; None if it is not live
 abbrev pub member : List (Option Member) → ℕ → Option Member
 member members s = slice_index_or members s None
 
--- the stations with this one changed, where it is live
+-- the stations with the state of station s changed, if it is live
 abbrev pub on_member : List (Option Member) → ℕ → (Member → Member) → List (Option Member)
 on_member members s f = slice_set members s (option_map f (member members s))
 
--- a member at another rate
+-- a member with another rate
 abbrev pub with_rate : Rate → Member → Member
 with_rate rate m = record m { rate = rate }
 
@@ -39,14 +39,14 @@ with_upper c upper m = record m { upper = slice_set m.upper (class_number c) upp
 abbrev pub charged_in : Member → Class → ℕ
 charged_in m c = slice_index m.charged (class_number c)
 
--- a member that is charged so much more in a class
+-- a member charged `air` more microseconds for its exchanges in a class
 abbrev pub with_charge : Class → ℕ → Member → Member
 with_charge c air m = record m { charged = slice_set m.charged (class_number c) (charged_in m c + air) }
 
--- the airtime that a member itself used in a class since its join
+-- the receive charges of a member in a class since its join
 abbrev pub received_in : Member → Class → ℕ
 received_in m c = slice_index m.received (class_number c)
 
--- a member that used so much more in a class
+-- a member with `air` more microseconds of receive charges in a class
 abbrev pub with_receipt : Class → ℕ → Member → Member
 with_receipt c air m = record m { received = slice_set m.received (class_number c) (received_in m c + air) }

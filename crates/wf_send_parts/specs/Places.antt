@@ -1,4 +1,4 @@
--- A list of slots or places, seen by their states.
+-- Defines the state of each place of a window, and queries of lists of slots or places by their states.
 use Rattle.std.specs.Prelude.{ℕ, ◌+◌, nat_le, Bool, false, if◌then◌else◌, List, [], ◌∷◌, Option, Some, None}
 use Rattle.wf_frame.specs.Frames.{FrameValue}
 use Rattle.wf_send_parts.specs.declared.window.place.Place.{Place}
@@ -19,7 +19,7 @@ place_as State.Waiting parcel attempts = Some (Waits parcel attempts)
 place_as (State.Flying exchange) parcel attempts = Some (Flies parcel attempts exchange)
 place_as State.Failed parcel attempts = Some Fails
 
--- the place of a session's slot, where `bodies` has the frame of each id
+-- the place of a session's slot; `bodies` has the frame of each id
 abbrev pub slot_place : (ℕ → FrameValue) → Slot → Option Place
 slot_place bodies x = place_as x.state (bodies x.id) x.attempts
 
@@ -27,33 +27,33 @@ abbrev pub slot_state : Slot → State
 slot_state x = x.state
 
 module _ {X : Type 0} (state : X → State) where
-  -- the settled ones in front
+  -- the settled ones at the front
   abbrev pub front : List X → List X
   front [] = []
   front (x ∷ xs) = if is_settled (state x) then x ∷ front xs else []
 
-  -- those from the first on that is not settled
+  -- the list from the first one on that is not settled
   abbrev pub rest : List X → List X
   rest [] = []
   rest (x ∷ xs) = if is_settled (state x) then rest xs else x ∷ xs
 
-  -- whether the first is settled
+  -- whether the first one is settled
   abbrev pub settled_first : List X → Bool
   settled_first [] = false
   settled_first (x ∷ xs) = is_settled (state x)
 
--- how far the next number is past the last failed one, where the number itself is `since` past it
+-- how far the next number is past the last failed one, if this number is `since` past it
 abbrev pub next_since : State → Option ℕ → Option ℕ
 next_since State.Failed since = Some 1
 next_since _ None = None
 next_since _ (Some d) = Some (d + 1)
 
--- how far the end of a list is past its last failed one, where its beginning is `since` past one
+-- how far the end of a list is past the last failed number, if its beginning is `since` past one
 abbrev pub since_failed : {X : Type 0} → (X → State) → Option ℕ → List X → Option ℕ
 since_failed state since [] = since
 since_failed state since (x ∷ xs) = since_failed state (next_since (state x) since) xs
 
--- a distance, where it is at most this one
+-- a distance, if it is at most `limit`
 abbrev pub at_most : ℕ → Option ℕ → Option ℕ
 at_most limit None = None
 at_most limit (Some d) = if nat_le d limit then Some d else None

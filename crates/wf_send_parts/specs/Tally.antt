@@ -1,4 +1,4 @@
--- Counts of the frames that were accepted, by what became of them.
+-- Defines the counts of the accepted frames, by fate.
 use Rattle.std.specs.Prelude.{ℕ, ◌+◌, ◌-◌}
 use Rattle.wf_frame.specs.declared.classes.Cause.TheVariants.{Overlimit, Codel, Retries, Left}
 use Rattle.wf_frame.specs.declared.classes.Fate.{Fate}
@@ -34,11 +34,11 @@ settled_count c = c.acked + c.overlimit + c.codel + c.retries + c.left
 abbrev pub held_in : Counts → ℕ
 held_in c = c.accepted - settled_count c
 
--- one frame more is accepted
+-- one more frame is accepted
 abbrev pub one_accepted : Counts → Counts
 one_accepted c = record c { accepted = c.accepted + 1 }
 
--- one frame more has this fate
+-- one more frame has this fate
 abbrev pub settled_as : Fate → Counts → Counts
 settled_as Held c = c
 settled_as Acked c = record c { acked = c.acked + 1 }
@@ -47,7 +47,7 @@ settled_as (Dropped Codel) c = record c { codel = c.codel + 1 }
 settled_as (Dropped Retries) c = record c { retries = c.retries + 1 }
 settled_as (Dropped Left) c = record c { left = c.left + 1 }
 
--- so many frames more have this fate
+-- n more frames have this fate
 abbrev pub many_settled_as : Fate → ℕ → Counts → Counts
 many_settled_as Held n c = c
 many_settled_as Acked n c = record c { acked = c.acked + n }

@@ -1,4 +1,4 @@
--- The window of one TID as its callers see it, and the sessions that it stands for.
+-- Defines the window of one TID as its callers see it, and which sessions it represents.
 use Rattle.std.specs.Prelude.{◌≡◌, ℕ, ◌+◌, ◌-◌, ◌%◌, ◌<◌, ◌≤◌, nat_lt, nat_le, Bool, true, false, not, ◌&&◌, List, [], Option, Some, None, is_none, unwrap_or, length, map, find, slice_index_or}
 use Rattle.std.specs.List.{list_any}
 use Rattle.wf_frame.specs.Frames.{FrameValue}
@@ -13,10 +13,10 @@ pub record WindowValue : Type 0 where
   pub capacity : ℕ
   pub size : ℕ
   pub start : ℕ  -- F, modulo 4096
-  pub places : List (Option Place)  -- of the numbers from F on
-  pub due : Option ℕ  -- how far F is past the last failed number, where a request is due
+  pub places : List (Option Place)  -- the content of each number from F on
+  pub due : Option ℕ  -- if a request is due: how far F is past the last failed number
 
--- a window of no number: its capacity, its size and the first number
+-- a window without numbers, with this capacity, size and first number
 abbrev pub fresh_window : ℕ → ℕ → ℕ → WindowValue
 fresh_window capacity size start = record {
   capacity = capacity;
@@ -26,17 +26,17 @@ fresh_window capacity size start = record {
   due = None;
 }
 
--- the session
+-- ---- the session
 
--- the slots from the first number on that is not settled
+-- the slots from the first unsettled number on
 abbrev pub slots_from_start : Session → List Slot
 slots_from_start s = rest slot_state s.slots
 
--- how far F is past the last failed number below it, where that is at or past R
+-- how far F is past the last failed number below it, if that number is at or past R
 abbrev pub due_distance : Session → Option ℕ
 due_distance s = at_most (start_of s - s.heard) (since_failed slot_state None (front slot_state s.slots))
 
--- the window stands for the session, where `bodies` has the frame of each id
+-- the window represents the session; `bodies` has the frame of each id
 pub record WindowStandsFor (w : WindowValue) (s : Session) (bodies : ℕ → FrameValue) : Type 0 where
   pub size : w.size ≡ s.size
   pub start : w.start ≡ start_of s % 4096
@@ -46,7 +46,7 @@ pub record WindowStandsFor (w : WindowValue) (s : Session) (bodies : ℕ → Fra
   pub room : next_number s ≤ start_of s + s.size
   pub small : s.size ≤ 256
 
--- n is one of the session's numbers that are not behind its start, and this on the air
+-- n is a number of the session at or past its start, and equals `seq` modulo 4096
 pub record IsNumber (s : Session) (n seq : ℕ) : Type 0 where
   pub from_start : start_of s ≤ n
   pub given : n < next_number s
@@ -63,12 +63,12 @@ waiting_from s n = find (λ m. nat_le n m) (waiting_numbers s)
 abbrev pub on_air : ℕ → ℕ
 on_air n = n % 4096
 
--- the session after a number was settled
+-- the session after number n was settled: acknowledged, or sent in vain once more
 abbrev pub session_settled : Bool → ℕ → ℕ → Session → Session
 session_settled true limit n s = with_state State.Acked n s
 session_settled false limit n s = after_miss limit n s
 
--- the window
+-- ---- the window
 
 abbrev pub place_at : WindowValue → ℕ → Option Place
 place_at w seq = slice_index_or w.places (distance seq w.start) None
@@ -76,26 +76,26 @@ place_at w seq = slice_index_or w.places (distance seq w.start) None
 abbrev pub state_at : WindowValue → ℕ → State
 state_at w seq = state_of_place (place_at w seq)
 
--- a place in flight
+-- whether a number in this state flies
 abbrev pub is_flying : State → Bool
 is_flying (State.Flying exchange) = true
 is_flying _ = false
 
--- a state in which a number holds a parcel
+-- whether a number in this state holds a parcel
 abbrev pub holds_parcel : State → Bool
 holds_parcel State.Waiting = true
 holds_parcel (State.Flying exchange) = true
 holds_parcel _ = false
 
--- a waiting place
+-- whether a place waits
 abbrev pub waits : Option Place → Bool
 waits p = is_waiting (state_of_place p)
 
--- whether a number flies
+-- whether some number flies
 abbrev pub some_fly : WindowValue → Bool
 some_fly w = list_any (λ p. is_flying (state_of_place p)) w.places
 
--- how often the frame of a number was sent in vain
+-- how many attempts of a number were in vain
 abbrev pub attempts_of : Option Place → ℕ
 attempts_of (Some (Waits parcel attempts)) = attempts
 attempts_of (Some (Flies parcel attempts exchange)) = attempts
@@ -112,18 +112,18 @@ pub record HasOwnFrame (s : Session) (n : ℕ) : Type 0 where
   pub sole : (m : ℕ) → start_of s ≤ m → m < next_number s → holds_parcel (slot s m).state ≡ true →
       (slot s m).id ≡ (slot s n).id → m ≡ n
 
--- what every window keeps
+-- the invariant of each window
 pub record IsInOrder (capacity size : ℕ) (places : List (Option Place)) (due : Option ℕ) : Type 0 where
   pub bounded : unwrap_or due 0 + length places ≤ size
   pub within : size ≤ capacity
   pub small : capacity ≤ 256
   pub begins : settled_first state_of_place places ≡ false
 
--- whether the window gives its next number
+-- whether the window may give its next number
 abbrev pub can_take : WindowValue → Bool
 can_take w = is_none w.due && nat_lt (length w.places) w.size
 
--- the window without the settled numbers in front
+-- the window without the settled numbers at its front
 abbrev pub moved_on : WindowValue → WindowValue
 moved_on w =
     record w {

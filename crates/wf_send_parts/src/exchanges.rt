@@ -1,11 +1,8 @@
-//! The exchanges that are open, at most 32 in the order of their numbers: what each sends, to whom and what
-//! it is charged (`Opened`), and which of its transmissions arrived with the answer that was made (`Marks`).
-//! Only `new` takes memory. `widened` is a narrow bitmap among 256 offsets.
+//! The open exchanges, at most 32, in the order of their numbers: what each sends, to which station, and its
+//! charge (`Opened`). Only `new` allocates. `widened` converts a bitmap of 64 bits to one of 256.
 
-mod marks;
 mod narrow;
 mod opened;
 
-pub use marks::{Mark, Marks};
 pub use narrow::widened;
 pub use opened::{MOST_OPEN, Numbers, Open, Opened, Sending};

@@ -1,6 +1,14 @@
-//! The parts of a transmit half besides its queues and its scheduler: the originator's windows of all TIDs
-//! (`window`), the open exchanges and what arrived of each (`exchanges`), and what is kept of live stations,
-//! with the counts of frames by fate (`stations`). None of them knows of another.
+//! The parts of a transmit half other than its queues and its scheduler: the originator's windows of all TIDs
+//! (`window`), the open exchanges (`exchanges`), and the live and sleeping stations with the counts of frames
+//! by fate (`stations`). The three modules are independent of each other.
+//!
+//! ```text
+//! let mut windows = Windows::new(alloc, 1)?;       // the eight windows of one station
+//! windows.reset_all(0, Seq12::of(500), 64);        // each TID begins at 500 with a window of 64
+//! let seq = windows.give(0, 5, parcel)?;           // TID 5: number 500 waits
+//! let id = windows.fly(0, 5, seq, 0);              // it flies in exchange 0
+//! let done = windows.settle(0, 5, seq, true, 10);  // Settled::Acked(parcel)
+//! ```
 #![tactic(auto)]
 
 pub mod exchanges;

@@ -1,11 +1,13 @@
-//! What is kept of each live station: its rate and length exponent, whose turn it is in each class, and the
-//! airtime that it was charged and that it used (`Members`); and what became of the frames that were
-//! accepted, by exact count (`Tally`).
+//! The stations: rate, length exponent, turns and sums of airtime of each live one (`Members`); which of them
+//! sleep, and the credits of their polls (`Sleepers`; IEEE 802.11-2012, 10.2.1); and the counts of frames by
+//! fate (`Tally`).
 
 mod laws;
 mod members;
+mod sleepers;
 mod tally;
 
 pub use laws::many_settle_one_by_one;
 pub use members::{Member, Members};
+pub use sleepers::{Sleeper, Sleepers};
 pub use tally::Tally;

@@ -1,10 +1,10 @@
-//! The originator's windows (IEEE 802.11-2012, 9.21.7). A `Window` has the numbers of one TID that are given
-//! and not settled: for any session that it stood for, it stands for that session changed as the definition
-//! says, and whether some number waits is known in one step. `Windows` has those of all TIDs, made once, by
-//! station and TID: a call changes one window and no other.
+//! The originator's windows (IEEE 802.11-2012, 9.21.7). A `Window` holds the numbers of one TID from the
+//! first unsettled one on. If it represents a session before a call, it represents the session with the
+//! definition's change after it. `has_waiting` takes constant time. `Windows` holds the windows of all TIDs
+//! by station and TID; each call changes one window only.
 //!
-//! The modules `sessions` and `many_sessions` have laws for the loops of callers, and what many windows stand
-//! for.
+//! The modules `sessions` and `many_sessions` have laws for callers' loops over a window, and for many
+//! windows at once.
 
 pub mod many_sessions;
 mod place;

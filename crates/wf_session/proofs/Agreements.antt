@@ -1,5 +1,5 @@
--- What the messages on their way say gives the law: the ends agree, and the recipient opened what is open at
--- the originator.
+-- Proves the agreement law from `Sound` and `Once`: all messages with one token have the same terms, so both
+-- ends have the same agreement.
 use Rattle.std.proofs.Common.{◌≡◌, ℕ, List, Some, sym, ◌∙◌, ap, subst}
 use Rattle.wf_session.specs.declared.agreement.Agreement.{Agreement}
 use Rattle.wf_session.specs.Ends.{granted}
@@ -9,7 +9,7 @@ use Rattle.wf_session.specs.Laws.{EndsAgree, RecipientOpened, AgreementLaw}
 use Rattle.wf_session.proofs.Sound.{Terms, OpenedFits, IsGood, opening_good, events_good}
 use Rattle.wf_session.proofs.Once.{originator_once, recipient_once}
 
--- two agreements that fit one last token are one agreement
+-- two agreements that fit the same last token are the same
 same_agreement : (terms : ℕ → Terms) (limit last : ℕ) (a b : Agreement) →
     OpenedFits terms limit last (Some a) → OpenedFits terms limit last (Some b) → a ≡ b
 same_agreement terms limit last a b first second =

@@ -1,5 +1,5 @@
--- The agreement law: what the messages on their way say, that no token opens twice, and that both ends agree.
--- Then worked lists of events.
+-- The proofs of the agreement law: invariants of the messages, that no token opens twice, and that both ends
+-- agree; and worked lists of events.
 pub mod Sound
 mod Once
 pub mod Agreements

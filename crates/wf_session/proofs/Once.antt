@@ -1,6 +1,6 @@
--- No token opens twice at an end. A token is gone at an end once it can open there no more: at the originator
--- when it is not above the last and is not the one asked with, at the recipient when it is not above the
--- last.
+-- Proves that no token opens twice at an end. A token is gone at an end when it can no longer open there: at
+-- the originator if it is not above the last token and is not the requested one, and at the recipient if it
+-- is not above the last.
 use Rattle.std.proofs.Common.{◌≡◌, ℕ, ◌+◌, ◌<◌, ◌≤◌, ◌==◌, ◌&&◌, not, nat_lt, nat_le, Bool, true, false, List, [], ◌∷◌, inl, inr, Option, Some, None, refl, sym, ◌∙◌, ap, subst, arith, if◌then◌else◌}
 use Rattle.std.specs.Prelude.{slice_get}
 use Rattle.std.proofs.lemmas.Bool.{eqb-true, cases_Bool}
@@ -16,8 +16,8 @@ use Rattle.wf_session.specs.World.{Parley, to_originator, to_recipient, after_ev
 use Rattle.wf_session.specs.Laws.{originators, recipients, opens, times_opened}
 use Rattle.wf_session.proofs.Sound.{Terms, AskedFits, IsGood, choose, event_good}
 
--- one event at an end, for a token: where it opens it is gone then, and where it was gone it does not open
--- and stays gone
+-- one event at an end, for a token: if the token opens, it is gone afterwards; if it was gone, it does not
+-- open and stays gone
 pub record Once (opened : Bool) (before after : Type 0) : Type 0 where
   pub spends : opened ≡ true → after
   pub stays : before → (opened ≡ false) × after
@@ -25,7 +25,7 @@ pub record Once (opened : Bool) (before after : Type 0) : Type 0 where
 not_again : (token : ℕ) (o : Option Agreement) → opens token o o ≡ false
 not_again token o = elim (has_token token o) as (λ b. (b && not b) ≡ false) [ true ↦ refl | false ↦ refl ]
 
--- an end whose agreement stays, or ends, opens nothing
+-- an end whose agreement is unchanged or ends opens nothing
 keeps : (token : ℕ) (o : Option Agreement) (before after : Type 0) → (before → after) →
     Once (opens token o o) before after
 keeps token o before after stays = record {
@@ -40,7 +40,7 @@ ends token o before after stays = record {
   stays = λ gone. (refl, stays gone);
 }
 
--- a new agreement in place of another
+-- a new agreement replaces another
 begins : (token : ℕ) (o : Option Agreement) (a : Agreement) (before after : Type 0) →
     (a.token ≡ token → after) → (before → (a.token == token) ≡ false) → (before → after) →
     Once (opens token o (Some a)) before after
@@ -79,7 +79,7 @@ counts end token Gone step (event ∷ later) w good =
 abbrev GoneThere : ℕ → OfferValue → Type 0
 GoneThere token e = (token ≤ e.last) × (has_token token e.asked ≡ false)
 
--- one event, seen at the originator alone
+-- one event, as the originator sees it
 abbrev OnceThere : ℕ → OfferValue → OfferValue → Type 0
 OnceThere token e new = Once (opens token e.opened new.opened) (GoneThere token e) (GoneThere token new)
 
@@ -153,7 +153,7 @@ delivered_once terms token w None fits = keeps token w.originator.opened (GoneTh
     (GoneThere token w.originator) (λ gone. gone)
 delivered_once terms token w (Some message) fits = heard_once terms token w.originator message fits
 
--- what the recipient hears does not touch the originator
+-- a message to the recipient does not change the originator
 apart : (w : Parley) (message : Option Action) → (to_recipient message w).originator ≡ w.originator
 apart w None = refl
 apart w (Some message) = refl

@@ -1,5 +1,5 @@
--- Worked lists of events, computed: a restart forgets what was agreed, and a message that comes again makes
--- nothing; and the octets of the message that each event sends.
+-- Computes worked lists of events: a restart forgets the agreement, and a repeated message opens nothing.
+-- Also computes the octets of the message that each event sends.
 use Rattle.std.proofs.Common.{◌≡◌, ℕ, List, [], ◌∷◌, ◌++◌, length, map, drop, Option, Some, None, refl}
 use Rattle.std.specs.List.{concat}
 use Rattle.wf_session.specs.declared.agreement.Agreement.{Agreement}
@@ -9,7 +9,7 @@ use Rattle.wf_session.specs.declared.event.Event.{Event}
 use Rattle.wf_session.specs.declared.event.Event.TheVariants.{Ask, Again, ToOriginator, ToRecipient, CloseOriginator, CloseRecipient, RestartRecipient}
 use Rattle.wf_session.specs.World.{Parley, new_parley, after_event, after_events}
 
--- what is open at the originator and at the recipient after each event
+-- the open agreements of the originator and of the recipient after each event
 pub seen : Parley → List Event → List (Option Agreement × Option Agreement)
 seen w [] = []
 seen w (event ∷ later) = let next : Parley = after_event event w in
@@ -62,7 +62,7 @@ pub responses_sent : length (after_events (new_parley 0 64) restart_and_replay_e
 unfolding after_events after_event
 responses_sent = refl
 
--- the octets of the messages that an event sends, with which w becomes the other
+-- the octets of the messages that are sent from `w` to `next`
 abbrev pub octets_between : Parley → Parley → List ℕ
 octets_between w next = concat (map action_octets (drop (length w.asks) next.asks)
     ++ map action_octets (drop (length w.answers) next.answers))
@@ -73,8 +73,8 @@ octets_sent w [] = []
 octets_sent w (event ∷ later) = let next : Parley = after_event event w in
     octets_between w next ∷ octets_sent next later
 
--- a first response is lost, the recipient starts anew, the originator closes and asks again, and the
--- recipient closes
+-- The first response is lost, the recipient restarts, the originator closes and asks again, and the recipient
+-- closes.
 abbrev response_lost_and_closed_events : List Event
 response_lost_and_closed_events =
     Ask 128 500 ∷
@@ -93,7 +93,7 @@ response_lost_and_closed_events =
     Ask 256 0 ∷
     []
 
--- The script checks/agreement-frames takes these octets to another program.
+-- The script checks/agreement-frames passes these octets to another program.
 pub response_lost_and_closed : octets_sent (new_parley 0 64) response_lost_and_closed_events ≡
     (3 ∷ 0 ∷ 1 ∷ 2 ∷ 32 ∷ 0 ∷ 0 ∷ 64 ∷ 31 ∷ []) ∷
     (3 ∷ 1 ∷ 1 ∷ 0 ∷ 0 ∷ 2 ∷ 16 ∷ 0 ∷ 0 ∷ []) ∷

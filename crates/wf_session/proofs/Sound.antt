@@ -1,5 +1,6 @@
--- What holds of the two ends and of every message ever sent: all requests with one token carry the same
--- window and start, and what is open at an end comes from the request with the last token.
+-- Proves the invariant of the two ends and of all messages ever sent: all requests with one token have the
+-- same window and start, and the open agreement of an end is from the request with the last token. By cases
+-- of the event.
 use Rattle.std.proofs.Common.{◌≡◌, ℕ, zero, suc, ◌+◌, ◌<◌, ◌≤◌, ◌==◌, ◌&&◌, not, nat_lt, nat_le, Bool, true, false, List, [], ◌∷◌, Option, Some, None, refl, sym, ◌∙◌, ap, subst, arith, if◌then◌else◌}
 use Rattle.std.specs.Prelude.{All, slice_get, option_map}
 use Rattle.std.proofs.lemmas.Bool.{eqb-true}
@@ -15,32 +16,33 @@ use Rattle.wf_session.specs.declared.event.Event.{Event}
 use Rattle.wf_session.specs.declared.event.Event.TheVariants.{Ask, Again, ToOriginator, ToRecipient, CloseOriginator, CloseRecipient, RestartOriginator, RestartRecipient}
 use Rattle.wf_session.specs.World.{Parley, new_parley, with_sent, request_of_ask, to_originator, to_recipient, after_event, after_events}
 
--- what every request with a token carries
+-- the window and start of every request with a token
 pub record Terms : Type 0 where
   pub window : ℕ
   pub start : ℕ
 
--- a message of the originator: a request has a token that was given, and that token's terms
+-- a message of the originator: a request has a token that was used, and the terms of that token
 abbrev pub AskFits : (ℕ → Terms) → ℕ → Action → Type 0
 AskFits terms last (Request token tid window start) = (token ≤ last) × (window ≡ (terms token).window) ×
     (start ≡ (terms token).start)
 AskFits terms last (Response token status tid window) = Unit {0}
 AskFits terms last (Teardown tid initiator reason) = Unit {0}
 
--- a message of the recipient: a response has a token that came, and the window given for that token's terms
+-- a message of the recipient: a response has a token that arrived, and the window granted for the terms of
+-- that token
 abbrev pub AnswerFits : (ℕ → Terms) → ℕ → ℕ → Action → Type 0
 AnswerFits terms limit last (Request token tid window start) = Unit {0}
 AnswerFits terms limit last (Response token status tid window) = (token ≤ last) ×
     (window ≡ granted limit (terms token).window)
 AnswerFits terms limit last (Teardown tid initiator reason) = Unit {0}
 
--- what is asked for has the last token, and that token's terms
+-- the unsettled request has the last token, and the terms of that token
 abbrev pub AskedFits : (ℕ → Terms) → ℕ → Option Agreement → Type 0
 AskedFits terms last None = Unit {0}
 AskedFits terms last (Some a) = (a.token ≡ last) × (a.window ≡ (terms a.token).window) ×
     (a.start ≡ (terms a.token).start)
 
--- what is open has the last token, the window given for its terms, and their start
+-- the open agreement has the last token, the window granted for its terms, and their start
 abbrev pub OpenedFits : (ℕ → Terms) → ℕ → ℕ → Option Agreement → Type 0
 OpenedFits terms limit last None = Unit {0}
 OpenedFits terms limit last (Some a) = (a.token ≡ last) × (a.window ≡ granted limit (terms a.token).window) ×
@@ -55,7 +57,7 @@ pub record Sound (terms : ℕ → Terms) (w : Parley) : Type 0 where
   pub accepted : OpenedFits terms w.recipient.limit w.recipient.last w.recipient.opened
   pub lasts : w.recipient.last ≤ w.originator.last
 
--- ---- one message, where there is one
+-- ---- an optional message
 abbrev pub MessageFits : (Action → Type 0) → Option Action → Type 0
 MessageFits P None = Unit {0}
 MessageFits P (Some message) = P message
@@ -71,7 +73,7 @@ sent_fits : (P : Action → Type 0) (sent : List Action) (message : Option Actio
 sent_fits P sent None all fits = All-append P sent [] all (All-nil P)
 sent_fits P sent (Some message) all fits = All-push P sent message all fits
 
--- ---- a choice by a test
+-- ---- a value chosen by a test
 pub choose : {A : Type 0} (P : A → Type 0) (b : Bool) (x y : A) → (b ≡ true → P x) → (b ≡ false → P y) →
     P (if b then x else y)
 choose P true x y holds fails = holds refl
@@ -82,7 +84,7 @@ pub choose_both : {A B : Type 0} (P : A → B → Type 0) (b : Bool) (x y : A) (
 choose_both P true x y u v holds fails = holds refl
 choose_both P false x y u v holds fails = fails refl
 
--- ---- the ask: its token gets its terms, and no token below changes its own
+-- ---- the ask: its token gets its terms, and the terms of all lower tokens are unchanged
 given : (ℕ → Terms) → ℕ → Terms → ℕ → Terms
 given terms token new t = if t == token then new else terms t
 
@@ -157,7 +159,7 @@ asked_now terms w window start none s =
       lasts = omega (arith, s.lasts);
     }
 
--- the world after an ask with this fault or none
+-- the world after an ask, with this fault or with none
 asked_or : Option OfferFault → ℕ → ℕ → Parley → Parley
 asked_or fault window start w = record w {
   originator = unless fault w.originator (record
@@ -202,7 +204,7 @@ ask_good terms w window start (Some a) is s =
     (Some (Open a.token))
     (λ _. refused terms w window start Spent s) (λ _. refused terms w window start (Open a.token) s)
 
--- ---- a message from the originator goes out
+-- ---- the originator sends a message
 sends : (terms : ℕ → Terms) (w : Parley) (message : Option Action) →
     MessageFits (AskFits terms w.originator.last) message → Sound terms w →
     Sound terms (record w { asks = with_sent w.asks message })
@@ -226,7 +228,7 @@ teardown_fits : (terms : ℕ → Terms) (last tid : ℕ) (o : Option Agreement) 
 teardown_fits terms last tid None = tt
 teardown_fits terms last tid (Some a) = tt
 
--- ---- a message from the recipient goes out
+-- ---- the recipient sends a message
 answers_more : (terms : ℕ → Terms) (w : Parley) (message : Option Action) →
     MessageFits (AnswerFits terms w.recipient.limit w.recipient.last) message → Sound terms w →
     Sound terms (record w { answers = with_sent w.answers message })
@@ -254,7 +256,7 @@ response_fits terms limit last tid token (Some a) fits =
     choose (MessageFits (AnswerFits terms limit last)) (a.token == token) (Some (response_of tid a)) None
     (λ _. (omega (arith, fits.0), fits.1)) (λ _. tt)
 
--- ---- an end changes what is open and what is asked
+-- ---- the open agreement or the request of an end changes
 with_originator : (terms : ℕ → Terms) (w : Parley) (asked opened : Option Agreement) →
     AskedFits terms w.originator.last asked → OpenedFits terms w.recipient.limit w.originator.last opened
     → OpenedFits terms w.recipient.limit w.recipient.last opened → Sound terms w →
@@ -282,7 +284,7 @@ with_recipient terms w opened fits s = record {
   lasts = s.lasts;
 }
 
--- ---- the originator hears
+-- ---- the originator handles a message
 settled_sound : (terms : ℕ → Terms) (w : Parley) (token status window : ℕ) (wish : Agreement) →
     AnswerFits terms w.recipient.limit w.recipient.last (Response token status 0 window)
     → wish.token ≡ token → AskedFits terms w.originator.last (Some wish) → Sound terms w →
@@ -343,7 +345,7 @@ heard_sound terms w (Teardown tid initiator reason) fits s =
     (record w.originator { opened = None }) w.originator
     (λ _. with_originator terms w w.originator.asked None s.asked tt tt s) (λ _. s)
 
--- ---- the recipient hears
+-- ---- the recipient handles a message
 answer_later : (terms : ℕ → Terms) (limit last new : ℕ) → last ≤ new → (message : Action) →
     AnswerFits terms limit last message → AnswerFits terms limit new message
 answer_later terms limit last new below (Request token tid window start) fits = tt
@@ -351,7 +353,7 @@ answer_later terms limit last new below (Response token status tid window) fits 
     (omega (arith, below, fits.0), fits.1)
 answer_later terms limit last new below (Teardown tid initiator reason) fits = tt
 
--- with a request above the recipient's last token nothing is open at the originator
+-- if a used token is above the recipient's last token, no agreement is open at the originator
 not_there : (terms : ℕ → Terms) (limit last there token : ℕ) (o : Option Agreement) →
     OpenedFits terms limit last o → OpenedFits terms limit there o → token ≤ last → there < token →
     OpenedFits terms limit token o
@@ -424,7 +426,7 @@ accepts_sound terms w (Teardown tid initiator reason) fits s =
     (λ _. with_recipient terms (record w { answers = with_sent w.answers None }) None tt
     (answers_more terms w None tt s)) (λ _. answers_more terms w None tt s)
 
--- ---- every event, and every list of events
+-- ---- each event, and each list of events
 delivered_there : (terms : ℕ → Terms) (w : Parley) (message : Option Action) →
     MessageFits (AnswerFits terms w.recipient.limit w.recipient.last) message → Sound terms w →
     Sound terms (to_originator message w)

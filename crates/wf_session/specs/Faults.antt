@@ -1,4 +1,4 @@
--- The checks of an action frame, in their order.
+-- Defines the checks of an action frame, in their order (IEEE 802.11-2012, 8.4.1.14 and 8.5.5).
 use Rattle.std.specs.Prelude.{ℕ, ◌/◌, ◌%◌, ◌==◌, not, nat_lt, List, length, slice_index, Option, Some, None, Result, Ok, Err, if◌then◌else◌}
 use Rattle.wf_octets.specs.Fields.{is_set, number_at}
 use Rattle.wf_session.specs.declared.action.Action.{Action}
@@ -10,7 +10,7 @@ use Rattle.wf_session.specs.Layout.{category, request, response, teardown, tid_a
 abbrev pub action_tid_fault : ℕ → Option ActionFault
 action_tid_fault tid = if nat_lt 7 tid then Some (Tid tid) else None
 
--- of an ADDBA request: its length, its policy, its fragment number, its TID
+-- the checks of an ADDBA request: length, policy, fragment number, TID
 abbrev pub request_fault : List ℕ → Option ActionFault
 request_fault octets =
     if nat_lt (length octets) 9 then Some (Short 9 (length octets))
@@ -18,13 +18,13 @@ request_fault octets =
     else (if not (number_at octets 7 % 16 == 0) then Some (Fragment (number_at octets 7 % 16))
     else action_tid_fault (tid_at octets 3)))
 
--- of an ADDBA response: its length, its policy, its TID
+-- the checks of an ADDBA response: length, policy, TID
 abbrev pub response_fault : List ℕ → Option ActionFault
 response_fault octets =
     if nat_lt (length octets) 9 then Some (Short 9 (length octets))
     else (if not (is_set (slice_index octets 5) 1) then Some Delayed else action_tid_fault (tid_at octets 5))
 
--- of a DELBA: its length, its TID
+-- the checks of a DELBA: length, TID
 abbrev pub teardown_fault : List ℕ → Option ActionFault
 teardown_fault octets =
     if nat_lt (length octets) 6 then Some (Short 6 (length octets))
@@ -40,7 +40,7 @@ first_action_fault octets =
     else (if slice_index octets 1 == teardown then teardown_fault octets
     else Some (Unknown (slice_index octets 1))))))
 
--- what octets are read as: the first fault, or where there is none the action at its places
+-- the result of reading: the first fault or, if there is none, the action whose fields the octets contain
 abbrev pub action_read : Option ActionFault → Action → Result Action ActionFault
 action_read None action = Ok action
 action_read (Some fault) action = Err fault

@@ -1,6 +1,6 @@
--- The action frames of a block acknowledgement agreement (IEEE 802.11-2012, 8.4.1.14 and 8.5.5), as a
--- relation between octets and fields. All numbers are little-endian. Octets after the fields are free, and so
--- are the timeouts.
+-- Defines the action frames of a block acknowledgement agreement (IEEE 802.11-2012, 8.4.1.14 and 8.5.5), as a
+-- relation between octets and fields. All numbers are little-endian. Timeouts and octets after the fields may
+-- have any value.
 use Rattle.std.specs.Prelude.{◌≡◌, ℕ, ◌+◌, ◌*◌, ◌/◌, ◌%◌, ◌<◌, ◌≤◌, ◌==◌, Bool, true, List, [], ◌∷◌, ◌++◌, length, slice_index, if◌then◌else◌}
 use Rattle.wf_octets.specs.Fields.{is_set, number_at, two_octets}
 use Rattle.wf_session.specs.declared.action.Action.{Action}
@@ -19,8 +19,8 @@ response = 1
 abbrev pub teardown : ℕ
 teardown = 2
 
--- The parameter set in the two octets from a place on: bit 0 is free, bit 1 is set for immediate policy, bits
--- 2 to 5 are the TID and bits 6 to 15 the window.
+-- The parameter set in the two octets at a place. Bit 0 may have any value, bit 1 is set for immediate
+-- policy, bits 2 to 5 are the TID, and bits 6 to 15 the window.
 abbrev pub tid_at : List ℕ → ℕ → ℕ
 tid_at octets place = slice_index octets place / 4 % 16
 
@@ -33,8 +33,8 @@ pub record HasParameters (octets : List ℕ) (place tid window : ℕ) : Type 0 w
   pub known : tid < 8
   pub window_bits : window_at octets place ≡ window
 
--- ADDBA request: dialog token, parameter set, timeout, and a starting sequence control with fragment number 0
--- in its bits 0 to 3
+-- ADDBA request: dialog token, parameter set, timeout, and a starting sequence control whose fragment number,
+-- in bits 0 to 3, is 0
 pub record IsAddbaRequest (octets : List ℕ) (token tid window start : ℕ) : Type 0 where
   pub long : 9 ≤ length octets
   pub category_octet : slice_index octets 0 ≡ category
@@ -52,8 +52,8 @@ pub record IsResponse (octets : List ℕ) (token status tid window : ℕ) : Type
   pub status_octets : number_at octets 3 ≡ status
   pub parameters : HasParameters octets 5 tid window
 
--- DELBA: parameters, whose bits 0 to 10 are free, bit 11 is the initiator's and bits 12 to 15 the TID, and
--- the reason
+-- DELBA: the parameters and the reason. Bits 0 to 10 of the parameters may have any value, bit 11 is the
+-- initiator's, and bits 12 to 15 are the TID.
 pub record IsTeardown (octets : List ℕ) (tid : ℕ) (initiator : Bool) (reason : ℕ) : Type 0 where
   pub long : 6 ≤ length octets
   pub category_octet : slice_index octets 0 ≡ category
@@ -69,7 +69,7 @@ IsAction octets (Request token tid window start) = IsAddbaRequest octets token t
 IsAction octets (Response token status tid window) = IsResponse octets token status tid window
 IsAction octets (Teardown tid initiator reason) = IsTeardown octets tid initiator reason
 
--- ---- what is written: immediate policy, and every other field 0
+-- ---- the written octets: immediate policy, and 0 in every other field
 abbrev pub parameter_set : ℕ → ℕ → ℕ
 parameter_set tid window = 2 + 4 * tid + 64 * window
 
@@ -86,7 +86,7 @@ action_octets (Response token status tid window) =
 action_octets (Teardown tid initiator reason) =
     (category ∷ teardown ∷ []) ++ two_octets (teardown_set tid initiator) ++ two_octets reason
 
--- what can be written: the TID is below 8, and the window fits its ten bits
+-- the action can be written: the TID is below 8, and the window fits ten bits
 abbrev pub CanBeWritten : Action → Type 0
 CanBeWritten (Request token tid window start) = (tid < 8) × (window < 1024)
 CanBeWritten (Response token status tid window) = (tid < 8) × (window < 1024)
@@ -98,7 +98,7 @@ FitsFields (Request token tid window start) = (token < 256) × (start < 4096)
 FitsFields (Response token status tid window) = (token < 256) × (status < 65536)
 FitsFields (Teardown tid initiator reason) = reason < 65536
 
--- ---- what is read, at the places of the fields
+-- ---- the fields as they are read from their places
 abbrev pub action_in : List ℕ → Action
 action_in octets =
     if slice_index octets 1 == request then Request (slice_index octets 2) (tid_at octets 3)

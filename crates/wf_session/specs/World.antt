@@ -1,5 +1,5 @@
--- Both ends of one TID's agreement and the messages between them. Every message ever sent can be delivered at
--- any time, any number of times or never: so messages are lost, repeated and put in another order.
+-- Defines both ends of one TID's agreement and the messages between them. Each message that was ever sent can
+-- arrive at any time, any number of times or never. So messages are lost, repeated and reordered.
 use Rattle.std.specs.Prelude.{ℕ, true, false, List, [], ◌∷◌, ◌++◌, Option, Some, None, Result, Ok, Err, option_to_list, slice_get}
 use Rattle.wf_session.specs.declared.action.Action.{Action}
 use Rattle.wf_session.specs.declared.event.Event.{Event}
@@ -13,7 +13,7 @@ pub record Parley : Type 0 where
   pub asks : List Action  -- all that the originator ever sent
   pub answers : List Action  -- all that the recipient ever sent
 
--- two new ends of a TID, whose recipient has this limit, and no message
+-- two new ends of a TID, the recipient with this limit, and no messages
 abbrev pub new_parley : ℕ → ℕ → Parley
 new_parley tid limit = record {
   originator = new_offer tid 0;
@@ -22,16 +22,16 @@ new_parley tid limit = record {
   answers = [];
 }
 
--- a message more, where one is sent
+-- the messages, with one more if one is sent
 abbrev pub with_sent : List Action → Option Action → List Action
 with_sent sent message = sent ++ option_to_list message
 
--- the request that an ask gives: none where it is refused
+-- the request of an ask; None if the ask was refused
 abbrev pub request_of_ask : Result Action OfferFault → Option Action
 request_of_ask (Ok message) = Some message
 request_of_ask (Err fault) = None
 
--- a message arrives; a number that no message has is refused
+-- a message arrives; nothing changes if no message has this number
 abbrev pub to_originator : Option Action → Parley → Parley
 to_originator None w = w
 to_originator (Some message) w = record w { originator = offer_heard message w.originator }

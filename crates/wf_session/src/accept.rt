@@ -1,3 +1,5 @@
+//! The recipient's end of an agreement.
+
 ghost use Rattle.std.specs.Prelude.{◌≡◌, ◌≤◌, ◌<◌, false, None, IfSome};
 ghost use Rattle.wf_session.specs.Layout.{CanBeWritten};
 ghost use Rattle.wf_session.specs.Ends.{HasWindow, new_accept, accept_heard, accept_answer, accept_received, accept_reply, with_request, response_to, granted, teardown_of};
@@ -31,8 +33,8 @@ impl Model for Accept {
 }
 
 impl Accept {
-    /// An end without an agreement, for the TID `tid` and windows of at most `limit` numbers, 1 to 256,
-    /// whose last token was `last`: 0 for the first.
+    /// Creates an end without an agreement, for a TID and for windows of at most `limit`, 1 to 256. `last` is
+    /// the last token that opened, 0 at first.
     pub fn new(tid: u8, limit: u16, last: u8) -> Accept
         requires { (1 ≤ limit) × (limit ≤ 256) }
         ensures { result ≡ new_accept tid limit last }
@@ -45,7 +47,7 @@ impl Accept {
         }
     }
 
-    /// A message from the originator arrives. Gives the response, where one is due.
+    /// Handles a message from the originator. Returns the response, if one is due.
     pub fn hear(&mut self, action: &Action) -> Option<Action>
         ensures answer { result ≡ accept_answer action.now self.old }
         ensures after { self.new ≡ accept_heard action.now self.old }
@@ -74,8 +76,8 @@ impl Accept {
         }
     }
 
-    /// Octets from the originator arrive: what they are read as is heard, and octets that are no action frame
-    /// change nothing. Gives the response, where one is due.
+    /// Handles octets from the originator, as the message that they contain. Octets that are no action frame
+    /// change nothing. Returns the response, if one is due.
     pub fn receive(&mut self, octets: &[u8]) -> Option<Action>
         ensures answer { result ≡ accept_reply (decoded_action octets.now) self.old }
         ensures after { self.new ≡ accept_received (decoded_action octets.now) self.old }
@@ -87,7 +89,7 @@ impl Accept {
         self.hear(&action)
     }
 
-    /// Ends the agreement, and gives the message that tells the originator: none where none is open.
+    /// Ends the agreement and returns the message for the originator. None if no agreement is open.
     pub fn close(&mut self) -> Option<Action>
         ensures answer { result ≡ teardown_of self.old.tid false self.old.opened }
         ensures after { self.new ≡ record self.old { opened = None } }
@@ -96,7 +98,7 @@ impl Accept {
         close(&mut self.opened, self.tid, false)
     }
 
-    /// The agreement, where one is open.
+    /// Returns the open agreement, if there is one.
     pub fn state(&self) -> Option<Agreement>
         ensures opened { result ≡ self.now.opened }
         ensures window { HasWindow result }
@@ -104,14 +106,14 @@ impl Accept {
         self.opened
     }
 
-    /// The last token that opened, which a restart has to keep.
+    /// Returns the last token that opened. It has to survive a restart.
     pub fn last(&self) -> u8
         ensures { result ≡ self.now.last }
     {
         self.last
     }
 
-    /// A request of this TID arrives.
+    /// Handles a request for this TID.
     fn hear_request(&mut self, token: u8, window: u16, start: Seq12)
         ensures { self.new ≡ with_request token window start self.old }
     {
@@ -125,7 +127,7 @@ impl Accept {
         }
     }
 
-    /// The window given to a request that asks for this one.
+    /// Returns the window that is granted to a request for this window.
     fn granted(&self, window: u16) -> u16
         ensures window { result ≡ granted self.now.limit window }
         ensures least { 1 ≤ result }
@@ -138,7 +140,7 @@ impl Accept {
         }
     }
 
-    /// The response to a request with this token, where the agreement that is open has it.
+    /// Returns the response to a request with this token, if the open agreement has that token.
     fn response_to(&self, token: u8) -> Option<Action>
         ensures answer { result ≡ response_to token self.now }
         ensures writable { self.now.tid < 8 → IfSome result (λ action. CanBeWritten action) }

@@ -1,15 +1,17 @@
+//! The messages about an agreement.
+
 use wf_octets::seq12::Seq12;
 
-/// A message about an agreement: one of the block acknowledgement action frames (IEEE 802.11-2012, 8.5.5).
+/// A message about an agreement, which is a block acknowledgement action frame (IEEE 802.11-2012, 8.5.5).
 #[derive(Clone, Copy, Debug, PartialEq, Eq)]
 pub enum Action {
-    /// ADDBA request: the originator asks for an agreement.
+    /// ADDBA request: the originator requests an agreement.
     Request {
         /// The dialog token, which the response repeats.
         token: u8,
-        /// The traffic identifier, below 8.
+        /// The TID, below 8.
         tid: u8,
-        /// The window asked for, in numbers; 0 leaves it to the recipient.
+        /// The requested window; 0 leaves it to the recipient.
         window: u16,
         /// The first number of the window.
         start: Seq12,
@@ -18,20 +20,20 @@ pub enum Action {
     Response {
         /// The request's dialog token.
         token: u8,
-        /// 0 where the agreement is made.
+        /// 0 if the agreement is made.
         status: u16,
-        /// The traffic identifier, below 8.
+        /// The TID, below 8.
         tid: u8,
-        /// The window of the agreement, in numbers.
+        /// The window of the agreement.
         window: u16,
     },
-    /// DELBA: the agreement ends.
+    /// DELBA: ends the agreement.
     Teardown {
-        /// The traffic identifier, below 8.
+        /// The TID, below 8.
         tid: u8,
-        /// The originator sent it, and not the recipient.
+        /// Whether the originator sent it, and not the recipient.
         initiator: bool,
-        /// Why the agreement ends.
+        /// The reason code.
         reason: u16,
     },
 }

@@ -1,3 +1,5 @@
+//! Reads the octets of messages.
+
 ghost use Rattle.std.specs.Prelude.{◌≡◌, ◌<◌, IfOk, Ok, None};
 ghost use Rattle.wf_session.specs.Layout.{IsAction, CanBeWritten, action_in};
 ghost use Rattle.std.specs.Result.{result_err};
@@ -13,38 +15,38 @@ use wf_octets::seq12::Seq12;
 /// Why octets are no action frame of an agreement.
 #[derive(Clone, Copy, Debug, PartialEq, Eq, Error)]
 pub enum ActionFault {
-    /// There are fewer octets than category and action have, or than the frame's fields.
+    /// There are fewer octets than category and action need, or than the frame's fields need.
     #[error("an action frame of {need} octets in {have}")]
     Short {
-        /// The octets that are wanted.
+        /// How many octets are needed.
         need: usize,
-        /// The octets that are there.
+        /// How many octets there are.
         have: usize,
     },
-    /// The category is another one.
+    /// The category is not 3, block acknowledgement. Contains the category.
     #[error("category {0}")]
     Category(u8),
-    /// The action is none of the three.
+    /// The action is none of the three. Contains the action.
     #[error("action {0}")]
     Action(u8),
-    /// The policy is delayed acknowledgement.
+    /// The policy is delayed block acknowledgement.
     #[error("an agreement of delayed acknowledgement")]
     Delayed,
-    /// A request's fragment number is not 0.
+    /// A request's fragment number is not 0. Contains that number.
     #[error("fragment number {0}")]
     Fragment(u8),
-    /// The traffic identifier is above 7.
+    /// The TID is above 7. Contains the TID.
     #[error("traffic identifier {0}")]
     Tid(u8),
 }
 
-/// Reads an action frame. It ignores the timeouts, the bit that says whether A-MSDUs are supported, and
-/// octets after the fields.
+/// Reads an action frame. Ignores the timeouts, the bit for A-MSDUs, and all octets after the fields. Returns
+/// the first check that fails, if one does.
 pub fn decode_action(octets: &[u8]) -> Result<Action, ActionFault>
-    // the action at the places of its fields, or the first check that fails
+    // the action whose fields the octets contain, or the first check that fails
     ensures decoded { result ≡ decoded_action octets.now }
 
-    // and that is the action of these octets, where there is one
+    // and this is the action of these octets, if they have one
     ensures read { IfOk result (λ action. IsAction octets.now action) }
     ensures complete { (a : Action) → IsAction octets.now a → result ≡ Ok a }
     ensures range { IfOk result (λ action. CanBeWritten action) }
@@ -115,7 +117,7 @@ fn check_teardown(octets: &[u8]) -> Result<(), ActionFault>
     check_tid(octets[3] / 16)
 }
 
-/// A TID has to be below 8.
+/// Checks that a TID is below 8.
 fn check_tid(tid: u8) -> Result<(), ActionFault>
     ensures { result_err result ≡ action_tid_fault tid }
 {
@@ -125,7 +127,7 @@ fn check_tid(tid: u8) -> Result<(), ActionFault>
     Ok(())
 }
 
-/// The action at the places of its fields.
+/// Reads the fields of the action.
 fn action_at(octets: &[u8]) -> Action
     requires { first_action_fault octets.now ≡ None }
     ensures { result ≡ action_in octets.now }

@@ -1,3 +1,5 @@
+//! Writes the octets of messages.
+
 ghost use Rattle.std.specs.Prelude.{◌≡◌, Ok, ◌+◌, ◌*◌, ◌<◌, length, take, drop};
 ghost use Rattle.wf_octets.specs.Fields.{two_octets};
 ghost use Rattle.wf_session.specs.Layout.{IsAction, IsAddbaRequest, CanBeWritten, action_octets, parameter_set};
@@ -17,8 +19,9 @@ pub(crate) const RESPONSE: u8 = 1;
 /// The action octet of a DELBA.
 pub(crate) const TEARDOWN: u8 = 2;
 
-/// Writes an action frame with immediate policy and every other field as 0, and answers its size: 9, 9 or
-/// 6 octets. The octets past it stay.
+/// Writes an action frame with immediate policy and with 0 in every field that the action does not have.
+/// Returns its size in octets: 9 for a request or a response, 6 for a DELBA. The octets after it are
+/// unchanged.
 pub fn encode_action(action: &Action, out: &mut [u8; 9]) -> usize
     requires range { CanBeWritten action.now }
     ensures size { result ≡ length (action_octets action.now) }
@@ -26,7 +29,7 @@ pub fn encode_action(action: &Action, out: &mut [u8; 9]) -> usize
     ensures rest { drop result out.new ≡ drop result out.old }
     ensures layout { IsAction out.new action.now }
 
-    // what was written is read back as the action
+    // reading it again gives the same action
     ensures read_back { decoded_action (take result out.new) ≡ Ok action.now }
 {
     match *action {
@@ -88,7 +91,7 @@ fn put_teardown(tid: u8, initiator: bool, reason: u16, out: &mut [u8; 9]) -> usi
     put(out, end, &two_octets(reason))
 }
 
-/// The Block Ack Parameter Set of immediate policy, without A-MSDUs (8.4.1.14).
+/// Returns the Block Ack Parameter Set with immediate policy and without A-MSDUs (8.4.1.14).
 fn parameter_set(tid: u8, window: u16) -> u16
     requires { (tid < 8) × (window < 1024) }
     ensures { result ≡ parameter_set tid window }

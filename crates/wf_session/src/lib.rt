@@ -1,8 +1,20 @@
-//! One TID's block acknowledgement session set up by messages (IEEE 802.11-2012, 9.21.2 and 9.21.4): the
-//! octets of the ADDBA request and response and of the DELBA, and both ends as values in closed form.
+//! One TID's block acknowledgement agreement, set up by messages (IEEE 802.11-2012, 9.21.2 and 9.21.4): both
+//! ends, and the octets of the ADDBA request and response and of the DELBA.
 //!
-//! The law: the two ends agree however the messages between them are lost, repeated or put in another order,
-//! and whichever end restarts, since each request carries a token of its own: one above the last.
+//! ```text
+//! let mut originator = Offer::new(5, 0);                     // TID 5
+//! let mut recipient = Accept::new(5, 64, 0);                 // windows of at most 64
+//! let request = originator.ask(128, Seq12::of(500))?;
+//! let response = recipient.hear(&request);                   // grants a window of 64
+//! if let Some(response) = response {
+//!     originator.hear(&response);
+//! }
+//! let agreed = originator.state();                           // token 1, window 64, start 500
+//! ```
+//!
+//! `agreement_law` says that the two ends agree, however messages are lost, repeated or reordered, and
+//! whichever end restarts. Each request has its own token, one above the last, so a TID can send 255 new
+//! requests.
 #![tactic(auto)]
 
 mod accept;

@@ -1,3 +1,5 @@
+//! The originator's end of an agreement.
+
 ghost use Rattle.std.specs.Prelude.{◌≡◌, ◌≤◌, ◌<◌, true, None, IfOk, IfSome};
 ghost use Rattle.wf_session.specs.Layout.{CanBeWritten};
 ghost use Rattle.wf_session.specs.Ends.{HasWindow, new_offer, ask_answer, after_ask, asked_again, request_of, offer_heard, offer_received, with_response, offer_settled, teardown_of};
@@ -10,10 +12,10 @@ use std::marker::Model;
 use thiserror::Error;
 use wf_octets::seq12::Seq12;
 
-/// Why nothing is asked.
+/// Why a request is refused.
 #[derive(Clone, Copy, Debug, PartialEq, Eq, Error)]
 pub enum OfferFault {
-    /// All 255 tokens were used.
+    /// All 255 tokens are used.
     #[error("all tokens are spent")]
     Spent,
     /// An agreement is open.
@@ -46,7 +48,7 @@ impl Model for Offer {
 }
 
 impl Offer {
-    /// An end that has asked nothing, for the TID `tid`, whose last token was `last`: 0 for the first.
+    /// Creates an end without an agreement, for a TID. `last` is the last token that it used, 0 at first.
     pub fn new(tid: u8, last: u8) -> Offer
         ensures { result ≡ new_offer tid last }
     {
@@ -58,8 +60,9 @@ impl Offer {
         }
     }
 
-    /// Asks for an agreement of a window of 1 to 256 numbers from `start` on, in place of what was asked
-    /// before, and gives the request. After an error nothing has changed.
+    /// Requests an agreement with a window of 1 to 256 from `start` on, and returns the request. It replaces
+    /// an earlier request that is not settled. Fails with `Spent` if no token is left, and with `Open` if an
+    /// agreement is open; nothing changes then.
     pub fn ask(&mut self, window: u16, start: Seq12) -> Result<Action, OfferFault>
         requires { (1 ≤ window) × (window ≤ 256) }
         ensures answer { result ≡ ask_answer window start self.old }
@@ -84,7 +87,7 @@ impl Offer {
         Ok(request_of(self.tid, &wish))
     }
 
-    /// The request once more: none where nothing was asked, or what was asked is settled.
+    /// Returns the last request again. None if there was none, or if it is settled.
     pub fn again(&self) -> Option<Action>
         ensures answer { result ≡ asked_again self.now }
         ensures writable { self.now.tid < 8 → IfSome result (λ action. CanBeWritten action) }
@@ -93,7 +96,7 @@ impl Offer {
         Some(request_of(self.tid, &wish))
     }
 
-    /// A message from the recipient arrives.
+    /// Handles a message from the recipient.
     pub fn hear(&mut self, action: &Action)
         ensures { self.new ≡ offer_heard action.now self.old }
     {
@@ -117,7 +120,7 @@ impl Offer {
         }
     }
 
-    /// Octets from the recipient arrive: what they are read as is heard, and octets that are no action frame
+    /// Handles octets from the recipient, as the message that they contain. Octets that are no action frame
     /// change nothing.
     pub fn receive(&mut self, octets: &[u8])
         ensures { self.new ≡ offer_received (decoded_action octets.now) self.old }
@@ -127,7 +130,7 @@ impl Offer {
         }
     }
 
-    /// Ends the agreement, and gives the message that tells the recipient: none where none is open.
+    /// Ends the agreement and returns the message for the recipient. None if no agreement is open.
     pub fn close(&mut self) -> Option<Action>
         ensures answer { result ≡ teardown_of self.old.tid true self.old.opened }
         ensures after { self.new ≡ record self.old { opened = None } }
@@ -136,7 +139,7 @@ impl Offer {
         close(&mut self.opened, self.tid, true)
     }
 
-    /// The agreement, where one is open.
+    /// Returns the open agreement, if there is one.
     pub fn state(&self) -> Option<Agreement>
         ensures opened { result ≡ self.now.opened }
         ensures window { HasWindow result }
@@ -144,14 +147,14 @@ impl Offer {
         self.opened
     }
 
-    /// The last token, which a restart has to keep.
+    /// Returns the last token that was used. It has to survive a restart.
     pub fn last(&self) -> u8
         ensures { result ≡ self.now.last }
     {
         self.last
     }
 
-    /// A response of this TID arrives.
+    /// Handles a response for this TID.
     fn hear_response(&mut self, token: u8, status: u16, window: u16)
         ensures { self.new ≡ with_response token status window self.old }
     {
@@ -162,7 +165,7 @@ impl Offer {
         }
     }
 
-    /// A response to what was asked arrives.
+    /// Handles a response to the last request.
     fn settle(&mut self, status: u16, window: u16, wish: Agreement)
         requires { wish.window ≤ 256 }
         ensures { self.new ≡ offer_settled status window wish self.old }
@@ -176,7 +179,7 @@ impl Offer {
     }
 }
 
-/// The request that asks for an agreement.
+/// Returns the request for an agreement.
 fn request_of(tid: u8, wish: &Agreement) -> Action
     ensures { result ≡ request_of tid wish.now }
 {

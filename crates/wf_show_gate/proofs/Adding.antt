@@ -1,4 +1,4 @@
--- What a call does to the sums.
+-- Proves that a call keeps the sums right and below 2^64. By cases of whether a sum belongs to the caller.
 use Rattle.std.proofs.Common.{◌≡◌, ◌≢◌, ℕ, ◌+◌, ◌*◌, ◌-◌, ◌%◌, ◌^◌, ◌<◌, List, [], ◌∷◌, ◌++◌, length, get_or, set, sym, ap, arith, eq-eqb, ne_eqb, replicate}
 use Rattle.std.specs.Prelude.{cond}
 use Rattle.std.proofs.lemmas.List.{get_or-replicate, get_or-set_other}
@@ -14,7 +14,7 @@ zeros = replicate 256 0
 pub none_yet : (place : ℕ) → place < 256 → get_or zeros place 0 ≡ 0
 none_yet place l = get_or-replicate 256 place 0 0 l
 
--- one call more, by the caller with this number
+-- one more call, by the caller with this number
 module _ (sums : List ℕ) (entries : List (ℕ × ℕ)) (left caller octets : ℕ) (are : AreSums sums entries)
     (small : AreSmall sums left) (some_left : 0 < left) (fits : octets < 2 ^ 32)
     (inside : caller % 256 < length sums) where

@@ -6,16 +6,16 @@ use std::marker::Model;
 use wf_gate::Machine;
 use wf_machine::History;
 
-/// How many sums a counter has. Callers whose numbers have the same remainder share one.
+/// The number of sums in a counter. Callers whose numbers have the same remainder share one.
 const SUMS: usize = 256;
 
-/// A counter of octets: a call adds some to its caller's sum, and the reply is the sum.
-/// Contracts see the entries of its history and how many more it takes.
+/// A counter of octets: a call adds octets to its caller's sum, and the reply is the sum. Contracts see the
+/// entries of its history and how many calls are left.
 #[derive(Drop)]
 pub struct Counter {
     sums: [u64; SUMS],
     left: u32,
-    // The history takes no memory: only clauses read it.
+    // It takes no memory, because only contracts read it.
     history: History<u32>,
 }
 
@@ -31,7 +31,7 @@ impl Model for Counter {
 }
 
 impl Counter {
-    /// A counter that takes so many calls.
+    /// A counter with room for this many calls.
     pub fn new(calls: u32) -> Counter
         ensures { result ≡ ([], calls) }
     {
@@ -42,7 +42,7 @@ impl Counter {
         }
     }
 
-    /// The octets of the caller.
+    /// Returns the octets of a caller.
     pub fn sum(&self, caller: u32) -> u64
         ensures { result ≡ octets_at (caller % 256) self.now.0 }
     {
@@ -63,13 +63,13 @@ impl Machine for Counter {
 
     ghost settings = { λ _. tt };
 
-    ghost room = { λ c. c.1 };
+    ghost calls_left = { λ c. c.1 };
 
     ghost note = { λ octets. octets };
 
     ghost right = { λ _ past caller octets sum. sum ≡ octets_at (caller % 256) past + octets };
 
-    fn room(&self) -> u64 {
+    fn calls_left(&self) -> u64 {
         self.left as u64
     }
 

@@ -1,4 +1,4 @@
-//! The same calls in many threads.
+//! The same calls by several threads.
 ghost use Rattle.std.specs.Prelude.{All};
 ghost use Rattle.wf_gate.specs.Seats.{IsOf};
 
@@ -11,7 +11,7 @@ use std::thread;
 use std::thread::Threads;
 use wf_gate::{Gate, Seat};
 
-/// Makes so many calls by the seat, and gives the last sum, or nothing where the seat has fewer calls left.
+/// Makes this many calls by the seat. Returns the last sum, or `None` if the seat has fewer calls left.
 fn call_by<R: Wait>(
     rt: &R,
     gate: &Gate<Counter>,
@@ -23,7 +23,7 @@ fn call_by<R: Wait>(
     call_all(rt, gate, &mut seat, calls)
 }
 
-/// The same by each seat, in a thread of its own where one can be made.
+/// Makes this many calls by each seat, each in a new thread if one can be made.
 fn call_in_threads<R: Threads + Wait + Sync>(
     rt: &R,
     gate: &Gate<Counter>,
@@ -36,8 +36,8 @@ fn call_in_threads<R: Threads + Wait + Sync>(
     Ok(sums)
 }
 
-/// Makes so many calls in each of so many threads, by as many seats at a gate before a counter, and gives
-/// the sum of their last sums.
+/// Makes a counter and a gate with a seat for each thread, and this many calls in each. Returns the sum of
+/// the threads' last sums.
 pub fn crowded<R: Threads + Wait + Sync>(
     rt: &R,
     alloc: Global,

@@ -1,9 +1,9 @@
-//! A gate before a machine of one's own: a counter of octets.
+//! Shows a gate before a machine that is not a cell: a counter of octets.
 //!
-//! With no words two seats make calls, and it prints what they were answered. `wf_show_gate gate N` makes N
-//! calls through a gate, with nobody else there, and `wf_show_gate bare N` makes the same calls to the
-//! machine itself: both print the last sum. `wf_show_gate gate N T` makes N calls in each of T threads, by a
-//! seat each, and prints the sum of their last sums.
+//! Without arguments two seats make calls, and the program prints their replies. `wf_show_gate gate N` makes
+//! N calls through a gate that nobody else uses, and `wf_show_gate bare N` makes the same calls directly to
+//! the machine: both print the last sum. `wf_show_gate gate N T` makes N calls in each of T threads, with a
+//! seat for each, and prints the sum of their last sums.
 #![tactic(auto)]
 
 mod counter;

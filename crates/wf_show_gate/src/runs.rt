@@ -1,4 +1,4 @@
-//! The same calls, to the machine itself and through a gate.
+//! The same calls, directly to the machine and through a gate.
 ghost use Rattle.wf_gate.specs.Seats.{IsOf};
 
 use crate::counter::Counter;
@@ -7,12 +7,12 @@ use std::alloc::Global;
 use std::sync::Wait;
 use wf_gate::{Gate, Machine, Seat};
 
-/// The octets that the call of this number adds.
+/// The octets that the call with this number adds.
 fn octets(call: u32) -> u32 {
     call % 1500
 }
 
-/// Makes so many calls to a counter, and gives the last sum.
+/// Makes this many calls to a counter, and returns the last sum.
 pub fn bare(calls: u32) -> u64 {
     let mut counter = Counter::new(calls);
     let mut sum = 0;
@@ -22,14 +22,14 @@ pub fn bare(calls: u32) -> u64 {
     sum
 }
 
-/// Makes the same calls by the one seat at a gate before a counter.
+/// Makes the same calls by the only seat of a gate, and returns the last sum.
 pub fn gated<R: Wait>(rt: &R, alloc: Global, calls: u32) -> Result<u64> {
     let (gate, mut seats) = Gate::new(alloc, Counter::new(calls), &[calls])?;
     let mut seat = seats.pop().context("the seat is missing")?;
     call_all(rt, &gate, &mut seat, calls).context("too few calls are left")
 }
 
-/// Makes so many calls by the seat, and gives the last sum, or nothing where the seat has fewer calls left.
+/// Makes this many calls by the seat. Returns the last sum, or `None` if the seat has fewer calls left.
 pub fn call_all<R: Wait>(
     rt: &R,
     gate: &Gate<Counter>,

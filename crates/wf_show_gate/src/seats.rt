@@ -10,7 +10,7 @@ use std::fmt::Write;
 use std::sync::Wait;
 use wf_gate::{Gate, Seat};
 
-/// Makes a call by the seat, and adds a line on what it was answered.
+/// Makes a call by the seat, and adds a line with the reply.
 fn ask<R: Wait>(
     rt: &R,
     gate: &Gate<Counter>,
@@ -29,7 +29,7 @@ fn ask<R: Wait>(
     Ok(())
 }
 
-/// The two seats make calls, until one has no call left.
+/// Makes calls by both seats, until one has no call left.
 fn meet<R: Wait>(
     rt: &R,
     gate: &Gate<Counter>,
@@ -46,7 +46,7 @@ fn meet<R: Wait>(
     ask(rt, gate, one, 40, lines)
 }
 
-/// The gate gives the counter back, for both its seats.
+/// Closes the gate with both its seats, and returns the counter.
 fn close(
     alloc: Global,
     gate: Gate<Counter>,
@@ -61,7 +61,8 @@ fn close(
     Ok(gate.close(seats))
 }
 
-/// Makes a gate of two seats, which make calls, and closes it. Gives a line on each.
+/// Makes a gate with two seats, makes calls by both, and closes it. Returns a line for each call, and one for
+/// the counter.
 pub fn show<R: Wait>(rt: &R, alloc: Global) -> Result<String> {
     let mut lines = String::new(alloc);
     let (gate, mut seats) = Gate::new(alloc, Counter::new(3), &[2, 1])?;

@@ -1,4 +1,4 @@
-//! A path shown: a small program over a path and a peer, which docs/USING.md shows whole.
+//! A small program over a path and a peer; docs/USING.md shows its whole text.
 #![tactic(auto)]
 
 ghost use Rattle.wf_path.specs.Jobs.{IsHeard};
@@ -6,13 +6,13 @@ ghost use Rattle.wf_path.specs.Jobs.{IsHeard};
 use anyhow::{Result, bail, ensure};
 use std::alloc::Global;
 use wf_frame::{Answer, Ask, Brief, Class, Config, Frame, Ids};
-use wf_octets::header::{base_address, station_address};
+use wf_octets::header::{GREATEST_MPDU, base_address, station_address};
 use wf_octets::seq12::Seq12;
 use wf_path::{Job, Path};
 use wf_queue_parts::chain::Parcel;
 use wf_recv_peer::Peer;
 
-/// The station, the traffic identifier of its frames, its window, and the sequence number of its first frame.
+/// The station, the TID of its frames, its window, and the sequence number of its first frame.
 const STATION: u16 = 3;
 
 const TID: u8 = 5;
@@ -29,7 +29,7 @@ const JOIN: Ask = Ask::Join {
     weight: 1,
 };
 
-/// The access point's path with its answer to the last call, and the receive half of its station.
+/// The access point's path, the answer to its last call, and the receive half of its station.
 #[derive(Drop)]
 struct Air {
     path: Path,
@@ -48,8 +48,7 @@ impl Air {
         })
     }
 
-    /// Makes a call of the path, and prints the answer. A frame comes back where it is refused, and where it
-    /// is reaped.
+    /// Makes a call of the path, and prints the answer. Returns the frame that was refused or reaped, if any.
     fn call(&mut self, rt: &HostRuntime, job: Job) -> Result<Option<Parcel>>
         requires { IsHeard job }
     {
@@ -59,7 +58,7 @@ impl Air {
         Ok(back)
     }
 
-    /// A frame comes for the station.
+    /// Enqueues a frame for the station.
     fn enqueue(&mut self, rt: &HostRuntime, flow: u32) -> Result<()> {
         let frame = Frame::sample(rt.alloc(), STATION, TID, flow, 4)?;
         let Ok(parcel) = Parcel::new(rt.alloc(), frame) else {
@@ -69,7 +68,8 @@ impl Air {
         Ok(())
     }
 
-    /// Sends what the path has for the class, loses the transmission of this index, and hears the answer.
+    /// Pulls an exchange, loses the transmission with the index `lost`, and ends it by the station's
+    /// BlockAck.
     fn exchange(&mut self, rt: &HostRuntime, lost: Option<u16>) -> Result<()> {
         let _ = self.call(rt, Job::Call(Ask::Pull { class: Class::Vi }))?;
         let Brief::Send { exchange, .. } = self.answer.brief else {
@@ -82,9 +82,9 @@ impl Air {
         self.hear(rt, exchange)
     }
 
-    /// Writes the octets of a transmission, which reach the station unless they are lost.
+    /// Writes the octets of a transmission, and passes them to the station unless they are lost.
     fn transmit(&mut self, rt: &HostRuntime, exchange: u64, index: u16, lost: bool) -> Result<()> {
-        let mut buffer = [0; 2330];
+        let mut buffer = [0; GREATEST_MPDU];
         let size = self.path.mpdu(exchange, index, &mut buffer)?;
         let octets = &buffer[..size];
         show(rt, if lost { "lost" } else { "sent" }, octets)?;
@@ -97,7 +97,7 @@ impl Air {
         Ok(())
     }
 
-    /// The station answers with a BlockAck, whose octets end the exchange.
+    /// Ends the exchange by the octets of the station's BlockAck.
     fn hear(&mut self, rt: &HostRuntime, exchange: u64) -> Result<()> {
         let mut buffer = [0; 52];
         let size = self.station.answer(TID, &mut buffer);
@@ -109,7 +109,8 @@ impl Air {
         Ok(())
     }
 
-    /// The station joins, three frames come and go out, the second of them twice, and are taken back.
+    /// The station joins and gets three frames, the second of them on its second transmission; then all three
+    /// are reaped.
     fn play(&mut self, rt: &HostRuntime) -> Result<()> {
         let _ = self.call(rt, Job::Call(JOIN))?;
         for flow in 0..3 {

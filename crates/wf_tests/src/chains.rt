@@ -1,11 +1,11 @@
-//! Parcels and chains may cross threads.
+//! Parcels and chains may be sent to another thread.
 
 use std::alloc::AllocError;
 use std::marker::Send;
 use wf_frame::Frame;
 use wf_queue_parts::chain::{Chain, Parcel};
 
-// Whatever is passed here may go to another thread.
+// Accepts only values that may be sent to another thread.
 fn crosses<T: Send>(_value: &T) {}
 
 #[test]

@@ -1,4 +1,4 @@
-//! Gates of two seats, and threads that call through one.
+//! Gates with two seats, and threads that call through one gate.
 
 mod busy;
 mod clock;

@@ -1,6 +1,7 @@
-//! Tests of what the proved program alone can show: threads that call through a gate, and what may cross to
-//! another thread. They stand here, and not in those crates, so that no crate's own functions are proved
-//! twice, once for it and once for its tests. All other rows stand in checks/, as text, and are run unproved.
+//! Tests that only a proved program can have: threads that call through a gate, and values that may be sent
+//! to another thread. For example, `two_threads` makes eight calls in each of two threads. They are in this
+//! crate, and not in those that they test, so that no function of those is proved twice. All other rows of
+//! tests are texts in checks/, and run unproved.
 #![tactic(auto)]
 
 #[cfg(test)]

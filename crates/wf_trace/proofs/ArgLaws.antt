@@ -1,4 +1,5 @@
--- Laws of the arguments of a line.
+-- Laws of the arguments of a line: how faults combine, and that each value that was read may be given for
+-- its argument. By cases of the argument's kind.
 use Rattle.std.proofs.Common.{◌≡◌, ℕ, ◌<◌, ◌≤◌, ◌^◌, List, [], ◌∷◌, ◌++◌, Bool, true, false, refl, sym, subst, ap, append_assoc, arith}
 use Rattle.std.specs.Prelude.{Option, Some, None, Result, Ok, Err, option_map, if◌then◌else◌}
 use Rattle.std.specs.Str.{bytes_eq}
@@ -44,7 +45,7 @@ pub behind_other : (fault : Option FaultKind) (other : FaultKind) (front : List 
 behind_other None other front read = behind_fault other front read
 behind_other (Some fault) other front read = behind_faults fault other front read
 
--- a number that was read lies in its range
+-- a number that was read is in its range
 pub in_range_ok : (low high : ℕ) (read : Option ℕ) (value : ℕ) → in_range low high read ≡ Ok value →
     (low ≤ value) × (value ≤ high)
 in_range_ok low high None value is = absurd (cc)
@@ -59,7 +60,7 @@ both_ok (Ok value) (Err fault) values is = absurd (cc)
 both_ok (Err fault) (Ok more) values is = absurd (cc)
 both_ok (Err one) (Err two) values is = absurd (cc)
 
--- a number that was read as an argument lies in its range
+-- a number that was read for an argument is in its range
 pub number_ok : (low high : ℕ) (read : Option ℕ) (v : Value) →
     result_seen value.Long (in_range low high read) ≡ Ok v →
     (low ≤ long_in (Some v)) × (long_in (Some v) ≤ high)
@@ -72,7 +73,7 @@ number_ok low high read v is = by_read (in_range low high read) refl is
         rw same (in_range_ok low high read n was)
     by_read (Err fault) was is = absurd (cc)
 
--- ---- what was read is of its kind
+-- ---- values that were read may be given for their arguments
 
 number_kind : (low high : ℕ) (make : ℕ → Value) (Is : Value → Type 0) (read : Option ℕ) (v : Value) →
     ((n : ℕ) → low ≤ n → n ≤ high → Is (make n)) → result_seen make (in_range low high read) ≡ Ok v → Is v
@@ -127,7 +128,7 @@ kind_absent kind.Weight v is =
     let small : 1 < 2 ^ 8 = omega arith in subst (IsOfKind kind.Weight) same small
 kind_absent arg v is = absurd (cc)
 
--- the values of a line that was read are of the kinds of its arguments
+-- the values that were read of a line may be given for its arguments
 pub kinds_read : (args : List Arg) (words : List (List ℕ)) (values : List Value) →
     read_args args words ≡ Ok values → AreOfKinds args values
 kinds_read [] [] values is = let same : [] ≡ values = cc in subst (AreOfKinds []) same tt

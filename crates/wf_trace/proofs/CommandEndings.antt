@@ -1,4 +1,4 @@
--- How commands come to their ends.
+-- Proves what a command's contract says of its end, for each way in which a command can end.
 use Rattle.std.proofs.Common.{◌≡◌, ℕ, List, refl, subst}
 use Rattle.std.specs.Prelude.{◌≢◌, Option, Some}
 use Rattle.std.specs.Io.KnownBytes.{prepend_known, append_known}
@@ -7,7 +7,7 @@ use Rattle.wf_io.specs.declared.status.Status.TheVariants.{Done, Usage, BadTrace
 use Rattle.wf_io.specs.Faults.{HasRisen}
 use Rattle.wf_trace.specs.CommandEnds.{TellsFault, CommandEnds, CommandWrites}
 
--- ---- what a status tells of a fault
+-- ---- what a status says of a fault
 pub fault_told : (fault : Status) (before after : ℕ) → HasRisen before after →
     TellsFault fault before after fault
 fault_told fault before after risen = record { risen = λ is. risen; quiet = λ other. absurd (other refl) }
@@ -17,20 +17,20 @@ pub no_fault : (fault status : Status) (before after : ℕ) → status ≢ fault
 no_fault fault status before after other same = record { risen = λ is. absurd (other is); quiet = λ is. same }
 
 -- ---- a command that reads an input and writes a text
--- octets taken and octets written, and what is said of them where the source tells its input
+-- octets were read and written, and the status says which if the input of the source is known
 abbrev pub Passed : (List ℕ → List ℕ → List ℕ → Type 0) → Option (List ℕ) → Option (List ℕ) →
     Option (List ℕ) → Option (List ℕ) → Type 0
 Passed says left left_new held held_new = (taken written : List ℕ) × (left ≡ prepend_known taken left_new) ×
     (held_new ≡ append_known held written) ×
     ((input : List ℕ) → left ≡ Some input → says input taken written)
 
--- what a status without a fault of source and sink says is how the input is answered
+-- a status without a fault of source and sink says how the input is answered
 abbrev pub Judges : (Status → List ℕ → List ℕ → List ℕ → Type 0) → (List ℕ → Status → Type 0) → Type 0
 Judges outcome answered = (status : Status) (input taken written : List ℕ) →
     outcome status input taken written → status ≢ ReadFault → status ≢ WriteFault → status ≢ Usage →
     answered input status
 
--- the statuses that tell of no fault of source or sink
+-- the statuses that report no fault of source or sink
 abbrev pub IsFaultless : Status → Type 0
 IsFaultless Done = Unit {0}
 IsFaultless BadTrace = Unit {0}
@@ -136,7 +136,7 @@ ends_unwritten left read_faults held write_faults outcome answered source source
     (subst (λ n. HasRisen n (write_faults sink_new)) same risen))
     (λ e. cc)
 
--- an end in the words of one outcome is one in those of another that each of its statuses says
+-- if each status of one outcome implies that of another, so does an end
 pub ends_as : {S K : Type 0} (left : S → Option (List ℕ)) (read_faults : S → ℕ)
     (held : K → Option (List ℕ)) (write_faults : K → ℕ)
     (outcome other : Status → List ℕ → List ℕ → List ℕ → Type 0) (answered : List ℕ → Status → Type 0)

@@ -1,4 +1,5 @@
--- Without a fault of its source and sink a command ends as its script does.
+-- Proves that a command whose source and sink have no faults ends as its script does, by cases of the
+-- status.
 use Rattle.std.proofs.Common.{true, refl, inl, inr, sym, subst}
 use Rattle.std.specs.Prelude.{Option, Some, None}
 use Rattle.wf_io.specs.declared.status.Status.TheVariants.{Done, Usage, BadTrace, ReadFault, WriteFault, NoMemory}

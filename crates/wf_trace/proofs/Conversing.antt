@@ -1,4 +1,5 @@
--- A script that is being answered, and what each way out of it says.
+-- Proves what each status of `converse` says: octets were read and answers written for the events so far,
+-- and each way to end adds its last lines or a part of a text.
 use Rattle.std.proofs.Common.{inl, inr, ◌+◌, ◌≡◌, ℕ, List, [], ◌∷◌, ◌++◌, Bool, true, false, refl, sym, ◌∙◌, ap, subst, append_assoc, append-nil}
 use Rattle.std.specs.Prelude.{Option, Some, None, Result, Ok, Err, IsSome}
 use Rattle.std.specs.Io.KnownBytes.{prepend_known, append_known, IsAtEnd}
@@ -25,7 +26,7 @@ use Rattle.wf_trace.specs.ScriptReading.{rest, Says, Reads}
 use Rattle.wf_trace.specs.ScriptOutcome.{ScriptOutcome, ReachesEnd}
 use Rattle.wf_trace.proofs.ScriptFronts.{append_known-nil, append_known-append}
 
--- ---- events in front
+-- ---- events before others
 abbrev pub with_events : {E : Type 0} → List E → Script E → Script E
 with_events events s = record { events = events ++ s.events; ending = s.ending }
 
@@ -53,7 +54,7 @@ with_events-more : {E : Type 0} (events : List E) (event : E) (s : Script E) →
 with_events-more {E} events event s = ap (λ (l : List E). let r : Script E =
     record { events = l; ending = s.ending } in r) (sym (append_assoc events (event ∷ []) s.events))
 
--- ---- octets of an input that is told
+-- ---- octets of an input that is known
 told : (taken : List ℕ) (left_now : Option (List ℕ)) (input : List ℕ) →
     Some input ≡ prepend_known taken left_now → (left : List ℕ) × (left_now ≡ Some left) ×
     (input ≡ taken ++ left)
@@ -64,7 +65,7 @@ fits_rest : (end : Option End) (left : List ℕ) → Fits end (Some left) true l
 fits_rest None left = tt
 fits_rest (Some end) left = (refl, refl)
 
--- ---- octets were taken and octets written, for the events so far
+-- ---- octets were read and written for the events so far
 pub record Conversing {E W : Type 0} (g : Grammar E) (m : Manner E W) (start now : W) (count : ℕ)
     (c : Numbering) (left left_now held held_now : Option (List ℕ)) : Type 0 where
   pub events : List E
@@ -93,7 +94,7 @@ conversing_none g m start c left held is = record {
   leads = refl;
 }
 
--- a call took octets
+-- a call read octets
 pub record Turned {E W : Type 0} (g : Grammar E) (m : Manner E W) (start now : W) (count : ℕ)
     (result : Result (Item E) Failed) (new : Numbering)
     (left left_new held held_now : Option (List ℕ)) : Type 0 where
@@ -153,7 +154,7 @@ with_answer g m start now next count new left left_new held held_now held_new ev
   leads = behind-append m start t.events (event ∷ []) ∙ ap (λ w. m.after w event) t.leads ∙ sym after;
 }
 
--- ---- the ways out: octets taken, octets written, and what they are where the source tells
+-- ---- the ways to end: octets were read and written, which are known if the input is
 abbrev pub Over : {E W : Type 0} → Grammar E → Manner E W → W → Status → Option (List ℕ) → Option (List ℕ) →
     Option (List ℕ) → Option (List ℕ) → Type 0
 Over g m start status left left_new held held_new = (taken written : List ℕ) ×
@@ -192,7 +193,7 @@ whole_text : {E W : Type 0} (m : Manner E W) (start now : W) (events : List E) (
 whole_text m start now events s all is leads =
     ap (text m start) is ∙ text-with m start events s ∙ ap (λ w. answers m start events ++ text m w s) leads
 
--- the source failed: nothing that was taken ends a line
+-- the source failed: no line of the octets read has ended
 nothing : {E : Type 0} (g : Grammar E) (count : ℕ) (c : Numbering) → HasNoLine c →
     rest g count c false [] ≡ record { events = []; ending = None }
 nothing g count c none = rw (none.open_, none.going, none.given, none.waiting) refl
@@ -220,7 +221,7 @@ over_read {E} g m start now count new left left_new held held_now failed t still
       ),
 )
 
--- what an item adds to the text, and what follows it
+-- the text that an item adds, and the text after it
 abbrev pub line_at : {E W : Type 0} → Manner E W → W → Item E → List ℕ
 line_at m w (Event event) = m.answer w event
 line_at m w (Ended ending) = last_lines m w (Some ending)
@@ -243,7 +244,7 @@ cut_off front line more some others is = (
       ∙ sym (append_assoc front some (others ++ more)),
 )
 
--- octets taken, and some of the text written
+-- octets were read, and a prefix of the text was written
 abbrev pub Front : {E W : Type 0} → Grammar E → Manner E W → W → Option (List ℕ) → Option (List ℕ) →
     Option (List ℕ) → Option (List ℕ) → Type 0
 Front g m start left left_new held held_new = (taken written : List ℕ) ×
@@ -272,7 +273,7 @@ over_front g m start now count new left left_new held held_now held_new item t s
       (off.0, all ∙ off.1),
 )
 
--- memory was wanting at an event
+-- memory ran out at an event
 pub over_memory : {E W : Type 0} (g : Grammar E) (m : Manner E W) (start now : W) (count : ℕ)
     (new : Numbering)
     (left left_new held held_now held_new : Option (List ℕ)) (event : E) →

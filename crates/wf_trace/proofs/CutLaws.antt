@@ -1,4 +1,5 @@
--- What was taken from a source while no piece came, and what comes of it.
+-- Proves what a call of `Cut::next` returns, from the calls of the cutter of lines that it makes: octets
+-- that were read and not returned keep the pieces that are still to come.
 use Rattle.std.proofs.Common.{◌≡◌, ℕ, ◌+◌, List, [], ◌++◌, Bool, true, false, refl, sym, ◌∙◌, ap, subst, append_assoc}
 use Rattle.std.specs.Prelude.{Option, Some, None, Ok, Err, IsSome, is_some}
 use Rattle.std.specs.Io.KnownBytes.{prepend_known}
@@ -17,7 +18,7 @@ use Rattle.wf_trace.proofs.Parted.{lines_parted}
 use Rattle.wf_trace.proofs.WordLaws.{says_something}
 use Rattle.wf_trace.proofs.Taking.{prepend_known-nil, prepend_known-append}
 
--- Octets were taken, and the pieces to come stayed.
+-- Octets were read, and the pieces that are still to come are unchanged.
 pub record Kept (first now : Numbering) (left left_now : Option (List ℕ)) : Type 0 where
   pub octets : List ℕ
   pub taken : left ≡ prepend_known octets left_now
@@ -27,42 +28,42 @@ pub record Kept (first now : Numbering) (left left_now : Option (List ℕ)) : Ty
 pub kept_none : (c : Numbering) (left : Option (List ℕ)) → Kept c c left left
 kept_none c left = record { octets = []; taken = prepend_known-nil left; same = λ closed more fits. refl }
 
--- a cutter that is under way
+-- a cutter that goes on
 abbrev pub at : Cutting → ℕ → Numbering
 at cutter line = record { cutter = cutter; line = line; ended = None }
 
--- whether a call reads, where the end was not told yet
+-- whether a call reads, if the end is not known
 pub reads_open : (p : Option Piece) (cutter : Cutting) → false ≡ is_some p →
     will_read_of p cutter ≡ will_cut cutter
 reads_open None cutter none = refl
 reads_open (Some piece) cutter none = absurd (cc)
 
--- a call of the cutter of lines that left the rest as it was
+-- the cutter of lines changed, and nothing else
 pub at_now : (now new : Numbering) → now.ended ≡ None → new ≡ record now { cutter = new.cutter } →
     new ≡ at new.cutter now.line
 at_now now new open_ stays = stays ∙ ap (λ (e : Option Piece). let n : Numbering =
     record { cutter = new.cutter; line = now.line; ended = e } in n) open_
 
--- and the line that it cut was counted
+-- then the line was counted
 pub counted : (now new seen : Numbering) → now.ended ≡ None → new ≡ record now { cutter = new.cutter } →
     seen ≡ new → record seen { line = seen.line + 1 } ≡ at new.cutter (now.line + 1)
 counted now new seen open_ stays is = ap (λ (k : Numbering). let n : Numbering =
     record { cutter = k.cutter; line = k.line + 1; ended = k.ended } in n) (is ∙ at_now now new open_ stays)
 
--- and the end that it found was told
+-- then the piece that ends the input was kept
 pub told : (now new after : Numbering) (piece : Piece) → new ≡ record now { cutter = new.cutter } →
     after ≡ record new { ended = Some piece } →
     after ≡ record { cutter = new.cutter; line = now.line; ended = Some piece }
 told now new after piece stays is = is ∙ ap (λ (k : Numbering). let n : Numbering =
     record { cutter = k.cutter; line = k.line; ended = Some piece } in n) stays
 
--- what was kept by a cutter that is under way
+-- the same for a cutter that goes on
 pub kept_open : (first now : Numbering) (left left_now : Option (List ℕ)) → now.ended ≡ None →
     Kept first now left left_now → Kept first (at now.cutter now.line) left left_now
 kept_open first now left left_now open_ kept = subst (λ (e : Option Piece). let n : Numbering =
     record { cutter = now.cutter; line = now.line; ended = e } in Kept first n left left_now) open_ kept
 
--- what may be spoken of after a call could be spoken of before it
+-- what may follow after a call, with the octets that it read in front, may follow before it
 pub fits_back : (old new : Option End) (left_now left_new : Option (List ℕ)) (octets : List ℕ) (closed : Bool)
     (more : List ℕ) →
     (IsSome old → IsSome new) → left_now ≡ prepend_known octets left_new →
@@ -73,7 +74,7 @@ fits_back (Some end) None left_now left_new octets closed more sticky taken fits
 fits_back (Some end) (Some other) left_now left_new octets closed more sticky taken fits =
     (fits.0, taken ∙ rw (fits.1) refl)
 
--- the pieces at first, by what a call of the cutter took
+-- the pieces at first, given the octets that a call of the cutter read
 grown : (first : Numbering) (cutter new : Cutting) (line : ℕ) (left left_now left_new : Option (List ℕ))
     (octets : List ℕ) (closed : Bool) (more : List ℕ) →
     (kept : Kept first (at cutter line) left left_now) → (IsSome cutter.ended → IsSome new.ended) →
@@ -120,7 +121,7 @@ cuts_line first cutter new line left left_now left_new octets kept sticky takes 
   },
 )
 
--- no line more
+-- no further line
 pub cuts_end : (first : Numbering) (cutter new : Cutting) (line : ℕ)
     (left left_now left_new : Option (List ℕ)) (octets : List ℕ) (end : End) (piece : Piece)
     (after : Numbering) →
@@ -171,7 +172,7 @@ cuts_none first cutter new line left left_now left_new octets failed kept sticky
   },
 )
 
--- the end again
+-- the last piece again
 pub cuts_again : (c : Numbering) (left : Option (List ℕ)) (piece : Piece) → c.ended ≡ Some piece →
     IsLastPiece c.ended → (taken : List ℕ) × Cuts c left (Ok piece) c left taken
 cuts_again c left piece is ending = (
@@ -190,13 +191,14 @@ cuts_again c left piece is ending = (
     again (Ended line) is ending closed more = (is, refl)
     again (Bad fault) is ending closed more = (is, refl)
 
--- a new cutter has the whole input to come
+-- for a new cutter the whole input is still to come
 pub pieces_whole : (closed : Bool) (octets : List ℕ) →
     pieces_from 1 (texts_of closed (lines_behind closed 0 [] octets)).texts
     (texts_of closed (lines_behind closed 0 [] octets)).ending ≡ pieces closed octets
 pieces_whole closed octets = rw (lines_parted closed octets) refl
 
--- Where the first call of the cutter does not read, no other comes.
+-- If the first call of the cutter does not read, there is no other: the cutter and the source are still as
+-- at first.
 abbrev pub Still : {S : Type 0} → Numbering → Numbering → S → S → Type 0
 Still first now source source_now = will_cut first.cutter ≡ false → (now ≡ first) × (source_now ≡ source)
 

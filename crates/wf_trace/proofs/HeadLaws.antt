@@ -1,4 +1,4 @@
--- Laws of the settings of the head.
+-- Laws of the settings of a head: where a word is split, and how faults combine.
 use Rattle.std.proofs.Common.{◌≡◌, ◌≢◌, ℕ, zero, suc, ◌<◌, List, [], ◌∷◌, length, take, drop, get_or, Bool, true, false, nat_eq, refl, ◌∙◌, ap, arith}
 use Rattle.std.specs.Prelude.{Option, Some, None, Result, Ok, Err}
 use Rattle.std.proofs.lemmas.Bool.Decides.{nat_tests}
@@ -8,7 +8,7 @@ use Rattle.wf_trace.specs.Faults.{first_fault}
 use Rattle.wf_trace.specs.Settings.{split_once, grown, worse, after_fault, read_words, set_one, named_field}
 use Rattle.wf_trace.proofs.ArgLaws.{earlier_assoc}
 
--- the first = by its place
+-- the word is split at its first =
 pub split_at : (word : List ℕ) (n : ℕ) → n < length word → ((k : ℕ) → k < n → get_or word k 0 ≢ 61) →
     get_or word n 0 ≡ 61 → split_once word ≡ Some (take n word, drop 1 (drop n word))
 split_at [] n inside before found = absurd (omega arith)
@@ -43,7 +43,7 @@ pub one_more : (fault other : Option FaultKind) (read : Result Config FaultKind)
 one_more fault None read = refl
 one_more fault (Some other) read = after_fault-worse fault other read
 
--- one setting more, with a fault
+-- one more setting, with a fault
 pub more_settings : (whole : Result Config FaultKind) (fault : Option FaultKind) (other : FaultKind)
     (rest : List (List ℕ)) (word : List ℕ) (words : List (List ℕ)) (seen seen' : List Bool)
     (config config' : Config) →

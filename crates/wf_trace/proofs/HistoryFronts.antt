@@ -1,4 +1,4 @@
--- The front of a history, entry by entry.
+-- Laws of the prefixes of a history: their lines, and their ranges, entry by entry.
 use Rattle.std.proofs.Common.{◌≡◌, ℕ, zero, suc, ◌+◌, ◌≤◌, List, [], ◌∷◌, ◌++◌, length, length-append, take, drop, refl, sym, ◌∙◌, ap, subst, append_assoc, append-nil, arith}
 use Rattle.std.specs.Prelude.{Option, Some, slice_get}
 use Rattle.std.proofs.lemmas.List.{take-append-drop}
@@ -15,7 +15,7 @@ lines-append [] two = refl
 lines-append (e ∷ es) two = ap (λ l. note_line e.0 e.1 ++ l) (lines-append es two)
     ∙ sym (append_assoc (note_line e.0 e.1) (entry_lines es) (entry_lines two))
 
--- one line more
+-- one more line
 pub lines-more : (es : List Entry) (i : ℕ) (e : Entry) (front out : List ℕ) → slice_get es i ≡ Some e →
     front ++ out ≡ entry_lines (take i es) →
     front ++ (out ++ note_line e.0 e.1) ≡ entry_lines (take (i + 1) es)
@@ -45,7 +45,7 @@ pub line-short : (caller : ℕ) (note : Note) → length (note_text caller note)
     length (note_line caller note) ≤ 161
 line-short caller note short = let all = length-append (note_text caller note) (10 ∷ []) in omega arith
 
--- some lines of the front of a history are some of all its lines
+-- a part of the lines of a prefix is a part of all lines
 pub lines-front : {old new : Option (List ℕ)} (es : List Entry) (from to : ℕ) (lines : List ℕ) →
     entry_lines (take from es) ++ lines ≡ entry_lines (take to es) →
     HoldsFront old new (entry_lines (take from es) ++ lines) → HoldsFront old new (entry_lines es)

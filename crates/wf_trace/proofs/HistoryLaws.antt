@@ -1,4 +1,4 @@
--- The trace of a history is read as this history.
+-- Proves that the trace of a history is read as this history, by induction over its entries.
 use Rattle.std.proofs.Common.{◌≡◌, ℕ, zero, suc, ◌+◌, ◌*◌, ◌^◌, ◌<◌, ◌≤◌, List, [], ◌∷◌, ◌++◌, length, Bool, true, false, nat_eq, nat_le, refl, sym, ◌∙◌, ap, append_assoc, arith}
 use Rattle.std.specs.Prelude.{Option, Some, None, codes, ◌&&◌, nat_lt}
 use Rattle.std.specs.List.{list_all, join_with_byte}
@@ -27,7 +27,7 @@ use Rattle.wf_trace.proofs.WordLaws.{says_something}
 use Rattle.wf_def_world.specs.Run.{Entry}
 use Rattle.wf_trace.specs.Traces.{end_line, entry_lines, trace_of, entry_items, trace_items, CanBeNamed}
 
--- ---- a line in front
+-- ---- a line before others
 
 put_on : (closed : Bool) (octet at : ℕ) (first : Line) (others : List Line) →
     onto closed octet at (first ∷ others) ≡ record { octets = octet ∷ first.octets; end = first.end } ∷ others
@@ -85,7 +85,7 @@ read_line closed at end line place text behind plain short is inside kept =
 not_zero : (n : ℕ) → nat_eq (suc n) 0 ≡ false
 not_zero n = grind (arith, nat_tests)
 
--- its first octet is no space and no #; the last line stands for each other form
+-- its first octet is no space and no #; the last line covers all other forms
 begins_form : (form : CallForm) (others : List ℕ) → begins_word (call_word form ++ others) ≡ true
 begins_form call.Join others = refl
 begins_form form others = refl
@@ -109,7 +109,7 @@ begins_text (suc n) note = rw (not_zero n) (begins_at (decimal (suc n)) (note_wo
 abbrev the_place : ℕ → Option Place
 the_place count = Some (record { limit = 1048576; count = count })
 
--- the lines of so many entries, at most, and the last line lie within the octets of a trace
+-- the most octets of the line of an entry: all lines are within the longest trace
 most_octets : ℕ
 most_octets = 89
 

@@ -1,5 +1,4 @@
--- An input that was cut so far: what each answer of a cutter says of the whole of it. Made for the crates
--- above.
+-- Proves what each result of a cutter says of its whole input, of which a part was cut so far.
 use Rattle.std.proofs.Common.{◌≡◌, ℕ, List, [], ◌∷◌, ◌++◌, Bool, true, false, refl, sym, ◌∙◌, ap, subst, append_assoc, append-nil, inl, inr}
 use Rattle.std.specs.Prelude.{◌⊎◌, Option, Some, None, Ok, Err, IsSome}
 use Rattle.std.specs.Io.KnownBytes.{prepend_known, IsAtEnd}
@@ -14,11 +13,11 @@ use Rattle.wf_trace.specs.Numbering.{Numbering, Cuts, HasNoLine, line_of, pieces
 use Rattle.wf_trace.proofs.Taking.{prepend_known-nil, prepend_known-append}
 use Rattle.wf_trace.proofs.CutLaws.{fits_back}
 
--- lines in front of others
+-- lines before others
 abbrev pub with_lines : List Numbered → Pieces → Pieces
 with_lines front others = record { lines = front ++ others.lines; ending = others.ending }
 
--- Octets were taken, and these lines came.
+-- Octets were read, and these lines were returned.
 pub record CutSoFar (c : Numbering) (left left_now : Option (List ℕ)) (front : List Numbered) : Type 0 where
   pub taken : List ℕ
   pub took : left ≡ prepend_known taken left_now
@@ -36,7 +35,7 @@ cut_none c left is = record {
       λ closed more fits. sym (is closed more);
 }
 
--- the pieces of the whole input, by what a call took
+-- the pieces of the whole input, given the octets that a call read
 grown : (old new : Numbering) (left left_now left_new : Option (List ℕ)) (front : List Numbered)
     (octets : List ℕ) →
     (so_far : CutSoFar old left left_now front) → (IsSome old.cutter.ended → IsSome new.cutter.ended) →
@@ -56,7 +55,7 @@ took_more : (old new : Numbering) (left left_now left_new : Option (List ℕ)) (
 took_more old new left left_now left_new front octets so_far taken =
     so_far.took ∙ ap (prepend_known so_far.taken) taken ∙ prepend_known-append so_far.taken octets left_new
 
--- a line came
+-- a line was returned
 pub cut_line : (old new : Numbering) (left left_now left_new : Option (List ℕ)) (front : List Numbered)
     (octets : List ℕ) (line : ℕ) →
     CutSoFar old left left_now front → (IsSome old.cutter.ended → IsSome new.cutter.ended) →
@@ -84,7 +83,7 @@ fits_rest : (end : Option End) (left : List ℕ) → Fits end (Some left) true l
 fits_rest None left = tt
 fits_rest (Some end) left = (refl, refl)
 
--- what came is the front of the whole input's lines
+-- the lines so far are a prefix of those of the whole input
 pub cut_front : (c : Numbering) (left left_now : Option (List ℕ)) (front : List Numbered) →
     (so_far : CutSoFar c left left_now front) →
     (input : List ℕ) → left ≡ Some input →
@@ -97,7 +96,7 @@ cut_front c left left_now front so_far input told_is =
     (fits_rest c.cutter.ended known.0) in
     (known.0, known.2, known.1, ap (pieces true) known.2 ∙ so_far.same true known.0 fits)
 
--- the lines came whole out of the octets taken, or these are the whole input
+-- the lines so far are all lines of the octets read, or these octets are the whole input
 pub cut_reaches : (c : Numbering) (left left_now : Option (List ℕ)) (front : List Numbered) →
     (so_far : CutSoFar c left left_now front) →
     (IsSome c.cutter.ended → IsAtEnd left_now) → (input : List ℕ) → left ≡ Some input →
@@ -128,7 +127,7 @@ left_ended : (new : Numbering) (piece : Piece) (closed : Bool) (more : List ℕ)
     pieces_left new closed more ≡ whole [] piece
 left_ended new piece closed more is = rw is refl
 
--- The whole input was told: what was taken of it, and its pieces.
+-- The input was cut to its end: the octets read, and all its pieces.
 pub record CutWhole (left left_new : Option (List ℕ)) (front : List Numbered) (piece : Piece) : Type 0 where
   pub taken : List ℕ
   pub took : left ≡ prepend_known taken left_new
@@ -178,7 +177,7 @@ cut_bad old new left left_now left_new front octets fault so_far sticky cuts =
 nothing_left : (c : Numbering) → HasNoLine c → pieces_left c false [] ≡ record { lines = []; ending = None }
 nothing_left c none = rw (none.open_, none.going, none.given, none.waiting) refl
 
--- the source failed: the lines that came are all that the octets taken have
+-- the source failed: the lines so far are all lines of the octets read
 pub cut_failed : (old new : Numbering) (left left_now left_new : Option (List ℕ)) (front : List Numbered)
     (octets : List ℕ) (failed : Failed) →
     CutSoFar old left left_now front → (IsSome old.cutter.ended → IsSome new.cutter.ended) →

@@ -1,4 +1,5 @@
--- What a call of the cutter says of what is to come of a trace.
+-- Proves how a call of the cutter changes the items of a trace that are still to come, by cases of its
+-- result.
 use Rattle.std.proofs.Common.{◌≡◌, ℕ, List, [], ◌++◌, Bool, refl, sym, ◌∙◌, ap, subst, rules}
 use Rattle.std.specs.Prelude.{Option, Some, None, Result, Ok, Err, IsSomeAnd, ◌<◌}
 use Rattle.wf_io.specs.declared.source.Failed.{Failed}
@@ -19,7 +20,7 @@ use Rattle.wf_trace.specs.Reader.{Reader, Reads, GivesItem, rest, rest_of, said,
 use Rattle.wf_trace.specs.Endings.{IsEndOfTrace}
 use Rattle.wf_trace.proofs.Taking.{prepend_known-nil}
 
--- a reader that is under way, and one that has ended
+-- a reader that goes on, and one that has ended
 abbrev pub at : Numbering → Option Place → Reader
 at cut place = record { cut = cut; place = place; ended = None }
 
@@ -31,7 +32,7 @@ replaced : (result : Result Item Failed) (new : Reader) (before other after : Re
 replaced result new before other after is gives =
     subst (λ (r : Reading). GivesItem result new r after) (sym is) gives
 
--- a line that says something
+-- a line with a meaning
 pub reads_line : (cut new : Numbering) (place : Option Place) (line : ℕ) (left left_new : Option (List ℕ))
     (octets : List ℕ) (item : Item) (after : Reader) →
     Cuts cut left (Ok (piece.Text line)) new left_new octets → after.cut ≡ new →
@@ -81,7 +82,7 @@ reads_end cut new place line left left_new octets fault cuts is = (
   },
 )
 
--- a line has a fault as octets
+-- a line has a fault in its octets
 pub reads_bad : (cut new : Numbering) (place : Option Place) (left left_new : Option (List ℕ))
     (octets : List ℕ) (fault : Fault) →
     Cuts cut left (Ok (piece.Bad fault)) new left_new octets →
@@ -112,7 +113,7 @@ reads_none cut new place left left_new octets failed cuts = (
   },
 )
 
--- the end again
+-- the ending again
 pub reads_again : (r : Reader) (left : Option (List ℕ)) (item : Item) → r.ended ≡ Some item →
     IsEndOfTrace r.ended → (taken : List ℕ) × Reads r left (Ok item) r left taken
 reads_again r left item is ending = (

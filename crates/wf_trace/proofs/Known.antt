@@ -1,4 +1,4 @@
--- How a script ends is known once its input has ended.
+-- Proves that it is known how a script ends once its input has ended, by induction over its lines.
 use Rattle.std.proofs.Common.{ℕ, ◌+◌, List, [], ◌∷◌, true, false, cond}
 use Rattle.std.specs.Prelude.{Option, Some, None, Result, Ok, Err}
 use Rattle.wf_trace.specs.declared.cut.Piece.{Piece}
@@ -16,7 +16,7 @@ abbrev pub Known : {T : Type 0} → Option T → Type 0
 Known None = ⊥
 Known (Some thing) = Unit {0}
 
--- the texts of a closed input end
+-- the texts of a closed input have an ending
 before_known : (fault : Option FaultKind) (text : List ℕ) (others : Texts) → Known others.ending →
     Known (before_texts fault text others).ending
 before_known None text others is = is
@@ -27,7 +27,7 @@ texts_known [] = tt
 texts_known (line ∷ others) = before_known (flaw line.end line.octets) line.octets (texts_of true others)
     (texts_known others)
 
--- so its pieces do, and with no line
+-- its pieces have an ending, which is no line
 abbrev pub EndsInput : Option Piece → Type 0
 EndsInput None = ⊥
 EndsInput (Some (Text line)) = ⊥
@@ -53,7 +53,7 @@ pieces_known input =
     let t : Texts = texts_of true (lines true 0 input) in
     from_known 1 t.texts t.ending (texts_known (lines true 0 input))
 
--- and so the script does
+-- and the script has an ending
 told_known : {E : Type 0} (line : ℕ) (read : Result E FaultKind) (others : Script E) → Known others.ending →
     Known (script_told line read others).ending
 told_known line (Ok event) others is = is

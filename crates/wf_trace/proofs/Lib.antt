@@ -9,8 +9,8 @@ mod HeadLaws
 mod Parted
 pub mod PlaceLaws
 mod PrintLaws
--- How commands come to their ends; octets taken and written; a script that is being answered, and its ways
--- out; that every closed input has an ending.
+-- Scripts: how commands end, the octets read and written, a script that is being answered, and that every
+-- closed input has an ending.
 pub mod CommandEndings
 mod ScriptFronts
 mod ScriptRoom

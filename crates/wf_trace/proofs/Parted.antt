@@ -1,9 +1,10 @@
--- The lines that end behind a begun line are those into which the octets are parted.
+-- Proves that the lines that end after a line has begun are those into which the octets are split, by
+-- induction over the octets.
 use Rattle.std.proofs.Common.{◌≡◌, ℕ, ◌+◌, List, [], ◌∷◌, ◌++◌, Bool, true, false, cond, nat_eq, refl, sym, ◌∙◌, ap, append_assoc, append-nil}
 use Rattle.wf_trace.specs.Lines.{Line, lines, onto}
 use Rattle.wf_trace.specs.Scanning.{lines_behind, rest_line}
 
--- the begun line in front of the first
+-- the line that has begun is part of the first line
 abbrev begun_with : Bool → ℕ → List ℕ → List Line → List Line
 begun_with closed at begun [] = rest_line closed at begun
 begun_with closed at begun (line ∷ others) = record { octets = begun ++ line.octets; end = line.end } ∷ others

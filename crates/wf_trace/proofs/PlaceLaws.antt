@@ -1,4 +1,5 @@
--- Lines read in a place are judged by the lines before them.
+-- Proves that reading lines with a place carried along gives what `reading` defines, in which each line is
+-- judged by the lines before it. By induction over the lines.
 use Rattle.std.proofs.Common.{◌≡◌, ℕ, ◌+◌, List, [], ◌∷◌, ◌++◌, Bool, true, false, cond, nat_eq, refl, sym, ◌∙◌, ap, subst, arith}
 use Rattle.std.specs.Prelude.{Option, Some, None, IsSome, Result, Ok, Err, codes, count_by, nat_le}
 use Rattle.std.specs.Str.{bytes_eq}
@@ -20,7 +21,7 @@ use Rattle.wf_trace.specs.Meanings.{is_head, settings_of, settings_if, read_head
 use Rattle.wf_trace.specs.Reading.{Reading, with_item, head_of, first_some, head_among, is_call, place_behind, line_told, read_behind, reading}
 use Rattle.wf_trace.specs.Reader.{next_place, said, read_lines}
 
--- what a line is, by what it says
+-- a line with this meaning is a head without a place before it, or a call after a head
 abbrev pub Sorted : Result Meaning FaultKind → Option Place → List (List ℕ) → Type 0
 Sorted (Ok (Head config)) place ws = (place ≡ None) × (is_head ws ≡ true) × (settings_of ws ≡ Some config)
 Sorted (Ok (Entry caller note)) place ws = IsSome place × (is_head ws ≡ false)
@@ -91,7 +92,7 @@ sorted place ((octet ∷ octets) ∷ words) = by_at (nat_eq octet 64) refl
         (no_head octet octets words other)
     by_at false is = sorted_named place (octet ∷ octets) words
 
--- one line more
+-- the head and the number of calls after one more line
 first_some-assoc : (a b c : Option Config) → first_some a (first_some b c) ≡ first_some (first_some a b) c
 first_some-assoc None b c = refl
 first_some-assoc (Some config) b c = refl
@@ -112,7 +113,7 @@ calls-more : (front : List Numbered) (line : Numbered) →
 calls-more front line = sum_by-append (λ (l : Numbered). cond (is_call l) 1 0) front (line ∷ [])
     ∙ ap (λ n. count_by is_call front + n) (omega arith)
 
--- lines before a line, and its place
+-- the place after these lines, before the next one
 abbrev pub IsBehind : List Numbered → Option Place → Type 0
 IsBehind front None = (head_among front ≡ None) × (count_by is_call front ≡ 0)
 IsBehind front (Some place) = (config : Config) × (head_among front ≡ Some config) ×
@@ -158,7 +159,7 @@ behind_call front line (Some place) is some other =
           (ap (λ (p : Place). let q : Place = record { limit = p.limit; count = p.count + 1 } in q) is.2),
     )
 
--- what a line says in its place
+-- the meaning of a line in its place
 said_told : (m : Result Meaning FaultKind) (front : List Numbered) (line : Numbered) (place : Option Place)
     (others : Option Place → Reading) (after : Reading) → Sorted m place (words line.octets) →
     IsBehind front place → ((next : Option Place) → IsBehind (front ++ line ∷ []) next →
@@ -181,7 +182,7 @@ read_placed (line ∷ lines) front end place behind =
     (read_behind (front ++ line ∷ []) lines end)
     (sorted place (words line.octets)) behind (λ p is. read_placed lines (front ++ line ∷ []) end p is))
 
--- from the first line on
+-- the same from the first line on
 pub reading_placed : (closed : Bool) (octets : List ℕ) →
     read_lines (pieces closed octets).lines (pieces closed octets).ending None ≡ reading closed octets
 reading_placed closed octets = read_placed (pieces closed octets).lines [] (pieces closed octets).ending None

@@ -1,4 +1,5 @@
--- What is printed is read again.
+-- Proves that the canonical line of an entry is read as that entry, is printable, and is short enough. By
+-- cases of the call's form and of the kinds of its arguments.
 use Rattle.std.proofs.Common.{◌≡◌, ℕ, zero, suc, ◌+◌, ◌*◌, ◌^◌, ◌<◌, ◌≤◌, List, [], ◌∷◌, ◌++◌, length, length-append, drop, get_or, Bool, true, false, not, nat_eq, nat_le, ◌&&◌, ◌||◌, refl, sym, ◌∙◌, ap, append_assoc, arith, rules}
 use Rattle.std.specs.Prelude.{Option, Some, None, is_none, Ok, filter, map, if◌then◌else◌}
 use Rattle.std.proofs.lemmas.List.{drop_more}
@@ -51,7 +52,7 @@ first_digit (suc n) small =
     rw other (elim (nat_eq (length (decimal (suc n))) 1) as
     (λ b. (b || true) ≡ true) [ true ↦ refl | false ↦ refl ])
 
--- a number reads as itself
+-- the decimal digits of a number are read as the number
 number_of-decimal : (n : ℕ) → n < 2 ^ 32 → number_of (decimal n) ≡ Some n
 number_of-decimal n small =
     let fits : n < 2 ^ 64 = omega arith in
@@ -63,7 +64,7 @@ number_of-decimal n small =
     let is : is_number (decimal n) ≡ true = rw (high, low, digits, first_digit n fits) refl in
     rw is (ap Some (digits_value-decimal own n fits))
 
--- and so does each argument
+-- the word of each kind of argument is read as its value
 number_read : (low high value : ℕ) → low ≤ value → value ≤ high → value < 2 ^ 32 →
     in_range low high (number_of (decimal value)) ≡ Ok value
 number_read low high value above below small =
@@ -101,7 +102,7 @@ heard_read : (heard : Bool) → read_arg arg.Heard (heard_word heard) ≡ Ok (He
 heard_read true = refl
 heard_read false = refl
 
--- a number names no format
+-- the word of a number is no format
 digits_format : (digits : List ℕ) → list_all is_digit digits ≡ true → format_named digits ≡ None
 digits_format [] all = refl
 digits_format (octet ∷ digits) all =
@@ -115,7 +116,7 @@ number_format n small = digits_format (decimal n) (digits_decimal own n (omega a
 len_read : (len : ℕ) → 1 ≤ len → len ≤ greatest_body → read_arg arg.Length (decimal len) ≡ Ok (Short len)
 len_read len some most = rw (number_read 1 greatest_body len some most (omega arith)) refl
 
--- words that are not empty, of octets that are printable and not spaces
+-- a plain word is not empty, and its octets are printable and not spaces
 abbrev is_mark : ℕ → Bool
 is_mark octet = nat_le 33 octet && nat_le octet 126
 
@@ -170,20 +171,20 @@ number_plain n small =
       all_weaker is_digit is_mark digit_mark (decimal n) (digits_decimal own n fits),
     )
 
--- the word of a call is plain; the last line stands for each other form
+-- the word of each call is plain; the last line covers all other forms
 name_plain : (form : CallForm) → IsPlain (call_word form)
 name_plain call.Join = (refl, refl)
 name_plain form = (refl, refl)
 
--- ---- each value of a call is read again from its word
+-- ---- each value of a call is read from its word
 
--- a value that its argument reads from its word, which is plain and short
+-- the argument reads the value from its word, which is plain and short
 pub record IsTold (a : Arg) (v : Value) : Type 0 where
   pub read : read_arg a (value_word v) ≡ Ok v
   pub plain : IsPlain (value_word v)
   pub short : length (value_word v) ≤ 10
 
--- the same of each argument
+-- the same for each argument
 abbrev pub AreTold : List Arg → List Value → Type 0
 AreTold [] [] = Unit {0}
 AreTold (a ∷ args) (v ∷ values) = IsTold a v × AreTold args values
@@ -250,12 +251,12 @@ number_told low high n within small = record {
   short = number_short n small;
 }
 
--- no number of this kind has more than 32 bits
+-- whether the numbers of a kind have at most 32 bits
 abbrev is_small : Arg → Bool
 is_small (arg.Number low high) = nat_le high long_most
 is_small _ = true
 
--- each value of a kind is told; values of other kinds are none of it
+-- this holds for each value that may be given for an argument
 kind_told : (a : Arg) (v : Value) → is_small a ≡ true → IsOfKind a v → IsTold a v
 kind_told arg.Short (Short n) small is = short_told n is
 kind_told arg.Octet (Octet n) small is = octet_told n is
@@ -274,7 +275,7 @@ kind_told (arg.Number low high) (Long n) small is =
     let below : n ≤ high = is.1 in number_told low high n is (omega arith)
 kind_told a v small is = absurd is
 
--- so it is with each argument of a call; the last line stands for each other argument
+-- it holds for the arguments of calls; the last line covers all other arguments
 argument_small : (a : Argument) → is_small (argument_kind a) ≡ true
 argument_small argument.Station = refl
 argument_small a = refl
@@ -287,7 +288,7 @@ values_told (a ∷ arguments) [] are = absurd are
 values_told (a ∷ arguments) (v ∷ values) are =
     (kind_told (argument_kind a) v (argument_small a) are.0, values_told arguments values are.1)
 
--- each value of a call is told
+-- it holds for each value of a call
 pub note_told : (note : Note) → NumbersAreInRange note → AreTold (args_of (note_form note)) (note_values note)
 note_told note r = values_told (arguments_of (note_form note)) (note_values note) r
 
@@ -299,7 +300,7 @@ read_cons : (a : Arg) (args : List Arg) (word : List ℕ) (texts : List (List �
     read_args (a ∷ args) (word ∷ texts) ≡ Ok (v ∷ values)
 read_cons a args word texts v values one others = rw (one, others) refl
 
--- an argument that has no default, in front of others
+-- an argument without a default, before others
 told_plainly : (a : Arg) (args : List Arg) (texts : List (List ℕ)) (v : Value) (values : List Value) →
     default_of a ≡ None → IsTold a v → read_args args texts ≡ Ok values →
     read_args (a ∷ args) (words_of_value a v ++ texts) ≡ Ok (v ∷ values)
@@ -317,12 +318,12 @@ told_last : (a : Arg) (v : Value) (out : Bool) → is_left_out (default_of a) v 
 told_last a v true out told = rw (left_out (default_of a) v out) refl
 told_last a v false out told = read_cons a [] (value_word v) [] v [] told.read refl
 
--- only the last of arguments has a default, if any
+-- whether no argument except the last has a default
 abbrev is_default_last : List Arg → Bool
 is_default_last (a ∷ b ∷ args) = is_none (default_of a) && is_default_last (b ∷ args)
 is_default_last _ = true
 
--- so it is with those of each call; the last line stands for each other form
+-- this is true of the arguments of each call; the last line covers all other forms
 default_last : (form : CallForm) → is_default_last (args_of form) ≡ true
 default_last call.Join = refl
 default_last form = refl
@@ -331,7 +332,7 @@ no_default : (usual : Option Value) → is_none usual ≡ true → usual ≡ Non
 no_default None is = refl
 no_default (Some v) is = absurd (cc)
 
--- the words of the values that are told are plain, and at most as many as there are arguments
+-- the words of such values are plain, and at most as many as the arguments
 plain_or_out : (b : Bool) (word : List ℕ) (texts : List (List ℕ)) → IsPlain word → ArePlain texts →
     ArePlain ((if b then [] else word ∷ []) ++ texts)
 plain_or_out true word texts plain others = others
@@ -352,7 +353,7 @@ note_plain note r = (
   values_plain (args_of (note_form note)) (note_values note) (note_told note r),
 )
 
--- ---- the words of a call name it
+-- ---- the words of a call are read as the call
 
 texts_read : (args : List Arg) (values : List Value) → is_default_last args ≡ true → AreTold args values →
     read_args args (words_of_values args values) ≡ Ok values
@@ -366,7 +367,7 @@ texts_read (a ∷ b ∷ args) (v ∷ values) last told =
     told_plainly a (b ∷ args) (words_of_values (b ∷ args) values) v values
     (no_default (default_of a) both.0) told.0 (texts_read (b ∷ args) values both.1 told.1)
 
--- a rate that names no format has a number in its place; the last line stands for each other call
+-- a rate without a format has a number in its place; the last line covers all other calls
 form_read : (note : Note) → NumbersAreInRange note → read_call (note_words note)
     ≡ in_form (note_form note) (words_of_values (args_of (note_form note)) (note_values note))
 form_read (Asked (Rate station (Ht mcs mhz short))) r = rw (number_format mcs r.1.0) refl
@@ -388,7 +389,7 @@ caller_plain zero others small are = are
 caller_plain (suc n) others small are = let digits = number_plain (suc n) (omega arith) in
     rw (not_zero n) ((refl, digits.1), are)
 
--- words with one space between them are read as these words
+-- words separated by one space are read as these words
 parts_word : (word rest : List ℕ) → list_all is_mark word ≡ true →
     parts (word ++ 32 ∷ rest) ≡ word ∷ parts rest
 parts_word [] rest marks = refl
@@ -414,7 +415,7 @@ words-joined (word ∷ next ∷ others) are =
     (kept word (parts (join_with_byte 32 (next ∷ others))) are.0.0
     ∙ ap (λ l. word ∷ l) (words-joined (next ∷ others) are.1))
 
--- and all their octets are printable
+-- and their octets are printable
 all_append : (p : ℕ → Bool) (xs ys : List ℕ) → list_all p xs ≡ true → list_all p ys ≡ true →
     list_all p (xs ++ ys) ≡ true
 all_append p [] ys one two = two
@@ -429,7 +430,8 @@ printable-joined (word ∷ next ∷ others) are =
     all_append is_printable word (32 ∷ join_with_byte 32 (next ∷ others))
     (all_weaker is_mark is_printable mark_printable word are.0.1) (printable-joined (next ∷ others) are.1)
 
--- a line that begins with the word of a call is an entry; the last line stands for each other form
+-- after a head, a line that begins with the word of a call is an entry; the last line covers all other
+-- forms
 form_line : (form : CallForm) (texts : List (List ℕ)) (place : Place) →
     meant (Some place) (call_word form ∷ texts)
     ≡ entry_of 0 (Some place) (call_word form ∷ texts)
@@ -465,7 +467,7 @@ pub text_printable : (caller : ℕ) (note : Note) → caller < 2 ^ 16 → Number
 text_printable caller note small r = printable-joined (caller_words caller ++ note_words note)
     (caller_plain caller (note_words note) small (note_plain note r))
 
--- one value more behind a line
+-- one more value at the end of a line
 pub more_values : (out : List ℕ) (args : List Argument) (values : List Value) (i : ℕ) (a :
     Argument) (v : Value) →
     i < length args → i < length values →
@@ -478,7 +480,7 @@ more_values out args values i a v inside within =
     rw (drop_more args i a inside, drop_more values i v within, spaced-append one more)
     (sym (append_assoc out (spaced one) (spaced more)))
 
--- ---- how long a line is
+-- ---- the length of a line
 
 abbrev AreShort : List (List ℕ) → Type 0
 AreShort [] = Unit {0}
@@ -509,7 +511,7 @@ values_short (a ∷ args) (v ∷ values) told =
     (length args) told.0.short (values_short args values told.1) in
     let few = both.1 in (both.0, omega arith)
 
--- the last line stands for each other form
+-- the last line covers all other forms
 short_name : (form : CallForm) → (length (call_word form) ≤ 10) × (length (args_of form) ≤ 6)
 short_name call.Join = (omega arith, omega arith)
 short_name form = (omega arith, omega arith)

@@ -1,4 +1,4 @@
--- Laws of lines that are looked at octet by octet.
+-- Laws of lines that are looked at octet by octet: what each octet in the buffer finds, and what it keeps.
 use Rattle.std.proofs.Common.{◌≡◌, ◌≢◌, ℕ, suc, ◌+◌, ◌-◌, ◌<◌, ◌≤◌, List, [], ◌∷◌, ◌++◌, length, take, drop, get_or, Bool, true, false, cond, nat_eq, refl, sym, ap, ◌∙◌, arith, length-append, append_assoc}
 use Rattle.std.specs.Prelude.{Option, Some, None, nat_lt, slice_index, slice_range, ◌||◌}
 use Rattle.std.specs.List.{list_all}
@@ -15,7 +15,7 @@ use Rattle.wf_trace.specs.declared.cut.Found.TheVariants as found
 use Rattle.wf_trace.specs.Lines.{Texts, longest_trace, longest_line, is_printable, flaw, before_texts, texts_of}
 use Rattle.wf_trace.specs.Scanning.{Scanning, Finds, Keeps, LineEndsAt, lines_behind, has_end, begins_word}
 
--- the first of a part of a list
+-- the first octet of a part of a list
 pub waiting_first : (xs : List ℕ) (i j octet : ℕ) → i ≤ j → j ≤ length xs → 0 < length (slice_range xs i j) →
     octet ≡ get_or xs i octet →
     slice_range xs i j ≡ octet ∷ slice_range xs (i + 1) j
@@ -37,7 +37,7 @@ abbrev pub seen : ℕ → List ℕ → List ℕ → ℕ → ℕ → Scanning
 seen looked line buffer from to =
     record { looked = looked; line = line; waiting = slice_range buffer from to }
 
--- a line in which nothing is wrong
+-- a line without a fault
 pub flaw_none : (end : ℕ) (octets : List ℕ) → end ≤ longest_trace → length octets ≤ longest_line →
     list_all is_printable octets ≡ true → flaw end octets ≡ None
 flaw_none end octets within short plain =
@@ -45,7 +45,7 @@ flaw_none end octets within short plain =
     let second : nat_lt longest_line (length octets) ≡ false = grind (arith, nat_tests) in
     rw (first, second, plain) refl
 
--- a line that is too long for the trace, and one that is too long
+-- a fault ends the texts: the line is over the end of the longest trace, or is too long
 abbrev pub stops : FaultKind → Texts
 stops kind = record { texts = []; ending = Some (Flaw kind) }
 
@@ -68,7 +68,7 @@ before_long end one two others long_one long_two =
 length_more : (octets : List ℕ) (octet : ℕ) → length (octets ++ octet ∷ []) ≡ length octets + 1
 length_more octets octet = length-append octets (octet ∷ [])
 
--- of a line that is too long, nothing but that matters
+-- in a line that is too long, only that matters
 pub long : (closed : Bool) (at : ℕ) (one two octets : List ℕ) → longest_line < length one →
     longest_line < length two →
     texts_of closed (lines_behind closed at one octets) ≡ texts_of closed (lines_behind closed at two octets)
@@ -91,7 +91,7 @@ long closed at one two (octet ∷ octets) long_one long_two =
       | false ↦ next
     ]
 
--- a line that goes past the end of any trace
+-- a line that is over the end of the longest trace
 pub big : (at : ℕ) (begun octets : List ℕ) → longest_trace < at → 0 < length begun →
     texts_of true (lines_behind true at begun octets) ≡ stops TooBig
 big at [] [] past some = absurd (omega arith)
@@ -107,7 +107,7 @@ big at begun (octet ∷ octets) past some =
       | false ↦ next
     ]
 
--- The four ways to look at the first octet that waits.
+-- The four cases of the first octet that waits.
 pub finds_big : (s : Scanning) (octet : ℕ) (rest : List ℕ) (new : Scanning) → s.waiting ≡ octet ∷ rest →
     s.looked ≡ longest_trace → Finds s (Some found.TooBig) new
 finds_big s octet rest new waits at_end more =
@@ -143,13 +143,13 @@ finds_long s octet rest waits other past closed more =
     rw (waits, test) (long closed (s.looked + 1) (s.line ++ octet ∷ []) s.line (rest ++ more)
     (omega (arith, length_more s.line octet)) past)
 
--- what was found behind octets that end no line
+-- a line that ends after octets without an end of a line
 pub finds_on : (a b c : Scanning) (f : Option Found) → Finds a None b → Finds b f c → Finds a f c
 finds_on a b c None first second = λ closed more. first closed more ∙ second closed more
 finds_on a b c (Some found.Line) first second = λ closed more. first closed more ∙ second closed more
 finds_on a b c (Some found.TooBig) first second = λ more. first true more ∙ second more
 
--- The same four ways, and what each keeps.
+-- The same four cases, and what each keeps.
 pub keeps_line : (s : Scanning) (octet : ℕ) (rest : List ℕ) → s.waiting ≡ octet ∷ rest → octet ≡ 10 →
     Keeps s (Some found.Line) (record { looked = s.looked + 1; line = s.line; waiting = rest })
 keeps_line s octet rest waits ends begins = begun s.line (rw waits at begins)
@@ -181,7 +181,7 @@ keeps_on a b c None first second = (second.0 ∙ first.0, second.1 ∙ first.1)
 keeps_on a b c (Some found.Line) first second = λ begins. second (first.1 ∙ begins)
 keeps_on a b c (Some found.TooBig) first second = tt
 
--- The place of the last end of a line says whether one waits.
+-- The place of the last end of a line says whether a whole line waits.
 or-false : (a b : Bool) → (a || b) ≡ false → b ≡ false
 or-false true b is = absurd (cc)
 or-false false b is = is
@@ -217,7 +217,7 @@ end_waits xs ends from to at before within =
     list_any_at (λ octet. nat_eq octet 10) (slice_range xs from to) k 0 inside
     (eq-eqb (get_or (slice_range xs from to) k 0) 10 is)
 
--- the first that waits, in front of the last end of a line
+-- the first octet that waits, if it is before the last end of a line
 pub first_of_line : (xs : List ℕ) (ends from to octet : ℕ) → LineEndsAt xs ends to → from < ends →
     to ≤ length xs → octet ≡ get_or xs from octet →
     slice_range xs from to ≡ octet ∷ slice_range xs (from + 1) to
@@ -226,7 +226,7 @@ first_of_line xs ends from to octet at before within is =
     omega (arith, at.0, length-take (to - from) (drop from xs), length-drop from xs) in
     waiting_first xs from to octet (omega (arith, at.0)) within some is
 
--- of octets that were taken
+-- the place of the last end of a line, for octets that were read
 pub ends_at : (xs : List ℕ) (ends to : ℕ) → to ≤ length xs → ends ≤ length (take to xs) →
     has_end (drop ends (take to xs)) ≡ false →
     (0 < ends → slice_index (take to xs) (ends - 1) ≡ 10) → LineEndsAt xs ends to

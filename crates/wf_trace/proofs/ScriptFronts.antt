@@ -1,4 +1,4 @@
--- Octets taken and octets written, one after the other.
+-- Laws of the octets that a sink holds, as one text is written after another.
 use Rattle.std.proofs.Common.{◌≡◌, ℕ, ◌≤◌, List, [], ◌++◌, length, take, drop, refl, sym, ap, append_assoc, append-nil}
 use Rattle.std.specs.Prelude.{Option, Some, None}
 use Rattle.std.specs.Io.KnownBytes.{append_known}
@@ -14,7 +14,7 @@ pub append_known-append : (held : Option (List ℕ)) (one two : List ℕ) →
 append_known-append None one two = refl
 append_known-append (Some xs) one two = ap Some (append_assoc xs one two)
 
--- some of a line was written
+-- a part of a line was written
 pub partly : (line : List ℕ) (held held_new : Option (List ℕ)) → (n : ℕ) × (n ≤ length line) ×
     (held_new ≡ append_known held (take n line)) → HoldsFront held held_new line
 partly line held held_new some = record {

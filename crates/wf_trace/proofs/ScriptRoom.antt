@@ -1,4 +1,4 @@
--- How much may still come before the end of an input.
+-- Proves an upper bound of the lines that a cutter can still cut, which bounds the loop over a script.
 use Rattle.std.proofs.Common.{ℕ, ◌+◌, ◌≤◌, arith}
 use Rattle.std.specs.Prelude.{Option, Some, None}
 use Rattle.wf_trace.specs.declared.fault.End.{End}

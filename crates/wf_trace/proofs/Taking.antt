@@ -1,4 +1,5 @@
--- What was taken from a source while no line ended, and what comes of it.
+-- Proves what a call of the cutter of lines returns, from the scans and reads that it makes: octets that
+-- were read and end no line keep the texts that are still to come.
 use Rattle.std.proofs.Common.{◌≡◌, ◌≢◌, ◌==◌, ◌&&◌, ◌||◌, not, nat_eq, arith, ℕ, ◌+◌, ◌-◌, ◌≤◌, length, List, [], ◌∷◌, ◌++◌, Bool, true, false, refl, sym, ◌∙◌, ap, subst, append_assoc}
 use Rattle.std.specs.Prelude.{Option, Some, None, Ok, Err, MatchOption, IsSome, is_some}
 use Rattle.std.specs.Io.KnownBytes.{prepend_known, IsAtEnd}
@@ -12,7 +13,7 @@ use Rattle.wf_trace.specs.Lines.{longest_trace, before_texts, flaw, texts_of}
 use Rattle.wf_trace.specs.Scanning.{Scanning, Finds, Keeps, lines_behind, texts_from, texts_behind, has_end, begins_word, holds_text}
 use Rattle.wf_trace.specs.Cutting.{Cutting, TakesPieces, Fits, Follows, to_come, room_of, will_read_of}
 
--- Octets were taken, and the texts to come stayed.
+-- Octets were read, and the texts that are still to come are unchanged.
 pub record Took (first now : Scanning) (left left_now : Option (List ℕ)) : Type 0 where
   pub octets : List ℕ
   pub taken : left ≡ prepend_known octets left_now
@@ -55,7 +56,7 @@ took_refill first s t left left_now left_new took dry refilled same = record {
       (sym same);
 }
 
--- a cutter that is under way
+-- a cutter that goes on
 abbrev pub going : Scanning → Cutting
 going s = record { scanner = s; given = false; ended = None }
 
@@ -90,7 +91,7 @@ pub takes_line : (first s t : Scanning) (left left_now : Option (List ℕ)) (end
 takes_line first s t left left_now end new took finds is =
     (took.octets, judged (flaw t.looked t.line) first s t left left_now end new took finds is)
 
--- the line goes past the end of any trace
+-- a line is over the end of the longest trace
 pub takes_big : (first s t : Scanning) (left left_now : Option (List ℕ)) → Took first s left left_now →
     Finds s (Some found.TooBig) t →
     (octets : List ℕ) × TakesPieces (going first) left (Ok (Some (Flaw TooBig)))
@@ -136,8 +137,8 @@ takes_end first s left left_now left_new end new took at_end is ended follows = 
   },
 )
 
--- The call looks at the octets that wait first: where an end of a line is among them it does not come to
--- read, and the line begins as they do.
+-- A call first looks at the octets that wait. If one of them ends a line, the call does not read, and its
+-- line begins with the octets that waited.
 abbrev pub Still : {S : Type 0} → Cutting → Cutting → S → S → Type 0
 Still first now source source_now = has_end first.scanner.waiting ≡ true → (now ≡ first) ×
     (source_now ≡ source)
@@ -159,7 +160,7 @@ still_begins first now s t source source_now still is keeps ends begins =
     keeps (ap (λ (u : Scanning). begins_word (u.line ++ u.waiting)) is
     ∙ ap (λ (c : Cutting). begins_word (c.scanner.line ++ c.scanner.waiting)) (still ends).0 ∙ begins)
 
--- whether a call reads, where the end is not known and a line was given
+-- whether a call reads, if the end is not known and a line was returned
 pub reads_given : (e : Option End) (given : Bool) (waiting : List ℕ) → false ≡ is_some e → given ≡ true →
     will_read_of e given waiting ≡ not (holds_text waiting)
 reads_given None given waiting none is = rw is refl
@@ -168,7 +169,7 @@ reads_given (Some end) given waiting none is = absurd (cc)
 pub not_equal : (a b : ℕ) → a ≢ b → nat_eq a b ≡ false
 not_equal a b other = grind (arith, nat_tests)
 
--- and where a whole line waits, by its first octet
+-- the same, by the first octet of a whole line that waits
 pub reads_first : (e : Option End) (given : Bool) (waiting : List ℕ) (octet : ℕ) (rest : List ℕ) →
     false ≡ is_some e → given ≡ true → has_end waiting ≡ true → waiting ≡ octet ∷ rest →
     will_read_of e given waiting ≡ (octet == 10 || (octet == 32 || octet == 35))
@@ -182,7 +183,7 @@ reads_first e given waiting octet rest none is ends begins =
     parts false false true = refl
     parts false false false = refl
 
--- a rest of the input in which something is wrong
+-- the rest of the input is a line with a fault
 pub wrong_rest : (f : Option FaultKind) (end : Option End) (old new : Cutting) →
     flaw old.scanner.looked old.scanner.line ≡ f → MatchOption f ((end ≡ None)
     × (new ≡ record old { given = true })) (λ kind. (end ≡ Some (Flaw kind))
@@ -201,7 +202,7 @@ wrong_rest (Some kind) end old new is said some open_ fresh dry begun =
     rest [] is begun = absurd (cc)
     rest (octet ∷ line) is begun = rw is refl
 
--- with an octet looked at, or the end known, no more octets may be looked at than before
+-- after one more octet, or the end, no more octets may be looked at than before
 pub room_less : (looked : ℕ) (end : Option End) → room_of (looked + 1) end ≤ room_of looked end
 room_less looked None = omega arith
 room_less looked (Some end) = omega arith

@@ -1,4 +1,5 @@
--- Laws of the words of a line.
+-- Laws of the words of a line: which octets of it are its first word, and when it is skipped. By induction
+-- over the octets.
 use Rattle.std.proofs.Common.{◌≡◌, ◌≢◌, ℕ, zero, suc, ◌+◌, ◌-◌, ◌<◌, ◌≤◌, List, [], ◌∷◌, length, take, drop, get_or, Bool, true, false, cond, nat_eq, refl, sym, ◌∙◌, ap, add-zero, arith}
 use Rattle.std.specs.Prelude.{filter, not, ◌&&◌}
 use Rattle.std.proofs.lemmas.Bool.Decides.{nat_tests}
@@ -6,7 +7,7 @@ use Rattle.std.proofs.lemmas.List.{length-drop, length-take-le, get_or-drop, dro
 use Rattle.wf_trace.specs.Scanning.{begins_word}
 use Rattle.wf_trace.specs.Words.{parts, in_front, words, is_word, skipped}
 
--- octets in front of the first part
+-- octets added at the front of the first part
 abbrev ahead : List ℕ → List (List ℕ) → List (List ℕ)
 ahead [] others = others
 ahead (octet ∷ octets) others = in_front octet (ahead octets others)
@@ -37,7 +38,7 @@ first_word : (line : List ℕ) (word : List ℕ) (others : List (List ℕ)) → 
 first_word line [] others some = absurd (omega arith)
 first_word line (octet ∷ word) others some = refl
 
--- octets up to a space or the end are a word
+-- the octets up to a space or the end are a word
 pub words_first : (line : List ℕ) (n : ℕ) → n ≤ length line → 0 < n →
     ((k : ℕ) → k < n → get_or line k 0 ≢ 32) →
     (n < length line → get_or line n 0 ≡ 32) → words line ≡ take n line ∷ words (drop n line)
@@ -49,7 +50,7 @@ words_first line n within some before found =
     rw (whole, behind.1) (first_word line (take n line) behind.0
     (omega (arith, length-take-le n line within)))
 
--- octets between two places of a line, of which nothing in front says anything, are its first word
+-- octets from one place of a line to a space are its first word, if those before them have no word
 pub word_between : (line : List ℕ) (from to : ℕ) → words line ≡ words (drop from line) → from < to →
     to < length line → ((k : ℕ) → from ≤ k → k < to → get_or line k 0 ≢ 32) → get_or line to 0 ≡ 32 →
     words line ≡ take (to - from) (drop from line) ∷ words (drop to line)
@@ -64,7 +65,7 @@ word_between line from to same some within before found =
     ∙ ap (λ (l : List ℕ). take (to - from) (drop from line) ∷ words l)
     behind
 
--- and those up to its end are its only word
+-- octets up to the end of a line are its only word, if those before them have no word
 pub word_at_end : (line : List ℕ) (from : ℕ) → words line ≡ words (drop from line) → from < length line →
     ((k : ℕ) → from ≤ k → k < length line → get_or line k 0 ≢ 32) → words line ≡ drop from line ∷ []
 word_at_end line from same some before =
@@ -75,7 +76,7 @@ word_at_end line from same some before =
     (sym (get_or-drop from line k 0) ∙ is)) (λ more. absurd (omega (arith, more)))
     ∙ rw (take_all len (drop from line) (omega arith), drop_all len (drop from line) (omega arith)) refl
 
--- a line that begins with an octet of a word that is no # is not skipped
+-- a line is not skipped if its first octet is no end of a line, no space and no #
 pub says_something : (line : List ℕ) → begins_word line ≡ true → skipped (words line) ≡ false
 says_something [] is = absurd (cc)
 says_something (octet ∷ octets) is = first (nat_eq octet 10) (nat_eq octet 32) (nat_eq octet 35) refl refl
@@ -90,7 +91,7 @@ says_something (octet ∷ octets) is = first (nat_eq octet 10) (nat_eq octet 32)
     first false false false space hash [] is = hash
     first false false false space hash (part ∷ others) is = hash
 
--- whether a line is skipped is told by its first octet, where that is no space
+-- if the first octet of a line is not a space, it says whether the line is skipped
 pub skipped_first : (octet : ℕ) (octets : List ℕ) → nat_eq octet 32 ≡ false →
     skipped (words (octet ∷ octets)) ≡ nat_eq octet 35
 skipped_first octet octets other = rw other (by_parts (parts octets))

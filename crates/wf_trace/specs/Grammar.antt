@@ -1,4 +1,4 @@
--- The call lines of a trace, by the table of calls: the form of a line, and the values of its words.
+-- Defines the call lines of a trace: the form of a line by the table of calls, and the values of its words.
 use Rattle.std.specs.Prelude.{ℕ, List, [], ◌∷◌, ◌++◌, codes, Bool, true, false, if◌then◌else◌, Option, Some, None, Result, Ok, Err, find, option_map}
 use Rattle.std.specs.Str.{bytes_eq}
 use Rattle.wf_trace.specs.declared.fault.FaultKind.{FaultKind}
@@ -17,22 +17,22 @@ use Rattle.wf_frame.specs.Classes.{class_named}
 use Rattle.wf_trace.specs.Faults.{earlier_fault}
 use Rattle.wf_trace.specs.Words.{number_of, in_range}
 
--- the form of a rate's line, by the format that it names, if any
+-- the form of a rate's line, by its format, if it has one
 abbrev pub rate_form : Option RateFormat → CallForm
 rate_form None = Rate
 rate_form (Some Vht) = RateVht
 rate_form (Some He) = RateHe
 
--- the word in front of an airtime that a `done` names
+-- the word before the airtime of a `done`
 abbrev pub air_word : List ℕ
 air_word = codes "air"
 
--- the form of the line of a `done`, by the word behind the others
+-- the form of a `done` line, by its word after the other arguments
 abbrev pub done_form : List ℕ → CallForm
 done_form word = if bytes_eq air_word word then DoneAir else Done
 
--- the form of a call's line, by the words behind its first: the second argument of a rate may name a
--- format, and the third of a `done` says that an airtime is named
+-- the form of a call's line, by its words after the first: the second argument of a rate may be a format,
+-- and the third of a `done` may be `air`
 abbrev pub call_form : CallForm → List (List ℕ) → CallForm
 call_form Rate (station ∷ format ∷ words) = rate_form (format_named format)
 call_form Done (exchange ∷ heard ∷ word ∷ words) = done_form word
@@ -54,7 +54,7 @@ long_most = 4294967295
 abbrev pub guard_word : Bool → List ℕ
 guard_word short = if short then codes "short" else codes "long"
 
--- the word that tells whether an answer was heard
+-- the word that says whether an answer was heard
 abbrev pub heard_word : Bool → List ℕ
 heard_word heard = if heard then codes "heard" else codes "lost"
 
@@ -62,7 +62,7 @@ heard_word heard = if heard then codes "heard" else codes "lost"
 abbrev pub end_word : Bool → List ℕ
 end_word recipient = if recipient then codes "b" else codes "a"
 
--- the value that a word is, where the argument is one of some words
+-- the value of a word, for an argument whose values are words
 abbrev pub known_value : Arg → List ℕ → Option Value
 known_value Class word = option_map value.Class (class_named word)
 known_value Format word = option_map value.Format (format_named word)
@@ -75,17 +75,17 @@ known_value End word =
 known_value Air word = if bytes_eq air_word word then Some value.Air else None
 known_value _ word = None
 
--- a result by what its value shows
+-- a result with f applied to its value
 abbrev pub result_seen : {X Y : Type 0} → (X → Y) → Result X FaultKind → Result Y FaultKind
 result_seen f (Ok x) = Ok (f x)
 result_seen f (Err fault) = Err fault
 
--- a value, or the fault that the word is none of its words
+-- the value, or the fault that the word is none of those allowed
 abbrev pub among : Option Value → Result Value FaultKind
 among None = Err kind.Word
 among (Some value) = Ok value
 
--- the value of an argument, by its word
+-- the value of an argument, given its word
 abbrev pub read_arg : Arg → List ℕ → Result Value FaultKind
 read_arg Short word = result_seen value.Short (in_range 0 short_most (number_of word))
 read_arg Octet word = result_seen value.Octet (in_range 0 octet_most (number_of word))
@@ -96,30 +96,31 @@ read_arg Weight word = result_seen value.Octet (in_range 0 octet_most (number_of
 read_arg (Number low high) word = result_seen value.Long (in_range low high (number_of word))
 read_arg arg word = among (known_value arg word)
 
--- a value that is there, or the fault that a word is missing
+-- the value, or the fault that a word is missing
 abbrev pub wanted : Option Value → Result Value FaultKind
 wanted None = Err kind.Count
 wanted (Some value) = Ok value
 
--- the value of an argument for which no word is left
+-- the value of an argument that has no word
 abbrev pub absent_arg : Arg → Result Value FaultKind
 absent_arg arg = wanted (default_of arg)
 
--- a value and others, or the earliest of the faults
+-- one value before others, or the first of the faults in the order of the kinds
 abbrev pub both : Result Value FaultKind → Result (List Value) FaultKind → Result (List Value) FaultKind
 both (Ok value) (Ok values) = Ok (value ∷ values)
 both (Ok value) (Err fault) = Err fault
 both (Err fault) (Ok values) = Err fault
 both (Err one) (Err two) = Err (earlier_fault one two)
 
--- the values of the arguments that the words of a line are
+-- the values of arguments, given the words of a line
 abbrev pub read_args : List Arg → List (List ℕ) → Result (List Value) FaultKind
 read_args [] [] = Ok []
 read_args [] (word ∷ words) = Err kind.Count
 read_args (arg ∷ args) [] = both (absent_arg arg) (read_args args [])
 read_args (arg ∷ args) (word ∷ words) = both (read_arg arg word) (read_args args words)
 
--- what is read, behind values and a fault
+-- the result of reading all arguments, given the fault and the values of the first ones and the result of
+-- the rest
 abbrev pub behind : Option FaultKind → List Value → Result (List Value) FaultKind →
     Result (List Value) FaultKind
 behind None front (Ok values) = Ok (front ++ values)

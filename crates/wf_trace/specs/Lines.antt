@@ -1,4 +1,4 @@
--- A trace as lines: parted by the octet 10, and a rest that is not empty is a line too.
+-- Defines the lines of a trace: each ends with the octet 10, and a rest that is not empty is a line too.
 use Rattle.std.specs.Prelude.{ℕ, ◌+◌, List, [], ◌∷◌, length, Bool, true, false, ◌==◌, ◌&&◌, nat_lt, nat_le, if◌then◌else◌, Option, Some, None}
 use Rattle.std.specs.List.{list_all}
 use Rattle.wf_io.specs.declared.source.TheConstants.{MOST_OCTETS}
@@ -7,25 +7,26 @@ use Rattle.wf_trace.specs.declared.fault.FaultKind.TheVariants.{TooBig, LongLine
 use Rattle.wf_trace.specs.declared.fault.End.{End}
 use Rattle.wf_trace.specs.declared.fault.End.TheVariants.{Over, Flaw}
 
--- a line without its octet 10, and how many octets the input has up to its end, that octet counted
+-- a line without its octet 10, and the number of octets of the input up to its end, with that octet
 pub record Line : Type 0 where
   pub octets : List ℕ
   pub end : ℕ
 
--- an octet in front of the first line; where none comes, it is a line only if the input ends there
+-- the lines with an octet added at the front of the first one; if there is none, the octet is a line only
+-- if the input ends there
 abbrev pub onto : Bool → ℕ → ℕ → List Line → List Line
 onto false octet at [] = []
 onto true octet at [] = record { octets = octet ∷ []; end = at } ∷ []
 onto closed octet at (line ∷ others) = record { octets = octet ∷ line.octets; end = line.end } ∷ others
 
--- the lines of octets that stand behind `at` others, closed where the input ends with them
+-- the lines of octets that come after `at` others; if closed, the input ends with them
 abbrev pub lines : Bool → ℕ → List ℕ → List Line
 lines closed at [] = []
 lines closed at (octet ∷ octets) =
     if octet == 10 then record { octets = []; end = at + 1 } ∷ lines closed (at + 1) octets
     else onto closed octet (at + 1) (lines closed (at + 1) octets)
 
--- the most octets of a trace up to the end of its `end` line, 2^40
+-- the most octets of a trace up to the end of its line `end`, 2^40
 abbrev pub longest_trace : ℕ
 longest_trace = MOST_OCTETS
 
@@ -33,11 +34,11 @@ longest_trace = MOST_OCTETS
 abbrev pub longest_line : ℕ
 longest_line = 160
 
--- a printable character of ASCII, or the space
+-- whether an octet is a printable ASCII character or a space
 abbrev pub is_printable : ℕ → Bool
 is_printable octet = nat_le 32 octet && nat_le octet 126
 
--- the first that is wrong with a line as octets
+-- the first fault of a line in its octets
 abbrev pub flaw : ℕ → List ℕ → Option FaultKind
 flaw end octets =
     if nat_lt longest_trace end then Some TooBig
@@ -45,17 +46,17 @@ flaw end octets =
     else if list_all is_printable octets then None
     else Some NotAscii
 
--- the texts of lines in order, and why no more come, as far as it is known
+-- the texts of lines, in order, and why no more come, once known
 pub record Texts : Type 0 where
   pub texts : List (List ℕ)
   pub ending : Option End
 
--- a text in front of others, if nothing is wrong with it
+-- a text before others; if it has a fault, nothing follows
 abbrev pub before_texts : Option FaultKind → List ℕ → Texts → Texts
 before_texts None text others = record { texts = text ∷ others.texts; ending = others.ending }
 before_texts (Some kind) text others = record { texts = []; ending = Some (Flaw kind) }
 
--- the texts of lines up to the first in which something is wrong
+-- the texts of lines up to the first line with a fault
 abbrev pub texts_of : Bool → List Line → Texts
 texts_of closed [] = record { texts = []; ending = if closed then Some Over else None }
 texts_of closed (line ∷ others) = before_texts (flaw line.end line.octets) line.octets

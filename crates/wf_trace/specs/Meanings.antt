@@ -1,4 +1,4 @@
--- What a line says in its place.
+-- Defines the meaning of a line in its place.
 use Rattle.std.specs.Prelude.{◌≡◌, ℕ, ◌<◌, List, [], ◌∷◌, codes, Bool, false, ◌==◌, nat_le, if◌then◌else◌, Option, Some, None, Result, Ok, Err, replicate}
 use Rattle.std.specs.Str.{bytes_eq}
 use Rattle.wf_trace.specs.declared.fault.FaultKind.{FaultKind}
@@ -14,18 +14,19 @@ use Rattle.wf_trace.specs.Notes.{read_call}
 use Rattle.wf_frame.specs.Settings.{standard}
 use Rattle.wf_trace.specs.Settings.{read_words}
 
--- the settings that the words behind `cell` name, and the standard ones for the others
+-- the settings of a head, given its words after `cell`; a setting that it does not set has its standard
+-- value
 abbrev pub read_head : List (List ℕ) → Result Config FaultKind
 read_head words = read_words words (replicate 13 false) standard
 
--- a call, where one may stand
+-- a call, if one is allowed in this place
 abbrev pub allowed : ℕ → Option Place → Result Note FaultKind → Result Meaning FaultKind
 allowed caller place (Err fault) = Err fault
 allowed caller None (Ok note) = Err kind.NoHead
 allowed caller (Some place) (Ok note) =
     if nat_le place.limit place.count then Err kind.TooLong else Ok (Entry caller note)
 
--- the call that words name, of a caller, where it may stand
+-- the call of a caller, given its words, if it is allowed in this place
 abbrev pub entry_of : ℕ → Option Place → List (List ℕ) → Result Meaning FaultKind
 entry_of caller place words = allowed caller place (read_call words)
 
@@ -33,40 +34,40 @@ entry_of caller place words = allowed caller place (read_call words)
 abbrev pub greatest_caller : ℕ
 greatest_caller = 65535
 
--- the caller that the octets behind @ name
+-- the caller, given the octets after @
 abbrev pub caller_of : List ℕ → Result ℕ FaultKind
 caller_of octets = in_range 0 greatest_caller (number_of octets)
 
--- the fault of a caller, or an earlier one of the call behind it
+-- the fault of the caller, or a fault of the call after it that comes first in the order of the kinds
 abbrev pub against : FaultKind → Result Meaning FaultKind → Result Meaning FaultKind
 against fault (Ok meaning) = Err fault
 against fault (Err other) = Err (earlier_fault fault other)
 
--- a call behind the word of its caller, which may be at fault itself
+-- a call, given its caller, which may have a fault
 abbrev pub caller_first : Result ℕ FaultKind → Option Place → List (List ℕ) → Result Meaning FaultKind
 caller_first (Ok caller) place words = entry_of caller place words
 caller_first (Err fault) place words = against fault (entry_of 0 place words)
 
--- the head, where none stood before
+-- the head, if none came before
 abbrev pub headed : Option Place → Result Config FaultKind → Result Meaning FaultKind
 headed (Some place) read = Err kind.Word
 headed None (Ok config) = Ok (Head config)
 headed None (Err fault) = Err fault
 
--- the `end` line, which has no other word and stands behind a head
+-- the line `end`, which has no other word and comes after a head
 abbrev pub finished : Option Place → List (List ℕ) → Result Meaning FaultKind
 finished place (word ∷ words) = Err kind.Count
 finished None [] = Err kind.NoHead
 finished (Some place) [] = Ok Finish
 
--- a line by its first word
+-- a line, given its first word
 abbrev pub named : Option Place → List ℕ → List (List ℕ) → Result Meaning FaultKind
 named place word words =
     if bytes_eq word (codes "cell") then headed place (read_head words)
     else if bytes_eq word (codes "end") then finished place words
     else entry_of 0 place (word ∷ words)
 
--- what a line says by its words: behind a word that begins with @ stands a call
+-- the meaning of a line, given its words. A call follows a word that begins with @.
 abbrev pub meant : Option Place → List (List ℕ) → Result Meaning FaultKind
 meant place [] = Err kind.Word
 meant place ([] ∷ words) = Err kind.Word
@@ -79,17 +80,17 @@ abbrev pub is_head : List (List ℕ) → Bool
 is_head [] = false
 is_head (word ∷ words) = bytes_eq word (codes "cell")
 
--- settings, where none is at fault
+-- the settings, if they have no fault
 abbrev pub settings_if : Result Config FaultKind → Option Config
 settings_if (Ok config) = Some config
 settings_if (Err fault) = None
 
--- the settings of a head, by its words
+-- the settings of a head, given its words
 abbrev pub settings_of : List (List ℕ) → Option Config
 settings_of [] = None
 settings_of (word ∷ words) = settings_if (read_head words)
 
--- a head stands first, and a call only where the head allows one more
+-- a head is the first line, and a call comes only if the head allows one more
 abbrev pub HasRoomForLine : Result Meaning FaultKind → Option Place → Type 0
 HasRoomForLine (Ok (Entry caller note)) None = ⊥
 HasRoomForLine (Ok (Entry caller note)) (Some p) = p.count < p.limit

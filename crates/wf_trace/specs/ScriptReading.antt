@@ -1,4 +1,4 @@
--- What contracts see of a script that is being read.
+-- Defines what contracts see of a script that is being read.
 use Rattle.std.specs.Prelude.{◌≡◌, ℕ, ◌+◌, List, ◌++◌, Bool, Option, Result, Ok, Err}
 use Rattle.std.specs.Io.KnownBytes.{prepend_known}
 use Rattle.wf_io.specs.declared.source.Failed.{Failed}
@@ -9,17 +9,17 @@ use Rattle.wf_trace.specs.declared.script.reading.Item.{Item}
 use Rattle.wf_trace.specs.declared.script.reading.Item.TheVariants.{Event, Ended}
 use Rattle.wf_trace.specs.Scripts.{Grammar, Script, with_event, ends, read_lines}
 
--- what still comes behind so many events, where these octets follow
+-- the script that is still to come after `count` events, if these octets follow
 abbrev pub rest : {E : Type 0} → Grammar E → ℕ → Numbering → Bool → List ℕ → Script E
 rest g count c closed more = let p : Pieces = pieces_left c closed more in read_lines g count p.lines p.ending
 
--- what was to come before a call, by its answer, and what is to come behind an event more or none
+-- how the script before a call follows from its result, and from the script with one more event or none
 abbrev pub Says : {E : Type 0} → Result (Item E) Failed → Script E → Script E → Script E → Type 0
 Says (Ok (Event event)) before more same = before ≡ with_event event more
 Says (Ok (Ended ending)) before more same = before ≡ ends ending
 Says (Err failed) before more same = before ≡ same
 
--- the octets that a call took, and what it said of them
+-- the octets that a call read, and what they say
 pub record Reads {E : Type 0} (g : Grammar E) (count : ℕ) (old : Numbering) (left : Option (List ℕ))
     (result : Result (Item E) Failed)
     (new : Numbering) (left_new : Option (List ℕ)) (octets : List ℕ) : Type 0 where
@@ -28,7 +28,7 @@ pub record Reads {E : Type 0} (g : Grammar E) (count : ℕ) (old : Numbering) (l
       Says result (rest g count old closed (octets ++ more)) (rest g (count + 1) new closed more)
       (rest g count new closed more)
 
--- a fact where a call gave an event, and one of that event
+-- a fact that holds if a call returned an event, and a fact about that event
 abbrev pub OnEvent : {E : Type 0} → Result (Item E) Failed → Type 0 → Type 0
 OnEvent (Ok (Event event)) fact = fact
 OnEvent (Ok (Ended ending)) fact = Unit {0}

@@ -1,4 +1,4 @@
--- The trace of a history, and what it says.
+-- Defines the trace of a history, and what it says.
 use Rattle.std.specs.Prelude.{◌≤◌, ℕ, List, [], ◌∷◌, ◌++◌, Some, codes}
 use Rattle.wf_frame.specs.Words.{line}
 use Rattle.wf_frame.specs.Settings.{standard}
@@ -9,7 +9,7 @@ use Rattle.wf_trace.specs.Printing.{note_line, NumbersAreInRange, IsPrintable}
 use Rattle.wf_trace.specs.Reading.{Reading}
 use Rattle.wf_def_world.specs.Run.{Entry}
 
--- the line of the standard settings, and the last line
+-- the first line, with the standard settings, and the last line
 abbrev pub head_line : List ℕ
 head_line = line (codes "cell" ∷ [])
 
@@ -34,12 +34,12 @@ entry_items (e ∷ es) = EntryItem e.0 e.1 ∷ entry_items es
 abbrev pub trace_items : List Entry → Reading
 trace_items history = record { items = Head standard ∷ entry_items history; ending = Some Finish }
 
--- a line can name each entry: its caller and the numbers of its call are in their ranges
+-- each caller and each number of a call is in the range of its argument
 abbrev pub CanBeNamed : List Entry → Type 0
 CanBeNamed [] = Unit {0}
 CanBeNamed (e ∷ es) = ((e.0 ≤ greatest_caller) × NumbersAreInRange e.1) × CanBeNamed es
 
--- a line has room for the numbers of each entry
+-- a line has room for the caller and the numbers of each entry
 abbrev pub ArePrintable : List Entry → Type 0
 ArePrintable [] = Unit {0}
 ArePrintable (e ∷ es) = ((e.0 ≤ greatest_caller) × IsPrintable e.1) × ArePrintable es

@@ -1,4 +1,4 @@
-//! The arguments of a line.
+//! Reads the arguments of a line.
 
 ghost use Rattle.std.specs.Prelude.{◌≡◌, ◌+◌, ◌<◌, ◌≤◌, ◌∷◌, List, length, map};
 ghost use Rattle.wf_trace.specs.Words.{words};
@@ -11,7 +11,7 @@ use crate::words::{in_range, next_word};
 use arrayvec::ArrayVec;
 use wf_frame::{Arg, Argument, Class, GREATEST_BODY, RateFormat, Value};
 
-// One of the words that an argument may be.
+// Returns the value of an argument whose values are words, or `None` if this is none of them.
 fn known(arg: Arg, word: &[u8]) -> Option<Value>
     ensures { result ≡ known_value arg word.now }
 {
@@ -35,7 +35,7 @@ fn known(arg: Arg, word: &[u8]) -> Option<Value>
     }
 }
 
-// The value of the argument that a word is.
+// Returns the value of an argument, given its word.
 fn read_one(arg: Arg, word: &[u8]) -> Result<Value, FaultKind>
     ensures { result ≡ read_arg arg word.now }
 {
@@ -52,7 +52,7 @@ fn read_one(arg: Arg, word: &[u8]) -> Result<Value, FaultKind>
     }
 }
 
-// Takes the next argument of a line: its value, or its fault. What is behind it is answered.
+// Reads the next argument of a line into `values`, or its fault into `fault`. Returns the rest of the line.
 #[tactic(auto, using(crate::proofs::ArgLaws::behind_other))]
 fn take<'a>(
     arg: Arg,
@@ -77,7 +77,8 @@ fn take<'a>(
     behind
 }
 
-/// The values of a line's arguments, or the fault that it is judged by.
+/// Returns the values of a line's arguments. The error is the first of their faults, in the order of the
+/// kinds.
 pub fn read_all(args: &[Arg], line: &[u8]) -> Result<ArrayVec<Value, 6>, FaultKind>
     requires { length args.now ≤ 6 }
     ensures { result_seen (λ values. values.items) result ≡ read_args args.now (words line.now) }
@@ -95,7 +96,7 @@ pub fn read_all(args: &[Arg], line: &[u8]) -> Result<ArrayVec<Value, 6>, FaultKi
     }
 }
 
-/// The same of a call's arguments, by their names.
+/// The same as `read_all`, for the arguments of a call.
 pub fn read_named(arguments: &[Argument], line: &[u8]) -> Result<ArrayVec<Value, 6>, FaultKind>
     requires { length arguments.now ≤ 6 }
     ensures { result_seen (λ values. values.items) result ≡

@@ -1,4 +1,4 @@
-//! The lines of a source that are not skipped, with their numbers.
+//! Cuts the octets of a source into numbered lines.
 
 ghost use Rattle.std.specs.Prelude.{◌≡◌, ◌+◌, ◌-◌, ◌<◌, ◌≤◌, ◌++◌, [], List, ℕ, Bool, length, drop, slice_index, true, false, MatchOption, IfNone, IfOk, IsOk, IfSome, OnErr, Some, None, IsSome, Ok};
 ghost use Rattle.std.specs.Io.KnownBytes.{prepend_known, IsAtEnd};
@@ -18,25 +18,25 @@ const LONGEST_LINE: usize = 160;
 
 const BUFFER: usize = 4096;
 
-/// What comes next of an input.
+/// What comes next in an input.
 #[derive(Clone, Copy)]
 pub enum Piece {
-    /// A line that is not skipped: its number, counted from 1. `Cut::octets` has its octets.
+    /// A line that is not skipped: its number, counted from 1. `Cut::octets` returns its octets.
     Text { line: u64 },
-    /// The end of the input: the number of the line behind the last.
+    /// The end of the input: the number of the line after the last.
     Ended { line: u64 },
-    /// The first line with a fault of the kinds `TooBig`, `LongLine` and `NotAscii`.
+    /// The first line with a fault of kind `TooBig`, `LongLine` or `NotAscii`.
     Bad(Fault),
 }
 
-/// What was found among the octets that wait.
+/// What was found among the octets in the buffer.
 #[derive(Clone, Copy)]
 pub enum Found {
     Line,
     TooBig,
 }
 
-// How many octets stand up to the last end of a line, with it.
+// Returns the number of octets up to and including the last end of a line, or 0 if no line ends.
 fn lines_len(octets: &[u8]) -> usize
     ensures within { result ≤ length octets.now }
     ensures behind { has_end (drop result octets.now) ≡ false }
@@ -52,28 +52,27 @@ fn lines_len(octets: &[u8]) -> usize
     0
 }
 
-/// Cuts the octets of a source into lines, and gives those that are not skipped.
-///
-/// A line is skipped that has no words, or whose first octet that is no space is `#`.
+/// Cuts the octets of a source into lines, and returns those that are not skipped. A line is skipped if it
+/// has no words, or if its first octet that is not a space is `#`.
 #[derive(Drop)]
 pub struct Cut {
-    /// The octets that were taken at the last read. Those from `from` up to `to` wait to be looked at, and
-    /// of all the last end of a line stands in front of `ends`.
+    /// The octets of the last read. Those from `from` to `to` are still to be looked at. The last end of a
+    /// line is directly before `ends`; if there is none, `ends` is 0.
     buffer: Vec<u8>,
     from: usize,
     to: usize,
     ends: usize,
     /// The line that has begun, up to 161 octets of it.
     text: ArrayVec<u8, 161>,
-    /// How many octets were looked at.
+    /// The number of octets that were looked at.
     looked: u64,
-    /// The line that has begun has ended, and was given.
+    /// Whether the line in `text` has ended and was returned.
     given: bool,
-    /// Why no line is cut any more.
+    /// Why no further line is cut, once that is known.
     end: Option<End>,
-    /// How many lines were cut.
+    /// The number of lines that were cut.
     count: u64,
-    /// The piece that told the end.
+    /// The piece that ended the input, once it was returned.
     ended: Option<Piece>,
 }
 
@@ -113,7 +112,8 @@ impl Cut {
     ghost use Rattle.wf_trace.specs.Pieces.{pieces, ending_piece};
     ghost use Rattle.wf_trace.specs.Numbering.{pieces_left, line_of, will_read, HasText, HasNoLine, OnText, Cuts};
 
-    /// A cutter at the front of an input. It takes its buffer of 4096 octets here, and no memory later.
+    /// Returns a cutter at the start of an input. Allocates a buffer of 4096 octets; later calls do not
+    /// allocate.
     pub fn new(alloc: Global) -> Result<Self, AllocError>
         ensures pieces { IfOk result (λ c.
             (closed : Bool) (octets : List ℕ) → pieces_left c closed octets ≡ pieces closed octets) }
@@ -134,7 +134,8 @@ impl Cut {
         })
     }
 
-    /// The line last given, without its octet 10. The last answer of `next` must have been Text.
+    /// Returns the line that was cut last, without its octet 10. The last result of `next` must have been
+    /// `Text`.
     pub fn octets(&self) -> &[u8]
         requires { HasText self.now }
         ensures { result.now ≡ line_of self.now }
@@ -142,8 +143,8 @@ impl Cut {
         self.text.as_slice()
     }
 
-    /// Whether the next call of `next` may read the source. It answers without a read where the end is known,
-    /// and where the octets taken have a whole line next whose first octet is neither a space nor `#`.
+    /// Returns whether the next call of `next` may read the source. It does not read if the end is known,
+    /// or if the buffer has a whole line whose first octet is neither a space nor `#`.
     pub fn will_read(&self) -> bool
         ensures { result ≡ will_read self.now }
     {
@@ -163,7 +164,7 @@ impl Cut {
         first == b'\n' || first == b' ' || first == b'#'
     }
 
-    // No line comes any more, as this is wrong with the begun one.
+    // Ends the input with a fault of the line that has begun.
     fn fail(&mut self, kind: FaultKind) -> Option<End>
         ensures end { result ≡ Some (End.Flaw kind) }
         ensures stays { self.new ≡ record self.old {
@@ -174,7 +175,8 @@ impl Cut {
         self.end
     }
 
-    // Gives the begun line, which has ended, or the first that is wrong with it.
+    // Returns no end if the line in `text`, which has ended, is free of faults, otherwise the first of its
+    // faults.
     fn judge(&mut self) -> Option<End>
         ensures judged { MatchOption (flaw self.old.cutter.scanner.looked self.old.cutter.scanner.line)
             ((result ≡ None) × (self.new.cutter ≡ record self.old.cutter { given = true }))
@@ -194,7 +196,7 @@ impl Cut {
         None
     }
 
-    // Gives the rest of the input as a line, or that it is over.
+    // Cuts the rest of the input as a line or, if it is empty, ends the input.
     fn finish(&mut self) -> Option<End>
         requires going { self.old.cutter.ended ≡ None }
         requires fresh { self.old.cutter.given ≡ false }
@@ -217,7 +219,7 @@ impl Cut {
         flaw
     }
 
-    // Looks at the octets that wait, up to the end of a line.
+    // Looks at the octets in the buffer up to the end of a line.
     fn scan(&mut self) -> Option<Found>
         ensures finds { Finds self.old.cutter.scanner result self.new.cutter.scanner }
         ensures keeps { Keeps self.old.cutter.scanner result self.new.cutter.scanner }
@@ -249,7 +251,7 @@ impl Cut {
         None
     }
 
-    // Takes octets from the source. Without any, the input has ended.
+    // Reads octets from the source. If it reads none, the input has ended.
     fn refill<S: Source>(&mut self, source: &mut S) -> Result<usize, Failed>
         requires { self.old.cutter.scanner.waiting ≡ [] }
         ensures same { self.new.cutter ≡ record self.old.cutter {
@@ -271,7 +273,7 @@ impl Cut {
         Ok(self.to)
     }
 
-    // The next line of which the first octets may be looked at.
+    // Cuts the next line. Its first octets may have been looked at already.
     fn advance<S: Source>(&mut self, source: &mut S) -> Result<Option<End>, Failed>
         requires going { self.old.cutter.ended ≡ None }
         requires fresh { self.old.cutter.given ≡ false }
@@ -308,8 +310,8 @@ impl Cut {
         }
     }
 
-    // Cuts the next line. Else why no more comes, which is then answered again at each call. After a failure
-    // the octets taken are kept.
+    // Cuts the next line, or returns why there is none, which each later call returns again. After a
+    // failure the octets that were read are kept.
     fn cut<S: Source>(&mut self, source: &mut S) -> Result<Option<End>, Failed>
         ensures takes { (octets : List ℕ) ×
             TakesPieces self.old.cutter (S.left source.old) result self.new.cutter (S.left source.new)
@@ -338,7 +340,7 @@ impl Cut {
         self.advance(source)
     }
 
-    // No further line comes.
+    // Ends the input with this piece.
     fn stop(&mut self, end: End) -> Piece
         ensures piece { Some result ≡ ending_piece self.old.line (Some end) }
         ensures stays { self.new ≡ record self.old { ended = Some result } }
@@ -352,8 +354,9 @@ impl Cut {
         piece
     }
 
-    /// The next piece. After Ended or Bad every later call answers the same. Failed only where the source's
-    /// faults rose; then the octets taken are kept, and a later call goes on from there. It takes no memory.
+    /// Returns the next piece. After `Ended` or `Bad` each later call returns the same piece. Fails only if
+    /// the source counted a fault; the octets that were read are kept, so a later call continues from
+    /// there. Does not allocate.
     pub fn next<S: Source>(&mut self, source: &mut S) -> Result<Piece, Failed>
         ensures again { IfSome self.old.ended (λ piece.
             (result ≡ Ok piece) × (self.new ≡ self.old) × (S.left source.new ≡ S.left source.old)) }

@@ -1,36 +1,36 @@
-//! What can be wrong with a trace.
+//! The faults of a trace.
 
 ghost use Rattle.std.specs.Prelude.{◌≡◌, ◌≤◌, [], length};
 ghost use Rattle.wf_trace.specs.Faults.{earlier_fault, first_fault, kind_name, fault_line};
 
 use wf_io::{Line, Word};
 
-/// What is wrong with a line, in the order in which a line is judged.
+/// What is wrong with a line. If a line has several faults, the first kind in this order is reported.
 #[derive(Clone, Copy, Debug, PartialEq, Eq)]
 pub enum FaultKind {
-    /// The line does not end within the first 268,435,456 octets.
+    /// The line does not end within the first 1,099,511,627,776 octets.
     TooBig,
-    /// It has more than 160 octets.
+    /// The line has more than 160 octets.
     LongLine,
     /// An octet is not a printable ASCII character.
     NotAscii,
-    /// A word is missing or unknown, or stands where it may not.
+    /// A word is missing, is unknown, or is not allowed in its place.
     Word,
     /// The number of words is wrong.
     Count,
-    /// A word that stands for a number is none.
+    /// A word has to be a number and is not.
     Number,
     /// A number is out of its range.
     Range,
-    /// There is no head before it.
+    /// The head is missing before this line.
     NoHead,
     /// The input ends without an `end` line.
     NoEnd,
-    /// It is a call, and the head allows no more.
+    /// The line is a call, and the head allows no more.
     TooLong,
 }
 
-/// The first fault of a trace: its line, counted from 1, and what is wrong with it.
+/// The first fault of a trace: its line, counted from 1, and its kind.
 #[derive(Clone, Copy, Debug, PartialEq, Eq)]
 pub struct Fault {
     pub line: u64,
@@ -40,14 +40,14 @@ pub struct Fault {
 /// Why no further line comes.
 #[derive(Clone, Copy, Debug, PartialEq, Eq)]
 pub enum End {
-    /// The input is over.
+    /// The input ended.
     Over,
-    /// Something is wrong with the octets of a line.
+    /// A line has a fault in its octets.
     Flaw(FaultKind),
 }
 
 impl FaultKind {
-    /// Of two faults of a line the one that is told: the first in the order of the kinds.
+    /// Returns which of two faults of a line is reported: the first in the order of the kinds.
     pub fn earlier(self, other: FaultKind) -> FaultKind
         ensures { result ≡ earlier_fault self other }
     {
@@ -58,7 +58,7 @@ impl FaultKind {
         }
     }
 
-    /// The word of the kind.
+    /// Returns the word of the kind in texts.
     pub fn word(self) -> &'static [u8]
         ensures name { result.now ≡ kind_name self }
         ensures short { length result.now ≤ 9 }
@@ -78,7 +78,7 @@ impl FaultKind {
     }
 }
 
-/// The same, where the one may be none.
+/// Returns which fault of a line is reported, if `fault` was found before `other`.
 pub fn first_of(fault: Option<FaultKind>, other: FaultKind) -> FaultKind
     ensures { result ≡ first_fault fault other }
 {
@@ -88,7 +88,7 @@ pub fn first_of(fault: Option<FaultKind>, other: FaultKind) -> FaultKind
     }
 }
 
-/// Writes the line of a fault, `fault line N KIND`, to an empty line.
+/// Writes the line of a fault, `fault line N KIND`, to `out`, which must be empty.
 pub fn print_fault(fault: Fault, out: &mut Line)
     requires { out.old ≡ [] }
     ensures { out.new ≡ fault_line fault }

@@ -1,4 +1,4 @@
-//! What a line says in its place.
+//! The meaning of a line in its place.
 
 ghost use Rattle.std.specs.Prelude.{◌≡◌, ◌∷◌};
 ghost use Rattle.wf_trace.specs.Words.{words};
@@ -11,7 +11,7 @@ use crate::settings::read_head;
 use crate::words::{in_range, next_word};
 use wf_frame::{CallForm, Config, Note, RateFormat};
 
-/// What a line says: it is the head, a call of a caller, or the end.
+/// The meaning of a line: the head, a call of a caller, or the end.
 #[derive(Clone, Copy)]
 pub enum Meaning {
     Head(Config),
@@ -19,7 +19,7 @@ pub enum Meaning {
     Finish,
 }
 
-/// Where a line stands behind the head: how many calls the head allows, and how many stood before.
+/// The place of a line after the head: how many calls the head allows, and how many came before this line.
 #[derive(Clone, Copy)]
 pub struct Place {
     pub limit: u32,
@@ -29,8 +29,7 @@ pub struct Place {
 /// The greatest number of a caller.
 pub const GREATEST_CALLER: u32 = 65_535;
 
-// The form of a rate's line with these words behind its name: it names its format behind the station, or
-// none.
+// Returns the form of a rate's line, given its words after the first. The second of them may be a format.
 fn rate_form(line: &[u8]) -> CallForm
     ensures { result ≡ call_form CallForm.Rate (words line.now) }
 {
@@ -47,8 +46,7 @@ fn rate_form(line: &[u8]) -> CallForm
     }
 }
 
-// The form of the line of a `done` with these words behind its name: it names an airtime behind the others,
-// or none.
+// Returns the form of a `done` line, given its words after the first. The third of them may be `air`.
 fn done_form(line: &[u8]) -> CallForm
     ensures { result ≡ call_form CallForm.Done (words line.now) }
 {
@@ -67,7 +65,7 @@ fn done_form(line: &[u8]) -> CallForm
     }
 }
 
-// The call of this caller that a name and the words behind it name, where one may stand.
+// Returns the call with this caller, name and arguments, if a call is allowed in this place.
 fn call(caller: u32, place: Option<Place>, name: &[u8], line: &[u8]) -> Result<Meaning, FaultKind>
     ensures says { result ≡ entry_of caller place (name.now ∷ words line.now) }
     ensures room { HasRoomForLine result place }
@@ -93,7 +91,7 @@ fn call(caller: u32, place: Option<Place>, name: &[u8], line: &[u8]) -> Result<M
     Ok(Meaning::Entry(caller, note))
 }
 
-// The same of the words behind that of the caller.
+// The same, given the words after the caller.
 fn behind_caller(caller: u32, place: Option<Place>, line: &[u8]) -> Result<Meaning, FaultKind>
     ensures says { result ≡ entry_of caller place (words line.now) }
     ensures room { HasRoomForLine result place }
@@ -104,7 +102,7 @@ fn behind_caller(caller: u32, place: Option<Place>, line: &[u8]) -> Result<Meani
     }
 }
 
-// A call behind the word of its caller, where one may stand.
+// The same, given the word of the caller without its `@`, and the words after it.
 fn called(caller: &[u8], place: Option<Place>, line: &[u8]) -> Result<Meaning, FaultKind>
     ensures says { result ≡ caller_first (caller_of caller.now) place (words line.now) }
     ensures room { HasRoomForLine result place }
@@ -118,7 +116,8 @@ fn called(caller: &[u8], place: Option<Place>, line: &[u8]) -> Result<Meaning, F
     }
 }
 
-/// What a line says in its place, or the fault that it is judged by.
+/// Returns the meaning of a line in its place. The error is the first of its faults, in the order of the
+/// kinds.
 pub fn meaning_of(place: Option<Place>, line: &[u8]) -> Result<Meaning, FaultKind>
     ensures says { result ≡ meant place (words line.now) }
     ensures room { HasRoomForLine result place }

@@ -1,4 +1,4 @@
-//! The canonical line of an entry.
+//! Writes the canonical line of an entry.
 
 ghost use Rattle.std.specs.Prelude.{◌≡◌, ◌+◌, ◌<◌, ◌≤◌, ◌++◌, [], length, map, true, Some, Ok};
 ghost use Rattle.std.specs.List.{join_with_byte, list_all};
@@ -24,7 +24,7 @@ fn guard_word(short: bool) -> &'static [u8]
     if short { b"short" } else { b"long" }
 }
 
-// The word that tells whether an answer was heard.
+// The word that says whether an answer was heard.
 fn heard_word(heard: bool) -> &'static [u8]
     ensures word { result.now ≡ word_of_heard heard }
     ensures short { length result.now ≤ 5 }
@@ -69,7 +69,7 @@ fn is_left_out(arg: Arg, value: Value) -> bool
     }
 }
 
-// The word of an argument's value with a space in front, where it is not left out.
+// Appends a space and the word of an argument's value, unless it is left out.
 fn push_value(out: &mut Line, arg: Arg, value: Value)
     requires { length out.old ≤ 200 }
     ensures text { out.new ≡ out.old ++ spaced (words_of_value arg value) }
@@ -80,7 +80,7 @@ fn push_value(out: &mut Line, arg: Arg, value: Value)
     }
 }
 
-// The words of the values of arguments, each with a space in front.
+// Appends the words of the values of arguments, each after a space.
 fn push_values(out: &mut Line, arguments: &[Argument], values: &[Value])
     requires room { length out.old ≤ 28 }
     requires same { length arguments.now ≡ length values.now }
@@ -94,7 +94,7 @@ fn push_values(out: &mut Line, arguments: &[Argument], values: &[Value])
     }
 }
 
-// The words of a call.
+// Appends the words of a call.
 fn push_note(note: &Note, out: &mut Line)
     requires room { length out.old ≤ 22 }
     requires printable { IsPrintable note.now }
@@ -108,11 +108,11 @@ fn push_note(note: &Note, out: &mut Line)
     push_values(out, form.arguments(), values.as_slice());
 }
 
-/// Writes the canonical line of an entry to an empty line: the words of the call parted by one space, `@` and
-/// the caller in front exactly where it is not 0, and the octet 10 at the end. The weight of a `join` stands
-/// exactly where it is not 1, the format of a `rate` where it is not HT, and the airtime of a `done` where it
-/// is named. An exchange number must be below 2^32, and a length 1 to 2304 octets: a line names no other.
-/// Behind a head that allows one more call the line is read as this entry.
+/// Writes the canonical line of an entry to `out`, which must be empty: the words of the call, separated by
+/// one space, and the octet 10. `@` and the caller come first, unless the caller is 0. The weight of a
+/// `join` is left out if it is 1, the format of a `rate` if it is HT, and the airtime of a `done` if it
+/// gives none. An exchange number must be below 2^32, and a length 1 to 2304 octets: a line has no room for
+/// others. After a head that allows one more call the line is read as this entry.
 pub fn print_note(caller: u32, note: &Note, out: &mut Line)
     requires empty { out.old ≡ [] }
     requires caller { caller ≤ greatest_caller }

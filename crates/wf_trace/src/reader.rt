@@ -1,4 +1,4 @@
-//! The reader of a trace.
+//! Reads a trace.
 
 ghost use Rattle.std.specs.Prelude.{◌≡◌, List, ℕ, Bool, false, Some, None, IfOk, IsOk, IsSome, IfSome, OnErr, Ok};
 ghost use Rattle.std.specs.Io.KnownBytes.{IsAtEnd};
@@ -13,20 +13,20 @@ use std::marker::Model;
 use wf_frame::{Config, Note};
 use wf_io::{Failed, Source};
 
-/// What a trace says, one after the other.
+/// An item of a trace.
 #[derive(Clone, Copy, Debug, PartialEq, Eq)]
 pub enum Item {
     /// The head, with its settings.
     Head(Config),
     /// A call, with its caller.
     Entry(u32, Note),
-    /// The `end` line.
+    /// The line `end`.
     Finish,
     /// The first fault.
     Bad(Fault),
 }
 
-// What is missing where the input is over.
+// Returns the fault of an input that ends in this place: a head or an end is missing.
 fn missing(place: Option<Place>) -> FaultKind
     ensures { result ≡ missing_behind place }
 {
@@ -36,7 +36,7 @@ fn missing(place: Option<Place>) -> FaultKind
     }
 }
 
-/// Reads a trace from a source.
+/// Reads a trace from a source, item by item.
 #[derive(Drop)]
 pub struct TraceReader {
     cut: Cut,
@@ -59,7 +59,8 @@ impl TraceReader {
     ghost use Rattle.wf_trace.specs.Reading.{reading};
     ghost use Rattle.wf_trace.specs.Reader.{Reads, IsHeld, IsPlaced, Goes, rest, will_read};
 
-    /// A reader at the front of a trace. It takes its buffer of 4096 octets here, and no memory later.
+    /// Returns a reader at the start of a trace. Allocates a buffer of 4096 octets; later calls do not
+    /// allocate.
     pub fn new(alloc: Global) -> Result<Self, AllocError>
         ensures reading { IfOk result (λ r.
             (closed : Bool) (octets : List ℕ) → rest r closed octets ≡ reading closed octets) }
@@ -73,15 +74,15 @@ impl TraceReader {
         })
     }
 
-    /// Whether the next call of `next` may read the source. It answers without a read where the ending is
-    /// known, and where the octets taken have a whole line next whose first octet is neither a space nor `#`.
+    /// Returns whether the next call of `next` may read the source. It does not read if the ending is
+    /// known, or if the buffer has a whole line whose first octet is neither a space nor `#`.
     pub fn will_read(&self) -> bool
         ensures { result ≡ will_read self.now }
     {
         self.ended.is_none() && self.cut.will_read()
     }
 
-    // No further line is read.
+    // Ends the reading with a fault.
     fn stop(&mut self, fault: Fault) -> Item
         ensures item { result ≡ Item.Bad fault }
         ensures stays { self.new ≡ record self.old { ended = Some (Item.Bad fault) } }
@@ -91,8 +92,9 @@ impl TraceReader {
         item
     }
 
-    /// The next item. After Finish or Bad every later call answers the same. Failed only where the source's
-    /// faults rose; then the octets taken are kept, and a later call goes on from there. It takes no memory.
+    /// Returns the next item. After `Finish` or `Bad` each later call returns the same item. Fails only if
+    /// the source counted a fault; the octets that were read are kept, so a later call continues from
+    /// there. Does not allocate.
     pub fn next<S: Source>(&mut self, source: &mut S) -> Result<Item, Failed>
         ensures again { IfSome self.old.ended (λ item.
             (result ≡ Ok item) × (self.new ≡ self.old) × (S.left source.new ≡ S.left source.old)) }

@@ -1,11 +1,11 @@
-//! Commands that answer scripts: lines that are events, each answered before the next is read, up to the line
-//! `end`.
+//! The loop of commands that answer scripts. A script has lines that are events, up to the line `end`; each
+//! event is answered before the next is read.
 //!
-//! A command says what its lines mean and how it answers an event (`Answers`), and `converse` does the rest:
-//! it cuts the lines, judges them, writes the answers and the line of a fault, and tells by its status how
-//! all that ended.
+//! A command implements `Answers`: what its lines mean, and how it answers an event. `converse` does the
+//! rest: it cuts the lines, checks them, writes the answers or the line of the first fault, and returns a
+//! status.
 //!
-//! The module `history` goes the other way: it writes the trace of a history.
+//! The module `history` writes the trace of a history.
 
 mod answers;
 mod conversation;

@@ -1,61 +1,31 @@
-//! The settings of a head.
+//! Reads the settings of a head.
 
 ghost use Rattle.std.specs.Prelude.{◌≡◌, ◌<◌, Some, None, List, Bool, Result, MatchOption, replicate, false};
 ghost use Rattle.wf_frame.specs.Settings.{standard};
 ghost use Rattle.wf_trace.specs.Words.{words};
-ghost use Rattle.wf_trace.specs.Settings.{name_of, field_named, value_read, field_number, split_once, named_field, set_one, after_fault, read_words};
+ghost use Rattle.wf_trace.specs.Settings.{value_read, place_of, split_once, named_field, set_one, after_fault, read_words};
 
 use crate::fault::{FaultKind, first_of};
 use crate::words::{in_range, next_word};
 use wf_frame::{Config, Field};
 
-// The name of a setting.
-fn name(field: Field) -> &'static [u8]
-    ensures { result.now ≡ name_of field }
-{
-    match field {
-        Field::Stations => b"stations",
-        Field::Flows => b"flows",
-        Field::Limit => b"limit",
-        Field::Room => b"room",
-        Field::FlowQuantum => b"flow_quantum",
-        Field::Quantum => b"quantum",
-        Field::Inflight => b"inflight",
-        Field::Attempts => b"attempts",
-        Field::Agg => b"agg",
-        Field::Cap => b"cap",
-        Field::Sleeping => b"sleeping",
-        Field::Calls => b"calls",
-        Field::Charge => b"charge",
-    }
-}
-
-// The setting that a name names.
-fn named(word: &[u8]) -> Option<Field>
-    ensures { result ≡ field_named word.now }
-{
-    let fields = Field::all();
-    fields.iter().copied().find(|field| name(*field) == word)
-}
-
-// Its value, where it is in its range.
+// Returns the value of a setting, if the word is a number in its range.
 fn value_of(field: Field, word: &[u8]) -> Result<u32, FaultKind>
     ensures { result ≡ value_read field word.now }
 {
-    let (low, high) = field.range();
-    in_range(low, high, word)
+    in_range(field.least(), field.most(), word)
 }
 
-// Its number in the table.
+// Returns the index of a setting among those that were seen, from 0 on.
 fn place(field: Field) -> usize
-    ensures value { result ≡ field_number field }
+    ensures value { result ≡ place_of field }
     ensures below { result < 13 }
 {
-    field as usize
+    usize::from(field.number()) - 1
 }
 
-// What stands before the first '=' and behind it.
-fn parts_of(word: &[u8]) -> Option<(&[u8], &[u8])>
+/// Splits a setting's word at its first `=` into name and value. Returns `None` if the word has no `=`.
+pub fn parts_of(word: &[u8]) -> Option<(&[u8], &[u8])>
     ensures { MatchOption result (split_once word.now ≡ None)
         (λ p. split_once word.now ≡ Some (p.0.now, p.1.now)) }
 {
@@ -69,17 +39,17 @@ fn parts_of(word: &[u8]) -> Option<(&[u8], &[u8])>
     None
 }
 
-// The setting that a word names, with the text of its value.
+// Returns the setting that a word sets, with the text of its value.
 fn setting(word: &[u8]) -> Option<(Field, &[u8])>
     ensures { MatchOption result (named_field (split_once word.now) ≡ None)
         (λ p. named_field (split_once word.now) ≡ Some (p.0, p.1.now)) }
 {
     let (name, value) = parts_of(word)?;
-    let field = named(name)?;
+    let field = Field::named(name)?;
     Some((field, value))
 }
 
-// Sets what a word says, and answers what is wrong with it.
+// Applies a setting's word to the settings, and returns its fault, if it has one.
 fn apply(word: &[u8], seen: &mut [bool; 13], config: &mut Config) -> Option<FaultKind>
     ensures { (others : List Bool → Config → Result Config FaultKind) →
         set_one (named_field (split_once word.now)) seen.old config.old others
@@ -101,7 +71,8 @@ fn apply(word: &[u8], seen: &mut [bool; 13], config: &mut Config) -> Option<Faul
     }
 }
 
-/// The settings of a head whose word `cell` stands before this, or the fault that it is judged by.
+/// Returns the settings of a head, given its words after `cell`. The error is the first of its faults, in
+/// the order of the kinds.
 pub fn read_head(line: &[u8]) -> Result<Config, FaultKind>
     ensures { result ≡ read_words (words line.now) (replicate 13 false) standard }
 {

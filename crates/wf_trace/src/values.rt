@@ -1,11 +1,11 @@
-//! The values of the arguments of other lines than calls, by their places.
+//! Reads the values of arguments by their index, for lines that are not calls.
 
 ghost use Rattle.std.specs.Prelude.{◌≡◌};
 ghost use Rattle.wf_trace.specs.Notes.{long_at as long_among, end_at as end_among};
 
 use wf_frame::Value;
 
-/// The number of 32 bits at a place of the values, counted from 0; 0 where it is none.
+/// Returns the number of 32 bits at index `i`, counted from 0, or 0 if there is none.
 pub fn long_at(values: &[Value], i: usize) -> u32
     ensures { result ≡ long_among values.now i }
 {
@@ -15,7 +15,7 @@ pub fn long_at(values: &[Value], i: usize) -> u32
     }
 }
 
-/// Whether the end at a place is the recipient; false where it is none.
+/// Returns whether the value at index `i` is the recipient's end, or false if it is no end.
 pub fn end_at(values: &[Value], i: usize) -> bool
     ensures { result ≡ end_among values.now i }
 {

@@ -1,4 +1,4 @@
-//! The words of a line, and the numbers that words are.
+//! The words of a line, and words that are numbers.
 
 ghost use Rattle.std.specs.Prelude.{◌≡◌, ◌<◌, ◌≤◌, ◌∷◌, [], length, IfOk, MatchOption};
 ghost use Rattle.std.specs.List.{list_all};
@@ -7,10 +7,10 @@ ghost use Rattle.wf_trace.specs.Words.{words, skipped, is_plain_number as is_pla
 
 use crate::fault::FaultKind;
 
-/// The most digits of a number of a trace.
+/// The most digits of a number in a trace.
 const MOST_DIGITS: usize = 10;
 
-/// The first word of a line, and what is behind it.
+/// Returns the first word of a line, and the rest of the line after it. Returns `None` if it has no word.
 pub fn next_word(line: &[u8]) -> Option<(&[u8], &[u8])>
     ensures { MatchOption result (words line.now ≡ [])
         (λ found. (words line.now ≡ found.0.now ∷ words found.1.now)
@@ -32,8 +32,8 @@ pub fn next_word(line: &[u8]) -> Option<(&[u8], &[u8])>
     Some((&line[from..], b""))
 }
 
-/// Whether a line says nothing: it has no words, or is a comment. Only its first octet that is no space is
-/// looked at.
+/// Returns whether a line is skipped: it has no words, or is a comment. Only its first octet that is not a
+/// space matters.
 pub fn is_skipped(line: &[u8]) -> bool
     ensures { result ≡ skipped (words line.now) }
 {
@@ -51,7 +51,7 @@ fn are_digits(word: &[u8]) -> bool
     word.iter().all(|octet| b'0' <= *octet && *octet <= b'9')
 }
 
-/// Whether a word is a number: decimal digits without a needless zero in front.
+/// Returns whether a word is a number: decimal digits without a leading zero, except `0` itself.
 pub fn is_plain_number(word: &[u8]) -> bool
     ensures { result ≡ is_plain word.now }
 {
@@ -61,8 +61,9 @@ pub fn is_plain_number(word: &[u8]) -> bool
     }
 }
 
-/// The number that a word is, where it lies from low to high: one to ten decimal digits without a needless
-/// zero in front. Number where it is none, and Range where it lies outside.
+/// Returns the number that a word is, from `low` to `high`. A number has one to ten decimal digits without
+/// a leading zero, except `0` itself. The error is `Number` if the word is not a number, and `Range` if it
+/// is out of range.
 pub fn in_range(low: u32, high: u32, word: &[u8]) -> Result<u32, FaultKind>
     ensures reads { result ≡ in_range low high (number_of word.now) }
     ensures within { IfOk result (λ n. (low ≤ n) × (n ≤ high)) }

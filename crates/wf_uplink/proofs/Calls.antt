@@ -1,4 +1,4 @@
--- The laws over every list of calls.
+-- Proves the laws over every list of calls, by induction on the list.
 use Rattle.std.proofs.Common.{◌≡◌, ℕ, ◌+◌, ◌/◌, ◌%◌, ◌<◌, ◌≤◌, ◌≢◌, ◌==◌, ◌&&◌, true, false, List, [], ◌∷◌, ◌++◌, length, get_or, set, Option, Some, None, is_some, refl, sym, ◌∙◌, ap, subst, inl, inr, arith}
 use Rattle.std.specs.Prelude.{sum_by}
 use Rattle.std.proofs.lemmas.Bool.Decides.{nat_tests}
@@ -9,7 +9,7 @@ use Rattle.wf_uplink.specs.declared.fault.OpenFault.{OpenFault}
 use Rattle.wf_uplink.specs.declared.fault.UplinkFault.{UplinkFault}
 use Rattle.wf_uplink.specs.Frames.{sender_of, tid_in_control}
 use Rattle.wf_uplink.specs.Reordering.{Reordering, ReorderingOutcome, unopened}
-use Rattle.wf_uplink.specs.World.{World, Delivery, Call, Open, SetRate, Receive, Tick, Expire, Answer, Opened, NotOpened, RateSet, NotSet, Received, NotReceived, Now, TimedOut, NoneDue, new_world, rate_of, is_open, place_of, tids_of_station, reordering_at, reordering_of, open_fault, opened, receive_fault, air_of, count_of, receive_outcome, received, delivery_of, first_due, timeout_outcome, expired_at, timeout_of, open_answer, receive_answer, expire_answer, answer, after_open, after_receive, after_expire, after_call, after_calls, answers}
+use Rattle.wf_uplink.specs.World.{World, Delivery, Call, Open, SetRate, Receive, Tick, Expire, Answer, Opened, NotOpened, Set, NotSet, Received, NotReceived, Now, TimedOut, NoneDue, new_world, rate_of, is_open, place_of, tids_of_station, reordering_at, reordering_of, open_fault, opened, receive_fault, air_of, count_of, receive_outcome, received, delivery_of, first_due, timeout_outcome, expired_at, timeout_of, open_answer, receive_answer, expire_answer, answer, after_open, after_receive, after_expire, after_call, after_calls, answers}
 use Rattle.wf_uplink.specs.Laws.{Covers, TidLaw, TotalsLaw, IsCharged, delivery_in, told_in, told_by, all_told, released_by, given_up_by, accepted_by, old_by}
 use Rattle.wf_uplink.proofs.Told.{covers_append, covers_rises, each_once, no_other}
 use Rattle.wf_uplink.specs.Soundness.{IsSound}
@@ -18,13 +18,13 @@ use Rattle.wf_uplink.proofs.Worlds.{taken, expiring, opening, begun_other, begun
 
 -- ---- one TID
 
--- what one call tells of a station's TID, and that the station stays open
+-- one call reports the numbers of a station's TID from the old B to the new one, and the station stays open
 pub record IsTold (station tid : ℕ) (w after : World) (a : Answer) : Type 0 where
   pub told : Covers (reordering_of w station tid).start (reordering_of after station tid).start
       (told_by station tid a)
   pub live : is_open after station ≡ true
 
--- where the reordering stays, nothing is told
+-- if the reordering does not change, nothing is reported
 stays : (station tid : ℕ) (w after : World) (a : Answer) →
     reordering_of after station tid ≡ reordering_of w station tid → is_open after station ≡ true →
     told_by station tid a ≡ [] → IsTold station tid w after a
@@ -45,7 +45,7 @@ still_open s u rates rate live =
       | inr differ ↦ ap is_some (get_or-set_other rates u s (Some rate) None differ) ∙ live
     ]
 
--- a delivery of some TID, where that TID's reordering has the outcome
+-- a delivery for a TID whose reordering has the outcome
 delivered : (station tid s t new : ℕ) (w after : World) (d : Delivery) (o : ReorderingOutcome) →
     tid < tids_of_station → t < tids_of_station → is_open w station ≡ true →
     place_of s t < length w.reorderings → after.reorderings ≡ set w.reorderings (place_of s t) o.after →
@@ -143,8 +143,8 @@ call_told station tid (Open s window start) w sound tid8 live =
     open_told station tid s window start w (open_fault s window start w) tid8 live refl
 call_told station tid (SetRate s rate) w sound tid8 live =
     choose_both (λ (v : World) (a : Answer). IsTold station tid w v a) (is_open w s)
-    (record w { rates = set w.rates s (Some rate) }) w RateSet NotSet
-    (λ _. stays station tid w (record w { rates = set w.rates s (Some rate) }) RateSet refl
+    (record w { rates = set w.rates s (Some rate) }) w Set NotSet
+    (λ _. stays station tid w (record w { rates = set w.rates s (Some rate) }) Set refl
     (still_open station s w.rates rate live) refl)
     (λ _. stays station tid w w NotSet refl live refl)
 call_told station tid (Receive octets) w sound tid8 live =
@@ -229,7 +229,7 @@ tids_told stations before later station window start tid tid8 opens =
 
 -- ---- the totals
 
--- what one call adds to the totals
+-- the amounts that one call adds to the totals
 pub record IsCounted (w after : World) (a : Answer) : Type 0 where
   pub frames : after.frames ≡ w.frames + accepted_by a
   pub up : after.up ≡ w.up + released_by a
@@ -289,7 +289,7 @@ unfolding after_call
 call_counted (Open s window start) w = open_counted s window start w (open_fault s window start w)
 call_counted (SetRate s rate) w =
     choose_both (λ (v : World) (a : Answer). IsCounted w v a) (is_open w s)
-    (record w { rates = set w.rates s (Some rate) }) w RateSet NotSet
+    (record w { rates = set w.rates s (Some rate) }) w Set NotSet
     (λ _. record { frames = omega arith; up = omega arith; old = omega arith; missing = omega arith })
     (λ _. record { frames = omega arith; up = omega arith; old = omega arith; missing = omega arith })
 call_counted (Receive octets) w = receive_counted octets w (receive_fault octets w)

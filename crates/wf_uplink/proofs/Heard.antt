@@ -1,4 +1,5 @@
--- A frame is heard, or a hole is given up: the worlds before and after.
+-- Proves that the worlds after a frame and after a timeout are those of the definitions, and satisfy the
+-- invariant.
 use Rattle.std.proofs.Common.{◌≡◌, ℕ, ◌+◌, ◌<◌, ◌≤◌, Bool, true, false, List, ◌++◌, take, drop, length, map, set, Some, None, refl, sym, ◌∙◌, ap, ap₂, subst, arith, if◌then◌else◌}
 use Rattle.std.specs.Prelude.{count_by, sum_by, IfSome}
 use mir.Val.{bool_byte}
@@ -78,7 +79,7 @@ heard s t bits w r items old released back given before after live t8 sound watc
     watched within (arrived_since bits w.frames w.clock (reordering_of w s t)
     (watched.since (place_of s t))) e f up missing (backs ∙ ap count_of g) tree
 
--- what a list that was lent whole holds again
+-- a slice that covers the whole list, after a write through it
 pub back_whole : (size : ℕ) (new old : List Reordering) → length new ≡ length old → size ≡ length old →
     take size (new ++ drop (length new) old) ≡ new
 back_whole size new old same all =

@@ -1,5 +1,5 @@
--- What holds of one reordering: it moves on, each number that it passes is told of once, and no frame is
--- lost.
+-- Proves properties of each outcome of one reordering: B does not move back, each number that is passed is
+-- reported once, and no frame is lost.
 use Rattle.std.proofs.Common.{◌≡◌, ℕ, ◌+◌, ◌-◌, ◌*◌, ◌<◌, ◌≤◌, ◌==◌, ◌||◌, not, nat_lt, nat_le, Bool, true, false, List, [], ◌∷◌, ◌++◌, length, Option, Some, None, refl, ap, arith, length-append, if◌then◌else◌}
 use Rattle.std.proofs.lemmas.Bool.Decides.{nat_tests}
 use Rattle.wf_octets.specs.Distance.{distance}
@@ -9,7 +9,7 @@ use Rattle.wf_uplink.specs.Laws.{Covers}
 use Rattle.wf_uplink.specs.Soundness.{StoredFrom, ReorderingIsOrderly}
 use Rattle.wf_uplink.proofs.Told.{covers_append, released_append}
 
--- a choice by a test
+-- choice by a test
 pub choose : {A : Type 0} (P : A → Type 0) (b : Bool) (x y : A) → (b ≡ true → P x) → (b ≡ false → P y) →
     P (if b then x else y)
 choose P true x y holds fails = holds refl
@@ -115,8 +115,8 @@ stored_count new (x ∷ xs) =
 
 -- ---- outcomes
 
--- the numbers that were passed are told of, and each frame, of which so many are new, went up, is given back
--- or is stored
+-- the outcome reports each number that is passed, and each frame, `new` of which are new, is released, old or
+-- stored
 pub record IsFair (new : ℕ) (r : Reordering) (o : ReorderingOutcome) : Type 0 where
   pub told : Covers r.start o.after.start o.passed
   pub orderly : ReorderingIsOrderly o.after
@@ -149,7 +149,7 @@ waiting_fair new now before r o fair =
     })
     (λ _. fair)
 
--- what is stored once B has moved, though not past it
+-- storing a number that is not below B and not stored yet
 stored_fair : (n id : ℕ) (r : Reordering) (o : ReorderingOutcome) → IsFair 0 r o → o.old ≡ false →
     o.after.start ≤ n → is_stored n o.after.stored ≡ false →
     IsFair 1 r (then_stored n id o)
@@ -223,7 +223,7 @@ timed_out_fair now r s =
     waiting_fair 0 now r r (moved_to (least_stored r.start r.stored) r)
     (moved_fair (least_stored r.start r.stored) r s (least_from r.start r.stored s.rising))
 
--- ---- how much is told
+-- ---- the number of items
 
 told_length : (from to : ℕ) (xs : List Stored) →
     length (holes_told from to xs) ≤ 2 * released_in (holes_told from to xs) + 1
@@ -241,7 +241,7 @@ told_length from to (x ∷ xs) =
     omega (arith, few, none, parts, all, rest))
     (λ _. let few = gap_length from to in omega (arith, few))
 
--- a move tells of at most two things for each frame that it releases, and one more
+-- a move reports at most two items for each frame that it releases, and one more
 pub moved_few : (n : ℕ) (r : Reordering) → length (moved_to n r).passed + length (moved_to n r).after.stored
     ≤ 2 * length r.stored + 1
 moved_few n r =

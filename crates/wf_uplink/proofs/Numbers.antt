@@ -1,4 +1,4 @@
--- Which number twelve bits stand for.
+-- Proves which number twelve bits are read as.
 use Rattle.std.proofs.Common.{◌≡◌, ℕ, ◌+◌, ◌%◌, ◌<◌, ◌≤◌, nat_le, Some, None, refl, ap, arith}
 use Rattle.std.proofs.lemmas.Bool.Decides.{nat_tests}
 use Rattle.wf_octets.specs.Distance.{distance}

@@ -1,4 +1,5 @@
--- What is stored at the places of a buffer, by numbers.
+-- Proves that each call of the reordering buffer is the definition's step: the frames at the buffer's places,
+-- numbered from B on, are the stored frames.
 use Rattle.std.proofs.Common.{◌≡◌, ℕ, zero, suc, ◌+◌, ◌-◌, ◌%◌, ◌<◌, ◌≤◌, min, ◌==◌, ◌&&◌, ◌||◌, not, nat_lt, nat_le, Bool, true, false, List, [], ◌∷◌, ◌++◌, length, take, drop, replicate, get_or, set, map, Option, None, Some, is_some, refl, sym, ◌∙◌, ap, ap₂, subst, arith, if◌then◌else◌}
 use Rattle.std.specs.Option.{option_map}
 use Rattle.std.proofs.lemmas.Bool.Decides.{nat_tests}
@@ -15,7 +16,7 @@ use Rattle.wf_uplink.specs.Standing.{numbered, frames_from, reordering_of_buffer
 use Rattle.wf_uplink.specs.Soundness.{StoredFrom}
 use Rattle.wf_uplink.proofs.Moves.{choose, stored_count}
 
--- ---- what is stored from a number on
+-- ---- the numbers of the places
 
 pub numbered_from : (b : ℕ) (ps : List (Option ℕ)) → StoredFrom b (numbered b ps)
 numbered_from b [] = tt
@@ -26,7 +27,7 @@ numbered_from b (None ∷ ps) = from_more b (numbered (b + 1) ps) (numbered_from
     from_more b (x ∷ xs) s = (let le = s.0 in omega (arith, le), s.1)
 numbered_from b (Some id ∷ ps) = (omega arith, numbered_from (b + 1) ps)
 
--- a test that fails
+-- a choice whose test fails, or holds
 pub not_this : {A : Type 0} (b : Bool) (x y : A) → b ≡ false → (if b then x else y) ≡ y
 not_this false x y e = refl
 not_this true x y e = absurd (grind (arith, e))
@@ -65,7 +66,7 @@ none_here b (x ∷ xs) s =
     later b n [] le s = tt
     later b n (x ∷ xs) le s = (let lower = s.0 in omega (arith, le, lower), s.1)
 
--- ---- the run from the first place on
+-- ---- the run of frames from the first place on
 
 pub run_hole : (b : ℕ) (ps : List (Option ℕ)) → first_hole b (numbered b ps) ≡ b + run_of ps
 run_hole b [] = omega arith
@@ -80,7 +81,7 @@ run_length [] = refl
 run_length (None ∷ ps) = refl
 run_length (Some id ∷ ps) = let rest = run_length ps in omega (arith, rest)
 
--- what a run that stands past a gap tells
+-- the items of a gap and the run of frames after it
 pub run_told : (from b : ℕ) (ps : List (Option ℕ)) → from ≤ b →
     holes_told from (b + run_of ps) (numbered b ps) ≡ gap from b
     ++ frames_from b (items_of (take (run_of ps) ps))
@@ -105,7 +106,7 @@ run_told from b (Some id ∷ ps) le =
     (run_told (b + 1) (b + 1) ps (omega arith) ∙ ap
     (λ ys. ys ++ frames_from (b + 1) (items_of (take (run_of ps) ps))) (no_gap (b + 1)))
 
--- ---- places that turn
+-- ---- removing the first places
 
 pub places_dropped : (j b : ℕ) (ps : List (Option ℕ)) →
     stored_from (b + j) (numbered b ps) ≡ numbered (b + j) (drop j ps)
@@ -134,7 +135,7 @@ places_fresh b k [] = no_more b k
 places_fresh b k (None ∷ ps) = places_fresh (b + 1) k ps
 places_fresh b k (Some id ∷ ps) = ap (λ ys. record { number = b; id = id } ∷ ys) (places_fresh (b + 1) k ps)
 
--- what stands below a number that nothing is stored below
+-- if nothing is stored below b + k, the first k places are empty
 pub nothing_below : (k b : ℕ) (ps : List (Option ℕ)) → StoredFrom (b + k) (numbered b ps) →
     items_of (take k ps) ≡ []
 nothing_below zero b ps s = refl
@@ -214,7 +215,7 @@ pub record IsReleased (start window : ℕ) (up : List ℕ) (a : Buffer) (first :
 pub distance_of : (b k : ℕ) → k < 4096 → distance ((b + k) % 4096) (b % 4096) ≡ k
 distance_of b k low = omega (arith, low)
 
--- what stands from b on is released, after what is told from `from` to b
+-- the frames from b on are released, after the gap from `from` to b
 release : (from b window : ℕ) (q a : Buffer) (up : List ℕ) (r : Reordering) → IsWindow q → q.capacity ≡ 256 →
     q.start ≡ b % 4096 → q.size ≡ window → from ≤ b →
     r.start ≡ from → stored_from b r.stored ≡ numbered b q.places → r.stored ≡ numbered b q.places →
@@ -254,7 +255,7 @@ request_moves : (k : ℕ) (b : Buffer) → 1 ≤ k → k ≤ 2047 →
     request_outcome_at k b ≡ release_outcome (items_below k b) (with_start_moved k b)
 request_moves k b some near = this (nat_le 1 k && nat_le k 2047) _ _ (grind (arith, nat_tests, some, near))
 
--- B skips to a number that nothing is stored below
+-- B moves to a number below which nothing is stored
 pub skipped : (start window since next : ℕ) (b a : Buffer) (up : List ℕ) → IsBufferFrom start window b →
     start < next → next ≤ start + 2047 →
     next ≤ least_stored next (numbered start b.places) → up ≡ (request_outcome (next % 4096) b).up →
@@ -285,7 +286,7 @@ skipped start window since next b a up kept forward near least e f =
     kept.size (omega (arith, forward)) refl rest (sym (all_stored_from next xs from) ∙ rest)
     (e ∙ ap (λ (o : BufferOutcome). o.up) whole) (f ∙ ap (λ (o : BufferOutcome). o.after) whole)
 
--- ---- what a caller sees
+-- ---- the items that a caller sees
 
 pub frames_length : (b : ℕ) (ids : List ℕ) → length (frames_from b ids) ≡ length ids
 frames_length b [] = refl
@@ -352,7 +353,7 @@ skip start window since next b a up r view kept forward near least bits of e f =
     (e ∙ ap (λ n. (request_outcome n b).up) of) (f ∙ ap (λ n. (request_outcome n b).after) of)) forward
     near least
 
--- nothing is stored at the start
+-- nothing is stored at B
 pub settled_from : (b : ℕ) (ps : List (Option ℕ)) → run_of ps ≡ 0 → StoredFrom (b + 1) (numbered b ps)
 settled_from b [] e = tt
 settled_from b (None ∷ ps) e = numbered_from (b + 1) ps
@@ -393,7 +394,7 @@ first_within d (None ∷ ps) e = within (first_stored ps) (λ n is. first_within
         omega (arith, less, more)
 first_within d (Some id ∷ ps) e = let none : 0 ≡ d = grind (arith, e) in omega (arith, none)
 
--- the first number that the buffer stores is that of the reordering
+-- the first number in the buffer is the least number stored
 pub first_of_buffer : (start window since : ℕ) (b : Buffer) (r : Reordering) →
     reordering_of_buffer start window since b ≡ r → IsBufferFrom start window b → (bits : ℕ) →
     Some bits ≡ first_stored_of b → Some (start + distance bits b.start) ≡ first_number r.stored
@@ -558,7 +559,7 @@ stored_few start window since b r view kept =
     let fewer = items_fewer b.places s.start (omega (arith, size, least)) in
     omega (arith, all, fewer, size, most))
 
--- what is stored stands in the window
+-- the numbers stored are in the window
 pub none_past : (start window since n : ℕ) (b : Buffer) (r : Reordering) →
     reordering_of_buffer start window since b ≡ r → IsBufferFrom start window b → r.start + r.window ≤ n →
     is_stored n r.stored ≡ false
@@ -592,7 +593,7 @@ first_near start window since k b r view kept =
         let same : start + d ≡ k = grind (arith, some, e) in
         omega (arith, within, size, most, same)
 
--- whether anything is stored
+-- whether any frame is stored
 
 some_mapped : (f : ℕ → ℕ) (o : Option ℕ) → is_some (option_map f o) ≡ is_some o
 some_mapped f None = refl
@@ -657,7 +658,7 @@ new_is : (n id now : ℕ) (r : Reordering) → is_stored n r.stored ≡ false �
     number_arrived (Some n) id now r ≡ waiting now r (stored_at n id r)
 new_is n id now r e = not_this (is_stored n r.stored) _ _ e
 
--- the frame is given back
+-- the frame is old
 pub back_after : (n id now : ℕ) (r : Reordering) → is_stored n r.stored ≡ true →
     r ≡ (number_arrived (Some n) id now r).after
 back_after n id now r e = sym (ap (λ (o : ReorderingOutcome). o.after) (back_is n id now r e))

@@ -1,4 +1,4 @@
--- B moves step by step: to the next frame that is stored, and on from there.
+-- Proves that a move of B is the same as moving to the next stored frame first, and then on.
 use Rattle.std.proofs.Common.{◌≡◌, ℕ, ◌+◌, ◌<◌, ◌≤◌, ◌==◌, nat_lt, false, ◌⊎◌, inl, inr, List, [], ◌∷◌, ◌++◌, Some, refl, sym, ◌∙◌, ap, ap₂, subst, arith, append_assoc, if◌then◌else◌}
 use Rattle.std.proofs.lemmas.Bool.{cases_lt}
 use Rattle.std.proofs.lemmas.Bool.Decides.{nat_tests}
@@ -8,7 +8,7 @@ use Rattle.wf_uplink.specs.Soundness.{StoredFrom}
 use Rattle.wf_uplink.proofs.Moves.{choose, hole_from}
 use Rattle.wf_uplink.proofs.Standing.{this, not_this, all_stored_from}
 
--- where it has not come so far, B moves on to n
+-- B moves to n, if it is not there yet
 abbrev pub onto : ℕ → Reordering → ReorderingOutcome
 onto n r = if nat_lt r.start n then moved_to n r else record { passed = []; old = false; after = r }
 
@@ -42,7 +42,7 @@ from_twice e t (x ∷ xs) le =
     (λ below. from_twice e t xs le ∙ sym (this (nat_lt x.number t) (stored_from t xs) (x ∷ xs)
     (grind (arith, nat_tests, below, le)))) (λ _. refl)
 
--- what is told of a run, and of what follows it
+-- the items of a run of frames, and those after it
 told_split : (n e : ℕ) (xs : List Stored) → StoredFrom n xs → first_hole n xs ≤ e →
     holes_told n e xs ≡ holes_told n (first_hole n xs) xs
     ++ holes_told (first_hole n xs) e (stored_from (first_hole n xs) xs)
@@ -76,7 +76,7 @@ told_split n e (x ∷ xs) s most =
     ∙ not_this (nat_lt n n) _ [] (grind (arith, nat_tests)))
     (all_stored_from n (x ∷ xs) s))) most
 
--- what is told of a gap, the run that ends it, and what follows
+-- the items of a gap, of the run of frames after it, and of the rest
 told_parts : (from e : ℕ) (x : Stored) (xs : List Stored) → from ≤ x.number → StoredFrom x.number (x ∷ xs) →
     first_hole x.number (x ∷ xs) ≤ e →
     holes_told from e (x ∷ xs) ≡ holes_told from (first_hole x.number (x ∷ xs)) (x ∷ xs)
@@ -99,7 +99,7 @@ told_parts from e x xs le s most =
     (gap from h) (grind (arith, nat_tests, past)))
     (this (nat_lt x.number h) (stored_from h xs) (x ∷ xs) (grind (arith, nat_tests, past)))))
 
--- one step, and the rest of the way
+-- one step, and the rest of the move
 pub record IsStep (next target : ℕ) (r : Reordering) : Type 0 where
   pub passed : (moved_to next r).passed ++ (onto target (moved_to next r).after).passed
       ≡ (moved_to target r).passed

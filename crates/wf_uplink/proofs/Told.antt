@@ -1,4 +1,4 @@
--- What is told of numbers: each of them once, in their order.
+-- Proves that items which cover a range contain each number of it exactly once.
 use Rattle.std.proofs.Common.{◌≡◌, ℕ, ◌+◌, ◌<◌, ◌≤◌, ◌==◌, ◌&&◌, nat_lt, nat_le, Bool, true, false, ◌⊎◌, List, [], ◌∷◌, ◌++◌, sym, ap, subst, inl, inr, arith}
 use Rattle.std.proofs.lemmas.Bool.Decides.{nat_tests}
 use Rattle.wf_uplink.specs.Reordering.{Passed, Released, GivenUp}
@@ -10,7 +10,7 @@ covers_append a b c [] ys h k = subst (λ n. Covers n c ys) (sym h) k
 covers_append a b c (Released id number ∷ xs) ys h k = (h.0, covers_append (a + 1) b c xs ys h.1 k)
 covers_append a b c (GivenUp first count ∷ xs) ys h k = (h.0, h.1, covers_append (a + count) b c xs ys h.2 k)
 
--- how many numbers are told of
+-- the length of the range is the count of the numbers in the items
 pub covers_count : (a b : ℕ) (xs : List Passed) → Covers a b xs → a + (released_in xs + given_up_in xs) ≡ b
 covers_count a b [] h = omega (arith, h)
 covers_count a b (Released id number ∷ xs) h = let e = covers_count (a + 1) b xs h.1 in omega (arith, e)
@@ -43,7 +43,7 @@ covers_rises a b (Released id number ∷ xs) h = (
 covers_rises a b (GivenUp first count ∷ xs) h =
     rises_from_less a (a + count) (released_numbers xs) (omega arith) (covers_rises (a + count) b xs h.2)
 
--- ---- how often a number is told of
+-- ---- how often a number is in the items
 
 abbrev pub times : ℕ → List Passed → ℕ
 times n xs = times_released n xs + times_given_up n xs

@@ -1,4 +1,4 @@
--- The tournament of waits, as calls change it.
+-- Proves that the tournament tree of waits has the right values after each call.
 use Rattle.std.proofs.Common.{◌≡◌, ℕ, ◌+◌, ◌-◌, ◌*◌, ◌/◌, ◌%◌, ◌<◌, ◌≤◌, ◌==◌, ◌&&◌, ◌||◌, not, nat_lt, nat_le, Bool, true, false, ◌⊎◌, inl, inr, List, [], ◌∷◌, length, map, get_or, set, replicate, Option, Some, None, refl, sym, ◌∙◌, ap, subst, arith, if◌then◌else◌}
 use Rattle.std.specs.Prelude.{slice_index, position, count_by, sum_by}
 use Rattle.std.proofs.lemmas.Bool.Decides.{nat_tests}
@@ -14,7 +14,7 @@ use Rattle.wf_uplink.specs.Soundness.{IsSound, IsWatched, latest, worth_of}
 use Rattle.wf_uplink.proofs.Moves.{choose}
 use Rattle.wf_uplink.proofs.Worlds.{set_cases, with_frames, same_or_not, begun_cases, begun_other, begun_here, IsOpening}
 
--- ---- since when
+-- ---- when waits began
 
 waiting_since : (now : ℕ) (before : Reordering) (o : ReorderingOutcome) → o.after.since ≤ now →
     (waiting now before o).after.since ≤ now
@@ -215,7 +215,7 @@ new_watched stations few = record {
           (let size = length-replicate {A = ℕ} 2048 0 in omega (arith, size, past))
     ]
 
--- ---- what is told, as a caller counts it
+-- ---- the items, as a caller counts them
 
 pub released_seen : (xs : List Passed) → count_by is_frame (map item_of xs) ≡ released_in xs
 released_seen [] = refl

@@ -1,4 +1,4 @@
--- What holds of every world that calls lead to.
+-- Proves that the invariant holds in every world that calls lead to.
 use Rattle.std.proofs.Common.{◌≡◌, ℕ, zero, suc, ◌+◌, ◌*◌, ◌<◌, ◌≤◌, ◌≢◌, ◌&&◌, not, nat_lt, nat_le, Bool, true, false, ◌⊎◌, List, [], ◌∷◌, length, get_or, set, replicate, Option, Some, None, is_some, refl, sym, ◌∙◌, ap, subst, inl, inr, arith, if◌then◌else◌}
 use Rattle.std.specs.Prelude.{sum_by}
 use Rattle.std.specs.Option.{option_or}
@@ -21,7 +21,7 @@ use Rattle.wf_uplink.proofs.Moves.{choose, IsFair, arrived_fair, timed_out_fair}
 
 -- ---- lists
 
--- what is at a place of a list after a write: the new one, or what was there
+-- an element of a list after a write is the new one or the old one
 pub set_cases : {A : Type 0} (P : A → Type 0) (xs : List A) (i j : ℕ) (y d : A) → P y → P (get_or xs j d) →
     P (get_or (set xs i y) j d)
 set_cases P [] i j y d new old = old
@@ -47,7 +47,7 @@ none_of (Some x) e = absurd (grind (arith, e))
 pub same_or_not : (a b : ℕ) → (a ≡ b) ⊎ (a ≢ b)
 same_or_not a b = grind arith
 
--- ---- where reorderings stand
+-- ---- the indices of reorderings
 
 pub same_station : (s t u v : ℕ) → t < tids_of_station → v < tids_of_station → place_of s t ≡ place_of u v →
     s ≡ u
@@ -74,7 +74,7 @@ held_after : (xs : List Reordering) (i : ℕ) (r d : Reordering) → i < length 
     ≡ sum_by (λ (q : Reordering). length q.stored) xs + length r.stored
 held_after xs i r d within = sum_by-set (λ (q : Reordering). length q.stored) xs i r d within
 
--- a world in which so many frames more were accepted
+-- the world after `new` more frames were accepted
 abbrev pub with_frames : ℕ → World → World
 with_frames new w = record w { frames = w.frames + new }
 
@@ -119,7 +119,7 @@ pub both : (a b : Bool) → (a && b) ≡ true → (a ≡ true) × (b ≡ true)
 both true b e = (refl, e)
 both false b e = absurd (grind (arith, e))
 
--- a frame without fault is of an opened station, and its TID is below 8
+-- a frame without fault belongs to an open station, and its TID is below 8
 pub record IsTaken (octets : List ℕ) (w : World) : Type 0 where
   pub live : is_open w (sender_of octets) ≡ true
   pub tid : tid_in_control octets < tids_of_station
@@ -199,7 +199,7 @@ begun_cases P (suc n) station window start place rs d new old =
     set_cases P (begun n station window start rs) (place_of station n) place
     (new_reordering start window) d new (begun_cases P n station window start place rs d new old)
 
--- the reorderings of other stations stay, and so do those of TIDs that are not among the first n
+-- the reorderings of other stations do not change, nor those of TIDs that are not among the first n
 pub begun_other : (n station window start place : ℕ) (rs : List Reordering) (d : Reordering) →
     ((t : ℕ) → t < n → place ≢ place_of station t) →
     get_or (begun n station window start rs) place d ≡ get_or rs place d
@@ -230,7 +230,7 @@ begun_here (suc n) station window start tid rs d below most within =
     before_or_last : (a b : ℕ) → a < suc b → (a < b) ⊎ (a ≡ b)
     before_or_last a b below = grind (arith, below)
 
--- where nothing was stored of the station, as much is stored as before
+-- if the station had nothing stored, the number of stored frames does not change
 begun_held : (n station window start : ℕ) (rs : List Reordering) → n ≤ tids_of_station →
     place_of station tids_of_station ≤ length rs →
     ((t : ℕ) → t < tids_of_station → (get_or rs (place_of station t) unopened).stored ≡ []) →
@@ -251,8 +251,8 @@ begun_held (suc n) station window start rs most within none =
     let rest = begun_held n station window start rs (omega (arith, less)) within none in
     omega (arith, sums, here, rest)
 
--- a station without fault is one of those that there are, its window is not 0, its first number is a number,
--- and it is not open
+-- a station that can be opened exists and is not open, its window is not 0, and its first number is at most
+-- 4095
 pub record IsOpening (station window start : ℕ) (w : World) : Type 0 where
   pub within : station < length w.rates
   pub some : 1 ≤ window

@@ -1,5 +1,5 @@
--- The checks of a data frame from a station, in their order, as far as the octets alone decide them. The
--- layout is that of the headers of wf_octets; the body follows.
+-- Defines the checks of a data frame from a station, in order, that depend only on its octets. The layout of
+-- the header is defined in wf_octets; the body follows it.
 use Rattle.std.specs.Prelude.{ℕ, ◌+◌, ◌-◌, ◌*◌, ◌/◌, ◌%◌, ◌==◌, nat_lt, nat_le, ◌&&◌, Bool, List, length, slice_index, Option, Some, None, if◌then◌else◌}
 use Rattle.std.specs.Option.{option_map}
 use Rattle.std.specs.Str.{bytes_eq}
@@ -16,7 +16,7 @@ use Rattle.wf_uplink.specs.declared.fault.UplinkFault.TheVariants.{Header, Kind,
 abbrev pub address_number : List ℕ → ℕ
 address_number address = 256 * slice_index address 4 + slice_index address 5
 
--- the station whose address Address 2 may be
+-- the number of the station that Address 2 would belong to
 abbrev pub sender_of : List ℕ → ℕ
 sender_of octets = address_number (part octets 10 6)
 
@@ -37,7 +37,7 @@ sequence_of octets = number_at octets 22 / 16
 abbrev pub body_length : List ℕ → ℕ
 body_length octets = length octets - size_of QosData
 
--- ---- the checks: each has its fault, or none
+-- ---- the checks: each returns its fault, if any
 
 abbrev pub header_fault : List ℕ → Option UplinkFault
 header_fault octets = option_map Header (first_header_fault octets)

@@ -1,50 +1,50 @@
--- What holds whatever calls are made.
+-- Defines the laws of the uplink, which hold after every list of calls.
 use Rattle.std.specs.Prelude.{◌≡◌, ℕ, ◌+◌, ◌%◌, ◌<◌, ◌≤◌, ◌==◌, nat_lt, nat_le, ◌&&◌, ◌⊎◌, false, List, [], ◌∷◌, length, sum_by, flat_map, Option, Some, None, if◌then◌else◌}
 use Rattle.wf_def_air.specs.Airtime.{Rate, data_charge}
 use Rattle.wf_uplink.specs.Reordering.{Passed, Released, GivenUp, number_read}
 use Rattle.wf_uplink.specs.World.{World, Delivery, Call, Answer, Received, TimedOut, new_world, after_calls, answers, reordering_of, rate_of, held, released_in, given_up_in, count_of, around_octets}
 
--- ---- numbers that are told
+-- ---- the numbers that are passed
 
--- the items tell of each number from `from` to below `to`, in their order: each item begins where the one
--- before it ended
+-- the items contain each number from `from` to below `to`, in order: each item begins at the end of the one
+-- before it
 abbrev pub Covers : ℕ → ℕ → List Passed → Type 0
 Covers from to [] = from ≡ to
 Covers from to (Released id number ∷ later) = (number ≡ from) × Covers (from + 1) to later
 Covers from to (GivenUp first count ∷ later) = (first ≡ from) × (1 ≤ count) × Covers (from + count) to later
 
--- the numbers of the frames that go up
+-- the numbers of the released frames
 abbrev pub released_numbers : List Passed → List ℕ
 released_numbers [] = []
 released_numbers (Released id number ∷ later) = number ∷ released_numbers later
 released_numbers (GivenUp first count ∷ later) = released_numbers later
 
--- each is above the one before it, and the first is at least n
+-- the list rises strictly, and the first element is at least n
 abbrev pub RisesFrom : ℕ → List ℕ → Type 0
 RisesFrom n [] = Unit {0}
 RisesFrom n (x ∷ later) = (n ≤ x) × RisesFrom (x + 1) later
 
--- how often a number goes up
+-- how often a number is released
 abbrev pub times_released : ℕ → List Passed → ℕ
 times_released n [] = 0
 times_released n (Released id number ∷ later) = count_of (number == n) + times_released n later
 times_released n (GivenUp first count ∷ later) = times_released n later
 
--- how often a gap names it
+-- how often a number is in a gap
 abbrev pub times_given_up : ℕ → List Passed → ℕ
 times_given_up n [] = 0
 times_given_up n (Released id number ∷ later) = times_given_up n later
 times_given_up n (GivenUp first count ∷ later) =
     count_of (nat_le first n && nat_lt n (first + count)) + times_given_up n later
 
--- ---- what answers tell
+-- ---- what the answers report
 
 abbrev pub delivery_in : Answer → Option Delivery
 delivery_in (Received d) = Some d
 delivery_in (TimedOut d) = Some d
 delivery_in _ = None
 
--- of a station's TID
+-- the items for a station's TID
 abbrev pub told_in : ℕ → ℕ → Option Delivery → List Passed
 told_in station tid None = []
 told_in station tid (Some d) = if (d.station == station) && (d.tid == tid) then d.passed else []
@@ -52,7 +52,7 @@ told_in station tid (Some d) = if (d.station == station) && (d.tid == tid) then 
 abbrev pub told_by : ℕ → ℕ → Answer → List Passed
 told_by station tid a = told_in station tid (delivery_in a)
 
--- all that is told of a station's TID
+-- all items for a station's TID
 abbrev pub all_told : ℕ → ℕ → World → List Call → List Passed
 all_told station tid w calls = flat_map (told_by station tid) (answers w calls)
 
@@ -66,7 +66,7 @@ released_by a = released_in (passed_in (delivery_in a))
 abbrev pub given_up_by : Answer → ℕ
 given_up_by a = given_up_in (passed_in (delivery_in a))
 
--- 1 of an accepted frame, and 1 of a frame that is given back
+-- 1 for an accepted frame, and 1 for an old frame
 abbrev pub accepted_by : Answer → ℕ
 accepted_by (Received d) = 1
 accepted_by _ = 0
@@ -77,9 +77,9 @@ old_by _ = 0
 
 -- ---- the laws
 
--- From a world in which a station's TID is at its first number: after every list of calls, what is told of it
--- stands in the order of the numbers, the numbers of the frames that went up rise strictly, and each number
--- from the first to below B went up once or was named by one gap, and no other was.
+-- In a world in which the next number of a station's TID is `first`: after every list of calls, the items are
+-- in the order of the numbers, the numbers of the released frames rise strictly, and each number from `first`
+-- to below B is released or in a gap exactly once, and no other number is.
 pub record TidLaw (w : World) (station tid first : ℕ) (calls : List Call) : Type 0 where
   pub in_order : Covers first (reordering_of (after_calls w calls) station tid).start
       (all_told station tid w calls)
@@ -89,8 +89,8 @@ pub record TidLaw (w : World) (station tid first : ℕ) (calls : List Call) : Ty
   pub no_other : (n : ℕ) → (n < first) ⊎ ((reordering_of (after_calls w calls) station tid).start ≤ n) →
       times_released n (all_told station tid w calls) + times_given_up n (all_told station tid w calls) ≡ 0
 
--- After every list of calls each accepted frame went up, was given back or is stored, and the totals count
--- what the answers tell.
+-- After every list of calls, each accepted frame was released, was old, or is stored, and the totals equal
+-- the sums over all answers.
 pub record TotalsLaw (stations : ℕ) (calls : List Call) : Type 0 where
   pub each_frame : (after_calls (new_world stations) calls).frames
       ≡ (after_calls (new_world stations) calls).up + (after_calls (new_world stations) calls).back + held
@@ -103,13 +103,13 @@ pub record TotalsLaw (stations : ℕ) (calls : List Call) : Type 0 where
   pub missing : (after_calls (new_world stations) calls).missing
       ≡ sum_by given_up_by (answers (new_world stations) calls)
 
--- a frame is charged what its octets, and the eight around them, take at its station's rate
+-- a frame is charged the airtime of its octets, and of the eight around them, at its station's rate
 abbrev pub IsCharged : World → List ℕ → Delivery → Type 0
 IsCharged w octets d = (rate : Rate) × (rate_of w d.station ≡ Some rate) ×
     (d.air ≡ data_charge rate (length octets + around_octets) false)
 
--- the twelve bits of a number stand for it where it is in [b - 2048, b + 2047], and for none where it is
--- below b
+-- the twelve bits of a number from b to b + 2047 are read as that number, and those of a number from b - 2048
+-- to below b as none
 pub record ReadsRight (n b : ℕ) : Type 0 where
   pub ahead : b ≤ n → n ≤ b + 2047 → number_read (n % 4096) b ≡ Some n
   pub behind : n < b → b ≤ n + 2048 → number_read (n % 4096) b ≡ None

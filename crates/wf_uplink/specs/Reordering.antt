@@ -1,44 +1,44 @@
--- The reordering of one traffic identifier (TID) by sequence numbers that have no bound (IEEE 802.11-2012,
--- 9.21.7.6), with a time limit that is this project's own.
+-- Defines the reordering of one TID, with sequence numbers that have no bound (IEEE 802.11-2012, 9.21.7.6).
+-- The time limit is this project's own.
 use Rattle.std.specs.Prelude.{ℕ, ◌+◌, ◌-◌, ◌==◌, nat_lt, nat_le, ◌&&◌, ◌||◌, not, Bool, true, false, List, [], ◌∷◌, ◌++◌, Option, Some, None, if◌then◌else◌}
 use Rattle.wf_octets.specs.Distance.{distance}
 
--- a frame that waits for the numbers below its own
+-- a frame that waits until the numbers below its own are passed
 pub record Stored : Type 0 where
   pub number : ℕ
   pub id : ℕ  -- how many frames were accepted before it
 
 pub record Reordering : Type 0 where
-  pub start : ℕ  -- B, the least number that is not passed yet
-  pub window : ℕ  -- how many numbers, from B on, may be stored
+  pub start : ℕ  -- B: the least number that is not passed yet
+  pub window : ℕ  -- how many numbers from B on may be stored
   pub stored : List Stored  -- in the order of their numbers
-  pub since : ℕ  -- the clock since which it waits, in microseconds; it means something where a frame is stored
+  pub since : ℕ  -- when the wait began, in microseconds; no meaning if nothing is stored
 
--- what is told of numbers that are passed: the frame goes up, or so many numbers from one on are given up
+-- an item: a frame that is released, or the `count` numbers from `from` on, which are given up
 pub data Passed : Type 0 where
   Released : (id : ℕ) → (number : ℕ) → Passed
   GivenUp : (from : ℕ) → (count : ℕ) → Passed
 
--- what a number or a timeout leads to
+-- the outcome of a frame or a timeout
 pub record ReorderingOutcome : Type 0 where
   pub passed : List Passed  -- in the order of the numbers
-  pub old : Bool  -- whether the frame is given back
+  pub old : Bool  -- whether the frame is old: passed before, or stored already
   pub after : Reordering
 
--- no number is passed, nothing is stored, and the first number is `start`
+-- nothing is passed or stored, and the first number is `start`
 abbrev pub new_reordering : ℕ → ℕ → Reordering
 new_reordering start window = record { start = start; window = window; stored = []; since = 0 }
 
--- that of a station that is not opened
+-- the reordering of a station that is not open
 abbrev pub unopened : Reordering
 unopened = new_reordering 0 256
 
--- The number that twelve bits stand for where B is b: the one congruent to them modulo 4096 in [b - 2048, b +
--- 2047]. None where it is below b.
+-- The number with these twelve bits when B is b: the one from b - 2048 to b + 2047 that is equal to them
+-- modulo 4096, if it is not below b.
 abbrev pub number_read : ℕ → ℕ → Option ℕ
 number_read bits b = if nat_le (distance bits b) 2047 then Some (b + distance bits b) else None
 
--- ---- the list of what is stored
+-- ---- the list of the stored frames
 
 abbrev pub is_none_stored : List Stored → Bool
 is_none_stored [] = true
@@ -48,40 +48,40 @@ abbrev pub is_stored : ℕ → List Stored → Bool
 is_stored n [] = false
 is_stored n (x ∷ later) = (x.number == n) || is_stored n later
 
--- with one frame more, in the order of the numbers
+-- the list with one more frame, in the order of the numbers
 abbrev pub with_stored : Stored → List Stored → List Stored
 with_stored new [] = new ∷ []
 with_stored new (x ∷ later) = if nat_lt new.number x.number then new ∷ x ∷ later
     else x ∷ with_stored new later
 
--- those from n on
+-- the frames from number n on
 abbrev pub stored_from : ℕ → List Stored → List Stored
 stored_from n [] = []
 stored_from n (x ∷ later) = if nat_lt x.number n then stored_from n later else x ∷ later
 
--- the least number stored, where one is
+-- the least number stored, if any
 abbrev pub first_number : List Stored → Option ℕ
 first_number [] = None
 first_number (x ∷ later) = Some x.number
 
--- the least number stored, or b where none is
+-- the least number stored, or b if none is
 abbrev pub least_stored : ℕ → List Stored → ℕ
 least_stored b [] = b
 least_stored b (x ∷ later) = x.number
 
--- the first number from n on that is not stored, of those that are stored from n on
+-- the first number from n on that is not stored, if all stored numbers are at least n
 abbrev pub first_hole : ℕ → List Stored → ℕ
 first_hole n [] = n
 first_hole n (x ∷ later) = if x.number == n then first_hole (n + 1) later else n
 
 -- ---- B moves
 
--- the numbers from `from` to below `to` are given up, where there are any
+-- the numbers from `from` to below `to` are given up, if there are any
 abbrev pub gap : ℕ → ℕ → List Passed
 gap from to = if nat_lt from to then GivenUp from (to - from) ∷ [] else []
 
--- what is told of the numbers from `from` to below `to`: each one stored is released, and each longest run of
--- others is given up as one
+-- the items for the numbers from `from` to below `to`: each number that is stored is released, and each
+-- longest run of others is given up as one gap
 abbrev pub holes_told : ℕ → ℕ → List Stored → List Passed
 holes_told from to [] = gap from to
 holes_told from to (x ∷ later) =
@@ -97,12 +97,12 @@ passed_to b r =
           record r { start = b; stored = stored_from b r.stored };
     }
 
--- B moves to n, as by a BlockAckReq: what is stored below goes up, then what stands from n on without a hole,
--- and B moves past that
+-- B moves to n, as by a BlockAckReq: the stored frames below n are released, and those from n on up to the
+-- first hole
 abbrev pub moved_to : ℕ → Reordering → ReorderingOutcome
 moved_to n r = passed_to (first_hole n (stored_from n r.stored)) r
 
--- it waits anew where B moved, and where nothing was stored before
+-- a new wait begins if B has moved, or if nothing was stored before
 abbrev pub waiting : ℕ → Reordering → ReorderingOutcome → ReorderingOutcome
 waiting now before o =
     if not (before.start == o.after.start) || is_none_stored before.stored
@@ -114,44 +114,44 @@ waiting now before o =
 abbrev pub with_frame : ℕ → ℕ → Reordering → Reordering
 with_frame n id r = record r { stored = with_stored (record { number = n; id = id }) r.stored }
 
--- what stands at B without a hole goes up
+-- the frames from B on are released, up to the first hole
 abbrev pub settled : Reordering → ReorderingOutcome
 settled r = moved_to r.start r
 
--- one outcome after another
+-- one outcome followed by another
 abbrev pub followed_by : ReorderingOutcome → ReorderingOutcome → ReorderingOutcome
 followed_by first next = record next { passed = first.passed ++ next.passed }
 
--- the frame of number n is stored, and what stands at B without a hole goes up
+-- the frame of number n is stored, and the frames from B on are released, up to the first hole
 abbrev pub then_stored : ℕ → ℕ → ReorderingOutcome → ReorderingOutcome
 then_stored n id o = followed_by o (settled (with_frame n id o.after))
 
--- where number n is past the window, the window moves so that n is its last
+-- if number n is after the window, the window moves so that n is its last
 abbrev pub with_room_for : ℕ → Reordering → ReorderingOutcome
 with_room_for n r =
     if nat_lt n (r.start + r.window) then record { passed = []; old = false; after = r }
     else moved_to (n + 1 - r.window) r
 
--- number n, at B or past it, arrives: the window has room for it, and it is stored
+-- number n, which is not below B, arrives: the window moves if needed, and the frame is stored
 abbrev pub stored_at : ℕ → ℕ → Reordering → ReorderingOutcome
 stored_at n id r = then_stored n id (with_room_for n r)
 
 abbrev pub given_back : Reordering → ReorderingOutcome
 given_back r = record { passed = []; old = true; after = r }
 
--- it is given back where it is below B, and where it is stored already
+-- a frame is old if its number is below B, or stored already
 abbrev pub number_arrived : Option ℕ → ℕ → ℕ → Reordering → ReorderingOutcome
 number_arrived None id now r = given_back r
 number_arrived (Some n) id now r = if is_stored n r.stored then given_back r
     else waiting now r (stored_at n id r)
 
--- twelve bits arrive, of the frame with this id
+-- the frame with this id, whose number has these twelve bits, arrives
 abbrev pub arrived : ℕ → ℕ → ℕ → Reordering → ReorderingOutcome
 arrived bits id now r = number_arrived (number_read bits r.start) id now r
 
 -- ---- the time limit
 
--- the clock since which it waits, where a frame is stored
+-- the clock at which the current wait began, if a frame is stored
 abbrev pub waits_since_of : Reordering → Option ℕ
 waits_since_of r = if is_none_stored r.stored then None else Some r.since
 

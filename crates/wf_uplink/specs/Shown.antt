@@ -1,4 +1,4 @@
--- What a caller sees of a delivery: sequence numbers are told modulo 4096.
+-- Defines what a caller sees of a delivery, in which sequence numbers are modulo 4096.
 use Rattle.std.specs.Prelude.{ℕ, ◌%◌, Bool, true, false, [], map}
 use Rattle.wf_uplink.specs.declared.items.UpItem.{UpItem}
 use Rattle.wf_uplink.specs.declared.items.UpItem.TheVariants.{Frame, Gap}

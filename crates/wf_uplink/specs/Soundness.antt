@@ -1,4 +1,4 @@
--- What holds of every world that calls lead to.
+-- Defines the invariant of the uplink, which holds in every world that calls lead to.
 use Rattle.std.specs.Prelude.{◌≡◌, ℕ, ◌+◌, ◌*◌, ◌^◌, ◌-◌, ◌<◌, ◌≤◌, List, [], ◌∷◌, length, slice_index, Option, None, Some}
 use Rattle.wf_def_air.specs.Airtime.{Rate}
 use Rattle.wf_uplink.specs.Reordering.{Reordering, Stored, waits_since_of}
@@ -9,13 +9,13 @@ abbrev pub StoredFrom : ℕ → List Stored → Type 0
 StoredFrom n [] = Unit {0}
 StoredFrom n (x ∷ later) = (n ≤ x.number) × StoredFrom (x.number + 1) later
 
--- the window has a number, and what is stored stands past B in rising order
+-- the window is not empty, and the numbers stored rise and are not below B
 pub record ReorderingIsOrderly (r : Reordering) : Type 0 where
   pub window : 1 ≤ r.window
   pub rising : StoredFrom r.start r.stored
 
--- Each reordering is in order, B has moved by what is told, a station that is not opened has nothing stored,
--- and each frame is counted once.
+-- Each reordering is orderly, B is bounded by the numbers that were passed, a station that is not open has
+-- nothing stored, and each frame is counted once.
 pub record IsSound (w : World) : Type 0 where
   pub size : length w.reorderings ≡ tids_of_station * length w.rates
   pub orderly : (place : ℕ) → ReorderingIsOrderly (reordering_at w place)
@@ -28,12 +28,12 @@ pub record IsSound (w : World) : Type 0 where
 abbrev pub latest : ℕ
 latest = 2 ^ 62
 
--- what a wait is worth in the tournament of waits: the longer the more, and nothing where none waits
+-- the value of a wait in the tournament tree: greater for a longer wait, 0 if there is none
 abbrev pub worth_of : Option ℕ → ℕ
 worth_of None = 0
 worth_of (Some since) = latest - since
 
--- the tournament holds what each wait is worth, and no wait began later than now
+-- the tournament tree has the value of each wait, and no wait began in the future
 pub record IsWatched (w : World) (waits : List ℕ) : Type 0 where
   pub size : length waits ≡ 2048
   pub stations : length w.rates ≤ 256

@@ -1,5 +1,5 @@
--- What stations send to the access point: the reorderings of all, the clock, what is charged, the totals; and
--- what each call answers.
+-- Defines the world of the uplink: the reorderings of all stations, their rates, the clock and the totals;
+-- and for each call its answer and the world after it.
 use Rattle.std.specs.Prelude.{ℕ, zero, suc, ◌+◌, ◌*◌, ◌/◌, ◌%◌, nat_lt, nat_le, ◌&&◌, not, Bool, false, List, [], ◌∷◌, length, replicate, slice_set, slice_index_or, sum_by, position, Option, Some, None, is_some, if◌then◌else◌}
 use Rattle.std.specs.Option.{option_or}
 use Rattle.wf_def_air.specs.Airtime.{Rate, lowest_rate, data_charge}
@@ -12,19 +12,19 @@ use Rattle.wf_uplink.specs.Reordering.{Reordering, Passed, Released, GivenUp, Re
 
 pub record World : Type 0 where
   pub clock : ℕ  -- in microseconds
-  pub rates : List (Option Rate)  -- of each station, by its number: none until it is opened
-  pub reorderings : List Reordering  -- eight of each station: by station, then TID
-  pub frames : ℕ  -- accepted
-  pub up : ℕ  -- frames released
-  pub back : ℕ  -- frames given back
-  pub missing : ℕ  -- numbers given up
+  pub rates : List (Option Rate)  -- by station; None until it is opened
+  pub reorderings : List Reordering  -- eight for each station: by station, then by TID
+  pub frames : ℕ  -- accepted frames
+  pub up : ℕ  -- released frames
+  pub back : ℕ  -- old frames
+  pub missing : ℕ  -- numbers that were given up
 
--- what goes up
+-- the result of a frame or a timeout
 pub record Delivery : Type 0 where
   pub station : ℕ
   pub tid : ℕ
-  pub air : ℕ  -- what the frame is charged, in microseconds
-  pub old : Bool  -- whether the frame is given back
+  pub air : ℕ  -- the charge for the frame, in microseconds
+  pub old : Bool  -- whether the frame is old
   pub passed : List Passed
 
 pub data Call : Type 0 where
@@ -37,15 +37,15 @@ pub data Call : Type 0 where
 pub data Answer : Type 0 where
   Opened : Answer
   NotOpened : (fault : OpenFault) → Answer
-  RateSet : Answer
-  NotSet : Answer  -- the station was not opened
+  Set : Answer
+  NotSet : Answer  -- the station is not open
   Received : (delivery : Delivery) → Answer
   NotReceived : (fault : UplinkFault) → Answer
   Now : (now : ℕ) → Answer
   TimedOut : (delivery : Delivery) → Answer
   NoneDue : Answer
 
--- how many TIDs a station has
+-- the number of TIDs of a station
 abbrev pub tids_of_station : ℕ
 tids_of_station = 8
 
@@ -67,7 +67,7 @@ rate_of w station = slice_index_or w.rates station None
 abbrev pub is_open : World → ℕ → Bool
 is_open w station = is_some (rate_of w station)
 
--- where the reordering of a station's TID stands in the list
+-- the index of the reordering of a station's TID
 abbrev pub place_of : ℕ → ℕ → ℕ
 place_of station tid = tids_of_station * station + tid
 
@@ -77,7 +77,7 @@ reordering_at w place = slice_index_or w.reorderings place unopened
 abbrev pub reordering_of : World → ℕ → ℕ → Reordering
 reordering_of w station tid = reordering_at w (place_of station tid)
 
--- how many frames are stored
+-- the number of stored frames
 abbrev pub held : World → ℕ
 held w = sum_by (λ r. length r.stored) w.reorderings
 
@@ -91,13 +91,13 @@ open_fault station window start w =
     else (if nat_lt 4095 start then Some BadStart
     else (if is_open w station then Some Live else None)))
 
--- the reorderings of a station's first n TIDs begin anew
+-- the reorderings of a station's first n TIDs are reset
 abbrev pub begun : ℕ → ℕ → ℕ → ℕ → List Reordering → List Reordering
 begun zero station window start reorderings = reorderings
 begun (suc n) station window start reorderings =
     slice_set (begun n station window start reorderings) (place_of station n) (new_reordering start window)
 
--- the station has the lowest rate, and its TIDs begin anew
+-- the station has the lowest rate, and its reorderings are reset
 abbrev pub opened : ℕ → ℕ → ℕ → World → World
 opened station window start w =
     record w {
@@ -108,7 +108,7 @@ opened station window start w =
 
 -- ---- a frame is received
 
--- the frame is from an opened station to the access point
+-- the frame goes from an open station to the access point
 abbrev pub is_mine : List ℕ → World → Bool
 is_mine octets w = is_addressed octets && is_open w (sender_of octets)
 
@@ -122,11 +122,11 @@ receive_fault octets w =
     (option_or (kind_fault octets) (option_or (mine_fault octets w)
     (option_or (uplink_tid_fault octets) (length_fault octets))))
 
--- the octets that go on the air beside a frame's own: its delimiter and its check sequence, four each
+-- the octets on the air in addition to the frame's own: the delimiter and the check sequence, four each
 abbrev pub around_octets : ℕ
 around_octets = 8
 
--- what octets are charged at a rate: the data charge, not wide; nothing where there is no rate
+-- the charge for octets at a rate, not wide; 0 without a rate
 abbrev pub air_of : Option Rate → ℕ → ℕ
 air_of None octets = 0
 air_of (Some rate) octets = data_charge rate (octets + around_octets) false
@@ -144,7 +144,7 @@ given_up_in (GivenUp from count ∷ later) = count + given_up_in later
 abbrev pub count_of : Bool → ℕ
 count_of b = if b then 1 else 0
 
--- a reordering has this outcome, which is counted
+-- the reordering at a place has this outcome, which is counted
 abbrev pub with_outcome : ℕ → ReorderingOutcome → World → World
 with_outcome place o w = record w {
   reorderings = slice_set w.reorderings place o.after;
@@ -153,8 +153,8 @@ with_outcome place o w = record w {
   missing = w.missing + given_up_in o.passed;
 }
 
--- what a frame leads to whose sequence number has these twelve bits, at the reordering of a place; its id is
--- the number of frames accepted before
+-- the outcome of a frame whose sequence number has these twelve bits, at the reordering of a place; its id is
+-- the number of frames accepted before it
 abbrev pub arrival_outcome : ℕ → ℕ → World → ReorderingOutcome
 arrival_outcome place bits w = arrived bits w.frames w.clock (reordering_at w place)
 
@@ -163,11 +163,11 @@ abbrev pub arrived_at : ℕ → ℕ → World → World
 arrived_at place bits w =
     with_outcome place (arrival_outcome place bits w) (record w { frames = w.frames + 1 })
 
--- where the reordering of a frame's station and TID stands
+-- the index of the reordering of a frame's station and TID
 abbrev pub place_of_frame : List ℕ → ℕ
 place_of_frame octets = place_of (sender_of octets) (tid_in_control octets)
 
--- what a frame without fault leads to, at the reordering of its station's TID
+-- the outcome of a frame without fault, at the reordering of its TID
 abbrev pub receive_outcome : List ℕ → World → ReorderingOutcome
 receive_outcome octets w = arrival_outcome (place_of_frame octets) (sequence_of octets) w
 
@@ -185,7 +185,7 @@ delivery_of octets w = record {
 
 -- ---- a hole is given up
 
--- where the first reordering stands that is due: by station, then TID
+-- the index of the first reordering that is due, by station, then by TID
 abbrev pub first_due : World → Option ℕ
 first_due w = position (is_due w.clock) w.reorderings
 
@@ -222,7 +222,7 @@ expire_answer (Some place) w = TimedOut (timeout_of place w)
 
 abbrev pub answer : Call → World → Answer
 answer (Open station window start) w = open_answer (open_fault station window start w)
-answer (SetRate station rate) w = if is_open w station then RateSet else NotSet
+answer (SetRate station rate) w = if is_open w station then Set else NotSet
 answer (Receive octets) w = receive_answer (receive_fault octets w) octets w
 answer (Tick by) w = Now (w.clock + by)
 answer Expire w = expire_answer (first_due w) w
@@ -249,12 +249,12 @@ after_call (Receive octets) w = after_receive (receive_fault octets w) octets w
 after_call (Tick by) w = record w { clock = w.clock + by }
 after_call Expire w = after_expire (first_due w) w
 
--- after a list of calls, one after the other
+-- the world after a list of calls
 unfoldable pub after_calls : World → List Call → World
 after_calls w [] = w
 after_calls w (call ∷ later) = after_calls (after_call call w) later
 
--- what they answer
+-- the answers to a list of calls
 unfoldable pub answers : World → List Call → List Answer
 answers w [] = []
 answers w (call ∷ later) = answer call w ∷ answers (after_call call w) later

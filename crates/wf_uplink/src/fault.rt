@@ -1,36 +1,36 @@
-//! Why the calls of the uplink are refused. The variants stand in the order of the checks, and the first
-//! check that fails is told.
+//! The reasons why a call of the uplink is refused. The variants are in the order of the checks, and the
+//! first check that fails is reported.
 
 use wf_octets::header::HeaderFault;
 
-/// Why a station is not opened.
+/// The reason why a station cannot be opened.
 #[derive(Clone, Copy, Debug, PartialEq, Eq)]
 pub enum OpenFault {
-    /// There is no such station.
+    /// No station has this number.
     BadStation,
-    /// The window is not 1 to 256.
+    /// The window is not from 1 to 256.
     BadWindow,
     /// The first number is above 4095.
     BadStart,
-    /// It was opened before.
+    /// The station was opened before.
     Live,
 }
 
-/// The station was not opened.
+/// The station is not open.
 #[derive(Clone, Copy, Debug, PartialEq, Eq)]
 pub struct Closed;
 
-/// Why octets off the air are no data frame of an opened station.
+/// The reason why octets are not a data frame of an open station.
 #[derive(Clone, Copy, Debug, PartialEq, Eq)]
 pub enum UplinkFault {
-    /// They begin with no header.
+    /// They do not begin with a header.
     Header(HeaderFault),
-    /// The frame is no QoS Data. This is its first octet.
+    /// The frame is not QoS Data. The value is its first octet.
     Kind(u8),
-    /// To DS is not set, Address 1 is not the access point's, or Address 2 is no opened station's.
+    /// To DS is not set, Address 1 is not the access point's, or Address 2 is not an open station's.
     NotMine,
-    /// The traffic identifier is above 7.
+    /// The TID is above 7.
     Tid(u8),
-    /// The body has not 1 to 2304 octets, but this many.
+    /// The size of the body, `have` octets, is not from 1 to 2304.
     Length { have: usize },
 }

@@ -1,4 +1,4 @@
-//! What a call tells of the sequence numbers that a traffic identifier passes.
+//! The sequence numbers that a call passes: released frames and gaps.
 
 ghost use Rattle.std.specs.Prelude.{◌≡◌, ◌<◌, ◌≤◌, ◌++◌, ◌∷◌, ◌*◌, [], length, slice_get, Some, count_by, sum_by};
 ghost use Rattle.wf_uplink.specs.Shown.{is_frame, missing_of};
@@ -6,23 +6,24 @@ ghost use Rattle.wf_uplink.specs.Shown.{is_frame, missing_of};
 use arrayvec::ArrayVec;
 use std::marker::Model;
 
-/// What is told of some sequence numbers.
+/// A released frame, or a run of numbers that are given up.
 #[derive(Clone, Copy, Debug, PartialEq, Eq)]
 pub enum UpItem {
-    /// A frame goes up: how many were accepted before it, and its sequence number, 0 to 4095.
+    /// A frame is released. `id` is the number of frames accepted before it, `seq` its sequence number, 0 to
+    /// 4095.
     Frame { id: u64, seq: u16 },
-    /// So many numbers from this one on are given up, modulo 4096.
+    /// The `count` numbers from `from` on, modulo 4096, are given up.
     Gap { from: u16, count: u16 },
 }
 
 impl Default for UpItem {
-    /// No number: what lies in the unused places of a list.
+    /// An empty gap, for the unused places of a list.
     fn default() -> Self {
         UpItem::Gap { from: 0, count: 0 }
     }
 }
 
-/// A fixed list of at most 514 items, in the order of their numbers.
+/// A list of at most 514 items, in the order of their numbers. It has a fixed size.
 #[derive(Drop)]
 pub struct Items {
     list: ArrayVec<UpItem, 514>,
@@ -38,7 +39,7 @@ impl Model for Items {
 }
 
 impl Items {
-    /// The empty list.
+    /// Returns the empty list.
     pub fn new() -> Items
         ensures { result ≡ [] }
     {
@@ -47,14 +48,14 @@ impl Items {
         }
     }
 
-    /// Takes out all items.
+    /// Removes all items.
     pub fn clear(&mut self)
         ensures { self.new ≡ [] }
     {
         self.list.clear();
     }
 
-    /// Appends an item; the list must have fewer than 514.
+    /// Appends an item to a list that has fewer than 514.
     pub fn push(&mut self, item: UpItem)
         requires { length self.old < 514 }
         ensures { self.new ≡ self.old ++ item ∷ [] }
@@ -62,7 +63,7 @@ impl Items {
         self.list.push(item);
     }
 
-    /// How many items it has, at most 514.
+    /// Returns the number of items, at most 514.
     pub fn len(&self) -> usize
         ensures count { result ≡ length self.now }
         ensures short { result ≤ 514 }
@@ -70,7 +71,7 @@ impl Items {
         self.list.len()
     }
 
-    /// How many frames go up, and how many numbers are given up.
+    /// Returns the number of released frames, and how many numbers are given up.
     pub(crate) fn counts(&self) -> (u64, u64)
         ensures frames { result.0 ≡ count_by is_frame self.now }
         ensures missing { result.1 ≡ sum_by missing_of self.now }
@@ -88,7 +89,7 @@ impl Items {
         (frames, missing)
     }
 
-    /// The item at a place, counted from 0.
+    /// Returns the item at index `i`.
     pub fn at(&self, i: usize) -> UpItem
         requires { i < length self.now }
         ensures { slice_get self.now i ≡ Some result }

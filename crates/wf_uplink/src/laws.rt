@@ -1,17 +1,19 @@
-//! What holds whatever calls are made, over the definitions alone.
+//! Laws of the uplink's world, which hold after every list of calls. Each is a function without a body, whose
+//! contract states the law.
 
 ghost use Rattle.std.specs.Prelude.{◌≡◌, ℕ, ◌<◌, List, [], ◌∷◌, ◌++◌};
 ghost use Rattle.wf_uplink.specs.Laws.{TidLaw, TotalsLaw, IsCharged, ReadsRight};
 ghost use Rattle.wf_uplink.specs.World.{Delivery, Call, Open, Receive, Opened, Received, new_world, after_calls, answer};
 
-/// Twelve bits stand for the number nearest to B: the one congruent to them in [B - 2048, B + 2047].
+/// Twelve bits are read as the number nearest to B: the one from B - 2048 to B + 2047 that is equal to them
+/// modulo 4096. If it is below B, its frame is old.
 pub fn reading_law()
     ensures { (n b : ℕ) → ReadsRight n b }
 {}
 
-/// Of each traffic identifier of a station that was opened, after every list of calls: what is told stands in
-/// the order of the numbers, the frames that went up rise strictly, and each number from the first to below B
-/// went up once or was named by one gap.
+/// For each TID of a station that was opened, after every list of calls: the released frames and the gaps are
+/// in the order of the numbers, the numbers of the released frames rise strictly, and each number from the
+/// first one to below B is released or in a gap exactly once.
 pub fn tid_law()
     ensures { (stations : ℕ) (before later : List Call) (station window start tid : ℕ) → tid < 8 →
         answer (Open station window start) (after_calls (new_world stations) before) ≡ Opened →
@@ -19,13 +21,13 @@ pub fn tid_law()
         station tid start later }
 {}
 
-/// After every list of calls each accepted frame went up, was given back or is stored, and the totals count
-/// what the answers told.
+/// After every list of calls, each accepted frame was released, was old, or is stored, and the totals equal
+/// the sums over all answers.
 pub fn totals_law()
     ensures { (stations : ℕ) (calls : List Call) → TotalsLaw stations calls }
 {}
 
-/// Each accepted frame is charged what it takes at its station's rate.
+/// Each accepted frame is charged its airtime at its station's rate.
 pub fn air_law()
     ensures { (stations : ℕ) (calls : List Call) (octets : List ℕ) (d : Delivery) →
         answer (Receive octets) (after_calls (new_world stations) calls) ≡ Received d →

@@ -1,4 +1,4 @@
-//! The checks that the octets alone decide.
+//! The checks of a received frame that depend only on its octets.
 
 ghost use Rattle.std.specs.Prelude.{◌≡◌, ◌≤◌, ◌+◌, ◌&&◌, nat_lt, None, Some, IfOk, length, if◌then◌else◌};
 ghost use Rattle.std.specs.Option.{option_or};
@@ -14,7 +14,7 @@ use crate::fault::UplinkFault;
 use wf_frame::GREATEST_BODY;
 use wf_octets::header::{Header, Kind, base_address, decode, station_address};
 
-/// The header of a data frame.
+/// Returns the header of a data frame, or the first fault.
 pub(crate) fn data_header(octets: &[u8]) -> Result<Header, UplinkFault>
     ensures fault { result_err result ≡ option_or (header_fault octets.now) (kind_fault octets.now) }
     ensures read { IfOk result (λ header. BeginsWithHeader octets.now header) }
@@ -27,7 +27,7 @@ pub(crate) fn data_header(octets: &[u8]) -> Result<Header, UplinkFault>
     Ok(header)
 }
 
-/// Whether a frame goes from the station to the access point.
+/// Returns whether a frame goes from the station to the access point.
 pub(crate) fn is_from(header: &Header, station: u16) -> bool
     ensures { result ≡
         (header.now.to_ds && bytes_eq header.now.a1 base &&
@@ -36,14 +36,14 @@ pub(crate) fn is_from(header: &Header, station: u16) -> bool
     header.to_ds && header.a1 == base_address() && header.a2 == station_address(station)
 }
 
-/// The number in the last two octets of Address 2, the high one first.
+/// Returns the number in the last two octets of Address 2, the high one first.
 pub(crate) fn sender_of(header: &Header) -> u16
     ensures { result ≡ address_number header.now.a2 }
 {
     u16::from_be_bytes([header.a2[4], header.a2[5]])
 }
 
-/// The length of the body, in octets, after the checks of the traffic identifier and of the length.
+/// Checks the TID and the length, and returns the size of the body in octets.
 pub(crate) fn body_of(tid: u8, octets: &[u8]) -> Result<u32, UplinkFault>
     requires { 26 ≤ length octets.now }
     ensures fault { result_err result ≡

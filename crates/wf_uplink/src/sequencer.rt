@@ -1,4 +1,4 @@
-//! The reordering of one traffic identifier.
+//! The reordering of one TID.
 
 ghost use Rattle.std.specs.Prelude.{◌≡◌, ◌+◌, ◌^◌, ◌<◌, ◌≤◌, ◌++◌, ◌⊎◌, ◌==◌, ◌||◌, not, [], length, map, true, false, Some, if◌then◌else◌, IfOk, IfSome};
 ghost use Rattle.wf_uplink.specs.Reordering.{new_reordering, unopened, is_none_stored, is_stored, first_number, least_stored, moved_to, with_frame, with_room_for, number_arrived, arrived, timed_out, waits_since_of};
@@ -8,26 +8,23 @@ ghost use Rattle.wf_uplink.specs.Standing.{frames_from};
 use crate::items::{Items, UpItem};
 use std::alloc::{AllocError, Global};
 use std::marker::Model;
-use wf_frame::Ids;
+use wf_frame::{GREATEST_WINDOW, Ids};
 use wf_octets::seq12::Seq12;
 use wf_recv_peer::recipient::Reorder;
 
-/// The greatest window, in numbers.
-const LARGEST: u16 = 256;
-
-/// How far past B a number may stand. One further on is behind it.
+/// The greatest distance of a number after B. A number farther away counts as one before B.
 const FARTHEST: u64 = 2047;
 
-/// Puts the frames of one traffic identifier in the order of their sequence numbers.
+/// Puts the frames of one TID in the order of their sequence numbers.
 ///
-/// The sequence numbers that it hands on are whole; the buffer keeps twelve bits of them.
+/// Its sequence numbers are whole numbers; the buffer stores only their low twelve bits.
 #[derive(Drop)]
 pub(crate) struct Sequencer {
     buffer: Reorder,
-    /// B, the least number that is not passed yet.
+    /// B (the standard's WinStartB): the least number that is not passed yet.
     start: u64,
     window: u16,
-    /// The clock since which a stored frame waits.
+    /// The clock at which the current wait began, in microseconds, if a frame is stored.
     since: u64,
 }
 
@@ -42,8 +39,8 @@ impl Model for Sequencer {
     ghost invariant = { λ s. IsBufferFrom s.start s.window s.buffer };
 }
 
-/// Appends the frames with these ids, whose numbers follow one another from `start` on. Gives the number
-/// after the last.
+/// Appends the frames with these ids, whose numbers are consecutive from `start` on. Returns the number after
+/// the last one.
 fn raise(start: u64, ids: &Ids, items: &mut Items) -> u64
     requires low { start < 2 ^ 63 + 8192 }
     requires room { length items.old + length ids.now ≤ 514 }
@@ -60,20 +57,20 @@ fn raise(start: u64, ids: &Ids, items: &mut Items) -> u64
 }
 
 impl Sequencer {
-    /// No number is passed, and nothing is stored: a window of 256 numbers from 0 on.
+    /// Returns an empty reordering: nothing is passed or stored, and the window is the 256 numbers from 0 on.
     pub(crate) fn new(alloc: Global) -> Result<Sequencer, AllocError>
         ensures { IfOk result (λ s. s ≡ unopened) }
     {
-        let buffer = Reorder::new(alloc, LARGEST)?;
+        let buffer = Reorder::new(alloc, GREATEST_WINDOW)?;
         Ok(Sequencer {
             buffer,
             start: 0,
-            window: LARGEST,
+            window: GREATEST_WINDOW,
             since: 0,
         })
     }
 
-    /// It begins anew, with this first number, at most 4095, and window, 1 to 256 numbers.
+    /// Resets it to the first number `start`, at most 4095, and a window of 1 to 256 numbers.
     pub(crate) fn reset(&mut self, start: u16, window: u16)
         requires { (start ≤ 4095) × (1 ≤ window) × (window ≤ 256) }
         ensures { self.new ≡ new_reordering start window }
@@ -84,7 +81,7 @@ impl Sequencer {
         self.buffer.reset(Seq12::of(self.start), window);
     }
 
-    /// The least number stored.
+    /// Returns the least number that is stored.
     fn first_stored(&self) -> Option<u64>
         requires { self.now.start < 2 ^ 63 + 8192 }
         ensures number { result ≡ first_number self.now.stored }
@@ -100,7 +97,8 @@ impl Sequencer {
         }
     }
 
-    /// Where B stops next on its way to `target`: at the least number stored, or at the target.
+    /// Returns the next number at which B stops on its way to `target`: the least number stored, or the
+    /// target.
     fn next_stop(&self, target: u64) -> u64
         requires forward { self.now.start < target }
         requires low { self.now.start < 2 ^ 63 + 8192 }
@@ -121,7 +119,7 @@ impl Sequencer {
         self.buffer.first_stored().is_none()
     }
 
-    /// The clock since which it waits, where a frame is stored.
+    /// Returns the clock at which the current wait began, if a frame is stored.
     pub(crate) fn waits_since(&self) -> Option<u64>
         ensures { result ≡ waits_since_of self.now }
     {
@@ -132,8 +130,8 @@ impl Sequencer {
         }
     }
 
-    /// B moves to a number that nothing is stored below: the numbers from B on are given up, and what stands
-    /// from it on goes up.
+    /// Moves B to `next`, below which nothing is stored. Gives up the numbers from B to below `next`, and
+    /// releases the frames that are stored from `next` on, up to the first hole.
     fn skip_to(&mut self, next: u64, items: &mut Items)
         requires forward { self.old.start < next }
         requires near { next ≤ self.old.start + 2047 }
@@ -151,8 +149,8 @@ impl Sequencer {
         self.start = raise(next, &ids, items);
     }
 
-    /// B moves to `target`, and past what stands from there on: what is stored below goes up, and each
-    /// longest run of other numbers is given up.
+    /// Moves B to `target`, and on to the first number from there that is not stored. Releases the stored
+    /// frames on the way, and gives up the other numbers, each longest run as one gap.
     fn move_to(&mut self, target: u64, items: &mut Items)
         requires forward { self.old.start < target }
         requires near { target ≤ self.old.start + 2047 }
@@ -167,8 +165,8 @@ impl Sequencer {
         }
     }
 
-    /// The frame of a number of the window is stored, and what stands at B goes up. Whether the number was
-    /// stored already: then nothing changes.
+    /// Stores the frame of a number in the window, and releases the frames from B on, up to the first hole.
+    /// Returns whether the number was stored already; then nothing changes.
     fn store(&mut self, number: u64, id: u64, items: &mut Items) -> bool
         requires from { self.old.start ≤ number }
         requires within { number < self.old.start + self.old.window }
@@ -186,7 +184,7 @@ impl Sequencer {
         back.is_some()
     }
 
-    /// Where a number is past the window, the window moves so that the number is its last.
+    /// Moves the window if the number is after it, so that the number is its last.
     fn make_room(&mut self, number: u64, items: &mut Items)
         requires from { self.old.start ≤ number }
         requires near { number ≤ self.old.start + 2047 }
@@ -195,12 +193,12 @@ impl Sequencer {
         ensures after { self.new ≡ (with_room_for number self.old).after }
         ensures items { items.new ≡ map item_of (with_room_for number self.old).passed }
 
-        // so the number is one of the window
+        // so the number is in the window
         ensures from { self.new.start ≤ number }
         ensures within { number < self.new.start + self.new.window }
         ensures room { length items.new + length self.new.stored < 514 }
 
-        // a number that is stored is one of the window already
+        // a number that is stored is in the window already
         ensures same { is_stored number self.new.stored ≡ is_stored number self.old.stored }
         ensures unchanged { is_stored number self.old.stored ≡ true →
             (self.new ≡ self.old) × (items.new ≡ []) }
@@ -211,7 +209,7 @@ impl Sequencer {
         }
     }
 
-    /// It waits anew, where B moved from `first` or nothing was stored before.
+    /// Starts a new wait if B has moved from `first`, or if nothing was stored before.
     fn renew(&mut self, first: u64, was_empty: bool, now: u64)
         ensures { self.new ≡
             (if not (first == self.old.start) || was_empty
@@ -222,7 +220,7 @@ impl Sequencer {
         }
     }
 
-    /// A number at B or past it arrives. Whether the frame is given back.
+    /// Takes the frame of a number from B on. Returns whether the frame is old.
     fn take(&mut self, number: u64, id: u64, now: u64, items: &mut Items) -> bool
         requires from { self.old.start ≤ number }
         requires near { number ≤ self.old.start + 2047 }
@@ -242,7 +240,8 @@ impl Sequencer {
         is_stored
     }
 
-    /// Twelve bits of a number arrive, with the frame's id. Whether the frame is given back.
+    /// Takes the frame with this id, whose sequence number has these twelve bits. Returns whether the frame
+    /// is old.
     pub(crate) fn arrive(&mut self, bits: Seq12, id: u64, now: u64, items: &mut Items) -> bool
         requires low { self.old.start < 2 ^ 63 + 4096 }
         requires empty { items.old ≡ [] }
@@ -257,7 +256,7 @@ impl Sequencer {
         self.take(self.start + ahead, id, now, items)
     }
 
-    /// It is due: B moves to the least number stored.
+    /// Gives up the hole at B: moves B to the least number stored, and on to the first hole from there.
     pub(crate) fn time_out(&mut self, now: u64, items: &mut Items)
         requires low { self.old.start < 2 ^ 63 + 4096 }
         requires some { is_none_stored self.old.stored ≡ false }

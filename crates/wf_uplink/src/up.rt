@@ -1,28 +1,27 @@
-//! What the calls of the uplink tell.
+//! What a call of the uplink reports.
 
 ghost use Rattle.std.specs.Prelude.{◌≡◌};
 ghost use Rattle.wf_uplink.specs.Shown.{nothing_up};
 
 use crate::Items;
 
-/// What a frame or a timeout sends up. It takes some 8 kB, so a caller makes one and hands it in at each
-/// call.
+/// The result of a frame or a timeout. It has about 8 kB, so a caller makes one and lends it to each call.
 #[derive(Drop)]
 pub struct Up {
-    /// The station that sent.
+    /// The station that sent the frames.
     pub station: u16,
-    /// The traffic identifier, 0 to 7.
+    /// The TID, 0 to 7.
     pub tid: u8,
-    /// What the frame is charged, in microseconds: 0 of a timeout.
+    /// The charge for the frame, in microseconds; 0 for a timeout.
     pub air: u32,
-    /// Whether the frame was given back: its number was passed before, or is stored already.
+    /// The frame is old: its number was passed before, or is stored already.
     pub old: bool,
-    /// What is told of the numbers that the traffic identifier passes, in their order.
+    /// The released frames and the gaps, in the order of their numbers.
     pub items: Items,
 }
 
 impl Up {
-    /// One that tells nothing: all numbers are 0.
+    /// Returns one without items, in which all numbers are 0.
     pub fn new() -> Up
         ensures { result ≡ nothing_up }
     {
@@ -36,17 +35,17 @@ impl Up {
     }
 }
 
-/// How many frames there were, and what became of them: `frames` is `up`, `old` and `held` together.
+/// The number of accepted frames, by what became of them: `frames` is the sum of `up`, `old` and `held`.
 #[derive(Clone, Copy, Debug, PartialEq, Eq)]
 pub struct Totals {
-    /// Frames accepted.
+    /// Accepted frames.
     pub frames: u64,
-    /// Frames sent up.
+    /// Released frames.
     pub up: u64,
-    /// Frames given back.
+    /// Old frames.
     pub old: u64,
-    /// Frames stored.
+    /// Stored frames.
     pub held: u64,
-    /// Sequence numbers given up.
+    /// Sequence numbers that were given up.
     pub missing: u64,
 }

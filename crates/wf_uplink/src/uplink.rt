@@ -1,4 +1,4 @@
-//! The uplink of all stations.
+//! The uplink of all stations, and its calls.
 
 ghost use Rattle.std.specs.Prelude.{◌≡◌, ◌+◌, ◌*◌, ◌^◌, ◌<◌, ◌≤◌, true, false, [], length, map, replicate, slice_index_or, slice_set, IfOk, OnOk, OnErr, IfSome, is_some, is_ok, None};
 ghost use Rattle.wf_uplink.specs.Reordering.{unopened, arrived, timed_out, is_none_stored, waits_since_of};
@@ -16,22 +16,18 @@ use crate::up::{Totals, Up};
 use crate::waits::Waits;
 use std::alloc::{AllocError, Global};
 use std::marker::Model;
+use wf_air::fit::OVERHEAD_OCTETS;
 use wf_air::time::Rate;
+use wf_frame::{GREATEST_START, GREATEST_WINDOW};
 use wf_octets::seq12::Seq12;
 
-/// How many traffic identifiers a station has.
+/// The number of TIDs of a station.
 const TIDS: u32 = 8;
 
-/// The octets of a header of data.
-const HEADER: u32 = 26;
-
-/// The octets that go on the air beside a frame's own: its delimiter and its check sequence, four each.
-const AROUND: u32 = 8;
-
-/// What many stations send to the access point: for each traffic identifier of each station the frames are
-/// put in the order of their sequence numbers, and a hole is waited for 100,000 microseconds.
+/// The receiving side of an access point: puts the frames of each TID of each station in the order of their
+/// sequence numbers, and gives up a hole after 100,000 microseconds (`expired`).
 ///
-/// Only `new` takes memory.
+/// Only `new` allocates memory.
 #[derive(Drop)]
 pub struct Uplink {
     clock: u64,
@@ -57,8 +53,8 @@ impl Model for Uplink {
         IsSound w × IsWatched w u.waits };
 }
 
-/// A data frame of an opened station: who sent it, its traffic identifier, the bits of its sequence
-/// number, and what it is charged, in microseconds.
+/// A data frame of an open station: its sender, its TID, the twelve bits of its sequence number, and its
+/// charge in microseconds.
 #[derive(Drop)]
 struct Heard {
     station: u16,
@@ -77,7 +73,7 @@ fn new_sequencers(alloc: Global, count: u32) -> Result<Vec<Sequencer>, AllocErro
     Ok(made)
 }
 
-/// The traffic identifiers of a station begin anew.
+/// Resets the reorderings of the eight TIDs of a station.
 fn begin(sequencers: &mut [Sequencer], station: u16, window: u16, start: u16)
     requires window { (1 ≤ window) × (window ≤ 256) }
     requires start { start ≤ 4095 }
@@ -89,8 +85,8 @@ fn begin(sequencers: &mut [Sequencer], station: u16, window: u16, start: u16)
     }
 }
 
-/// Twelve bits of a number arrive at the reordering of a place, with the frame's id. Whether the frame is
-/// given back, and since when the reordering waits.
+/// Takes the frame with this id at the reordering of a place. Returns whether the frame is old, and the clock
+/// at which the reordering's wait began, if it waits.
 fn arrive_at(
     sequencers: &mut [Sequencer],
     place: usize,
@@ -116,7 +112,8 @@ fn arrive_at(
     (old, sequencer.waits_since())
 }
 
-/// The reordering of a place, which is due, gives up its hole. Since when it waits.
+/// Gives up the hole of the reordering of a place, which is due. Returns the clock at which its wait began,
+/// if it still waits.
 fn time_out_at(
     sequencers: &mut [Sequencer],
     place: usize,
@@ -139,7 +136,7 @@ fn time_out_at(
     sequencer.waits_since()
 }
 
-/// Where the reordering of a station's traffic identifier stands in the list.
+/// Returns the index of the reordering of a station's TID.
 fn place_of(station: u16, tid: u8) -> usize
     ensures { result ≡ place_at station tid }
 {
@@ -147,9 +144,9 @@ fn place_of(station: u16, tid: u8) -> usize
 }
 
 impl Uplink {
-    /// The uplink of so many stations, 1 to 256, none of which is opened. The clock is at 0.
+    /// Returns the uplink of `stations` stations, 1 to 256, none of which is open. The clock is 0.
     ///
-    /// Fails for want of memory, which no other call takes.
+    /// Fails if memory runs out. No other call allocates.
     pub fn new(alloc: Global, stations: u32) -> Result<Uplink, AllocError>
         requires { (1 ≤ stations) × (stations ≤ 256) }
         ensures { IfOk result (λ u. u ≡ new_world stations) }
@@ -169,11 +166,11 @@ impl Uplink {
         })
     }
 
-    /// Opens a station, with this window and first number for each of its eight traffic identifiers, at the
-    /// lowest rate.
+    /// Opens a station, with a window and a first number that apply to each of its eight TIDs, at the lowest
+    /// rate. Fails with the first check of `OpenFault` that fails.
     #[tactic(auto, unfolding(crate::specs::World::after_call))]
     pub fn open(&mut self, station: u16, window: u16, start: u16) -> Result<(), OpenFault>
-        // refused exactly where a check fails, for the first that does
+        // it fails exactly if a check fails, with the first one
         ensures fault { result_err result ≡ open_fault station window start self.old }
         ensures clock { self.new.clock ≡ self.old.clock }
         ensures after { self.new ≡ after_call (Open station window start) self.old }
@@ -182,10 +179,10 @@ impl Uplink {
         if number >= self.rates.len() {
             return Err(OpenFault::BadStation);
         }
-        if window < 1 || window > 256 {
+        if window < 1 || window > GREATEST_WINDOW {
             return Err(OpenFault::BadWindow);
         }
-        if start > 4095 {
+        if start > GREATEST_START {
             return Err(OpenFault::BadStart);
         }
         if self.rates[number].is_some() {
@@ -196,7 +193,7 @@ impl Uplink {
         Ok(())
     }
 
-    /// Sets the rate of a station. Refused exactly where it was not opened.
+    /// Sets the rate of a station. Fails exactly if the station is not open.
     #[tactic(auto, unfolding(crate::specs::World::after_call))]
     pub fn set_rate(&mut self, station: u16, rate: Rate) -> Result<(), Closed>
         ensures refused { is_ok result ≡ is_open self.old station }
@@ -210,7 +207,7 @@ impl Uplink {
         Ok(())
     }
 
-    /// The rate of a station; none where it is not opened.
+    /// Returns the rate of a station, if it is open.
     fn rate_of(&self, station: u16) -> Option<Rate>
         ensures { result ≡ rate_of self.now station }
     {
@@ -222,13 +219,14 @@ impl Uplink {
         }
     }
 
-    /// Octets came in. `up` tells what goes up of a data frame; after a fault it is as it was.
+    /// Takes the octets of a received frame. Writes the released frames, the gaps and the charge to `up`.
+    /// Fails with the first check of `UplinkFault` that fails, and then leaves `up` unchanged.
     #[tactic(auto, unfolding(crate::specs::World::after_call))]
     pub fn receive(&mut self, octets: &[u8], up: &mut Up) -> Result<(), UplinkFault>
         requires frames { self.old.frames < 2 ^ 62 }
         requires missing { self.old.missing < 2 ^ 62 }
 
-        // refused exactly where a check fails, for the first that does
+        // it fails exactly if a check fails, with the first one
         ensures fault { result_err result ≡ receive_fault octets.now self.old }
         ensures clock { self.new.clock ≡ self.old.clock }
         ensures after { self.new ≡ after_call (Receive octets.now) self.old }
@@ -243,8 +241,7 @@ impl Uplink {
         Ok(())
     }
 
-    /// What is known of octets that are a data frame from an opened station; refused for the first check that
-    /// fails.
+    /// Reads a data frame of an open station. Fails with the first check that fails.
     fn heard(&self, octets: &[u8]) -> Result<Heard, UplinkFault>
         ensures fault { result_err result ≡ receive_fault octets.now self.now }
         ensures station { IfOk result (λ heard. heard.station ≡ sender_in octets.now) }
@@ -267,12 +264,12 @@ impl Uplink {
             station,
             tid: header.tid,
             seq: header.seq,
-            air: rate.data_charge(length + HEADER + AROUND, false),
+            air: rate.data_charge(length + OVERHEAD_OCTETS, false),
         })
     }
 
-    /// A frame arrives at the reordering of its traffic identifier. Whether it is given back; `items`
-    /// tells of the numbers that are passed.
+    /// Takes a frame at the reordering of its TID, and writes the released frames and the gaps to `items`.
+    /// Returns whether the frame is old.
     fn arrive(&mut self, heard: &Heard, items: &mut Items) -> bool
         requires frames { self.old.frames < 2 ^ 62 }
         requires missing { self.old.missing < 2 ^ 62 }
@@ -305,7 +302,7 @@ impl Uplink {
         old
     }
 
-    /// The clock goes on by so many microseconds, at most 10,000,000.
+    /// Moves the clock on by `by` microseconds, at most 10,000,000.
     #[tactic(auto, unfolding(crate::specs::World::after_call))]
     pub fn tick(&mut self, by: u32)
         requires step { by ≤ 10000000 }
@@ -316,8 +313,9 @@ impl Uplink {
         self.clock += u64::from(by);
     }
 
-    /// The first traffic identifier, by station and then by its number, that is due gives up its hole, and
-    /// `up` tells of it. False where none is due; then `up` is as it was.
+    /// Gives up the hole of the first TID that is due, by station and then by TID, and writes the released
+    /// frames and the gaps to `up`. Returns false if none is due; `up` is then unchanged. Call it until it
+    /// returns false.
     #[tactic(auto, unfolding(crate::specs::World::after_call))]
     pub fn expired(&mut self, up: &mut Up) -> bool
         requires frames { self.old.frames < 2 ^ 62 }
@@ -345,7 +343,7 @@ impl Uplink {
         true
     }
 
-    /// How many frames there were, and what became of them.
+    /// Returns the number of accepted frames, by what became of them.
     pub fn totals(&self) -> Totals
         ensures { result ≡ totals_of self.now }
     {

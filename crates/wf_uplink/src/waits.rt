@@ -1,4 +1,4 @@
-//! Which traffic identifiers wait, and which of them is due first.
+//! Since when each TID waits for a hole, and which TID is due first.
 
 ghost use Rattle.std.specs.Prelude.{◌≡◌, ◌+◌, ◌-◌, ◌<◌, ◌≤◌, ℕ, length, replicate, slice_index, slice_set, IfOk, IfNone, IfSome};
 ghost use Rattle.wf_queue_parts.specs.Best.{IsFirstFrom};
@@ -7,18 +7,17 @@ ghost use Rattle.wf_uplink.specs.Soundness.{latest, worth_of};
 
 use std::alloc::{AllocError, Global};
 use std::marker::Model;
+use wf_frame::COUNT_LIMIT;
 use wf_queue_parts::peak::Peak;
 
 /// How long a hole is waited for, in microseconds.
 const TIME_LIMIT: u64 = 100_000;
 
-/// As many places as 256 stations have traffic identifiers.
+/// The number of TIDs of 256 stations.
 const PLACES: u32 = 2048;
 
-/// The clock, in microseconds, and each of the totals stay below this.
-pub const LARGE: u64 = 1 << 62;
-
-/// The clock since which each place waits, in a tournament in which what has waited longer is worth more.
+/// The clock at which the wait of each place began, in a tournament tree in which longer waits have greater
+/// values.
 #[derive(Drop)]
 pub(crate) struct Waits {
     peak: Peak,
@@ -35,7 +34,7 @@ impl Model for Waits {
 }
 
 impl Waits {
-    /// Nothing waits.
+    /// Returns one in which no place waits.
     pub(crate) fn new(alloc: Global) -> Result<Waits, AllocError>
         ensures { IfOk result (λ w. w ≡ replicate 2048 0) }
     {
@@ -43,27 +42,27 @@ impl Waits {
         Ok(Waits { peak })
     }
 
-    /// The place waits since this clock, or it waits no more.
+    /// Sets the clock at which the wait of a place began, or that it does not wait.
     pub(crate) fn set(&mut self, place: usize, since: Option<u64>)
         requires place { place < 2048 }
         requires since { IfSome since (λ clock. clock ≤ latest) }
         ensures { self.new ≡ slice_set self.old place (worth_of since) }
     {
         let worth = match since {
-            Some(since) => LARGE - since,
+            Some(since) => COUNT_LIMIT - since,
             None => 0,
         };
         self.peak.set(place as u32, worth);
     }
 
-    /// The first place that has waited for the time limit.
+    /// Returns the first place whose wait has reached the time limit.
     pub(crate) fn first_due(&self, now: u64) -> Option<usize>
         requires { now < latest }
         ensures none { IfNone result
             ((place : ℕ) → place < 2048 → slice_index self.now place < latest + time_limit - now) }
         ensures some { IfSome result (λ place. IsFirstFrom self.now (latest + time_limit - now) place) }
     {
-        let place = self.peak.first_from(LARGE + TIME_LIMIT - now)?;
+        let place = self.peak.first_from(COUNT_LIMIT + TIME_LIMIT - now)?;
         Some(place as usize)
     }
 }

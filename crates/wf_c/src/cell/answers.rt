@@ -1,5 +1,5 @@
-//! What only a cell answers, in structs of the caller's: the frames that a station passes up, and its
-//! BlockAck. Each shows the answer to the last call.
+//! The parts of an answer that only a cell has, in structs of the caller's: the frames that a station passed
+//! up, and its BlockAck. Each function here shows the answer to the last call.
 
 ghost use Rattle.std.specs.Prelude.{◌≡◌, ◌<◌, ℕ, true, is_some, slice_index, IfSome};
 ghost use Rattle.wf_c.specs.CellAnswers.{ShowsIds, ShowsPassedUp, block_of};
@@ -9,18 +9,18 @@ use crate::cell::slot::CellSlot;
 use crate::pulled::Frames;
 use wf_frame::{Answer, Brief, Ids};
 
-/// The ids of the frames that a station passed up, in order, of which there are `count`.
+/// The frames that a station passed up, in order: the first `count` ids.
 #[repr(C)]
 #[derive(Drop)]
 pub struct PassedUp {
-    /// The id of each.
+    /// The ids.
     pub ids: [u64; 256],
-    /// How many they are, at most 256.
+    /// The number of frames, at most 256.
     pub count: u16,
 }
 
 impl PassedUp {
-    // Shows the ids that an answer passes up, and else none.
+    // Shows the ids that an answer passes up; otherwise sets the count to 0.
     fn show(&mut self, answer: &Answer)
         ensures { ShowsPassedUp self.new answer.now.brief answer.now.ids }
     {
@@ -55,17 +55,17 @@ impl PassedUp {
 #[repr(C)]
 #[derive(Clone, Copy)]
 pub struct Block {
-    /// Its bitmap, the least significant bit of the first word first: bit `n` tells of the number `n` past
-    /// the start.
+    /// Its bitmap. Bit 0 is the least significant bit of the first word, and bit `n` is for the number `n`
+    /// after the start.
     pub bits: [u64; 4],
-    /// The first number that it tells of, 0 to 4095.
+    /// The first number of the bitmap, 0 to 4095.
     pub start: u16,
-    /// 1 where it tells of 256 numbers, and 0 where it tells of 64.
+    /// 1 if the bitmap has 256 bits, and 0 if it has 64.
     pub wide: u8,
 }
 
 impl Block {
-    // The BlockAck that an answer says.
+    // The BlockAck of an answer; all 0 if it has none.
     fn of(brief: Brief) -> Block
         ensures { result ≡ block_of brief }
     {
@@ -91,7 +91,7 @@ impl Block {
     }
 }
 
-/// Shows the frames of the aggregate that the last call sends, and else none.
+/// Shows the frames of the aggregate that the last call sends; if it sends none, their count is 0.
 #[unsafe(no_mangle)]
 pub extern "C" fn wf_cell_frames(cell: &mut CellSlot, frames: &mut Frames)
     requires open { is_some cell.old.value ≡ true }
@@ -101,7 +101,8 @@ pub extern "C" fn wf_cell_frames(cell: &mut CellSlot, frames: &mut Frames)
     frames.show(&cell.held().answer);
 }
 
-/// Shows the ids of the frames that the last call passes up, and else none.
+/// Shows the ids of the frames that a station passed up by the last call; if there are none, their count is
+/// 0.
 #[unsafe(no_mangle)]
 pub extern "C" fn wf_cell_released(cell: &mut CellSlot, up: &mut PassedUp)
     requires open { is_some cell.old.value ≡ true }
@@ -111,7 +112,7 @@ pub extern "C" fn wf_cell_released(cell: &mut CellSlot, up: &mut PassedUp)
     up.show(&cell.held().answer);
 }
 
-/// Shows the BlockAck that the last call is answered with, and else zeros.
+/// Shows the BlockAck that the last call was answered with; otherwise all fields are 0.
 #[unsafe(no_mangle)]
 pub extern "C" fn wf_cell_block(cell: &mut CellSlot, block: &mut Block)
     requires open { is_some cell.old.value ≡ true }

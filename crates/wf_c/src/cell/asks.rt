@@ -1,4 +1,4 @@
-//! The calls of a cell that bring no frame and take none.
+//! The calls of a cell that neither enqueue nor reap a frame.
 
 ghost use Rattle.std.specs.Prelude.{◌≡◌, true, is_some, pos};
 ghost use Rattle.wf_path.specs.declared.job.Job.TheVariants.{Call};
@@ -10,11 +10,11 @@ use crate::cell::slot::CellSlot;
 use crate::reply::Reply;
 use wf_frame::Ask;
 
-/// The numbers show no call, or one that brings a frame or takes one.
+/// The code of numbers that show no call, or one that enqueues or reaps a frame.
 const BAD_CALL: i32 = 43;
 
 impl CellSlot {
-    // Makes a call that brings no frame.
+    // Makes a call that has no frame.
     fn ask(&mut self, caller: u32, ask: Ask, reply: &mut Reply) -> i32
         requires open { is_some self.old.value ≡ true }
         ensures called { TurnsInto (λ h k. IsStepped h caller
@@ -26,8 +26,8 @@ impl CellSlot {
     }
 }
 
-/// Makes a caller's call that brings no frame and takes none, and gives its refusal; gives 43 where the
-/// numbers show no such call, and then nothing changes.
+/// Makes a call that neither enqueues nor reaps a frame. Returns its refusal, or 0; or 43 if the numbers do
+/// not show such a call, and then nothing has changed.
 #[unsafe(no_mangle)]
 pub extern "C" fn wf_cell_ask(
     cell: &mut CellSlot,

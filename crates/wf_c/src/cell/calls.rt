@@ -11,56 +11,55 @@ use crate::reply::number_of_class;
 use arrayvec::ArrayVec;
 use wf_frame::{Argument, Ask, CallForm, Note, RateFormat, Value};
 
-/// A call. `kind` says which one, and which other fields mean something; those are 0 that mean nothing.
+/// A call. `kind` says which call it is, and which other fields have a meaning; in an entry all others are 0.
 #[repr(C)]
 #[derive(Clone, Copy)]
 pub struct CallNumbers {
-    /// The exchange that a transmission of arrives, that is answered, or that ends.
+    /// The exchange that a transmission belongs to, that is answered, or that ends.
     pub exchange: u64,
     /// The flow of a frame.
     pub flow: u32,
-    /// What the clock moves by, in microseconds.
+    /// How far the clock moves, in microseconds.
     pub by: u32,
-    /// The airtime that a station used, or that the end of an exchange names, which is none where this is 0:
-    /// in microseconds.
+    /// The airtime that a station used, or that the end of an exchange gives, in microseconds; 0 gives none.
     pub air: u32,
     /// The station.
     pub station: u16,
-    /// The window of a station that joins, in frames.
+    /// The window of a join, in frames.
     pub window: u16,
-    /// Its first sequence number.
+    /// The first sequence number of a join.
     pub start: u16,
-    /// The index of a transmission that arrives, counted from 0.
+    /// The index of a transmission that arrives, from 0 on.
     pub index: u16,
     /// The length of a frame's body, in octets.
     pub length: u16,
-    /// The guard interval that a station is sent to with at a rate of HE, in nanoseconds.
+    /// The guard interval of a rate of HE, in nanoseconds.
     pub guard: u16,
-    /// Which call: 0 to 13.
+    /// The kind of call: 0 to 13.
     pub kind: u8,
     /// The TID of a frame.
     pub tid: u8,
-    /// The class of a pull, or of airtime that a station used: 0 to 3; a greater number counts as 3.
+    /// The class of a pull, or of airtime that a station used: 0 to 3; a greater number means 3.
     pub class: u8,
-    /// The A-MPDU length exponent of a station that joins.
+    /// The A-MPDU length exponent of a join.
     pub exponent: u8,
-    /// Its weight.
+    /// The weight of a join.
     pub weight: u8,
-    /// The format of the rate that a station is sent to at: 0 for HT, 1 for VHT, 2 for HE.
+    /// The format of a rate: 0 for HT, 1 for VHT, 2 for HE.
     pub form: u8,
-    /// Its MCS.
+    /// The MCS of a rate.
     pub mcs: u8,
-    /// The width of the channel, in MHz.
+    /// The width of a rate's channel, in MHz.
     pub mhz: u8,
     /// Other than 0 for the short guard interval of HT or VHT.
     pub short: u8,
     /// The spatial streams of VHT or HE.
     pub streams: u8,
-    /// Other than 0 where an exchange ends with its answer heard.
+    /// Other than 0 if the BlockAck of an exchange was heard.
     pub heard: u8,
 }
 
-// Nothing is shown.
+// All fields 0.
 const BLANK: CallNumbers = CallNumbers {
     exchange: 0,
     flow: 0,
@@ -85,7 +84,7 @@ const BLANK: CallNumbers = CallNumbers {
     heard: 0,
 };
 
-// The number of a format; 0 is that of HT, which no argument names.
+// The number of a format. 0 is the number of HT, which is no value of the argument.
 fn number_of_format(format: RateFormat) -> u8
     ensures { result ≡ format_number format }
 {
@@ -95,7 +94,7 @@ fn number_of_format(format: RateFormat) -> u8
     }
 }
 
-// The format of a number.
+// The format with this number.
 fn format_of_number(number: u8) -> RateFormat
     ensures { result ≡ format_shown number }
 {
@@ -106,7 +105,7 @@ fn format_of_number(number: u8) -> RateFormat
     }
 }
 
-// The form of a rate by the number of its format.
+// The form of a rate call, by the number of its format.
 fn form_of_rate(number: u8) -> Option<CallForm>
     ensures { result ≡ form_of_format number }
 {
@@ -118,7 +117,7 @@ fn form_of_rate(number: u8) -> Option<CallForm>
     }
 }
 
-// The form of an end by the number of the airtime that it names, if any.
+// The form of a Done, by the airtime that it gives, if any.
 fn form_of_end(air: u32) -> CallForm
     ensures { result ≡ form_of_end (air_named air) }
 {
@@ -129,7 +128,7 @@ fn form_of_end(air: u32) -> CallForm
 }
 
 impl CallNumbers {
-    // The value of an argument that the numbers show.
+    // The value of an argument that the fields show.
     fn value(&self, argument: Argument) -> Value
         ensures { result ≡ value_in self.now argument }
     {
@@ -158,7 +157,7 @@ impl CallNumbers {
         }
     }
 
-    // Shows a value of an argument.
+    // Writes the value of an argument to its field.
     fn show(&mut self, argument: Argument, value: Value)
         ensures { self.new ≡ with_argument self.old argument value }
     {
@@ -187,7 +186,7 @@ impl CallNumbers {
         }
     }
 
-    // The form that the numbers show.
+    // The form that the fields show.
     fn form(&self) -> Option<CallForm>
         ensures { result ≡ form_shown self.now }
     {
@@ -198,7 +197,7 @@ impl CallNumbers {
         }
     }
 
-    // The values of a form's arguments that the numbers show.
+    // The values of a form's arguments that the fields show.
     fn values(&self, form: CallForm) -> ArrayVec<Value, 6>
         ensures { result.items ≡ map (value_in self.now) (arguments_of form) }
     {
@@ -209,14 +208,14 @@ impl CallNumbers {
         values
     }
 
-    // The call of a form, with the values that the numbers show.
+    // The call of a form, with the values that the fields show.
     fn note(&self, form: CallForm) -> Option<Note>
         ensures { result ≡ note_in self.now form }
     {
         Note::of_values(form, self.values(form).as_slice())
     }
 
-    // The call that the numbers show, where it brings no frame and takes none.
+    // The call that the fields show, if it neither enqueues nor reaps a frame.
     #[tactic(auto, unfolding(crate::specs::CallNumbers::asked))]
     pub(crate) fn asked(&self) -> Option<Ask>
         ensures { result ≡ asked self.now }
@@ -225,7 +224,7 @@ impl CallNumbers {
         without_frame(self.note(form)?)
     }
 
-    // The numbers of a call: those of its arguments, and its number in the table of calls.
+    // The fields of a call: its arguments, and its number in the table of calls.
     pub(crate) fn of(note: Note) -> CallNumbers
         ensures fields { result ≡ numbers_of_call note }
         ensures kind { result.kind ≡ form_number (note_form note) }
@@ -239,7 +238,7 @@ impl CallNumbers {
     }
 }
 
-// A call that brings no frame and takes none.
+// The call, if it neither enqueues nor reaps a frame.
 fn without_frame(note: Note) -> Option<Ask>
     ensures { result ≡ without_frame note }
 {
@@ -249,7 +248,7 @@ fn without_frame(note: Note) -> Option<Ask>
     }
 }
 
-// The numbers that show these values of arguments, of a call of no kind.
+// The fields that show these values of arguments, with kind 0.
 fn of_values(arguments: &[Argument], values: &[Value]) -> CallNumbers
     requires same { length arguments.now ≡ length values.now }
     ensures { result ≡ with_arguments blank_call arguments.now values.now }

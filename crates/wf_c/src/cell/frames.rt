@@ -1,4 +1,4 @@
-//! A frame comes into a cell, and a finished one is taken back.
+//! Frames of a cell: it accepts one, and returns a finished one.
 
 ghost use Rattle.std.specs.Prelude.{◌≡◌, ◌⊎◌, true, false, is_some, pos, length};
 ghost use Rattle.wf_path.specs.declared.job.Job.TheVariants.{Give};
@@ -18,7 +18,7 @@ use wf_frame::Ask;
 use wf_queue_parts::chain::Parcel;
 
 impl HeldCell {
-    // A frame comes in. Where it is refused it is freed.
+    // Enqueues a frame, or frees it if it is refused.
     fn give(&mut self, caller: u32, parcel: Parcel) -> Reply
         ensures { IsStepped self.old caller (Give parcel) self.new result }
     {
@@ -26,7 +26,7 @@ impl HeldCell {
         Reply::of(self.answer.brief)
     }
 
-    // Takes the first finished frame back.
+    // Takes out the first finished frame.
     fn reap(&mut self, caller: u32, taken: &mut Taken, body: &mut [u8]) -> Reply
         ensures { IsTakenBack self.old caller self.new result
             taken.old body.old taken.new body.new }
@@ -39,8 +39,8 @@ impl HeldCell {
     }
 }
 
-/// A packet comes for a station. Gives its refusal, 41 where a frame has no such body,
-/// or 40 where there is no memory for it; after 40 and 41 nothing has changed.
+/// Accepts a packet for a station as a frame. Returns 0; 41 if the body is empty or longer than 2304 octets;
+/// 40 if there is no memory for the frame; or the refusal of the call. After 40 and 41 nothing has changed.
 #[unsafe(no_mangle)]
 pub extern "C" fn wf_cell_enqueue(
     alloc: Global,
@@ -68,9 +68,9 @@ pub extern "C" fn wf_cell_enqueue(
     }
 }
 
-/// Takes the first finished frame back, with its body at the front of a buffer, and without it where the
-/// buffer has no octet. Gives the refusal, or 42 where the buffer has some room, and not for the greatest
-/// body: then nothing has changed.
+/// Takes out the first finished frame, and copies its body to the front of a buffer. A buffer of 0 octets
+/// gets no body. Returns the refusal, or 0; or 42 if the buffer has some room, but not for the longest body,
+/// and then nothing has changed.
 #[unsafe(no_mangle)]
 pub extern "C" fn wf_cell_reap(
     cell: &mut CellSlot,

@@ -1,9 +1,9 @@
-//! What lies behind a cell's handle, and the calls of it.
+//! The content of a cell's handle, and its calls.
 
 ghost use Rattle.std.specs.Prelude.{◌≡◌, ℕ, [], IfSome};
 ghost use Rattle.wf_frame.specs.Frames.{FrameValue};
 ghost use Rattle.wf_def_world.specs.World.{opening};
-ghost use Rattle.wf_send_half_refines.specs.Standing.{StandsFor};
+ghost use Rattle.wf_send_half_model.specs.Standing.{StandsFor};
 ghost use Rattle.wf_path.specs.declared.job.Job.TheVariants.{Call};
 ghost use Rattle.wf_c.specs.CellCalls.{IsStepped};
 
@@ -13,7 +13,7 @@ use wf_cell::Job;
 use wf_cell::record::Record;
 use wf_frame::{Answer, Ask, Config};
 
-/// A record, and its answer to the last call, which is lent to one call after another.
+/// A record, and the buffer that each call writes its answer to.
 #[derive(Drop)]
 pub struct HeldCell {
     pub(crate) cell: Record,
@@ -21,8 +21,8 @@ pub struct HeldCell {
 }
 
 impl HeldCell {
-    // A record of these settings, in a block of its own. None where a setting is out of its range, or there
-    // is no memory.
+    // A record with these settings, in its own block of memory. None if a setting is out of its range, or if
+    // there is no memory.
     pub(crate) fn made(alloc: Global, config: Config) -> Option<Box<HeldCell, Global>>
         ensures past { IfSome result (λ made. made.value.cell.past
             ≡ record { config = config; history = [] }) }
@@ -35,7 +35,7 @@ impl HeldCell {
         }
     }
 
-    // A record in a block of its own.
+    // A record in its own block of memory.
     fn boxed(alloc: Global, cell: Record) -> Option<Box<HeldCell, Global>>
         ensures { IfSome result (λ made. made.value.cell ≡ cell) }
     {
@@ -46,7 +46,7 @@ impl HeldCell {
         }
     }
 
-    // Makes a call that brings no frame.
+    // Makes a call that has no frame.
     pub(crate) fn ask(&mut self, caller: u32, ask: Ask) -> Reply
         ensures { IsStepped self.old caller (Call ask) self.new result }
     {

@@ -1,4 +1,4 @@
-//! A cell is made, and freed.
+//! Making and freeing a cell.
 
 ghost use Rattle.std.specs.Prelude.{◌≡◌, ◌⊎◌, ℕ, [], None, true, is_some, pos};
 ghost use Rattle.wf_frame.specs.Frames.{FrameValue};
@@ -12,9 +12,9 @@ use crate::make::{BAD_SETTING, NO_MEMORY};
 use crate::settings::Settings;
 use std::alloc::Global;
 
-/// Makes a cell of these settings in a handle that holds nothing: no station is live, and no call was made.
-/// Gives 0, or 100 and the place of the first setting that is out of its range, or 40 where there is no
-/// memory; then the handle holds nothing still.
+/// Makes a cell with these settings in an empty handle: no station is live, and no call was made. Returns 0;
+/// 100 plus the place of the first setting that is out of its range; or 40 if there is no memory. After an
+/// error the handle is still empty.
 #[unsafe(no_mangle)]
 pub extern "C" fn wf_cell_make(alloc: Global, cell: &mut CellSlot, settings: &Settings) -> i32
     requires empty { cell.old.value ≡ None }
@@ -37,7 +37,7 @@ pub extern "C" fn wf_cell_make(alloc: Global, cell: &mut CellSlot, settings: &Se
     }
 }
 
-/// Frees a cell with all frames that it holds and its history; the handle then holds nothing.
+/// Frees a cell with all frames inside and its history. The handle is then empty.
 #[unsafe(no_mangle)]
 pub extern "C" fn wf_cell_free(alloc: Global, cell: &mut CellSlot)
     requires open { is_some cell.old.value ≡ true }

@@ -1,19 +1,17 @@
-//! What a cell tells of its history without a call of the machine.
+//! Reading a cell's history, without a call of the machine.
 
 ghost use Rattle.std.specs.Prelude.{◌≡◌, true, is_some, length, slice_get, IfSome};
 ghost use Rattle.wf_def_world.specs.Run.{Past};
-ghost use Rattle.wf_cell.specs.Cells.{room_in};
+ghost use Rattle.wf_cell.specs.Cells.{calls_left_in};
 ghost use Rattle.wf_c.specs.CellCalls.{HasPast, ShowsEntry};
 
 use crate::cell::calls::CallNumbers;
 use crate::cell::held::HeldCell;
 use crate::cell::slot::CellSlot;
-use wf_frame::Note;
+use crate::reply::refusal_code;
+use wf_frame::{Note, Refusal};
 
-/// The history has no such entry.
-const NO_ENTRY: i32 = 9;
-
-/// How many entries the history has.
+/// Returns how many entries the history has.
 #[unsafe(no_mangle)]
 pub extern "C" fn wf_cell_len(cell: &mut CellSlot) -> u64
     requires open { is_some cell.old.value ≡ true }
@@ -23,18 +21,18 @@ pub extern "C" fn wf_cell_len(cell: &mut CellSlot) -> u64
     cell.held().cell.len()
 }
 
-/// How many entries the history may still take.
+/// Returns how many more entries the history has room for.
 #[unsafe(no_mangle)]
 pub extern "C" fn wf_cell_room(cell: &mut CellSlot) -> u64
     requires open { is_some cell.old.value ≡ true }
-    ensures room { (p : Past) → HasPast cell.old.value p → result ≡ room_in p }
+    ensures room { (p : Past) → HasPast cell.old.value p → result ≡ calls_left_in p }
     ensures unchanged { cell.new.value ≡ cell.old.value }
 {
-    cell.held().cell.room()
+    cell.held().cell.calls_left()
 }
 
 impl HeldCell {
-    // An entry of the history, counted from 0. None where the history is shorter.
+    // An entry of the history, counted from 0. None if the history is shorter.
     fn entry(&self, place: u64) -> Option<(u32, Note)>
         ensures { result ≡ slice_get self.now.cell.past.history place }
     {
@@ -46,8 +44,8 @@ impl HeldCell {
     }
 }
 
-/// Writes an entry of the history, counted from 0: who called, and the call; gives 0, or 9 where the history
-/// is shorter, and then writes nothing.
+/// Writes an entry of the history, counted from 0: the caller and the call. Returns 0; or 9 if the history is
+/// shorter, and then writes nothing.
 #[unsafe(no_mangle)]
 pub extern "C" fn wf_cell_entry(
     cell: &mut CellSlot,
@@ -66,6 +64,6 @@ pub extern "C" fn wf_cell_entry(
             *call = CallNumbers::of(note);
             0
         }
-        None => NO_ENTRY,
+        None => refusal_code(Refusal::BadIndex),
     }
 }

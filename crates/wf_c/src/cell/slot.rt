@@ -1,17 +1,18 @@
-//! The handle that a C program keeps of a cell.
+//! The handle of a cell.
 
 ghost use Rattle.std.specs.Prelude.{◌≡◌, Option, Some, None, true, is_some};
 ghost use Rattle.std.specs.Borrow.{sem};
-ghost use Rattle.wf_c.specs.CellSlots.{cell_slot_owns};
+ghost use Rattle.wf_c.specs.Slots.{slot_owns};
 ghost use Rattle.wf_c.specs.declared.cell.held.HeldCell.{HeldCell as HeldValue};
+ghost use Rattle.wf_c.specs.contracts.cell.held.HeldCell.{the_row as held_row};
 
 use crate::cell::held::HeldCell;
 use std::alloc::Global;
-use std::marker::Model;
+use std::marker::{Model, Send};
 use std::mem::replace;
 use wf_queue_parts::chain::Unboxed;
 
-/// A cell's handle: the caller's own struct, which is empty or holds a cell.
+/// The handle of a cell: a struct of the caller's that is empty or holds a cell.
 #[repr(C)]
 pub struct CellSlot {
     at: *mut u8,
@@ -20,13 +21,16 @@ pub struct CellSlot {
 }
 
 impl Model for CellSlot {
-    ghost also_owns = { λ s. cell_slot_owns s.alloc s.at s.value };
+    ghost also_owns = { λ s. slot_owns held_row s.alloc s.at s.value };
 }
+
+// A handle may be sent to another thread.
+unsafe impl Send for CellSlot {}
 
 impl CellSlot {
     ghost use Rattle.wf_c.specs.CellLending.{LendsCell};
 
-    // A handle that holds nothing.
+    // An empty handle.
     pub(crate) fn empty(alloc: Global) -> CellSlot
         ensures { result.value ≡ None }
     {
@@ -36,7 +40,7 @@ impl CellSlot {
         }
     }
 
-    // A handle that holds this.
+    // A handle that holds this cell.
     pub(crate) fn full(owned: Unboxed<HeldCell, Global>) -> CellSlot
         ensures { result.value ≡ Some owned.value }
     {
@@ -47,7 +51,7 @@ impl CellSlot {
         }
     }
 
-    // What a handle holds.
+    // The content of a handle.
     pub(crate) fn into_unboxed(self) -> Unboxed<HeldCell, Global>
         requires { is_some self.value ≡ true }
         ensures { self.value ≡ Some result.value }
@@ -59,14 +63,14 @@ impl CellSlot {
         }
     }
 
-    // Ends a handle that holds nothing.
+    // Ends an empty handle.
     pub(crate) fn end(self)
         requires { self.value ≡ None }
     {
         let CellSlot { at: _, alloc: _ } = self;
     }
 
-    // Takes out what a handle holds.
+    // Takes out the content of a handle.
     pub(crate) fn take(&mut self, alloc: Global) -> Box<HeldCell, Global>
         requires { is_some self.old.value ≡ true }
         ensures taken { self.old.value ≡ Some result.value }
@@ -77,7 +81,7 @@ impl CellSlot {
             .into_box()
     }
 
-    // Puts this into a handle that holds nothing.
+    // Puts a cell into an empty handle.
     pub(crate) fn put(&mut self, held: Box<HeldCell, Global>)
         requires { self.old.value ≡ None }
         ensures { self.new.value ≡ Some held.value }
@@ -85,7 +89,7 @@ impl CellSlot {
         replace(self, CellSlot::full(Unboxed::of(held))).end();
     }
 
-    // What a handle holds, in its place; what is left behind the reference is what the handle then holds.
+    // Borrows the content of a handle. The handle then holds the last value at the reference.
     pub(crate) fn held(&mut self) -> &mut HeldCell
         requires { is_some self.old.value ≡ true }
         ensures* writes_back { sem 𝓛 (LendsCell self.entry result) }

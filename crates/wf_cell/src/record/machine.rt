@@ -1,8 +1,8 @@
-//! The record as a machine: its calls and replies are the cell's.
+//! The record as a machine, with the calls and replies of a cell.
 
 ghost use Rattle.wf_frame.specs.Answers.{reply_of};
 ghost use Rattle.wf_path.specs.Jobs.{note_of};
-ghost use Rattle.wf_cell.specs.Cells.{room_in};
+ghost use Rattle.wf_cell.specs.Cells.{calls_left_in};
 ghost use Rattle.wf_cell.specs.Rights.{IsRight};
 
 use crate::record::Record;
@@ -10,8 +10,8 @@ use crate::{Answered, Asking};
 use wf_frame::{Config, Note};
 use wf_machine::Machine;
 
-/// A reply is right where it is that of the run of the history, and where the frame that comes back with it
-/// is the one that it tells of.
+/// A reply is right if it is the one in the run of the history, and if the returned frame is the one that the
+/// reply refers to.
 impl Machine for Record {
     type Call = Asking;
 
@@ -25,15 +25,15 @@ impl Machine for Record {
 
     ghost settings = { λ cell. cell.past.config };
 
-    ghost room = { λ cell. room_in cell.past };
+    ghost calls_left = { λ cell. calls_left_in cell.past };
 
     ghost note = { λ call. note_of call.job };
 
     ghost right = { λ settings history caller call back.
         IsRight settings history call.job (reply_of back.answer.value) back.parcel };
 
-    fn room(&self) -> u64 {
-        Record::room(self)
+    fn calls_left(&self) -> u64 {
+        Record::calls_left(self)
     }
 
     fn step(&mut self, caller: u32, call: Asking) -> Answered {

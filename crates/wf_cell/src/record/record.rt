@@ -13,13 +13,13 @@ ghost use Rattle.wf_def_world.specs.World.{opening};
 ghost use Rattle.wf_def_world.specs.Step.{step};
 ghost use Rattle.wf_law_runs.specs.Laws.{Laws};
 ghost use Rattle.wf_law_runs.specs.Lengths.{HasLengths};
-ghost use Rattle.wf_send_half_refines.specs.Half.{body_of};
-ghost use Rattle.wf_send_half_refines.specs.Standing.{StandsFor};
-ghost use Rattle.wf_send_half_refines.specs.Inside.{is_inside};
+ghost use Rattle.wf_send_half_model.specs.Half.{body_of};
+ghost use Rattle.wf_send_half_model.specs.Standing.{StandsFor};
+ghost use Rattle.wf_send_half_model.specs.Inside.{is_inside};
 ghost use Rattle.wf_path.specs.Addresses.{made_up};
 ghost use Rattle.wf_path.specs.Jobs.{bodies_after, changes_nothing, frame_of, frame_given_back, note_of};
 ghost use Rattle.wf_cell.specs.Bodies.{body_after};
-ghost use Rattle.wf_cell.specs.Cells.{is_received, room_in, with_entry};
+ghost use Rattle.wf_cell.specs.Cells.{is_received, calls_left_in, with_entry};
 ghost use Rattle.wf_cell.specs.Rights.{IsRight};
 
 use crate::{Cell, Job, NewFault, Path};
@@ -28,15 +28,15 @@ use std::marker::Model;
 use wf_frame::{Answer, Config, Note};
 use wf_queue_parts::chain::Parcel;
 
-/// A cell, and all entries of its history in memory. A contract sees it as the cell; the type keeps that the
-/// entries are the cell's history. Only `new` and `of` take memory, and there is room for as many entries as
-/// the setting `calls` says.
+/// A cell, and all entries of its history in memory. Contracts see it as the cell; the invariant says that
+/// the entries are the cell's history. Only `new` and `of` allocate, for as many entries as the setting
+/// `calls`.
 pub struct Record {
     cell: Cell,
     entries: Vec<(u32, Note)>,
 }
 
-// By hand, so that whoever lets a record go proves one call, as of a cell.
+// By hand, so that a caller that drops a record proves one call, as for a cell.
 impl Drop for Record {
     fn drop(self) {
         let Record {
@@ -59,8 +59,8 @@ impl Model for Record {
 }
 
 impl Record {
-    /// A record of these settings: no station is live, and no call was made. Refused as BadConfig where a
-    /// setting is out of its range, with the first such setting, or as NoMemory.
+    /// Makes a record with these settings: no station is live, and no call was made. Fails with `BadConfig`
+    /// and the first setting that is out of its range, or with `NoMemory`.
     pub fn new(alloc: Global, config: Config) -> Result<Record, NewFault>
         ensures bad { (f : Field) →
             (result ≡ Err (NewFault.BadConfig f)) ↔ (first_out_of_range config ≡ Some f) }
@@ -75,7 +75,7 @@ impl Record {
         Ok(record)
     }
 
-    /// The same of settings that are in their ranges. Fails only for want of memory.
+    /// Makes a record with settings that are in their ranges. Fails only if there is no memory.
     pub fn of(alloc: Global, config: Config) -> Result<Record, AllocError>
         requires { first_out_of_range config ≡ None }
         ensures past { IfOk result (λ made. made.past ≡ record { config = config; history = [] }) }
@@ -87,58 +87,59 @@ impl Record {
         Ok(Record { cell, entries })
     }
 
-    /// Makes a call and answers it. The call is one entry of the history, refused or not, while the history
-    /// has fewer entries than the setting `calls`; from then on each call is refused as HistoryFull and is no
-    /// entry.
+    /// Makes a call and answers it. While the history has fewer entries than the setting `calls`, the call
+    /// becomes an entry, refused or not. After that each call is refused as `HistoryFull` and is no entry. A
+    /// frame is returned if it was refused or reaped.
     pub fn step(&mut self, caller: u32, job: Job, answer: &mut Answer) -> Option<Parcel>
-        // where there is room, the history has the call, and the answer is the machine's
-        ensures past { 0 < room_in self.old.past →
+        // if there is room, the history has the call, and the answer is the machine's
+        ensures past { 0 < calls_left_in self.old.past →
             self.new.past ≡ with_entry (by caller (note_of job)) self.old.past }
-        ensures reply { 0 < room_in self.old.past →
+        ensures reply { 0 < calls_left_in self.old.past →
             reply_of answer.new ≡ (step (world_of self.old.past) (note_of job)).reply }
 
-        // the frame that comes back is the one that was refused, or the one that was reaped, as it was
-        // accepted but for its fate
-        ensures parcel { 0 < room_in self.old.past → (bodies : ℕ → FrameValue) →
+        // the returned frame is the one that was refused, or the one that was reaped, unchanged except its
+        // fate
+        ensures parcel { 0 < calls_left_in self.old.past → (bodies : ℕ → FrameValue) →
             StandsFor self.old.half (world_of self.old.past) bodies →
             result ≡ frame_given_back bodies job (reply_of answer.new) }
-        ensures stands { 0 < room_in self.old.past → (bodies : ℕ → FrameValue) →
+        ensures stands { 0 < calls_left_in self.old.past → (bodies : ℕ → FrameValue) →
             StandsFor self.old.half (world_of self.old.past) bodies →
             StandsFor self.new.half (world_of self.new.past)
             (bodies_after self.old.half job (reply_of answer.new) bodies) }
 
-        // an accepted frame brings the body of its id, and a reaped one takes it out; every other body stays,
-        // id by id
-        ensures bodies { 0 < room_in self.old.past → (id : ℕ) →
+        // an accepted frame adds the body of its id, and a reaped frame removes it; all other bodies are
+        // unchanged
+        ensures bodies { 0 < calls_left_in self.old.past → (id : ℕ) →
             body_of self.new.half id ≡ body_after self.old.half (reply_of answer.new) job id }
-        ensures reaped { 0 < room_in self.old.past → (id : ℕ) (fate : Fate) →
+        ensures reaped { 0 < calls_left_in self.old.past → (id : ℕ) (fate : Fate) →
             reply_of answer.new ≡ Reaped id fate →
             IfSome result (λ f. body_of self.old.half id ≡ Some f.body) }
 
-        // a call that is refused leaves the path as it is, and so does one that only receivers hear
+        // a refused call leaves the path unchanged, and so does one that only receivers hear
         ensures path_kept { (is_received job || changes_nothing (reply_of answer.new)) ≡ true →
             self.new.half ≡ self.old.half }
 
-        // so the answer is right, as a gate asks it of a machine
-        ensures right { 0 < room_in self.old.past →
+        // the answer is right, as a gate requires it of a machine
+        ensures right { 0 < calls_left_in self.old.past →
             IsRight self.old.past.config self.old.past.history job (reply_of answer.new) result }
 
-        // where there is none, nothing changes
-        ensures full { room_in self.old.past ≡ 0 → reply_of answer.new ≡ Refused HistoryFull }
-        ensures unchanged { room_in self.old.past ≡ 0 → self.new ≡ self.old }
-        ensures handed_back { room_in self.old.past ≡ 0 → result ≡ frame_of job }
+        // if there is no room, nothing changes
+        ensures full { calls_left_in self.old.past ≡ 0 → reply_of answer.new ≡ Refused HistoryFull }
+        ensures unchanged { calls_left_in self.old.past ≡ 0 → self.new ≡ self.old }
+        ensures handed_back { calls_left_in self.old.past ≡ 0 → result ≡ frame_of job }
 
-        // all laws of runs hold of what was done, in which each frame has 1 to 2304 octets, as some laws ask
+        // all laws of runs hold of the history, in which each frame has 1 to 2304 octets, as some laws
+        // require
         ensures laws { Laws self.new.past.config self.new.past.history }
         ensures lengths { HasLengths self.new.past.history }
     {
-        if self.room() > 0 {
+        if self.calls_left() > 0 {
             self.entries.push_reserved((caller, job.note()));
         }
         self.cell.step(caller, job, answer)
     }
 
-    /// How many entries the history has.
+    /// Returns how many entries the history has.
     pub fn len(&self) -> u64
         ensures count { result ≡ length self.now.past.history }
         ensures most { result ≤ self.now.past.config.calls }
@@ -146,7 +147,7 @@ impl Record {
         self.cell.len()
     }
 
-    /// An entry of the history, counted from 0: its caller and its call.
+    /// Returns an entry of the history, counted from 0: its caller and its call.
     pub fn entry(&self, i: u64) -> (u32, Note)
         requires { i < length self.now.past.history }
         ensures { slice_get self.now.past.history i ≡ Some result }
@@ -154,29 +155,30 @@ impl Record {
         self.entries[i as usize]
     }
 
-    /// How many entries the history may still take.
-    pub fn room(&self) -> u64
-        ensures { result ≡ room_in self.now.past }
+    /// Returns how many more entries the history has room for.
+    pub fn calls_left(&self) -> u64
+        ensures { result ≡ calls_left_in self.now.past }
     {
-        self.cell.room()
+        self.cell.calls_left()
     }
 
-    /// The settings.
+    /// Returns the settings.
     pub fn config(&self) -> Config
         ensures { result ≡ self.now.past.config }
     {
         self.cell.config()
     }
 
-    /// The cell, for what reads no entry.
+    /// The cell, for functions that read no entry.
     pub fn cell(&self) -> &Cell
         ensures { result.now ≡ self.now }
     {
         &self.cell
     }
 
-    /// The transmit path. It stands for the world after the history, and has a body for each frame that was
-    /// accepted and is not reaped: the held ones and those on the finished list. Its addresses are made up.
+    /// The transmit path. It represents the world after the history, and has a body for each frame that was
+    /// accepted and is not reaped: the held frames and those on the finished list. Its addresses are the
+    /// placeholders.
     pub fn path(&self) -> &Path
         ensures value { result.now.half ≡ self.now.half }
         ensures addresses { result.now.addresses ≡ made_up }

@@ -1,4 +1,4 @@
-//! The headers of a capture file, as they are read.
+//! The reader of a capture file's headers.
 
 ghost use Rattle.std.specs.Prelude.{◌≡◌, ◌+◌, ◌≤◌, IfOk, Ok, Some, length};
 ghost use Rattle.wf_io.specs.Capture.{number_in_order, IsHead, packet_in};
@@ -8,81 +8,81 @@ ghost use Rattle.wf_io.specs.declared.pcap.reading.Form.{Form};
 
 use byteorder::{BigEndian, ByteOrder, LittleEndian};
 
-/// The octets of a file header.
+/// The size of a file header in octets.
 pub const FILE_HEAD: usize = 24;
-/// The octets of a packet header.
+/// The size of a packet header in octets.
 pub const PACKET_HEAD: usize = 16;
-/// The magic number of a file in microseconds.
+/// The magic number of a file whose times are in microseconds.
 pub(crate) const MICROSECONDS: u32 = 0xa1b2_c3d4;
-/// The magic number of a file in nanoseconds.
+/// The magic number of a file whose times are in nanoseconds.
 const NANOSECONDS: u32 = 0xa1b2_3c4d;
 /// The version of the format: 2.4.
 pub(crate) const MAJOR: u16 = 2;
 
 pub(crate) const MINOR: u16 = 4;
-/// The link type of IEEE 802.11 frames with no radio fields before them.
+/// The link type of IEEE 802.11 frames without radio fields before them.
 pub(crate) const FRAMES: u32 = 105;
-/// The most octets that a packet may have captured.
+/// The greatest number of captured octets of a packet.
 pub const MOST_CAPTURED: u32 = 262_144;
 
-/// How the numbers of a capture file are written.
+/// How a capture file writes numbers and times.
 #[derive(Clone, Copy, Debug, PartialEq, Eq)]
 pub struct Form {
-    /// Whether the highest octet of a number comes first.
+    /// Numbers are big-endian.
     pub big: bool,
-    /// Whether the parts of a second are nanoseconds, and not microseconds.
+    /// Fractions of a second are in nanoseconds, not in microseconds.
     pub nanos: bool,
 }
 
 /// A packet header.
 #[derive(Clone, Copy, Debug, PartialEq, Eq)]
 pub struct Packet {
-    /// When the packet was captured: whole seconds.
+    /// When the packet was captured, in whole seconds.
     pub seconds: u32,
-    /// The part of a second past them, in the file's microseconds or nanoseconds.
+    /// The fraction of a second after that, in the file's microseconds or nanoseconds.
     pub fraction: u32,
-    /// The octets that follow the header, at most 262,144.
+    /// The number of octets that follow the header, at most 262,144.
     pub captured: u32,
-    /// The octets that the packet had on the air.
+    /// The number of octets that the packet had on the air.
     pub original: u32,
 }
 
-/// Why octets are no header of a capture file of frames.
+/// The reason why octets are not a header of a capture file of frames.
 #[derive(Clone, Copy, Debug, PartialEq, Eq)]
 pub enum PcapFault {
     /// There are fewer octets than the header has.
     Short {
-        /// The octets that the header has: 24 of a file's, 16 of a packet's.
+        /// The size of the header: 24 octets of a file, 16 of a packet.
         need: usize,
-        /// The octets that are there.
+        /// The number of octets that there are.
         have: usize,
     },
-    /// The first number is no magic number in either byte order.
+    /// The first number is not a magic number in either byte order.
     Magic,
     /// The version is not 2.4.
     Version {
         /// The first number of the version.
         major: u16,
-        /// The second.
+        /// The second number of the version.
         minor: u16,
     },
-    /// The low 16 bits of the field of the link type are not 105; the whole field is told.
+    /// The low 16 bits of the link type field are not 105. The value is the whole field.
     Link(u32),
-    /// More octets were captured than a packet may have.
+    /// The number of captured octets exceeds 262,144.
     Long {
-        /// The captured octets that the header tells, above 262,144.
+        /// The number of captured octets in the header.
         captured: u32,
     },
 }
 
-/// Reads the header that a capture file begins with. Zone, accuracy and snap length are ignored, and so are
-/// octets past the header.
+/// Reads the header at the beginning of a capture file, and returns its form or the first fault. It ignores
+/// zone, accuracy and snap length, and octets after the header.
 pub fn read_head(octets: &[u8]) -> Result<Form, PcapFault>
     ensures read { IfOk result (λ form. IsHead octets.now form) }
     ensures complete { (form : Form) → IsHead octets.now form → result ≡ Ok form }
     ensures form { IfOk result (λ form. form_of octets.now ≡ Some form) }
 
-    // it is refused for the first check that fails, and for nothing else
+    // each fault is the first check that fails; other octets are accepted
     ensures fault { result_err result ≡ head_fault octets.now }
 {
     let have = octets.len();
@@ -107,11 +107,12 @@ pub fn read_head(octets: &[u8]) -> Result<Form, PcapFault>
     Ok(form)
 }
 
-/// Reads the header that a packet begins with, in the form of its file. Octets past the header are ignored.
+/// Reads the header at the beginning of a packet, in the form of its file. Returns its fields or the first
+/// fault. It ignores octets after the header.
 pub fn read_packet(form: Form, octets: &[u8]) -> Result<Packet, PcapFault>
     ensures read { IfOk result (λ packet. packet ≡ packet_in form octets.now) }
 
-    // it is refused for the first check that fails, and for nothing else
+    // each fault is the first check that fails; other octets are accepted
     ensures fault { result_err result ≡ packet_fault form octets.now }
 {
     let have = octets.len();
@@ -133,7 +134,7 @@ pub fn read_packet(form: Form, octets: &[u8]) -> Result<Packet, PcapFault>
     })
 }
 
-// The form that the magic number tells.
+// Returns the form that the magic number determines, if it is one.
 fn form_at(octets: &[u8]) -> Option<Form>
     requires { 4 ≤ length octets.now }
     ensures { result ≡ form_of octets.now }
@@ -145,7 +146,7 @@ fn form_at(octets: &[u8]) -> Option<Form>
     Some(Form { big: true, nanos })
 }
 
-// Whether a magic number is that of nanoseconds, where it is one.
+// Returns whether a magic number means nanoseconds, if it is a magic number.
 fn precision(magic: u32) -> Option<bool>
     ensures { result ≡ precision_of magic }
 {
@@ -156,7 +157,7 @@ fn precision(magic: u32) -> Option<bool>
     }
 }
 
-// The number in the two octets from a place on.
+// Returns the number in the two octets at a place.
 fn two_at(big: bool, octets: &[u8], place: usize) -> u16
     requires { place + 2 ≤ length octets.now }
     ensures { result ≡ number_in_order big 2 octets.now place }
@@ -169,7 +170,7 @@ fn two_at(big: bool, octets: &[u8], place: usize) -> u16
     }
 }
 
-// The number in the four octets from a place on.
+// Returns the number in the four octets at a place.
 fn four_at(big: bool, octets: &[u8], place: usize) -> u32
     requires { place + 4 ≤ length octets.now }
     ensures { result ≡ number_in_order big 4 octets.now place }

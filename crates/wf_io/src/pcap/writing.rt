@@ -1,4 +1,4 @@
-//! A capture file as it is written: little-endian, in microseconds.
+//! The writer of capture files, which are little-endian and in microseconds.
 
 ghost use Rattle.std.specs.Prelude.{◌≡◌, ℕ, ◌≤◌, length, take, OnOk};
 ghost use Rattle.std.specs.Io.KnownBytes.{append_known};
@@ -9,10 +9,10 @@ use crate::pcap::reading::{FILE_HEAD, FRAMES, MAJOR, MICROSECONDS, MINOR, PACKET
 use crate::{Failed, Sink, write_all};
 use byteorder::{ByteOrder, LittleEndian};
 
-/// The most octets that a packet has, as the file header tells it.
+/// The greatest size of a packet in octets, as the file header states it.
 const SNAP_LENGTH: u32 = 65_535;
 
-/// Writes the header of a capture file. After a fault, some octets from its front have been written.
+/// Writes the header of a capture file. After a fault, a prefix of it has been written.
 pub fn write_head<K: Sink>(sink: &mut K) -> Result<(), Failed>
     ensures written { OnOk result (K.held sink.new ≡ append_known (K.held sink.old) file_head_octets) }
     ensures prefix { (n : ℕ) × (n ≤ length file_head_octets)
@@ -22,9 +22,9 @@ pub fn write_head<K: Sink>(sink: &mut K) -> Result<(), Failed>
     write_all(sink, &head())
 }
 
-/// Writes a packet that was captured whole at a time in microseconds: its header, and its octets. The header
-/// has 32 bits for the seconds, which begin anew at 0 behind 4,294,967,295. After a fault, some octets from
-/// their front have been written.
+/// Writes a packet that was captured as a whole, at a time in microseconds: its header and its octets. The
+/// header has 32 bits for the seconds, so 0 follows 4,294,967,295. After a fault, a prefix of the packet has
+/// been written.
 pub fn write_packet<K: Sink>(sink: &mut K, at: u64, octets: &[u8]) -> Result<(), Failed>
     requires some { 1 ≤ length octets.now }
     requires most { length octets.now ≤ 65535 }
@@ -38,7 +38,7 @@ pub fn write_packet<K: Sink>(sink: &mut K, at: u64, octets: &[u8]) -> Result<(),
     write_all(sink, octets)
 }
 
-// The file header.
+// Returns the file header.
 fn head() -> [u8; FILE_HEAD]
     ensures { result ≡ file_head_octets }
 {
@@ -51,7 +51,7 @@ fn head() -> [u8; FILE_HEAD]
     head
 }
 
-// The header of a packet of so many octets.
+// Returns the header of a packet of `count` octets.
 #[tactic(auto, using(crate::proofs::CaptureSeconds::seconds_wrap))]
 fn packet_head(at: u64, count: u32) -> [u8; PACKET_HEAD]
     ensures { result ≡ packet_head at count }

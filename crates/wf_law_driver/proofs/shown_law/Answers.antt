@@ -1,3 +1,4 @@
+-- Proves `shown_law`, by Shown.
 use Rattle.wf_law_driver.proofs.Shown.{settles_alike, ends_as_lost}
 use Rattle.wf_law_driver.proofs.shown_law.Goals as goal
 

@@ -1,11 +1,12 @@
--- How often a key stands on a list, and how often one key stands before another.
+-- Proves how often a key occurs in a list, and how often one key occurs before another, for appended,
+-- filtered and split lists. By induction on the list.
 use Rattle.std.proofs.Common.{◌≡◌, refl, ap, sym, ◌∙◌, arith, ℕ, ◌+◌, ◌*◌, ◌<◌, ◌≤◌, Bool, true, false, if◌then◌else◌, ◌==◌, List, [], ◌∷◌, ◌++◌, filter, eq-eqb, inl, inr}
 use Rattle.std.proofs.lemmas.Bool.{cases_Bool, cases_lt, ne_eqb, or_parts}
 use Rattle.wf_def_lists.specs.Table.{has}
 use Rattle.wf_def_lists.specs.Lists.{on}
 use Rattle.wf_def_rotation.specs.Rotation.{Rotation, has_key, in_order, keys_before, keys_from}
 
--- on how many pairs of places j stands before i
+-- Returns the number of pairs of places in which j is before i.
 unfoldable pub ahead : ℕ → ℕ → List ℕ → ℕ
 ahead j i [] = 0
 ahead j i (x ∷ xs) = (if x == j then 1 else 0) * on xs i + ahead j i xs
@@ -31,12 +32,12 @@ unfolding on
 on-append [] ys z = omega arith
 on-append (x ∷ xs) ys z = omega (arith, on-append xs ys z)
 
--- the first number, counted by itself
+-- The head of a list, counted separately.
 pub on-first : (x y : ℕ) (xs : List ℕ) → on (x ∷ xs) y ≡ on (x ∷ []) y + on xs y
 unfolding on
 on-first x y xs = omega arith
 
--- a number that comes last stands on the list as often as one that comes first
+-- Moving the head of a list to its end does not change how often a number occurs.
 pub on-rotated : (xs : List ℕ) (x y : ℕ) → on (xs ++ x ∷ []) y ≡ on (x ∷ xs) y
 on-rotated xs x y = omega (arith, on-append xs (x ∷ []) y, on-first x y xs)
 
@@ -95,7 +96,7 @@ ahead-filter p j i (x ∷ xs) h k = elim (cases_Bool (p x)) [
       rw (hf, ne_eqb x j other, ahead-filter p j i xs h k) (omega arith)
 ]
 
--- ---- against `has`
+-- ---- counts and `has`
 
 pub has-on : (xs : List ℕ) (y : ℕ) → has xs y ≡ true → 0 < on xs y
 unfolding on
@@ -145,7 +146,7 @@ on_order-none r k none = elim (cases_lt 0 (on (in_order r) k)) [
   | inr less ↦ omega arith
 ]
 
--- ---- a list that is cut at a key
+-- ---- a list that is split at a key
 
 pub before_from : (v : ℕ) (xs : List ℕ) → keys_before v xs ++ keys_from v xs ≡ xs
 before_from v [] = refl

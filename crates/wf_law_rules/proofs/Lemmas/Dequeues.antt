@@ -1,10 +1,10 @@
--- What a dequeue gives, drops and leaves, one dropped frame at a time.
+-- Proves statements about every dequeue by induction on the dropped frames.
 use Rattle.std.proofs.Common.{arith, ℕ, zero, suc, List, [], ◌∷◌, ◌≤◌, length}
 use Rattle.wf_def_codel.specs.Codel.{Item, Codel, Params, Dequeued, drops, state_after, dequeued_after, dequeue}
 use Rattle.wf_def_codel.specs.CodelLoop.{giving, dropping_first}
 
--- what holds where nothing is there, where the head is given, and with one frame more dropped, holds of each
--- dequeue
+-- A statement holds for every dequeue if it holds for an empty queue, for a dequeue that returns the head,
+-- and for one more dropped frame.
 pub each_dequeued_after : (P : List Item → Dequeued → Type 0) → ((c : Codel) → P [] (giving c [])) →
     ((x : Item) (xs : List Item) (c : Codel) → P (x ∷ xs) (giving c (x ∷ xs))) →
     ((x : Item) (xs : List Item) (d : Dequeued) → P xs d → P (x ∷ xs) (dropping_first x d)) →
@@ -23,7 +23,7 @@ unfolding dequeue
 each_dequeue P none head more xs p now c = each_dequeued_after P none head more xs (drops p now c xs)
     (state_after p now c xs)
 
--- a dequeue leaves no more
+-- A dequeue does not lengthen the queue.
 pub dequeue_less : (p : Params) (now : ℕ) (c : Codel) (items : List Item) →
     length (dequeue p now c items).rest ≤ length items
 dequeue_less p now c items =

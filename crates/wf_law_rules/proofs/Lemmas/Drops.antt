@@ -1,10 +1,11 @@
--- The closed form and the recursion of CoDel are the same.
+-- Proves how the closed form of CoDel changes with one frame at the head of the queue: its looks, its drops
+-- and its state. Stepped uses these equations.
 use Rattle.std.proofs.Common.{◌≡◌, ℕ, zero, suc, ◌≤◌, ◌<◌, ◌∙◌, refl, ap, arith, Bool, true, false, not, ◌||◌, List, [], ◌∷◌, length, drop, if◌then◌else◌}
 use Rattle.std.specs.Prelude.{nat_lt}
 use Rattle.std.proofs.lemmas.List.{drop_all}
 use Rattle.wf_def_codel.specs.Codel.{Item, Params, Codel, Look, look_at, control_law, rise, look, raised_count, next_due, least, ends_drops, drops_dropping, last_due, state_dropping}
 
--- the looks behind the first
+-- Look i + 1 of a queue is look i of the queue without its head.
 pub look-suc : (p : Params) (now above : ℕ) (x : Item) (rest : List Item) (i : ℕ) →
     look p now above (x ∷ rest) (suc i) ≡ look p now (look_at p now above (x ∷ rest)).first_above rest i
 look-suc p now above x rest zero = refl
@@ -26,11 +27,11 @@ pub least-ext : (f g : ℕ → Bool) → ((i : ℕ) → f i ≡ g i) → (n : �
 least-ext f g same zero = refl
 least-ext f g same (suc n) = rw (same 0, least-ext (λ i. f (suc i)) (λ i. g (suc i)) (λ i. same (suc i)) n)
 
--- the state behind one drop, which was due at `due`
+-- The state after one drop, which was due at `due`.
 abbrev pub dropped_once : Params → ℕ → Codel → ℕ → ℕ → Codel
 dropped_once p now c due above = record c { first_above = above; drop_next = due; count = rise c.count }
 
--- whether a look is ok, and the first_above behind it
+-- `seen` is the first look. The equations here distinguish whether it is ok, and whether the drop is due.
 module _ (p : Params) (now : ℕ) (c : Codel) (due : ℕ) (x : Item) (rest : List Item) where
   abbrev pub seen : Look
   seen = look_at p now c.first_above (x ∷ rest)
@@ -117,7 +118,7 @@ least-at test (suc n) passes =
       | false ↦ λ first. least-at (λ k. test (suc k)) n passes
     ] refl
 
--- a look past the last frame is never ok
+-- A look past the last frame is not ok.
 pub look-past : (p : Params) (now above : ℕ) (items : List Item) (i : ℕ) → length items ≤ i →
     (look p now above items i).ok ≡ false
 look-past p now above [] zero past = refl

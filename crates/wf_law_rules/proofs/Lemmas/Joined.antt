@@ -1,4 +1,5 @@
--- Lists of different numbers: as many as there are; and the lists of a table, put together.
+-- Proves facts about lists without repeats: two lists with the same members have the same length, and lists
+-- without common members can be appended. By induction on the lists.
 use Rattle.std.proofs.Common.{◌≡◌, ◌≢◌, refl, ap, sym, ◌∙◌, arith, ℕ, zero, suc, ◌≤◌, ◌==◌, ◌||◌, ◌⊎◌, Bool, true, false, if◌then◌else◌, inl, inr, List, [], ◌∷◌, ◌++◌, length}
 use Rattle.std.proofs.lemmas.List.{length-append}
 use Rattle.std.proofs.lemmas.List.Sums.{sum_by-cons}
@@ -7,9 +8,9 @@ use Rattle.wf_def_lists.specs.Table.{at, has}
 use Rattle.wf_def_lists.specs.Lists.{IsOnce, IsRising}
 use Rattle.wf_law_rules.proofs.Lemmas.Numbers.{on_bool, eq_yes, yes_eq, either, or_left, or_right}
 
--- ---- as many
+-- ---- equal lengths
 
--- the list without the first x
+-- Returns the list without its first x.
 abbrev without : ℕ → List ℕ → List ℕ
 without x [] = []
 without x (y ∷ ys) = if y == x then ys else y ∷ without x ys
@@ -45,7 +46,7 @@ not_more (x ∷ xs) ys o h =
     in
     omega (arith, rest, length_without x ys there)
 
--- two lists of the same numbers, none twice
+-- Two lists without repeats and with the same members have the same length.
 pub as_many : (xs ys : List ℕ) → IsOnce xs → IsOnce ys → ((k : ℕ) → has xs k ≡ true → has ys k ≡ true) →
     ((k : ℕ) → has ys k ≡ true → has xs k ≡ true) → length xs ≡ length ys
 as_many xs ys o p h k = omega (arith, not_more xs ys o h, not_more ys xs p k)
@@ -66,7 +67,7 @@ rising_once (x ∷ xs) lo r = (
   rising_once xs (suc x) r.1,
 )
 
--- ---- put together
+-- ---- appended lists
 
 pub has_append : (xs ys : List ℕ) (k : ℕ) → has (xs ++ ys) k ≡ (has xs k || has ys k)
 has_append [] ys k = refl
@@ -97,12 +98,12 @@ once_append (x ∷ xs) ys h k apart = (
       (λ d. absurd (cc (apart n e, or_right (x == n) (has xs n) d))) (λ d. d)),
 )
 
--- one list has no number that the other has
+-- The lists have no common member.
 pub apart_lists : (xs ys : List ℕ) → ((k : ℕ) → has xs k ≡ true → has ys k ≡ true → ⊥) → (k : ℕ) →
     has ys k ≡ true → has xs k ≡ false
 apart_lists xs ys h k e = on_bool (has xs k) (λ d. absurd (h k d e)) (λ d. d)
 
--- the lists that f has for the entries of a table
+-- Appends the lists that f gives for the entries of a table.
 abbrev pub all_of : {X : Type 0} → (X → List ℕ) → List X → List ℕ
 all_of f [] = []
 all_of f (x ∷ xs) = f x ++ all_of f xs
@@ -117,7 +118,7 @@ length_all f (x ∷ xs) = omega (
   sum_by-cons (λ y. length (f y)) x xs,
 )
 
--- d: what is each entry past the list's end
+-- d is the value of each entry past the end of the list.
 pub has_all : {X : Type 0} (f : X → List ℕ) (d : X) (xs : List X) (i k : ℕ) → f d ≡ [] →
     has (f (at d xs i)) k ≡ true → has (all_of f xs) k ≡ true
 has_all f d [] i k e h = absurd (cc (h, ap (λ (l : List ℕ). has l k) e))
@@ -136,7 +137,7 @@ in_one f d (x ∷ xs) k h = elim (has_either (f x) (all_of f xs) k h) [
   | inr b ↦ (let r = in_one f d xs k b in record { place = suc r.place; there = r.there })
 ]
 
--- no number twice in one list, and none in two
+-- The appended list has no repeats, if no list has any and no two lists have a common member.
 pub once_all : {X : Type 0} (f : X → List ℕ) (d : X) (xs : List X) → ((i : ℕ) → IsOnce (f (at d xs i))) →
     ((i j k : ℕ) → has (f (at d xs i)) k ≡ true → has (f (at d xs j)) k ≡ true → i ≡ j) → IsOnce (all_of f xs)
 once_all f d [] h apart = tt

@@ -1,4 +1,5 @@
--- Which keys stand on a part of a list.
+-- Proves that the members of parts of a list (filtered, before a key, from a key on) are members of the
+-- list.
 use Rattle.std.proofs.Common.{◌≡◌, refl, ℕ, Bool, true, false, ◌||◌, cond, List, [], ◌∷◌, Option, Some, None, eqb, nat_le, eq-eqb}
 use Rattle.std.specs.Prelude.{filter}
 use Rattle.wf_def_lists.specs.Table.{has}
@@ -11,7 +12,7 @@ has_head x xs = or_left (eqb x x) (has xs x) (eq-eqb x x refl)
 pub has_tail : (x : ℕ) (xs : List ℕ) (k : ℕ) → has xs k ≡ true → has (x ∷ xs) k ≡ true
 has_tail x xs k h = or_right (eqb x k) (has xs k) h
 
--- a key of a list with one key more is this key, or of the list
+-- If each member of one list is a member of another, this also holds with the same head added to both.
 more : (b P Q : Bool) → (P ≡ true → Q ≡ true) → (b || P) ≡ true → (b || Q) ≡ true
 more true P Q f h = refl
 more false P Q f h = f h
@@ -43,7 +44,7 @@ pub has_from : (w : ℕ) (xs : List ℕ) (k : ℕ) → has (keys_from w xs) k �
 has_from w [] k h = h
 has_from w (x ∷ xs) k h = onward (eqb x w) x k (keys_from w xs) xs (has_from w xs k) h
 
--- the first of the least is on the list
+-- The first key with the least round is a member of the list.
 least_of_two : (rounds : ℕ → ℕ) (x : ℕ) (xs : List ℕ) (o : Option ℕ) →
     ((z : ℕ) → o ≡ Some z → has xs z ≡ true) → (z : ℕ) → first_of_two rounds x o ≡ Some z →
     has (x ∷ xs) z ≡ true

@@ -1,9 +1,10 @@
--- Rising lists of numbers as sets, and the receiver's two starts.
+-- Proves facts about tests of numbers, about increasing lists as sets, and about the receiver's two starts
+-- and its BlockAck. By induction on the lists.
 use Rattle.std.proofs.Common.{◌≡◌, ◌≢◌, refl, ap, sym, ◌∙◌, subst, arith, ℕ, suc, ◌+◌, ◌-◌, ◌<◌, ◌≤◌, ◌==◌, nat_lt, nat_le, Bool, true, false, if◌then◌else◌, ◌&&◌, ◌||◌, ◌⊎◌, inl, inr, List, [], ◌∷◌, map, filter}
 use Rattle.wf_def_lists.specs.Table.{has, with_member}
 use Rattle.wf_def_agreement.specs.Receiver.{Receiver, greatest, first_missing, score_start, score, shows}
 
--- the list rises strictly, from lo on
+-- The list increases strictly, and its numbers are at least lo.
 abbrev pub Climbs : ℕ → List ℕ → Type 0
 Climbs lo [] = Unit {0}
 Climbs lo (x ∷ xs) = (lo ≤ x) × Climbs (suc x) xs
@@ -82,7 +83,7 @@ same_bool true b h k = sym (h refl)
 same_bool false true h k = k refl
 same_bool false false h k = refl
 
--- ---- one member more
+-- ---- a set with one more member
 
 with_if : (b c : Bool) (x n k : ℕ) (xs ys : List ℕ) → (b ≡ false → c ≡ true → x ≡ n) →
     (has ys k ≡ ((n == k) || has xs k)) → has (if b then n ∷ x ∷ xs else (if c then x ∷ xs else x ∷ ys)) k
@@ -146,7 +147,7 @@ climbs_at (x ∷ xs) lo k c h = elim (either (x == k) (has xs k) h) [
   | inr e ↦ omega (arith, c.0, climbs_at xs (suc x) k c.1 e)
 ]
 
--- ---- the greatest
+-- ---- the greatest member
 
 pub greatest_least : (xs : List ℕ) (n : ℕ) → n ≤ greatest n xs
 greatest_least [] n = omega arith
@@ -167,7 +168,7 @@ greatest_within (x ∷ xs) n b h f =
     let x_within : x ≤ b = f x (or_left (x == x) (has xs x) (yes_eq x x refl)) in
     omega (arith, greatest_within xs n b h (λ k e. f k (or_right (x == k) (has xs k) e)))
 
--- ---- the least number that is missing
+-- ---- the least missing number
 
 pub missing_ge : (xs : List ℕ) (n : ℕ) → n ≤ first_missing n xs
 missing_ge [] n = omega arith
@@ -215,12 +216,12 @@ missing_not (x ∷ xs) lo n c h =
           missing_not xs (suc x) n c.1 d
     ]) h
 
--- ---- what a BlockAck shows
+-- ---- the numbers that a BlockAck shows
 
 abbrev offsets_of : List ℕ → ℕ → ℕ → List ℕ
 offsets_of xs s w = map (λ n. n - s) (filter (λ n. nat_le s n && nat_lt n (s + w)) xs)
 
--- an offset that is shown stands for a number that arrived
+-- If an offset is shown, its number arrived.
 pub shown_has : (xs : List ℕ) (s w n : ℕ) → s ≤ n → has (offsets_of xs s w) (n - s) ≡ true → has xs n ≡ true
 shown_has [] s w n h e = absurd (cc e)
 shown_has (x ∷ xs) s w n h e =
@@ -234,7 +235,7 @@ shown_has (x ∷ xs) s w n h e =
     ])
     (λ b e. or_right (x == n) (has xs n) (shown_has xs s w n h e)) e
 
--- a number within the scoreboard that arrived is shown
+-- A number in the window of the scoreboard that arrived is shown.
 pub has_shown : (xs : List ℕ) (s w n : ℕ) → s ≤ n → n < s + w → has xs n ≡ true →
     has (offsets_of xs s w) (n - s) ≡ true
 has_shown [] s w n h l e = absurd (cc e)
@@ -256,7 +257,7 @@ has_shown (x ∷ xs) s w n h l e =
       | inr d ↦ has_shown xs s w n h l d
     ])
 
--- every number that arrived is below the end of the scoreboard
+-- Every number that arrived is below the end of the scoreboard.
 pub score_past : (xs : List ℕ) (g w n : ℕ) → has xs n ≡ true → n < greatest g (map (λ k. suc k - w) xs) + w
 score_past [] g w n h = absurd (cc h)
 score_past (x ∷ xs) g w n h = elim (either (x == n) (has xs n) h) [
@@ -271,7 +272,7 @@ score_within (x ∷ xs) g w b h f =
     let x_within : x < b + w = f x (or_left (x == x) (has xs x) (yes_eq x x refl)) in
     omega (arith, score_within xs g w b h (λ n e. f n (or_right (x == n) (has xs n) e)))
 
--- the answer shows a number from its start on exactly where it arrived
+-- The BlockAck shows a number from its start on if and only if the number arrived.
 pub shows_has : (r : Receiver) (n : ℕ) → score_start r ≤ n → shows (score r) n ≡ has r.arrived n
 shows_has r n h = same_bool (shows (score r) n) (has r.arrived n)
     (λ e. shown_has r.arrived (score_start r) r.size n h (both _ _ e).1)

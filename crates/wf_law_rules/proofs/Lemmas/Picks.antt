@@ -1,8 +1,9 @@
--- The pick of keys under other names, and the pick where nobody is ready.
+-- Proves that a pick with other numbers of the keys has the same result with these numbers, and that it has
+-- no winner if and only if no listed key is ready.
 use Rattle.std.proofs.Common.{◌≡◌, refl, ap, sym, subst, ◌∙◌, ℕ, ◌+◌, ◌-◌, min, max, Bool, true, false, not, ◌||◌, ◌&&◌, cond, List, [], ◌∷◌, ◌++◌, map, Option, Some, None, eqb, nat_le, arith}
 use Rattle.std.specs.Prelude.{filter, find, option_map}
 use Rattle.wf_def_lists.specs.Table.{has}
-use Rattle.wf_def_rotation.specs.Rotation.{Rotation, has_key, in_order, keys_before, keys_from, round, first_of_two, first_least, none_ready, picked_now, old_visits, visits, is_out, picked_later, pick_later, pick_from, pick}
+use Rattle.wf_def_rotation.specs.Rotation.{Rotation, has_key, in_order, keys_before, keys_from, round, first_of_two, first_least, none_ready, picked_now, old_visits, all_visits, is_out, picked_later, pick_later, pick_from, pick}
 use Rattle.wf_law_rules.specs.Renamed.{renamed, KeepsApart, Agrees, IsRenamed, IsSame, IsIdle}
 use Rattle.wf_law_rules.proofs.Lemmas.Numbers.{or_left, or_right}
 use Rattle.wf_law_rules.proofs.Lemmas.Joined.{has_append, has_first, has_second}
@@ -54,7 +55,8 @@ module _ (f : ℕ → ℕ) (apart : KeepsApart f) (r : Rotation) (need other : �
       ∙ ap (λ (xs : List ℕ). has xs (f y)) (before_renamed f apart w (in_order r))
       ∙ has_renamed f apart (keys_before w (in_order r)) y)
 
-  visits_is : (w round_won y : ℕ) → visits (renamed f r) (f w) round_won (f y) ≡ visits r w round_won y
+  visits_is : (w round_won y : ℕ) → all_visits (renamed f r) (f w) round_won (f y)
+      ≡ all_visits r w round_won y
   visits_is w round_won y = ap (λ (n : ℕ). n + cond (has (map f r.new) (f y)) 1 0)
       (old_visits_is w round_won y) ∙ ap (λ (b : Bool). old_visits r w round_won y + cond b 1 0)
       (has_renamed f apart r.new y)
@@ -68,20 +70,20 @@ module _ (f : ℕ → ℕ) (apart : KeepsApart f) (r : Rotation) (need other : �
       (round_is y h)
       ∙ ap (λ (n : ℕ). not (ready y) && nat_le (max 1 (round need r y)) n) (old_visits_is w round_won y)
 
-  -- the winner's round and the others' visits
+  -- The winner wins in round `round_won`. Compares the lists and the visits of the other keys.
   module _ (w round_won : ℕ) (stands : has_key r w ≡ true) where
-    turned_is : keys_from (f w) (in_order (renamed f r)) ++ keys_before (f w) (in_order (renamed f r))
+    visited_is : keys_from (f w) (in_order (renamed f r)) ++ keys_before (f w) (in_order (renamed f r))
         ≡ map f (keys_from w (in_order r) ++ keys_before w (in_order r))
-    turned_is =
+    visited_is =
         ap (λ (xs : List ℕ). keys_from (f w) xs ++ keys_before (f w) xs) order_is
         ∙ ap (λ (zs : List ℕ). zs ++ keys_before (f w) (map f (in_order r)))
         (from_renamed f apart w (in_order r))
         ∙ ap (λ (zs : List ℕ). map f (keys_from w (in_order r)) ++ zs) (before_renamed f apart w (in_order r))
         ∙ append_renamed f (keys_from w (in_order r)) (keys_before w (in_order r))
 
-    turned_listed : (k : ℕ) → has (keys_from w (in_order r) ++ keys_before w (in_order r)) k ≡ true →
+    visited_listed : (k : ℕ) → has (keys_from w (in_order r) ++ keys_before w (in_order r)) k ≡ true →
         has_key r k ≡ true
-    turned_listed k h = by_bool (has_key r k ≡ true) (has (keys_from w (in_order r)) k)
+    visited_listed k h = by_bool (has_key r k ≡ true) (has (keys_from w (in_order r)) k)
         (λ late. listed_in r k (has_from w (in_order r) k late))
         (λ off. listed_in r k (has_before w (in_order r) k
         (subst (λ (b : Bool). (b || has (keys_before w (in_order r)) k) ≡ true) off
@@ -91,16 +93,16 @@ module _ (f : ℕ → ℕ) (apart : KeepsApart f) (r : Rotation) (need other : �
         (keys_from (f w) (in_order (renamed f r)) ++ keys_before (f w) (in_order (renamed f r)))
         ≡ map f (filter (λ y. not (is_out need ready r w round_won y))
         (keys_from w (in_order r) ++ keys_before w (in_order r)))
-    kept_is = ap (filter (λ y. not (is_out other others (renamed f r) (f w) round_won y))) turned_is
+    kept_is = ap (filter (λ y. not (is_out other others (renamed f r) (f w) round_won y))) visited_is
         ∙ filter_renamed f (λ y. not (is_out need ready r w round_won y))
         (λ y. not (is_out other others (renamed f r) (f w) round_won y))
         (keys_from w (in_order r) ++ keys_before w (in_order r))
-        (λ k h. ap not (out_is w round_won k (turned_listed k h)))
+        (λ k h. ap not (out_is w round_won k (visited_listed k h)))
 
     gets : (y : ℕ) (b l : Bool) → eqb y w ≡ b → has_key r y ≡ l →
-        cond b (other (f y)) (cond l (min (visits r w round_won y) (other (f y))) 0)
-        ≡ cond b (need y) (cond l (min (visits r w round_won y) (need y)) 0)
-    gets y b true e s = ap (λ (n : ℕ). cond b n (min (visits r w round_won y) n)) (same.needs y s)
+        cond b (other (f y)) (cond l (min (all_visits r w round_won y) (other (f y))) 0)
+        ≡ cond b (need y) (cond l (min (all_visits r w round_won y) (need y)) 0)
+    gets y b true e s = ap (λ (n : ℕ). cond b n (min (all_visits r w round_won y) n)) (same.needs y s)
     gets y false false e s = refl
     gets y true false e s = absurd (both (sym stands ∙ ap (has_key r) (sym (true_eqb y w e)) ∙ s))
 
@@ -111,9 +113,9 @@ module _ (f : ℕ → ℕ) (apart : KeepsApart f) (r : Rotation) (need other : �
       lists = ap (rot []) kept_is;
       quanta = λ y.
           ap (λ (b : Bool). cond b (other (f y)) (cond (has_key (renamed f r) (f y))
-          (min (visits (renamed f r) (f w) round_won (f y)) (other (f y))) 0)) (equal_renamed f apart y w)
+          (min (all_visits (renamed f r) (f w) round_won (f y)) (other (f y))) 0)) (equal_renamed f apart y w)
           ∙ ap (λ (b : Bool). cond (eqb y w) (other (f y))
-          (cond b (min (visits (renamed f r) (f w) round_won (f y)) (other (f y))) 0)) (listed_is y)
+          (cond b (min (all_visits (renamed f r) (f w) round_won (f y)) (other (f y))) 0)) (listed_is y)
           ∙ ap (λ (n : ℕ). cond (eqb y w) (other (f y)) (cond (has_key r y) (min n (other (f y))) 0))
           (visits_is w round_won y)
           ∙ gets y (eqb y w) (has_key r y) refl refl;
@@ -222,7 +224,7 @@ same_pick r need other ready others same =
           ∙ p.quanta key;
     }
 
--- ---- nobody is ready
+-- ---- no key is ready
 
 none_of_two : (rounds : ℕ → ℕ) (x : ℕ) (o : Option ℕ) → first_of_two rounds x o ≡ None → ⊥
 none_of_two rounds x None h = cc

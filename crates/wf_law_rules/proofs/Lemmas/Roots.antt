@@ -1,4 +1,5 @@
--- `root` is the whole root of a number, and the step of the control law is the greatest that fits.
+-- Proves that `root` is the integer square root of a number, by induction on the digits, and that the step
+-- of the control law is the greatest that fits.
 use Rattle.std.proofs.Common.{◌≡◌, ℕ, zero, suc, ◌+◌, ◌*◌, ◌/◌, ◌^◌, ◌≤◌, ◌<◌, inl, inr, refl, arith, true, false, if◌then◌else◌}
 use Rattle.std.specs.Prelude.{nat_le}
 use Rattle.std.proofs.lemmas.Bool.Decides.{leb_tells}
@@ -6,7 +7,7 @@ use Rattle.std.proofs.lemmas.Bool.{leb-true, leb-false}
 use Rattle.std.proofs.Math.Nat.{div-le_self, pow-suc, mul-le-mul, mul-le-mul_right, div-mul-le_self, le-div_iff_mul-le}
 use Rattle.wf_def_codel.specs.Codel.{IsRoot, root, step_of, IsGreatestStep}
 
--- a number whose square is below the next one of r's is at most r
+-- A number whose square is below (r + 1)^2 is at most r.
 pub least_above : (n d r : ℕ) → d * d ≤ n → n < (r + 1) * (r + 1) → d ≤ r
 least_above n d r low high =
     elim (leb_tells d r) [
@@ -34,7 +35,7 @@ root-is (suc digits) n small =
       | false ↦ λ no. record { below = omega (arith, quarter.below); above = leb-false _ _ no }
     ] refl
 
--- the root of a quotient is the greatest step
+-- The root of the quotient is the greatest step.
 pub greatest_step : (interval count root : ℕ) → 0 < count → IsRoot root (interval * interval / count) →
     IsGreatestStep interval count root
 greatest_step interval count root some is = record {

@@ -1,12 +1,13 @@
--- What a pick does to the lists and to the order of the old one.
+-- Proves what a pick does to the lists of a rotation and to the order of the old list. By cases of the
+-- winner: none, in round 0, or in a later round.
 use Rattle.std.proofs.Common.{◌≡◌, refl, ap, sym, ◌∙◌, subst, arith, ℕ, zero, suc, ◌+◌, ◌*◌, ◌<◌, ◌≤◌, min, max, Bool, true, false, if◌then◌else◌, cond, not, ◌&&◌, ◌||◌, ◌==◌, nat_le, List, [], ◌∷◌, ◌++◌, filter, eq-eqb, inl, inr, Option, Some, None, find}
 use Rattle.std.proofs.lemmas.Bool.{cases_Bool, cases_eq, eqb-true, eqb-false, ne_eqb, and_parts, leb-true, leb-false, not_from_true, not_from_false}
 use Rattle.wf_def_lists.specs.Table.{has}
-use Rattle.wf_def_rotation.specs.Rotation.{Rotation, has_key, in_order, round, first_of_two, first_least, keys_before, keys_from, old_visits, visits, is_out, Picked, none_ready, picked_now, picked_later, pick_from, pick}
+use Rattle.wf_def_rotation.specs.Rotation.{Rotation, has_key, in_order, round, first_of_two, first_least, keys_before, keys_from, old_visits, all_visits, is_out, Picked, none_ready, picked_now, picked_later, pick_from, pick}
 use Rattle.wf_def_lists.specs.Lists.{on}
 use Rattle.wf_law_rules.proofs.Lemmas.Counts.{ahead, on-nil, on-cons, on-cons_same, on-cons_other, on-append, ahead-append, ahead-none, on-filter, on-filter_out, on-filter_le, ahead-filter, has-on, hasnot-on, on-has, on-hasnot, before_from, on-before_self, on-split}
 
--- ---- the first ready key of the least round
+-- ---- the first ready key with the least round
 
 pub least-none : (f : ℕ → ℕ) (xs : List ℕ) → first_least f xs ≡ None → (y : ℕ) → on xs y ≡ 0
 least-none f [] e y = on-nil y
@@ -26,7 +27,7 @@ pub record IsLeast (f : ℕ → ℕ) (ready : ℕ → Bool) (xs : List ℕ) (v :
   pub front : (y : ℕ) → 0 < on (keys_before v xs) y → ready y ≡ true → f v < f y
   pub all : (y : ℕ) → 0 < on xs y → ready y ≡ true → f v ≤ f y
 
--- x is the first, and none of the rest is less
+-- x is the head, and no other ready key has a smaller round.
 least_here : (f : ℕ → ℕ) (ready : ℕ → Bool) (xs : List ℕ) (x : ℕ) → ready x ≡ true →
     ((y : ℕ) → 0 < on xs y → ready y ≡ true → f x ≤ f y) → IsLeast f ready (x ∷ xs) x
 least_here f ready xs x h rest = record {
@@ -44,7 +45,7 @@ least_here f ready xs x h rest = record {
         let k : 0 < on [] y = rw (eq-eqb x x refl) at h in
         let e : on [] y ≡ 0 = on-nil y in omega arith
 
--- the least of the rest stays it, where x is not ready or comes later
+-- The least key of the tail is the least of the list, if the head x is not ready or has a greater round.
 least_there : (f : ℕ → ℕ) (ready : ℕ → Bool) (xs : List ℕ) (x v : ℕ) → (x ≡ v → ⊥) →
     (ready x ≡ true → f v < f x) → IsLeast f ready xs v → IsLeast f ready (x ∷ xs) v
 least_there f ready xs x v differs later i = record {
@@ -68,7 +69,7 @@ least_there f ready xs x v differs later i = record {
 same_key : (a b : ℕ) → Some a ≡ Some b → a ≡ b
 same_key a b e = cc
 
--- ready x, and z the least of the rest
+-- x is ready, and z is the least key of the tail.
 least_deep : (f : ℕ → ℕ) (ready : ℕ → Bool) (xs : List ℕ) (x z v : ℕ) → ready x ≡ true →
     IsLeast f ready xs z → (b : Bool) → nat_le (f x) (f z) ≡ b → (if b then Some x else Some z) ≡ Some v →
     IsLeast f ready (x ∷ xs) v
@@ -104,13 +105,13 @@ pub least-some : (f : ℕ → ℕ) (ready : ℕ → Bool) (xs : List ℕ) (v : �
 least-some f ready [] v e = absurd (cc e)
 least-some f ready (x ∷ xs) v e = least_step f ready xs x v (λ z. least-some f ready xs z) (ready x) refl e
 
--- no key of the list is ready
+-- No key of the list is ready.
 pub least-empty : (f : ℕ → ℕ) (ready : ℕ → Bool) (xs : List ℕ) → first_least f (filter ready xs) ≡ None →
     (y : ℕ) → ready y ≡ true → on xs y ≡ 0
 least-empty f ready xs e y is = let e' : on (filter ready xs) y ≡ 0 = least-none f (filter ready xs) e y in
     omega (arith, on-filter ready xs y is)
 
--- ---- the first of the new list that has round 0
+-- ---- the first key of the new list with round 0
 
 find-none_step : (p : ℕ → Bool) (xs : List ℕ) (x y : ℕ) → (find p xs ≡ None → 0 < on xs y → p y ≡ false) →
     (b : Bool) → p x ≡ b → cond b (Some x) (find p xs) ≡ None → 0 < on (x ∷ xs) y → p y ≡ false
@@ -137,9 +138,9 @@ pub find-some : (p : ℕ → Bool) (xs : List ℕ) (v : ℕ) → find p xs ≡ S
 find-some p [] v e = absurd (cc e)
 find-some p (x ∷ xs) v e = find-some_step p xs x v (λ k. find-some p xs v k) (p x) refl e
 
--- ---- the winner has a later round
+-- ---- the winner wins in a later round
 
-abbrev later : (ℕ → ℕ) → (ℕ → Bool) → Rotation → ℕ → Picked
+abbrev pub later : (ℕ → ℕ) → (ℕ → Bool) → Rotation → ℕ → Picked
 later need ready r v = picked_later need ready r v (round need r v)
 
 pub record IsLater (need : ℕ → ℕ) (ready : ℕ → Bool) (r : Rotation) (v : ℕ) : Type 0 where
@@ -147,10 +148,10 @@ pub record IsLater (need : ℕ → ℕ) (ready : ℕ → Bool) (r : Rotation) (v
   pub least : IsLeast (round need r) ready (in_order r) v
   pub positive : 0 < round need r v
 
-once_old : (r : Rotation) (y : ℕ) → on (in_order r) y ≤ 1 → 0 < on r.old y → on r.new y ≡ 0
+pub once_old : (r : Rotation) (y : ℕ) → on (in_order r) y ≤ 1 → 0 < on r.old y → on r.new y ≡ 0
 once_old r y h k = omega (arith, on-append r.old r.new y)
 
--- the round of a key on the old list
+-- The round of a key on the old list.
 round_old : (need : ℕ → ℕ) (r : Rotation) (y : ℕ) → on r.new y ≡ 0 → round need r y ≡ 1 + need y
 round_old need r y h = rw (on-hasnot r.new y h) refl
 
@@ -161,14 +162,15 @@ lists_old r y h = go (has r.new y) (has r.old y) (on-has r.old y h)
     go true b e = refl
     go false b e = e
 
-old_visits-bit : (r : Rotation) (v round_won y : ℕ) → 0 < round_won → on (keys_before v (in_order r)) y ≤ 1 →
+pub old_visits-bit : (r : Rotation) (v round_won y : ℕ) → 0 < round_won →
+    on (keys_before v (in_order r)) y ≤ 1 →
     old_visits r v round_won y + 1 ≡ round_won + on (keys_before v (in_order r)) y
 old_visits-bit r v round_won y some most = elim (cases_Bool (has (keys_before v (in_order r)) y)) [
   | inl ht ↦ let o : 0 < on (keys_before v (in_order r)) y = has-on _ _ ht in rw ht (omega arith)
   | inr hf ↦ let o : on (keys_before v (in_order r)) y ≡ 0 = hasnot-on _ _ hf in rw hf (omega arith)
 ]
 
--- what a key that is not out needs
+-- A key that stays on the old list needed a quantum at each of its visits there.
 needed : (need : ℕ → ℕ) (ready : ℕ → Bool) (r : Rotation) (v y : ℕ) → IsLater need ready r v →
     0 < on r.old y → is_out need ready r v (round need r v) y ≡ false →
     old_visits r v (round need r v) y ≤ need y
@@ -233,8 +235,8 @@ quanta_stay need ready r v y i stands stays = elim (cases_eq y v) [
     is_old : round need r y ≡ 1 + need y
     is_old = round_old need r y new
 
--- a key that stands on the old list afterwards was not out
-not_out : (need : ℕ → ℕ) (ready : ℕ → Bool) (r : Rotation) (v y : ℕ) →
+-- A key that is on the old list after the pick did not leave.
+pub not_out : (need : ℕ → ℕ) (ready : ℕ → Bool) (r : Rotation) (v y : ℕ) →
     0 < on (later need ready r v).lists.old y → is_out need ready r v (round need r v) y ≡ false
 not_out need ready r v y stands = elim (cases_Bool (is_out need ready r v (round need r v) y)) [
   | inl ht ↦ absurd (
@@ -245,7 +247,7 @@ not_out need ready r v y stands = elim (cases_Bool (is_out need ready r v (round
   | inr hf ↦ hf
 ]
 
-bits : (bi bj fi fj b f : ℕ) → bi + fi ≡ 1 → bj + fj ≡ 1 → bi + (b + bj * fi + f) ≡ bj + (f + fj * bi + b)
+pub bits : (bi bj fi fj b f : ℕ) → bi + fi ≡ 1 → bj + fj ≡ 1 → bi + (b + bj * fi + f) ≡ bj + (f + fj * bi + b)
 bits zero zero fi fj b f h k = let e : fi ≡ 1 = omega arith in let e' : fj ≡ 1 = omega arith in
     rw (e, e') (omega arith)
 bits (suc zero) zero fi fj b f h k = let e : fi ≡ 0 = omega arith in let e' : fj ≡ 1 = omega arith in
@@ -275,7 +277,7 @@ stay_later need ready r v i j l at_i at_j stays_i stays_j =
     ahead-filter (λ z. not (is_out need ready r v (round need r v) z)) j i
     (keys_from v (in_order r) ++ keys_before v (in_order r)) (not_from_false _ out_j)
     (not_from_false _ out_i) in
-    let turned : ahead j i (keys_from v (in_order r) ++ keys_before v (in_order r))
+    let visited : ahead j i (keys_from v (in_order r) ++ keys_before v (in_order r))
     ≡ ahead j i (keys_from v (in_order r)) + on (keys_from v (in_order r)) j * on
     (keys_before v (in_order r)) i + ahead j i (keys_before v (in_order r)) =
     ahead-append j i _ _ in
@@ -327,7 +329,7 @@ positive_round need ready r v is none = elim (cases_Bool (has r.new v)) [
   | inr hf ↦ rw hf (omega arith)
 ]
 
-is_later : (need : ℕ → ℕ) (ready : ℕ → Bool) (r : Rotation) (v : ℕ) → ((y : ℕ) → on (in_order r) y ≤ 1) →
+pub is_later : (need : ℕ → ℕ) (ready : ℕ → Bool) (r : Rotation) (v : ℕ) → ((y : ℕ) → on (in_order r) y ≤ 1) →
     ((y : ℕ) → 0 < on r.new y → (ready y && (need y == 0)) ≡ false) →
     first_least (round need r) (filter ready (in_order r)) ≡ Some v → IsLater need ready r v
 is_later need ready r v once none e =
@@ -335,7 +337,7 @@ is_later need ready r v once none e =
     least-some (round need r) ready (in_order r) v e in
     record { once = once; least = least; positive = positive_round need ready r v least.is_ready none }
 
--- a key that stays on the old list moves behind another only with a quantum
+-- Two keys stay on the old list. One moves past the other only if it gets one quantum more.
 pub stay : (need : ℕ → ℕ) (ready : ℕ → Bool) (r : Rotation) (i j : ℕ) → ((y : ℕ) → on (in_order r) y ≤ 1) →
     Stays r (pick need ready r) i j
 unfolding pick
@@ -349,9 +351,9 @@ stay need ready r i j once = go (find (λ y. ready y && (need y == 0)) r.new)
     go None (Some v) e k = rw k (stay_later need ready r v i j
         (is_later need ready r v once (find-none _ r.new e) k))
 
--- ---- what else a pick does
+-- ---- more facts about a pick
 
--- its three cases
+-- A statement holds for a pick if it holds in its three cases.
 pub pick_is : (P : Picked → Type 0) (need : ℕ → ℕ) (ready : ℕ → Bool) (r : Rotation)
     → (((y : ℕ) → ready y ≡ true → on (in_order r) y ≡ 0) → P (none_ready need r))
     → ((v : ℕ) → ready v ≡ true → need v ≡ 0 → 0 < on r.new v → P (picked_now need r v))
@@ -388,15 +390,15 @@ later-on : (need : ℕ → ℕ) (ready : ℕ → Bool) (r : Rotation) (v round_w
     (keys_from v (in_order r) ++ keys_before v (in_order r))) y
 later-on need ready r v round_won y = on-append _ [] y ∙ omega (arith, on-nil y)
 
-turned-on : (r : Rotation) (v y : ℕ) → on (keys_from v (in_order r) ++ keys_before v (in_order r)) y
+visited-on : (r : Rotation) (v y : ℕ) → on (keys_from v (in_order r) ++ keys_before v (in_order r)) y
     ≡ on (in_order r) y
-turned-on r v y = omega (
+visited-on r v y = omega (
   arith,
   on-append (keys_from v (in_order r)) (keys_before v (in_order r)) y,
   on-split v (in_order r) y,
 )
 
--- no key comes to the lists
+-- A pick adds no key to the lists.
 pub pick_on : (need : ℕ → ℕ) (ready : ℕ → Bool) (r : Rotation) (y : ℕ) →
     on (in_order (pick need ready r).lists) y ≤ on (in_order r) y
 pick_on need ready r y = pick_is (λ p. on (in_order p.lists) y ≤ on (in_order r) y) need ready r
@@ -405,12 +407,12 @@ pick_on need ready r y = pick_is (λ p. on (in_order p.lists) y ≤ on (in_order
     (λ v _. omega (
       arith,
       later-on need ready r v (round need r v) y,
-      turned-on r v y,
+      visited-on r v y,
       on-filter_le (λ z. not (is_out need ready r v (round need r v) z))
           (keys_from v (in_order r) ++ keys_before v (in_order r)) y,
     ))
 
--- and no ready key leaves them
+-- A pick removes no ready key from the lists.
 pub pick_keeps : (need : ℕ → ℕ) (ready : ℕ → Bool) (r : Rotation) (y : ℕ) → ready y ≡ true →
     on (in_order (pick need ready r).lists) y ≡ on (in_order r) y
 pick_keeps need ready r y is = pick_is (λ p. on (in_order p.lists) y ≡ on (in_order r) y) need ready r
@@ -418,7 +420,7 @@ pick_keeps need ready r y is = pick_is (λ p. on (in_order p.lists) y ≡ on (in
     (λ v _ _ _. now-on need r v y)
     (λ v _. later-on need ready r v (round need r v) y
     ∙ on-filter (λ z. not (is_out need ready r v (round need r v) z))
-    (keys_from v (in_order r) ++ keys_before v (in_order r)) y (rw is refl) ∙ turned-on r v y)
+    (keys_from v (in_order r) ++ keys_before v (in_order r)) y (rw is refl) ∙ visited-on r v y)
 
 if_most : (b : Bool) (m n : ℕ) → m ≤ n → (if b then m else 0) ≤ n
 if_most true m n h = h
@@ -433,9 +435,10 @@ pub pick_need : (need : ℕ → ℕ) (ready : ℕ → Bool) (r : Rotation) (y : 
 pick_need need ready r y = pick_is (λ p. p.quanta y ≤ need y) need ready r
     (λ _. if_most (has_key r y) (need y) (need y) (omega arith))
     (λ v _ _ _. if_most (has (keys_before v r.new) y) (min 1 (need y)) (need y) (omega arith))
-    (λ v _. if_else_most (y == v) (need y) (if has_key r y then min (visits r v (round need r v) y) (need y)
+    (λ v _. if_else_most (y == v) (need y) (if has_key r y then min (all_visits r v (round need r v) y)
+    (need y)
     else 0) (need y) (omega arith)
-    (if_most (has_key r y) (min (visits r v (round need r v) y) (need y)) (need y) (omega arith)))
+    (if_most (has_key r y) (min (all_visits r v (round need r v) y) (need y)) (need y) (omega arith)))
 
 pub record IsWinner (need : ℕ → ℕ) (ready : ℕ → Bool) (r : Rotation) (p : Picked) (v : ℕ) : Type 0 where
   pub listed : 0 < on (in_order r) v

@@ -1,4 +1,4 @@
--- The recursion over a queue is the closed form.
+-- Proves that the RFC's loop over a queue equals the closed form, by induction on the queue.
 use Rattle.std.proofs.Common.{◌≡◌, ℕ, ◌∙◌, refl, sym, ap, true, false, List, [], ◌∷◌, if◌then◌else◌}
 use Rattle.std.specs.Prelude.{nat_lt}
 use Rattle.wf_def_codel.specs.Codel.{Item, Params, Codel, look_at, control_law, rise, dequeue, drops_dropping, state_dropping, drops_plain, state_plain, drops, state_after, dequeued_after}
@@ -30,7 +30,7 @@ pub dropping-none : (p : Params) (now : ℕ) (c : Codel) (due : ℕ) →
 unfolding dequeue_dropping
 dropping-none p now c due = refl
 
--- where nothing is dropped
+-- No frame is dropped.
 pub gives-head : (x : Item) (rest : List Item) (n : ℕ) (s t : Codel) → n ≡ 0 → s ≡ t →
     giving t (x ∷ rest) ≡ dequeued_after (x ∷ rest) n s
 gives-head x rest n s t none same = rw (none, same) refl
@@ -123,7 +123,7 @@ module _ (p : Params) (now : ℕ) (c : Codel) (items : List Item) where
             ∙ ap (λ t. dequeued_after items (drops_plain p now c items) t) (state-off off))
       ] refl
 
-  -- CoDel on a queue, as the loop and in closed form
+  -- The RFC's dequeue of a queue equals the closed form.
   pub same_dequeue : stepped p now c items ≡ dequeue p now c items
   unfolding dequeue
   same_dequeue = same_stepped

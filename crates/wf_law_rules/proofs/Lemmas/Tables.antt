@@ -1,4 +1,4 @@
--- What holds of each entry of a table.
+-- Proves which entry of a table `put` changes, and that a statement about each entry still holds after it.
 use Rattle.std.proofs.Common.{◌≡◌, ◌≢◌, refl, ℕ, zero, suc, List, [], ◌∷◌}
 use Rattle.wf_def_lists.specs.Table.{at, put}
 

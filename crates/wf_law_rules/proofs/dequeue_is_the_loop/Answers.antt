@@ -1,3 +1,4 @@
+-- Proves `dequeue_is_the_loop` (lib.rt) from the lemmas.
 use Rattle.wf_law_rules.proofs.Lemmas.Drops.{drops_end, drops_before}
 use Rattle.wf_law_rules.proofs.Lemmas.Stepped.{same_dequeue}
 use Rattle.wf_law_rules.proofs.dequeue_is_the_loop.Goals as goal

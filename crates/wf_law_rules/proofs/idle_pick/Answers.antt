@@ -1,3 +1,4 @@
+-- Proves `idle_pick` (lib.rt) from the lemmas.
 use Rattle.wf_law_rules.proofs.Lemmas.Picks.{none_idle, idle_none}
 use Rattle.wf_law_rules.proofs.idle_pick.Goals as goal
 

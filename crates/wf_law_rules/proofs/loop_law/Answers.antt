@@ -1,3 +1,4 @@
+-- Proves `loop_law` (lib.rt) from the lemmas.
 use Rattle.wf_law_rules.proofs.LoopEnds.{end_law}
 use Rattle.wf_law_rules.proofs.LoopLaw.{loop_law}
 use Rattle.wf_law_rules.proofs.loop_law.Goals as goal

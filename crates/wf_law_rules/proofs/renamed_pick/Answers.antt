@@ -1,3 +1,4 @@
+-- Proves `renamed_pick` (lib.rt) from the lemmas.
 use Rattle.wf_law_rules.proofs.Lemmas.Picks.{renamed_pick}
 use Rattle.wf_law_rules.proofs.renamed_pick.Goals as goal
 

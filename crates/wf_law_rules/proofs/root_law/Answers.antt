@@ -1,3 +1,4 @@
+-- Proves `root_law` (lib.rt) from the lemmas.
 use Rattle.wf_law_rules.proofs.Lemmas.Roots.{root-is, same_root}
 use Rattle.wf_law_rules.proofs.root_law.Goals as goal
 

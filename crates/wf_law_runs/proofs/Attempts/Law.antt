@@ -1,4 +1,5 @@
--- The law of how often a number is sent in vain, in every world of a run, answered.
+-- Proves the law of attempts: how often a number is sent without being acknowledged. By induction on the
+-- run and cases of the call.
 use Rattle.std.proofs.Common.{◌≡◌, refl, ap, sym, ◌∙◌, subst, arith, ℕ, zero, suc, ◌+◌, ◌-◌, ◌<◌, ◌≤◌, nat_le, Bool, true, false, if◌then◌else◌, not, ◌==◌, List, [], ◌∷◌, ◌++◌, length, take, Option, Some, None, IfSome}
 use Rattle.wf_frame.specs.declared.settings.Config.{Config}
 use Rattle.wf_frame.specs.declared.classes.Class.{Class}
@@ -30,11 +31,11 @@ use Rattle.wf_law_runs.proofs.Windows.Sides.{Same, sides_of, then_same, each_sid
 use Rattle.wf_law_runs.proofs.Windows.Agreed.{IsLawful, IsReady, IsEnding, IsFound, found, ready_filled, ending_settled, ending_of, lawful_same, lawful_step, lawful_at_first, session_same, winner_ready, same_left_tids, same_off_lists}
 use Rattle.wf_law_runs.proofs.Frames.Delivered.{same_enqueued}
 
--- each number of a session
+-- The attempts of each number of a session.
 abbrev AllTried : ℕ → Session → Type 0
 AllTried limit y = (i : ℕ) → IsTried limit (at no_slot y.slots i)
 
--- each number of each session
+-- The attempts of each number of each session.
 abbrev Tried : ℕ → World → Type 0
 Tried limit w = (s t : ℕ) → AllTried limit (session w s t)
 
@@ -60,7 +61,7 @@ tried_give : (limit : ℕ) (y : Session) (id : ℕ) → 1 ≤ limit → AllTried
 tried_give limit y id some h = tried_append limit y.slots _
     (record { fewer = λ _. omega (arith, some); failed = λ e. absurd (cc e) }) h
 
--- numbers that wait fly
+-- Waiting numbers are sent: their attempts do not change.
 tried_fly : (ms : List Mpdu) (limit : ℕ) (y : Session) (e lo hi : ℕ) → y.first ≤ lo → Rises lo hi ms →
     AllIn y State.Waiting ms
     → AllTried limit y → AllTried limit (with_flying e ms y)
@@ -77,7 +78,7 @@ tried_fly (m ∷ ms) limit y e lo hi b r a h =
     (all_in_later y State.Waiting m.number hi f ms (omega (arith, r.0)) r.2 a.1)
     (tried_put limit y m.number f flies h)
 
--- one attempt more: below the limit it waits again, at the limit it fails
+-- One attempt more: below the limit the number waits again, and at the limit it fails.
 tried_miss : (limit : ℕ) (x : Slot) → x.attempts < limit → IsTried limit (slot_after_miss limit x)
 tried_miss limit x few = go (nat_le limit (x.attempts + 1))
     (λ e. omega (arith, few, le_yes limit (x.attempts + 1) e))
@@ -199,7 +200,7 @@ unfolding with_settled with_failed_finished with_frame_finished with_fate on_ses
 config_settled true w s t m = refl
 config_settled false w s t m = on_if (λ (v : World). v.config ≡ w.config) _ _ _ (λ _. refl) (λ _. refl)
 
--- a number that flies stops flying
+-- A number on the air is acknowledged, waits again, or fails.
 tried_settled : (b : Bool) (limit e : ℕ) (w : World) (s t : ℕ) (m : Mpdu) → w.config.attempts ≡ limit
     → (slot (session w s t) m.number).state ≡ State.Flying e → Tried limit w →
     Tried limit (with_settled w s t b m)

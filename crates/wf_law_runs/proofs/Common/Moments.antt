@@ -1,4 +1,5 @@
--- A history at its moments: the entries up to one, and those between two.
+-- Proves how a history is split at a moment: the entries before it, and the entries between two moments. By
+-- induction on the history.
 use Rattle.std.proofs.Common.{◌≡◌, refl, ap, sym, ◌∙◌, arith, ℕ, zero, suc, ◌+◌, List, [], ◌∷◌, ◌++◌, take, drop}
 use Rattle.wf_def_world.specs.Run.{Entry}
 

@@ -1,4 +1,5 @@
--- A station's deficit is what it was given less what it was charged, in every world of a run.
+-- Proves that a station's deficit is its quanta less its charges, in every world of a run. By induction on
+-- the run and cases of the call.
 use Rattle.std.proofs.Common.{◌≡◌, refl, ap, sym, subst, arith, ℕ, zero, suc, ◌+◌, ◌*◌, ◌<◌, ℤ, pos, ◌+ℤ◌, ◌-ℤ◌, Bool, true, false, if◌then◌else◌, List, [], ◌∷◌, Option, Some, None, IfSome, unwrap_or, option_map}
 use Rattle.std.proofs.lemmas.Int.{ints}
 use Rattle.wf_frame.specs.declared.settings.Config.{Config}
@@ -40,7 +41,7 @@ charged_number a m r n d e = omega (arith, ints)
 received_number : (a m r n : ℕ) (d : ℤ) → d ≡ pos a -ℤ pos (m + r) → d -ℤ pos n ≡ pos a -ℤ pos (m + (r + n))
 received_number a m r n d e = omega (arith, ints)
 
--- ---- changing one station
+-- ---- one station changes
 
 pub below_four : (c : Class) → class_number c < 4
 below_four Bk = omega arith
@@ -101,7 +102,7 @@ fair_on_share w s c f h k = fair_on_known w s _ h (λ x e fair.
     (k _ (subst (λ (n : ℕ). IsBalanced n (at no_share x.shares (class_number c))) (sym q)
     (fair (class_number c) below)))))
 
--- ---- changing what is no station
+-- ---- no station changes
 
 fair_on_queue : (w : World) (q : ℕ) (f : Queue → Queue) → IsFair w → IsFair (on_queue w q f)
 unfolding on_queue
@@ -389,6 +390,7 @@ unfolding world_after
 fair_run [] w f = f
 fair_run (e ∷ es) w f = fair_run es _ (fair_step w e.1 f)
 
--- in every world of a run, for each live station and class: deficit = Q g + Q g quanta - charged - received
+-- In every world of a run, for each live station and class: deficit = Q g + Q g quanta - charged -
+-- received, with the quantum Q and the weight g.
 pub accounts : (config : Config) (h : List Entry) → IsFair (world_after (opening config) h)
 accounts config h = fair_run h (opening config) (record { each = λ s. tt })

@@ -1,9 +1,9 @@
--- A share whose deficit is what it was given less what it was charged.
+-- Defines the shares whose deficit is the quanta less the charges.
 use Rattle.std.specs.Prelude.{◌≡◌, ℕ, ◌+◌, ◌*◌, ◌<◌, pos, ◌-ℤ◌, None, IfSome}
 use Rattle.wf_def_lists.specs.Table.{at}
 use Rattle.wf_def_world.specs.World.{World, Station, Share, no_share}
 
--- a share of a station whose quantum is q
+-- The share of a station whose quantum is q.
 pub record IsBalanced (q : ℕ) (x : Share) : Type 0 where
   pub deficit : x.deficit ≡ pos (q + q * x.quanta) -ℤ pos (x.charged + x.received)
 

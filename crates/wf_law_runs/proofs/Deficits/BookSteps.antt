@@ -1,4 +1,4 @@
--- What each part of a call does to the books.
+-- Proves how each part of a call changes the books, one equation for each.
 use Rattle.std.proofs.Common.{◌≡◌, refl, ap, sym, ◌∙◌, subst, arith, ℕ, zero, suc, ◌+◌, ◌*◌, pos, ◌+ℤ◌, ◌-ℤ◌, Bool, true, false, if◌then◌else◌, List, [], ◌∷◌, ◌++◌, Option, Some, None, unwrap_or, option_map, not, map, filter, ◌==◌, inl, inr}
 use Rattle.std.proofs.Math.Path.{fun_ext}
 use Rattle.std.proofs.lemmas.Int.{ints}
@@ -271,12 +271,12 @@ books_joined w s window start exponent weight =
     four q Vi = refl
     four q Vo = refl
 
--- ---- paying stations
+-- ---- giving quanta
 
 abbrev pub pay_share : ℕ → ℕ → Share → Share
 pay_share q n x = record x { deficit = x.deficit +ℤ pos (n * q); quanta = x.quanta + n }
 
--- n quanta for an account
+-- The account after n quanta.
 abbrev pub paid : ℕ → Class → ℕ → Account → Account
 paid q c n a = on_part c (pay_share (q * a.weight) n) a
 
@@ -297,7 +297,7 @@ books_pay_station w c n s = books_on_share w s c _ (pay_share (quantum w s) n) (
     known None e = refl
     known (Some x) e = ap (λ (q : ℕ). Some (on_part c (pay_share q n) (account x))) (quantum_of w s x e)
 
--- nothing changes by no quanta
+-- An account does not change if it gets no quanta.
 paid_none : (q : ℕ) (c : Class) (n : ℕ) (a : Account) → n ≡ 0 → paid q c n a ≡ a
 paid_none q c n a e = ap (λ (z : Class → Share). record a { shares = z })
     (updc_idle a.shares c _ (rw e (none (a.shares c))))

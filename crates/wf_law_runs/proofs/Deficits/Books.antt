@@ -1,4 +1,5 @@
--- The part of a world that the laws of the deficits speak of, and what each change of a world does to it.
+-- Defines the books: the part of a world that the laws of the deficits refer to. Proves how each change of
+-- a world changes them.
 use Rattle.std.proofs.Common.{◌≡◌, refl, ap, sym, ◌∙◌, subst, ℕ, Bool, true, false, if◌then◌else◌, List, [], ◌∷◌, Option, Some, None, option_map, map, ◌==◌, eq-eqb, inl, inr, ◌⊎◌}
 use Rattle.std.proofs.Math.Path.{fun_ext}
 use Rattle.std.proofs.lemmas.Bool.{cases_eq, ne_eqb}
@@ -15,7 +16,7 @@ use Rattle.wf_def_world.specs.World.{World, Station, Share, Tid, Queue, Exchange
 use Rattle.wf_frame.specs.Classes.{class_number}
 use Rattle.wf_law_rules.proofs.Lemmas.Tables.{at_put_same, at_put_other}
 
--- a function changed at one number
+-- The function f with the value v at k.
 abbrev pub upd : {X : Type 0} → (ℕ → X) → ℕ → X → ℕ → X
 upd f k v i = if i == k then v else f i
 
@@ -32,11 +33,11 @@ upd_same f k v = rw (eq-eqb k k refl) refl
 pub upd_other : {X : Type 0} (f : ℕ → X) (k i : ℕ) (v : X) → (i ≡ k → ⊥) → upd f k v i ≡ f i
 upd_other f k i v other = rw (ne_eqb i k other) refl
 
--- nothing changes where the new value is the old one
+-- A function does not change if the new value is the old one.
 pub upd_idle : {X : Type 0} (f : ℕ → X) (k : ℕ) (v : X) → v ≡ f k → upd f k v ≡ f
 upd_idle {X} f k v e = fun_ext (each_upd (λ i x. x ≡ f i) f k v (λ i. refl) e)
 
--- what an update looks like through a function
+-- An update of a table is an update of each function of its entries.
 pub put_upd : {X Y : Type 0} (g : X → Y) (d : X) (t : List X) (k : ℕ) (v : X) →
     (λ (i : ℕ). g (at d (put d t k v) i)) ≡ upd (λ (i : ℕ). g (at d t i)) k (g v)
 put_upd {X} {Y} g d t k v = fun_ext each
@@ -50,7 +51,7 @@ put_upd {X} {Y} g d t k v = fun_ext each
           ∙ sym (upd_other (λ (j : ℕ). g (at d t j)) k i (g v) other)
     ]
 
--- ---- and at a class
+-- ---- functions of a class
 
 class_back : ℕ → Class
 class_back n = at Vo (Bk ∷ Be ∷ Vi ∷ []) n
@@ -99,7 +100,7 @@ put_updc {X} {Y} g d t c v = fun_ext (λ i. ap (λ (f : ℕ → Y). f (class_num
 
 -- ---- the books
 
--- what a station has, without its TIDs, its sleep and its turns
+-- The account of a station: the station without its TIDs, its sleep and its turns.
 pub record Account : Type 0 where
   pub weight : ℕ
   pub rate : Rate
@@ -116,7 +117,7 @@ account x = record {
       λ c. plain (at no_share x.shares (class_number c));
 }
 
--- an exchange without what its receiver told
+-- An exchange without the parts that its receiver sets.
 abbrev pub core : Exchange → Exchange
 core x = record x { arrived = []; answer = None }
 
@@ -142,7 +143,7 @@ with_account b s a = record b { accounts = upd b.accounts s a }
 abbrev pub with_lists : Books → Class → Rotation → Books
 with_lists b c r = record b { rotations = updc b.rotations c r }
 
--- ---- what each change of a world does to the books
+-- ---- how each change of a world changes the books
 
 pub books_with_station : (w : World) (s : ℕ) (o : Option Station) →
     books (with_station w s o) ≡ with_account (books w) s (option_map account o)
@@ -173,7 +174,7 @@ same_map : (o : Option Account) → option_map (λ (a : Account). a) o ≡ o
 same_map None = refl
 same_map (Some x) = refl
 
--- a change of a station that its account does not show
+-- A change of a station that does not change its account.
 pub books_hidden : (w : World) (s : ℕ) (f : Station → Station) → ((x : Station) → account (f x) ≡ account x) →
     books (on_station w s f) ≡ books w
 books_hidden w s f h = books_on_station w s f (λ (a : Account). a) h
@@ -197,7 +198,7 @@ pub books_with_queues : (w : World) (s t : ℕ) (r : Rotation) → books (with_q
 unfolding with_queues
 books_with_queues w s t r = books_on_tid w s t _
 
--- a share of an account changes
+-- One share of an account changes.
 abbrev pub on_part : Class → (Share → Share) → Account → Account
 on_part c f a = record a { shares = updc a.shares c (f (a.shares c)) }
 

@@ -1,4 +1,5 @@
--- How far a deficit goes.
+-- Proves that a deficit stays in its bounds when quanta are given, when an exchange is charged, and when
+-- received airtime is charged.
 use Rattle.std.proofs.Common.{◌≡◌, arith, ℕ, zero, suc, ◌+◌, ◌*◌, ◌/◌, ◌%◌, ◌<◌, ◌≤◌, ℤ, pos, negsuc, ◌+ℤ◌, ◌-ℤ◌, ◌≤ℤ◌}
 use Rattle.std.proofs.lemmas.Int.{ints}
 use Rattle.std.proofs.lemmas.Nat.{div-add-mod', mod_below}
@@ -9,13 +10,13 @@ use Rattle.wf_def_world.specs.World.{Share}
 use Rattle.wf_law_runs.specs.Deficits.{most_owed}
 use Rattle.wf_law_runs.proofs.Deficits.BookSteps.{pay_share, charge_share, receive_share, fresh_share}
 
--- with m that open exchanges may be charged
+-- The bounds of a deficit. m is the greatest charge of the station's open exchanges.
 pub record IsBounded (config : Config) (m weight : ℕ) (x : Share) : Type 0 where
   pub most : x.deficit ≤ℤ pos (config.quantum * weight)
   pub least : pos m ≤ℤ (x.deficit +ℤ pos (greatest_debt + most_owed config))
   pub quiet : x.received ≡ 0 → pos (1 + m) ≤ℤ (x.deficit +ℤ pos (most_owed config))
 
--- ---- paying
+-- ---- giving quanta
 
 grant_most : (q n m : ℕ) → m ≤ (1 + n + q) / q → m * q ≤ 1 + n + q
 grant_most q n m h =
@@ -58,7 +59,7 @@ bounded_pay config m weight n x h b = record {
 
 -- ---- charging
 
--- an exchange opens for a deficit above 0
+-- An exchange opens only if the deficit is above 0.
 pub bounded_open : (config : Config) (m weight : ℕ) (x : Share) → pos 1 ≤ℤ x.deficit → m ≤ most_owed config →
     x.deficit ≤ℤ pos (config.quantum * weight) → IsBounded config m weight x
 bounded_open config m weight x h k b = record {
@@ -67,7 +68,7 @@ bounded_open config m weight x h k b = record {
   quiet = λ r. omega (arith, ints);
 }
 
--- less is owed
+-- The bounds hold for a smaller charge of open exchanges too.
 pub bounded_less : (config : Config) (m k weight : ℕ) (x : Share) → k ≤ m → IsBounded config m weight x →
     IsBounded config k weight x
 bounded_less config m k weight x h b = record {
@@ -76,7 +77,7 @@ bounded_less config m k weight x h b = record {
   quiet = λ r. omega (arith, ints, b.quiet r);
 }
 
--- a charge is made that might be
+-- An exchange ends: a charge n that was a part of m is made.
 pub bounded_charge : (config : Config) (m k n weight : ℕ) (x : Share) → k + n ≤ m →
     IsBounded config m weight x → IsBounded config k weight (charge_share n x)
 bounded_charge config m k n weight x h b = record {
@@ -85,7 +86,7 @@ bounded_charge config m k n weight x h b = record {
   quiet = λ r. omega (arith, ints, b.quiet r);
 }
 
--- a receive charge leaves the deficit above the greatest debt
+-- A receive charge brings the deficit at most the greatest debt below 0.
 pub bounded_receive : (config : Config) (m n weight : ℕ) (x : Share) → m ≤ most_owed config → 0 < n →
     deepest_deficit ≤ℤ (x.deficit -ℤ pos n) → IsBounded config m weight x →
     IsBounded config m weight (receive_share n x)

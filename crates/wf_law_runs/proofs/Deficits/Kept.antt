@@ -1,4 +1,5 @@
--- What the books keep: each class's lists, the open exchanges and the bounds of the deficits.
+-- Defines an invariant of the books about each class's lists, the open exchanges and the bounds of the
+-- deficits. Proves that each kind of change keeps it.
 use Rattle.std.proofs.Common.{◌≡◌, ◌≢◌, refl, ap, sym, ◌∙◌, subst, arith, ℕ, zero, suc, ◌+◌, ◌*◌, ◌<◌, ◌≤◌, pos, ◌≤ℤ◌, Bool, true, false, List, [], ◌∷◌, ◌++◌, Option, Some, None, is_some, IfSome, option_map, not, ◌&&◌, find, ◌==◌, eq-eqb, inl, inr}
 use Rattle.std.proofs.lemmas.Bool.{cases_eq, eqb-true, or_parts, and_parts, not_from_true}
 use Rattle.wf_frame.specs.declared.settings.Config.{Config}
@@ -18,18 +19,18 @@ use Rattle.wf_law_runs.proofs.Deficits.BookSteps.{with_opened, without, charge_s
 use Rattle.wf_law_runs.proofs.Deficits.Openings.{Every, every_map, every_append, every_filter, Rising, rising_append, rising_filter, many, many-more, many-other, many-filter, part_of, reserved, reserved-append, reserved-filter, reserved-ended, reserved_most}
 use Rattle.wf_law_runs.proofs.Deficits.Bounds.{IsBounded, paid_least, bounded_pay, bounded_open, bounded_less, bounded_charge, bounded_fresh}
 
--- an open exchange
+-- The invariant of an open exchange.
 pub record IsOpen (b : Books) (x : Exchange) : Type 0 where
   pub live : is_some (b.accounts x.station) ≡ true
   pub below : x.number < b.exchanges
   pub charge : x.charge ≤ longest_computed b.config
   pub some : 1 ≤ x.charge
 
--- what the open exchanges of a station in a class may be charged together
+-- Returns the greatest charge of a station's open exchanges in a class.
 abbrev pub at_stake : Config → ℕ → Class → List Exchange → ℕ
 at_stake config s c opened = reserved (longest_exchange config) s c opened
 
--- a live station's account
+-- The invariant of a live station's account.
 pub record IsGood (config : Config) (opened : List Exchange) (s : ℕ) (a : Account) : Type 0 where
   pub weight : 0 < a.weight
   pub rate : IsRate a.rate
@@ -325,7 +326,7 @@ kept_opened b x i is number charge some room above = record {
             bounded_less b.config (at_stake b.config s c b.opened) _ a.weight (a.shares c)
             (omega (arith, reserved-append (longest_exchange b.config) s c b.opened (core x))) (good.bounds c)
 
--- an exchange ends, and a charge that is at most the longest leaves the deficit
+-- An exchange ends, and its charge, which is at most the longest, is subtracted from the deficit.
 pub kept_ended : (b : Books) (x : Exchange) (e n : ℕ) → IsKept b →
     find (λ z. z.number == e) b.opened ≡ Some x → n ≤ longest_exchange b.config →
     IsKept (with_charge (without b e) x.station x.class n)
@@ -444,7 +445,7 @@ kept_after b c p i k = kept_lists (all_paid b c p.quanta (in_order (b.rotations 
           });
     }
 
--- the winner's deficit is above 0
+-- The winner's deficit is above 0 after the pick.
 pub above_after : (b : Books) (c : Class) (p : Picked) (v : ℕ) → IsKept b →
     0 < on (in_order (b.rotations c)) v → IfSome (b.accounts v)
     (λ a. p.quanta v ≡ need_of (b.config.quantum * a.weight) (a.shares c).deficit) →

@@ -1,4 +1,4 @@
--- Each call keeps the books.
+-- Proves that each call keeps the invariant of the books, by cases of the call.
 use Rattle.std.proofs.Common.{◌≡◌, ◌≢◌, refl, ap, sym, ◌∙◌, subst, arith, ℕ, ◌+◌, ◌*◌, ◌<◌, ◌≤◌, ℤ, pos, ◌-ℤ◌, ◌≤ℤ◌, Bool, true, false, if◌then◌else◌, cond, List, [], ◌∷◌, Option, Some, None, is_some, IfSome, unwrap_or, option_map, not, ◌&&◌, map, find, nat_lt, int_lt, zero-add, ◌==◌, count_by, nat_le}
 use Rattle.std.proofs.lemmas.Int.{ints}
 use Rattle.std.proofs.lemmas.Bool.{eqb-true, eqb-false, and_parts, not-true, not-false, leb-true}
@@ -20,10 +20,10 @@ use Rattle.wf_law_rules.proofs.Lemmas.Numbers.{le_no}
 use Rattle.wf_frame.specs.Classes.{class_number, all_classes}
 use Rattle.wf_def_world.specs.CanSend.{is_ready, with_listing_in, with_listings_in, with_listings_of}
 use Rattle.wf_def_world.specs.Exchanges.{Prepared, station_need, picked_station, after_pick, after_tid_turn, prepared_exchange, exchange_of, after_arrival, sending_tid, charge_of}
-use Rattle.wf_def_world.specs.Refusals.{first_refusal, refusals, refusal, open_of_class, is_within, is_bad_air}
+use Rattle.wf_def_world.specs.Refusals.{first_refusal, refusals, refusal, open_of_class, is_within}
 use Rattle.wf_def_world.specs.Step.{Outcome, tick_outcome, send_outcome, pull_outcome_for, pull_outcome, arrive_outcome, answer_outcome, outcome_where_open, rx_outcome, outcome_of, after_refusal, judged_outcome, step}
 use Rattle.wf_def_world.specs.Run.{Entry, world_after}
-use Rattle.wf_frame.specs.Settings.{IsInRange}
+use Rattle.wf_frame.specs.Settings.{IsInRange, is_bad_air}
 use Rattle.wf_law_runs.specs.Deficits.{longest_computed, longest_exchange}
 use Rattle.wf_def_lists.specs.Lists.{on}
 use Rattle.wf_law_rules.proofs.Lemmas.Counts.{on-nil}
@@ -111,7 +111,7 @@ kept_after_pick : (w : World) (c : Class) → IsKept (books w) → IsKept (books
 kept_after_pick w c i = is _ _ (books_after_pick w c)
     (kept_after (books w) c (picked_station w c) i (is_pick w c))
 
--- a station may open an exchange
+-- The station may open an exchange of the class.
 record MaySend (c : Class) (s : ℕ) (b : Books) : Type 0 where
   live : is_some (b.accounts s) ≡ true
   room : many c b.opened < b.config.inflight
@@ -137,7 +137,7 @@ may_send w c s i h won =
           (if_same _ _ ((books w).accounts s) (need_is w c s) (λ a _ e. winner.given ∙ e));
     })
 
--- there is a rate of a station
+-- The rate of a station is in the standard's tables, also if there is no such station.
 rate_kept : (v : World) (s : ℕ) → IsKept (books v) → IsRate (station v s).rate
 rate_kept v s i = go (at None v.stations s) (i.goods s)
   where
@@ -213,7 +213,7 @@ unfolding with_exchange
 books_with_exchange w x h = ap (λ (t : List Exchange). record (books w) { opened = t })
     (replaced x w.opened h)
 
--- an exchange that is open
+-- Exchange x has the number e and is open.
 abbrev pub IsFound : World → ℕ → Exchange → Type 0
 IsFound w e x = exchange w e ≡ Some x
 
@@ -250,7 +250,7 @@ pub books_answered : (w : World) (e : ℕ) (x : Exchange) → IsKept (books w) �
 unfolding answer_outcome
 books_answered w e x i found = books_with_exchange w _ (only_this w e x i found)
 
--- what is charged in the end is at most the longest, be it computed or named
+-- The charge of an ended exchange is at most the longest, computed or given by its Done.
 pub charge_within : (w : World) (e : ℕ) (x : Exchange) (air : Option ℕ) → IsKept (books w) → IsFound w e x →
     is_bad_air w.config air ≡ false → charge_of air x ≤ longest_exchange w.config
 charge_within w e x None i found fine =

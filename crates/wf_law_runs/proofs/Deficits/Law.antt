@@ -1,4 +1,4 @@
--- The law of the deficits, in every world of a run.
+-- Proves the law of the deficits in every world of a run, from Shares and Ready.
 use Rattle.std.proofs.Common.{List, take}
 use Rattle.wf_frame.specs.declared.settings.Config.{Config}
 use Rattle.wf_def_world.specs.World.{rotation, share}

@@ -1,4 +1,5 @@
--- No exchange is charged more than the longest, and each is charged something.
+-- Proves that the charge of an exchange is at least 1 and at most the longest, because its frames were
+-- selected to fit the greatest time.
 use Rattle.std.proofs.Common.{◌≡◌, refl, ap, sym, ◌∙◌, subst, arith, ℕ, zero, suc, ◌+◌, ◌-◌, ◌≤◌, Bool, true, false, if◌then◌else◌, List, [], ◌++◌, Option, Some, None, unwrap_or, option_map, not, length, map, ◌==◌, inl, inr}
 use Rattle.std.proofs.lemmas.Bool.{and_parts, leb-true}
 use Rattle.wf_def_lists.specs.Table.{at, longest_front}
@@ -15,7 +16,7 @@ use Rattle.wf_law_runs.specs.Deficits.{longest_computed}
 use Rattle.wf_law_runs.proofs.Deficits.Books.{Account, account, Books, books}
 use Rattle.wf_law_runs.proofs.Deficits.BookSteps.{books_take, books_with_number, books_filled}
 
--- ---- the rate is in the books
+-- ---- the rate of a station in the books
 
 abbrev rate_or : Option Account → Rate
 rate_or None = lowest_rate
@@ -29,7 +30,7 @@ rate_same : (v w : World) (s : ℕ) → books v ≡ books w → (station v s).ra
 rate_same v w s e = rate_is (at None v.stations s)
     ∙ (ap (λ (b : Books). rate_or (b.accounts s)) e ∙ sym (rate_is (at None w.stations s)))
 
--- the frames take at most the greatest time
+-- The data of the frames takes at most the greatest time.
 abbrev pub IsTimely : World → ℕ → List Mpdu → Type 0
 IsTimely w s ms = data_time (station w s).rate (aggregate_octets (map (λ m. m.len) ms)) ≤ w.config.cap
 
@@ -45,7 +46,7 @@ timely_fits w s ms h =
     let parts = and_parts _ _ h in
     leb-true _ _ (and_parts _ _ parts.1).1
 
--- nothing at all is timely
+-- An empty list of frames takes at most the greatest time.
 timely_none : (w : World) (s : ℕ) → 3000 ≤ w.config.cap → IsRate (station w s).rate →
     IsTimely w s []
 timely_none w s h k =

@@ -1,5 +1,5 @@
--- A call lets no other station become ready: what each part of a call leaves of what the others' readiness
--- goes by.
+-- Defines the changes of a world by which no other station becomes ready (mild changes). Proves that each
+-- part of a call is one.
 use Rattle.std.proofs.Common.{◌≡◌, refl, ap, sym, ◌∙◌, subst, arith, ℕ, ◌+◌, ◌*◌, ◌<◌, ◌≤◌, Bool, true, false, if◌then◌else◌, List, [], ◌∷◌, Option, Some, None, is_some, unwrap_or, option_map, not, ◌&&◌, ◌||◌, length, nat_lt, inl, inr, ◌⊎◌, sum_by}
 use Rattle.std.proofs.lemmas.Bool.{and_parts, ltb-true, lt-ltb}
 use Rattle.std.proofs.lemmas.List.Sums.{sum_by-cons}
@@ -18,19 +18,19 @@ use Rattle.wf_law_rules.proofs.Lemmas.Tables.{each_put, at_put_other}
 use Rattle.wf_def_lists.specs.Lists.{on}
 use Rattle.wf_law_rules.proofs.Lemmas.Counts.{on-cons_same, on-cons}
 
--- what a station sends by
+-- The part of a station that its readiness depends on.
 abbrev pub sends : Station → Station
 sends x = record x { shares = [] }
 
--- the queue is listed for the station's TID
+-- TID t of station s lists queue q.
 abbrev pub Lists : World → ℕ → ℕ → ℕ → Type 0
 Lists w s t q = 0 < on (in_order (tid_of w s t).queues) q
 
--- a shared queue, or the TID's own
+-- The queue is a shared one, or the TID's own overflow queue.
 abbrev pub Owned : Config → ℕ → ℕ → ℕ → Type 0
 Owned config s t q = (q < config.flows) ⊎ (q ≡ config.flows + 8 * s + t)
 
--- v follows from w, and only s gets more to send
+-- World v follows from w, and no station except s becomes ready.
 pub record IsMild (s : ℕ) (w v : World) : Type 0 where
   pub config : v.config ≡ w.config
   pub stations : (y : ℕ) → (y ≡ s → ⊥) → option_map sends (at None v.stations y)
@@ -41,7 +41,7 @@ pub record IsMild (s : ℕ) (w v : World) : Type 0 where
   pub keys : (y t q : ℕ) → Lists v y t q → Lists w y t q ⊎ Owned w.config y t q
   pub live : (y : ℕ) → is_live v y ≡ true → (is_live w y ≡ true) ⊎ (y < w.config.stations)
 
--- ---- what other stations keep
+-- ---- the readiness of other stations
 
 read_sends : {X : Type 0} (f : Station → X) → ((x : Station) → f (sends x) ≡ f x) → (o : Option Station) →
     f (unwrap_or (option_map sends o) no_station) ≡ f (unwrap_or o no_station)
@@ -65,7 +65,7 @@ live_same s w v m y other = sym (some_sends (at None v.stations y))
 tid_same : (s : ℕ) (w v : World) → IsMild s w v → (y t : ℕ) → (y ≡ s → ⊥) → tid_of v y t ≡ tid_of w y t
 tid_same s w v m y t other = reads (λ x. at no_tid x.tids t) (λ x. refl) s w v m y other
 
--- can send, where n frames are queued
+-- Returns whether a TID can send, if its queues have n frames.
 abbrev sends_with : Tid → Bool → ℕ → Bool
 sends_with x asked n = if request_due x.session then not asked
     else nat_lt 0 (length (waiting_numbers x.session)) || (nat_lt 0 n && has_room x.session)
@@ -128,7 +128,7 @@ or_less true b a' b' h k e = ap (λ (z : Bool). z || b') (h refl)
 or_less false b true b' h k e = refl
 or_less false b false b' h k e = k e
 
--- no other station becomes ready
+-- No other station becomes ready.
 pub ready_less : (s : ℕ) (w v : World) → IsMild s w v → (y : ℕ) (c : Class) → (y ≡ s → ⊥) →
     is_ready v c y ≡ true → is_ready w c y ≡ true
 ready_less s w v m y c other h =
@@ -149,7 +149,7 @@ ready_less s w v m y c other h =
     (reads (λ x. x.credit) (λ x. refl) s w v m y other) more.1) in
     rw (live, can, awake) refl
 
--- ---- one part after another
+-- ---- sequences of changes
 
 pub mild_here : (s : ℕ) (w : World) → IsMild s w w
 mild_here s w = record {
@@ -188,7 +188,7 @@ pub mild_if : (b : Bool) (s : ℕ) (w u v : World) → IsMild s w u → IsMild s
 mild_if true s w u v h k = h
 mild_if false s w u v h k = k
 
--- ---- changing a station
+-- ---- one station changes
 
 abbrev on_tids : ℕ → (Tid → Tid) → Station → Station
 on_tids t f x = record x { tids = change no_tid x.tids t f }
@@ -204,7 +204,7 @@ some_map : (f : Station → Station) (o : Option Station) → is_some (option_ma
 some_map f None = refl
 some_map f (Some x) = refl
 
--- the station itself may change; none of its TIDs lists more, but what it owns
+-- Any part of the station may change, if its TID lists only queues that it listed or owns.
 pub mild_on_tid : (w : World) (s t : ℕ) (f : Tid → Tid) →
     ((q : ℕ) → 0 < on (in_order (f (tid_of w s t)).queues) q → Lists w s t q ⊎ Owned w.config s t q) →
     IsMild s w (on_tid w s t f)
@@ -230,7 +230,7 @@ same_tids : (f : Station → Station) → ((x : Station) → (f x).tids ≡ x.ti
 same_tids f h None j q k = k
 same_tids f h (Some x) j q k = subst (λ (ts : List Tid). 0 < on (in_order (at no_tid ts j).queues) q) (h x) k
 
--- its TIDs stay
+-- The TIDs of the station do not change.
 pub mild_on_station : (w : World) (s : ℕ) (f : Station → Station) → ((x : Station) → (f x).tids ≡ x.tids) →
     IsMild s w (on_station w s f)
 unfolding on_station with_station
@@ -246,7 +246,7 @@ mild_on_station w s f h = record {
       (some_map f (at None w.stations s)) y) ∙ is);
 }
 
--- a change of a share lets nobody send
+-- A change of a share changes no readiness.
 hidden_sends : (f : Station → Station) → ((x : Station) → sends (f x) ≡ sends x) → (o : Option Station) →
     option_map sends (option_map f o) ≡ option_map sends o
 hidden_sends f h None = refl
@@ -268,7 +268,7 @@ mild_on_share s w i c f = record {
       (some_map _ (at None w.stations i)) y) ∙ is);
 }
 
--- a station comes or goes, with no queue
+-- A station joins or leaves, and lists no queue.
 pub mild_with_station : (w : World) (s : ℕ) (o : Option Station) →
     ((j q : ℕ) → 0 < on (in_order (at no_tid (unwrap_or o no_station).tids j).queues) q → ⊥) →
     (is_some o ≡ true → s < w.config.stations) → IsMild s w (with_station w s o)
@@ -285,7 +285,7 @@ mild_with_station w s o none h = record {
       o (λ y k. inl k) (λ k. inr (h k));
 }
 
--- ---- changing what is no station
+-- ---- no station changes
 
 pub mild_on_queue : (s : ℕ) (w : World) (q : ℕ) (f : Queue → Queue) →
     length (f (queue w q)).items ≤ length (queue w q).items → IsMild s w (on_queue w q f)

@@ -1,4 +1,4 @@
--- Each call lets only the station that it concerns become ready.
+-- Proves that only the station that a call concerns can become ready, by cases of the call.
 use Rattle.std.proofs.Common.{◌≡◌, refl, ap, sym, ◌∙◌, subst, arith, ℕ, zero, suc, ◌+◌, ◌%◌, ◌<◌, ◌≤◌, Bool, true, false, if◌then◌else◌, List, [], ◌∷◌, ◌++◌, Option, Some, None, is_some, unwrap_or, option_map, not, ◌&&◌, ◌||◌, length, map, filter, ◌==◌, inl, inr, ◌⊎◌, pos}
 use Rattle.std.specs.List.{list_any}
 use Rattle.std.proofs.lemmas.Bool.{cases_Bool, cases_eq, ne_eqb, eqb-true, or_parts, not-false, leb-false, ltb-false}
@@ -41,7 +41,7 @@ mild_on_receiver : (w : World) (s t : ℕ) (f : Receiver → Receiver) → IsMil
 unfolding on_receiver
 mild_on_receiver w s t f = mild_on_tid w s t _ (λ q k. inl k)
 
--- each key of the new lists is one of the TID's old ones or its own
+-- Each key of the new lists is listed by the TID before, or is its own queue.
 mild_with_queues : (w : World) (s t : ℕ) (r : Rotation) →
     ((q : ℕ) → 0 < on (in_order r) q → Lists w s t q ⊎ Owned w.config s t q) →
     IsMild s w (with_queues w s t r)
@@ -78,7 +78,7 @@ unfolding taken_from_picked
 mild_taken_from None s w i = mild_here s w
 mild_taken_from (Some q) s w i = mild_dequeued s w q _ (dequeue_less _ _ _ (queue w q).items)
 
--- paying queues changes no list
+-- Giving quanta to queues changes no list.
 tids_pay_queues : (qs : List ℕ) (w : World) (quanta : ℕ → ℕ) →
     (with_queues_paid w quanta qs).stations ≡ w.stations
 unfolding with_queues_paid on_queue
@@ -193,7 +193,7 @@ asks-filter y t p (x ∷ xs) h = elim (cases_Bool (p x)) [
       rw (hf, none) (asks-filter y t p xs h.1)
 ]
 
--- only the open exchanges change
+-- Only the open exchanges change.
 mild_opened : (s : ℕ) (w : World) (xs : List Exchange) (n : ℕ) →
     ((y t : ℕ) → (y ≡ s → ⊥) → asks y t xs ≡ asks y t w.opened) →
     IsMild s w (record w { opened = xs; exchanges = n })
@@ -405,7 +405,7 @@ listing_live w y t q h = go (at None w.stations y) h
     go None k = absurd (let none : on [] q ≡ 0 = on-nil q in omega arith)
     go (Some x) k = refl
 
--- the queue for a frame is listed for no other station's TID
+-- No other station's TID lists the queue for a frame.
 no_clash : (w : World) (s t flow y j : ℕ) → IsOwning w → t < 8 → (y ≡ s → ⊥) → j < 8 →
     Lists w y j (queue_for w s t flow) → ⊥
 no_clash w s t flow y j i below other low h = go (is_listed_elsewhere w s t (flow % w.config.flows)) refl h
@@ -535,7 +535,7 @@ unfolding reap_outcome
 mild_reaped [] s w = mild_here s w
 mild_reaped (id ∷ ids) s w = mild_plain s w _ refl refl refl refl
 
--- v is mild for the station that the call names
+-- World v follows from w by a change that is mild for the station of the call.
 named : (i s : ℕ) (w v : World) → ((y : ℕ) → Some i ≡ Some y → y ≡ s) → IsMild i w v → IsMild s w v
 named i s w v h m = subst (λ (z : ℕ). IsMild z w v) (h i refl) m
 

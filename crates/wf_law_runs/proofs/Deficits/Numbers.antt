@@ -1,4 +1,5 @@
--- How large charges and deficits get, in figures that hold for all settings, answered.
+-- Proves the greatest charges and deficits, for all settings in their ranges, from the bounds of the
+-- deficits.
 use Rattle.std.proofs.Common.{sym, subst, arith, ℕ, ◌*◌, ◌≤◌, List, [], ◌∷◌, map, take}
 use Rattle.std.proofs.lemmas.Int.{ints}
 use Rattle.std.proofs.Math.Nat.{mul-le-mul_left, mul-le-mul_right, le-max_left, le-max_right, max-le}
@@ -30,13 +31,13 @@ times a b m n h k = let left : a * b ≤ m * b = mul-le-mul_right b h in
     le_trans : (x y z : ℕ) → x ≤ y → y ≤ z → x ≤ z
     le_trans x y z h k = omega (arith, h, k)
 
--- what is computed of an open exchange
+-- The computed charges of the open exchanges.
 computed_within : (b : Books) (xs : List Exchange) → longest_computed b.config ≤ greatest_computed →
     Every (IsOpen b) (map core xs) → EachOpen (λ x. (1 ≤ x.charge) × (x.charge ≤ greatest_computed)) xs
 computed_within b [] h e = tt
 computed_within b (x ∷ xs) h e = ((e.0.some, omega (arith, e.0.charge, h)), computed_within b xs h e.1)
 
--- the longest exchange of settings in their ranges
+-- The longest charge of settings in their ranges.
 pub longest_within : (config : Config) → IsInRange config → longest_exchange config ≤ greatest_charge
 longest_within config range = max-le
     (omega (arith, range.cap.1, le-max_left greatest_computed (greatest_of Charge)))

@@ -1,4 +1,5 @@
--- Lists of open exchanges: what each has, how many they are, and what they may be charged.
+-- Proves facts about lists of open exchanges: a property that each has, how many they are, and their
+-- greatest charges. By induction on the list.
 use Rattle.std.proofs.Common.{◌≡◌, refl, ap, ◌∙◌, subst, arith, ℕ, suc, ◌+◌, ◌*◌, ◌<◌, ◌≤◌, Bool, true, false, if◌then◌else◌, cond, List, [], ◌∷◌, ◌++◌, Some, not, ◌&&◌, map, filter, find, ◌==◌, count_by}
 use Rattle.std.proofs.lemmas.Bool.{ne_eqb, eqb-true, eqb-false}
 use Rattle.std.proofs.lemmas.List.Sums.{sum_by-cons}
@@ -42,13 +43,13 @@ every_find_step P p xs x y h below true e k =
     subst (λ (z : Exchange). (p z ≡ true) × P z) (same_some y x k) (e, h)
 every_find_step P p xs x y h below false e k = below k
 
--- what is found passes the test, and has what every one has
+-- An exchange that is found passes the test, and has each property that all have.
 pub every_find : (P : Exchange → Type 0) (p : Exchange → Bool) (xs : List Exchange) (x : Exchange) →
     Every P xs → find p xs ≡ Some x → (p x ≡ true) × P x
 every_find P p [] x e k = absurd (cc k)
 every_find P p (y ∷ ys) x e k = every_find_step P p ys x y e.0 (every_find P p ys x e.1) (p y) refl k
 
--- ---- rising numbers
+-- ---- increasing numbers
 
 abbrev pub Rising : ℕ → List Exchange → Type 0
 Rising lo [] = Unit {0}
@@ -93,14 +94,14 @@ only_step xs x y e h below true t k =
     )
 only_step xs x y e h below false t k = ((λ is. absurd (eqb-false _ _ t is)), below k)
 
--- one exchange has a number
+-- Only one exchange has a number.
 pub only_one : (lo : ℕ) (xs : List Exchange) (x : Exchange) (e : ℕ) → Rising lo xs →
     find (λ z. z.number == e) xs ≡ Some x → Every (λ z. z.number ≡ e → z ≡ x) xs
 only_one lo [] x e r k = tt
 only_one lo (y ∷ ys) x e r k = only_step ys x y e (above (suc y.number) ys r.1)
     (only_one (suc y.number) ys x e r.1) (y.number == e) refl k
 
--- ---- how many
+-- ---- how many exchanges a class has
 
 abbrev pub many : Class → List Exchange → ℕ
 many c [] = 0
@@ -124,7 +125,7 @@ more_if : (b : Bool) (m k : ℕ) → k ≡ m + (if b then 1 else 0) → k ≤ su
 more_if true m k e = omega arith
 more_if false m k e = omega arith
 
--- one more at most
+-- One exchange more adds at most one.
 pub many-more : (c : Class) (xs : List Exchange) (x : Exchange) → many c (xs ++ x ∷ []) ≤ suc (many c xs)
 many-more c xs x = more_if (same_class x.class c) (many c xs) (many c (xs ++ x ∷ [])) (many-append c xs x)
 
@@ -132,7 +133,7 @@ other_if : (b : Bool) (m k : ℕ) → b ≡ false → k ≡ m + (if b then 1 els
 other_if true m k h e = absurd (cc h)
 other_if false m k h e = omega arith
 
--- none more of another class
+-- An exchange of another class adds none.
 pub many-other : (c : Class) (xs : List Exchange) (x : Exchange) →
     (class_number x.class ≡ class_number c → ⊥) → many c (xs ++ x ∷ []) ≡ many c xs
 many-other c xs x other = other_if (same_class x.class c) (many c xs) (many c (xs ++ x ∷ []))
@@ -147,18 +148,18 @@ pub many-filter : (c : Class) (p : Exchange → Bool) (xs : List Exchange) → m
 many-filter c p [] = omega arith
 many-filter c p (x ∷ xs) = many_if (p x) c x (filter p xs) (many c xs) (many-filter c p xs)
 
--- ---- what they are charged
+-- ---- charges
 
 pub owed-core : (s : ℕ) (c : Class) (xs : List Exchange) → owed s c (map core xs) ≡ owed s c xs
 owed-core s c [] = refl
 owed-core s c (x ∷ xs) =
     ap (λ (n : ℕ). (if (x.station == s) && same_class x.class c then x.charge else 0) + n) (owed-core s c xs)
 
--- what an exchange may be charged to a station in a class, where none is charged more than l
+-- Returns the greatest charge of an exchange to a station in a class, if no charge is more than l.
 abbrev pub part_of : ℕ → ℕ → Class → Exchange → ℕ
 part_of l s c x = if (x.station == s) && same_class x.class c then l else 0
 
--- what the open exchanges of a station in a class may be charged together
+-- Returns the greatest charge of a station's open exchanges in a class, if no charge is more than l.
 abbrev pub reserved : ℕ → ℕ → Class → List Exchange → ℕ
 reserved l s c [] = 0
 reserved l s c (x ∷ xs) = part_of l s c x + reserved l s c xs
@@ -190,7 +191,7 @@ ended_step l s c xs x y e below true t k =
     omega (arith, reserved-filter l s c (λ z. not (z.number == e)) xs)
 ended_step l s c xs x y e below false t k = omega (arith, below k)
 
--- an exchange that ends may be charged no more
+-- The greatest charge falls by that of an exchange that ends.
 pub reserved-ended : (l s : ℕ) (c : Class) (xs : List Exchange) (x : Exchange) (e : ℕ) →
     find (λ z. z.number == e) xs ≡ Some x →
     reserved l s c (filter (λ z. not (z.number == e)) xs) + part_of l s c x ≤ reserved l s c xs
@@ -204,7 +205,7 @@ reserved_one true false l = omega arith
 reserved_one false true l = omega arith
 reserved_one false false l = omega arith
 
--- a station's exchanges of a class are among those of the class
+-- A station's exchanges in a class are exchanges of the class.
 pub reserved_most : (l s : ℕ) (c : Class) (xs : List Exchange) → reserved l s c xs ≤ many c xs * l
 reserved_most l s c [] = omega arith
 reserved_most l s c (x ∷ xs) = both (part_of l s c x) (if same_class x.class c then 1 else 0)
@@ -218,7 +219,7 @@ owed_one : (b : Bool) (l n : ℕ) → n ≤ l → (if b then n else 0) ≤ (if b
 owed_one true l n h = h
 owed_one false l n h = omega arith
 
--- what was computed is within what may be charged
+-- The computed charges are at most the greatest charges.
 pub owed_reserved : (l s : ℕ) (c : Class) (xs : List Exchange) → Every (λ x. x.charge ≤ l) xs →
     owed s c xs ≤ reserved l s c xs
 owed_reserved l s c [] e = omega arith

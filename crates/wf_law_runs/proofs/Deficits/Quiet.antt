@@ -1,4 +1,5 @@
--- A station's received airtime is 0 exactly where it had no receive charge since its join.
+-- Proves that a station's received airtime is 0 if and only if it had no receive charge since its join. By
+-- induction on the run.
 use Rattle.std.proofs.Common.{◌≡◌, refl, ap, sym, ◌∙◌, subst, arith, ℕ, ◌+◌, ◌*◌, ◌<◌, true, if◌then◌else◌, List, [], ◌∷◌, Option, Some, None, is_some, is_none, IfSome, unwrap_or, option_map, ◌&&◌, ◌==◌, eq-eqb, inl, inr, take}
 use Rattle.std.proofs.lemmas.Bool.{cases_eq, ne_eqb, and_parts, not-false, leb-true}
 use Rattle.wf_frame.specs.declared.settings.Config.{Config}
@@ -26,7 +27,7 @@ use Rattle.wf_law_runs.proofs.Deficits.Kept.{IsKept, if_map}
 use Rattle.wf_law_runs.proofs.Deficits.KeptStep.{NoRow, no_row, IsFound, books_arrived, books_answered, kept_step, kept_opening}
 use Rattle.wf_law_runs.proofs.Fairness.OldOrder.{IsCalm, calm_listed, calm_pulled}
 
--- with n receive charges since the join, and so much received
+-- n is the number of receive charges since the join, and r the received airtime.
 record IsSame (n r : ℕ) : Type 0 where
   to : n ≡ 0 → r ≡ 0
   back : r ≡ 0 → n ≡ 0
@@ -40,14 +41,14 @@ heard_map : (c : Class) (n : ℕ) (g : Account → Account) (o : Option Account)
 heard_map c n g o h i = if_map (λ a. IsSame n (a.shares c).received)
     (λ a. IsSame n (a.shares c).received) g o i (λ a _ k. subst (IsSame n) (sym (h a)) k)
 
--- an account changes by a function that receives nothing
+-- An account changes by a function that adds no received airtime.
 heard_on : (c : Class) (n s i : ℕ) (b : Books) (g : Account → Account) →
     ((a : Account) → ((g a).shares c).received ≡ (a.shares c).received) → IsHeard c n (b.accounts s) →
     IsHeard c n ((with_account b i (option_map g (b.accounts i))).accounts s)
 heard_on c n s i b g h = each_upd (λ y o. IsHeard c n (b.accounts y) → IsHeard c n o) b.accounts i
     (option_map g (b.accounts i)) (λ y k. k) (heard_map c n g (b.accounts i) h) s
 
--- the accounts are the same
+-- The accounts do not change.
 heard_calm : (c : Class) (n s : ℕ) (b a : Books) → IsCalm b a → IsHeard c n (b.accounts s) →
     IsHeard c n (a.accounts s)
 heard_calm c n s b a e k = subst (λ (f : ℕ → Option Account). IsHeard c n (f s)) (sym e.accounts) k
@@ -115,7 +116,7 @@ heard_received c d n s i air b some k = elim (cases_eq s i) [
 
 -- ---- the step
 
--- what a call that is not refused makes of the count
+-- The number of receive charges after a call that is not refused.
 abbrev counted : ℕ → Class → Note → ℕ → ℕ
 counted s c (Asked (Join i window start exponent weight)) n = if i == s then 0 else n
 counted s c (Asked (Rx i d air)) n = if (i == s) && same_class d c then n + 1 else n
@@ -145,7 +146,7 @@ unfolding outcome_where_open
 heard_open w e None f c n s k i h = i
 heard_open w e (Some x) f c n s k i h = h x k
 
--- the books are these
+-- The books are equal.
 heard_books : (c : Class) (n s : ℕ) (a b : Books) → a ≡ b → IsHeard c n (b.accounts s) →
     IsHeard c n (a.accounts s)
 heard_books c n s a b e k = subst (λ (z : Books). IsHeard c n (z.accounts s)) (sym e) k

@@ -1,4 +1,5 @@
--- Every ready station is listed, in every world of a run.
+-- Proves that every ready station is listed, in every world of a run: a call lists the station that it
+-- concerns, and no other station becomes ready.
 use Rattle.std.proofs.Common.{◌≡◌, refl, ap, sym, ◌∙◌, subst, arith, ℕ, suc, ◌<◌, ◌≤◌, Bool, true, false, if◌then◌else◌, List, [], ◌∷◌, Option, Some, None, not, ◌&&◌, ◌||◌, ◌==◌, inl, inr, ◌⊎◌}
 use Rattle.std.proofs.lemmas.Bool.{cases_eq, ne_eqb, not_from_false, not-false}
 use Rattle.wf_frame.specs.declared.settings.Config.{Config}
@@ -34,7 +35,7 @@ pub record IsListed (w : World) : Type 0 where
 
 -- ---- ready stations stay listed
 
--- v's lists keep the ready stations but s
+-- The lists of b contain each ready station of w that the lists of w contain, except s.
 record Keeps (s : ℕ) (w : World) (b : Books) : Type 0 where
   keeps : (y : ℕ) (c : Class) → (y ≡ s → ⊥) → is_ready w c y ≡ true → 0 < on (in_order (rotation w c)) y →
       0 < on (in_order (b.rotations c)) y
@@ -145,7 +146,7 @@ keeps_done (Asked Reap) w s k h = keeps_same s w _
 
 -- ---- listing
 
--- v follows from w by listing: nobody becomes ready, and no list loses a station
+-- World v follows from w by listing keys: no readiness changes, and no list loses a station.
 record IsLonger (w v : World) : Type 0 where
   ready : (y : ℕ) (c : Class) → is_ready v c y ≡ is_ready w c y
   more : (y : ℕ) (c : Class) → on (in_order (rotation w c)) y ≤ on (in_order (rotation v c)) y
@@ -259,13 +260,13 @@ unfolding with_listings_of
 mild_listed None s w = mild_here s w
 mild_listed (Some i) s w = mild_in_all all_classes s w i
 
--- what holds of a world and is needed for the next
+-- The invariant of a world that the next step needs.
 pub record IsOrderly (w : World) : Type 0 where
   pub kept : IsKept (books w)
   pub owning : IsOwning w
   pub listed : IsListed w
 
--- a number that is none of what the call concerns
+-- Returns the station that a call concerns, or 0 if it concerns none.
 apart_from : (o : Option ℕ) → ℕ
 apart_from None = 0
 apart_from (Some i) = i
@@ -275,7 +276,7 @@ unfolding apart_from
 only_apart None y e = absurd (cc e)
 only_apart (Some i) y e = cc e
 
--- a station that was not concerned is listed as before
+-- A station that the call does not concern is listed as before.
 listed_other : (w : World) (note : Note) (s y : ℕ) (c : Class) → NoRow (refusals w note) → IsOrderly w →
     ((z : ℕ) → concerned_station w note ≡ Some z → z ≡ s) → (y ≡ s → ⊥) →
     is_ready (outcome_of w note).world c y ≡ true → 0 < on (in_order (rotation (outcome_of w note).world c)) y

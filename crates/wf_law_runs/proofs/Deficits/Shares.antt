@@ -1,4 +1,4 @@
--- The deficit of a live station in a class, in every world of a run.
+-- Proves the deficit of a live station in a class, in every world of a run, from Accounts and Kept.
 use Rattle.std.proofs.Common.{◌≡◌, refl, sym, subst, arith, ℕ, ◌+◌, ◌*◌, ◌≤◌, pos, ◌-ℤ◌, ◌≤ℤ◌, true, List, Option, Some, None, is_some, IfSome, unwrap_or, option_map, map}
 use Rattle.std.proofs.lemmas.Int.{ints}
 use Rattle.std.proofs.Math.Nat.{le-max_left}
@@ -19,7 +19,7 @@ use Rattle.wf_law_runs.proofs.Deficits.Bounds.{IsBounded}
 use Rattle.wf_law_runs.proofs.Deficits.Kept.{IsOpen, at_stake, IsGood, IsKept}
 use Rattle.wf_law_runs.proofs.Deficits.KeptStep.{kept}
 
--- a share of a station of this weight, with m owed by open exchanges
+-- The share of a station of this weight. m is the computed charge of its open exchanges.
 pub record IsMoney (config : Config) (m weight : ℕ) (x : Share) : Type 0 where
   pub exact : x.deficit ≡ pos (config.quantum * weight + config.quantum * weight * x.quanta) -ℤ pos
       (x.charged + x.received)
@@ -42,7 +42,7 @@ pub money : (w : World) (s : ℕ) (c : Class) → IsFair w → IsKept (books w) 
     IsMoney w.config (owed s c w.opened) (station w s).weight (share w s c)
 money w s c f k live = go (at None w.stations s) refl live (f.each s) (k.goods s)
   where
-    -- what was computed of the open exchanges is within what they may be charged
+    -- The computed charges of the open exchanges are at most their greatest charges.
     computed : owed s c w.opened ≤ at_stake w.config s c (map core w.opened)
     computed =
         let within : owed s c (map core w.opened) ≤ at_stake w.config s c (map core w.opened) =

@@ -1,4 +1,6 @@
--- Two stations that stay on one class's old list are charged alike.
+-- Proves that two stations that stay on one class's old list are charged alike. The quanta differ by at
+-- most 1 because the order of the stations changes with each quantum, and deficits are between bounds, so
+-- the charges follow the quanta.
 use Rattle.std.proofs.Common.{◌≡◌, refl, ap, sym, ◌∙◌, subst, arith, ℕ, zero, suc, ◌+◌, ◌*◌, ◌-◌, ◌<◌, ◌≤◌, ℤ, pos, ◌-ℤ◌, ◌≤ℤ◌, true, List, [], ◌∷◌, length, take, drop, if◌then◌else◌, ◌==◌, Option, Some, None, unwrap_or, option_map}
 use Rattle.std.proofs.lemmas.Int.{ints}
 use Rattle.wf_frame.specs.declared.settings.Config.{Config}
@@ -50,7 +52,7 @@ length_take zero h = omega arith
 length_take (suc d) [] = omega arith
 length_take (suc d) (x ∷ h) = omega (arith, length_take d h)
 
--- ---- one turn after another
+-- ---- sequences of turns
 
 grown_then : (c : Class) (m n : ℕ) (a b d : Account) → IsGrown c m a b → IsGrown c n b d →
     IsGrown c (m + n) a d
@@ -69,7 +71,7 @@ turn_then c i j m n m' n' a b d h k = record {
   second = grown_then c n n' (acc a j) (acc b j) (acc d j) h.second k.second;
 }
 
--- both stations are on the old list before and after each entry
+-- Both stations are on the old list before the first entry and after each entry.
 abbrev StaysOn : Class → ℕ → ℕ → List Entry → World → Type 0
 StaysOn c i j [] w = Both c i j (books w)
 StaysOn c i j (e ∷ es) w = Both c i j (books w) × StaysOn c i j es (step w e.1).world
@@ -132,7 +134,7 @@ stretch_turn config h i j c a d range s =
 
 -- ---- the bound
 
--- what a station of this weight got and was charged meanwhile
+-- The quanta and the charges of a station with this quantum in the meantime.
 record IsSpan (q l got charged : ℕ) : Type 0 where
   up : charged ≤ q * got + q + l
   down : q * got ≤ charged + q + l
@@ -197,7 +199,7 @@ ahead_one j i xs h k =
     let one : on xs j * on xs i ≤ 1 * on xs i = times_le _ _ (on xs i) k in
     omega arith
 
-acc_is : (w : World) (s : ℕ) → acc (books w) s ≡ account (station w s)
+pub acc_is : (w : World) (s : ℕ) → acc (books w) s ≡ account (station w s)
 acc_is w s = go (at None w.stations s)
   where
     go : (o : Option Station) → unwrap_or (option_map account o) (account no_station)
@@ -205,13 +207,13 @@ acc_is w s = go (at None w.stations s)
     go None = refl
     go (Some x) = refl
 
--- the share in the books is the world's
+-- A share in the books is the share of the world.
 grown_share : (w v : World) (s : ℕ) (c : Class) (m : ℕ) → IsGrown c m (acc (books w) s) (acc (books v) s) →
     IsGrown c m (account (station w s)) (account (station v s))
 grown_share w v s c m h = subst (IsGrown c m (account (station w s))) (acc_is v s)
     (subst (λ (a : Account). IsGrown c m a (acc (books v) s)) (acc_is w s) h)
 
-on_old_live : (config : Config) (h : List Entry) (m s : ℕ) (c : Class) → IsInRange config →
+pub on_old_live : (config : Config) (h : List Entry) (m s : ℕ) (c : Class) → IsInRange config →
     0 < on (rotation (world_at config h m) c).old s → is_live (world_at config h m) s ≡ true
 on_old_live config h m s c range stands =
     let k : IsKept (books (world_at config h m)) = kept config (take m h) range in
@@ -226,7 +228,7 @@ on_old_live config h m s c range stands =
 config_at : (config : Config) (h : List Entry) (m : ℕ) → (world_at config h m).config ≡ config
 config_at config h m = config_run (take m h) (opening config)
 
--- a station's share at a moment
+-- The share of a station at a moment.
 pub share_at : (config : Config) (h : List Entry) (m s : ℕ) (c : Class) → IsInRange config →
     is_live (world_at config h m) s ≡ true → IsMoney config (owed s c (world_at config h m).opened)
     (weight_at config h m s) (share (world_at config h m) s c)
@@ -235,7 +237,7 @@ share_at config h m s c range live =
     (share (world_at config h m) s c)) (config_at config h m)
     (money_after config (take m h) s c range live)
 
--- what one station of a stretch got and was charged
+-- The quanta and the charges of one station of a stretch.
 span_at : (config : Config) (h : List Entry) (a b s C : ℕ) (c : Class) → IsInRange config →
     is_live (world_at config h a) s ≡ true → is_live (world_at config h b) s ≡ true
     → IsGrown c C (account (station (world_at config h a) s)) (account (station (world_at config h b) s)) →

@@ -1,4 +1,4 @@
--- What a call does to the order and the quanta of two stations of one old list.
+-- Proves how a call changes the order and the quanta of two stations on one old list. By cases of the call.
 use Rattle.std.proofs.Common.{◌≡◌, refl, ap, sym, ◌∙◌, subst, arith, ℕ, ◌+◌, ◌*◌, ◌<◌, ◌≤◌, Bool, true, false, if◌then◌else◌, List, [], ◌∷◌, Option, Some, None, is_some, is_none, unwrap_or, option_map, not, map, filter, ◌==◌, eq-eqb, inl, inr}
 use Rattle.std.proofs.lemmas.Bool.{cases_eq, ne_eqb, not_from_true, not_from_false}
 use Rattle.wf_frame.specs.declared.classes.Class.{Class}
@@ -30,7 +30,7 @@ use Rattle.wf_law_runs.proofs.Deficits.KeptStep.{NoRow, no_row, live_account, Is
 abbrev pub acc : Books → ℕ → Account
 acc b s = unwrap_or (b.accounts s) (account no_station)
 
--- the class's share goes on, with m charged
+-- The class's share of an account after m more microseconds were charged.
 pub record IsGrown (c : Class) (m : ℕ) (a a' : Account) : Type 0 where
   pub weight : a'.weight ≡ a.weight
   pub quanta : (a.shares c).quanta ≤ (a'.shares c).quanta
@@ -43,7 +43,7 @@ pub record IsTurn (c : Class) (i j m n : ℕ) (b b' : Books) : Type 0 where
   pub first : IsGrown c m (acc b i) (acc b' i)
   pub second : IsGrown c n (acc b j) (acc b' j)
 
--- both stations are on the class's old list
+-- Both stations are on the class's old list.
 pub record Both (c : Class) (i j : ℕ) (b : Books) : Type 0 where
   pub first : 0 < on (b.rotations c).old i
   pub second : 0 < on (b.rotations c).old j
@@ -51,15 +51,15 @@ pub record Both (c : Class) (i j : ℕ) (b : Books) : Type 0 where
 grown_same : (c : Class) (a : Account) → IsGrown c 0 a a
 grown_same c a = record { weight = refl; quanta = omega arith; charged = omega arith; received = omega arith }
 
-turn_here : (c : Class) (i j : ℕ) (b : Books) → IsTurn c i j 0 0 b b
+pub turn_here : (c : Class) (i j : ℕ) (b : Books) → IsTurn c i j 0 0 b b
 turn_here c i j b = record { order = omega arith; first = grown_same c _; second = grown_same c _ }
 
-turn_same : (c : Class) (i j : ℕ) (b b' : Books) → b' ≡ b → IsTurn c i j 0 0 b b'
+pub turn_same : (c : Class) (i j : ℕ) (b b' : Books) → b' ≡ b → IsTurn c i j 0 0 b b'
 turn_same c i j b b' e = subst (IsTurn c i j 0 0 b) (sym e) (turn_here c i j b)
 
 -- ---- accounts
 
--- one account changes: for y the charge is what m says
+-- One account changes: m says how much each account is charged.
 grown_at : (c : Class) (b : Books) (s : ℕ) (o : Option Account) (m : ℕ → ℕ) →
     ((y : ℕ) → (y ≡ s → ⊥) → m y ≡ 0) → IsGrown c (m s) (acc b s) (unwrap_or o (account no_station)) →
     (y : ℕ) → IsGrown c (m y) (acc b y) (acc (with_account b s o) y)
@@ -72,7 +72,7 @@ grown_at c b s o m none h y = elim (cases_eq y s) [
       (sym (none y other)) (grown_same c _))
 ]
 
--- no quantum is given and no list changes
+-- No quantum is given, and the order on the list does not change.
 turn_account : (c : Class) (i j : ℕ) (b b' : Books) (m : ℕ → ℕ) →
     ((y : ℕ) → IsGrown c (m y) (acc b y) (acc b' y)) →
     ((y : ℕ) → ((acc b' y).shares c).quanta ≡ ((acc b y).shares c).quanta) →
@@ -83,8 +83,8 @@ turn_account c i j b b' m h q e = record {
   second = h j;
 }
 
--- an account that is none of the two changes
-turn_other : (c : Class) (i j s : ℕ) (b : Books) (o : Option Account) → (i ≡ s → ⊥) → (j ≡ s → ⊥) →
+-- The account of another station changes.
+pub turn_other : (c : Class) (i j s : ℕ) (b : Books) (o : Option Account) → (i ≡ s → ⊥) → (j ≡ s → ⊥) →
     IsTurn c i j 0 0 b (with_account b s o)
 turn_other c i j s b o at_i at_j =
     let e_i : acc (with_account b s o) i ≡ acc b i =
@@ -103,7 +103,7 @@ map_or : (P : Account → Account → Type 0) (g : Account → Account) (o : Opt
 map_or P g None h k = k refl
 map_or P g (Some a) h k = h a refl
 
--- an account changes by a function that gives no quanta
+-- An account changes by a function that gives no quanta.
 turn_on : (c : Class) (i j s : ℕ) (b : Books) (g : Account → Account) (m : ℕ → ℕ) →
     ((y : ℕ) → (y ≡ s → ⊥) → m y ≡ 0) → (b.accounts s ≡ None → m s ≡ 0) →
     ((a : Account) → IsGrown c (m s) a (g a)) →
@@ -119,7 +119,7 @@ turn_on c i j s b g m none dead h q = turn_account c i j b (with_account b s (op
     (map_or (λ a a'. (a'.shares c).quanta ≡ (a.shares c).quanta) g (b.accounts s) (λ a _. q a) (λ _. refl)))
     refl
 
--- ---- what leaves accounts and old lists alone
+-- ---- changes of neither accounts nor old lists
 
 pub record IsCalm (b b' : Books) : Type 0 where
   pub accounts : b'.accounts ≡ b.accounts
@@ -176,7 +176,7 @@ calm_listed (Some s) w = calm_listed_in_all all_classes w s
 
 -- ---- a pick
 
-paid_quanta : (q n : ℕ) (c : Class) (o : Option Account) → is_some o ≡ true →
+pub paid_quanta : (q n : ℕ) (c : Class) (o : Option Account) → is_some o ≡ true →
     ((unwrap_or (option_map (paid q c n) o) (account no_station)).shares c).quanta
     ≡ ((unwrap_or o (account no_station)).shares c).quanta + n
 paid_quanta q n c None h = absurd (cc h)
@@ -207,13 +207,13 @@ grown_paid q n c d a = elim (cases_class d c) [
       }
 ]
 
-grown_option : (q n : ℕ) (c d : Class) (o : Option Account) →
+pub grown_option : (q n : ℕ) (c d : Class) (o : Option Account) →
     IsGrown d 0 (unwrap_or o (account no_station))
     (unwrap_or (option_map (paid q c n) o) (account no_station))
 grown_option q n c d o = map_or (IsGrown d 0) (paid q c n) o (λ a _. grown_paid q n c d a)
     (λ _. grown_same d _)
 
--- the picked class itself
+-- The pick of the class.
 turn_class : (w : World) (c : Class) (i j : ℕ) → IsKept (books w) → Both c i j (books w) →
     Both c i j (after (books w) c (picked_station w c)) →
     IsTurn c i j 0 0 (books w) (after (books w) c (picked_station w c))
@@ -249,9 +249,9 @@ turn_class w c i j k h h' = record {
         ((books w).accounts y) (k.live c y (omega arith))
         ∙ ap (λ (n : ℕ). ((acc (books w) y).shares c).quanta + n) all
 
--- another class is picked
-turn_class_other : (b : Books) (p : Picked) (d c : Class) (i j : ℕ) → (class_number c ≡ class_number d → ⊥) →
-    IsTurn c i j 0 0 b (after b d p)
+-- The pick of another class.
+pub turn_class_other : (b : Books) (p : Picked) (d c : Class) (i j : ℕ) →
+    (class_number c ≡ class_number d → ⊥) → IsTurn c i j 0 0 b (after b d p)
 turn_class_other b p d c i j other = turn_account c i j b (after b d p) (λ _. 0)
     (λ y. grown_option b.config.quantum (on (in_order (b.rotations d)) y * p.quanta y) d c (b.accounts y))
     (λ y. map_or (λ a a'. (a'.shares c).quanta ≡ (a.shares c).quanta)
@@ -393,13 +393,13 @@ quanta_receive : (c d : Class) (n : ℕ) (a : Account) →
 quanta_receive c d n a = each_updc (λ e x. x.quanta ≡ (a.shares e).quanta) a.shares d
     (receive_share n (a.shares d)) (λ e. refl) refl c
 
-turn_received : (w : World) (s : ℕ) (d : Class) (air : ℕ) (c : Class) (i j : ℕ) →
+pub turn_received : (w : World) (s : ℕ) (d : Class) (air : ℕ) (c : Class) (i j : ℕ) →
     IsTurn c i j 0 0 (books w) (books (rx_outcome w s d air).world)
 turn_received w s d air c i j = subst (IsTurn c i j 0 0 (books w)) (sym (books_received w s d air))
     (turn_on c i j s (books w) (on_part d (receive_share air)) (λ _. 0) (λ y _. refl) (λ _. refl)
     (grown_receive c d air) (quanta_receive c d air))
 
-turn_rated : (w : World) (s : ℕ) (rate : AskedRate) (c : Class) (i j : ℕ) →
+pub turn_rated : (w : World) (s : ℕ) (rate : AskedRate) (c : Class) (i j : ℕ) →
     IsTurn c i j 0 0 (books w) (books (rate_outcome w s rate).world)
 turn_rated w s rate c i j = subst (IsTurn c i j 0 0 (books w))
     (sym (books_with_rate w s rate))
@@ -415,7 +415,7 @@ charge_elsewhere : (air : Option ℕ) (x : Exchange) (c : Class) (y : ℕ) → (
     charge_to y c air (Some x) ≡ 0
 charge_elsewhere air x c y other = rw (ne_eqb x.station y (λ e. other (sym e))) refl
 
-turn_ended : (air : Option ℕ) (w : World) (e : ℕ) (x : Exchange) (heard : Bool) (c : Class) (i j : ℕ) →
+pub turn_ended : (air : Option ℕ) (w : World) (e : ℕ) (x : Exchange) (heard : Bool) (c : Class) (i j : ℕ) →
     IsKept (books w) →
     IsFound w e x → IsTurn c i j (charge_to i c air (Some x)) (charge_to j c air (Some x)) (books w)
     (books (done_outcome w x heard air).world)
@@ -440,7 +440,7 @@ turn_ended air w e x heard c i j k found =
 
 -- ---- the step
 
--- what a call charges where it is not refused
+-- Returns the charge of a call to a station in a class, if the call is not refused.
 abbrev pub owing : World → ℕ → Class → Note → ℕ
 owing w s c (Asked (Done e heard air)) = charge_to s c air (exchange w e)
 owing w s c _ = 0

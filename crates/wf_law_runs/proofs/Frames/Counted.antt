@@ -1,4 +1,5 @@
--- How many frames are held: as many as stand in flow queues and at numbers that are not settled.
+-- Proves that the number of held frames is the number of frames in flow queues and at unsettled numbers:
+-- the list of the ids in these places has no repeats, and contains exactly the held frames.
 use Rattle.std.proofs.Common.{◌≡◌, refl, ap, sym, ◌∙◌, subst, arith, ℕ, zero, suc, ◌+◌, ◌-◌, ◌<◌, ◌≤◌, ◌==◌, not, Bool, true, false, if◌then◌else◌, inl, inr, List, [], ◌∷◌, ◌++◌, length, map, Option, Some, None, unwrap_or}
 use Rattle.std.proofs.lemmas.List.{length-append, length-map}
 use Rattle.std.proofs.lemmas.List.Sums.{sum_by-cons}
@@ -23,7 +24,7 @@ use Rattle.wf_law_rules.proofs.Lemmas.Joined.{as_many, rising_once, has_first, h
 use Rattle.wf_law_runs.proofs.Frames.Places.{place_law}
 use Rattle.wf_law_runs.proofs.Queues.Law.{queue_law}
 
--- ---- the ids in queues and at numbers that are not settled
+-- ---- the ids in queues and at unsettled numbers
 
 abbrev queue_ids : Queue → List ℕ
 queue_ids q = map (λ x. x.id) q.items
@@ -40,7 +41,7 @@ station_ids o = all_of tid_ids (unwrap_or o no_station).tids
 abbrev placed_ids : World → List ℕ
 placed_ids w = all_of queue_ids w.queues ++ all_of station_ids w.stations
 
--- ---- a number that is not settled
+-- ---- an unsettled number
 
 unsettled_below : (xs : List Slot) (i : ℕ) → is_settled (at no_slot xs i).state ≡ false → i < length xs
 unsettled_below [] i h = absurd (cc h)
@@ -69,7 +70,7 @@ one_carried x k e d = ap (λ (b : Bool). has (if b then [] else x.id ∷ []) k) 
 once_slot : (x : Slot) → IsOnce (slot_ids x)
 once_slot x = on_if IsOnce (is_settled x.state) [] (x.id ∷ []) (λ _. tt) (λ _. (refl, tt))
 
--- entry i of a session's slots stands for a number
+-- Entry i of a session's slots is the slot of number first + i.
 numbered_at : (w : World) (s t i k : ℕ) → has (slot_ids (at no_slot (session w s t).slots i)) k ≡ true →
     StandsAt w k (Numbered s t ((session w s t).first + i))
 numbered_at w s t i k h =
@@ -83,7 +84,7 @@ numbered_at w s t i k h =
       unsettled = ap (λ (j : ℕ). is_settled (at no_slot y.slots j).state) same_place ∙ c.unsettled;
     }
 
--- ---- each id of the list stands in a place, and each that stands in a place is on the list
+-- ---- the list contains exactly the ids that are in a place
 
 record InTid (w : World) (s t k : ℕ) : Type 0 where
   number : ℕ
@@ -132,7 +133,7 @@ place_listed w k (Numbered s t n) h =
     (has_all slot_ids no_slot (session w s t).slots (n - (session w s t).first) k refl
     (one_carried (slot (session w s t) n) k h.unsettled h.carries))))
 
--- ---- no id is twice on the list
+-- ---- the list has no repeats
 
 one_place : (w : World) (k : ℕ) (p r : Place) → KeepsPlaces w → StandsAt w k p → StandsAt w k r → p ≡ r
 one_place w k p r h a b =

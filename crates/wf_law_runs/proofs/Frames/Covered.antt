@@ -1,4 +1,5 @@
--- Each held frame is in a queue or at a number that is not settled.
+-- Defines that each held frame is in a queue or at an unsettled number, and proves that parts of a call
+-- keep this.
 use Rattle.std.proofs.Common.{pos, ◌-ℤ◌, ◌≡◌, ◌≢◌, refl, ap, sym, ◌∙◌, subst, arith, ℕ, zero, suc, ◌<◌, ◌≤◌, ◌-◌, ◌+◌, Bool, true, false, if◌then◌else◌, ◌==◌, ◌||◌, ◌⊎◌, inl, inr, List, [], ◌∷◌, ◌++◌, map, length, Option, Some, None, IfSome}
 use Rattle.wf_frame.specs.declared.classes.Cause.{Cause}
 use Rattle.wf_frame.specs.declared.classes.Class.{Class}
@@ -32,7 +33,7 @@ use Rattle.wf_law_rules.proofs.Lemmas.Numbers.{on_bool, not_eq, eq_yes, eq_no, e
 use Rattle.wf_law_rules.proofs.Lemmas.Dequeues.{each_dequeue}
 use Rattle.wf_law_rules.proofs.Lemmas.Sums.{length_put}
 
--- each held frame is one that P names
+-- P holds for each held frame.
 pub record Covers (P : ℕ → Type 0) (w : World) : Type 0 where
   pub covers : (k : ℕ) → k < accepted_count w → IsHeld w k → P k
 
@@ -83,7 +84,7 @@ covers_all (x ∷ xs) P Q w fate never old c f =
     (covers_finish P (λ k. P k × (k ≢ x)) w fate x never l c (λ k other p. (p, other)))
     (λ k none p. f k (ap (λ (b : Bool). b || has xs k) (not_eq x k (λ e. p.1 (sym e))) ∙ none) p.0)
 
--- ---- what stays in hand
+-- ---- changes that keep frames in their places
 
 pub hand_same : (w v : World) (k : ℕ) → ((q : ℕ) → carries (queue w q).items k ≡ true →
     carries (queue v q).items k ≡ true) → ((s t : ℕ) → session w s t ≡ session v s t) → InHand w k →
@@ -139,7 +140,7 @@ hand_session w s t k f h i = elim i [
   })
 ]
 
--- and another slot changes
+-- The slot of another number changes.
 pub carries_other : (y : Session) (m k n : ℕ) (f : Slot → Slot) → y.first ≤ m →
     ((x : Slot) → (f x).id ≡ x.id) → m ≢ n → Carries y k n → Carries (on_slot m f y) k n
 carries_other y m k n f l same_id other c =
@@ -151,7 +152,7 @@ carries_other y m k n f l same_id other c =
       id = kept.ids n c.from c.below ∙ c.id;
     }
 
--- a slot changes that keeps its id and stays unsettled
+-- A slot changes, keeps its id and stays unsettled.
 pub carries_on_slot : (y : Session) (m k n : ℕ) (f : Slot → Slot) → y.first ≤ m →
     ((x : Slot) → (f x).id ≡ x.id) → is_settled (f (slot y m)).state ≡ false → Carries y k n →
     Carries (on_slot m f y) k n
@@ -169,7 +170,7 @@ carries_on_slot y m k n f l same_id unsettled c =
     })
     (λ other. carries_other y m k n f l same_id (eq_no m n other) c)
 
--- ---- what a dequeue does with a frame
+-- ---- the frames of a dequeue
 
 IsKeptOr : List Item → Dequeued → Type 0
 IsKeptOr xs d = (k : ℕ) → carries xs k ≡ true → (has (ids_in d.dropped) k ≡ true) ⊎
@@ -192,7 +193,7 @@ kept_or xs p now c = each_dequeue IsKeptOr
     ])
     xs p now c
 
--- ---- what leaves the queues alone
+-- ---- changes that do not affect the queues
 
 same_queues : (w v : World) → v.queues ≡ w.queues → (q k : ℕ) → carries (queue w q).items k ≡ true →
     carries (queue v q).items k ≡ true
@@ -227,7 +228,7 @@ unfolding with_queues on_tid on_station with_station
 paid_items w s t quanta r ks q k h = ap (λ (b : Shelves). carries (b.queues q).items k)
     (shelves_pay_queues ks w quanta) ∙ h
 
--- ---- a take, and the number of what it gives
+-- ---- a take, and the number of the frame
 
 never_dropped : (c : Cause) → Dropped c ≡ Held → ⊥
 never_dropped c e = cc e

@@ -1,4 +1,4 @@
--- Each call keeps each held frame in a queue or at a number that is not settled.
+-- Proves that each held frame stays in a queue or at an unsettled number, by cases of the call.
 use Rattle.wf_law_runs.proofs.Releases.Placed.{less_left_tids, Placing, Any, placed_less, placed_settled, placed_without, accepted_with_frame, side_with_frame, IsIdOf, has_ids}
 use Rattle.std.proofs.Common.{◌≡◌, refl, ap, sym, ◌∙◌, subst, arith, ℕ, zero, suc, ◌<◌, ◌-◌, pos, Bool, true, false, if◌then◌else◌, ◌==◌, inl, inr, List, [], ◌∷◌, ◌++◌, length, Option, Some, None, is_some, unwrap_or}
 use Rattle.std.proofs.lemmas.Bool.{cases_eq}
@@ -70,7 +70,7 @@ carries_heard : (b : Bool) (f : ℕ) (y : Session) (k n : ℕ) → Carries y k n
 carries_heard true f y k n c = record { from = c.from; below = c.below; unsettled = c.unsettled; id = c.id }
 carries_heard false f y k n c = c
 
--- a station that is not live has no numbers
+-- A station that is not live has no numbers.
 dead_none : (w : World) (s t k n : ℕ) → is_live w s ≡ false → Carries (session w s t) k n → ⊥
 dead_none w s t k n dead c = go (at None w.stations s) refl dead
   where
@@ -94,7 +94,7 @@ hand_finish : (w : World) (fate : Fate) (id k : ℕ) → InHand w k → InHand (
 hand_finish w fate id k i = hand_same w (with_frame_finished w fate id) k
     (λ q h. queue_finish w fate id q k h) (λ s t. sym (session_same w _ (same_finish w fate id) s t)) i
 
--- ---- a frame is queued
+-- ---- a frame is enqueued
 
 covers_head : (items : List Item) (l : List ℕ) (w : World) (q : ℕ) → (queue w q).items ≡ items → Placing l w →
     Full w → Full (without_head w q items)
@@ -220,7 +220,7 @@ missed_open : (b : Bool) → is_failed (if b then State.Failed else State.Waitin
 missed_open true h = absurd (cc h)
 missed_open false h = refl
 
--- the frame of a number that is settled now gets its fate
+-- The frame of a number that is settled now gets its fate.
 covers_slot : (l : List ℕ) (e s t : ℕ) (acked : ℕ → Bool) (w : World) (m : Mpdu) (ms : List Mpdu)
     (f : Slot → Slot) (fate : Fate) → (fate ≡ Held → ⊥) → ((x : Slot) → (f x).id ≡ x.id) →
     IsEnding e s t acked w (m ∷ ms) → (slot (session w s t) m.number).id ≡ m.id
@@ -314,7 +314,7 @@ covers_ended air l w i x heard f a p c =
 
 -- ---- a station leaves
 
--- what is in hand of a station that leaves, where its TIDs ts are still to be dropped
+-- The frames of a leaving station. Its TIDs ts are not yet cleared.
 forward_pend : (s : ℕ) (ts : List ℕ) (w v : World) (k : ℕ) →
     ((q : ℕ) → carries (queue w q).items k ≡ true → carries (queue v q).items k ≡ true) →
     ((i j : ℕ) → session v i j ≡ session w i j) → Pend s ts w k → Pend s ts v k
@@ -344,7 +344,7 @@ held_has (x ∷ xs) (suc i) h =
     (waiting_ids xs)
     (λ _. or_right (x.id == (at no_slot xs i).id) _ (held_has xs i h)) (λ _. held_has xs i h)
 
--- of a station, no number is in flight
+-- No number of the station is on the air.
 pub record IsQuiet (s : ℕ) (w : World) : Type 0 where
   pub waits : (t n k : ℕ) → Carries (session w s t) k n → (slot (session w s t) n).state ≡ State.Waiting
 

@@ -1,4 +1,5 @@
--- Each frame that a call acknowledges has arrived at a receiver, and the call ends an exchange that sends it.
+-- Proves that each frame that a call acknowledges has arrived at a receiver, and that the call ends an
+-- exchange that sends it. By cases of the call.
 use Rattle.std.proofs.Common.{◌≡◌, ◌≢◌, refl, ap, sym, ◌∙◌, subst, arith, ℕ, zero, suc, ◌+◌, ◌-◌, ◌<◌, ◌≤◌, nat_lt, append-nil, Bool, true, false, if◌then◌else◌, not, ◌==◌, ◌⊎◌, inl, inr, List, [], ◌∷◌, ◌++◌, length, map, Option, Some, None, IfSome, is_some, ◌↔◌}
 use Rattle.wf_frame.specs.declared.classes.Class.{Class}
 use Rattle.wf_def_agreement.specs.Receiver.{Score, Receiver, score}
@@ -34,7 +35,7 @@ use Rattle.wf_law_runs.proofs.Frames.Fewer.{IsAcked, Less, less, then_less, if_l
 use Rattle.wf_law_runs.proofs.Windows.Settling.{all_acked, without_same, without_live}
 use Rattle.wf_law_runs.proofs.Releases.Placed.{slot_new_id}
 
--- ---- the frames that an exchange names are those of its numbers
+-- ---- the ids in an exchange are those of its numbers
 
 abbrev pub Labelled : Session → List Mpdu → Type 0
 Labelled y [] = Unit {0}
@@ -68,7 +69,7 @@ labelled_fitting ms w s y a =
     let n : ℕ = greatest_upto (λ k. fits_in w s (take_front k ms)) (length ms) in
     labelled_front y (take_front n ms) (drop n ms) (subst (Labelled y) (sym (take-append-drop n ms)) a)
 
--- u: the world before the pull
+-- u is the world before the pull.
 record IsNamed (s t : ℕ) (u w : World) (ms : List Mpdu) : Type 0 where
   opened : w.opened ≡ u.opened
   exchanges : w.exchanges ≡ u.exchanges
@@ -155,7 +156,7 @@ named_filled w s t r =
     (with_fresh (most_frames w s - length chosen) w s t chosen) (record { world = w; mpdus = chosen })
     (λ _. named_fresh (most_frames w s - length chosen) w s t w chosen r k) (λ _. k)
 
--- a prepared exchange
+-- A prepared exchange; u is the world before the pull.
 pub record IsPrepared (s t : ℕ) (u : World) (p : Prepared) : Type 0 where
   pub opened : p.world.opened ≡ u.opened
   pub exchanges : p.world.exchanges ≡ u.exchanges
@@ -188,7 +189,7 @@ prepared_right w s t i live = if_prepared (request_due (session w s t)) s t w _ 
     (λ quiet. prepared_by s t w (aggregate_of w s t) (ready_filled w s t i live quiet)
     (named_filled w s t (ready_start w s t i live quiet)))
 
--- ---- worlds whose open exchanges are labelled
+-- ---- worlds in which each open exchange has the ids of its numbers
 
 pub record IsLabelled (w : World) : Type 0 where
   pub labels : Each (λ x. Labelled (session w x.station x.tid) (mpdus_of x.content)) w.opened
@@ -246,7 +247,7 @@ labelled_pulled w c i a =
     (pick_ready (station_need w c) (is_ready w c) (rotation w c))) (lawful_same _ _ k i)
     (labelled_same w _ i k a)
 
--- exchanges replaced by one with the same content
+-- An exchange is replaced by one with the same content.
 labelled_with_exchange : (w v : World) (x z : Exchange) → ((s t : ℕ) → session v s t ≡ session w s t) →
     v.opened ≡ map (λ y. if y.number == z.number then z else y) w.opened →
     Labelled (session w z.station z.tid) (mpdus_of z.content) → IsLabelled w → IsLabelled v
@@ -399,12 +400,12 @@ labelled_gone w s h i a =
     labelled_with_station _ s None (subst (Each (λ x. s ≢ x.station)) (sym k.opened) (none_open w.opened s h))
     (labelled_same _ _ i k a)
 
--- ---- what a step acknowledges
+-- ---- the frames that a step acknowledges
 
 abbrev None_of : ℕ → Type 0
 None_of id = ⊥
 
--- among these numbers, one that is to become acknowledged carries the frame
+-- One of these numbers carries the frame and becomes acknowledged.
 abbrev AckedAmong : (ℕ → Bool) → List Mpdu → ℕ → Type 0
 AckedAmong acked [] id = ⊥
 AckedAmong acked (m ∷ ms) id = ((m.id ≡ id) × (acked m.number ≡ true)) ⊎ AckedAmong acked ms id
@@ -441,7 +442,7 @@ unfolding done_outcome
 less_ended air w x heard = then_less _ _ _ _ (less_without _ w x.number)
     (then_less _ _ _ _ (less_charged air _ _ x) (less_after x.content _ x heard))
 
--- a number of a live station carries the frame, is acknowledged, and is in its receiver's set
+-- A number of a live station carries the frame, is acknowledged, and has arrived at its receiver.
 pub record HasArrived (w : World) (id : ℕ) : Type 0 where
   pub station : ℕ
   pub tid : ℕ
@@ -453,7 +454,7 @@ pub record HasArrived (w : World) (id : ℕ) : Type 0 where
   pub acked : (slot (session w station tid) number).state ≡ State.Acked
   pub arrived : has (receiver w station tid).arrived number ≡ true
 
--- a number of the exchange that ended, acknowledged, has reached its receiver
+-- An acknowledged number of the ended exchange has arrived at its receiver.
 reached_among : (ms : List Mpdu) (v : World) (y : Session) (r : Receiver) (s t id lo : ℕ) (acked : ℕ → Bool) →
     is_live v s ≡ true → KeptSession y (session v s t) → receiver v s t ≡ r → y.first ≤ lo →
     Rises lo (next_number y) ms → Labelled y ms → AllBacked acked r ms
@@ -527,7 +528,7 @@ reached_same w v id h r = record {
   arrived = ap (λ (a : Side). has a.receiver.arrived r.number) (h.sides r.station r.tid) ∙ r.arrived;
 }
 
--- ---- what the other calls acknowledge: nothing
+-- ---- the other calls acknowledge no frame
 
 less_number : (o : Option Item) (P : ℕ → Type 0) (w : World) (s t : ℕ) → Less P w (with_number w s t o)
 unfolding with_number
@@ -630,7 +631,7 @@ unfolding reap_outcome
 less_reaped [] P w = less P w
 less_reaped (id ∷ ids) P w = less_plain P w _ refl refl
 
--- frames that were acknowledged before
+-- The acknowledged frames were acknowledged before.
 abbrev OldAcks : World → World → Type 0
 OldAcks w v = (id : ℕ) → IsAcked v id → IsAcked w id
 
@@ -659,7 +660,7 @@ fates_enqueued w s t flow len id a = old_by w (after_limit w) (less_within_limit
 
 -- ---- the step
 
--- the frames that are acknowledged after a call were so before, or have reached their receiver now
+-- Each frame that is acknowledged after a call was acknowledged before, or reaches its receiver now.
 abbrev pub Acks : Note → World → World → Type 0
 Acks note w v = (id : ℕ) → IsAcked v id → IsAcked w id ⊎ (EndsHeard w note id × HasArrived v id)
 
@@ -669,7 +670,7 @@ acks_old note w v h id a = inl (h id a)
 acks_less : (note : Note) (w v : World) → Less None_of w v → Acks note w v
 acks_less note w v h = acks_old note w v (old_by w v h)
 
--- what holds after a call: labels, and what was acknowledged
+-- The invariant after a call: the ids of open exchanges, and the acknowledged frames.
 pub record IsDelivered (note : Note) (w v : World) : Type 0 where
   pub labelled : IsLabelled v
   pub acks : Acks note w v

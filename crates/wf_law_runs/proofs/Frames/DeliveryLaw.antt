@@ -1,4 +1,4 @@
--- Each acknowledged frame reached its own receiver: the law, answered.
+-- Proves the law of delivery: each acknowledged frame reached its own receiver. By induction on the run.
 use Rattle.std.proofs.Common.{refl, ap, sym, ◌∙◌, ℕ, ◌⊎◌, inl, inr, List, [], ◌∷◌, ◌++◌}
 use Rattle.wf_frame.specs.declared.settings.Config.{Config}
 use Rattle.wf_frame.specs.Settings.{IsInRange}
@@ -14,7 +14,7 @@ use Rattle.wf_law_runs.proofs.Frames.Fates.{IsHeld, remains_step}
 use Rattle.wf_law_runs.proofs.Frames.Delivered.{HasArrived, delivered_step}
 use Rattle.wf_law_runs.proofs.Frames.Places.{Standing, standing_step, standing_first}
 
--- the number is one of the TID that the frame's own Enqueue names
+-- The number belongs to the TID of the frame's Enqueue.
 own_number : (l : List ℕ) (most : ℕ) (w : World) (id : ℕ) → Standing l most w → HasArrived w id →
     HasReached w id
 own_number l most w id k a = record {
@@ -31,7 +31,7 @@ own_number l most w id k a = record {
   arrived = a.arrived;
 }
 
--- with one entry more in front
+-- One more entry at the head of the history.
 further : (w : World) (e : Entry) (es : List Entry) (id : ℕ) → ReachedWithin (step w e.1).world es id →
     ReachedWithin w (e ∷ es) id
 unfolding world_after

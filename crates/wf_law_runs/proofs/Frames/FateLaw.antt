@@ -1,4 +1,4 @@
--- A fate other than Held never changes: the law, answered.
+-- Proves the law of fates: a fate other than Held never changes.
 use Rattle.std.proofs.Common.{◌≡◌, subst, ap, ◌∙◌, arith, ℕ, ◌+◌, ◌-◌, ◌⊎◌, List, take, drop}
 use Rattle.wf_frame.specs.declared.settings.Config.{Config}
 use Rattle.wf_frame.specs.declared.classes.Fate.TheVariants.{Held}

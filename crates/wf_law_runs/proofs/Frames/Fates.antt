@@ -1,5 +1,5 @@
--- What became of a frame stays so: only frames in queues and at numbers that are not settled get a fate, and
--- those are held.
+-- Proves that a fate other than Held never changes: only frames in queues and at unsettled numbers get a
+-- fate, and these are held. Also proves that each frame with a fate goes on the finished list once.
 use Rattle.std.proofs.Common.{◌≡◌, ◌≢◌, refl, ap, sym, ◌∙◌, subst, arith, ℕ, zero, suc, ◌+◌, ◌-◌, ◌<◌, ◌≤◌, nat_lt, pos, Bool, true, false, if◌then◌else◌, not, ◌==◌, ◌||◌, ◌⊎◌, inl, inr, List, [], ◌∷◌, ◌++◌, length, map, Option, Some, None, IfSome, is_none, count_by, add-zero, append_assoc, ◌-ℤ◌}
 use Rattle.wf_frame.specs.declared.settings.Config.{Config}
 use Rattle.wf_frame.specs.declared.classes.Class.{Class}
@@ -50,29 +50,30 @@ use Rattle.wf_law_runs.proofs.Releases.Placed.{Queued, Numbered, Placing, Any, p
 abbrev pub IsHeld : World → ℕ → Type 0
 IsHeld w k = (frame w k).fate ≡ Held
 
--- a frame that is not held keeps its fate
+-- A frame that is not held keeps its fate.
 pub record Remains (w v : World) : Type 0 where
   pub remains : (k : ℕ) → IsHeld w k ⊎ ((frame v k).fate ≡ (frame w k).fate)
 
--- ids: those that were reaped. With those on the finished list they are the accepted ones with a fate other
--- than Held, each once.
+-- ids are the frames that were reaped. Together with the finished list they are exactly the accepted frames
+-- with a fate other than Held, without repeats.
 pub record IsFinishedRight (ids : List ℕ) (w : World) : Type 0 where
   pub once : IsOnce (ids ++ w.finished)
   pub settled : (k : ℕ) → has (ids ++ w.finished) k ≡ true → (k < accepted_count w) × (IsHeld w k → ⊥)
   pub every : (k : ℕ) → k < accepted_count w → (IsHeld w k → ⊥) → has (ids ++ w.finished) k ≡ true
 
--- the finished list stays right, with the same ids reaped
+-- The finished list stays right, with the same ids reaped.
 abbrev pub KeepsRight : World → World → Type 0
 KeepsRight w v = (ids : List ℕ) → IsFinishedRight ids w → IsFinishedRight ids v
 
--- and no frame is accepted or reaped: only held frames get a fate, and each goes on the finished list
+-- The finished list stays right, and no frame is accepted or reaped. Only held frames get a fate, and each
+-- goes on the finished list.
 pub record Stays (w v : World) : Type 0 where
   pub right : KeepsRight w v
   pub stays : (k : ℕ) → IsHeld w k ⊎ ((frame v k).fate ≡ (frame w k).fate)
   pub accepted : accepted_count v ≡ accepted_count w
   pub inside : inside v ≡ inside w
 
--- the frames that P names are held
+-- P holds only for held frames.
 pub record HeldOn (P : ℕ → Type 0) (w : World) : Type 0 where
   pub held : (k : ℕ) → P k → IsHeld w k
 
@@ -223,7 +224,7 @@ record Finished (Q : ℕ → Type 0) (w v : World) : Type 0 where
   stays : Stays w v
   held : HeldOn Q v
 
--- different held frames get a fate
+-- Several different held frames get a fate.
 finish_ids : (ids : List ℕ) (P Q : ℕ → Type 0) (w : World) (fate : Fate) → is_held fate ≡ false → HeldOn P w →
     IsOnce ids → ((k : ℕ) → has ids k ≡ true → P k × (k < accepted_count w)) →
     ((k : ℕ) → Q k → P k × (has ids k ≡ false)) → Finished Q w (with_frames_finished w fate ids)
@@ -251,20 +252,20 @@ finish_ids (x ∷ xs) P Q w fate settles h once own apart =
     neither true b h = absurd (cc h)
     neither false b h = (refl, h)
 
--- ---- frames in hand
+-- ---- frames in queues and at unsettled numbers ("in hand")
 
 pub record InQueue (w : World) (k : ℕ) : Type 0 where
   pub place : ℕ
   pub there : carries (queue w place).items k ≡ true
 
--- the number n of a session is not settled, and carries k
+-- Number n of the session is not settled and carries frame k.
 pub record Carries (y : Session) (k n : ℕ) : Type 0 where
   pub from : y.first ≤ n
   pub below : n < next_number y
   pub unsettled : is_settled (slot y n).state ≡ false
   pub id : (slot y n).id ≡ k
 
--- the number n of a session, settled or not, was given to k
+-- Number n of the session, settled or not, was assigned to frame k.
 pub record Bears (y : Session) (k n : ℕ) : Type 0 where
   pub from : y.first ≤ n
   pub below : n < next_number y
@@ -311,7 +312,7 @@ fresh_calm : (w v : World) → Less Any w v → ((s t : ℕ) → session v s t �
 fresh_calm w v h d e f = held_frames (InHand v) w v e
     (held_less (InHand w) (InHand v) w (λ k i. in_hand_less w v k h d i) f)
 
--- every number of z that is not settled was so in y, with the same id
+-- Every unsettled number of z was unsettled in y, with the same id.
 pub record Unsettles (y z : Session) : Type 0 where
   pub was : (k n : ℕ) → Carries z k n → Carries y k n
 
@@ -384,7 +385,7 @@ unsettles_heard true f y = record {
 }
 unsettles_heard false f y = unsettles_refl y
 
--- ---- what a dequeue drops
+-- ---- the frames that a dequeue drops
 
 abbrev pub ids_in : List Item → List ℕ
 ids_in xs = map (λ x. x.id) xs
@@ -450,7 +451,7 @@ dropped_first x xs d o h = record {
   given = given_front d.given x xs (ids_in d.dropped) o h.given;
 }
 
--- where the frames rise from some id on
+-- The ids of the queue increase, from some number on.
 abbrev IsDroppedInOrder : List Item → Dequeued → Type 0
 IsDroppedInOrder ys d = (lo : ℕ) → Ordered lo ys → IsDroppedRight ys d
 
@@ -460,7 +461,7 @@ dropped_dequeue xs p now c lo o =
     each_dequeue IsDroppedInOrder (λ c lo o. dropped_none c) (λ x xs c lo o. dropped_head x xs c)
     (λ x xs d h lo o. dropped_first x xs d o.1 (h (suc x.id) o.1)) xs p now c lo o
 
--- ---- a take, and the number of what it gives
+-- ---- a take, and the number of the frame
 
 abbrev pub IsGivenId : Option Item → ℕ → Type 0
 IsGivenId None k = ⊥
@@ -477,7 +478,7 @@ pub session_on_queue : (w : World) (q : ℕ) (f : Queue → Queue) (s t : ℕ) �
 unfolding on_queue
 session_on_queue w q f s t = refl
 
--- a frame in hand is in no other place than its home says
+-- A frame in hand is in no place except its home.
 in_place : (l : List ℕ) (w v : World) (p : Placing l w) (q k : ℕ) → Less Any w v →
     ((s t : ℕ) → session v s t ≡ session w s t) → carries (queue w q).items k ≡ true →
     carries (queue v q).items k ≡ false → InHand v k → ⊥
@@ -496,7 +497,7 @@ in_place l w v p q k h d there gone i = elim i [
       cc (a, b, ap p.home o.id))
 ]
 
--- what is left after a call: places, held frames in hand, and fates
+-- The invariant after a call: places, held frames in hand, and fates.
 pub record Safe (l : List ℕ) (w v : World) : Type 0 where
   pub placing : Placing l v
   pub fresh : Fresh v
@@ -749,7 +750,7 @@ safe_pulled l w c i p f =
 
 -- ---- the end of an exchange
 
--- the id of a settled number is in no hand
+-- The frame of a settled number is not in hand.
 settled_not_in_hand : (l : List ℕ) (w : World) (p : Placing l w) (s t n id : ℕ) → (session w s t).first ≤ n →
     n < next_number (session w s t) → (slot (session w s t) n).id ≡ id →
     is_settled (slot (session w s t) n).state ≡ true → InHand w id → ⊥
@@ -773,7 +774,7 @@ settled_not_in_hand l w p s t n id from below e settled i =
           cc (u, settled))
     ]
 
--- a number that was settled just now: its frame gets its fate
+-- A number was settled just now, and its frame gets its fate.
 safe_finish : (l : List ℕ) (w : World) (s t n id : ℕ) (fate : Fate) → is_held fate ≡ false → Placing l w →
     Fresh w → IsHeld w id → (session w s t).first ≤ n → n < next_number (session w s t) →
     (slot (session w s t) n).id ≡ id → is_settled (slot (session w s t) n).state ≡ true →
@@ -802,7 +803,7 @@ failed_settled (State.Flying e) h = absurd (cc h)
 failed_settled State.Acked h = refl
 failed_settled State.Failed h = refl
 
--- one number stops flying: v is the world in which it has its new state
+-- One number is no longer on the air. v is the world in which it has its new state.
 record IsStopped (l : List ℕ) (w v : World) (s t : ℕ) (m : Mpdu) (f : Slot → Slot) : Type 0 where
   safe : Safe l w v
   held : IsHeld v m.id
@@ -924,7 +925,7 @@ safe_ended air l w i x heard f a p h =
     (then_safe l u (after_charge u x air) _ k.stays
     (safe_after air x.content l w i x heard refl f a k.placing k.fresh))
 
--- ---- a frame is queued
+-- ---- a frame is enqueued
 
 default_frame : (fs : List Frame) (k : ℕ) → length fs ≤ k → (at no_frame fs k).fate ≡ Held
 default_frame [] k h = refl
@@ -943,7 +944,7 @@ pub fate_with_frame : (w : World) (note : Note) (k : ℕ) →
 unfolding with_frame
 fate_with_frame w note k = new_fate w.frames (record { note = note; fate = Held }) k refl
 
--- a frame that is new, or in hand
+-- The frame is new, or in hand.
 abbrev OrNew : World → ℕ → ℕ → Type 0
 OrNew w c k = InHand w k ⊎ (k ≡ c)
 
@@ -1055,7 +1056,7 @@ right_with_frame w note ids a = record {
       ∙ default_frame w.frames k (lt_no k (accepted_count w) new))));
 }
 
--- a frame more is accepted, and is inside
+-- One more frame is accepted and inside.
 record Entered (w v : World) : Type 0 where
   right : KeepsRight w v
   held : Fresh v
@@ -1177,7 +1178,8 @@ pub count_climbs : (m n : ℕ) → Climbs n (count_from n m)
 count_climbs zero n = tt
 count_climbs (suc m) n = (omega arith, count_climbs m (suc n))
 
--- of a station that leaves, the TIDs that are still to be dropped
+-- The frame is at a number of another station, or of a TID in ts. The TIDs ts of station s, which leaves, are
+-- not yet cleared.
 pub record AtOther (s : ℕ) (ts : List ℕ) (w : World) (k : ℕ) : Type 0 where
   pub spot : AtSlot w k
   pub other : (spot.station ≢ s) ⊎ (has ts spot.tid ≡ true)
@@ -1303,7 +1305,7 @@ left_queue l w s ts q p h less_v k =
     in
     record { stays = then_stays w u v (stays_same w u (untouched_on_queue w q g)) r.stays; held = r.held }
 
--- a part of a leave
+-- One part of a leave.
 record Leaving (l : List ℕ) (s : ℕ) (ts : List ℕ) (w v : World) : Type 0 where
   placing : Placing l v
   held : HeldOn (Pend s ts v) v
@@ -1466,7 +1468,7 @@ safe_joined l w s window start exponent weight p h =
     let r = joined_kept w s window start exponent weight h in
     record { placing = placed_joined l w s window start exponent weight p; fresh = r.held; stays = r.stays }
 
--- what is kept of held frames and fates, whatever was passed up: n frames are accepted, and r are reaped
+-- The held frames and the fates after a call that accepts n frames and reaps r, for any released frames.
 record Kept_fates (n r : ℕ) (w v : World) : Type 0 where
   right : r ≡ 0 → KeepsRight w v
   fresh : Fresh v
@@ -1530,7 +1532,7 @@ fates_arrived w x n h =
     (record { frames = u.frames; finished = u.finished })
     (session_on_receiver w x.station x.tid (after_arrival x.content n)) h
 
--- the first of the finished list is reaped
+-- The head of the finished list is reaped.
 fates_reaped : (ids : List ℕ) (w : World) → w.finished ≡ ids → (length ids == 0) ≡ false → Fresh w →
     Kept_fates 0 1 w (reap_outcome w ids).world
 unfolding reap_outcome
@@ -1571,7 +1573,7 @@ found_named w i a e = both_found (exchange w e) w i (found w i e)
     (λ x. Labelled (session w x.station x.tid) (mpdus_of x.content)) (λ x. x.number == e) w.opened
     (λ x _ f. f) a.labels)
 
--- how many frames a call accepts, and how many it reaps, where it is not refused
+-- Returns how many frames a call accepts, and `fetched` how many it reaps, if it is not refused.
 abbrev pub brought : Note → ℕ
 brought (Enqueue s t flow len) = 1
 brought _ = 0
@@ -1667,7 +1669,7 @@ unfolding named_from world_after
 steady_run [] l w k = k
 steady_run (e ∷ es) l w k = steady_run es _ (step w e.1).world (steady_step l w e.1 k)
 
--- ids: those that were reaped before a call that reaps none
+-- A call that reaps no frame. ids are the frames that were reaped before.
 pub right_step : (l ids : List ℕ) (w : World) (note : Note) → Steady l w →
     (if is_none (refusal w note) then fetched note else 0) ≡ 0 → IsFinishedRight ids w →
     IsFinishedRight ids (step w note).world
@@ -1677,7 +1679,7 @@ right_step l ids w note k none a = (fates_step l w k.lawful note k.labelled k.pl
 pub remains_step : (l : List ℕ) (w : World) (note : Note) → Steady l w → Remains w (step w note).world
 remains_step l w note k = (fates_step l w k.lawful note k.labelled k.placing k.fresh).remains
 
--- how many frames are accepted and inside after a call
+-- The numbers of accepted frames and of frames inside after a call.
 pub counted_step : (l : List ℕ) (w : World) (note : Note) → Steady l w
     → (accepted_count (step w note).world ≡ (if is_none (refusal w note) then brought note else 0) +
     accepted_count w)

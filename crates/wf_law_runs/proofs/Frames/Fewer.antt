@@ -1,4 +1,5 @@
--- What leaves no queue with more frames, forgets no frame, and acknowledges only some.
+-- Defines the changes of a world that add no frame to a queue, remove no accepted frame, and acknowledge
+-- only some frames. Proves that the parts of a call that do not enqueue are such changes.
 use Rattle.std.proofs.Common.{◌≡◌, refl, ap, sym, ◌∙◌, subst, arith, ℕ, zero, suc, ◌≤◌, Bool, true, false, if◌then◌else◌, ◌==◌, ◌||◌, ◌⊎◌, inl, inr, List, [], ◌∷◌, length, map, Option, Some, None, IfSome}
 use Rattle.wf_frame.specs.declared.classes.Class.{Class}
 use Rattle.wf_frame.specs.declared.classes.Fate.{Fate}
@@ -20,7 +21,7 @@ use Rattle.wf_frame.specs.declared.classes.Fate.TheVariants.{Acked}
 
 -- ---- the frames of a queue
 
--- ids rise strictly, from lo on
+-- The ids increase strictly, and the first is at least lo.
 abbrev pub Ordered : ℕ → List Item → Type 0
 Ordered lo [] = Unit {0}
 Ordered lo (x ∷ xs) = (lo ≤ x.id) × Ordered (suc x.id) xs
@@ -29,7 +30,7 @@ abbrev pub carries : List Item → ℕ → Bool
 carries [] k = false
 carries (x ∷ xs) k = (x.id == k) || carries xs k
 
--- a frame of one octet or more
+-- The frame has at least one octet.
 abbrev pub HasOctets : Item → Type 0
 HasOctets x = 1 ≤ x.len
 
@@ -81,7 +82,7 @@ carries_from (x ∷ xs) lo k o h = elim (either (x.id == k) (carries xs k) h) [
   | inr e ↦ omega (arith, o.0, carries_from xs (suc x.id) k o.1 e)
 ]
 
--- what a dequeue gives was there, and is no more
+-- The frame that a dequeue returns was in the queue and is no longer there.
 pub record IsGiven (ys xs : List Item) (x : Item) : Type 0 where
   pub there : carries ys x.id ≡ true
   pub gone : (lo : ℕ) → Ordered lo ys → carries xs x.id ≡ false
@@ -125,7 +126,7 @@ right_dequeue xs p now c = each_dequeue IsDequeued
 abbrev pub IsAcked : World → ℕ → Type 0
 IsAcked w id = (frame w id).fate ≡ Acked
 
--- P: the frames that may have been acknowledged
+-- P holds for the frames that may have been acknowledged.
 pub record Less (P : ℕ → Type 0) (w v : World) : Type 0 where
   pub queues : (q : ℕ) → Fewer (queue w q).items (queue v q).items
   pub accepted : accepted_count w ≤ accepted_count v
@@ -289,7 +290,7 @@ less_charged air P w x = less_on_share P w _ _ _
 
 -- ---- a take
 
--- the frame that a take gives was in one queue, and is in that one no more
+-- The frame of a take was in one queue, and is no longer there.
 pub record IsTaken (w v : World) (x : Item) : Type 0 where
   pub place : ℕ
   pub there : carries (queue w place).items x.id ≡ true
@@ -346,7 +347,7 @@ unfolding taken_for_tid
 less_take P w s t = then_less P _ _ _ (then_less P _ _ _ (less_pay_queues P _ w _)
     (less_with_queues P _ s t _)) (less_taken_from P _ _ s)
 
--- before the take the same frames were there as after the queues were paid
+-- Giving quanta to queues does not change their frames.
 taken_before : (o : Option Item) (w u v : World) → Less (λ _. ⊥) w u → IfSome o (IsTaken u v) →
     IfSome o (IsTaken w v)
 taken_before None w u v h k = tt

@@ -1,4 +1,4 @@
--- The law of the finished list, in every world of a run, answered.
+-- Proves the law of the finished list, in every world of a run. By induction on the run.
 use Rattle.std.proofs.Common.{◌≡◌, refl, ap, sym, ◌∙◌, subst, ℕ, ◌==◌, false, if◌then◌else◌, ◌⊎◌, inl, inr, List, [], ◌∷◌, ◌++◌, length, append_assoc, append-nil, Option, Some, None, is_none, take}
 use Rattle.wf_frame.specs.declared.settings.Config.{Config}
 use Rattle.wf_frame.specs.declared.classes.Class.{Class}
@@ -31,7 +31,7 @@ unfolding pull_outcome_for send_outcome
 reaped_pulled_by None w c = refl
 reaped_pulled_by (Some s) w c = refl
 
--- a call reaps none
+-- The call reaps no frame.
 record ReapsNone (note : Note) (w : World) : Type 0 where
   reply : reaped_id (outcome_of w note).reply ≡ []
   call : fetched note ≡ 0

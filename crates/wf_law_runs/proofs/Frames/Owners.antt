@@ -1,4 +1,4 @@
--- Each frame at a number is one of the number's TID.
+-- Proves that each frame at a number was enqueued for the number's TID. By cases of the call.
 use Rattle.wf_frame.specs.declared.classes.Class.{Class}
 use Rattle.wf_frame.specs.declared.classes.Fate.{Fate}
 use Rattle.std.proofs.Common.{nat_lt, ◌+◌, ◌++◌, ◌≡◌, refl, ap, sym, ◌∙◌, subst, arith, ℕ, zero, suc, ◌<◌, ◌≤◌, ◌-◌, Bool, true, false, if◌then◌else◌, ◌==◌, List, [], ◌∷◌, length, Option, Some, None, IfSome}
@@ -30,7 +30,7 @@ use Rattle.wf_law_runs.proofs.Queues.Shelved.{IsOf, IsShelved, each_item}
 use Rattle.wf_law_runs.proofs.Queues.ShelvedStep.{shelves_number, live_number, shelved_take}
 use Rattle.wf_frame.specs.declared.notes.Note.{Note}
 
--- the numbers of z were so in y, each with its id
+-- Each number of z was in y, with the same id.
 pub record BearsFrom (y z : Session) : Type 0 where
   pub was : (k n : ℕ) → Bears z k n → Bears y k n
 
@@ -45,7 +45,7 @@ bears_kept y z h e = record {
       record { from = from; below = below; id = sym (h.ids n from below) ∙ c.id };
 }
 
--- the numbers of v were so in w, each with its id
+-- Each number of v was in w, with the same id.
 pub record SlotsFrom (w v : World) : Type 0 where
   pub was : (s t : ℕ) → BearsFrom (session w s t) (session v s t)
 
@@ -71,7 +71,7 @@ slots_session w s t f u = record {
       (λ y. record y { session = f y.session }) (λ i j. bears_refl (session w i j)) u;
 }
 
--- the frames at numbers are of their TIDs
+-- Each frame at a number was enqueued for the number's TID.
 pub record IsOwned (w : World) : Type 0 where
   pub mine : (s t k n : ℕ) → Bears (session w s t) k n → IsFor s t (frame w k).note × (t < 8)
 
@@ -90,7 +90,7 @@ owned_along w v h e i = record {
       (subst (IsFor s t) (sym (e.same k)) m.0, m.1);
 }
 
--- ---- a take, and the number of what it gives
+-- ---- a take, and the number of the frame
 
 each_given : (P : Item → Type 0) (xs : List Item) (p : Params) (now : ℕ) (c : Codel) → EachItem P xs →
     IfSome (dequeue p now c xs).given P

@@ -1,4 +1,4 @@
--- Each held frame stands in one place: the law, answered.
+-- Proves the law of places: each held frame is in exactly one place. By induction on the run.
 use Rattle.std.proofs.Common.{◌++◌, ◌≡◌, ◌≢◌, refl, ap, sym, ◌∙◌, subst, arith, ℕ, ◌<◌, nat_lt, true, false, ◌==◌, inl, inr, List, [], ◌∷◌, map, take, Option, Some, None, IfSome}
 use Rattle.wf_frame.specs.declared.settings.Config.{Config}
 use Rattle.wf_frame.specs.Settings.{IsInRange}
@@ -47,7 +47,7 @@ use Rattle.wf_law_runs.proofs.Queues.Shelved.{IsOf, IsShelved}
 use Rattle.wf_law_runs.proofs.Queues.ShelvedStep.{accepted_limit, accepted_put, on_listed}
 use Rattle.wf_law_runs.proofs.Queues.Law.{shelved_step, shelved_first, longest_in, within}
 
--- ---- the frames at unsettled numbers, over every call
+-- ---- the frames at unsettled numbers, in every call
 
 notes_head : (items : List Item) (w : World) (q k : ℕ) →
     (frame (without_head w q items) k).note ≡ (frame w k).note
@@ -151,7 +151,7 @@ owned_gone w s o =
           ∙ notes_left (upto 8) w s k;
     }) o
 
--- ---- of a station with no open exchange no number is in flight
+-- ---- a station without open exchanges has no number on the air
 
 none_some : (s t e n : ℕ) (xs : List Exchange) → Each (λ x. s ≢ x.station) xs →
     SomeOpen (IsSending s t e n) xs → ⊥
@@ -171,7 +171,7 @@ quiet_of w s f none = record { waits = λ t n k c. go t n k c (slot (session w s
 
 -- ---- the calls
 
--- all that a call keeps, for this law
+-- The invariant of a world for this law.
 pub record Stood (w : World) : Type 0 where
   pub owned : IsOwned w
   full : Full w

@@ -1,4 +1,4 @@
--- The law of the room, in every world of a run, answered.
+-- Proves the law of room, in every world of a run. By induction on the run.
 use Rattle.std.proofs.Common.{◌≡◌, refl, sym, subst, arith, ℕ, ◌+◌, ◌≤◌, Bool, true, false, if◌then◌else◌, List, [], ◌∷◌, take, is_none, Option, Some, None}
 use Rattle.wf_frame.specs.declared.settings.Config.{Config}
 use Rattle.wf_frame.specs.Settings.{IsInRange}
@@ -18,12 +18,12 @@ use Rattle.wf_law_runs.proofs.Deficits.Configs.{config_step, config_run}
 use Rattle.wf_law_runs.proofs.Frames.Fates.{brought, fetched, Steady, steady_step, steady_first, counted_step}
 use Rattle.wf_law_runs.proofs.Frames.Counted.{placed_at}
 
--- r: how many frames were reaped
+-- r is how many frames were reaped.
 record Fits (r : ℕ) (w : World) : Type 0 where
   within : inside w ≤ w.config.room
   reaped : inside w + r ≡ accepted_count w
 
--- a frame that is accepted finds room
+-- There is room for a frame that is accepted.
 fits_note : (note : Note) (w : World) → NoRow (refusals w note) → inside w ≤ w.config.room →
     brought note + inside w ≤ w.config.room
 fits_note (Enqueue s t flow len) w e h = omega (arith, h, le_no w.config.room (inside w) e.1.1.1.0)

@@ -1,4 +1,4 @@
--- The counts of frames by fate add up.
+-- Proves that the counts of frames by fate add up to the accepted frames. By induction on the frames.
 use Rattle.std.proofs.Common.{◌≡◌, ℕ, ◌+◌, List, [], ◌∷◌, length, refl, arith, if◌then◌else◌}
 use Rattle.std.proofs.lemmas.List.Sums.{sum_by-cons}
 use Rattle.std.specs.Prelude.{count_by}
@@ -30,7 +30,7 @@ counted : (f : Frame) (frames : List Frame) (fate : Fate) →
     count_of (f ∷ frames) fate ≡ (if same_fate f.fate fate then 1 else 0) + count_of frames fate
 counted f frames fate = sum_by-cons (λ (y : Frame). if same_fate y.fate fate then 1 else 0) f frames
 
--- one frame more, by its fate
+-- One more frame, by cases of its fate.
 one_more : (note : Note) (fate : Fate) (frames : List Frame) → Adds frames → Adds (made note fate ∷ frames)
 one_more note Acked frames adds =
     let f : Frame = made note Acked in

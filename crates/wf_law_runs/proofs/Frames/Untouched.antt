@@ -1,4 +1,4 @@
--- What leaves the accepted frames and the finished list alone.
+-- Proves which changes of a world affect neither the accepted frames nor the finished list.
 use Rattle.std.proofs.Common.{◌≡◌, refl, ◌∙◌, ℕ, Bool, true, false, if◌then◌else◌, List, [], ◌∷◌, Option, Some, None}
 use Rattle.wf_frame.specs.declared.classes.Class.{Class}
 use Rattle.wf_frame.specs.Classes.{all_classes}

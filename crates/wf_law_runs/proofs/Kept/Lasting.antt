@@ -1,4 +1,4 @@
--- What keeps the settled numbers of a session as they are.
+-- Proves which changes keep the ids of a session's numbers and the slots of its settled numbers.
 use Rattle.std.proofs.Common.{◌≡◌, refl, ap, sym, ◌∙◌, subst, arith, ℕ, zero, suc, ◌-◌, ◌<◌, ◌≤◌, Bool, true, false, not, ◌==◌, List, [], ◌∷◌, ◌++◌, length, Option, Some, None, IfSome}
 use Rattle.wf_frame.specs.declared.classes.Cause.TheVariants.{Retries}
 use Rattle.wf_frame.specs.declared.classes.Class.{Class}
@@ -20,7 +20,7 @@ use Rattle.wf_law_runs.proofs.Releases.Kept.{KeptSession, kept_refl, then_kept, 
 
 -- ---- one session
 
--- its numbers keep their ids, and its settled numbers stay as they are
+-- The numbers keep their ids, and the slots of settled numbers do not change.
 pub record Lasts (y z : Session) : Type 0 where
   pub kept : KeptSession y z
   pub settled : (n : ℕ) → y.first ≤ n → n < next_number y → is_settled (slot y n).state ≡ true →
@@ -41,7 +41,7 @@ then_lasts x y z h k = record {
       (ap (λ (x : Slot). is_settled x.state) same ∙ e) ∙ same;
 }
 
--- a number that was not settled changes
+-- The slot of an unsettled number changes.
 lasts_on_slot : (y : Session) (m : ℕ) (f : Slot → Slot) → ((x : Slot) → (f x).id ≡ x.id) → y.first ≤ m →
     is_settled (slot y m).state ≡ false → Lasts y (on_slot m f y)
 lasts_on_slot y m f h l open_yet = record {
@@ -187,7 +187,7 @@ pub last_answered : (w : World) (x : Exchange) → Last w (answer_outcome w x).w
 unfolding answer_outcome with_exchange
 last_answered w x = record { sessions = λ s t. lasts_refl (session w s t); live = λ s. refl }
 
--- a number that flies is not settled before its exchange ends
+-- A number on the air is not settled before its exchange ends.
 last_settled : (b : Bool) (e s t : ℕ) (acked : ℕ → Bool) (w : World) (m : Mpdu) (ms : List Mpdu) →
     IsEnding e s t acked w (m ∷ ms) → Last w (with_settled w s t b m)
 unfolding with_settled with_failed_finished

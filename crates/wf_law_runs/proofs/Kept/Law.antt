@@ -1,4 +1,5 @@
--- A number keeps its frame, and what became of it stays: the law, answered.
+-- Proves the law of numbers: a number keeps its frame, and stays acknowledged or failed. By cases of the
+-- call and induction on the run.
 use Rattle.std.proofs.Common.{◌≡◌, ◌≢◌, refl, ap, sym, ◌∙◌, subst, arith, ℕ, zero, suc, ◌+◌, ◌-◌, ◌≤◌, true, false, ◌==◌, List, [], ◌∷◌, Option, Some, None, IfSome, take, drop}
 use Rattle.wf_frame.specs.declared.settings.Config.{Config}
 use Rattle.wf_frame.specs.declared.notes.Ask.TheVariants.{Join, Leave, Rate, Tick, Pull, Arrive, Answer, Done, Sleep, Wake, Poll, Rx, Reap}
@@ -25,7 +26,7 @@ use Rattle.wf_law_runs.proofs.Frames.Delivered.{same_enqueued}
 use Rattle.wf_law_runs.proofs.Kept.Lasting.{Lasts, lasts_refl, lasts_equal, then_lasts, Last, last_same, last_here, last_pulled, last_arrived, last_answered, last_ended}
 use Rattle.wf_law_runs.proofs.Frames.Fates.{world_after-append}
 
--- what a call makes of the sessions of each station that is live before it and after it
+-- How a call changes the sessions of each station that is live before and after it.
 record Stays (note : Note) (w v : World) : Type 0 where
   sessions : (s t : ℕ) → is_live w s ≡ true → is_live v s ≡ true → Lasts (session w s t) (session v s t)
   live : (s : ℕ) → is_live w s ≡ true → is_leave_of s note ≡ false → is_live v s ≡ true
@@ -49,7 +50,7 @@ lasts_station : (w : World) (i s t : ℕ) (o : Option Station) → i ≢ s →
     Lasts (session w s t) (session (with_station w i o) s t)
 lasts_station w i s t o ne = lasts_equal _ _ (ap (λ (a : Side). a.session) (side_with_station w i s t o ne))
 
--- a station joins that was not live
+-- A station joins that was not live.
 stays_joined : (note : Note) (w : World) (i : ℕ) (x : Station) → is_live w i ≡ false →
     Stays note w (with_station w i (Some x))
 stays_joined note w i x dead = record {
@@ -59,7 +60,7 @@ stays_joined note w i x dead = record {
       (λ other. live_with_station w i s (Some x) (eq_no i s other) ∙ l);
 }
 
--- a station leaves
+-- A station leaves.
 stays_gone : (w : World) (i : ℕ) → Stays (Asked (Leave i)) w (with_station w i None)
 stays_gone w i = record {
   sessions = λ s t l m. on_bool (i == s)
@@ -157,7 +158,7 @@ lasts_run (suc d) (e ∷ es) w s t i live =
     ((stays_step w e.1 i).sessions s t (live 0 (omega arith)) (live 1 (omega arith)))
     (lasts_run d es (step w e.1).world s t (lawful_step w e.1 i) (λ k l. live (suc k) (omega (arith, l))))
 
--- the world k entries later
+-- The world k entries later.
 later : (config : Config) (h : List Entry) (a k : ℕ) →
     world_at config h (a + k) ≡ world_after (world_at config h a) (take k (drop a h))
 later config h a k = ap (world_after (opening config)) (sym (take_parts a k h))
@@ -184,7 +185,7 @@ keeps_numbers y z h = record {
   failed = λ n l b e. ap (λ (x : Slot). x.state) (h.settled n l b (ap is_settled e)) ∙ e;
 }
 
--- of any lawful world, for crates above that go call by call
+-- One call in any world with the invariant, for crates that prove their laws call by call.
 pub kept_step : (w : World) (note : Note) → IsLawful w → KeepsByCall w note
 kept_step w note i =
     let h : Stays note w (step w note).world = stays_step w note i in

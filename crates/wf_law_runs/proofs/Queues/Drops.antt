@@ -1,4 +1,4 @@
--- CoDel's counts stay right.
+-- Proves that CoDel's counts stay in their ranges.
 use Rattle.std.proofs.Common.{◌≡◌, arith, ℕ, zero, suc, ◌-◌, ◌*◌, ◌≤◌, ◌&&◌, nat_lt, true, List}
 use Rattle.wf_def_codel.specs.Codel.{Item, Params, Codel, Look, new_codel, look, raised_count, first_count, begin_dropping, state_dropping, state_plain, drops, state_after, dequeue}
 use Rattle.wf_law_runs.specs.Ranges.{CountsRight}

@@ -1,4 +1,4 @@
--- The law of the queues, in every world of a run, answered.
+-- Proves the laws of the queues and of their deficits, in every world of a run. By induction on the run.
 use Rattle.wf_law_runs.proofs.Releases.Placed.{placed, Placing, placed_step, placed_at_first}
 use Rattle.wf_law_rules.proofs.Lemmas.Counts.{has-on, on-nil, on-cons_same, on-cons}
 use Rattle.std.proofs.Common.{◌≡◌, refl, sym, subst, arith, ℕ, zero, suc, ◌+◌, ◌<◌, ◌≤◌, pos, ◌≤ℤ◌, Bool, true, false, not, List, [], ◌∷◌, map, take, Option, Some, None}
@@ -117,7 +117,7 @@ shelved config h most range short = shelved_run h [] most (opening config) short
 
 -- ---- the law
 
--- some length is at least that of each frame
+-- Returns the length of the frame that a call enqueues, or 0. It bounds the lengths of a history.
 longest_of : Note → ℕ
 longest_of (Enqueue s t flow len) = len
 longest_of (Asked ask) = 0

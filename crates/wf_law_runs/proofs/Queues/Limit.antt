@@ -1,4 +1,5 @@
--- All flow queues together have at most `limit` frames, in every world of a run.
+-- Proves that all flow queues together have at most `limit` frames, in every world of a run: beyond the
+-- limit, an Enqueue drops a frame of the longest queue.
 use Rattle.std.proofs.Common.{◌≡◌, refl, ap, ◌∙◌, arith, ℕ, zero, suc, ◌+◌, ◌<◌, ◌≤◌, inr, List, [], ◌∷◌, ◌++◌, length, take, Option, Some, None}
 use Rattle.std.proofs.lemmas.List.{length-append}
 use Rattle.std.proofs.lemmas.List.Sums.{sum_by-cons}
@@ -37,7 +38,7 @@ each_octet : (xs : List Item) → EachItem HasOctets xs → length xs ≤ octets
 each_octet [] h = omega arith
 each_octet (x ∷ xs) h = omega (arith, sum_by-cons (λ (y : Item). y.len) x xs, h.0, each_octet xs h.1)
 
--- no queue has frames where the longest has none
+-- If the longest queue has no frames, no queue has.
 none_queued : (w : World) → ((q : ℕ) → EachItem HasOctets (queue w q).items) →
     (queue w (longest_queue w)).items ≡ [] → total_queued w ≡ 0
 unfolding octets_at
@@ -61,7 +62,7 @@ total_on_queue : (w : World) (q : ℕ) (f : Queue → Queue) →
 unfolding on_queue
 total_on_queue w q f = sum_put (λ (y : Queue). length y.items) new_queue w.queues q (f (queue w q)) refl
 
--- one frame fewer
+-- One frame is removed.
 total_head : (items : List Item) (w : World) (q : ℕ) → (queue w q).items ≡ items → 0 < length items →
     suc (total_queued (without_head w q items)) ≡ total_queued w
 unfolding without_head with_frame_finished with_fate
@@ -95,13 +96,13 @@ below_limit w some sized h =
 
 -- ---- the step
 
--- n: the limit
+-- n is the limit.
 record IsLimited (n : ℕ) (w : World) : Type 0 where
   limit : w.config.limit ≡ n
   sized : (q : ℕ) → EachItem HasOctets (queue w q).items
   most : total_queued w ≤ n
 
--- a world's queues, whatever its settings are
+-- The queues of a world, for any settings.
 record IsSmall (n : ℕ) (w : World) : Type 0 where
   sized : (q : ℕ) → EachItem HasOctets (queue w q).items
   most : total_queued w ≤ n
@@ -159,7 +160,7 @@ unfolding outcome_where_open
 less_open None w f h = less Any w
 less_open (Some x) w f h = h x
 
--- no call but Enqueue queues a frame
+-- Only an Enqueue adds a frame to a queue.
 less_asked : (ask : Ask) (w : World) → Less Any w (outcome_of w (Asked ask)).world
 unfolding outcome_of tick_outcome rate_outcome sleep_outcome wake_outcome poll_outcome rx_outcome
 less_asked (Join s window start exponent weight) w = less_joined Any w s window start exponent weight

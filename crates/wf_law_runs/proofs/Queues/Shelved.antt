@@ -1,4 +1,5 @@
--- What the shelves keep: who lists a queue, whose frames it has, their stamps, and its deficit.
+-- Defines an invariant of the shelves: which TID lists a queue, for whom its frames are, their stamps, and
+-- its deficit. Proves that each kind of change keeps it.
 use Rattle.std.proofs.Common.{◌≡◌, refl, sym, ◌∙◌, subst, arith, ℕ, zero, suc, ◌+◌, ◌*◌, ◌<◌, ◌≤◌, ℤ, pos, ◌+ℤ◌, ◌≤ℤ◌, true, List, [], ◌∷◌, ◌++◌, length, Option, Some, None, IfSome, inl, inr, ◌⊎◌}
 use Rattle.std.proofs.lemmas.Int.{ints}
 use Rattle.wf_frame.specs.declared.settings.Config.{Config}
@@ -15,18 +16,18 @@ use Rattle.wf_law_runs.proofs.Deficits.Books.{upd, upd_other, each_upd}
 use Rattle.wf_law_runs.proofs.Deficits.Bounds.{paid_most}
 use Rattle.wf_law_runs.proofs.Queues.Shelves.{Spot, Shelves, with_spot, with_listed, with_queue, with_note, paid_queue}
 
--- a queue with frames is listed by some TID
+-- A TID lists the queue.
 pub record IsFound (b : Shelves) (q : ℕ) : Type 0 where
   pub station : ℕ
   pub tid : ℕ
   pub listed : 0 < (b.spots station).listed tid q
 
--- the deficit of a listed queue, where no frame is longer than `most`
+-- The deficit of a listed queue, if no frame is longer than `most`.
 pub record IsWithin (quantum most : ℕ) (d : ℤ) : Type 0 where
   pub highest : d ≤ℤ pos quantum
   pub lowest : pos 1 ≤ℤ (d +ℤ pos most)
 
--- a frame of TID t of station s, no longer than `most`
+-- The frame is for TID t of station s, and not longer than `most`.
 abbrev pub IsOf : (ℕ → Note) → ℕ → ℕ → ℕ → Item → Type 0
 IsOf notes most s t x = IsFor s t (notes x.id) × (x.len ≤ most)
 
@@ -77,7 +78,7 @@ aged_append (y ∷ ys) x lo hi e a = (a.0, aged_append ys x y.stamp hi e a.1)
 pub aged_tail : (x : Item) (xs : List Item) (hi : ℕ) → IsAged 0 hi (x ∷ xs) → IsAged 0 hi xs
 aged_tail x xs hi a = aged_from xs x.stamp 0 hi (omega arith) a.1
 
--- a part of a queue's frames
+-- ys are a part of the frames xs of a queue.
 pub record IsPart (xs ys : List Item) : Type 0 where
   pub each : (notes : ℕ → Note) (most s t : ℕ) → EachItem (IsOf notes most s t) xs →
       EachItem (IsOf notes most s t) ys
@@ -111,7 +112,7 @@ pub if_longer : (o : Option Item) (most : ℕ) → IfSome o (λ x. x.len ≤ mos
 if_longer None most h = omega arith
 if_longer (Some x) most h = h
 
--- what a dequeue leaves, and the length of what it gives
+-- The frames that a dequeue leaves, and the length of the frame that it returns.
 pub record IsLeft (xs : List Item) (d : Dequeued) : Type 0 where
   pub part : IsPart xs d.rest
   pub given : (most : ℕ) → EachItem (λ x. x.len ≤ most) xs → IfSome d.given (λ x. x.len ≤ most)
@@ -157,7 +158,7 @@ keep_queue most b q y part within right i = record {
 
 -- ---- a TID lists other queues
 
--- TID t of station s may come to list q
+-- TID t of station s may list queue q.
 pub record CanList (most : ℕ) (b : Shelves) (s t q : ℕ) : Type 0 where
   pub live : (b.spots s).live ≡ true
   pub below : t < 8
@@ -204,7 +205,7 @@ module _ (most : ℕ) (b : Shelves) (s t : ℕ) (g : ℕ → ℕ) (few : (p : �
     | inr n ↦ subst (λ (z : ℕ). P z k p) (sym n.0) (subst (λ (z : ℕ). P s z p) (sym n.1) (new p n.2))
   ]
 
-  -- the frames of a queue that no other TID lists
+  -- The frames of a queue that no other TID lists.
   own_items : IsShelved most b → (p : ℕ) → CanList most b s t p →
       EachItem (IsOf b.notes most s t) (b.queues p).items
   own_items i p c = go (b.queues p).items refl
@@ -244,7 +245,7 @@ module _ (most : ℕ) (b : Shelves) (s t : ℕ) (g : ℕ → ℕ) (few : (p : �
     counts = i.counts;
   }
 
--- ---- a frame joins a queue that TID t of station s lists
+-- ---- a frame is added to a queue that TID t of station s lists
 
 pub appended_to : (most : ℕ) (b : Shelves) (s t q : ℕ) (x : Item) (y : Queue) → 0 < (b.spots s).listed t q →
     IsOf b.notes most s t x → x.stamp ≡ b.clock → y.items ≡ (b.queues q).items ++ x ∷ [] →
@@ -284,7 +285,7 @@ appended_to most b s t q x y listed own now items same right i = record {
   counts = each_upd (λ p z. CountsRight z.codel) b.queues q y i.counts right;
 }
 
--- ---- a new note, the clock, and a station that comes or goes
+-- ---- a new note, the clock, and a station that joins or leaves
 
 pub noted : (most : ℕ) (b : Shelves) (k : ℕ) (note : Note) →
     ((q : ℕ) → EachItem (λ x. x.id ≡ k → ⊥) (b.queues q).items) → IsShelved most b →
@@ -333,7 +334,7 @@ later most b by i = record {
   counts = i.counts;
 }
 
--- a station that lists no queue
+-- The station lists no queue.
 pub restated : (most : ℕ) (b : Shelves) (s : ℕ) (x : Spot) → ((t q : ℕ) → (b.spots s).listed t q ≡ 0) →
     ((t q : ℕ) → x.listed t q ≡ 0) → (x.live ≡ true → s < b.config.stations) → IsShelved most b →
     IsShelved most (with_spot b s x)
@@ -363,7 +364,7 @@ restated most b s x none empty low i = record {
     still = each_upd (λ j z. (t q : ℕ) → 0 < (b.spots j).listed t q → 0 < z.listed t q) b.spots s x
         (λ j t q l. l) (λ t q l. absurd (omega (arith, none t q, l)))
 
--- ---- queues are paid
+-- ---- giving quanta to queues
 
 pub once_times : (m n k : ℕ) → m ≤ 1 → n ≤ k → m * n ≤ k
 once_times zero n k h e = omega arith

@@ -1,4 +1,4 @@
--- Each call keeps the shelves.
+-- Proves that each call keeps the invariant of the shelves, by cases of the call.
 use Rattle.wf_law_runs.proofs.Queues.Shelved.{part_none, restated, each_item, IsWithin, IsOf, Owned, IsShelved, IsPart, part_tail, IsLeft, left_dequeue, if_longer, keep_queue, CanList, relisted, appended_to, noted, paid}
 use Rattle.wf_law_runs.specs.Ranges.{CountsRight}
 use Rattle.wf_law_runs.proofs.Queues.Drops.{counts_new, counts_dequeue}
@@ -39,7 +39,7 @@ use Rattle.wf_law_runs.proofs.Deficits.Bounds.{paid_least}
 use Rattle.wf_law_runs.proofs.Deficits.Kept.{added-on, unlisted-on}
 use Rattle.wf_law_runs.proofs.Deficits.MildStep.{lists-on, on_upto}
 
--- ---- a queue loses its head for the limit
+-- ---- a queue loses its head because of the limit
 
 shelved_without_head : (items : List Item) (most : ℕ) (w : World) (q : ℕ) → (queue w q).items ≡ items →
     IsShelved most (shelves w) → IsShelved most (shelves (without_head w q items))
@@ -59,7 +59,7 @@ shelved_within_limit most w i =
     (without_head w (longest_queue w) (queue w (longest_queue w)).items) w
     (λ _. shelved_without_head (queue w (longest_queue w)).items most w (longest_queue w) refl i) (λ _. i)
 
--- ---- a frame is put in
+-- ---- a frame is added
 
 pub on_listed : (r : Rotation) (q : ℕ) → has_key r q ≡ true → 0 < on (in_order r) q
 on_listed r q e = elim (either (has r.new q) (has r.old q) e) [
@@ -80,7 +80,7 @@ whole xs = record { each = λ notes most s t h. h; aged = λ hi a. a; some = λ 
 fresh_within : (quantum most : ℕ) → 0 < quantum → IsWithin quantum most (pos quantum)
 fresh_within quantum most h = record { highest = omega (arith, ints); lowest = omega (arith, ints, h) }
 
--- the counts of a TID's queues with q added
+-- After q is added to the queues of a TID, no queue is listed twice.
 added_few : (r : Rotation) (q : ℕ) → ((p : ℕ) → on (in_order r) p ≤ 1) → on (in_order r) q ≡ 0 → (p : ℕ) →
     on (in_order (with_new_key r q)) p ≤ 1
 added_few r q h none p = elim (cases_eq q p) [
@@ -96,14 +96,14 @@ added_from r q p l = elim (cases_eq q p) [
   | inr other ↦ inl (omega (arith, l, added-on r q p, on-cons_other q p [] other, on-nil p))
 ]
 
--- who may list a queue: the TID t of s
+-- TID t of station s may list queue q.
 record CanTake (b : Shelves) (s t q : ℕ) : Type 0 where
   live : (b.spots s).live ≡ true
   below : t < 8
   owned : Owned b.config s t q
   apart : (i j : ℕ) → 0 < (b.spots i).listed j q → (i ≡ s) × (j ≡ t)
 
--- the shelves with a frame put in a queue that TID t of s does not list yet
+-- A frame is added to a queue that TID t of s does not list yet.
 put_new : (most : ℕ) (b : Shelves) (s t q : ℕ) (x : Item) (r : Rotation) →
     (b.spots s).listed t ≡ (λ p. on (in_order r) p) → has_key r q ≡ false → CanTake b s t q →
     IsOf b.notes most s t x → x.stamp ≡ b.clock → IsShelved most b →
@@ -177,7 +177,7 @@ any_false p (x ∷ xs) y h k =
     neither true b h = absurd (cc h)
     neither false b h = (refl, h)
 
--- the queue for a frame is listed by no other TID
+-- No other TID lists the queue for a frame.
 alone : (most : ℕ) (w : World) (s t flow i j : ℕ) → IsShelved most (shelves w) → t < 8 →
     0 < on (in_order (tid_of w i j).queues) (queue_for w s t flow) → (i ≡ s) × (j ≡ t)
 alone most w s t flow i j k below h = go (is_listed_elsewhere w s t (flow % w.config.flows)) refl h
@@ -250,7 +250,7 @@ put_listed : (w : World) (q : ℕ) (x : Item) →
 unfolding with_appended
 put_listed w q x = shelves_on_queue w q _
 
--- the shelves of a world in which a frame was put in; its note joins first
+-- The world after a frame is added. Its note is added first.
 shelved_put : (b : Bool) (most : ℕ) (w : World) (s t q : ℕ) (x : Item) (note : Note) →
     has_key (tid_of w s t).queues q ≡ b → is_live w s ≡ true → CanTake (shelves w) s t q → IsFor s t note →
     x.len ≤ most → x.stamp ≡ w.clock
@@ -304,7 +304,7 @@ unfolding after_put_in with_appended with_listed_queue on_queue with_queues on_t
 accepted_put w s t q x = on_if (λ (v : World). accepted_count v ≡ accepted_count w) _ _ _ (λ _. refl)
     (λ _. refl)
 
--- no queued frame has a new id
+-- No queued frame has the new id.
 none_new : (xs : List Item) (c : ℕ) → ((k : ℕ) → carries xs k ≡ true → k < c) →
     EachItem (λ y. y.id ≡ c → ⊥) xs
 none_new [] c h = tt
@@ -553,7 +553,7 @@ shelved_pulled most w c i =
 
 -- ---- a station leaves
 
--- what a purge does: the shelves stay right, no queue has more frames, and the purged ones have none
+-- The effect of a purge: the invariant is kept, no queue has more frames, and the purged queues have none.
 record Purged (most : ℕ) (qs : List ℕ) (w v : World) : Type 0 where
   shelved : IsShelved most (shelves v)
   spots : (shelves v).spots ≡ (shelves w).spots
@@ -617,7 +617,7 @@ has_rising (x ∷ xs) q h = elim (either (x == q) (has xs q) h) [
   | inr e ↦ has_old (in_rising_order xs) x q (has_rising xs q e)
 ]
 
--- the TID t of s lists nothing any more
+-- TID t of station s no longer lists any queue.
 record Cleared (most : ℕ) (s t : ℕ) (w v : World) : Type 0 where
   shelved : IsShelved most (shelves v)
   live : is_live v s ≡ true
@@ -665,7 +665,7 @@ cleared most w s t live i =
           (λ j h. ap (λ (f : ℕ → Spot). (f s).listed j q) spots ∙ h) (λ _. on-nil q) j h;
     }
 
--- the TIDs ts of s list nothing any more
+-- The TIDs ts of station s no longer list any queue.
 record AllCleared (most : ℕ) (s : ℕ) (ts : List ℕ) (w v : World) : Type 0 where
   shelved : IsShelved most (shelves v)
   none : (t q : ℕ) → has ts t ≡ true → on (in_order (tid_of v s t).queues) q ≡ 0

@@ -1,4 +1,5 @@
--- The part of a world that the law of the queues speaks of, and what each change of a world does to it.
+-- Defines the shelves: the part of a world that the laws of the queues refer to. Proves how each change of
+-- a world changes them.
 use Rattle.std.proofs.Common.{◌≡◌, refl, ap, sym, ◌∙◌, subst, arith, ℕ, zero, suc, ◌+◌, ◌*◌, pos, ◌+ℤ◌, Bool, true, false, if◌then◌else◌, List, [], ◌∷◌, ◌++◌, length, Option, Some, None, is_some, unwrap_or, option_map, inl, inr}
 use Rattle.std.proofs.Math.Path.{fun_ext}
 use Rattle.std.proofs.lemmas.Int.{ints}
@@ -21,7 +22,7 @@ use Rattle.wf_def_lists.specs.Lists.{on}
 use Rattle.wf_law_rules.proofs.Lemmas.Counts.{on-nil, on-cons_same, on-cons_other}
 use Rattle.wf_law_runs.proofs.Deficits.Books.{upd, upd_same, upd_other, upd_idle, put_upd}
 
--- whether a station is live, and how often each of its TIDs lists each queue
+-- Whether a station is live, and how often each of its TIDs lists each queue.
 pub record Spot : Type 0 where
   pub live : Bool
   pub listed : ℕ → ℕ → ℕ
@@ -74,7 +75,7 @@ map_spot : (f : Station → Station) → ((x : Station) → spot (Some (f x)) �
 map_spot f h None = refl
 map_spot f h (Some x) = h x
 
--- a change of a station that its spot does not show
+-- A change of a station that does not change its spot.
 pub shelves_hidden : (w : World) (s : ℕ) (f : Station → Station) →
     ((x : Station) → spot (Some (f x)) ≡ spot (Some x)) → shelves (on_station w s f) ≡ shelves w
 unfolding on_station
@@ -172,7 +173,7 @@ unfolding with_frame
 shelves_with_frame w note = ap (λ (g : ℕ → Note). record (shelves w) { notes = g })
     (fun_ext (at_end w.frames _))
 
--- ---- paying queues
+-- ---- giving quanta to queues
 
 abbrev pub paid_queue : ℕ → ℕ → Queue → Queue
 paid_queue quantum n y = record y { deficit = y.deficit +ℤ pos (n * quantum) }
@@ -225,7 +226,7 @@ shelves_pay_queues (p ∷ qs) w quanta =
           (sym (on-cons_other p q qs other))
     ]
 
--- ---- what leaves the shelves alone
+-- ---- changes that do not affect the shelves
 
 shelves_if : (b : Bool) (x : Shelves) (w v : World) → shelves w ≡ x → shelves v ≡ x →
     shelves (if b then w else v) ≡ x

@@ -1,4 +1,4 @@
--- The law of the ranges, in every world of a run, answered.
+-- Proves the law of ranges, in every world of a run, from the invariants of its parts.
 use Rattle.std.proofs.Common.{◌≡◌, subst, ◌<◌, true, List, take, Option, Some, None, is_some, unwrap_or, IfSome}
 use Rattle.wf_frame.specs.declared.settings.Config.{Config}
 use Rattle.wf_frame.specs.Settings.{IsInRange}

@@ -1,5 +1,5 @@
--- The weight, rate, exponent, sleep and credit of each live station stay in their ranges, in every world of a
--- run.
+-- Proves that the weight, rate, exponent, sleep and credit of each live station stay in their ranges, in
+-- every world of a run. By cases of the call.
 use Rattle.std.proofs.Common.{◌≡◌, refl, sym, ◌∙◌, ap, ℕ, zero, suc, ◌-◌, ◌≤◌, ◌==◌, not, nat_le, nat_lt, Bool, true, false, if◌then◌else◌, List, [], ◌∷◌, length, Option, Some, None, option_map, unwrap_or, IfSome}
 use Rattle.std.proofs.lemmas.Bool.{not-false}
 use Rattle.wf_frame.specs.declared.settings.Config.{Config}
@@ -28,7 +28,7 @@ use Rattle.wf_law_rules.proofs.Lemmas.Numbers.{both, le_yes, lt_no}
 use Rattle.wf_law_rules.proofs.Lemmas.Tables.{each_put}
 use Rattle.wf_law_runs.proofs.Windows.Opened.{NoRow, no_row}
 
--- what a station has besides its shares and TIDs
+-- The values of a station except its shares and TIDs.
 record Trait : Type 0 where
   weight : ℕ
   rate : Airtime_rate
@@ -52,7 +52,7 @@ record IsTrait (z : Trait) : Type 0 where
   exponent : z.exponent ≤ 3
   credit : IfSome z.credit (λ _. z.asleep ≡ true)
 
--- of each live station
+-- The values of each live station are in their ranges.
 abbrev Traits : World → Type 0
 Traits w = (s : ℕ) → IfSome (at None w.stations s) (λ x. IsTrait (trait x))
 
@@ -189,7 +189,7 @@ unfolding prepared_exchange
 kept_prepared w s t h = prepared_if (request_due (session w s t)) _ _ h
     (kept_prepared_frames s t (aggregate_of w s t) (kept_filled w s t h))
 
--- a credit is spent
+-- A credit is spent.
 no_credit : (z : Trait) → IsTrait z → IsTrait (record z { credit = None })
 no_credit z k = record { weight = k.weight; rate = k.rate; exponent = k.exponent; credit = tt }
 
@@ -250,7 +250,7 @@ unfolding reap_outcome
 kept_reaped [] w h = h
 kept_reaped (id ∷ ids) w h = h
 
--- ---- stations that come and go
+-- ---- stations that join and leave
 
 kept_left_tids : (ts : List ℕ) (w : World) (s : ℕ) → Traits w → Traits (after_tids_left w s ts)
 unfolding after_tids_left after_tid_left with_queues
@@ -357,7 +357,7 @@ unfolding world_after
 kept_run [] w k = k
 kept_run (e ∷ es) w k = kept_run es _ (kept_step w e.1 k)
 
--- the traits of a station that is live
+-- The values of a live station are in their ranges.
 pub record HasTraits (x : Station) : Type 0 where
   pub weight : (1 ≤ x.weight) × (x.weight ≤ 16)
   pub rate : IsRate x.rate

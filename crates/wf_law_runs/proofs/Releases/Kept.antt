@@ -1,4 +1,4 @@
--- What keeps the receivers, and the ids of the numbers that were given.
+-- Proves which changes of a world keep the receivers and the ids of the assigned numbers.
 use Rattle.std.proofs.Common.{◌≡◌, refl, ap, sym, ◌∙◌, subst, arith, ℕ, zero, suc, ◌-◌, ◌<◌, ◌≤◌, Bool, true, false, if◌then◌else◌, not, ◌==◌, List, [], ◌∷◌, length, Option, Some, None, is_some}
 use Rattle.wf_frame.specs.declared.classes.Class.{Class}
 use Rattle.wf_def_lists.specs.Table.{at, put}
@@ -14,7 +14,7 @@ use Rattle.wf_law_runs.proofs.Sessions.Flights.{next-give}
 use Rattle.wf_law_runs.proofs.Windows.Sides.{Side, sides_of, Same, each_side_on, on_live, same, then_same, same_finish, same_after_pick, same_after_turn, same_spent, same_within_limit, same_put_in, same_take, same_charged}
 use Rattle.wf_law_runs.proofs.Windows.Agreement.{slot_give}
 
--- a session whose numbers keep their ids
+-- The session's assigned numbers keep their ids.
 pub record KeptSession (y z : Session) : Type 0 where
   pub first : z.first ≡ y.first
   pub size : z.size ≡ y.size
@@ -68,7 +68,7 @@ pub kept_heard : (b : Bool) (f : ℕ) (y : Session) → KeptSession y (with_hear
 kept_heard true f y = record { first = refl; size = refl; next = omega arith; ids = λ n l b. refl }
 kept_heard false f y = kept_refl y
 
--- worlds
+-- The worlds have the same receivers, and sessions whose numbers keep their ids.
 pub record Kept (w v : World) : Type 0 where
   pub receivers : (s t : ℕ) → receiver v s t ≡ receiver w s t
   pub sessions : (s t : ℕ) → KeptSession (session w s t) (session v s t)

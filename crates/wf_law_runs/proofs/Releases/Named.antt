@@ -1,4 +1,5 @@
--- Of a session's arrived numbers exactly those below the release's start are named so far.
+-- Proves that exactly those arrived numbers of a session are released so far that are below the release
+-- start. By induction on the run.
 use Rattle.wf_law_runs.specs.Releases.{PassesInOrder, is_join_of, is_arrival_for, passed_by, passed_from, passed, named_by, named_from, numbers_passed, ReleaseLaw}
 use Rattle.std.proofs.Common.{take, ◌≡◌, ap, sym, ◌∙◌, ℕ, ◌<◌, ◌≤◌, nat_lt, Bool, true, ◌==◌, inl, inr, List, [], ◌∷◌, ◌++◌, filter}
 use Rattle.wf_def_world.specs.World.{is_live, receiver, World, session, opening}
@@ -21,7 +22,7 @@ use Rattle.wf_frame.specs.Settings.{IsInRange}
 use Rattle.wf_law_runs.proofs.Frames.Owners.{IsOwned}
 use Rattle.wf_law_runs.proofs.Frames.Places.{standing}
 
--- every number of l is in m
+-- Every number of l is in m.
 record Within (l m : List ℕ) : Type 0 where
   each : (k : ℕ) → has l k ≡ true → has m k ≡ true
 
@@ -41,7 +42,7 @@ within_both l m n h = record {
       ];
 }
 
--- what a session passed up is named
+-- The releases of a session are among the releases of the run.
 passed_named : (r : ReplyNote) (w : World) (s t : ℕ) (note : Note) (l m : List ℕ) → Within l m →
     Within (passed_by w s t note l r) (m ++ named_by r)
 passed_named Joined w s t note l m h = on_if (λ (k : List ℕ). Within k (m ++ [])) (is_join_of s note) [] l

@@ -1,4 +1,5 @@
--- Lists of numbers below a bound, and what a new member changes in them.
+-- Proves how a new member changes the numbers of a list below a bound, and that the release start never
+-- falls.
 use Rattle.std.proofs.Common.{◌≡◌, refl, ap, sym, ◌∙◌, arith, ℕ, suc, ◌<◌, ◌≤◌, ◌==◌, nat_lt, nat_le, Bool, true, false, if◌then◌else◌, ◌&&◌, inl, inr, List, [], ◌∷◌, ◌++◌, filter}
 use Rattle.wf_def_lists.specs.Table.{has, with_member}
 use Rattle.wf_def_agreement.specs.Receiver.{Receiver, greatest, release_start}
@@ -80,7 +81,7 @@ member_known (x ∷ xs) lo m c h =
           ap (λ (ys : List ℕ). x ∷ ys) (member_known xs (suc x) m c.1 e)
     ]))
 
--- the release's start never falls
+-- The release start never falls.
 pub release_rises : (r q : Receiver) → greatest r.first r.starts ≤ greatest q.first q.starts →
     Climbs 0 q.arrived → ((n : ℕ) → has r.arrived n ≡ true → has q.arrived n ≡ true) →
     release_start r ≤ release_start q

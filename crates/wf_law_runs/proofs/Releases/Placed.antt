@@ -1,4 +1,4 @@
--- Each frame stands in one place, and is passed up at most once.
+-- Proves that each frame has one place, and is released at most once. By cases of the call.
 use Rattle.std.proofs.Common.{◌≡◌, ◌≢◌, refl, ap, sym, ◌∙◌, subst, arith, ℕ, zero, suc, ◌+◌, ◌-◌, ◌<◌, ◌≤◌, nat_lt, append-nil, Bool, true, false, if◌then◌else◌, not, ◌&&◌, ◌==◌, ◌||◌, ◌⊎◌, inl, inr, List, [], ◌∷◌, ◌++◌, length, filter, nat_le, Option, Some, None, IfSome, length-append}
 use Rattle.wf_frame.specs.declared.settings.Config.{Config}
 use Rattle.wf_frame.specs.declared.classes.Class.{Class}
@@ -42,8 +42,8 @@ pub data Place : Type 0 where
   Queued : (queue : ℕ) → Place
   Numbered : (station : ℕ) → (tid : ℕ) → (number : ℕ) → Place
 
--- what is known of the id of a number: it is old, its place is that number, and it was passed up only if the
--- number is below the release's start
+-- The id of an assigned number is that of an accepted frame, its place is this number, and it was released
+-- only if the number is below the release start.
 pub record IsLabel (home : ℕ → Place) (l : List ℕ) (c s t : ℕ) (a : Side) (n : ℕ) : Type 0 where
   pub old : (slot a.session n).id < c
   pub place : home (slot a.session n).id ≡ Numbered s t n
@@ -57,7 +57,7 @@ pub record IsQueued (home : ℕ → Place) (l : List ℕ) (c q k : ℕ) : Type 0
   pub place : home k ≡ Queued q
   pub passed : has l k ≡ false
 
--- l: the ids that were passed up so far
+-- l are the ids that were released so far.
 pub record Placing (l : List ℕ) (w : World) : Type 0 where
   pub home : ℕ → Place
   pub ordered : (q : ℕ) → Ordered 0 (queue w q).items
@@ -66,7 +66,7 @@ pub record Placing (l : List ℕ) (w : World) : Type 0 where
   pub old : (k : ℕ) → has l k ≡ true → k < accepted_count w
   pub once : IsOnce l
 
--- any frames may be acknowledged
+-- Any frame may be acknowledged.
 abbrev pub Any : ℕ → Type 0
 Any k = Unit {0}
 
@@ -75,7 +75,7 @@ labels_older : (home : ℕ → Place) (l : List ℕ) (c d s t : ℕ) (a : Side) 
 labels_older home l c d s t a h k n from below = let i = k n from below in
     record { old = omega (arith, i.old, h); place = i.place; passed = i.passed }
 
--- fewer frames are queued, and the sides stay
+-- The queues have no more frames, and the sessions and receivers do not change.
 pub placed_less : (l : List ℕ) (w v : World) → Less Any w v → ((s t : ℕ) → side v s t ≡ side w s t) →
     Placing l w → Placing l v
 placed_less l w v h d p = record {
@@ -90,7 +90,7 @@ placed_less l w v h d p = record {
   once = p.once;
 }
 
--- a session whose numbers keep their ids, and which has no other numbers
+-- A session changes; its numbers keep their ids, and it has no new numbers.
 pub placed_session : (l : List ℕ) (w : World) (s t : ℕ) (f : Session → Session) →
     KeptSession (session w s t) (f (session w s t)) →
     next_number (f (session w s t)) ≡ next_number (session w s t) → Placing l w →
@@ -121,7 +121,7 @@ placed_session l w s t f k e p =
       once = p.once;
     }
 
--- ---- a frame gets a number
+-- ---- a number is assigned to a frame
 
 abbrev moved : (ℕ → Place) → ℕ → Place → ℕ → Place
 moved home id place k = if k == id then place else home k
@@ -381,7 +381,7 @@ has_ids (n ∷ ns) y k h = elim (either ((slot y n).id == k) (has (ids_of y ns) 
   })
 ]
 
--- ids of rising numbers, each at its place
+-- The ids of increasing numbers have no repeats, if the place of each is its number.
 pub once_ids : (ns : List ℕ) (lo : ℕ) (y : Session) (home : ℕ → Place) (s t : ℕ) → Climbs lo ns →
     ((n : ℕ) → has ns n ≡ true → home (slot y n).id ≡ Numbered s t n) → IsOnce (ids_of y ns)
 once_ids [] lo y home s t c h = tt
@@ -413,7 +413,7 @@ filter_has p (x ∷ xs) n h = on_if (λ (ys : List ℕ). has ys n ≡ true → (
     ])
     (λ _ e. let q = filter_has p xs n e in (or_right (x == n) (has xs n) q.0, q.1)) h
 
--- what a receiver passes up when it becomes q
+-- What a receiver releases when it becomes q.
 record Grows (y : Session) (r q : Receiver) : Type 0 where
   rising : Climbs 0 q.arrived
   within : (n : ℕ) → has q.arrived n ≡ true → (y.first ≤ n) × (n < next_number y)
@@ -445,7 +445,7 @@ passes_more l w v s t q h apart own g p =
     let was : (k : ℕ) → has (l ++ ids_of y ns) k ≡ true → (has l k ≡ true) ⊎
     (has (ids_of y ns) k ≡ true) = λ k e. either (has l k) (has (ids_of y ns) k)
     (sym (has_append l (ids_of y ns) k) ∙ e) in
-    -- of a number of any TID: where its id is named now, it is this one
+    -- If the id of a number of any TID is released now, it is this number.
     let labels : (i j : ℕ) (a : Side) → a.session ≡ session w i j →
     ((n : ℕ) → (n < release_start (receiver w i j)) ⊎ ((i ≡ s) × (j ≡ t) × (has ns n ≡ true)) →
     n < release_start a.receiver) → Labels p.home (l ++ ids_of y ns) (accepted_count v) i j a =
@@ -562,7 +562,7 @@ placed_arrived l w i x n o few p =
     not_le : (a b : ℕ) → nat_le a b ≡ false → b < a
     not_le a b e = grind arith
 
--- nothing is named
+-- No id is released.
 placed_plain : (l : List ℕ) (o : Outcome) → named_by o.reply ≡ [] → Placing l o.world →
     Placing (l ++ named_by o.reply) o.world
 placed_plain l o e p = subst (λ (k : List ℕ). Placing k o.world)
@@ -636,7 +636,7 @@ placed_gone l w s p =
     (placed_same l w _ (then_same _ _ _ (same_left_tids (upto 8) w s) (same_off_lists all_classes _ s))
     (then_less Any _ _ _ (less_left_tids (upto 8) w s) (less_off_lists all_classes _ s)) p)
 
--- ---- a frame is queued
+-- ---- a frame is enqueued
 
 ordered_append : (xs : List Item) (x : Item) (lo : ℕ) → Ordered lo xs → lo ≤ x.id →
     ((k : ℕ) → carries xs k ≡ true → k < x.id) → Ordered lo (xs ++ x ∷ [])
@@ -664,7 +664,7 @@ carries_append (y ∷ xs) x k h = elim (either (y.id == k) (carries (xs ++ x ∷
   ]
 ]
 
--- of a frame in the queue q' after x went into q: it was in q' before, or it is x in q
+-- A frame that is in queue c after x was appended to queue q was there before, or it is x and c is q.
 pub queue_appended : (u : World) (q : ℕ) (x : Item) (c k : ℕ) →
     carries (queue (with_appended u q x) c).items k ≡ true → (carries (queue u c).items k ≡ true) ⊎
     ((c ≡ q) × (k ≡ x.id))
@@ -815,7 +815,7 @@ placed_answered : (l : List ℕ) (w : World) (x : Exchange) → Placing l w → 
 unfolding answer_outcome with_exchange
 placed_answered l w x p = placed_less l w _ (less_plain Any w _ refl refl) (λ s t. refl) p
 
--- what the reply to a call that is no arrival names
+-- The reply to a call that is not an arrival releases no id.
 named_done : (note : Note) (w : World) → (named_by (outcome_of w note).reply ≡ []) ⊎
     ((e : ℕ) × (n : ℕ) × (note ≡ Asked (Arrive e n)))
 unfolding outcome_of enqueue_outcome join_outcome leave_outcome rate_outcome tick_outcome pull_outcome
@@ -835,7 +835,7 @@ named_done (Asked (Poll s)) w = inl refl
 named_done (Asked (Rx s c air)) w = inl refl
 named_done (Asked Reap) w = inl (named_reaped w.finished w)
 
--- a call that names nothing
+-- The call releases no id.
 placed_call : (note : Note) (l : List ℕ) (w : World) (i : IsLawful w) → NoRow (refusals w note) →
     Placing l w → named_by (outcome_of w note).reply ≡ [] → Placing l (outcome_of w note).world
 unfolding outcome_of tick_outcome rate_outcome sleep_outcome wake_outcome poll_outcome rx_outcome

@@ -1,4 +1,4 @@
--- What the receivers pass up, over every run.
+-- Proves which ids one session releases, in every run. By cases of the call and induction on the run.
 use Rattle.std.proofs.Common.{◌≡◌, ◌≢◌, refl, ap, sym, ◌∙◌, subst, arith, ℕ, suc, ◌<◌, ◌≤◌, nat_lt, ◌*◌, Bool, true, false, if◌then◌else◌, ◌==◌, ◌||◌, inl, inr, List, [], ◌∷◌, ◌++◌, filter, nat_le, Option, Some, None, IfSome, is_some}
 use Rattle.wf_frame.specs.declared.settings.Config.{Config}
 use Rattle.wf_frame.specs.declared.classes.Class.{Class}
@@ -68,7 +68,7 @@ rising_filter p (x ∷ xs) lo c = on_if (λ (ys : List ℕ). IsRising lo ys) (p 
     lower [] a b h r = tt
     lower (y ∷ ys) a b h r = (omega (arith, r.0, h), r.1)
 
--- ---- what arrives
+-- ---- arrivals
 
 grown_arrived : (y : Session) (r : Receiver) (m e : ℕ) → IsAgreed y r → y.first ≤ m →
     (slot y m).state ≡ State.Flying e → numbers_passed (with_arrived m r) ≡ numbers_passed r
@@ -108,9 +108,9 @@ grown (Frames ms) w i x n e o l =
 grown (Request f) w i x n e o l = grown_start (session w x.station x.tid) (receiver w x.station x.tid) f
     (i.agreed x.station x.tid)
 
--- ---- what was passed up
+-- ---- the released ids
 
--- of a live station: the ids of its numbers that are passed up
+-- If the station is live, l are the ids of its released numbers.
 abbrev Passed : World → ℕ → ℕ → List ℕ → Type 0
 Passed w s t l = is_live w s ≡ true → l ≡ ids_of (session w s t) (numbers_passed (receiver w s t))
 
@@ -126,7 +126,7 @@ passed_kept w v s t l i k h live =
     (λ n e. (i.agreed s t).arrived n (has_filter _ (receiver w s t).arrived n e)))
     ∙ sym (ap (λ (r : Receiver). ids_of (session v s t) (numbers_passed r)) (k.receivers s t))
 
--- the sides after an arrival
+-- The session and the receiver after an arrival.
 pub side_taken : (w : World) (x z : Exchange) (g : Receiver → Receiver) → is_live w x.station ≡ true →
     side (with_exchange (on_receiver w x.station x.tid g) z) x.station x.tid
     ≡ record { session = session w x.station x.tid; receiver = g (receiver w x.station x.tid) }
@@ -225,7 +225,7 @@ pub live_own_station : (w : World) (i : ℕ) (o : Option Station) → is_live (w
 unfolding with_station
 live_own_station w i o = ap is_some (at_put_same None w.stations i o)
 
--- a TID to which nothing was passed up
+-- No id was released at this TID.
 abbrev Untouched : Side → Type 0
 Untouched a = ids_of a.session (numbers_passed a.receiver) ≡ []
 
@@ -274,7 +274,7 @@ quiet_reply Joined w s t note l h k = ap (λ (b : Bool). if b then [] else l) h
 quiet_reply (Released ids) w s t note l h k = ap (λ (b : Bool). if b then l ++ ids else l) k
 quiet_reply _ w s t note l h k = refl
 
--- a call that neither joins nor arrives
+-- The call is neither a join nor an arrival.
 passed_quiet : (w : World) (note : Note) (o : Outcome) (s t : ℕ) (l : List ℕ) → is_join_of s note ≡ false →
     is_arrival_for w s t note ≡ false → Passed o.world s t l →
     Passed o.world s t (passed_by w s t note l o.reply)

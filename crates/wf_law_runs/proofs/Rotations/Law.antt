@@ -1,4 +1,5 @@
--- The law of the lists of stations, in every world of a run, answered.
+-- Proves the law of rotations, in every world of a run: the lists of stations, when a Pull is Idle, and
+-- each pick.
 use Rattle.std.proofs.Common.{◌≡◌, refl, arith, ℕ, ◌*◌, ◌<◌, ◌≤◌, nat_le, Bool, true, false, if◌then◌else◌, List, [], ◌∷◌, Option, Some, None, is_some, is_none, IfSome, unwrap_or, option_map, take, ◌↔◌}
 use Rattle.wf_frame.specs.declared.settings.Config.{Config}
 use Rattle.wf_frame.specs.Settings.{IsInRange}
@@ -18,7 +19,7 @@ use Rattle.wf_law_runs.specs.Rotations.{NoneReady, MayOpen, KeepsRotations, Rota
 use Rattle.wf_law_runs.specs.Queues.{KeepsQueues}
 use Rattle.wf_law_rules.proofs.Lemmas.Numbers.{on_bool}
 use Rattle.wf_law_rules.proofs.Lemmas.Rotations.{IsWinner, pick_winner, pick_none}
-use Rattle.wf_law_rules.proofs.Lemmas.Turns.{turn_law}
+use Rattle.wf_law_rules.proofs.Lemmas.Visits.{visit_law}
 use Rattle.wf_law_runs.proofs.Deficits.Books.{account, books}
 use Rattle.wf_law_runs.proofs.Deficits.Kept.{IsGood, IsKept}
 use Rattle.wf_law_runs.proofs.Deficits.Ready.{IsOrderly, IsListed, on-lists, orderly}
@@ -123,9 +124,9 @@ keeps_rotations w i q =
       idle = λ c. idle_pull w c i.listed;
       quanta = λ s. quantum_some w s k;
       octets = octets;
-      stations = λ c. turn_law (quantum w) (λ s. (share w s c).deficit) (is_ready w c) (rotation w c)
+      stations = λ c. visit_law (quantum w) (λ s. (share w s c).deficit) (is_ready w c) (rotation w c)
           (λ s. quantum_some w s k) (once_list (in_order (rotation w c)) (k.once c));
-      queues = λ s t. turn_law (λ y. w.config.flow_quantum) (λ y. (queue w y).deficit) (has_frames w)
+      queues = λ s t. visit_law (λ y. w.config.flow_quantum) (λ y. (queue w y).deficit) (has_frames w)
           (tid_of w s t).queues (λ y. octets) (q.once s t);
     }
   where

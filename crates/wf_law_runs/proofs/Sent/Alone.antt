@@ -1,4 +1,5 @@
--- Each frame fits an aggregate by itself: at no rate does the greatest body take more than 3000 microseconds.
+-- Proves that each frame alone fits an aggregate: the greatest body takes at most 3000 microseconds at
+-- every rate.
 use Rattle.std.proofs.Common.{◌≡◌, arith, ℕ, ◌+◌, ◌^◌, ◌≤◌, nat_le, true, [], ◌∷◌}
 use Rattle.std.proofs.lemmas.Bool.{and_from, le-leb}
 use Rattle.std.proofs.Math.Nat.{pow-le-pow_right}

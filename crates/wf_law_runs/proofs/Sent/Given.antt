@@ -1,4 +1,5 @@
--- A take of a TID for which a frame is queued gives one: CoDel never drops the last frame of a queue.
+-- Proves that a take from a TID with queued frames returns a frame, because CoDel never drops the last
+-- frame of a queue.
 use Rattle.std.proofs.Common.{◌≡◌, refl, ap, sym, ◌∙◌, subst, arith, ℕ, zero, suc, ◌-◌, ◌<◌, ◌≤◌, Bool, true, false, if◌then◌else◌, not, ◌||◌, nat_lt, nat_le, ◌==◌, ◌+◌, List, [], ◌∷◌, length, drop, sum_by, Option, Some, None, is_some, slice_get}
 use Rattle.std.proofs.lemmas.List.{length-drop}
 use Rattle.std.proofs.lemmas.List.Sums.{sum_by-cons}
@@ -17,7 +18,7 @@ use Rattle.wf_law_runs.proofs.Windows.Sides.{same_pay_queues}
 
 -- ---- CoDel
 
--- the look at the last frame is not ok: no octet is left behind it
+-- The look at the last frame is not ok, because no octets follow it.
 last_look : (p : Params) (now above : ℕ) (xs : List Item) → length xs ≡ 1 →
     (look_at p now above xs).ok ≡ false
 last_look p now above [] one = refl
@@ -66,7 +67,7 @@ few_plain p now c items i e = on_if (λ (n : ℕ). n < length items) (look p now
     more zero e ok = absurd (cc (ok, look_last p now c.first_above items 0 e))
     more (suc i) e ok = omega (arith, e)
 
--- not all are dropped
+-- A dequeue does not drop all frames.
 few_drops : (p : Params) (now : ℕ) (c : Codel) (items : List Item) (i : ℕ) → length items ≡ suc i →
     drops p now c items < length items
 unfolding drops
@@ -88,7 +89,7 @@ some_given p now c (x ∷ xs) h = some_at (x ∷ xs) (drops p now c (x ∷ xs))
 
 -- ---- a take
 
--- no frame is queued where no listed queue has one
+-- If no listed queue has frames, none are queued.
 none_queued : (w : World) (qs : List ℕ) → ((q : ℕ) → has_frames w q ≡ true → on qs q ≡ 0) →
     sum_by (λ q. length (queue w q).items) qs ≡ 0
 none_queued w [] h = refl
@@ -104,7 +105,7 @@ none_queued w (q ∷ qs) h =
       none_queued w qs (λ p is. omega (arith, h p is, on-cons q p qs)),
     )
 
--- after the queues are paid each has the frames that it had
+-- Giving quanta to queues does not change their frames.
 items_turned : (w : World) (s t : ℕ) (quanta : ℕ → ℕ) (r : Rotation) (q : ℕ) → is_live w s ≡ true
     → (queue (with_queues (with_queues_paid w quanta (in_order (tid_of w s t).queues)) s t r) q).items
     ≡ (queue w q).items

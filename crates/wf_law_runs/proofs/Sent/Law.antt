@@ -1,4 +1,4 @@
--- The law of what an open exchange sends, in every world of a run, answered.
+-- Proves the law of sent frames, in every world of a run, from Lengths, Some and the window law.
 use Rattle.std.proofs.Common.{◌≡◌, ap, arith, ℕ, suc, ◌+◌, ◌≤◌, List, [], ◌∷◌, length, take}
 use Rattle.wf_frame.specs.declared.settings.Config.{Config}
 use Rattle.wf_def_lists.specs.Bounds.{greatest_window}
@@ -31,12 +31,12 @@ labels_of : (y : Session) (ms : List Mpdu) → Labelled y ms → EachMpdu (λ m.
 labels_of y [] l = tt
 labels_of y (m ∷ ms) l = (l.0, labels_of y ms l.1)
 
--- numbers that rise from lo on and are below hi
+-- There are at most hi - lo strictly increasing numbers from lo on and below hi.
 few_between : (lo hi : ℕ) (ms : List Mpdu) → lo ≤ hi → Rises lo hi ms → lo + length ms ≤ hi
 few_between lo hi [] h r = omega (arith, h)
 few_between lo hi (m ∷ ms) h r = omega (arith, r.0, few_between (suc m.number) hi ms (omega (arith, r.1)) r.2)
 
--- none of them is settled, so they lie between the session's start and its next number
+-- The numbers are on the air, so they are from the session's start on and below its next number.
 few_flying : (y : Session) (e : ℕ) (ms : List Mpdu) → next_number y ≤ start_of y + y.size →
     y.size ≤ greatest_window → Rises y.first (next_number y) ms → AllIn y (State.Flying e) ms →
     length ms ≤ greatest_window

@@ -1,5 +1,5 @@
--- Queued frames, and those that open exchanges send, have the lengths that their calls gave them, in every
--- world of a run.
+-- Proves that queued frames and the frames of open exchanges have the lengths that their Enqueue calls
+-- gave, in every world of a run. By cases of the call.
 use Rattle.std.proofs.Common.{◌≡◌, refl, ap, sym, ◌∙◌, subst, arith, ℕ, zero, suc, ◌-◌, pos, ◌<◌, ◌≤◌, Bool, true, false, if◌then◌else◌, not, ◌==◌, List, [], ◌∷◌, ◌++◌, append-nil, length, map, take, drop, Option, Some, None, IfSome}
 use Rattle.std.proofs.lemmas.Bool.{not-false}
 use Rattle.std.proofs.lemmas.List.{take-append-drop}
@@ -46,27 +46,27 @@ use Rattle.wf_law_runs.proofs.Windows.Agreed.{IsLawful, IsOpenIn, each_map_if, l
 use Rattle.wf_law_runs.proofs.Windows.Opened.{Each, each_both, each_append, each_find, NoRow, no_row}
 use Rattle.wf_law_runs.proofs.Windows.Sides.{Same, side_of, then_same, same_on_station, same_on_share, same_with_queues, same_finish_all, same_listed, same_after_pick, same_after_turn, same_spent, same_within_limit, same_put_in, same_pay_queues, same_purge_queues, same_take}
 
--- a queued frame, and each frame of an aggregate, has the length of its call; notes: the calls by id
+-- The frame has the length of its Enqueue. notes are the calls by id.
 abbrev pub IsMeasured : (ℕ → Note) → Item → Type 0
 IsMeasured notes x = len_of (notes x.id) ≡ x.len
 
 abbrev pub AreMeasured : (ℕ → Note) → List Mpdu → Type 0
 AreMeasured notes ms = EachMpdu (λ m. len_of (notes m.id) ≡ m.len) ms
 
--- each queue's frames
+-- The frames of each queue have the lengths of their Enqueue calls.
 abbrev pub AllMeasured : (ℕ → Note) → Shelves → Type 0
 AllMeasured notes b = (q : ℕ) → EachItem (IsMeasured notes) (b.queues q).items
 
 -- ---- parts of queues
 
--- of the frames xs only some are left
+-- ys are some of the frames xs.
 record IsRest (xs ys : List Item) : Type 0 where
   each : (notes : ℕ → Note) → EachItem (IsMeasured notes) xs → EachItem (IsMeasured notes) ys
 
 rest_all : (xs : List Item) → IsRest xs xs
 rest_all xs = record { each = λ notes h. h }
 
--- what a dequeue leaves and gives
+-- The frames that a dequeue leaves and the frame that it returns.
 record IsLeft (xs : List Item) (d : Dequeued) : Type 0 where
   rest : IsRest xs d.rest
   given : (notes : ℕ → Note) → EachItem (IsMeasured notes) xs → IfSome d.given (IsMeasured notes)
@@ -85,7 +85,7 @@ left w s q = each_dequeue IsLeft
     (λ x xs c. record { rest = record { each = λ notes h. h.1 }; given = λ notes h. h.0 })
     left_more (queue w q).items (codel_params w s) w.clock (queue w q).codel
 
--- from one world's shelves to those of a later one no frame joins a queue, and none is accepted
+-- Between two worlds' shelves, no frame is added to a queue and none is accepted.
 pub record Sifted (a b : Shelves) : Type 0 where
   notes : b.notes ≡ a.notes
   queues : (q : ℕ) → IsRest (a.queues q).items (b.queues q).items
@@ -152,7 +152,7 @@ unfolding taken_from_picked
 given_taken_from None notes w s k = tt
 given_taken_from (Some q) notes w s k = given_dequeued notes w q _ (left w s q) k
 
--- the queues of a TID are paid, and its lists are new
+-- The queues of a TID get quanta, and its lists change.
 sifted_turned : (w : World) (s t : ℕ) (quanta : ℕ → ℕ) (r : Rotation) → is_live w s ≡ true
     → Sifted (shelves w) (shelves (with_queues (with_queues_paid w quanta (in_order (tid_of w s t).queues)) s
     t r))
@@ -209,7 +209,7 @@ measured_longer (Some x) notes u s t ms h a =
     mpdus_append (λ m. len_of (notes m.id) ≡ m.len) ms
     (record { number = next_number (session u s t); id = x.id; len = x.len }) a h
 
--- b: the shelves before the aggregate
+-- b are the shelves before the aggregate.
 record IsFilled (b : Shelves) (f : Aggregate) : Type 0 where
   sifted : Sifted b (shelves f.world)
   lens : AreMeasured b.notes f.mpdus
@@ -251,7 +251,7 @@ filled w s t live k =
     (sifted_here (shelves w)) a)
     (record { sifted = sifted_here (shelves w); lens = a })
 
--- what is to be sent
+-- The prepared exchange.
 record IsReadied (b : Shelves) (p : Prepared) : Type 0 where
   sifted : Sifted b (shelves p.world)
   lens : AreMeasured b.notes (mpdus_of p.content)
@@ -279,7 +279,8 @@ readied w s t live k =
 
 -- ---- worlds
 
--- queued frames, and those of open exchanges, have the lengths of their calls; none is longer than `most`
+-- Queued frames and the frames of open exchanges have the lengths of their Enqueue calls, and no frame is
+-- longer than `most`.
 pub record IsStockedIn (most : ℕ) (b : Shelves) (xs : List Exchange) : Type 0 where
   pub short : (k : ℕ) → len_of (b.notes k) ≤ most
   pub measured : AllMeasured b.notes b
@@ -419,7 +420,7 @@ sifted_limit w =
     (λ _. sifted_head (queue w (longest_queue w)).items w (longest_queue w) refl)
     (λ _. sifted_here (shelves w))
 
--- the frame joins a queue
+-- The frame is appended to a queue.
 measured_append : (notes : ℕ → Note) (w : World) (q : ℕ) (x : Item) → IsMeasured notes x →
     AllMeasured notes (shelves w)
     → AllMeasured notes (shelves (with_appended w q x))
@@ -450,7 +451,7 @@ unfolding after_put_in
 measured_put_in notes w s t q x h k = measured_listed notes (with_appended w q x) s t q
     (measured_append notes w q x h k)
 
--- the next id is that of no queued frame
+-- No queued frame has the next id.
 items_noted : (xs : List Item) (notes : ℕ → Note) (c : ℕ) (note : Note) →
     ((k : ℕ) → carries xs k ≡ true → k < c)
     → EachItem (IsMeasured notes) xs → EachItem (IsMeasured (upd notes c note)) xs
@@ -461,7 +462,7 @@ items_noted (x ∷ xs) notes c note old h =
       items_noted xs notes c note (λ k e. old k (or_right (x.id == k) (carries xs k) e)) h.1,
     )
 
--- nor of one that is sent
+-- No frame of an exchange has the next id.
 mpdus_noted : (ms : List Mpdu) (notes : ℕ → Note) (c : ℕ) (note : Note) → EachMpdu (λ m. m.id < c) ms →
     AreMeasured notes ms → AreMeasured (upd notes c note) ms
 mpdus_noted [] notes c note old h = tt
@@ -550,7 +551,7 @@ stocked_enqueued most l w s t flow len short k i =
 
 -- ---- exchanges change and end
 
--- exchanges replaced by one with the same content
+-- An exchange is replaced by one with the same content.
 stocked_with_exchange : (most : ℕ) (w v : World) (x z : Exchange) → shelves v ≡ shelves w
     → v.opened ≡ map (λ y. if y.number == z.number then z else y) w.opened →
     AreMeasured (shelves w).notes (mpdus_of z.content)

@@ -1,5 +1,5 @@
--- Where no frame is longer than the greatest body, each open exchange of data sends a frame, in every world
--- of a run.
+-- Proves that each open exchange of data sends at least one frame if no frame is longer than the greatest
+-- body, in every world of a run. Each frame fits alone, so an aggregate is never empty.
 use Rattle.std.proofs.Common.{◌≡◌, refl, ap, sym, ◌∙◌, subst, arith, ℕ, zero, suc, ◌-◌, ◌<◌, ◌≤◌, nat_lt, Bool, true, false, if◌then◌else◌, not, ◌&&◌, ◌||◌, ◌==◌, List, [], ◌∷◌, ◌++◌, length, map, take, Option, Some, None, IfSome, is_some, unwrap_or, option_map}
 use Rattle.std.proofs.lemmas.List.{length-append}
 use Rattle.wf_frame.specs.declared.settings.Config.{Config}
@@ -46,7 +46,7 @@ use Rattle.wf_law_runs.proofs.Windows.Sides.{Same, same_on_station, same_on_shar
 
 -- ---- the settings, the rates and the lengths
 
--- what a frame needs to fit by itself
+-- The conditions under which each frame fits alone.
 pub record IsApt (w : World) : Type 0 where
   pub agg : 1 ≤ w.config.agg
   pub cap : 3000 ≤ w.config.cap
@@ -121,7 +121,7 @@ some_if : (b : Bool) (x y : Aggregate) → (b ≡ true → IsSome x) → (b ≡ 
 some_if true x y h k = h refl
 some_if false x y h k = k refl
 
--- fresh frames go behind the others
+-- Fresh frames are appended to the others.
 some_longer : (n : ℕ) (w : World) (s t : ℕ) (ms : List Mpdu) → 1 ≤ length ms → IsSome (with_fresh n w s t ms)
 unfolding with_fresh
 some_longer zero w s t ms h = h
@@ -132,7 +132,7 @@ some_longer (suc n) w s t ms h =
     (ms ++ fresh_mpdus w s t taken.item) (omega
     (arith, length-append ms (fresh_mpdus w s t taken.item), h))) (λ _. h))
 
--- the first fresh frame fits by itself
+-- The first fresh frame fits alone.
 fits_given : (o : Option Item) (w : World) (s t : ℕ) → IsApt w → is_some o ≡ true →
     IfSome o (IsMeasured (shelves w).notes)
     → (fits_in w s (fresh_mpdus w s t o) ≡ true) × (1 ≤ length (fresh_mpdus w s t o))
@@ -164,7 +164,7 @@ some_fresh (suc n) w s t more live gives a =
     (record { world = numbered; mpdus = [] }) (λ _. some_longer n numbered s t first given.1)
     (λ fails. absurd (cc (given.0, fails))))
 
--- the first waiting frame fits by itself
+-- The first waiting frame fits alone.
 greatest_some : (test : ℕ → Bool) (n : ℕ) → test 1 ≡ true → 1 ≤ greatest_upto test (suc n)
 greatest_some test n h = go n
   where
@@ -306,7 +306,7 @@ some_pulled w c l a h =
 
 -- ---- the other calls
 
--- exchanges replaced by one with the same content
+-- An exchange is replaced by one with the same content.
 some_replaced : (w : World) (z : Exchange) (xs : List Exchange) → xs ≡ w.opened → HasSome z → AllSome w
     → Each HasSome (map (λ y. if y.number == z.number then z else y) xs)
 some_replaced w z xs e a h = subst (λ (ys : List Exchange).

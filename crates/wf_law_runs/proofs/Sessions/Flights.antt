@@ -1,4 +1,5 @@
--- The numbers that an exchange sends.
+-- Proves how the numbers that an exchange sends change their states in a session. By induction on the
+-- numbers.
 use Rattle.std.proofs.Common.{◌≡◌, ◌≢◌, refl, ap, sym, ◌∙◌, subst, arith, ℕ, suc, ◌+◌, ◌-◌, ◌<◌, ◌≤◌, Bool, true, false, if◌then◌else◌, List, [], ◌∷◌, ◌++◌, length, length-append, add-zero, map, take, drop}
 use Rattle.std.proofs.lemmas.List.{take-append-drop}
 use Rattle.wf_def_lists.specs.Table.{at, greatest_upto}
@@ -7,17 +8,17 @@ use Rattle.wf_def_world.specs.World.{World, Mpdu, session}
 use Rattle.wf_def_world.specs.Exchanges.{with_flying, mpdu_of, waiting_mpdus, fits_in, longest_fitting}
 use Rattle.wf_law_runs.proofs.Sessions.Starts.{IsWithin, length-change, within_on_slot, keeps_change, keeps_append, at_append, at_change_other, at_change_same}
 
--- each of the numbers is in this state
+-- Each of the numbers is in this state.
 abbrev pub AllIn : Session → State → List Mpdu → Type 0
 AllIn y st [] = Unit {0}
 AllIn y st (m ∷ ms) = ((slot y m.number).state ≡ st) × AllIn y st ms
 
--- none of them is
+-- None of the numbers is in this state.
 abbrev pub NoneIn : Session → State → List Mpdu → Type 0
 NoneIn y st [] = Unit {0}
 NoneIn y st (m ∷ ms) = ((slot y m.number).state ≢ st) × NoneIn y st ms
 
--- the numbers rise strictly, from lo on, and are below hi
+-- The numbers increase strictly, the first is at least lo, and all are below hi.
 abbrev pub Rises : ℕ → ℕ → List Mpdu → Type 0
 Rises lo hi [] = Unit {0}
 Rises lo hi (m ∷ ms) = (lo ≤ m.number) × (m.number < hi) × Rises (suc m.number) hi ms
@@ -59,7 +60,7 @@ rises_weaken lo lo' hi hi' (m ∷ ms) h k r = (
   rises_weaken (suc m.number) (suc m.number) hi hi' ms (omega arith) k r.2,
 )
 
--- numbers past the one that changes
+-- Numbers after the one that changes keep their states.
 pub all_in_later : (y : Session) (st : State) (n hi : ℕ) (f : Slot → Slot) (ms : List Mpdu) → y.first ≤ n →
     Rises (suc n) hi ms → AllIn y st ms → AllIn (on_slot n f y) st ms
 all_in_later y st n hi f [] b r a = tt
@@ -70,7 +71,7 @@ all_in_later y st n hi f (m ∷ ms) b r a =
           (omega arith) r.2) a.1,
     )
 
--- ---- a fresh number
+-- ---- a new number
 
 pub all_in_give : (y : Session) (id : ℕ) (st : State) (ms : List Mpdu) → st ≢ State.Acked → AllIn y st ms →
     AllIn (with_number_given y id) st ms
@@ -87,7 +88,7 @@ fresh_waits y id =
     ap (λ (k : ℕ). (at no_slot (with_number_given y id).slots k).state) e
     ∙ ap (λ (x : Slot). x.state) (at_append y.slots _)
 
--- ---- the numbers fly
+-- ---- the numbers are sent
 
 pub fly_keeps : (ms : List Mpdu) (y : Session) (e n : ℕ) → (slot y n).state ≡ State.Flying e →
     (slot (with_flying e ms y) n).state ≡ State.Flying e
@@ -97,7 +98,7 @@ fly_keeps (m ∷ ms) y e n h =
     (keeps_change (λ s. s ≡ State.Flying e) (λ s. s ≡ State.Flying e) y.slots (m.number - y.first)
     (λ x. record x { state = State.Flying e }) (λ _. refl) (λ s k. k) (n - y.first) h)
 
--- what holds of numbers that wait before they fly
+-- The effect of sending waiting numbers.
 pub record IsFlown (e : ℕ) (ms : List Mpdu) (y z : Session) : Type 0 where
   pub within : IsWithin y → IsWithin z
   pub flying : AllIn z (State.Flying e) ms
@@ -135,9 +136,9 @@ flown (m ∷ ms) y e hi lo b r a =
       next = rest.next ∙ ap (λ (k : ℕ). y.first + k) (length-change y.slots (m.number - y.first) f unsettled);
     }
 
--- ---- the numbers that are chosen
+-- ---- the chosen numbers
 
--- numbers of y that wait, in rising order
+-- The numbers wait in y, and are in strictly increasing order.
 pub record IsChosen (y : Session) (ms : List Mpdu) : Type 0 where
   pub waiting : AllIn y State.Waiting ms
   pub rising : Rises y.first (next_number y) ms
@@ -213,7 +214,7 @@ chosen_waiting w s t =
       rising = waiting_rises y.slots w s t y.first (next_number y) (omega arith);
     }
 
--- ---- a fresh number is chosen too
+-- ---- a new number is chosen too
 
 all_in_append : (y : Session) (st : State) (xs : List Mpdu) (m : Mpdu) → AllIn y st xs →
     (slot y m.number).state ≡ st → AllIn y st (xs ++ m ∷ [])

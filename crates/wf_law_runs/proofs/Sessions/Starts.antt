@@ -1,10 +1,11 @@
--- A session's start, and its slots, under the changes that a step makes.
+-- Proves how a session's start and slots change with each change that a step makes. By induction on the
+-- slots.
 use Rattle.std.proofs.Common.{◌≡◌, ◌≢◌, refl, ap, sym, arith, ℕ, zero, suc, ◌+◌, ◌-◌, ◌<◌, ◌≤◌, Bool, true, false, if◌then◌else◌, List, [], ◌∷◌, ◌++◌, length, length-append}
 use Rattle.wf_def_lists.specs.Table.{at, change}
 use Rattle.wf_def_agreement.specs.Session.{Session, Slot, State, no_slot, slot, on_slot, with_number_given, is_settled, first_unsettled, start_of, next_number, has_room}
 use Rattle.wf_law_rules.proofs.Lemmas.Tables.{each_put}
 
--- at most size numbers from the first unsettled one on
+-- All numbers are less than a window above the session's start.
 pub record IsWithin (y : Session) : Type 0 where
   pub within : next_number y ≤ start_of y + y.size
 
@@ -28,7 +29,7 @@ pub start_append : (xs : List Slot) (n : ℕ) (ys : List Slot) →
 start_append [] n ys = start_ge ys n
 start_append (x ∷ xs) n ys = ifs_le (is_settled x.state) _ n _ n (start_append xs (suc n) ys) (omega arith)
 
--- a change of a slot that was not settled
+-- The slot of an unsettled number changes.
 pub start_change : (xs : List Slot) (n k : ℕ) (f : Slot → Slot) → is_settled (at no_slot xs k).state ≡ false →
     first_unsettled n xs ≤ first_unsettled n (change no_slot xs k f)
 start_change [] n k f h = absurd (cc h)
@@ -69,7 +70,7 @@ within_give y id h =
       );
     }
 
--- ---- what the other slots hold
+-- ---- the other slots
 
 pub keeps_change : (P Q : State → Type 0) (xs : List Slot) (k : ℕ) (f : Slot → Slot) →
     (P (at no_slot xs k).state → Q (f (at no_slot xs k)).state) → ((st : State) → P st → Q st) → (i : ℕ) →
@@ -77,7 +78,7 @@ pub keeps_change : (P Q : State → Type 0) (xs : List Slot) (k : ℕ) (f : Slot
 keeps_change P Q xs k f h all = each_put (λ i x. P (at no_slot xs i).state → Q x.state) no_slot xs k
     (f (at no_slot xs k)) (λ i p. all _ p) h
 
--- a state that is not that of a number past the end
+-- A slot is appended. The state is not Acked, which a number past the end would have.
 pub keeps_append : (xs : List Slot) (x : Slot) (st : State) → st ≢ State.Acked → (i : ℕ) →
     (at no_slot xs i).state ≡ st → (at no_slot (xs ++ x ∷ []) i).state ≡ st
 keeps_append [] x st h i e = absurd (h (sym e))

@@ -1,4 +1,5 @@
--- What a live station was charged and what it sent, in a class, is what its calls add up to since its join.
+-- Proves that a live station's charged and received airtime in a class are the sums over its calls since
+-- its join. By cases of the call and induction on the run.
 use Rattle.std.proofs.Common.{◌≡◌, refl, ap, sym, ◌∙◌, subst, arith, ℕ, ◌+◌, Bool, true, false, if◌then◌else◌, List, [], ◌∷◌, Option, Some, None, is_some, is_none, IfSome, unwrap_or, option_map, ◌&&◌, ◌==◌, eq-eqb, inl, inr}
 use Rattle.std.proofs.lemmas.Bool.{cases_eq, ne_eqb}
 use Rattle.wf_frame.specs.declared.settings.Config.{Config}
@@ -24,15 +25,15 @@ use Rattle.wf_law_runs.proofs.Deficits.Kept.{IsKept, if_map}
 use Rattle.wf_law_runs.proofs.Deficits.KeptStep.{IsFound, books_arrived, books_answered, kept_step, kept_opening}
 use Rattle.wf_law_runs.proofs.Fairness.OldOrder.{IsCalm, calm_listed, calm_pulled, owing, owing_done, owing_refused}
 
--- a share was charged p and sent q
-record Adds (p q : ℕ) (x : Share) : Type 0 where
-  charged : x.charged ≡ p
-  received : x.received ≡ q
+-- The share has the charged airtime p and the received airtime q.
+pub record Adds (p q : ℕ) (x : Share) : Type 0 where
+  pub charged : x.charged ≡ p
+  pub received : x.received ≡ q
 
-abbrev HasSum : Class → ℕ → ℕ → Option Account → Type 0
+abbrev pub HasSum : Class → ℕ → ℕ → Option Account → Type 0
 HasSum c p q o = IfSome o (λ a. Adds p q (a.shares c))
 
--- the account of a station is the same, or there is none; and its sums are these numbers
+-- The sums of an account are these numbers too, if they are equal.
 sum_is : (c : Class) (p q p' q' : ℕ) (o : Option Account) → p' ≡ p → q' ≡ q → HasSum c p q o →
     HasSum c p' q' o
 sum_is c p q p' q' o e f k = subst (λ (n : ℕ). HasSum c n q' o) (sym e)
@@ -46,7 +47,7 @@ sum_calm : (c : Class) (p q s : ℕ) (b a : Books) → IsCalm b a → HasSum c p
     HasSum c p q (a.accounts s)
 sum_calm c p q s b a e k = subst (λ (f : ℕ → Option Account). HasSum c p q (f s)) (sym e.accounts) k
 
--- an account changes by a function that adds to no sum
+-- An account changes by a function that adds to no sum.
 sum_on : (c : Class) (p q s i : ℕ) (b : Books) (g : Account → Account) →
     ((a : Account) → Adds p q (a.shares c) → Adds p q ((g a).shares c)) → HasSum c p q (b.accounts s) →
     HasSum c p q ((with_account b i (option_map g (b.accounts i))).accounts s)
@@ -54,7 +55,7 @@ sum_on c p q s i b g h = each_upd (λ y o. HasSum c p q (b.accounts y) → HasSu
     (option_map g (b.accounts i)) (λ y k. k) (λ k.
     if_map (λ a. Adds p q (a.shares c)) (λ a. Adds p q (a.shares c)) g (b.accounts i) k (λ a _ z. h a z)) s
 
--- each share of an account has its sums after a share was paid
+-- Giving quanta to a share changes no sum.
 sum_paid : (c d : Class) (p q n quantum : ℕ) (a : Account) → Adds p q (a.shares c) →
     Adds p q ((on_part d (pay_share quantum n) a).shares c)
 sum_paid c d p q n quantum a = each_updc (λ e x. Adds p q (a.shares e) → Adds p q x) a.shares d
@@ -87,7 +88,7 @@ sum_gone : (c : Class) (p q s i : ℕ) (b : Books) → HasSum c p q (b.accounts 
 sum_gone c p q s i b k = each_upd (λ y o. HasSum c p q (b.accounts y) → HasSum c p q o) b.accounts i None
     (λ y h. h) (λ _. tt) s k
 
--- one share of one account changes by f, which adds m to what was charged and n to what was sent
+-- One share of one account changes by f, which adds m to the charged and n to the received airtime.
 sum_part : (c d : Class) (p q s i m n : ℕ) (b : Books) (f : Share → Share)
     → ((x : Share) → Adds p q x → Adds (p + m) (q + n) (f x))
     → HasSum c p q (b.accounts s)
@@ -127,7 +128,7 @@ nothing_if false = refl
 
 -- ---- the step
 
--- a call that is not refused: what it makes of a sum, and what it says was sent
+-- Returns a sum after a call that is not refused, without the airtime that the call adds.
 abbrev begun : ℕ → Note → ℕ → ℕ
 begun s (Asked (Join i window start exponent weight)) n = if i == s then 0 else n
 begun s _ n = n
@@ -244,7 +245,7 @@ sum_answer None w note c p q s e k h =
     (omega (arith, begun_done note w s q e, sending_done note w s c e))
     (sum_calm c _ _ s _ _ (calm_listed _ (outcome_of w note).world) (sum_done note w c p q s k h))
 
-sum_step : (w : World) (note : Note) (c : Class) (p q s : ℕ) → IsKept (books w) →
+pub sum_step : (w : World) (note : Note) (c : Class) (p q s : ℕ) → IsKept (books w) →
     HasSum c p q ((books w).accounts s)
     → HasSum c (since_join w s note p + charge_by w s c note) (since_join w s note q + air_by w s c note)
     ((books (step w note).world).accounts s)
@@ -258,12 +259,12 @@ unfolding world_after
 sum_run [] w c p q s k i = i
 sum_run (e ∷ es) w c p q s k i = sum_run es _ c _ _ s (kept_step w e.1 k) (sum_step w e.1 c p q s k i)
 
--- a live station's share is charged p, and sent q
+-- The share of a live station has the charged airtime p and the received airtime q.
 pub record HasAdded (p q : ℕ) (x : Share) : Type 0 where
   pub charged : x.charged ≡ p
   pub received : x.received ≡ q
 
-added_here : (w : World) (s : ℕ) (c : Class) (p q : ℕ) → is_live w s ≡ true →
+pub added_here : (w : World) (s : ℕ) (c : Class) (p q : ℕ) → is_live w s ≡ true →
     HasSum c p q ((books w).accounts s) → HasAdded p q (share w s c)
 added_here w s c p q live h = go (at None w.stations s) refl live h
   where
@@ -274,7 +275,7 @@ added_here w s c p q live h = go (at None w.stations s) refl live h
         HasAdded p q (at no_share (unwrap_or o no_station).shares (class_number c))) (sym e)
         (record { charged = k.charged; received = k.received })
 
--- in every world of a run
+-- This holds in every world of a run.
 pub added : (config : Config) (h : List Entry) (s : ℕ) (c : Class) → IsInRange config →
     is_live (world_after (opening config) h) s ≡ true
     → HasAdded (charged_over (opening config) s c h 0) (received_over (opening config) s c h 0)

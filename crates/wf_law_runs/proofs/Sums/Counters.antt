@@ -1,5 +1,5 @@
--- How far a call lets the clock and the number of exchanges go: the clock by a tick at most, the exchanges by
--- one.
+-- Proves that one call advances the clock by at most one tick and begins at most one exchange. By cases of
+-- the call.
 use Rattle.std.proofs.Common.{◌≡◌, refl, arith, ℕ, zero, suc, ◌+◌, ◌-◌, ◌≤◌, ◌==◌, not, nat_lt, Bool, true, false, if◌then◌else◌, List, [], ◌∷◌, length, Option, Some, None}
 use Rattle.wf_frame.specs.declared.classes.Class.{Class}
 use Rattle.wf_frame.specs.declared.classes.Fate.{Fate}
@@ -23,7 +23,7 @@ use Rattle.wf_def_world.specs.World.{World, Station, Share, Tid, Exchange, Mpdu,
 use Rattle.wf_law_rules.proofs.Lemmas.Numbers.{lt_no}
 use Rattle.wf_law_runs.proofs.Windows.Opened.{NoRow, no_row}
 
--- a, b: what the clock and the number of exchanges are at most
+-- a and b are bounds of the clock and of the number of exchanges.
 module _ (a b : ℕ) where
   abbrev Counts : World → Type 0
   Counts w = (w.clock ≤ a) × (w.exchanges ≤ b)
@@ -278,7 +278,7 @@ kept_answer a b (Some r) w note e h = more a b _ _ (kept_refused a b note r w h)
 kept_answer a b None w note e h = kept_listed (a + greatest_tick) (b + 1) (concerned_station w note)
     (outcome_of w note).world (kept_done a b note w (no_row (refusals w note) e) h)
 
--- a call lets the clock go on by a tick at most, and makes one exchange at most
+-- A call advances the clock by at most the greatest tick, and begins at most one exchange.
 pub counts_step : (a b : ℕ) (w : World) (note : Note) → (w.clock ≤ a) × (w.exchanges ≤ b) →
     ((step w note).world.clock ≤ a + greatest_tick) × ((step w note).world.exchanges ≤ b + 1)
 unfolding step

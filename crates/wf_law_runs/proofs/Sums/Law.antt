@@ -1,4 +1,4 @@
--- The law of the sums, in every world of a run, answered.
+-- Proves the law of sums, in every world of a run. By induction on the number of entries.
 use Rattle.std.proofs.Common.{◌≡◌, refl, arith, ℕ, zero, suc, ◌+◌, ◌*◌, ◌≤◌, ◌==◌, ◌&&◌, Bool, true, false, if◌then◌else◌, List, [], ◌∷◌, length, take, Option, Some, None, is_none, IfSome}
 use Rattle.std.proofs.lemmas.Bool.{and_parts, not-false}
 use Rattle.wf_frame.specs.declared.settings.Config.{Config}
@@ -30,7 +30,7 @@ use Rattle.wf_def_world.specs.Exchanges.{charge_of}
 
 -- ---- the clock and the counts
 
--- after n entries
+-- The bounds after n entries.
 record IsSmall (n : ℕ) (w : World) : Type 0 where
   clock : w.clock ≤ greatest_tick * n
   accepted : accepted_count w ≤ n
@@ -101,7 +101,7 @@ unless_refused : (o : Option Refusal) (m n : ℕ) → (o ≡ None → m ≤ n) �
 unless_refused None m n h = h refl
 unless_refused (Some r) m n h = omega arith
 
--- a call charges the greatest charge at most
+-- A call charges at most the greatest charge.
 charge_step : (note : Note) (w : World) (s : ℕ) (c : Class) → IsKept (books w) →
     charge_by w s c note ≤ greatest_charge
 charge_step (Asked (Done e heard air)) w s c k =
@@ -124,7 +124,7 @@ air_row s i d c air w None e =
     at_most_if ((i == s) && same_class d c) air greatest_air
     (le_yes air greatest_air (and_parts _ _ (not-false _ row.1.0)).1)
 
--- a receive charge is the greatest one at most
+-- A receive charge is at most the greatest airtime.
 air_step : (note : Note) (w : World) (s : ℕ) (c : Class) → air_by w s c note ≤ greatest_air
 air_step (Asked (Rx i d air)) w s c = air_row s i d c air w (refusal w (Asked (Rx i d air))) refl
 air_step _ w s c = omega arith

@@ -1,4 +1,5 @@
--- The window law: each agreement and each open exchange is right, in every world of a run.
+-- Proves that the invariant of each agreement and of each open exchange holds in every world of a run. By
+-- cases of the call and induction on the run.
 use Rattle.std.proofs.Common.{◌≡◌, ◌≢◌, refl, ap, sym, ◌∙◌, subst, arith, ℕ, zero, suc, ◌+◌, ◌-◌, ◌<◌, ◌≤◌, nat_lt, append-nil, max, pos, ◌+ℤ◌, ◌*◌, Bool, true, false, if◌then◌else◌, not, ◌&&◌, ◌==◌, ◌||◌, inl, inr, is_none, sum_by, List, [], ◌∷◌, ◌++◌, length, map, filter, nat_le, Option, Some, None, IfSome, is_some, unwrap_or, option_map}
 use Rattle.wf_frame.specs.declared.settings.Config.{Config}
 use Rattle.wf_frame.specs.declared.classes.Class.{Class}
@@ -29,7 +30,7 @@ use Rattle.wf_law_runs.proofs.Windows.Sides.{Side, side_of, side, sides_of, Same
 use Rattle.wf_law_runs.proofs.Windows.Agreement.{IsAgreed, agreed_on_slot, not_due_give, agreed_give, agreed_heard, agreed_arrived, agreed_start, agreed_new, IsAsked, IsOpen, request_map, open_on_slot, open_flies, open_arrived, open_start, open_heard, agreed_fly, answer_right, AllRight, IfRequest}
 use Rattle.wf_law_runs.proofs.Windows.Opened.{Each, each_map, each_both, each_append, each_filter, each_find, FlyIn, fly_give, differ, some_along, pick_ready, can_give-room, eight, none_open, NoRow, no_row}
 
--- ---- worlds in which each agreement and each open exchange is right
+-- ---- worlds in which the invariant holds for each agreement and each open exchange
 
 abbrev pub AgreedAt : Side → Type 0
 AgreedAt a = IsAgreed a.session a.receiver
@@ -45,7 +46,7 @@ pub record IsOpenIn (w : World) (x : Exchange) : Type 0 where
 abbrev pub asks : ℕ → ℕ → Exchange → Bool
 asks s t x = (x.station == s) && ((x.tid == t) && is_request x.content)
 
--- at most one of them is a request of this TID
+-- At most one of the exchanges is a request of this TID.
 pub record IsSole (xs : List Exchange) (s t : ℕ) : Type 0 where
   pub who : ℕ
   pub only : Each (λ x. asks s t x ≡ true → x.number ≡ who) xs
@@ -70,7 +71,7 @@ lawful_same w v h i = record {
   sole = λ s t. subst (λ (xs : List Exchange). IsSole xs s t) (sym h.opened) (i.sole s t);
 }
 
--- one TID changes
+-- One TID changes.
 pub lawful_on_tid : (N : Exchange → Type 0) (w : World) (s t : ℕ) (f : Tid → Tid) → Each N w.opened →
     AgreedAt (side_of (f (tid_of w s t)))
     → ((x : Exchange) → x.number < w.exchanges → N x → s ≡ x.station → t ≡ x.tid → OpenAt x (side w s t) →
@@ -126,9 +127,9 @@ pub exchanges_on_session : (w : World) (s t : ℕ) (f : Session → Session) →
 unfolding on_session
 exchanges_on_session w s t f = on_exchanges w s t _
 
--- ---- fresh numbers
+-- ---- new numbers
 
--- a world in which numbers of a session were chosen, while no request is due
+-- Numbers of a session were chosen in this world, and no request is due.
 pub record IsReady (s t : ℕ) (w : World) (ms : List Mpdu) : Type 0 where
   pub lawful : IsLawful w
   pub live : is_live w s ≡ true
@@ -183,7 +184,7 @@ unfolding with_number
 ready_number None w s t ms room r = r
 ready_number (Some x) w s t ms room r = ready_give w s t x.id ms room r
 
--- u is the world before the take, whose session gives the number
+-- u is the world before the take for which the session assigns the number.
 pub longer_number : (o : Option Item) (u w : World) (s t : ℕ) (ms : List Mpdu) → Same u w →
     has_room (session w s t) ≡ true → IsReady s t w ms →
     IsReady s t (with_number w s t o) (ms ++ fresh_mpdus u s t o)
@@ -233,7 +234,7 @@ ready_filled w s t i live quiet =
     (with_fresh (most_frames w s - length chosen) w s t chosen) (record { world = w; mpdus = chosen })
     (λ _. ready_fresh (most_frames w s - length chosen) w s t chosen r) (λ _. r)
 
--- ---- what is sent flies
+-- ---- the chosen numbers are sent
 
 pub record IsAloft (s t : ℕ) (p : Prepared) : Type 0 where
   pub lawful : IsLawful p.world
@@ -386,7 +387,7 @@ lawful_sent s t c p a = lawful_same _ _ (same_spent _ s)
       marked = λ h. absurd (cc h);
     }) a.alone)
 
--- the TID that sends can send
+-- The TID that sends can send.
 pub sends : (p : ℕ → Bool) (u : Bool) (lo up : ℕ) → (p lo || p up) ≡ true →
     p (if p (if u then up else lo) then (if u then up else lo) else (if u then lo else up)) ≡ true
 sends p true lo up h = on_if (λ k. p k ≡ true) (p up) up lo (λ e. e)
@@ -419,7 +420,7 @@ lawful_pulled_by (Some s) w c ready i =
     (λ x. (x.station == s) && ((x.tid == t) && is_request x.content)) xs) k.opened
     ∙ may (ap request_due (sym (session_same w _ k s t)) ∙ due)))
 
--- the pick pays stations and moves them, and changes no queue
+-- The pick gives quanta to stations and moves them, and changes no queue.
 pub record Unmoved (w v : World) : Type 0 where
   pub tids : (s t : ℕ) → tid_of v s t ≡ tid_of w s t
   pub queues : v.queues ≡ w.queues
@@ -503,7 +504,7 @@ each_map_if P Q p x (y ∷ xs) h k e = (
   each_map_if P Q p x xs h k e.1,
 )
 
--- an exchange found among the open ones
+-- The exchange was found among the open ones.
 pub record IsFound (w : World) (i : IsLawful w) (x : Exchange) : Type 0 where
   pub open_in : IsOpenIn w x
   pub only : (s t : ℕ) → asks s t x ≡ true → x.number ≡ (i.sole s t).who
@@ -556,7 +557,7 @@ with_member_some (x ∷ xs) n = on_if (λ (ys : List ℕ). (length ys == 0) ≡ 
     positive : (k : ℕ) → (suc k == 0) ≡ false
     positive k = grind arith
 
--- the receiver of one TID changes, and the exchange x with it
+-- The receiver of one TID changes, and the exchange x with it.
 pub lawful_taken : (w : World) (i : IsLawful w) (x : Exchange) (n : ℕ) (g : Receiver → Receiver) →
     IsFound w i x
     → IsAgreed (session w x.station x.tid) (g (receiver w x.station x.tid))
@@ -667,12 +668,12 @@ lawful_arrived w i x n f none l = taken_by x.content w i x n refl f none (not_le
 
 -- ---- the end of an exchange
 
--- of these numbers, those that are to become acked arrived
+-- Those of the numbers that become acknowledged have arrived.
 abbrev pub AllBacked : (ℕ → Bool) → Receiver → List Mpdu → Type 0
 AllBacked acked r [] = Unit {0}
 AllBacked acked r (m ∷ ms) = (acked m.number ≡ true → has r.arrived m.number ≡ true) × AllBacked acked r ms
 
--- a world in which the exchange e has ended, but its numbers still fly
+-- The exchange e has ended in this world, and its numbers are still on the air.
 pub record IsEnding (e s t : ℕ) (acked : ℕ → Bool) (w : World) (ms : List Mpdu) : Type 0 where
   pub lawful : IsLawful w
   pub others : Each (λ x. x.number ≢ e) w.opened
@@ -695,7 +696,7 @@ pub if_ending : (b : Bool) (e s t : ℕ) (acked : ℕ → Bool) (w v : World) (m
 if_ending true e s t acked w v ms h k = h
 if_ending false e s t acked w v ms h k = k
 
--- one of its numbers stops flying
+-- One of its numbers leaves the air.
 pub ending_slot : (e s t : ℕ) (acked : ℕ → Bool) (w : World) (m : Mpdu) (ms : List Mpdu) (f : Slot → Slot) →
     ((f (slot (session w s t) m.number)).state ≡ State.Acked → acked m.number ≡ true) →
     IsEnding e s t acked w (m ∷ ms) → IsEnding e s t acked (on_session w s t (on_slot m.number f)) ms
@@ -796,7 +797,7 @@ backed_by (m ∷ ms) heard (Some b) r k = (
   backed_by ms heard (Some b) r k.1,
 )
 
--- requests apart from this one
+-- Another exchange than e, which is not a request of this TID.
 pub record IsApart (s t e : ℕ) (x : Exchange) : Type 0 where
   pub other : x.number ≢ e
   pub silent : asks s t x ≡ false
@@ -823,7 +824,7 @@ pub open_heard_start : (b : Bool) (x : Exchange) (y : Session) (r : Receiver) (f
 open_heard_start true x y r f h o = open_heard x y r (max y.heard f) h o
 open_heard_start false x y r f h o = o
 
--- the world in which the exchange has ended, and its charge is made
+-- The world after the exchange has ended and its charge is made.
 pub ending_of : (air : Option ℕ) (w : World) (i : IsLawful w) (x : Exchange) (ms : List Mpdu) (heard : Bool) →
     x.content ≡ Frames ms → IsFound w i x → IsEnding x.number x.station x.tid (is_acked heard x.answer)
     (after_charge (without_exchange w x.number) x air) ms

@@ -1,4 +1,5 @@
--- The two sides of one TID's agreement: what holds between them, and what keeps it.
+-- Defines the invariant of both sides of one TID's agreement and of its open exchanges. Proves what follows
+-- from it at one moment, and that each kind of change keeps it.
 use Rattle.std.proofs.Common.{◌≡◌, ◌≢◌, refl, ap, sym, ◌∙◌, subst, arith, ℕ, zero, suc, ◌+◌, ◌-◌, ◌*◌, ◌<◌, ◌≤◌, ◌==◌, max, nat_lt, nat_le, Bool, true, false, if◌then◌else◌, ◌&&◌, ◌⊎◌, inl, inr, List, [], ◌∷◌, ◌++◌, length, Option, Some, None, IfSome, is_some}
 use Rattle.std.specs.List.{list_any}
 use Rattle.wf_def_lists.specs.Table.{at, has}
@@ -11,7 +12,7 @@ use Rattle.wf_law_runs.proofs.Sessions.Flights.{AllIn, Rises, next-give, all_in_
 use Rattle.wf_law_runs.proofs.Windows.Opened.{FlyIn}
 use Rattle.wf_law_rules.proofs.Lemmas.Numbers.{Climbs, on_bool, on_if, lt_yes, lt_no, le_yes, yes_le, yes_lt, eq_yes, eq_no, either, both, and_true, or_left, or_right, has_old, has_other, has_one, climbs_with, greatest_least, greatest_has, greatest_within, missing_ge, missing_below, missing_not, score_past, score_within, shows_has}
 
--- ---- the session's start, and what is settled below it
+-- ---- the session's start, and the settled numbers below it
 
 pub unsettled_at : (xs : List Slot) (n k : ℕ) → is_settled (at no_slot xs k).state ≡ false →
     first_unsettled n xs ≤ n + k
@@ -78,7 +79,7 @@ slot_other y m n f l k h =
 pub slot_same : (y : Session) (m : ℕ) (f : Slot → Slot) → slot (on_slot m f y) m ≡ f (slot y m)
 slot_same y m f = at_change_same y.slots (m - y.first) f
 
--- ---- a failed number that the receiver has not been told of
+-- ---- a failed number that no heard request has announced to the receiver
 
 pub record IsUntold (y : Session) (n : ℕ) : Type 0 where
   pub from : y.first ≤ n
@@ -149,7 +150,7 @@ at_due y n u =
     ∙ and_true (nat_le y.heard n) (nat_lt n (start_of y)) (yes_le y.heard n u.told)
     (yes_lt n (start_of y) u.below))
 
--- ---- the agreement
+-- ---- the invariant
 
 pub record IsAgreed (y : Session) (r : Receiver) : Type 0 where
   pub first : r.first ≡ y.first
@@ -163,9 +164,9 @@ pub record IsAgreed (y : Session) (r : Receiver) : Type 0 where
       has r.arrived n ≡ true
   pub failed : (n : ℕ) → IsUntold y n → next_number y ≤ n + y.size
 
--- ---- what follows from it, one moment at a time
+-- ---- consequences at one moment
 
--- the first number and every start
+-- The first number and every start are at most the session's start.
 pub first_kept : (y : Session) (r : Receiver) → IsAgreed y r → greatest r.first r.starts ≤ start_of y
 first_kept y r a = greatest_within r.starts r.first (start_of y)
     (omega (arith, a.first, start_ge y.slots y.first)) (λ k h. (a.starts k h).1)
@@ -192,7 +193,8 @@ heard_release y r a =
       | inr h ↦ omega (arith, greatest_has r.starts r.first y.heard h)
     ]
 
--- where the release stands below the session's start, its number failed, and the receiver was not told
+-- If the release start is below the session's start, its number failed, and no heard request has announced
+-- it.
 pub untold_release : (y : Session) (r : Receiver) → IsAgreed y r → release_start r < start_of y →
     IsUntold y (release_start r)
 untold_release y r a l =
@@ -236,9 +238,9 @@ pub score_kept : (y : Session) (r : Receiver) → IsAgreed y r → score_start r
 score_kept y r a = score_within r.arrived (greatest r.first r.starts) r.size (start_of y) (first_kept y r a)
     (λ n h. omega (arith, a.size, a.within.within, (a.arrived n h).1))
 
--- ---- what keeps it
+-- ---- changes that keep the invariant
 
--- a number that was not settled changes
+-- The slot of an unsettled number changes.
 pub start_on_slot : (y : Session) (m : ℕ) (f : Slot → Slot) → is_settled (slot y m).state ≡ false →
     start_of y ≤ start_of (on_slot m f y)
 start_on_slot y m f h = start_change y.slots y.first (m - y.first) f h
@@ -298,7 +300,7 @@ agreed_on_slot y r m f l h k a =
           (λ b. omega (arith, next, a.within.within, lt_no n (start_of y) b));
     }
 
--- a frame gets a number while no request is due
+-- A number is assigned to a frame while no request is due.
 untold_give : (y : Session) (id n : ℕ) → IsUntold (with_number_given y id) n → IsUntold y n
 untold_give y id n u =
     let below : n < start_of y = omega (arith, u.below, start-give y id) in
@@ -336,7 +338,7 @@ agreed_give y r id room none a =
       failed = λ n u. absurd (cc (at_due y n (untold_give y id n u), none));
     }
 
--- a request ended as heard
+-- A request ended as heard.
 pub agreed_heard : (y : Session) (r : Receiver) (f : ℕ) → has r.starts f ≡ true → IsAgreed y r →
     IsAgreed (record y { heard = max y.heard f }) r
 agreed_heard y r f h a = record {
@@ -360,7 +362,7 @@ agreed_heard y r f h a = record {
   });
 }
 
--- a number arrives
+-- A number arrives.
 pub agreed_arrived : (y : Session) (r : Receiver) (m : ℕ) → y.first ≤ m → m < next_number y → IsAgreed y r →
     IsAgreed y (with_arrived m r)
 agreed_arrived y r m l b a = record {
@@ -379,7 +381,7 @@ agreed_arrived y r m l b a = record {
   failed = a.failed;
 }
 
--- a request arrives
+-- A request arrives.
 pub agreed_start : (y : Session) (r : Receiver) (m : ℕ) → y.first ≤ m → m ≤ start_of y → IsAgreed y r →
     IsAgreed y (with_start m r)
 agreed_start y r m l b a = record {
@@ -419,14 +421,14 @@ agreed_new first size = record {
 
 -- ---- an open exchange between the two sides
 
--- while a request with this start is open
+-- Holds while a request with start f is open.
 pub record IsAsked (f : ℕ) (y : Session) : Type 0 where
   pub due : request_due y ≡ true
   pub from : y.first ≤ f
   pub start : f ≤ start_of y
   pub next : next_number y ≤ f + y.size
 
--- what a kept answer shows of a number that was sent
+-- The answer of an open exchange is right for one of its numbers.
 pub record IsRight (b : Score) (r : Receiver) (m : Mpdu) : Type 0 where
   pub shown : shows b m.number ≡ has r.arrived m.number
   pub from : b.start ≤ m.number
@@ -491,7 +493,7 @@ pub all_in_heard : (ms : List Mpdu) (y : Session) (st : State) (h : ℕ) → All
 all_in_heard [] y st h a = tt
 all_in_heard (m ∷ ms) y st h a = (a.0, all_in_heard ms y st h a.1)
 
--- another exchange stays right while a number of e changes that was not settled
+-- Another exchange stays right if the slot of an unsettled number of e changes.
 pub open_on_slot : (x : Exchange) (y : Session) (r : Receiver) (m : ℕ) (f : Slot → Slot) → y.first ≤ m →
     is_settled (slot y m).state ≡ false
     → ((slot y m).state ≡ State.Flying x.number → (f (slot y m)).state ≡ State.Flying x.number) →
@@ -514,7 +516,7 @@ open_on_slot x y r m f l h k o =
       marked = o.marked;
     }
 
--- no request is open while none is due
+-- While no request is due, none is open.
 pub not_asked : (x : Exchange) (y z : Session) → request_due y ≡ false →
     IfRequest x.content (λ f. IsAsked f y) → IfRequest x.content (λ f. IsAsked f z)
 not_asked x y z none a = request_map x.content (λ f. IsAsked f y) (λ f. IsAsked f z)
@@ -557,7 +559,7 @@ open_start x y r n o = record {
   marked = o.marked;
 }
 
--- an exchange that sends no request stays right while the other one is heard
+-- An exchange that is not a request stays right if another exchange ends as heard.
 pub open_heard : (x : Exchange) (y : Session) (r : Receiver) (h : ℕ) → IfRequest x.content (λ f. ⊥) →
     IsOpen x y r → IsOpen x (record y { heard = h }) r
 open_heard x y r h none o = record {
@@ -572,7 +574,7 @@ open_heard x y r h none o = record {
   marked = o.marked;
 }
 
--- the numbers of an aggregate that wait fly
+-- Waiting numbers of an aggregate are sent.
 pub agreed_fly : (ms : List Mpdu) (y : Session) (r : Receiver) (e lo hi : ℕ) → y.first ≤ lo → Rises lo hi ms →
     AllIn y State.Waiting ms → IsAgreed y r → IsAgreed (with_flying e ms y) r
 agreed_fly [] y r e lo hi b c a k = k
@@ -582,7 +584,7 @@ agreed_fly (m ∷ ms) y r e lo hi b c a k =
     (all_in_later y State.Waiting m.number hi f ms (omega (arith, c.0)) c.2 a.1)
     (agreed_on_slot y r m.number f (omega (arith, c.0)) (ap is_settled a.0) (λ no_ack. cc no_ack) k)
 
--- the answer that is made now shows the numbers that fly exactly where they arrived
+-- The answer that is made now shows exactly those numbers on the air that arrived.
 pub answer_right : (ms : List Mpdu) (y : Session) (r : Receiver) (e lo hi : ℕ) → y.first ≤ lo →
     hi ≤ next_number y → Rises lo hi ms → AllIn y (State.Flying e) ms → IsAgreed y r → AllRight (score r) r ms
 answer_right [] y r e lo hi l b c a k = tt

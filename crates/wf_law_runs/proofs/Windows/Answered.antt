@@ -1,6 +1,6 @@
--- Where the start of a kept answer stands. An exchange is answered only after a transmission of it arrived,
--- so the answer's scoreboard reaches one of its numbers; and that number is in flight as long as the exchange
--- is open.
+-- Proves where the start of an open exchange's answer is. An exchange is answered only after a transmission
+-- of it arrived, so the window of the answer's scoreboard contains one of its numbers, and this number is
+-- on the air as long as the exchange is open.
 use Rattle.std.proofs.Common.{◌≡◌, ◌≢◌, refl, ap, sym, ◌∙◌, subst, arith, ℕ, zero, suc, ◌+◌, ◌-◌, ◌<◌, ◌≤◌, nat_lt, nat_le, Bool, true, false, if◌then◌else◌, ◌==◌, ◌⊎◌, inl, inr, List, [], ◌∷◌, ◌++◌, length, map, Option, Some, None, IfSome, is_some}
 use Rattle.wf_frame.specs.declared.settings.Config.{Config}
 use Rattle.wf_frame.specs.declared.classes.Class.{Class}
@@ -32,17 +32,18 @@ use Rattle.wf_law_runs.proofs.Frames.Delivered.{IsPrepared, prepared_right, open
 
 -- ---- one exchange
 
--- one of the transmissions
+-- P holds for at least one of the transmissions.
 abbrev SomeMpdu : (Mpdu → Type 0) → List Mpdu → Type 0
 SomeMpdu P [] = ⊥
 SomeMpdu P (m ∷ ms) = P m ⊎ SomeMpdu P ms
 
--- a transmission has arrived
+-- At least one transmission has arrived.
 abbrev OneArrived : Content → Receiver → Type 0
 OneArrived (Frames ms) r = SomeMpdu (λ m. has r.arrived m.number ≡ true) ms
 OneArrived (Request f) r = has r.starts f ≡ true
 
--- a scoreboard that starts at n reaches one of the numbers, and its start is not below the request's
+-- One of the numbers is below the end of a scoreboard that starts at n, or n is at least the request's
+-- start.
 abbrev IsReached : Content → ℕ → ℕ → Type 0
 IsReached (Frames ms) n size = SomeMpdu (λ m. m.number < n + size) ms
 IsReached (Request f) n size = f ≤ n
@@ -65,7 +66,7 @@ one_at P [] n h p = absurd (omega (arith, h))
 one_at P (m ∷ ms) zero h p = inl p
 one_at P (m ∷ ms) (suc n) h p = inr (one_at P ms n (omega (arith, h)) p)
 
--- ---- worlds in which sessions keep their numbers, and receivers what arrived
+-- ---- worlds with the same numbers in sessions and the same arrivals at receivers
 
 record Grows (r q : Receiver) : Type 0 where
   arrived : (n : ℕ) → has r.arrived n ≡ true → has q.arrived n ≡ true
@@ -212,7 +213,7 @@ marked_arrived w x n live none l h =
           a) h.marks);
     }
 
--- the answer that is made now reaches a transmission that arrived
+-- The answer that is made now has a transmission that arrived below the end of its scoreboard.
 near_now : (c : Content) (r : Receiver) (size : ℕ) → r.size ≡ size → OneArrived c r →
     IsReached c (score_start r) size
 near_now (Frames ms) r size e a =
@@ -360,9 +361,9 @@ marked_run (e ∷ es) w i m = marked_run es (step w e.1).world (lawful_step w e.
 pub marked : (config : Config) (h : List Entry) → Marked (world_after (opening config) h)
 marked config h = marked_run h (opening config) (lawful_at_first config) (record { marks = tt })
 
--- ---- where the answer's start stands
+-- ---- the start of the answer
 
--- the scoreboard's start has not passed a number in flight
+-- The scoreboard's start is at most each number on the air.
 reached_flying : (ms : List Mpdu) (y : Session) (e lo hi low n : ℕ) → y.first ≤ lo → Rises lo hi ms →
     AllIn y (State.Flying e) ms → low ≤ start_of y → SomeMpdu (λ m. m.number < n + y.size) ms →
     low ≤ n + y.size
@@ -378,7 +379,8 @@ reached (Frames ms) y r e n a f q h = reached_flying ms y e y.first (next_number
     (omega arith) f.rising f.flying (score_kept y r a) h
 reached (Request g) y r e n a f q h = omega (arith, score_kept y r a, start_le y.slots y.first, q.next, h)
 
--- it is less than a window behind the scoreboard's, and not past the session's next number
+-- The answer's start is at most a window below the scoreboard's start, and at most the session's next
+-- number.
 abbrev pub StandsNear : Session → Receiver → Score → Type 0
 StandsNear y r b = (score_start r ≤ b.start + y.size) × (b.start ≤ next_number y)
 

@@ -1,4 +1,5 @@
--- An answer stands as long as its exchange is open.
+-- Proves the law of answers: as long as an exchange is open, its answer does not change, and neither do the
+-- arrivals that it shows. By cases of the call and induction on the run.
 use Rattle.std.proofs.Common.{◌≡◌, ◌≢◌, refl, ap, sym, ◌∙◌, subst, arith, ℕ, ◌<◌, Bool, true, false, if◌then◌else◌, ◌==◌, List, [], ◌∷◌, ◌++◌, map, Option, Some, None, IfSome, is_some}
 use Rattle.wf_frame.specs.declared.settings.Config.{Config}
 use Rattle.wf_frame.specs.declared.classes.Class.{Class}
@@ -32,7 +33,7 @@ record Stands (b : Score) (s t : ℕ) (c : Content) (x : Exchange) : Type 0 wher
   tid : x.tid ≡ t
   content : x.content ≡ c
 
--- what of the open exchanges has the number e is this one, with this answer
+-- An open exchange with the number e is this one, with this answer.
 record IsStanding (e : ℕ) (b : Score) (s t : ℕ) (c : Content) (w : World) : Type 0 where
   below : e < w.exchanges
   stands : Each (λ x. x.number ≡ e → Stands b s t c x) w.opened
@@ -101,7 +102,7 @@ module _ (e : ℕ) (b : Score) (s t : ℕ) (c : Content) where
         (λ y _ g. g) h.stands);
   }
 
-  -- the exchange has no answer, so it is another one
+  -- The exchange has no answer, so it is another one.
   other_one : (x : Exchange) → AsThen x → is_some x.answer ≡ false → x.number ≢ e
   other_one x f none k = cc ((ap is_some (f k).answer), none)
 
@@ -219,9 +220,9 @@ module _ (e : ℕ) (b : Score) (s t : ℕ) (c : Content) where
   standing_run (x ∷ xs) w l k = standing_run xs (step w x.1).world (lawful_step w x.1 l)
       (standing_step w x.1 l k)
 
--- ---- the Answer itself
+-- ---- the Answer call
 
--- the exchange that was answered, in the world after it
+-- The exchange that was answered, in the world after its Answer.
 record IsAnswered (e : ℕ) (w v : World) : Type 0 where
   found : Exchange
   same_number : found.number ≡ e
@@ -285,7 +286,7 @@ answered_step : (w : World) (i : IsLawful w) (e : ℕ) → IsBa (step w (Asked (
 unfolding step
 answered_step w i e b = answered_by (refusal w (Asked (Answer e))) w i e b
 
--- ---- what had arrived then, and now
+-- ---- the arrivals then and now
 
 as_then : (ms : List Mpdu) (b : Score) (r q : Receiver) → AllRight b r ms → AllRight b q ms →
     EachMpdu (λ m. has q.arrived m.number ≡ has r.arrived m.number) ms

@@ -1,4 +1,5 @@
--- Each flying number is one that an open exchange sends.
+-- Proves that each number on the air is sent by an open exchange, and that a TID has at most one open
+-- request. By cases of the call.
 use Rattle.std.proofs.Common.{◌≡◌, refl, ap, sym, ◌∙◌, subst, arith, ℕ, zero, suc, ◌+◌, ◌-◌, ◌<◌, ◌≤◌, nat_lt, Bool, true, false, if◌then◌else◌, not, ◌==◌, ◌⊎◌, inl, inr, List, [], ◌∷◌, ◌++◌, length, map, filter, find, count_by, nat_le, Option, Some, None, IfSome, is_some}
 use Rattle.wf_frame.specs.declared.settings.Config.{Config}
 use Rattle.wf_frame.specs.declared.classes.Class.{Class}
@@ -32,9 +33,9 @@ use Rattle.wf_law_runs.proofs.Windows.Settling.{all_landed, without_same, withou
 use Rattle.wf_law_runs.proofs.Frames.Delivered.{IsPrepared, prepared_right, opened_ended, exchanges_ended, opened_on_receiver, same_enqueued}
 use Rattle.wf_law_runs.proofs.Windows.Answers.{exchanges_on_receiver}
 
--- ---- no number begins to fly
+-- ---- no number is sent
 
--- every number that flies in z flew in y
+-- Every number that is on the air in z was on the air in y.
 pub record Lands (y z : Session) : Type 0 where
   pub flew : (n e : ℕ) → z.first ≤ n → (slot z n).state ≡ State.Flying e → (y.first ≤ n) ×
       ((slot y n).state ≡ State.Flying e)
@@ -174,7 +175,7 @@ landing_ended air w x heard = then_landing w _ _ (landing_without w x.number)
     (then_landing _ _ _ (landing_same _ _ (same_charged air (without_exchange w x.number) x))
     (landing_after x.content _ x heard))
 
--- ---- some open exchange
+-- ---- at least one open exchange
 
 some_along_open : (P Q : Exchange → Type 0) (xs : List Exchange) → ((x : Exchange) → P x → Q x) →
     SomeOpen P xs → SomeOpen Q xs
@@ -210,7 +211,7 @@ some_filter P N p (x ∷ xs) n h k = elim k [
       on_if (SomeOpen P) (p x) (x ∷ filter p xs) (filter p xs) (λ _. inr rest) (λ _. rest))
 ]
 
--- ---- their numbers rise
+-- ---- the exchanges are in increasing order of their numbers
 
 rises_higher : (xs : List Exchange) (lo lo' hi hi' : ℕ) → lo' ≤ lo → hi ≤ hi' → OpenRises lo hi xs →
     OpenRises lo' hi' xs
@@ -262,7 +263,7 @@ none_later (y ∷ xs) x e lo hi h r = (
   none_later xs x e (suc y.number) hi (omega (arith, h, r.0)) r.2,
 )
 
--- the exchange that is found is the only one with its number
+-- The exchange that is found is the only one with its number.
 found_only : (xs : List Exchange) (e lo hi : ℕ) → OpenRises lo hi xs →
     IfSome (find (λ x. x.number == e) xs) (λ x. Each (λ y. y.number ≡ e → y ≡ x) xs)
 found_only [] e lo hi r = tt
@@ -322,7 +323,7 @@ fly_or (m ∷ ms) y e n f lo hi b r l h =
       | inr among ↦ inr (among.0, or_right (m.number == n) _ among.1)
     ]
 
--- the numbers that fly after the preparation flew before, or are those of the exchange
+-- The numbers on the air after the preparation were on the air before, or are those of the exchange.
 record IsSent (s t : ℕ) (w : World) (p : Prepared) : Type 0 where
   flew : (i j n e : ℕ) → (session p.world i j).first ≤ n →
       (slot (session p.world i j) n).state ≡ State.Flying e
@@ -402,9 +403,9 @@ flown_pulled w d i h =
     (pick_ready (station_need w d) (is_ready w d) (rotation w d))) (lawful_same _ _ k i)
     (flown_same w _ k h)
 
--- ---- exchanges that change, and end
+-- ---- exchanges change and end
 
--- the exchange is the only one with its number
+-- The exchange is the only one with its number.
 record IsOnly (w : World) (x : Exchange) : Type 0 where
   open_in : IsOpenIn w x
   only : Each (λ y. y.number ≡ x.number → y ≡ x) w.opened
@@ -513,7 +514,7 @@ landed_ended : (air : Option ℕ) (w : World) (x : Exchange) (heard : Bool) → 
 unfolding done_outcome
 landed_ended air w x heard o = landed_after air x.content w x heard refl o
 
--- a number of x does not fly after its end
+-- A number of x is not on the air after the end of x.
 not_own : (v : World) (x : Exchange) (s t e n : ℕ) →
     EachMpdu (λ m. (e : ℕ) → (slot (session v x.station x.tid) m.number).state ≡ State.Flying e → ⊥)
     (mpdus_of x.content) → IsSending s t e n x → (slot (session v s t) n).state ≡ State.Flying e → ⊥

@@ -1,4 +1,4 @@
--- The window law, answered.
+-- Proves the window law from the invariants of its parts.
 use Rattle.std.proofs.Common.{take}
 use Rattle.wf_def_world.specs.Stretches.{world_at}
 use Rattle.std.proofs.Common.{◌≡◌, ap, arith, ℕ, ◌+◌, ◌<◌, ◌≤◌, ◌*◌, List, [], ◌∷◌}

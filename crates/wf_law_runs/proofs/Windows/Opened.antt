@@ -1,4 +1,4 @@
--- Facts of each open exchange, and of who is picked.
+-- Proves facts about each open exchange, and about the station that a pick gives.
 use Rattle.std.proofs.Common.{◌≡◌, ◌≢◌, refl, subst, arith, ℕ, zero, suc, ◌+◌, nat_lt, zero-add, Bool, true, false, if◌then◌else◌, not, ◌&&◌, ◌==◌, List, [], ◌∷◌, ◌++◌, filter, find, count_by, nat_le, Option, Some, None, IfSome}
 use Rattle.wf_def_lists.specs.Table.{at}
 use Rattle.wf_def_rotation.specs.Rotation.{Rotation, round, first_of_two, first_least, pick_later, pick_from, pick, in_order}
@@ -52,7 +52,7 @@ pub each_find : (P Q : Exchange → Type 0) (p : Exchange → Bool) (xs : List E
 each_find P Q p [] h e = tt
 each_find P Q p (x ∷ xs) h e = find_if (p x) Q x (find p xs) (λ yes. h x yes e.0) (each_find P Q p xs h e.1)
 
--- these numbers rise in the session and fly in e
+-- These numbers are in increasing order, and on the air in exchange e.
 pub record FlyIn (e : ℕ) (ms : List Mpdu) (y : Session) : Type 0 where
   pub rising : Rises y.first (next_number y) ms
   pub flying : AllIn y (State.Flying e) ms

@@ -1,4 +1,4 @@
--- What the end of an exchange makes of its numbers.
+-- Proves how the end of an exchange changes the states of its numbers. By induction on the numbers.
 use Rattle.std.proofs.Common.{◌≡◌, ◌≢◌, refl, ap, sym, ◌∙◌, subst, arith, ℕ, suc, ◌<◌, ◌≤◌, Bool, true, false, if◌then◌else◌, ◌&&◌, ◌==◌, is_none, List, [], ◌∷◌, Option, Some, None, IfSome, nat_le, ◌+◌, ◌↔◌}
 use Rattle.wf_def_lists.specs.Table.{has}
 use Rattle.wf_def_agreement.specs.Receiver.{Receiver, Score, shows}
@@ -9,7 +9,8 @@ use Rattle.wf_def_world.specs.Exchanges.{is_acked, mpdus_of, after_charge, with_
 use Rattle.wf_frame.specs.declared.notes.Ask.TheVariants.{Done}
 use Rattle.wf_frame.specs.declared.notes.Note.TheVariants.{Asked}
 use Rattle.wf_frame.specs.declared.notes.Refusal.{Refusal}
-use Rattle.wf_def_world.specs.Refusals.{exchange_has, first_refusal, is_bad_air}
+use Rattle.wf_def_world.specs.Refusals.{exchange_has, first_refusal}
+use Rattle.wf_frame.specs.Settings.{is_bad_air}
 use Rattle.wf_def_world.specs.Step.{done_outcome, outcome_where_open, outcome_of, judged_outcome, step, station_of}
 use Rattle.wf_law_runs.proofs.Sessions.Flights.{Rises}
 use Rattle.wf_law_rules.proofs.Lemmas.Numbers.{on_if}
@@ -55,7 +56,7 @@ live_settled false w s t m live =
     let k : is_live v s ≡ true = live_on_session w s t (after_miss w.config.attempts m.number) s ∙ live in
     if_live (is_failed (slot (session v s t) m.number).state) _ v s ((same_finish v _ _).live s ∙ k) k
 
--- a number before those that are settled stays
+-- The slot of a number before the settled ones does not change.
 settled_before : (ms : List Mpdu) (w : World) (s t : ℕ) (acked : ℕ → Bool) (n lo hi : ℕ) →
     is_live w s ≡ true → (session w s t).first ≤ n → n < lo → Rises lo hi ms →
     slot (session (with_all_settled w s t acked ms) s t) n ≡ slot (session w s t) n
@@ -105,7 +106,7 @@ not_flying true limit x e h = cc h
 not_flying false limit x e h = on_if (λ st. st ≡ State.Flying e → ⊥)
     (nat_le limit (x.attempts + 1)) State.Failed State.Waiting (λ _ h. cc h) (λ _ h. cc h) h
 
--- none of them flies
+-- None of the numbers is on the air afterwards.
 pub all_landed : (ms : List Mpdu) (w : World) (s t : ℕ) (acked : ℕ → Bool) (lo hi : ℕ) → is_live w s ≡ true →
     (session w s t).first ≤ lo → Rises lo hi ms →
     EachMpdu (λ m. (e : ℕ) → (slot (session (with_all_settled w s t acked ms) s t) m.number).state

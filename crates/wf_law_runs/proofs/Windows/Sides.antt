@@ -1,4 +1,5 @@
--- The two sides of each agreement, and what leaves them and the open exchanges alone.
+-- Defines both sides of each agreement, and proves which changes of a world affect neither them nor the
+-- open exchanges.
 use Rattle.std.proofs.Common.{◌≡◌, refl, ap, sym, ◌∙◌, subst, ℕ, Bool, true, false, if◌then◌else◌, List, [], ◌∷◌, Option, Some, None, is_some, unwrap_or, option_map}
 use Rattle.wf_frame.specs.declared.classes.Class.{Class}
 use Rattle.wf_frame.specs.declared.classes.Fate.{Fate}
@@ -13,9 +14,9 @@ use Rattle.wf_def_world.specs.CanSend.{with_listing_in, with_listings_in, with_l
 use Rattle.wf_def_world.specs.Exchanges.{with_station_paid, with_stations_paid, after_pick, after_tid_turn, without_credit, after_charge}
 use Rattle.wf_law_rules.proofs.Lemmas.Tables.{each_put, at_put_same}
 
--- ---- reading a session after a change of one
+-- ---- the session of a TID after one session changes
 
--- the two sides of a TID's agreement
+-- Both sides of a TID's agreement.
 pub record Side : Type 0 where
   pub session : Session
   pub receiver : Receiver
@@ -46,7 +47,7 @@ each_side_on P w s t f h k =
     each_put (λ i o. (j : ℕ) → P i j (sides_of o j)) None w.stations s _ h
     (each_tid_on (P s) t f (at None w.stations s) (h s) k)
 
--- a fact about the sides of one TID
+-- A statement about the sides of one TID.
 pub at_side_on : (Q : Side → Type 0) (w : World) (s t : ℕ) (f : Tid → Tid) (i j : ℕ) → Q (side w i j) →
     (s ≡ i → t ≡ j → Q (side w s t) → Q (side_of (f (tid_of w s t)))) → Q (side (on_tid w s t f) i j)
 at_side_on Q w s t f i j q k =
@@ -88,7 +89,7 @@ pub on_exchanges : (w : World) (s t : ℕ) (f : Tid → Tid) → (on_tid w s t f
 unfolding on_tid on_station with_station
 on_exchanges w s t f = refl
 
--- ---- what leaves sessions and exchanges alone
+-- ---- changes that do not affect sessions and exchanges
 
 pub record Same (w v : World) : Type 0 where
   pub sides : (s t : ℕ) → side v s t ≡ side w s t

@@ -1,4 +1,4 @@
--- Each window of a live station is 1 to 256.
+-- Proves that each window of a live station is 1 to 256.
 use Rattle.std.proofs.Common.{◌≡◌, ◌≢◌, refl, ap, sym, ◌∙◌, subst, arith, ℕ, zero, suc, ◌<◌, ◌≤◌, ◌==◌, not, nat_le, true, false, List, [], ◌∷◌, Option, Some, None, is_some}
 use Rattle.std.proofs.lemmas.Bool.{not-false}
 use Rattle.wf_frame.specs.declared.settings.Config.{Config}
@@ -72,7 +72,7 @@ sized_station w s o h k i = record {
       (sym (live_station w s o j (eq_no s j other)) ∙ live) below));
 }
 
--- each of a station's eight TIDs
+-- Each of a station's eight TIDs.
 each_eight : (P : Tid → Type 0) (y : Tid) → P y → (j : ℕ) → j < 8 →
     P (at no_tid (y ∷ y ∷ y ∷ y ∷ y ∷ y ∷ y ∷ y ∷ []) j)
 each_eight P y h zero b = h

@@ -1,4 +1,5 @@
--- All numbers of a TID that are compared lie close together.
+-- Proves that all numbers of a TID that are compared are within 2047 of each other, from the window law and
+-- the bounds on windows.
 use Rattle.std.proofs.Common.{◌≡◌, sym, subst, arith, ℕ, ◌≤◌, ◌<◌, ◌+◌, ◌*◌, List, [], ◌∷◌, IfSome, take}
 use Rattle.wf_frame.specs.declared.settings.Config.{Config}
 use Rattle.wf_def_agreement.specs.Session.{Session, next_number}

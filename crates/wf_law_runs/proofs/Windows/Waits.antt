@@ -1,4 +1,4 @@
--- No number is given while a request is due.
+-- Proves that no number is assigned while a request is due. By cases of the call.
 use Rattle.std.proofs.Common.{◌≡◌, refl, ap, ◌∙◌, ℕ, zero, suc, ◌-◌, Bool, true, false, if◌then◌else◌, not, ◌==◌, List, length, Option, Some, None, IfSome}
 use Rattle.wf_frame.specs.declared.classes.Class.{Class}
 use Rattle.wf_def_codel.specs.Codel.{Item}
@@ -17,7 +17,7 @@ use Rattle.wf_law_runs.proofs.Windows.Sides.{Same, each_side_on, same, same_list
 use Rattle.wf_law_runs.proofs.Windows.Opened.{some_along, pick_ready, left_true, can_give-room}
 use Rattle.wf_law_runs.proofs.Windows.Agreed.{IsLawful, IsReady, ready_start, ready_filled, ready_same, longer_number, session_same, lawful_same}
 
--- sessions in which a request is due stay as they are
+-- A session in which a request is due does not change.
 pub record Holds (w v : World) : Type 0 where
   pub held : (s t : ℕ) → request_due (session w s t) ≡ true → session v s t ≡ session w s t
 

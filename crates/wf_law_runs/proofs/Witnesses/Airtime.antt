@@ -1,4 +1,5 @@
--- A history in which the two laws speak of something: weights 1 and 3, sixteen exchanges.
+-- Computes a history for the laws of deficits and of fairness: two stations with the weights 1 and 3, and
+-- sixteen exchanges.
 use Rattle.std.proofs.Common.{◌≡◌, refl, ℕ, zero, suc, Bool, true, ◌&&◌, List, [], ◌∷◌, ◌++◌, None, map, replicate}
 use Rattle.wf_frame.specs.declared.settings.Config.{Config}
 use Rattle.wf_frame.specs.declared.classes.Class.TheVariants.{Be}
@@ -46,7 +47,7 @@ abbrev all_on_old : List ℕ → Bool
 all_on_old [] = true
 all_on_old (m ∷ ms) = on_old m && all_on_old ms
 
--- both stations stay on the old list after each of the first 45 to 84 entries
+-- Both stations are on the old list after each of the first 45 to 84 entries.
 stays : all_on_old (count_from 45 40) ≡ true
 unfolding the_machine
 stays = refl

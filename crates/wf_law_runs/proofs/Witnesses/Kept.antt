@@ -1,6 +1,6 @@
--- The law of kept numbers and the start of a kept answer, computed on one history: four numbers fly, and
--- three of them are acknowledged; the scoreboard moves past the start of an answer that is kept; and a
--- station that leaves and joins again gives the same number to another frame.
+-- Computes one history for the law of numbers and for the start of an open exchange's answer. Four numbers
+-- are sent, and three of them are acknowledged. The scoreboard moves past the start of an answer. A station
+-- leaves, joins again and assigns the same number to another frame.
 use Rattle.std.proofs.Common.{◌≡◌, refl, true, false, List, [], ◌∷◌, ◌++◌, map, Some, None, option_map}
 use Rattle.wf_frame.specs.declared.settings.Config.{Config}
 use Rattle.wf_frame.specs.declared.classes.Class.TheVariants.{Be}
@@ -64,7 +64,7 @@ kept_world = world_after (opening config) until_kept
 abbrev rejoined_world : World
 rejoined_world = world_after (opening config) until_rejoined
 
--- ---- the answer that is kept
+-- ---- the answer of an open exchange
 
 kept_starts : map (λ x. option_map (λ b. b.start) x.answer) kept_world.opened ≡ Some 101 ∷ None ∷ []
 unfolding the_machine

@@ -1,6 +1,6 @@
--- The words of the laws of places, room, limit, queues and tallies, computed on one history: room for six
--- frames and a limit of three in the queues; two exchanges, the first with one frame that did not arrive; a
--- call that is refused for the room; a frame that is reaped; and one that is dropped for the limit.
+-- Computes one history for the laws of places, room, the limit, queues and tallies. There is room for six
+-- frames, and the limit of the queues is three. The history has two exchanges, the first with a frame that
+-- did not arrive. One call is refused for room, one frame is reaped, and one is dropped for the limit.
 use Rattle.std.proofs.Common.{◌≡◌, refl, pos, true, List, [], ◌∷◌, map, None}
 use Rattle.wf_frame.specs.declared.settings.Config.{Config}
 use Rattle.wf_frame.specs.declared.classes.Cause.TheVariants.{Overlimit}
@@ -143,12 +143,12 @@ flying_state : (slot (session last_world 0 0) 4095).state ≡ State.Flying 1
 unfolding the_machine
 flying_state = refl
 
--- the three frames that were given used up the queue's 300 octets, and it is listed still
+-- The three frames that were dequeued used up the queue's 300 octets, and the queue is still listed.
 deficit_last : (queue last_world 7).deficit ≡ pos 0
 unfolding the_machine
 deficit_last = refl
 
--- ---- numbers past 4095, of which the air has the low twelve bits
+-- ---- numbers above 4095, of which the air has only the low twelve bits
 
 start_last : start_of (session last_world 0 0) ≡ 4095
 unfolding the_machine
@@ -166,7 +166,7 @@ score_last : score_start (receiver last_world 0 0) ≡ 4094
 unfolding the_machine
 score_last = refl
 
--- ---- the limit law speaks of frames with octets alone: without any, no queue is the longest, and none loses its head
+-- ---- the limit law needs frames with octets: without octets no queue is longest, and none loses a frame
 
 abbrev empty_frames : List Entry
 empty_frames = map (by 0) (Asked (Join 0 4 4094 3 1) ∷ Enqueue 0 0 7 0 ∷ Enqueue 0 0 7 0 ∷ Enqueue 0 0 7 0

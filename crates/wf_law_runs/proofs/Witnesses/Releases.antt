@@ -1,4 +1,4 @@
--- The words of the release and delivery laws, computed on one history: two sessions of a station, with a
+-- Computes one history for the laws of released and delivered frames: two sessions of a station, with a
 -- frame that is sent twice.
 use Rattle.std.proofs.Common.{◌≡◌, refl, true, List, [], ◌∷◌, map, None}
 use Rattle.wf_frame.specs.declared.settings.Config.{Config}

@@ -1,5 +1,5 @@
--- The words of the law on the lists of stations, computed: a station stays listed where it is not ready any
--- more, and a Pull is Idle.
+-- Computes histories for the law of rotations: a station that is no longer ready stays listed, and a Pull
+-- is Idle.
 use Rattle.std.proofs.Common.{◌≡◌, refl, false, List, [], ◌∷◌, map, Some}
 use Rattle.wf_frame.specs.declared.settings.Config.{Config}
 use Rattle.wf_frame.specs.declared.classes.Class.TheVariants.{Be}

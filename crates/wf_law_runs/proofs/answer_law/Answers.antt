@@ -1,3 +1,4 @@
+-- Proves `answer_law` (lib.rt) from the lemmas.
 use Rattle.wf_law_runs.proofs.Windows.Answers.{answer_law}
 use Rattle.wf_law_runs.proofs.answer_law.Goals as goal
 

@@ -1,3 +1,4 @@
+-- Proves `once_law` (lib.rt) from the lemmas.
 use Rattle.wf_law_runs.proofs.Releases.Placed.{once_law}
 use Rattle.wf_law_runs.proofs.once_law.Goals as goal
 

@@ -1,3 +1,4 @@
+-- Proves `place_law` (lib.rt) from the lemmas.
 use Rattle.wf_law_runs.proofs.Frames.Places.{place_law}
 use Rattle.wf_law_runs.proofs.place_law.Goals as goal
 

@@ -1,3 +1,4 @@
+-- Proves `range_law` (lib.rt) from the lemmas.
 use Rattle.wf_law_runs.proofs.Ranges.Law.{range_law}
 use Rattle.wf_law_runs.proofs.range_law.Goals as goal
 

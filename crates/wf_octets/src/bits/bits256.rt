@@ -5,7 +5,7 @@ ghost use Rattle.wf_octets.specs.Offsets.{IsOffsets, moved_down, offsets_in};
 
 use std::marker::Model;
 
-/// A set of offsets 0 to 255.
+/// A set of offsets from 0 to 255, as in the bitmap of a wide BlockAck.
 #[derive(Clone, Copy, Debug, PartialEq, Eq)]
 pub struct Bits256 {
     words: [u64; 4],
@@ -29,14 +29,14 @@ impl Model for Bits256 {
 }
 
 impl Bits256 {
-    /// The set without offsets.
+    /// Returns the empty set.
     pub fn empty() -> Bits256
         ensures { result ≡ [] }
     {
         Bits256 { words: [0; 4] }
     }
 
-    /// The offsets `64*i` to `64*i + 63` as a word: bit j is offset `64*i + j`.
+    /// Returns word `i` of the set: bit j is 1 if offset `64*i + j` is in the set.
     pub fn word(self, i: u8) -> u64
         requires { i < 4 }
         ensures word { result ≡ bits_word i self }
@@ -45,7 +45,7 @@ impl Bits256 {
         self.words[usize::from(i)]
     }
 
-    /// The number of offsets.
+    /// Returns the number of offsets in the set.
     pub fn count(self) -> u16
         ensures { result ≡ length self }
     {
@@ -56,7 +56,7 @@ impl Bits256 {
         count
     }
 
-    /// Puts the offset `i` into the set.
+    /// Adds the offset `i` to the set.
     pub fn set(&mut self, i: u16)
         requires { i < 256 }
         ensures set { self.new ≡ with_member i self.old }
@@ -65,7 +65,7 @@ impl Bits256 {
         self.words[usize::from(i / 64)] |= 1 << (i % 64);
     }
 
-    /// Whether the set has the offset `i`.
+    /// Returns whether the offset `i` is in the set.
     pub fn has(self, i: u16) -> bool
         requires { i < 256 }
         ensures { result ≡ has self i }
@@ -73,7 +73,7 @@ impl Bits256 {
         (self.words[usize::from(i / 64)] >> (i % 64)) & 1 == 1
     }
 
-    /// Moves every offset down by `n`. The offsets below `n` go.
+    /// Subtracts `n` from every offset. Offsets below `n` are removed.
     pub fn shift(&mut self, n: u16)
         requires { n ≤ 256 }
         ensures moved { self.new ≡ moved_down n self.old }
@@ -89,7 +89,7 @@ impl Bits256 {
         ];
     }
 
-    /// The set as a bitmap: the least significant bit of the first octet is offset 0.
+    /// Returns the set as a bitmap: the least significant bit of the first octet is offset 0.
     pub fn to_octets(self) -> [u8; 32]
         ensures { offsets_in result ≡ self }
     {
@@ -100,7 +100,7 @@ impl Bits256 {
         octets
     }
 
-    /// The set that a bitmap shows.
+    /// Returns the set that a bitmap represents.
     pub fn of_octets(octets: [u8; 32]) -> Bits256
         ensures shown { result ≡ offsets_in octets }
         ensures offsets { IsOffsets 256 result }
@@ -116,7 +116,7 @@ impl Bits256 {
     }
 }
 
-/// The 64 bits from bit `from` on. Bits past the last word are 0.
+/// Returns the 64 bits from bit `from` on. Bits after the last word are 0.
 fn word_from(words: &[u64; 4], from: usize) -> u64
     requires { from ≤ 448 }
     ensures { (i : ℕ) → i < 64 → bit_at result i
@@ -129,14 +129,14 @@ fn word_from(words: &[u64; 4], from: usize) -> u64
     }
 }
 
-/// Word `k`, or 0 past the last.
+/// Returns word `k`, or 0 after the last word.
 fn word_or_zero(words: &[u64; 4], k: usize) -> u64
     ensures { result ≡ slice_index words.now k }
 {
     words.get(k).copied().unwrap_or(0)
 }
 
-/// The eight octets from octet `from` on as a word, the least significant octet first.
+/// Returns the eight octets from octet `from` on as a word, the least significant octet first.
 fn word_at(octets: &[u8; 32], from: usize) -> u64
     requires { from ≤ 24 }
     ensures { (i : ℕ) → i < 64 → bit_at result i ≡ bit_at (slice_index octets.now (from + i / 8)) (i % 8) }

@@ -4,7 +4,7 @@ ghost use Rattle.wf_octets.specs.Offsets.{IsOffsets, moved_down, offsets_in};
 
 use std::marker::Model;
 
-/// A set of offsets 0 to 63.
+/// A set of offsets from 0 to 63, as in the bitmap of a BlockAck.
 #[derive(Clone, Copy, Debug, PartialEq, Eq)]
 pub struct Bits64 {
     word: u64,
@@ -28,14 +28,14 @@ impl Model for Bits64 {
 }
 
 impl Bits64 {
-    /// The set without offsets.
+    /// Returns the empty set.
     pub fn empty() -> Bits64
         ensures { result ≡ [] }
     {
         Bits64 { word: 0 }
     }
 
-    /// The set as a word: bit j is offset j.
+    /// Returns the set as a word: bit j is 1 if offset j is in the set.
     pub fn word(self) -> u64
         ensures word { result ≡ bits_word 0 self }
         ensures offsets { IsOffsets 64 self }
@@ -43,14 +43,14 @@ impl Bits64 {
         self.word
     }
 
-    /// The number of offsets.
+    /// Returns the number of offsets in the set.
     pub fn count(self) -> u8
         ensures { result ≡ length self }
     {
         self.word.count_ones() as u8
     }
 
-    /// Puts the offset `i` into the set.
+    /// Adds the offset `i` to the set.
     pub fn set(&mut self, i: u8)
         requires { i < 64 }
         ensures set { self.new ≡ with_member i self.old }
@@ -59,7 +59,7 @@ impl Bits64 {
         self.word |= 1 << i;
     }
 
-    /// Whether the set has the offset `i`.
+    /// Returns whether the offset `i` is in the set.
     pub fn has(self, i: u8) -> bool
         requires { i < 64 }
         ensures { result ≡ has self i }
@@ -67,7 +67,7 @@ impl Bits64 {
         (self.word >> i) & 1 == 1
     }
 
-    /// Moves every offset down by `n`. The offsets below `n` go.
+    /// Subtracts `n` from every offset. Offsets below `n` are removed.
     pub fn shift(&mut self, n: u8)
         requires { n ≤ 64 }
         ensures moved { self.new ≡ moved_down n self.old }
@@ -76,14 +76,14 @@ impl Bits64 {
         self.word = if n < 64 { self.word >> n } else { 0 };
     }
 
-    /// The set as a bitmap: the least significant bit of the first octet is offset 0.
+    /// Returns the set as a bitmap: the least significant bit of the first octet is offset 0.
     pub fn to_octets(self) -> [u8; 8]
         ensures { offsets_in result ≡ self }
     {
         self.word.to_le_bytes()
     }
 
-    /// The set that a bitmap shows.
+    /// Returns the set that a bitmap represents.
     pub fn of_octets(octets: [u8; 8]) -> Bits64
         ensures shown { result ≡ offsets_in octets }
         ensures offsets { IsOffsets 64 result }

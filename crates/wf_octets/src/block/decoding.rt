@@ -14,18 +14,18 @@ use crate::fields::{address_at, is_set, number_at};
 use crate::seq12::Seq12;
 use thiserror::Error;
 
-/// Why octets are no block frame.
+/// The reason why octets are not the expected block frame.
 #[derive(Clone, Copy, Debug, PartialEq, Eq, Error)]
 pub enum BlockFault {
-    /// There are more or fewer octets than the frame has.
+    /// The number of octets is not that of the frame.
     #[error("a block frame of {need} octets in {have}")]
     Length {
-        /// The octets that the frame has.
+        /// The number of octets of the frame.
         need: usize,
-        /// The octets that are there.
+        /// The number of octets that there are.
         have: usize,
     },
-    /// The first octet is that of another frame.
+    /// The first octet is that of another kind of frame.
     #[error("a frame of another kind, {0:#04x}")]
     Kind(u8),
     /// Compressed Bitmap is 0.
@@ -42,20 +42,20 @@ pub enum BlockFault {
     NotWide,
 }
 
-/// Reads a BlockAckReq.
+/// Reads a BlockAckReq. Returns it, or the first fault.
 pub fn decode_bar(octets: &[u8]) -> Result<Bar, BlockFault>
     ensures read { IfOk result (λ bar. IsBar octets.now bar) }
     ensures tid { IfOk result (λ bar. bar.tid < 16) }
     ensures complete { (b : Bar) → IsBar octets.now b → result ≡ Ok b }
 
-    // it is refused for the first check that fails, and for nothing else
+    // each fault is the first check that fails; other octets are accepted
     ensures fault { result_err result ≡ first_block_fault 20 request false octets.now }
 {
     check(octets, 20, REQUEST, false)?;
     Ok(head_at(octets))
 }
 
-/// The BlockAck of this form that has this head and this bitmap.
+/// A BlockAck of this form, with this head and this bitmap.
 macro_rules! answer_of {
     ($form:ident, $head:expr, $bits:expr) => {{
         let head = $head;
@@ -70,14 +70,14 @@ macro_rules! answer_of {
     }};
 }
 
-/// Reads a BlockAck of 64 numbers.
+/// Reads a BlockAck of 64 numbers. Returns it, or the first fault.
 pub fn decode_ba(octets: &[u8]) -> Result<Ba, BlockFault>
     ensures read { IfOk result (λ ba. IsBlockAck octets.now ba) }
     ensures tid { IfOk result (λ ba. ba.tid < 16) }
     ensures offsets { IfOk result (λ ba. IsOffsets 64 ba.bits) }
     ensures complete { (b : Ba) → IsBlockAck octets.now b → result ≡ Ok b }
 
-    // it is refused for the first check that fails, and for nothing else
+    // each fault is the first check that fails; other octets are accepted
     ensures fault { result_err result ≡ first_block_fault 28 answer false octets.now }
 {
     check(octets, 28, ANSWER, false)?;
@@ -85,14 +85,14 @@ pub fn decode_ba(octets: &[u8]) -> Result<Ba, BlockFault>
     Ok(answer_of!(Ba, head_at(octets), bits))
 }
 
-/// Reads a BlockAck of 256 numbers.
+/// Reads a BlockAck of 256 numbers. Returns it, or the first fault.
 pub fn decode_wide(octets: &[u8]) -> Result<WideBa, BlockFault>
     ensures read { IfOk result (λ ba. IsWideBa octets.now ba) }
     ensures tid { IfOk result (λ ba. ba.tid < 16) }
     ensures offsets { IfOk result (λ ba. IsOffsets 256 ba.bits) }
     ensures complete { (b : WideBa) → IsWideBa octets.now b → result ≡ Ok b }
 
-    // it is refused for the first check that fails, and for nothing else
+    // each fault is the first check that fails; other octets are accepted
     ensures fault { result_err result ≡ first_block_fault 52 answer true octets.now }
 {
     check(octets, 52, ANSWER, true)?;
@@ -100,7 +100,7 @@ pub fn decode_wide(octets: &[u8]) -> Result<WideBa, BlockFault>
     Ok(answer_of!(WideBa, head_at(octets), bits))
 }
 
-/// Makes the checks of a frame of `need` octets, in their order.
+/// Checks a frame of `need` octets, and returns the first fault.
 fn check(octets: &[u8], need: usize, first: u8, wide: bool) -> Result<(), BlockFault>
     requires { 20 ≤ need }
     ensures { result_err result ≡ first_block_fault need first wide octets.now }
@@ -129,7 +129,7 @@ fn check(octets: &[u8], need: usize, first: u8, wide: bool) -> Result<(), BlockF
     Ok(())
 }
 
-/// The fields before the bitmap.
+/// Returns the fields before the bitmap.
 fn head_at(octets: &[u8]) -> Bar
     requires { 20 ≤ length octets.now }
     ensures { result ≡ head_in octets.now }
@@ -143,7 +143,7 @@ fn head_at(octets: &[u8]) -> Bar
     }
 }
 
-/// The bitmap: all octets past the head.
+/// Returns the bitmap: all octets after the head.
 fn bitmap_at<const N: usize>(octets: &[u8]) -> [u8; N]
     requires { length octets.now ≡ 20 + N }
     ensures { result ≡ drop 20 octets.now }

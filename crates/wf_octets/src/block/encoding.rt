@@ -8,12 +8,12 @@ use crate::fields::{put, two_octets};
 pub(crate) const REQUEST: u8 = 0x84;
 /// The first octet of Frame Control of a BlockAck.
 pub(crate) const ANSWER: u8 = 0x94;
-/// The low octet of the control field: Compressed Bitmap.
+/// The low octet of the BlockAck control field, with only Compressed Bitmap set.
 const NARROW: u8 = 0x04;
-/// The low octet of the control field of the wide form.
+/// The low octet of the control field in the wide form: Compressed Bitmap and bit 3.
 const WIDE: u8 = 0x0c;
 
-/// Writes a BlockAckReq, every free bit as 0.
+/// Writes a BlockAckReq with its free bits 0.
 pub fn encode_bar(bar: &Bar, out: &mut [u8; 20])
     requires { bar.now.tid < 16 }
     ensures layout { IsBar out.new bar.now }
@@ -22,7 +22,7 @@ pub fn encode_bar(bar: &Bar, out: &mut [u8; 20])
     put_head(bar, REQUEST, NARROW, out);
 }
 
-/// Writes a BlockAck of 64 numbers, every free bit as 0.
+/// Writes a BlockAck of 64 numbers with its free bits 0.
 pub fn encode_ba(ba: &Ba, out: &mut [u8; 28])
     requires { ba.now.tid < 16 }
     ensures layout { IsBlockAck out.new ba.now }
@@ -32,7 +32,7 @@ pub fn encode_ba(ba: &Ba, out: &mut [u8; 28])
     put(out, 20, &ba.bits.to_octets());
 }
 
-/// Writes a BlockAck of 256 numbers, every free bit as 0.
+/// Writes a BlockAck of 256 numbers with its free bits 0.
 pub fn encode_wide(ba: &WideBa, out: &mut [u8; 52])
     requires { ba.now.tid < 16 }
     ensures layout { IsWideBa out.new ba.now }

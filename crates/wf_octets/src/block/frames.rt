@@ -3,18 +3,18 @@ ghost use Rattle.std.specs.Prelude.{◌≡◌};
 use crate::bits::{Bits64, Bits256};
 use crate::seq12::Seq12;
 
-/// A BlockAckReq: it asks for a BlockAck, and moves the recipient's window to `start`.
+/// A BlockAckReq: asks for a BlockAck, and moves the recipient's window to `start`.
 #[derive(Clone, Copy, Debug, PartialEq, Eq)]
 pub struct Bar {
     /// The recipient's address.
     pub ra: [u8; 6],
     /// The transmitter's address.
     pub ta: [u8; 6],
-    /// How long the medium is taken after the frame, in microseconds.
+    /// How long the medium is reserved after the frame, in microseconds.
     pub duration: u16,
     /// The traffic identifier, below 16.
     pub tid: u8,
-    /// The first number of the window.
+    /// The first sequence number of the window.
     pub start: Seq12,
 }
 
@@ -25,13 +25,13 @@ pub struct Ba {
     pub ra: [u8; 6],
     /// The transmitter's address.
     pub ta: [u8; 6],
-    /// How long the medium is taken after the frame, in microseconds.
+    /// How long the medium is reserved after the frame, in microseconds.
     pub duration: u16,
     /// The traffic identifier, below 16.
     pub tid: u8,
-    /// The number that offset 0 stands for.
+    /// The sequence number of offset 0.
     pub start: Seq12,
-    /// The offsets past `start` of the numbers that arrived.
+    /// The offsets from `start` of the numbers that arrived.
     pub bits: Bits64,
 }
 
@@ -42,17 +42,17 @@ pub struct WideBa {
     pub ra: [u8; 6],
     /// The transmitter's address.
     pub ta: [u8; 6],
-    /// How long the medium is taken after the frame, in microseconds.
+    /// How long the medium is reserved after the frame, in microseconds.
     pub duration: u16,
     /// The traffic identifier, below 16.
     pub tid: u8,
-    /// The number that offset 0 stands for.
+    /// The sequence number of offset 0.
     pub start: Seq12,
-    /// The offsets past `start` of the numbers that arrived.
+    /// The offsets from `start` of the numbers that arrived.
     pub bits: Bits256,
 }
 
-/// All but the bitmap, of a BlockAck of either form.
+/// The fields of a BlockAck of either form without the bitmap.
 macro_rules! head_of {
     ($ba:expr) => {
         Bar {
@@ -68,7 +68,7 @@ macro_rules! head_of {
 impl Ba {
     ghost use Rattle.wf_octets.specs.BlockLayout.{head_of_ba};
 
-    /// All but the bitmap.
+    /// Returns the fields without the bitmap.
     pub(crate) fn head(&self) -> Bar
         ensures { result ≡ head_of_ba self.now }
     {
@@ -79,7 +79,7 @@ impl Ba {
 impl WideBa {
     ghost use Rattle.wf_octets.specs.BlockLayout.{head_of_wide};
 
-    /// All but the bitmap.
+    /// Returns the fields without the bitmap.
     pub(crate) fn head(&self) -> Bar
         ensures { result ≡ head_of_wide self.now }
     {

@@ -9,8 +9,8 @@ use crate::header::{Header, Kind};
 use crate::seq12::Seq12;
 use thiserror::Error;
 
-/// Where a header's fields begin, in octets (8.2.4): the second octet of Frame Control, Duration, the
-/// addresses, and a QoS frame's Sequence Control and QoS Control.
+/// The offsets of a header's fields in octets (8.2.4): the second octet of Frame Control, Duration, the
+/// addresses, and Sequence Control and QoS Control of a QoS frame.
 const FLAGS_AT: usize = 1;
 
 const DURATION_AT: usize = 2;
@@ -25,37 +25,36 @@ const SEQUENCE_AT: usize = 22;
 
 const QOS_AT: usize = 24;
 
-/// Why octets are no header.
+/// The reason why octets do not begin with a header.
 #[derive(Clone, Copy, Debug, PartialEq, Eq, Error)]
 pub enum HeaderFault {
-    /// There are fewer octets than Frame Control has, or than a header of this kind.
+    /// There are fewer octets than Frame Control has, or than a header of this kind has.
     #[error("a header of {need} octets in {have}")]
     Short {
-        /// The octets that are wanted.
+        /// The number of octets that are needed.
         need: usize,
-        /// The octets that are there.
+        /// The number of octets that there are.
         have: usize,
     },
     /// The protocol version is not 0.
     #[error("protocol version {0}")]
     Version(u8),
-    /// The first octet is that of no kind.
+    /// No kind has this first octet.
     #[error("a frame of another kind, {0:#04x}")]
     Kind(u8),
-    /// A QoS frame with both DS flags, More Fragments, Protected, Order, a fragment number or an
-    /// A-MSDU.
+    /// A QoS frame has both DS flags, More Fragments, Protected, Order, a fragment number or an A-MSDU.
     #[error("a frame of another form")]
     Form,
 }
 
-/// Reads the header that octets begin with, and its size.
+/// Reads the header at the beginning of `octets`. Returns it with its size in octets, or the first fault.
 pub fn decode(octets: &[u8]) -> Result<(Header, usize), HeaderFault>
     ensures read { IfOk result (λ read. BeginsWithHeader octets.now read.0) }
     ensures plain { IfOk result (λ read. IsPlain read.0) }
     ensures size { IfOk result (λ read. read.1 ≡ size_of read.0.kind) }
     ensures complete { (h : Header) → BeginsWithHeader octets.now h → result ≡ Ok (h, size_of h.kind) }
 
-    // it is refused for the first check that fails, and for nothing else
+    // each fault is the first check that fails; other octets are accepted
     ensures fault { result_err result ≡ first_header_fault octets.now }
 {
     let have = octets.len();
@@ -82,7 +81,7 @@ pub fn decode(octets: &[u8]) -> Result<(Header, usize), HeaderFault>
     Ok((qos_header(kind, octets), need))
 }
 
-/// Whether a QoS header has what this project does not read.
+/// Returns whether a QoS header has a flag or a number that this project does not support.
 fn is_malformed(octets: &[u8]) -> bool
     requires { 26 ≤ length octets.now }
     ensures { result ≡ is_malformed octets.now }
@@ -96,7 +95,7 @@ fn is_malformed(octets: &[u8]) -> bool
         || is_set(octets[QOS_AT], 7)
 }
 
-/// The header of a QoS frame.
+/// Returns the header of a QoS frame.
 fn qos_header(kind: Kind, octets: &[u8]) -> Header
     requires long { 26 ≤ length octets.now }
     requires qos { is_qos kind ≡ true }
@@ -122,7 +121,7 @@ fn qos_header(kind: Kind, octets: &[u8]) -> Header
     }
 }
 
-/// The header of a frame that is no QoS frame.
+/// Returns the header of a frame that is not a QoS frame.
 fn short_header(kind: Kind, octets: &[u8]) -> Header
     requires long { size_of kind ≤ length octets.now }
     requires short { is_qos kind ≡ false }

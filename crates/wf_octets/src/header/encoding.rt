@@ -2,10 +2,11 @@ ghost use Rattle.std.specs.Prelude.{◌≡◌, take, drop};
 ghost use Rattle.wf_octets.specs.HeaderLayout.{BeginsWithHeader, IsPlain, size_of, header_as_octets, flags_octet};
 
 use crate::fields::{put, two_octets};
-use crate::header::Header;
+use crate::header::{DATA_HEADER_OCTETS, Header};
 
-/// Writes a header, every free bit as 0, and answers its size. The octets past it stay.
-pub fn encode(header: &Header, out: &mut [u8; 26]) -> usize
+/// Writes a header with its free bits 0, and returns its size in octets. Octets after the header are
+/// unchanged.
+pub fn encode(header: &Header, out: &mut [u8; DATA_HEADER_OCTETS]) -> usize
     requires plain { IsPlain header.now }
     ensures size { result ≡ size_of header.now.kind }
     ensures layout { BeginsWithHeader out.new header.now }
@@ -30,7 +31,7 @@ pub fn encode(header: &Header, out: &mut [u8; 26]) -> usize
     }
 }
 
-/// The second octet of Frame Control.
+/// Returns the second octet of Frame Control.
 fn flags_octet(header: &Header) -> u8
     ensures { result ≡ flags_octet header.now }
 {

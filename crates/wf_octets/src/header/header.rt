@@ -4,36 +4,39 @@ ghost use Rattle.wf_octets.specs.HeaderFaults.{kind_of};
 
 use crate::seq12::Seq12;
 
-/// The kinds of frames that have a header here.
+/// The size of a data header in octets: a QoS Data frame with three addresses (8.3.2.1).
+pub const DATA_HEADER_OCTETS: usize = 26;
+
+/// The kinds of frames whose headers this crate reads and writes.
 #[derive(Clone, Copy, Debug, PartialEq, Eq)]
 pub enum Kind {
-    /// Data with a traffic identifier (TID).
+    /// A data frame with a traffic identifier (TID).
     QosData,
-    /// The same without a body.
+    /// A QoS frame without a body.
     QosNull,
-    /// A sleeping station asks for a frame.
+    /// The request of a sleeping station for a frame.
     PsPoll,
-    /// An acknowledgement of one frame.
+    /// The acknowledgement of one frame.
     Ack,
-    /// An originator asks for a BlockAck, or moves the recipient's window.
+    /// The originator's request for a BlockAck, which also moves the recipient's window.
     BlockAckReq,
-    /// The recipient's answer: which numbers arrived.
+    /// The recipient's answer: the numbers that arrived.
     BlockAck,
 }
 
 impl Kind {
-    /// The octets of its header.
+    /// Returns the size of the header in octets.
     pub fn size(self) -> usize
         ensures { result ≡ size_of self }
     {
         match self {
-            Kind::QosData | Kind::QosNull => 26,
+            Kind::QosData | Kind::QosNull => DATA_HEADER_OCTETS,
             Kind::PsPoll | Kind::BlockAckReq | Kind::BlockAck => 16,
             Kind::Ack => 10,
         }
     }
 
-    /// The first octet of Frame Control: version, type and subtype.
+    /// Returns the first octet of Frame Control: version, type and subtype.
     pub(crate) fn first_octet(self) -> u8
         ensures { result ≡ first_octet self }
     {
@@ -47,7 +50,7 @@ impl Kind {
         }
     }
 
-    /// The kind with this first octet.
+    /// Returns the kind with this first octet of Frame Control, if any.
     pub(crate) fn of_first_octet(octet: u8) -> Option<Kind>
         ensures { result ≡ kind_of octet }
     {
@@ -62,14 +65,14 @@ impl Kind {
         }
     }
 
-    /// Whether its header has Address 3, Sequence Control and QoS Control.
+    /// Returns whether the header has Address 3, Sequence Control and QoS Control.
     pub(crate) fn is_qos(self) -> bool
         ensures { result ≡ is_qos self }
     {
         matches!(self, Kind::QosData | Kind::QosNull)
     }
 
-    /// Whether its header has Address 2.
+    /// Returns whether the header has Address 2.
     pub(crate) fn has_address_2(self) -> bool
         ensures { result ≡ has_address_2 self }
     {
@@ -77,33 +80,34 @@ impl Kind {
     }
 }
 
-/// A header. It is plain where each field that its kind does not carry is false or 0, not both DS flags
-/// are set, and the TID is below 16: only QoS kinds carry flags, `a3`, `seq` and `tid`, and an Ack has
+/// A MAC header. `encode` takes a plain one: each field that its kind does not have is false or 0, at most
+/// one DS flag is set, and the TID is below 16. Only QoS kinds have flags, `a3`, `seq` and `tid`; an Ack has
 /// no `a2`.
 #[derive(Clone, Copy, Debug, PartialEq, Eq)]
 pub struct Header {
-    /// What frame it begins.
+    /// The kind of frame.
     pub kind: Kind,
-    /// To the distribution system.
+    /// The frame goes to the distribution system (To DS).
     pub to_ds: bool,
-    /// From the distribution system.
+    /// The frame comes from the distribution system (From DS).
     pub from_ds: bool,
     /// The frame was sent before.
     pub retry: bool,
-    /// The sender goes to sleep after it.
+    /// The sender sleeps after this frame.
     pub power: bool,
-    /// The sender has more frames for this recipient.
+    /// The sender has more frames for this recipient (More Data).
     pub more: bool,
-    /// How long the medium is taken after the frame, in microseconds. In a PS-Poll the raw AID field.
+    /// How long the medium is reserved after the frame, in microseconds. In a PS-Poll, the raw AID field.
     pub duration: u16,
-    /// The recipient.
+    /// The recipient's address.
     pub a1: [u8; 6],
-    /// The transmitter.
+    /// The transmitter's address.
     pub a2: [u8; 6],
-    /// In a frame from the distribution system the source, in one to it the destination.
+    /// The source's address if the frame comes from the distribution system, the destination's if it goes to
+    /// it.
     pub a3: [u8; 6],
     /// The sequence number.
     pub seq: Seq12,
-    /// The traffic identifier.
+    /// The traffic identifier, below 16.
     pub tid: u8,
 }

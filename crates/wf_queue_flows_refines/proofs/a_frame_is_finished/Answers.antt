@@ -1,3 +1,4 @@
+-- Each clause is a law of Ends.
 use Rattle.wf_queue_flows_refines.proofs.Ends.{stands_finished, finish_all-append}
 use Rattle.wf_queue_flows_refines.proofs.a_frame_is_finished.Goals as goal
 

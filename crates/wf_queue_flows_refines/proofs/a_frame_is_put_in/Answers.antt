@@ -1,3 +1,4 @@
+-- Each clause is a law of Puts.
 use Rattle.wf_queue_flows_refines.proofs.Puts.{stands_put, reply_put}
 use Rattle.wf_queue_flows_refines.proofs.a_frame_is_put_in.Goals as goal
 

@@ -1,3 +1,4 @@
+-- Each clause is a law of Ends.
 use Rattle.wf_queue_flows_refines.proofs.Ends.{stands_reaped, reply_reaped, none_reaped}
 use Rattle.wf_queue_flows_refines.proofs.a_frame_is_reaped.Goals as goal
 

@@ -1,3 +1,4 @@
+-- Each clause is a law of Takes.
 use Rattle.wf_queue_flows_refines.proofs.Takes.{stands_take, item_take}
 use Rattle.wf_queue_flows_refines.proofs.a_frame_is_taken_out.Goals as goal
 

@@ -1,3 +1,4 @@
+-- A purge moves all queued frames of the TID to the finished list.
 use Rattle.wf_queue_flows_refines.specs.Standing.{flows_part}
 use Rattle.wf_queue_flows_refines.proofs.Lefts.{purge_grows}
 use Rattle.wf_queue_flows_refines.proofs.a_purge_drops_all_that_is_queued.Goals as goal

@@ -1,3 +1,4 @@
+-- Both counts follow from the cut of the queue that is picked.
 use Rattle.std.proofs.Common.{arith}
 use Rattle.wf_frame.specs.Classes.{tid_number}
 use Rattle.wf_queue_flows_refines.specs.Standing.{flows_part}

@@ -1,3 +1,4 @@
+-- Each clause is a law of Purges.
 use Rattle.wf_queue_flows_refines.proofs.Purges.{stands_purged, stands_left, purged_lists, purged_others}
 use Rattle.wf_queue_flows_refines.proofs.a_tid_is_purged.Goals as goal
 

@@ -1,3 +1,4 @@
+-- A put accepts one frame; the other calls only change queues and fates.
 use Rattle.wf_queue_flows_refines.proofs.Ends.{accepted_finish}
 use Rattle.wf_queue_flows_refines.proofs.Puts.{accepted_enqueued}
 use Rattle.wf_queue_flows_refines.proofs.Takes.{accepted_take}

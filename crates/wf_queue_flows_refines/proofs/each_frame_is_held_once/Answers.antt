@@ -1,3 +1,4 @@
+-- The first two clauses are part of the agreement; the others are laws of Puts and Holdings.
 use Rattle.wf_queue_flows_refines.specs.Standing.{flows_part}
 use Rattle.wf_queue_flows_refines.proofs.Puts.{next_nowhere}
 use Rattle.wf_queue_flows_refines.proofs.Holdings.{times_put, times_take, times_finish, times_reap, times_purge}

@@ -1,3 +1,4 @@
+-- Each clause is a law of Each, for the two tests.
 use Rattle.wf_queue_flows_refines.specs.Frames.{Passes}
 use Rattle.wf_queue_flows_refines.proofs.Each.{each_put, each_take, each_purge, each_finish, each_reap}
 use Rattle.wf_queue_flows_refines.proofs.each_frame_keeps_what_it_has.Goals as goal

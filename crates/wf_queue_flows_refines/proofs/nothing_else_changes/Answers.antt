@@ -1,3 +1,4 @@
+-- Each clause is a law of Elsewhere.
 use Rattle.wf_queue_flows_refines.proofs.Elsewhere.{rest_enqueued, rest_take, rest_finish, rest_finish_all, rest_reaped, rest_left, rest_live, rest_params}
 use Rattle.wf_queue_flows_refines.proofs.nothing_else_changes.Goals as goal
 

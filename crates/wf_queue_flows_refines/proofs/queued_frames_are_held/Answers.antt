@@ -1,3 +1,4 @@
+-- A frame has one place in a run; the other clauses are laws of Held.
 use Rattle.wf_queue_flows_refines.proofs.Heads.{queued_is_held}
 use Rattle.wf_queue_flows_refines.proofs.Held.{held_put, held_take, held_finish, held_reap, held_left}
 use Rattle.wf_queue_flows_refines.proofs.queued_frames_are_held.Goals as goal

@@ -1,3 +1,4 @@
+-- The TIDs of a station list no queue when it joins or leaves.
 use Rattle.wf_queue_flows_refines.proofs.Leaves.{stands_joined, stands_gone}
 use Rattle.wf_queue_flows_refines.proofs.stations_come_and_go.Goals as goal
 

@@ -1,3 +1,4 @@
+-- Each clause is a law of Notes.
 use Rattle.wf_queue_flows_refines.proofs.Notes.{accepted_same, accepted_more, notes_take, notes_finish, notes_finish_all, notes_left, notes_reaped}
 use Rattle.wf_queue_flows_refines.proofs.the_accepted_frames_are_kept.Goals as goal
 

@@ -1,3 +1,4 @@
+-- Each clause is a law of Fates or Lefts.
 use Rattle.wf_queue_flows_refines.proofs.Lefts.{settled_left}
 use Rattle.wf_queue_flows_refines.proofs.Fates.{settled_one, settled_all, settled_limit, counted_put, settled_take}
 use Rattle.wf_queue_flows_refines.proofs.the_fates_are_counted.Goals as goal

@@ -1,3 +1,4 @@
+-- Each clause is a law of Bodies or Each, for the tests of being the accepted frame.
 use Rattle.wf_queue_flows_refines.specs.Frames.{IsBody, IsBodySettled}
 use Rattle.wf_queue_flows_refines.proofs.Each.{each_finish, each_reap}
 use Rattle.wf_queue_flows_refines.proofs.Bodies.{frames_opening, frames_same, frames_put, frames_take, frame_given, frames_purged}

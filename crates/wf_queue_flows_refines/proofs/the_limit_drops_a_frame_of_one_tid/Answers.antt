@@ -1,3 +1,4 @@
+-- The longest queue is the same on both sides, and the limit changes no other queue.
 use Rattle.wf_queue_flows_refines.proofs.Heads.{same_loses, others_keep, others_keep_in}
 use Rattle.wf_queue_flows_refines.proofs.the_limit_drops_a_frame_of_one_tid.Goals as goal
 

@@ -1,3 +1,4 @@
+-- Each clause is a law of Readers.
 use Rattle.wf_queue_flows_refines.proofs.Readers.{same_queued, same_total, same_longest, same_dropped, same_elsewhere, same_queue_for}
 use Rattle.wf_queue_flows_refines.proofs.the_readers_agree.Goals as goal
 

@@ -1,3 +1,4 @@
+-- Each clause is a law of Leaves.
 use Rattle.wf_queue_flows_refines.proofs.Leaves.{stands_same, clock_alone, station_alone, share_alone, session_alone, receiver_alone, rotation_alone, exchange_alone, closing_alone, opened_alone, pick_alone, turn_alone, listed_alone}
 use Rattle.wf_queue_flows_refines.proofs.the_rest_does_not_matter.Goals as goal
 

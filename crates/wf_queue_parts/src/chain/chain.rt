@@ -6,8 +6,8 @@ use crate::chain::parcel::Parcel;
 use crate::chain::run::Run;
 use std::marker::Model;
 
-/// A list of parcels. Putting one in and taking one out move its node, and take no memory; a chain that is
-/// dropped frees each of its nodes.
+/// A list of parcels, fewer than 2^32. A push and a pop move the parcel's node, and allocate nothing. A chain
+/// that is dropped frees each of its nodes.
 pub struct Chain {
     run: Run,
     len: u32,
@@ -27,7 +27,7 @@ impl Model for Chain {
 }
 
 impl Chain {
-    /// The empty list.
+    /// Creates the empty list.
     pub fn new() -> Chain
         ensures { result ≡ [] }
     {
@@ -37,14 +37,14 @@ impl Chain {
         }
     }
 
-    /// How many parcels it has.
+    /// Returns the number of parcels.
     pub fn len(&self) -> u32
         ensures { result ≡ length self.now }
     {
         self.len
     }
 
-    /// Appends a parcel.
+    /// Puts a parcel last. Constant time; allocates nothing.
     pub fn push_back(&mut self, parcel: Parcel)
         requires { length self.old + 1 < 2 ^ 32 }
         ensures { self.new ≡ self.old ++ parcel ∷ [] }
@@ -56,7 +56,7 @@ impl Chain {
         self.len += 1;
     }
 
-    /// Takes the first parcel out; None exactly where the list is empty.
+    /// Takes the first parcel off and returns it, or None if the list is empty. Constant time.
     pub fn pop_front(&mut self) -> Option<Parcel>
         ensures { MatchOption result ((self.old ≡ []) × (self.new ≡ [])) (λ p. self.old ≡ p ∷ self.new) }
     {
@@ -72,7 +72,7 @@ impl Chain {
         Some(Parcel::of(first))
     }
 
-    /// Moves all parcels of `other` to the end.
+    /// Moves all parcels of `other` to the end, in their order. Constant time.
     pub fn append(&mut self, other: &mut Chain)
         requires { length self.old + length other.old < 2 ^ 32 }
         ensures moved { self.new ≡ self.old ++ other.old }

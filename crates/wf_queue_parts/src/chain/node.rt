@@ -1,4 +1,4 @@
-//! A node: a frame, and the way to the next node.
+//! A node: a frame, and a pointer to the next node.
 
 ghost use Rattle.std.specs.Prelude.{◌≡◌};
 
@@ -6,7 +6,7 @@ use std::alloc::Global;
 use std::marker::Send;
 use wf_frame::Frame;
 
-// `next` means nothing in a node that no other follows.
+// `next` means nothing in the last node.
 #[derive(Drop)]
 pub(crate) struct Node {
     pub(crate) next: *mut Node,
@@ -18,7 +18,7 @@ pub(crate) struct Node {
 unsafe impl Send for Node {}
 
 impl Node {
-    // A node that no other follows. It keeps the allocator that its block comes from.
+    // Creates a last node. It stores the allocator of its block.
     pub(crate) fn new(alloc: Global, frame: Frame) -> Node
         ensures { result.frame ≡ frame }
     {

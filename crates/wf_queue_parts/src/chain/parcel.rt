@@ -1,4 +1,4 @@
-//! One frame in a node of its own.
+//! One frame in its own node.
 
 ghost use Rattle.std.specs.Prelude.{◌≡◌, MatchResult};
 ghost use Rattle.std.specs.Borrow.{Lends, sem};
@@ -11,7 +11,7 @@ use std::alloc::{AllocError, Global};
 use std::marker::Model;
 use wf_frame::Frame;
 
-/// A frame in a node of its own, which is linked into a chain with no more memory.
+/// A frame in its own node, which is linked into a chain without further memory.
 pub struct Parcel {
     owned: OwnedNode,
 }
@@ -25,7 +25,7 @@ impl Model for Parcel {
 }
 
 impl Parcel {
-    /// Puts a frame into a node. Where there is no memory, the frame is handed back.
+    /// Puts a frame into a new node. If there is no memory, the error returns the frame.
     pub fn new(alloc: Global, frame: Frame) -> Result<Parcel, (AllocError, Frame)>
         ensures { MatchResult result (λ p. p ≡ frame) (λ e. e.1 ≡ frame) }
     {
@@ -37,14 +37,14 @@ impl Parcel {
         }
     }
 
-    /// The frame.
+    /// Returns the frame.
     pub fn frame(&self) -> &Frame
         ensures { result.now ≡ self.now }
     {
         &self.owned.get().frame
     }
 
-    /// The frame; what is left behind the reference is the parcel's frame.
+    /// Returns the frame for writing. The last value written is the parcel's frame.
     pub fn frame_mut(&mut self) -> &mut Frame
         ensures* writes_back { sem 𝓛 (Lends the_row FrameRow self.entry result (λ f. f)) }
         ensures value { result.now ≡ self.old }
@@ -53,8 +53,8 @@ impl Parcel {
         &mut node.frame
     }
 
-    /// Takes the frame out; the node's memory is freed. For a driver that goes on with the frame itself once
-    /// a path is done with the parcel.
+    /// Returns the frame, and frees the node. A driver calls it to reuse the frame after the path has
+    /// returned the parcel.
     pub fn into_frame(self) -> Frame
         ensures { result ≡ self }
     {

@@ -1,4 +1,4 @@
-//! Nodes that lead to one another.
+//! A run: nodes, each of which points to the next.
 
 ghost use Rattle.std.specs.Prelude.{◌≡◌, ◌<◌, ◌==◌, List, [], ◌∷◌, length};
 ghost use Rattle.wf_queue_parts.specs.Links.{Placed, IsLinked, IsFirst, LeadsOn, IsJoined, nodes_own, first_lent};
@@ -9,7 +9,7 @@ use std::alloc::Global;
 use std::marker::{Model, Send};
 use std::mem::replace;
 
-// The nodes lie where `nodes` says. With no node, `head` and `tail` mean nothing.
+// `nodes` are the nodes with their places. Without a node, `head` and `tail` mean nothing.
 // It is not `Drop`, so that no node is forgotten.
 pub(crate) struct Run {
     head: *mut Node,
@@ -36,7 +36,7 @@ impl Run {
         }
     }
 
-    // One node.
+    // Returns a run of one node.
     pub(crate) fn of(owned: OwnedNode) -> Run
         ensures { result.nodes ≡ (owned.at, owned.value) ∷ [] }
     {
@@ -44,7 +44,7 @@ impl Run {
         Run { head: at, tail: at }
     }
 
-    // The nodes of `self`, and then those of `next`.
+    // Returns the nodes of `self`, followed by those of `next`.
     pub(crate) fn link(self, next: Run) -> Run
         requires { (0 < length self.nodes) × (0 < length next.nodes) }
         ensures { IsJoined self.nodes next.nodes result.nodes }
@@ -67,7 +67,7 @@ impl Run {
         unsafe { &*self.head }
     }
 
-    // Where the second node lies; means nothing where there is none.
+    // Returns the place of the second node; it means nothing if there is only one.
     pub(crate) fn second(&self) -> *mut Node
         requires { 0 < length self.now.nodes }
         ensures { LeadsOn self.now.nodes result }
@@ -75,7 +75,7 @@ impl Run {
         self.first().next
     }
 
-    // Takes the first node out; `second` is where the one after it lies. Any `Global` frees any block.
+    // Splits the first node off; `second` is the place of the node after it. Any `Global` frees any block.
     pub(crate) fn split_first(self, second: *mut Node, alloc: Global) -> (OwnedNode, Run)
         requires { LeadsOn self.nodes second }
         ensures { self.nodes ≡ (result.0.at, result.0.value) ∷ result.1.nodes }
@@ -84,7 +84,7 @@ impl Run {
         (Unboxed { at: head, alloc }, Run { head: second, tail })
     }
 
-    // The nodes of `run`, and then those of `next`. `empty` says whether `run` has no node.
+    // Returns the nodes of `run`, followed by those of `next`. `empty` says whether `run` has no node.
     pub(crate) fn join(empty: bool, run: Run, next: Run) -> Run
         requires { (empty ≡ (length run.nodes == 0)) × (0 < length next.nodes) }
         ensures { IsJoined run.nodes next.nodes result.nodes }
@@ -96,7 +96,7 @@ impl Run {
         run.link(next)
     }
 
-    // Takes the nodes out of `run`.
+    // Takes the nodes out of `run` and returns them.
     pub(crate) fn take(run: &mut Run) -> Run
         ensures taken { result ≡ run.old }
         ensures left { run.new.nodes ≡ [] }
@@ -112,7 +112,7 @@ impl Run {
         replace(run, next).end();
     }
 
-    // Ends a run of no nodes.
+    // Ends a run without nodes.
     pub(crate) fn end(self)
         requires { self.nodes ≡ [] }
     {

@@ -1,4 +1,4 @@
-//! A box as its pointer, so that other nodes can lead to its value.
+//! A box as its pointer, so that other nodes can point to its value.
 
 ghost use Rattle.std.specs.Prelude.{◌≡◌};
 ghost use Rattle.std.specs.Borrow.{sem};
@@ -9,12 +9,12 @@ use crate::chain::node::Node;
 use std::alloc::{Allocator, Global};
 use std::marker::{Model, Send};
 
-/// A box as its pointer and its allocator. It is not `Drop`, so that no value is forgotten: `into_box`, a run or a
-/// handle takes it.
+/// A box as its pointer and its allocator. It is not `Drop`, so that no value is forgotten: `into_box`, a run
+/// or a handle consumes it.
 pub struct Unboxed<T, A: Allocator> {
-    /// Where the value is.
+    /// The place of the value.
     pub at: *mut T,
-    /// What frees its block.
+    /// The allocator that frees its block.
     pub alloc: A,
     pub ghost value: { T },
 }
@@ -28,7 +28,7 @@ impl<T, A: Allocator> Model for Unboxed<T, A> {
 unsafe impl<T: Send, A: Allocator + Send> Send for Unboxed<T, A> {}
 
 impl<T: Drop, A: Allocator> Unboxed<T, A> {
-    /// The pointer of a box.
+    /// Takes a box apart into its pointer and its allocator.
     pub fn of(boxed: Box<T, A>) -> Unboxed<T, A>
         ensures { result.value ≡ boxed.value }
     {
@@ -36,7 +36,7 @@ impl<T: Drop, A: Allocator> Unboxed<T, A> {
         Unboxed { at, alloc }
     }
 
-    /// The box again.
+    /// Returns the box.
     pub fn into_box(self) -> Box<T, A>
         ensures { result.value ≡ self.value }
     {
@@ -45,7 +45,7 @@ impl<T: Drop, A: Allocator> Unboxed<T, A> {
     }
 }
 
-// One node in a block of its own.
+// One node in its own block.
 pub(crate) type OwnedNode = Unboxed<Node, Global>;
 
 impl Unboxed<Node, Global> {

@@ -1,7 +1,5 @@
-//! The recipient's reordering buffer: frames go up in the order of their numbers (IEEE 802.11-2012,
-//! 9.21.7.6).
-//!
-//! It meets its rules for every sequence of numbers whatever, jumps included.
+//! The recipient's reordering buffer, which passes frames up in the order of their numbers (IEEE 802.11-2012,
+//! 9.21.7.6). It accepts every sequence of numbers, also with jumps.
 
 ghost use Rattle.std.specs.Prelude.{◌≡◌, true, ◌+◌, ◌≤◌, ◌<◌, ◌++◌, ◌∷◌, [], length, take, drop, replicate, IfOk, MatchOption, None, slice_index_or, is_some};
 ghost use Rattle.wf_recv_peer.specs.Buffer.{items_of, run_of, empty_buffer, first_stored, first_stored_of, with_stored_item, items_below, with_start_moved, release_outcome, store_outcome, jump_outcome, number_outcome, request_outcome, HasOneMore};
@@ -12,13 +10,13 @@ use std::marker::Model;
 use wf_frame::Ids;
 use wf_octets::seq12::Seq12;
 
-/// A window of numbers from a start on, with what is stored of each.
+/// A window of numbers from a start on, with the stored item of each.
 #[derive(Drop)]
 struct Slots {
     start: Seq12,
     size: u16,
     ring: VecDeque<Option<u64>>,
-    /// How many items are stored.
+    /// The number of stored items.
     stored: u16,
 }
 
@@ -59,7 +57,8 @@ impl Slots {
         })
     }
 
-    /// A new start, and so many empty places. Where as many are empty already, none is written.
+    /// Sets the start and makes `size` places, all empty. If there are exactly these already, none is
+    /// written.
     fn reset(&mut self, start: Seq12, size: u16)
         requires { (1 ≤ size) × (size ≤ self.old.capacity) }
         ensures { self.new ≡ empty_buffer self.old.capacity start size }
@@ -70,7 +69,7 @@ impl Slots {
         }
     }
 
-    /// Whether there are so many places, all of them empty.
+    /// Returns true only if there are exactly `size` places, all empty.
     #[tactic(auto, using(crate::proofs::Places::none_stored))]
     fn has_empty(&self, size: u16) -> bool
         ensures { result ≡ true → self.now ≡ empty_buffer self.now.capacity self.now.start size }
@@ -78,7 +77,7 @@ impl Slots {
         self.stored == 0 && self.size == size
     }
 
-    /// So many empty places.
+    /// Makes `size` places, all empty.
     #[tactic(auto, using(crate::proofs::Places::stored_none))]
     fn clear(&mut self, size: u16)
         requires { (1 ≤ size) × (size ≤ self.old.capacity) }
@@ -126,7 +125,8 @@ impl Slots {
         }
     }
 
-    /// The first place leaves and an empty one comes last; the start stays.
+    /// Removes the first place, adds an empty one at the end, and returns the item of the first. The start is
+    /// unchanged.
     #[tactic(auto, using(crate::proofs::Places::stored_fewer, crate::proofs::Places::stored_left))]
     fn turn(&mut self) -> Option<u64>
         ensures slots { self.new ≡ record self.old { places = drop 1 self.old.places ++ None ∷ [] } }
@@ -140,7 +140,7 @@ impl Slots {
         first
     }
 
-    /// Turns so many places, and passes their items up.
+    /// Turns `places` times and passes the items up.
     fn turn_all(&mut self, places: u16, up: &mut Ids)
         requires { (places ≤ length self.old.places) ×
             (length up.old + length (items_of (take places self.old.places)) ≤ 256) }
@@ -158,7 +158,7 @@ impl Slots {
         }
     }
 
-    /// The start moves on, and the items below it are passed up.
+    /// Moves the start on by `numbers`, and passes up the items below it.
     #[tactic(auto, using(crate::proofs::Places::take_least, crate::proofs::Places::drop_least))]
     fn move_on(&mut self, numbers: u16, up: &mut Ids)
         requires { length up.old + length (items_below numbers self.old) ≤ 256 }
@@ -169,7 +169,7 @@ impl Slots {
         self.start = self.start.plus(numbers);
     }
 
-    /// How many numbers from the start on are stored, without a hole.
+    /// Returns how many numbers from the start on are stored without a gap.
     #[tactic(auto, using(crate::proofs::Places::run_goes_on, crate::proofs::Places::run_stops, crate::proofs::Places::run_ends))]
     fn run(&self) -> u16
         ensures { result ≡ run_of self.now.places }
@@ -183,7 +183,7 @@ impl Slots {
         size
     }
 
-    /// How far past the start the first stored number stands.
+    /// Returns how far past the start the first stored number is.
     #[tactic(auto, using(crate::proofs::Places::first_goes_on, crate::proofs::Places::first_found, crate::proofs::Places::first_missing, crate::proofs::Places::first_from_0))]
     fn first(&self) -> Option<u16>
         ensures { result ≡ first_stored self.now.places }
@@ -196,7 +196,7 @@ impl Slots {
         None
     }
 
-    /// The items from the start on without a hole are passed up, and the start moves past them.
+    /// Passes up the items from the start on without a gap, and moves the start past them.
     fn release(&mut self, up: &mut Ids)
         requires { length up.old + length (items_below (run_of self.old.places) self.old) ≤ 256 }
         ensures slots { self.new ≡ (release_outcome up.old self.old).after }
@@ -207,8 +207,8 @@ impl Slots {
     }
 }
 
-/// The reordering buffer of one agreement: a window of at most 256 numbers from a start on, and the items
-/// stored of them.
+/// The reordering buffer of one agreement: a window of at most 256 numbers from a start on, and their stored
+/// items.
 #[derive(Drop)]
 pub struct Reorder {
     slots: Slots,
@@ -225,10 +225,10 @@ impl Model for Reorder {
 }
 
 impl Reorder {
-    /// A buffer for windows of at most `capacity` numbers, 1 to 256. Its window is of `capacity` numbers from
-    /// 0 on, and nothing is stored.
+    /// Creates a buffer for windows of at most `capacity` numbers, 1 to 256. Its window is of `capacity`
+    /// numbers from 0 on, and it has no items.
     ///
-    /// Fails for want of memory, which no other call takes.
+    /// Fails only if memory runs out; no other call allocates.
     pub fn new(alloc: Global, capacity: u16) -> Result<Reorder, AllocError>
         requires { (1 ≤ capacity) × (capacity ≤ 256) }
         ensures { IfOk result (λ r. r ≡ empty_buffer capacity 0 capacity) }
@@ -237,7 +237,8 @@ impl Reorder {
         Ok(Reorder { slots })
     }
 
-    /// A new agreement: its first number and its window size. What is stored goes.
+    /// Begins a new agreement with first number `start` and a window of `size`, 1 to the capacity. Stored
+    /// items are dropped.
     pub fn reset(&mut self, start: Seq12, size: u16)
         requires { (1 ≤ size) × (size ≤ self.old.capacity) }
         ensures { self.new ≡ empty_buffer self.old.capacity start size }
@@ -245,17 +246,17 @@ impl Reorder {
         self.slots.reset(start, size);
     }
 
-    /// A number arrived with an item. What the buffer passes up, in the order of its numbers, is put into
-    /// `up`, which must be empty. The item is handed back exactly where it is discarded: its number is stored
-    /// already, or stands behind the window.
+    /// Handles a number that arrived, with its item. `up` must be empty, and gets the items that the buffer
+    /// passes up, in the order of their numbers. Returns the item if, and only if, it is discarded because
+    /// its number is already stored or is before the window.
     pub fn arrive(&mut self, seq: Seq12, item: u64, up: &mut Ids) -> Option<u64>
         requires { up.old ≡ [] }
         ensures up { up.new ≡ (number_outcome seq item self.old).up }
         ensures back { result ≡ (number_outcome seq item self.old).back }
         ensures after { self.new ≡ (number_outcome seq item self.old).after }
 
-        // each item once: where the new one is not given back, what is passed up and what is stored are what
-        // was stored and it
+        // each item exactly once: if the new item is not returned, the items that are passed up and stored
+        // are those that were stored before, and the new one
         ensures each_once { MatchOption result (HasOneMore item (items_of self.old.places)
             (up.new ++ items_of self.new.places))
             (λ back. (back ≡ item) × (up.new ≡ []) × (self.new ≡ self.old)) }
@@ -273,14 +274,14 @@ impl Reorder {
         }
     }
 
-    /// The start of a BlockAckReq arrived. What the buffer passes up, in the order of its numbers, is put
-    /// into `up`, which must be empty.
+    /// Handles the start of a BlockAckReq that arrived. `up` must be empty, and gets the items that the
+    /// buffer passes up, in the order of their numbers.
     pub fn bar(&mut self, start: Seq12, up: &mut Ids)
         requires { up.old ≡ [] }
         ensures up { up.new ≡ (request_outcome start self.old).up }
         ensures after { self.new ≡ (request_outcome start self.old).after }
 
-        // each item once
+        // each item exactly once
         ensures each_once { up.new ++ items_of self.new.places ≡ items_of self.old.places }
     {
         let old = self.slots.start();
@@ -290,14 +291,14 @@ impl Reorder {
         }
     }
 
-    /// The first number of the window.
+    /// Returns the first number of the window.
     pub fn start(&self) -> Seq12
         ensures { result ≡ self.now.start }
     {
         self.slots.start()
     }
 
-    /// The stored number least ahead of the start; none where nothing is stored.
+    /// Returns the first stored number from the start on. None if none is stored.
     pub fn first_stored(&self) -> Option<Seq12>
         ensures { result ≡ first_stored_of self.now }
     {
@@ -305,7 +306,7 @@ impl Reorder {
         Some(self.slots.start().plus(place))
     }
 
-    /// A number of the window arrived.
+    /// Handles a number of the window.
     fn store(&mut self, place: u16, item: u64, up: &mut Ids) -> Option<u64>
         requires place { place < self.old.size }
         requires empty { up.old ≡ [] }
@@ -324,7 +325,7 @@ impl Reorder {
         None
     }
 
-    /// A number arrived that stands so many numbers past the window.
+    /// Handles a number that is `past` numbers past the end of the window.
     fn jump(&mut self, past: u16, item: u64, up: &mut Ids)
         requires past { 1 ≤ past }
         requires empty { up.old ≡ [] }

@@ -1,6 +1,5 @@
 //! The recipient's scoreboard: which numbers of the window arrived (IEEE 802.11-2012, 9.21.7.3 to 9.21.7.5).
-//!
-//! It meets its rules for every sequence of numbers whatever, jumps included.
+//! It accepts every sequence of numbers, also with jumps.
 
 ghost use Rattle.std.specs.Prelude.{◌≡◌, ◌≤◌, ◌<◌};
 ghost use Rattle.wf_octets.specs.Offsets.{IsOffsets};
@@ -31,7 +30,7 @@ impl Model for Score {
 }
 
 impl Score {
-    /// The scoreboard of a window of 256 numbers from 0 on, none of which arrived.
+    /// Creates the scoreboard of a window of 256 numbers from 0 on, of which none arrived.
     pub fn new() -> Score
         ensures { result ≡ empty_board 0 256 }
     {
@@ -42,7 +41,7 @@ impl Score {
         }
     }
 
-    /// A new agreement: its first number and its window size, 1 to 256 numbers.
+    /// Begins a new agreement with first number `start` and a window of `size`, 1 to 256.
     pub fn reset(&mut self, start: Seq12, size: u16)
         requires { (1 ≤ size) × (size ≤ 256) }
         ensures { self.new ≡ empty_board start size }
@@ -52,7 +51,7 @@ impl Score {
         self.bits = Bits256::empty();
     }
 
-    /// A number arrived.
+    /// Records a number that arrived.
     pub fn arrive(&mut self, seq: Seq12)
         ensures { self.new ≡ after_number seq self.old }
     {
@@ -65,7 +64,7 @@ impl Score {
         }
     }
 
-    /// The start of a BlockAckReq arrived.
+    /// Handles the start of a BlockAckReq that arrived.
     pub fn bar(&mut self, start: Seq12)
         ensures { self.new ≡ after_start start self.old }
     {
@@ -74,7 +73,8 @@ impl Score {
         }
     }
 
-    /// What a BlockAck says: the start of the window, and how far past it each number stands that arrived.
+    /// Returns the content of a BlockAck: the start of the window, and how far past it each arrived number
+    /// is.
     pub fn answer(&self) -> (Seq12, Bits256)
         ensures start { result.0 ≡ self.now.start }
         ensures bits { result.1 ≡ self.now.offsets }
@@ -83,7 +83,7 @@ impl Score {
         (self.start, self.bits)
     }
 
-    /// The size of the window, 1 to 256 numbers.
+    /// Returns the size of the window, 1 to 256.
     pub fn size(&self) -> u16
         ensures size { result ≡ self.now.size }
         ensures least { 1 ≤ result }

@@ -1,3 +1,4 @@
+-- Proves the law `a_number_arrives` by the lemmas of Halves.
 use Rattle.wf_recv_peer_refines.proofs.Halves.{stands_data, up_data, back_data}
 use Rattle.wf_recv_peer_refines.proofs.a_number_arrives.Goals as goal
 

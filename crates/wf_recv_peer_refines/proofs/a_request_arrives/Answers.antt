@@ -1,3 +1,4 @@
+-- Proves the law `a_request_arrives` by the lemmas of Halves.
 use Rattle.wf_recv_peer_refines.proofs.Halves.{stands_request, up_request, back_request}
 use Rattle.wf_recv_peer_refines.proofs.a_request_arrives.Goals as goal
 

@@ -1,3 +1,4 @@
+-- Proves the law `comparisons_are_whole` by the lemmas of Comparisons and Halves.
 use Rattle.wf_recv_peer_refines.proofs.Comparisons.{compares}
 use Rattle.wf_recv_peer_refines.proofs.Halves.{compares_data, compares_request}
 use Rattle.wf_recv_peer_refines.proofs.comparisons_are_whole.Goals as goal

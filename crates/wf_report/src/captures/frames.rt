@@ -1,4 +1,4 @@
-//! The octets of one frame on the air.
+//! Encodes one frame as it is on the air.
 
 ghost use Rattle.std.specs.Prelude.{◌≡◌, ◌<◌, ◌≤◌, [], ◌∷◌, Some, take, true, false};
 ghost use Rattle.wf_path.specs.Addresses.{made_up};
@@ -11,22 +11,19 @@ use wf_cell::Cell;
 use wf_octets::bits::{Bits64, Bits256};
 use wf_octets::block::{Ba, WideBa, encode_ba, encode_wide};
 use wf_octets::fields::put;
-use wf_octets::header::{base_address, station_address};
+use wf_octets::header::{GREATEST_MPDU, base_address, station_address};
 use wf_octets::seq12::Seq12;
 use wf_path::Sent;
 
-/// The most octets of a frame: a header of 26 and a body of 2304.
-pub(crate) const LONGEST: usize = 2330;
-
-/// Where the bitmap of a BlockAck begins.
+/// The offset of a BlockAck's bitmap.
 const BITMAP: usize = 20;
 
-/// Writes a transmission of an open exchange, and gives how many octets it has.
+/// Writes a transmission of an open exchange, and returns its number of octets.
 pub(crate) fn transmission(
     cell: &Cell,
     exchange: u64,
     index: u16,
-    octets: &mut [u8; LONGEST],
+    octets: &mut [u8; GREATEST_MPDU],
 ) -> usize
     requires samples { IsSampled cell.now }
     requires sending { HasTransmission (world_behind cell.now) exchange index }
@@ -41,8 +38,8 @@ pub(crate) fn transmission(
     }
 }
 
-/// What a BlockAck shows: its start, 0 to 4095, and the words of its bitmap, the lowest offsets in the first.
-/// One of 64 numbers has the first word alone.
+/// The content of a BlockAck: its start, 0 to 4095, and the words of its bitmap, those of the lowest offsets
+/// first. A BlockAck of 64 numbers has only the first word.
 #[derive(Clone, Copy)]
 pub(crate) struct Shown {
     pub(crate) start: u16,
@@ -52,7 +49,7 @@ pub(crate) struct Shown {
     pub(crate) b3: u64,
 }
 
-/// The BlockAck of 64 numbers to what was sent.
+/// Returns the BlockAck of 64 numbers for an exchange.
 pub(crate) fn narrow_ack(sent: Sent, shown: Shown) -> [u8; 28]
     requires { sent.tid < 8 }
     ensures { result ≡ block_ack_frame sent.station sent.tid shown.start (shown.b0 ∷ []) false }
@@ -71,7 +68,7 @@ pub(crate) fn narrow_ack(sent: Sent, shown: Shown) -> [u8; 28]
     octets
 }
 
-/// The BlockAck of 256 numbers to what was sent.
+/// Returns the BlockAck of 256 numbers for an exchange.
 pub(crate) fn wide_ack(sent: Sent, shown: Shown) -> [u8; 52]
     requires { sent.tid < 8 }
     ensures { result ≡ block_ack_frame sent.station sent.tid shown.start

@@ -1,4 +1,4 @@
-//! What is written of a run is listed.
+//! The law that `frames` lists the capture of a run.
 
 ghost use Rattle.std.specs.Prelude.{◌≤◌, List, length};
 ghost use Rattle.wf_frame.specs.Settings.{IsInRange};
@@ -9,8 +9,9 @@ ghost use Rattle.wf_law_runs.specs.Lengths.{HasLengths};
 ghost use Rattle.wf_def_world.specs.Run.{Entry};
 ghost use Rattle.wf_report.specs.Captures.{most_calls_timed, packets_in, capture_of};
 
-/// The command `frames` on the capture of a history of at most 429,496,729 calls, where that has at most
-/// 1,099,511,627,776 octets, lists each packet in order, with its time and its length, and no fault.
+/// The command `frames` lists each packet of the capture of a history in order, with its time and its length,
+/// and no fault, if the history has at most 429,496,729 calls and the capture at most 1,099,511,627,776
+/// octets.
 pub fn captured_run_is_listed()
     ensures { (config : Config) (history : List Entry) → IsInRange config → HasLengths history →
         length history ≤ most_calls_timed →

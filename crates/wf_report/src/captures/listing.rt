@@ -1,5 +1,5 @@
-//! The command `frames`: it reads the packets of a capture file one by one into one buffer and lists them, a
-//! line each: when each was captured, how many octets of it, and what they are as a frame.
+//! The command `frames`. It reads the packets of a capture file one by one into one buffer, and writes a line
+//! for each: its time, its captured length, and which frame it is.
 
 mod command;
 mod fault;

@@ -1,4 +1,4 @@
-//! The packets of a call.
+//! Writes the packets of a call.
 
 ghost use Rattle.std.specs.Prelude.{◌≡◌, ℕ, OnOk};
 ghost use Rattle.std.specs.Io.KnownBytes.{append_known};
@@ -18,10 +18,12 @@ use wf_cell::Cell;
 use wf_frame::Answer;
 use wf_io::{Failed, Sink};
 
-/// Writes the packets of the call that a cell was asked last and answered so, at the time of the clock in
-/// microseconds: each transmission of the exchange that it opened, by index, whether it then arrives or not,
-/// or the BlockAck that it was answered; nothing for any other call. After a fault, some octets from their
-/// front have been written. The frames of the cell must be those that a trace's calls bring.
+/// Writes the packets of the cell's last call, from its answer, at the time of the clock in microseconds. For
+/// a pull these are all transmissions of the exchange that it began, by index, whether or not they arrive
+/// later. For an `answer` it is the BlockAck. Other calls have no packets.
+///
+/// After a failed write the sink holds a prefix of the packets. The frames of the cell must be those of a
+/// trace's calls.
 pub fn write_packets<K: Sink>(cell: &Cell, answer: &Answer, sink: &mut K) -> Result<(), Failed>
     requires samples { IsSampled cell.now }
     ensures written { OnOk result ((past : Past) (caller : ℕ) (note : Note) →

@@ -1,4 +1,4 @@
-//! What a capture asks of a cell.
+//! The questions that a capture asks a cell.
 
 ghost use Rattle.std.specs.Prelude.{◌≡◌, ◌<◌, ℕ, Some, option_map, IfSome};
 ghost use Rattle.wf_cell.specs.Cells.{with_entry};
@@ -12,7 +12,7 @@ use wf_cell::Cell;
 use wf_frame::Note;
 use wf_path::Sent;
 
-/// What an open exchange sends, and to whom.
+/// Returns the station, the TID and the transmissions of an open exchange.
 pub(crate) fn sent(cell: &Cell, exchange: u64) -> Option<Sent>
     ensures told { result ≡ option_map sent_of (exchange_in (world_behind cell.now) exchange) }
     ensures tid { IfSome result (λ sent. sent.tid < 8) }
@@ -20,7 +20,7 @@ pub(crate) fn sent(cell: &Cell, exchange: u64) -> Option<Sent>
     cell.path().sent(exchange)
 }
 
-/// The call that was made last.
+/// Returns the call that was made last.
 #[tactic(auto, using(crate::proofs::Cells::last_entry))]
 pub(crate) fn last_call(cell: &Cell) -> Option<Note>
     ensures { (past : Past) (caller : ℕ) (note : Call) → cell.now.past ≡ with_entry (by caller note) past →

@@ -1,4 +1,4 @@
-//! What goes on the air with a call, as packets, by the cell behind it and its answer.
+//! Writes what a call puts on the air, as packets, from its answer and the cell after it.
 
 ghost use Rattle.std.specs.Prelude.{◌≡◌, [], ◌∷◌, OnOk};
 ghost use Rattle.std.specs.Io.KnownBytes.{append_known};
@@ -10,14 +10,15 @@ ghost use Rattle.wf_report.specs.Captures.{samples};
 ghost use Rattle.wf_report.specs.Packets.{frames_sent, block_acks, exchange_answered, frames_by, packets_at, octets_of_packets};
 ghost use Rattle.wf_report.specs.Samples.{IsSampled, world_behind};
 
-use crate::captures::frames::{LONGEST, Shown, narrow_ack, transmission, wide_ack};
+use crate::captures::frames::{Shown, narrow_ack, transmission, wide_ack};
 use crate::captures::standing::sent;
 use wf_cell::Cell;
 use wf_frame::{Answer, Ask, Brief, Note};
 use wf_io::pcap::write_packet;
 use wf_io::{Failed, Sink};
+use wf_octets::header::GREATEST_MPDU;
 
-/// The exchange that a call asks its station to answer.
+/// Returns the exchange that a call answers.
 fn exchange_answered(note: &Note) -> Option<u64>
     ensures { result ≡ exchange_answered note.now }
 {
@@ -27,7 +28,7 @@ fn exchange_answered(note: &Note) -> Option<u64>
     }
 }
 
-/// Writes a packet for each transmission of an exchange, in order; none where it is not open.
+/// Writes a packet for each transmission of an exchange, in order, or nothing if the exchange is not open.
 fn write_sent<K: Sink>(cell: &Cell, exchange: u64, sink: &mut K) -> Result<(), Failed>
     requires { IsSampled cell.now }
     ensures written { OnOk result (K.held sink.new ≡ append_known (K.held sink.old)
@@ -42,7 +43,7 @@ fn write_sent<K: Sink>(cell: &Cell, exchange: u64, sink: &mut K) -> Result<(), F
         return Ok(());
     };
     let at = cell.clock();
-    let mut octets = [0; LONGEST];
+    let mut octets = [0; GREATEST_MPDU];
     for index in 0..sent.count {
         let len = transmission(cell, exchange, index, &mut octets);
         write_packet(sink, at, &octets[..len])?;
@@ -50,8 +51,8 @@ fn write_sent<K: Sink>(cell: &Cell, exchange: u64, sink: &mut K) -> Result<(), F
     Ok(())
 }
 
-/// Writes a packet for the BlockAck to an exchange, of 64 numbers or of 256 (`wide`); none where the exchange
-/// is not open.
+/// Writes a packet for the BlockAck of an exchange, of 64 numbers or of 256 (`wide`), or nothing if the
+/// exchange is not open.
 fn write_block_ack<K: Sink>(
     cell: &Cell,
     exchange: u64,
@@ -80,7 +81,7 @@ fn write_block_ack<K: Sink>(
     }
 }
 
-/// Writes the packets of a call, by the cell behind it and its answer.
+/// Writes the packets of a call, from its answer and the cell after it.
 pub(crate) fn write_frames<K: Sink>(
     cell: &Cell,
     note: &Note,

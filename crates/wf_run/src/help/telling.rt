@@ -1,4 +1,4 @@
-//! What the program tells of itself, written.
+//! Writes the help and the version.
 
 ghost use Rattle.std.specs.Prelude.{◌≡◌, ◌≢◌, ℕ, List};
 ghost use Rattle.std.specs.Io.KnownBytes.{append_known};
@@ -23,7 +23,7 @@ fn told<K: Sink>(text: &[u8], sink: &mut K) -> Status
     }
 }
 
-/// Writes the help of a command, or of all.
+/// Writes the help on a topic.
 pub fn help<K: Sink>(topic: Topic, sink: &mut K) -> Status
     ensures text { (written : List ℕ) × (K.held sink.new ≡ append_known (K.held sink.old) written) ×
         TellingStatusSays result (help_text topic) written }
@@ -43,7 +43,7 @@ pub fn version<K: Sink>(sink: &mut K) -> Status
     told(VERSION, sink)
 }
 
-/// The ways to call the program, a line each.
+/// Returns the usage: the ways to call the program, one per line.
 pub fn usage() -> &'static str {
     USAGE
 }

@@ -1,11 +1,11 @@
-//! The texts of the help, each once: the clauses cite them, the script ./wf prints them from here where no
-//! program is built, and checks/help compares what both print.
+//! The texts of the help. The contracts cite these constants, the script ./wf prints them from this file if
+//! no program is built, and checks/help compares both outputs.
 
-/// What `wf --version` writes. The file VERSION at the top of the repository has the number.
+/// The text that `wf --version` writes. The number is in the file VERSION at the top of the repository.
 pub const VERSION: &[u8] = b"wf 1.0.0
 ";
 
-/// What words that are no command are answered with.
+/// The text for words that are no command.
 pub const USAGE: &str = "usage: wf replay [--pcap] < TRACE
        wf frames < CAPTURE
        wf session < SCRIPT
@@ -16,41 +16,41 @@ pub const USAGE: &str = "usage: wf replay [--pcap] < TRACE
        wf --version
 ";
 
-/// All commands, a line each.
+/// All commands, one per line.
 pub const OVERVIEW: &[u8] = b"wf: the transmit path of a Wi-Fi access point, driven by text
 
-  wf replay < TRACE             plays a trace of calls, and answers each with a line
-  wf replay --pcap < TRACE      writes what the trace puts on the air, as a capture
-  wf frames < CAPTURE           lists the packets of a capture
-  wf session < SCRIPT           plays ADDBA messages on the two ends of an agreement
-  wf uplink < SCRIPT            plays what stations send, and tells what goes up, in order
-  wf soak SEED CALLS            plays calls made up from a number, and writes the summary
-  wf live SEED SENDERS FRAMES   has threads make calls, and writes their trace and its summary
-  wf help COMMAND               tells of a command; wf COMMAND --help does so too
-  wf help faults                tells what can be wrong with a trace or a script
-  wf --version                  tells the version
+  wf replay < TRACE             runs a trace of calls, and writes an answer line for each call
+  wf replay --pcap < TRACE      writes what the trace puts on the air, as a capture file
+  wf frames < CAPTURE           lists the packets of a capture file
+  wf session < SCRIPT           runs a script of ADDBA messages on both ends of an agreement
+  wf uplink < SCRIPT            runs a script of received frames, and lists those passed up
+  wf soak SEED CALLS            runs a random history of calls, and writes its summary
+  wf live SEED SENDERS FRAMES   runs threads that share a cell; writes their trace and summary
+  wf help COMMAND               describes a command, as wf COMMAND --help does
+  wf help faults                lists what can be wrong with a trace or a script
+  wf --version                  writes the version
 
-Commands read standard input, and take no name of a file: wf replay < FILE.
+Commands read standard input and take no file names: wf replay < FILE.
 
-Status: 0 done, 1 no command, 2 a fault in the input, 3 a read failed, 4 a write failed,
-5 no memory. After a fault the last line on standard output is: fault line N KIND.
+Status: 0 done, 1 not a command, 2 a fault in the input, 3 a read failed, 4 a write failed,
+5 out of memory. After a fault the last line on standard output is: fault line N KIND.
 
 Example: wf replay < examples/one-frame.trace
 ";
 
-/// The command `replay`.
+/// The help on `replay`.
 pub const REPLAY: &[u8] = b"wf replay < TRACE
 wf replay --pcap < TRACE
 
 Reads a trace of calls from standard input. Writes an answer line for each call before it
-reads on, and a summary after the line end. With --pcap it writes a capture file of what the
-trace puts on the air instead.
+reads on, and a summary after the line end. With --pcap, it writes a capture file instead:
+what the trace puts on the air.
 
 A trace is a head, then calls, then the line end:
 
   cell [NAME=NUMBER ..]           the head, with settings (below)
   join S W START X [WEIGHT]       station and window, 0..65535; first number, 0..65535;
-                                  exponent, 0..255; weight, 0..255 (1 where it is left out)
+                                  exponent, 0..255; weight, 0..255 (default 1)
   leave S                         station, 0..65535
   rate S MCS MHZ GUARD            HT: MCS, 0..255; MHz, 0..255; long or short
   rate S vht MCS MHZ GUARD N      VHT: and streams, 0..255
@@ -73,86 +73,87 @@ Settings: stations=1..256 flows=1..4096 limit=1..65535 room=1..131072 flow_quant
 quantum=100..10000 inflight=1..8 attempts=1..64 agg=1..256 cap=3000..5400 sleeping=1..65535
 calls=1..4294967295 charge=0..65535
 
-Words are parted by spaces. A line whose first octet that is no space is # is skipped. Before
-a call may stand its caller, @0 to @65535. A number is 1 to 10 decimal digits, without a zero
-in front. A line has at most 160 printable ASCII characters.
+Words are separated by spaces. A line that begins with #, after any spaces, is a comment and
+is skipped. A call line may begin with its caller, @0 to @65535. A number has 1 to 10 decimal
+digits and no leading zeros. A line has at most 160 printable ASCII characters.
 
 Example: (echo cell; echo join 0 64 100 3; echo enq 0 0 7 1500; echo end) | wf replay
 
-docs/TRACE.md has all of it, docs/MACHINE.md what each call does, docs/CAPTURES.md the capture.
+docs/TRACE.md describes traces, docs/MACHINE.md the calls, and docs/CAPTURES.md captures.
 ";
 
-/// The command `soak`.
+/// The help on `soak`.
 pub const SOAK: &[u8] = b"wf soak SEED CALLS
 
-Reads nothing. Makes up a history of calls from a number, plays it, and writes the summary.
-The same number has always the same history.
+Reads nothing. Runs a random history of CALLS calls, and writes its summary. The same SEED
+and CALLS always give the same history.
 
   SEED     0..18446744073709551615
   CALLS    1..1000000
 
 Example: wf soak 1 200000
 
-docs/TRACE.md tells of the summary.
+docs/TRACE.md describes the history and the summary.
 ";
 
-/// The command `live`.
+/// The help on `live`.
 pub const LIVE: &[u8] = b"wf live SEED SENDERS FRAMES
 
-Reads nothing. Has threads share one cell: senders, each with its frames, and four drivers.
-Writes the trace of all their calls in the order in which they were made, which wf replay
-takes, and behind it the summary.
+Reads nothing. Runs threads that share one cell: senders, each with FRAMES frames, and four
+drivers. Writes the trace of all their calls in the order in which they were made, and then
+the summary. wf replay accepts the trace.
 
   SEED     0..18446744073709551615
   SENDERS  1..8
-  FRAMES   1..10000, of each sender
+  FRAMES   1..10000, for each sender
 
 Example: wf live 1 4 100
 
-docs/TRACE.md tells of traces and of the summary.
+docs/TRACE.md describes traces and the summary.
 ";
 
-/// The command `session`.
+/// The help on `session`.
 pub const SESSION: &[u8] = b"wf session < SCRIPT
 
-Reads a script from standard input, and plays it on the two ends of a block acknowledgement
-agreement: a, which asks for it, and b, which makes it. Writes the state of both ends behind
-each event before it reads on, and after the line end how many messages each end sent.
+Reads a script from standard input, and runs it on both ends of a block acknowledgement
+agreement: a, the originator, which asks for it, and b, the recipient, which makes it. After
+each event it writes the state of both ends before it reads on, and after the line end how
+many messages each end sent.
 
-  ask W START    a asks for a window of W, 1..256, from START on, 0..4095
-  again          a asks the same again
-  to X I         the message I of the other end, counted from 0, arrives at X: a or b
+  ask W START    a asks for a window of W numbers, 1..256, from START on, 0..4095
+  again          a sends its last request again
+  to X I         the other end's message I, counted from 0, arrives at X, which is a or b
   close X        X ends its agreement
-  restart X      X is new
+  restart X      X loses its state, except its last token
   end
 
 At most 65536 events. Lines, words and comments are as in a trace (wf help replay).
 
 Example: (echo ask 64 100; echo to b 0; echo to a 0; echo end) | wf session
 
-docs/SESSION.md has all of it.
+docs/SESSION.md describes scripts and answers.
 ";
 
-/// The command `uplink`.
+/// The help on `uplink`.
 pub const UPLINK: &[u8] = b"wf uplink < SCRIPT
 
-Reads a script of what stations send from standard input. Writes which frames go up, in order,
-behind each event before it reads on, and after the line end how many.
+Reads a script of what stations send from standard input. After each event it writes which
+frames are passed up, in order, before it reads on, and after the line end how many.
 
   open S W START          station, 0..255; window, 1..256; first number, 0..4095
   rate S MCS MHZ GUARD    MCS, 0..15; 20 or 40; long or short
   tick MICROSECONDS       0..10000000
-  frame HEX               octets off the air: 2 to 100 digits, an even number of 0-9 and a-f
+  frame HEX               received octets: 2 to 100 digits 0-9 and a-f, an even number of them
   end
 
 Lines, words and comments are as in a trace (wf help replay).
 
 Example: wf uplink < examples/hole.uplink
 
-docs/UPLINK.md has all of it.
+docs/UPLINK.md describes scripts and answers.
 ";
 
-/// The command `frames`.
+/// The help on `frames`.
 pub const FRAMES: &[u8] = b"wf frames < CAPTURE
 
 Reads a capture file (pcap, version 2.4, link type 105: IEEE 802.11) from standard input, and
@@ -161,28 +162,28 @@ BlockAckReq and BlockAck the TID and the number. A packet has at most 262144 oct
 
 Example: wf frames < examples/five.pcap
 
-docs/CAPTURES.md has all of it.
+docs/CAPTURES.md describes captures and their faults.
 ";
 
-/// What can be wrong with a trace or a script.
+/// The help on faults of traces and scripts.
 pub const FAULTS: &[u8] = b"A fault ends a trace or a script.
 
-The last line on standard output is then: fault line N KIND. Lines count from 1, skipped
-ones too; a fault at the end of the input stands on the line behind the last. Of several kinds
-in one line the first of these is told:
+The last line on standard output is then: fault line N KIND. Lines count from 1, including
+skipped ones. A fault at the end of the input is on the line after the last. If a line has
+several faults, the first of these kinds is reported:
 
   too-big    the line does not end within the first 1099511627776 octets of the input
-  long-line  it has more than 160 characters, a comment too
-  not-ascii  an octet is not in 32..126, in a comment too: a tab (9), a letter outside ASCII,
-             a carriage return (13), with which lines of a text from Windows end (dos2unix)
-  word       a word is unknown: a call, a setting, or none of bk be vi vo, long short,
-             heard lost, a b, all in small letters; or cell stands where it may not
-  count      there are too many words or too few; a comment behind a call counts as words
-  number     a word is no number: one to ten digits, without a zero in front
+  long-line  the line has more than 160 characters (comments too)
+  not-ascii  an octet is not in 32..126 (comments too): a tab (9), a letter outside ASCII, or a
+             carriage return (13), as at the ends of lines from Windows (use dos2unix)
+  word       a call, an event, a setting or another word is unknown or not allowed there; words
+             are in small letters: bk be vi vo, long short, heard lost, a b
+  count      there are too many or too few words; a comment after a call counts as words
+  number     a number is malformed: expected 1 to 10 digits without leading zeros
   range      a number is out of its range (wf help replay, wf help session, wf help uplink)
   no-head    the first line of a trace is not cell
   no-end     the input ends without the line end
-  too-long   it is one call more than the head allows, or the 65537th event of a session
+  too-long   there are more calls than the head allows, or more than 65536 events in a session
 
-docs/TRACE.md has all of it. The faults of captures are in docs/CAPTURES.md.
+docs/TRACE.md describes faults in full. The faults of captures are in docs/CAPTURES.md.
 ";

@@ -1,11 +1,11 @@
-//! What help can be asked for.
+//! The topics of the help.
 
 ghost use Rattle.std.specs.Prelude.{◌≡◌};
 ghost use Rattle.wf_run.specs.Topics.{help_text, topic_word, topic_named};
 
 use crate::help::texts;
 
-/// What help is asked for: all commands, one, or the faults of inputs.
+/// A topic of the help: all commands, one command, or the faults of inputs.
 #[derive(Clone, Copy)]
 pub enum Topic {
     Overview,
@@ -15,7 +15,7 @@ pub enum Topic {
     Session,
     Uplink,
     Frames,
-    /// What can be wrong with a trace or a script.
+    /// The faults that a trace or a script can have.
     Faults,
 }
 
@@ -30,7 +30,7 @@ const NAMED: [Topic; 7] = [
 ];
 
 impl Topic {
-    /// Its word: that of the command; `help` for all commands.
+    /// Returns the word of a topic: the command's, or `help` for all commands.
     pub fn word(self) -> &'static [u8]
         ensures { result.now ≡ topic_word self }
     {
@@ -46,7 +46,7 @@ impl Topic {
         }
     }
 
-    /// The one that a word names; none names all commands.
+    /// Returns the topic that has this word. `help`, the word for all commands, is not accepted.
     #[tactic(auto, unfolding(crate::specs::Topics::topic_named))]
     pub fn named(word: &[u8]) -> Option<Topic>
         ensures { result ≡ topic_named word.now }
@@ -54,7 +54,8 @@ impl Topic {
         NAMED.iter().copied().find(|topic| topic.word() == word)
     }
 
-    /// Its help: lines of at most 95 printable characters, which end in the octet 10.
+    /// Returns the help on a topic: lines of at most 95 printable characters, each of which ends in the octet
+    /// 10.
     pub fn text(self) -> &'static [u8]
         ensures { result.now ≡ help_text self }
     {

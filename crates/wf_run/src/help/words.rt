@@ -1,4 +1,4 @@
-//! The commands, by the words of the command line.
+//! Parses the words of the command line.
 
 ghost use Rattle.std.specs.Prelude.{◌≡◌, ◌≤◌, IfSome, map, string_bytes};
 ghost use Rattle.std.specs.List.{list_any};
@@ -8,37 +8,37 @@ use crate::help::Topic;
 use wf_io::value_of;
 use wf_trace::is_plain_number;
 
-/// What the words of the command line ask for.
+/// A command, as the words of the command line ask for it.
 #[derive(Clone, Copy)]
 pub enum Command {
     /// Replay the trace on standard input.
     Replay,
-    /// Replay the trace on standard input as a capture file.
+    /// Replay the trace on standard input, and write a capture file.
     Capture,
-    /// Play the soak of this seed, and of so many calls: 1 to 1,000,000.
+    /// Run the soak of this seed with `calls` calls, 1 to 1,000,000.
     Soak {
         seed: u64,
         calls: u32,
     },
-    /// Run so many senders on threads, 1 to 8, each with so many frames: 1 to 10,000; and four drivers.
+    /// Run `senders` senders, 1 to 8, each with `frames` frames, 1 to 10,000, and four drivers on threads.
     Live {
         seed: u64,
         senders: u32,
         frames: u32,
     },
-    /// Play the script on standard input on two ends of an agreement.
+    /// Run the script on standard input on both ends of an agreement.
     Session,
-    /// Play the script on standard input on the uplink of 256 stations.
+    /// Run the script on standard input on the uplink of 256 stations.
     Uplink,
     /// List the packets of the capture file on standard input.
     Frames,
-    /// Tell of a command, or of all.
+    /// Write the help on a topic.
     Help(Topic),
-    /// Tell the version.
+    /// Write the version.
     Version,
 }
 
-/// The number that a word is, where it lies between two.
+/// Returns the number that a word is, if it is at least `low` and at most `high`.
 #[tactic(auto, unfolding(crate::specs::Commands::number_within))]
 fn number_within(low: u64, high: u64, word: &[u8]) -> Option<u64>
     ensures value { result ≡ number_within low high word.now }
@@ -91,14 +91,14 @@ fn live_of(seed: Option<u64>, senders: Option<u64>, frames: Option<u64>) -> Opti
     }
 }
 
-// Whether a word asks for help wherever it stands.
+// Returns whether a word asks for help, wherever it is in the command line.
 fn asks_help(word: &[u8]) -> bool
     ensures { result ≡ asks_help word.now }
 {
     word == b"--help".as_slice() || word == b"-h".as_slice()
 }
 
-// Whether one of the words does.
+// Returns whether one of the words asks for help.
 fn any_asks_help(words: &[String]) -> bool
     ensures { result ≡ list_any asks_help (map string_bytes words.now) }
 {
@@ -108,7 +108,7 @@ fn any_asks_help(words: &[String]) -> bool
     }
 }
 
-// The command of which words that ask for help want to know: the first that one of them names, or all.
+// Returns the topic of the first word that has one, or all commands.
 fn topic_among(words: &[String]) -> Topic
     ensures { result ≡ topic_among (map string_bytes words.now) }
 {
@@ -121,7 +121,7 @@ fn topic_among(words: &[String]) -> Topic
     }
 }
 
-// The help on the command that a word names.
+// Returns the command that writes the help on the topic with this word.
 #[tactic(auto, unfolding(crate::specs::Commands::help_on))]
 fn help_on(word: &[u8]) -> Option<Command>
     ensures command { result ≡ help_on word.now }
@@ -133,7 +133,7 @@ fn help_on(word: &[u8]) -> Option<Command>
     }
 }
 
-/// The command that the words are, if they are one.
+/// Returns the command that the words ask for, if they are a command.
 pub fn command_from(words: &[String]) -> Option<Command>
     ensures command { result ≡ command_of (map string_bytes words.now) }
     ensures calls { IfSome result HasCallsInRange }
@@ -145,7 +145,7 @@ pub fn command_from(words: &[String]) -> Option<Command>
     }
 }
 
-// The same, where no word asks for help wherever it stands.
+// Returns the command that the words ask for, if none of them is `--help` or `-h`.
 fn played_command_from(words: &[String]) -> Option<Command>
     ensures command { result ≡ played_command_of (map string_bytes words.now) }
     ensures calls { IfSome result HasCallsInRange }
@@ -164,7 +164,7 @@ fn played_command_from(words: &[String]) -> Option<Command>
     }
 }
 
-// A command of one word.
+// Returns the command of one word.
 #[tactic(auto, unfolding(crate::specs::Commands::word_command))]
 fn word_command(word: &[u8]) -> Option<Command>
     ensures command { result ≡ word_command word.now }
@@ -187,7 +187,7 @@ fn word_command(word: &[u8]) -> Option<Command>
     }
 }
 
-// A command of two words.
+// Returns the command of two words.
 #[tactic(auto, unfolding(crate::specs::Commands::two_words_command))]
 fn two_words_command(word: &[u8], option: &[u8]) -> Option<Command>
     ensures command { result ≡ two_words_command word.now option.now }
@@ -202,7 +202,7 @@ fn two_words_command(word: &[u8], option: &[u8]) -> Option<Command>
     }
 }
 
-// A command of three words.
+// Returns the command of three words.
 #[tactic(auto, unfolding(crate::specs::Commands::soak_command))]
 fn soak_command(word: &[u8], seed: &[u8], calls: &[u8]) -> Option<Command>
     ensures command { result ≡ soak_command word.now seed.now calls.now }
@@ -218,7 +218,7 @@ fn soak_command(word: &[u8], seed: &[u8], calls: &[u8]) -> Option<Command>
     }
 }
 
-// A command of four words.
+// Returns the command of four words.
 #[tactic(auto, unfolding(crate::specs::Commands::live_command))]
 fn live_command(word: &[u8], seed: &[u8], senders: &[u8], frames: &[u8]) -> Option<Command>
     ensures command { result ≡ live_command word.now seed.now senders.now frames.now }

@@ -1,4 +1,4 @@
-//! A worker's calls at the gate.
+//! The calls of a worker at the gate.
 
 ghost use Rattle.std.specs.Prelude.{◌≡◌, ◌+◌, ◌≤◌, length, OnOk, OnErr, IfOk};
 ghost use Rattle.wf_frame.specs.Answers.{reply_of};
@@ -14,10 +14,11 @@ use wf_cell::{Answered, Asking};
 use wf_frame::Answer;
 use wf_gate::{Gate, Seat, TryFault, Turnstile};
 
-/// The answer's box comes back: with the answer, or as it was where the seat was spent.
+/// The box of the answer, returned after a call: filled if the call was made, unchanged if the seat had no
+/// call left.
 pub(crate) type Back = Result<Box<Answer, Global>, Box<Answer, Global>>;
 
-// What comes back beside the answer is let go.
+// Drops everything that a call returned except the answer.
 fn answer_in(answered: Answered) -> Box<Answer, Global>
     ensures { result ≡ answered.answer }
 {
@@ -26,14 +27,15 @@ fn answer_in(answered: Answered) -> Box<Answer, Global>
     answer
 }
 
-// A call that was not made is let go.
+// Drops the job of a call that was not made.
 fn answer_back(asking: Asking) -> Box<Answer, Global> {
     let Asking { job, answer } = asking;
     drop(job);
     answer
 }
 
-/// A call at the gate, between the two calls of the turnstile. It may wait for other seats.
+/// Makes a call at the gate, and calls the turnstile before and after it. It may wait for other seats.
+/// Returns `Err` if the seat has no call left.
 pub(crate) fn call_at<R: Wait, T: Turnstile>(
     rt: &R,
     gate: &Gate<Record>,
@@ -58,7 +60,8 @@ pub(crate) fn call_at<R: Wait, T: Turnstile>(
     }
 }
 
-/// The same by a try, and by a call that may wait where the try found others at the gate.
+/// Makes a call by `try_call`, which does not wait; if other seats are at the gate, it makes the call by
+/// `call_at`, which may wait. Returns `Err` if the seat has no call left.
 pub(crate) fn call_at_once<R: Wait, T: Turnstile>(
     rt: &R,
     gate: &Gate<Record>,

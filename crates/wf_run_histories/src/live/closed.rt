@@ -1,4 +1,4 @@
-//! The record of the calls, once the workers are done.
+//! The record after all workers have finished.
 
 ghost use Rattle.std.specs.Prelude.{◌≡◌, ◌≤◌, ℕ, All, IfOk};
 ghost use Rattle.wf_frame.specs.Settings.{standard};
@@ -14,7 +14,7 @@ use std::thread::Threads;
 use wf_cell::record::Record;
 use wf_gate::{Gate, Seat, Turnstile};
 
-// The record, once all workers have given their seats back.
+// Closes the gate with all its seats, and returns the record.
 fn close(gate: Gate<Record>, seats: Vec<Seat<Record>>) -> Record
     requires own { All (IsOf gate) seats.items }
     requires all { AreAll gate seats.items }
@@ -27,13 +27,13 @@ fn close(gate: Gate<Record>, seats: Vec<Seat<Record>>) -> Record
         IsLiveHistory seed senders frames result.past.history }
 {
     let cell = gate.close(seats);
-    // A history has at most as many entries as the settings allow.
+    // The contract of `len` states that a history has at most as many entries as the settings allow.
     let _ = cell.len();
     cell
 }
 
-/// The record, after so many senders, 1 to 8, each with so many frames, 1 to 10,000, and four drivers were
-/// run at one gate before it. Fails only for want of memory.
+/// Runs `senders` senders, 1 to 8, each with `frames` frames, 1 to 10,000, and four drivers at a gate, and
+/// returns the record with their calls. Fails only if memory runs out.
 pub(crate) fn run<R: Threads + Wait + Sync, T: Turnstile + Sync>(
     rt: &R,
     alloc: Global,

@@ -1,4 +1,4 @@
-//! The command.
+//! The command `live`, over any sink.
 
 ghost use Rattle.std.specs.Prelude.{◌≡◌, ◌≤◌, ℕ};
 ghost use Rattle.wf_frame.specs.Settings.{standard};
@@ -14,7 +14,7 @@ use wf_cell::record::Record;
 use wf_gate::Turnstile;
 use wf_io::{Sink, Status};
 
-// Writes the trace and the summary of what the workers did.
+// Writes the trace and the summary of the record.
 fn tell<K: Sink>(cell: &Record, sink: &mut K) -> Status
     requires standard { cell.now.past.config ≡ standard }
     requires live { (seed senders frames : ℕ) × (senders ≤ 8) ×
@@ -29,8 +29,10 @@ fn tell<K: Sink>(cell: &Record, sink: &mut K) -> Status
     }
 }
 
-/// Runs so many senders, 1 to 8, each with so many frames, 1 to 10,000, and four drivers on threads at one
-/// gate before one cell, and writes the trace of the history that they made, and its summary.
+/// Runs `senders` senders, 1 to 8, each with `frames` frames, 1 to 10,000, and four drivers on threads that
+/// share one cell. Writes the trace of the resulting history, and its summary.
+///
+/// `Status::NoMemory` means that memory ran out, and `Status::WriteFault` that the sink failed.
 pub fn lived<R: Threads + Wait + Sync, K: Sink, T: Turnstile + Sync>(
     rt: &R,
     alloc: Global,

@@ -1,4 +1,4 @@
-//! The crew.
+//! The crew: all workers of a run.
 
 ghost use Rattle.std.specs.Prelude.{◌≡◌, ◌-◌, ◌≤◌, map, length, All, EachIndex, slice_get, Some, Ok, IfOk};
 ghost use Rattle.wf_gate.specs.Seats.{AreAll, IsOf, new_seat};
@@ -13,7 +13,7 @@ use std::thread::Threads;
 use wf_cell::record::Record;
 use wf_gate::{Gate, Seat, Turnstile};
 
-// All values, where there is no error among them.
+// Returns all values. Fails if one of the results is an error or memory runs out.
 pub(crate) fn all_of<V: Drop>(
     alloc: Global,
     results: Vec<Result<V, AllocError>>,
@@ -27,7 +27,7 @@ pub(crate) fn all_of<V: Drop>(
     Ok(values)
 }
 
-// Each worker works at its seat, on a thread of its own where one can be made.
+// Runs each worker at its seat, on a separate thread if one can be created.
 fn run_all<R: Threads + Wait + Sync, T: Turnstile + Sync>(
     rt: &R,
     alloc: Global,
@@ -49,11 +49,13 @@ fn run_all<R: Threads + Wait + Sync, T: Turnstile + Sync>(
     Ok(back)
 }
 
-/// Runs the workers of `live` at the seats of a gate, each on a thread of its own where one can be made, and
-/// else on this one, and gives the seats back in their places. The last four seats are the drivers' of bk,
-/// be, vi and vo, 150,000 calls each. The others are the senders', 1 to 8 of them: each makes `frames`
-/// frames, 1 to 10,000, and then a tick. Round each call at the gate the turnstile is called, with the number
-/// of the seat. After want of memory the seats are dropped.
+/// Runs the workers of `live` at the seats of a gate, each on a separate thread if one can be created and on
+/// this thread otherwise. Returns the seats in their order.
+///
+/// The last four seats are the drivers', of bk, be, vi and vo, with 150,000 calls each. The others are the
+/// senders', 1 to 8 of them: each makes `frames` frames, 1 to 10,000, and then a tick. The turnstile is
+/// called before and after each call at the gate, with the number of the seat. If memory runs out, the seats
+/// are dropped.
 pub fn work<R: Threads + Wait + Sync, T: Turnstile + Sync>(
     rt: &R,
     alloc: Global,
@@ -72,12 +74,12 @@ pub fn work<R: Threads + Wait + Sync, T: Turnstile + Sync>(
     requires some { 1 ≤ frames }
     requires few { frames ≤ 10000 }
 
-    // the seats come back, each in its place
+    // the seats are returned in their order
     ensures places { IfOk result (λ back. map (λ s. s.number) back.items ≡ map (λ s. s.number) seats.items) }
     ensures own { IfOk result (λ back. All (IsOf gate.now) back.items) }
     ensures all { IfOk result (λ back. AreAll gate.now back.items) }
 
-    // each sender made its calls, whole and in order, and each driver a walk that ended
+    // each sender made all its calls in order, and each driver a walk that ended or used up its calls
     ensures worked { IfOk result (λ back. All
         (IsWorked gate.now seed (length seats.items - driver_count) frames) back.items) }
 {

@@ -1,4 +1,4 @@
-//! A worker's desk at the gate.
+//! A desk with a seat at the gate.
 
 ghost use Rattle.std.specs.Prelude.{◌≡◌, ◌+◌, ◌≤◌, length, is_some, true, OnOk, OnErr, IfOk, IsOk, IsErr};
 ghost use Rattle.wf_gate.specs.Seats.{IsOf};
@@ -16,7 +16,7 @@ use wf_frame::{Answer, Ask};
 use wf_gate::{Gate, Seat, Turnstile};
 use wf_queue_parts::chain::Parcel;
 
-/// Where one worker sits: its seat at a gate, and the answer that goes in with each call and comes back.
+/// The desk of one worker: its seat at a gate, and the answer that each call fills.
 #[derive(Drop)]
 pub(crate) struct GateDesk<'a, R, T> {
     pub(crate) rt: &'a R,
@@ -28,7 +28,7 @@ pub(crate) struct GateDesk<'a, R, T> {
     ghost ready: { is_some answer ≡ true },
 }
 
-// Puts the answer's box back in its place. Tells whether the call was made.
+// Stores the answer's box again, and returns whether the call was made.
 fn put_back(place: &mut Option<Box<Answer, Global>>, back: Back) -> Result<(), Spent>
     ensures made { OnOk result (IfOk back (λ answer. place.new ≡ Some answer)) }
     ensures was_made { OnOk result (IsOk back) }
@@ -48,7 +48,7 @@ fn put_back(place: &mut Option<Box<Answer, Global>>, back: Back) -> Result<(), S
 }
 
 impl<'a, R: Wait, T: Turnstile> GateDesk<'a, R, T> {
-    // A call that waits for its turn.
+    // Makes a call that waits for its turn.
     fn call(&mut self, job: Job) -> Result<(), Spent>
         ensures made { OnOk result (Adds HasMade left_of self.old.seat self.new.seat (note_of job)
             (reply_in self.new.answer)) }
@@ -64,7 +64,7 @@ impl<'a, R: Wait, T: Turnstile> GateDesk<'a, R, T> {
         put_back(&mut self.answer, back)
     }
 
-    // A call by a try first.
+    // Makes a call that first tries not to wait.
     fn call_at_once(&mut self, job: Job) -> Result<(), Spent>
         ensures made { OnOk result (Adds HasMade left_of self.old.seat self.new.seat (note_of job)
             (reply_in self.new.answer)) }

@@ -1,4 +1,4 @@
-//! The history of a record, as it is written.
+//! Writes the history of a record.
 
 ghost use Rattle.std.specs.Prelude.{◌≡◌, OnOk, length};
 ghost use Rattle.std.specs.Io.KnownBytes.{append_known};
@@ -44,8 +44,8 @@ impl<'a> Entries for Kept<'a> {
     }
 }
 
-/// Writes the trace and the summary of a record's history. After a fault some octets from the front have been
-/// written.
+/// Writes the trace and the summary of a record's history. After a failed write the sink holds a prefix of
+/// the text.
 pub(crate) fn write_history<K: Sink>(cell: &Record, sink: &mut K) -> Result<(), Failed>
     requires standard { cell.now.past.config ≡ standard }
     requires printable { ArePrintable cell.now.past.history }

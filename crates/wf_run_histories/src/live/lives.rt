@@ -1,4 +1,4 @@
-//! The workers at the gate before a new record.
+//! Runs the workers at the gate of a new record.
 
 ghost use Rattle.std.specs.Prelude.{◌≡◌, ◌≤◌, ◌+◌, map, length, All, EachIndex, slice_get, Some, Ok, IfOk};
 ghost use Rattle.wf_frame.specs.Settings.{standard};
@@ -15,7 +15,7 @@ use std::thread::Threads;
 use wf_cell::record::Record;
 use wf_gate::{Gate, Seat, Turnstile};
 
-// The gate before a record to which the opening calls were made, and all its seats.
+// Returns the gate of a new record on which the opening calls were made, and all seats of the gate.
 fn open_gate(
     alloc: Global,
     senders: u32,
@@ -34,7 +34,7 @@ fn open_gate(
     Gate::new(alloc, opened.into_cell(), quotas.as_slice())
 }
 
-// The gate, and the seats where they came back. Else it is let go.
+// Returns the gate with the seats if there are seats, and otherwise drops the gate.
 fn with_seats<G: Drop, S>(gate: G, seats: Result<S, AllocError>) -> Result<(G, S), AllocError>
     ensures { IfOk result (λ r. (r.0 ≡ gate) × (seats ≡ Ok r.1)) }
 {
@@ -44,10 +44,12 @@ fn with_seats<G: Drop, S>(gate: G, seats: Result<S, AllocError>) -> Result<(G, S
     }
 }
 
-/// Runs so many senders, 1 to 8, each with so many frames, 1 to 10,000, and four drivers at one gate before
-/// one record: the gate, and all its seats in their order. The record has the standard settings and the
-/// opening calls when the gate is made. Round each call at the gate the turnstile is called. Fails only for
-/// want of memory; then gate and seats are dropped.
+/// Runs `senders` senders, 1 to 8, each with `frames` frames, 1 to 10,000, and four drivers at the gate of a
+/// new record, and returns the gate and all its seats in their order.
+///
+/// The record has the standard settings, and the opening calls are made before the gate opens. The turnstile
+/// is called before and after each call at the gate. Fails only if memory runs out; then the gate and the
+/// seats are dropped.
 pub fn live<R: Threads + Wait + Sync, T: Turnstile + Sync>(
     rt: &R,
     alloc: Global,
@@ -59,17 +61,17 @@ pub fn live<R: Threads + Wait + Sync, T: Turnstile + Sync>(
     requires senders { (1 ≤ senders) × (senders ≤ 8) }
     requires frames { (1 ≤ frames) × (frames ≤ 10000) }
 
-    // the gate was made once the opening calls were
+    // the gate was opened after the opening calls
     ensures opening { IfOk result (λ r. r.0.opening.machine.past
         ≡ record { config = standard; history = opening_calls senders }) }
     ensures quotas { IfOk result (λ r. r.0.opening.quotas ≡ quotas_of senders frames) }
 
-    // the seats are all that it gave, in their order
+    // the seats are all seats of the gate, in their order
     ensures places { IfOk result (λ r. map (λ s. s.number) r.1.items ≡ numbers_from 0 r.0.opening.quotas) }
     ensures own { IfOk result (λ r. All (IsOf r.0) r.1.items) }
     ensures all { IfOk result (λ r. AreAll r.0 r.1.items) }
 
-    // each sender made its calls, whole and in order, and each driver a walk that ended
+    // each sender made all its calls in order, and each driver a walk that ended or used up its calls
     ensures worked { IfOk result (λ r. All (IsWorked r.0 seed senders frames) r.1.items) }
 {
     let (gate, seats) = open_gate(alloc, senders, frames)?;

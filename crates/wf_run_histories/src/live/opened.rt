@@ -1,4 +1,4 @@
-//! The record before the gate is made, and the quotas of the seats.
+//! The record before its gate opens, and the quotas of the seats.
 
 ghost use Rattle.std.specs.Prelude.{◌≡◌, ◌+◌, ◌∷◌, ◌≤◌, ◌<◌, [], length, IfOk};
 ghost use Rattle.wf_frame.specs.Settings.{standard};
@@ -14,10 +14,10 @@ use wf_cell::Job;
 use wf_cell::record::Record;
 use wf_frame::{Answer, Ask, Config};
 
-// How many calls each of the four drivers may make.
+// The number of calls that each of the four drivers may make.
 const DRIVER_QUOTA: u32 = 150_000;
 
-/// A record to which the opening calls are made.
+/// A record on which the opening calls are made.
 #[derive(Drop)]
 pub(crate) struct Opened {
     cell: Record,
@@ -44,7 +44,7 @@ impl Opens for Opened {
 }
 
 impl Opened {
-    // No call was made.
+    // Returns a record with the standard settings and no calls.
     fn new(alloc: Global) -> Result<Opened, AllocError>
         ensures { IfOk result (λ o. o ≡ record { config = standard; history = [] }) }
     {
@@ -52,7 +52,8 @@ impl Opened {
         Ok(Opened { cell })
     }
 
-    /// The standard settings, and the opening calls of so many senders, at most 8.
+    /// Returns a record with the standard settings and the opening calls for `senders` stations, at most 8.
+    /// Fails only if memory runs out.
     pub(crate) fn with_stations(alloc: Global, senders: u32) -> Result<Opened, AllocError>
         requires { senders ≤ 8 }
         ensures { IfOk result (λ o. o ≡ record { config = standard; history = opening_calls senders }) }
@@ -62,7 +63,7 @@ impl Opened {
         Ok(opened)
     }
 
-    /// The record.
+    /// Returns the record.
     pub(crate) fn into_cell(self) -> Record
         ensures { result.past ≡ self }
     {
@@ -70,8 +71,8 @@ impl Opened {
     }
 }
 
-/// The quotas of the seats: a sender makes a call for each of its frames and one more, and each of the four
-/// drivers 150,000.
+/// Returns the quotas of the seats: a sender makes one call for each of its frames and one more, and each of
+/// the four drivers at most 150,000. Fails only if memory runs out.
 pub(crate) fn quotas(alloc: Global, senders: u32, frames: u32) -> Result<Vec<u32>, AllocError>
     requires { (senders ≤ 8) × (frames ≤ 10000) }
     ensures { IfOk result (λ q. q.items ≡ quotas_of senders frames) }

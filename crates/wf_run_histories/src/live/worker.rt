@@ -13,20 +13,20 @@ use wf_cell::record::Record;
 use wf_frame::{Answer, Class};
 use wf_gate::{Gate, Seat, Turnstile};
 
-/// How many drivers there are, one for each class.
+/// The number of drivers, one for each class.
 pub(crate) const DRIVERS: u32 = 4;
 
-/// What the workers of a crew have in common.
+/// The parameters that all workers of a crew share.
 #[derive(Clone, Copy)]
 pub(crate) struct Plan {
     pub(crate) seed: u64,
-    /// How many senders there are, 1 to 8. Their seats are the first.
+    /// The number of senders, 1 to 8. They have the first seats.
     pub(crate) senders: u32,
-    /// How many frames each sender makes.
+    /// The number of frames of each sender.
     pub(crate) frames: u32,
 }
 
-// The class of a driver.
+// Returns the class of a driver.
 fn class_of(driver: u16) -> Class
     ensures { result ≡ class_of_driver driver }
 {
@@ -39,7 +39,7 @@ fn class_of(driver: u16) -> Class
 }
 
 impl<'a, R: Wait, T: Turnstile> GateDesk<'a, R, T> {
-    /// A worker sits down at its desk.
+    /// Returns a desk for a worker.
     fn new(
         rt: &'a R,
         alloc: Global,
@@ -62,7 +62,7 @@ impl<'a, R: Wait, T: Turnstile> GateDesk<'a, R, T> {
     }
 }
 
-// Makes a worker's calls: a sender's where the seat is one of the first, and else a driver's.
+// Makes the calls of a worker: a sender's at the first `plan.senders` seats, a driver's at the others.
 fn make_calls<R: Wait, T: Turnstile>(
     desk: &mut GateDesk<'_, R, T>,
     alloc: Global,
@@ -80,7 +80,7 @@ fn make_calls<R: Wait, T: Turnstile>(
     Ok(())
 }
 
-/// A worker makes its calls and gives its seat back. Where it finds no memory, the seat is dropped.
+/// Makes the calls of one worker and returns its seat. If memory runs out, the seat is dropped.
 pub(crate) fn run_worker<R: Wait, T: Turnstile>(
     rt: &R,
     alloc: Global,

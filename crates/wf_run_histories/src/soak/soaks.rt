@@ -1,4 +1,4 @@
-//! The soak: a large history made from a number.
+//! The soak: a long random history, which is a function of a seed and a number of calls.
 
 ghost use Rattle.std.specs.Prelude.{◌≡◌, ◌-◌, ◌%◌, ◌≤◌, ◌<◌, IfOk, OnOk, Some, None, length, if◌then◌else◌};
 ghost use Rattle.wf_frame.specs.Answers.{reply_of};
@@ -18,8 +18,8 @@ use wf_cell::{Cell, Job};
 use wf_frame::{Answer, Ask, Brief, Class, Config, Frame, Refusal};
 use wf_queue_parts::chain::Parcel;
 
-/// A soak under way: the cell, whose history has the calls so far, the words to come, and how many calls are
-/// left.
+/// A soak in progress: the cell with the calls so far, the generator of random words, and the number of calls
+/// that are left.
 #[derive(Drop)]
 struct SoakRun {
     alloc: Global,
@@ -41,9 +41,9 @@ impl Model for SoakRun {
         × (length k.cell.past.history + k.left ≤ 1000000) };
 }
 
-/// The cell after the soak of a seed and a number of calls, 1 to 1,000,000: the standard settings, sixteen
-/// stations, and rounds of enqueues, pulls, losses and reaps until so many calls were made. Fails only for
-/// want of memory.
+/// Returns the cell after the soak of a seed and a number of calls, 1 to 1,000,000: the standard settings,
+/// sixteen stations, and rounds of enqueues, pulls, losses and reaps until that number of calls was made.
+/// Fails only if memory runs out.
 #[tactic(auto, unfolding(crate::specs::Soak::soak_history), using(crate::proofs::SoakLengths::soak_lengths))]
 pub fn soak(alloc: Global, seed: u64, calls: u32) -> Result<Cell, AllocError>
     requires { (1 ≤ calls) × (calls ≤ 1000000) }
@@ -73,7 +73,7 @@ impl SoakRun {
         })
     }
 
-    /// Makes a call, where one is left, and tells whether it did.
+    /// Makes a call if one is left, and returns whether it did.
     fn call(&mut self, job: Job, answer: &mut Answer) -> bool
         ensures made { self.new ≡ call (note_of job) self.old }
         ensures reply { (if result then Some (reply_of answer.new) else None)
@@ -89,7 +89,7 @@ impl SoakRun {
         true
     }
 
-    /// Makes a call without a frame, where one is left, and tells whether it did.
+    /// Makes a call without a frame if one is left, and returns whether it did.
     fn ask(&mut self, ask: Ask, answer: &mut Answer) -> bool
         ensures made { self.new ≡ call (Asked ask) self.old }
         ensures reply { (if result then Some (reply_of answer.new) else None)
@@ -100,7 +100,7 @@ impl SoakRun {
         self.call(Job::Call(ask), answer)
     }
 
-    /// Draws the next word.
+    /// Draws the next random word.
     fn draw(&mut self) -> u32
         ensures drawn { self.new ≡ drawn self.old }
         ensures word { result ≡ word self.old }
@@ -117,7 +117,7 @@ impl SoakRun {
         self.ask(standard_rate(station), answer);
     }
 
-    /// The sixteen stations join, each with its rate.
+    /// Makes the sixteen stations join, and sets their rates.
     fn stations_join(&mut self, answer: &mut Answer)
         ensures made { self.new ≡ stations_join 0 16 self.old }
         ensures later { IsLater self.old self.new }
@@ -127,7 +127,8 @@ impl SoakRun {
         }
     }
 
-    /// A frame from the next word, for the station that the word names.
+    /// Enqueues the frame that the next word determines, for the station that it determines. Fails only if
+    /// memory runs out.
     fn frame_put(&mut self, answer: &mut Answer) -> Result<(), AllocError>
         ensures made { OnOk result (self.new ≡ frame_put self.old) }
         ensures later { OnOk result (IsLater self.old self.new) }
@@ -139,7 +140,7 @@ impl SoakRun {
         Ok(())
     }
 
-    /// Every eighth round a station used some airtime.
+    /// Charges a station for receiving, every eighth round.
     fn air_used(&mut self, round: u32, answer: &mut Answer)
         ensures made { self.new ≡ air_used round self.old }
         ensures later { IsLater self.old self.new }
@@ -157,7 +158,7 @@ impl SoakRun {
         );
     }
 
-    /// Every 64 rounds a station sleeps; it polls 16 rounds later and wakes 32 rounds later.
+    /// Every 64 rounds, makes a station sleep; it polls 16 rounds later and wakes 32 rounds later.
     fn sleeper_called(&mut self, round: u32, answer: &mut Answer)
         ensures made { self.new ≡ sleeper_called round self.old }
         ensures later { IsLater self.old self.new }
@@ -177,7 +178,7 @@ impl SoakRun {
         }
     }
 
-    /// One transmission: nine words in ten let it arrive. Tells whether it did.
+    /// Plays one transmission, and returns whether it arrives: it does for nine of ten words.
     fn transmission_sent(&mut self, exchange: u64, index: u16, answer: &mut Answer) -> bool
         ensures made { self.new ≡ transmission_sent exchange index self.old }
         ensures arrived { result ≡ lets_arrive self.old }
@@ -190,7 +191,7 @@ impl SoakRun {
         true
     }
 
-    /// Each transmission of an exchange in turn. Tells whether one arrived.
+    /// Plays each transmission of an exchange in order, and returns whether one arrived.
     fn all_sent(&mut self, exchange: u64, count: u16, answer: &mut Answer) -> bool
         ensures made { self.new ≡ all_sent exchange 0 count self.old }
         ensures arrived { result ≡ some_arrive exchange 0 count self.old }
@@ -213,7 +214,7 @@ impl SoakRun {
         }
     }
 
-    /// An exchange is heard where it was answered, but for one word in twenty.
+    /// Ends an exchange. If it was answered, the answer is heard for nineteen of twenty words.
     fn exchange_ended(&mut self, answered: bool, exchange: u64, answer: &mut Answer)
         ensures made { self.new ≡ exchange_ended answered exchange self.old }
         ensures later { IsLater self.old self.new }
@@ -240,7 +241,7 @@ impl SoakRun {
         self.exchange_ended(answered, exchange, answer);
     }
 
-    /// What follows the reply to a pull.
+    /// Plays the exchange that a pull has begun, if it has begun one.
     fn sending_played(&mut self, sending: Option<(u64, u16)>, answer: &mut Answer)
         ensures made { self.new ≡ sending_played sending self.old }
         ensures later { IsLater self.old self.new }
@@ -250,8 +251,8 @@ impl SoakRun {
         }
     }
 
-    /// A pull of a class, where a call is left: the exchange that it begins, and how many transmissions that
-    /// has.
+    /// Pulls a class if a call is left. Returns the number of the exchange that this begins, and its number
+    /// of transmissions.
     fn pull(&mut self, class: Class, answer: &mut Answer) -> Option<(u64, u16)>
         ensures made { self.new ≡ call (Asked (Pull class)) self.old }
         ensures sending { result ≡ sending (reply_to (Asked (Pull class)) self.old) }
@@ -264,7 +265,7 @@ impl SoakRun {
         }
     }
 
-    /// A pull of a class, and the exchange that it begins.
+    /// Pulls a class, and plays the exchange that this begins.
     fn pulled(&mut self, class: Class, answer: &mut Answer)
         ensures made { self.new ≡ after_pull class self.old }
         ensures later { IsLater self.old self.new }
@@ -273,7 +274,7 @@ impl SoakRun {
         self.sending_played(sending, answer);
     }
 
-    /// A reap, where a call is left. Tells whether nothing was left to reap.
+    /// Reaps if a call is left. Returns whether the reap was made and found no finished frame.
     fn reap(&mut self, answer: &mut Answer) -> bool
         ensures made { self.new ≡ call (Asked Reap) self.old }
         ensures nothing { result ≡ is_nothing (reply_to (Asked Reap) self.old) }
@@ -283,7 +284,7 @@ impl SoakRun {
         self.ask(Ask::Reap, answer) && is_nothing(answer)
     }
 
-    /// Reaps until nothing is left to reap, or no call is left.
+    /// Reaps until no finished frame or no call is left.
     fn all_reaped(&mut self, answer: &mut Answer)
         ensures made { self.new ≡ after_all_reaps self.old }
         ensures later { IsLater self.old self.new }
@@ -313,7 +314,7 @@ impl SoakRun {
         Ok(())
     }
 
-    /// Rounds until no call is left, at most `most` of them.
+    /// Plays rounds until no call is left, at most `most` of them. Fails only if memory runs out.
     fn rounds_played(&mut self, most: u32, answer: &mut Answer) -> Result<(), AllocError>
         ensures made { OnOk result (self.new ≡ rounds_played most 0 self.old) }
         ensures later { OnOk result (IsLater self.old self.new) }
@@ -329,7 +330,7 @@ impl SoakRun {
     }
 }
 
-/// The frame that a word names, for the station that it names.
+/// Returns the enqueue that a word determines. Fails only if memory runs out.
 fn job_for(alloc: Global, word: u32) -> Result<Job, AllocError>
     ensures { IfOk result (λ job. note_of job ≡ frame_for (word % 16) word) }
 {
@@ -357,7 +358,7 @@ fn class_in_round(round: u32) -> Class
     }
 }
 
-/// The exchange that an answer begins, and how many transmissions it has.
+/// Returns the number of the exchange that an answer begins, and its number of transmissions.
 fn sending(answer: &Answer) -> Option<(u64, u16)>
     ensures { result ≡ sending (Some (reply_of answer.now)) }
 {

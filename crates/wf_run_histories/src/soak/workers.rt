@@ -1,11 +1,11 @@
-//! The workers of the command `live`, on no thread: senders, which put frames in (`send`), and drivers, which
-//! send them (`drive`). A worker makes its calls at a desk, which tells how many are left and keeps what was
-//! made; who runs the workers gives each a desk at a gate.
+//! The workers of the command `live`, without threads: senders, which enqueue frames (`send`), and drivers,
+//! which send them (`drive`). A worker makes its calls at a `Desk`, which counts the calls that are left and
+//! keeps those that were made. The code that runs the workers gives each one a desk at a gate.
 //!
-//! Beside them the opening calls, made before the gate is, to whatever has that one call; the standard
-//! stations, which a soak has too (`standard_join`, `standard_rate`); and the laws of
-//! what the workers' calls come to in a history: each can be printed, since an exchange that a driver names
-//! was begun before.
+//! The module also contains the opening calls, which are made before the gate opens (`open_stations`, over
+//! any type that `Opens`); the standard stations, which a soak has as well (`standard_join`,
+//! `standard_rate`); and the laws of the calls in a history: each call can be printed, since an exchange that
+//! a driver's call names has begun before it.
 
 mod desk;
 mod driver;

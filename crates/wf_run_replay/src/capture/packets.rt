@@ -1,4 +1,4 @@
-//! What a capture tells of a trace.
+//! The packets of a capture, call by call.
 
 use crate::{Plays, Tells};
 use wf_frame::Answer;
@@ -6,8 +6,8 @@ use wf_io::{Failed, Sink};
 use wf_report::captures::{write_head, write_packets};
 use wf_trace::Fault;
 
-/// The file header and the packets of each call, which are written as they are told. Of the end of a trace a
-/// capture tells nothing, nor of a fault.
+/// Writes the file header, and the packets of each call at once. It writes nothing for the end of the trace
+/// or for a fault.
 #[derive(Clone, Copy)]
 pub(crate) struct Packets;
 

@@ -1,4 +1,4 @@
-//! What is answered to an event, and what is written behind the line `end`.
+//! Writes the answer to an event, and the lines after the line `end`.
 
 ghost use Rattle.std.specs.Prelude.{◌≡◌, ◌+◌, ◌≤◌, ◌++◌, [], length};
 ghost use Rattle.wf_run_scripts.specs.SessionAnswers.{answer_of, ends_line, session_refusal_words, side_word, join_line, closing};
@@ -10,7 +10,7 @@ use crate::session::refusal::Refusal;
 use wf_io::{Line, Word};
 use wf_session::Agreement;
 
-// Appends an end's agreement, or `-`.
+// Appends the agreement of one end, or `-` if none is open.
 fn push_side(agreement: Option<Agreement>, out: &mut Line)
     requires { length out.old + 62 ≤ 8192 }
     ensures text { out.new ≡ out.old ++ side_word agreement }
@@ -28,7 +28,7 @@ fn push_side(agreement: Option<Agreement>, out: &mut Line)
     }
 }
 
-// Writes both ends to an empty line.
+// Writes the state of both ends to an empty line.
 fn print_ends(parley: &Parley, out: &mut Line)
     requires { out.old ≡ [] }
     ensures { out.new ≡ ends_line parley.now }
@@ -40,7 +40,7 @@ fn print_ends(parley: &Parley, out: &mut Line)
     out.push(b'\n');
 }
 
-// Writes why an event does not happen to an empty line.
+// Writes a refusal to an empty line.
 fn print_refusal(refusal: Refusal, out: &mut Line)
     requires { out.old ≡ [] }
     ensures { out.new ≡ line (codes "refused" ∷ session_refusal_words refusal) }
@@ -59,7 +59,7 @@ fn print_refusal(refusal: Refusal, out: &mut Line)
     out.push(b'\n');
 }
 
-/// Writes the answer to an event to an empty line: both ends behind it, or why it did not happen.
+/// Writes the answer to an event to an empty line: the state of both ends after it, or why it was refused.
 pub fn print_answer(refusal: Option<Refusal>, parley: &Parley, out: &mut Line)
     requires { out.old ≡ [] }
     ensures { out.new ≡ answer_of refusal parley.now }
@@ -70,7 +70,7 @@ pub fn print_answer(refusal: Option<Refusal>, parley: &Parley, out: &mut Line)
     }
 }
 
-// Appends the line of a trace that the agreement stands for.
+// Appends the `join` line of a trace with the parameters of the agreement, or `no agreement`.
 fn push_join(originators: Option<Agreement>, recipients: Option<Agreement>, out: &mut Line)
     requires { length out.old ≤ 100 }
     ensures { out.new ≡ out.old ++ join_line originators recipients }
@@ -90,8 +90,7 @@ fn push_join(originators: Option<Agreement>, recipients: Option<Agreement>, out:
     }
 }
 
-/// Writes to an empty line what stands behind the line `end`: how many messages each end sent, and what they
-/// agreed.
+/// Writes the text after the line `end` to an empty line: how many messages each end sent, and the agreement.
 pub fn print_closing(parley: &Parley, out: &mut Line)
     requires { out.old ≡ [] }
     ensures { out.new ≡ closing parley.now }

@@ -1,4 +1,4 @@
-//! The command.
+//! The command `session`, over any source and sink.
 
 ghost use Rattle.std.specs.Prelude.{◌≡◌, ℕ, List, Some};
 ghost use Rattle.wf_trace.specs.CommandEnds.{CommandEnds};
@@ -52,10 +52,12 @@ impl Answers for Parley {
     }
 }
 
-/// Reads a script from the source and plays it on two ends of TID 0, of which the recipient gives windows of
-/// at most 64 numbers. Writes the answer of each event before it reads the next, and behind the line `end`
-/// how many messages each end sent and what they agreed; where the script has a fault, the line of the fault
-/// in place of that. Octets after the `end` line are not looked at.
+/// Reads a script from the source and runs it on both ends of TID 0. The recipient gives windows of at most
+/// 64 numbers.
+///
+/// It writes the answer to each event before it reads the next one. After the line `end` it writes how many
+/// messages each end sent, and the agreement. If the script has a fault, it writes the fault line instead.
+/// Octets after the `end` line are ignored.
 pub fn session<S: Source, K: Sink>(alloc: Global, source: &mut S, sink: &mut K) -> Status
     ensures ends { CommandEnds S.left S.faults K.held K.faults SessionOutcome SessionAnswered
         source.old source.new sink.old sink.new result }

@@ -1,4 +1,4 @@
-//! What a line of a script says.
+//! Parses a line of a script.
 
 ghost use Rattle.std.specs.Prelude.{◌≡◌, IfOk};
 ghost use Rattle.wf_trace.specs.Words.{words};
@@ -9,14 +9,14 @@ use wf_octets::seq12::Seq12;
 use wf_session::Event;
 use wf_trace::{FaultKind, Value, end_at, long_at, next_word, read_all};
 
-// One event for the originator, and one for the recipient.
+// Returns the event for the originator, or the one for the recipient.
 fn by_end(recipient: bool, originators: Event, recipients: Event) -> Event
     ensures { result ≡ by_end recipient originators recipients }
 {
     if recipient { recipients } else { originators }
 }
 
-// The event with these arguments.
+// Returns the event with these arguments.
 fn made(verb: Verb, values: &[Value]) -> Event
     requires { AreInRange verb values.now }
     ensures event { result ≡ event_of verb values.now }
@@ -49,9 +49,9 @@ fn made(verb: Verb, values: &[Value]) -> Event
     }
 }
 
-/// The event that a line is, or the first that is wrong with it: that its first word names no event, or that
-/// an end is neither `a` nor `b`; that the number of its words is wrong; that an argument is not a number;
-/// that it is out of its range.
+/// Returns the event of a line, or the first fault of the line: `word` if the first word is not an event, or
+/// an end is neither `a` nor `b`; `count` if the number of words is wrong; `number` if an argument is not a
+/// number; `range` if it is out of its range.
 pub fn event_from(line: &[u8]) -> Result<Event, FaultKind>
     ensures says { result ≡ meant (words line.now) }
     ensures valid { IfOk result IsValidEvent }

@@ -1,4 +1,4 @@
-//! A message on its way.
+//! A message from one end to the other.
 
 ghost use Rattle.std.specs.Prelude.{◌≡◌, Ok};
 ghost use Rattle.wf_session.specs.Faults.{decoded_action};
@@ -7,7 +7,7 @@ ghost use Rattle.wf_session.specs.Layout.{CanBeWritten, action_octets};
 use std::marker::Model;
 use wf_session::{Action, encode_action};
 
-/// The octets of an action frame: at most 9.
+/// The octets of an action frame, at most 9.
 #[derive(Drop)]
 pub struct Message {
     octets: [u8; 9],
@@ -25,7 +25,7 @@ impl Model for Message {
 }
 
 impl Message {
-    /// The octets of an action, whose TID is below 8 and whose window is below 1024.
+    /// Encodes an action. Its TID is at most 7, and its window at most 1023.
     pub fn of(action: &Action) -> Message
         requires { CanBeWritten action.now }
         ensures octets { result ≡ action_octets action.now }
@@ -36,7 +36,7 @@ impl Message {
         Message { octets, size }
     }
 
-    /// The octets.
+    /// Returns the octets.
     pub fn octets(&self) -> &[u8]
         ensures { result.now ≡ self.now }
     {

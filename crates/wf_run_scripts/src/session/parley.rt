@@ -16,7 +16,7 @@ use std::marker::Model;
 use wf_octets::seq12::Seq12;
 use wf_session::{Accept, Action, Agreement, Event, Offer, OfferFault};
 
-/// The two ends of one TID's agreement, and all the messages that they ever sent, as octets.
+/// Both ends of one TID's agreement, and all messages that they have sent, as octets.
 #[derive(Drop)]
 pub struct Parley {
     tid: u8,
@@ -35,7 +35,7 @@ impl Model for Parley {
 
     ghost Value = { world.Parley };
 
-    // A message stands for the action that its octets are read as.
+    // The view has the actions to which the octets of the messages decode.
     ghost view = { λ p. record {
       originator = p.originator;
       recipient = p.recipient;
@@ -47,7 +47,7 @@ impl Model for Parley {
         All IsRead p.answers.items };
 }
 
-// Puts a message behind those that were sent, where there is one. After an error it is not there.
+// Appends a message to those that were sent, if there is one. After an error nothing is appended.
 fn send(sent: &mut Vec<Message>, action: Option<Action>) -> Result<(), AllocError>
     requires { IfSome action (λ a. CanBeWritten a) }
     ensures sent { OnOk result (map action_in sent.new.items
@@ -60,7 +60,7 @@ fn send(sent: &mut Vec<Message>, action: Option<Action>) -> Result<(), AllocErro
     Ok(())
 }
 
-// The octets of the message with this number, counted from 0, if there is one.
+// Returns the octets of the message with this number, counted from 0, if it was sent.
 fn octets_at(sent: &[Message], index: u32) -> Option<&[u8]>
     ensures { option_copied result ≡ slice_get sent.now index }
 {
@@ -68,8 +68,8 @@ fn octets_at(sent: &[Message], index: u32) -> Option<&[u8]>
 }
 
 impl Parley {
-    /// Two ends of a TID below 8, without a message; the recipient gives windows of at most `limit` numbers,
-    /// 1 to 256.
+    /// Returns both ends of a TID, 0 to 7, without messages. The recipient gives windows of at most `limit`
+    /// numbers, 1 to 256.
     pub fn new(alloc: Global, tid: u8, limit: u16) -> Parley
         requires tid { tid < 8 }
         requires limit { (1 ≤ limit) × (limit ≤ 256) }
@@ -85,36 +85,36 @@ impl Parley {
         }
     }
 
-    /// The originator's agreement, where one is open.
+    /// Returns the originator's agreement, if one is open.
     pub fn originators(&self) -> Option<Agreement>
         ensures { result ≡ originators self.now }
     {
         self.originator.state()
     }
 
-    /// The recipient's agreement, where one is open.
+    /// Returns the recipient's agreement, if one is open.
     pub fn recipients(&self) -> Option<Agreement>
         ensures { result ≡ recipients self.now }
     {
         self.recipient.state()
     }
 
-    /// How many messages the originator sent.
+    /// Returns the number of messages that the originator has sent.
     pub fn asks(&self) -> u64
         ensures { result ≡ length self.now.asks }
     {
         self.asks.len() as u64
     }
 
-    /// How many messages the recipient sent.
+    /// Returns the number of messages that the recipient has sent.
     pub fn answers(&self) -> u64
         ensures { result ≡ length self.now.answers }
     {
         self.answers.len() as u64
     }
 
-    /// An event happens, or it is refused and nothing changes. Memory may be wanting for the message of an
-    /// event that is not refused, and then an end may have gone on whose message was not sent.
+    /// Runs one event, or refuses it and changes nothing. Fails if memory runs out for the message of an
+    /// event that is not refused; then the end may have changed its state without sending the message.
     pub fn happen(&mut self, event: Event) -> Result<Option<Refusal>, AllocError>
         requires { IsValidEvent event }
         ensures refusal { IfOk result (λ r. r ≡ session_refusal event self.old) }
@@ -139,7 +139,7 @@ impl Parley {
         }
     }
 
-    // The originator asks.
+    // The originator sends a request.
     #[tactic(auto, unfolding(wf_session::specs::World::after_event))]
     fn ask(&mut self, window: u16, start: Seq12) -> Result<Option<Refusal>, AllocError>
         requires { (1 ≤ window) × (window ≤ 256) }
@@ -157,7 +157,7 @@ impl Parley {
         }
     }
 
-    // The originator sends its request once more.
+    // The originator sends its last request again.
     #[tactic(auto, unfolding(wf_session::specs::World::after_event))]
     fn again(&mut self) -> Result<Option<Refusal>, AllocError>
         ensures refusal { IfOk result (λ r. r ≡ session_refusal event.Again self.old) }
@@ -184,7 +184,7 @@ impl Parley {
         None
     }
 
-    // A message of the originator arrives, and what is answered to it is sent.
+    // A message of the originator arrives, and the recipient's response is sent.
     #[tactic(auto, unfolding(wf_session::specs::World::after_event))]
     fn to_recipient(&mut self, index: u32) -> Result<Option<Refusal>, AllocError>
         ensures refusal { IfOk result (λ r. r ≡ session_refusal (event.ToRecipient index) self.old) }
@@ -227,7 +227,7 @@ impl Parley {
         Ok(None)
     }
 
-    // The originator forgets all but its last token.
+    // The originator loses its state, except its last token.
     #[tactic(auto, unfolding(wf_session::specs::World::after_event))]
     fn restart_originator(&mut self)
         ensures { self.new ≡ after_event event.RestartOriginator self.old }
@@ -235,7 +235,7 @@ impl Parley {
         self.originator = Offer::new(self.tid, self.originator.last());
     }
 
-    // The recipient forgets all but its limit and its last token.
+    // The recipient loses its state, except its limit and its last token.
     #[tactic(auto, unfolding(wf_session::specs::World::after_event))]
     fn restart_recipient(&mut self)
         ensures { self.new ≡ after_event event.RestartRecipient self.old }

@@ -1,17 +1,17 @@
-/// Why an event does not happen.
+/// Why an event is refused.
 #[derive(Clone, Copy)]
 pub enum Refusal {
-    /// All 255 tokens were asked with.
+    /// The originator has used all 255 tokens.
     Spent,
     /// The originator has an agreement open.
     Open {
         /// The token of that agreement.
         token: u8,
     },
-    /// Nothing was asked that is not settled.
+    /// There is no unsettled request.
     NotAsked,
     /// The end has no agreement open.
     NotOpen,
-    /// The other end has not sent so many messages.
+    /// The other end has not sent that many messages.
     NoMessage,
 }

@@ -1,11 +1,12 @@
-//! The table of a script's lines: for each event its word, and what its arguments may be.
+//! The table of a script's lines: the word of each event, and the values that its arguments may have.
 
 ghost use Rattle.std.specs.Prelude.{◌≡◌, ◌≤◌, length};
 ghost use Rattle.wf_run_scripts.specs.SessionLines.{session_word, verb_named, session_args};
 
+use wf_frame::{GREATEST_START, GREATEST_WINDOW};
 use wf_trace::Arg;
 
-/// The words that name an event.
+/// The events of a script, by the first word of the line.
 #[derive(Clone, Copy)]
 pub enum Verb {
     Ask,
@@ -15,26 +16,20 @@ pub enum Verb {
     Restart,
 }
 
-/// The greatest window that is asked for, in numbers.
-const GREATEST_WINDOW: u32 = 256;
-
-/// The greatest sequence number.
-const GREATEST_START: u32 = 4095;
-
 const WINDOW: Arg = Arg::Number {
     low: 1,
-    high: GREATEST_WINDOW,
+    high: GREATEST_WINDOW as u32,
 };
 
 const START: Arg = Arg::Number {
     low: 0,
-    high: GREATEST_START,
+    high: GREATEST_START as u32,
 };
 
 const VERBS: [Verb; 5] = [Verb::Ask, Verb::Again, Verb::To, Verb::Close, Verb::Restart];
 
 impl Verb {
-    /// Its word.
+    /// Returns the word of the event.
     pub fn word(self) -> &'static [u8]
         ensures { result.now ≡ session_word self }
     {
@@ -47,14 +42,14 @@ impl Verb {
         }
     }
 
-    /// The one that a word is.
+    /// Returns the event that has this word.
     pub fn named(word: &[u8]) -> Option<Verb>
         ensures { result ≡ verb_named word.now }
     {
         VERBS.iter().copied().find(|verb| verb.word() == word)
     }
 
-    /// Its arguments in order.
+    /// Returns the kinds of its arguments, in order.
     pub fn args(self) -> &'static [Arg]
         ensures args { result.now ≡ session_args self }
         ensures most { length result.now ≤ 5 }

@@ -1,15 +1,15 @@
-//! The lines of one length: what is answered to a station's opening, to its rate, to the time and to a frame
-//! that is refused, and what is written behind the line `end`.
+//! Writes the answers that are one short line: those to `open`, `rate` and `tick`, a refused frame, and the
+//! totals after the line `end`.
 
 ghost use Rattle.std.specs.Prelude.{◌≡◌, ◌≤◌, [], length, is_ok, if◌then◌else◌};
 ghost use Rattle.std.specs.Result.{result_err};
-ghost use Rattle.wf_uplink.specs.World.{open_answer, RateSet, NotSet, Now, NotReceived};
+ghost use Rattle.wf_uplink.specs.World.{open_answer, Set, NotSet, Now, NotReceived};
 ghost use Rattle.wf_run_scripts.specs.UplinkAnswers.{open_word, fault_word, refused_line, answer_text, totals_line};
 
 use wf_io::{Line, Word};
 use wf_uplink::{Closed, OpenFault, Totals, UplinkFault};
 
-// Why a station is not opened, as a word.
+// Returns the word for why a station is not opened.
 fn open_word(fault: OpenFault) -> &'static [u8]
     ensures word { result.now ≡ open_word fault }
     ensures short { length result.now ≤ 11 }
@@ -22,7 +22,7 @@ fn open_word(fault: OpenFault) -> &'static [u8]
     }
 }
 
-// Why octets are no data frame of an opened station, as a word.
+// Returns the word for why octets are not a data frame of an open station.
 fn fault_word(fault: UplinkFault) -> &'static [u8]
     ensures word { result.now ≡ fault_word fault }
     ensures short { length result.now ≤ 11 }
@@ -45,7 +45,7 @@ fn print_refused(word: &'static [u8], out: &mut Line)
     out.push_line(b"refused", &[Word::Text(word)]);
 }
 
-/// Writes to an empty line whether a station was opened.
+/// Writes the answer to an `open` to an empty line.
 pub fn print_opened(opened: Result<(), OpenFault>, out: &mut Line)
     requires { out.old ≡ [] }
     ensures { out.new ≡ answer_text (open_answer (result_err opened)) }
@@ -56,10 +56,10 @@ pub fn print_opened(opened: Result<(), OpenFault>, out: &mut Line)
     }
 }
 
-/// Writes to an empty line whether a rate was set.
+/// Writes the answer to a `rate` to an empty line.
 pub fn print_set(set: Result<(), Closed>, out: &mut Line)
     requires { out.old ≡ [] }
-    ensures { out.new ≡ answer_text (if is_ok set then RateSet else NotSet) }
+    ensures { out.new ≡ answer_text (if is_ok set then Set else NotSet) }
 {
     match set {
         Ok(()) => out.push_all(b"set\n"),
@@ -75,7 +75,7 @@ pub fn print_now(now: u64, out: &mut Line)
     out.push_line(b"now", &[Word::Number(now)]);
 }
 
-/// Writes to an empty line why octets are not received.
+/// Writes why a frame is refused to an empty line.
 pub fn print_fault(fault: UplinkFault, out: &mut Line)
     requires { out.old ≡ [] }
     ensures { out.new ≡ answer_text (NotReceived fault) }
@@ -83,8 +83,8 @@ pub fn print_fault(fault: UplinkFault, out: &mut Line)
     print_refused(fault_word(fault), out);
 }
 
-/// Writes to an empty line what stands behind the line `end`: how many frames there were, and what became of
-/// them.
+/// Writes the text after the line `end` to an empty line: the number of frames, and how many had each
+/// outcome.
 pub fn print_totals(totals: Totals, out: &mut Line)
     requires { out.old ≡ [] }
     ensures { out.new ≡ totals_line totals }

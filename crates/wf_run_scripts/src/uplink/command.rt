@@ -1,4 +1,4 @@
-//! The command.
+//! The command `uplink`, over any source and sink.
 
 ghost use Rattle.std.specs.Prelude.{◌≡◌, ℕ, List, Some};
 ghost use Rattle.wf_trace.specs.CommandEnds.{CommandEnds};
@@ -50,13 +50,13 @@ impl Answers for Reception {
     }
 }
 
-/// Reads a script from the source and plays it on an uplink of 256 stations. Writes the answer of each event
-/// before it reads the next, and behind the line `end` how many frames there were and what became of them;
-/// where the script has a fault, the line of the fault in place of that. Octets after the `end` line are not
-/// looked at.
+/// Reads a script from the source and runs it on an uplink of 256 stations.
 ///
-/// It takes memory only before it reads. Behind that, NoMemory says that the clock or a total has no room
-/// left below 2^62.
+/// It writes the answer to each event before it reads the next one, and after the line `end` the totals. If
+/// the script has a fault, it writes the fault line instead. Octets after the `end` line are ignored.
+///
+/// It allocates only before it reads. After that, `Status::NoMemory` means that the clock or a total has no
+/// room left below 2^62.
 pub fn uplink<S: Source, K: Sink>(alloc: Global, source: &mut S, sink: &mut K) -> Status
     ensures ends { CommandEnds S.left S.faults K.held K.faults UplinkOutcome UplinkAnswered
         source.old source.new sink.old sink.new result }

@@ -1,32 +1,32 @@
-//! What a line of a script says.
+//! The events of a script.
 
 use crate::uplink::frame::Frame;
 use wf_air::time::Rate;
 
-/// What happens at the access point.
+/// An event at the access point.
 #[derive(Clone, Copy)]
 pub enum Event {
     /// A station is opened.
     Open {
-        /// Its number.
+        /// The station's number.
         station: u16,
-        /// The window of each of its traffic identifiers, in numbers.
+        /// The window of each of its TIDs, in sequence numbers.
         window: u16,
-        /// The first number of each.
+        /// The first sequence number of each of its TIDs.
         start: u16,
     },
     /// The rate of a station is set.
     Rate {
-        /// Its number.
+        /// The station's number.
         station: u16,
-        /// What it sends at from now on.
+        /// The rate at which it sends from now on.
         rate: Rate,
     },
-    /// So many microseconds pass, at most 10,000,000.
+    /// Time passes.
     Tick {
-        /// How many.
+        /// The time in microseconds, at most 10,000,000.
         by: u32,
     },
-    /// Octets come in.
+    /// A frame is received.
     Frame(Frame),
 }

@@ -7,10 +7,10 @@ ghost use Rattle.wf_run_scripts.specs.UplinkOctets.{is_lower_digit, octets_of_wo
 use hex::decode_to_slice;
 use std::marker::Model;
 
-/// The most octets that a line says.
+/// The most octets in a line.
 const MOST: usize = 50;
 
-/// Octets that came in: at most 50.
+/// The octets of a received frame, at most 50.
 #[derive(Clone, Copy)]
 pub struct Frame {
     octets: [u8; MOST],
@@ -26,7 +26,7 @@ impl Model for Frame {
 
     ghost view = { λ f. take f.size f.octets };
 
-    // the places that are not used hold 0
+    // the unused places are 0
     ghost invariant = { λ f. (f.octets ≡ padded_octets (take f.size f.octets)) ×
         (length (take f.size f.octets) ≡ f.size) × (f.size ≤ 50) };
 
@@ -35,7 +35,7 @@ impl Model for Frame {
     ghost inverse_ok = { λ f h i. record { octets = sym h.0 i; size = h.1 i } };
 }
 
-/// Whether each is a hexadecimal digit, and none an upper-case one.
+/// Returns whether all octets are hexadecimal digits without capital letters.
 fn are_lower_digits(word: &[u8]) -> bool
     ensures { result ≡ list_all is_lower_digit word.now }
 {
@@ -44,8 +44,8 @@ fn are_lower_digits(word: &[u8]) -> bool
 }
 
 impl Frame {
-    /// The octets that a word is: 2 to 100 lower-case hexadecimal digits, even in number. None where it is no
-    /// such word.
+    /// Returns the octets that a word encodes: 2 to 100 hexadecimal digits without capital letters, an even
+    /// number of them. Returns `None` for any other word.
     pub fn read(word: &[u8]) -> Option<Frame>
         ensures { result ≡ octets_of_word word.now }
     {
@@ -60,7 +60,7 @@ impl Frame {
         }
     }
 
-    /// The octets.
+    /// Returns the octets.
     pub fn octets(&self) -> &[u8]
         ensures { result.now ≡ self.now }
     {

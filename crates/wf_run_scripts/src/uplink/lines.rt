@@ -1,4 +1,4 @@
-//! What a line of a script says.
+//! Parses a line of a script.
 
 ghost use Rattle.std.specs.Prelude.{◌≡◌, IfOk, slice_get, option_copied};
 ghost use Rattle.wf_trace.specs.Notes.{guard_at};
@@ -9,9 +9,10 @@ use crate::uplink::event::Event;
 use crate::uplink::frame::Frame;
 use crate::uplink::verb::Verb;
 use wf_air::time::Rate;
+use wf_frame::GREATEST_TICK;
 use wf_trace::{Arg, FaultKind, Value, long_at, next_word, read_all};
 
-/// The number of a station, of a window, or a sequence number: each is judged by the uplink.
+/// The number of a station, the size of a window, or a sequence number. The uplink checks its range.
 const SHORT: Arg = Arg::Number {
     low: 0,
     high: 65_535,
@@ -22,13 +23,13 @@ const MCS: Arg = Arg::Number { low: 0, high: 15 };
 /// The width of a channel, in MHz.
 const MHZ: Arg = Arg::Number { low: 20, high: 40 };
 
-/// How far the clock goes on, in microseconds.
+/// The time that passes, in microseconds.
 const TICK: Arg = Arg::Number {
     low: 0,
-    high: 10_000_000,
+    high: GREATEST_TICK,
 };
 
-// The opening of a station with these arguments.
+// Returns the event that opens a station, from these arguments.
 fn opening(values: &[Value]) -> Event
     requires { AreOpening values.now }
     ensures { result ≡ opening_of values.now }
@@ -50,7 +51,7 @@ fn open_from(line: &[u8]) -> Result<Event, FaultKind>
     }
 }
 
-// Whether the guard interval is the short one.
+// Returns whether the guard interval is the short one.
 fn is_short(values: &[Value]) -> bool
     ensures { result ≡ guard_at values.now 3 }
 {
@@ -60,7 +61,7 @@ fn is_short(values: &[Value]) -> bool
     }
 }
 
-// The rate of a station with these arguments.
+// Returns the event that sets a rate, from these arguments.
 fn rate(values: &[Value]) -> Event
     requires { AreRate values.now }
     ensures { result ≡ rate_of values.now }
@@ -74,7 +75,7 @@ fn rate(values: &[Value]) -> Event
     }
 }
 
-// The third word of a line.
+// Returns the third word of a line.
 fn third_word(line: &[u8]) -> Option<&[u8]>
     ensures { option_copied result ≡ slice_get (words line.now) 2 }
 {
@@ -84,7 +85,7 @@ fn third_word(line: &[u8]) -> Option<&[u8]>
     Some(word)
 }
 
-// Whether the word of the channel's width is there and is none of its words.
+// Returns whether the line has a word for the channel's width that is neither `20` nor `40`.
 fn is_no_width(line: &[u8]) -> bool
     ensures { result ≡ has_no_width (words line.now) }
 {
@@ -135,9 +136,9 @@ fn frame_from(line: &[u8]) -> Result<Event, FaultKind>
     }
 }
 
-/// The event that a line is, or the first that is wrong with it: that its first word names no event, or that
-/// a word of a rate is none of its words; that the number of its words is wrong; that a number or the octets
-/// of a frame are none; that a number is out of its range.
+/// Returns the event of a line, or the first fault of the line: `word` if the first word is not an event, or
+/// a word argument of a rate is not allowed; `count` if the number of words is wrong; `number` if a number or
+/// the octets of a frame are malformed; `range` if a number is out of its range.
 pub fn event_from(line: &[u8]) -> Result<Event, FaultKind>
     ensures says { result ≡ meant (words line.now) }
     ensures valid { IfOk result IsValid }

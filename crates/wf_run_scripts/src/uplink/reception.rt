@@ -1,4 +1,4 @@
-//! The uplink of 256 stations, as a script sees it.
+//! The uplink of 256 stations, with a clock and its answers.
 
 ghost use Rattle.std.specs.Prelude.{◌≡◌, ◌≢◌, ◌+◌, ◌*◌, ◌^◌, ◌<◌, ◌≤◌, ◌∷◌, [], true, replicate, IfOk, OnOk, OnErr, Err};
 ghost use Rattle.std.specs.Io.KnownBytes.{append_known};
@@ -15,17 +15,18 @@ use crate::uplink::told::write_up;
 use std::alloc::{AllocError, Global};
 use std::marker::Model;
 use wf_air::time::Rate;
+use wf_frame::COUNT_LIMIT;
 use wf_io::{Failed, Line, Sink};
 use wf_trace::script::{Unanswered, write_line};
-use wf_uplink::{LARGE, Up, Uplink};
+use wf_uplink::{Up, Uplink};
 
-/// How many stations there may be.
+/// The number of stations.
 const STATIONS: u32 = 256;
 
-/// As many holes as can be due at once: one of each traffic identifier of each station.
+/// The most holes that can be due at once: one for each TID of each station.
 const MOST_DUE: u32 = 8 * STATIONS;
 
-/// What stations send to the access point, and the clock.
+/// The uplink of the access point, and the clock.
 #[derive(Drop)]
 pub struct Reception {
     uplink: Uplink,
@@ -45,7 +46,7 @@ impl Model for Reception {
 }
 
 impl Reception {
-    /// No station is opened, and the clock is at 0.
+    /// Returns an uplink without open stations, with the clock at 0. Fails only if memory runs out.
     pub fn new(alloc: Global) -> Result<Reception, AllocError>
         ensures { IfOk result (λ r. r ≡ first) }
     {
@@ -57,17 +58,16 @@ impl Reception {
         })
     }
 
-    // Whether one frame more, or one hole, can be counted.
+    // Returns whether one more frame, or one more hole, can be counted.
     fn has_room(&self) -> bool
         ensures exactly { result ≡ can_count self.now }
         ensures small { result ≡ true → (self.now.frames < 2 ^ 62) × (self.now.missing < 2 ^ 62) }
     {
         let totals = self.uplink.totals();
-        totals.frames < LARGE && totals.missing < LARGE
+        totals.frames < COUNT_LIMIT && totals.missing < COUNT_LIMIT
     }
 
-    // The clock goes on by so many microseconds, at most 10,000,000, and is told. Fails where it would come
-    // to 2^62.
+    // Advances the clock by at most 10,000,000 microseconds, and returns it. Fails if it would reach 2^62.
     fn pass(&mut self, by: u32) -> Result<u64, Unanswered>
         requires { by ≤ greatest_tick }
         ensures now { IfOk result (λ now. now ≡ self.old.clock + by) }
@@ -75,7 +75,7 @@ impl Reception {
         ensures fails { OnErr result (2 ^ 62 ≤ self.old.clock + by) }
         ensures memory { OnErr result (result ≡ Err Unanswered.Memory) }
     {
-        if self.clock >= LARGE - u64::from(by) {
+        if self.clock >= COUNT_LIMIT - u64::from(by) {
             return Err(Unanswered::Memory);
         }
         self.uplink.tick(by);
@@ -83,7 +83,7 @@ impl Reception {
         Ok(self.clock)
     }
 
-    /// A station is opened, and whether it was is written.
+    /// Opens a station, and writes whether it was opened.
     #[tactic(auto, using(crate::proofs::UplinkCalls::text_single, crate::proofs::UplinkCalls::after_single))]
     pub fn open<K: Sink>(
         &mut self,
@@ -109,7 +109,7 @@ impl Reception {
         write_line(sink, &line)
     }
 
-    /// The rate of a station is set, and whether it was is written.
+    /// Sets the rate of a station, and writes whether it was set.
     #[tactic(auto, using(crate::proofs::UplinkCalls::text_single, crate::proofs::UplinkCalls::after_single))]
     pub fn set_rate<K: Sink>(
         &mut self,
@@ -134,7 +134,8 @@ impl Reception {
         write_line(sink, &line)
     }
 
-    /// Octets come in, and what goes up of them, or why they are refused, is written.
+    /// Receives the octets of a frame, and writes the frames that are passed up, or why it is refused. Fails
+    /// if a total has reached 2^62 or the sink fails.
     #[tactic(auto, using(crate::proofs::UplinkCalls::text_single, crate::proofs::UplinkCalls::after_single))]
     pub fn receive<K: Sink>(&mut self, octets: &[u8], sink: &mut K) -> Result<(), Unanswered>
         ensures written { OnOk result
@@ -162,7 +163,7 @@ impl Reception {
         }
     }
 
-    // Each hole that is due is given up, one after another, and what goes up is written.
+    // Gives up each hole that is due, in order, and writes the frames that are passed up.
     fn give_up<K: Sink>(&mut self, sink: &mut K) -> Result<(), Unanswered>
         ensures written { OnOk result
             (K.held sink.new ≡ append_known (K.held sink.old)
@@ -190,8 +191,8 @@ impl Reception {
         Ok(())
     }
 
-    /// So many microseconds pass, at most 10,000,000: the clock is written, and then what goes up of each
-    /// hole that is due.
+    /// Advances the clock by at most 10,000,000 microseconds, and writes it. Then gives up each hole that is
+    /// due, and writes the frames that are passed up.
     pub fn tick<K: Sink>(&mut self, by: u32, sink: &mut K) -> Result<(), Unanswered>
         requires { by ≤ greatest_tick }
         ensures written { OnOk result
@@ -215,7 +216,7 @@ impl Reception {
         self.give_up(sink)
     }
 
-    /// How many frames there were, and what became of them, is written.
+    /// Writes the totals: the number of frames, and how many had each outcome.
     pub fn tell<K: Sink>(&self, sink: &mut K) -> Result<(), Failed>
         ensures written { OnOk result
             (K.held sink.new ≡ append_known (K.held sink.old) (totals_line (totals_of self.now))) }

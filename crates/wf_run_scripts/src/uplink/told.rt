@@ -1,4 +1,4 @@
-//! The line of what goes up, which can be longer than a line of a buffer.
+//! Writes the line of what a TID passes up, which can be longer than the buffer of a line.
 
 ghost use Rattle.std.specs.Prelude.{◌≡◌, ◌≢◌, ℕ, ◌+◌, ◌≤◌, ◌++◌, ◌∷◌, [], List, Option, decimal, length, OnOk, OnErr, Err};
 ghost use Rattle.std.specs.List.{join_with_byte};
@@ -13,7 +13,7 @@ use wf_io::{Line, Sink, Word};
 use wf_trace::script::{Unanswered, write_line};
 use wf_uplink::{Up, UpItem};
 
-/// A line with more octets than this is written, and goes on empty.
+/// If the buffer has more octets than this, it is written and emptied.
 const FULL: usize = 8000;
 
 // Appends two numbers with an octet between them.
@@ -27,7 +27,7 @@ fn push_pair(one: u64, between: u8, two: u64, out: &mut Line)
     out.push_number(two);
 }
 
-// Appends what is told of some sequence numbers.
+// Appends one item: a frame, or a gap of sequence numbers.
 fn push_item(item: UpItem, out: &mut Line)
     requires { length out.old ≤ 8000 }
     ensures text { out.new ≡ out.old ++ spaced (item_words item) }
@@ -45,7 +45,7 @@ fn push_item(item: UpItem, out: &mut Line)
     }
 }
 
-// Begins an empty line: the station and its traffic identifier, and what a frame is charged.
+// Writes the beginning of the line: the station, its TID, and the charge if it is the line of a frame.
 fn push_head(up: &Up, is_frame: bool, out: &mut Line)
     requires { out.old ≡ [] }
     ensures text { out.new ≡ head_text is_frame up.now }
@@ -63,7 +63,7 @@ fn push_head(up: &Up, is_frame: bool, out: &mut Line)
     }
 }
 
-// Ends a line: whether the frame was given back.
+// Ends the line, with the word `old` if the frame was returned.
 fn push_end(old: bool, out: &mut Line)
     requires { length out.old ≤ 8000 }
     ensures { out.new ≡ out.old ++ (spaced (old_words old) ++ 10 ∷ []) }
@@ -74,7 +74,7 @@ fn push_end(old: bool, out: &mut Line)
     out.push(b'\n');
 }
 
-// Writes a line that is full, and goes on with an empty one.
+// Writes and empties the buffer if it is full.
 fn spill<K: Sink>(line: &mut Line, sink: &mut K) -> Result<(), Unanswered>
     ensures begun { OnOk result ((held : Option (List ℕ)) (text : List ℕ) →
         IsBegun held (K.held sink.old) line.old text → IsBegun held (K.held sink.new) line.new text) }
@@ -92,7 +92,7 @@ fn spill<K: Sink>(line: &mut Line, sink: &mut K) -> Result<(), Unanswered>
     Ok(())
 }
 
-/// Writes the line of what a frame or a timeout sends up. After an error some of it may stand written.
+/// Writes the line of what a frame or a timeout passes up. After an error the sink holds a prefix of it.
 pub fn write_up<K: Sink>(up: &Up, is_frame: bool, sink: &mut K) -> Result<(), Unanswered>
     ensures written { OnOk result (K.held sink.new
         ≡ append_known (K.held sink.old) (up_line is_frame up.now)) }

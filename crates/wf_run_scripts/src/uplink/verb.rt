@@ -1,9 +1,9 @@
-//! The words that a line of a script begins with.
+//! The first words of a script's lines.
 
 ghost use Rattle.std.specs.Prelude.{◌≡◌};
 ghost use Rattle.wf_run_scripts.specs.UplinkLines.{uplink_word, verb_named};
 
-/// The words that name an event.
+/// The events of a script, by the first word of the line.
 #[derive(Clone, Copy)]
 pub enum Verb {
     Open,
@@ -15,7 +15,7 @@ pub enum Verb {
 const VERBS: [Verb; 4] = [Verb::Open, Verb::Rate, Verb::Tick, Verb::Frame];
 
 impl Verb {
-    /// Its word.
+    /// Returns the word of the event.
     pub fn word(self) -> &'static [u8]
         ensures { result.now ≡ uplink_word self }
     {
@@ -27,7 +27,7 @@ impl Verb {
         }
     }
 
-    /// The one that a word is.
+    /// Returns the event that has this word.
     pub fn named(word: &[u8]) -> Option<Verb>
         ensures { result ≡ verb_named word.now }
     {

@@ -1,3 +1,4 @@
+-- Each clause is a law of Calls.
 use Rattle.wf_sched_refines.proofs.Calls.{call_stands, refusal_stands}
 use Rattle.wf_sched_refines.proofs.a_call.Goals as goal
 

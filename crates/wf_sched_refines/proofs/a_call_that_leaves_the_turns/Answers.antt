@@ -1,3 +1,4 @@
+-- Each clause is a law of Unchanged.
 use Rattle.wf_sched_refines.proofs.Unchanged.{enqueued_leaves, rate_leaves, tick_leaves, pulled_leaves, arrived_leaves, answered_leaves, slept_leaves, woken_leaves, credited_leaves, reaped_leaves}
 use Rattle.wf_sched_refines.proofs.a_call_that_leaves_the_turns.Goals as goal
 

@@ -1,3 +1,4 @@
+-- Each clause is a law of Unchanged.
 use Rattle.wf_sched_refines.proofs.Unchanged.{station_leaves, tid_leaves, session_leaves, receiver_leaves, queues_leave, turn_leaves, spent_leaves}
 use Rattle.wf_sched_refines.proofs.a_change_of_a_station.Goals as goal
 

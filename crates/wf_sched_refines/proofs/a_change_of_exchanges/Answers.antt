@@ -1,3 +1,4 @@
+-- Each clause is a law of Unchanged.
 use Rattle.wf_sched_refines.proofs.Unchanged.{filled_leaves, prepared_leaves, opening_leaves, sent_leaves, exchange_leaves, without_leaves, after_done_leaves}
 use Rattle.wf_sched_refines.proofs.a_change_of_exchanges.Goals as goal
 

@@ -1,3 +1,4 @@
+-- Each clause is a law of Unchanged.
 use Rattle.wf_sched_refines.proofs.Unchanged.{queue_leaves, accept_leaves, fate_leaves, finish_leaves, finish_all_leaves, take_leaves, left_tids_leave}
 use Rattle.wf_sched_refines.proofs.a_change_of_frames.Goals as goal
 

@@ -1,3 +1,4 @@
+-- Each clause is a law of Charges or Calls.
 use Rattle.wf_sched_refines.proofs.Calls.{charge_fits}
 use Rattle.wf_sched_refines.proofs.Charges.{charge_stands, end_stands}
 use Rattle.wf_sched_refines.proofs.a_charge.Goals as goal

@@ -1,3 +1,4 @@
+-- Each clause is a law of Members.
 use Rattle.wf_sched_refines.proofs.Members.{leave_stands, gone_stands}
 use Rattle.wf_sched_refines.proofs.a_leave.Goals as goal
 

@@ -1,3 +1,4 @@
+-- Each clause is a law of Listings.
 use Rattle.wf_sched_refines.proofs.Listings.{list_stands, idle_stands, ready_same, list_all_stands, concerned_stands, unconcerned_stands, where_more}
 use Rattle.wf_sched_refines.proofs.a_listing.Goals as goal
 

@@ -1,3 +1,4 @@
+-- Each clause is a law of Picks.
 use Rattle.wf_sched_refines.proofs.Picks.{tells_listed, pick_same, pick_stands}
 use Rattle.wf_sched_refines.proofs.a_pick.Goals as goal
 

@@ -1,3 +1,4 @@
+-- Each clause is a law of Charges.
 use Rattle.wf_sched_refines.proofs.Charges.{receive_stands, receive_reply, debt_same}
 use Rattle.wf_sched_refines.proofs.a_receive_charge.Goals as goal
 

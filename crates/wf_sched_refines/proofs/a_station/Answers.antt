@@ -1,3 +1,4 @@
+-- Each clause is a law of Readings.
 use Rattle.wf_sched_refines.proofs.Readings.{deficit_same, lists_same, live_below, nowhere}
 use Rattle.wf_sched_refines.proofs.a_station.Goals as goal
 

@@ -1,10 +1,11 @@
-//! A narrow bitmap among 256 offsets.
+//! Converts a bitmap of 64 bits to one of 256.
 
 ghost use Rattle.std.specs.Prelude.{◌≡◌};
 
 use wf_octets::bits::{Bits64, Bits256};
 
-/// The same offsets among 256, as a BlockAck of 64 bits tells of them (IEEE 802.11-2012, 8.3.1.9.3).
+/// Returns a bitmap of 256 bits with the same offsets as this one of 64, which is the bitmap of a compressed
+/// BlockAck (IEEE 802.11-2012, 8.3.1.9.3).
 pub fn widened(bits: Bits64) -> Bits256
     ensures { result ≡ bits }
 {

@@ -9,13 +9,13 @@ use std::marker::Model;
 use wf_frame::{Class, FixedList};
 use wf_octets::seq12::Seq12;
 
-/// The most open exchanges: eight of each of the four classes.
+/// The greatest number of open exchanges: eight for each of the four classes.
 pub const MOST_OPEN: usize = 32;
 
 /// At most 256 sequence numbers, in the order in which they are sent.
 pub type Numbers = FixedList<Seq12>;
 
-/// What an exchange sends.
+/// The content of an exchange.
 #[derive(Drop)]
 pub enum Sending {
     /// An aggregate of the frames with these sequence numbers, in this order.
@@ -24,18 +24,18 @@ pub enum Sending {
     Request(Seq12),
 }
 
-/// An exchange that is open.
+/// An open exchange.
 #[derive(Drop)]
 pub struct Open {
-    /// Its number: exchanges are numbered from 0, in the order in which they open.
+    /// Its number. Exchanges are numbered from 0, in the order in which they open.
     pub number: u64,
     /// The station that it sends to.
     pub station: u16,
     /// The TID, 0 to 7.
     pub tid: u8,
-    /// The class that is charged for it.
+    /// The class to which it is charged.
     pub class: Class,
-    /// What it is charged when it ends, in microseconds of airtime.
+    /// The airtime that it is charged when it ends, in microseconds.
     pub charge: u32,
     /// What it sends.
     pub sending: Sending,
@@ -46,7 +46,7 @@ pub struct Open {
 impl Open {
     ghost use Rattle.wf_send_parts.specs.Exchanges.{transmissions_of, number_carried, sending_is_request, is_request_of};
 
-    /// How many transmissions it has: one for each frame, or the one request.
+    /// Returns how many transmissions it has: one for each frame, or one for a request.
     pub fn count(&self) -> u16
         ensures count { result ≡ transmissions_of self.now.sending }
         ensures most { result ≤ 256 }
@@ -57,8 +57,8 @@ impl Open {
         }
     }
 
-    /// The sequence number of the frame that transmission `index` carries, counted from 0. None where it
-    /// is a BlockAckReq or has no such transmission.
+    /// Returns the sequence number of the frame in transmission `index`, counted from 0. None if the exchange
+    /// is a request, or has no such transmission.
     pub fn number_at(&self, index: u16) -> Option<Seq12>
         ensures { result ≡ number_carried self.now.sending index }
     {
@@ -70,14 +70,14 @@ impl Open {
         }
     }
 
-    /// Whether it is a BlockAckReq.
+    /// Returns whether it is a BlockAckReq.
     pub fn is_request(&self) -> bool
         ensures { result ≡ sending_is_request self.now.sending }
     {
         matches!(&self.sending, Sending::Request(_))
     }
 
-    // Whether it is a BlockAckReq of this TID.
+    // Returns whether it is a BlockAckReq to this TID of the station.
     fn is_request_of(&self, station: u16, tid: u8) -> bool
         ensures { result ≡ is_request_of station tid self.now }
     {
@@ -85,8 +85,8 @@ impl Open {
     }
 }
 
-/// At most 32 open exchanges, in the order of their numbers. A contract sees them as a list. Only `new`
-/// takes memory.
+/// At most 32 open exchanges, in the order of their numbers. Contracts see them as a list. Only `new`
+/// allocates.
 #[derive(Drop)]
 pub struct Opened {
     list: Vec<Open>,
@@ -108,7 +108,7 @@ impl Model for Opened {
 impl Opened {
     ghost use Rattle.wf_send_parts.specs.Exchanges.{exchange_number, asks};
 
-    /// No exchange.
+    /// Creates it with no open exchange. Fails only if memory runs out.
     pub fn new(alloc: Global) -> Result<Opened, AllocError>
         ensures { IfOk result (λ made. made ≡ []) }
     {
@@ -116,7 +116,7 @@ impl Opened {
         Ok(Opened { list })
     }
 
-    /// Opens an exchange. Fewer than 32 may be open, and its number is above theirs.
+    /// Adds an open exchange. Fewer than 32 may be open before, all with lower numbers.
     pub fn push(&mut self, exchange: Open)
         requires room { length self.old < MOST_OPEN }
         requires above { All (λ other. other.number < exchange.number) self.old }
@@ -125,14 +125,14 @@ impl Opened {
         self.list.push_reserved(exchange);
     }
 
-    /// The open exchange with this number. None where it is not open.
+    /// Returns the open exchange with this number. None if there is none.
     pub fn find(&self, number: u64) -> Option<&Open>
         ensures { option_map (λ x. x.now) result ≡ find (λ x. x.number == number) self.now }
     {
         self.list.iter().find(|exchange| exchange.number == number)
     }
 
-    /// Ends the open exchange with this number, and gives it. None where it is not open.
+    /// Removes the open exchange with this number and returns it. None if there is none.
     pub fn take_out(&mut self, number: u64) -> Option<Open>
         ensures taken { result ≡ find (λ x. x.number == number) self.old }
         ensures rest { self.new ≡ filter (λ x. not (x.number == number)) self.old }
@@ -143,7 +143,7 @@ impl Opened {
         }
     }
 
-    // The place of the open exchange with this number.
+    // Returns the place of the open exchange with this number.
     fn place_of(&self, number: u64) -> Option<usize>
         ensures { result ≡ position (λ x. x.number == number) self.now }
     {
@@ -152,7 +152,7 @@ impl Opened {
             .position(|exchange| exchange.number == number)
     }
 
-    /// How many are open.
+    /// Returns how many exchanges are open.
     pub fn len(&self) -> u32
         ensures count { result ≡ length self.now }
         ensures most { result ≤ MOST_OPEN }
@@ -161,7 +161,7 @@ impl Opened {
         self.list.len() as u32
     }
 
-    /// How many of a station are open.
+    /// Returns how many exchanges to this station are open.
     pub fn of_station(&self, station: u16) -> u32
         ensures { result ≡ count_by (λ x. x.station == station) self.now }
     {
@@ -171,7 +171,7 @@ impl Opened {
             .count() as u32
     }
 
-    /// How many of a class are open.
+    /// Returns how many exchanges of this class are open.
     pub fn of_class(&self, class: Class) -> u32
         ensures { result ≡ count_by (λ x. same_class x.class class) self.now }
     {
@@ -181,7 +181,7 @@ impl Opened {
             .count() as u32
     }
 
-    /// Whether a BlockAckReq of this TID is open.
+    /// Returns whether a BlockAckReq to this TID of the station is open.
     pub fn asks(&self, station: u16, tid: u8) -> bool
         ensures { result ≡ asks self.now station tid }
     {

@@ -1,4 +1,4 @@
-//! The stations, by number.
+//! The live stations, by number.
 
 ghost use Rattle.std.specs.Prelude.{◌≡◌, ◌<◌, ◌≤◌, ◌^◌, true, Some, None, is_some, IfOk, IfSome, length, replicate, slice_set};
 
@@ -7,23 +7,23 @@ use std::marker::Model;
 use wf_air::time::Rate;
 use wf_frame::Class;
 
-/// What is kept of a live station.
+/// The state of a live station.
 #[derive(Clone, Copy)]
 pub struct Member {
-    /// The rate at which it is sent to.
+    /// The rate at which frames are sent to it.
     pub rate: Rate,
     /// The maximum A-MPDU length exponent, 0 to 3 (IEEE 802.11-2012, 8.4.2.58.3).
     pub exponent: u8,
-    /// By class, the least urgent first: it is the turn of the upper of the class's two TIDs.
+    /// By class, from background to voice: whether it is the turn of the upper of the class's two TIDs.
     pub upper: [bool; 4],
-    /// By class: the airtime of its exchanges since its join, in microseconds.
+    /// By class: the airtime charged for its exchanges since its join, in microseconds.
     pub charged: [u64; 4],
-    /// By class: the airtime that it used itself since its join, in microseconds.
+    /// By class: the receive charges since its join, in microseconds.
     pub received: [u64; 4],
 }
 
-/// The stations, each live or not. A contract sees them as a list by number, with None where one is not live.
-/// Only `new` takes memory.
+/// All stations, live or not. Contracts see them as a list by number, with None for a station that is not
+/// live. Only `new` allocates.
 #[derive(Drop)]
 pub struct Members {
     stations: Vec<Option<Member>>,
@@ -41,7 +41,7 @@ impl Model for Members {
 impl Members {
     ghost use Rattle.wf_send_parts.specs.Members.{new_member, member, on_member, with_rate, with_upper, charged_in, with_charge, received_in, with_receipt};
 
-    /// So many stations, none of which is live.
+    /// Creates `stations` stations, 1 to 256, of which none is live. Fails only if memory runs out.
     pub fn new(alloc: Global, stations: u32) -> Result<Members, AllocError>
         requires { (1 ≤ stations) × (stations ≤ 256) }
         ensures { IfOk result (λ made. made ≡ replicate stations None) }
@@ -51,8 +51,8 @@ impl Members {
         })
     }
 
-    /// A station is live from now on: at the lowest rate, with the lower TID's turn in each class and no
-    /// airtime used.
+    /// Makes a station live, at the lowest rate, with the lower TID's turn in each class and no airtime
+    /// charged.
     pub fn join(&mut self, station: u16, exponent: u8)
         requires { station < length self.old }
         ensures { self.new ≡ slice_set self.old station (Some (new_member exponent)) }
@@ -66,7 +66,7 @@ impl Members {
         });
     }
 
-    /// A station is live no longer, and nothing is kept of it.
+    /// Makes a station no longer live, and drops its state.
     pub fn leave(&mut self, station: u16)
         requires { station < length self.old }
         ensures { self.new ≡ slice_set self.old station None }
@@ -74,7 +74,7 @@ impl Members {
         self.stations[usize::from(station)] = None;
     }
 
-    /// Whether a station is live.
+    /// Returns whether a station is live.
     pub fn is_live(&self, station: u16) -> bool
         requires { station < length self.now }
         ensures { result ≡ is_some (member self.now station) }
@@ -82,7 +82,7 @@ impl Members {
         self.stations[usize::from(station)].is_some()
     }
 
-    /// What is kept of a live station.
+    /// Returns the state of a live station.
     pub fn member(&self, station: u16) -> &Member
         requires within { station < length self.now }
         requires live { is_some (member self.now station) ≡ true }
@@ -94,7 +94,7 @@ impl Members {
         }
     }
 
-    /// Sets the rate of a station. Where it is not live, nothing changes.
+    /// Sets the rate of a station. Does nothing if it is not live.
     pub fn set_rate(&mut self, station: u16, rate: Rate)
         requires { station < length self.old }
         ensures { self.new ≡ on_member self.old station (with_rate rate) }
@@ -104,8 +104,8 @@ impl Members {
         }
     }
 
-    /// Gives the turn in a class to the upper TID, or to the lower. Where the station is not live, nothing
-    /// changes.
+    /// Gives the turn in a class to the upper TID if `upper`, otherwise to the lower. Does nothing if the
+    /// station is not live.
     pub fn set_upper(&mut self, station: u16, class: Class, upper: bool)
         requires { station < length self.old }
         ensures { self.new ≡ on_member self.old station (with_upper class upper) }
@@ -115,7 +115,8 @@ impl Members {
         }
     }
 
-    /// An exchange of a station took so many microseconds. Where it is not live, nothing changes.
+    /// Adds `air` microseconds to the airtime of a station's exchanges. Does nothing if the station is not
+    /// live.
     pub fn charge(&mut self, station: u16, class: Class, air: u32)
         requires within { station < length self.old }
         requires small { IfSome (member self.old station) (λ m. charged_in m class < 2 ^ 62) }
@@ -126,8 +127,8 @@ impl Members {
         }
     }
 
-    /// A station used so many microseconds itself. Where it is not live, nothing changes.
-    pub fn receive(&mut self, station: u16, class: Class, air: u32)
+    /// Adds `air` microseconds to a station's receive charges. Does nothing if the station is not live.
+    pub fn add_received(&mut self, station: u16, class: Class, air: u32)
         requires within { station < length self.old }
         requires small { IfSome (member self.old station) (λ m. received_in m class < 2 ^ 62) }
         ensures { self.new ≡ on_member self.old station (with_receipt class air) }

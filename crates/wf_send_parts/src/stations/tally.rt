@@ -1,24 +1,24 @@
-//! What became of the frames that were accepted, by exact count.
+//! Counts of the accepted frames, by fate.
 
 ghost use Rattle.std.specs.Prelude.{◌≡◌, ◌≢◌, ◌+◌, ◌<◌, ◌≤◌, ◌^◌};
 ghost use Rattle.wf_frame.specs.declared.classes.Fate.TheVariants.{Held};
 
 use wf_frame::{Cause, Fate};
 
-/// Counts of frames. Every accepted frame is acknowledged, dropped for one cause, or still held.
+/// Counts of frames. Each accepted frame is acknowledged, dropped for one cause, or still held.
 #[derive(Clone, Copy)]
 pub struct Tally {
     /// All accepted frames.
     pub accepted: u64,
     /// Acknowledged.
     pub acked: u64,
-    /// Dropped since the flow queues were full.
+    /// Dropped because the flow queues were full.
     pub overlimit: u64,
     /// Dropped by CoDel.
     pub codel: u64,
-    /// Dropped after their last transmission.
+    /// Dropped after as many attempts as are allowed.
     pub retries: u64,
-    /// Dropped since their station left.
+    /// Dropped because their station left.
     pub left: u64,
     ghost counted: { acked + overlimit + codel + retries + left ≤ accepted },
 }
@@ -26,7 +26,7 @@ pub struct Tally {
 impl Tally {
     ghost use Rattle.wf_send_parts.specs.Tally.{counts_of, held_in, many_settled_as, no_counts, one_accepted, settled_count, settled_as};
 
-    /// No frames.
+    /// Returns counts of no frames.
     pub fn new() -> Tally
         ensures { counts_of result ≡ no_counts }
     {
@@ -40,7 +40,7 @@ impl Tally {
         }
     }
 
-    /// Counts a frame that is accepted.
+    /// Counts an accepted frame.
     pub fn add(&mut self)
         requires { self.old.accepted < 2 ^ 63 }
         ensures accepted { counts_of self.new ≡ one_accepted (counts_of self.old) }
@@ -49,7 +49,7 @@ impl Tally {
         self.accepted += 1;
     }
 
-    /// Counts a held frame as one that has this fate.
+    /// Counts a held frame as one with this fate, which is not Held.
     pub fn settle(&mut self, fate: Fate)
         requires settled { fate ≢ Held }
         requires held { 1 ≤ held_in (counts_of self.old) }
@@ -66,7 +66,7 @@ impl Tally {
         }
     }
 
-    /// Counts so many held frames as ones that have this fate.
+    /// Counts `count` held frames as ones with this fate, which is not Held.
     pub fn settle_all(&mut self, fate: Fate, count: u32)
         requires settled { fate ≢ Held }
         requires held { count ≤ held_in (counts_of self.old) }
@@ -84,11 +84,11 @@ impl Tally {
         }
     }
 
-    /// The frames that are still held.
+    /// Returns how many frames are still held.
     pub fn held(&self) -> u64
         ensures held { result ≡ held_in (counts_of self.now) }
 
-        // accepted is the sum of the other five and held
+        // accepted is the sum of held and the other five counts
         ensures sum { settled_count (counts_of self.now) + result ≡ self.now.accepted }
     {
         self.accepted - self.acked - self.overlimit - self.codel - self.retries - self.left

@@ -1,5 +1,5 @@
-//! The windows of all TIDs and the sessions that they stand for: laws over the definitions, for the loops of
-//! callers. Each is a function without a body that names it in its contract.
+//! Laws about the windows of all TIDs and the sessions that they represent, for callers' loops. Each law is a
+//! function without a body; its contract states it.
 
 ghost use Rattle.std.specs.Prelude.{◌≡◌, ℕ, ◌+◌, ◌%◌, ◌<◌, ◌≤◌, Bool, true, false, is_some, List, [], ◌∷◌, length};
 ghost use Rattle.wf_frame.specs.Frames.{FrameValue};
@@ -11,8 +11,8 @@ ghost use Rattle.wf_send_parts.specs.Windows.{window_of, with_window};
 ghost use Rattle.wf_send_parts.specs.Many.{AllStand, IsSameElsewhere, IsSameAtOthers, HasSameFrames};
 ghost use Rattle.wf_send_parts.specs.Ending.{Ending, AreFlying, all_settled, HasLeft, IsSettledNext};
 
-/// The window of one TID changes, and its session: the others stay, and all stand for their sessions as
-/// before.
+/// The window of one TID changes with its session. The other windows are unchanged, and all still represent
+/// their sessions.
 pub fn one_window_changes()
     ensures count { (windows : List WindowValue) (s t : ℕ) (w : WindowValue) →
         length (with_window windows s t w) ≡ length windows }
@@ -30,8 +30,8 @@ pub fn one_window_changes()
         AllStand (with_window windows s t w) is_live after bodies }
 {}
 
-/// A station joins, and its windows stand for its new sessions; or it goes, and its windows hold nothing. All
-/// else is as before.
+/// A station joins, and its windows represent its new sessions; or it leaves, and its windows are empty.
+/// Everything else is unchanged.
 pub fn a_station_comes_or_goes()
     ensures joins { (windows others : List WindowValue) (was_live is_live : ℕ → Bool)
         (before after : ℕ → ℕ → Session) →
@@ -46,10 +46,9 @@ pub fn a_station_comes_or_goes()
         ((t : ℕ) → t < 8 → (window_of others s t).places ≡ []) → AllStand others is_live after bodies }
 {}
 
-/// What is read of a window alone is read of each session that it stands for: whether a request is due,
-/// whether a fresh number may be given, and how many numbers there are from F on. A request that was sent
-/// from a number f on is near where F is not below f and N not above f + w. A fresh window stands for a new
-/// session.
+/// Queries of a window return the same as queries of each session that it represents: whether a request is
+/// due, whether a fresh number may be given, and how many numbers there are from F on. A request with start f
+/// is near the window if f is at most F and N at most f + w. A fresh window represents a new session.
 pub fn a_window_tells_of_its_session()
     ensures request { (w : WindowValue) (s : Session) (bodies : ℕ → FrameValue) → WindowStandsFor w s bodies →
         is_some w.due ≡ request_due s }
@@ -64,8 +63,8 @@ pub fn a_window_tells_of_its_session()
         WindowStandsFor (fresh_window capacity size start) (new_session n size) bodies }
 {}
 
-/// Windows stand for their sessions whatever frames are given to other ids than those that the sessions hold:
-/// so they do after a frame is accepted, which gets a new id.
+/// Windows represent their sessions no matter which frames belong to ids that the sessions do not hold. So
+/// accepting a frame, which gets a new id, changes nothing here.
 pub fn only_held_frames_matter()
     ensures one { (w : WindowValue) (s : Session) (bodies others : ℕ → FrameValue) →
         WindowStandsFor w s bodies →
@@ -78,7 +77,7 @@ pub fn only_held_frames_matter()
 {}
 
 /// The numbers of an exchange are settled one after the other. Each of them still flies when its turn comes,
-/// with fewer attempts than the limit, and at the end the window stands for the session after all of them.
+/// with fewer attempts than the limit. At the end the window represents the session after all of them.
 pub fn numbers_are_settled_in_order()
     ensures begins { (w : WindowValue) (s : Session) (bodies : ℕ → FrameValue) (ending : Ending)
         (numbers : List ℕ) →

@@ -1,12 +1,11 @@
-//! What a number carries.
+//! The content of a number in a window.
 
 ghost use Rattle.std.specs.Prelude.{◌≡◌};
 ghost use Rattle.wf_send_parts.specs.Window.{waits};
 
 use wf_queue_parts::chain::Parcel;
 
-/// What a number carries that was not acknowledged. `attempts` counts its transmissions that were not
-/// acknowledged.
+/// The content of a number that was not acknowledged. `attempts` counts its unacknowledged transmissions.
 #[derive(Drop)]
 pub(crate) enum Place {
     Waiting {

@@ -1,4 +1,4 @@
-//! The slots of the numbers that are not settled.
+//! The slots of a window, from the first unsettled number on.
 
 ghost use Rattle.std.specs.Prelude.{◌≡◌, ◌+◌, ◌<◌, ◌≤◌, [], ◌∷◌, ◌++◌, length, drop, IfOk, slice_set, slice_index_or};
 
@@ -8,12 +8,12 @@ use std::collections::VecDeque;
 use std::marker::Model;
 use std::mem::replace;
 
-/// At most 256 slots in a ring, where None is a number that was acknowledged, and how many of them wait. Only
-/// `new` takes memory.
+/// At most 256 slots in a ring, and how many of them wait. None is an acknowledged number. Only `new`
+/// allocates.
 #[derive(Drop)]
 pub(crate) struct Ring {
     slots: VecDeque<Option<Place>>,
-    /// How many slots wait. Its methods alone change it.
+    /// How many slots wait. Only the methods of `Ring` change it.
     pub(crate) waiting: usize,
 }
 
@@ -52,7 +52,7 @@ impl Ring {
         &self.slots[i]
     }
 
-    // Puts the item in place of the ith, which it gives.
+    // Replaces item i and returns the old one.
     pub(crate) fn replace(&mut self, i: usize, item: Option<Place>) -> Option<Place>
         requires { i < length self.old.items }
         ensures found { result ≡ slice_index_or self.old.items i None }
@@ -72,7 +72,7 @@ impl Ring {
         self.slots.push_back_reserved(item);
     }
 
-    // Lets the first item go.
+    // Drops the first item.
     pub(crate) fn drop_front(&mut self)
         requires { 0 < length self.old.items }
         ensures { self.new ≡ record self.old { items = drop 1 self.old.items } }

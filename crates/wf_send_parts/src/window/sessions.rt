@@ -1,5 +1,5 @@
-//! What callers read off a window, and how the loops over it go: laws over the definitions, for each session
-//! that a window stands for. Each is a function without a body that names it in its contract.
+//! Laws about the queries of one window and about callers' loops over it, for each session that the window
+//! represents. Each law is a function without a body; its contract states it.
 
 ghost use Rattle.std.specs.Prelude.{◌≡◌, ℕ, ◌+◌, ◌%◌, ◌<◌, ◌≤◌, nat_lt, true, false, List, [], ◌∷◌, ◌++◌, Some, None, option_map, length};
 ghost use Rattle.std.specs.List.{list_any};
@@ -12,8 +12,8 @@ ghost use Rattle.wf_send_parts.specs.Window.{WindowValue, WindowStandsFor, IsNum
 ghost use Rattle.wf_send_parts.specs.Listing.{HasListed, IsListedNext};
 ghost use Rattle.wf_send_parts.specs.Expelling.{has_flying, frame_left, frames_left, HasExpelled};
 
-/// A number that is not settled lies from F to below N, so its header says it exactly. Its place in the
-/// window has its state, and where it waits or flies also its attempts and its frame.
+/// An unsettled number is from F to below N, so its 12 bits identify it. Its place in the window has its
+/// state and, if it waits or flies, its attempts and its frame.
 pub fn a_number_is_read()
     ensures within { (s : Session) (n seq : ℕ) → s.first ≤ n → is_settled (slot s n).state ≡ false →
         seq ≡ n % 4096 →
@@ -29,7 +29,7 @@ pub fn a_number_is_read()
         holds_parcel (slot s n).state ≡ true → HasFrame (place_at w seq) (bodies (slot s n).id) }
 {}
 
-/// Some place waits, or flies, exactly where some number of the session does.
+/// Some place waits, or flies, if, and only if, some number of the session does.
 pub fn places_tell_of_numbers()
     ensures wait { (w : WindowValue) (s : Session) (bodies : ℕ → FrameValue) → WindowStandsFor w s bodies →
         list_any waits w.places ≡ nat_lt 0 (length (waiting_numbers s)) }
@@ -41,8 +41,8 @@ pub fn places_tell_of_numbers()
         some_fly w ≡ false }
 {}
 
-/// Calls of `waiting`, the first from F on and each later one from past the number before, list the waiting
-/// numbers. These are exactly the numbers that wait, each once and rising.
+/// Calls of `next_waiting`, the first from F on and each later one from past the number before, list the
+/// waiting numbers, each once and in ascending order.
 pub fn waiting_numbers_are_listed()
     ensures begins { (w : WindowValue) (s : Session) (bodies : ℕ → FrameValue) → WindowStandsFor w s bodies →
         HasListed s [] w.start }
@@ -58,8 +58,8 @@ pub fn waiting_numbers_are_listed()
     ensures rising { (s : Session) → IsRising (start_of s) (waiting_numbers s) }
 {}
 
-/// Where nothing flies, calls of `expel` give the frames of the waiting numbers in order, as Left, until
-/// None: then no place is left.
+/// If no number flies, calls of `expel` return the frames of the waiting numbers in order, with the fate
+/// `left`, until None. Then no place is left.
 pub fn frames_are_expelled_in_order()
     ensures begins { (w : WindowValue) (s : Session) (bodies : ℕ → FrameValue) → WindowStandsFor w s bodies →
         some_fly w ≡ false →

@@ -1,7 +1,7 @@
 //! The window of one TID.
 //!
-//! In the clauses F is the first number that is not settled, N the next fresh number, w the size and R the
-//! greatest start of a request that ended as heard: those of each session that the window stands for.
+//! In the clauses, F is the first unsettled number, N the next fresh number, w the size, and R the greatest
+//! start of a request that ended as heard, all in each session that the window represents.
 
 ghost use Rattle.std.specs.Prelude.{count_by, ◌≡◌, ℕ, ◌+◌, ◌%◌, ◌<◌, ◌≤◌, true, false, [], length, max, is_ok, is_some, unwrap_or, option_map, slice_index_or, slice_set, nat_lt, IfOk, IfErr, IfSome, IfNone};
 ghost use Rattle.std.specs.List.{list_any};
@@ -23,20 +23,20 @@ use wf_frame::{Cause, Fate, Frame};
 use wf_octets::seq12::Seq12;
 use wf_queue_parts::chain::Parcel;
 
-/// What became of a number whose exchange has ended.
+/// The outcome of a number whose exchange has ended.
 #[derive(Drop)]
 pub enum Settled {
-    /// It was acknowledged: its parcel, with the fate Acked.
+    /// It was acknowledged. Contains its parcel, with the fate Acked.
     Acked(Parcel),
     /// It waits for another transmission.
     Waiting,
-    /// It was sent as often as the limit allows: its parcel, with the fate Dropped(Retries).
+    /// It was sent as often as the limit allows. Contains its parcel, with the fate Dropped(Retries).
     Failed(Parcel),
 }
 
-/// The originator's window of one TID: the numbers from F on, by their distance past F, each with its parcel
-/// and how often that was sent in vain. Where a request is due it also keeps how far F is past the last
-/// failed number. Every number is kept modulo 4096.
+/// The originator's window of one TID: the numbers from F on, each with its parcel and its attempts, by
+/// distance from F. If a request is due, it also has the distance of F from the last failed number. All
+/// numbers are modulo 4096.
 #[derive(Drop)]
 pub struct Window {
     ring: Ring,
@@ -71,7 +71,8 @@ fn is_settled(place: &Option<Place>) -> bool
     }
 }
 
-// How far the number after `place` is past the last failed one, where that of `place` is `due` past it.
+// Returns how far the number after `place` is past the last failed one, if the number of `place` is `due`
+// past it.
 fn next_due(place: &Option<Place>, due: Option<u16>) -> Option<u16>
     requires { unwrap_or due 0 < 65535 }
     ensures { result ≡ next_since (state_of_place place.now) due }
@@ -85,7 +86,7 @@ fn next_due(place: &Option<Place>, due: Option<u16>) -> Option<u16>
     }
 }
 
-// Takes the settled places in front off the ring, and gives their number and the new distance.
+// Drops the settled places at the front of the ring. Returns how many these were, and the new distance.
 fn advance(ring: &mut Ring, due: Option<u16>) -> (u16, Option<u16>)
     requires { unwrap_or due 0 + length ring.old.items ≤ 256 }
     ensures items { ring.new ≡ record ring.old { items = rest state_of_place ring.old.items } }
@@ -113,7 +114,7 @@ fn attempts_in(place: &Option<Place>) -> u8
     }
 }
 
-// Takes the parcel of a waiting place, which is then settled.
+// Takes the parcel of a waiting place. The place is settled afterwards.
 fn take_waiting(ring: &mut Ring, i: usize) -> (Parcel, u8)
     requires { waits (slice_index_or ring.old.items i None) ≡ true }
     ensures found { Some (Place.Waiting result.0 result.1) ≡ slice_index_or ring.old.items i None }
@@ -125,7 +126,7 @@ fn take_waiting(ring: &mut Ring, i: usize) -> (Parcel, u8)
     (parcel, attempts)
 }
 
-// Takes the parcel of a flying place, which is then settled.
+// Takes the parcel of a flying place. The place is settled afterwards.
 fn take_flying(ring: &mut Ring, i: usize) -> (Parcel, u8)
     requires { is_flying (state_of_place (slice_index_or ring.old.items i None)) ≡ true }
     ensures found { (exchange : ℕ) × (Some (Place.Flying result.0 result.1 exchange)
@@ -145,7 +146,7 @@ fn take_flying(ring: &mut Ring, i: usize) -> (Parcel, u8)
     (parcel, attempts)
 }
 
-// The parcel, once its frame has this fate.
+// Returns the parcel with this fate set in its frame.
 fn finished(mut parcel: Parcel, fate: Fate) -> Parcel
     ensures { result ≡ with_fate fate parcel }
 {
@@ -154,8 +155,8 @@ fn finished(mut parcel: Parcel, fate: Fate) -> Parcel
 }
 
 impl Window {
-    /// A window of no number, as after `reset` with start 0 and the capacity as its size. `capacity` is the
-    /// greatest size that it may be given, in frames: 1 to 256.
+    /// Creates a window without numbers, as after `reset` with start 0 and size `capacity`. `capacity`, 1 to
+    /// 256, is the greatest size that `reset` may give it. Fails only if memory runs out.
     pub fn new(alloc: Global, capacity: u16) -> Result<Window, AllocError>
         requires { (1 ≤ capacity) × (capacity ≤ 256) }
         ensures stands { IfOk result (λ w. (bodies : ℕ → FrameValue) (n : ℕ) → n % 4096 ≡ 0 →
@@ -173,8 +174,8 @@ impl Window {
         })
     }
 
-    /// Begins a new session, whose first number is `start`. The window must hold no parcel: then every number
-    /// that it gave is settled.
+    /// Begins a new session with first number `start` and a window of `size`, 1 to the capacity. The window
+    /// must hold no parcel, so that each of its numbers is settled.
     pub fn reset(&mut self, start: Seq12, size: u16)
         requires empty { self.old.places ≡ [] }
         requires in_range { (1 ≤ size) × (size ≤ self.old.capacity) }
@@ -188,7 +189,7 @@ impl Window {
         self.due = None;
     }
 
-    /// F: the first number that is not settled, or the next one where all are.
+    /// Returns F, the first number that is not settled. If all are settled, this is the next one.
     pub fn start(&self) -> Seq12
         ensures shown { result ≡ self.now.start }
         ensures number { (s : Session) (bodies : ℕ → FrameValue) → WindowStandsFor self.now s bodies →
@@ -197,7 +198,7 @@ impl Window {
         self.start
     }
 
-    /// N: the next fresh number.
+    /// Returns N, the next fresh number.
     pub fn next(&self) -> Seq12
         ensures number { (s : Session) (bodies : ℕ → FrameValue) → WindowStandsFor self.now s bodies →
             result ≡ next_number s % 4096 }
@@ -205,7 +206,7 @@ impl Window {
         self.start.plus(self.ring.len() as u16)
     }
 
-    /// w: how many numbers from F on the recipient takes, in frames.
+    /// Returns w, the size of the window: how many numbers from F on may be sent.
     pub fn size(&self) -> u16
         ensures shown { result ≡ self.now.size }
         ensures number { (s : Session) (bodies : ℕ → FrameValue) → WindowStandsFor self.now s bodies →
@@ -214,7 +215,7 @@ impl Window {
         self.size
     }
 
-    /// Whether a block acknowledgement request is due: some failed number stands from R to below F.
+    /// Returns whether a BlockAckReq is due: some failed number is at least R and below F.
     pub fn bar_due(&self) -> bool
         ensures shown { result ≡ is_some self.now.due }
         ensures due { (s : Session) (bodies : ℕ → FrameValue) → WindowStandsFor self.now s bodies →
@@ -223,7 +224,8 @@ impl Window {
         self.due.is_some()
     }
 
-    /// A request with this start was heard. Its start is at most F, and N is at most w past it.
+    /// Records that a BlockAckReq with this start was heard. The start is at most F, and N is at most w past
+    /// it.
     pub fn bar_heard(&mut self, start: Seq12)
         requires { distance self.old.start start + length self.old.places ≤ self.old.size }
         ensures stands { (s : Session) (bodies : ℕ → FrameValue) (f : ℕ) → WindowStandsFor self.old s bodies →
@@ -238,7 +240,7 @@ impl Window {
         }
     }
 
-    /// Whether `give` takes a parcel: no request is due, and N is below F + w.
+    /// Returns whether `give` accepts a parcel: no request is due, and N is below F + w.
     pub fn can_give(&self) -> bool
         ensures shown { result ≡ can_take self.now }
         ensures can { (s : Session) (bodies : ℕ → FrameValue) → WindowStandsFor self.now s bodies →
@@ -247,8 +249,8 @@ impl Window {
         self.due.is_none() && self.ring.len() < usize::from(self.size)
     }
 
-    /// Gives the parcel the number N, with which it waits. Refused, with the parcel handed back, exactly
-    /// where `can_give` is false.
+    /// Gives the parcel the number N, with which it then waits, and returns N. If `can_give` is false,
+    /// returns the parcel as the error and changes nothing.
     pub fn give(&mut self, parcel: Parcel) -> Result<Seq12, Parcel>
         ensures exactly { is_ok result ≡ can_take self.old }
         ensures given { IfOk result (λ seq. (s : Session) (bodies : ℕ → FrameValue) →
@@ -269,7 +271,7 @@ impl Window {
         Ok(seq)
     }
 
-    /// A waiting number flies in this exchange; its frame counts that it is sent once more. Gives the frame's
+    /// Lets a waiting number fly in this exchange, counts an attempt in its frame, and returns the frame's
     /// id.
     pub fn fly(&mut self, seq: Seq12, exchange: u64) -> u64
         requires { state_at self.old seq ≡ State.Waiting }
@@ -295,8 +297,8 @@ impl Window {
         id
     }
 
-    /// The exchange in which a number flew has ended. Where it was not acknowledged, its attempts rise by
-    /// one, and it fails where they now equal `limit`.
+    /// Settles a number whose exchange has ended. If it was not acknowledged, its attempts rise by one, and
+    /// it fails if they now equal `limit`; otherwise it waits again.
     pub fn settle(&mut self, seq: Seq12, acked: bool, limit: u8) -> Settled
         requires flies { is_flying (state_at self.old seq) ≡ true }
         requires limit { attempts_of (place_at self.old seq) < limit }
@@ -331,7 +333,7 @@ impl Window {
         Settled::Failed(finished(parcel, Fate::Dropped(Cause::Retries)))
     }
 
-    /// Whether some number waits.
+    /// Returns whether some number waits.
     pub fn has_waiting(&self) -> bool
         ensures shown { result ≡ list_any waits self.now.places }
         ensures waiting { (s : Session) (bodies : ℕ → FrameValue) → WindowStandsFor self.now s bodies →
@@ -340,7 +342,7 @@ impl Window {
         self.ring.waiting > 0
     }
 
-    /// How many numbers wait.
+    /// Returns how many numbers wait.
     pub fn waiting_count(&self) -> u32
         ensures shown { result ≡ count_by waits self.now.places }
         ensures waiting { (s : Session) (bodies : ℕ → FrameValue) → WindowStandsFor self.now s bodies →
@@ -349,8 +351,9 @@ impl Window {
         self.ring.waiting as u32
     }
 
-    /// The first waiting number at or past `from`, which lies in F to N; None exactly where there is none.
-    pub fn waiting(&self, from: Seq12) -> Option<Seq12>
+    /// Returns the first waiting number at or past `from`, which is F to N. None if, and only if, there is
+    /// none.
+    pub fn next_waiting(&self, from: Seq12) -> Option<Seq12>
         requires { distance from self.now.start ≤ length self.now.places }
         ensures waits { IfSome result (λ seq. state_at self.now seq ≡ State.Waiting) }
         ensures within { IfSome result (λ seq. (distance from self.now.start ≤ distance seq self.now.start) ×
@@ -367,7 +370,7 @@ impl Window {
         None
     }
 
-    /// The frame of a number that waits or flies.
+    /// Returns the frame of a number that waits or flies.
     pub fn frame(&self, seq: Seq12) -> &Frame
         requires { holds_parcel (state_at self.now seq) ≡ true }
         ensures { (s : Session) (bodies : ℕ → FrameValue) (n : ℕ) → WindowStandsFor self.now s bodies →
@@ -380,7 +383,7 @@ impl Window {
         }
     }
 
-    /// How often a number that waits or flies was sent in vain.
+    /// Returns how many attempts of a number that waits or flies were in vain.
     pub fn attempts(&self, seq: Seq12) -> u8
         requires { holds_parcel (state_at self.now seq) ≡ true }
         ensures { (s : Session) (bodies : ℕ → FrameValue) (n : ℕ) → WindowStandsFor self.now s bodies →
@@ -389,8 +392,8 @@ impl Window {
         attempts_in(self.ring.at(usize::from(seq.ahead(self.start))))
     }
 
-    /// Takes the parcel of the lowest number that holds one, with the fate Dropped(Left). That number then
-    /// counts as acknowledged. None exactly where none holds one. Nothing may fly.
+    /// Takes the parcel of the lowest number that holds one, with the fate Dropped(Left); the number then
+    /// counts as acknowledged. None if, and only if, no number holds one. No number may fly.
     pub fn expel(&mut self) -> Option<Parcel>
         requires { some_fly self.old ≡ false }
         ensures none { IfNone result ((s : Session) (bodies : ℕ → FrameValue) →

@@ -20,19 +20,19 @@ use wf_frame::tid_number;
 use wf_octets::seq12::Seq12;
 use wf_queue_parts::chain::Parcel;
 
-/// How many TIDs a station has.
+/// The number of TIDs of a station.
 const TIDS: u8 = 8;
 
 /// The greatest size of a window, in numbers.
 const GREATEST_WINDOW: u16 = 256;
 
-/// The windows of the TIDs 0 to 7 of each station. A contract sees them as a list, by the number of each TID
-/// among those of all stations. Only `new` takes memory.
+/// The windows of TIDs 0 to 7 of each station. Contracts see them as a list, by `tid_number`. Only `new`
+/// allocates.
 pub struct Windows {
     windows: Vec<Window>,
 }
 
-// By hand, so that whoever lets windows go proves one call and not the drop of each place in them.
+// Written by hand so that dropping a `Windows` needs the proof of one call, not of the drop of each place.
 impl Drop for Windows {
     fn drop(self) {
         let Windows { windows: _windows } = self;
@@ -52,7 +52,8 @@ impl Model for Windows {
 }
 
 impl Windows {
-    /// For so many stations, windows of no number, each as `Window::new` makes it for the greatest size, 256.
+    /// Creates windows for `stations` stations, 1 to 256. Each is as `Window::new` makes it for the greatest
+    /// size, 256. Fails only if memory runs out.
     pub fn new(alloc: Global, stations: u32) -> Result<Windows, AllocError>
         requires { (1 ≤ stations) × (stations ≤ 256) }
         ensures { IfOk result (λ made. made ≡ replicate (8 * stations) new_window) }
@@ -65,7 +66,7 @@ impl Windows {
         Ok(Windows { windows })
     }
 
-    /// The window of a TID.
+    /// Returns the window of a TID.
     pub fn at(&self, station: u16, tid: u8) -> &Window
         requires tid { tid < 8 }
         requires within { tid_number station tid < length self.now }
@@ -74,8 +75,8 @@ impl Windows {
         &self.windows[tid_number(station, tid) as usize]
     }
 
-    /// Begins a new session of a TID, as `Window::reset`: its first number and its window, 1 to 256. The
-    /// window must hold no parcel.
+    /// Begins a new session of a TID, as `Window::reset`, with first number `start` and a window of `size`, 1
+    /// to 256. The window must hold no parcel.
     pub fn reset(&mut self, station: u16, tid: u8, start: Seq12, size: u16)
         requires tid { tid < 8 }
         requires within { tid_number station tid < length self.old }
@@ -90,7 +91,7 @@ impl Windows {
         self.windows[tid_number(station, tid) as usize].reset(start, size);
     }
 
-    /// Begins new sessions of the eight TIDs of a station, each as by `reset`.
+    /// Begins new sessions of all eight TIDs of a station, each as by `reset`.
     pub fn reset_all(&mut self, station: u16, start: Seq12, size: u16)
         requires within { tid_number station 7 < length self.old }
         requires empty { (t : ℕ) → t < 8 → (window_of self.old station t).places ≡ [] }
@@ -107,7 +108,7 @@ impl Windows {
         }
     }
 
-    /// A request with this start was heard, as `Window::bar_heard`.
+    /// Records that a BlockAckReq with this start was heard, as `Window::bar_heard`.
     pub fn bar_heard(&mut self, station: u16, tid: u8, start: Seq12)
         requires tid { tid < 8 }
         requires within { tid_number station tid < length self.old }
@@ -125,8 +126,8 @@ impl Windows {
         self.windows[tid_number(station, tid) as usize].bar_heard(start);
     }
 
-    /// Gives the parcel the next fresh number of a TID, as `Window::give`. Refused, with the parcel handed
-    /// back, exactly where the window's `can_give` is false.
+    /// Gives the parcel the next fresh number of a TID, as `Window::give`. If the window's `can_give` is
+    /// false, returns the parcel as the error.
     pub fn give(&mut self, station: u16, tid: u8, parcel: Parcel) -> Result<Seq12, Parcel>
         requires tid { tid < 8 }
         requires within { tid_number station tid < length self.old }
@@ -143,7 +144,7 @@ impl Windows {
         self.windows[tid_number(station, tid) as usize].give(parcel)
     }
 
-    /// A waiting number of a TID flies in this exchange, as `Window::fly`.
+    /// Lets a waiting number of a TID fly in this exchange and returns its frame's id, as `Window::fly`.
     pub fn fly(&mut self, station: u16, tid: u8, seq: Seq12, exchange: u64) -> u64
         requires tid { tid < 8 }
         requires within { tid_number station tid < length self.old }
@@ -162,8 +163,8 @@ impl Windows {
         self.windows[tid_number(station, tid) as usize].fly(seq, exchange)
     }
 
-    /// The exchange in which a number of a TID flew has ended, as `Window::settle`: `limit` is how often it
-    /// may be sent.
+    /// Settles a number of a TID whose exchange has ended, as `Window::settle`. `limit` is how often it may
+    /// be sent.
     pub fn settle(&mut self, station: u16, tid: u8, seq: Seq12, acked: bool, limit: u8) -> Settled
         requires tid { tid < 8 }
         requires within { tid_number station tid < length self.old }
@@ -183,8 +184,8 @@ impl Windows {
         self.windows[tid_number(station, tid) as usize].settle(seq, acked, limit)
     }
 
-    /// Takes the parcel of the lowest number of a TID that holds one, as Left, as `Window::expel`. None
-    /// exactly where none holds one. Nothing of the TID may fly.
+    /// Takes the parcel of the lowest number of a TID that holds one, with the fate Dropped(Left), as
+    /// `Window::expel`. None if, and only if, no number holds one. No number of the TID may fly.
     pub fn expel(&mut self, station: u16, tid: u8) -> Option<Parcel>
         requires tid { tid < 8 }
         requires within { tid_number station tid < length self.old }

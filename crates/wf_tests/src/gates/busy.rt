@@ -1,4 +1,4 @@
-//! A try while another seat is in its step.
+//! A try while another seat's step is running.
 
 ghost use Rattle.std.specs.Prelude.{◌≡◌};
 ghost use Rattle.wf_gate.specs.Seats.{IsOf};
@@ -14,7 +14,7 @@ use std::thread;
 use std::thread::Threads;
 use wf_gate::{Gate, Machine, Seat, TryFault};
 
-/// How often a thread of a test turns at most while it waits for a flag.
+/// The most turns of a test's thread while it waits for a flag.
 const TURNS: u64 = 100_000_000;
 
 fn await_flag(flag: &AtomicU64) {
@@ -26,7 +26,7 @@ fn await_flag(flag: &AtomicU64) {
     }
 }
 
-/// A clock whose step says that it began, and holds until it may go on.
+/// A clock whose step sets the flag `began`, and waits for the flag `go_on`.
 #[derive(Drop)]
 pub struct SlowClock {
     clock: Clock,
@@ -47,15 +47,15 @@ impl Machine for SlowClock {
 
     ghost settings = { λ _. tt };
 
-    ghost room = { λ s. s.clock.left };
+    ghost calls_left = { λ s. s.clock.left };
 
     ghost note = { λ ticks. ticks };
 
     // The test compares the reply.
     ghost right = { λ _ _ _ _ _. Unit {0} };
 
-    fn room(&self) -> u64 {
-        self.clock.room()
+    fn calls_left(&self) -> u64 {
+        self.clock.calls_left()
     }
 
     fn step(&mut self, caller: u32, call: u32) -> u64 {
@@ -76,8 +76,8 @@ fn call_slowly<R: Wait>(
     (gate.call(rt, &mut seat, 8).ok(), seat)
 }
 
-/// What a try finds while another seat is in its step: the call that came back, the ticket and the number
-/// served. Then the other may go on.
+/// Tries a call while another seat's step is running. Returns the call, the ticket and the number that is
+/// served; then lets the other step continue.
 fn try_meanwhile(
     gate: &Gate<SlowClock>,
     mut seat: Seat<SlowClock>,
@@ -96,7 +96,7 @@ fn try_meanwhile(
     (found, seat)
 }
 
-/// The reply of the slow call, what the try found, and what the clock shows.
+/// The reply of the slow call, the result of the try, and what the clock shows.
 type Met = (Option<u64>, Option<(u32, u64, u64)>, (u64, u64));
 
 fn run<R: Threads + Wait + Sync>(rt: &R, alloc: Global) -> Result<Option<Met>, AllocError> {

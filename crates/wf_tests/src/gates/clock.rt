@@ -1,22 +1,22 @@
-//! A machine: a clock. A call is so many ticks, by which the time grows, and the reply is the time.
+//! A machine: a clock. A call is a number of ticks, which are added to the time, and the reply is the time.
 
 ghost use Rattle.std.specs.Prelude.{◌≡◌};
 
 use wf_gate::Machine;
 use wf_machine::History;
 
-/// A clock that takes so many calls more.
+/// A clock with room for `left` more calls.
 #[derive(Drop)]
 pub struct Clock {
     now: u64,
     steps: u64,
     left: u32,
-    // It takes no memory: only clauses read it.
+    // It takes no memory, because only contracts read it.
     history: History<u32>,
 }
 
 impl Clock {
-    /// A clock that shows 0 and takes so many calls.
+    /// A clock that shows 0, with room for this many calls.
     pub(crate) fn new(calls: u32) -> Clock
         ensures { result.left ≡ calls }
     {
@@ -47,14 +47,14 @@ impl Machine for Clock {
 
     ghost settings = { λ _. tt };
 
-    ghost room = { λ c. c.left };
+    ghost calls_left = { λ c. c.left };
 
     ghost note = { λ ticks. ticks };
 
     // The tests compare the replies.
     ghost right = { λ _ _ _ _ _. Unit {0} };
 
-    fn room(&self) -> u64 {
+    fn calls_left(&self) -> u64 {
         u64::from(self.left)
     }
 

@@ -6,13 +6,13 @@ ghost use Rattle.wf_gate.specs.Pairs.{IsPair};
 use std::alloc::{AllocError, Global};
 use wf_gate::{Gate, Machine, Seat};
 
-/// A gate of two seats, and these in the order of their numbers.
+/// Makes a gate with two seats, and returns it with both, in the order of their numbers.
 pub(crate) fn open_pair<M: Machine + Drop>(
     alloc: Global,
     machine: M,
     quotas: [u32; 2],
 ) -> Result<Option<(Gate<M>, Seat<M>, Seat<M>)>, AllocError>
-    requires { sum quotas ≤ M.room machine }
+    requires { sum quotas ≤ M.calls_left machine }
     ensures { IfOk result (λ r. IfSome r (λ p. IsPair p.0 p.1 p.2)) }
 {
     let (gate, mut seats) = Gate::new(alloc, machine, &quotas)?;
@@ -22,7 +22,7 @@ pub(crate) fn open_pair<M: Machine + Drop>(
     Ok(Some((gate, zero, one)))
 }
 
-/// Closes such a gate.
+/// Closes such a gate, and returns its machine.
 pub(crate) fn close_pair<M: Machine + Drop>(
     alloc: Global,
     gate: Gate<M>,

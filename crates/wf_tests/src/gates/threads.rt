@@ -12,10 +12,10 @@ use std::thread;
 use std::thread::Threads;
 use wf_gate::{Gate, Seat};
 
-/// The calls that each thread makes.
+/// The calls of each thread.
 const TICKS: [u32; 8] = [1, 2, 3, 4, 5, 6, 7, 8];
 
-/// A seat makes these calls in their order. Its entries are those that it had made, and then these.
+/// Makes these calls by a seat, in order. Its entries are then those before, and these.
 fn send_all<R: Wait>(rt: &R, gate: &Gate<Clock>, seat: &mut Seat<Clock>, ticks: &[u32]) -> bool
     requires { IsOf gate.now seat.old }
     ensures of { IsOf gate.now seat.new × (seat.new.number ≡ seat.old.number) }
@@ -39,7 +39,7 @@ fn send_ticks<R: Wait>(rt: &R, gate: &Gate<Clock>, mut seat: Seat<Clock>) -> Sea
     seat
 }
 
-/// Each seat makes its calls in a thread of its own.
+/// Makes the calls of each seat, each in a new thread.
 fn send_in_threads<R: Threads + Wait + Sync>(
     rt: &R,
     gate: &Gate<Clock>,
@@ -54,7 +54,7 @@ fn send_in_threads<R: Threads + Wait + Sync>(
     Ok(back)
 }
 
-/// What the clock shows after two threads made their calls.
+/// Returns what the clock shows after two threads made their calls.
 fn run<R: Threads + Wait + Sync>(rt: &R, alloc: Global) -> Result<(u64, u64), AllocError> {
     let (gate, seats) = Gate::new(alloc, Clock::new(16), &[8, 8])?;
     let seats = send_in_threads(rt, &gate, seats)?;

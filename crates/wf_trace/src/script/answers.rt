@@ -1,4 +1,4 @@
-//! What a command over scripts is.
+//! The interface of a command that answers scripts.
 
 ghost use Rattle.std.specs.Prelude.{◌≡◌, ◌≢◌, ◌≤◌, true, Option, IfOk, OnOk, OnErr, Result, Err};
 ghost use Rattle.std.specs.Io.KnownBytes.{append_known};
@@ -11,40 +11,41 @@ ghost use Rattle.wf_trace.specs.ScriptTexts.{Manner};
 use crate::FaultKind;
 use wf_io::{Failed, Line, Sink};
 
-/// Why an answer was not written whole.
+/// Why an answer was not written completely.
 #[derive(Clone, Copy)]
 pub enum Unanswered {
     /// The sink failed.
     Sink,
-    /// There was no memory.
+    /// Out of memory.
     Memory,
 }
 
 /// A command that answers the events of a script.
 pub trait Answers {
-    /// What a line says.
+    /// An event: the meaning of a line.
     type Event: Copy;
 
-    /// What the words of a line mean, and how many events a script may have.
+    /// The meaning of a line, given its words, and the most events of a script.
     ghost grammar: { Grammar Self.Event };
 
-    /// What is written for an event, what it changes, and whether memory may be wanting at it.
+    /// What is written for an event, how the event changes the command, and whether it may run out of
+    /// memory.
     ghost manner: { Manner Self.Event Self };
 
-    /// What is known of an event that was read.
+    /// What holds for each event that was read.
     ghost valid: { Self.Event → Type 0 };
 
-    /// How many events a script may have: None where there is no limit.
+    /// Returns the most events of a script, or `None` if there is no limit.
     fn most() -> Option<u64>
         ensures { result ≡ grammar.most };
 
-    /// The event that a line is, or the first that is wrong with it. The line `end` is none of them.
+    /// Returns the event of a line, which is not the line `end`. The error is the line's first fault.
     fn read(line: &[u8]) -> Result<Self::Event, FaultKind>
         ensures says { result ≡ grammar.meant (words line.now) }
         ensures valid { IfOk result valid };
 
-    /// An event happens, and its answer is written. After an error some of the answer may stand written.
-    /// Memory is wanting only where it may be.
+    /// Handles an event and writes its answer. After an error a part of the answer may have been written.
+    /// Runs out of memory only at events at which that is allowed.
     fn answer<K: Sink>(&mut self, event: Self::Event, sink: &mut K) -> Result<(), Unanswered>
         requires { valid event }
         ensures written { OnOk result (K.held sink.new
@@ -57,7 +58,7 @@ pub trait Answers {
         ensures cause { result ≡ Err Unanswered.Sink → HasRisen (K.faults sink.old) (K.faults sink.new) }
         ensures quiet { result ≢ Err Unanswered.Sink → K.faults sink.new ≡ K.faults sink.old };
 
-    /// Writes the lines behind the line `end`. After an error some of them may stand written.
+    /// Writes the lines after the line `end`. After an error a part of them may have been written.
     fn close<K: Sink>(&self, sink: &mut K) -> Result<(), Failed>
         ensures written { OnOk result (K.held sink.new
             ≡ append_known (K.held sink.old) (manner.closing self.now)) }
@@ -65,7 +66,7 @@ pub trait Answers {
         ensures cause { CountsFaults (K.faults sink.old) (K.faults sink.new) result };
 }
 
-/// Writes a line as `wf_io::write_line` does: where the sink fails, that is why the answer is not whole.
+/// Writes a line as `wf_io::write_line` does. Fails with `Sink` if the sink fails.
 pub fn write_line<K: Sink>(sink: &mut K, line: &Line) -> Result<(), Unanswered>
     ensures written { OnOk result (K.held sink.new ≡ append_known (K.held sink.old) line.now) }
     ensures front { HoldsFront (K.held sink.old) (K.held sink.new) line.now }

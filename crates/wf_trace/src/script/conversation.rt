@@ -1,4 +1,4 @@
-//! The answers to a script, one after the other.
+//! Answers a script, event by event.
 
 ghost use Rattle.std.specs.Prelude.{◌≡◌, OnOk};
 ghost use Rattle.std.specs.Io.KnownBytes.{append_known};
@@ -26,10 +26,10 @@ fn write_fault<K: Sink>(fault: Fault, sink: &mut K) -> Result<(), Failed>
     write_line(sink, &line)
 }
 
-/// Reads a script from the source, and writes the answer of each event before it reads the next; behind the
-/// line `end` the last lines, or in their place the line of the first fault. Octets after the `end` line are
-/// not looked at. Memory may be wanting at the start, and behind it at those events alone that the command
-/// names.
+/// Reads a script from the source, and writes the answer to each event before it reads the next. After the
+/// line `end` it writes the last lines of the command; at the first fault it writes the line of that fault
+/// instead. It does not look at octets after the line `end`. It may run out of memory at the start, and
+/// later only at events at which the command allows that.
 pub fn converse<C: Answers, S: Source, K: Sink>(
     alloc: Global,
     command: &mut C,

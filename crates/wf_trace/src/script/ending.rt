@@ -5,8 +5,8 @@ use crate::Fault;
 /// How a script ends.
 #[derive(Clone, Copy)]
 pub enum Ending {
-    /// With the line `end`.
+    /// By the line `end`.
     Finish,
-    /// With the first fault.
+    /// By the first fault.
     Bad(Fault),
 }

@@ -1,5 +1,5 @@
-//! The trace of a history with the standard settings: `write_trace` writes its text, some lines at once;
-//! `trace_law` says that it is read as this history again.
+//! Writes the trace of a history with the standard settings: `write_trace` writes its text, several lines
+//! at once. `trace_law` says that the text is read as the same history.
 
 mod history;
 mod law;

@@ -1,4 +1,4 @@
-//! The next item of a script.
+//! Reads the next item of a script.
 
 ghost use Rattle.std.specs.Prelude.{◌≡◌, ◌<◌, ℕ, List, Some, None, IfOk, OnErr, IsSome, Ok, if◌then◌else◌};
 ghost use Rattle.std.specs.Io.KnownBytes.{IsAtEnd};
@@ -14,16 +14,16 @@ use crate::script::ending::Ending;
 use crate::{Cut, Fault, FaultKind, Piece, next_word};
 use wf_io::{Failed, Source};
 
-/// What comes next of a script.
+/// An item of a script.
 #[derive(Clone, Copy)]
 pub enum Item<E> {
     /// An event.
     Event(E),
-    /// The end.
+    /// The end of the script.
     Ended(Ending),
 }
 
-// The end that a line is, if its first word is `end`.
+// Returns the ending of a line whose first word is `end`.
 fn ending_of(number: u64, line: &[u8]) -> Option<Ending>
     ensures { result ≡ (if is_end (words line.now) then Some (ended number (words line.now)) else None) }
 {
@@ -42,7 +42,7 @@ fn ending_of(number: u64, line: &[u8]) -> Option<Ending>
     }
 }
 
-// The event that a line is behind so many others.
+// Returns the event of a line after `count` other events.
 fn event_of<C: Answers>(count: u64, line: &[u8]) -> Result<C::Event, FaultKind>
     ensures says { result ≡ within C.grammar.most count (C.grammar.meant (words line.now)) }
     ensures valid { IfOk result C.valid }
@@ -54,7 +54,7 @@ fn event_of<C: Answers>(count: u64, line: &[u8]) -> Result<C::Event, FaultKind>
     }
 }
 
-/// What comes next of a script behind so many events.
+/// Returns the next item of a script after `count` events.
 pub fn next_item<C: Answers, S: Source>(
     cut: &mut Cut,
     count: u64,

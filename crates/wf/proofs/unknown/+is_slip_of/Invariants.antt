@@ -1,3 +1,4 @@
+-- The recursion ends because the word gets shorter.
 use Rattle.std.proofs.Common.{length}
 use Rattle.wf.proofs.unknown.+is_slip_of.Given as goal
 

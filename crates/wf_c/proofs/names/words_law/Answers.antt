@@ -1,73 +1,53 @@
+-- Proves that the words of refusals, answers and fates are the first words of the machine's text. By cases.
 use Rattle.std.proofs.Common.{◌≡◌, refl, ℕ, List}
 use Rattle.std.specs.Prelude.{Some, None, pos}
 use Rattle.wf_frame.specs.Answers.{reply_with}
 use Rattle.wf_frame.specs.declared.answers.Brief.{Brief}
-use Rattle.wf_frame.specs.declared.answers.Brief.TheVariants.{Joined, Gone, RateSet, Ticked, Accepted, Send, Released, Ba, Ended, Slept, Woken, Credited, Charged, Reaped, Refused}
+use Rattle.wf_frame.specs.declared.answers.Brief.TheVariants.{Joined, Set, Now, Accepted, Send, Released, Ba, Done, Slept, Woken, Polled, Charged, Reaped, Refused}
+use Rattle.wf_frame.specs.declared.answers.Brief.TheVariants as brief
 use Rattle.wf_frame.specs.declared.classes.Cause.TheVariants.{Overlimit, Codel, Retries, Left}
 use Rattle.wf_frame.specs.declared.classes.Fate.{Fate}
 use Rattle.wf_frame.specs.declared.classes.Fate.TheVariants.{Held, Acked, Dropped}
 use Rattle.wf_frame.specs.declared.notes.Refusal.{Refusal}
 use Rattle.wf_frame.specs.declared.notes.Refusal.TheVariants as refusal
-use Rattle.wf_def_world.specs.Text.{fate_name, refusal_words, reply_words}
-use Rattle.wf_c.specs.Names.{code_word, fate_word, first_word, answer_word, word_at}
-use Rattle.wf_c.specs.Numbers.{fate_number, numbers_of, refusal_number}
+use Rattle.wf_frame.specs.Classes.{fate_number, fate_word}
+use Rattle.wf_frame.specs.Refusals.{refusal_number}
+use Rattle.wf_def_world.specs.Text.{refusal_words, reply_words}
+use Rattle.wf_c.specs.Names.{code_word, fate_word_at, first_word, answer_word, word_at}
+use Rattle.wf_c.specs.Numbers.{numbers_of}
 use Rattle.wf_c.proofs.names.words_law.Goals as goal
 
+-- the last line is for all other refusals
 refusals_are : (r : Refusal) → word_at code_word (pos (refusal_number r)) ≡ first_word (refusal_words r)
 refusals_are refusal.BadStation = refl
-refusals_are refusal.BadWindow = refl
-refusals_are refusal.BadStart = refl
-refusals_are refusal.BadExponent = refl
-refusals_are refusal.BadRate = refl
-refusals_are refusal.BadTick = refl
-refusals_are refusal.BadTid = refl
-refusals_are refusal.BadAir = refl
-refusals_are refusal.BadIndex = refl
-refusals_are refusal.Live = refl
-refusals_are refusal.NoStation = refl
-refusals_are refusal.NoExchange = refl
-refusals_are refusal.NoAnswer = refl
-refusals_are (refusal.StillOpen count) = refl
-refusals_are (refusal.Room inside) = refl
-refusals_are (refusal.Sleeping queued) = refl
-refusals_are (refusal.Full count) = refl
-refusals_are refusal.Idle = refl
-refusals_are refusal.Answered = refl
-refusals_are refusal.Arrived = refl
-refusals_are refusal.Nothing = refl
-refusals_are refusal.Asleep = refl
-refusals_are refusal.Awake = refl
-refusals_are refusal.Polled = refl
-refusals_are (refusal.Debt deficit) = refl
-refusals_are refusal.HistoryFull = refl
-refusals_are refusal.BadWeight = refl
+refusals_are r = refl
 
 kinds_are : (b : Brief) (pairs : List (ℕ × ℕ)) (ids : List ℕ) →
     word_at answer_word (pos (numbers_of b).kind) ≡ first_word (reply_words (reply_with b pairs ids))
 kinds_are Joined pairs ids = refl
-kinds_are (Gone dropped) pairs ids = refl
-kinds_are RateSet pairs ids = refl
-kinds_are (Ticked now) pairs ids = refl
+kinds_are (brief.Left dropped) pairs ids = refl
+kinds_are Set pairs ids = refl
+kinds_are (Now now) pairs ids = refl
 kinds_are (Accepted id None) pairs ids = refl
 kinds_are (Accepted id (Some dropped)) pairs ids = refl
 kinds_are (Send exchange station tid air None more) pairs ids = refl
 kinds_are (Send exchange station tid air (Some start) more) pairs ids = refl
 kinds_are Released pairs ids = refl
 kinds_are (Ba start b0 b1 b2 b3 wide) pairs ids = refl
-kinds_are (Ended acked waiting failed) pairs ids = refl
+kinds_are (Done acked waiting failed) pairs ids = refl
 kinds_are Slept pairs ids = refl
 kinds_are Woken pairs ids = refl
-kinds_are (Credited class) pairs ids = refl
+kinds_are (Polled class) pairs ids = refl
 kinds_are (Charged deficit) pairs ids = refl
 kinds_are (Reaped id fate) pairs ids = refl
-kinds_are (Refused (refusal.StillOpen count)) pairs ids = refl
+kinds_are (Refused (refusal.Open count)) pairs ids = refl
 kinds_are (Refused (refusal.Room inside)) pairs ids = refl
 kinds_are (Refused (refusal.Sleeping queued)) pairs ids = refl
 kinds_are (Refused (refusal.Full count)) pairs ids = refl
 kinds_are (Refused (refusal.Debt deficit)) pairs ids = refl
 kinds_are (Refused _) pairs ids = refl
 
-fates_are : (f : Fate) → word_at fate_word (pos (fate_number f)) ≡ fate_name f
+fates_are : (f : Fate) → word_at fate_word_at (pos (fate_number f)) ≡ fate_word f
 fates_are Held = refl
 fates_are Acked = refl
 fates_are (Dropped Overlimit) = refl

@@ -1,3 +1,4 @@
+-- Proves that `carried_id` returns the id of the frame in the transmission.
 use Rattle.std.proofs.Common.{ap, ◌∙◌, ℕ, Option}
 use Rattle.std.specs.Prelude.{unwrap_or, option_and_then}
 use Rattle.wf_path.specs.Transmissions.{transmission_id}

@@ -1,8 +1,9 @@
+-- Proves that `written` does not fail, and that it writes octets with the fields of the transmission.
 use Rattle.std.proofs.Common.{◌≡◌, ap, ◌∙◌, subst, arith, length, take, Some}
 use Rattle.wf_path.specs.Addresses.{Addresses, made_up}
 use Rattle.wf_path.specs.Transmissions.{octets_sent}
 use Rattle.wf_path.specs.Writing.{write_fault}
-use Rattle.wf_recv_refines.proofs.Sent.{tid_now}
+use Rattle.wf_cell_model.proofs.Sent.{tid_now}
 use Rattle.wf_cell.proofs.Written.{octets_say, has_source, no_write_fault}
 use Rattle.wf_cell.proofs.air.written.Goals as goal
 

@@ -1,3 +1,4 @@
+-- Each split gives the first of the remaining numbers to a new seat.
 use Rattle.std.proofs.Common.{rules, arith, ◌≡◌, ◌<◌, ◌-◌, ◌+◌, ℕ, sym, ap, ◌∙◌, subst, ⊎_elim, [], length, drop, get_or}
 use mathlib.Core.Option.{some}
 use lib.ListN.{get_elem?}

@@ -1,3 +1,4 @@
+-- The seats so far are new seats with the numbers from 0, and the first seat has the other numbers to give.
 use Rattle.std.proofs.Common.{◌≡◌, ℕ, [], drop, length, vec_capacity}
 use mathlib.Core.Option.{some}
 use lib.ListN.{get_elem?}

@@ -1,3 +1,4 @@
+-- Each join records one more seat in the first.
 use Rattle.std.proofs.Common.{rules, sym, ap, ◌∙◌, inl, [], ◌∷◌, ◌++◌, length}
 use Rattle.std.specs.Option.{option_to_list}
 use mathlib.Core.Option.{some, some-ne-none}

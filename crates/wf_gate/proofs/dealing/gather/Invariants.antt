@@ -1,3 +1,4 @@
+-- Each seat is still in the list, or recorded in the first seat.
 use Rattle.std.proofs.Common.{◌≡◌, ◌⊎◌, ℕ, Some}
 use mathlib.Core.Option.{some}
 use lib.ListN.{get_elem?}

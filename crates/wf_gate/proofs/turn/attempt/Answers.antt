@@ -1,3 +1,4 @@
+-- The exchange either finds the number loaded, which gives the seat its turn, or a greater one.
 use Rattle.std.proofs.Common.{rules, ◌∙◌, refl}
 use Rattle.wf_gate.proofs.Steps.{peeks, tries_at, tried_of}
 use Rattle.wf_gate.proofs.turn.attempt.Goals as goal

@@ -1,3 +1,4 @@
+-- A seat with a call left may draw a ticket.
 use Rattle.std.proofs.Common.{rules}
 use Rattle.wf_gate.proofs.Steps.{draws}
 use Rattle.wf_gate.proofs.turn.draw.Goals as goal

@@ -1,3 +1,4 @@
+-- The seat has the machine, whose step appends one entry to the history; the next ticket is then served.
 use Rattle.std.proofs.Common.{rules, sym, ap, ◌∙◌, Some, ◌∷◌}
 use Rattle.atomic_table.specs.Table.{rest}
 use Rattle.wf_gate.proofs.Steps.{lent, serves_at, gave, right_there}
@@ -21,7 +22,7 @@ fetch_add-requires g c =
       search rules,
       serves_at _ _ _ _ _ _ _ c.args.pass.now.me.0 c.requires.turn.0 c.in-Some.machine c.step-reply.new.self
           (c.args.number, g.M.Machine.note c.args.call) k.0 c.requires.own.1 c.requires.turn.1
-          c.requires.number k.1 (t.past k.2) t.settings (t.room k.2),
+          c.requires.number k.1 (t.past k.2) t.settings (t.calls_left k.2),
     )
 
 pub returns-clause-seat : goal.returns-clause-seat

@@ -1,3 +1,4 @@
+-- A load that returns the ticket gives the seat its turn; any other changes only the number read.
 use Rattle.std.proofs.Common.{rules, ap, ◌∙◌, refl, Some}
 use Rattle.wf_gate.specs.Turns.{having_read}
 use Rattle.wf_gate.proofs.Steps.{looks, turn_of}

@@ -1,3 +1,4 @@
+-- If the next digit overflows 64 bits, the whole value does, which needs more than 19 digits.
 use Rattle.std.proofs.Common.{rules, ◌≡◌, ◌∙◌, ℕ, ◌+◌, ◌-◌, ◌*◌, ◌^◌, ◌≤◌, List, ◌∷◌, drop, get_or, ap, arith}
 use Rattle.std.proofs.lemmas.List.{drop_more}
 use Rattle.wf_io.specs.Digits.{value_from}

@@ -1,3 +1,4 @@
+-- The value so far, followed by the digits that are left, is the whole value.
 use Rattle.std.proofs.Common.{◌≡◌, ◌<◌, ◌^◌, drop, true}
 use Rattle.std.specs.List.{list_all}
 use Rattle.wf_io.specs.Digits.{value_from, is_digit}

@@ -1,3 +1,4 @@
+-- Each write appends one more piece of the octets.
 use Rattle.std.proofs.Common.{◌∙◌, arith}
 use Rattle.std.proofs.lemmas.List.{take_rest, length-drop}
 use Rattle.wf_io.proofs.Pieces.{append_known-more}

@@ -1,3 +1,4 @@
+-- The first `done` octets were written, without a fault.
 use Rattle.std.proofs.Common.{length, ◌-◌, ◌≡◌, ◌≤◌, take}
 use Rattle.std.specs.Io.KnownBytes.{append_known}
 use Rattle.wf_io.proofs.sink.write_all.Given as goal

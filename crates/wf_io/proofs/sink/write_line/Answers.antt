@@ -1,3 +1,4 @@
+-- After a fault, a prefix of the line has been written.
 use Rattle.wf_io.proofs.FrontLaws.{front_partly}
 use Rattle.wf_io.proofs.sink.write_line.Goals as goal
 

@@ -1,3 +1,4 @@
+-- A write does not change the octets after it.
 use Rattle.std.proofs.Common.{arith, rules}
 use Rattle.std.proofs.lemmas.Slice.{drop-put_mid, overwrites}
 use Rattle.wf_octets.proofs.fields.put.Goals as goal

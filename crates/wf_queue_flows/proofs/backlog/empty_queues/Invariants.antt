@@ -1,3 +1,4 @@
+-- The chains so far are empty.
 use Rattle.std.proofs.Common.{◌≡◌, [], replicate, vec_len, vec_capacity}
 use Rattle.wf_queue_flows.proofs.backlog.empty_queues.Given as goal
 

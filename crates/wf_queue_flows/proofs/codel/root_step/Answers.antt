@@ -1,3 +1,4 @@
+-- The square root, rounded down, is the greatest step of the control law.
 use Rattle.std.proofs.Common.{◌*◌, ◌/◌, arith}
 use Rattle.wf_def_codel.specs.Codel.{step_of}
 use Rattle.wf_law_rules.proofs.Lemmas.Roots.{greatest_step, same_root, step-is}

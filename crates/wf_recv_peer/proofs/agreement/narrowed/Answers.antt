@@ -1,3 +1,4 @@
+-- Proves the contract of `narrowed`: all offsets are below 64, so the first eight octets have all of them.
 use Rattle.std.proofs.Common.{sym, subst, ap, arith, ◌∙◌}
 use Rattle.wf_octets.specs.Offsets.{IsOffsets, offsets_in}
 use Rattle.wf_recv_peer.proofs.Parts.{offsets_of_front}

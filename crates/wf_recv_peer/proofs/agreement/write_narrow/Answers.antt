@@ -1,3 +1,4 @@
+-- Proves that the scoreboard of a narrow window has all its offsets below 64, as `narrowed` requires.
 use Rattle.wf_recv_peer.proofs.Parts.{offsets_within}
 use Rattle.wf_recv_peer.proofs.agreement.write_narrow.Goals as goal
 

@@ -1,3 +1,4 @@
+-- The loop of `new_agreements`: it has made `counter` new agreements.
 use Rattle.std.proofs.Common.{◌≡◌, replicate}
 use Rattle.wf_recv_peer.specs.Agreements.{new_agreement}
 use Rattle.wf_recv_peer.proofs.peer.new_agreements.Given as goal

@@ -1,3 +1,5 @@
+-- Proves the contract of `reset_all`: after the loop all agreements are new, so the list is as many copies of
+-- one.
 use Rattle.std.proofs.Common.{length, arith}
 use Rattle.wf_recv_peer.specs.Agreements.{new_agreement}
 use Rattle.wf_recv_peer.proofs.Parts.{all_alike}

@@ -1,3 +1,4 @@
+-- The loop of `reset_all`: the agreements before this one are new.
 use Rattle.std.proofs.Common.{◌≡◌, ℕ, ◌<◌, get_or}
 use Rattle.wf_recv_peer.specs.Agreements.{AgreementValue, new_agreement}
 use Rattle.wf_recv_peer.proofs.peer.reset_all.Given as goal

@@ -1,3 +1,4 @@
+-- Proves the line of each answer that has several parts.
 use Rattle.std.proofs.Common.{◌∷◌, [], cond, refl}
 use Rattle.std.specs.Prelude.{codes, decimal}
 use Rattle.wf_frame.specs.Answers.{part_sent}
@@ -15,5 +16,5 @@ returns-in-Send c =
 pub returns-in-Ba : goal.returns-in-Ba
 returns-in-Ba c = rw (c.in-Ba.is, c.push_answer.ensures) refl
 
-pub returns-in-Ended : goal.returns-in-Ended
-returns-in-Ended c = rw (c.in-Ended.is, c.push_ended.ensures) refl
+pub returns-in-Done : goal.returns-in-Done
+returns-in-Done c = rw (c.in-Done.is, c.push_ended.ensures) refl

@@ -1,3 +1,4 @@
+-- Proves that the line is the start and the bits, joined by spaces.
 use Rattle.std.proofs.Common.{◌≡◌, ◌∷◌, [], ◌++◌, ap, arith}
 use Rattle.std.specs.Prelude.{slice_index, codes, decimal}
 use Rattle.wf_def_world.specs.Text.{score_digits}

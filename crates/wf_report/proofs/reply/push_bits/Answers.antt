@@ -1,3 +1,4 @@
+-- Proves the digits of a BlockAck, by cases of its width.
 use Rattle.wf_report.proofs.reply.push_bits.Goals as goal
 
 pub returns-then-wide-clause-text : goal.returns-then-wide-clause-text

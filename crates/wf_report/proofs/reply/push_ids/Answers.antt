@@ -1,3 +1,4 @@
+-- Proves that the loop appends the ids, one per step, and that the line has room for them.
 use Rattle.std.proofs.Common.{◌∷◌, [], length, ap, arith, length-append}
 use Rattle.std.specs.Prelude.{decimal}
 use Rattle.wf_report.proofs.Rows.{more_spaced}

@@ -1,3 +1,4 @@
+-- The ids so far were appended, with at most 21 octets for each.
 use Rattle.std.proofs.Common.{◌≡◌, ◌+◌, ◌*◌, ◌≤◌, ◌++◌, length, take}
 use Rattle.std.specs.Prelude.{map, decimal}
 use Rattle.wf_io.specs.Words.{spaced}

@@ -1,3 +1,4 @@
+-- Proves that the line is the word and the number, joined by a space.
 use Rattle.std.proofs.Common.{◌∷◌, [], ◌++◌, ap, append_assoc}
 use Rattle.std.specs.Prelude.{decimal}
 use Rattle.wf_report.proofs.reply.push_numbered.Goals as goal

@@ -1,3 +1,4 @@
+-- Proves that the loop appends the pairs, one per step, and that the line has room for them.
 use Rattle.std.proofs.Common.{◌++◌, ◌∷◌, [], length, take, ap, ◌∙◌, arith, length-append}
 use Rattle.std.specs.Prelude.{decimal, map}
 use Rattle.wf_io.specs.Words.{spaced}

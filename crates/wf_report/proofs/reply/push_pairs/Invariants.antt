@@ -1,3 +1,4 @@
+-- The pairs so far were appended, with at most 27 octets for each.
 use Rattle.std.proofs.Common.{◌≡◌, ◌+◌, ◌*◌, ◌≤◌, ◌++◌, length, take}
 use Rattle.std.specs.Prelude.{map}
 use Rattle.wf_io.specs.Words.{spaced}

@@ -1,3 +1,4 @@
+-- Proves that a number of 16 bits has at most five digits.
 use Rattle.std.proofs.Common.{◌≤◌, length, ap, arith, length-append}
 use Rattle.std.specs.Fmt.{decimal}
 use Rattle.std.proofs.lemmas.Fmt.{length-decimal-le}

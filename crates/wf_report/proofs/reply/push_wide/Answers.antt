@@ -1,3 +1,4 @@
+-- Proves that the four words are appended from the last to the first.
 use Rattle.std.specs.Prelude.{slice_index}
 use Rattle.wf_def_world.specs.Text.{hex}
 use Rattle.wf_report.proofs.Rows.{four}

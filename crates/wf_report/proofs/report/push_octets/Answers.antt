@@ -1,3 +1,4 @@
+-- Proves that the loop appends two digits for each octet.
 use Rattle.std.proofs.Common.{◌≡◌, take, get_or, arith}
 use Rattle.std.proofs.lemmas.List.{take_more}
 use Rattle.wf_def_world.specs.Text.{hex}

@@ -1,3 +1,4 @@
+-- The octets so far were appended, with two digits for each.
 use Rattle.std.proofs.Common.{◌≡◌, ◌+◌, ◌*◌, ◌≤◌, ◌++◌, length, take}
 use Rattle.std.specs.Prelude.{map}
 use Rattle.std.specs.List.{concat}

@@ -1,3 +1,5 @@
+-- Proves that the three parts are the summary, or that a prefix of it was written. By cases of which write
+-- failed.
 use Rattle.std.proofs.Common.{◌++◌, length}
 use Rattle.wf_def_world.specs.Run.{world_of}
 use Rattle.wf_report.specs.Parts.{counts_of_summary, shares_of, map_line}

@@ -1,3 +1,4 @@
+-- Proves that the loop writes the lines of the live stations, one station per step.
 use Rattle.std.proofs.Common.{◌∙◌, ap, arith}
 use Rattle.std.specs.Io.KnownBytes.{append_known}
 use Rattle.wf_def_world.specs.Run.{world_of}

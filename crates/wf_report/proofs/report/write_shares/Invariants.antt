@@ -1,3 +1,4 @@
+-- The lines of the stations so far were written.
 use Rattle.std.proofs.Common.{◌≡◌}
 use Rattle.std.specs.Io.KnownBytes.{append_known}
 use Rattle.wf_def_world.specs.Run.{world_of}

@@ -1,9 +1,10 @@
+-- Proves that the path returns the deficit that the world has.
 use Rattle.std.proofs.Common.{◌≡◌, ◌∙◌, arith}
 use Rattle.std.proofs.lemmas.Int.{ints}
 use mir.Val.{to_z, of_z}
 use mir.Syntax.{w64}
 use Rattle.wf_def_world.specs.Run.{world_of}
-use Rattle.wf_send_half_refines.proofs.Readers.{live_same}
+use Rattle.wf_send_half_model.proofs.Readers.{live_same}
 use Rattle.wf_report.proofs.standing.deficit.Goals as goal
 
 pub deficit-requires : goal.deficit-requires

@@ -1,3 +1,4 @@
+-- Proves that the path returns the number of exchanges that the world has.
 use Rattle.wf_def_world.specs.Run.{world_of}
 use Rattle.wf_report.proofs.standing.exchanges.Goals as goal
 

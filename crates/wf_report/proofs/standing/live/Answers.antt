@@ -1,3 +1,4 @@
+-- Proves that a station is live on the path if and only if it is live in the world.
 use Rattle.wf_def_world.specs.Run.{world_of}
 use Rattle.wf_report.proofs.standing.live.Goals as goal
 

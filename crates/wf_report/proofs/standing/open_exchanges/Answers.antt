@@ -1,3 +1,4 @@
+-- Proves that the path returns the number of open exchanges that the world has.
 use Rattle.std.proofs.Common.{◌∙◌}
 use Rattle.wf_def_world.specs.Run.{world_of}
 use Rattle.wf_report.proofs.standing.open_exchanges.Goals as goal

@@ -1,6 +1,7 @@
+-- Proves that the path returns the receive airtime that the world has.
 use Rattle.std.proofs.Common.{◌∙◌}
 use Rattle.wf_def_world.specs.Run.{world_of}
-use Rattle.wf_send_half_refines.proofs.Readers.{live_same}
+use Rattle.wf_send_half_model.proofs.Readers.{live_same}
 use Rattle.wf_report.proofs.standing.received.Goals as goal
 
 pub received-requires : goal.received-requires

@@ -1,3 +1,4 @@
+-- Proves that the number of stations comes from the settings and fits in 16 bits.
 use Rattle.std.proofs.Common.{ap, arith}
 use Rattle.wf_frame.specs.declared.settings.Config.{Config}
 use Rattle.wf_def_world.specs.Run.{world_of}

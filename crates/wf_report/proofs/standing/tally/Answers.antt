@@ -1,3 +1,4 @@
+-- Proves that each count of the path equals the count in the world.
 use Rattle.std.proofs.Common.{ap}
 use Rattle.wf_send_parts.specs.Tally.{Counts}
 use Rattle.wf_def_world.specs.Run.{world_of}

@@ -1,3 +1,4 @@
+-- Proves that the octets equal the world's TIM element.
 use Rattle.std.proofs.Common.{rules, ◌∙◌, take, ap}
 use Rattle.wf_def_world.specs.Run.{world_of}
 use Rattle.wf_report.proofs.Takes.{take_within}

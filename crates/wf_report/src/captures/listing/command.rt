@@ -1,4 +1,4 @@
-//! The command.
+//! The command `frames`, over any source and sink.
 
 ghost use Rattle.std.specs.Prelude.{◌≡◌, ◌≢◌, ℕ, List, Some, length};
 ghost use Rattle.wf_trace.specs.CommandEnds.{CommandEnds};
@@ -14,16 +14,16 @@ use std::alloc::Global;
 use wf_io::pcap::{FILE_HEAD, Form, MOST_CAPTURED, PACKET_HEAD, read_head};
 use wf_io::{Sink, Source, Status};
 
-/// Reads a capture file from the source and writes a line for each packet before it reads the next; behind
-/// them how many there were, or the line of the first fault. After a fault of the source the lines of the
-/// packets that were taken whole stand written, and no other.
+/// Reads a capture file from the source, and writes a line for each packet before it reads the next one. At
+/// the end it writes the number of packets, or the line of the first fault.
 ///
-/// It takes memory for the octets of one packet, and only before it reads.
+/// If the source fails, exactly the lines of the packets that were read completely have been written. It
+/// allocates room for the octets of one packet, and only before it reads.
 pub fn frames<S: Source, K: Sink>(alloc: Global, source: &mut S, sink: &mut K) -> Status
     ensures ends { CommandEnds S.left S.faults K.held K.faults FramesOutcome FramesAnswered
         source.old source.new sink.old sink.new result }
 
-    // memory is wanting only before anything is taken or written
+    // memory can run out only before anything is read or written
     ensures unread { result ≡ Status.NoMemory → S.left source.new ≡ S.left source.old }
     ensures unwritten { result ≡ Status.NoMemory → K.held sink.new ≡ K.held sink.old }
     ensures law { (input : List ℕ) → S.left source.old ≡ Some input → FramesLaw input }
@@ -34,7 +34,7 @@ pub fn frames<S: Source, K: Sink>(alloc: Global, source: &mut S, sink: &mut K) -
     list_capture(&mut body, source, sink)
 }
 
-// Lists a capture from its file header on; the buffer has room for the octets of a packet.
+// Lists a capture from its file header on. The buffer has room for the octets of one packet.
 fn list_capture<S: Source, K: Sink>(body: &mut [u8], source: &mut S, sink: &mut K) -> Status
     requires { length body.old ≡ 262144 }
     ensures ends { CommandEnds S.left S.faults K.held K.faults FramesOutcome FramesAnswered
@@ -57,7 +57,7 @@ fn list_capture<S: Source, K: Sink>(body: &mut [u8], source: &mut S, sink: &mut 
     }
 }
 
-// Lists the packets behind a file header.
+// Lists the packets after a file header.
 fn list_packets<S: Source, K: Sink>(
     form: Form,
     body: &mut [u8],

@@ -1,4 +1,4 @@
-//! What is wrong with a capture.
+//! The faults of a capture.
 
 ghost use Rattle.std.specs.Prelude.{◌≡◌, ◌≤◌, length};
 ghost use Rattle.wf_report.specs.ListedPackets.{kind_of};
@@ -11,7 +11,7 @@ use wf_io::pcap::PcapFault;
 pub enum FaultKind {
     /// The input ends inside a header or a packet.
     Short,
-    /// The file begins with no magic number.
+    /// The file does not begin with a magic number.
     Magic,
     /// The version is not 2.4.
     Version,
@@ -19,7 +19,7 @@ pub enum FaultKind {
     Link,
     /// More than 262,144 octets of a packet were captured.
     Long,
-    /// A header or a packet goes past the first 268,435,456 octets, and the input does too.
+    /// A header or a packet goes beyond the first 1,099,511,627,776 octets, and so does the input.
     TooBig,
 }
 
@@ -28,12 +28,12 @@ pub enum FaultKind {
 pub struct Fault {
     /// The number of the packet, counted from 1; 0 is the file header.
     pub packet: u64,
-    /// What is wrong with it.
+    /// The kind of the fault.
     pub kind: FaultKind,
 }
 
 impl FaultKind {
-    /// The kind of what is wrong with a header.
+    /// Returns the kind of a header's fault.
     pub(crate) fn of(fault: PcapFault) -> FaultKind
         ensures { result ≡ kind_of fault }
     {
@@ -46,7 +46,7 @@ impl FaultKind {
         }
     }
 
-    /// Its word.
+    /// Returns the word of the kind.
     pub(crate) fn word(self) -> &'static [u8]
         ensures word { result.now ≡ kind_word self }
         ensures short { length result.now ≤ 7 }

@@ -1,4 +1,4 @@
-//! What octets are as a frame.
+//! Recognizes the frame of a packet.
 
 ghost use Rattle.std.specs.Prelude.{◌≡◌};
 ghost use Rattle.wf_octets.specs.HeaderLayout.{BeginsWithHeader};
@@ -13,20 +13,20 @@ ghost use Rattle.wf_report.specs.Frames.{frame_listed, block_in};
 use wf_octets::block::{decode_ba, decode_bar, decode_wide};
 use wf_octets::header::{Kind, decode};
 
-/// What is told of a frame.
+/// The kind of a frame, and its fields that are listed.
 #[derive(Clone, Copy)]
 pub enum Frame {
-    /// QoS Data: its traffic identifier and its sequence number.
+    /// QoS Data, with its TID and its sequence number.
     Data { tid: u8, seq: u16 },
-    /// A BlockAckReq: its traffic identifier and the first number of the window.
+    /// A BlockAckReq, with its TID and the first number of the window.
     Bar { tid: u8, start: u16 },
-    /// A BlockAck, of 64 or of 256 numbers: its traffic identifier and the first number.
+    /// A BlockAck of 64 or of 256 numbers, with its TID and its first number.
     Ba { tid: u8, start: u16 },
     /// Other octets.
     Other,
 }
 
-/// What octets are as a frame.
+/// Returns the frame that the octets encode.
 pub fn frame_of(octets: &[u8]) -> Frame
     ensures is { result ≡ frame_listed octets.now }
     ensures data { (h : Header) → BeginsWithHeader octets.now h → h.kind ≡ QosData →
@@ -46,7 +46,7 @@ pub fn frame_of(octets: &[u8]) -> Frame
     block_of(octets)
 }
 
-// What octets are as a BlockAckReq or a BlockAck.
+// Returns the BlockAckReq or BlockAck that the octets encode, or `Other`.
 fn block_of(octets: &[u8]) -> Frame
     ensures { result ≡ block_in octets.now }
 {

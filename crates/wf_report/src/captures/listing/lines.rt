@@ -1,4 +1,4 @@
-//! The lines that are written.
+//! Writes the lines of a list.
 
 ghost use Rattle.std.specs.Prelude.{◌≡◌, ◌+◌, ◌≤◌, ◌∷◌, ◌++◌, [], ℕ, length, take, codes, decimal, OnOk};
 ghost use Rattle.std.specs.Io.KnownBytes.{append_known};
@@ -11,7 +11,7 @@ use crate::captures::listing::frame::{Frame, frame_of};
 use wf_io::pcap::Packet;
 use wf_io::{Failed, Line, Sink, Word, write_all};
 
-// Appends what a frame is.
+// Appends the words of a frame.
 fn push_frame(frame: Frame, out: &mut Line)
     requires { length out.old ≤ 1000 }
     ensures text { out.new ≡ out.old ++ spaced (frame_words frame) }
@@ -25,7 +25,7 @@ fn push_frame(frame: Frame, out: &mut Line)
     }
 }
 
-// Appends what a frame with a traffic identifier and a number is.
+// Appends the words of a frame that has a TID and a number.
 fn push_numbered(kind: &'static [u8], tid: u8, name: &'static [u8], number: u16, out: &mut Line)
     requires room { length out.old ≤ 1000 }
     requires kind { length kind.now ≤ 10 }
@@ -43,7 +43,7 @@ fn push_numbered(kind: &'static [u8], tid: u8, name: &'static [u8], number: u16,
     ]);
 }
 
-// Writes to an empty line a packet: its header, and its captured octets.
+// Writes the line of a packet to an empty line, from its header and its captured octets.
 fn print_packet(packet: Packet, octets: &[u8], out: &mut Line)
     requires { out.old ≡ [] }
     ensures { out.new ≡ packet_line (record { header = packet; octets = octets.now }) }
@@ -58,7 +58,7 @@ fn print_packet(packet: Packet, octets: &[u8], out: &mut Line)
     out.push(b'\n');
 }
 
-// Writes the first fault to an empty line.
+// Writes the line of a fault to an empty line.
 fn print_fault(fault: Fault, out: &mut Line)
     requires { out.old ≡ [] }
     ensures { out.new ≡ capture_fault_line fault }
@@ -81,7 +81,7 @@ fn print_count(count: u64, out: &mut Line)
     out.push_line(b"packets", &[Word::Number(count)]);
 }
 
-/// Writes the line of a packet, or after a fault some of it.
+/// Writes the line of a packet. After a failed write the sink holds a prefix of it.
 pub fn write_packet<K: Sink>(packet: Packet, octets: &[u8], sink: &mut K) -> Result<(), Failed>
     ensures written { OnOk result
         (K.held sink.new ≡ append_known (K.held sink.old)
@@ -96,7 +96,7 @@ pub fn write_packet<K: Sink>(packet: Packet, octets: &[u8], sink: &mut K) -> Res
     write_all(sink, line.octets())
 }
 
-/// Writes the line of the first fault, or after a fault of the sink some of it.
+/// Writes the line of the first fault. After a failed write the sink holds a prefix of it.
 pub fn write_fault<K: Sink>(fault: Fault, sink: &mut K) -> Result<(), Failed>
     ensures written { OnOk result
         (K.held sink.new ≡ append_known (K.held sink.old) (capture_fault_line fault)) }
@@ -109,7 +109,7 @@ pub fn write_fault<K: Sink>(fault: Fault, sink: &mut K) -> Result<(), Failed>
     write_all(sink, line.octets())
 }
 
-/// Writes the line of the number of packets, or after a fault some of it.
+/// Writes the line with the number of packets. After a failed write the sink holds a prefix of it.
 pub fn write_count<K: Sink>(count: u64, sink: &mut K) -> Result<(), Failed>
     ensures written { OnOk result (K.held sink.new ≡ append_known (K.held sink.old) (count_line count)) }
     ensures prefix { (n : ℕ) × (n ≤ length (count_line count))

@@ -1,4 +1,4 @@
-//! Octets of a source: so many of them.
+//! Reads or skips a given number of octets of a source.
 
 ghost use Rattle.std.specs.Prelude.{◌≡◌, ◌<◌, ◌≤◌, ℕ, List, length, take, IfOk, MatchBool, MatchResult};
 ghost use Rattle.std.specs.Io.KnownBytes.{prepend_known, IsAtEnd};
@@ -6,8 +6,8 @@ ghost use Rattle.wf_io.specs.Faults.{CountsFaults};
 
 use wf_io::{Failed, Source};
 
-/// Takes octets until the buffer is full or the input ends, and tells how many they were. After an error
-/// fewer were taken than the buffer has room for.
+/// Reads octets until the buffer is full or the input ends, and returns their number. If the source fails,
+/// fewer octets were read than the buffer has room for.
 pub fn fill<S: Source>(source: &mut S, buffer: &mut [u8]) -> Result<usize, Failed>
     ensures count { IfOk result (λ n. n ≤ length buffer.new) }
     ensures taken { (octets : List ℕ) × (S.left source.old ≡ prepend_known octets (S.left source.new))
@@ -26,7 +26,8 @@ pub fn fill<S: Source>(source: &mut S, buffer: &mut [u8]) -> Result<usize, Faile
     Ok(done)
 }
 
-/// Takes so many octets and drops them. False where the input ends before. After an error fewer were taken.
+/// Reads `count` octets and drops them. Returns false if the input ends before. If the source fails, fewer
+/// octets were read.
 pub fn pass<S: Source>(source: &mut S, scratch: &mut [u8], count: u64) -> Result<bool, Failed>
     requires { 0 < length scratch.old }
     ensures taken { (octets : List ℕ) × (S.left source.old ≡ prepend_known octets (S.left source.new))

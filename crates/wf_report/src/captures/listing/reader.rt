@@ -1,4 +1,4 @@
-//! The packets of a capture, as they are read.
+//! Reads the packets of a capture, one by one.
 
 ghost use Rattle.std.specs.Prelude.{◌≡◌, ◌+◌, ◌<◌, ◌≤◌, ℕ, List, length, MatchResult};
 ghost use Rattle.std.specs.Io.KnownBytes.{prepend_known};
@@ -11,19 +11,20 @@ use crate::captures::listing::octets::{fill, pass};
 use wf_io::pcap::{Form, PACKET_HEAD, Packet, PcapFault, read_packet};
 use wf_io::{Failed, MOST_OCTETS, Source};
 
-/// What comes next of a capture.
+/// The next item of a capture.
 #[derive(Clone, Copy)]
 pub enum Next {
-    /// A packet, by its header.
+    /// A packet, with its header.
     Packet(Packet),
-    /// What is wrong with the next packet.
+    /// The fault of the next packet.
     Bad(FaultKind),
     /// The end of the input.
     Over,
 }
 
-/// Reads the packet behind so many octets, and puts its captured octets at the front of the buffer. After an
-/// error the octets that were taken are no whole packet, and do not tell what is wrong with one.
+/// Reads the packet that follows the first `place` octets, and stores its captured octets at the front of the
+/// buffer. If the source fails, the octets that were read are an incomplete packet, from which no fault
+/// follows.
 pub fn next_packet<S: Source>(
     form: Form,
     place: u64,
@@ -49,7 +50,7 @@ pub fn next_packet<S: Source>(
     }
 }
 
-// Reads the captured octets of the packet that a header begins, behind so many octets.
+// Reads the captured octets of the packet with this header, which follows the first `place` octets.
 fn body_behind<S: Source>(
     form: Form,
     place: u64,
@@ -85,7 +86,7 @@ fn body_behind<S: Source>(
     }
 }
 
-// The captured octets that a header tells which is refused for them alone.
+// Returns the captured length of a header that is refused for its length alone, or 0.
 fn captured_of(fault: PcapFault) -> u32
     ensures { result ≡ captured_of fault }
 {
@@ -95,8 +96,8 @@ fn captured_of(fault: PcapFault) -> u32
     }
 }
 
-// What is wrong with a packet that goes past the octets that are read: just that if the input does too, else
-// `kind`.
+// Returns the fault of a packet that goes beyond the octets that are read: `TooBig` if the input goes beyond
+// them too, otherwise `kind`.
 fn past_limit<S: Source>(
     behind: u64,
     kind: FaultKind,

@@ -1,3 +1,4 @@
+-- Proves the contract of `run`, from how the run of its command ends and from the laws of the program.
 use Rattle.wf_run.proofs.ProgramLaws.{program_laws}
 use Rattle.wf_run.proofs.Runs.{run_says, ends_as_asked, of_same}
 use Rattle.wf_run.proofs.commands.run.Goals as goal

@@ -1,7 +1,8 @@
+-- Proves the contract of `soaked`. By cases of the result: out of memory, a complete summary, or a prefix.
 use Rattle.std.proofs.Common.{◌≡◌, ◌∙◌, sym, [], length, refl}
 use Rattle.wf_io.specs.declared.status.Status.TheVariants.{Done, NoMemory}
 use Rattle.wf_trace.proofs.CommandEndings.{writes_quiet, writes_failed}
-use Rattle.wf_law_trace.proofs.Octets.{append_known-nil}
+use Rattle.wf_trace_laws.proofs.Octets.{append_known-nil}
 use Rattle.wf_def_world.specs.Run.{Past, world_of}
 use Rattle.wf_def_world.specs.Text.{summary}
 use Rattle.wf_run.specs.Outcome.{soak_text}

@@ -1,4 +1,4 @@
-//! A driver.
+//! A driver, which sends the frames of one class.
 
 ghost use Rattle.std.specs.Prelude.{◌≡◌, ◌⊎◌, ◌+◌, ◌%◌, ◌==◌, ◌&&◌, not, ◌<◌, List, [], false, OnOk, OnErr, IfOk, IsTrue, IsFalse};
 ghost use Rattle.rand_pcg.specs.Lcg.{Lcg};
@@ -15,10 +15,10 @@ use rand_core::utils::NextWord;
 use rand_pcg::Lcg64Xsh32;
 use wf_frame::{Answer, Ask, Brief, Class, Refusal};
 
-/// The stream of the first driver.
+/// The stream of random words of the first driver.
 const FIRST_STREAM: u64 = 1000;
 
-// A driver under way. Which call is next stands in the code.
+// A driver in progress. The place in the code says which call is next.
 #[derive(Drop)]
 pub(crate) struct DriverRun {
     pub(crate) class: Class,
@@ -26,17 +26,17 @@ pub(crate) struct DriverRun {
     pub(crate) words: Lcg64Xsh32,
 }
 
-// The clock that an answer shows.
+// Returns the clock that an answer shows.
 fn shown(answer: &Answer) -> Option<u64>
     ensures { result ≡ shown_by (reply_of answer.now) }
 {
     match answer.brief {
-        Brief::Ticked { now } => Some(now),
+        Brief::Now { now } => Some(now),
         _ => None,
     }
 }
 
-// The exchange that an answer begins, and how many transmissions it has.
+// Returns the number of the exchange that an answer begins, and its number of transmissions.
 fn begun(answer: &Answer) -> Option<(u64, u16)>
     ensures { result ≡ sending (reply_of answer.now) }
 {
@@ -67,7 +67,7 @@ fn is_nothing(answer: &Answer) -> bool
     matches!(answer.brief, Brief::Refused(Refusal::Nothing))
 }
 
-// Whether a clock shows that all senders have ended.
+// Returns whether a clock shows that all senders have ended.
 fn is_clock(senders: u32, shown: Option<u64>) -> bool
     ensures { result ≡ is_clock senders shown }
 {
@@ -77,7 +77,7 @@ fn is_clock(senders: u32, shown: Option<u64>) -> bool
     }
 }
 
-// Whether all is over by the answer to a pull, and the exchange that it begins.
+// Returns whether all work is done after this answer to a pull, and the exchange that the pull begins.
 fn pulled(answer: &Answer, senders: u32, clock: Option<u64>) -> (bool, Option<(u64, u16)>)
     ensures { result ≡ (
       is_idle (reply_of answer.now)
@@ -101,7 +101,7 @@ impl DriverRun {
         Ok(shown(desk.answer()))
     }
 
-    // Pulls the class: whether all is over, and the exchange that begins.
+    // Pulls the class. Returns whether all work is done, and the exchange that this begins.
     fn pull<D: Desk>(
         &self,
         desk: &mut D,
@@ -115,7 +115,7 @@ impl DriverRun {
         Ok(pulled(desk.answer(), self.senders, clock))
     }
 
-    // Draws a word, which says whether a transmission arrives.
+    // Draws a word, and returns whether it lets a transmission arrive.
     fn draw_arrival(&mut self) -> bool
         ensures words { self.new ≡ with_words self.old (words_after self.old.words) }
         ensures arrives { result ≡ not (word_in self.old.words % 10 == 0) }
@@ -124,7 +124,7 @@ impl DriverRun {
         word % 10 != 0
     }
 
-    // One transmission: nine words in ten let it arrive. Tells whether it did.
+    // Plays one transmission, and returns whether it arrives: it does for nine of ten words.
     fn transmit<D: Desk>(&mut self, desk: &mut D, exchange: u64, index: u16) -> Result<bool, Spent>
         ensures words { self.new ≡ with_words self.old (words_after self.old.words) }
         ensures arrived { IfOk result (λ arrived. arrived ≡ not (word_in self.old.words % 10 == 0)) }
@@ -141,7 +141,7 @@ impl DriverRun {
         Ok(false)
     }
 
-    // Each transmission of an exchange in turn. Tells whether one arrived.
+    // Plays each transmission of an exchange in order, and returns whether one arrived.
     fn transmit_all<D: Desk>(
         &mut self,
         desk: &mut D,
@@ -165,7 +165,8 @@ impl DriverRun {
         Ok(some)
     }
 
-    // The end of an exchange: it is answered where a transmission arrived, and then heard.
+    // Ends an exchange. If a transmission arrived, it is answered and the answer is heard; otherwise it ends
+    // as lost.
     fn end<D: Desk>(&self, desk: &mut D, exchange: u64, some: bool) -> Result<(), Spent>
         ensures walks { OnOk result (Walks D.has D.left desk.old desk.new
             (at self.now (Owes (last_calls exchange some))) (at self.now (Owes []))) }
@@ -189,7 +190,7 @@ impl DriverRun {
         Ok(())
     }
 
-    // Reaps until nothing is left to reap.
+    // Reaps until no finished frame is left.
     fn reap<D: Desk>(&self, desk: &mut D) -> Result<(), Spent>
         ensures walks { OnOk result (Walks D.has D.left desk.old desk.new (at self.now (Owes []))
             (at self.now Ticks)) }
@@ -204,7 +205,8 @@ impl DriverRun {
         Err(Spent)
     }
 
-    // Plays the exchange that began, if any. Tells whether the driver has ended: none began, and all is over.
+    // Plays the exchange that began, if one did. Returns whether the driver has ended: no exchange began, and
+    // all work is done.
     fn play<D: Desk>(
         &mut self,
         desk: &mut D,
@@ -230,7 +232,7 @@ impl DriverRun {
         }
     }
 
-    // From one tick to the next, or to the end. Tells whether the driver has ended.
+    // Plays one round, from one tick to the next or to the end. Returns whether the driver has ended.
     fn round<D: Desk>(&mut self, desk: &mut D) -> Result<bool, Spent>
         ensures again { IfOk result (λ ended. IsFalse ended →
             Walks D.has D.left desk.old desk.new (at self.old Ticks) (at self.new Ticks)) }
@@ -249,7 +251,7 @@ impl DriverRun {
         Ok(false)
     }
 
-    // Round after round, until the driver has ended or no call is left.
+    // Plays rounds until the driver has ended or no call is left.
     fn walk<D: Desk>(&mut self, desk: &mut D) -> Result<(), Spent>
         ensures ended { OnOk result (Walks D.has D.left desk.old desk.new (at self.old Ticks)
             (at self.new Ends)) }
@@ -265,9 +267,9 @@ impl DriverRun {
     }
 }
 
-/// Driver number `driver` of a class, where so many senders put frames in: it reads the clock, pulls its
-/// class, plays the exchange that begins, reaps until nothing is left, and begins again. It ends where nobody
-/// is ready and the clock had shown that all senders have ended, or where no call is left.
+/// Runs driver number `driver` of a class, with `senders` senders. In each round it reads the clock, pulls
+/// its class, plays the exchange that this begins, and reaps until no finished frame is left. It ends when
+/// nobody is ready and the clock had shown that all senders have ended, or when no call is left.
 pub fn drive<D: Desk>(desk: &mut D, seed: u64, driver: u16, class: Class, senders: u32)
     ensures walk { (to : Driver) × Walks D.has D.left desk.old desk.new
         (driver_of seed driver class senders) to × ((to.phase ≡ Ends) ⊎ (D.left desk.new ≡ 0)) }

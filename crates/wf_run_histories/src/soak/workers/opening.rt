@@ -11,18 +11,18 @@ use wf_frame::Ask;
 /// The caller that makes the opening calls. No seat at a gate has this number.
 const OPENER: u32 = 65_535;
 
-/// What the opening calls are made to.
+/// A machine on which the opening calls are made.
 pub trait Opens {
-    /// The settings and the calls that were made.
+    /// The settings, and the calls that were made.
     ghost past: { Self → Past };
 
-    /// Makes a call that carries no frame.
+    /// Makes a call that has no frame.
     fn ask(&mut self, caller: u32, ask: Ask)
         requires room { length (past self.old).history < (past self.old).config.calls }
         ensures past { past self.new ≡ with_entries (by caller (Asked ask) ∷ []) (past self.old) };
 }
 
-// A station joins, and gets its rate.
+// Makes a station join, and sets its rate.
 fn open_station<M: Opens>(machine: &mut M, station: u16)
     requires room { length (M.past machine.old).history + 2 ≤ (M.past machine.old).config.calls }
     requires few { station < 8 }
@@ -32,8 +32,8 @@ fn open_station<M: Opens>(machine: &mut M, station: u16)
     machine.ask(OPENER, standard_rate(station));
 }
 
-/// The caller 65535 lets so many standard stations join, at most 8: each with a window from 512 times its
-/// own number on; and sets their rates. The history has room for two calls of each.
+/// Makes `stations` standard stations join, at most 8, and sets their rates, as caller 65535. The window of a
+/// station starts at 512 times its number. The history needs room for two calls of each.
 pub fn open_stations<M: Opens>(machine: &mut M, stations: u16)
     requires room { length (M.past machine.old).history + 2 * stations ≤ (M.past machine.old).config.calls }
     requires few { stations ≤ 8 }

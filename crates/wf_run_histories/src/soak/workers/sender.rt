@@ -1,4 +1,4 @@
-//! A sender.
+//! A sender, which enqueues frames.
 
 ghost use Rattle.std.specs.Prelude.{◌≡◌, ◌+◌, ◌<◌, IfOk, OnOk, length};
 ghost use Rattle.wf_frame.specs.declared.notes.Note.TheVariants.{Enqueue};
@@ -12,7 +12,7 @@ use std::alloc::{AllocError, Global};
 use wf_frame::{Ask, Frame};
 use wf_queue_parts::chain::Parcel;
 
-// The frame that a sender makes of a word.
+// Returns the frame that a word determines. Fails only if memory runs out.
 fn frame_from(alloc: Global, sender: u16, word: u32) -> Result<Parcel, AllocError>
     ensures { IfOk result (λ f. Enqueue f.station f.tid f.flow (length f.body) ≡ frame_from sender word) }
 {
@@ -29,7 +29,7 @@ fn frame_from(alloc: Global, sender: u16, word: u32) -> Result<Parcel, AllocErro
     }
 }
 
-// The frames of so many words.
+// Enqueues `frames` frames, one for each of the next words.
 fn send_frames<D: Desk>(
     desk: &mut D,
     alloc: Global,
@@ -50,9 +50,9 @@ fn send_frames<D: Desk>(
     Ok(())
 }
 
-/// A sender makes a frame of each of so many words of its stream, and then a tick by which the others learn
-/// that it has ended. It makes each call once, whatever the reply. Where it finds no memory for a frame, it
-/// makes no further call.
+/// Enqueues `frames` frames, one for each of the first words of the sender's stream, and then ticks by 1, so
+/// that the drivers can see that it has ended. It makes each call exactly once, whatever the reply. If memory
+/// for a frame runs out, it fails and makes no further call.
 pub fn send<D: Desk>(
     desk: &mut D,
     alloc: Global,

@@ -1,11 +1,12 @@
-//! Standard stations: what stations ask for that a command itself lets join.
+//! Standard stations: the parameters of the stations that `soak` and `live` join.
 
 ghost use Rattle.std.specs.Prelude.{◌≡◌};
 ghost use Rattle.wf_run_histories.specs.Stations.{standard_join, standard_rate};
 
 use wf_frame::{Ask, AskedRate};
 
-/// The join of a station: a window of 64 numbers from `start` on, the greatest exponent and the weight 1.
+/// Returns the join of a station: a window of 64 numbers from `start` on, the greatest exponent, and weight
+/// 1.
 pub fn standard_join(station: u16, start: u16) -> Ask
     ensures { result ≡ standard_join station start }
 {
@@ -18,7 +19,7 @@ pub fn standard_join(station: u16, start: u16) -> Ask
     }
 }
 
-/// Its rate: at 20 MHz, with the long guard interval, the MCS of its number modulo 8.
+/// Returns the rate of a station: 20 MHz, the long guard interval, and the MCS that is its number modulo 8.
 pub fn standard_rate(station: u16) -> Ask
     ensures { result ≡ standard_rate station }
 {

@@ -1,9 +1,10 @@
+-- Proves how the command ends, from the contract of the loop, and the laws of the trace's run.
 use Rattle.std.proofs.Common.{[], true, refl}
 use Rattle.wf_io.specs.declared.status.Status.TheVariants.{NoMemory}
 use Rattle.wf_trace.proofs.CommandEndings.{ends_quiet, ends_as}
-use Rattle.wf_law_trace.proofs.Endings.{answered}
-use Rattle.wf_law_trace.proofs.Octets.{append_known-nil, prepend_known-nil}
-use Rattle.wf_law_trace.proofs.Ranges.{trace_laws}
+use Rattle.wf_trace_laws.proofs.Endings.{answered}
+use Rattle.wf_trace_laws.proofs.Octets.{append_known-nil, prepend_known-nil}
+use Rattle.wf_trace_laws.proofs.Ranges.{trace_laws}
 use Rattle.wf_run_replay.specs.Texts.{text, answers}
 use Rattle.wf_run_replay.proofs.Texts.{said, unsaid}
 use Rattle.wf_run_replay.proofs.command.replay.Goals as goal

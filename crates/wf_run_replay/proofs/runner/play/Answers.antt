@@ -1,11 +1,13 @@
+-- Proves the contract of the loop. By cases of how it ends: no memory, a failed write, the end of the trace,
+-- a fault, or a failed read.
 use Rattle.std.proofs.Common.{◌∙◌, refl}
 use Rattle.std.specs.Prelude.{option_map}
 use Rattle.wf_trace.specs.declared.reader.Item.TheVariants.{Entry, Finish, Bad}
 use Rattle.wf_io.specs.declared.status.Status.TheVariants.{Done, BadTrace, ReadFault, WriteFault, NoMemory}
 use Rattle.wf_trace.proofs.CommandEndings.{ends_quiet, ends_unread, ends_unwritten}
-use Rattle.wf_law_trace.specs.Running.{progress_of}
-use Rattle.wf_law_trace.proofs.Ranges.{line_config, line_sized}
-use Rattle.wf_law_trace.proofs.Tellings.{turned, running_none, none_waits, with_head, with_entry, ended_at_once, ended_ahead, ended_no_memory, ended_no_memory_at, ended_read, ended_write, ended_done, ended_bad}
+use Rattle.wf_trace_laws.specs.Running.{progress_of}
+use Rattle.wf_trace_laws.proofs.Ranges.{line_config, line_sized}
+use Rattle.wf_trace_laws.proofs.Tellings.{turned, running_none, none_waits, with_head, with_entry, ended_at_once, ended_ahead, ended_no_memory, ended_no_memory_at, ended_read, ended_write, ended_done, ended_bad}
 use Rattle.wf_run_replay.proofs.Cells.{progress_at, progress_head, progress_on, at_head, at_entry, room_at}
 use Rattle.wf_run_replay.proofs.Tellings.{said, judged}
 use Rattle.wf_run_replay.proofs.runner.play.Goals as goal

@@ -1,9 +1,11 @@
+-- The octets for the items so far are written or wait, the stage has their calls, and neither source nor sink
+-- has failed.
 use Rattle.std.proofs.Common.{◌≡◌, [], true, None}
 use Rattle.std.specs.Prelude.{option_map}
 use Rattle.wf_trace.specs.Cutting.{room}
 use Rattle.wf_trace.specs.Reader.{will_read}
-use Rattle.wf_law_trace.specs.Running.{progress_of, IsAt}
-use Rattle.wf_law_trace.proofs.Tellings.{Running}
+use Rattle.wf_trace_laws.specs.Running.{progress_of, IsAt}
+use Rattle.wf_trace_laws.proofs.Tellings.{Running}
 use Rattle.wf_run_replay.proofs.runner.play.Given as goal
 
 abbrev pub invariant-items : goal.invariant-items

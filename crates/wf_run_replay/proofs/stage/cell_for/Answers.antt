@@ -1,3 +1,4 @@
+-- Proves that the settings are valid and that a new cell has only frames of a trace.
 use Rattle.wf_frame.proofs.Ranges.{checked}
 use Rattle.wf_report.proofs.Cells.{new_sampled}
 use Rattle.wf_run_replay.proofs.stage.cell_for.Goals as goal

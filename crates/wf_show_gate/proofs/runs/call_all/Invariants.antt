@@ -1,3 +1,4 @@
+-- The invariant of the loop: the seat belongs to the gate.
 use Rattle.wf_gate.specs.Seats.{IsOf}
 use Rattle.wf_show_gate.proofs.runs.call_all.Given as goal
 

@@ -1,3 +1,4 @@
+-- Proves that the seats of a new gate with two quotas are a pair.
 use Rattle.std.proofs.Common.{ap, refl, [], ◌∷◌}
 use Rattle.wf_gate.proofs.Clients.{pair_new}
 use Rattle.wf_show_gate.proofs.seats.show.Goals as goal

@@ -1,3 +1,4 @@
+-- Proves that the loop of `read_all` keeps its invariant: one more argument is read.
 use Rattle.std.proofs.Common.{List, ◌+◌, ◌∙◌, ap, drop, arith}
 use Rattle.std.proofs.lemmas.List.{drop_more}
 use Rattle.wf_frame.specs.declared.calls.Arg.{Arg}

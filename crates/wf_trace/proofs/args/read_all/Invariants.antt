@@ -1,3 +1,5 @@
+-- The invariant of the loop of `read_all`: the values and the fault so far, and the arguments that are
+-- left, give the result of the whole line.
 use Rattle.std.proofs.Common.{◌≡◌, ◌≤◌, length, drop}
 use Rattle.wf_trace.specs.Words.{words}
 use Rattle.wf_trace.specs.Grammar.{behind, read_args}

@@ -1,3 +1,4 @@
+-- Proves that the loop of `read_named` keeps its invariant: one more argument is read.
 use Rattle.std.proofs.Common.{List, ◌+◌, ◌∙◌, ap, drop, arith}
 use Rattle.std.specs.Prelude.{map}
 use Rattle.std.proofs.lemmas.List.{drop_more}

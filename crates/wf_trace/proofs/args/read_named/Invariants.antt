@@ -1,3 +1,5 @@
+-- The invariant of the loop of `read_named`: the values and the fault so far, and the arguments that are
+-- left, give the result of the whole line.
 use Rattle.std.proofs.Common.{◌≡◌, ◌≤◌, length, drop}
 use Rattle.std.specs.Prelude.{map}
 use Rattle.wf_frame.specs.Calls.{argument_kind}

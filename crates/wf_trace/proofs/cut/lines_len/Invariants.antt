@@ -1,3 +1,4 @@
+-- The invariant of the loop of `lines_len`: the octets after `len` end no line.
 use Rattle.std.proofs.Common.{◌≡◌, ◌≤◌, length, drop, false}
 use Rattle.wf_trace.specs.Scanning.{has_end}
 use Rattle.wf_trace.proofs.cut.lines_len.Given as goal

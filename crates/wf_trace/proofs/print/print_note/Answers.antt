@@ -1,3 +1,4 @@
+-- Proves the clauses `read` and `plain` of `print_note`, by PrintLaws.
 use Rattle.std.proofs.Common.{arith}
 use Rattle.wf_trace.proofs.PrintLaws.{text_read, text_printable}
 use Rattle.wf_trace.proofs.print.print_note.Goals as goal

@@ -1,3 +1,4 @@
+-- Proves that the loop of `push_values` keeps its invariant: one more value is appended.
 use Rattle.std.proofs.Common.{◌∙◌, arith}
 use Rattle.wf_trace.proofs.PrintLaws.{more_values}
 use Rattle.wf_trace.proofs.print.push_values.Goals as goal

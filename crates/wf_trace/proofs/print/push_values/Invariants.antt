@@ -1,3 +1,5 @@
+-- The invariant of the loop of `push_values`: the words so far, followed by those that are left, are all
+-- words.
 use Rattle.std.proofs.Common.{◌≡◌, ◌+◌, ◌*◌, ◌≤◌, ◌++◌, length, drop}
 use Rattle.std.specs.Prelude.{map}
 use Rattle.wf_io.specs.Words.{spaced}

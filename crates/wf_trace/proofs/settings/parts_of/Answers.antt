@@ -1,3 +1,4 @@
+-- Proves what `parts_of` returns, by HeadLaws: at the first =, and if there is none.
 use Rattle.std.proofs.Common.{arith}
 use Rattle.wf_trace.proofs.HeadLaws.{split_at, split_none}
 use Rattle.wf_trace.proofs.settings.parts_of.Goals as goal

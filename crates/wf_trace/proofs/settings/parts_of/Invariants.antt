@@ -1,3 +1,4 @@
+-- The invariant of the loop of `parts_of`: no octet so far is =.
 use Rattle.std.proofs.Common.{◌≡◌, ℕ, ◌<◌, get_or}
 use Rattle.wf_trace.proofs.settings.parts_of.Given as goal
 

@@ -1,3 +1,4 @@
+-- Proves that the loop of `read_head` keeps its invariant when a word has a fault.
 use Rattle.wf_trace.proofs.HeadLaws.{more_settings}
 use Rattle.wf_trace.proofs.settings.read_head.Goals as goal
 

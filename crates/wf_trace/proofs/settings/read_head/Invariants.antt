@@ -1,3 +1,5 @@
+-- The invariant of the loop of `read_head`: the settings and the fault so far, and the words that are left,
+-- give the result of the whole line.
 use Rattle.std.proofs.Common.{◌≡◌, false, length}
 use Rattle.std.specs.Prelude.{replicate}
 use Rattle.wf_trace.specs.Words.{words}

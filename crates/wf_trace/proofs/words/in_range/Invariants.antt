@@ -1,3 +1,4 @@
+-- The invariant of the loop of `in_range`: the value of the digits so far.
 use Rattle.std.proofs.Common.{◌≡◌, ◌<◌, ◌^◌, drop}
 use Rattle.std.specs.List.{list_all}
 use Rattle.wf_io.specs.Digits.{value_from, is_digit}

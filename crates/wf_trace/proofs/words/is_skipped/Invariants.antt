@@ -1,3 +1,4 @@
+-- The invariant of the loop of `is_skipped`: the octets so far are spaces.
 use Rattle.std.proofs.Common.{◌≡◌, drop}
 use Rattle.wf_trace.specs.Words.{words, skipped}
 use Rattle.wf_trace.proofs.words.is_skipped.Given as goal

@@ -1,3 +1,4 @@
+-- Proves what `next_word` returns, by WordLaws: a word before a space, and a word at the end of the line.
 use Rattle.std.proofs.Common.{◌-◌, ◌<◌, length, drop, arith}
 use Rattle.std.proofs.lemmas.List.{take_all, length-drop}
 use Rattle.wf_trace.proofs.WordLaws.{word_between, word_at_end}

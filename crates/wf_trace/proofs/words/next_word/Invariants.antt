@@ -1,3 +1,5 @@
+-- The invariant of the loop of `next_word`: the octets before `from` have no word, and those from it on no
+-- space.
 use Rattle.std.proofs.Common.{◌≡◌, ℕ, ◌<◌, ◌≤◌, get_or, drop}
 use Rattle.wf_trace.specs.Words.{words}
 use Rattle.wf_trace.proofs.words.next_word.Given as goal

@@ -10,10 +10,11 @@ use crate::print_note;
 use crate::script::history::history::Entries;
 use wf_io::{Failed, Line, Sink, write_all, write_line};
 
-// How many lines are written at once: of at most 161 octets each, they fit into a line's buffer.
+// The number of lines that are written at once. Each has at most 161 octets, so they fit the buffer of a
+// `Line`.
 const LINES: u64 = 50;
 
-// Appends the canonical lines of the entries from one place up to another.
+// Appends the canonical lines of the entries from `from` up to but not including `to`.
 fn push_entries<H: Entries>(history: &H, from: u64, to: u64, out: &mut Line)
     requires empty { out.old ≡ [] }
     requires inside { (from ≤ to) × (to ≤ length (H.entries history.now)) × (to ≤ from + 50) }
@@ -32,7 +33,7 @@ fn push_entries<H: Entries>(history: &H, from: u64, to: u64, out: &mut Line)
     }
 }
 
-// Writes the canonical lines of the entries from one place up to another.
+// Writes the canonical lines of the entries from `from` up to but not including `to`.
 fn write_entries<H: Entries, K: Sink>(
     history: &H,
     from: u64,
@@ -76,8 +77,8 @@ fn write_all_entries<H: Entries, K: Sink>(history: &H, sink: &mut K) -> Result<(
 }
 
 /// Writes the trace of a history with the standard settings: the line `cell`, the canonical line of each
-/// entry, and the line `end`. A line must have room for the numbers of each entry. After a fault some octets
-/// from the front of the trace have been written.
+/// entry, and the line `end`. The caller and the numbers of each entry must fit a line. If it fails, a
+/// prefix of the trace may have been written.
 pub fn write_trace<H: Entries, K: Sink>(history: &H, sink: &mut K) -> Result<(), Failed>
     requires printable { ArePrintable (H.entries history.now) }
     ensures written { OnOk result (K.held sink.new

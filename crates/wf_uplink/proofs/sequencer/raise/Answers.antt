@@ -1,3 +1,4 @@
+-- Each iteration appends the frame of the next id, with the next number.
 use Rattle.std.proofs.Common.{◌≡◌, ◌+◌, ◌%◌, ◌++◌, ◌∷◌, [], ◌∙◌, map, take, length, ap, ap₂, sym, add-one, arith, append_assoc, length-append}
 use Rattle.std.proofs.lemmas.List.{length-map, length-take-le, take_all}
 use Rattle.wf_uplink.specs.declared.items.UpItem.TheVariants.{Frame}

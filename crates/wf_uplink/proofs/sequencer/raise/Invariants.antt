@@ -1,3 +1,4 @@
+-- The items so far are those of the ids so far.
 use Rattle.std.proofs.Common.{◌≡◌, ◌+◌, ◌++◌, map, take}
 use Rattle.wf_uplink.specs.Shown.{item_of}
 use Rattle.wf_uplink.specs.Standing.{frames_from}

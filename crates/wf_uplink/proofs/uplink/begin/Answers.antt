@@ -1,3 +1,4 @@
+-- Each iteration resets one more reordering.
 use Rattle.std.proofs.Common.{List, ◌∙◌, set, ap, ap₂, sym, add-one}
 use Rattle.wf_uplink.specs.Reordering.{Reordering, new_reordering}
 use Rattle.wf_uplink.specs.World.{begun, place_of}

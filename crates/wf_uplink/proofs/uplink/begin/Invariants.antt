@@ -1,3 +1,4 @@
+-- The reorderings of the TIDs so far are reset.
 use Rattle.std.proofs.Common.{◌≡◌}
 use Rattle.wf_uplink.specs.World.{begun}
 use Rattle.wf_uplink.proofs.uplink.begin.Given as goal

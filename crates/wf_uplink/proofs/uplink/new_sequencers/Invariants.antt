@@ -1,3 +1,4 @@
+-- The reorderings so far are unopened.
 use Rattle.std.proofs.Common.{◌≡◌, replicate}
 use Rattle.wf_uplink.specs.Reordering.{unopened}
 use Rattle.wf_uplink.proofs.uplink.new_sequencers.Given as goal

@@ -1,3 +1,4 @@
+-- No VHT rate has more than 15 encoders.
 use Rattle.std.proofs.Common.{subst}
 use Rattle.wf_def_air.specs.Airtime.{Vht, IsRate}
 use Rattle.wf_air.specs.declared.time.Format.{Format}

@@ -1,3 +1,4 @@
+-- The invariant of the loop: the fields that are set so far, and those that are still to be set.
 use Rattle.std.proofs.Common.{◌≡◌, ◌≤◌, length, drop}
 use Rattle.wf_c.specs.CallNumbers.{blank_call, with_arguments}
 use Rattle.wf_c.proofs.cell.calls.of_values.Given as goal

@@ -1,3 +1,4 @@
+-- Proves that an end by octets with a bad airtime leaves the path unchanged.
 use Rattle.wf_c.proofs.Ended.{unchanged_by_bad_air}
 use Rattle.wf_c.proofs.held.Held.end_by.Goals as goal
 

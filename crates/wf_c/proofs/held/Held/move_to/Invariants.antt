@@ -1,3 +1,4 @@
+-- The invariant of the loop: the path was moved some of the way, and `left` is the rest.
 use Rattle.wf_c.proofs.Ticks.{IsOnTheWay}
 use Rattle.wf_c.proofs.held.Held.move_to.Given as goal
 

@@ -1,3 +1,4 @@
+-- Proves what a reap leaves, from the clauses of the path's call and of `show_back`.
 use Rattle.std.proofs.Common.{subst}
 use Rattle.std.specs.Prelude.{Option}
 use Rattle.wf_frame.specs.Frames.{FrameValue}

@@ -1,3 +1,4 @@
+-- Proves that a tick moves the clock and nothing else.
 use Rattle.wf_c.proofs.Ticks.{ticked}
 use Rattle.wf_c.proofs.held.Held.tick.Goals as goal
 

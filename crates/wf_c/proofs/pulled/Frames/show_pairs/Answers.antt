@@ -1,3 +1,4 @@
+-- Proves that the loop shows each frame, one entry at a time.
 use Rattle.std.proofs.Common.{◌<◌, arith}
 use Rattle.std.proofs.lemmas.Option.{slice_get_within}
 use Rattle.wf_c.specs.Pulled.{ShowsPair}

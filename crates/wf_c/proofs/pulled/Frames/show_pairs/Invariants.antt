@@ -1,3 +1,4 @@
+-- The invariant of the loop: the entries below i show their frames.
 use Rattle.std.proofs.Common.{◌≡◌, ◌<◌, ℕ, slice_get, Some}
 use Rattle.wf_c.specs.Pulled.{ShowsPair}
 use Rattle.wf_c.proofs.pulled.Frames.show_pairs.Given as goal

@@ -1,4 +1,4 @@
--- `empty` owns nothing.
+-- Proves `empty`: an empty handle owns nothing.
 use Rattle.std.proofs.Common.{List, [], ◌∷◌, ◌++◌, refl, sym, subst}
 use mir.Val.{Val}
 use base.Logic.{SProp, ent, id⊢}
@@ -20,7 +20,8 @@ use Rattle.std.specs.Prelude.{None}
 use Rattle.std.proofs.raw_atomic.Walks.{proved_at}
 use Rattle.std_heap.specs.contracts.Global.{the_row as Heap}
 use Rattle.wf_c.proofs.Words.{both}
-use Rattle.wf_c.proofs.Slots.{Slot, heap, slot_good, slot_in}
+use Rattle.wf_c.proofs.Slots.{heap, words_good, words_in}
+use Rattle.wf_c.specs.contracts.slot.PathSlot.{the_row as Slot}
 use Rattle.wf_c.specs.contracts.slot.PathSlot.empty as f
 use Rattle.wf_c.proofs.slot.PathSlot.empty.Statement.{statement}
 use Rattle.wf_c.proofs.slot.PathSlot.empty.Code as code
@@ -43,8 +44,8 @@ empty_spec 𝓤 𝓛 𝓜 𝓡 wired =
     (id⊢ 𝓤 (Goes (hv ∷ [])))) $
     enter ! 𝓣.C 𝓣.Λ code.function (hv ∷ []) Post $ alloc_all ! (λ l. pass_all ! refl (fits, tt) $
     sets ! (agg ! (and_then ! (lit ! tt) (and_then ! (get ! refl) (no_more !)))) refl
-    (slot_good null_ptr hv fits) $
-    nothing ! $ slot_in ! new hv $
+    (words_good null_ptr hv fits) $
+    nothing ! $ words_in ! null_ptr a ftrue hv $
     returns ! (look_at ! 0 refl) $ free_all ! refl $
     suffices ! _ (ends_at 𝓛 f.ended stayed c z (both (ptr_val null_ptr) hv) new (tt, tt) (tt, tt)) $ says !
     refl $

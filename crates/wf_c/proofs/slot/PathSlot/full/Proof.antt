@@ -1,8 +1,8 @@
--- `full` keeps the block.
+-- Proves `full`: the handle owns the given block.
 use Rattle.std.proofs.Common.{List, [], ◌∷◌, ◌++◌, refl, sym, subst}
 use mir.Val.{Val}
 use base.Logic.{SProp, ent, id⊢}
-use base.Fml.{ftrue}
+use base.Fml.{Fml, ftrue}
 use prog.Wp.{WpFn}
 use types.Kit.{‵, ◌⊛◌, ◌$◌, ◌∵◌, !, qed, keep, drop, split, join, fsplit, suffices, done}
 use types.Run.{stop, fld, of_opd, no_more, and_then, returns, enter}
@@ -19,37 +19,41 @@ use Rattle.std.specs.Prelude.{Some}
 use Rattle.std.proofs.raw_atomic.Walks.{proved_at}
 use Rattle.std_alloc.proofs.RcSteps.{Ptr-Good}
 use Rattle.wf_c.proofs.Words.{both}
-use Rattle.wf_c.proofs.Slots.{Slot, Owned, slot_good, owned_good, slot_in, owned_out}
+use Rattle.wf_c.specs.Slots.{slot_owns}
+use Rattle.wf_c.proofs.Slots.{Owned, words_good, words_in, words_out}
+use Rattle.wf_c.specs.contracts.held.Held.{the_row as Held-row}
+use Rattle.wf_c.specs.contracts.slot.PathSlot.{the_row as Slot}
 use Rattle.wf_c.specs.contracts.slot.PathSlot.full as f
 use Rattle.wf_c.proofs.slot.PathSlot.full.Statement.{statement}
 use Rattle.wf_c.proofs.slot.PathSlot.full.Code as code
 
 abbrev stayed : Stays f.ended.signature.params f.ended.kept
-stayed = (stay_dropped (plain (λ _. Owned)) yes, tt)
+stayed = (stay_dropped (plain (λ _. Owned Held-row)) yes, tt)
 
 pub full_spec : {M : Type 1} → statement M
 full_spec 𝓤 𝓛 𝓜 𝓡 wired =
     let c = f.clauses 𝓛 𝓜.mem 𝓡.returns in let 𝓣 = tables 𝓤 𝓛.H 𝓜 𝓡 𝓡.env in
-    proved_at 𝓛 f.ended stayed c 𝓜 𝓡 (Goes-dropped 𝓛 0 (plain (λ _. Owned)) yes (λ κs x w. refl), tt)
+    proved_at 𝓛 f.ended stayed c 𝓜 𝓡 (Goes-dropped 𝓛 0 (plain (λ _. Owned Held-row)) yes (λ κs x w. refl), tt)
     f.Key.name code.function (code.unfolded 𝓤 𝓛.H 𝓜 𝓡 wired) (λ z are.
     let v = z.0.3.0 in let p = v.at in
+    let F : Fml = slot_owns Held-row v.alloc p (Some v.value) in
     let Post : Val → SProp 𝓤 = (walk_of 𝓛 f.ended stayed c).post z in
     let Goes : List Val → SProp 𝓤 = λ ws. WpFn 𝓤 𝓛.H 𝓣.C 𝓣.Λ code.function (ws ++ []) Post in
     let new : Slot.Denot = record { at = p; alloc = v.alloc; value = Some v.value } in
-    qed 𝓛 ((‵ ftrue ⊛ ‵ (owns (Owned ∷ []) z.0.3 z.0.4)) ∷ ‵ ftrue ∷ []) ∵ split ! $ drop ! $ fsplit ! $
-    owned_out ! v z.0.4.0 (λ hv e fits. keep ! (0 ∷ 1 ∷ []) $
+    qed 𝓛 ((‵ ftrue ⊛ ‵ (owns (Owned Held-row ∷ []) z.0.3 z.0.4)) ∷ ‵ ftrue ∷ []) ∵ split ! $ drop ! $
+    fsplit ! $ words_out ! p v.alloc F z.0.4.0 (λ hv e fits. keep ! (0 ∷ 1 ∷ []) $
     let w = both (ptr_val p) hv in
     suffices ! (Goes (w ∷ [])) (subst (λ (us : List Val). ent 𝓤 (Goes (w ∷ [])) (Goes us)) (sym e)
     (id⊢ 𝓤 (Goes (w ∷ [])))) $
     enter ! 𝓣.C 𝓣.Λ code.function (w ∷ []) Post $ alloc_all !
-    (λ l. pass_all ! refl (owned_good p hv fits, tt) $
+    (λ l. pass_all ! refl (words_good p hv fits, tt) $
     -- [the block; the handle]
     sets ! (of_opd ! (get_in ! (fld ! refl (stop !)) (sub ! 0 refl (whole !)))) refl (Ptr-Good p) $
     sets ! (of_opd ! (get_in ! (fld ! refl (stop !)) (sub ! 1 refl (whole !)))) refl fits $
     sets ! (of_opd ! (get ! refl)) refl (Ptr-Good p) $
     sets ! (agg ! (and_then ! (get ! refl) (and_then ! (get ! refl) (no_more !)))) refl
-    (slot_good p hv fits) $
-    slot_in ! new hv $
+    (words_good p hv fits) $
+    words_in ! p v.alloc F hv $
     returns ! (look_at ! 0 refl) $ free_all ! refl $
     suffices ! _ (ends_at 𝓛 f.ended stayed c z w new (tt, tt) (tt, tt)) $ says ! refl $
     nothing ! $ nothing ! $ join ! $ nothing ! $ done !)))

@@ -1,4 +1,4 @@
--- `held` lends what a handle holds, and the handle ends with what is left behind the loan.
+-- Proves `held`: it lends the content of the handle, which ends with the last value of the loan.
 use Rattle.std.proofs.Common.{◌≡◌, ◌∙◌, ℕ, [], ◌∷◌, List, refl, sym, ap}
 use Rattle.std.specs.Prelude.{Option, Some, true, is_some}
 use seplogic.Ra.Ura.{Ura}
@@ -33,7 +33,8 @@ use Rattle.wf_c.specs.declared.held.Held.{Held}
 use Rattle.wf_c.specs.contracts.held.Held.{the_row as Held-row}
 use Rattle.wf_c.proofs.Words.{both}
 use Rattle.wf_c.proofs.Filled.{full_of}
-use Rattle.wf_c.proofs.Slots.{Slot, slot_out, slot_in}
+use Rattle.wf_c.proofs.Slots.{words_in, words_out}
+use Rattle.wf_c.specs.contracts.slot.PathSlot.{the_row as Slot}
 use Rattle.wf_c.specs.contracts.slot.PathSlot.held as f
 use Rattle.wf_c.proofs.slot.PathSlot.held.Statement.{statement}
 use Rattle.wf_c.proofs.slot.PathSlot.held.Code as code
@@ -42,7 +43,7 @@ abbrev stayed : Stays f.ended.signature.params f.ended.kept
 stayed = (stay_dropped (mut_ref_to (0 ∷ []) tt (plain (λ _. Slot))) no, tt)
 
 module _ {M : Type 1} {𝓤 : Ura M} (𝓛 : Logic 𝓤) (d : Slot.Denot) (hv : Val) (rb ro b o : ℕ) where
-  -- all of the handle but what it holds
+  -- all of the handle except its content
   abbrev Rest : Fml
   Rest = fsep (fsep (ghosts.dealloc_token d.alloc (bare (lone Held-row.mir)) (block_ptr b o))
       (Heap.own_val d.alloc (hv ∷ []))) (cell_at full_share Slot.mir (both (vptr b o) hv ∷ []) rb ro)
@@ -53,8 +54,8 @@ module _ {M : Type 1} {𝓤 : Ura M} (𝓛 : Logic 𝓤) (d : Slot.Denot) (hv : 
   back e w =
       qed 𝓛 (‵ (part_at Held-row full_share w b o) ∷ ‵ Rest ∷ []) ∵ move !
       (1 ∷ []) $ fsplit ! $ fsplit ! $ move ! (3 ∷ 0 ∷ []) $ fjoin ! $
-      rewrite ! 0 (λ (p : Ptr). ‵ (slot_owns d.alloc p (Some w))) (sym e) refl $
-      slot_in ! (with_held d w) hv $
+      rewrite ! 0 (λ (p : Ptr). ‵ (slot_owns Held-row d.alloc p (Some w))) (sym e) refl $
+      words_in ! d.at d.alloc (slot_owns Held-row d.alloc d.at (Some w)) hv $
       rewrite ! 0 (λ (p : Ptr). ‵ (Slot.own_val (with_held d w) (both (ptr_val p) hv ∷ []))) e refl $ move !
       (1 ∷ 0 ∷ []) $ fjoin ! $
       fpack ! (List Val) (λ us. fsep (cell_at full_share Slot.mir us rb ro)
@@ -79,12 +80,13 @@ held_spec 𝓤 𝓛 𝓜 𝓡 wired =
     enter ! 𝓣.C 𝓣.Λ code.function (vptr rb ro ∷ []) Post $ alloc_all ! (λ l. pass_all ! refl ((tt, tt), tt) $
     let En = env (code.function).locals l in
     move ! (1 ∷ []) $ fsplit ! $ fsplit3 ! $ drop ! $ move ! (3 ∷ []) $ split ! $ move ! (2 ∷ 3 ∷ 0 ∷ []) $
-    opens ! tt Slot {h = d} rb ro (λ us. move ! (1 ∷ []) $ slot_out ! d us (λ hv e fits.
-    rewrite ! 0 (λ (v : Option Held). ‵ (slot_owns d.alloc d.at v)) full.is refl $
-    in_a_block ! d.at (λ p. slot_owns d.alloc p (Some h))
+    opens ! tt Slot {h = d} rb ro (λ us. move ! (1 ∷ []) $
+    words_out ! d.at d.alloc (slot_owns Held-row d.alloc d.at d.value) us (λ hv e fits.
+    rewrite ! 0 (λ (v : Option Held). ‵ (slot_owns Held-row d.alloc d.at v)) full.is refl $
+    in_a_block ! d.at (λ p. slot_owns Held-row d.alloc p (Some h))
     (fst∗ 𝓤 (never 𝓤) (sem 𝓛 (ghosts.dealloc_token d.alloc (bare (lone Held-row.mir)) null_ptr)))
     (λ b o ep. fsplit ! $
-    -- [what it holds; the right to free it; the allocator; the handle's cell; the open borrow, in three
+    -- [the content; the right to free it; the allocator; the handle's cell; the open borrow, in three
     -- entries]
     rewrite ! 3 (λ (ws : List Val). ‵ (cell_at full_share Slot.mir ws rb ro))
     (e ∙ ap (λ (p : Ptr). both (ptr_val p) hv ∷ []) ep) refl $

@@ -1,3 +1,5 @@
+-- Proves that the path's clock equals the clock of the world after the history, and its bound, from
+-- the history's length.
 use Rattle.std.proofs.Common.{◌≤◌, length, arith}
 use Rattle.wf_def_world.specs.Run.{world_of}
 use Rattle.wf_cell.proofs.Runs.{clock_small}

@@ -1,3 +1,4 @@
+-- Proves that a new cell has no past, represents the opening world and keeps the invariant.
 use Rattle.std.proofs.Common.{◌≡◌, ap, ap₂, sym, subst, List}
 use Rattle.wf_frame.specs.declared.settings.Config.{Config}
 use Rattle.wf_def_world.specs.World.{opening}

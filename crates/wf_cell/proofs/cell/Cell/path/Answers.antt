@@ -1,8 +1,9 @@
+-- Proves which bodies the path has, and the lengths of the history's frames, from the invariant.
 use Rattle.std.proofs.Common.{◌≡◌, subst, is_some}
-use Rattle.wf_send_half_refines.specs.Half.{body_of}
+use Rattle.wf_send_half_model.specs.Half.{body_of}
 use Rattle.wf_law_runs.specs.Lengths.{HasLengths}
 use Rattle.wf_def_world.specs.Run.{Past, world_of}
-use Rattle.wf_send_half_refines.specs.Inside.{is_inside}
+use Rattle.wf_send_half_model.specs.Inside.{is_inside}
 use Rattle.wf_cell.specs.Engines.{EngineValue}
 use Rattle.wf_cell.specs.Cells.{CellValue}
 use Rattle.wf_cell.proofs.Bodies.{ids_inside}

@@ -1,3 +1,4 @@
+-- Proves the clauses of a cell's call and that the invariant is kept, from the engine's call.
 use Rattle.std.proofs.Common.{IfSome, Some, ◌≡◌, ap, sym, ◌∙◌, subst, ◌<◌, List, [], ◌∷◌, ◌++◌, refl, arith}
 use Rattle.std.specs.Prelude.{◌-◌}
 use Rattle.wf_frame.specs.Answers.{reply_of}
@@ -8,11 +9,11 @@ use Rattle.wf_def_world.specs.Run.{Entry, Past, by, world_of}
 use Rattle.wf_law_runs.specs.Laws.{Laws}
 use Rattle.wf_law_runs.specs.Lengths.{HasLengths}
 use Rattle.wf_law_runs.specs.Queues.{HasLength, IsAtMost}
-use Rattle.wf_send_half_refines.specs.Half.{body_of}
-use Rattle.wf_send_half_refines.specs.Standing.{StandsFor}
+use Rattle.wf_send_half_model.specs.Half.{body_of}
+use Rattle.wf_send_half_model.specs.Standing.{StandsFor}
 use Rattle.wf_path.specs.Jobs.{note_of, bodies_after}
 use Rattle.wf_cell.specs.Engines.{EngineValue}
-use Rattle.wf_cell.specs.Cells.{CellValue, room_in, with_entry}
+use Rattle.wf_cell.specs.Cells.{CellValue, calls_left_in, with_entry}
 use Rattle.wf_cell.specs.Rights.{IsRight}
 use Rattle.wf_cell.specs.Bodies.{body_after}
 use Rattle.wf_cell.proofs.Bodies.{bodies_then, reaped_body}
@@ -43,7 +44,7 @@ invariant_of-self c =
     let p : Past = record { config = engine.half.config; history = c.self.inside.past } in
     let e : Entry = by c.args.caller (note_of c.args.job) in
     let answered : ReplyNote = reply_of c.step.new.answer in
-    let room : 0 < room_in p = omega (arith, c.self.invariant.counted, c.if-self-eq0.false) in
+    let room : 0 < calls_left_in p = omega (arith, c.self.invariant.counted, c.if-self-eq0.false) in
     let history : List Entry = c.push.new.self in
     let grown : history ≡ p.history ++ e ∷ [] = c.push.ensures
     ∙ ap (λ (n : Note). p.history ++ by c.args.caller n ∷ []) c.note-note.ensures.value in
@@ -61,7 +62,7 @@ returns-clause-past c = λ some.
     let p : Past = record { config = engine.half.config; history = c.self.inside.past } in
     let e : Entry = by c.args.caller (note_of c.args.job) in
     let answered : ReplyNote = reply_of c.step.new.answer in
-    let room : 0 < room_in p = omega (arith, c.self.invariant.counted, c.if-self-eq0.false) in
+    let room : 0 < calls_left_in p = omega (arith, c.self.invariant.counted, c.if-self-eq0.false) in
     let history : List Entry = c.push.new.self in
     let grown : history ≡ p.history ++ e ∷ [] = c.push.ensures
     ∙ ap (λ (n : Note). p.history ++ by c.args.caller n ∷ []) c.note-note.ensures.value in
@@ -76,7 +77,7 @@ returns-clause-bodies c = λ some id.
     let p : Past = record { config = engine.half.config; history = c.self.inside.past } in
     let is = c.self.invariant in
     let answered : ReplyNote = reply_of c.step.new.answer in
-    let room : 0 < room_in p = omega (arith, c.self.invariant.counted, c.if-self-eq0.false) in
+    let room : 0 < calls_left_in p = omega (arith, c.self.invariant.counted, c.if-self-eq0.false) in
     let after = stepped p engine c.self.inside.left c.self.inside.last is refl room c.args.caller c.args.job
     c.step.new.self answered c.step.result c.step.ensures.done in
     subst (λ (u : CellValue). body_of c.step.new.self.half id ≡ body_after u.half answered c.args.job id)
@@ -90,7 +91,7 @@ returns-clause-reaped c = λ some id fate told.
     let p : Past = record { config = engine.half.config; history = c.self.inside.past } in
     let is = c.self.invariant in
     let answered : ReplyNote = reply_of c.step.new.answer in
-    let room : 0 < room_in p = omega (arith, c.self.invariant.counted, c.if-self-eq0.false) in
+    let room : 0 < calls_left_in p = omega (arith, c.self.invariant.counted, c.if-self-eq0.false) in
     let after = stepped p engine c.self.inside.left c.self.inside.last is refl room c.args.caller c.args.job
     c.step.new.self answered c.step.result c.step.ensures.done in
     subst (λ (u : CellValue). IfSome c.step.result (λ f. body_of u.half id ≡ Some f.body)) c.self.view_is
@@ -103,7 +104,7 @@ returns-clause-right c = λ some.
     let p : Past = record { config = engine.half.config; history = c.self.inside.past } in
     let is = c.self.invariant in
     let answered : ReplyNote = reply_of c.step.new.answer in
-    let room : 0 < room_in p = omega (arith, c.self.invariant.counted, c.if-self-eq0.false) in
+    let room : 0 < calls_left_in p = omega (arith, c.self.invariant.counted, c.if-self-eq0.false) in
     subst (λ (u : CellValue). IsRight u.past.config u.past.history c.args.job answered c.step.result)
     c.self.view_is
     (is_right engine.half p is.bodies c.args.job answered c.step.result is.is_in.half
@@ -119,7 +120,7 @@ returns-clause-stands c = λ some bodies stands.
     let p : Past = record { config = engine.half.config; history = c.self.inside.past } in
     let e : Entry = by c.args.caller (note_of c.args.job) in
     let answered : ReplyNote = reply_of c.step.new.answer in
-    let room : 0 < room_in p = omega (arith, c.self.invariant.counted, c.if-self-eq0.false) in
+    let room : 0 < calls_left_in p = omega (arith, c.self.invariant.counted, c.if-self-eq0.false) in
     let history : List Entry = c.push.new.self in
     let grown : history ≡ p.history ++ e ∷ [] = c.push.ensures
     ∙ ap (λ (n : Note). p.history ++ by c.args.caller n ∷ []) c.note-note.ensures.value in

@@ -1,3 +1,4 @@
+-- Proves the effect of an Answer on an engine. By cases of its refusal.
 use Rattle.std.proofs.Common.{ap, sym, subst, ℕ, List}
 use Rattle.wf_cell.specs.Engines.{EngineValue, EngineMeets}
 use Rattle.wf_frame.specs.Answers.{reply_with}
@@ -6,8 +7,8 @@ use Rattle.wf_frame.specs.declared.notes.Ask.TheVariants.{Answer}
 use Rattle.wf_frame.specs.declared.notes.Note.TheVariants.{Asked}
 use Rattle.wf_frame.specs.declared.notes.ReplyNote.{ReplyNote}
 use Rattle.wf_recv_peer.specs.Board.{Board}
-use Rattle.wf_send_parts.specs.Marks.{with_answer, with_changed}
-use Rattle.wf_recv_refines.specs.Hearing.{agreement_of}
+use Rattle.wf_recv_marks.specs.Marks.{with_answer, with_changed}
+use Rattle.wf_cell_model.specs.Hearing.{agreement_of}
 use Rattle.wf_cell.proofs.Exchanges.{answer_refused, answered_meets, told_station, told_tid}
 use Rattle.wf_cell.proofs.engine.Engine.answer.Goals as goal
 

@@ -1,3 +1,4 @@
+-- Proves the effect of an Arrive on an engine. By cases of its refusal.
 use Rattle.std.proofs.Common.{sym}
 use Rattle.wf_cell.proofs.Exchanges.{arrive_refused}
 use Rattle.wf_cell.proofs.engine.Engine.arrive.Goals as goal

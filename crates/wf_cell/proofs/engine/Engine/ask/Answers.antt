@@ -1,3 +1,4 @@
+-- Proves the effect of a call without a frame on an engine. By cases of the call.
 use Rattle.std.proofs.Common.{◌≡◌, ap, ◌∙◌, sym, subst, true, None, refl}
 use Rattle.std.specs.Prelude.{◌||◌}
 use Rattle.wf_frame.specs.Answers.{reply_of}

@@ -1,3 +1,4 @@
+-- Proves that an Answer is refused exactly if the machine refuses it. By cases of the mark.
 use Rattle.std.proofs.Common.{sym, ◌∙◌, subst}
 use Rattle.wf_cell.specs.Engines.{EngineValue, EngineIsIn}
 use Rattle.wf_cell.proofs.Exchanges.{answer_not_open, none_open, none_sent, answer_open}

@@ -1,3 +1,4 @@
+-- Proves that an Arrive is refused exactly if the machine refuses it. By cases of the mark and the exchange.
 use Rattle.std.proofs.Common.{sym, ◌∙◌, subst}
 use Rattle.wf_cell.specs.Engines.{EngineValue, EngineIsIn}
 use Rattle.wf_cell.proofs.Exchanges.{arrive_not_open, none_open, none_sent, arrive_open, told_few}

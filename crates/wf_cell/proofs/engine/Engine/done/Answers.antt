@@ -1,9 +1,11 @@
-use Rattle.std.proofs.Common.{◌≡◌, ap, sym, ◌∙◌, subst, ℕ, true, false, List}
+-- Proves the effect of a Done on an engine. By cases of its refusal.
+use Rattle.std.proofs.Common.{◌≡◌, ap, sym, ◌∙◌, subst, ℕ, ◌==◌, Some, true, false, List}
+use Rattle.std.specs.Prelude.{position}
 use Rattle.wf_cell.specs.Engines.{EngineValue, EngineIsIn, EngineMeets}
 use Rattle.wf_frame.specs.Answers.{reply_with}
 use Rattle.wf_frame.specs.declared.notes.Ask.TheVariants.{Done}
 use Rattle.wf_frame.specs.declared.notes.Note.TheVariants.{Asked}
-use Rattle.wf_send_parts.specs.declared.exchanges.marks.Mark.{Mark}
+use Rattle.wf_recv_marks.specs.declared.marks.Mark.{Mark}
 use Rattle.wf_path.specs.Jobs.{changes_nothing}
 use Rattle.wf_cell.proofs.Calls.{ended_reply}
 use Rattle.wf_cell.proofs.Exchanges.{done_refused, ended_meets, end_met, kept_answer}
@@ -28,9 +30,11 @@ returns-in-Ok-clause-meets c = λ w bodies i.
     let pairs : List (ℕ × ℕ) = c.args.answer.now.pairs in
     let ids : List ℕ = c.args.answer.now.ids in
     let done = sym (c.in-Ok.ensures.refused w bodies i) in
-    let kept = subst (λ (u : EngineValue). c.in-Ok.kept ≡ kept_answer u.marks c.args.exchange c.args.heard)
-    (sym c.self.view_is) c.in-Ok.ensures.kept in
-    let met = end_met v w bodies c.args.exchange c.args.heard c.args.air j c.in-Ok.kept d.new.self.half
+    let kept = subst (λ (u : EngineValue). c.in-Ok.found.heard
+    ≡ kept_answer u.marks c.args.exchange c.args.heard) (sym c.self.view_is) c.in-Ok.ensures.heard in
+    let place = subst (λ (u : EngineValue). position (λ m. m.number == c.args.exchange) u.marks
+    ≡ Some c.in-Ok.found.place) (sym c.self.view_is) c.in-Ok.ensures.place in
+    let met = end_met v w bodies c.args.exchange c.args.heard c.args.air j c.in-Ok.found.heard d.new.self.half
     d.result
     pairs ids
     kept done d.ensures.lost d.ensures.shown in
@@ -38,7 +42,8 @@ returns-in-Ok-clause-meets c = λ w bodies i.
     record { half = d.new.self.half; peers = c.self.inside.peers; marks = ms } in
     EngineMeets w bodies (Asked (Done c.args.exchange c.args.heard c.args.air)) u
     (reply_with d.result pairs ids))
-    (sym c.close.ensures) (ended_meets v w bodies c.args.exchange c.args.heard c.args.air j d.new.self.half
+    (sym (c.close_at.ensures.closed c.args.exchange place))
+    (ended_meets v w bodies c.args.exchange c.args.heard c.args.air j d.new.self.half
     (reply_with d.result pairs ids) done met)
 
 pub returns-in-Ok-clause-path_kept : goal.returns-in-Ok-clause-path_kept

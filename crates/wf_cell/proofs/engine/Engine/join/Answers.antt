@@ -1,3 +1,4 @@
+-- Proves the effect of a Join on an engine. By cases of the path's reply.
 use Rattle.std.proofs.Common.{◌≡◌, ap, sym, ◌∙◌, subst, List, arith}
 use Rattle.wf_path.specs.Paths.{PathValue}
 use Rattle.wf_cell.specs.Engines.{EngineValue, EngineIsIn, EngineMeets}
@@ -7,8 +8,8 @@ use Rattle.wf_frame.specs.declared.answers.Brief.{Brief}
 use Rattle.wf_frame.specs.declared.notes.Ask.TheVariants.{Join}
 use Rattle.wf_frame.specs.declared.notes.Note.TheVariants.{Asked}
 use Rattle.wf_recv_peer.specs.Agreements.{PeerValue}
-use Rattle.wf_send_half_refines.specs.Half.{TransmitValue}
-use Rattle.wf_recv_refines.proofs.Joining.{station_in_range, window_in_range, start_in_range}
+use Rattle.wf_send_half_model.specs.Half.{TransmitValue}
+use Rattle.wf_cell_model.proofs.Joining.{station_in_range, window_in_range, start_in_range}
 use Rattle.wf_cell.proofs.Calls.{is_joined, not_joined, joined_brief, joined_meets, refused_meets}
 use Rattle.wf_cell.proofs.engine.Engine.join.Goals as goal
 

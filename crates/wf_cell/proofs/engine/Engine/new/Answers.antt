@@ -1,3 +1,4 @@
+-- Proves that a new engine represents the opening world.
 use Rattle.wf_frame.proofs.Ranges.{in_range}
 use Rattle.wf_cell.proofs.News.{new_engine}
 use Rattle.wf_cell.proofs.engine.Engine.new.Goals as goal

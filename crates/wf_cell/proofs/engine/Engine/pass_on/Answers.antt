@@ -1,11 +1,13 @@
+-- Proves that the station gets the octets of the transmission, and that the result is the effect of an
+-- Arrive.
 use Rattle.std.proofs.Common.{◌≡◌, ap, sym, subst, ℕ, ◌<◌, List, take, arith}
 use Rattle.wf_frame.specs.Frames.{FrameValue}
 use Rattle.wf_def_world.specs.World.{World, Exchange}
 use Rattle.wf_def_world.specs.Exchanges.{transmissions}
 use Rattle.wf_recv_peer.specs.Agreements.{PeerValue}
 use Rattle.wf_path.specs.declared.reading.Sent.{Sent}
-use Rattle.wf_recv_refines.specs.Arriving.{peer_after, buffer_outcome_of_transmission}
-use Rattle.wf_recv_refines.specs.Hearing.{peer_of, with_peer, agreement_of}
+use Rattle.wf_cell_model.specs.Arriving.{peer_after, buffer_outcome_of_transmission}
+use Rattle.wf_cell_model.specs.Hearing.{peer_of, with_peer, agreement_of}
 use Rattle.wf_cell.specs.Engines.{EngineValue, EngineIsIn}
 use Rattle.wf_cell.specs.Octets.{IsSentTo}
 use Rattle.wf_cell.proofs.Exchanges.{IsOpen, told_open, told_is, told_station, arrives_within, transmissions_few, passed_on}

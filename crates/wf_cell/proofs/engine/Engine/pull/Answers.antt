@@ -1,3 +1,4 @@
+-- Proves the effect of a Pull on an engine, and that a new mark has room. By cases of the path's reply.
 use Rattle.std.proofs.Common.{ap, sym, ◌∙◌, subst, List}
 use Rattle.wf_path.specs.Paths.{PathValue}
 use Rattle.wf_cell.specs.Engines.{EngineValue, EngineIsIn, EngineMeets}
@@ -6,9 +7,9 @@ use Rattle.wf_frame.specs.declared.answers.Answer.{Answer}
 use Rattle.wf_frame.specs.declared.answers.Brief.{Brief}
 use Rattle.wf_frame.specs.declared.notes.Ask.TheVariants.{Pull}
 use Rattle.wf_frame.specs.declared.notes.Note.TheVariants.{Asked}
-use Rattle.wf_send_parts.specs.declared.exchanges.marks.Mark.{Mark}
+use Rattle.wf_recv_marks.specs.declared.marks.Mark.{Mark}
 use Rattle.wf_send_half.specs.Replies.{bodies_sent}
-use Rattle.wf_send_half_refines.specs.Half.{TransmitValue}
+use Rattle.wf_send_half_model.specs.Half.{TransmitValue}
 use Rattle.wf_cell.proofs.Calls.{IsSend, send_brief, mark_fits, pulled_meets, not_pulled, refused_meets}
 use Rattle.wf_cell.proofs.engine.Engine.pull.Goals as goal
 

@@ -1,3 +1,4 @@
+-- Proves the effect of a call on an engine. By cases of whether it has a frame.
 use Rattle.std.proofs.Common.{◌≡◌, ap, sym, ◌∙◌, subst, true}
 use Rattle.std.specs.Prelude.{◌||◌}
 use Rattle.wf_frame.specs.Answers.{reply_of}

@@ -1,6 +1,7 @@
+-- Proves that the receive halves are new: the loop adds one of them for each station.
 use Rattle.std.proofs.Common.{rules, ◌≡◌, ap, sym, ◌∙◌, subst, ℕ, ◌+◌, List, [], ◌∷◌, ◌++◌, arith}
 use Rattle.wf_recv_peer.specs.Agreements.{PeerValue}
-use Rattle.wf_recv_refines.specs.Hearing.{AreNew, new_receive_half}
+use Rattle.wf_cell_model.specs.Hearing.{AreNew, new_receive_half}
 use Rattle.wf_cell.proofs.Hearing.{one_new, none_new}
 use Rattle.wf_cell.proofs.peers.Peers.new.Goals as goal
 

@@ -1,9 +1,11 @@
+-- Proves that a receive half accepts octets for its station, and the effect on it. By cases of data and
+-- request.
 use Rattle.std.proofs.Common.{◌≡◌, ap, sym, ◌∙◌, subst, ℕ, List}
 use Rattle.std.specs.Prelude.{slice_index_or}
 use Rattle.std.proofs.lemmas.List.{get_or_read}
 use Rattle.wf_recv_peer.specs.Agreements.{PeerValue, agreement, after_frame, outcome_of_frame}
-use Rattle.wf_recv_refines.specs.Arriving.{peer_after, buffer_outcome_of_transmission}
-use Rattle.wf_recv_refines.specs.Hearing.{HasAddresses, new_receive_half, peer_of}
+use Rattle.wf_cell_model.specs.Arriving.{peer_after, buffer_outcome_of_transmission}
+use Rattle.wf_cell_model.specs.Hearing.{HasAddresses, new_receive_half, peer_of}
 use Rattle.wf_cell.proofs.Hearing.{IsTaken, LeadsTo, data_for_half, request_for_half, is_ok_sent, no_fault, where_ok, led_after, led_up}
 use Rattle.wf_cell.proofs.peers.Peers.receive.Goals as goal
 

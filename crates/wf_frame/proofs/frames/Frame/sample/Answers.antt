@@ -1,3 +1,4 @@
+-- Proves the clauses of `Frame::sample`: the loop writes one octet of the body after the other.
 use Rattle.std.proofs.Common.{◌≡◌, ◌∙◌, ap, sym, refl, ℕ, arith}
 use Rattle.std.proofs.lemmas.List.{take_all, with_items_is}
 use Rattle.std.specs.Vec.{with_items}

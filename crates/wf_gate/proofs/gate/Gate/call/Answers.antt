@@ -1,3 +1,4 @@
+-- The seat draws, waits and serves; each step says how its view changes.
 use Rattle.std.proofs.Common.{rules, ◌<◌, ◌∙◌, ap, sym, subst, length, Some}
 use Rattle.std.specs.Prelude.{All}
 use mathlib.Core.List.{IsPrefix}

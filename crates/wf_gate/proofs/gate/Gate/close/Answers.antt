@@ -1,3 +1,5 @@
+-- All seats are joined, so the slot is back in the table, and the machine has made exactly the calls of the
+-- history.
 use Rattle.std.proofs.Common.{sym, ap, ◌∙◌, Some}
 use Rattle.wf_gate.specs.Seats.{IsOf}
 use Rattle.wf_gate.proofs.Calls.{not_out, closed}
@@ -12,14 +14,14 @@ gather-pass-requires-clause-own g c = λ k s at.
 pub unreachable-requires : goal.unreachable-requires
 unreachable-requires g c =
     let pass = c.gather-pass.ensures in
-    not_out g.M.Machine.past g.M.Machine.settings g.M.Machine.room _ c.args.seats.items _
+    not_out g.M.Machine.past g.M.Machine.settings g.M.Machine.calls_left _ c.args.seats.items _
     c.gather-pass.result.me.0 _ _ _ _ c.self.view_is pass.own.1 pass.own.2 c.requires.all pass.all
     c.close_with-closed.ensures.values.2 c.take.ensures.value c.in_default.is
 
 pub returns : goal.returns
 returns g c =
     let pass = c.gather-pass.ensures in
-    let k = closed g.M.Machine.past g.M.Machine.settings g.M.Machine.room _ c.args.seats.items _
+    let k = closed g.M.Machine.past g.M.Machine.settings g.M.Machine.calls_left _ c.args.seats.items _
     c.gather-pass.result.me.0 _ _ _ _ c.in-Some.machine c.self.view_is pass.own.1 pass.own.2
     c.requires.all pass.all c.close_with-closed.ensures.values.2 c.take.ensures.value c.in-Some.is in
     record {

@@ -1,3 +1,4 @@
+-- If the exchange found the ticket that is served, the seat has its turn, as in `call`.
 use Rattle.std.proofs.Common.{rules, ◌≡◌, ◌<◌, ◌∙◌, ap, sym, subst, length, Some}
 use Rattle.std.specs.Prelude.{All}
 use mathlib.Core.List.{IsPrefix}

@@ -1,3 +1,4 @@
+-- The octets that are read and those that are left make up the octets that were left before.
 use Rattle.std.proofs.Common.{◌≡◌, ◌≤◌, length, drop, take, Some, ap, arith}
 use Rattle.std.proofs.lemmas.Grind.{common_steps}
 use Rattle.wf_io.proofs.Pieces.{front_and_rest}

@@ -1,3 +1,4 @@
+-- The word, the spaced words and the line's end make up the line.
 use Rattle.std.specs.Prelude.{map}
 use Rattle.wf_io.specs.Words.{words_text}
 use Rattle.wf_io.proofs.Spaces.{line_behind}

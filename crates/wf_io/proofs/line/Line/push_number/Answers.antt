@@ -1,3 +1,4 @@
+-- A number below 10 is one digit.
 use Rattle.std.proofs.Common.{◌++◌, ap, sym, ◌∙◌}
 use Rattle.std.proofs.lemmas.Fmt.{decimal_digit}
 use Rattle.wf_io.proofs.line.Line.push_number.Goals as goal

@@ -1,3 +1,4 @@
+-- Each iteration appends a space and one more word, for which there is room.
 use Rattle.std.proofs.Common.{◌∷◌, [], length, ap, arith, length-append}
 use Rattle.wf_io.specs.declared.line.Word.TheVariants.{Text}
 use Rattle.wf_io.proofs.Spaces.{more_words, widths-more, widths-rest}

@@ -1,3 +1,4 @@
+-- The words so far were appended, with a space before each.
 use Rattle.std.proofs.Common.{◌≡◌, ◌+◌, ◌≤◌, ◌++◌, length, take}
 use Rattle.std.specs.Prelude.{map, sum_by}
 use Rattle.wf_io.specs.Words.{words_text, width_of, spaced}

@@ -1,3 +1,4 @@
+-- A prefix of the header, or the header and a prefix of the octets, is a prefix of the packet.
 use Rattle.std.proofs.Common.{◌≡◌, length, OnOk, subst, ap, ◌∙◌}
 use Rattle.std.specs.Io.KnownBytes.{append_known}
 use Rattle.wf_io.specs.Capture.{packet_head}

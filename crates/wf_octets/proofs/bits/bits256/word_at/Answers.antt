@@ -1,3 +1,4 @@
+-- Bit i of the word is bit i mod 8 of octet i / 8.
 use Rattle.wf_octets.proofs.Words.{bit_at-eight}
 use Rattle.wf_octets.proofs.bits.bits256.word_at.Goals as goal
 

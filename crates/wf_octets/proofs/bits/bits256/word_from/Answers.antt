@@ -1,3 +1,4 @@
+-- The 64 bits are the high bits of one word and the low bits of the next.
 use Rattle.std.proofs.Common.{◌/◌, ◌%◌, ◌*◌, ◌^◌, ◌-◌, ◌∙◌, ap, arith, bit_or, get_or}
 use Rattle.std.specs.Int.{bit_at}
 use Rattle.wf_octets.proofs.Words.{bit_at-pair}

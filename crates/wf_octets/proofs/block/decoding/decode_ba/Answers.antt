@@ -1,3 +1,4 @@
+-- The checks imply the layout, and the layout determines the fields.
 use Rattle.std.proofs.Common.{false, Ok, arith, rules, ap, subst, sym, ◌∙◌}
 use Rattle.wf_octets.specs.Offsets.{offsets_in}
 use Rattle.wf_octets.specs.BlockLayout.{HasHead, answer, head_of_ba}

@@ -1,3 +1,4 @@
+-- The checks imply the layout, and the layout determines the fields.
 use Rattle.std.proofs.Common.{true, Ok, arith, rules, ap, subst, sym, ◌∙◌, get_or}
 use Rattle.std.proofs.lemmas.Bool.{not-false}
 use Rattle.wf_octets.specs.Fields.{is_set}

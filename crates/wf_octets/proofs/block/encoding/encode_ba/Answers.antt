@@ -1,3 +1,4 @@
+-- The bitmap is written after the head, which stays unchanged.
 use Rattle.std.proofs.Common.{arith, ap, subst, ◌∙◌}
 use Rattle.wf_octets.specs.Offsets.{offsets_in}
 use Rattle.wf_octets.specs.BlockLayout.{HasHead, answer, head_of_ba}

@@ -1,3 +1,4 @@
+-- The frame is the head.
 use Rattle.std.proofs.Common.{arith, sym, ◌∙◌, take_all}
 use Rattle.wf_octets.proofs.block.encoding.encode_bar.Goals as goal
 

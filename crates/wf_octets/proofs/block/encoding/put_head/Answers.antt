@@ -1,3 +1,4 @@
+-- The fields are written one after another.
 use Rattle.std.proofs.Common.{◌≡◌, ◌*◌, [], ◌∷◌, ap, subst, take, arith, sym, refl, ◌∙◌}
 use Rattle.wf_octets.specs.Fields.{number_at, two_octets}
 use Rattle.wf_octets.proofs.Places.{then_put}

@@ -1,24 +1,9 @@
-use Rattle.std.proofs.Common.{sym, subst, ap, ◌∙◌, Bool, ◌&&◌}
-use Rattle.std.specs.List.{list_any}
-use Rattle.wf_send_half_refines.specs.Half.{TransmitValue}
-use Rattle.wf_send_half_refines.specs.Standing.{StandsFor}
-use Rattle.wf_path.specs.Flags.{flags_in}
-use Rattle.wf_path.proofs.ToSend.{pull_is}
+use Rattle.std.proofs.Common.{sym, subst}
+use Rattle.wf_send_half_model.specs.Half.{TransmitValue}
+use Rattle.wf_send_half_model.specs.Standing.{StandsFor}
 use Rattle.wf_path.proofs.Values.{half_is}
 use Rattle.wf_path.proofs.path.Path.can_pull.Goals as goal
 
-pub returns-then-may_open : goal.returns-then-may_open
-returns-then-may_open c w bodies h =
-    c.has_any.ensures
-    ∙ ap (λ (b : Bool). b && list_any (λ up. up) (flags_in c.self.inside.ready c.args.class))
-    (sym c.if-may_open.true ∙ c.may_open.ensures)
-    ∙ pull_is c.self.inside.half c.self.inside.ready c.self.invariant c.args.class w bodies
-    (subst (λ (u : TransmitValue). StandsFor u w bodies) (sym (half_is c.self.view_is)) h)
-
-pub returns-else-may_open : goal.returns-else-may_open
-returns-else-may_open c w bodies h =
-    c.if-may_open.false
-    ∙ ap (λ (b : Bool). b && list_any (λ up. up) (flags_in c.self.inside.ready c.args.class))
-    (sym c.if-may_open.false ∙ c.may_open.ensures)
-    ∙ pull_is c.self.inside.half c.self.inside.ready c.self.invariant c.args.class w bodies
+pub returns : goal.returns
+returns c w bodies h = c.can_pull.ensures w bodies
     (subst (λ (u : TransmitValue). StandsFor u w bodies) (sym (half_is c.self.view_is)) h)

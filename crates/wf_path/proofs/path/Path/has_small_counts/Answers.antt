@@ -2,7 +2,7 @@ use Rattle.std.proofs.Common.{rules}
 use Rattle.wf_path.proofs.SmallSums.{small_counts}
 use Rattle.wf_path.proofs.path.Path.has_small_counts.Goals as goal
 
-pub returns-then-tally-lt-LARGE-clause-small : goal.returns-then-tally-lt-LARGE-clause-small
-returns-then-tally-lt-LARGE-clause-small c is = small_counts c.args.self.now.half (search rules) (search
+pub returns-then-tally-lt-COUNT_LIMIT-clause-small : goal.returns-then-tally-lt-COUNT_LIMIT-clause-small
+returns-then-tally-lt-COUNT_LIMIT-clause-small c is = small_counts c.args.self.now.half (search rules) (search
     rules)
     (search rules) (c.has_small_sums.ensures.small is)

@@ -14,5 +14,5 @@ loop-station-preserved c =
 
 pub returns-clause-small : goal.returns-clause-small
 returns-clause-small c is =
-    all_small c.args.self.now.half (subst IsPath (half_is c.self.view_is) c.self.invariant.path)
+    all_small c.args.self.now.half (subst IsPath (half_is c.self.view_is) c.self.invariant)
     (λ s k low. c.loop-station.invariant s k (omega (arith, low, c.loop-station-test.false)))

@@ -1,17 +1,10 @@
 use Rattle.std.proofs.Common.{lit<, ◌^◌}
-use Rattle.wf_path.proofs.Openings.{new_tracked, new_below}
+use Rattle.wf_path.proofs.Openings.{new_below}
 use Rattle.wf_path.proofs.path.Path.new.Goals as goal
 
-pub invariant_of-result : goal.invariant_of-result
-invariant_of-result c = new_tracked c.in_ok-half.half c.in_ok-ready.ready c.args.config
-    c.in_ok-half.ensures.stands c.in_ok-ready.ensures
-
-pub returns-clause-path : goal.returns-clause-path
-returns-clause-path c = (new_tracked c.in_ok-half.half c.in_ok-ready.ready c.args.config
-    c.in_ok-half.ensures.stands c.in_ok-ready.ensures).path
-
 pub returns-clause-small : goal.returns-clause-small
-returns-clause-small c = new_below c.in_ok-half.half c.args.config c.in_ok-half.ensures.stands (2 ^ 62) (lit< tt)
+returns-clause-small c = new_below c.in_ok-half.half c.args.config c.in_ok-half.ensures.stands (2 ^ 62) (lit<
+    tt)
 
 pub returns-clause-none : goal.returns-clause-none
 returns-clause-none c = new_below c.in_ok-half.half c.args.config c.in_ok-half.ensures.stands 1 (lit< tt)

@@ -1,8 +1,8 @@
 use Rattle.std.proofs.Common.{sym, subst, ◌∙◌}
 use Rattle.wf_send_half.specs.Half.{IsLive}
-use Rattle.wf_send_half_refines.specs.Half.{TransmitValue}
-use Rattle.wf_send_half_refines.specs.Standing.{StandsFor}
-use Rattle.wf_send_half_refines.proofs.Readers.{queued_same}
+use Rattle.wf_send_half_model.specs.Half.{TransmitValue}
+use Rattle.wf_send_half_model.specs.Standing.{StandsFor}
+use Rattle.wf_send_half_model.proofs.Readers.{queued_same}
 use Rattle.wf_path.proofs.ToSend.{live_in, live_within}
 use Rattle.wf_path.proofs.Values.{half_is}
 use Rattle.wf_path.proofs.path.Path.queued.Goals as goal
@@ -10,7 +10,7 @@ use Rattle.wf_path.proofs.path.Path.queued.Goals as goal
 pub queued-requires-clause-within : goal.queued-requires-clause-within
 queued-requires-clause-within c = live_within c.self.inside.half c.args.station
     (subst (λ (v : TransmitValue). IsLive v c.args.station) (sym (half_is c.self.view_is)) c.requires.live)
-    c.self.invariant.path
+    c.self.invariant
 
 pub returns : goal.returns
 returns c w bodies h =

@@ -2,8 +2,8 @@ use Rattle.std.proofs.Common.{sym, subst}
 use Rattle.wf_def_world.specs.World.{session}
 use Rattle.wf_send_parts.specs.Window.{WindowValue, WindowStandsFor}
 use Rattle.wf_send_half.specs.Half.{IsLive}
-use Rattle.wf_send_half_refines.specs.Half.{TransmitValue}
-use Rattle.wf_send_half_refines.specs.Standing.{StandsFor}
+use Rattle.wf_send_half_model.specs.Half.{TransmitValue}
+use Rattle.wf_send_half_model.specs.Standing.{StandsFor}
 use Rattle.wf_path.proofs.ToSend.{live_in, live_within}
 use Rattle.wf_path.proofs.Values.{half_is}
 use Rattle.wf_path.proofs.path.Path.waiting.Goals as goal
@@ -11,7 +11,7 @@ use Rattle.wf_path.proofs.path.Path.waiting.Goals as goal
 pub window-requires-clause-within : goal.window-requires-clause-within
 window-requires-clause-within c = live_within c.self.inside.half c.args.station
     (subst (λ (v : TransmitValue). IsLive v c.args.station) (sym (half_is c.self.view_is)) c.requires.live)
-    c.self.invariant.path
+    c.self.invariant
 
 pub returns : goal.returns
 returns c w bodies h =

@@ -1,32 +1,32 @@
+-- The invariant holds after the head drop and again after the push, with the octets of both queues set.
 use Rattle.std.proofs.Common.{◌≡◌, ◌<◌, length, set, sym, ap, subst, arith}
 use Rattle.std.specs.Prelude.{sum_by}
 use Rattle.wf_frame.specs.Frames.{FrameValue}
 use Rattle.wf_queue_flows.specs.Backlog.{BacklogValue, held_in_backlog}
-use Rattle.wf_queue_flows.proofs.Holding.{head_is, exchange_fits, kept_exchanged, held_exchanged}
+use Rattle.wf_queue_flows.proofs.Holding.{exchange_fits, kept_exchanged, held_exchanged}
 use Rattle.wf_queue_flows.proofs.backlog.Backlog.exchange.Goals as goal
-use Rattle.wf_queue_flows.proofs.backlog.Backlog.exchange.Goals.{After-push_back}
+use Rattle.wf_queue_flows.proofs.backlog.Backlog.exchange.Goals.{After-put_last}
 
 -- once a frame has left its queue and another is in one, the queues have as many as before
-as_many : (c : After-push_back) →
-    sum_by length (set (set c.self.inside.queues.items c.args.from c.pop_front.new.self) c.args.to
-    c.push_back.new.self) ≡ sum_by length c.self.inside.queues.items
+as_many : (c : After-put_last) →
+    sum_by length (set (set c.self.inside.queues.items c.args.from c.take_head-head.new.queue) c.args.to
+    c.put_last.new.queue) ≡ sum_by length c.self.inside.queues.items
 as_many c =
     let here = subst (λ (v : BacklogValue). c.args.from < length v.queues) (sym c.self.view_is)
     c.requires.from in
     let there = subst (λ (v : BacklogValue). c.args.to < length v.queues) (sym c.self.view_is)
     c.requires.to in
-    held_exchanged _ _ _ _ _ c.self.invariant c.args.from c.index.result.now c.from.result
-    c.len-count.result c.index_mut-queue.result.now c.pop_front.new.self c.unwrap-head.result here
-    c.index.ensures c.index_mut-queue.ensures.value
-    (head_is _ _ _ _ c.unwrap-head.ensures c.pop_front.ensures)
+    held_exchanged _ _ _ _ c.self.invariant c.args.from c.value.result c.from.result
+    c.index_mut.result.now c.take_head-head.new.queue c.take_head-head.new.ready c.take_head-head.result here
+    c.value.ensures c.index_mut.ensures.value c.take_head-head.ensures.first c.take_head-head.ensures.flag
     (omega (
       arith,
       c.from.ensures,
       c.len.ensures.exact,
       ap (λ (f : FrameValue). length f.body) c.frame.ensures,
     ))
-    c.len-count.ensures c.args.to c.push_back.new.self c.index_mut-3.result.now c.args.parcel there
-    c.index_mut-3.ensures.value c.push_back.ensures
+    c.args.to c.put_last.new.queue c.index_mut-3.result.now c.args.parcel there
+    c.index_mut-3.ensures.value c.put_last.ensures.last
 
 pub overflow_add-more : goal.overflow_add-more
 overflow_add-more c =
@@ -35,17 +35,17 @@ overflow_add-more c =
     let there = subst (λ (v : BacklogValue). c.args.to < length v.queues) (sym c.self.view_is)
     c.requires.to in
     record {
-      fits = exchange_fits _ _ _ _ _ c.self.invariant c.args.from c.index.result.now c.from.result
-          c.len-count.result c.index_mut-queue.result.now c.pop_front.new.self c.unwrap-head.result here
-          c.index.ensures c.index_mut-queue.ensures.value
-          (head_is _ _ _ _ c.unwrap-head.ensures c.pop_front.ensures)
+      fits = exchange_fits _ _ _ _ c.self.invariant c.args.from c.value.result c.from.result
+          c.index_mut.result.now c.take_head-head.new.queue c.take_head-head.new.ready c.take_head-head.result
+          here c.value.ensures c.index_mut.ensures.value c.take_head-head.ensures.first
+          c.take_head-head.ensures.flag
           (omega (
             arith,
             c.from.ensures,
             c.len.ensures.exact,
             ap (λ (f : FrameValue). length f.body) c.frame.ensures,
           ))
-          c.len-count.ensures c.args.to c.index-2.result.now c.from-2.result there c.index-2.ensures
+          c.args.to c.octets_then-before.result c.from-2.result there c.octets_then-before.ensures
           (omega (arith, c.from-2.ensures, c.len-2.ensures.most));
     }
 
@@ -57,19 +57,19 @@ invariant_of-self c =
     c.requires.to in
     let room = subst (λ (v : BacklogValue). held_in_backlog v < v.room) (sym c.self.view_is)
     c.requires.room in
-    kept_exchanged _ _ _ _ _ c.self.invariant c.args.from c.index.result.now c.from.result
-    c.len-count.result c.index_mut-queue.result.now c.pop_front.new.self c.unwrap-head.result here
-    c.index.ensures c.index_mut-queue.ensures.value
-    (head_is _ _ _ _ c.unwrap-head.ensures c.pop_front.ensures)
+    kept_exchanged _ _ _ _ c.self.invariant c.args.from c.value.result c.from.result
+    c.index_mut.result.now c.take_head-head.new.queue c.take_head-head.new.ready c.take_head-head.result here
+    c.value.ensures c.index_mut.ensures.value c.take_head-head.ensures.first c.take_head-head.ensures.flag
     (omega (
       arith,
       c.from.ensures,
       c.len.ensures.exact,
       ap (λ (f : FrameValue). length f.body) c.frame.ensures,
     ))
-    c.len-count.ensures c.args.to c.index-2.result.now c.from-2.result c.index_mut-3.result.now
-    c.push_back.new.self c.args.parcel c.set_both.new.self there c.index-2.ensures c.index_mut-3.ensures.value
-    c.push_back.ensures
+    c.args.to c.octets_then-before.result c.from-2.result c.index_mut-3.result.now
+    c.put_last.new.queue c.args.parcel c.set_both.new.self c.put_last.new.ready there
+    c.octets_then-before.ensures c.index_mut-3.ensures.value
+    c.put_last.ensures.last c.put_last.ensures.flag
     (omega (
       arith,
       c.from-2.ensures,
@@ -83,12 +83,12 @@ pub finish-requires : goal.finish-requires
 finish-requires c =
     let room = subst (λ (v : BacklogValue). held_in_backlog v < v.room) (sym c.self.view_is)
     c.requires.room in
-    omega (arith, room, as_many (goal.at.finish-requires c).After-push_back)
+    omega (arith, room, as_many (goal.at.finish-requires c).After-put_last)
 
 pub returns-clause-held : goal.returns-clause-held
 returns-clause-held c = omega (
   arith,
   c.finish.ensures.held,
   ap held_in_backlog c.self.view_is,
-  as_many (goal.at.returns-clause-held c).After-push_back,
+  as_many (goal.at.returns-clause-held c).After-put_last,
 )

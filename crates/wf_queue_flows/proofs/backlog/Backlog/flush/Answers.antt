@@ -1,3 +1,4 @@
+-- Each iteration moves one frame to the finished list; what is left to flush ends the same.
 use Rattle.std.proofs.Common.{◌<◌, [], ◌∷◌, ◌++◌, length, ap, ◌∙◌, arith, length-set}
 use Rattle.wf_frame.specs.Frames.{FrameValue}
 use Rattle.wf_queue_flows.specs.Backlog.{BacklogValue, frames_at}

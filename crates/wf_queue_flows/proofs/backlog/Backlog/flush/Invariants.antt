@@ -1,3 +1,4 @@
+-- Flushing the rest ends as flushing the whole queue does.
 use Rattle.std.proofs.Common.{◌≡◌, length}
 use Rattle.wf_queue_flows.specs.Backlog.{frames_at, held_in_backlog, after_flush}
 use Rattle.wf_queue_flows.proofs.backlog.Backlog.flush.Given as goal

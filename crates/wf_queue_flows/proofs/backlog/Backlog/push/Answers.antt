@@ -1,3 +1,4 @@
+-- One frame more in a queue keeps the invariant: its octets are added to the leaf of the queue.
 use Rattle.std.proofs.Common.{◌<◌, length, sym, ap, subst, arith}
 use Rattle.wf_frame.specs.Frames.{FrameValue}
 use Rattle.wf_queue_flows.specs.Backlog.{BacklogValue, held_in_backlog}
@@ -9,8 +10,8 @@ overflow_add-octets c =
     let here = subst (λ (v : BacklogValue). c.args.q < length v.queues) (sym c.self.view_is)
     c.requires.queue in
     record {
-      fits = push_fits _ _ _ _ _ c.self.invariant c.args.q c.index.result.now c.from.result here
-          c.index.ensures (omega (arith, c.from.ensures, c.len.ensures.most));
+      fits = push_fits _ _ _ _ c.self.invariant c.args.q c.value.result c.from.result here
+          c.value.ensures (omega (arith, c.from.ensures, c.len.ensures.most));
     }
 
 pub invariant_of-self : goal.invariant_of-self
@@ -19,9 +20,9 @@ invariant_of-self c =
     c.requires.queue in
     let room = subst (λ (v : BacklogValue). held_in_backlog v < v.room) (sym c.self.view_is)
     c.requires.room in
-    kept_pushed _ _ _ _ _ c.self.invariant c.args.q c.index.result.now c.from.result
-    c.index_mut.result.now c.push_back.new.self c.args.parcel c.set.new.self here c.index.ensures
-    c.index_mut.ensures.value c.push_back.ensures
+    kept_pushed _ _ _ _ c.self.invariant c.args.q c.value.result c.from.result c.index_mut.result.now
+    c.put_last.new.queue c.args.parcel c.set.new.self c.put_last.new.ready here c.value.ensures
+    c.index_mut.ensures.value c.put_last.ensures.last c.put_last.ensures.flag
     (omega (
       arith,
       c.from.ensures,

@@ -1,3 +1,4 @@
+-- The take is CoDel's dequeue on the lane of one queue, whose frames all came from that queue.
 use Rattle.std.proofs.Common.{rules, ◌≡◌, ◌<◌, Some, length, slice_set, ap, sym, ◌∙◌, arith}
 use Rattle.std.proofs.lemmas.List.{get_or_default}
 use Rattle.wf_def_codel.specs.Codel.{new_codel}

@@ -1,3 +1,4 @@
+-- Each branch of the dequeue is the branch of the definition, by the look at the first frame.
 use Rattle.std.proofs.Common.{◌≡◌, true, ◌∷◌, ◌≤◌, ◌∙◌, ap, sym, subst, map, arith, length}
 use Rattle.std.proofs.lemmas.List.{length-map}
 use Rattle.wf_queue_flows.specs.CodelParams.{params_of}

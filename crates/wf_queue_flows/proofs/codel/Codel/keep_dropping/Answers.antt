@@ -1,3 +1,4 @@
+-- One more look either drops a frame or ends the dequeue, as in the definition.
 use Rattle.std.proofs.Common.{◌∙◌, sym, arith}
 use Rattle.wf_queue_flows.specs.CodelParams.{params_of}
 use Rattle.wf_queue_flows.specs.CodelState.{codel_state_of}

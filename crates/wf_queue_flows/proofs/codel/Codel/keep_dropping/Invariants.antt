@@ -1,3 +1,4 @@
+-- The looks that are left end as the whole dequeue does: the drops so far are those of the definition.
 use Rattle.std.proofs.Common.{◌≡◌, ◌∷◌, ◌≤◌, true, length, map}
 use Rattle.wf_def_codel.specs.Codel.{octets}
 use Rattle.wf_queue_flows.specs.CodelParams.{params_of}
@@ -5,7 +6,7 @@ use Rattle.wf_queue_flows.specs.CodelState.{codel_state_of}
 use Rattle.wf_queue_flows.proofs.Lanes.{while_dropping}
 use Rattle.wf_queue_flows.proofs.codel.Codel.keep_dropping.Given as goal
 
--- What the rest of the dequeue leaves is what the whole leaves.
+-- The rest of the dequeue leaves the lane as the whole does.
 abbrev pub invariant-looks : goal.invariant-looks
 invariant-looks g l = record {
   outcome : while_dropping g.L.Lane.look g.L.Lane.tossed (params_of l.params) l.now

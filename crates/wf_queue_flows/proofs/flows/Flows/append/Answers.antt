@@ -1,3 +1,4 @@
+-- One frame more in a queue of the TID is one more in the TID's count.
 use Rattle.std.proofs.Common.{arith}
 use Rattle.wf_queue_flows.proofs.Moves.{append_fits, append_keeps}
 use Rattle.wf_queue_flows.proofs.flows.Flows.append.Goals as goal

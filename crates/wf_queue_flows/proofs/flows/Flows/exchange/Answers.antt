@@ -1,3 +1,4 @@
+-- The count of the dropped frame's TID falls by one, and that of the new frame's TID rises by one.
 use Rattle.std.proofs.Common.{arith}
 use Rattle.wf_queue_flows.proofs.Leaves.{drop_fits, exchange_fits, exchange_keeps}
 use Rattle.wf_queue_flows.proofs.flows.Flows.exchange.Goals as goal

@@ -1,3 +1,4 @@
+-- The TID that lists the queue is the one that `where_is` returns.
 use Rattle.wf_queue_flows.proofs.Moves.{elsewhere_none, elsewhere_some}
 use Rattle.wf_queue_flows.proofs.flows.Flows.is_listed_elsewhere.Goals as goal
 

@@ -1,3 +1,4 @@
+-- A queue that is not listed gets a fresh deficit and goes last on the TID's new list.
 use Rattle.wf_queue_flows.proofs.Moves.{list_keeps, list_is, list_stands, list_stays, listed_already}
 use Rattle.wf_queue_flows.proofs.flows.Flows.list_queue.Goals as goal
 

@@ -1,3 +1,4 @@
+-- Empty flow queues satisfy their invariant.
 use Rattle.std.proofs.Common.{◌≡◌, ◌*◌, ◌∙◌, ap, ℕ, replicate}
 use Rattle.wf_queue_flows.specs.Backlog.{held_in_backlog}
 use Rattle.wf_queue_flows.proofs.Fresh.{kept_new, held_fresh}

@@ -1,3 +1,4 @@
+-- The longest queue has frames, so exactly one TID lists it.
 use Rattle.wf_queue_flows.proofs.Leaves.{not_unlisted, owner_is}
 use Rattle.wf_queue_flows.proofs.flows.Flows.over_limit.Goals as goal
 

@@ -1,3 +1,4 @@
+-- The least queue of the TID is purged in each iteration, so the queues go in the order of their numbers.
 use Rattle.std.proofs.Common.{◌≡◌, ◌<◌, ◌≤◌, ◌∙◌, ℕ, suc, true, length, refl, sym, ap, subst, arith}
 use Rattle.wf_def_rotation.specs.Rotation.{no_keys, in_order}
 use Rattle.wf_frame.specs.Classes.{tid_number}

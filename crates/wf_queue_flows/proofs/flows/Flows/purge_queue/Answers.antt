@@ -1,3 +1,4 @@
+-- The frames of the queue leave the TID's count, and the queue leaves the rotation.
 use Rattle.wf_queue_flows.proofs.Leaves.{purge_fits, purge_keeps}
 use Rattle.wf_queue_flows.proofs.flows.Flows.purge_queue.Goals as goal
 

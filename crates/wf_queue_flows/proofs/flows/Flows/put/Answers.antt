@@ -1,3 +1,4 @@
+-- The limit, the queue and the frame compose to the put of the definition.
 use Rattle.std.proofs.Common.{◌≡◌, ◌∙◌, ap, arith}
 use Rattle.wf_frame.specs.Frames.{FrameValue}
 use Rattle.wf_frame.specs.Classes.{tid_number}

@@ -1,3 +1,4 @@
+-- The queue is the shared one, or the overflow queue if another TID lists the shared one.
 use Rattle.std.proofs.Common.{◌∙◌, sym, refl}
 use Rattle.wf_queue_flows.proofs.Leaves.{overflow_by, shared_by, can_overflow, can_share}
 use Rattle.wf_queue_flows.proofs.flows.Flows.queue_for.Goals as goal

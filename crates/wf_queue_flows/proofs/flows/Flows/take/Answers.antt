@@ -1,8 +1,9 @@
+-- The pick finds a queue with frames, and CoDel's frame leaves the deficit and the count of the TID.
 use Rattle.std.proofs.Common.{◌≡◌, ℕ, ◌+◌, ◌*◌, ◌<◌, ◌≤◌, ◌∙◌, true, Option, Some, None, length, refl, sym, ap, subst, arith}
 use Rattle.std.specs.Prelude.{pos, ◌<ℤ◌, IfSome, IfNone, IsSome}
 use Rattle.std.proofs.lemmas.List.{get_or_read}
 use Rattle.wf_queue_flows.specs.CodelParams.{params_of}
-use Rattle.wf_sched.specs.Rotas.{Rotas, deficit_at}
+use Rattle.wf_rotation.specs.Rotas.{Rotas, deficit_at}
 use Rattle.wf_queue_flows.specs.Backlog.{flags}
 use Rattle.wf_queue_flows.specs.Flows.{FlowsValue, TakenFromFlows, tids, is_listed, after_pick, frames_of_tid, pick_of_tid, taken_for_tid, TakeGives}
 use Rattle.wf_queue_flows.specs.Kept.{AreFlowsKept, IsPickOfOne}
@@ -17,7 +18,7 @@ use Rattle.wf_queue_flows.proofs.flows.Flows.take.Goals.{After-pick}
 ready_is : (c : After-pick) → c.as_slice.result.now ≡ flags c.self.inside.waiting
 ready_is c = c.as_slice.ensures.value ∙ c.waiting.invariant.ready_are ∙ ap flags c.waiting.view_is
 
--- the pick, in the words of what the flow queues keep
+-- the pick, in the form in which the laws of the flow queues need it
 as_pick : (c : After-pick) → IsPickOfOne c.self.inside.rota c.as_slice.result.now
     c.tid_number-list.result c.pick.new.self c.pick.result.winner
 as_pick c = record {

@@ -1,3 +1,4 @@
+-- The total is the backlog's, and the invariant says who lists a queue.
 use Rattle.wf_queue_flows.proofs.Whole.{listed_once}
 use Rattle.wf_queue_flows.proofs.flows.Flows.total.Goals as goal
 

@@ -1,3 +1,4 @@
+-- A pop changes one queue of the backlog and nothing else.
 use Rattle.std.proofs.Common.{refl}
 use Rattle.wf_queue_flows.proofs.Taking.{same_elsewhere}
 use Rattle.wf_queue_flows.proofs.lane.OneQueueLane.pop.Goals as goal

@@ -1,3 +1,4 @@
+-- The root holds the best leaf, unless its value is 0.
 use Rattle.std.proofs.Common.{◌≡◌, ◌∙◌, ap, sym, arith}
 use Rattle.std.proofs.lemmas.List.{get_or_default}
 use Rattle.wf_queue_parts.specs.declared.peak.Candidate.{Candidate}

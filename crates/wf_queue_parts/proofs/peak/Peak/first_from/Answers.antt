@@ -1,3 +1,4 @@
+-- The way down goes left if a leaf of the left half has the value, and else right.
 use Rattle.std.proofs.Common.{◌≡◌, ℕ, List, ◌*◌, ◌<◌, ◌∙◌, length, ap, sym, subst, arith}
 use Rattle.std.proofs.lemmas.List.{get_or_default}
 use Rattle.std.specs.Prelude.{slice_index}

@@ -1,3 +1,4 @@
+-- The leaves before those below the node have lesser values, and one below the node has the value.
 use Rattle.std.proofs.Common.{◌-◌, ◌*◌}
 use Rattle.wf_queue_parts.proofs.Descent.{IsOnTheWay}
 use Rattle.wf_queue_parts.proofs.peak.Peak.first_from.Given as goal

@@ -1,3 +1,4 @@
+-- Each node that is filled holds the winner of its two children, from the last node up.
 use Rattle.std.proofs.Common.{◌-◌, refl, arith}
 use Rattle.wf_queue_parts.proofs.TreeLemmas.{none_filled, one_filled}
 use Rattle.wf_queue_parts.proofs.peak.Peak.new.Goals as goal

@@ -1,3 +1,4 @@
+-- The nodes from this one on are filled, and all leaves are 0.
 use Rattle.std.proofs.Common.{◌≡◌, ◌-◌, ◌*◌, ◌≤◌, ◌<◌}
 use Rattle.wf_queue_parts.specs.Tree.{IsFilledFrom}
 use Rattle.wf_queue_parts.proofs.peak.Peak.new.Given as goal

@@ -1,3 +1,4 @@
+-- The winner climbs one level in each iteration, so every node holds the winner of its children again.
 use Rattle.std.proofs.Common.{◌≡◌, ◌∙◌, ap, sym, arith, length}
 use Rattle.wf_queue_parts.proofs.CostLemmas.{power, few_levels, cost_halved, levels_halved}
 use Rattle.wf_queue_parts.proofs.TreeLemmas.{length_of, leaf_begins, climbs, sibling_within}

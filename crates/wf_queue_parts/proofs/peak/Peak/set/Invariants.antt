@@ -1,3 +1,4 @@
+-- Every node but the one above holds the winner of its children; a level halves the node's number.
 use Rattle.std.proofs.Common.{◌≡◌, ◌+◌, ◌*◌, ◌^◌, ◌≤◌, ◌<◌, length}
 use Rattle.wf_queue_parts.proofs.TreeLemmas.{HasClimbed}
 use Rattle.wf_queue_parts.proofs.peak.Peak.set.Given as goal

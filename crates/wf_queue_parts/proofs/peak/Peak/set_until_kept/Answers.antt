@@ -1,3 +1,4 @@
+-- If a node keeps its winner, the nodes above it keep theirs.
 use Rattle.std.proofs.Common.{◌≡◌, ◌/◌, ◌∙◌, sym, arith}
 use Rattle.std.proofs.lemmas.List.{get_or_read}
 use Rattle.wf_queue_parts.specs.Tree.{no_candidate, node_at}

@@ -1,3 +1,4 @@
+-- Every node but the one above holds the winner of its children.
 use Rattle.wf_queue_parts.proofs.TreeLemmas.{HasClimbed}
 use Rattle.wf_queue_parts.proofs.peak.Peak.set_until_kept.Given as goal
 

@@ -1,3 +1,4 @@
+-- Proves the contract of `Agreement::answer` for a wide window: the BlockAck fills all 52 octets.
 use Rattle.std.proofs.Common.{◌∙◌, sym, subst, arith}
 use Rattle.std.proofs.lemmas.List.{drop_all}
 use Rattle.wf_recv_peer.specs.Agreements.{AgreementValue}

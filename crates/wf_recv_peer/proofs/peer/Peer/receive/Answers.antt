@@ -1,3 +1,4 @@
+-- Proves that `Peer::receive` refuses no frame for the station, since each such frame passes the checks.
 use Rattle.std.proofs.Common.{rules, ◌≡◌, None}
 use Rattle.wf_recv_peer.specs.Receiving.{first_peer_fault}
 use Rattle.wf_recv_peer.proofs.Taken.{data_passes, request_passes}

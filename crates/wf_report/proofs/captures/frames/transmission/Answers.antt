@@ -1,3 +1,4 @@
+-- Proves that the buffer has room for every transmission of an open exchange, so that encoding does not fail.
 use Rattle.std.proofs.Common.{◌≡◌, ap, sym, ◌∙◌, subst, length, take, Some, arith}
 use Rattle.std.proofs.lemmas.List.{length-take}
 use Rattle.wf_path.specs.Addresses.{Addresses, made_up}

@@ -1,3 +1,4 @@
+-- Proves that the octets are the head of a BlockAck and the four words of its bitmap.
 use Rattle.std.proofs.Common.{ap, ◌∙◌, ℕ, ◌++◌, take, arith, ◌%◌}
 use Rattle.wf_report.proofs.Acks.{head_is, wide_is}
 use Rattle.wf_report.proofs.captures.frames.wide_ack.Goals as goal

@@ -1,3 +1,4 @@
+-- Proves that the packets of the last call are written.
 use Rattle.std.proofs.Common.{◌∙◌, ap, subst}
 use Rattle.std.specs.Io.KnownBytes.{append_known}
 use Rattle.wf_frame.specs.Answers.{reply_of}

@@ -1,3 +1,4 @@
+-- Proves that the path returns the exchange of the world, and that its TID is at most 7.
 use Rattle.wf_def_world.specs.Run.{world_of}
 use Rattle.wf_report.proofs.Cells.{told_low}
 use Rattle.wf_report.proofs.captures.standing.sent.Goals as goal

@@ -1,3 +1,5 @@
+-- Proves that the packet of the BlockAck is written. By cases of its width, and of whether the exchange is
+-- open.
 use Rattle.std.proofs.Common.{◌≡◌, ◌∙◌, ap, sym, ℕ, Bool, List, [], ◌∷◌}
 use Rattle.wf_def_world.specs.World.{World}
 use Rattle.wf_path.specs.declared.reading.Sent.{Sent}
@@ -7,7 +9,7 @@ use Rattle.wf_report.specs.Samples.{world_behind}
 use Rattle.wf_report.proofs.Answered.{acks_one, one_written, one_front, on_ok}
 use Rattle.wf_report.proofs.captures.writing.write_block_ack.Goals as goal
 
--- of a BlockAck of this width
+-- The octets of a BlockAck of this width.
 told_octets : Sent → ℕ → List ℕ → Bool → List ℕ
 told_octets told start words wide = block_ack_frame told.station told.tid start (words_told wide words) wide
 

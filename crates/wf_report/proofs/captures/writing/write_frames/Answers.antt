@@ -1,3 +1,4 @@
+-- Proves that the packets of the call are written. By cases of its answer: a pull, a BlockAck, or any other.
 use Rattle.std.proofs.Common.{◌∙◌, ap, sym, subst}
 use Rattle.std.specs.Io.KnownBytes.{append_known}
 use Rattle.wf_frame.specs.Answers.{reply_with}

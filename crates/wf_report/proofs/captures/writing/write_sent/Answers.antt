@@ -1,3 +1,4 @@
+-- Proves that the loop writes the packets of the definition, one transmission per step.
 use Rattle.std.proofs.Common.{◌≡◌, ◌∙◌, ap, take, arith, ℕ}
 use Rattle.std.specs.Io.KnownBytes.{append_known}
 use Rattle.wf_io.proofs.FrontLaws.{front_whole}

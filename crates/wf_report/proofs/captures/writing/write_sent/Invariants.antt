@@ -1,3 +1,4 @@
+-- The packets of the transmissions so far were written.
 use Rattle.std.proofs.Common.{◌≡◌, take}
 use Rattle.std.specs.Io.KnownBytes.{append_known}
 use Rattle.wf_report.specs.Captures.{samples}

@@ -1,3 +1,4 @@
+-- Proves that after a failed write a prefix of the text was written.
 use Rattle.wf_io.proofs.FrontLaws.{front_partly}
 use Rattle.wf_run.proofs.help.telling.told.Goals as goal
 

@@ -1,3 +1,4 @@
+-- The recursion ends because the list of words gets shorter.
 use Rattle.std.proofs.Common.{length}
 use Rattle.wf_run.proofs.help.words.+any_asks_help.Given as goal
 

@@ -1,3 +1,4 @@
+-- Proves that the call adds one call with the right reply to the seat, from the contract of the gate.
 use Rattle.wf_frame.specs.Answers.{reply_of}
 use Rattle.wf_path.specs.Jobs.{note_of}
 use Rattle.wf_run_histories.proofs.Standing.{one_more}

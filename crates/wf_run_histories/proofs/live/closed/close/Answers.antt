@@ -1,3 +1,5 @@
+-- Proves that the record's history is a history of `live`, from the work of all seats and from what closing
+-- the gate returns.
 use Rattle.std.proofs.Common.{◌∙◌, ◌≤◌, length, ap, subst}
 use Rattle.wf_frame.specs.declared.settings.Config.{Config}
 use Rattle.wf_def_world.specs.Run.{Past}

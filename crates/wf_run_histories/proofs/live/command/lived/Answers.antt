@@ -1,3 +1,4 @@
+-- Proves how the command ends. By cases of the result: a record whose history is written, or out of memory.
 use Rattle.std.proofs.Common.{[], refl, sym}
 use Rattle.wf_io.specs.declared.status.Status.TheVariants.{NoMemory}
 use Rattle.wf_io.proofs.FrontLaws.{append_known-nil}

@@ -1,3 +1,4 @@
+-- Proves that the written octets are the text of the history, or a prefix of it after a failed write.
 use Rattle.wf_io.specs.declared.status.Status.TheVariants.{Done}
 use Rattle.wf_trace.proofs.CommandEndings.{writes_quiet, writes_failed}
 use Rattle.wf_run_histories.specs.Lives.{live_text}

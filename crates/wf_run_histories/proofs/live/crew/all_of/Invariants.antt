@@ -1,3 +1,4 @@
+-- The results so far are all `Ok`, and have the values so far.
 use Rattle.std.proofs.Common.{◌≡◌, map, Ok}
 use Rattle.wf_run_histories.proofs.live.crew.all_of.Given as goal
 

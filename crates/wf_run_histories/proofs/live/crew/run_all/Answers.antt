@@ -1,3 +1,4 @@
+-- Proves that each result belongs to the worker at this seat.
 use Rattle.std.proofs.Common.{rules}
 use Rattle.wf_run_histories.proofs.live.crew.run_all.Goals as goal
 

@@ -1,3 +1,4 @@
+-- Proves that the seats are returned in their order with their work done, from the result of each worker.
 use Rattle.std.proofs.Common.{◌-◌, rules}
 use Rattle.wf_run_histories.proofs.Workers.{all_ready, all_new, if_ok, back_places, back_own, back_all, back_worked}
 use Rattle.wf_run_histories.proofs.live.crew.work.Goals as goal

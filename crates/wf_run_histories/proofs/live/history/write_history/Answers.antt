@@ -1,3 +1,5 @@
+-- Proves that the trace and the summary together are the text of the history, and that a failed write leaves
+-- a prefix of it.
 use Rattle.wf_run_histories.proofs.Texts.{on_ok, text_written, trace_front, text_front}
 use Rattle.wf_run_histories.proofs.live.history.write_history.Goals as goal
 

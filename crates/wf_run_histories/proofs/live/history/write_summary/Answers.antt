@@ -1,3 +1,4 @@
+-- Proves that the summary of the cell is the summary of the record's history.
 use Rattle.std.proofs.Common.{◌≡◌, OnOk, subst, length}
 use Rattle.std.specs.Io.KnownBytes.{append_known}
 use Rattle.wf_io.specs.Fronts.{HoldsFront}

@@ -1,10 +1,11 @@
+-- Proves that the seats have the numbers of their places and that their work is done.
 use Rattle.std.proofs.Common.{◌≡◌, ℕ, sym, ◌∙◌, subst}
 use Rattle.std.specs.Prelude.{All, Result, Ok, Err, IfOk}
 use Rattle.wf_run_histories.specs.Crew.{CellGate, IsWorked}
 use Rattle.wf_run_histories.proofs.Quotas.{new_numbers, sender_count}
 use Rattle.wf_run_histories.proofs.live.lives.live.Goals as goal
 
--- what is true of the seats that came back is true of the gate and its seats
+-- A fact of the returned seats is a fact of the gate with its seats.
 if_kept : {G S E : Type 0} {Q : S → Type 0} (P : G × S → Type 0) (r : Result (G × S) E) (gate : G)
     (seats : Result S E) →
     IfOk r (λ x. (x.0 ≡ gate) × (seats ≡ Ok x.1)) → IfOk seats Q → ((s : S) → Q s → P (gate, s)) → IfOk r P

@@ -1,3 +1,4 @@
+-- Proves that the seat's work is done. By cases of its number: a sender's or a driver's.
 use Rattle.std.proofs.Common.{rules}
 use Rattle.wf_run_histories.proofs.Workers.{on_ok, sent, driven}
 use Rattle.wf_run_histories.proofs.live.worker.make_calls.Goals as goal

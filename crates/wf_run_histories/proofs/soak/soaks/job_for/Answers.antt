@@ -1,3 +1,4 @@
+-- Proves that the frame is the one that the word determines.
 use Rattle.std.proofs.Common.{◌∙◌}
 use Rattle.wf_run_histories.proofs.SoakLemmas.{frame_named}
 use Rattle.wf_run_histories.proofs.soak.soaks.job_for.Goals as goal

@@ -1,3 +1,4 @@
+-- Proves that the waiting lines and then the summary are written.
 use Rattle.std.proofs.lemmas.Result.{on_ok_weaker}
 use Rattle.wf_run_replay.proofs.Sendings.{then_written, then_front}
 use Rattle.wf_run_replay.proofs.answers.AnswerLinesTells.tell_end.Goals as goal

@@ -1,3 +1,4 @@
+-- Proves how the command ends, from the contract of the loop, and the law of captures.
 use Rattle.wf_trace.proofs.CommandEndings.{ends_as}
 use Rattle.wf_run_replay.proofs.CaptureLaw.{capture_law}
 use Rattle.wf_run_replay.proofs.Told.{said}

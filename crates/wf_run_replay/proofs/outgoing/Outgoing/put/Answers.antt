@@ -1,4 +1,5 @@
-use Rattle.wf_law_trace.proofs.Octets.{partly, leaves_none}
+-- Proves that the waiting octets and then the line are written, if the line does not fit.
+use Rattle.wf_trace_laws.proofs.Octets.{partly, leaves_none}
 use Rattle.wf_run_replay.proofs.Sendings.{on_both, then_written, then_front}
 use Rattle.wf_run_replay.proofs.outgoing.Outgoing.put.Goals as goal
 

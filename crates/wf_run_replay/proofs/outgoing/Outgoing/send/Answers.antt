@@ -1,4 +1,5 @@
-use Rattle.wf_law_trace.proofs.Octets.{partly}
+-- Proves that a failed write leaves a prefix of the waiting octets.
+use Rattle.wf_trace_laws.proofs.Octets.{partly}
 use Rattle.wf_run_replay.proofs.outgoing.Outgoing.send.Goals as goal
 
 pub returns-in_err-write_all-clause-front : goal.returns-in_err-write_all-clause-front

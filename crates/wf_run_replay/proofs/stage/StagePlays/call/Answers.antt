@@ -1,3 +1,5 @@
+-- Proves that the cell makes the call of the line, and that its frames stay those of a trace. By cases of the
+-- call: an enqueue or an ask.
 use Rattle.std.proofs.Common.{◌≡◌, IfSome, ◌∙◌, refl}
 use Rattle.wf_report.specs.Samples.{IsSample}
 use Rattle.wf_report.proofs.Cells.{then_sampled}

@@ -1,3 +1,4 @@
+-- Proves the law of agreements for the script that is the input.
 use Rattle.wf_run_scripts.proofs.SessionLaw.{session_law}
 use Rattle.wf_run_scripts.proofs.session.command.session.Goals as goal
 

@@ -1,3 +1,4 @@
+-- Proves that the arguments that were read are in their ranges. By cases of the event.
 use Rattle.std.proofs.Common.{◌≡◌, ◌≤◌, ◌∙◌, ℕ, List, [], ◌∷◌, sym, ap}
 use Rattle.std.specs.Prelude.{Ok, Some}
 use Rattle.wf_def_lists.specs.Bounds.{greatest_window, greatest_start}

@@ -1,3 +1,4 @@
+-- Proves that the octets of the new message decode to its action.
 use Rattle.std.proofs.Common.{All, sym, subst, List, ℕ}
 use Rattle.std.proofs.lemmas.List.Elements.{All-push}
 use Rattle.wf_run_scripts.specs.Wires.{IsRead}

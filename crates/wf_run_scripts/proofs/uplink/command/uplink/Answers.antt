@@ -1,3 +1,4 @@
+-- Proves how the command ends if it finds no memory before it reads, and the laws of the uplink.
 use Rattle.std.proofs.Common.{refl}
 use Rattle.wf_trace.proofs.CommandEndings.{ends_quiet}
 use Rattle.wf_io.specs.declared.status.Status.TheVariants.{NoMemory}

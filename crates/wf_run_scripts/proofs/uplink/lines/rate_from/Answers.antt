@@ -1,3 +1,4 @@
+-- Proves that the arguments that were read are valid for a `rate`.
 use Rattle.std.proofs.Common.{sym, ◌∙◌}
 use Rattle.wf_trace.specs.Words.{words}
 use Rattle.wf_run_scripts.proofs.UplinkArguments.{rate_read}

@@ -1,3 +1,4 @@
+-- Proves that the text so far is unchanged when the buffer is written and emptied.
 use Rattle.std.proofs.Common.{sym, subst}
 use Rattle.wf_run_scripts.specs.UplinkPieces.{IsBegun}
 use Rattle.wf_run_scripts.proofs.UplinkWriting.{begun_emptied}

@@ -1,3 +1,4 @@
+-- Proves that the line is written item by item. By cases of which write failed, if one did.
 use Rattle.std.proofs.Common.{◌+◌, ◌∙◌, ap, sym, subst, arith}
 use Rattle.std.specs.Io.KnownBytes.{append_known}
 use Rattle.wf_io.specs.Fronts.{HoldsFront}

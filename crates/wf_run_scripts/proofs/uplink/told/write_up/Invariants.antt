@@ -1,3 +1,4 @@
+-- The octets written and the buffer are together the line up to the items so far.
 use Rattle.std.proofs.Common.{◌≡◌, ◌≤◌, length}
 use Rattle.wf_run_scripts.specs.UplinkPieces.{IsBegun}
 use Rattle.wf_run_scripts.proofs.UplinkWriting.{text_to}

@@ -1,3 +1,4 @@
+-- Proves the contract of `widened`: the added octets are zeros, which have no offsets.
 use Rattle.std.proofs.Common.{ap, ◌∙◌}
 use Rattle.wf_octets.specs.Offsets.{offsets_in}
 use Rattle.wf_send_parts.proofs.Wide.{shown_wide}

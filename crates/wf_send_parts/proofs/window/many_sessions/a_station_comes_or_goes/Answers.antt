@@ -1,3 +1,4 @@
+-- Proves the law `a_station_comes_or_goes` by the lemmas of Changes.
 use Rattle.wf_send_parts.proofs.Changes.{station_joins, station_goes}
 use Rattle.wf_send_parts.proofs.window.many_sessions.a_station_comes_or_goes.Goals as goal
 

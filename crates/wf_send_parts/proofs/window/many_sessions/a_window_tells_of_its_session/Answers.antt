@@ -1,3 +1,4 @@
+-- Proves the law `a_window_tells_of_its_session` by the lemmas of Laws, Calls and Callers.
 use Rattle.wf_send_parts.proofs.Laws.{places_length}
 use Rattle.wf_send_parts.proofs.Calls.{can_take_is, new_law}
 use Rattle.wf_send_parts.proofs.Callers.{due_shown, heard_near}

@@ -1,3 +1,4 @@
+-- Proves the law `numbers_are_settled_in_order` by the lemmas of Ends.
 use Rattle.wf_send_parts.proofs.Ends.{ending_begins, ending_number, ending_flies, ending_next, ending_ends}
 use Rattle.wf_send_parts.proofs.window.many_sessions.numbers_are_settled_in_order.Goals as goal
 

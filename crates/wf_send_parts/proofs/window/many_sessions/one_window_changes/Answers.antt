@@ -1,3 +1,4 @@
+-- Proves the law `one_window_changes` by the lemmas of Changes.
 use Rattle.wf_send_parts.proofs.Changes.{window_same, window_other, windows_count, one_stands}
 use Rattle.wf_send_parts.proofs.window.many_sessions.one_window_changes.Goals as goal
 

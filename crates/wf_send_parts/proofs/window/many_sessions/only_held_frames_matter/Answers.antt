@@ -1,3 +1,4 @@
+-- Proves the law `only_held_frames_matter` by the lemmas of Held.
 use Rattle.wf_send_parts.proofs.Held.{held_stand, all_held_stand}
 use Rattle.wf_send_parts.proofs.window.many_sessions.only_held_frames_matter.Goals as goal
 

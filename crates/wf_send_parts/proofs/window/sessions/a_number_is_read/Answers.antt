@@ -1,3 +1,4 @@
+-- Proves the law `a_number_is_read` by the lemmas of Numbers and Callers.
 use Rattle.wf_send_parts.proofs.Numbers.{open_number}
 use Rattle.wf_send_parts.proofs.Callers.{state_is, attempts_is, frame_is}
 use Rattle.wf_send_parts.proofs.window.sessions.a_number_is_read.Goals as goal

@@ -1,3 +1,4 @@
+-- Proves the law `frames_are_expelled_in_order` by the lemmas of Expelling.
 use Rattle.wf_send_parts.proofs.Expelling.{expelling_begins, expelling_next, expelling_ends, expelling_empties}
 use Rattle.wf_send_parts.proofs.window.sessions.frames_are_expelled_in_order.Goals as goal
 

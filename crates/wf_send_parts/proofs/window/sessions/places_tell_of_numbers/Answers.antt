@@ -1,3 +1,4 @@
+-- Proves the law `places_tell_of_numbers` by the lemmas of Counting and Numbers.
 use Rattle.wf_send_parts.proofs.Counting.{some_waits, some_flies}
 use Rattle.wf_send_parts.proofs.Numbers.{none_fly}
 use Rattle.wf_send_parts.proofs.window.sessions.places_tell_of_numbers.Goals as goal

@@ -1,3 +1,4 @@
+-- Proves the law `waiting_numbers_are_listed` by the lemmas of Listing.
 use Rattle.wf_send_parts.proofs.Listing.{listing_begins, listing_near, listing_next, listing_ends, waiting_exactly, waiting_rise}
 use Rattle.wf_send_parts.proofs.window.sessions.waiting_numbers_are_listed.Goals as goal
 

@@ -1,3 +1,4 @@
+-- Proves the contract of `advance` from the loop's invariant in Moving.
 use Rattle.std.proofs.Common.{◌≡◌, ℕ, ◌+◌, true, get_or, None, drop, refl, ap, sym, ◌∙◌, subst, arith, Option}
 use Rattle.wf_def_agreement.specs.Session.{is_settled}
 use Rattle.wf_send_parts.specs.declared.window.place.Place.{Place}

@@ -1,3 +1,4 @@
+-- The loop of `advance`: each round drops one place.
 use Rattle.std.proofs.Common.{length}
 use Rattle.wf_send_parts.proofs.Moving.{IsMoving}
 use Rattle.wf_send_parts.proofs.window.window.advance.Given as goal

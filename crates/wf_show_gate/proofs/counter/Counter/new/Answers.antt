@@ -1,3 +1,4 @@
+-- Proves the invariant of a new counter, whose sums are all 0.
 use Rattle.std.proofs.Common.{◌+◌, ◌*◌, ◌^◌, ◌<◌, sym, ap, ◌∙◌, subst, arith}
 use Rattle.wf_show_gate.specs.Sums.{octets_at}
 use Rattle.wf_show_gate.proofs.Adding.{none_yet}

@@ -1,3 +1,4 @@
+-- Proves that `sum` returns the caller's octets in the history, from the invariant.
 use Rattle.std.proofs.Common.{◌%◌, ap, ◌∙◌, arith}
 use Rattle.wf_show_gate.specs.Sums.{octets_at}
 use Rattle.wf_show_gate.proofs.counter.Counter.sum.Goals as goal

@@ -1,3 +1,4 @@
+-- Proves that a step keeps the counter's invariant.
 use Rattle.std.proofs.Common.{◌%◌, ◌^◌, ◌<◌, length, sym, ap, ◌∙◌, arith}
 use Rattle.wf_show_gate.specs.Sums.{octets_at}
 use Rattle.wf_show_gate.proofs.Adding.{are_more, small_more}

@@ -1,3 +1,4 @@
+-- Proves that the two seats are all seats of the gate.
 use Rattle.std.proofs.Common.{rules, ◌≡◌, ◌∷◌, []}
 use Rattle.wf_gate.proofs.Clients.{pair_all}
 use Rattle.wf_tests.proofs.gates.pair.close_pair.Goals as goal

@@ -1,3 +1,4 @@
+-- Proves that the seats of a new gate with two quotas are a pair.
 use Rattle.std.proofs.Common.{rules, ◌≡◌, ap, length}
 use Rattle.wf_gate.proofs.Clients.{pair_new}
 use Rattle.wf_tests.proofs.gates.pair.open_pair.Goals as goal

@@ -1,3 +1,4 @@
+-- Proves that the seat's entries are those before and those of the calls, one call of the loop at a time.
 use Rattle.std.proofs.Common.{rules, refl, ap, ◌∙◌, sym, take, subst, ◌++◌}
 use Rattle.std.proofs.lemmas.List.{take_more, append-nil, append_assoc}
 use Rattle.wf_gate.specs.Seats.{StandsWithCalls}

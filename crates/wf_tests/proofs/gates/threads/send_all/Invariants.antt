@@ -1,3 +1,4 @@
+-- The invariant of the loop: the seat belongs to the gate, and has made the calls so far.
 use Rattle.std.proofs.Common.{◌≡◌, ℕ, List, ◌++◌, take}
 use Rattle.wf_gate.specs.Seats.{IsOf, StandsWithCalls}
 use Rattle.wf_tests.proofs.gates.threads.send_all.Given as goal

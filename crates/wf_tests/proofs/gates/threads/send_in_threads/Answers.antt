@@ -1,3 +1,4 @@
+-- Proves that the returned seats are all seats of the gate, as those before were.
 use Rattle.std.proofs.Common.{rules}
 use Rattle.wf_gate.proofs.Clients.{all_again}
 use Rattle.wf_tests.proofs.gates.threads.send_in_threads.Goals as goal

@@ -1,3 +1,4 @@
+-- Proves that the loop of `advance` keeps its invariant: a scan that finds no end of a line, and a read.
 use Rattle.std.proofs.Common.{◌∙◌, arith, ap, refl}
 use Rattle.wf_trace.specs.Cutting.{Cutting}
 use Rattle.wf_trace.specs.Numbering.{Numbering}

@@ -1,3 +1,5 @@
+-- The invariant of the loop of `advance`: octets were read, and the texts that are still to come are
+-- unchanged.
 use Rattle.std.proofs.Common.{◌≡◌, ◌≤◌, false, None, ◌+◌, ◌-◌, ◌*◌, length}
 use Rattle.wf_trace.specs.Lines.{longest_trace}
 use Rattle.wf_trace.proofs.Taking.{Took, Still}

@@ -1,3 +1,4 @@
+-- Proves the clauses of `finish` for a rest of the input that is a line with a fault.
 use Rattle.std.proofs.Common.{refl}
 use Rattle.wf_trace.proofs.Taking.{wrong_rest}
 use Rattle.wf_trace.proofs.cut.Cut.finish.Goals as goal

@@ -1,3 +1,4 @@
+-- The invariant of the loop of `judge`: the octets so far are printable.
 use Rattle.std.proofs.Common.{◌≡◌, drop}
 use Rattle.std.specs.List.{list_all}
 use Rattle.wf_trace.specs.Lines.{is_printable}

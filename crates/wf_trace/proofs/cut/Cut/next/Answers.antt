@@ -1,3 +1,4 @@
+-- Proves the clauses of `next` for each piece and for a failure, by CutLaws.
 use Rattle.std.proofs.Common.{◌≡◌, true, false, None, refl, sym, ap, subst, ◌∙◌, arith}
 use Rattle.std.specs.Prelude.{Some, IsSome}
 use Rattle.wf_trace.specs.Cutting.{room}

@@ -1,3 +1,5 @@
+-- The invariant of the loop of `next`: lines were skipped, and the pieces that are still to come are
+-- unchanged.
 use Rattle.std.proofs.Common.{◌≡◌, ◌+◌, ◌≤◌, None}
 use Rattle.std.specs.Prelude.{IsSome}
 use Rattle.wf_trace.specs.Lines.{longest_trace}

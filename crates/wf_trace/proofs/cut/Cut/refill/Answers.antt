@@ -1,3 +1,4 @@
+-- Proves that `refill` keeps the invariant of a cutter.
 use Rattle.std.proofs.Common.{arith}
 use Rattle.std.proofs.lemmas.Grind.{common_steps}
 use Rattle.wf_trace.proofs.ScanLaws.{ends_at}

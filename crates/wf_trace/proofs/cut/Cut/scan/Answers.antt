@@ -1,3 +1,4 @@
+-- Proves the clauses of `scan` for each case of the next octet, by ScanLaws.
 use Rattle.std.proofs.Common.{◌+◌, [], ◌∷◌, ◌++◌, arith, Some, None}
 use Rattle.std.specs.Prelude.{slice_range}
 use Rattle.wf_trace.specs.declared.cut.Found.TheVariants as found

@@ -1,3 +1,4 @@
+-- Proves what `will_read` returns, by cases of the octets that wait.
 use Rattle.std.proofs.Common.{refl, inl, inr}
 use Rattle.wf_trace.proofs.ScanLaws.{no_end_waits, end_waits, first_of_line}
 use Rattle.wf_trace.proofs.Taking.{reads_given, reads_first, not_equal}

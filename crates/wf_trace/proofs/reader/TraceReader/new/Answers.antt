@@ -1,3 +1,4 @@
+-- Proves that a new reader has the whole reading of its input to come, by PlaceLaws.
 use Rattle.std.proofs.Common.{◌∙◌, ap, None}
 use Rattle.wf_trace.specs.Reader.{rest_of}
 use Rattle.wf_trace.proofs.PlaceLaws.{reading_placed}

@@ -1,3 +1,5 @@
+-- Proves the clauses of `next` for an ending that was returned before, and the places of a head and of a
+-- call.
 use Rattle.std.proofs.Common.{◌≡◌, sym, refl}
 use Rattle.wf_trace.specs.Reader.{next_place}
 use Rattle.wf_trace.specs.Words.{words}

@@ -1,3 +1,4 @@
+-- Proves how `converse` ends for each way out of its loop, by Conversing and CommandEndings.
 use Rattle.std.proofs.Common.{◌∙◌, refl, arith}
 use Rattle.wf_trace.proofs.CommandEndings.{ends_quiet, ends_unread, ends_unwritten}
 use Rattle.wf_io.specs.declared.status.Status.TheVariants.{Done, BadTrace, NoMemory}

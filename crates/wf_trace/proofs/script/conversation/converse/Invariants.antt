@@ -1,3 +1,4 @@
+-- The invariant of the loop of `converse`: the answers to the events so far were written, without a fault.
 use Rattle.std.proofs.Common.{◌≡◌, ◌≤◌, ◌+◌}
 use Rattle.wf_trace.specs.Lines.{longest_trace}
 use Rattle.wf_trace.specs.Cutting.{room}

@@ -1,3 +1,4 @@
+-- The counts are those of the items so far.
 use Rattle.std.proofs.Common.{◌≡◌, ◌*◌, ◌≤◌, take}
 use Rattle.std.specs.Prelude.{count_by, sum_by}
 use Rattle.wf_uplink.specs.Shown.{is_frame, missing_of}

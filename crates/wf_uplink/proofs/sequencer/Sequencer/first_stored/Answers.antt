@@ -1,3 +1,4 @@
+-- The buffer's first number, as a distance from its start, gives the least number stored.
 use Rattle.std.proofs.Common.{◌≡◌, ◌+◌, ◌∙◌, Some, ap, sym, arith}
 use Rattle.wf_octets.specs.Distance.{distance}
 use Rattle.wf_uplink.specs.Reordering.{first_number}

@@ -1,3 +1,4 @@
+-- The buffer stores a frame exactly if the reordering does.
 use Rattle.std.proofs.Common.{◌∙◌, ap, sym, is_some}
 use Rattle.wf_uplink.proofs.Standing.{empty_of_buffer, same_not}
 use Rattle.wf_uplink.specs.Reordering.{is_none_stored}

@@ -1,3 +1,4 @@
+-- A number after the window is not stored, so the move stops at the number or before it.
 use Rattle.std.proofs.Common.{◌+◌, ◌-◌, ◌∙◌, ◌++◌, length, map, ap, sym, arith}
 use Rattle.std.proofs.lemmas.List.{length-map}
 use Rattle.wf_uplink.specs.Reordering.{Reordering, is_stored, stored_from, first_hole, moved_to}

@@ -1,3 +1,4 @@
+-- Each iteration is one step of the move, as in Steps.
 use Rattle.std.proofs.Common.{◌≡◌, ◌+◌, ◌<◌, ◌≤◌, nat_lt, ◌∙◌, List, ◌++◌, [], false, length, map, ap, ap₂, sym, arith, append_assoc, length-append}
 use Rattle.std.proofs.lemmas.Bool.Decides.{nat_tests}
 use Rattle.std.proofs.lemmas.List.{length-map, map-append, append-nil}

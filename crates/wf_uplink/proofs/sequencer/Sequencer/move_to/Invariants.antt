@@ -1,3 +1,4 @@
+-- The rest of the move leads to the same items and the same reordering as the whole move.
 use Rattle.std.proofs.Common.{◌≡◌, ◌+◌, ◌-◌, ◌≤◌, ◌++◌, map}
 use Rattle.wf_uplink.specs.Reordering.{moved_to}
 use Rattle.wf_uplink.specs.Shown.{item_of}

@@ -1,3 +1,4 @@
+-- A reset buffer is empty, and its start is the new B.
 use Rattle.std.proofs.Common.{ℕ, List, ◌∙◌, ap, ap₂}
 use Rattle.wf_recv_peer.specs.Buffer.{Buffer}
 use Rattle.wf_uplink.specs.Reordering.{Reordering, Stored}

@@ -1,3 +1,4 @@
+-- The buffer's answer to a BlockAckReq is the move of the definition.
 use Rattle.std.proofs.Common.{◌-◌, ◌%◌, ◌∙◌, ◌++◌, ◌∷◌, [], length, map, refl, ap, ap₂, sym, subst, arith, append_assoc, length-append}
 use Rattle.wf_uplink.specs.declared.items.UpItem.TheVariants.{Gap}
 use Rattle.wf_uplink.specs.Reordering.{Reordering}

@@ -1,3 +1,4 @@
+-- The buffer stores the frame and releases the same frames as the definition.
 use Rattle.std.proofs.Common.{◌≡◌, ◌+◌, ◌++◌, ◌∙◌, List, [], length, map, ap, sym, subst, arith, if◌then◌else◌}
 use Rattle.wf_uplink.specs.Reordering.{Reordering, Passed, settled, with_frame}
 use Rattle.wf_uplink.specs.Shown.{item_of}

@@ -1,3 +1,4 @@
+-- A move reports few enough items for the list.
 use Rattle.std.proofs.Common.{length, ap, arith}
 use Rattle.wf_uplink.proofs.Moves.{moved_few}
 use Rattle.wf_uplink.proofs.Standing.{stored_few}

@@ -1,3 +1,4 @@
+-- The call leads to the world of the definition, which satisfies the invariant.
 use Rattle.std.proofs.Common.{◌≡◌, ℕ, ◌+◌, true, List, ◌++◌, take, drop, length, map, Option, get_or, set, refl, ◌∙◌, ap, ap₂, sym, subst}
 use Rattle.std.proofs.lemmas.List.{length-set}
 use Rattle.wf_uplink.specs.Reordering.{Reordering, ReorderingOutcome, unopened, arrived, waits_since_of}
@@ -8,7 +9,7 @@ use Rattle.wf_uplink.proofs.Heard.{heard, back_whole, byte_is}
 use Rattle.wf_uplink.proofs.uplink.Uplink.arrive.Goals as goal
 use Rattle.wf_uplink.proofs.uplink.Uplink.arrive.Goals.{After-self-5-1}
 
--- the world once the frame is counted
+-- the world after the frame is counted
 abbrev counted : After-self-5-1 → World
 counted c =
     let u = c.self.inside in
@@ -17,7 +18,7 @@ counted c =
     (u.frames + 1) (u.up + c.counts-released.result.0) (u.back + c.from.result)
     (u.missing + c.counts-released.result.1)
 
--- it is the world after the arrival, and keeps what holds of each
+-- it is the world after the arrival, and satisfies the invariant
 record HasArrived (c : After-self-5-1) : Type 0 where
   sound : IsSound (counted c)
   watched : IsWatched (counted c) c.set.new.self

@@ -1,3 +1,5 @@
+-- The place that the tournament tree finds is the first that is due; its timeout is the one of the
+-- definition.
 use Rattle.std.proofs.Common.{◌≡◌, ℕ, ◌+◌, ◌/◌, ◌%◌, false, List, length, map, Option, Some, is_some, get_or, set, refl, ◌∙◌, ap, ap₂, sym, subst, arith}
 use Rattle.std.specs.Prelude.{IfSome}
 use Rattle.std.proofs.lemmas.List.{length-set}

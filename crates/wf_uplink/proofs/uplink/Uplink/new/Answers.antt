@@ -1,3 +1,4 @@
+-- A new uplink is the new world, which satisfies the invariant.
 use Rattle.std.proofs.Common.{rules, ◌≡◌, List, replicate, Option, None, ap₂, sym, subst}
 use Rattle.wf_def_air.specs.Airtime.{Rate}
 use Rattle.wf_uplink.specs.Reordering.{Reordering}

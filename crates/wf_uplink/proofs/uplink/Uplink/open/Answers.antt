@@ -1,3 +1,4 @@
+-- The call leads to the world of the definition, which satisfies the invariant.
 use Rattle.std.proofs.Common.{◌≡◌, ◌<◌, List, length, Option, None, Some, get_or, set, ◌∙◌, ap, ap₂, sym, subst, arith}
 use Rattle.std.proofs.lemmas.List.{get_or_default}
 use Rattle.wf_def_air.specs.Airtime.{Rate}
@@ -34,7 +35,7 @@ invariant_of-self c =
     let x : IsOpening c.args.station c.args.window c.args.start w = record {
       within = subst (λ n. n < length u.rates.items) c.from-number.ensures inside;
       some = omega (arith, c.if-window-lt1.false);
-      low = omega (arith, c.if-start-gt4095.false);
+      low = omega (arith, c.if-start-gt-GREATEST_START.false);
       shut = shut;
     } in (
       subst IsSound (sym is) (opened_sound c.args.station c.args.window c.args.start w c.self.invariant.0 x),

@@ -1,3 +1,4 @@
+-- A frame without fault belongs to an open station, and its TID is below 8.
 use Rattle.std.proofs.Common.{◌<◌, ◌∙◌, ap, sym, subst}
 use Rattle.wf_uplink.specs.World.{is_open, tids_of_station}
 use Rattle.wf_uplink.proofs.Worlds.{taken}

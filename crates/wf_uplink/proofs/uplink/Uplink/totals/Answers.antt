@@ -1,3 +1,4 @@
+-- By the invariant, the frames that are neither released nor old are stored.
 use Rattle.std.proofs.Common.{ℕ, ◌∙◌, ap, arith}
 use Rattle.wf_uplink.specs.declared.up.Totals.{Totals}
 use Rattle.wf_uplink.specs.Shown.{totals_of}

@@ -1,3 +1,4 @@
+-- The invariant of the loop: the entries below i show their ids.
 use Rattle.std.proofs.Common.{◌≡◌, ◌<◌, ℕ, slice_get, slice_index, Some}
 use Rattle.wf_c.proofs.cell.answers.PassedUp.show_ids.Given as goal
 

@@ -1,3 +1,4 @@
+-- The invariant of the loop: the values of the arguments so far.
 use Rattle.std.proofs.Common.{◌≡◌, ◌≤◌, ◌++◌, length, drop}
 use Rattle.std.specs.Prelude.{map}
 use Rattle.wf_frame.specs.Calls.{arguments_of}

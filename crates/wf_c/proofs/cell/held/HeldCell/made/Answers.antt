@@ -1,8 +1,10 @@
+-- Proves that a new record in its block has no past and represents the opening world, as the record does
+-- before it is boxed.
 use Rattle.std.proofs.Common.{◌≡◌, ℕ, []}
 use Rattle.wf_frame.specs.Frames.{FrameValue}
 use Rattle.wf_def_world.specs.World.{opening}
 use Rattle.wf_cell.specs.Cells.{CellValue}
-use Rattle.wf_send_half_refines.specs.Standing.{StandsFor}
+use Rattle.wf_send_half_model.specs.Standing.{StandsFor}
 use Rattle.wf_c.proofs.Makings.{true_of_boxed}
 use Rattle.wf_c.proofs.cell.held.HeldCell.made.Goals as goal
 

@@ -1,4 +1,4 @@
--- `held` lends what a handle holds, and the handle ends with what is left behind the loan.
+-- Proves `held`: it lends the content of the handle, which ends with the last value of the loan.
 use Rattle.std.proofs.Common.{◌≡◌, ◌∙◌, ℕ, [], ◌∷◌, List, refl, sym, ap}
 use Rattle.std.specs.Prelude.{Option, Some, true, is_some}
 use seplogic.Ra.Ura.{Ura}
@@ -27,13 +27,14 @@ use denote.Triple.Walked.{says, Stays, stay_dropped, Goes-spent_ref, walk_of, en
 use Rattle.std.proofs.raw_atomic.Walks.{proved}
 use Rattle.std_heap.specs.contracts.Global.{the_row as Heap}
 use Rattle.std_heap.specs.contracts.GlobalAllocator.TheImpl.{ghosts}
-use Rattle.wf_c.specs.CellSlots.{cell_slot_owns}
-use Rattle.wf_c.specs.CellLending.{with_cell}
-use Rattle.wf_c.specs.declared.cell.held.HeldCell.{HeldCell}
+use Rattle.wf_c.specs.Slots.{slot_owns}
+use Rattle.wf_c.specs.CellLending.{with_cell as with_held}
+use Rattle.wf_c.specs.declared.cell.held.HeldCell.{HeldCell as Held}
 use Rattle.wf_c.specs.contracts.cell.held.HeldCell.{the_row as Held-row}
 use Rattle.wf_c.proofs.Words.{both}
 use Rattle.wf_c.proofs.Filled.{full_of}
-use Rattle.wf_c.proofs.CellSlots.{Slot, slot_out, slot_in}
+use Rattle.wf_c.proofs.Slots.{words_in, words_out}
+use Rattle.wf_c.specs.contracts.cell.slot.CellSlot.{the_row as Slot}
 use Rattle.wf_c.specs.contracts.cell.slot.CellSlot.held as f
 use Rattle.wf_c.proofs.cell.slot.CellSlot.held.Statement.{statement}
 use Rattle.wf_c.proofs.cell.slot.CellSlot.held.Code as code
@@ -42,24 +43,23 @@ abbrev stayed : Stays f.ended.signature.params f.ended.kept
 stayed = (stay_dropped (mut_ref_to (0 ∷ []) tt (plain (λ _. Slot))) no, tt)
 
 module _ {M : Type 1} {𝓤 : Ura M} (𝓛 : Logic 𝓤) (d : Slot.Denot) (hv : Val) (rb ro b o : ℕ) where
-  -- all of the handle but what it holds
+  -- all of the handle except its content
   abbrev Rest : Fml
   Rest = fsep (fsep (ghosts.dealloc_token d.alloc (bare (lone Held-row.mir)) (block_ptr b o))
       (Heap.own_val d.alloc (hv ∷ []))) (cell_at full_share Slot.mir (both (vptr b o) hv ∷ []) rb ro)
 
-  back : d.at ≡ block_ptr b o → (w : HeldCell) →
-      ent 𝓤 (sep 𝓤 (sem 𝓛 ((mem Held-row).own_at w b o)) (sem 𝓛 Rest))
-      (sem 𝓛 ((mem Slot).own_at (with_cell d w) rb ro))
+  back : d.at ≡ block_ptr b o → (w : Held) → ent 𝓤 (sep 𝓤 (sem 𝓛 ((mem Held-row).own_at w b o)) (sem 𝓛 Rest))
+      (sem 𝓛 ((mem Slot).own_at (with_held d w) rb ro))
   unfolding part_of
   back e w =
       qed 𝓛 (‵ (part_at Held-row full_share w b o) ∷ ‵ Rest ∷ []) ∵ move !
       (1 ∷ []) $ fsplit ! $ fsplit ! $ move ! (3 ∷ 0 ∷ []) $ fjoin ! $
-      rewrite ! 0 (λ (p : Ptr). ‵ (cell_slot_owns d.alloc p (Some w))) (sym e) refl $
-      slot_in ! (with_cell d w) hv $
-      rewrite ! 0 (λ (p : Ptr). ‵ (Slot.own_val (with_cell d w) (both (ptr_val p) hv ∷ []))) e refl $ move !
+      rewrite ! 0 (λ (p : Ptr). ‵ (slot_owns Held-row d.alloc p (Some w))) (sym e) refl $
+      words_in ! d.at d.alloc (slot_owns Held-row d.alloc d.at (Some w)) hv $
+      rewrite ! 0 (λ (p : Ptr). ‵ (Slot.own_val (with_held d w) (both (ptr_val p) hv ∷ []))) e refl $ move !
       (1 ∷ 0 ∷ []) $ fjoin ! $
       fpack ! (List Val) (λ us. fsep (cell_at full_share Slot.mir us rb ro)
-      (Slot.own_val (with_cell d w) us)) (both (vptr b o) hv ∷ []) $ done !
+      (Slot.own_val (with_held d w) us)) (both (vptr b o) hv ∷ []) $ done !
 
 pub held_spec : {M : Type 1} → statement M
 held_spec 𝓤 𝓛 𝓜 𝓡 wired =
@@ -75,17 +75,18 @@ held_spec 𝓤 𝓛 𝓜 𝓡 wired =
     qed 𝓛 (((‵ (flft κ q) ⊛ ‵ ftrue) ⊛ ‵ (owns (MutRef (named 0) κ Slot ∷ []) a (vs, tt)))
     ∷ raw (fact 𝓤 (is_some d.value ≡ true)) ∷ []) ∵
     move ! (1 ∷ []) $ heard ! (is_some d.value ≡ true) (λ is.
-    let full = full_of d.value is in let h : HeldCell = full.held in
+    let full = full_of d.value is in let h : Held = full.held in
     split ! $
     enter ! 𝓣.C 𝓣.Λ code.function (vptr rb ro ∷ []) Post $ alloc_all ! (λ l. pass_all ! refl ((tt, tt), tt) $
     let En = env (code.function).locals l in
     move ! (1 ∷ []) $ fsplit ! $ fsplit3 ! $ drop ! $ move ! (3 ∷ []) $ split ! $ move ! (2 ∷ 3 ∷ 0 ∷ []) $
-    opens ! tt Slot {h = d} rb ro (λ us. move ! (1 ∷ []) $ slot_out ! d us (λ hv e fits.
-    rewrite ! 0 (λ (v : Option HeldCell). ‵ (cell_slot_owns d.alloc d.at v)) full.is refl $
-    in_a_block ! d.at (λ p. cell_slot_owns d.alloc p (Some h))
+    opens ! tt Slot {h = d} rb ro (λ us. move ! (1 ∷ []) $
+    words_out ! d.at d.alloc (slot_owns Held-row d.alloc d.at d.value) us (λ hv e fits.
+    rewrite ! 0 (λ (v : Option Held). ‵ (slot_owns Held-row d.alloc d.at v)) full.is refl $
+    in_a_block ! d.at (λ p. slot_owns Held-row d.alloc p (Some h))
     (fst∗ 𝓤 (never 𝓤) (sem 𝓛 (ghosts.dealloc_token d.alloc (bare (lone Held-row.mir)) null_ptr)))
     (λ b o ep. fsplit ! $
-    -- [what it holds; the right to free it; the allocator; the handle's cell; the open borrow, in three
+    -- [the content; the right to free it; the allocator; the handle's cell; the open borrow, in three
     -- entries]
     rewrite ! 3 (λ (ws : List Val). ‵ (cell_at full_share Slot.mir ws rb ro))
     (e ∙ ap (λ (p : Ptr). both (ptr_val p) hv ∷ []) ep) refl $
@@ -98,15 +99,15 @@ held_spec 𝓤 𝓛 𝓜 𝓡 wired =
     sets ! (of_opd ! (get ! refl)) refl (tt, tt) $
     move ! (1 ∷ 2 ∷ []) $ fjoin ! $ move ! (0 ∷ 2 ∷ []) $ fjoin ! $ move !
     (2 ∷ 3 ∷ 4 ∷ 1 ∷ 0 ∷ []) $ group ! 5 $
-    use1 𝓛 (later (some (λ (γ' : GName). raw (Part 𝓛 Slot Held-row (with_cell d) (named 0) κ q rb ro b o γ
+    use1 𝓛 (later (some (λ (γ' : GName). raw (Part 𝓛 Slot Held-row (with_held d) (named 0) κ q rb ro b o γ
     (sem 𝓛 (Rest 𝓛 d hv rb ro b o)) (back 𝓛 d hv rb ro b o ep) h γ'))))
-    (lends_Part 𝓛 Slot Held-row (with_cell d) (named 0) κ q rb ro b o γ (sem 𝓛 (Rest 𝓛 d hv rb ro b o))
+    (lends_Part 𝓛 Slot Held-row (with_held d) (named 0) κ q rb ro b o γ (sem 𝓛 (Rest 𝓛 d hv rb ro b o))
     (back 𝓛 d hv rb ro b o ep) (Slot.coded.code d) (Slot.coded.code d) h) $ await ! tt $ pick !
     (λ γ'.
     returns ! (look_at ! 0 refl) $ free_all ! refl $ keep ! (0 ∷ []) $
     use1 𝓛 (‵ ((MutRef (named 0) κ Held-row).own_val
     (record { ref_ptr = (b, o); ghost_name = γ'; now = h }) (vptr b o ∷ [])) ⊛ ‵ (flft κ q) ⊛ ‵
-    (follows Slot Held-row γ γ' (with_cell d))) (id⊢ 𝓤 _) $ split ! $ move ! (1 ∷ []) $ split ! $ move !
+    (follows Slot Held-row γ γ' (with_held d))) (id⊢ 𝓤 _) $ split ! $ move ! (1 ∷ []) $ split ! $ move !
     (2 ∷ 0 ∷ 1 ∷ []) $
     suffices ! _ (ends_at 𝓛 f.ended stayed c y (vptr b o)
     (record { ref_ptr = (b, o); ghost_name = γ'; now = h }) (tt, tt) (tt, tt)) $

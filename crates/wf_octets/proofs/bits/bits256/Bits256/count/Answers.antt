@@ -1,3 +1,4 @@
+-- The size of the set is the number of ones in its four words.
 use Rattle.std.proofs.Common.{◌∙◌, ◌+◌, sym, ap, arith, get_or, length, sum_by, count_ones, take_all}
 use Rattle.std.proofs.lemmas.Nat.{ones-le}
 use Rattle.std.proofs.lemmas.List.Sums.{sum_by_more}

@@ -1,3 +1,4 @@
+-- The count so far is the number of ones in the words so far.
 use Rattle.std.proofs.Common.{◌≡◌, ◌≤◌, ◌*◌, sum_by, take, count_ones}
 use Rattle.wf_octets.proofs.bits.bits256.Bits256.count.Given as goal
 

@@ -1,3 +1,4 @@
+-- Each word represents the same offsets as its eight octets.
 use Rattle.std.proofs.Common.{ℕ, ◌≡◌, ◌<◌, ◌+◌, ◌*◌, ◌/◌, ◌%◌, ◌∙◌, ap, arith, rules, get_or, [], ◌∷◌}
 use Rattle.std.specs.Int.{bit_at}
 use Rattle.wf_octets.specs.BitsView.{number_of_bits}

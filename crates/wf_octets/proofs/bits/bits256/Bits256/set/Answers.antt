@@ -1,3 +1,4 @@
+-- Setting bit i mod 64 of word i / 64 adds offset i to the set.
 use Rattle.std.proofs.Common.{◌∙◌, ap}
 use Rattle.wf_def_lists.specs.Table.{with_member}
 use Rattle.wf_octets.proofs.Words.{set_of_is_offsets, set_of-set_word, length-set_word, small-set_word}

@@ -1,3 +1,4 @@
+-- Bit i after the shift is bit i + n before it, word by word.
 use Rattle.std.proofs.Common.{ℕ, ◌≡◌, ◌<◌, ◌+◌, ◌/◌, ◌%◌, ◌∙◌, ap, sym, arith, get_or, [], ◌∷◌}
 use Rattle.std.specs.Int.{bit_at}
 use Rattle.wf_octets.specs.Offsets.{moved_down}

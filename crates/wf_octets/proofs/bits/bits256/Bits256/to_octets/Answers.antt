@@ -1,3 +1,4 @@
+-- The octets of the words represent the same set as the words.
 use Rattle.std.proofs.Common.{◌∙◌, sym, arith}
 use Rattle.wf_octets.proofs.Words.{set_of-words}
 use Rattle.wf_octets.proofs.bits.bits256.Bits256.to_octets.Goals as goal

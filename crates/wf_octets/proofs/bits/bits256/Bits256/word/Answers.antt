@@ -1,3 +1,4 @@
+-- The words are determined by the set.
 use Rattle.std.proofs.Common.{ap, ◌∙◌, sym, subst, get_or}
 use Rattle.wf_def_lists.specs.Table.{bits_word}
 use Rattle.wf_octets.specs.Offsets.{IsOffsets}

@@ -1,3 +1,4 @@
+-- The words are determined by the set.
 use Rattle.std.proofs.Common.{◌∙◌}
 use Rattle.wf_octets.proofs.Words.{same_words}
 use Rattle.wf_octets.proofs.bits.bits256.Bits256PartialEq.eq.Goals as goal

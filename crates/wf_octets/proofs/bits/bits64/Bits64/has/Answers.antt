@@ -1,3 +1,4 @@
+-- Offset i is in the set if bit i of the word is 1.
 use Rattle.std.proofs.Common.{sym, ap, ◌∙◌, nat_eq}
 use Rattle.std.proofs.lemmas.Nat.Bits.{shr_and_one}
 use Rattle.wf_def_lists.specs.Table.{has}

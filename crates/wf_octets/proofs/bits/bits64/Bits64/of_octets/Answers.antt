@@ -1,3 +1,4 @@
+-- The word of eight octets represents the same set as the octets.
 use Rattle.std.proofs.Common.{rules}
 use Rattle.wf_octets.proofs.Words.{set_of-from_le_bytes, set_of_is_offsets}
 use Rattle.wf_octets.proofs.bits.bits64.Bits64.of_octets.Goals as goal

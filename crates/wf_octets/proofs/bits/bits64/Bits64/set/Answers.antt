@@ -1,3 +1,4 @@
+-- Setting bit i of the word adds offset i to the set.
 use Rattle.std.proofs.Common.{◌∙◌, ap, arith, bit_or}
 use Rattle.std.proofs.lemmas.Nat.{or_lt, one_shl, pow_below}
 use Rattle.wf_def_lists.specs.Table.{with_member}

@@ -1,3 +1,4 @@
+-- Bit i after the shift is bit i + n before it, or 0 if n is 64.
 use Rattle.std.proofs.Common.{ℕ, ◌≡◌, ◌<◌, ◌+◌, ◌∙◌, ap, sym, arith}
 use Rattle.std.proofs.lemmas.Nat.Bits.{bit_at_above, bit_at-zero}
 use Rattle.std.specs.Int.{bit_at}

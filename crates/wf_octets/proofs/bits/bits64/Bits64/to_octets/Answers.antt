@@ -1,3 +1,4 @@
+-- The octets of the word represent the same set as the word.
 use Rattle.std.proofs.Common.{ap, ◌∙◌}
 use Rattle.wf_octets.specs.Offsets.{offsets_in}
 use Rattle.wf_octets.proofs.Words.{set_of-to_le_bytes}

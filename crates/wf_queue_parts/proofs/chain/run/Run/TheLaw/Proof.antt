@@ -1,4 +1,4 @@
--- A `&` to a run is made where one to its first node is.
+-- A `&` to a run is made from one to its first node.
 use denote.Param.Shared.{copy_shared}
 use denote.Struct.Field.{RawPtr-field}
 use denote.Struct.Laws.{RawPtr-copy}

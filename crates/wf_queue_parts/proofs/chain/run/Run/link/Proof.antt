@@ -1,4 +1,4 @@
--- `link` writes where the second run begins into the last node of the first.
+-- `link` writes the start of the second run into the last node of the first.
 use Rattle.std.proofs.Common.{◌≡◌, ◌<◌, List, [], ◌∷◌, ◌++◌, length, refl, sym, ap, subst, ◌∙◌}
 use mir.Val.{Val}
 use mir.Raw.{raw as bare}

@@ -1,4 +1,4 @@
--- `split_first` hands out the first node's block.
+-- `split_first` returns the first node's block.
 use Rattle.std.proofs.Common.{◌≡◌, List, [], ◌∷◌, ◌++◌, refl, sym, ap, subst, ◌∙◌}
 use mir.Val.{Val}
 use base.Logic.{SProp, ent, id⊢}

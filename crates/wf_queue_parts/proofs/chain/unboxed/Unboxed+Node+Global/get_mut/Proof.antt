@@ -1,4 +1,4 @@
--- `get_mut` lends the node, and the owner ends with what is left behind the loan.
+-- `get_mut` lends the node, and the owner ends with the last value of the loan.
 use Rattle.std.proofs.Common.{◌≡◌, ◌∙◌, ℕ, [], ◌∷◌, List, refl, sym, ap}
 use seplogic.Ra.Ura.{Ura}
 use base.Fraction.{full_share}

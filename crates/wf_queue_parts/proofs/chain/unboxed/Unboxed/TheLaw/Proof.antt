@@ -1,4 +1,4 @@
--- A `&` to an unboxed value is made where one to the value is.
+-- A `&` to an unboxed value is made from one to the value.
 use Rattle.std.proofs.Common.{[], ◌++◌}
 use base.Fraction.{full_share}
 use base.Fml.{Incl-trans}

@@ -1,4 +1,4 @@
--- An unboxed value may go to another thread where the value and the handle may, and where any thread may free
+-- An unboxed value may go to another thread if the value and the handle may, and if any thread may free
 -- its block.
 use mir.Raw.{raw}
 use denote.Memory.{lone}

@@ -1,4 +1,4 @@
--- `of` keeps what `into_raw_with_allocator` hands out.
+-- `of` stores the pointer and the allocator that `into_raw_with_allocator` returns.
 use Rattle.std.proofs.Common.{◌≡◌, List, [], ◌∷◌, ◌++◌, refl, sym, ap, ◌∙◌, subst}
 use base.Logic.{SProp, ent, emp, id⊢}
 use base.Fml.{ftrue, fsep, flft}

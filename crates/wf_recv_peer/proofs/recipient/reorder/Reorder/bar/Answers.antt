@@ -1,3 +1,4 @@
+-- Proves the contract of `Reorder::bar` for a newer start, as a move of the window and a release.
 use Rattle.std.proofs.Common.{◌++◌, ◌∙◌, ap}
 use Rattle.wf_recv_peer.specs.Buffer.{Buffer, items_of, items_below}
 use Rattle.wf_recv_peer.proofs.Places.{window_of, window_moved, settled_after, first_room, moved_room, requested_once}

@@ -1,3 +1,4 @@
+-- Proves the contract of `Reorder::jump` as a move of the window, a store at its end, and a release.
 use Rattle.std.proofs.Common.{◌++◌, ◌-◌, ◌∙◌, ap, subst}
 use Rattle.wf_recv_peer.specs.Buffer.{Buffer, HasOneMore, items_of, items_below}
 use Rattle.wf_recv_peer.proofs.Places.{window_of, window_moved, window_stored, settled_after, first_room, jumped_room, jumped_once}

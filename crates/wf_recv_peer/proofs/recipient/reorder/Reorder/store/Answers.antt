@@ -1,3 +1,4 @@
+-- Proves the contract of `Reorder::store` for a number without an item, as a store and a release.
 use Rattle.std.proofs.Common.{◌<◌, ◌++◌, ◌∙◌, sym, subst}
 use Rattle.wf_recv_peer.specs.Buffer.{Buffer, HasOneMore, items_of}
 use Rattle.wf_recv_peer.proofs.Places.{window_of, window_stored, settled_after, stored_room, stored_once}

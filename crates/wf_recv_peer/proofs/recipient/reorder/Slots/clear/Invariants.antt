@@ -1,3 +1,4 @@
+-- The loop of `Slots::clear`: the ring has `counter` empty places.
 use Rattle.std.proofs.Common.{◌≡◌, replicate, None}
 use Rattle.std.specs.VecDeque.{deque_capacity, deque_len}
 use Rattle.wf_recv_peer.proofs.recipient.reorder.Slots.clear.Given as goal

@@ -1,3 +1,4 @@
+-- The loop of `Slots::first`: the first item is at this place or later.
 use Rattle.std.proofs.Common.{◌≡◌}
 use Rattle.wf_recv_peer.specs.Buffer.{first_stored}
 use Rattle.wf_recv_peer.proofs.Places.{first_from}

@@ -1,3 +1,4 @@
+-- The loop of `Slots::run`: all places before this one hold an item.
 use Rattle.std.proofs.Common.{◌≡◌, ◌+◌, drop}
 use Rattle.wf_recv_peer.specs.Buffer.{run_of}
 use Rattle.wf_recv_peer.proofs.recipient.reorder.Slots.run.Given as goal

@@ -1,3 +1,4 @@
+-- Proves that `Slots::store` keeps the count of items, by cases of whether the place held one.
 use Rattle.std.proofs.Common.{◌≡◌, ◌<◌, ◌∙◌, true, false, length, get_or, None, is_some, ap, sym, subst, arith, length-set}
 use Rattle.wf_recv_peer.specs.Buffer.{Buffer}
 use Rattle.wf_recv_peer.proofs.Places.{stored_more, stored_same}

@@ -1,3 +1,5 @@
+-- Proves that one more turn keeps the loop's invariant, with and without an item in the first place, and that
+-- there is room for the item.
 use Rattle.std.proofs.Common.{◌≡◌, ◌<◌, ◌∷◌, [], ◌++◌, drop, take, length, get_or, None, Some, ap, sym, subst, lit<, ◌∙◌, arith, append_assoc}
 use Rattle.std.proofs.lemmas.List.{append-nil}
 use Rattle.wf_recv_peer.specs.Buffer.{Buffer, items_of}

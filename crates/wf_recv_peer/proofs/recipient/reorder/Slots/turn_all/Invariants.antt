@@ -1,3 +1,4 @@
+-- The loop of `Slots::turn_all`: so far `counter` places have turned, and their items are passed up.
 use Rattle.std.proofs.Common.{◌≡◌, ◌++◌, take}
 use Rattle.wf_recv_peer.specs.Buffer.{items_of}
 use Rattle.wf_recv_peer.proofs.Places.{turned}

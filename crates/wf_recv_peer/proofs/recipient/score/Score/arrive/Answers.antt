@@ -1,3 +1,4 @@
+-- Proves that `Score::arrive` keeps all offsets inside the window.
 use Rattle.std.proofs.Common.{sym, subst, arith}
 use Rattle.wf_octets.specs.Offsets.{IsOffsets}
 use Rattle.wf_recv_peer.proofs.Boards.{within_marked}

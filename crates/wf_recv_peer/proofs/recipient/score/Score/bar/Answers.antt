@@ -1,3 +1,4 @@
+-- Proves the contract of `Score::bar` for a start that is not newer, which changes nothing.
 use Rattle.std.proofs.Common.{◌≡◌, subst, arith, rules}
 use Rattle.wf_recv_peer.specs.Board.{Board, after_start}
 use Rattle.wf_recv_peer.proofs.Boards.{board, start_not_newer}

@@ -1,3 +1,4 @@
+-- Proves the contract of `Score::move_on`: a move by more than 256 is the same as one by 256.
 use Rattle.std.proofs.Common.{◌∙◌, sym, subst, ap}
 use Rattle.wf_octets.specs.Offsets.{IsOffsets, moved_down}
 use Rattle.wf_recv_peer.specs.Board.{with_start_moved}

@@ -1,3 +1,4 @@
+-- Proves how the command ends if there is no memory for the buffer, and the law of lists.
 use Rattle.std.proofs.Common.{refl}
 use Rattle.wf_trace.proofs.CommandEndings as endings
 use Rattle.wf_io.specs.declared.status.Status.TheVariants.{NoMemory}

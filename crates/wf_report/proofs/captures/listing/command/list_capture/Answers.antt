@@ -1,3 +1,5 @@
+-- Proves how the list ends, by cases of the file header: the source failed in it, it is refused, or it passes
+-- its checks.
 use Rattle.std.proofs.Common.{◌∙◌, refl, ap, arith, take, subst}
 use Rattle.std.specs.Io.KnownBytes.{prepend_known}
 use Rattle.std.proofs.lemmas.List.{length-take-le}

@@ -1,3 +1,5 @@
+-- Proves how the list ends, by cases of the next item: a packet, a fault, the end of the input, or a failed
+-- source or sink.
 use Rattle.std.proofs.Common.{◌∙◌, refl, ap, arith}
 use Rattle.wf_trace.proofs.CommandEndings as endings
 use Rattle.wf_io.specs.declared.status.Status.TheVariants.{Done, BadTrace}

@@ -1,3 +1,4 @@
+-- The packets so far were read, and exactly their lines were written.
 use Rattle.std.proofs.Common.{◌≡◌, ◌+◌, ◌-◌, ◌≤◌, length}
 use Rattle.wf_report.specs.ListedPackets.{most_octets_read}
 use Rattle.wf_report.proofs.Listings.{Begun}

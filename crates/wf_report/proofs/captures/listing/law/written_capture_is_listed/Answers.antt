@@ -1,3 +1,4 @@
+-- Proves the law; see proofs/WrittenCaptures.
 use Rattle.wf_report.proofs.WrittenCaptures.{written_law}
 use Rattle.wf_report.proofs.captures.listing.law.written_capture_is_listed.Goals as goal
 

@@ -1,3 +1,4 @@
+-- Proves that the octets in the buffer are those that were read, one read per step.
 use Rattle.std.proofs.Common.{◌∙◌, ap, sym, length, ◌-◌, take}
 use Rattle.std.specs.Io.KnownBytes.{prepend_known}
 use Rattle.wf_report.proofs.TakenOctets.{taken_more, put_long, put_more}

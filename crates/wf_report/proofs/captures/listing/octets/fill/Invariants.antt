@@ -1,3 +1,4 @@
+-- The front of the buffer has the octets that were read.
 use Rattle.std.proofs.Common.{◌≡◌, ◌≤◌, ◌-◌, length, take}
 use Rattle.std.specs.Io.KnownBytes.{prepend_known}
 use Rattle.wf_report.proofs.captures.listing.octets.fill.Given as goal

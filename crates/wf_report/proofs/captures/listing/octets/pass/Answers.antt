@@ -1,3 +1,4 @@
+-- Proves that the loop reads `count` octets, or that the input ends before.
 use Rattle.std.proofs.Common.{◌∙◌, ◌++◌, take, arith, length-append}
 use Rattle.std.proofs.lemmas.List.{length-take, length-take-le}
 use Rattle.wf_report.proofs.TakenOctets.{taken_more}

@@ -1,3 +1,4 @@
+-- The octets that were read and those that are still wanted are together `count`.
 use Rattle.std.proofs.Common.{◌≡◌, ◌+◌, ℕ, List, length}
 use Rattle.std.specs.Io.KnownBytes.{prepend_known}
 use Rattle.wf_report.proofs.captures.listing.octets.pass.Given as goal

@@ -1,3 +1,5 @@
+-- Proves the result for a packet with a complete header. By cases: it goes beyond the octets that are read,
+-- its header is refused, its octets end too soon, or it is complete.
 use Rattle.std.proofs.Common.{◌∙◌, sym, ap, subst, arith, [], length, drop, ◌++◌, ◌≤◌, length-append, Some}
 use Rattle.std.proofs.lemmas.List.{take_all, take_at, drop_at, length-take-le}
 use Rattle.wf_io.specs.declared.pcap.reading.Packet.{Packet}

@@ -1,3 +1,4 @@
+-- Proves the result for the next packet. By cases of how many octets of its header were read.
 use Rattle.std.proofs.Common.{◌≡◌, ◌∙◌, ◌∷◌, sym, ap, arith, ◌++◌, List, ℕ, [], drop, append-nil}
 use Rattle.std.specs.Io.KnownBytes.{prepend_known}
 use Rattle.std.proofs.lemmas.List.{take_all, drop_all, length-take-le}

@@ -1,3 +1,5 @@
+-- Proves that a call that waits for its turn adds one call and no look, and that a refused one changes
+-- nothing.
 use Rattle.wf_run_histories.proofs.Standing.{adds_in_turn, refuses_and_looks, on_both, on_both_err}
 use Rattle.wf_run_histories.proofs.live.desk.GateDeskDesk.ask.Goals as goal
 

@@ -1,3 +1,5 @@
+-- Proves that a call that ends an exchange adds one call and at most one look, and that a refused one changes
+-- nothing.
 use Rattle.wf_run_histories.proofs.Standing.{adds_at_once, refuses_and_looks, on_both, on_both_err}
 use Rattle.wf_run_histories.proofs.live.desk.GateDeskDesk.ask_at_once.Goals as goal
 

@@ -1,3 +1,4 @@
+-- Proves that the loop makes the reaps of the definition, one per step.
 use Rattle.std.proofs.Common.{rules, ◌∙◌, ◌+◌, ◌-◌, ap, sym}
 use Rattle.wf_run_histories.specs.Soak.{Soak, after_reaps}
 use Rattle.wf_run_histories.proofs.SoakLemmas.{reaps_on, reaps_end, reaps_over}

@@ -1,3 +1,4 @@
+-- The reaps that remain lead to the same soak as all reaps from the start.
 use Rattle.std.proofs.Common.{◌≡◌, ◌-◌, ◌≤◌}
 use Rattle.wf_run_histories.specs.Soak.{IsLater, after_reaps}
 use Rattle.wf_run_histories.proofs.soak.soaks.SoakRun.all_reaped.Given as goal

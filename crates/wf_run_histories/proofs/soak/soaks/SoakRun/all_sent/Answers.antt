@@ -1,3 +1,4 @@
+-- Proves that the loop plays the transmissions of the definition, one per step.
 use Rattle.std.proofs.Common.{rules, ◌∙◌, ℕ, ◌+◌, ◌-◌, ◌||◌, Bool, ap, sym}
 use Rattle.wf_run_histories.specs.Soak.{Soak, all_sent, some_arrive, lets_arrive}
 use Rattle.wf_run_histories.proofs.SoakLemmas.{sent_on, sent_over, arrive_on, arrive_over, or_either, or_false}

@@ -1,3 +1,5 @@
+-- The transmissions that remain lead to the same soak, and to the same answer whether one arrived, as all of
+-- them from the start.
 use Rattle.std.proofs.Common.{◌≡◌, ◌-◌, ◌≤◌, ◌||◌}
 use Rattle.wf_run_histories.specs.Soak.{IsLater, all_sent, some_arrive}
 use Rattle.wf_run_histories.proofs.soak.soaks.SoakRun.all_sent.Given as goal

@@ -1,3 +1,4 @@
+-- The standard settings are in their ranges.
 use Rattle.std.proofs.Common.{refl}
 use Rattle.wf_run_histories.proofs.soak.soaks.SoakRun.new.Goals as goal
 

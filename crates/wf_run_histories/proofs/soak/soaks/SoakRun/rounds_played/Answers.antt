@@ -1,3 +1,4 @@
+-- Proves that the loop plays the rounds of the definition, one per step, until no call is left.
 use Rattle.std.proofs.Common.{rules, ◌∙◌, ◌+◌, ◌-◌, ◌<◌, ap, sym, arith}
 use Rattle.wf_run_histories.specs.Soak.{Soak, rounds_played}
 use Rattle.wf_run_histories.proofs.SoakLemmas.{rounds_on, rounds_end, rounds_over}

@@ -1,3 +1,5 @@
+-- The rounds that remain lead to the same soak as all rounds from the start, and each round makes at least
+-- one call.
 use Rattle.std.proofs.Common.{◌≡◌, ◌-◌, ◌≤◌}
 use Rattle.wf_run_histories.specs.Soak.{IsLater, rounds_played}
 use Rattle.wf_run_histories.proofs.soak.soaks.SoakRun.rounds_played.Given as goal

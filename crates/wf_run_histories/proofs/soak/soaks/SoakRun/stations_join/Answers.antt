@@ -1,3 +1,4 @@
+-- Proves that the loop makes the joins of the definition, one station per step.
 use Rattle.std.proofs.Common.{rules, ◌∙◌, ◌+◌, ◌-◌, ap, sym}
 use Rattle.wf_run_histories.specs.Soak.{Soak, stations_join}
 use Rattle.wf_run_histories.proofs.SoakLemmas.{joins_on, joins_over}

@@ -1,3 +1,4 @@
+-- The joins that remain lead to the same soak as all joins from the start.
 use Rattle.std.proofs.Common.{◌≡◌, ◌-◌, ◌≤◌}
 use Rattle.wf_run_histories.specs.Soak.{IsLater, stations_join}
 use Rattle.wf_run_histories.proofs.soak.soaks.SoakRun.stations_join.Given as goal

@@ -1,3 +1,4 @@
+-- Proves that the driver's calls are a walk that ended, or that no call is left.
 use Rattle.std.proofs.Common.{◌≡◌, refl}
 use Rattle.wf_run_histories.specs.Drivers.{at}
 use Rattle.wf_run_histories.specs.Workloads.{driver_of}

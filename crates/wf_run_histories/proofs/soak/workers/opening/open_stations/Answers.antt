@@ -1,3 +1,4 @@
+-- Proves that the loop makes the opening calls, one station per step, and that the history has room for them.
 use Rattle.std.proofs.Common.{rules, arith, ◌∙◌, ap, sym, length, length-append}
 use Rattle.wf_def_world.specs.Run.{Past}
 use Rattle.wf_run_histories.specs.Opening.{station_calls, opening_calls, with_entries}

@@ -1,3 +1,4 @@
+-- The history so far has the opening calls of the stations so far.
 use Rattle.std.proofs.Common.{◌≡◌, ◌≤◌}
 use Rattle.wf_run_histories.specs.Opening.{with_entries, opening_calls}
 use Rattle.wf_run_histories.proofs.soak.workers.opening.open_stations.Given as goal

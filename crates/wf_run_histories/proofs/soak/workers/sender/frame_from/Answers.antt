@@ -1,3 +1,4 @@
+-- Proves that the frame is the one that the word determines.
 use Rattle.std.proofs.Common.{◌∙◌}
 use Rattle.wf_run_histories.proofs.Words.{note_same}
 use Rattle.wf_run_histories.proofs.soak.workers.sender.frame_from.Goals as goal

@@ -1,3 +1,4 @@
+-- Proves that the sender makes its list of calls: the frames, then the tick.
 use Rattle.wf_run_histories.proofs.Walks.{makes_one}
 use Rattle.wf_run_histories.proofs.soak.workers.sender.send.Goals as goal
 

@@ -1,3 +1,4 @@
+-- Proves that the loop enqueues the frames of the definition, one per step.
 use Rattle.std.proofs.Common.{ℕ, ◌∷◌, ◌++◌, [], ap, arith, rules}
 use Rattle.rand_pcg.specs.Lcg.{Lcg}
 use Rattle.wf_frame.specs.declared.notes.Note.{Note}

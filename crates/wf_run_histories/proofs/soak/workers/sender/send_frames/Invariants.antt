@@ -1,3 +1,4 @@
+-- The frames so far, followed by those of the words that remain, are all frames of the sender.
 use Rattle.std.proofs.Common.{◌≡◌, ◌+◌, ◌-◌, ◌≤◌, ◌++◌, List}
 use Rattle.wf_frame.specs.declared.notes.Note.{Note}
 use Rattle.wf_run_histories.specs.Desks.{Makes}

@@ -1,6 +1,7 @@
+-- Proves that the packets of the call are written and that no octet waits.
 use Rattle.std.proofs.Common.{◌∙◌}
 use Rattle.std.proofs.lemmas.Result.{on_ok_weaker}
-use Rattle.wf_law_trace.proofs.Octets.{leaves_none}
+use Rattle.wf_trace_laws.proofs.Octets.{leaves_none}
 use Rattle.wf_run_replay.proofs.capture.packets.PacketsTells.tell_call.Goals as goal
 
 pub returns-clause-leaves : goal.returns-clause-leaves

@@ -1,3 +1,4 @@
+-- Proves that a failed write leaves a prefix of the file header.
 use Rattle.wf_io.proofs.FrontLaws.{front_partly}
 use Rattle.wf_run_replay.proofs.capture.packets.PacketsTells.tell_front.Goals as goal
 

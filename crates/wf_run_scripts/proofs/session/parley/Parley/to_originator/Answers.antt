@@ -1,3 +1,4 @@
+-- Proves that the originator receives the action that the message's octets decode to.
 use Rattle.std.proofs.Common.{◌∙◌, List, ℕ, ap}
 use Rattle.std.specs.Prelude.{slice_get}
 use Rattle.wf_session.specs.declared.event.Event.TheVariants.{ToOriginator}

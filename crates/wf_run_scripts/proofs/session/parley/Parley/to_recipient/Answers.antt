@@ -1,3 +1,5 @@
+-- Proves that the recipient receives the action that the message's octets decode to, and that its response is
+-- sent.
 use Rattle.std.proofs.Common.{◌∙◌, List, ℕ, ap}
 use Rattle.std.specs.Prelude.{slice_get}
 use Rattle.wf_session.specs.declared.event.Event.TheVariants.{ToRecipient}

@@ -1,3 +1,4 @@
+-- Proves that the unused places stay 0.
 use Rattle.std.proofs.Common.{◌/◌, length, arith}
 use Rattle.wf_run_scripts.proofs.UplinkArguments.{frame_kept}
 use Rattle.wf_run_scripts.proofs.uplink.frame.Frame.read.Goals as goal

@@ -1,3 +1,5 @@
+-- Proves that the loop writes the text of the timeouts, one hole per step. It ends when no hole is due, when
+-- no room is left, or when the sink fails.
 use Rattle.std.proofs.Common.{◌≡◌, suc, ◌+◌, ◌*◌, ◌-◌, replicate, sym, ◌∙◌, ap, subst, arith}
 use Rattle.wf_uplink.specs.World.{World, Expire, tids_of_station, first_due, after_calls}
 use Rattle.wf_uplink.proofs.Heard.{none_after}

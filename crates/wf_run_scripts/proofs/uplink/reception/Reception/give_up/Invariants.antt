@@ -1,3 +1,4 @@
+-- A prefix of the timeouts' text was written, and the other timeouts remain.
 use Rattle.std.proofs.Common.{◌≡◌, ◌*◌, ◌-◌}
 use Rattle.wf_uplink.specs.World.{tids_of_station}
 use Rattle.wf_run_scripts.specs.UplinkAnswers.{stations}

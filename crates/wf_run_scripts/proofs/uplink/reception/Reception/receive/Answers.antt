@@ -1,3 +1,4 @@
+-- Proves that the frame's call lacks room if a total has reached its bound.
 use Rattle.std.proofs.Common.{[], sym, ◌∙◌}
 use Rattle.wf_run_scripts.proofs.UplinkRoom.{receive_lacks}
 use Rattle.wf_run_scripts.proofs.uplink.reception.Reception.receive.Goals as goal

@@ -1,3 +1,5 @@
+-- Proves that the written text is the clock, followed by the text of the timeouts. By cases of which step
+-- failed.
 use Rattle.std.proofs.Common.{◌≡◌, ◌*◌, true, replicate, sym, ◌∙◌, ap, subst}
 use Rattle.std.specs.Io.KnownBytes.{append_known}
 use Rattle.wf_io.specs.Fronts.{HoldsFront}

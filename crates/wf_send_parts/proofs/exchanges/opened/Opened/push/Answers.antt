@@ -1,3 +1,4 @@
+-- Proves that `Opened::push` keeps the invariant: the new number is above all others.
 use Rattle.wf_send_parts.specs.Exchanges.{exchange_number}
 use Rattle.wf_send_parts.proofs.Kept.{kept_push}
 use Rattle.wf_send_parts.proofs.exchanges.opened.Opened.push.Goals as goal

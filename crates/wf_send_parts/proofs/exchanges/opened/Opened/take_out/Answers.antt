@@ -1,3 +1,4 @@
+-- Proves the contract of `Opened::take_out`: the numbers rise, so at most one exchange has this one.
 use Rattle.std.proofs.Common.{◌≡◌, ◌∙◌, sym, ap, ◌==◌}
 use Rattle.std.specs.Prelude.{position, Some}
 use Rattle.wf_send_parts.specs.Exchanges.{exchange_number}

@@ -1,3 +1,4 @@
+-- Proves the contract of `Window::attempts`: the number's place has the attempts of its slot.
 use Rattle.std.proofs.Common.{◌≡◌, ℕ, true, None, Option, get_or, ap, sym, ◌∙◌}
 use Rattle.wf_def_agreement.specs.Session.{slot}
 use Rattle.wf_send_parts.specs.declared.window.place.Place.{Place}

@@ -1,3 +1,4 @@
+-- Proves the contract of `Window::bar_due`: a request is due exactly if there is a distance.
 use Rattle.std.proofs.Common.{ap, ◌∙◌, is_some}
 use Rattle.wf_send_parts.specs.Window.{WindowValue}
 use Rattle.wf_send_parts.proofs.Calls.{due_is}

@@ -1,3 +1,4 @@
+-- Proves the contract of `Window::bar_heard` for a start that is past the last failed number.
 use Rattle.std.proofs.Common.{◌≡◌, Bool, Some, None, false, if◌then◌else◌, nat_le, ap, sym, ◌∙◌, arith}
 use Rattle.std.proofs.lemmas.Bool.Decides.{nat_tests}
 use Rattle.wf_send_parts.specs.Places.{at_most}

@@ -1,3 +1,4 @@
+-- Proves the contract of `Window::can_give`: the window has room exactly if its session has.
 use Rattle.std.proofs.Common.{◌≡◌, nat_lt, ◌∙◌, rules}
 use Rattle.wf_send_parts.specs.Window.{can_take}
 use Rattle.wf_send_parts.proofs.Calls.{can_take_is}

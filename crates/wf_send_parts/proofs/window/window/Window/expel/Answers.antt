@@ -1,3 +1,5 @@
+-- Proves the contract of `Window::expel`: no number flies, so the first place waits; after it is taken, the
+-- settled places at the front are dropped.
 use Rattle.std.proofs.Common.{◌≡◌, Option, None, List, length, set, ap, ◌∙◌, arith}
 use Rattle.std.specs.List.{list_any}
 use Rattle.wf_frame.specs.declared.classes.Fate.TheVariants.{Dropped}

@@ -1,3 +1,5 @@
+-- Proves the contract of `Window::fly`: two replacements of one place are one, and the place holds the frame
+-- of the number's slot.
 use Rattle.std.proofs.Common.{◌∙◌, ap, subst, refl, Some, None, Option, ℕ, true, ◌≡◌, get_or, set}
 use Rattle.wf_frame.specs.Frames.{FrameValue, sent_again}
 use Rattle.wf_def_agreement.specs.Session.{State, slot}

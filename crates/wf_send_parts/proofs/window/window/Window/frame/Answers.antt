@@ -1,3 +1,4 @@
+-- Proves the contract of `Window::frame`: the number's place holds the frame of its slot.
 use Rattle.std.proofs.Common.{◌≡◌, ℕ, None, Some, Option, get_or, ap, sym, ◌∙◌, subst, arith}
 use Rattle.wf_def_agreement.specs.Session.{slot}
 use Rattle.wf_send_parts.specs.declared.window.place.Place.{Place}

@@ -1,3 +1,4 @@
+-- Proves the contract of `Window::give`: the parcel goes to the place after the last one, which is that of N.
 use Rattle.std.proofs.Common.{◌<◌, ap, sym, subst, arith, length}
 use Rattle.wf_def_agreement.specs.Session.{with_number_given}
 use Rattle.wf_send_parts.specs.Ring.{RingValue}

@@ -1,3 +1,4 @@
+-- Proves the contract of `Window::has_waiting`: the ring's count is above 0 exactly if some place waits.
 use Rattle.std.proofs.Common.{ℕ, nat_lt, ap, ◌∙◌}
 use Rattle.std.specs.Prelude.{count_by}
 use Rattle.std.specs.List.{list_any}

@@ -1,3 +1,4 @@
+-- Proves the contract of `Window::next`: N is the start plus the number of places.
 use Rattle.std.proofs.Common.{length, ap, arith}
 use Rattle.wf_send_parts.specs.Window.{WindowValue}
 use Rattle.wf_send_parts.proofs.Laws.{places_length}

@@ -1,3 +1,5 @@
+-- Proves the contract of `Window::settle` by cases: acknowledged, waiting again, or failed. In the first and
+-- the last case the settled places at the front are dropped.
 use Rattle.std.proofs.Common.{◌≡◌, ℕ, Bool, true, Option, None, get_or, ap, sym, ◌∙◌, subst}
 use Rattle.wf_def_agreement.specs.Session.{slot}
 use Rattle.wf_send_parts.specs.declared.window.place.Place.{Place}

@@ -1,3 +1,4 @@
+-- Proves the contract of `Window::waiting_count`: the ring's count is the number of waiting places.
 use Rattle.std.proofs.Common.{ap, ◌∙◌}
 use Rattle.std.specs.Prelude.{count_by}
 use Rattle.wf_send_parts.specs.declared.window.window.Window.TheInside.{Inside}

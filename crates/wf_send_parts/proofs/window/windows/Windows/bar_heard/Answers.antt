@@ -1,3 +1,4 @@
+-- Proves the contract of `Windows::bar_heard` from that of the one window that changes.
 use Rattle.std.proofs.Common.{max}
 use Rattle.wf_send_parts.proofs.Changes.{stands_now}
 use Rattle.wf_send_parts.proofs.window.windows.Windows.bar_heard.Goals as goal

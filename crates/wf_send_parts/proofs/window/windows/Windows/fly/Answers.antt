@@ -1,3 +1,4 @@
+-- Proves the contract of `Windows::fly` from that of the one window that changes.
 use Rattle.std.proofs.Common.{subst, sym}
 use Rattle.wf_def_agreement.specs.Session.{State, slot, with_state}
 use Rattle.wf_send_parts.specs.Sent.{with_one_sent}

@@ -1,3 +1,4 @@
+-- The loop of `Windows::new`: it has made `counter` new windows.
 use Rattle.std.proofs.Common.{◌≡◌, replicate, vec_len, vec_capacity}
 use Rattle.wf_send_parts.specs.Windows.{new_window}
 use Rattle.wf_send_parts.proofs.window.windows.Windows.new.Given as goal

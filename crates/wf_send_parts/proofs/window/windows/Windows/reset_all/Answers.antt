@@ -1,3 +1,4 @@
+-- Proves the contract of `Windows::reset_all`: each round of the loop makes one more window fresh.
 use Rattle.std.proofs.Common.{◌+◌, List, ap, sym, ◌∙◌, subst, arith}
 use Rattle.wf_def_lists.specs.Bounds.{greatest_window}
 use Rattle.wf_def_agreement.specs.Session.{new_session}

@@ -1,3 +1,4 @@
+-- The loop of `Windows::reset_all`: the windows of the TIDs below this one are fresh.
 use Rattle.wf_send_parts.proofs.Resetting.{IsResetting}
 use Rattle.wf_send_parts.proofs.window.windows.Windows.reset_all.Given as goal
 

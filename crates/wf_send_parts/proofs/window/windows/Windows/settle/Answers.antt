@@ -1,3 +1,4 @@
+-- Proves the contract of `Windows::settle` from that of the one window that changes.
 use Rattle.wf_send_parts.specs.Window.{session_settled}
 use Rattle.wf_send_parts.proofs.Changes.{stands_now}
 use Rattle.wf_send_parts.proofs.window.windows.Windows.settle.Goals as goal

@@ -1,3 +1,4 @@
+-- Proves `trace_law`, by HistoryLaws.
 use Rattle.wf_trace.proofs.HistoryLaws.{trace_read}
 use Rattle.wf_trace.proofs.script.history.law.trace_law.Goals as goal
 

@@ -1,3 +1,5 @@
+-- Proves that the loop of `push_entries` keeps its invariant: one more line is appended, and it can be
+-- printed.
 use Rattle.std.proofs.Common.{rules, arith}
 use Rattle.wf_trace.proofs.HistoryFronts.{lines-more, range-more, printable-at, line-short}
 use Rattle.wf_trace.proofs.script.history.writing.push_entries.Goals as goal

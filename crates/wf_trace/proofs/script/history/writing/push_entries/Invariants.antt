@@ -1,3 +1,4 @@
+-- The invariant of the loop of `push_entries`: the lines of the entries so far were appended.
 use Rattle.std.proofs.Common.{◌≡◌, ◌+◌, ◌*◌, ◌≤◌, ◌++◌, length, take}
 use Rattle.wf_trace.specs.Traces.{entry_lines, CanBeNamed}
 use Rattle.wf_trace.proofs.script.history.writing.push_entries.Given as goal

@@ -1,3 +1,4 @@
+-- Proves that a prefix of the lines was written if a write fails.
 use Rattle.std.proofs.Common.{take, ◌+◌}
 use Rattle.wf_io.proofs.FrontLaws.{front_next}
 use Rattle.wf_trace.specs.Traces.{entry_lines}

@@ -1,3 +1,4 @@
+-- The invariant of the loop of `write_all_entries`: the lines of the entries so far were written.
 use Rattle.std.proofs.Common.{◌≡◌, ◌-◌, ◌≤◌, length, take}
 use Rattle.std.specs.Io.KnownBytes.{append_known}
 use Rattle.wf_trace.specs.Traces.{entry_lines, CanBeNamed}

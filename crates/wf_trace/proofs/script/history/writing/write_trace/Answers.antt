@@ -1,3 +1,4 @@
+-- Proves that a prefix of the trace was written, for each of its three writes.
 use Rattle.std.proofs.Common.{◌++◌}
 use Rattle.wf_io.proofs.FrontLaws.{front_partly, front_first, front_next, front_whole}
 use Rattle.wf_trace.specs.Traces.{head_line, entry_lines, end_line}

@@ -1,3 +1,4 @@
+-- Proves that the driver makes the last calls of an exchange, in order, or stops if no call is left.
 use Rattle.std.proofs.Common.{true, false, refl}
 use Rattle.wf_run_histories.specs.Drivers.{at}
 use Rattle.wf_run_histories.specs.Workloads.{last_calls}

@@ -1,3 +1,4 @@
+-- Proves that the driver plays an exchange, by joining the walks of its transmissions and of its end.
 use Rattle.std.proofs.Common.{refl, sym, ap}
 use Rattle.wf_run_histories.specs.declared.soak.workers.driver.DriverRun.{DriverRun}
 use Rattle.wf_run_histories.specs.Drivers.{at}

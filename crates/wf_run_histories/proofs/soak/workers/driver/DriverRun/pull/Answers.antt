@@ -1,3 +1,4 @@
+-- Proves that a pull leads the driver to the phase that its reply determines, or that no call was left.
 use Rattle.std.proofs.Common.{refl}
 use Rattle.wf_run_histories.specs.Drivers.{at}
 use Rattle.wf_run_histories.specs.Workloads.Phase.{Pulls}

@@ -1,3 +1,4 @@
+-- Proves that the driver reaps until no finished frame is left, by joining one step to the walk so far.
 use Rattle.std.proofs.Common.{[], refl, arith}
 use Rattle.wf_run_histories.specs.Drivers.{at}
 use Rattle.wf_run_histories.specs.Workloads.Phase.{Owes}

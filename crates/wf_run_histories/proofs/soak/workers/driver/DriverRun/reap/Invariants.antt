@@ -1,3 +1,4 @@
+-- The reaps so far are a walk from the start, and each took one of the calls that were left.
 use Rattle.std.proofs.Common.{◌+◌, ◌≤◌, []}
 use Rattle.wf_run_histories.specs.Desks.{Walks}
 use Rattle.wf_run_histories.specs.Drivers.{at}

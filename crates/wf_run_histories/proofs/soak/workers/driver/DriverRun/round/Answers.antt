@@ -1,3 +1,4 @@
+-- Proves that a round is a walk, by joining those of its tick, its pull, its exchange and its reaps.
 use Rattle.wf_run_histories.specs.Workloads.Phase.{Pulls}
 use Rattle.wf_run_histories.proofs.Walks.{on_err, walks_then, stops_then}
 use Rattle.wf_run_histories.proofs.soak.workers.driver.DriverRun.round.Goals as goal

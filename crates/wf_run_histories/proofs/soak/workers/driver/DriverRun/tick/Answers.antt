@@ -1,3 +1,4 @@
+-- Proves that a tick leads the driver to its pull with the clock that was shown, or that no call was left.
 use Rattle.std.proofs.Common.{refl}
 use Rattle.wf_run_histories.specs.Drivers.{at}
 use Rattle.wf_run_histories.specs.Workloads.Phase.{Ticks}

@@ -1,3 +1,5 @@
+-- Proves that the driver makes the Arrive of a transmission if its word lets it arrive, and otherwise no
+-- call.
 use Rattle.std.proofs.Common.{true, refl}
 use Rattle.wf_run_histories.specs.Drivers.{owing, arrive_if}
 use Rattle.wf_run_histories.proofs.Walks.{on_err, walks_one, walks_none, stops_at}

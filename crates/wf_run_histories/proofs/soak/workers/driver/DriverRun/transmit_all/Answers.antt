@@ -1,3 +1,4 @@
+-- Proves that the loop makes the Arrive calls of the definition, one transmission per step.
 use Rattle.std.proofs.Common.{◌≡◌, ◌-◌, false, refl, sym, ap, arith, rules}
 use Rattle.wf_run_histories.specs.Drivers.{owing}
 use Rattle.wf_run_histories.specs.Workloads.{words_behind, calls_left, arrivals}

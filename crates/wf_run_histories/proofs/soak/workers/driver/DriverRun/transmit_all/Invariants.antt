@@ -1,3 +1,5 @@
+-- The calls so far are a walk to the calls that remain, and the words that remain are those after the
+-- transmissions so far.
 use Rattle.std.proofs.Common.{◌≡◌, ◌-◌, ◌≤◌, false}
 use Rattle.rand_pcg.specs.Lcg.{Lcg}
 use Rattle.wf_run_histories.specs.Desks.{Walks}

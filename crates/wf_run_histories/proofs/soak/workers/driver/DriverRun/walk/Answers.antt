@@ -1,3 +1,4 @@
+-- Proves that the rounds are a walk, by joining one round to the walk so far.
 use Rattle.std.proofs.Common.{arith, rules}
 use Rattle.wf_run_histories.proofs.Walks.{on_err, walks_none, walks_then, stops_then}
 use Rattle.wf_run_histories.proofs.soak.workers.driver.DriverRun.walk.Goals as goal

@@ -1,0 +1,264 @@
+-- Proves which calls leave every receive half unchanged, and the effect of a Done on the marks.
+use Rattle.std.proofs.Common.{◌≡◌, ◌≢◌, refl, ap, sym, ◌∙◌, subst, ℕ, ◌==◌, Bool, true, false, not, List, [], ◌∷◌, map, filter, Option, Some, None, is_none, is_some, if◌then◌else◌, length}
+use Rattle.wf_frame.specs.declared.settings.Config.{Config}
+use Rattle.wf_frame.specs.declared.notes.Ask.TheVariants.{Join, Leave, Rate, Tick, Pull, Arrive, Answer, Done, Sleep, Wake, Poll, Rx, Reap}
+use Rattle.wf_frame.specs.declared.notes.Note.{Note}
+use Rattle.wf_frame.specs.declared.notes.Note.TheVariants.{Enqueue, Asked}
+use Rattle.wf_frame.specs.declared.notes.Refusal.{Refusal}
+use Rattle.wf_frame.specs.declared.notes.Refusal.TheVariants.{Idle, NoExchange}
+use Rattle.wf_frame.specs.Classes.{all_classes}
+use Rattle.wf_def_lists.specs.Table.{at, upto}
+use Rattle.wf_def_agreement.specs.Receiver.{Receiver}
+use Rattle.wf_def_agreement.specs.Session.{Session}
+use Rattle.wf_def_world.specs.World.{World, Station, Exchange, session, receiver, is_live, exchange, with_station, without_exchange, opening}
+use Rattle.wf_def_world.specs.CanSend.{with_listings_of}
+use Rattle.wf_def_world.specs.Refusals.{refusal}
+use Rattle.wf_def_world.specs.Step.{after_tids_left, without_listings, leave_outcome, rate_outcome, tick_outcome, done_outcome, outcome_where_open, sleep_outcome, wake_outcome, poll_outcome, rx_outcome, reap_outcome, outcome_of, concerned_station, after_refusal, judged_outcome, step}
+use Rattle.wf_law_runs.proofs.Windows.Sides.{Side, Same, sides_of, then_same, same_on_station, same_on_share, same_listed, same_after_pick}
+use Rattle.wf_law_runs.proofs.Windows.Agreed.{IsLawful, lawful, same_left_tids, same_off_lists}
+use Rattle.wf_law_runs.proofs.Frames.Delivered.{same_enqueued, opened_ended}
+use Rattle.wf_law_runs.proofs.Releases.Kept.{Kept, KeptSession, kept_equal, then_kept, kept_same, keep_ended}
+use Rattle.wf_law_runs.proofs.Releases.Released.{side_with_station, live_with_station, live_own_station}
+use Rattle.wf_law_runs.proofs.Deficits.Configs.{config_step}
+use Rattle.wf_law_driver.proofs.Opened.{step_done, first_refuses, found_number}
+use Rattle.wf_recv_peer.specs.Agreements.{PeerValue, AgreementValue}
+use Rattle.wf_recv_peer_refines.specs.Half.{ReceiveHalfStandsFor}
+use Rattle.wf_recv_peer_refines.proofs.Halves.{other_ids}
+use Rattle.wf_recv_marks.specs.declared.marks.Mark.{Mark}
+use Rattle.wf_send_half_model.specs.Standing.{IsReached}
+use Rattle.wf_cell_model.specs.Arriving.{IsUntold}
+use Rattle.wf_cell_model.specs.Hearing.{agreement_of, HasAddresses, ArePeers, AreNew, carried, StandsForTid, mark_of, Hears}
+
+pub lawful_now : (w : World) → IsReached w → IsLawful w
+lawful_now w r = subst IsLawful (sym r.after) (lawful w.config r.history)
+
+-- ---- two worlds
+
+-- each station that is live in the later world has the receivers that it had in the earlier one, and each
+-- given number keeps its id
+pub record Stays (w v : World) : Type 0 where
+  pub live : (s : ℕ) → is_live v s ≡ true → is_live w s ≡ true
+  pub receivers : (s t : ℕ) → is_live v s ≡ true → receiver v s t ≡ receiver w s t
+  pub sessions : (s t : ℕ) → is_live v s ≡ true → KeptSession (session w s t) (session v s t)
+
+pub stays_kept : (w v : World) → Kept w v → Stays w v
+stays_kept w v k = record {
+  live = λ s l. sym (k.live s) ∙ l;
+  receivers = λ s t _. k.receivers s t;
+  sessions = λ s t _. k.sessions s t;
+}
+
+pub stays_same : (w v : World) → Same w v → Stays w v
+stays_same w v h = stays_kept w v (kept_same w v h)
+
+pub then_stays : (u v w : World) → Stays u v → Stays v w → Stays u w
+then_stays u v w h k = record {
+  live = λ s l. h.live s (k.live s l);
+  receivers = λ s t l. k.receivers s t l ∙ h.receivers s t (k.live s l);
+  sessions = λ s t l. then_kept (session u s t) (session v s t) (session w s t) (h.sessions s t (k.live s l))
+      (k.sessions s t l);
+}
+
+pub stays_stand : (w v : World) (s t : ℕ) (a : AgreementValue) → IsLawful w →
+    receiver v s t ≡ receiver w s t →
+    KeptSession (session w s t) (session v s t) → StandsForTid w s t a → StandsForTid v s t a
+stays_stand w v s t a i same kept h =
+    let y : Session = session w s t in
+    let z : Session = session v s t in
+    subst (λ (r : Receiver). ReceiveHalfStandsFor (carried z) r a.board a.buffer) (sym same)
+    (other_ids (carried y) (carried z) (receiver w s t) a.board a.buffer
+    (λ n there. sym (kept.ids n ((i.agreed s t).arrived n there).0 ((i.agreed s t).arrived n there).1)) h)
+
+pub hears_stays : (peers : List PeerValue) (marks after : List Mark) (w v : World) → IsLawful w → Stays w v →
+    v.config ≡ w.config →
+    after ≡ map mark_of v.opened → Hears peers marks w → Hears peers after v
+hears_stays peers marks after w v i k config kept h = record {
+  sized = subst (λ (c : Config). ArePeers c.stations peers) (sym config) h.sized;
+  agreements = λ s t live low. stays_stand w v s t (agreement_of peers s t) i (k.receivers s t live)
+      (k.sessions s t live)
+      (h.agreements s t (k.live s live) low);
+  kept = kept;
+}
+
+-- ---- a call that is not refused
+
+pub config_done : (w : World) (note : Note) → refusal w note ≡ None →
+    (with_listings_of (outcome_of w note).world (concerned_station w note)).config ≡ w.config
+config_done w note fine = ap (λ (u : World). u.config) (sym (step_done w note fine)) ∙ config_step w note
+
+pub reply_done : (w : World) (note : Note) → refusal w note ≡ None →
+    (step w note).reply ≡ (outcome_of w note).reply
+unfolding step judged_outcome
+reply_done w note fine = ap (λ (o : Option Refusal). (judged_outcome w note o).reply) fine
+
+-- the effect of such a call, from its outcome
+pub hears_outcome : (peers : List PeerValue) (marks after : List Mark) (w : World) (note : Note) →
+    IsLawful w → refusal w note ≡ None →
+    Stays w (outcome_of w note).world → after ≡ map mark_of (outcome_of w note).world.opened →
+    Hears peers marks w → Hears peers after (step w note).world
+hears_outcome peers marks after w note i fine k kept h =
+    let u : World = (outcome_of w note).world in
+    let v : World = with_listings_of u (concerned_station w note) in
+    let same : Same u v = same_listed (concerned_station w note) u in
+    subst (Hears peers after) (sym (step_done w note fine))
+    (hears_stays peers marks after w v i (then_stays w u v k (stays_same u v same)) (config_done w note fine)
+    (kept ∙ ap (map mark_of) (sym same.opened)) h)
+
+-- ---- calls that change no receive half and no mark
+
+pub record IsLeft (w v : World) : Type 0 where
+  pub stays : Stays w v
+  pub opened : v.opened ≡ w.opened
+
+left_same : (w v : World) → Same w v → IsLeft w v
+left_same w v h = record { stays = stays_same w v h; opened = h.opened }
+
+left_here : (w v : World) → v.stations ≡ w.stations → v.opened ≡ w.opened → IsLeft w v
+left_here w v e opened = record {
+  stays = record {
+    live = λ s l. ap (λ (u : List (Option Station)). is_some (at None u s)) (sym e) ∙ l;
+    receivers = λ s t _. ap (λ (u : List (Option Station)). (sides_of (at None u s) t).receiver) e;
+    sessions = λ s t _. kept_equal (session w s t) (session v s t)
+        (ap (λ (u : List (Option Station)). (sides_of (at None u s) t).session) e);
+  };
+  opened = opened;
+}
+
+-- a station leaves
+stays_away : (w : World) (i : ℕ) → Stays w (with_station w i None)
+stays_away w i = record {
+  live = λ s l. sym (live_with_station w i s None (other s l)) ∙ l;
+  receivers = λ s t l. ap (λ (a : Side). a.receiver) (side_with_station w i s t None (other s l));
+  sessions = λ s t l. kept_equal (session w s t) (session (with_station w i None) s t)
+      (ap (λ (a : Side). a.session) (side_with_station w i s t None (other s l)));
+}
+  where
+    other : (s : ℕ) → is_live (with_station w i None) s ≡ true → i ≢ s
+    other s l e = cc (live_own_station w i None, ap (is_live (with_station w i None)) e, l)
+
+opened_away : (w : World) (i : ℕ) → (with_station w i None).opened ≡ w.opened
+unfolding with_station
+opened_away w i = refl
+
+left_gone : (w : World) (i : ℕ) → IsLeft w (leave_outcome w i).world
+unfolding leave_outcome
+left_gone w i =
+    let u : World = without_listings (after_tids_left w i (upto 8)) i all_classes in
+    let same : Same w u = then_same _ _ _ (same_left_tids (upto 8) w i) (same_off_lists all_classes _ i) in
+    record {
+      stays = then_stays w u _ (stays_same w u same) (stays_away u i);
+      opened =
+          opened_away u i ∙ same.opened;
+    }
+
+left_reaped : (ids : List ℕ) (w : World) → IsLeft w (reap_outcome w ids).world
+unfolding reap_outcome
+left_reaped [] w = left_here w w refl refl
+left_reaped (id ∷ ids) w = left_here w _ refl refl
+
+pub left_untold : (note : Note) (w : World) → IsUntold note → IsLeft w (outcome_of w note).world
+unfolding outcome_of tick_outcome rate_outcome sleep_outcome wake_outcome poll_outcome rx_outcome
+left_untold (Enqueue s t flow len) w k = left_same w _ (same_enqueued w s t flow len)
+left_untold (Asked (Join s window start exponent weight)) w k = absurd k
+left_untold (Asked (Leave s)) w k = left_gone w s
+left_untold (Asked (Rate s rate)) w k = left_same w _ (same_on_station w s _ (λ x t. refl))
+left_untold (Asked (Tick by)) w k = left_here w _ refl refl
+left_untold (Asked (Pull c)) w k = absurd k
+left_untold (Asked (Arrive e n)) w k = absurd k
+left_untold (Asked (Answer e)) w k = absurd k
+left_untold (Asked (Done e heard air)) w k = absurd k
+left_untold (Asked (Sleep s)) w k = left_same w _ (same_on_station w s _ (λ x t. refl))
+left_untold (Asked (Wake s)) w k = left_same w _ (same_on_station w s _ (λ x t. refl))
+left_untold (Asked (Poll s)) w k = left_same w _ (same_on_station w s _ (λ x t. refl))
+left_untold (Asked (Rx s c air)) w k = left_same w _ (same_on_share w s c _)
+left_untold (Asked Reap) w k = left_reaped w.finished w
+
+pub left_refused : (note : Note) (r : Refusal) (w : World) → IsLeft w (after_refusal w note r)
+unfolding after_refusal
+left_refused (Asked (Pull c)) Idle w = left_same w _ (same_after_pick w c)
+left_refused _ _ w = left_here w w refl refl
+
+pub refused_world : (w : World) (note : Note) (r : Refusal) → refusal w note ≡ Some r →
+    (step w note).world ≡ after_refusal w note r
+unfolding step judged_outcome
+refused_world w note r e = ap (λ (o : Option Refusal). (judged_outcome w note o).world) e
+
+pub refused_hears : (peers : List PeerValue) (marks : List Mark) (w : World) (note : Note) (r : Refusal) →
+    IsReached w → Hears peers marks w →
+    refusal w note ≡ Some r → Hears peers marks (step w note).world
+refused_hears peers marks w note r reached h e =
+    let v : World = after_refusal w note r in
+    let k : IsLeft w v = left_refused note r w in
+    let same : (step w note).world ≡ v = refused_world w note r e in
+    subst (Hears peers marks) (sym same)
+    (hears_stays peers marks marks w v (lawful_now w reached) k.stays
+    (ap (λ (u : World). u.config) (sym same) ∙ config_step w note)
+    (h.kept ∙ ap (map mark_of) (sym k.opened)) h)
+
+pub untold_hears : (peers : List PeerValue) (marks : List Mark) (w : World) (note : Note) → IsReached w →
+    Hears peers marks w → IsUntold note →
+    Hears peers marks (step w note).world
+untold_hears peers marks w note reached h k = go (refusal w note) refl
+  where
+    go : (o : Option Refusal) → refusal w note ≡ o → Hears peers marks (step w note).world
+    go (Some r) e = refused_hears peers marks w note r reached h e
+    go None e =
+        let left : IsLeft w (outcome_of w note).world = left_untold note w k in
+        hears_outcome peers marks marks w note (lawful_now w reached) e left.stays
+        (h.kept ∙ ap (map mark_of) (sym left.opened)) h
+
+-- ---- the end of an exchange
+
+kept_if : (b : Bool) (x : Exchange) (ms : List Mark) (ys : List Exchange) → ms ≡ map mark_of ys →
+    (if b then mark_of x ∷ ms else ms) ≡ map mark_of (if b then x ∷ ys else ys)
+kept_if true x ms ys e = ap (λ (rest : List Mark). mark_of x ∷ rest) e
+kept_if false x ms ys e = e
+
+marks_without : (xs : List Exchange) (e : ℕ) →
+    filter (λ m. not (m.number == e)) (map mark_of xs) ≡ map mark_of (filter (λ y. not (y.number == e)) xs)
+marks_without [] e = refl
+marks_without (x ∷ xs) e = kept_if (not (x.number == e)) x _ (filter (λ y. not (y.number == e)) xs)
+    (marks_without xs e)
+
+opened_without : (w : World) (e : ℕ) → (without_exchange w e).opened
+    ≡ filter (λ y. not (y.number == e)) w.opened
+unfolding without_exchange
+opened_without w e = refl
+
+pub ended_hears : (peers : List PeerValue) (marks : List Mark) (w : World) (e : ℕ) (heard : Bool)
+    (air : Option ℕ) → IsReached w → Hears peers marks w →
+    refusal w (Asked (Done e heard air)) ≡ None → Hears peers (filter (λ m. not (m.number == e)) marks)
+    (step w (Asked (Done e heard air))).world
+unfolding outcome_of outcome_where_open
+ended_hears peers marks w e heard air reached h fine = go (exchange w e) refl
+  where
+    go : (o : Option Exchange) → exchange w e ≡ o →
+        Hears peers (filter (λ m. not (m.number == e)) marks) (step w (Asked (Done e heard air))).world
+    go None none = absurd (cc (sym fine ∙ first_refuses (is_none (exchange w e), NoExchange) _
+        (ap is_none none)))
+    go (Some x) found =
+        let u : World = (done_outcome w x heard air).world in
+        let same : (outcome_of w (Asked (Done e heard air))).world ≡ u =
+        ap (λ (o : Option Exchange). (outcome_where_open w o (λ y. done_outcome w y heard air)).world) found
+        in
+        let opened : u.opened ≡ filter (λ y. not (y.number == e)) w.opened =
+        opened_ended air w x heard ∙ (ap (λ (n : ℕ). (without_exchange w n).opened) (found_number w e x found)
+        ∙ opened_without w e) in
+        hears_outcome peers marks _ w (Asked (Done e heard air)) (lawful_now w reached) fine
+        (subst (Stays w) (sym same) (stays_kept w u (keep_ended air w x heard)))
+        (ap (filter (λ m. not (m.number == e))) h.kept
+        ∙ (marks_without w.opened e ∙ ap (map mark_of)
+        (sym (ap (λ (v : World). v.opened) same ∙ opened)))) h
+
+-- ---- new receive halves
+
+pub new_hears : (c : Config) (peers : List PeerValue) → AreNew c.stations peers → Hears peers [] (opening c)
+new_hears c peers h = record {
+  sized = record {
+    count = h.count;
+    addresses = λ s low. subst (HasAddresses s) (sym (h.each s low)) (record { own = refl; base = refl });
+    eight = λ s low. ap (λ (p : PeerValue). length p.agreements) (h.each s low);
+  };
+  agreements = λ s t live low. absurd (cc live);
+  kept = refl;
+}

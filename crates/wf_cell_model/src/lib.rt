@@ -1,0 +1,178 @@
+//! The stations' receive halves and the marks of the open exchanges represent the receivers of a world:
+//! definitions and laws, no code. With wf_send_half_model, which does the same for the transmit half, this
+//! covers the whole world.
+//!
+//! `Hears` (specs/Hearing) says when both agree, specs/Arriving what a transmission does to a receive half,
+//! and specs/Refusing why a call is refused, by the marks. The laws say that they agree at the start, and how
+//! each call has to change them so that they represent the world after the step, with the step's reply. Each
+//! law is the contract of a function without a body. For example, `a_new_cell` says that new receive halves
+//! without a mark represent the opening world.
+#![tactic(auto)]
+
+ghost use Rattle.std.specs.Prelude.{◌≡◌, ◌<◌, ◌≤◌, ℕ, ◌==◌, not, ◌++◌, Bool, List, [], ◌∷◌, Some, None, IfSome, option_map, filter, length, nat_lt, All, Option};
+ghost use Rattle.wf_frame.specs.declared.classes.Class.{Class};
+ghost use Rattle.wf_frame.specs.declared.notes.Ask.TheVariants.{Join, Pull, Arrive, Answer, Done};
+ghost use Rattle.wf_frame.specs.declared.notes.Note.{Note};
+ghost use Rattle.wf_frame.specs.declared.notes.Note.TheVariants.{Asked};
+ghost use Rattle.wf_frame.specs.declared.notes.Part.{Part};
+ghost use Rattle.wf_frame.specs.declared.notes.Refusal.{Refusal};
+ghost use Rattle.wf_frame.specs.declared.notes.ReplyNote.TheVariants.{Ba, Refused, Released, Send};
+ghost use Rattle.wf_frame.specs.declared.settings.Config.{Config};
+ghost use Rattle.wf_def_agreement.specs.Receiver.{Score};
+ghost use Rattle.wf_def_lists.specs.Table.{bits_word};
+ghost use Rattle.wf_def_world.specs.World.{World, Exchange, exchange, is_wide, opening, receiver};
+ghost use Rattle.wf_def_world.specs.Exchanges.{transmissions};
+ghost use Rattle.wf_def_world.specs.Refusals.{refusal};
+ghost use Rattle.wf_def_world.specs.Step.{step};
+ghost use Rattle.wf_send_parts.specs.declared.exchanges.opened.TheConstants.{MOST_OPEN};
+ghost use Rattle.wf_recv_marks.specs.Marks.{new_mark, with_arrival, with_answer, with_changed};
+ghost use Rattle.wf_recv_marks.specs.declared.marks.Mark.{Mark};
+ghost use Rattle.wf_recv_peer.specs.Agreements.{PeerValue};
+ghost use Rattle.wf_send_half_model.specs.Standing.{IsReached};
+ghost use Rattle.wf_send_half.specs.Bits.{AreShown};
+ghost use Rattle.wf_cell_model.specs.Answers.{KeepsShown};
+ghost use Rattle.wf_cell_model.specs.Arriving.{peer_after, buffer_outcome_of_transmission, CarriesId, MayReach, IsUntold};
+ghost use Rattle.wf_cell_model.specs.Hearing.{peer_of, agreement_of, with_peer, new_receive_half, AreNew, kept_of, mark_of, Hears};
+ghost use Rattle.wf_cell_model.specs.Refusing.{mark_in, arrive_refusal, answer_refusal, done_refusal};
+
+/// New receive halves without a mark represent the opening world.
+pub fn a_new_cell()
+    ensures { (c : Config) (peers : List PeerValue) → AreNew c.stations peers → Hears peers [] (opening c) }
+{}
+
+/// Any call except a Join, a Pull, an Arrive, an Answer or a Done leaves the receive halves and the marks
+/// unchanged; so does a refused call.
+pub fn a_call_that_no_receiver_hears()
+    ensures untold { (peers : List PeerValue) (marks : List Mark) (w : World) (note : Note) → IsReached w →
+        Hears peers marks w →
+        IsUntold note → Hears peers marks (step w note).world }
+    ensures refused { (peers : List PeerValue) (marks : List Mark) (w : World) (note : Note) (r : Refusal) →
+        IsReached w → Hears peers marks w →
+        refusal w note ≡ Some r → Hears peers marks (step w note).world }
+{}
+
+/// A station that joins has new agreements, with this window and from this number on. Both are in their
+/// ranges.
+pub fn a_station_joins()
+    ensures hears { (peers : List PeerValue) (marks : List Mark) (w : World)
+        (s window start exponent weight : ℕ) → IsReached w → Hears peers marks w →
+        refusal w (Asked (Join s window start exponent weight)) ≡ None →
+        Hears (with_peer s (new_receive_half s start window) peers) marks
+        (step w (Asked (Join s window start exponent weight))).world }
+    ensures station { (w : World) (s window start exponent weight : ℕ) →
+        refusal w (Asked (Join s window start exponent weight)) ≡ None →
+        s < w.config.stations }
+    ensures window { (w : World) (s window start exponent weight : ℕ) →
+        refusal w (Asked (Join s window start exponent weight)) ≡ None →
+        (1 ≤ window) × (window ≤ 256) }
+    ensures start { (w : World) (s window start exponent weight : ℕ) →
+        refusal w (Asked (Join s window start exponent weight)) ≡ None →
+        start < 4096 }
+{}
+
+/// A pull that finds a station opens an exchange, with a new mark. There is room for the mark, and its number
+/// is above all others.
+pub fn an_exchange_opens()
+    ensures hears { (peers : List PeerValue) (marks : List Mark) (w : World) (c : Class) → IsReached w →
+        Hears peers marks w →
+        refusal w (Asked (Pull c)) ≡ None → Hears peers (marks ++ new_mark w.exchanges ∷ [])
+        (step w (Asked (Pull c))).world }
+    ensures number { (w : World) (c : Class) (e s t charge : ℕ) (part : Part) (more : Bool) → IsReached w →
+        (step w (Asked (Pull c))).reply ≡ Send e s t charge part more → e ≡ w.exchanges }
+    ensures room { (peers : List PeerValue) (marks : List Mark) (w : World) (c : Class) → IsReached w →
+        Hears peers marks w →
+        refusal w (Asked (Pull c)) ≡ None → length marks < MOST_OPEN }
+    ensures above { (peers : List PeerValue) (marks : List Mark) (w : World) → IsReached w →
+        Hears peers marks w →
+        All (λ m. m.number < w.exchanges) marks }
+{}
+
+/// The end of an exchange removes its mark.
+pub fn an_exchange_ends()
+    ensures { (peers : List PeerValue) (marks : List Mark) (w : World) (e : ℕ) (heard : Bool)
+        (air : Option ℕ) → IsReached w →
+        Hears peers marks w →
+        refusal w (Asked (Done e heard air)) ≡ None →
+        Hears peers (filter (λ m. not (m.number == e)) marks) (step w (Asked (Done e heard air))).world }
+{}
+
+/// Transmission i of an open exchange arrives at its station, within the reach of its receiver. The agreement
+/// of its TID gets its 12-bit number or start, the mark gets the index, and the ids that are passed up are
+/// exactly those of the reply.
+pub fn a_transmission_arrives()
+    ensures station { (w : World) (e : ℕ) (x : Exchange) → IsReached w → exchange w e ≡ Some x →
+        x.station < w.config.stations }
+    ensures tid { (w : World) (e : ℕ) (x : Exchange) → IsReached w → exchange w e ≡ Some x → x.tid < 8 }
+    ensures index { (w : World) (e i : ℕ) (x : Exchange) → IsReached w → exchange w e ≡ Some x →
+        refusal w (Asked (Arrive e i)) ≡ None → i < 256 }
+    ensures reach { (w : World) (e i : ℕ) (x : Exchange) → IsReached w → exchange w e ≡ Some x →
+        refusal w (Asked (Arrive e i)) ≡ None → MayReach (receiver w x.station x.tid) i x.content }
+    ensures hears { (peers : List PeerValue) (marks : List Mark) (w : World) (e i id : ℕ) (x : Exchange) →
+        IsReached w → Hears peers marks w →
+        exchange w e ≡ Some x → refusal w (Asked (Arrive e i)) ≡ None → CarriesId id i x.content →
+        Hears (with_peer x.station (peer_after x.tid i id x.content (peer_of peers x.station)) peers)
+        (with_changed e (with_arrival i) marks) (step w (Asked (Arrive e i))).world }
+    ensures up { (peers : List PeerValue) (marks : List Mark) (w : World) (e i id : ℕ) (x : Exchange) →
+        IsReached w → Hears peers marks w →
+        exchange w e ≡ Some x → refusal w (Asked (Arrive e i)) ≡ None → CarriesId id i x.content →
+        (step w (Asked (Arrive e i))).reply ≡ Released
+        (buffer_outcome_of_transmission i id x.content (agreement_of peers x.station x.tid).buffer).up }
+{}
+
+/// A station answers an open exchange: the mark keeps the start and the offsets of its scoreboard, and the
+/// reply has them too. The BlockAck is wide if the TID's window is above 64.
+pub fn an_answer_is_made()
+    ensures hears { (peers : List PeerValue) (marks : List Mark) (w : World) (e : ℕ) (x : Exchange) →
+        IsReached w → Hears peers marks w →
+        exchange w e ≡ Some x → refusal w (Asked (Answer e)) ≡ None →
+        let board = (agreement_of peers x.station x.tid).board in
+        Hears peers (with_changed e (with_answer board.start board.offsets) marks)
+        (step w (Asked (Answer e))).world }
+    ensures reply { (peers : List PeerValue) (marks : List Mark) (w : World) (e : ℕ) (x : Exchange) →
+        IsReached w → Hears peers marks w →
+        exchange w e ≡ Some x → refusal w (Asked (Answer e)) ≡ None →
+        let board = (agreement_of peers x.station x.tid).board in
+        (step w (Asked (Answer e))).reply ≡
+        Ba board.start (bits_word 0 board.offsets) (bits_word 1 board.offsets) (bits_word 2 board.offsets)
+        (bits_word 3 board.offsets) (nat_lt 64 board.size) }
+    ensures wide { (peers : List PeerValue) (marks : List Mark) (w : World) (e : ℕ) (x : Exchange) →
+        IsReached w → Hears peers marks w →
+        exchange w e ≡ Some x → nat_lt 64 (agreement_of peers x.station x.tid).board.size
+        ≡ is_wide w x.station x.tid }
+{}
+
+/// The marks determine which exchanges are open, and so why an Arrive, an Answer or a Done is refused, if it
+/// is. An Arrive also depends on the number of transmissions of an open exchange, and a Done on the airtime
+/// that it gives.
+pub fn the_marks_tell()
+    ensures mark { (peers : List PeerValue) (marks : List Mark) (w : World) (e : ℕ) → Hears peers marks w →
+        mark_in marks e ≡ option_map mark_of (exchange w e) }
+    ensures arrive { (peers : List PeerValue) (marks : List Mark) (w : World) (e i count : ℕ) →
+        Hears peers marks w →
+        IfSome (exchange w e) (λ x. count ≡ transmissions x.content) →
+        refusal w (Asked (Arrive e i)) ≡ arrive_refusal (mark_in marks e) count i }
+    ensures answer { (peers : List PeerValue) (marks : List Mark) (w : World) (e : ℕ) → Hears peers marks w →
+        refusal w (Asked (Answer e)) ≡ answer_refusal (mark_in marks e) }
+    ensures done { (peers : List PeerValue) (marks : List Mark) (w : World) (e : ℕ) (heard : Bool)
+        (air : Option ℕ) → Hears peers marks w →
+        refusal w (Asked (Done e heard air)) ≡ done_refusal w.config (mark_in marks e) heard air }
+{}
+
+/// A kept answer shows the same numbers of its exchange as the answer: no offset is lost in a BlockAck with
+/// 64 or 256 bits. So an exchange may end by the answer that its mark keeps.
+pub fn the_kept_answer_is_shown()
+    ensures shown { (w : World) (e : ℕ) (x : Exchange) (b : Score) → IsReached w → exchange w e ≡ Some x →
+        x.answer ≡ Some b →
+        AreShown w x b (Some (kept_of b)) }
+    ensures mark { (peers : List PeerValue) (marks : List Mark) (w : World) (e : ℕ) (m : Mark)
+        (kept : ℕ × List ℕ) → IsReached w → Hears peers marks w →
+        mark_in marks e ≡ Some m → m.answer ≡ Some kept → KeepsShown w e kept }
+{}
+
+/// A reply is a refusal exactly if its call was refused, and has the same cause.
+pub fn a_reply_tells()
+    ensures why { (w : World) (note : Note) (r : Refusal) → (step w note).reply ≡ Refused r →
+        refusal w note ≡ Some r }
+    ensures refused { (w : World) (note : Note) (r : Refusal) → refusal w note ≡ Some r →
+        (step w note).reply ≡ Refused r }
+{}

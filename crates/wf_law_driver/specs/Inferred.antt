@@ -1,0 +1,117 @@
+-- Defines the calls of the machine that are inferred from a BlockAck which a driver gives: just before the
+-- exchange's Done each of its numbers that the BlockAck shows arrived, no other did, and the receiver
+-- answered (IEEE 802.11-2012, 9.21.7.7). The calls are those of `caller`, the exchange's number is e, and
+-- `shown` says of each number, which does not wrap, whether the BlockAck shows it.
+use Rattle.std.specs.Prelude.{◌≡◌, ℕ, suc, nat_lt, Bool, true, false, ◌↔◌, List, [], ◌∷◌, ◌++◌, Option, None, Some, if◌then◌else◌, length, map}
+use Rattle.wf_frame.specs.declared.settings.Config.{Config}
+use Rattle.wf_frame.specs.declared.notes.Ask.TheVariants.{Arrive, Answer, Done}
+use Rattle.wf_frame.specs.declared.notes.Note.{Note}
+use Rattle.wf_frame.specs.declared.notes.Note.TheVariants.{Asked}
+use Rattle.wf_def_agreement.specs.Session.{State, slot}
+use Rattle.wf_def_agreement.specs.Receiver.{Score, shows}
+use Rattle.wf_def_world.specs.World.{World, Exchange, Mpdu, Content, Frames, Request, session, exchange, opening}
+use Rattle.wf_def_world.specs.Exchanges.{mpdus_of}
+use Rattle.wf_def_world.specs.Refusals.{refusal}
+use Rattle.wf_frame.specs.Settings.{is_bad_air}
+use Rattle.wf_def_world.specs.Step.{step}
+use Rattle.wf_def_world.specs.Run.{Entry, by, world_after}
+use Rattle.wf_law_runs.specs.Queues.{HaveLengths, AreAtMost}
+use Rattle.wf_law_runs.specs.Windows.{EachMpdu}
+use Rattle.wf_law_driver.specs.Unheard.{unmarked, IsUnheard}
+
+-- the indices of the numbers that are shown: i is the index of the first number
+abbrev pub shown_indices : (ℕ → Bool) → ℕ → List Mpdu → List ℕ
+shown_indices shown i [] = []
+shown_indices shown i (m ∷ ms) =
+    if shown m.number then i ∷ shown_indices shown (suc i) ms else shown_indices shown (suc i) ms
+
+-- the transmissions of an exchange that are inferred to arrive: those whose numbers are shown, or that of a
+-- request
+abbrev pub indices_inferred : (ℕ → Bool) → Content → List ℕ
+indices_inferred shown (Frames mpdus) = shown_indices shown 0 mpdus
+indices_inferred shown (Request start) = 0 ∷ []
+
+-- the Arrive calls for these transmissions of exchange e, in order
+abbrev pub arrivals : ℕ → ℕ → List ℕ → List Entry
+arrivals caller e indices = map (λ i. by caller (Asked (Arrive e i))) indices
+
+-- the Answer call after them, if there are any
+abbrev pub answer_inferred : ℕ → ℕ → List ℕ → List Entry
+answer_inferred caller e [] = []
+answer_inferred caller e (i ∷ indices) = by caller (Asked (Answer e)) ∷ []
+
+-- The calls that are inferred from a BlockAck for exchange e. If it shows none of an aggregate's numbers,
+-- there are none.
+abbrev pub inferred : ℕ → ℕ → (ℕ → Bool) → Content → List Entry
+inferred caller e shown content =
+    let indices : List ℕ = indices_inferred shown content in
+    arrivals caller e indices ++ answer_inferred caller e indices
+
+-- whether any calls are inferred; if not, the exchange ends as if it had not been heard
+abbrev pub tells : (ℕ → Bool) → Content → Bool
+tells shown content = nat_lt 0 (length (indices_inferred shown content))
+
+-- the world after the inferred calls
+abbrev pub after_inferred : World → ℕ → ℕ → (ℕ → Bool) → Content → World
+after_inferred w caller e shown content = world_after w (inferred caller e shown content)
+
+-- the Done after the inferred calls, which gives this airtime
+abbrev pub done_inferred : ℕ → (ℕ → Bool) → Option ℕ → Content → Note
+done_inferred e shown air content = Asked (Done e (tells shown content) air)
+
+-- each of these calls is answered: none is refused
+abbrev pub AreAnswered : World → List Entry → Type 0
+AreAnswered w [] = Unit {0}
+AreAnswered w (e ∷ es) = (refusal w e.1 ≡ None) × AreAnswered (step w e.1).world es
+
+-- Exchange e is open, is x except for its marks, and keeps an answer that shows exactly these of its
+-- numbers.
+pub record KeepsAnswer (w : World) (e : ℕ) (shown : ℕ → Bool) (x : Exchange) : Type 0 where
+  pub marked : Exchange
+  pub answer : Score
+  pub open_now : exchange w e ≡ Some marked
+  pub same : unmarked marked ≡ unmarked x
+  pub kept : marked.answer ≡ Some answer
+  pub shows : EachMpdu (λ m. shows answer m.number ≡ shown m.number) (mpdus_of x.content)
+
+-- exactly the numbers of x that are shown are acknowledged
+abbrev pub AreAckedWhere : World → (ℕ → Bool) → Exchange → Type 0
+AreAckedWhere w shown x =
+    EachMpdu (λ m. ((slot (session w x.station x.tid) m.number).state ≡ State.Acked) ↔
+    (shown m.number ≡ true)) (mpdus_of x.content)
+
+-- What the inferred calls leave for x, an open exchange e of w: each of them is answered, and the answer
+-- that is kept then shows what the BlockAck shows. After the exchange's Done exactly the numbers shown are
+-- acknowledged, and no receiver has anything that its sender does not know of.
+pub record IsInferred (w : World) (caller e : ℕ) (shown : ℕ → Bool) (air : Option ℕ)
+    (x : Exchange) : Type 0 where
+  pub answered : AreAnswered w (inferred caller e shown x.content)
+  pub keeps : tells shown x.content ≡ true → KeepsAnswer (after_inferred w caller e shown x.content) e shown x
+  pub ends : refusal (after_inferred w caller e shown x.content) (done_inferred e shown air x.content) ≡ None
+  pub acked : AreAckedWhere (step (after_inferred w caller e shown x.content)
+      (done_inferred e shown air x.content)).world
+      shown x
+  pub unheard : IsUnheard (step (after_inferred w caller e shown x.content)
+      (done_inferred e shown air x.content)).world
+
+-- this holds in an unheard world after a history, for each open exchange and each airtime that its Done may
+-- give
+abbrev pub InferredLaw : Config → List Entry → Type 0
+InferredLaw config history =
+    let w : World = world_after (opening config) history in
+    (caller e : ℕ) (shown : ℕ → Bool) (air : Option ℕ) (x : Exchange) → IsUnheard w → exchange w e ≡ Some x →
+    is_bad_air w.config air ≡ false → IsInferred w caller e shown air x
+
+-- Calls continue a history: the world after the history and the calls is the world after the calls, from
+-- the history's world on. If each frame of the history has at least one octet, or at most a given number,
+-- so has each of both.
+pub record HistoryGoesOn (config : Config) (history entries : List Entry) : Type 0 where
+  pub world : world_after (opening config) (history ++ entries)
+      ≡ world_after (world_after (opening config) history) entries
+  pub lengths : HaveLengths history → HaveLengths (history ++ entries)
+  pub most : (octets : ℕ) → AreAtMost octets history → AreAtMost octets (history ++ entries)
+
+-- the inferred calls continue each history, since they bring no frame
+abbrev pub RunLaw : Config → List Entry → Type 0
+RunLaw config history = (caller e : ℕ) (shown : ℕ → Bool) (content : Content) →
+    HistoryGoesOn config history (inferred caller e shown content)

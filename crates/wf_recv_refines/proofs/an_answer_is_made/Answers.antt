@@ -1,5 +1,0 @@
-use Rattle.wf_recv_refines.proofs.Answering.{answered_hears, answer_reply, answer_wide}
-use Rattle.wf_recv_refines.proofs.an_answer_is_made.Goals as goal
-
-pub returns : goal.returns
-returns c = record { hears = answered_hears; reply = answer_reply; wide = answer_wide }

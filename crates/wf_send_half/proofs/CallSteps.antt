@@ -1,0 +1,244 @@
+-- Proves what the calls do to the half from what they do to its parts.
+use Rattle.std.proofs.Common.{◌≡◌, ap, sym, ◌∙◌, subst, ℕ, suc, arith, ◌+◌, ◌-◌, ◌*◌, ◌==◌, Bool, true, false, pos, ◌-ℤ◌, ℤ, List, [], ◌∷◌, length, Option, Some, None, is_some, set, if◌then◌else◌, inl, inr}
+use Rattle.std.specs.Prelude.{int_lt, ◌<ℤ◌}
+use Rattle.std.proofs.lemmas.Bool.{cases_Bool}
+use Rattle.std.proofs.lemmas.Bool.Decides.{nat_tests}
+use Rattle.wf_frame.specs.declared.classes.Class.{Class}
+use Rattle.wf_frame.specs.declared.notes.AskedRate.{AskedRate}
+use Rattle.wf_frame.specs.declared.notes.Note.TheVariants.{Asked}
+use Rattle.wf_frame.specs.declared.notes.Ask.TheVariants.{Join, Rate as Rates, Tick, Sleep, Wake, Poll, Rx, Reap}
+use Rattle.wf_frame.specs.declared.notes.ReplyNote.TheVariants.{Joined, Set, Now, Slept, Woken, Polled, Charged, Reaped, Refused}
+use Rattle.wf_frame.specs.declared.notes.Refusal.TheVariants.{Debt, Nothing}
+use Rattle.wf_frame.specs.Frames.{FrameValue}
+use Rattle.wf_def_air.specs.Airtime.{Rate}
+use Rattle.wf_def_lists.specs.Bounds.{deepest_deficit}
+use Rattle.wf_def_world.specs.Rates.{rate_asked}
+use Rattle.wf_def_world.specs.World.{World, is_live, share}
+use Rattle.wf_def_world.specs.Refusals.{refusal}
+use Rattle.wf_def_world.specs.Step.{class_to_send}
+use Rattle.wf_send_parts.specs.Tally.{counts_of}
+use Rattle.wf_queue_flows.specs.Flows.{FlowsValue}
+use Rattle.wf_queue_flows_refines.specs.Standing.{ids, with_finished}
+use Rattle.wf_sched.specs.ClassRotas.{SchedValue, deficit, after_join}
+use Rattle.wf_sched_refines.specs.Standing.{everywhere, with_deficit_charged}
+use Rattle.wf_sched_refines.proofs.Readings.{deficit_same}
+use Rattle.wf_sched_refines.proofs.Charges.{debt_same}
+use Rattle.wf_send_parts.specs.Window.{WindowValue}
+use Rattle.wf_send_parts.specs.declared.stations.members.Member.{Member}
+use Rattle.wf_send_parts.specs.Members.{member, on_member, new_member, with_rate, with_receipt}
+use Rattle.wf_send_parts.specs.declared.stations.sleepers.Sleeper.{Sleeper}
+use Rattle.wf_send_parts.specs.Sleepers.{sleeper, with_sleeper, awake}
+use Rattle.wf_send_half_model.specs.Half.{TransmitValue}
+use Rattle.wf_send_half_model.specs.Standing.{StandsFor, Meets}
+use Rattle.wf_send_half_model.specs.Changes.{after_listing, AreReset}
+use Rattle.wf_send_half_model.proofs.Whole.{tick_meets, reap_meets, rate_meets, rx_meets, sleep_meets, wake_meets, poll_meets, join_meets}
+use Rattle.wf_send_half.specs.declared.half.Half.TheInside.{Inside}
+use Rattle.wf_send_half.proofs.Rows.{last_row, live_of, refused_call}
+use Rattle.wf_send_half.proofs.Worlds.{met_by}
+
+-- the value of these fields
+abbrev pub view_of : Inside → TransmitValue
+view_of t = record {
+  config = t.config;
+  clock = t.clock;
+  exchanges = t.exchanges;
+  inside = t.inside;
+  flows = t.flows;
+  sched = t.sched;
+  windows = t.windows;
+  members = t.members;
+  sleepers = t.sleepers;
+  opened = t.opened;
+  tally = counts_of t.tally;
+}
+
+some_left : (n m : ℕ) → n ≡ suc m → (n == 0) ≡ false
+some_left n m e = grind (arith, nat_tests)
+
+-- x is the value of the fields of the half v
+module _ (v x : TransmitValue) (same : x ≡ v) (w : World) (bodies : ℕ → FrameValue)
+    (h : StandsFor v w bodies) where
+  at_x : StandsFor x w bodies
+  at_x = subst (λ (z : TransmitValue). StandsFor z w bodies) (sym same) h
+
+  pub tick_done : (by n : ℕ) → n ≡ by → None ≡ refusal w (Asked (Tick by)) →
+      Meets w bodies (Asked (Tick by)) (record x { clock = x.clock + n }) (Now (x.clock + n))
+  tick_done by n e done = subst (λ (k : ℕ). Meets w bodies (Asked (Tick by))
+      (record x { clock = x.clock + k }) (Now (x.clock + k))) (sym e)
+      (tick_meets x w bodies at_x by (sym done))
+
+  pub rate_done : (s : ℕ) (asked : AskedRate) (members : List (Option Member)) (rate : Rate) →
+      rate ≡ rate_asked asked →
+      members ≡ on_member x.members s (with_rate rate) → None ≡ refusal w (Asked (Rates s asked)) →
+      Meets w bodies (Asked (Rates s asked)) (record x { members = members }) Set
+  rate_done s asked members rate is e done =
+      met_by (record x { members = on_member x.members s (with_rate (rate_asked asked)) })
+      (record x { members = members }) w bodies (Asked (Rates s asked)) Set
+      (ap (λ (m : List (Option Member)). record x { members = m })
+      (e ∙ ap (λ (r : Rate). on_member x.members s (with_rate r)) is))
+      (rate_meets x w bodies at_x s asked (sym done))
+
+  pub sleep_done : (s : ℕ) (sleepers : List Sleeper) (y : TransmitValue) →
+      sleepers ≡ with_sleeper x.sleepers s (record (sleeper x.sleepers s) { asleep = true }) →
+      y ≡ after_listing (record x { sleepers = sleepers }) s → None ≡ refusal w (Asked (Sleep s)) →
+      Meets w bodies (Asked (Sleep s)) y Slept
+  sleep_done s sleepers y e listed done =
+      met_by (after_listing (record x {
+        sleepers = with_sleeper x.sleepers s
+            (record (sleeper x.sleepers s) { asleep = true });
+      }) s) y w bodies (Asked (Sleep s)) Slept
+      (listed ∙ ap (λ (z : List Sleeper). after_listing (record x { sleepers = z }) s) e)
+      (sleep_meets x w bodies at_x s (sym done))
+
+  pub wake_done : (s : ℕ) (sleepers : List Sleeper) (y : TransmitValue) →
+      sleepers ≡ with_sleeper x.sleepers s awake → y ≡ after_listing (record x { sleepers = sleepers }) s →
+      None ≡ refusal w (Asked (Wake s)) →
+      Meets w bodies (Asked (Wake s)) y Woken
+  wake_done s sleepers y e listed done =
+      met_by (after_listing (record x { sleepers = with_sleeper x.sleepers s awake }) s) y w bodies
+      (Asked (Wake s)) Woken
+      (listed ∙ ap (λ (z : List Sleeper). after_listing (record x { sleepers = z }) s) e)
+      (wake_meets x w bodies at_x s (sym done))
+
+  pub poll_done : (s : ℕ) (c : Class) (sleepers : List Sleeper) (y : TransmitValue) → c ≡ class_to_send w s →
+      sleepers ≡ with_sleeper x.sleepers s (record (sleeper x.sleepers s) { credit = Some c }) →
+      y ≡ after_listing (record x { sleepers = sleepers }) s →
+      None ≡ refusal w (Asked (Poll s)) → Meets w bodies (Asked (Poll s)) y (Polled c)
+  poll_done s c sleepers y is e listed done =
+      met_by (after_listing (record x {
+        sleepers = with_sleeper x.sleepers s
+            (record (sleeper x.sleepers s) { credit = Some c });
+      }) s) y w bodies (Asked (Poll s)) (Polled c)
+      (listed ∙ ap (λ (z : List Sleeper). after_listing (record x { sleepers = z }) s) e)
+      (subst (λ (k : Class). Meets w bodies (Asked (Poll s))
+      (after_listing (record x {
+        sleepers = with_sleeper x.sleepers s
+            (record (sleeper x.sleepers s) { credit = Some k });
+      }) s) (Polled k)) (sym is)
+      (poll_meets x w bodies at_x s (sym done)))
+
+  no_debt : (s : ℕ) (c : Class) (air : ℕ) → is_some (member v.members s) ≡ true →
+      ((deficit x.sched c s -ℤ pos air) <ℤ deepest_deficit → ⊥) →
+      int_lt ((share w s c).deficit -ℤ pos air) deepest_deficit ≡ false
+  no_debt s c air live above = elim (cases_Bool (int_lt ((share w s c).deficit -ℤ pos air) deepest_deficit)) [
+    | inl is ↦ absurd (above ((debt_same x.sched w s c air at_x.parts.others.turns
+        (live_of v w bodies h s live)).1 is))
+    | inr off ↦ off
+  ]
+
+  -- a receive charge that stays within the greatest debt
+  pub rx_done : (s : ℕ) (c : Class) (air : ℕ) (left : ℤ) (turns : SchedValue)
+      (members : List (Option Member)) → left ≡ deficit x.sched c s -ℤ pos air →
+      turns ≡ with_deficit_charged x.sched s c air → members ≡ on_member x.members s (with_receipt c air) →
+      is_some (member v.members s) ≡ true → refusal w (Asked (Rx s c air))
+      ≡ (if int_lt ((share w s c).deficit -ℤ pos air) deepest_deficit
+      then Some (Debt (share w s c).deficit) else None) →
+      ((deficit x.sched c s -ℤ pos air) <ℤ deepest_deficit → ⊥) →
+      Meets w bodies (Asked (Rx s c air)) (record x { sched = turns; members = members }) (Charged left)
+  rx_done s c air left turns members is e f live passed above =
+      met_by (record x {
+        sched = with_deficit_charged x.sched s c air;
+        members =
+            on_member x.members s (with_receipt c air);
+      })
+      (record x { sched = turns; members = members }) w bodies (Asked (Rx s c air)) (Charged left)
+      (ap (λ (z : SchedValue). record x { sched = z; members = members }) e
+      ∙ ap (λ (m : List (Option Member)). record
+      x { sched = with_deficit_charged x.sched s c air; members = m }) f)
+      (subst (λ (d : ℤ). Meets w bodies (Asked (Rx s c air))
+      (record x {
+        sched = with_deficit_charged x.sched s c air;
+        members =
+            on_member x.members s (with_receipt c air);
+      }) (Charged d)) (sym is)
+      (rx_meets x w bodies at_x s c air (passed ∙ ap
+      (λ (b : Bool). if b then Some (Debt (share w s c).deficit) else None)
+      (no_debt s c air live above))))
+
+  -- a receive charge that would exceed the greatest debt
+  pub rx_refused : (s : ℕ) (c : Class) (air : ℕ) (d : ℤ) (turns : SchedValue) → d ≡ deficit x.sched c s →
+      turns ≡ x.sched →
+      is_some (member v.members s) ≡ true → refusal w (Asked (Rx s c air))
+      ≡ (if int_lt ((share w s c).deficit -ℤ pos air) deepest_deficit
+      then Some (Debt (share w s c).deficit) else None) →
+      (deficit x.sched c s -ℤ pos air) <ℤ deepest_deficit →
+      Meets w bodies (Asked (Rx s c air)) (record x { sched = turns }) (Refused (Debt d))
+  rx_refused s c air d turns is e live passed below =
+      let there : is_live w s ≡ true = live_of v w bodies h s live in
+      met_by x (record x { sched = turns }) w bodies (Asked (Rx s c air)) (Refused (Debt d))
+      (ap (λ (z : SchedValue). record x { sched = z }) e)
+      (refused_call x w bodies (Asked (Rx s c air)) (Debt d)
+      (λ e. cc e, (λ e. cc e, (λ e. cc e, (λ e. cc e, tt)))) at_x
+      (ap (λ (z : ℤ). Some (Debt z)) (is ∙ deficit_same x.sched w s c at_x.parts.others.turns there)
+      ∙ sym (passed ∙ ap (λ (b : Bool). if b then Some (Debt (share w s c).deficit) else None)
+      ((debt_same x.sched w s c air at_x.parts.others.turns there).0 below))))
+
+  finished_is : w.finished ≡ ids x.flows.backlog.finished
+  finished_is = at_x.parts.others.flows.finished
+
+  pub reap_done : (f : FrameValue) (flows : FlowsValue) →
+      x.flows.backlog.finished ≡ f ∷ flows.backlog.finished →
+      flows ≡ with_finished x.flows flows.backlog.finished →
+      Meets w bodies (Asked Reap) (record x { inside = x.inside - 1; flows = flows }) (Reaped f.id f.fate)
+  reap_done f flows e others =
+      met_by (record x { inside = x.inside - 1; flows = with_finished x.flows flows.backlog.finished })
+      (record x { inside = x.inside - 1; flows = flows }) w bodies (Asked Reap) (Reaped f.id f.fate)
+      (ap (λ (z : FlowsValue). record x { inside = x.inside - 1; flows = z }) others)
+      (reap_meets x w bodies at_x f flows.backlog.finished e
+      (sym (last_row false (length w.finished == 0) Nothing
+      (some_left (length w.finished) (length (ids flows.backlog.finished))
+      (ap (λ (l : List ℕ). length l) (finished_is ∙ ap ids e))))))
+
+  pub reap_refused : (flows : FlowsValue) → flows ≡ x.flows → x.flows.backlog.finished ≡ [] →
+      Meets w bodies (Asked Reap) (record x { flows = flows }) (Refused Nothing)
+  reap_refused flows same none =
+      met_by x (record x { flows = flows }) w bodies (Asked Reap) (Refused Nothing)
+      (ap (λ (z : FlowsValue). record x { flows = z }) same)
+      (refused_call x w bodies (Asked Reap) Nothing (λ e. cc e, tt) at_x
+      (last_row true (length w.finished == 0) Nothing
+      (ap (λ (l : List ℕ). length l == 0) (finished_is ∙ ap ids none))))
+
+  pub join_done : (s window start exponent weight : ℕ) (turns : SchedValue) (windows : List WindowValue)
+      (members : List (Option Member)) (sleepers : List Sleeper) (y : TransmitValue) →
+      turns ≡ everywhere (after_join s (x.sched.quantum * weight)) x.sched →
+      members ≡ set x.members s (Some (new_member exponent)) →
+      sleepers ≡ with_sleeper x.sleepers s awake → AreReset x.windows windows s start window →
+      y ≡ after_listing (record x {
+        sched = turns;
+        windows = windows;
+        members = members;
+        sleepers =
+            sleepers;
+      }) s → None ≡ refusal w (Asked (Join s window start exponent weight)) →
+      Meets w bodies (Asked (Join s window start exponent weight)) y Joined
+  join_done s window start exponent weight turns windows members sleepers y e f g reset listed done =
+      met_by (after_listing (record x {
+        sched = everywhere (after_join s (x.sched.quantum * weight)) x.sched;
+        windows = windows;
+        members = set x.members s (Some (new_member exponent));
+        sleepers = with_sleeper x.sleepers s awake;
+      }) s) y w bodies (Asked (Join s window start exponent weight)) Joined
+      (listed ∙ ap (λ (z : TransmitValue). after_listing z s)
+      (ap (λ (t : SchedValue). record x {
+        sched = t;
+        windows = windows;
+        members = members;
+        sleepers =
+            sleepers;
+      }) e
+      ∙ ap (λ (m : List (Option Member)). record x {
+        sched =
+            everywhere (after_join s (x.sched.quantum * weight)) x.sched;
+        windows = windows;
+        members = m;
+        sleepers = sleepers;
+      }) f
+      ∙ ap (λ (l : List Sleeper). record x {
+        sched =
+            everywhere (after_join s (x.sched.quantum * weight)) x.sched;
+        windows = windows;
+        members =
+            set x.members s (Some (new_member exponent));
+        sleepers = l;
+      }) g))
+      (join_meets x w bodies at_x windows s window start exponent weight (sym done) reset)

@@ -1,0 +1,244 @@
+use Rattle.std.proofs.Common.{◌≡◌, refl, sym, ap, ◌∙◌, subst, arith, Option, Some, true, false, List, ℕ, ◌==◌, is_none}
+use Rattle.std.specs.Prelude.{find, IfSome}
+use Rattle.wf_frame.specs.declared.settings.Config.{Config}
+use Rattle.wf_frame.specs.declared.notes.Note.TheVariants.{Asked}
+use Rattle.wf_frame.specs.declared.notes.Ask.TheVariants.{Done}
+use Rattle.wf_frame.specs.declared.notes.Refusal.TheVariants.{NoExchange}
+use Rattle.wf_frame.specs.declared.notes.ReplyNote.TheVariants.{Refused}
+use Rattle.wf_def_world.specs.World.{Exchange}
+use Rattle.wf_send_parts.specs.declared.exchanges.opened.Open.{Open}
+use Rattle.wf_send_half_model.specs.Half.{TransmitValue}
+use Rattle.wf_send_half_model.specs.Standing.{StandsFor}
+use Rattle.wf_law_driver.proofs.Ended.{may_end_lost, may_end_heard}
+use Rattle.wf_send_half.specs.Bits.{IsChargeSmall, end_refusal, GoesBy, count_shown_of}
+use Rattle.wf_send_half.specs.Half.{HasWorld}
+use Rattle.wf_send_half.proofs.CallSteps.{view_of}
+use Rattle.wf_send_half.proofs.Worlds.{met_by}
+use Rattle.wf_send_half.proofs.Dones.{IsKnown, known_of, refused_done, ends_unknown, ends_well, bad_of, fine_then, bad_meets_lost, bad_meets_heard, at_charge, within_turns, within_members, charge_low, charge_small, closes, closed_now, unopened, where_none, where_some, within_config, open_low, goes_lost, goes_shown, goes_unshown, done_whole}
+use Rattle.wf_send_half.proofs.half.Half.done.Goals as goal
+use Rattle.wf_frame.specs.Settings.{is_bad_air}
+
+pub returns-then-has_bad_air-clause-lost : goal.returns-then-has_bad_air-clause-lost
+returns-then-has_bad_air-clause-lost c =
+    where_none _ c.args.heard (λ none w bodies h.
+    bad_meets_lost c.args.self.now w bodies h c.args.exchange c.args.air
+    (bad_of c.args.self.now c.args.exchange c.args.air (sym c.has_bad_air.ensures ∙ c.if-has_bad_air.true)))
+
+pub returns-then-has_bad_air-clause-shown : goal.returns-then-has_bad_air-clause-shown
+returns-then-has_bad_air-clause-shown c =
+    where_some _ c.args.heard (λ score is w bodies x b h known kept shown.
+    bad_meets_heard c.args.self.now w bodies h c.args.exchange c.args.air
+    (bad_of c.args.self.now c.args.exchange c.args.air (sym c.has_bad_air.ensures ∙ c.if-has_bad_air.true))
+    x b known kept)
+
+pub returns-then-has_bad_air-clause-none_shown : goal.returns-then-has_bad_air-clause-none_shown
+returns-then-has_bad_air-clause-none_shown c w bodies x h known data_is none =
+    bad_meets_lost c.args.self.now w bodies h c.args.exchange c.args.air
+    (bad_of c.args.self.now c.args.exchange c.args.air (sym c.has_bad_air.ensures ∙ c.if-has_bad_air.true))
+
+pub returns-in_default-clause-refused : goal.returns-in_default-clause-refused
+returns-in_default-clause-refused c = (
+  ends_unknown c.args.self.now c.args.exchange c.args.air
+      (c.in_default.ensures.taken ∙ ap (λ (z : TransmitValue).
+      find (λ (k : Open). k.number == c.args.exchange) z.opened) c.self.view_is),
+  ap
+      (λ (l : List Open). let t : TransmitValue = record (view_of c.self.inside) { opened = l } in t)
+      (c.in_default.ensures.rest ∙ unopened c.args.exchange c.self.inside.opened c.in_default.ensures.taken)
+      ∙ c.self.view_is,
+)
+
+pub returns-in_default-clause-lost : goal.returns-in_default-clause-lost
+returns-in_default-clause-lost c =
+    where_none _ c.args.heard (λ none w bodies h.
+    met_by c.args.self.now _ w bodies (Asked (Done c.args.exchange false c.args.air)) (Refused NoExchange)
+    ((returns-in_default-clause-refused c).1)
+    (refused_done c.args.self.now w bodies h c.args.exchange false c.args.air
+    (c.in_default.ensures.taken ∙ ap (λ (z : TransmitValue).
+    find (λ (k : Open). k.number == c.args.exchange) z.opened) c.self.view_is)))
+
+pub returns-in_default-clause-shown : goal.returns-in_default-clause-shown
+returns-in_default-clause-shown c =
+    where_some _ c.args.heard (λ score is w bodies x b h known kept shown.
+    met_by c.args.self.now _ w bodies (Asked (Done c.args.exchange true c.args.air)) (Refused NoExchange)
+    ((returns-in_default-clause-refused c).1)
+    (refused_done c.args.self.now w bodies h c.args.exchange true c.args.air
+    (c.in_default.ensures.taken ∙ ap (λ (z : TransmitValue).
+    find (λ (k : Open). k.number == c.args.exchange) z.opened) c.self.view_is)))
+
+pub returns-in_default-clause-none_shown : goal.returns-in_default-clause-none_shown
+returns-in_default-clause-none_shown c w bodies x h known data_is none =
+    met_by c.args.self.now _ w bodies (Asked (Done c.args.exchange false c.args.air)) (Refused NoExchange)
+    ((returns-in_default-clause-refused c).1)
+    (refused_done c.args.self.now w bodies h c.args.exchange false c.args.air
+    (c.in_default.ensures.taken ∙ ap (λ (z : TransmitValue).
+    find (λ (k : Open). k.number == c.args.exchange) z.opened) c.self.view_is))
+
+pub charge-requires-clause-known : goal.charge-requires-clause-known
+charge-requires-clause-known c = within_turns (view_of c.self.inside)
+    (subst HasWorld (sym c.self.view_is) c.requires.some) c.args.exchange c.in-Some.open
+    c.in-Some.ensures.taken
+
+pub charge-requires-clause-low : goal.charge-requires-clause-low
+charge-requires-clause-low c = charge_low (view_of c.self.inside)
+    (subst HasWorld (sym c.self.view_is) c.requires.some) c.args.exchange c.in-Some.open
+    c.in-Some.ensures.taken c.args.air c.unwrap_or-charge.result
+    (fine_then c.args.self.now (view_of c.self.inside) c.args.exchange c.args.air c.in-Some.open
+    c.has_bad_air.result c.self.view_is c.has_bad_air.ensures c.if-has_bad_air.false c.in-Some.ensures.taken)
+    c.unwrap_or-charge.ensures
+
+pub charge-requires-2-clause-within : goal.charge-requires-2-clause-within
+charge-requires-2-clause-within c = within_members (view_of c.self.inside)
+    (subst HasWorld (sym c.self.view_is) c.requires.some) c.args.exchange c.in-Some.open
+    c.in-Some.ensures.taken
+
+pub charge-requires-2-clause-small : goal.charge-requires-2-clause-small
+charge-requires-2-clause-small c =
+    charge_small (view_of c.self.inside) (subst HasWorld (sym c.self.view_is) c.requires.some) c.args.exchange
+    c.in-Some.open c.in-Some.ensures.taken (subst (λ (z : TransmitValue). IsChargeSmall z c.args.exchange)
+    (sym c.self.view_is) c.requires.small)
+
+pub settle-ended-requires : goal.settle-ended-requires
+settle-ended-requires c = record {
+  some = closed_now (view_of c.self.inside) (subst HasWorld (sym c.self.view_is) c.requires.some)
+      c.args.exchange c.in-Some.open c.in-Some.ensures.taken c.args.air _
+      (closes (view_of c.self.inside) (subst HasWorld (sym c.self.view_is) c.requires.some) c.args.exchange
+      c.in-Some.open c.in-Some.ensures.taken c.args.air c.unwrap_or-charge.result c.take_out.new.self
+      c.charge.new.self
+      c.charge-2.new.self c.unwrap_or-charge.ensures
+      c.in-Some.ensures.rest c.charge.ensures c.charge-2.ensures);
+}
+
+pub of_tid-class-requires : goal.of_tid-class-requires
+of_tid-class-requires c = open_low (view_of c.self.inside) (subst HasWorld (sym c.self.view_is)
+    c.requires.some)
+    c.args.exchange c.in-Some.open c.in-Some.ensures.taken
+
+pub list_in-is_ready-requires : goal.list_in-is_ready-requires
+list_in-is_ready-requires c = record {
+  within = omega (
+    arith,
+    within_config (view_of c.self.inside)
+        (subst HasWorld (sym c.self.view_is) c.requires.some) c.args.exchange c.in-Some.open
+        c.in-Some.ensures.taken,
+    ap (λ (k : Config). k.stations) c.settle-ended.ensures.config,
+  );
+}
+
+pub returns-clause-lost : goal.returns-clause-lost
+returns-clause-lost c = where_none _ c.args.heard (λ none w bodies h.
+    let at : StandsFor (view_of c.self.inside) w bodies =
+    (subst (λ (z : TransmitValue). StandsFor z w bodies) (sym c.self.view_is) h) in
+    let k : IsKnown w c.args.exchange c.in-Some.open =
+    known_of (view_of c.self.inside) w bodies at c.args.exchange c.in-Some.open c.in-Some.ensures.taken in
+    let shut = closes (view_of c.self.inside) (subst HasWorld (sym c.self.view_is) c.requires.some)
+    c.args.exchange c.in-Some.open c.in-Some.ensures.taken c.args.air c.unwrap_or-charge.result
+    c.take_out.new.self
+    c.charge.new.self c.charge-2.new.self c.unwrap_or-charge.ensures c.in-Some.ensures.rest c.charge.ensures
+    c.charge-2.ensures in
+    let y : Exchange = k.exchange_is in
+    let closed = at_charge (view_of c.self.inside) _ c.in-Some.open y c.args.air k.same shut in
+    let fine = ap (λ (z : Config). is_bad_air z c.args.air) (sym at.parts.others.config) ∙
+    (fine_then c.args.self.now (view_of c.self.inside) c.args.exchange c.args.air c.in-Some.open
+    c.has_bad_air.result c.self.view_is c.has_bad_air.ensures c.if-has_bad_air.false
+    c.in-Some.ensures.taken) in
+    let goes : GoesBy w y c.args.heard false = subst (λ (o : Option (ℕ × List ℕ)). GoesBy w y o false)
+    (sym none) (goes_lost w y) in
+    done_whole (view_of c.self.inside) w bodies at c.args.exchange y k.known c.in-Some.open k.same false
+    c.args.air
+    (may_end_lost w c.args.exchange y c.args.air k.known fine) c.settle-ended.new.self
+    c.list_in-is_ready.new.self c.settle-ended.result
+    (c.settle-ended.ensures.settled
+    (view_of c.self.inside) w bodies c.args.exchange y false c.args.air at k.known
+    k.same
+    closed goes) (c.settle-ended.ensures.reply
+    (view_of c.self.inside) w bodies c.args.exchange y false c.args.air at k.known k.same closed goes)
+    c.of_tid-class.result c.of_tid-class.ensures c.list_in-is_ready.ensures.listed)
+
+pub returns-clause-shown : goal.returns-clause-shown
+returns-clause-shown c = where_some _ c.args.heard (λ score is w bodies x b h known kept shown.
+    let at : StandsFor (view_of c.self.inside) w bodies =
+    (subst (λ (z : TransmitValue). StandsFor z w bodies) (sym c.self.view_is) h) in
+    let k : IsKnown w c.args.exchange c.in-Some.open =
+    known_of (view_of c.self.inside) w bodies at c.args.exchange c.in-Some.open c.in-Some.ensures.taken in
+    let shut = closes (view_of c.self.inside) (subst HasWorld (sym c.self.view_is) c.requires.some)
+    c.args.exchange c.in-Some.open c.in-Some.ensures.taken c.args.air c.unwrap_or-charge.result
+    c.take_out.new.self
+    c.charge.new.self c.charge-2.new.self c.unwrap_or-charge.ensures c.in-Some.ensures.rest c.charge.ensures
+    c.charge-2.ensures in
+    let y : Exchange = k.exchange_is in
+    let closed = at_charge (view_of c.self.inside) _ c.in-Some.open y c.args.air k.same shut in
+    let it : x ≡ y = cc (known, k.known) in
+    let fine = ap (λ (z : Config). is_bad_air z c.args.air) (sym at.parts.others.config) ∙
+    (fine_then c.args.self.now (view_of c.self.inside) c.args.exchange c.args.air c.in-Some.open
+    c.has_bad_air.result c.self.view_is c.has_bad_air.ensures c.if-has_bad_air.false
+    c.in-Some.ensures.taken) in
+    let goes : GoesBy w y c.args.heard true = subst (λ (o : Option (ℕ × List ℕ)). GoesBy w y o true) (sym is)
+    (subst (λ (z : Exchange). GoesBy w z (Some score) true) it (goes_shown w x b score kept shown)) in
+    done_whole (view_of c.self.inside) w bodies at c.args.exchange y k.known c.in-Some.open k.same true
+    c.args.air
+    (may_end_heard w c.args.exchange y b c.args.air k.known
+    (ap (λ (z : Exchange). z.answer) (sym it) ∙ kept) fine)
+    c.settle-ended.new.self c.list_in-is_ready.new.self c.settle-ended.result
+    (c.settle-ended.ensures.settled
+    (view_of c.self.inside) w bodies c.args.exchange y true c.args.air at k.known k.same
+    closed goes) (c.settle-ended.ensures.reply
+    (view_of c.self.inside) w bodies c.args.exchange y true c.args.air at k.known k.same closed goes)
+    c.of_tid-class.result c.of_tid-class.ensures c.list_in-is_ready.ensures.listed)
+
+pub returns-clause-none_shown : goal.returns-clause-none_shown
+returns-clause-none_shown c w bodies x h known data_is none =
+    let at : StandsFor (view_of c.self.inside) w bodies =
+    (subst (λ (z : TransmitValue). StandsFor z w bodies) (sym c.self.view_is) h) in
+    let k : IsKnown w c.args.exchange c.in-Some.open =
+    known_of (view_of c.self.inside) w bodies at c.args.exchange c.in-Some.open c.in-Some.ensures.taken in
+    let shut = closes (view_of c.self.inside) (subst HasWorld (sym c.self.view_is) c.requires.some)
+    c.args.exchange c.in-Some.open c.in-Some.ensures.taken c.args.air c.unwrap_or-charge.result
+    c.take_out.new.self
+    c.charge.new.self c.charge-2.new.self c.unwrap_or-charge.ensures c.in-Some.ensures.rest c.charge.ensures
+    c.charge-2.ensures in
+    let y : Exchange = k.exchange_is in
+    let closed = at_charge (view_of c.self.inside) _ c.in-Some.open y c.args.air k.same shut in
+    let it : x ≡ y = cc (known, k.known) in
+    let fine = ap (λ (z : Config). is_bad_air z c.args.air) (sym at.parts.others.config) ∙
+    (fine_then c.args.self.now (view_of c.self.inside) c.args.exchange c.args.air c.in-Some.open
+    c.has_bad_air.result c.self.view_is c.has_bad_air.ensures c.if-has_bad_air.false
+    c.in-Some.ensures.taken) in
+    let goes : GoesBy w y c.args.heard false = subst (λ (z : Exchange). GoesBy w z c.args.heard false) it
+    (goes_unshown w x c.args.heard data_is none) in
+    done_whole (view_of c.self.inside) w bodies at c.args.exchange y k.known c.in-Some.open k.same false
+    c.args.air
+    (may_end_lost w c.args.exchange y c.args.air k.known fine) c.settle-ended.new.self
+    c.list_in-is_ready.new.self c.settle-ended.result
+    (c.settle-ended.ensures.settled
+    (view_of c.self.inside) w bodies c.args.exchange y false c.args.air at k.known
+    k.same
+    closed goes) (c.settle-ended.ensures.reply
+    (view_of c.self.inside) w bodies c.args.exchange y false c.args.air at k.known k.same closed goes)
+    c.of_tid-class.result c.of_tid-class.ensures c.list_in-is_ready.ensures.listed
+
+pub returns-clause-found : goal.returns-clause-found
+returns-clause-found c = sym (ap (λ (z : TransmitValue). is_none (end_refusal z c.args.exchange c.args.air))
+    (sym c.self.view_is)
+    ∙ ap is_none (ends_well (view_of c.self.inside) c.args.exchange c.args.air c.in-Some.open
+    c.in-Some.ensures.taken
+    (fine_then c.args.self.now (view_of c.self.inside) c.args.exchange c.args.air c.in-Some.open
+    c.has_bad_air.result c.self.view_is c.has_bad_air.ensures c.if-has_bad_air.false
+    c.in-Some.ensures.taken)))
+
+pub returns-clause-acked : goal.returns-clause-acked
+returns-clause-acked c =
+    subst (λ (z : TransmitValue). IfSome (find (λ (k : Open). k.number == c.args.exchange) z.opened)
+    (λ (k : Open). c.settle-ended.result.acked ≡ count_shown_of z c.args.heard k)) c.self.view_is
+    (subst (λ (o : Option Open). IfSome o (λ (k : Open). c.settle-ended.result.acked
+    ≡ count_shown_of (view_of c.self.inside) c.args.heard k)) c.in-Some.ensures.taken
+    c.settle-ended.ensures.acked)
+
+pub returns-clause-closed : goal.returns-clause-closed
+returns-clause-closed c = record {
+  exchange_is = c.in-Some.open;
+  known = c.in-Some.ensures.taken
+      ∙ ap (λ (z : TransmitValue). find (λ (k : Open). k.number == c.args.exchange) z.opened) c.self.view_is;
+  station = refl;
+  class = c.of_tid-class.ensures;
+  ready = c.list_in-is_ready.ensures.ready;
+}

@@ -1,0 +1,15 @@
+use Rattle.std.proofs.lemmas.Result.{err_from_is_err_and}
+use Rattle.wf_send_half.proofs.Rows.{refused_call}
+use Rattle.wf_send_half.proofs.CallSteps.{view_of, wake_done}
+use Rattle.wf_send_half.proofs.half.Half.wake.Goals as goal
+
+pub returns-in_err-check_wake-clause-meets : goal.returns-in_err-check_wake-clause-meets
+returns-in_err-check_wake-clause-meets c w bodies h =
+    let p = err_from_is_err_and c.from_residual.result c.from_residual.ensures.1 in rw (p.1, p.2)
+    (refused_call c.args.self.now w bodies _ _ (λ e. cc e, (λ e. cc e, (λ e. cc e, tt))) h
+    (c.in_err-check_wake.ensures.refused w bodies h))
+
+pub returns-clause-meets : goal.returns-clause-meets
+returns-clause-meets c w bodies h =
+    wake_done c.args.self.now (view_of c.self.inside) c.self.view_is w bodies h c.args.station c.wake.new.self
+    c.list.new.self c.wake.ensures c.list.ensures (c.in_ok-check_wake.ensures.refused w bodies h)

@@ -1,7 +1,0 @@
-use Rattle.wf_send_half.specs.Bits.{is_shown}
-use Rattle.wf_send_half.proofs.Settling.{IsSettling}
-use Rattle.wf_send_half.proofs.half.Transmit.settle_all.Given as goal
-
-abbrev pub invariant-loop-i : goal.invariant-loop-i
-invariant-loop-i l = IsSettling l.initial.self l.self l.station l.tid l.numbers
-    (is_shown l.wide l.heard) l.i l.ended

@@ -1,0 +1,51 @@
+use Rattle.std.proofs.Common.{◌≡◌, ◌∙◌, ap, sym, subst, true}
+use Rattle.std.specs.Prelude.{nat_le, count_by}
+use Rattle.wf_frame.specs.Classes.{same_class}
+use Rattle.wf_frame.specs.declared.answers.Brief.TheVariants.{Refused as Refuses}
+use Rattle.wf_frame.specs.declared.notes.Refusal.TheVariants.{Full}
+use Rattle.wf_send_half_model.specs.Half.{TransmitValue}
+use Rattle.wf_send_half_model.specs.Standing.{StandsFor}
+use Rattle.wf_send_half.specs.Flags.{with_flag}
+use Rattle.wf_send_half.proofs.Sends.{pulled_unheard, sender_room, tracked_sender, tracked_idle}
+use Rattle.wf_send_half.proofs.transmit.Transmit.pull.Goals as goal
+
+pub set-requires : goal.set-requires
+set-requires c = record {
+  room = sender_room c.self.inside.half c.self.inside.ready c.self.invariant c.args.class
+      c.pull-pulled.result.brief c.pull-pulled.new.pairs c.pull-pulled.new.self c.pull-pulled.ensures.meets
+      c.in-Send.exchange c.in-Send.station c.in-Send.tid c.in-Send.air c.in-Send.request c.in-Send.more
+      c.in-Send.is;
+}
+
+pub invariant_of-self : goal.invariant_of-self
+invariant_of-self c =
+    tracked_sender c.self.inside.half c.self.inside.ready c.self.invariant c.args.class
+    c.pull-pulled.result.brief c.pull-pulled.new.pairs c.pull-pulled.new.self c.pull-pulled.ensures.meets
+    c.in-Send.exchange c.in-Send.station c.in-Send.tid c.in-Send.air c.in-Send.request c.in-Send.more
+    c.in-Send.is c.set.new.self (c.set.ensures
+    ∙ ap (with_flag c.self.inside.ready c.args.class c.in-Send.station)
+    (c.pull-pulled.ensures.ready c.in-Send.exchange c.in-Send.station c.in-Send.tid c.in-Send.air
+    c.in-Send.request c.in-Send.more c.in-Send.is))
+
+pub invariant_of-self-in_default : goal.invariant_of-self-in_default
+invariant_of-self-in_default c =
+    tracked_idle c.self.inside.half c.self.inside.ready c.self.invariant c.args.class
+    c.pull-pulled.result.brief c.pull-pulled.new.pairs c.pull-pulled.new.self c.pull-pulled.ensures.meets
+    (λ b. c.in_default.not-Send b.exchange b.station b.tid b.air b.request b.more b.is)
+
+pub returns-in-Send-clause-unheard : goal.returns-in-Send-clause-unheard
+returns-in-Send-clause-unheard c = pulled_unheard c.self.inside.half c.self.inside.ready c.self.invariant
+    c.args.class c.pull-pulled.result.brief c.pull-pulled.new.pairs c.pull-pulled.new.self
+    c.pull-pulled.ensures.meets
+
+pub returns-in_default : goal.returns-in_default
+returns-in_default c = record {
+  meets = λ w bodies h. c.pull-pulled.ensures.meets w bodies
+      (subst (λ (v : TransmitValue). StandsFor v w bodies) (sym c.self.view_is) h);
+  full = subst (λ (v : TransmitValue). nat_le v.config.inflight
+      (count_by (λ x. same_class x.class c.args.class) v.opened) ≡ true →
+      (c.pull-pulled.result.brief ≡ Refuses (Full (count_by (λ x. same_class x.class c.args.class)
+      v.opened))) × (c.pull-pulled.new.self ≡ v)) c.self.view_is c.pull-pulled.ensures.full;
+  unheard = pulled_unheard c.self.inside.half c.self.inside.ready c.self.invariant c.args.class
+      c.pull-pulled.result.brief c.pull-pulled.new.pairs c.pull-pulled.new.self c.pull-pulled.ensures.meets;
+}

@@ -1,0 +1,14 @@
+use Rattle.std.proofs.Common.{refl}
+use Rattle.wf_frame.specs.declared.notes.Ask.TheVariants.{Rate}
+use Rattle.wf_send_half.proofs.Kept.{tracked_still}
+use Rattle.wf_send_half.proofs.transmit.Transmit.rate.Goals as goal
+
+pub invariant_of-self : goal.invariant_of-self
+invariant_of-self c = tracked_still c.self.inside.half c.rate.new.self c.self.inside.ready (Rate
+    c.args.station c.args.asked) _
+    c.self.invariant c.rate.ensures.meets tt refl
+
+pub returns-clause-unheard : goal.returns-clause-unheard
+returns-clause-unheard c = (tracked_still c.self.inside.half c.rate.new.self c.self.inside.ready (Rate
+    c.args.station c.args.asked) _
+    c.self.invariant c.rate.ensures.meets tt refl).some

@@ -1,0 +1,13 @@
+use Rattle.std.proofs.Common.{refl}
+use Rattle.wf_frame.specs.declared.notes.Ask.TheVariants.{Tick}
+use Rattle.wf_send_half.proofs.Kept.{tracked_still}
+use Rattle.wf_send_half.proofs.transmit.Transmit.tick.Goals as goal
+
+pub invariant_of-self : goal.invariant_of-self
+invariant_of-self c = tracked_still c.self.inside.half c.tick.new.self c.self.inside.ready (Tick c.args.by) _
+    c.self.invariant c.tick.ensures.meets tt refl
+
+pub returns-clause-unheard : goal.returns-clause-unheard
+returns-clause-unheard c = (tracked_still c.self.inside.half c.tick.new.self c.self.inside.ready (Tick
+    c.args.by) _
+    c.self.invariant c.tick.ensures.meets tt refl).some

@@ -1,0 +1,257 @@
+//! The calls of a transmit half. Each sets the flags of the stations whose readiness it may change.
+
+ghost use Rattle.std.specs.Prelude.{◌≡◌, ◌==◌, ◌<◌, ◌^◌, ℕ, [], true, Some, find, nat_le, count_by, IfOk, IfErr, IfSome, IfNone};
+ghost use Rattle.wf_frame.specs.Answers.{reply_with};
+ghost use Rattle.wf_frame.specs.Classes.{same_class};
+ghost use Rattle.wf_frame.specs.Frames.{FrameValue};
+ghost use Rattle.wf_frame.specs.declared.answers.Brief.TheVariants.{Refused as Refuses};
+ghost use Rattle.wf_frame.specs.declared.notes.Ask.TheVariants.{Join, Leave, Rate, Tick, Pull, Sleep, Wake, Poll, Rx, Reap};
+ghost use Rattle.wf_frame.specs.declared.notes.Note.TheVariants.{Asked};
+ghost use Rattle.wf_frame.specs.declared.notes.Refusal.TheVariants.{Full};
+ghost use Rattle.wf_frame.specs.declared.notes.ReplyNote.TheVariants.{Joined, Left, Set, Now, Slept, Woken, Polled, Charged, Accepted, Refused};
+ghost use Rattle.wf_def_world.specs.World.{World};
+ghost use Rattle.wf_queue_flows_refines.specs.Frames.{with_body, IsBodySettled};
+ghost use Rattle.wf_send_half_model.specs.Standing.{StandsFor, Meets};
+ghost use Rattle.wf_send_half.specs.Bits.{IsChargeSmall, count_shown_of};
+ghost use Rattle.wf_send_half.specs.Driven.{IsAfterDone};
+ghost use Rattle.wf_send_half.specs.Enqueues.{enqueue_of, as_accepted};
+ghost use Rattle.wf_send_half.specs.Half.{HasUnheardWorld, IsReceiptSmall};
+ghost use Rattle.wf_send_half.specs.Replies.{bodies_sent, reaped_reply, reply_of_result};
+
+use crate::enqueue::Admitted;
+use crate::{Admission, Ended, Transmit};
+use wf_frame::{AskedRate, Brief, Class, Pairs, Refusal};
+use wf_octets::bits::Bits256;
+use wf_octets::seq12::Seq12;
+use wf_queue_parts::chain::Parcel;
+
+impl Transmit {
+    /// Accepts a frame. If the queues hold `limit` frames, the head of the longest queue is dropped. Refused
+    /// as BadStation, BadTid, NoStation, Room if `room` frames are inside, or Sleeping if `sleeping` frames
+    /// of its class are queued for a station that sleeps; a refused frame is returned.
+    pub fn enqueue(&mut self, parcel: Parcel) -> Result<Admission, (Refusal, Parcel)>
+        requires small { self.old.tally.accepted < 2 ^ 62 }
+        ensures meets { IfOk result (λ given. (w : World) (bodies : ℕ → FrameValue) →
+            StandsFor self.old w bodies →
+            Meets w (with_body bodies (as_accepted self.old parcel)) (enqueue_of parcel) self.new
+            (Accepted given.id given.dropped)) }
+        ensures refuses { IfErr result (λ given. (w : World) (bodies : ℕ → FrameValue) →
+            StandsFor self.old w bodies →
+            Meets w bodies (enqueue_of parcel) self.new (Refused given.0)) }
+        ensures refused { IfErr result (λ _. self.new ≡ self.old) }
+        ensures handed_back { IfErr result (λ given. given.1 ≡ parcel) }
+        ensures unheard { HasUnheardWorld self.new }
+    {
+        let frame = parcel.frame();
+        let (station, tid, _octets) = (frame.station(), frame.tid(), frame.len());
+        let accepted = self.half.enqueue(parcel)?;
+        let Admitted { id, lost, is_ready } = accepted;
+        let class = Class::of_tid(tid);
+        self.ready.set(station, class, is_ready);
+        let Some(lost) = lost else {
+            return Ok(Admission { id, dropped: None });
+        };
+        let other = Class::of_tid(lost.tid);
+        self.ready
+            .set_other(&self.half, lost.station, other, (station, class));
+        Ok(Admission {
+            id,
+            dropped: Some(lost.id),
+        })
+    }
+
+    /// Opens the next exchange of a class. The station whose turn it is sends what is due on one of its TIDs:
+    /// a request, or an aggregate, whose frames are written to `pairs`, each by its id and its sequence
+    /// number; each counts that it is sent once more. Refused as Full if as many exchanges of the class are
+    /// open as the setting `inflight` allows, or as Idle if no station is ready in the class.
+    pub fn pull(&mut self, class: Class, pairs: &mut Pairs) -> Brief
+        requires clock { self.old.clock < 2 ^ 62 }
+        requires exchanges { self.old.exchanges < 2 ^ 62 }
+        ensures meets { (w : World) (bodies : ℕ → FrameValue) → StandsFor self.old w bodies →
+            Meets w (bodies_sent (reply_with result pairs.new []) bodies) (Asked (Pull class)) self.new
+            (reply_with result pairs.new []) }
+        ensures full { nat_le self.old.config.inflight
+            (count_by (λ x. same_class x.class class) self.old.opened) ≡ true →
+            (result ≡ Refuses (Full (count_by (λ x. same_class x.class class) self.old.opened))) ×
+            (self.new ≡ self.old) }
+        ensures unheard { HasUnheardWorld self.new }
+    {
+        let pulled = self.half.pull(class, self.ready.of(class), pairs);
+        if let Brief::Send { station, .. } = pulled.brief {
+            self.ready.set(station, class, pulled.is_ready);
+        }
+        pulled.brief
+    }
+
+    /// Ends an exchange: its station is charged, and each frame that it sent is settled. `heard` is the start
+    /// and the bits of the BlockAck that was heard (IEEE 802.11-2012, 8.3.1.9), if one was; the first 64 bits
+    /// count, or all 256 if the TID's window is above 64. Each number that it shows is acknowledged; each
+    /// other number waits again, or fails if it was sent `attempts` times. A request is heard if anything
+    /// was. If `air` is given, the station is charged so many microseconds instead of the computed charge.
+    /// Refused as NoExchange if the exchange is not open, then as BadAir if `air` is 0 or above the setting
+    /// `charge`.
+    pub fn done(
+        &mut self,
+        exchange: u64,
+        heard: Option<(Seq12, Bits256)>,
+        air: Option<u32>,
+    ) -> Result<Ended, Refusal>
+        requires small { IsChargeSmall self.old exchange }
+        ensures ended { IsAfterDone self.old self.new exchange heard air result }
+        ensures acked { IfOk result (λ ended. IfSome (find (λ x. x.number == exchange) self.old.opened) (λ x.
+            ended.acked ≡ count_shown_of self.old heard x)) }
+        ensures unheard { HasUnheardWorld self.new }
+    {
+        match self.half.done(exchange, heard, air) {
+            Ok(closed) => {
+                self.ready
+                    .set(closed.station, closed.class, closed.is_ready);
+                Ok(closed.ended)
+            }
+            Err(reason) => Err(reason),
+        }
+    }
+
+    /// A station joins: its window in frames, 1 to 256, and its first sequence number, 0 to 4095, on each
+    /// TID; its maximum A-MPDU length exponent, 0 to 3 (IEEE 802.11-2012, 8.4.2.58.3); its weight, 1 to 16
+    /// quanta. Refused as BadStation, BadWindow, BadStart, BadExponent, BadWeight or Live.
+    pub fn join(
+        &mut self,
+        station: u16,
+        window: u16,
+        start: u16,
+        exponent: u8,
+        weight: u8,
+    ) -> Result<(), Refusal>
+        ensures meets { (w : World) (bodies : ℕ → FrameValue) → StandsFor self.old w bodies →
+            Meets w bodies (Asked (Join station window start exponent weight)) self.new
+            (reply_of_result (λ _. Joined) result) }
+        ensures refused { IfErr result (λ _. self.new ≡ self.old) }
+        ensures unheard { HasUnheardWorld self.new }
+    {
+        match self.half.join(station, window, start, exponent, weight) {
+            Ok(()) => {
+                self.ready.set_all(&self.half, station);
+                Ok(())
+            }
+            Err(reason) => Err(reason),
+        }
+    }
+
+    /// A station leaves, and its frames are dropped as Left. Returns how many they were. They go last on the
+    /// finished list, by TID: first those that have a number, by their numbers, then those of the flow
+    /// queues, by queue. Refused as BadStation or NoStation, or as Open if exchanges of the station are open.
+    pub fn leave(&mut self, station: u16) -> Result<u32, Refusal>
+        ensures meets { (w : World) (bodies : ℕ → FrameValue) → StandsFor self.old w bodies →
+            Meets w bodies (Asked (Leave station)) self.new (reply_of_result Left result) }
+        ensures refused { IfErr result (λ _. self.new ≡ self.old) }
+        ensures unheard { HasUnheardWorld self.new }
+    {
+        match self.half.leave(station) {
+            Ok(dropped) => {
+                self.ready.set_all(&self.half, station);
+                Ok(dropped)
+            }
+            Err(reason) => Err(reason),
+        }
+    }
+
+    /// Sets the rate at which a station is sent to from now on. Refused as BadStation, BadRate or NoStation.
+    pub fn rate(&mut self, station: u16, asked: AskedRate) -> Result<(), Refusal>
+        ensures meets { (w : World) (bodies : ℕ → FrameValue) → StandsFor self.old w bodies →
+            Meets w bodies (Asked (Rate station asked)) self.new
+            (reply_of_result (λ _. Set) result) }
+        ensures refused { IfErr result (λ _. self.new ≡ self.old) }
+        ensures unheard { HasUnheardWorld self.new }
+    {
+        self.half.rate(station, asked)
+    }
+
+    /// Advances the clock by at most 10,000,000 microseconds, and returns it. Refused as BadTick if it would
+    /// advance further.
+    pub fn tick(&mut self, by: u32) -> Result<u64, Refusal>
+        requires small { self.old.clock < 2 ^ 62 }
+        ensures meets { (w : World) (bodies : ℕ → FrameValue) → StandsFor self.old w bodies →
+            Meets w bodies (Asked (Tick by)) self.new (reply_of_result Now result) }
+        ensures refused { IfErr result (λ _. self.new ≡ self.old) }
+        ensures unheard { HasUnheardWorld self.new }
+    {
+        self.half.tick(by)
+    }
+
+    /// A station goes to sleep (IEEE 802.11-2012, 10.2.1). Refused as BadStation, NoStation or Asleep.
+    pub fn sleep(&mut self, station: u16) -> Result<(), Refusal>
+        ensures meets { (w : World) (bodies : ℕ → FrameValue) → StandsFor self.old w bodies →
+            Meets w bodies (Asked (Sleep station)) self.new (reply_of_result (λ _. Slept) result) }
+        ensures refused { IfErr result (λ _. self.new ≡ self.old) }
+        ensures unheard { HasUnheardWorld self.new }
+    {
+        match self.half.sleep(station) {
+            Ok(()) => {
+                self.ready.set_all(&self.half, station);
+                Ok(())
+            }
+            Err(reason) => Err(reason),
+        }
+    }
+
+    /// A station wakes. Refused as BadStation, NoStation or Awake.
+    pub fn wake(&mut self, station: u16) -> Result<(), Refusal>
+        ensures meets { (w : World) (bodies : ℕ → FrameValue) → StandsFor self.old w bodies →
+            Meets w bodies (Asked (Wake station)) self.new (reply_of_result (λ _. Woken) result) }
+        ensures refused { IfErr result (λ _. self.new ≡ self.old) }
+        ensures unheard { HasUnheardWorld self.new }
+    {
+        match self.half.wake(station) {
+            Ok(()) => {
+                self.ready.set_all(&self.half, station);
+                Ok(())
+            }
+            Err(reason) => Err(reason),
+        }
+    }
+
+    /// A sleeping station asks for one frame (PS-Poll, 10.2.1.6). Returns the most urgent class in which one
+    /// of its TIDs can send; the station may be sent one exchange of this class. Refused as BadStation,
+    /// NoStation, Awake, Polled or Nothing.
+    pub fn poll(&mut self, station: u16) -> Result<Class, Refusal>
+        ensures meets { (w : World) (bodies : ℕ → FrameValue) → StandsFor self.old w bodies →
+            Meets w bodies (Asked (Poll station)) self.new (reply_of_result Polled result) }
+        ensures refused { IfErr result (λ _. self.new ≡ self.old) }
+        ensures unheard { HasUnheardWorld self.new }
+    {
+        match self.half.poll(station) {
+            Ok(class) => {
+                self.ready.set_all(&self.half, station);
+                Ok(class)
+            }
+            Err(reason) => Err(reason),
+        }
+    }
+
+    /// Charges a station for the airtime that it used in a class to send, 1 to 65,535 microseconds, and
+    /// returns its deficit. Refused as BadStation, BadAir, NoStation, or as Debt if the deficit would fall
+    /// below -1,000,000.
+    pub fn rx(&mut self, station: u16, class: Class, air: u32) -> Result<i64, Refusal>
+        requires small { IsReceiptSmall self.old station class }
+        ensures meets { (w : World) (bodies : ℕ → FrameValue) → StandsFor self.old w bodies →
+            Meets w bodies (Asked (Rx station class air)) self.new (reply_of_result Charged result) }
+        ensures refused { IfErr result (λ _. self.new ≡ self.old) }
+        ensures unheard { HasUnheardWorld self.new }
+    {
+        self.half.rx(station, class, air)
+    }
+
+    /// Takes the first frame off the finished list. None exactly if no frame is finished, which the machine
+    /// refuses as Nothing.
+    pub fn reap(&mut self) -> Option<Parcel>
+        ensures meets { (w : World) (bodies : ℕ → FrameValue) → StandsFor self.old w bodies →
+            Meets w bodies (Asked Reap) self.new (reaped_reply result) }
+        ensures parcel { IfSome result (λ p. (w : World) (bodies : ℕ → FrameValue) →
+            StandsFor self.old w bodies → IsBodySettled bodies p) }
+        ensures refused { IfNone result (self.new ≡ self.old) }
+        ensures unheard { HasUnheardWorld self.new }
+    {
+        self.half.reap()
+    }
+}

@@ -1,0 +1,168 @@
+-- Proves that a pull reads the same values from a half as from its world, and that the half refuses a pull
+-- exactly if the machine does.
+use Rattle.std.proofs.Common.{◌≡◌, refl, ap, ap₂, sym, ◌∙◌, arith, ℕ, ◌+◌, ◌-◌, ◌<◌, Bool, true, false, if◌then◌else◌, [], ◌∷◌, length, Option, Some, None, is_some, is_none, option_map, unwrap_or}
+use Rattle.std.specs.Prelude.{nat_le, IfSome, count_by}
+use Rattle.wf_frame.specs.declared.classes.Class.{Class}
+use Rattle.wf_frame.specs.Classes.{lower_tid, upper_tid, same_class, tid_number}
+use Rattle.wf_frame.specs.declared.notes.Note.TheVariants.{Asked}
+use Rattle.wf_frame.specs.declared.notes.Ask.TheVariants.{Pull}
+use Rattle.wf_frame.specs.declared.notes.Refusal.{Refusal}
+use Rattle.wf_frame.specs.declared.notes.Refusal.TheVariants.{Full, Idle}
+use Rattle.wf_frame.specs.Frames.{FrameValue}
+use Rattle.wf_def_air.specs.Airtime.{Rate}
+use Rattle.wf_def_codel.specs.Codel.{Params}
+use Rattle.wf_def_codel.specs.Parameters.{params_at}
+use Rattle.wf_def_lists.specs.Table.{at}
+use Rattle.wf_def_world.specs.World.{World, Station, no_station, is_live, station, share, codel_params}
+use Rattle.wf_def_world.specs.CanSend.{can_send, can_send_in}
+use Rattle.wf_def_world.specs.Exchanges.{most_frames, picked_station, after_pick, sending_tid}
+use Rattle.wf_def_world.specs.Refusals.{open_of_class, first_refusal, refusal}
+use Rattle.wf_law_runs.proofs.Windows.Agreed.{sends, winner_ready}
+use Rattle.wf_air.specs.Sizes.{empty_size}
+use Rattle.wf_sched.specs.ClassRotas.{SchedValue}
+use Rattle.wf_sched_refines.specs.Calls.{HasPickedInClass}
+use Rattle.wf_queue_flows.specs.Flows.{TakenFromFlows, frames_of_tid, taken_for_tid as take_out}
+use Rattle.wf_queue_flows_refines.specs.Standing.{flows_part}
+use Rattle.wf_queue_flows_refines.proofs.Heads.{drops_counted}
+use Rattle.wf_send_parts.specs.declared.stations.members.Member.{Member}
+use Rattle.wf_send_parts.specs.Members.{member}
+use Rattle.wf_send_parts.specs.Sleepers.{sleeper}
+use Rattle.wf_send_half_model.specs.Half.{TransmitValue, can_send_of}
+use Rattle.wf_send_half_model.specs.Standing.{IsMember, AreBoth, Parts, StandsFor}
+use Rattle.wf_send_half_model.specs.Pulling.{sending_tid_of, is_wide_of}
+use Rattle.wf_send_half_model.specs.Filling.{room_for}
+use Rattle.wf_send_half_model.proofs.Pulls.{pick_parts, sending_same, sending_low, wide_same}
+use Rattle.wf_send_half_model.proofs.Readers.{can_send_same, class_count_same}
+use Rattle.wf_send_half_model.proofs.Sends.{from_winner, winner_live}
+
+-- ---- the station
+
+read_member : {X : Type 0} (f : Member → X) (g : Station → X) →
+    ((m : Member) (x : Station) → IsMember m x → f m ≡ g x) → (m : Option Member) (o : Option Station) →
+    AreBoth IsMember m o → is_some o ≡ true → (k : X) → option_map f m ≡ Some k →
+    k ≡ g (unwrap_or o no_station)
+read_member f g same None None h live k e = absurd (cc live)
+read_member f g same None (Some x) h live k e = absurd h
+read_member f g same (Some m) None h live k e = absurd h
+read_member f g same (Some m) (Some x) h live k e = let is : f m ≡ k = cc in sym is ∙ same m x h
+
+module _ (v : TransmitValue) (w : World) (bodies : ℕ → FrameValue) (s : ℕ) (h : Parts v w bodies)
+    (live : is_live w s ≡ true) (rate : Rate)
+    (rate_is : option_map (λ m. m.rate) (member v.members s) ≡ Some rate) where
+  rate_read : rate ≡ (station w s).rate
+  rate_read = read_member (λ m. m.rate) (λ x. x.rate) (λ m x k. k.rate) (member v.members s)
+      (at None w.stations s) (h.others.stations.live s) live rate rate_is
+
+  pub params_read : params_at rate ≡ codel_params w s
+  params_read = ap params_at rate_read
+
+  pub room_read : (t exponent : ℕ) → t < 8 → option_map (λ m. m.exponent) (member v.members s)
+      ≡ Some exponent →
+      empty_size rate exponent (if (sleeper v.sleepers s).asleep then 1 else v.config.agg) v.config.cap
+      (is_wide_of v s t) ≡ room_for w s t
+  room_read t exponent low exponent_is =
+      let exponent_read : exponent ≡ (station w s).exponent =
+      read_member (λ m. m.exponent) (λ x. x.exponent) (λ m x k. k.exponent) (member v.members s)
+      (at None w.stations s) (h.others.stations.live s) live exponent exponent_is in
+      ap₂ (λ (r : Rate) (n : ℕ). empty_size r n (if (sleeper v.sleepers s).asleep then 1 else v.config.agg)
+      v.config.cap (is_wide_of v s t)) rate_read exponent_read
+      ∙ ap₂ (λ (b : Bool) (n : ℕ). empty_size (station w s).rate (station w s).exponent
+      (if b then 1 else n) v.config.cap (is_wide_of v s t)) (h.others.stations.asleep s live)
+      (ap (λ c. c.agg) h.others.config)
+      ∙ ap₂ (λ (n : ℕ) (b : Bool). empty_size (station w s).rate (station w s).exponent (most_frames w s) n b)
+      (ap (λ c. c.cap) h.others.config) (wide_same v w bodies s t h live low)
+
+-- ---- a take
+
+pub drops_read : (v : TransmitValue) (w : World) (bodies : ℕ → FrameValue) (s t : ℕ) → Parts v w bodies →
+    is_live w s ≡ true → t < 8 → (params : Params) (f : FrameValue) →
+    (take_out v.flows (tid_number s t) v.clock params).frame ≡ Some f →
+    frames_of_tid v.flows (tid_number s t) - 1 - frames_of_tid
+    (take_out v.flows (tid_number s t) v.clock params).flows (tid_number s t)
+    ≡ length (take_out v.flows (tid_number s t) v.clock params).flows.backlog.finished - length
+    v.flows.backlog.finished
+drops_read v w bodies s t h live low params f out =
+    let i : ℕ = tid_number s t in
+    let st = h.others.flows in
+    let within : i < length v.flows.rotas.lists =
+    omega (arith, h.others.turns.live s live, low, st.sized.lists, ap (λ x. x.stations) st.settings) in
+    go (take_out v.flows i v.clock params) out (drops_counted v.flows
+    (flows_part w) st i within v.clock params)
+  where
+    go : (x : TakenFromFlows) → x.frame ≡ Some f →
+        IfSome x.frame (λ g. length x.flows.backlog.finished + frames_of_tid x.flows (tid_number s t) + 1
+        ≡ length v.flows.backlog.finished + frames_of_tid v.flows (tid_number s t)) →
+        frames_of_tid v.flows (tid_number s t) - 1 - frames_of_tid x.flows (tid_number s t)
+        ≡ length x.flows.backlog.finished - length v.flows.backlog.finished
+    go x e k = let sum = from_winner_of x.frame e k in omega (arith, sum)
+      where
+        from_winner_of : (o : Option FrameValue) → o ≡ Some f →
+            IfSome o (λ g. length x.flows.backlog.finished + frames_of_tid x.flows (tid_number s t) + 1
+            ≡ length v.flows.backlog.finished + frames_of_tid v.flows (tid_number s t)) →
+            length x.flows.backlog.finished + frames_of_tid x.flows (tid_number s t) + 1
+            ≡ length v.flows.backlog.finished + frames_of_tid v.flows (tid_number s t)
+        from_winner_of None e k = absurd (cc e)
+        from_winner_of (Some g) e k = k
+
+-- ---- who sends
+
+pub turn_sends : (v : TransmitValue) (w : World) (bodies : ℕ → FrameValue) → StandsFor v w bodies →
+    (c : Class) (s : ℕ) → (picked_station w c).winner ≡ Some s → (turns : SchedValue) →
+    HasPickedInClass w c v.sched turns →
+    can_send_of (record v { sched = turns }) s (sending_tid_of (record v { sched = turns }) s c) ≡ true
+turn_sends v w bodies h c s won turns picked =
+    let x : TransmitValue = record v { sched = turns } in
+    let u : World = after_pick w c in
+    let k : Parts x u bodies = pick_parts v w bodies c turns picked h.parts in
+    let live : is_live u s ≡ true = winner_live v w bodies h c s won in
+    let can : can_send_in u s c ≡ true = (from_winner (picked_station w c).winner s
+    (λ i. (is_live u i ≡ true) × (can_send_in u i c ≡ true)) won (winner_ready w c)).1 in
+    ap (can_send_of x s) (sending_same x u bodies s c k live)
+    ∙ can_send_same x u bodies s (sending_tid u s c) k live (sending_low x u bodies s c k live)
+    ∙ sends (can_send u s) (share u s c).upper (lower_tid c) (upper_tid c) can
+
+-- ---- refusals
+
+two_rows : (a b : Bool) (r q : Refusal) → first_refusal ((a, r) ∷ (b, q) ∷ [])
+    ≡ (if a then Some r else if b then Some q else None)
+unfolding first_refusal
+two_rows a b r q = refl
+
+module _ (v : TransmitValue) (w : World) (bodies : ℕ → FrameValue) (c : Class) (h : Parts v w bodies) where
+  rows_are : refusal w (Asked (Pull c)) ≡ (if nat_le w.config.inflight (open_of_class w c)
+      then Some (Full (open_of_class w c)) else if is_none (picked_station w c).winner then Some Idle
+      else None)
+  rows_are = two_rows (nat_le w.config.inflight (open_of_class w c)) (is_none (picked_station w c).winner)
+      (Full (open_of_class w c)) Idle
+
+  count_read : count_by (λ x. same_class x.class c) v.opened ≡ open_of_class w c
+  count_read = class_count_same v w bodies c h
+
+  test_read : nat_le v.config.inflight (count_by (λ x. same_class x.class c) v.opened)
+      ≡ nat_le w.config.inflight (open_of_class w c)
+  test_read = ap₂ (λ (n m : ℕ). nat_le n m) (ap (λ x. x.inflight) h.others.config) count_read
+
+  pub full_refused : nat_le v.config.inflight (count_by (λ x. same_class x.class c) v.opened) ≡ true →
+      refusal w (Asked (Pull c)) ≡ Some (Full (count_by (λ x. same_class x.class c) v.opened))
+  full_refused full =
+      rows_are
+      ∙ ap (λ (b : Bool). if b then Some (Full (open_of_class w c))
+      else if is_none (picked_station w c).winner then Some Idle else None) (sym test_read ∙ full)
+      ∙ ap (λ (n : ℕ). Some (Full n)) (sym count_read)
+
+  judged : (o : Option ℕ) → (picked_station w c).winner ≡ o →
+      nat_le v.config.inflight (count_by (λ x. same_class x.class c) v.opened) ≡ false →
+      refusal w (Asked (Pull c)) ≡ (if is_none o then Some Idle else None)
+  judged o is few =
+      rows_are
+      ∙ ap (λ (b : Bool). if b then Some (Full (open_of_class w c))
+      else if is_none (picked_station w c).winner then Some Idle else None) (sym test_read ∙ few)
+      ∙ ap (λ (z : Option ℕ). if is_none z then Some Idle else None) is
+
+  pub idle_refused : nat_le v.config.inflight (count_by (λ x. same_class x.class c) v.opened) ≡ false →
+      (picked_station w c).winner ≡ None → refusal w (Asked (Pull c)) ≡ Some Idle
+  idle_refused few none = judged None none few
+
+  pub not_refused : nat_le v.config.inflight (count_by (λ x. same_class x.class c) v.opened) ≡ false →
+      (s : ℕ) → (picked_station w c).winner ≡ Some s → refusal w (Asked (Pull c)) ≡ None
+  not_refused few s won = judged (Some s) won few

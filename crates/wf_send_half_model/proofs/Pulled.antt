@@ -1,0 +1,287 @@
+-- Proves that a pull leaves the readiness of the station that it picks in each class except the pull's.
+use Rattle.std.proofs.Common.{◌≡◌, refl, ap, sym, ◌∙◌, subst, arith, ℕ, zero, suc, ◌<◌, ◌≤◌, Bool, true, false, not, ◌&&◌, ◌||◌, if◌then◌else◌, List, [], ◌∷◌, length, Option, Some, None, IfSome, option_map, inl, inr}
+use Rattle.std.specs.Prelude.{◌==◌}
+use Rattle.std.proofs.lemmas.Bool.{cases_eq, ne_eqb, and_parts}
+use Rattle.std.proofs.lemmas.List.Folds.{list_any-append}
+use Rattle.wf_frame.specs.declared.classes.Class.{Class}
+use Rattle.wf_frame.specs.declared.classes.Fate.{Fate}
+use Rattle.wf_frame.specs.declared.notes.Note.TheVariants.{Asked}
+use Rattle.wf_frame.specs.declared.notes.Ask.TheVariants.{Pull}
+use Rattle.wf_frame.specs.Classes.{lower_tid, upper_tid, class_of, class_number}
+use Rattle.wf_def_lists.specs.Table.{at, change}
+use Rattle.wf_def_codel.specs.Codel.{Item}
+use Rattle.wf_def_lists.specs.Lists.{on}
+use Rattle.wf_def_rotation.specs.Rotation.{Rotation, in_order}
+use Rattle.wf_def_world.specs.World.{World, Station, Tid, Queue, Mpdu, no_tid, share, rotation, tid_of, queue, is_live, on_queue, with_station, on_station, on_tid, with_queues, with_frames_finished}
+use Rattle.wf_def_world.specs.FlowQueues.{taken_from_picked, taken_by_codel, taken_for_tid, with_queues_paid}
+use Rattle.wf_def_world.specs.CanSend.{is_request, can_send, has_credit, may_receive, is_ready}
+use Rattle.wf_def_world.specs.Exchanges.{Aggregate, Prepared, picked_station, station_need, with_fresh, aggregate_of, prepared_data, prepared_exchange, with_number, after_pick, after_tid_turn, first_tid, other_tid, sending_tid, exchange_of, with_exchange_opened, without_credit}
+use Rattle.wf_def_world.specs.Step.{outcome_of, send_outcome, pull_outcome_for, pull_outcome, step}
+use Rattle.wf_law_rules.proofs.Lemmas.Numbers.{on_if}
+use Rattle.wf_law_rules.proofs.Lemmas.Counts.{listed-some}
+use Rattle.wf_law_rules.proofs.Lemmas.Tables.{at_put_same, at_put_other}
+use Rattle.wf_law_runs.specs.Queues.{KeepsQueues}
+use Rattle.wf_law_runs.proofs.Queues.Law.{queue_law}
+use Rattle.wf_law_runs.proofs.Queues.Shelves.{Shelves, shelves, shelves_after_pick}
+use Rattle.wf_law_runs.proofs.Windows.Sides.{live_on}
+use Rattle.wf_law_runs.proofs.Windows.Opened.{pick_ready}
+use Rattle.wf_law_runs.proofs.Frames.Delivered.{less_pulled}
+use Rattle.wf_law_runs.proofs.Releases.Placed.{Any}
+use Rattle.wf_law_runs.proofs.Deficits.Books.{cases_class}
+use Rattle.wf_law_runs.proofs.Deficits.Mild.{Lists}
+use Rattle.wf_queue_flows_refines.specs.Standing.{Part}
+use Rattle.wf_queue_flows_refines.proofs.Leaves.{pick_alone}
+use Rattle.wf_send_half_model.specs.Standing.{IsReached}
+use Rattle.wf_send_half_model.proofs.Reached.{by_law}
+use Rattle.wf_send_half_model.proofs.Apart.{IsApart, apart_pulled}
+use Rattle.wf_send_half_model.proofs.Steady.{asks, receives, receives_on_station}
+use Rattle.wf_send_half_model.proofs.Spared.{IsSameTid, ready_same_by, queued_same, ready_stepped, ready_others, ready_after_pick, winner_live}
+use Rattle.wf_send_half_model.proofs.OwnClass.{lower_class, upper_class}
+use Rattle.wf_send_half_model.proofs.Beyond.{IsBeyond, beyond_here, beyond_then, beyond_on_session, beyond_on_share, beyond_finish, tid_on_station, on_station_opened}
+
+-- ---- the parts
+
+beyond_on_queue : (s t : ℕ) (w : World) (q : ℕ) (f : Queue → Queue) → IsBeyond s t w (on_queue w q f)
+unfolding on_queue
+beyond_on_queue s t w q f = record { tids = λ j _. refl; live = refl; receives = λ c. refl; opened = refl }
+
+beyond_with_queues : (w : World) (s t : ℕ) (r : Rotation) → IsBeyond s t w (with_queues w s t r)
+unfolding with_queues on_tid
+beyond_with_queues w s t r = record {
+  tids = λ j other. tid_on_station w s j (λ x. record
+      x { tids = change no_tid x.tids t (λ y. record y { queues = r }) })
+      (λ x. at_put_other no_tid x.tids t j _ (λ e. other (sym e)));
+  live = live_on w s _ s;
+  receives = receives_on_station w s _ (record { asleep = λ x. refl; credit = λ x. refl }) s;
+  opened = on_station_opened w s _;
+}
+
+beyond_finish_all : (ids : List ℕ) (s t : ℕ) (w : World) (fate : Fate) →
+    IsBeyond s t w (with_frames_finished w fate ids)
+unfolding with_frames_finished
+beyond_finish_all [] s t w fate = beyond_here s t w
+beyond_finish_all (id ∷ ids) s t w fate = beyond_then s t w _ _ (beyond_finish s t w fate id)
+    (beyond_finish_all ids s t _ fate)
+
+beyond_paid : (qs : List ℕ) (s t : ℕ) (w : World) (quanta : ℕ → ℕ) →
+    IsBeyond s t w (with_queues_paid w quanta qs)
+unfolding with_queues_paid
+beyond_paid [] s t w quanta = beyond_here s t w
+beyond_paid (q ∷ qs) s t w quanta = beyond_then s t w _ _ (beyond_on_queue s t w q _)
+    (beyond_paid qs s t _ quanta)
+
+beyond_taken : (o : Option ℕ) (s t : ℕ) (w : World) → IsBeyond s t w (taken_from_picked w s o).world
+unfolding taken_from_picked taken_by_codel
+beyond_taken None s t w = beyond_here s t w
+beyond_taken (Some q) s t w = beyond_then s t w _ _ (beyond_on_queue s t w q _) (beyond_finish_all _ s t _ _)
+
+beyond_take : (w : World) (s t : ℕ) → IsBeyond s t w (taken_for_tid w s t).world
+unfolding taken_for_tid
+beyond_take w s t = beyond_then s t w _ _ (beyond_then s t w _ _ (beyond_paid _ s t w _)
+    (beyond_with_queues _ s t _)) (beyond_taken _ s t _)
+
+beyond_number : (o : Option Item) (w : World) (s t : ℕ) → IsBeyond s t w (with_number w s t o)
+unfolding with_number
+beyond_number None w s t = beyond_here s t w
+beyond_number (Some x) w s t = beyond_on_session w s t _
+
+filled_if : (b : Bool) (s t : ℕ) (w : World) (x y : Aggregate) → IsBeyond s t w x.world →
+    IsBeyond s t w y.world → IsBeyond s t w (if b then x else y).world
+filled_if true s t w x y h k = h
+filled_if false s t w x y h k = k
+
+beyond_fresh : (n : ℕ) (w : World) (s t : ℕ) (mpdus : List Mpdu) →
+    IsBeyond s t w (with_fresh n w s t mpdus).world
+unfolding with_fresh
+beyond_fresh zero w s t mpdus = beyond_here s t w
+beyond_fresh (suc n) w s t mpdus =
+    let k = beyond_then s t w _ _ (beyond_take w s t)
+    (beyond_number (taken_for_tid w s t).item (taken_for_tid w s t).world s t) in
+    filled_if _ s t w _ _ (beyond_here s t w) (filled_if _ s t w _ _
+    (beyond_then s t w _ _ k (beyond_fresh n _ s t _)) k)
+
+beyond_filled : (w : World) (s t : ℕ) → IsBeyond s t w (aggregate_of w s t).world
+unfolding aggregate_of
+beyond_filled w s t = filled_if _ s t w _ _ (beyond_fresh _ w s t _) (beyond_here s t w)
+
+prepared_if : (b : Bool) (s t : ℕ) (w : World) (x y : Prepared) → IsBeyond s t w x.world →
+    IsBeyond s t w y.world → IsBeyond s t w (if b then x else y).world
+prepared_if true s t w x y h k = h
+prepared_if false s t w x y h k = k
+
+beyond_prepared : (w : World) (s t : ℕ) → IsBeyond s t w (prepared_exchange w s t).world
+unfolding prepared_exchange prepared_data
+beyond_prepared w s t = prepared_if _ s t w _ _ (beyond_here s t w)
+    (beyond_then s t w _ _ (beyond_filled w s t) (beyond_on_session _ s t _))
+
+beyond_turn : (w : World) (s : ℕ) (c : Class) (t : ℕ) → IsBeyond s t w (after_tid_turn w s c t)
+unfolding after_tid_turn
+beyond_turn w s c t = beyond_on_share w s t c _
+
+-- ---- the TID that sends belongs to the class
+
+sending_class : (w : World) (s : ℕ) (d : Class) → class_of (sending_tid w s d) ≡ d
+sending_class w s d =
+    on_if (λ (t : ℕ). class_of t ≡ d) (can_send w s (first_tid w s d)) (first_tid w s d) (other_tid w s d)
+    (λ _. on_if (λ (t : ℕ). class_of t ≡ d) (share w s d).upper (upper_tid d) (lower_tid d)
+    (λ _. upper_class d) (λ _. lower_class d))
+    (λ _. on_if (λ (t : ℕ). class_of t ≡ d) (share w s d).upper (lower_tid d) (upper_tid d)
+    (λ _. lower_class d) (λ _. upper_class d))
+
+-- ---- the exchange opens, and the credit is spent
+
+sent_tids : (s t j : ℕ) (d : Class) (p : Prepared) →
+    tid_of (send_outcome s t d p).world s j ≡ tid_of p.world s j
+unfolding send_outcome without_credit with_exchange_opened
+sent_tids s t j d p = tid_on_station (with_exchange_opened p.world (exchange_of s t d p)) s j
+    (λ x. record x { credit = None }) (λ x. refl)
+
+sent_live : (s t : ℕ) (d : Class) (p : Prepared) → is_live (send_outcome s t d p).world s ≡ is_live p.world s
+unfolding send_outcome without_credit with_exchange_opened
+sent_live s t d p = live_on (with_exchange_opened p.world (exchange_of s t d p)) s _ s
+
+sent_requests : (s t j : ℕ) (d : Class) (p : Prepared) → (j ≡ t → ⊥) →
+    asks s j (send_outcome s t d p).world.opened ≡ asks s j p.world.opened
+unfolding send_outcome without_credit with_exchange_opened on_station with_station
+sent_requests s t j d p other =
+    let none : (t == j) ≡ false = ne_eqb t j (λ e. other (sym e)) in
+    list_any-append (λ x. (x.station == s) && ((x.tid == j) && is_request x.content)) p.world.opened
+    (exchange_of s t d p ∷ [])
+    ∙ ap (λ (b : Bool). asks s j p.world.opened || (((s == s) && (b && is_request p.content)) || false)) none
+    ∙ nothing (s == s) (asks s j p.world.opened)
+  where
+    nothing : (a b : Bool) → b || ((a && false) || false) ≡ b
+    nothing true true = refl
+    nothing true false = refl
+    nothing false true = refl
+    nothing false false = refl
+
+-- spending a credit for class d does not change whether the station may receive in another class c
+no_credit : (o : Option Station) (d c : Class) → (d ≡ c → ⊥) → receives d o ≡ true →
+    receives c (option_map (λ (x : Station). record x { credit = None }) o) ≡ receives c o
+no_credit None d c other h = refl
+no_credit (Some x) d c other h = go x.asleep x.credit h
+  where
+    go : (asleep : Bool) (credit : Option Class) → (not asleep || has_credit credit d) ≡ true →
+        (not asleep || has_credit None c) ≡ (not asleep || has_credit credit c)
+    go false credit h = refl
+    go true None h = refl
+    go true (Some k) h = elim (cases_class k c) [
+      | inl same ↦ elim (cases_class k d) [
+        | inl is ↦ absurd (other (sym is ∙ same))
+        | inr differs ↦ absurd (cc (h, ne_eqb (class_number k) (class_number d) differs))
+      ]
+      | inr differs ↦ sym (ne_eqb (class_number k) (class_number c) differs)
+    ]
+
+sent_receives : (s t : ℕ) (d c : Class) (p : Prepared) → (d ≡ c → ⊥) → may_receive p.world s d ≡ true →
+    may_receive (send_outcome s t d p).world s c ≡ may_receive p.world s c
+unfolding send_outcome without_credit with_exchange_opened on_station with_station
+sent_receives s t d c p other h =
+    ap (receives c) (at_put_same None p.world.stations s
+    (option_map (λ (x : Station). record x { credit = None }) (at None p.world.stations s)))
+    ∙ no_credit (at None p.world.stations s) d c other h
+
+-- ---- the pull
+
+module _ (w : World) (d : Class) (i : ℕ) (r : IsReached w) (won : (picked_station w d).winner ≡ Some i) where
+  picked : World
+  picked = after_pick w d
+
+  sends_on : ℕ
+  sends_on = sending_tid (after_pick w d) i d
+
+  sent : World
+  sent = (pull_outcome_for (after_pick w d) d (Some i)).world
+
+  beyond_ready : IsBeyond i sends_on picked (prepared_exchange
+      (after_tid_turn picked i d sends_on) i sends_on).world
+  beyond_ready = beyond_then i sends_on picked _ _ (beyond_turn picked i d sends_on)
+      (beyond_prepared _ i sends_on)
+
+  whole : (pull_outcome w d).world ≡ sent
+  unfolding sent pull_outcome
+  whole = ap (λ (o : Option ℕ). (pull_outcome_for (after_pick w d) d o).world) won
+
+  winner_ready : is_ready w d i ≡ true
+  winner_ready = subst (λ (o : Option ℕ). IfSome o (λ k. is_ready w d k ≡ true)) won
+      (pick_ready (station_need w d) (is_ready w d) (rotation w d))
+
+  sent_long : (j q : ℕ) → (j ≡ sends_on → ⊥) → Lists w i j q →
+      length (queue sent q).items ≡ length (queue picked q).items
+  unfolding picked sends_on sent
+  sent_long j q other k =
+      let keeps : KeepsQueues w = by_law KeepsQueues w r (queue_law w.config r.history r.in_range) in
+      let T : ℕ → Type 0 = λ z. z ≡ sending_tid (after_pick w d) i d in
+      let same : shelves (after_pick w d) ≡ shelves w = shelves_after_pick w d in
+      let before : IsApart T (length (queue w q).items) q i (shelves w) = record {
+        live = winner_live w d i won;
+        off = λ t e. elim (cases_eq (on (in_order (tid_of w i t).queues) q) 0) [
+          | inl none ↦ none
+          | inr some ↦ absurd (other ((keeps.sole i j i t q (listed-some (tid_of w i j).queues q k)
+              (listed-some (tid_of w i t).queues q (omega (arith, some)))).1 ∙ e))
+        ];
+        long = omega arith;
+      } in
+      let after : IsApart T (length (queue w q).items) q i
+      (shelves (pull_outcome_for (after_pick w d) d (Some i)).world) =
+      apart_pulled T (length (queue w q).items) q i (after_pick w d) d refl
+      (subst (IsApart T (length (queue w q).items) q i) (sym same) before) in
+      let short : length (queue (pull_outcome w d).world q).items ≤ length (queue w q).items =
+      ((less_pulled Any w d).queues q).short in
+      let is : length (queue (pull_outcome w d).world q).items
+      ≡ length (queue (pull_outcome_for (after_pick w d) d (Some i)).world q).items =
+      ap (λ (u : World). length (queue u q).items) whole in
+      let first : length (queue (after_pick w d) q).items ≡ length (queue w q).items =
+      ap (λ (b : Shelves). length (b.queues q).items) same in
+      omega (arith, after.long, short, is, first)
+
+  sent_tid : (j : ℕ) → (j ≡ sends_on → ⊥) → IsSameTid picked sent i j
+  unfolding picked sends_on sent pull_outcome_for after_pick
+  sent_tid j other =
+      let p : Prepared = prepared_exchange (after_tid_turn picked i d sends_on) i sends_on in
+      let tid : tid_of (send_outcome i sends_on d p).world i j ≡ tid_of picked i j =
+      sent_tids i sends_on j d p ∙ beyond_ready.tids j other in
+      let lists : (tid_of picked i j).queues ≡ (tid_of w i j).queues =
+      ap (λ (x : Part). x.lists i j) (pick_alone w d) in
+      record {
+        session = ap (λ (y : Tid). y.session) tid;
+        request = sent_requests i sends_on j d p other ∙ ap (asks i j) beyond_ready.opened;
+        queued = queued_same picked sent i j (ap (λ (y : Tid). y.queues) tid)
+            (λ q k. sent_long j q other (subst (λ (z : Rotation). 0 < on (in_order z) q) lists k));
+      }
+
+  own_pulled : (c : Class) → (d ≡ c → ⊥) → is_ready sent c i ≡ is_ready w c i
+  unfolding picked sends_on sent pull_outcome_for
+  own_pulled c other =
+      let p : Prepared = prepared_exchange (after_tid_turn picked i d sends_on) i sends_on in
+      let ready : is_ready picked d i ≡ true = ready_after_pick w d d i ∙ winner_ready in
+      let may : may_receive p.world i d ≡ true = beyond_ready.receives d
+      ∙ (and_parts _ _ (and_parts _ _ ready).1).1 in
+      ready_same_by picked sent c i (sent_live i sends_on d p ∙ beyond_ready.live)
+      (sent_receives i sends_on d c p other may ∙ beyond_ready.receives c)
+      (sent_tid (lower_tid c) (λ e. other (sym (sending_class picked i d) ∙ ap class_of (sym e)
+      ∙ lower_class c)))
+      (sent_tid (upper_tid c) (λ e. other (sym (sending_class picked i d) ∙ ap class_of (sym e)
+      ∙ upper_class c)))
+      ∙ ready_after_pick w d c i
+
+  pub whole_pulled : (c : Class) → (d ≡ c → ⊥) → is_ready (outcome_of w (Asked (Pull d))).world c i
+      ≡ is_ready w c i
+  unfolding outcome_of
+  whole_pulled c other = ap (λ (u : World). is_ready u c i) whole ∙ own_pulled c other
+
+pub ready_pulled : (w : World) (d : Class) → IsReached w → (i : ℕ) (c : Class) →
+    ((picked_station w d).winner ≡ Some i → d ≡ c → ⊥) →
+    is_ready (step w (Asked (Pull d))).world c i ≡ is_ready w c i
+ready_pulled w d r i c other = go (picked_station w d).winner refl
+  where
+    go : (o : Option ℕ) → (picked_station w d).winner ≡ o →
+        is_ready (step w (Asked (Pull d))).world c i ≡ is_ready w c i
+    go None e = ready_others w (Asked (Pull d)) r i c (λ k. absurd (cc (e, k))) refl
+    go (Some k) e = elim (cases_eq k i) [
+      | inl same ↦
+          let won : (picked_station w d).winner ≡ Some i = e ∙ ap (λ (n : ℕ). Some n) same in
+          ready_stepped w (Asked (Pull d)) i c (λ _. whole_pulled w d i r won c (other won))
+      | inr differs ↦ ready_others w (Asked (Pull d)) r i c (λ h. differs (cc (e, h))) refl
+    ]

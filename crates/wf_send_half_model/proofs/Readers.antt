@@ -1,0 +1,210 @@
+-- Proves that each query of a half returns the same as the query of its world, by the part that it reads.
+use Rattle.std.proofs.Common.{◌≡◌, refl, ap, ap₂, sym, ◌∙◌, arith, ℕ, ◌+◌, ◌==◌, ◌<◌, nat_lt, Bool, true, false, not, ◌&&◌, ◌||◌, if◌then◌else◌, cond, List, [], ◌∷◌, map, Option, Some, None, is_some, option_map, inl, inr, zero, suc, unwrap_or}
+use Rattle.std.specs.Prelude.{count_by, find}
+use Rattle.std.specs.List.{list_any}
+use Rattle.std.proofs.lemmas.Bool.{cases_Bool}
+use Rattle.std.proofs.lemmas.List.Sums.{sum_by-cons}
+use Rattle.wf_frame.specs.declared.classes.Class.{Class}
+use Rattle.wf_frame.specs.declared.classes.Class.TheVariants.{Bk, Be, Vi, Vo}
+use Rattle.wf_frame.specs.Classes.{lower_tid, upper_tid, same_class, tid_number}
+use Rattle.wf_frame.specs.Frames.{FrameValue}
+use Rattle.wf_def_agreement.specs.Session.{request_due, has_room}
+use Rattle.wf_def_lists.specs.Table.{at, upto, count_from}
+use Rattle.wf_def_world.specs.World.{World, Station, Exchange, Content, Frames, Request, is_live, session, exchange}
+use Rattle.wf_def_world.specs.FlowQueues.{frames_queued as world_queued}
+use Rattle.wf_def_world.specs.CanSend.{is_request as world_request, request_open, has_waiting, can_give, can_send, has_credit, can_send_in, may_receive, is_ready}
+use Rattle.wf_def_world.specs.Refusals.{open_of_station, open_of_class, can_send_any, queued_in_class}
+use Rattle.wf_def_world.specs.Step.{class_to_send}
+use Rattle.wf_queue_flows.specs.Flows.{frames_of_tid}
+use Rattle.wf_queue_flows_refines.proofs.Readers.{same_queued}
+use Rattle.wf_send_parts.specs.Window.{WindowValue, WindowStandsFor as WindowStandsFor, can_take}
+use Rattle.wf_send_parts.proofs.Calls.{due_is, can_take_is}
+use Rattle.wf_send_parts.proofs.Counting.{some_waits}
+use Rattle.wf_send_parts.specs.Windows.{window_of}
+use Rattle.wf_send_parts.specs.declared.exchanges.opened.Open.{Open}
+use Rattle.wf_send_parts.specs.Exchanges.{sending_is_request, asks}
+use Rattle.wf_send_parts.specs.declared.stations.members.Member.{Member}
+use Rattle.wf_send_parts.specs.Members.{member}
+use Rattle.wf_send_parts.specs.Sleepers.{sleeper}
+use Rattle.wf_send_half_model.specs.Half.{TransmitValue, some_wait, can_send_of, is_ready_of}
+use Rattle.wf_send_half_model.specs.Standing.{sending_of, open_of, IsMember, AreBoth, Parts}
+
+-- ---- open exchanges
+
+request_same : (c : Content) → sending_is_request (sending_of c) ≡ world_request c
+request_same (Frames mpdus) = refl
+request_same (Request start) = refl
+
+asks_among : (xs : List Exchange) (s t : ℕ) →
+    asks (map open_of xs) s t ≡ list_any (λ x. (x.station == s) && ((x.tid == t) && world_request x.content))
+    xs
+asks_among [] s t = refl
+asks_among (x ∷ xs) s t = ap₂ (λ (a b : Bool). ((x.station == s) && ((x.tid == t) && a)) || b)
+    (request_same x.content) (asks_among xs s t)
+
+pub asks_same : (v : TransmitValue) (w : World) (bodies : ℕ → FrameValue) (s t : ℕ) → Parts v w bodies →
+    asks v.opened s t ≡ request_open w s t
+asks_same v w bodies s t h = ap (λ (xs : List Open). asks xs s t) h.others.opened ∙ asks_among w.opened s t
+
+-- a test that gives the same for an exchange on both sides
+module _ (p : Open → Bool) (q : Exchange → Bool) (same : (x : Exchange) → p (open_of x) ≡ q x) where
+  count_among : (xs : List Exchange) → count_by p (map open_of xs) ≡ count_by q xs
+  count_among [] = refl
+  count_among (x ∷ xs) =
+      sum_by-cons (λ y. cond (p y) 1 0) (open_of x) (map open_of xs)
+      ∙ ap₂ (λ (b : Bool) (n : ℕ). cond b 1 0 + n) (same x) (count_among xs)
+      ∙ sym (sum_by-cons (λ y. cond (q y) 1 0) x xs)
+
+  find_among : (xs : List Exchange) → find p (map open_of xs) ≡ option_map open_of (find q xs)
+  find_among [] = refl
+  find_among (x ∷ xs) = ap₂ (λ (b : Bool) (o : Option Open). if b then Some (open_of x) else o) (same x)
+      (find_among xs) ∙ either (q x)
+    where
+      either : (b : Bool) → (if b then Some (open_of x) else option_map open_of (find q xs))
+          ≡ option_map open_of (if b then Some x else find q xs)
+      either true = refl
+      either false = refl
+
+pub station_count_same : (v : TransmitValue) (w : World) (bodies : ℕ → FrameValue) (s : ℕ) →
+    Parts v w bodies → count_by (λ x. x.station == s) v.opened ≡ open_of_station w s
+station_count_same v w bodies s h = ap (λ (xs : List Open). count_by (λ (x : Open). x.station == s) xs)
+    h.others.opened ∙ count_among (λ (x : Open). x.station == s) (λ (x : Exchange). x.station == s)
+    (λ x. refl) w.opened
+
+pub class_count_same : (v : TransmitValue) (w : World) (bodies : ℕ → FrameValue) (c : Class) →
+    Parts v w bodies → count_by (λ x. same_class x.class c) v.opened ≡ open_of_class w c
+class_count_same v w bodies c h = ap (λ (xs : List Open). count_by (λ (x : Open). same_class x.class c) xs)
+    h.others.opened ∙ count_among (λ (x : Open). same_class x.class c)
+    (λ (x : Exchange). same_class x.class c) (λ x. refl) w.opened
+
+pub exchange_same : (v : TransmitValue) (w : World) (bodies : ℕ → FrameValue) (e : ℕ) → Parts v w bodies →
+    find (λ x. x.number == e) v.opened ≡ option_map open_of (exchange w e)
+exchange_same v w bodies e h = ap (λ (xs : List Open). find (λ (x : Open). x.number == e) xs) h.others.opened
+    ∙ find_among (λ (x : Open). x.number == e) (λ (x : Exchange). x.number == e) (λ x. refl) w.opened
+
+-- ---- stations
+
+both_some : (m : Option Member) (o : Option Station) → AreBoth IsMember m o → is_some m ≡ is_some o
+both_some None None h = refl
+both_some None (Some x) h = absurd h
+both_some (Some m) None h = absurd h
+both_some (Some m) (Some x) h = refl
+
+pub live_same : (v : TransmitValue) (w : World) (bodies : ℕ → FrameValue) (s : ℕ) → Parts v w bodies →
+    is_some (member v.members s) ≡ is_live w s
+live_same v w bodies s h = both_some (member v.members s) (at None w.stations s) (h.others.stations.live s)
+
+-- ---- who can send
+
+module _ (v : TransmitValue) (w : World) (bodies : ℕ → FrameValue) (s t : ℕ) (h : Parts v w bodies)
+    (live : is_live w s ≡ true) (low : t < 8) where
+  abbrev window : WindowValue
+  window = window_of v.windows s t
+
+  stands : WindowStandsFor window (session w s t) bodies
+  stands = h.windows.all.stands s t live low
+
+  below : s < v.flows.stations
+  below = omega (arith, h.others.turns.live s live, ap (λ x. x.stations) h.others.flows.settings)
+
+  pub queued_same : frames_of_tid v.flows (tid_number s t) ≡ world_queued w s t
+  queued_same = same_queued v.flows w s t h.others.flows below low
+
+  pub due_same : is_some window.due ≡ request_due (session w s t)
+  due_same = due_is window (session w s t) bodies stands
+
+  pub waiting_same : some_wait window ≡ has_waiting w s t
+  waiting_same = some_waits window (session w s t) bodies stands
+
+  -- if no request is due, the window has room exactly if the session has
+  room_same : request_due (session w s t) ≡ false → can_take window ≡ has_room (session w s t)
+  room_same off = can_take_is window (session w s t) bodies stands
+      ∙ ap (λ (b : Bool). not b && has_room (session w s t)) off
+
+  pub can_send_same : can_send_of v s t ≡ can_send w s t
+  can_send_same = elim (cases_Bool (request_due (session w s t))) [
+    | inl on ↦
+        ap (λ (b : Bool). if b then not (asks v.opened s t)
+        else some_wait window || (nat_lt 0 (frames_of_tid v.flows (tid_number s t)) && can_take window))
+        (due_same ∙ on)
+        ∙ ap not (asks_same v w bodies s t h)
+        ∙ ap (λ (b : Bool). if b then not (request_open w s t) else has_waiting w s t || can_give w s t)
+        (sym on)
+    | inr off ↦
+        ap (λ (b : Bool). if b then not (asks v.opened s t)
+        else some_wait window || (nat_lt 0 (frames_of_tid v.flows (tid_number s t)) && can_take window))
+        (due_same ∙ off)
+        ∙ ap₂ (λ (a b : Bool). a || b) waiting_same (ap₂ (λ (n : ℕ) (b : Bool). nat_lt 0 n && b) queued_same
+        (room_same off))
+        ∙ ap (λ (b : Bool). if b then not (request_open w s t) else has_waiting w s t || can_give w s t)
+        (sym off)
+  ]
+
+pub lower_low : (c : Class) → lower_tid c < 8
+lower_low Bk = omega arith
+lower_low Be = omega arith
+lower_low Vi = omega arith
+lower_low Vo = omega arith
+
+pub upper_low : (c : Class) → upper_tid c < 8
+upper_low Bk = omega arith
+upper_low Be = omega arith
+upper_low Vi = omega arith
+upper_low Vo = omega arith
+
+pub can_send_in_same : (v : TransmitValue) (w : World) (bodies : ℕ → FrameValue) (s : ℕ) (c : Class) →
+    Parts v w bodies → is_live w s ≡ true → (can_send_of v s (lower_tid c) || can_send_of v s (upper_tid c))
+    ≡ can_send_in w s c
+can_send_in_same v w bodies s c h live = ap₂ (λ (a b : Bool). a || b)
+    (can_send_same v w bodies s (lower_tid c) h live (lower_low c))
+    (can_send_same v w bodies s (upper_tid c) h live (upper_low c))
+
+pub ready_same : (v : TransmitValue) (w : World) (bodies : ℕ → FrameValue) (c : Class) (s : ℕ) →
+    Parts v w bodies → is_ready_of v c s ≡ is_ready w c s
+ready_same v w bodies c s h = elim (cases_Bool (is_live w s)) [
+  | inl live ↦
+      ap₂ (λ (a b : Bool). a && b) (live_same v w bodies s h)
+      (ap₂ (λ (a b : Bool). a && b) (can_send_in_same v w bodies s c h live)
+      (ap₂ (λ (a : Bool) (k : Option Class). not a || has_credit k c) (h.others.stations.asleep s live)
+      (h.others.stations.credit s live)))
+  | inr off ↦
+      ap (λ (b : Bool). b && ((can_send_of v s (lower_tid c) || can_send_of v s (upper_tid c))
+      && (not (sleeper v.sleepers s).asleep || has_credit (sleeper v.sleepers s).credit c)))
+      (live_same v w bodies s h ∙ off)
+      ∙ ap (λ (b : Bool). b && (can_send_in w s c && may_receive w s c)) (sym off)
+]
+
+-- ---- the tests of refusals and of a poll
+
+-- two tests that agree on every class find the same one
+find_same : (p q : Class → Bool) → ((c : Class) → p c ≡ q c) → (cs : List Class) → find p cs ≡ find q cs
+find_same p q same [] = refl
+find_same p q same (c ∷ cs) = ap₂ (λ (b : Bool) (o : Option Class). if b then Some c else o) (same c)
+    (find_same p q same cs)
+
+pub class_same : (v : TransmitValue) (w : World) (bodies : ℕ → FrameValue) (s : ℕ) → Parts v w bodies →
+    is_live w s ≡ true →
+    unwrap_or (find (λ c. can_send_of v s (lower_tid c) || can_send_of v s (upper_tid c)) (Vo ∷ Vi ∷ Be ∷ []))
+    Bk ≡ class_to_send w s
+class_same v w bodies s h live = ap (λ (o : Option Class). unwrap_or o Bk)
+    (find_same _ (can_send_in w s) (λ c. can_send_in_same v w bodies s c h live) (Vo ∷ Vi ∷ Be ∷ []))
+
+-- if two tests agree on each of these TIDs, both or neither find one that passes
+any_same : (p q : ℕ → Bool) (n from : ℕ) → ((t : ℕ) → t < from + n → p t ≡ q t) →
+    list_any p (count_from from n) ≡ list_any q (count_from from n)
+any_same p q zero from same = refl
+any_same p q (suc n) from same = ap₂ (λ (a b : Bool). a || b) (same from (omega arith))
+    (any_same p q n (suc from) (λ t low. same t (omega (arith, low))))
+
+pub any_tid_same : (v : TransmitValue) (w : World) (bodies : ℕ → FrameValue) (s : ℕ) → Parts v w bodies →
+    is_live w s ≡ true → list_any (can_send_of v s) (upto 8) ≡ can_send_any w s
+any_tid_same v w bodies s h live = any_same (can_send_of v s) (can_send w s) 8 0
+    (λ t low. can_send_same v w bodies s t h live (omega (arith, low)))
+
+pub class_queued_same : (v : TransmitValue) (w : World) (bodies : ℕ → FrameValue) (s : ℕ) (c : Class) →
+    Parts v w bodies → is_live w s ≡ true →
+    frames_of_tid v.flows (tid_number s (lower_tid c)) + frames_of_tid v.flows (tid_number s (upper_tid c))
+    ≡ queued_in_class w s c
+class_queued_same v w bodies s c h live = ap₂ (λ (m n : ℕ). m + n)
+    (queued_same v w bodies s (lower_tid c) h live (lower_low c))
+    (queued_same v w bodies s (upper_tid c) h live (upper_low c))

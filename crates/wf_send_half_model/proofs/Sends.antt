@@ -1,0 +1,203 @@
+-- Proves a whole pull: the picked station sends a request or an aggregate, and the half represents the world
+-- after the step.
+use Rattle.std.proofs.Common.{◌≡◌, refl, ap, sym, ◌∙◌, subst, arith, ℕ, ◌%◌, Bool, true, false, if◌then◌else◌, List, [], map, Option, Some, None, is_some}
+use Rattle.std.specs.Prelude.{IfSome}
+use Rattle.wf_frame.specs.declared.classes.Class.{Class}
+use Rattle.wf_frame.specs.declared.notes.Note.TheVariants.{Asked}
+use Rattle.wf_frame.specs.declared.notes.Ask.TheVariants.{Pull}
+use Rattle.wf_frame.specs.declared.notes.Part.TheVariants.{Mpdus, Request as Starts}
+use Rattle.wf_frame.specs.declared.notes.ReplyNote.{ReplyNote}
+use Rattle.wf_frame.specs.declared.notes.ReplyNote.TheVariants.{Send}
+use Rattle.wf_frame.specs.Frames.{FrameValue}
+use Rattle.wf_def_air.specs.Airtime.{data_charge, request_charge}
+use Rattle.wf_def_air.specs.Fit.{aggregate_octets}
+use Rattle.wf_def_agreement.specs.Session.{request_due}
+use Rattle.wf_def_world.specs.World.{World, is_live, session}
+use Rattle.wf_def_world.specs.CanSend.{can_send_in}
+use Rattle.wf_def_world.specs.Exchanges.{picked_station, after_pick, sending_tid, after_tid_turn, lens_of, Aggregate, aggregate_of, with_flying, Prepared, aggregate_charge, prepared_data, prepared_request, prepared_exchange, part_of}
+use Rattle.wf_def_world.specs.Refusals.{refusal}
+use Rattle.wf_def_world.specs.Step.{Outcome, send_outcome, pull_outcome_for, pull_outcome, outcome_of}
+use Rattle.wf_law_runs.proofs.Windows.Agreed.{winner_ready}
+use Rattle.wf_air.specs.Sizes.{AggregateSizeValue}
+use Rattle.wf_sched.specs.ClassRotas.{SchedValue}
+use Rattle.wf_sched_refines.specs.Calls.{HasPickedInClass}
+use Rattle.wf_send_parts.specs.declared.exchanges.opened.Sending.TheVariants.{Data, Request as Starts_at}
+use Rattle.wf_send_parts.proofs.Calls.{due_is}
+use Rattle.wf_send_parts.specs.Windows.{window_of}
+use Rattle.wf_send_half_model.specs.Half.{TransmitValue}
+use Rattle.wf_send_half_model.specs.Standing.{numbers_on_air, sending_of, Parts, StandsFor, Meets}
+use Rattle.wf_send_half_model.specs.Changes.{after_listing_in}
+use Rattle.wf_send_half_model.specs.Pulling.{sending_tid_of, after_turn, is_wide_of, open_next, after_sending}
+use Rattle.wf_send_half_model.specs.Filling.{IsTakingOff, IsTurned, IsFilled}
+use Rattle.wf_send_half_model.specs.Views.{Agreements}
+use Rattle.wf_send_half_model.proofs.Views.{agreements_session, agreements_share}
+use Rattle.wf_send_half_model.proofs.Flies.{off_ends}
+use Rattle.wf_send_half_model.proofs.Meets.{listed_in_meets}
+use Rattle.wf_send_half_model.proofs.OneClass.{pull_listed}
+use Rattle.wf_send_half_model.proofs.Pulls.{pick_parts, sending_same, sending_low, turn_parts, send_parts, send_reply, wide_same}
+
+-- ---- the picked station has its turn
+
+pub from_winner : (o : Option ℕ) (s : ℕ) (P : ℕ → Type 0) → o ≡ Some s → IfSome o P → P s
+from_winner None s P e h = absurd (cc e)
+from_winner (Some k) s P e h = let same : k ≡ s = cc in subst P same h
+
+turn_live : (w : World) (s t : ℕ) (c : Class) → is_live w s ≡ true → is_live (after_tid_turn w s c t) s ≡ true
+unfolding after_tid_turn
+turn_live w s t c live = ap (λ (a : Agreements). a.live s) (agreements_share w s c _) ∙ live
+
+module _ (v : TransmitValue) (w : World) (bodies : ℕ → FrameValue) (h : StandsFor v w bodies) (c : Class)
+    (s : ℕ) (won : (picked_station w c).winner ≡ Some s) where
+  pub winner_live : is_live (after_pick w c) s ≡ true
+  winner_live = (from_winner (picked_station w c).winner s
+      (λ k. (is_live (after_pick w c) k ≡ true) × (can_send_in (after_pick w c) k c ≡ true)) won
+      (winner_ready w c)).0
+
+  module _ (turns : SchedValue) (picked : HasPickedInClass w c v.sched turns) where
+    picks : Parts (record v { sched = turns }) (after_pick w c) bodies
+    picks = pick_parts v w bodies c turns picked h.parts
+
+    pub turn_tid : sending_tid_of (record v { sched = turns }) s c ≡ sending_tid (after_pick w c) s c
+    turn_tid = sending_same (record v { sched = turns }) (after_pick w c) bodies s c picks winner_live
+
+    pub turned : (t : ℕ) → t ≡ sending_tid_of (record v { sched = turns }) s c →
+        IsTurned (after_turn (record v { sched = turns }) s c t)
+        (after_tid_turn (after_pick w c) s c t) bodies s t
+    turned t is = record {
+      parts = turn_parts (record v { sched = turns }) (after_pick w c) bodies s c t
+          (picks.others.turns.live s winner_live) picks;
+      live = turn_live (after_pick w c) s t c winner_live;
+      tid = omega (
+        arith,
+        is,
+        turn_tid,
+        sending_low (record v { sched = turns })
+            (after_pick w c) bodies s c picks winner_live,
+      );
+      underway = record { before = w; reached = h.reached; class = c; given = 0; is = refl };
+    }
+
+-- ---- the exchange that is sent
+
+pull_for : (w : World) (c : Class) (s : ℕ) → pull_outcome_for w c (Some s)
+    ≡ send_outcome s (sending_tid w s c) c (prepared_exchange (after_tid_turn w s c (sending_tid w s c)) s
+    (sending_tid w s c))
+unfolding pull_outcome_for
+pull_for w c s = refl
+
+pull_is : (w : World) (c : Class) → outcome_of w (Asked (Pull c))
+    ≡ pull_outcome_for (after_pick w c) c (picked_station w c).winner
+unfolding outcome_of pull_outcome
+pull_is w c = refl
+
+if_due : (b : Bool) (p q : Prepared) → b ≡ true → (if b then p else q) ≡ p
+if_due true p q e = refl
+if_due false p q e = absurd (cc e)
+
+if_not_due : (b : Bool) (p q : Prepared) → b ≡ false → (if b then p else q) ≡ q
+if_not_due true p q e = absurd (cc e)
+if_not_due false p q e = refl
+
+due_prepared : (w : World) (s t : ℕ) → request_due (session w s t) ≡ true →
+    prepared_exchange w s t ≡ prepared_request w s t
+unfolding prepared_exchange
+due_prepared w s t due = if_due (request_due (session w s t)) _ _ due
+
+quiet_prepared : (w : World) (s t : ℕ) → request_due (session w s t) ≡ false →
+    prepared_exchange w s t ≡ prepared_data s t (aggregate_of w s t)
+unfolding prepared_exchange
+quiet_prepared w s t quiet = if_not_due (request_due (session w s t)) _ _ quiet
+
+module _ (v : TransmitValue) (w : World) (bodies : ℕ → FrameValue) (h : StandsFor v w bodies) (c : Class)
+    (s : ℕ) (done : refusal w (Asked (Pull c)) ≡ None) (won : (picked_station w c).winner ≡ Some s) (t : ℕ)
+    (t_is : t ≡ sending_tid (after_pick w c) s c) where
+  abbrev w1 : World
+  w1 = after_tid_turn (after_pick w c) s c t
+
+  sent_meets : (sent : ℕ → FrameValue) (p : Prepared) → prepared_exchange w1 s t ≡ p →
+      (x : TransmitValue) → Parts x p.world sent →
+      is_live p.world s ≡ true →
+      Meets w sent (Asked (Pull c)) (after_listing_in
+      (after_sending x s t c p.charge (sending_of p.content)) s c)
+      (Send x.exchanges s t p.charge (part_of p.content)
+      (open_next x s t c p.charge (sending_of p.content)).more)
+  sent_meets sent p is x parts live =
+      let all : outcome_of w (Asked (Pull c)) ≡ send_outcome s t c p =
+      pull_is w c ∙ ap (pull_outcome_for (after_pick w c) c) won ∙ pull_for (after_pick w c) c s
+      ∙ ap (λ (k : ℕ). send_outcome s k c (prepared_exchange (after_tid_turn (after_pick w c) s c k) s k))
+      (sym t_is) ∙ ap (send_outcome s t c) is in
+      let half : TransmitValue = after_sending x s t c p.charge (sending_of p.content) in
+      subst (λ (r : ReplyNote). Meets w sent (Asked (Pull c)) (after_listing_in half s c) r)
+      (ap (λ (o : Outcome). o.reply) all ∙ sym (send_reply x sent s t c p parts live))
+      (listed_in_meets half w sent (Asked (Pull c)) h.reached tt tt done
+      (subst (λ (o : Outcome). Parts half o.world sent) (sym all)
+      (send_parts x sent s t c p parts live)) s c won (pull_listed w c s h.reached won))
+
+  -- a request
+  pub request_meets : (x : TransmitValue) → IsTurned x w1 bodies s t →
+      is_some (window_of x.windows s t).due ≡ true → (charge : ℕ) →
+      charge ≡ request_charge (is_wide_of x s t) →
+      Meets w bodies (Asked (Pull c)) (after_listing_in
+      (after_sending x s t c charge (Starts_at (window_of x.windows s t).start)) s c)
+      (Send x.exchanges s t charge (Starts (window_of x.windows s t).start)
+      (open_next x s t c charge (Starts_at (window_of x.windows s t).start)).more)
+  request_meets x to due charge charge_is =
+      let stands = to.parts.windows.all.stands s t to.live to.tid in
+      let is_due : request_due (session w1 s t) ≡ true =
+      sym (due_is (window_of x.windows s t) (session w1 s t) bodies stands) ∙ due in
+      let meets = sent_meets bodies (prepared_request w1 s t) (due_prepared w1 s t is_due) x to.parts to.live
+      in
+      subst (λ (n : ℕ). Meets w bodies (Asked (Pull c))
+      (after_listing_in (after_sending x s t c n (Starts_at (window_of x.windows s t).start)) s c)
+      (Send x.exchanges s t n (Starts (window_of x.windows s t).start)
+      (open_next x s t c n (Starts_at (window_of x.windows s t).start)).more))
+      (ap request_charge (sym (wide_same x w1 bodies s t to.parts to.live to.tid)) ∙ sym charge_is)
+      (subst (λ (k : ℕ). Meets w bodies (Asked (Pull c))
+      (after_listing_in (after_sending x s t c (prepared_request w1 s t).charge (Starts_at k)) s c)
+      (Send x.exchanges s t (prepared_request w1 s t).charge (Starts k)
+      (open_next x s t c (prepared_request w1 s t).charge (Starts_at k)).more))
+      (sym stands.start) meets)
+
+  -- an aggregate
+  data_sent : (a : Aggregate) → aggregate_of w1 s t ≡ a → request_due (session w1 s t) ≡ false →
+      (x : TransmitValue) (sent : ℕ → FrameValue) → Parts x (prepared_data s t a).world sent →
+      is_live (prepared_data s t a).world s ≡ true →
+      Meets w sent (Asked (Pull c)) (after_listing_in
+      (after_sending x s t c (aggregate_charge s t a) (Data (numbers_on_air a.mpdus))) s c)
+      (Send x.exchanges s t (aggregate_charge s t a) (Mpdus (map (λ m. (m.id, m.number % 4096)) a.mpdus))
+      (open_next x s t c (aggregate_charge s t a) (Data (numbers_on_air a.mpdus))).more)
+  unfolding prepared_data
+  data_sent a is quiet x sent parts live = sent_meets sent (prepared_data s t a)
+      (quiet_prepared w1 s t quiet ∙ ap (prepared_data s t) is) x parts live
+
+  pub data_meets : (a : Aggregate) → aggregate_of w1 s t ≡ a → request_due (session w1 s t) ≡ false →
+      (x : TransmitValue) (u : World) (sent : ℕ → FrameValue) → IsTakingOff x u sent s t a.world.exchanges []
+      (prepared_data s t a).world →
+      (charge : ℕ) (numbers : List ℕ) → charge ≡ aggregate_charge s t a → numbers ≡ numbers_on_air a.mpdus →
+      Meets w sent (Asked (Pull c)) (after_listing_in (after_sending x s t c charge (Data numbers)) s c)
+      (Send x.exchanges s t charge (Mpdus (map (λ m. (m.id, m.number % 4096)) a.mpdus))
+      (open_next x s t c charge (Data numbers)).more)
+  data_meets a is quiet x u sent left charge numbers charge_is numbers_is =
+      let live : is_live (prepared_data s t a).world s ≡ true =
+      ap (λ (z : World). is_live z s) (sym left.leads)
+      ∙ ap (λ (z : Agreements). z.live s) (agreements_session u s t
+      (with_flying a.world.exchanges []) left.live) ∙ left.live in
+      let meets = data_sent a is quiet x sent (off_ends x u sent s t a.world.exchanges
+      (prepared_data s t a).world left) live in
+      subst (λ (n : ℕ). Meets w sent (Asked (Pull c))
+      (after_listing_in (after_sending x s t c n (Data numbers)) s c)
+      (Send x.exchanges s t n (Mpdus (map (λ m. (m.id, m.number % 4096)) a.mpdus))
+      (open_next x s t c n (Data numbers)).more)) (sym charge_is)
+      (subst (λ (ns : List ℕ). Meets w sent (Asked (Pull c))
+      (after_listing_in (after_sending x s t c (aggregate_charge s t a) (Data ns)) s c)
+      (Send x.exchanges s t (aggregate_charge s t a) (Mpdus (map (λ m. (m.id, m.number % 4096)) a.mpdus))
+      (open_next x s t c (aggregate_charge s t a) (Data ns)).more)) (sym numbers_is) meets)
+
+-- ---- its charge
+
+pub filled_charge : (v : TransmitValue) (bodies : ℕ → FrameValue) (s t : ℕ) (room : AggregateSizeValue)
+    (numbers : List ℕ) (a : Aggregate) → IsFilled v bodies s t room numbers a →
+    data_charge room.rate (aggregate_octets (lens_of a.mpdus)) room.wide ≡ aggregate_charge s t a
+filled_charge v bodies s t room numbers a h =
+    ap (λ (r : AggregateSizeValue). data_charge r.rate (aggregate_octets
+    (lens_of a.mpdus)) r.wide) h.room_is.settings

@@ -1,0 +1,192 @@
+-- Proves that some calls leave the readiness of every station: a rate, a tick, an Arrive, an Answer, a
+-- receive charge and a reap. They change neither sessions, queues and open requests nor who may receive.
+use Rattle.std.proofs.Common.{◌≡◌, refl, ap, ap₂, sym, ◌∙◌, ℕ, Bool, true, not, ◌&&◌, ◌||◌, List, [], ◌∷◌, length, Option, Some, None, unwrap_or, option_map, map, sum_by}
+use Rattle.std.specs.Prelude.{◌==◌}
+use Rattle.std.specs.List.{list_any}
+use Rattle.wf_frame.specs.declared.classes.Class.{Class}
+use Rattle.wf_frame.specs.declared.notes.AskedRate.{AskedRate}
+use Rattle.wf_frame.specs.declared.notes.Note.{Note}
+use Rattle.wf_frame.specs.declared.notes.Note.TheVariants.{Enqueue, Asked}
+use Rattle.wf_frame.specs.declared.notes.Ask.TheVariants.{Join, Leave, Rate, Tick, Pull, Arrive, Answer, Done, Sleep, Wake, Poll, Rx, Reap}
+use Rattle.wf_frame.specs.Classes.{lower_tid, upper_tid}
+use Rattle.wf_def_lists.specs.Table.{at}
+use Rattle.wf_def_rotation.specs.Rotation.{in_order}
+use Rattle.wf_def_agreement.specs.Receiver.{Receiver}
+use Rattle.wf_def_world.specs.World.{World, Station, Exchange, no_station, exchange, on_station, with_station, on_tid, on_receiver, on_share, with_exchange}
+use Rattle.wf_def_world.specs.CanSend.{is_request, request_open, has_credit, may_receive, is_ready}
+use Rattle.wf_def_world.specs.Step.{Outcome, outcome_of, step, outcome_where_open, rate_outcome, tick_outcome, arrive_outcome, answer_outcome, rx_outcome, reap_outcome}
+use Rattle.wf_law_rules.proofs.Lemmas.Tables.{each_put}
+use Rattle.wf_law_runs.proofs.Deficits.Books.{Books, books, core}
+use Rattle.wf_law_runs.proofs.Deficits.Kept.{IsKept}
+use Rattle.wf_law_runs.proofs.Deficits.KeptStep.{IsFound, books_arrived, books_answered}
+use Rattle.wf_queue_flows_refines.specs.Standing.{Part, flows_part}
+use Rattle.wf_queue_flows_refines.proofs.Leaves.{station_alone, receiver_alone, exchange_alone}
+use Rattle.wf_send_half_model.specs.Standing.{IsReached}
+use Rattle.wf_send_half_model.specs.Readiness.{leaves_ready}
+use Rattle.wf_send_half_model.specs.Views.{Agreements, agreements}
+use Rattle.wf_send_half_model.proofs.Views.{agreements_station, agreements_receiver}
+use Rattle.wf_send_half_model.proofs.Spared.{IsSameTid, ready_same_by, ready_stepped, orderly_reached}
+
+-- v has the same flow queues, sessions and open requests as w, and the same stations may receive
+record IsSteady (w v : World) : Type 0 where
+  part : flows_part v ≡ flows_part w
+  agreements : agreements v ≡ agreements w
+  requests : (s t : ℕ) → request_open v s t ≡ request_open w s t
+  receives : (s : ℕ) (c : Class) → may_receive v s c ≡ may_receive w s c
+
+steady_here : (w : World) → IsSteady w w
+steady_here w = record { part = refl; agreements = refl; requests = λ s t. refl; receives = λ s c. refl }
+
+steady_tid : (w v : World) → IsSteady w v → (s t : ℕ) → IsSameTid w v s t
+steady_tid w v h s t = record {
+  session = ap (λ (a : Agreements). a.sessions s t) h.agreements;
+  request = h.requests s t;
+  queued = ap (λ (p : Part). sum_by (λ q. length (p.queues q).items) (in_order (p.lists s t))) h.part;
+}
+
+steady_ready : (w v : World) → IsSteady w v → (c : Class) (s : ℕ) → is_ready v c s ≡ is_ready w c s
+steady_ready w v h c s = ready_same_by w v c s (ap (λ (a : Agreements). a.live s) h.agreements)
+    (h.receives s c) (steady_tid w v h s (lower_tid c)) (steady_tid w v h s (upper_tid c))
+
+-- ---- a station changes, but not its TIDs, its sleep or its credit
+
+-- whether a station that is present may receive in a class
+abbrev pub receives : Class → Option Station → Bool
+receives c o = not (unwrap_or o no_station).asleep || has_credit (unwrap_or o no_station).credit c
+
+-- the change leaves sleep and credit
+pub record KeepsSleep (f : Station → Station) : Type 0 where
+  pub asleep : (x : Station) → (f x).asleep ≡ x.asleep
+  pub credit : (x : Station) → (f x).credit ≡ x.credit
+
+receives_mapped : (f : Station → Station) → KeepsSleep f → (c : Class) (o : Option Station) →
+    receives c (option_map f o) ≡ receives c o
+receives_mapped f h c None = refl
+receives_mapped f h c (Some x) = ap₂ (λ (b : Bool) (o : Option Class). not b || has_credit o c) (h.asleep x)
+    (h.credit x)
+
+pub receives_on_station : (w : World) (i : ℕ) (f : Station → Station) → KeepsSleep f → (s : ℕ) (c : Class) →
+    may_receive (on_station w i f) s c ≡ may_receive w s c
+unfolding on_station with_station
+receives_on_station w i f h s c =
+    each_put (λ y o. receives c o ≡ receives c (at None w.stations y)) None w.stations i
+    (option_map f (at None w.stations i)) (λ y. refl) (receives_mapped f h c (at None w.stations i)) s
+
+requests_on_station : (w : World) (i : ℕ) (f : Station → Station) (s t : ℕ) →
+    request_open (on_station w i f) s t ≡ request_open w s t
+unfolding on_station with_station
+requests_on_station w i f s t = refl
+
+steady_rated : (w : World) (i : ℕ) (rate : AskedRate) → IsSteady w (rate_outcome w i rate).world
+unfolding rate_outcome
+steady_rated w i rate = record {
+  part = station_alone w i _ (λ x. refl);
+  agreements = agreements_station w i _ (λ x. refl);
+  requests = requests_on_station w i _;
+  receives = receives_on_station w i _ (record { asleep = λ x. refl; credit = λ x. refl });
+}
+
+steady_received : (w : World) (i : ℕ) (d : Class) (air : ℕ) → IsSteady w (rx_outcome w i d air).world
+unfolding rx_outcome on_share
+steady_received w i d air = record {
+  part = station_alone w i _ (λ x. refl);
+  agreements = agreements_station w i _ (λ x. refl);
+  requests = requests_on_station w i _;
+  receives = receives_on_station w i _ (record { asleep = λ x. refl; credit = λ x. refl });
+}
+
+-- ---- an open exchange is marked
+
+-- whether a request of a TID is among these exchanges
+abbrev pub asks : ℕ → ℕ → List Exchange → Bool
+asks s t xs = list_any (λ x. (x.station == s) && ((x.tid == t) && is_request x.content)) xs
+
+asks_core : (s t : ℕ) (xs : List Exchange) → asks s t (map core xs) ≡ asks s t xs
+asks_core s t [] = refl
+asks_core s t (x ∷ xs) = ap (λ (b : Bool). ((x.station == s) && ((x.tid == t) && is_request x.content)) || b)
+    (asks_core s t xs)
+
+same_requests : (w v : World) → books v ≡ books w → (s t : ℕ) → request_open v s t ≡ request_open w s t
+same_requests w v e s t = sym (asks_core s t v.opened) ∙ ap (λ (b : Books). asks s t b.opened) e
+    ∙ asks_core s t w.opened
+
+agreements_marked : (w : World) (z : Exchange) → agreements (with_exchange w z) ≡ agreements w
+unfolding with_exchange
+agreements_marked w z = refl
+
+receives_marked : (w : World) (z : Exchange) (s : ℕ) (c : Class) →
+    may_receive (with_exchange w z) s c ≡ may_receive w s c
+unfolding with_exchange
+receives_marked w z s c = refl
+
+receives_receiver : (w : World) (i t : ℕ) (f : Receiver → Receiver) (s : ℕ) (c : Class) →
+    may_receive (on_receiver w i t f) s c ≡ may_receive w s c
+unfolding on_receiver on_tid
+receives_receiver w i t f = receives_on_station w i _ (record { asleep = λ x. refl; credit = λ x. refl })
+
+steady_arrived : (w : World) (e i : ℕ) (x : Exchange) → IsKept (books w) → IsFound w e x →
+    IsSteady w (arrive_outcome w x i).world
+unfolding arrive_outcome
+steady_arrived w e i x kept found = record {
+  part = exchange_alone _ _ ∙ receiver_alone w x.station x.tid _;
+  agreements = agreements_marked _ _ ∙ agreements_receiver w x.station x.tid _;
+  requests = same_requests w (arrive_outcome w x i).world (books_arrived w e i x kept found);
+  receives = λ s c. receives_marked _ _ s c ∙ receives_receiver w x.station x.tid _ s c;
+}
+
+steady_answered : (w : World) (e : ℕ) (x : Exchange) → IsKept (books w) → IsFound w e x →
+    IsSteady w (answer_outcome w x).world
+unfolding answer_outcome
+steady_answered w e x kept found = record {
+  part = exchange_alone w _;
+  agreements = agreements_marked w _;
+  requests = same_requests w (answer_outcome w x).world (books_answered w e x kept found);
+  receives = receives_marked w _;
+}
+
+steady_open : (o : Option Exchange) (w : World) (e : ℕ) (f : Exchange → Outcome) → exchange w e ≡ o →
+    ((x : Exchange) → IsFound w e x → IsSteady w (f x).world) → IsSteady w (outcome_where_open w o f).world
+unfolding outcome_where_open
+steady_open None w e f k h = steady_here w
+steady_open (Some x) w e f k h = h x k
+
+-- ---- the calls
+
+ready_tick : (w : World) (by : ℕ) (c : Class) (s : ℕ) →
+    is_ready (tick_outcome w by).world c s ≡ is_ready w c s
+unfolding tick_outcome
+ready_tick w by c s = refl
+
+ready_reap : (ids : List ℕ) (w : World) (c : Class) (s : ℕ) →
+    is_ready (reap_outcome w ids).world c s ≡ is_ready w c s
+unfolding reap_outcome
+ready_reap [] w c s = refl
+ready_reap (id ∷ ids) w c s = refl
+
+steady_done : (note : Note) (w : World) → IsReached w → leaves_ready note ≡ true → (c : Class) (s : ℕ) →
+    is_ready (outcome_of w note).world c s ≡ is_ready w c s
+unfolding outcome_of
+steady_done (Asked (Rate i rate)) w r h c s = steady_ready w _ (steady_rated w i rate) c s
+steady_done (Asked (Tick by)) w r h c s = ready_tick w by c s
+steady_done (Asked (Arrive e i)) w r h c s = steady_ready w
+    (outcome_where_open w (exchange w e) (λ x. arrive_outcome w x i)).world
+    (steady_open (exchange w e) w e (λ x. arrive_outcome w x i) refl
+    (λ x k. steady_arrived w e i x (orderly_reached w r).kept k)) c s
+steady_done (Asked (Answer e)) w r h c s = steady_ready w
+    (outcome_where_open w (exchange w e) (λ x. answer_outcome w x)).world
+    (steady_open (exchange w e) w e (λ x. answer_outcome w x) refl
+    (λ x k. steady_answered w e x (orderly_reached w r).kept k)) c s
+steady_done (Asked (Rx i d air)) w r h c s = steady_ready w _ (steady_received w i d air) c s
+steady_done (Asked Reap) w r h c s = ready_reap w.finished w c s
+steady_done (Enqueue i t flow len) w r h c s = absurd (cc h)
+steady_done (Asked (Join i window start exponent weight)) w r h c s = absurd (cc h)
+steady_done (Asked (Leave i)) w r h c s = absurd (cc h)
+steady_done (Asked (Pull d)) w r h c s = absurd (cc h)
+steady_done (Asked (Done e heard air)) w r h c s = absurd (cc h)
+steady_done (Asked (Sleep i)) w r h c s = absurd (cc h)
+steady_done (Asked (Wake i)) w r h c s = absurd (cc h)
+steady_done (Asked (Poll i)) w r h c s = absurd (cc h)
+
+pub ready_left : (w : World) (note : Note) → IsReached w → leaves_ready note ≡ true → (s : ℕ) (c : Class) →
+    is_ready (step w note).world c s ≡ is_ready w c s
+ready_left w note r h s c = ready_stepped w note s c (λ _. steady_done note w r h c s)

@@ -1,0 +1,314 @@
+-- Proves whole calls that move no frame, except that a reap takes one from the finished list: if the machine
+-- does not refuse them, the half with the call's changes represents the world after the step, and the reply
+-- is the step's.
+use Rattle.std.proofs.Common.{◌≡◌, refl, ap, sym, ◌∙◌, subst, arith, ℕ, ◌+◌, ◌-◌, ◌*◌, ◌<◌, pos, ◌-ℤ◌, Bool, true, false, not, ◌&&◌, ◌||◌, List, ◌∷◌, length, set, Option, Some, None, is_some, option_map}
+use Rattle.std.specs.Prelude.{nat_le}
+use Rattle.std.proofs.lemmas.Bool.{and_parts, leb-false}
+use Rattle.std.proofs.lemmas.List.{get_or-set_same}
+use Rattle.wf_frame.specs.declared.classes.Class.{Class}
+use Rattle.wf_frame.specs.declared.notes.AskedRate.{AskedRate}
+use Rattle.wf_frame.specs.declared.notes.Note.TheVariants.{Asked}
+use Rattle.wf_frame.specs.declared.notes.Ask.TheVariants.{Join, Rate, Tick, Arrive, Answer, Sleep, Wake, Poll, Rx, Reap}
+use Rattle.wf_frame.specs.declared.notes.Refusal.{Refusal}
+use Rattle.wf_frame.specs.declared.notes.ReplyNote.{ReplyNote}
+use Rattle.wf_frame.specs.declared.notes.ReplyNote.TheVariants.{Joined, Set, Now, Slept, Woken, Polled, Charged, Reaped}
+use Rattle.wf_frame.specs.Classes.{lower_tid, upper_tid}
+use Rattle.wf_frame.specs.Frames.{FrameValue}
+use Rattle.wf_def_rotation.specs.Rotation.{Rotation, has_key}
+use Rattle.wf_def_world.specs.Rates.{rate_asked}
+use Rattle.wf_def_world.specs.World.{World, Exchange, rotation, is_live, exchange, on_station, on_tid, on_receiver, on_share, with_station, with_exchange}
+use Rattle.wf_def_world.specs.CanSend.{has_credit, is_ready, with_listings_of}
+use Rattle.wf_def_world.specs.Refusals.{refusal, refusals}
+use Rattle.wf_def_world.specs.Step.{outcome_of, outcome_where_open, station_of, after_refusal, judged_outcome, step, arrive_outcome, answer_outcome, class_to_send, tick_outcome, rate_outcome, sleep_outcome, wake_outcome, poll_outcome, rx_outcome, join_outcome}
+use Rattle.wf_law_runs.specs.Windows.{OpenRises}
+use Rattle.wf_law_runs.proofs.Windows.Law.{window_law}
+use Rattle.wf_law_runs.proofs.Deficits.KeptStep.{NoRow, no_row}
+use Rattle.wf_law_runs.proofs.Deficits.Law.{deficits}
+use Rattle.wf_sched.specs.ClassRotas.{SchedValue, deficit, after_join}
+use Rattle.wf_sched_refines.specs.Standing.{everywhere, with_deficit_charged as with_turns_charged}
+use Rattle.wf_sched_refines.proofs.Charges.{receive_reply}
+use Rattle.wf_queue_flows_refines.specs.Standing.{with_finished}
+use Rattle.wf_queue_flows_refines.proofs.Ends.{reply_reaped}
+use Rattle.wf_send_parts.specs.Window.{WindowValue}
+use Rattle.wf_send_parts.specs.declared.stations.members.Member.{Member}
+use Rattle.wf_send_parts.specs.Members.{member, on_member, new_member, with_rate, with_receipt}
+use Rattle.wf_send_parts.specs.Sleepers.{sleeper, with_sleeper, awake}
+use Rattle.wf_send_half_model.specs.Half.{TransmitValue, can_send_of, is_ready_of}
+use Rattle.wf_send_half_model.specs.Standing.{Parts, IsReached, StandsFor, Meets}
+use Rattle.wf_send_half_model.specs.Changes.{after_listing, AreReset}
+use Rattle.wf_send_half_model.proofs.Reached.{by_law, reached_step}
+use Rattle.wf_send_half_model.proofs.Readers.{ready_same}
+use Rattle.wf_send_half_model.proofs.Calls.{tick_parts, rate_parts, sleep_parts, wake_parts, poll_parts, rx_parts, reap_parts}
+use Rattle.wf_send_half_model.proofs.Joins.{join_parts}
+use Rattle.wf_send_half_model.proofs.Meets.{listed_none, listed_meets, unlisted_meets, idle_meets}
+use Rattle.wf_send_half_model.proofs.Listings.{nobody_new}
+use Rattle.wf_send_half_model.proofs.Unheard.{arrive_parts, answer_parts}
+
+-- ---- the listed stations
+
+-- in the world of a run, each station is listed in each class in which it is ready
+pub listed_where_ready : (w : World) → IsReached w → (s : ℕ) (c : Class) → is_ready w c s ≡ true →
+    has_key (rotation w c) s ≡ true
+listed_where_ready w r s c ready =
+    by_law (λ u. is_live u s ≡ true → is_ready u c s ≡ true → has_key (rotation u c) s ≡ true) w r
+    (λ m live is. (deficits w.config r.history r.in_range m s c live).ready is)
+    (and_parts (is_live w s) _ ready).0 ready
+
+-- two worlds with the same lists, with a half for each that finds the same stations ready
+same_listed : (v x : TransmitValue) (w u : World) (bodies : ℕ → FrameValue) (s : ℕ) → IsReached w →
+    Parts v w bodies → Parts x u bodies → ((c : Class) → is_ready_of x c s ≡ is_ready_of v c s) →
+    ((c : Class) → rotation u c ≡ rotation w c) →
+    (c : Class) → is_ready u c s ≡ true → has_key (rotation u c) s ≡ true
+same_listed v x w u bodies s r h k ready lists c is =
+    ap (λ (z : Rotation). has_key z s) (lists c)
+    ∙ listed_where_ready w r s c (sym (ready_same v w bodies c s h) ∙ sym (ready c)
+    ∙ ready_same x u bodies c s k ∙ is)
+
+kept_live : (f : Member → Member) (m : Option Member) → is_some (option_map f m) ≡ is_some m
+kept_live f None = refl
+kept_live f (Some m) = refl
+
+-- changing a member does not remove it
+member_kept : (members : List (Option Member)) (s : ℕ) (f : Member → Member) → s < length members →
+    is_some (member (on_member members s f) s) ≡ is_some (member members s)
+member_kept members s f low = ap is_some (get_or-set_same members s
+    (option_map f (member members s)) None low) ∙ kept_live f (member members s)
+
+same_ready : (v : TransmitValue) (s : ℕ) (f : Member → Member) (turns : SchedValue) → s < length v.members →
+    (c : Class) → is_ready_of (record v { sched = turns; members = on_member v.members s f }) c s
+    ≡ is_ready_of v c s
+same_ready v s f turns low c = ap (λ (b : Bool). b
+    && ((can_send_of v s (lower_tid c) || can_send_of v s (upper_tid c))
+    && (not (sleeper v.sleepers s).asleep || has_credit (sleeper v.sleepers s).credit c)))
+    (member_kept v.members s f low)
+
+rate_lists : (w : World) (s : ℕ) (rate : AskedRate) (c : Class) →
+    rotation (rate_outcome w s rate).world c ≡ rotation w c
+unfolding rate_outcome on_station with_station
+rate_lists w s rate c = refl
+
+rx_lists : (w : World) (s : ℕ) (d : Class) (air : ℕ) (c : Class) →
+    rotation (rx_outcome w s d air).world c ≡ rotation w c
+unfolding rx_outcome on_share on_station with_station
+rx_lists w s d air c = refl
+
+rate_reply : (w : World) (s : ℕ) (rate : AskedRate) → (rate_outcome w s rate).reply ≡ Set
+unfolding rate_outcome
+rate_reply w s rate = refl
+
+-- ---- the calls
+
+below : (w : World) (s : ℕ) → nat_le w.config.stations s ≡ false → s < w.config.stations
+below w s e = leb-false _ _ e
+
+module _ (v : TransmitValue) (w : World) (bodies : ℕ → FrameValue) (h : StandsFor v w bodies) where
+  sized : (s : ℕ) → s < w.config.stations → s < length v.members
+  sized s low = omega (arith, low, h.parts.others.stations.sized.0)
+
+  pub tick_meets : (by : ℕ) → refusal w (Asked (Tick by)) ≡ None →
+      Meets w bodies (Asked (Tick by)) (record v { clock = v.clock + by }) (Now (v.clock + by))
+  unfolding outcome_of tick_outcome
+  tick_meets by done =
+      subst (λ (n : ℕ). Meets w bodies (Asked (Tick by)) (record v { clock = v.clock + by })
+      (Now (n + by))) (sym h.parts.others.clock)
+      (unlisted_meets (record v { clock = v.clock + by }) w bodies (Asked (Tick by)) h.reached tt tt done
+      (tick_parts v w bodies by h.parts) refl)
+
+  pub reap_meets : (f : FrameValue) (behind : List FrameValue) → v.flows.backlog.finished ≡ f ∷ behind →
+      refusal w (Asked Reap) ≡ None →
+      Meets w bodies (Asked Reap) (record v { inside = v.inside - 1; flows = with_finished v.flows behind })
+      (Reaped f.id f.fate)
+  unfolding outcome_of
+  reap_meets f behind e done =
+      subst (λ (x : ReplyNote). Meets w bodies (Asked Reap)
+      (record v { inside = v.inside - 1; flows = with_finished v.flows behind }) x)
+      (reply_reaped v.flows w f behind h.parts.others.flows e)
+      (unlisted_meets (record v { inside = v.inside - 1; flows = with_finished v.flows behind }) w bodies
+      (Asked Reap) h.reached tt tt done (reap_parts v w bodies f behind e h.parts) refl)
+
+  pub rate_meets : (s : ℕ) (rate : AskedRate) → refusal w (Asked (Rate s rate)) ≡ None →
+      Meets w bodies (Asked (Rate s rate))
+      (record v { members = on_member v.members s (with_rate (rate_asked rate)) }) Set
+  unfolding outcome_of
+  rate_meets s rate done =
+      let rows : NoRow (refusals w (Asked (Rate s rate))) =
+      no_row (refusals w (Asked (Rate s rate))) done in
+      rated (below w s rows.0)
+    where
+      rated : s < w.config.stations → Meets w bodies (Asked (Rate s rate))
+          (record v { members = on_member v.members s (with_rate (rate_asked rate)) }) Set
+      rated low =
+          let x : TransmitValue =
+          record v { members = on_member v.members s (with_rate (rate_asked rate)) } in
+          let k : Parts x (rate_outcome w s rate).world bodies =
+          rate_parts v w bodies s low h.parts rate in
+          subst (λ (z : ReplyNote). Meets w bodies (Asked (Rate s rate)) x z)
+          (rate_reply w s rate)
+          (idle_meets x w bodies (Asked (Rate s rate)) h.reached tt tt done k s refl
+          (same_listed v x w (rate_outcome w s rate).world bodies s h.reached h.parts k
+          (same_ready v s (with_rate (rate_asked rate)) v.sched
+          (sized s low)) (rate_lists w s rate)))
+
+  pub rx_meets : (s : ℕ) (c : Class) (air : ℕ) → refusal w (Asked (Rx s c air)) ≡ None →
+      Meets w bodies (Asked (Rx s c air)) (record v {
+        sched = with_turns_charged v.sched s c air;
+        members =
+            on_member v.members s (with_receipt c air);
+      }) (Charged (deficit v.sched c s -ℤ pos air))
+  unfolding outcome_of
+  rx_meets s c air done =
+      let rows : NoRow (refusals w (Asked (Rx s c air))) = no_row (refusals w (Asked (Rx s c air))) done in
+      charged (below w s rows.0) (live_of (is_live w s) rows.1.1.0)
+    where
+      live_of : (b : Bool) → not b ≡ false → b ≡ true
+      live_of true e = refl
+      live_of false e = absurd (cc e)
+
+      charged : s < w.config.stations → is_live w s ≡ true →
+          Meets w bodies (Asked (Rx s c air)) (record
+          v {
+            sched = with_turns_charged v.sched s c air;
+            members =
+                on_member v.members s (with_receipt c air);
+          }) (Charged (deficit v.sched c s -ℤ pos air))
+      charged low live =
+          let x : TransmitValue = record v {
+            sched = with_turns_charged v.sched s c air;
+            members =
+                on_member v.members s (with_receipt c air);
+          } in
+          let k : Parts x (rx_outcome w s c air).world bodies = rx_parts v w bodies s low h.parts c air in
+          subst (λ (z : ReplyNote). Meets w bodies (Asked (Rx s c air)) x z)
+          (receive_reply v.sched w s c air h.parts.others.turns live)
+          (idle_meets x w bodies (Asked (Rx s c air)) h.reached tt tt done k s refl
+          (same_listed v x w (rx_outcome w s c air).world bodies s h.reached h.parts k
+          (same_ready v s (with_receipt c air) (with_turns_charged v.sched s c air) (sized s low))
+          (rx_lists w s c air)))
+
+  pub sleep_meets : (s : ℕ) → refusal w (Asked (Sleep s)) ≡ None →
+      Meets w bodies (Asked (Sleep s)) (after_listing
+      (record v {
+        sleepers = with_sleeper v.sleepers s
+            (record (sleeper v.sleepers s) { asleep = true });
+      }) s) Slept
+  unfolding outcome_of sleep_outcome
+  sleep_meets s done =
+      let rows : NoRow (refusals w (Asked (Sleep s))) = no_row (refusals w (Asked (Sleep s))) done in
+      listed_meets (record v {
+        sleepers = with_sleeper v.sleepers s
+            (record (sleeper v.sleepers s) { asleep = true });
+      }) w bodies (Asked (Sleep s)) h.reached tt tt done
+      (sleep_parts v w bodies s (below w s rows.0) h.parts) s refl
+
+  pub wake_meets : (s : ℕ) → refusal w (Asked (Wake s)) ≡ None →
+      Meets w bodies (Asked (Wake s)) (after_listing
+      (record v { sleepers = with_sleeper v.sleepers s awake }) s) Woken
+  unfolding outcome_of wake_outcome
+  wake_meets s done =
+      let rows : NoRow (refusals w (Asked (Wake s))) = no_row (refusals w (Asked (Wake s))) done in
+      listed_meets (record v { sleepers = with_sleeper v.sleepers s awake }) w bodies
+      (Asked (Wake s)) h.reached tt tt done (wake_parts v w bodies s (below w s rows.0) h.parts) s refl
+
+  pub poll_meets : (s : ℕ) → refusal w (Asked (Poll s)) ≡ None →
+      Meets w bodies (Asked (Poll s)) (after_listing
+      (record v {
+        sleepers = with_sleeper v.sleepers s
+            (record (sleeper v.sleepers s) { credit = Some (class_to_send w s) });
+      }) s)
+      (Polled (class_to_send w s))
+  unfolding outcome_of poll_outcome
+  poll_meets s done =
+      let rows : NoRow (refusals w (Asked (Poll s))) = no_row (refusals w (Asked (Poll s))) done in
+      listed_meets (record v {
+        sleepers = with_sleeper v.sleepers s
+            (record (sleeper v.sleepers s) { credit = Some (class_to_send w s) });
+      }) w bodies
+      (Asked (Poll s)) h.reached tt tt done (poll_parts v w bodies s (below w s rows.0) h.parts) s refl
+
+  pub join_meets : (windows : List WindowValue) (s window start exponent weight : ℕ) →
+      refusal w (Asked (Join s window start exponent weight)) ≡ None →
+      AreReset v.windows windows s start window →
+      Meets w bodies (Asked (Join s window start exponent weight)) (after_listing (record v {
+        sched = everywhere (after_join s (v.sched.quantum * weight)) v.sched;
+        windows = windows;
+        members = set v.members s (Some (new_member exponent));
+        sleepers = with_sleeper v.sleepers s awake;
+      }) s) Joined
+  unfolding outcome_of join_outcome
+  join_meets windows s window start exponent weight done reset =
+      let rows : NoRow (refusals w (Asked (Join s window start exponent weight))) =
+      no_row (refusals w (Asked (Join s window start exponent weight))) done in
+      listed_meets (record v {
+        sched = everywhere (after_join s (v.sched.quantum * weight)) v.sched;
+        windows = windows;
+        members = set v.members s (Some (new_member exponent));
+        sleepers = with_sleeper v.sleepers s awake;
+      }) w bodies (Asked (Join s window start exponent weight)) h.reached tt tt done
+      (join_parts v w bodies windows s window start exponent weight
+      (below w s rows.0) rows.1.1.1.1.1.0 reset h.parts) s refl
+
+-- ---- Arrive and Answer
+
+pub rises : (w : World) → IsReached w → OpenRises 0 w.exchanges w.opened
+rises w r = by_law (λ u. OpenRises 0 u.exchanges u.opened) w r (λ m. (window_law w.config r.history m).rising)
+
+arrive_lists : (w : World) (x : Exchange) (i : ℕ) (c : Class) →
+    rotation (arrive_outcome w x i).world c ≡ rotation w c
+unfolding arrive_outcome with_exchange on_receiver on_tid on_station with_station
+arrive_lists w x i c = refl
+
+answer_lists : (w : World) (x : Exchange) (c : Class) → rotation (answer_outcome w x).world c ≡ rotation w c
+unfolding answer_outcome with_exchange
+answer_lists w x c = refl
+
+module _ (v : TransmitValue) (w : World) (bodies : ℕ → FrameValue) (h : StandsFor v w bodies) where
+  -- a world with the same lists that the half represents: no station has to be listed
+  unlisted : (u : World) (s : ℕ) → Parts v u bodies → ((c : Class) → rotation u c ≡ rotation w c) →
+      Parts v (with_listings_of u (Some s)) bodies
+  unlisted u s k lists = subst (λ (x : World). Parts v x bodies)
+      (sym (nobody_new u s (same_listed v v w u bodies s h.reached h.parts k (λ c. refl) lists))) k
+
+  arrived_parts : (e i : ℕ) (o : Option Exchange) → exchange w e ≡ o →
+      Parts v (with_listings_of (outcome_where_open w o (λ x. arrive_outcome w x i)).world (station_of o))
+      bodies
+  unfolding outcome_where_open
+  arrived_parts e i None known = listed_none v w bodies h.parts
+  arrived_parts e i (Some x) known = unlisted (arrive_outcome w x i).world x.station
+      (arrive_parts v w bodies e x known (rises w h.reached) h.parts i) (arrive_lists w x i)
+
+  answered_parts : (e : ℕ) (o : Option Exchange) → exchange w e ≡ o →
+      Parts v (with_listings_of (outcome_where_open w o (λ x. answer_outcome w x)).world (station_of o))
+      bodies
+  unfolding outcome_where_open
+  answered_parts e None known = listed_none v w bodies h.parts
+  answered_parts e (Some x) known = unlisted (answer_outcome w x).world x.station
+      (answer_parts v w bodies e x known (rises w h.reached) h.parts) (answer_lists w x)
+
+  arrive_step : (e i : ℕ) (o : Option Refusal) →
+      Parts v (judged_outcome w (Asked (Arrive e i)) o).world bodies
+  unfolding judged_outcome outcome_of after_refusal
+  arrive_step e i None = arrived_parts e i (exchange w e) refl
+  arrive_step e i (Some r) = h.parts
+
+  answer_step : (e : ℕ) (o : Option Refusal) → Parts v (judged_outcome w (Asked (Answer e)) o).world bodies
+  unfolding judged_outcome outcome_of after_refusal
+  answer_step e None = answered_parts e (exchange w e) refl
+  answer_step e (Some r) = h.parts
+
+pub arrive_stands : (v : TransmitValue) (w : World) (bodies : ℕ → FrameValue) (e i : ℕ) →
+    StandsFor v w bodies → StandsFor v (step w (Asked (Arrive e i))).world bodies
+unfolding step
+arrive_stands v w bodies e i h = record {
+  parts =
+      arrive_step v w bodies h e i (refusal w (Asked (Arrive e i)));
+  reached =
+      reached_step w (Asked (Arrive e i)) h.reached tt tt;
+}
+
+pub answer_stands : (v : TransmitValue) (w : World) (bodies : ℕ → FrameValue) (e : ℕ) → StandsFor v w bodies →
+    StandsFor v (step w (Asked (Answer e))).world bodies
+unfolding step
+answer_stands v w bodies e h = record {
+  parts = answer_step v w bodies h e (refusal w (Asked (Answer e)));
+  reached = reached_step w (Asked (Answer e)) h.reached tt tt;
+}

@@ -1,0 +1,45 @@
+-- Proves the law `the_readers_agree` by the lemmas of Readers.
+use Rattle.wf_send_half_model.proofs.Readers.{live_same, queued_same, due_same, waiting_same, can_send_same, can_send_in_same, ready_same, asks_same, exchange_same, station_count_same, class_count_same, class_queued_same, any_tid_same, class_same}
+use Rattle.wf_send_half_model.proofs.the_readers_agree.Goals as goal
+
+pub returns-clause-live : goal.returns-clause-live
+returns-clause-live c = live_same
+
+pub returns-clause-queued : goal.returns-clause-queued
+returns-clause-queued c = queued_same
+
+pub returns-clause-due : goal.returns-clause-due
+returns-clause-due c = due_same
+
+pub returns-clause-waiting : goal.returns-clause-waiting
+returns-clause-waiting c = waiting_same
+
+pub returns-clause-can_send : goal.returns-clause-can_send
+returns-clause-can_send c = can_send_same
+
+pub returns-clause-can_send_in : goal.returns-clause-can_send_in
+returns-clause-can_send_in c = can_send_in_same
+
+pub returns-clause-ready : goal.returns-clause-ready
+returns-clause-ready c = ready_same
+
+pub returns-clause-asks : goal.returns-clause-asks
+returns-clause-asks c = asks_same
+
+pub returns-clause-exchange : goal.returns-clause-exchange
+returns-clause-exchange c = exchange_same
+
+pub returns-clause-of_station : goal.returns-clause-of_station
+returns-clause-of_station c = station_count_same
+
+pub returns-clause-of_class : goal.returns-clause-of_class
+returns-clause-of_class c = class_count_same
+
+pub returns-clause-class_queued : goal.returns-clause-class_queued
+returns-clause-class_queued c = class_queued_same
+
+pub returns-clause-any_tid : goal.returns-clause-any_tid
+returns-clause-any_tid c = any_tid_same
+
+pub returns-clause-polled : goal.returns-clause-polled
+returns-clause-polled c = class_same

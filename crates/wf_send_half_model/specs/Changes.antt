@@ -1,0 +1,41 @@
+-- Defines changes that calls make to a transmit half: listings, new windows, and an enqueue.
+use Rattle.std.specs.Prelude.{◌≡◌, ◌≢◌, ◌<◌, ℕ, ◌+◌, if◌then◌else◌, List, length}
+use Rattle.wf_frame.specs.Classes.{all_classes, tid_number}
+use Rattle.wf_frame.specs.declared.classes.Class.{Class}
+use Rattle.wf_frame.specs.Frames.{FrameValue}
+use Rattle.wf_def_agreement.specs.Session.{new_session}
+use Rattle.wf_send_parts.specs.Tally.{one_accepted}
+use Rattle.wf_queue_flows.specs.Flows.{dropped_for_limit, after_put}
+use Rattle.wf_sched_refines.specs.Standing.{with_listed, with_listed_where}
+use Rattle.wf_send_parts.specs.Window.{WindowValue, WindowStandsFor}
+use Rattle.wf_send_parts.specs.Windows.{WindowsHaveRoom, window_of}
+use Rattle.wf_send_half_model.specs.Counting.{with_overlimit}
+use Rattle.wf_send_half_model.specs.Half.{TransmitValue, is_ready_of}
+
+-- a station is listed in each class in which it is ready
+abbrev pub after_listing : TransmitValue → ℕ → TransmitValue
+after_listing v s =
+    record v { sched = with_listed_where (λ c. is_ready_of v c s) s all_classes v.sched }
+
+-- a station is listed in class c, if it is ready there
+abbrev pub after_listing_in : TransmitValue → ℕ → Class → TransmitValue
+after_listing_in v s c =
+    record v { sched = if is_ready_of v c s then with_listed v.sched s c else v.sched }
+
+-- the eight windows of station s begin new sessions at number `first`; the other windows are unchanged
+pub record AreReset (before after : List WindowValue) (s first size : ℕ) : Type 0 where
+  pub sized : length after ≡ length before
+  pub room : WindowsHaveRoom after
+  pub own : (t : ℕ) (bodies : ℕ → FrameValue) → t < 8 →
+      WindowStandsFor (window_of after s t) (new_session first size) bodies
+  pub others : (i t : ℕ) → i ≢ s → t < 8 → window_of after i t ≡ window_of before i t
+
+-- a frame is accepted: at the limit the head of the longest queue is dropped, and the frame goes to its TID's
+-- queues
+abbrev pub after_enqueue : TransmitValue → FrameValue → TransmitValue
+after_enqueue v f =
+    record v {
+      inside = v.inside + 1;
+      flows = after_put v.flows (tid_number f.station f.tid) f;
+      tally = with_overlimit (dropped_for_limit v.flows) (one_accepted v.tally);
+    }

@@ -1,0 +1,97 @@
+-- Defines what a transmit half of an access point keeps, as its callers see it; what stations received is no
+-- part of it. Times, deficits and airtime are in microseconds.
+use Rattle.std.specs.Prelude.{ℕ, ◌*◌, ◌==◌, nat_lt, Bool, not, ◌&&◌, ◌||◌, List, [], ◌∷◌, ◌++◌, Option, Some, None, is_some, option_map, if◌then◌else◌, map, find, replicate}
+use Rattle.std.specs.List.{list_any}
+use Rattle.wf_frame.specs.declared.settings.Config.{Config}
+use Rattle.wf_frame.specs.declared.classes.Class.{Class}
+use Rattle.wf_frame.specs.Classes.{lower_tid, upper_tid, tid_number}
+use Rattle.wf_frame.specs.Frames.{FrameValue}
+use Rattle.wf_def_world.specs.CanSend.{has_credit}
+use Rattle.wf_queue_flows.specs.Flows.{FlowsValue, empty_flows, frames_of_tid}
+use Rattle.wf_sched.specs.ClassRotas.{SchedValue, new_scheduler as empty_sched}
+use Rattle.wf_send_parts.specs.declared.window.place.Place.{Place}
+use Rattle.wf_send_parts.specs.declared.window.place.Place.TheVariants.{Waiting as Waits, Flying as Flies}
+use Rattle.wf_send_parts.specs.Window.{WindowValue, waits, can_take}
+use Rattle.wf_send_parts.specs.Windows.{new_window, window_of}
+use Rattle.wf_send_parts.specs.declared.exchanges.opened.Open.{Open}
+use Rattle.wf_send_parts.specs.Exchanges.{asks}
+use Rattle.wf_send_parts.specs.declared.stations.members.Member.{Member}
+use Rattle.wf_send_parts.specs.Members.{member}
+use Rattle.wf_send_parts.specs.declared.stations.sleepers.Sleeper.{Sleeper}
+use Rattle.wf_send_parts.specs.Sleepers.{awake, sleeper}
+use Rattle.wf_send_parts.specs.Tally.{Counts, no_counts}
+
+-- what the transmit half keeps
+pub record TransmitValue : Type 0 where
+  pub config : Config
+  pub clock : ℕ
+  pub exchanges : ℕ  -- how many were opened so far
+  pub inside : ℕ  -- how many frames were accepted and are not reaped
+  pub flows : FlowsValue
+  pub sched : SchedValue
+  pub windows : List WindowValue  -- by tid_number
+  pub members : List (Option Member)  -- by station; None if it is not live
+  pub sleepers : List Sleeper  -- by station
+  pub opened : List Open  -- in the order of their numbers
+  pub tally : Counts
+
+-- a new half: no station is live, it holds no frames, and no window has a number
+abbrev pub opening_half : Config → TransmitValue
+opening_half c = record {
+  config = c;
+  clock = 0;
+  exchanges = 0;
+  inside = 0;
+  flows = empty_flows c;
+  sched = empty_sched c.stations c.quantum;
+  windows = replicate (8 * c.stations) new_window;
+  members = replicate c.stations None;
+  sleepers = replicate c.stations awake;
+  opened = [];
+  tally = no_counts;
+}
+
+-- ---- queries
+
+-- whether some number of a window waits to be sent
+abbrev pub some_wait : WindowValue → Bool
+some_wait x = list_any waits x.places
+
+-- whether a TID can send; a request that is due goes before all frames, and only one is open at a time
+abbrev pub can_send_of : TransmitValue → ℕ → ℕ → Bool
+can_send_of v s t =
+    let x : WindowValue = window_of v.windows s t in
+    if is_some x.due then not (asks v.opened s t)
+    else some_wait x || (nat_lt 0 (frames_of_tid v.flows (tid_number s t)) && can_take x)
+
+-- whether a station is ready in a class: it is live, one of its two TIDs of the class can send, and it is
+-- awake or has the credit of the class
+abbrev pub is_ready_of : TransmitValue → Class → ℕ → Bool
+is_ready_of v c s =
+    is_some (member v.members s)
+    && ((can_send_of v s (lower_tid c) || can_send_of v s (upper_tid c))
+    && (not (sleeper v.sleepers s).asleep || has_credit (sleeper v.sleepers s).credit c))
+
+-- the frame that a place holds, if any
+abbrev pub frame_in : Option Place → List FrameValue
+frame_in (Some (Waits parcel attempts)) = parcel ∷ []
+frame_in (Some (Flies parcel attempts exchange)) = parcel ∷ []
+frame_in _ = []
+
+-- the frames of these lists, one list after another
+abbrev pub all_of : List (List FrameValue) → List FrameValue
+all_of [] = []
+all_of (fs ∷ rest) = fs ++ all_of rest
+
+-- the frames that a window holds, in the order of its numbers
+abbrev pub frames_in_window : WindowValue → List FrameValue
+frames_in_window x = all_of (map frame_in x.places)
+
+-- all frames: those in the flow queues, those in the windows, and those on the finished list
+abbrev pub frames_in : TransmitValue → List FrameValue
+frames_in v =
+    all_of v.flows.backlog.queues ++ all_of (map frames_in_window v.windows) ++ v.flows.backlog.finished
+
+-- the body of the frame with this id, if the half has it
+abbrev pub body_of : TransmitValue → ℕ → Option (List ℕ)
+body_of v id = option_map (λ f. f.body) (find (λ f. f.id == id) (frames_in v))

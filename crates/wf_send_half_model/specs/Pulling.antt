@@ -1,0 +1,76 @@
+-- Defines the parts of a pull: whose turn it is, the exchange that it opens, and the half after that.
+use Rattle.std.specs.Prelude.{ℕ, ◌+◌, ◌==◌, nat_lt, Bool, false, not, ◌&&◌, ◌||◌, [], ◌∷◌, ◌++◌, None, option_map, unwrap_or, if◌then◌else◌}
+use Rattle.std.specs.List.{list_any}
+use Rattle.wf_frame.specs.declared.classes.Class.{Class}
+use Rattle.wf_frame.specs.Classes.{lower_tid, upper_tid, tid_number}
+use Rattle.wf_def_lists.specs.Bounds.{narrow_window}
+use Rattle.wf_def_lists.specs.Table.{upto}
+use Rattle.wf_queue_flows.specs.Flows.{frames_of_tid}
+use Rattle.wf_send_parts.specs.Windows.{window_of}
+use Rattle.wf_send_parts.specs.declared.exchanges.opened.Open.{Open}
+use Rattle.wf_send_parts.specs.declared.exchanges.opened.Sending.{Sending}
+use Rattle.wf_send_parts.specs.Exchanges.{sending_is_request}
+use Rattle.wf_send_parts.specs.Members.{member, on_member, upper_in, with_upper}
+use Rattle.wf_send_parts.specs.Sleepers.{sleeper, with_sleeper}
+use Rattle.wf_send_half_model.specs.Half.{TransmitValue, some_wait, can_send_of}
+
+-- ---- whose turn it is
+
+-- whether it is the turn of the upper of a class's two TIDs
+abbrev pub has_upper_turn : TransmitValue → ℕ → Class → Bool
+has_upper_turn v s c = unwrap_or (option_map (λ m. upper_in m c) (member v.members s)) false
+
+-- the TID whose turn it is
+abbrev pub first_tid_of : TransmitValue → ℕ → Class → ℕ
+first_tid_of v s c = if has_upper_turn v s c then upper_tid c else lower_tid c
+
+-- the class's other TID
+abbrev pub other_tid_of : TransmitValue → ℕ → Class → ℕ
+other_tid_of v s c = if has_upper_turn v s c then lower_tid c else upper_tid c
+
+-- the TID that sends: the one whose turn it is, if it can send; otherwise the other one
+abbrev pub sending_tid_of : TransmitValue → ℕ → Class → ℕ
+sending_tid_of v s c = if can_send_of v s (first_tid_of v s c) then first_tid_of v s c else other_tid_of v s c
+
+-- the turn goes to the TID that does not send
+abbrev pub after_turn : TransmitValue → ℕ → Class → ℕ → TransmitValue
+after_turn v s c t = record v { members = on_member v.members s (with_upper c (t == lower_tid c)) }
+
+-- ---- the exchange that it opens
+
+-- whether a TID's window is above 64, so that its BlockAcks have 256 bits
+abbrev pub is_wide_of : TransmitValue → ℕ → ℕ → Bool
+is_wide_of v s t = nat_lt narrow_window (window_of v.windows s t).size
+
+-- whether a number waits or a frame is queued on some TID of a station
+abbrev pub has_more_of : TransmitValue → ℕ → Bool
+has_more_of v s = list_any (λ t. some_wait (window_of v.windows s t)
+    || nat_lt 0 (frames_of_tid v.flows (tid_number s t))) (upto 8)
+
+-- the exchange that sends `sending` for `charge` microseconds; `more` is the More Data bit (IEEE 802.11-2012,
+-- 8.2.4.1.8)
+abbrev pub open_next : TransmitValue → ℕ → ℕ → Class → ℕ → Sending → Open
+open_next v s t c charge sending = record {
+  number = v.exchanges;
+  station = s;
+  tid = t;
+  class = c;
+  charge = charge;
+  sending = sending;
+  more = (sleeper v.sleepers s).asleep && (not (sending_is_request sending) && has_more_of v s);
+}
+
+-- the half with this exchange opened
+abbrev pub after_opening : TransmitValue → Open → TransmitValue
+after_opening v x = record v { exchanges = v.exchanges + 1; opened = v.opened ++ x ∷ [] }
+
+-- the half with the station's credit spent, if it had one
+abbrev pub after_spending : TransmitValue → ℕ → TransmitValue
+after_spending v s = record v {
+  sleepers = with_sleeper v.sleepers s
+      (record (sleeper v.sleepers s) { credit = None });
+}
+
+-- the prepared exchange is sent: it opens, and a credit is spent
+abbrev pub after_sending : TransmitValue → ℕ → ℕ → Class → ℕ → Sending → TransmitValue
+after_sending v s t c charge sending = after_spending (after_opening v (open_next v s t c charge sending)) s

@@ -1,0 +1,32 @@
+-- Defines which calls change who is ready, and when all classes but one list a station already.
+use Rattle.std.specs.Prelude.{◌≡◌, ℕ, Bool, true, false, ◌||◌}
+use Rattle.wf_frame.specs.declared.classes.Class.{Class}
+use Rattle.wf_frame.specs.declared.notes.Ask.TheVariants.{Rate, Tick, Arrive, Answer, Rx, Reap}
+use Rattle.wf_frame.specs.declared.notes.Note.{Note}
+use Rattle.wf_frame.specs.declared.notes.Note.TheVariants.{Enqueue, Asked}
+use Rattle.wf_frame.specs.Classes.{lower_tid, upper_tid}
+use Rattle.wf_def_rotation.specs.Rotation.{has_key}
+use Rattle.wf_def_world.specs.World.{World, rotation}
+use Rattle.wf_def_world.specs.CanSend.{is_ready}
+use Rattle.wf_queue_flows_refines.specs.Frames.{loses_next_in}
+
+-- whether the call, if it is not refused, drops a frame of station s in class c for the limit
+abbrev pub loses_in : World → Note → ℕ → Class → Bool
+loses_in w (Enqueue station tid flow len) s c =
+    loses_next_in w s (lower_tid c) || loses_next_in w s (upper_tid c)
+loses_in w (Asked ask) s c = false
+
+-- whether the call never changes who is ready: it sets a rate, moves the clock, reports what arrived or was
+-- answered, charges what a station sent, or reaps
+abbrev pub leaves_ready : Note → Bool
+leaves_ready (Asked (Rate station rate)) = true
+leaves_ready (Asked (Tick by)) = true
+leaves_ready (Asked (Arrive exchange index)) = true
+leaves_ready (Asked (Answer exchange)) = true
+leaves_ready (Asked (Rx station class air)) = true
+leaves_ready (Asked Reap) = true
+leaves_ready _ = false
+
+-- each class in which a station is ready lists it, except perhaps class c
+abbrev pub IsListedBut : World → ℕ → Class → Type 0
+IsListedBut w s c = (d : Class) → (d ≡ c → ⊥) → is_ready w d s ≡ true → has_key (rotation w d) s ≡ true

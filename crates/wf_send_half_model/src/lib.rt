@@ -1,0 +1,796 @@
+//! Defines when a transmit half of the code represents a world of the machine's definition, and proves that
+//! it represents the next world after every call. It has definitions and laws only; nothing here runs.
+//!
+//! specs/Half defines what the half keeps, specs/Views what each part of it reads of a world, and
+//! specs/Standing when the half represents the world. `Parts` says that each part of the half represents its
+//! part of one world. `StandsFor` says this too, and that the world occurs in a run, so that all laws of runs
+//! hold of it.
+//!
+//! For each call, the laws here say which changes it has to make to the half, that the changed half
+//! represents the world after the step, and that its reply is the step's. src/bodies says which frames the
+//! half has: those that were accepted and are not reaped, each with its body.
+#![tactic(auto)]
+
+ghost use Rattle.std.specs.Prelude.{◌≡◌, ◌<◌, ◌≤◌, ℕ, suc, ◌+◌, ◌-◌, ◌*◌, ◌==◌, ◌||◌, ◌++◌, pos, ◌-ℤ◌, Bool, true, false, List, [], ◌∷◌, Some, None, is_some, option_map, map, find, count_by, set, length, max, unwrap_or, ◌%◌, ◌&&◌, nat_lt, nat_le, if◌then◌else◌, All, Option};
+ghost use Rattle.std.specs.List.{list_any};
+ghost use Rattle.wf_frame.specs.Classes.{lower_tid, upper_tid, same_class, class_of, tid_number};
+ghost use Rattle.wf_frame.specs.Frames.{FrameValue, source_octets};
+ghost use Rattle.wf_frame.specs.Settings.{IsInRange};
+ghost use Rattle.wf_frame.specs.declared.classes.Class.{Class};
+ghost use Rattle.wf_frame.specs.declared.classes.Class.TheVariants.{Bk, Be, Vi, Vo};
+ghost use Rattle.wf_frame.specs.declared.classes.Fate.{Fate};
+ghost use Rattle.wf_frame.specs.declared.classes.Fate.TheVariants.{Held};
+ghost use Rattle.wf_frame.specs.declared.notes.Ask.TheVariants.{Done, Join, Leave, Pull, Rate, Tick, Arrive, Answer, Sleep, Wake, Poll, Rx, Reap};
+ghost use Rattle.wf_frame.specs.declared.notes.AskedRate.{AskedRate};
+ghost use Rattle.wf_frame.specs.declared.notes.Note.{Note};
+ghost use Rattle.wf_frame.specs.declared.notes.Note.TheVariants.{Enqueue, Asked};
+ghost use Rattle.wf_frame.specs.declared.notes.Refusal.{Refusal};
+ghost use Rattle.wf_frame.specs.declared.notes.Refusal.TheVariants.{Idle, Full};
+ghost use Rattle.wf_frame.specs.declared.notes.ReplyNote.TheVariants.{Accepted, Left, Joined, Set, Now, Slept, Woken, Polled, Charged, Reaped, Refused, Send};
+ghost use Rattle.wf_frame.specs.declared.notes.ReplyNote.TheVariants as reply;
+ghost use Rattle.wf_frame.specs.declared.settings.Config.{Config};
+ghost use Rattle.wf_frame.specs.declared.notes.Part.TheVariants.{Mpdus, Request as Starts};
+ghost use Rattle.wf_def_air.specs.Airtime.{Rate as RateValue, data_charge, request_charge};
+ghost use Rattle.wf_def_codel.specs.Codel.{Params};
+ghost use Rattle.wf_def_codel.specs.Parameters.{params_at};
+ghost use Rattle.wf_def_air.specs.Fit.{fits, aggregate_octets};
+ghost use Rattle.wf_send_parts.specs.declared.exchanges.opened.Sending.TheVariants.{Data, Request as Starts_at};
+ghost use Rattle.wf_def_lists.specs.Lengths.{greatest_body};
+ghost use Rattle.wf_def_lists.specs.Lists.{IsOnce};
+ghost use Rattle.wf_def_agreement.specs.Receiver.{Receiver};
+ghost use Rattle.wf_def_lists.specs.Table.{has, upto};
+ghost use Rattle.wf_def_rotation.specs.Rotation.{Rotation, has_key};
+ghost use Rattle.wf_def_agreement.specs.Session.{Session, State, slot, start_of, next_number, request_due, with_state, is_acknowledged, is_waiting, is_failed, with_number_given};
+ghost use Rattle.wf_def_world.specs.Rates.{rate_asked};
+ghost use Rattle.wf_def_world.specs.World.{World, Station, Tid, Share, Queue, Exchange, Mpdu, frame, accepted_count, is_held, codel_params, with_frame_finished, with_frames_finished, Frames, Request, opening, without_exchange, is_live, session, rotation, exchange, on_station, on_tid, on_session, on_receiver, on_share, on_queue, with_queues, with_rotation, is_wide};
+ghost use Rattle.wf_def_world.specs.FlowQueues.{frames_queued as world_queued, after_limit, dropped_for_limit as dropped_for_limit_in};
+ghost use Rattle.wf_def_world.specs.CanSend.{request_open, has_waiting, can_send, can_send_in, is_ready, with_listings_of};
+ghost use Rattle.wf_def_world.specs.Exchanges.{Aggregate, Prepared, picked_station, sending_tid, after_pick, after_tid_turn, aggregate_of, prepared_data, mpdus_of, is_acked, charge_of, after_charge, with_settled, with_all_settled, count_in, part_of, lens_of, mpdu_of, aggregate_charge};
+ghost use Rattle.wf_def_world.specs.Refusals.{refusal, open_of_station, open_of_class, queued_in_class, can_send_any};
+ghost use Rattle.wf_def_world.specs.Step.{outcome_of, concerned_station, class_to_send, step, done_outcome, send_outcome};
+ghost use Rattle.wf_law_runs.specs.Queues.{HasLength, IsAtMost};
+ghost use Rattle.wf_send_parts.specs.Tally.{held_in, settled_as, many_settled_as};
+ghost use Rattle.wf_law_runs.specs.Places.{IsNumbered, KeepsPlaces};
+ghost use Rattle.wf_law_runs.specs.Windows.{EachMpdu, IsPending};
+ghost use Rattle.wf_queue_flows.specs.Flows.{frames_of_tid, dropped_for_limit, taken_for_tid};
+ghost use Rattle.wf_queue_flows_refines.specs.Frames.{with_body, IsBodySettled};
+ghost use Rattle.wf_queue_flows_refines.specs.Standing.{with_finished, times_held};
+ghost use Rattle.wf_queue_flows.specs.Backlog.{held_in_backlog};
+ghost use Rattle.wf_queue_flows_refines.specs.Rest.{rest_of_world};
+ghost use Rattle.wf_sched.specs.ClassRotas.{SchedValue, deficit, after_join};
+ghost use Rattle.wf_sched_refines.specs.Standing.{SchedulerStandsFor as TurnsStandFor, LeavesRotas, everywhere, with_deficit_charged};
+ghost use Rattle.wf_send_parts.specs.Answers.{settling_answer};
+ghost use Rattle.wf_send_parts.specs.Window.{WindowValue, WindowStandsFor as WindowStandsFor, session_settled, some_fly, IsNumber, HasOwnFrame, state_at, can_take, on_air, waiting_from};
+ghost use Rattle.wf_send_parts.specs.Expelling.{frame_left};
+ghost use Rattle.wf_send_parts.specs.Sent.{with_one_sent};
+ghost use Rattle.wf_air.specs.Sizes.{AggregateSizeValue, SizeStandsFor as SizeStandsFor, empty_size};
+ghost use Rattle.wf_sched_refines.specs.Calls.{HasPickedInClass};
+ghost use Rattle.wf_octets.specs.Distance.{distance};
+ghost use Rattle.wf_send_parts.specs.Listing.{IsListedNext};
+ghost use Rattle.wf_send_parts.specs.Windows.{WindowsHaveRoom, window_of, with_window};
+ghost use Rattle.wf_send_parts.specs.Exchanges.{asks};
+ghost use Rattle.wf_send_parts.specs.Members.{member, on_member, new_member, with_rate, with_receipt};
+ghost use Rattle.wf_send_parts.specs.Sleepers.{sleeper, with_sleeper, awake};
+ghost use Rattle.wf_send_half_model.specs.Half.{TransmitValue, opening_half, some_wait, can_send_of, is_ready_of};
+ghost use Rattle.wf_send_half_model.specs.Standing.{open_of, counts_in, HasWindows, Parts, IsReached, StandsFor, Meets, sending_of, numbers_on_air};
+ghost use Rattle.wf_send_half_model.specs.Changes.{after_listing, after_listing_in, AreReset, after_enqueue};
+ghost use Rattle.wf_send_half_model.specs.Counting.{with_overlimit};
+ghost use Rattle.wf_send_half_model.specs.Ending.{after_close, after_finish, after_answer, IsEnding, state_left};
+ghost use Rattle.wf_send_half_model.specs.Leaving.{after_expelled, after_tid_purged, after_leave, IsLeaving, IsExpelling, IsExpelled};
+ghost use Rattle.wf_send_half_model.specs.Pulling.{sending_tid_of, after_turn, is_wide_of, open_next, after_sending};
+ghost use Rattle.wf_send_half_model.specs.Filling.{AreWaiting, IsTakingOff, IsUnderway, with_one_fresh, IsFilling, IsFilled, after_giving, fresh_mpdu, room_for, IsToFill, IsChoosing, IsTurned};
+ghost use Rattle.wf_send_half_model.specs.Views.{agreements, roster, ledger, HasSameViews, KeepsView, KeepsSums};
+ghost use Rattle.wf_send_half_model.specs.Readiness.{loses_in, leaves_ready, IsListedBut};
+
+pub mod bodies;
+
+/// A new half represents the opening world, for every function `bodies`.
+pub fn a_new_half()
+    ensures { (c : Config) (bodies : ℕ → FrameValue) → IsInRange c →
+        StandsFor (opening_half c) (opening c) bodies }
+{}
+
+/// A half that represents a world represents every world that has the same views and turns.
+pub fn the_rest_does_not_matter()
+    ensures same { (v : TransmitValue) (w u : World) (bodies : ℕ → FrameValue) → HasSameViews w u →
+        LeavesRotas w u → Parts v w bodies → Parts v u bodies }
+    ensures turns { (v : TransmitValue) (w u : World) (bodies : ℕ → FrameValue) (turns : SchedValue) →
+        HasSameViews w u → TurnsStandFor turns u →
+        Parts v w bodies → Parts (record v { sched = turns }) u bodies }
+    ensures windows { (windows : List WindowValue) (w u : World) (bodies : ℕ → FrameValue) →
+        agreements u ≡ agreements w →
+        HasWindows windows w bodies → HasWindows windows u bodies }
+{}
+
+/// Says which views of a world each change leaves unchanged. The windows read a world's agreements, the
+/// members, sleepers and open exchanges its roster, and the counts its ledger. The calls of the flow queues
+/// leave agreements and roster unchanged (`rest`, wf_queue_flows_refines).
+pub fn what_a_change_leaves()
+    ensures agreements_rest { (w u : World) → rest_of_world u ≡ rest_of_world w →
+        agreements u ≡ agreements w }
+    ensures agreements_station { (w : World) (s : ℕ) (f : Station → Station) →
+        ((x : Station) → (f x).tids ≡ x.tids) →
+        agreements (on_station w s f) ≡ agreements w }
+    ensures agreements_share { (w : World) (s : ℕ) (c : Class) (f : Share → Share) →
+        agreements (on_share w s c f) ≡ agreements w }
+    ensures agreements_receiver { (w : World) (s t : ℕ) (f : Receiver → Receiver) →
+        agreements (on_receiver w s t f) ≡ agreements w }
+    ensures agreements_queues { (w : World) (s t : ℕ) (r : Rotation) →
+        agreements (with_queues w s t r) ≡ agreements w }
+    ensures roster_rest { (w u : World) → rest_of_world u ≡ rest_of_world w → roster u ≡ roster w }
+    ensures roster_station { (w : World) (s : ℕ) (f : Station → Station) → KeepsView f →
+        roster (on_station w s f) ≡ roster w }
+    ensures roster_share { (w : World) (s : ℕ) (c : Class) (f : Share → Share) → KeepsSums f →
+        roster (on_share w s c f) ≡ roster w }
+    ensures roster_tid { (w : World) (s t : ℕ) (f : Tid → Tid) → roster (on_tid w s t f) ≡ roster w }
+    ensures roster_session { (w : World) (s t : ℕ) (f : Session → Session) →
+        roster (on_session w s t f) ≡ roster w }
+    ensures ledger_same { (w u : World) → u.frames ≡ w.frames → u.finished ≡ w.finished →
+        ledger u ≡ ledger w }
+    ensures ledger_station { (w : World) (s : ℕ) (f : Station → Station) →
+        ledger (on_station w s f) ≡ ledger w }
+    ensures ledger_session { (w : World) (s t : ℕ) (f : Session → Session) →
+        ledger (on_session w s t f) ≡ ledger w }
+    ensures ledger_share { (w : World) (s : ℕ) (c : Class) (f : Share → Share) →
+        ledger (on_share w s c f) ≡ ledger w }
+    ensures ledger_queue { (w : World) (q : ℕ) (f : Queue → Queue) → ledger (on_queue w q f) ≡ ledger w }
+    ensures lists { (w : World) (c : Class) (r : Rotation) → HasSameViews w (with_rotation w c r) }
+{}
+
+/// A query of a half returns the same as that query of the world: who is live, who can send and is ready,
+/// which frames are queued or wait, and which exchanges are open.
+pub fn the_readers_agree()
+    ensures live { (v : TransmitValue) (w : World) (bodies : ℕ → FrameValue) (s : ℕ) → Parts v w bodies →
+        is_some (member v.members s) ≡ is_live w s }
+    ensures queued { (v : TransmitValue) (w : World) (bodies : ℕ → FrameValue) (s t : ℕ) → Parts v w bodies →
+        is_live w s ≡ true → t < 8 →
+        frames_of_tid v.flows (tid_number s t) ≡ world_queued w s t }
+    ensures due { (v : TransmitValue) (w : World) (bodies : ℕ → FrameValue) (s t : ℕ) → Parts v w bodies →
+        is_live w s ≡ true → t < 8 →
+        is_some (window_of v.windows s t).due ≡ request_due (session w s t) }
+    ensures waiting { (v : TransmitValue) (w : World) (bodies : ℕ → FrameValue) (s t : ℕ) → Parts v w bodies →
+        is_live w s ≡ true → t < 8 →
+        some_wait (window_of v.windows s t) ≡ has_waiting w s t }
+    ensures can_send { (v : TransmitValue) (w : World) (bodies : ℕ → FrameValue) (s t : ℕ) →
+        Parts v w bodies → is_live w s ≡ true → t < 8 →
+        can_send_of v s t ≡ can_send w s t }
+    ensures can_send_in { (v : TransmitValue) (w : World) (bodies : ℕ → FrameValue) (s : ℕ) (c : Class) →
+        Parts v w bodies → is_live w s ≡ true →
+        (can_send_of v s (lower_tid c) || can_send_of v s (upper_tid c)) ≡ can_send_in w s c }
+    ensures ready { (v : TransmitValue) (w : World) (bodies : ℕ → FrameValue) (c : Class) (s : ℕ) →
+        Parts v w bodies → is_ready_of v c s ≡ is_ready w c s }
+    ensures asks { (v : TransmitValue) (w : World) (bodies : ℕ → FrameValue) (s t : ℕ) → Parts v w bodies →
+        asks v.opened s t ≡ request_open w s t }
+    ensures exchange { (v : TransmitValue) (w : World) (bodies : ℕ → FrameValue) (e : ℕ) → Parts v w bodies →
+        find (λ x. x.number == e) v.opened ≡ option_map open_of (exchange w e) }
+    ensures of_station { (v : TransmitValue) (w : World) (bodies : ℕ → FrameValue) (s : ℕ) →
+        Parts v w bodies →
+        count_by (λ x. x.station == s) v.opened ≡ open_of_station w s }
+    ensures of_class { (v : TransmitValue) (w : World) (bodies : ℕ → FrameValue) (c : Class) →
+        Parts v w bodies →
+        count_by (λ x. same_class x.class c) v.opened ≡ open_of_class w c }
+    ensures class_queued { (v : TransmitValue) (w : World) (bodies : ℕ → FrameValue) (s : ℕ) (c : Class) →
+        Parts v w bodies → is_live w s ≡ true →
+        frames_of_tid v.flows (tid_number s (lower_tid c)) + frames_of_tid v.flows
+        (tid_number s (upper_tid c)) ≡ queued_in_class w s c }
+    ensures any_tid { (v : TransmitValue) (w : World) (bodies : ℕ → FrameValue) (s : ℕ) → Parts v w bodies →
+        is_live w s ≡ true →
+        list_any (can_send_of v s) (upto 8) ≡ can_send_any w s }
+    ensures polled { (v : TransmitValue) (w : World) (bodies : ℕ → FrameValue) (s : ℕ) → Parts v w bodies →
+        is_live w s ≡ true →
+        unwrap_or (find (λ c. can_send_of v s (lower_tid c) || can_send_of v s (upper_tid c))
+        (Vo ∷ Vi ∷ Be ∷ [])) Bk ≡ class_to_send w s }
+{}
+
+/// A refused call changes nothing, unless it is a pull that finds no ready station.
+pub fn a_refusal()
+    ensures { (v : TransmitValue) (w : World) (bodies : ℕ → FrameValue) (note : Note) (r : Refusal) →
+        StandsFor v w bodies → refusal w note ≡ Some r →
+        (r ≡ Idle → ⊥) →
+        Meets w bodies note v (Refused r) }
+{}
+
+/// The end of a call that is not refused. If the parts represent the world that the call makes, the half
+/// lists the station that the call concerns in each class in which it is ready, and then represents the world
+/// after the step. It lists no station if the call concerns none, or if the station is listed already in each
+/// class in which it is ready. In the world of a run, every ready station is listed.
+pub fn the_end_of_a_call()
+    ensures listed { (v : TransmitValue) (w : World) (bodies : ℕ → FrameValue) (s : ℕ) → Parts v w bodies →
+        Parts (after_listing v s) (with_listings_of w (Some s)) bodies }
+    ensures reached { (w : World) (note : Note) → IsReached w → HasLength note → IsAtMost greatest_body note →
+        IsReached (step w note).world }
+    ensures concerned { (v : TransmitValue) (w : World) (bodies : ℕ → FrameValue) (note : Note) →
+        IsReached w → HasLength note → IsAtMost greatest_body note →
+        refusal w note ≡ None → Parts v (outcome_of w note).world bodies → (s : ℕ) →
+        concerned_station w note ≡ Some s →
+        Meets w bodies note (after_listing v s) (outcome_of w note).reply }
+    ensures unconcerned { (v : TransmitValue) (w : World) (bodies : ℕ → FrameValue) (note : Note) →
+        IsReached w → HasLength note →
+        IsAtMost greatest_body note →
+        refusal w note ≡ None → Parts v (outcome_of w note).world bodies → concerned_station w note ≡ None →
+        Meets w bodies note v (outcome_of w note).reply }
+    ensures nobody_new { (v : TransmitValue) (w : World) (bodies : ℕ → FrameValue) (note : Note) →
+        IsReached w → HasLength note →
+        IsAtMost greatest_body note →
+        refusal w note ≡ None → Parts v (outcome_of w note).world bodies → (s : ℕ) →
+        concerned_station w note ≡ Some s →
+        ((c : Class) → is_ready (outcome_of w note).world c s ≡ true →
+        has_key (rotation (outcome_of w note).world c) s ≡ true) →
+        Meets w bodies note v (outcome_of w note).reply }
+    ensures ready { (w : World) → IsReached w → (s : ℕ) (c : Class) → is_ready w c s ≡ true →
+        has_key (rotation w c) s ≡ true }
+{}
+
+/// It is enough to list a station in one class if each other class in which it is ready lists it already.
+/// This holds after an enqueue, a pull and a Done, for the class of the frame's TID, the pull's class, and
+/// the class of the exchange's TID: in no other class does the call make the station ready or take it off the
+/// lists.
+pub fn one_class_is_enough()
+    ensures listing { (v : TransmitValue) (w : World) (bodies : ℕ → FrameValue) (s : ℕ) (c : Class) →
+        Parts v w bodies → IsListedBut w s c → after_listing v s ≡ after_listing_in v s c }
+    ensures enqueue { (w : World) (s t flow len : ℕ) → IsReached w → HasLength (Enqueue s t flow len) →
+        IsAtMost greatest_body (Enqueue s t flow len) → refusal w (Enqueue s t flow len) ≡ None →
+        IsListedBut (outcome_of w (Enqueue s t flow len)).world s (class_of t) }
+    ensures pull { (w : World) (c : Class) (s : ℕ) → IsReached w → (picked_station w c).winner ≡ Some s →
+        IsListedBut (outcome_of w (Asked (Pull c))).world s c }
+    ensures done { (w : World) (e : ℕ) (x : Exchange) (heard : Bool) (air : Option ℕ) → IsReached w →
+        exchange w e ≡ Some x →
+        IsListedBut (done_outcome w x heard air).world x.station (class_of x.tid) }
+{}
+
+/// The calls that move no frame, and reap, which takes one off the finished list. If the machine does not
+/// refuse the call, the half with these changes represents the world after the step, and the reply is the
+/// step's. Tick and Reap concern no station. A rate and a receive charge do not change who is ready, so they
+/// list no station.
+pub fn a_call_that_moves_no_frame()
+    ensures tick { (v : TransmitValue) (w : World) (bodies : ℕ → FrameValue) → StandsFor v w bodies →
+        (by : ℕ) → refusal w (Asked (Tick by)) ≡ None →
+        Meets w bodies (Asked (Tick by)) (record v { clock = v.clock + by }) (Now (v.clock + by)) }
+    ensures reap { (v : TransmitValue) (w : World) (bodies : ℕ → FrameValue) → StandsFor v w bodies →
+        (f : FrameValue) (behind : List FrameValue) →
+        v.flows.backlog.finished ≡ f ∷ behind → refusal w (Asked Reap) ≡ None →
+        Meets w bodies (Asked Reap) (record v { inside = v.inside - 1; flows = with_finished v.flows behind })
+        (Reaped f.id f.fate) }
+    ensures rate { (v : TransmitValue) (w : World) (bodies : ℕ → FrameValue) → StandsFor v w bodies →
+        (s : ℕ) (rate : AskedRate) →
+        refusal w (Asked (Rate s rate)) ≡ None →
+        Meets w bodies (Asked (Rate s rate))
+        (record v { members = on_member v.members s (with_rate (rate_asked rate)) }) Set }
+    ensures rx { (v : TransmitValue) (w : World) (bodies : ℕ → FrameValue) → StandsFor v w bodies →
+        (s : ℕ) (c : Class) (air : ℕ) →
+        refusal w (Asked (Rx s c air)) ≡ None →
+        Meets w bodies (Asked (Rx s c air)) (record v {
+          sched = with_deficit_charged v.sched s c air;
+          members = on_member v.members s (with_receipt c air);
+        })
+        (Charged (deficit v.sched c s -ℤ pos air)) }
+    ensures sleep { (v : TransmitValue) (w : World) (bodies : ℕ → FrameValue) → StandsFor v w bodies →
+        (s : ℕ) → refusal w (Asked (Sleep s)) ≡ None →
+        Meets w bodies (Asked (Sleep s)) (after_listing
+        (record v {
+          sleepers = with_sleeper v.sleepers s
+              (record (sleeper v.sleepers s) { asleep = true });
+        }) s) Slept }
+    ensures wake { (v : TransmitValue) (w : World) (bodies : ℕ → FrameValue) → StandsFor v w bodies →
+        (s : ℕ) → refusal w (Asked (Wake s)) ≡ None →
+        Meets w bodies (Asked (Wake s)) (after_listing
+        (record v { sleepers = with_sleeper v.sleepers s awake }) s) Woken }
+    ensures poll { (v : TransmitValue) (w : World) (bodies : ℕ → FrameValue) → StandsFor v w bodies →
+        (s : ℕ) → refusal w (Asked (Poll s)) ≡ None →
+        Meets w bodies (Asked (Poll s))
+        (after_listing (record v {
+          sleepers = with_sleeper v.sleepers s
+              (record (sleeper v.sleepers s) { credit = Some (class_to_send w s) });
+        }) s)
+        (Polled (class_to_send w s)) }
+{}
+
+/// A station joins. In each class it gets its quantum of airtime, and on each TID a window that begins anew.
+pub fn a_join()
+    ensures { (v : TransmitValue) (w : World) (bodies : ℕ → FrameValue) → StandsFor v w bodies →
+        (windows : List WindowValue) (s window start exponent weight : ℕ) →
+        refusal w (Asked (Join s window start exponent weight)) ≡ None →
+        AreReset v.windows windows s start window →
+        Meets w bodies (Asked (Join s window start exponent weight))
+        (after_listing (record v {
+          sched = everywhere (after_join s (v.sched.quantum * weight)) v.sched;
+          windows = windows;
+          members = set v.members s (Some (new_member exponent));
+          sleepers = with_sleeper v.sleepers s awake;
+        }) s) Joined }
+{}
+
+/// Arrive and Answer change no part of the half: if it represents a world, it represents the world after such
+/// a call, refused or not.
+pub fn a_call_that_it_does_not_hear()
+    ensures arrive { (v : TransmitValue) (w : World) (bodies : ℕ → FrameValue) (e i : ℕ) →
+        StandsFor v w bodies →
+        StandsFor v (step w (Asked (Arrive e i))).world bodies }
+    ensures answer { (v : TransmitValue) (w : World) (bodies : ℕ → FrameValue) (e : ℕ) →
+        StandsFor v w bodies →
+        StandsFor v (step w (Asked (Answer e))).world bodies }
+{}
+
+/// A frame is accepted. It has the next id, the clock as its stamp, a source of six octets, and a body of 1
+/// to 2304 octets. If the queues are at their limit, the head of the longest one is dropped, and the answer
+/// contains its id.
+pub fn an_enqueue()
+    ensures { (v : TransmitValue) (w : World) (bodies : ℕ → FrameValue) → StandsFor v w bodies →
+        (f : FrameValue) → refusal w (Enqueue f.station f.tid f.flow (length f.body)) ≡ None →
+        f.id ≡ v.tally.accepted → f.stamp ≡ v.clock → length f.source ≡ source_octets → f.fate ≡ Held →
+        1 ≤ length f.body → length f.body ≤ greatest_body →
+        Meets w (with_body bodies f) (Enqueue f.station f.tid f.flow (length f.body))
+        (after_listing_in (after_enqueue v f) f.station (class_of f.tid))
+        (Accepted f.id (dropped_for_limit v.flows)) }
+{}
+
+/// An exchange of data ends: it is closed and charged, and then its numbers are settled in order. `begins`
+/// says what holds before the first of them, `next` that each leads to the next, and `done` what holds after
+/// the last. From when a number is settled until the end, it has the state that its answer says (`state`), so
+/// the reply can count the answers.
+pub fn an_exchange_of_data_ends()
+    ensures begins { (v : TransmitValue) (w : World) (bodies : ℕ → FrameValue) → StandsFor v w bodies →
+        (e : ℕ) (x : Exchange) → exchange w e ≡ Some x →
+        (acked : ℕ → Bool) (m : Mpdu) (ms : List Mpdu) → mpdus_of x.content ≡ m ∷ ms →
+        EachMpdu (λ k. (slot (session w x.station x.tid) k.number).attempts < w.config.attempts) (m ∷ ms) →
+        (air : Option ℕ) →
+        IsEnding (after_close v (open_of x) (charge_of air x))
+        (after_charge (without_exchange w x.number) x air) bodies x.station x.tid x.number acked (m ∷ ms)
+        (with_all_settled (after_charge (without_exchange w x.number) x air) x.station x.tid acked (m ∷ ms)) }
+    ensures next { (v : TransmitValue) (w : World) (bodies : ℕ → FrameValue) (s t e : ℕ) (acked : ℕ →
+        Bool) (m : Mpdu) (ms : List Mpdu) (after : World) (x : WindowValue) →
+        IsEnding v w bodies s t e acked (m ∷ ms) after → WindowsHaveRoom (with_window v.windows s t x) →
+        WindowStandsFor x (session_settled (acked m.number) v.config.attempts m.number
+        (session w s t)) bodies →
+        IsEnding (after_answer (record v { windows = with_window v.windows s t x })
+        (settling_answer (acked m.number) v.config.attempts bodies (slot (session w s t) m.number)))
+        (with_settled w s t (acked m.number) m) bodies s t e acked ms after }
+    ensures state { (v : TransmitValue) (w : World) (bodies : ℕ → FrameValue) (s t e : ℕ) (acked : ℕ → Bool)
+        (m : Mpdu) (ms : List Mpdu) (after : World) →
+        IsEnding v w bodies s t e acked (m ∷ ms) after →
+        (slot (session after s t) m.number).state
+        ≡ state_left (settling_answer (acked m.number) v.config.attempts bodies
+        (slot (session w s t) m.number)) }
+    ensures done { (v : TransmitValue) (w : World) (bodies : ℕ → FrameValue) (s t e : ℕ) (acked : ℕ → Bool)
+        (after : World) →
+        IsEnding v w bodies s t e acked [] after → Parts v after bodies }
+    ensures world { (w : World) (x : Exchange) (heard : Bool) (air : Option ℕ) (mpdus : List Mpdu) →
+        x.content ≡ Frames mpdus →
+        (done_outcome w x heard air).world ≡ with_all_settled
+        (after_charge (without_exchange w x.number) x air) x.station x.tid (is_acked heard x.answer) mpdus }
+{}
+
+/// An exchange of a request ends: it is closed and charged, and if it was heard, the window of its TID gets
+/// its start. The request is due, and the window is as near to its start as the window's call requires.
+pub fn an_exchange_of_a_request_ends()
+    ensures pending { (v : TransmitValue) (w : World) (bodies : ℕ → FrameValue) → StandsFor v w bodies →
+        (e : ℕ) (x : Exchange) → exchange w e ≡ Some x →
+        (start : ℕ) → x.content ≡ Request start → IsPending start (session w x.station x.tid) }
+    ensures tid { (v : TransmitValue) (w : World) (bodies : ℕ → FrameValue) → StandsFor v w bodies →
+        (e : ℕ) (x : Exchange) → exchange w e ≡ Some x →
+        (start : ℕ) → x.content ≡ Request start → x.tid < 8 }
+    ensures unheard { (v : TransmitValue) (w : World) (bodies : ℕ → FrameValue) → StandsFor v w bodies →
+        (e : ℕ) (x : Exchange) → exchange w e ≡ Some x →
+        (start : ℕ) → x.content ≡ Request start → (air : Option ℕ) →
+        Parts (after_close v (open_of x) (charge_of air x)) (done_outcome w x false air).world bodies }
+    ensures heard { (v : TransmitValue) (w : World) (bodies : ℕ → FrameValue) → StandsFor v w bodies →
+        (e : ℕ) (x : Exchange) → exchange w e ≡ Some x →
+        (start : ℕ) → x.content ≡ Request start → (air : Option ℕ) (z : WindowValue) →
+        WindowsHaveRoom (with_window v.windows x.station x.tid z) →
+        WindowStandsFor z (record (session w x.station x.tid) {
+          heard = max
+              (session w x.station x.tid).heard start;
+        }) bodies →
+        Parts (record (after_close v (open_of x) (charge_of air x)) {
+          windows = with_window v.windows x.station x.tid z;
+        })
+        (done_outcome w x true air).world bodies }
+{}
+
+/// A whole Done. If the parts represent the world that it makes, the station of the exchange is listed in the
+/// class of its TID, if it is ready there. That station is live. The reply counts the numbers of the exchange
+/// by their states.
+pub fn a_done()
+    ensures live { (w : World) → IsReached w → (e : ℕ) (x : Exchange) → exchange w e ≡ Some x →
+        is_live w x.station ≡ true }
+    ensures whole { (v z : TransmitValue) (w : World) (bodies : ℕ → FrameValue) (e : ℕ) (heard : Bool)
+        (air : Option ℕ) (x : Exchange) → StandsFor v w bodies →
+        exchange w e ≡ Some x →
+        refusal w (Asked (Done e heard air)) ≡ None → Parts z (done_outcome w x heard air).world bodies →
+        Meets w bodies (Asked (Done e heard air)) (after_listing_in z x.station (class_of x.tid))
+        (done_outcome w x heard air).reply }
+    ensures reply { (w : World) (x : Exchange) (heard : Bool) (air : Option ℕ) →
+        (done_outcome w x heard air).reply ≡ reply.Done
+        (count_in (done_outcome w x heard air).world x is_acknowledged)
+        (count_in (done_outcome w x heard air).world x is_waiting)
+        (count_in (done_outcome w x heard air).world x is_failed) }
+{}
+
+/// The half still represents the world after two small changes on both sides: one window changes with its
+/// session, and one held frame goes last on the finished list.
+pub fn a_number_or_a_frame_changes()
+    ensures window { (v : TransmitValue) (w : World) (bodies : ℕ → FrameValue) (s t : ℕ)
+        (f : Session → Session) (x : WindowValue) →
+        is_live w s ≡ true → t < 8 →
+        WindowsHaveRoom (with_window v.windows s t x) → WindowStandsFor x (f (session w s t)) bodies →
+        Parts v w bodies →
+        Parts (record v { windows = with_window v.windows s t x }) (on_session w s t f) bodies }
+    ensures finish { (v : TransmitValue) (w : World) (bodies : ℕ → FrameValue) (f : FrameValue) →
+        f.id < accepted_count w →
+        (frame w f.id).fate ≡ Held → is_held f.fate ≡ false →
+        times_held v.flows.backlog f.id ≡ 0 → IsBodySettled bodies f → Parts v w bodies →
+        Parts (after_finish v f) (with_frame_finished w f.fate f.id) bodies }
+    ensures nowhere { (v : TransmitValue) (w : World) (bodies : ℕ → FrameValue) → StandsFor v w bodies →
+        (id s t n : ℕ) → IsNumbered w id s t n →
+        times_held v.flows.backlog id ≡ 0 }
+{}
+
+/// Finishing a frame adds one to the count of its fate and leaves the number of frames inside unchanged. At
+/// the limit, the frame that is finished is the head of the longest queue.
+pub fn the_counts_follow()
+    ensures one { (w : World) (fate : Fate) (id : ℕ) → id < accepted_count w → (frame w id).fate ≡ Held →
+        is_held fate ≡ false →
+        ledger (with_frame_finished w fate id)
+        ≡ record (ledger w) { counts = settled_as fate (counts_in w) } }
+    ensures many { (ids : List ℕ) (w : World) (fate : Fate) → IsOnce ids →
+        ((id : ℕ) → has ids id ≡ true → (id < accepted_count w) × ((frame w id).fate ≡ Held)) →
+        is_held fate ≡ false →
+        ledger (with_frames_finished w fate ids)
+        ≡ record (ledger w) { counts = many_settled_as fate (length ids) (counts_in w) } }
+    ensures limit { (w : World) → KeepsPlaces w →
+        ledger (after_limit w) ≡ record (ledger w) {
+          counts = with_overlimit (dropped_for_limit_in w)
+              (counts_in w);
+        } }
+{}
+
+/// A station leaves. TID by TID, the frames that its window holds are finished as `left`, one after the
+/// other, and then the TID's flow queues are purged. After the eighth TID the station is on no list and no
+/// longer live, its frames are settled in the counts, and the answer is their number. `IsLeaving` holds
+/// between two TIDs and `IsExpelling` between two frames of a window. None of the station's numbers flies.
+/// There is room for each of its frames, and they are at most the setting `room`.
+pub fn a_leave()
+    ensures begins { (v : TransmitValue) (w : World) (bodies : ℕ → FrameValue) (s : ℕ) →
+        StandsFor v w bodies → refusal w (Asked (Leave s)) ≡ None →
+        IsLeaving v w bodies s 0 v 0 }
+    ensures tid { (before v : TransmitValue) (w : World) (bodies : ℕ → FrameValue) (s t dropped : ℕ) →
+        IsLeaving before w bodies s t v dropped → t < 8 →
+        IsExpelling before w bodies s t v [] dropped }
+    ensures none_fly { (before v : TransmitValue) (w : World) (bodies : ℕ → FrameValue) (s t dropped : ℕ)
+        (frames : List FrameValue) →
+        IsExpelling before w bodies s t v frames dropped → some_fly (window_of v.windows s t) ≡ false }
+    ensures within { (before v : TransmitValue) (w : World) (bodies : ℕ → FrameValue) (s t dropped : ℕ)
+        (frames : List FrameValue) →
+        IsExpelling before w bodies s t v frames dropped → (tid_number s t < length v.windows) ×
+        (s < v.flows.stations) }
+    ensures room { (before v : TransmitValue) (w : World) (bodies : ℕ → FrameValue) (s t dropped : ℕ)
+        (frames : List FrameValue) →
+        (left : IsExpelling before w bodies s t v frames dropped) →
+        start_of left.expelled.now < next_number left.expelled.now →
+        held_in_backlog v.flows.backlog < v.flows.backlog.room }
+    ensures next { (before v : TransmitValue) (w : World) (bodies : ℕ → FrameValue) (s t dropped : ℕ)
+        (frames : List FrameValue) →
+        (left : IsExpelling before w bodies s t v frames dropped) → (x : WindowValue) (f : FrameValue) →
+        start_of left.expelled.now < next_number left.expelled.now →
+        f ≡ frame_left bodies (slot left.expelled.now (start_of left.expelled.now)) →
+        WindowStandsFor x (with_state State.Acked (start_of left.expelled.now) left.expelled.now) bodies →
+        IsExpelling before w bodies s t (after_expelled v s t x f) (frames ++ f ∷ []) (dropped + 1) }
+    ensures none { (before v : TransmitValue) (w : World) (bodies : ℕ → FrameValue) (s t dropped : ℕ)
+        (frames : List FrameValue) →
+        (left : IsExpelling before w bodies s t v frames dropped) → (x : WindowValue) →
+        next_number left.expelled.now ≡ start_of left.expelled.now →
+        WindowStandsFor x left.expelled.now bodies →
+        IsExpelled before w bodies s t (record v { windows = with_window v.windows s t x }) dropped }
+    ensures purge { (before v : TransmitValue) (w : World) (bodies : ℕ → FrameValue) (s t dropped : ℕ) →
+        IsExpelled before w bodies s t v dropped →
+        IsLeaving before w bodies s (suc t) (after_tid_purged v s t)
+        (dropped + frames_of_tid v.flows (tid_number s t)) }
+    ensures expelled { (before v : TransmitValue) (w : World) (bodies : ℕ → FrameValue) (s t dropped : ℕ)
+        (frames : List FrameValue) →
+        IsExpelling before w bodies s t v frames dropped → dropped ≤ w.config.room }
+    ensures left { (before v : TransmitValue) (w : World) (bodies : ℕ → FrameValue) (s t dropped : ℕ) →
+        IsLeaving before w bodies s t v dropped → dropped ≤ w.config.room }
+    ensures counts { (before v : TransmitValue) (w : World) (bodies : ℕ → FrameValue) (s t dropped : ℕ) →
+        IsLeaving before w bodies s t v dropped →
+        dropped ≤ held_in v.tally }
+    ensures ends { (before v : TransmitValue) (w : World) (bodies : ℕ → FrameValue) (s dropped : ℕ) →
+        IsLeaving before w bodies s 8 v dropped → WindowsHaveRoom v.windows →
+        Meets w bodies (Asked (Leave s)) (after_leave v s dropped) (Left dropped) }
+{}
+
+/// A pull that finds no ready station is refused, but its pick has changed the class's lists and the
+/// deficits.
+pub fn a_pull_that_finds_nobody()
+    ensures { (v : TransmitValue) (w : World) (bodies : ℕ → FrameValue) → StandsFor v w bodies →
+        (c : Class) (turns : SchedValue) →
+        refusal w (Asked (Pull c)) ≡ Some Idle → HasPickedInClass w c v.sched turns →
+        Meets w bodies (Asked (Pull c)) (record v { sched = turns }) (Refused Idle) }
+{}
+
+/// Decides from the half whether a pull is refused: with `full` if the class has as many open exchanges as
+/// are allowed, otherwise with `idle` if no station is picked, otherwise not.
+pub fn a_pull_is_refused()
+    ensures full { (v : TransmitValue) (w : World) (bodies : ℕ → FrameValue) (c : Class) → Parts v w bodies →
+        nat_le v.config.inflight (count_by (λ x. same_class x.class c) v.opened) ≡ true →
+        refusal w (Asked (Pull c)) ≡ Some (Full (count_by (λ x. same_class x.class c) v.opened)) }
+    ensures idle { (v : TransmitValue) (w : World) (bodies : ℕ → FrameValue) (c : Class) → Parts v w bodies →
+        nat_le v.config.inflight (count_by (λ x. same_class x.class c) v.opened) ≡ false →
+        (picked_station w c).winner ≡ None →
+        refusal w (Asked (Pull c)) ≡ Some Idle }
+    ensures none { (v : TransmitValue) (w : World) (bodies : ℕ → FrameValue) (c : Class) → Parts v w bodies →
+        nat_le v.config.inflight (count_by (λ x. same_class x.class c) v.opened) ≡ false → (s : ℕ) →
+        (picked_station w c).winner ≡ Some s →
+        refusal w (Asked (Pull c)) ≡ None }
+{}
+
+/// In the world of a run another exchange may be opened. All open exchanges have lower numbers. If a class
+/// has fewer open exchanges than are allowed, there is room for one more among the 32 of all classes.
+pub fn an_exchange_may_open()
+    ensures above { (v : TransmitValue) (w : World) (bodies : ℕ → FrameValue) → StandsFor v w bodies →
+        All (λ o. o.number < v.exchanges) v.opened }
+    ensures room { (v : TransmitValue) (w : World) (bodies : ℕ → FrameValue) → StandsFor v w bodies →
+        (c : Class) →
+        nat_le v.config.inflight (count_by (λ x. same_class x.class c) v.opened) ≡ false →
+        length v.opened < 32 }
+{}
+
+/// The values that a pull reads of a live station: CoDel's parameters, the room of an aggregate, and how many
+/// frames a take dropped, computed from the TID's queued frames before and after it.
+pub fn a_pull_reads()
+    ensures params { (v : TransmitValue) (w : World) (bodies : ℕ → FrameValue) (s : ℕ) → Parts v w bodies →
+        is_live w s ≡ true →
+        (rate : RateValue) → option_map (λ m. m.rate) (member v.members s) ≡ Some rate →
+        params_at rate ≡ codel_params w s }
+    ensures room { (v : TransmitValue) (w : World) (bodies : ℕ → FrameValue) (s : ℕ) → Parts v w bodies →
+        is_live w s ≡ true →
+        (rate : RateValue) → option_map (λ m. m.rate) (member v.members s) ≡ Some rate →
+        (t exponent : ℕ) → t < 8 → option_map (λ m. m.exponent) (member v.members s) ≡ Some exponent →
+        empty_size rate exponent (if (sleeper v.sleepers s).asleep then 1 else v.config.agg) v.config.cap
+        (is_wide_of v s t) ≡ room_for w s t }
+    ensures drops { (v : TransmitValue) (w : World) (bodies : ℕ → FrameValue) (s t : ℕ) → Parts v w bodies →
+        is_live w s ≡ true → t < 8 →
+        (params : Params) (f : FrameValue) →
+        (taken_for_tid v.flows (tid_number s t) v.clock params).frame ≡ Some f →
+        frames_of_tid v.flows (tid_number s t) - 1 - frames_of_tid
+        (taken_for_tid v.flows (tid_number s t) v.clock params).flows (tid_number s t)
+        ≡ length (taken_for_tid v.flows
+        (tid_number s t) v.clock params).flows.backlog.finished - length v.flows.backlog.finished }
+{}
+
+/// A pull begins. A station is picked, and the TID of the class that sends gives the turn to the other TID.
+pub fn a_pull_begins()
+    ensures pick { (v : TransmitValue) (w : World) (bodies : ℕ → FrameValue) (c : Class)
+        (turns : SchedValue) → HasPickedInClass w c v.sched turns →
+        Parts v w bodies → Parts (record v { sched = turns }) (after_pick w c) bodies }
+    ensures sends { (v : TransmitValue) (w : World) (bodies : ℕ → FrameValue) (s : ℕ) (c : Class) →
+        Parts v w bodies → is_live w s ≡ true →
+        sending_tid_of v s c ≡ sending_tid w s c }
+    ensures turn { (v : TransmitValue) (w : World) (bodies : ℕ → FrameValue) (s : ℕ) (c : Class) (t : ℕ) →
+        s < w.config.stations →
+        Parts v w bodies → Parts (after_turn v s c t) (after_tid_turn w s c t) bodies }
+{}
+
+/// A prepared exchange is sent. A half that represents the world in which it was prepared then represents the
+/// one in which it is sent, and the reply describes the exchange that the half opened.
+pub fn an_exchange_is_sent()
+    ensures sent { (v : TransmitValue) (bodies : ℕ → FrameValue) (s t : ℕ) (c : Class) (p : Prepared) →
+        Parts v p.world bodies → is_live p.world s ≡ true →
+        Parts (after_sending v s t c p.charge (sending_of p.content)) (send_outcome s t c p).world bodies }
+    ensures reply { (v : TransmitValue) (bodies : ℕ → FrameValue) (s t : ℕ) (c : Class) (p : Prepared) →
+        Parts v p.world bodies → is_live p.world s ≡ true →
+        Send v.exchanges s t p.charge (part_of p.content)
+        (open_next v s t c p.charge (sending_of p.content)).more ≡ (send_outcome s t c p).reply }
+    ensures wide { (v : TransmitValue) (w : World) (bodies : ℕ → FrameValue) (s t : ℕ) → Parts v w bodies →
+        is_live w s ≡ true → t < 8 →
+        is_wide_of v s t ≡ is_wide w s t }
+{}
+
+/// An aggregate first takes waiting numbers, in the order of the window, while they fit. If one does not fit,
+/// the aggregate is complete with those before it. If all fit, fresh frames come next.
+pub fn waiting_numbers_are_chosen()
+    ensures begins { (v : TransmitValue) (w : World) (bodies : ℕ → FrameValue) (s t : ℕ) →
+        IsToFill v w bodies s t →
+        IsChoosing (room_for w s t) [] (window_of v.windows s t).start w s t }
+    ensures near { (v : TransmitValue) (w : World) (bodies : ℕ → FrameValue) (s t : ℕ) →
+        IsToFill v w bodies s t →
+        (room : AggregateSizeValue) (numbers : List ℕ) (from : ℕ) → IsChoosing room numbers from w s t →
+        distance from (window_of v.windows s t).start ≤ length (window_of v.windows s t).places }
+    ensures length { (v : TransmitValue) (w : World) (bodies : ℕ → FrameValue) (s t : ℕ) →
+        IsToFill v w bodies s t →
+        (room : AggregateSizeValue) (numbers : List ℕ) (from : ℕ)
+        (so_far : IsChoosing room numbers from w s t)
+        (seq : ℕ) (next : IsListedNext (session w s t) so_far.chosen seq) →
+        length (bodies (slot (session w s t) next.number).id).body ≡ (mpdu_of w s t next.number).len }
+    ensures goes_on { (v : TransmitValue) (w : World) (bodies : ℕ → FrameValue) (s t : ℕ) →
+        IsToFill v w bodies s t →
+        (room : AggregateSizeValue) (numbers : List ℕ) (from : ℕ)
+        (so_far : IsChoosing room numbers from w s t)
+        (seq : ℕ) (next : IsListedNext (session w s t) so_far.chosen seq) →
+        (more : AggregateSizeValue) → fits room.rate room.exponent room.agg room.cap
+        (lens_of (map (mpdu_of w s t) so_far.chosen) ++ (mpdu_of w s t next.number).len ∷ []) ≡ true →
+        more ≡ record room { count = more.count; octets = more.octets } →
+        SizeStandsFor more (lens_of (map (mpdu_of w s t) so_far.chosen) ++ (mpdu_of w s t next.number).len
+        ∷ []) →
+        IsChoosing more (numbers ++ seq ∷ []) ((seq + 1) % 4096) w s t }
+    ensures stops { (v : TransmitValue) (w : World) (bodies : ℕ → FrameValue) (s t : ℕ) →
+        IsToFill v w bodies s t →
+        (room : AggregateSizeValue) (numbers : List ℕ) (from : ℕ)
+        (so_far : IsChoosing room numbers from w s t)
+        (seq : ℕ) (next : IsListedNext (session w s t) so_far.chosen seq) →
+        fits room.rate room.exponent room.agg room.cap
+        (lens_of (map (mpdu_of w s t) so_far.chosen) ++ (mpdu_of w s t next.number).len ∷ []) ≡ false →
+        IsFilled v bodies s t room numbers (aggregate_of w s t) }
+    ensures ends { (v : TransmitValue) (w : World) (bodies : ℕ → FrameValue) (s t : ℕ) →
+        IsToFill v w bodies s t →
+        (room : AggregateSizeValue) (numbers : List ℕ) (from : ℕ)
+        (so_far : IsChoosing room numbers from w s t) →
+        option_map on_air (waiting_from (session w s t) so_far.listed.number) ≡ None →
+        IsFilling v w bodies s t room numbers (map (mpdu_of w s t) so_far.chosen) (aggregate_of w s t) }
+    ensures none { (v : TransmitValue) (w : World) (bodies : ℕ → FrameValue) (s t : ℕ) →
+        IsToFill v w bodies s t →
+        (room : AggregateSizeValue) (numbers : List ℕ) (from : ℕ)
+        (so_far : IsChoosing room numbers from w s t) →
+        option_map on_air (waiting_from (session w s t) so_far.listed.number) ≡ None → numbers ≡ [] →
+        some_wait (window_of v.windows s t) ≡ false }
+{}
+
+/// Fresh frames get numbers, one after the other, while the aggregate has room for one and the TID can give
+/// one. A frame is taken with the CoDel parameters of the station's rate, the frames that CoDel drops are
+/// counted, and the frame gets the next number. If it fits, it joins the aggregate. If not, it waits with its
+/// number, and the aggregate is complete without it.
+pub fn fresh_frames_are_given()
+    ensures full { (v : TransmitValue) (w : World) (bodies : ℕ →
+        FrameValue) (s t : ℕ) (room : AggregateSizeValue) (numbers : List ℕ) (mpdus : List Mpdu)
+        (after : Aggregate) →
+        IsFilling v w bodies s t room numbers mpdus after → room.agg ≤ length numbers →
+        IsFilled v bodies s t room numbers after }
+    ensures idle { (v : TransmitValue) (w : World) (bodies : ℕ →
+        FrameValue) (s t : ℕ) (room : AggregateSizeValue) (numbers : List ℕ) (mpdus : List Mpdu)
+        (after : Aggregate) →
+        IsFilling v w bodies s t room numbers mpdus after →
+        (nat_lt 0 (frames_of_tid v.flows (tid_number s t)) && can_take (window_of v.windows s t)) ≡ false →
+        IsFilled v bodies s t room numbers after }
+    ensures own { (v : TransmitValue) (w : World) (bodies : ℕ →
+        FrameValue) (s t : ℕ) (room : AggregateSizeValue) (numbers : List ℕ) (mpdus : List Mpdu)
+        (after : Aggregate) →
+        IsFilling v w bodies s t room numbers mpdus after → (params : Params) → params ≡ codel_params w s →
+        (f : FrameValue) → (taken_for_tid v.flows (tid_number s t) v.clock params).frame ≡ Some f →
+        f ≡ bodies f.id }
+    ensures goes_on { (v : TransmitValue) (w : World) (bodies : ℕ →
+        FrameValue) (s t : ℕ) (room : AggregateSizeValue) (numbers : List ℕ) (mpdus : List Mpdu)
+        (after : Aggregate) →
+        IsFilling v w bodies s t room numbers mpdus after → (params : Params) → params ≡ codel_params w s →
+        (f : FrameValue) → (taken_for_tid v.flows (tid_number s t) v.clock params).frame ≡ Some f →
+        (x : WindowValue) → WindowsHaveRoom (with_window v.windows s t x) →
+        WindowStandsFor x (with_number_given (session w s t) f.id) bodies →
+        length numbers < room.agg → (nat_lt 0 (frames_of_tid v.flows (tid_number s t))
+        && can_take (window_of v.windows s t)) ≡ true →
+        (more : AggregateSizeValue) → fits room.rate room.exponent room.agg room.cap
+        (lens_of mpdus ++ length f.body ∷ []) ≡ true →
+        more ≡ record room { count = more.count; octets = more.octets } →
+        SizeStandsFor more (lens_of mpdus ++ length f.body ∷ []) →
+        IsFilling (after_giving v s t params x) (with_one_fresh w s t) bodies s t more
+        (numbers ++ on_air (next_number (session w s t)) ∷ []) (mpdus ++ fresh_mpdu w s t f ∷ []) after }
+    ensures stops { (v : TransmitValue) (w : World) (bodies : ℕ →
+        FrameValue) (s t : ℕ) (room : AggregateSizeValue) (numbers : List ℕ) (mpdus : List Mpdu)
+        (after : Aggregate) →
+        IsFilling v w bodies s t room numbers mpdus after → (params : Params) → params ≡ codel_params w s →
+        (f : FrameValue) → (taken_for_tid v.flows (tid_number s t) v.clock params).frame ≡ Some f →
+        (x : WindowValue) → WindowsHaveRoom (with_window v.windows s t x) →
+        WindowStandsFor x (with_number_given (session w s t) f.id) bodies →
+        length numbers < room.agg → (nat_lt 0 (frames_of_tid v.flows (tid_number s t))
+        && can_take (window_of v.windows s t)) ≡ true →
+        fits room.rate room.exponent room.agg room.cap (lens_of mpdus ++ length f.body ∷ []) ≡ false →
+        IsFilled (after_giving v s t params x) bodies s t room numbers after }
+{}
+
+/// The numbers of an aggregate take off, one after the other. Each of them still waits when its turn comes,
+/// with a frame that no other number has. If the window then represents the session in which the number
+/// flies, and its frame has counted the attempt, the numbers after it are next. At the end all fly.
+pub fn the_numbers_take_off()
+    ensures begins { (v : TransmitValue) (a : Aggregate) (bodies : ℕ → FrameValue) (s t : ℕ) →
+        Parts v a.world bodies → is_live a.world s ≡ true → t < 8 → IsUnderway a.world s t →
+        AreWaiting (session a.world s t) bodies a.mpdus →
+        IsTakingOff v a.world bodies s t a.world.exchanges a.mpdus (prepared_data s t a).world }
+    ensures number { (v : TransmitValue) (w : World) (bodies : ℕ → FrameValue) (s t e : ℕ) (m : Mpdu)
+        (ms : List Mpdu) (after : World) →
+        IsTakingOff v w bodies s t e (m ∷ ms) after → (seq : ℕ) → seq ≡ m.number % 4096 →
+        IsNumber (session w s t) m.number seq }
+    ensures waits { (v : TransmitValue) (w : World) (bodies : ℕ → FrameValue) (s t e : ℕ) (m : Mpdu)
+        (ms : List Mpdu) (after : World) →
+        IsTakingOff v w bodies s t e (m ∷ ms) after → (seq : ℕ) → seq ≡ m.number % 4096 →
+        state_at (window_of v.windows s t) seq ≡ State.Waiting }
+    ensures frame { (v : TransmitValue) (w : World) (bodies : ℕ → FrameValue) (s t e : ℕ) (m : Mpdu)
+        (ms : List Mpdu) (after : World) →
+        IsTakingOff v w bodies s t e (m ∷ ms) after → (bodies (slot (session w s t) m.number).id).id ≡ m.id }
+    ensures own { (v : TransmitValue) (w : World) (bodies : ℕ → FrameValue) (s t e : ℕ) (m : Mpdu)
+        (ms : List Mpdu) (after : World) →
+        IsTakingOff v w bodies s t e (m ∷ ms) after → HasOwnFrame (session w s t) m.number }
+    ensures next { (v : TransmitValue) (w : World) (bodies : ℕ → FrameValue) (s t e : ℕ) (m : Mpdu)
+        (ms : List Mpdu) (after : World) →
+        IsTakingOff v w bodies s t e (m ∷ ms) after → (x : WindowValue) →
+        WindowsHaveRoom (with_window v.windows s t x) →
+        WindowStandsFor x (with_state (State.Flying e) m.number (session w s t))
+        (with_one_sent (slot (session w s t) m.number).id bodies) →
+        IsTakingOff (record v { windows = with_window v.windows s t x })
+        (on_session w s t (with_state (State.Flying e) m.number)) (with_one_sent m.id bodies) s t e ms after }
+    ensures ends { (v : TransmitValue) (w : World) (bodies : ℕ → FrameValue) (s t e : ℕ) (after : World) →
+        IsTakingOff v w bodies s t e [] after → Parts v after bodies }
+{}
+
+/// A whole pull. A station is picked and has its turn, and the half prepares what one of its TIDs sends. If a
+/// request is due, it sends the request. Otherwise it sends an aggregate, after this is filled and all its
+/// numbers have taken off. Then the half represents the world after the step, and the reply is the step's.
+pub fn a_pull()
+    ensures tid { (v : TransmitValue) (w : World) (bodies : ℕ → FrameValue) → StandsFor v w bodies →
+        (c : Class) (s : ℕ) →
+        (picked_station w c).winner ≡ Some s →
+        (turns : SchedValue) → HasPickedInClass w c v.sched turns →
+        sending_tid_of (record v { sched = turns }) s c ≡ sending_tid (after_pick w c) s c }
+    ensures sends { (v : TransmitValue) (w : World) (bodies : ℕ → FrameValue) → StandsFor v w bodies →
+        (c : Class) (s : ℕ) →
+        (picked_station w c).winner ≡ Some s →
+        (turns : SchedValue) → HasPickedInClass w c v.sched turns →
+        can_send_of (record v { sched = turns }) s (sending_tid_of (record v { sched = turns }) s c) ≡ true }
+    ensures turned { (v : TransmitValue) (w : World) (bodies : ℕ → FrameValue) → StandsFor v w bodies →
+        (c : Class) (s : ℕ) →
+        (picked_station w c).winner ≡ Some s →
+        (turns : SchedValue) → HasPickedInClass w c v.sched turns → (t : ℕ) →
+        t ≡ sending_tid_of (record v { sched = turns }) s c →
+        IsTurned (after_turn (record v { sched = turns }) s c t)
+        (after_tid_turn (after_pick w c) s c t) bodies s t }
+    ensures request { (v : TransmitValue) (w : World) (bodies : ℕ → FrameValue) → StandsFor v w bodies →
+        (c : Class) (s : ℕ) →
+        refusal w (Asked (Pull c)) ≡ None →
+        (picked_station w c).winner ≡ Some s → (t : ℕ) → t ≡ sending_tid (after_pick w c) s c →
+        (x : TransmitValue) → IsTurned x (after_tid_turn (after_pick w c) s c t) bodies s t →
+        is_some (window_of x.windows s t).due ≡ true →
+        (charge : ℕ) → charge ≡ request_charge (is_wide_of x s t) →
+        Meets w bodies (Asked (Pull c)) (after_listing_in
+        (after_sending x s t c charge (Starts_at (window_of x.windows s t).start)) s c)
+        (Send x.exchanges s t charge (Starts (window_of x.windows s t).start)
+        (open_next x s t c charge (Starts_at (window_of x.windows s t).start)).more) }
+    ensures charge { (v : TransmitValue) (bodies : ℕ → FrameValue) (s t : ℕ) (room : AggregateSizeValue)
+        (numbers : List ℕ) (a : Aggregate) →
+        IsFilled v bodies s t room numbers a →
+        data_charge room.rate (aggregate_octets (lens_of a.mpdus)) room.wide ≡ aggregate_charge s t a }
+    ensures data { (v : TransmitValue) (w : World) (bodies : ℕ → FrameValue) → StandsFor v w bodies →
+        (c : Class) (s : ℕ) →
+        refusal w (Asked (Pull c)) ≡ None →
+        (picked_station w c).winner ≡ Some s → (t : ℕ) → t ≡ sending_tid (after_pick w c) s c →
+        (a : Aggregate) → aggregate_of (after_tid_turn (after_pick w c) s c t) s t ≡ a →
+        request_due (session (after_tid_turn (after_pick w c) s c t) s t) ≡ false →
+        (x : TransmitValue) (u : World) (sent : ℕ → FrameValue) →
+        IsTakingOff x u sent s t a.world.exchanges [] (prepared_data s t a).world →
+        (charge : ℕ) (numbers : List ℕ) → charge ≡ aggregate_charge s t a → numbers ≡ numbers_on_air a.mpdus →
+        Meets w sent (Asked (Pull c)) (after_listing_in (after_sending x s t c charge (Data numbers)) s c)
+        (Send x.exchanges s t charge (Mpdus (map (λ m. (m.id, m.number % 4096)) a.mpdus))
+        (open_next x s t c charge (Data numbers)).more) }
+{}
+
+/// Says which calls leave the readiness of a station unchanged. Each call does so for every station that it
+/// does not concern, in each class in which the limit drops none of its frames. An enqueue, a pull and a Done
+/// do so for their own station too, except in the class of the frame's TID, the pull's class, and the class
+/// of the exchange's TID. A refusal and some of the calls do so for all stations.
+pub fn readiness_stays()
+    ensures others { (w : World) (note : Note) → IsReached w → (s : ℕ) (c : Class) →
+        (concerned_station w note ≡ Some s → ⊥) →
+        loses_in w note s c ≡ false → is_ready (step w note).world c s ≡ is_ready w c s }
+    ensures enqueue { (w : World) (s t flow len : ℕ) → IsReached w → HasLength (Enqueue s t flow len) →
+        IsAtMost greatest_body (Enqueue s t flow len) →
+        (i : ℕ) (c : Class) → (i ≡ s → class_of t ≡ c → ⊥) → loses_in w (Enqueue s t flow len) i c ≡ false →
+        is_ready (step w (Enqueue s t flow len)).world c i ≡ is_ready w c i }
+    ensures pull { (w : World) (d : Class) → IsReached w → (i : ℕ) (c : Class) →
+        ((picked_station w d).winner ≡ Some i → d ≡ c → ⊥) →
+        is_ready (step w (Asked (Pull d))).world c i ≡ is_ready w c i }
+    ensures done { (w : World) (e : ℕ) (heard : Bool) (air : Option ℕ) (x : Exchange) → IsReached w →
+        exchange w e ≡ Some x →
+        (i : ℕ) (c : Class) → (i ≡ x.station → class_of x.tid ≡ c → ⊥) →
+        is_ready (step w (Asked (Done e heard air))).world c i ≡ is_ready w c i }
+    ensures nobody { (w : World) (note : Note) → IsReached w → leaves_ready note ≡ true →
+        (s : ℕ) (c : Class) →
+        is_ready (step w note).world c s ≡ is_ready w c s }
+    ensures refused { (w : World) (note : Note) (r : Refusal) → refusal w note ≡ Some r →
+        (s : ℕ) (c : Class) →
+        is_ready (step w note).world c s ≡ is_ready w c s }
+{}

@@ -1,8 +1,0 @@
-use Rattle.wf_send_half_refines.proofs.Openings.{opens_above, opens_within}
-use Rattle.wf_send_half_refines.proofs.an_exchange_may_open.Goals as goal
-
-pub returns-clause-above : goal.returns-clause-above
-returns-clause-above c = opens_above
-
-pub returns-clause-room : goal.returns-clause-room
-returns-clause-room c = opens_within

@@ -1,5 +1,0 @@
-use Rattle.wf_send_half_refines.proofs.Frames.{bodies_are}
-use Rattle.wf_send_half_refines.proofs.bodies.the_frames_inside_have_their_bodies.Goals as goal
-
-pub returns : goal.returns
-returns c = bodies_are

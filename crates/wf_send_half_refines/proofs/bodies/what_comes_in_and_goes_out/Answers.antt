@@ -1,5 +1,0 @@
-use Rattle.wf_send_half_refines.proofs.Inside.{inside_then}
-use Rattle.wf_send_half_refines.proofs.bodies.what_comes_in_and_goes_out.Goals as goal
-
-pub returns : goal.returns
-returns c = inside_then
