@@ -106,19 +106,20 @@ enum wf_code {
   WF_BAD_WINDOW = 2,    /* the window is not 1 to 256 */
   WF_BAD_START = 3,     /* the first sequence number is above 4095 */
   WF_BAD_EXPONENT = 4,  /* the A-MPDU length exponent is above 3 */
-  WF_BAD_RATE = 5,      /* there is no such rate: the MCS, the width, the guard interval or the
-                         * streams are none of its format, or are one of the ten combinations
-                         * that VHT leaves out (wf_path_rate_vht) */
+  WF_BAD_RATE = 5,      /* the rate does not exist: its format does not have this MCS, width,
+                         * guard interval or number of streams, or it is one of the ten
+                         * combinations that VHT leaves out (wf_path_rate_vht) */
   WF_BAD_TICK = 6,      /* the clock would move by more than 10,000,000 microseconds;
                          * wf_path_advance: back, or to 2^61 or more */
   WF_BAD_TID = 7,       /* the TID is above 7 */
-  WF_BAD_AIR = 8,       /* the airtime is 0 or above 65,535 microseconds; at the end of an
-                         * exchange: the one that is named is above `charge` */
+  WF_BAD_AIR = 8,       /* `rx`: the airtime is 0 or above 65,535 microseconds; `done`: the
+                         * airtime that is given is 0 or above `charge` */
   WF_BAD_INDEX = 9,     /* the exchange has no transmission of that index */
   WF_LIVE = 10,         /* the station is live already */
   WF_NO_STATION = 11,   /* the station is not live */
   WF_NO_EXCHANGE = 12,  /* no open exchange has that number */
-  WF_NO_ANSWER = 13,    /* the exchange was to be heard, but its station never answered */
+  WF_NO_ANSWER = 13,    /* the call says that the BlockAck was heard, but the station has not
+                         * answered the exchange */
   WF_OPEN = 14,         /* the station has `count` open exchanges */
   WF_ROOM = 15,         /* `count` frames are accepted and not yet reaped: as many as `room` */
   WF_SLEEPING = 16,     /* the station sleeps, and `count` frames of the class are queued for it:
@@ -132,10 +133,12 @@ enum wf_code {
   WF_ASLEEP = 22,       /* the station is asleep already */
   WF_AWAKE = 23,        /* the station is awake */
   WF_POLLED = 24,       /* the station has a credit that is not spent yet */
-  WF_DEBT = 25,         /* the deficit, which stays at `deficit`, would fall below -1,000,000
+  WF_DEBT = 25,         /* the deficit, which stays at `deficit`, would fall below -`debt`
                          * microseconds */
-  WF_HISTORY_FULL = 26, /* the history has `calls` entries; the call is none */
+  WF_HISTORY_FULL = 26, /* the history has `calls` entries; this call is not added to it */
   WF_BAD_WEIGHT = 27,   /* the weight is not 1 to 16 */
+  WF_AHEAD = 28,        /* `owed` microseconds of computed airtime are in flight in all classes:
+                         * `aql_total` or more */
   /* end refusals */
   /* other codes */
   WF_NO_MEMORY = 40,    /* out of memory */
@@ -154,7 +157,7 @@ enum wf_code {
   WF_WRONG_TID = 58,    /* for another TID */
   /* wf_path_make, wf_cell_make: 100 plus the place, counted from 1, of the first setting that is out of its
    * range, or of the first reserved number that is not 0; their places follow those of the settings, up to
-   * 16 */
+   * 20 */
   WF_BAD_SETTING = 100
 };
 
@@ -193,7 +196,7 @@ enum wf_kind {
   WF_KIND_POLLED = 11,   /* class_ */
   WF_KIND_CHARGED = 12,  /* deficit */
   WF_KIND_REAPED = 13,   /* id, fate */
-  WF_KIND_REFUSED = 14   /* refusal; count or deficit, if the refusal has one */
+  WF_KIND_REFUSED = 14   /* refusal; count, deficit or air, if the refusal has one */
 };
 
 /* The calls of a cell, each with the fields of `struct wf_call` that have a meaning. The other fields are 0
@@ -234,9 +237,10 @@ struct wf_path {
 /* The settings of a path or a cell; ranges in brackets. */
 struct wf_settings {
   /* begin settings: tools/tables writes these lines */
-  uint32_t stations;     /* station numbers [1..256] */
+  uint32_t stations;     /* greatest number of stations, which are numbered 0 to `stations` - 1
+                          * [1..256] */
   uint32_t flows;        /* shared flow queues [1..4096] */
-  uint32_t limit;        /* frames in flow queues [1..65535] */
+  uint32_t limit;        /* frames in flow and overflow queues [1..65535] */
   uint32_t room;         /* frames accepted and not yet reaped [1..131072] */
   uint32_t flow_quantum; /* octets per flow visit [64..65535] */
   uint32_t quantum;      /* microseconds per station visit, for weight 1 [100..10000] */
@@ -245,10 +249,17 @@ struct wf_settings {
   uint32_t agg;          /* frames in one aggregate [1..256] */
   uint32_t cap;          /* data time of one aggregate, microseconds [3000..5400] */
   uint32_t sleeping;     /* frames queued per sleeping station and class [1..65535] */
-  uint32_t calls;        /* calls of a history, as that of a trace; a path keeps none
-                          * [1..4294967295] */
-  uint32_t charge;       /* greatest airtime that the end of an exchange may name, microseconds
-                          * [0..65535] */
+  uint32_t calls;        /* limit on the calls in a history, such as that of a trace; a path has
+                          * none [1..4294967295] */
+  uint32_t charge;       /* greatest airtime that `done` may give, in microseconds; with 0 it may
+                          * give none [0..65535] */
+  uint32_t debt;         /* how far below 0 `rx` may bring a deficit, in microseconds
+                          * [0..1000000] */
+  uint32_t aql_total;    /* limit on the airtime in flight of all classes together, in
+                          * microseconds; 0 means no limit [0..262144] */
+  uint32_t keep_order;   /* whether the frames of a flow keep their order [0..1] */
+  uint32_t codel_reset;  /* whether CoDel starts outside its dropping state when a queue joins a
+                          * TID's list [0..1] */
   /* end settings */
   uint32_t reserved[3];  /* for later settings: each has to be 0 */
 };
@@ -260,7 +271,7 @@ struct wf_reply {
   uint64_t dropped;     /* the frame that was dropped because the flow queues were full */
   uint64_t now;         /* the clock */
   int64_t deficit;      /* the deficit after the charge; after WF_DEBT the one that stays */
-  uint32_t air;         /* the airtime of the exchange */
+  uint32_t air;         /* the airtime of the exchange; after WF_AHEAD the airtime in flight */
   uint32_t count;       /* frames that a leave dropped, or the `count` of a refusal */
   uint16_t station;     /* the station to send to */
   uint16_t start;       /* the start of the BlockAckReq: 0 to 4095 */
@@ -268,7 +279,7 @@ struct wf_reply {
   uint16_t waiting;     /* frames of the exchange that wait to be sent again */
   uint16_t failed;      /* frames of the exchange that are dropped */
   uint8_t kind;         /* enum wf_kind */
-  uint8_t refusal;      /* enum wf_code, 0 to 27: what the function returned */
+  uint8_t refusal;      /* enum wf_code, 0 to 28: what the function returned */
   uint8_t tid;          /* the TID to send for */
   uint8_t class_;       /* enum wf_class: the class of the credit */
   uint8_t fate;         /* enum wf_fate */
@@ -381,7 +392,7 @@ struct wf_block {
 };
 
 /* The three parts of a version. */
-struct wf_version {
+struct wf_version_parts {
   uint16_t major;
   uint16_t minor;
   uint16_t patch;
@@ -391,11 +402,11 @@ struct wf_version {
 
 /* Writes the version of the library that is linked. A library for this header has the same major number, and
  * a minor number of at least WF_VERSION_MINOR. */
-void wf_version(struct wf_version *version);
+void wf_version(struct wf_version_parts *version);
 
 /* Writes the word for a code, for reports and logs; the rest of `name`, at least one octet, is 0. A refusal
  * has its word in traces (docs/TRACE.md). Any other code of enum wf_code has its name in small letters with
- * "-", such as "no-memory", and WF_BAD_SETTING + 1 to WF_BAD_SETTING + 16 have "bad-setting". The word for
+ * "-", such as "no-memory", and WF_BAD_SETTING + 1 to WF_BAD_SETTING + 20 have "bad-setting". The word for
  * any other number is "?". */
 void wf_code_name(int32_t code, char name[WF_NAME]);
 
@@ -407,7 +418,7 @@ void wf_kind_name(int32_t kind, char name[WF_NAME]);
  * word for any other number is "?". */
 void wf_fate_name(int32_t fate, char name[WF_NAME]);
 
-/* Writes the word for a setting, as in a trace, by its place in struct wf_settings, 1 to 13; the rest of
+/* Writes the word for a setting, as in a trace, by its place in struct wf_settings, 1 to 17; the rest of
  * `name`, at least one octet, is 0. The word for any other number is "?". */
 void wf_setting_name(int32_t place, char name[WF_NAME]);
 
@@ -515,7 +526,8 @@ int32_t wf_path_enqueue(struct wf_path *path, uint16_t station, const struct wf_
 
 /* Opens the next exchange of a class, which the driver then sends. If it is an aggregate, `frames` gets its
  * frames; otherwise their count is 0. `air` of the reply is the time of the transmissions and of the
- * BlockAck. Returns WF_OK, WF_FULL or WF_IDLE. */
+ * BlockAck. Returns WF_OK, WF_FULL, WF_AHEAD or WF_IDLE. After WF_AHEAD, pull again when any exchange has
+ * ended; after WF_IDLE, also after an enqueue, a wake or a poll. */
 int32_t wf_path_pull(struct wf_path *path, uint8_t class_, struct wf_reply *reply, struct wf_frames *frames);
 
 /* Takes the first finished frame out of the path. `taken` gets its id, its fate and what its packet was, and
@@ -599,8 +611,8 @@ void wf_path_tally(const struct wf_path *path, struct wf_tally *tally);
  * `share` is unchanged. */
 int32_t wf_path_share(const struct wf_path *path, uint16_t station, uint8_t class_, struct wf_share *share);
 
-/* Returns 1 if wf_path_pull of a class would open an exchange now, else 0, because it would return WF_FULL or
- * WF_IDLE. */
+/* Returns 1 if wf_path_pull of a class would open an exchange now, else 0, because it would return WF_FULL,
+ * WF_AHEAD or WF_IDLE. */
 int32_t wf_path_can_pull(const struct wf_path *path, uint8_t class_);
 
 /* Returns the list of a class that contains a station: 1 the new list, 2 the old list, 0 neither. A station

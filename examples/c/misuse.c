@@ -60,14 +60,16 @@ static struct wf_settings some_settings(void) {
 
 /* Each setting below and above its range, and each reserved number. */
 static void misuse_settings(void) {
-  static const uint32_t LOW[16] = {0, 0, 0, 0, 63, 99, 0, 0, 0, 2999, 0, 0, 65536, 1, 1, 1};
-  static const uint32_t HIGH[16] = {257, 4097, 65536, 131073, 65536, 10001, 9, 65, 257, 5401, 65536, 0, 65536, 7, 8, 9};
+  static const uint32_t LOW[20] = {0, 0, 0, 0,     63,      99,     0, 0, 0, 2999,
+                                   0, 0, 65536, 1000001, 262145, 2, 2, 1, 1, 1};
+  static const uint32_t HIGH[20] = {257,   4097, 65536, 131073,     65536,      10001, 9, 65, 257, 5401,
+                                    65536, 0,    65536, UINT32_MAX, UINT32_MAX, 3,     3, 7,  8,   9};
   int i;
-  for (i = 0; i < 16; i++) {
+  for (i = 0; i < 20; i++) {
     struct wf_path none = {0}, empty = {0};
     struct wf_cell no_cell = {0};
     struct wf_settings settings = some_settings();
-    uint32_t values[16];
+    uint32_t values[20];
     memcpy(values, &settings, sizeof values);
     values[i] = LOW[i];
     memcpy(&settings, values, sizeof values);
@@ -364,7 +366,7 @@ static void misuse_cell(void) {
 
 /* Numbers without a meaning. */
 static void misuse_names(void) {
-  static const int32_t NONE[] = {-1, 28, 39, 45, 50, 59, 100, 117, INT32_MAX, INT32_MIN};
+  static const int32_t NONE[] = {-1, 29, 39, 45, 50, 59, 100, 121, INT32_MAX, INT32_MIN};
   size_t i;
   for (i = 0; i < sizeof NONE / sizeof *NONE; i++) {
     char name[WF_NAME] = {0};

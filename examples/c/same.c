@@ -17,7 +17,7 @@
 #include "words.h"
 #include "wf.h"
 
-enum { STATIONS = 6, NUMBERS = 4096, OPEN = 32, CHARGE = 5000, TICK = 10000000, ATTEMPTS = 4 };
+enum { STATIONS = 6, NUMBERS = 4096, OPEN = 32, CHARGE = 5000, DEBT = 9000, TICK = 10000000, ATTEMPTS = 4, SETTINGS = 17 };
 
 /* An open exchange. */
 struct exchange {
@@ -429,14 +429,21 @@ static void summary(void) {
   fprintf(answers, "\n");
 }
 
-/* Writes the line of a trace with the settings, in the order of the struct. */
+/*
+ * Writes the line of a trace with the settings that are not standard, in the order of the struct. A line with
+ * all settings could be longer than a trace allows.
+ */
 static void write_settings(const struct wf_settings *settings) {
-  uint32_t values[13];
+  struct wf_settings standard = {0};
+  uint32_t values[SETTINGS], usual[SETTINGS];
   int place;
+  wf_settings_standard(&standard);
   memcpy(values, settings, sizeof values);
+  memcpy(usual, &standard, sizeof usual);
   fprintf(trace, "cell");
-  for (place = 1; place <= 13; place++) {
+  for (place = 1; place <= SETTINGS; place++) {
     char name[WF_NAME] = {0};
+    if (values[place - 1] == usual[place - 1]) continue;
     wf_setting_name(place, name);
     fprintf(trace, " %s=%lu", name, (unsigned long)values[place - 1]);
   }
@@ -452,7 +459,7 @@ static void open_path(void) {
   if (wf_path_make(&path, &settings) != WF_BAD_SETTING + 2) fail("5000 flows are taken");
   settings.flows = 32;
   settings.reserved[1] = 1;
-  if (wf_path_make(&path, &settings) != WF_BAD_SETTING + 15) fail("a setting that is none is taken");
+  if (wf_path_make(&path, &settings) != WF_BAD_SETTING + SETTINGS + 2) fail("a setting that is none is taken");
   settings.reserved[1] = 0;
   settings.limit = 40;
   settings.room = 400;
@@ -462,6 +469,9 @@ static void open_path(void) {
   settings.charge = 70000;
   if (wf_path_make(&path, &settings) != WF_BAD_SETTING + 13) fail("a charge of 70000 is taken");
   settings.charge = CHARGE;
+  settings.debt = 1000001;
+  if (wf_path_make(&path, &settings) != WF_BAD_SETTING + 14) fail("a debt of 1000001 is taken");
+  settings.debt = DEBT;
   if (wf_path_make(&path, &settings)) fail("there is no path");
   write_settings(&settings);
   for (s = 0; s < STATIONS; s++) {
@@ -471,7 +481,7 @@ static void open_path(void) {
 
 /* Checks that the library has the version of the header. */
 static void look_at_the_version(void) {
-  struct wf_version version = {0};
+  struct wf_version_parts version = {0};
   wf_version(&version);
   if (version.major != WF_VERSION_MAJOR || version.minor != WF_VERSION_MINOR || version.patch != WF_VERSION_PATCH) fail("another version");
 }

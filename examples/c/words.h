@@ -42,6 +42,7 @@ static void write_refusal(FILE *out, const struct wf_reply *reply) {
   wf_code_name(reply->refusal, refusal);
   fprintf(out, " %s", refusal);
   if (reply->refusal == WF_DEBT) fprintf(out, " %lld", (long long)reply->deficit);
+  if (reply->refusal == WF_AHEAD) fprintf(out, " %lu", (unsigned long)reply->air);
   if (reply->refusal >= WF_OPEN && reply->refusal <= WF_FULL) fprintf(out, " %lu", (unsigned long)reply->count);
 }
 

@@ -21,29 +21,45 @@
 #include "ns3/wifi-module.h"
 #include "wf.h"
 
-/// The width of the channel, in MHz.
-constexpr uint16_t WIDTH = 80;
-
-/// A station: its device, which has its address, its radio and its rate, which has the long guard interval
-/// and one stream.
+/// A station: its device, which has its address, its radio and its rate.
 struct Station {
   ns3::Ptr<ns3::SimpleNetDevice> device;
   ns3::Ptr<ns3::WifiPhy> radio;
-  uint8_t mcs; ///< of VHT
+  uint8_t mcs;
+  wf_form form = WF_FORM_VHT;
+  uint16_t width = 80;   ///< of the channel, in MHz
+  uint16_t guard = 800;  ///< interval, in nanoseconds
+  uint8_t streams = 1;
+  uint8_t antennas = 1;  ///< of the access point
 
   ns3::Mac48Address Address() const { return ns3::Mac48Address::ConvertFrom(device->GetAddress()); }
 
   /// How data to it are sent.
   ns3::WifiTxVector Data() const {
-    return {ns3::VhtPhy::GetVhtMcs(mcs), 0, ns3::WIFI_PREAMBLE_VHT_SU, 800, 1, 1, 0, WIDTH, true};
+    const auto mode = form == WF_FORM_HT    ? ns3::HtPhy::GetHtMcs(mcs)
+                      : form == WF_FORM_VHT ? ns3::VhtPhy::GetVhtMcs(mcs)
+                                            : ns3::HePhy::GetHeMcs(mcs);
+    const auto preamble = form == WF_FORM_HT    ? ns3::WIFI_PREAMBLE_HT_MF
+                          : form == WF_FORM_VHT ? ns3::WIFI_PREAMBLE_VHT_SU
+                                                : ns3::WIFI_PREAMBLE_HE_SU;
+    return {mode, 0, preamble, guard, antennas, streams, 0, width, true};
+  }
+
+  /// Sets its rate in a path, and returns the code of that.
+  int32_t SetRate(wf_path* path, uint16_t number, wf_reply* reply) const {
+    const auto mhz = static_cast<uint8_t>(width);
+    if (form == WF_FORM_HT) return wf_path_rate(path, number, mcs, mhz, guard == 400, reply);
+    if (form == WF_FORM_VHT) return wf_path_rate_vht(path, number, mcs, mhz, guard == 400, streams, reply);
+    return wf_path_rate_he(path, number, mcs, mhz, guard, streams, reply);
   }
 
   /// How its answers, and requests for them, are sent: at 6, 12 or 24 Mbit/s, by the modulation of its data,
   /// as in ns-3's own Wi-Fi.
   ns3::WifiTxVector Control() const {
-    const auto mode = mcs == 0  ? ns3::OfdmPhy::GetOfdmRate6Mbps()
-                      : mcs < 3 ? ns3::OfdmPhy::GetOfdmRate12Mbps()
-                                : ns3::OfdmPhy::GetOfdmRate24Mbps();
+    const uint8_t modulation = form == WF_FORM_HT ? mcs % 8 : mcs;
+    const auto mode = modulation == 0  ? ns3::OfdmPhy::GetOfdmRate6Mbps()
+                      : modulation < 3 ? ns3::OfdmPhy::GetOfdmRate12Mbps()
+                                       : ns3::OfdmPhy::GetOfdmRate24Mbps();
     return {mode, 0, ns3::WIFI_PREAMBLE_LONG, 800, 1, 1, 0, 20, false};
   }
 };
@@ -194,7 +210,7 @@ class PathDevice : public AirDevice {
     for (uint16_t station = 0; station < air.stations.size(); station++) {
       Must(wf_path_set_address(&m_path, station, Octets(air.stations[station].Address()).data()));
       Must(wf_path_join(&m_path, station, 64, 0, 3, 1, &m_reply));
-      Must(wf_path_rate_vht(&m_path, station, air.stations[station].mcs, WIDTH, 0, 1, &m_reply));
+      Must(air.stations[station].SetRate(&m_path, station, &m_reply));
     }
   }
 

@@ -1,0 +1,1 @@
+-- Lists the modules of proofs/ of wf, which has none.

@@ -86,6 +86,7 @@ pub struct NotedSource<S> {
 
 impl<S: Source> NotedSource<S> {
     /// Wraps a source. Nothing is kept yet.
+    #[inline(never)]
     pub fn new(source: S) -> Self {
         NotedSource {
             source,

@@ -1,3 +1,4 @@
+-- Lists the modules of proofs/ of wf_c. Other crates use none of them.
 mod CallRows
 mod Ended
 mod Filled

@@ -1,3 +1,4 @@
+-- Lists the modules of specs/ of wf_c.
 pub mod Addresses
 pub mod Bodies
 pub mod CallNumbers

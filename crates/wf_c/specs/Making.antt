@@ -7,7 +7,7 @@ use Rattle.wf_c.specs.declared.settings.Settings.{Settings}
 
 -- the place of the first reserved number: it follows the settings
 abbrev pub first_reserved : ℕ
-first_reserved = 14
+first_reserved = 18
 
 -- the place of the first number that is not 0, if the first number has place n
 abbrev pub first_set : ℕ → List ℕ → Option ℕ
@@ -34,6 +34,10 @@ config_of s = record {
   sleeping = s.sleeping;
   calls = s.calls;
   charge = s.charge;
+  debt = s.debt;
+  aql_total = s.aql_total;
+  keep_order = s.keep_order;
+  codel_reset = s.codel_reset;
 }
 
 -- the place of a setting, which is its number; without a setting, the other place

@@ -74,6 +74,7 @@ with_refusal (refusal.Room inside) r = record r { count = inside }
 with_refusal (refusal.Sleeping queued) r = record r { count = queued }
 with_refusal (refusal.Full count) r = record r { count = count }
 with_refusal (refusal.Debt deficit) r = record r { deficit = deficit }
+with_refusal (refusal.Ahead owed) r = record r { air = owed }
 with_refusal _ r = r
 
 -- the fields of an answer; its lists, and the fields of a BlockAck, are in other structs

@@ -172,7 +172,14 @@ pub extern "C" fn wf_path_can_pull(path: &mut PathSlot, class: u8) -> i32
         result ≡ pos (flag_of (is_none (refusal w (Asked (Pull (class_among all_classes class)))))) }
     ensures unchanged { path.new.value ≡ path.old.value }
 {
-    i32::from(path.held().path.can_pull(class_of_number(class)))
+    number_of_flag(path.held().path.can_pull(class_of_number(class)))
+}
+
+// The number of a flag: 1 if it is set, else 0.
+fn number_of_flag(flag: bool) -> i32
+    ensures { result ≡ pos (flag_of flag) }
+{
+    i32::from(flag)
 }
 
 /// Returns the list of a class that contains a station: 1 the new list, 2 the old list, or 0 neither, as for

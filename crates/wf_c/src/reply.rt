@@ -23,7 +23,7 @@ pub struct Reply {
     pub now: u64,
     /// The deficit after the charge, in microseconds; for the refusal `Debt` the unchanged one.
     pub deficit: i64,
-    /// The airtime of the exchange to send, in microseconds.
+    /// The airtime of the exchange to send, in microseconds; for the refusal `Ahead` that in flight.
     pub air: u32,
     /// The number of frames that a leave dropped; for a refusal, how many are open, inside or queued.
     pub count: u32,
@@ -39,7 +39,7 @@ pub struct Reply {
     pub failed: u16,
     /// The kind of answer: 0 to 14.
     pub kind: u8,
-    /// Why the call was refused: 1 to 27, or 0 if it was not.
+    /// Why the call was refused: 1 to 28, or 0 if it was not.
     pub refusal: u8,
     /// The TID to send for: 0 to 7.
     pub tid: u8,
@@ -224,6 +224,7 @@ fn refused(refusal: Refusal) -> Reply
         },
         Refusal::Full { count } => Reply { count, ..reply },
         Refusal::Debt { deficit } => Reply { deficit, ..reply },
+        Refusal::Ahead { owed } => Reply { air: owed, ..reply },
         _ => reply,
     }
 }

@@ -23,6 +23,10 @@ pub struct Settings {
     pub sleeping: u32,
     pub calls: u32,
     pub charge: u32,
+    pub debt: u32,
+    pub aql_total: u32,
+    pub keep_order: u32,
+    pub codel_reset: u32,
     /// Room for later settings: each has to be 0.
     pub reserved: [u32; 3],
 }
@@ -46,6 +50,10 @@ impl Settings {
             sleeping: self.sleeping,
             calls: self.calls,
             charge: self.charge,
+            debt: self.debt,
+            aql_total: self.aql_total,
+            keep_order: self.keep_order,
+            codel_reset: self.codel_reset,
         }
     }
 
@@ -66,11 +74,11 @@ impl Settings {
     {
         let [first, second, third] = self.reserved;
         if first != 0 {
-            Some(14)
+            Some(18)
         } else if second != 0 {
-            Some(15)
+            Some(19)
         } else if third != 0 {
-            Some(16)
+            Some(20)
         } else {
             None
         }
@@ -98,6 +106,10 @@ pub extern "C" fn wf_settings_standard(settings: &mut Settings)
         sleeping: config.sleeping,
         calls: config.calls,
         charge: config.charge,
+        debt: config.debt,
+        aql_total: config.aql_total,
+        keep_order: config.keep_order,
+        codel_reset: config.codel_reset,
         reserved: [0, 0, 0],
     };
 }

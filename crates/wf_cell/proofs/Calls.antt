@@ -220,7 +220,7 @@ unfolding outcome_of pull_outcome
 pulled_reply w c e =
     subst IsSend (sym (done_reply w (Asked (ask.Pull c)) e))
     (pulled_is (after_pick w c) c (picked_station w c).winner
-    (no_row (refusals w (Asked (ask.Pull c))) e).1.0)
+    (no_row (refusals w (Asked (ask.Pull c))) e).1.1.0)
 
 pub not_pulled : (w : World) (c : Class) → (IsSend (step w (Asked (ask.Pull c))).reply → ⊥) →
     IsRefused w (Asked (ask.Pull c))

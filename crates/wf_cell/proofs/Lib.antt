@@ -1,3 +1,4 @@
+-- Lists the modules of proofs/ of wf_cell. Other crates may use those that are `pub`.
 pub mod Runs
 mod Hearing
 mod Calls

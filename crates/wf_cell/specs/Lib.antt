@@ -1,3 +1,4 @@
+-- Lists the modules of specs/ of wf_cell.
 pub mod Engines
 pub mod Cells
 pub mod Octets

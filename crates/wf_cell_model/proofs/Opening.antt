@@ -100,7 +100,7 @@ unfolding outcome_of
 opened_hears peers marks w c reached h fine =
     let i : IsLawful w = lawful_now w reached in
     let some : is_none (picked_station w c).winner ≡ false =
-    (no_row (refusals w (Asked (Pull c))) fine).1.0 in
+    (no_row (refusals w (Asked (Pull c))) fine).1.1.0 in
     hears_outcome peers marks _ w (Asked (Pull c)) i fine (stays_kept w _ (keep_pulled w c))
     (ap (λ (ms : List Mark). ms ++ new_mark w.exchanges ∷ []) h.kept ∙ sym (opened_marks w c i some)) h
 

@@ -1,3 +1,4 @@
+-- Lists the modules of specs/ of wf_cell_model.
 pub mod Hearing
 pub mod Arriving
 pub mod Refusing

@@ -1,2 +1,3 @@
+-- Lists the modules of specs/ of wf_def_air.
 pub mod Airtime
 pub mod Fit

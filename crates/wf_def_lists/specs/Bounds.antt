@@ -40,10 +40,11 @@ greatest_tick = 10000000
 abbrev pub greatest_air : ℕ
 greatest_air = 65535
 
--- How far below 0 a receive charge may bring a deficit, in microseconds.
+-- The greatest value of the setting `debt`: how far below 0 a receive charge may bring a deficit, in
+-- microseconds.
 abbrev pub greatest_debt : ℕ
 greatest_debt = 1000000
 
--- The deficit at the greatest debt.
-abbrev pub deepest_deficit : ℤ
-deepest_deficit = pos 0 -ℤ pos greatest_debt
+-- The least deficit that a receive charge may leave, in microseconds: 0 less the setting `debt`.
+abbrev pub deepest_deficit : ℕ → ℤ
+deepest_deficit debt = pos 0 -ℤ pos debt

@@ -1,2 +1,3 @@
+-- Lists the modules of specs/ of wf_def_rotation.
 pub mod Loop
 pub mod Rotation

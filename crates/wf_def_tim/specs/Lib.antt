@@ -1,1 +1,2 @@
+-- Lists the modules of specs/ of wf_def_tim.
 pub mod Tim

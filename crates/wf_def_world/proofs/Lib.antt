@@ -1,3 +1,4 @@
+-- Lists the modules of proofs/ of wf_def_world. Other crates may use those that are `pub`.
 mod Rehearsals
 mod Rows
 mod Texts

@@ -2,7 +2,7 @@
 -- shows. The histories are written as the program reads them, one call per line. Rows omit the first
 -- replies if these show nothing new.
 use Rattle.std.proofs.Common.{◌≡◌, refl, pos, negsuc, true, false, List, [], ◌∷◌, ◌++◌, drop, map, Some, None}
-use Rattle.wf_frame.specs.declared.classes.Class.TheVariants.{Be}
+use Rattle.wf_frame.specs.declared.classes.Class.TheVariants.{Be, Vo}
 use Rattle.wf_frame.specs.declared.classes.Cause.TheVariants.{Overlimit, Codel, Retries, Left}
 use Rattle.wf_frame.specs.declared.classes.Fate.TheVariants.{Acked, Dropped}
 use Rattle.wf_frame.specs.declared.notes.Ask.TheVariants.{Join, Leave, Rate, Tick, Pull, Arrive, Answer, Done, Sleep, Wake, Poll, Rx, Reap}
@@ -463,6 +463,58 @@ pub codel_drops_two : drop 12 (replies (opening (record standard { agg = 1; infl
 unfolding the_machine
 codel_drops_two = refl
 
+-- the limit empties queue 0 in its dropping state, and TID 6 of another station lists it
+abbrev pub dropping_state_is_inherited_calls : List Entry
+dropping_state_is_inherited_calls = map (by 0) (
+    Asked (Join 0 64 0 3 1) ∷
+    Asked (Join 1 64 0 3 1) ∷
+    times 3 (Enqueue 0 0 0 1) ++
+    times 2 (Enqueue 0 0 0 1500) ++
+    Asked (Tick 50000) ∷
+    Asked (Pull Be) ∷
+    Asked (Tick 300000) ∷
+    Asked (Pull Be) ∷
+    times 5 (Enqueue 0 0 1 300) ++
+    times 3 (Asked (Pull Be)) ++
+    Asked (Tick 249000) ∷
+    times 3 (Enqueue 1 6 0 1500) ++
+    Asked (Tick 51000) ∷
+    Asked (Pull Vo) ∷
+    [])
+
+-- its first frame is dropped after 51,000 microseconds
+pub dropping_state_is_inherited : drop 7 (replies
+    (opening (record standard { flows = 2; limit = 5; agg = 1; inflight = 8 }))
+    dropping_state_is_inherited_calls) ≡
+    Now 50000 ∷
+    Send 0 0 0 132 (Mpdus ((0, 0) ∷ [])) false ∷
+    Now 350000 ∷
+    Send 1 0 0 132 (Mpdus ((2, 1) ∷ [])) false ∷
+    Accepted 5 None ∷
+    Accepted 6 None ∷
+    Accepted 7 None ∷
+    Accepted 8 (Some 3) ∷
+    Accepted 9 (Some 4) ∷
+    Send 2 0 0 500 (Mpdus ((5, 2) ∷ [])) false ∷
+    Send 3 0 0 500 (Mpdus ((6, 3) ∷ [])) false ∷
+    Send 4 0 0 500 (Mpdus ((7, 4) ∷ [])) false ∷
+    Now 599000 ∷
+    Accepted 10 None ∷
+    Accepted 11 None ∷
+    Accepted 12 None ∷
+    Now 650000 ∷
+    Send 5 1 6 1976 (Mpdus ((11, 0) ∷ [])) false ∷ []
+unfolding the_machine
+dropping_state_is_inherited = refl
+
+-- with the setting `codel_reset` its first frame is sent
+pub codel_reset_ends_the_dropping_state : drop 24 (replies
+    (opening (record standard { flows = 2; limit = 5; agg = 1; inflight = 8; codel_reset = 1 }))
+    dropping_state_is_inherited_calls) ≡
+    Send 5 1 6 1976 (Mpdus ((10, 0) ∷ [])) false ∷ []
+unfolding the_machine
+codel_reset_ends_the_dropping_state = refl
+
 -- CoDel counts the octets that are left in the queue after the pop
 abbrev pub codel_left_is_after_the_pop_calls : List Entry
 codel_left_is_after_the_pop_calls = map (by 0) (
@@ -571,6 +623,51 @@ pub receive_charges_to_debt : replies (opening standard) receive_charges_to_debt
     Refused (Debt (negsuc 982724)) ∷ []
 unfolding the_machine
 receive_charges_to_debt = refl
+
+-- a debt of 1000 is met exactly: 300 less 1300 is left, and 1 more is refused
+abbrev pub debt_is_met_exactly_calls : List Entry
+debt_is_met_exactly_calls = map (by 0) (
+    Asked (Join 0 64 100 3 1) ∷
+    Asked (Rx 0 Be 1301) ∷
+    Asked (Rx 0 Be 1300) ∷
+    Asked (Rx 0 Be 1) ∷
+    [])
+
+pub debt_is_met_exactly : replies (opening (record standard { debt = 1000 })) debt_is_met_exactly_calls ≡
+    Joined ∷
+    Refused (Debt (pos 300)) ∷
+    Charged (negsuc 999) ∷
+    Refused (Debt (negsuc 999)) ∷ []
+unfolding the_machine
+debt_is_met_exactly = refl
+
+-- with a debt of 0 a receive charge may use all of the deficit; an exchange may still exceed it
+abbrev pub debt_of_zero_calls : List Entry
+debt_of_zero_calls = map (by 0) (
+    Asked (Join 0 64 100 3 1) ∷
+    Asked (Rx 0 Be 301) ∷
+    Asked (Rx 0 Be 44) ∷
+    Enqueue 0 0 7 100 ∷
+    Enqueue 0 0 7 100 ∷
+    Asked (Pull Be) ∷
+    Asked (Pull Be) ∷
+    Asked (Done 0 false None) ∷
+    Asked (Done 1 false None) ∷
+    Asked (Rx 0 Be 1) ∷
+    [])
+
+pub debt_of_zero : drop 1 (replies (opening (record standard { debt = 0; agg = 1 })) debt_of_zero_calls) ≡
+    Refused (Debt (pos 300)) ∷
+    Charged (pos 256) ∷
+    Accepted 0 None ∷
+    Accepted 1 None ∷
+    Send 0 0 0 256 (Mpdus ((0, 100) ∷ [])) false ∷
+    Send 1 0 0 256 (Mpdus ((1, 101) ∷ [])) false ∷
+    reply.Done 0 1 0 ∷
+    reply.Done 0 1 0 ∷
+    Refused (Debt (negsuc 255)) ∷ []
+unfolding the_machine
+debt_of_zero = refl
 
 -- a station with an open exchange cannot leave
 abbrev pub leave_with_open_exchange_calls : List Entry

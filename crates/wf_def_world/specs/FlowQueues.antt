@@ -1,15 +1,16 @@
 -- Defines how a frame is put into the flow queues and how one is taken out, by section 3.1 of "Ending
 -- the Anomaly" (USENIX ATC 2017): algorithms 1 (enqueue) and 2 (dequeue). Deficits and lengths are in
--- octets, times in microseconds. One rule is this project's own: a queue's deficit is set when the
--- queue is listed.
-use Rattle.std.specs.Prelude.{ℕ, ◌+◌, ◌*◌, ◌%◌, ◌==◌, nat_lt, nat_le, pos, ◌+ℤ◌, ◌-ℤ◌, Bool, not, ◌&&◌, List, [], ◌∷◌, ◌++◌, Option, Some, None, if◌then◌else◌, length, map, find, unwrap_or, sum_by}
+-- octets, times in microseconds. Two rules are this project's own: a queue's deficit is set when the
+-- queue is listed, and `codel_reset`.
+use Rattle.std.specs.Prelude.{ℕ, ◌+◌, ◌*◌, ◌%◌, ◌==◌, nat_lt, nat_le, pos, ◌+ℤ◌, ◌-ℤ◌, Bool, false, not, ◌&&◌, ◌||◌, List, [], ◌∷◌, ◌++◌, Option, Some, None, if◌then◌else◌, length, map, find, unwrap_or, sum_by}
 use Rattle.std.specs.List.{list_any, list_all}
+use Rattle.wf_frame.specs.declared.settings.Config.{Config}
 use Rattle.wf_frame.specs.declared.classes.Cause.TheVariants.{Overlimit, Codel as By_codel, Left}
 use Rattle.wf_frame.specs.declared.classes.Fate.TheVariants.{Dropped}
 use Rattle.wf_def_lists.specs.Table.{at, upto}
-use Rattle.wf_def_codel.specs.Codel.{Item, new_codel, octets, Dequeued, dequeue}
+use Rattle.wf_def_codel.specs.Codel.{Item, Codel, new_codel, octets, Dequeued, dequeue}
 use Rattle.wf_def_rotation.specs.Rotation.{has_key, in_order, with_new_key, need_of, Picked, pick}
-use Rattle.wf_def_world.specs.World.{World, Queue, new_queue, tid_of, queue, on_queue, with_queues, with_frame_finished, with_frames_finished, codel_params, live_stations}
+use Rattle.wf_def_world.specs.World.{World, Queue, new_queue, flow_of, tid_of, queue, frame, on_queue, with_queues, with_frame_finished, with_frames_finished, codel_params, live_stations}
 
 -- the number of frames in all flow queues and overflow queues
 abbrev pub total_queued : World → ℕ
@@ -71,19 +72,48 @@ is_listed_elsewhere w s t q =
 abbrev pub overflow_queue : World → ℕ → ℕ → ℕ
 overflow_queue w s t = w.config.flows + 8 * s + t
 
--- the queue that a frame is put into: that of its flow or, if another TID lists it, the TID's overflow
--- queue
+-- the flow queue of a flow: the flow's number modulo the number of flow queues
+abbrev pub flow_queue : World → ℕ → ℕ
+flow_queue w flow = flow % w.config.flows
+
+-- the flow number of a queued frame
+abbrev pub flow_number : World → Item → ℕ
+flow_number w x = flow_of (frame w x.id).note
+
+-- whether the TID's overflow queue holds a frame of flow queue q
+abbrev pub stays_over : World → ℕ → ℕ → ℕ → Bool
+stays_over w s t q =
+    list_any (λ x. flow_queue w (flow_number w x) == q) (queue w (overflow_queue w s t)).items
+
+-- whether a frame of flow queue q goes into the TID's overflow queue: another TID lists q or, with the
+-- setting `keep_order`, the overflow queue still holds a frame of q
+abbrev pub goes_over : World → ℕ → ℕ → ℕ → Bool
+goes_over w s t q = is_listed_elsewhere w s t q || ((w.config.keep_order == 1) && stays_over w s t q)
+
+-- the queue that a frame is put into: that of its flow, or the TID's overflow queue
 abbrev pub queue_for : World → ℕ → ℕ → ℕ → ℕ
 queue_for w s t flow =
-    let q : ℕ = flow % w.config.flows in
-    if is_listed_elsewhere w s t q then overflow_queue w s t else q
+    let q : ℕ = flow_queue w flow in
+    if goes_over w s t q then overflow_queue w s t else q
 
--- queue q is put last on the TID's new list, with a deficit of `flow_quantum`, unless the TID lists it
--- already
+-- CoDel's state without what a dropping state or a long wait left in it. The numbers that say how fast to
+-- drop again stay.
+abbrev pub calmed : Codel → Codel
+calmed c = record c { first_above = 0; dropping = false }
+
+-- a queue when it becomes listed: its deficit is `flow_quantum`, and with the setting `codel_reset` its CoDel
+-- state is calmed
+abbrev pub when_listed : Config → Queue → Queue
+when_listed config y = record y {
+  deficit = pos config.flow_quantum;
+  codel = if config.codel_reset == 1 then calmed y.codel else y.codel;
+}
+
+-- queue q is put last on the TID's new list, as a queue that becomes listed, unless the TID lists it already
 unfoldable pub with_listed_queue : World → ℕ → ℕ → ℕ → World
 with_listed_queue w s t q =
     if has_key (tid_of w s t).queues q then w
-    else let fresh : World = on_queue w q (λ y. record y { deficit = pos w.config.flow_quantum }) in
+    else let fresh : World = on_queue w q (when_listed w.config) in
     with_queues fresh s t (with_new_key (tid_of w s t).queues q)
 
 -- a frame is put last into a queue

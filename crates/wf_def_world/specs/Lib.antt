@@ -1,3 +1,4 @@
+-- Lists the modules of specs/ of wf_def_world.
 pub mod World
 pub mod FlowQueues
 pub mod CanSend

@@ -9,12 +9,12 @@ use Rattle.wf_frame.specs.declared.notes.Ask.TheVariants.{Join, Leave, Rate, Tic
 use Rattle.wf_frame.specs.declared.notes.Note.{Note}
 use Rattle.wf_frame.specs.declared.notes.Note.TheVariants.{Enqueue, Asked}
 use Rattle.wf_frame.specs.declared.notes.Refusal.{Refusal}
-use Rattle.wf_frame.specs.declared.notes.Refusal.TheVariants.{BadStation, BadWindow, BadStart, BadExponent, BadRate, BadTick, BadTid, BadAir, BadIndex, Live, NoStation, NoExchange, NoAnswer, Open, Room, Sleeping, Full, Idle, Answered, Arrived, Nothing, Asleep, Awake, Polled, Debt, BadWeight}
+use Rattle.wf_frame.specs.declared.notes.Refusal.TheVariants.{BadStation, BadWindow, BadStart, BadExponent, BadRate, BadTick, BadTid, BadAir, BadIndex, Live, NoStation, NoExchange, NoAnswer, Open, Room, Sleeping, Full, Idle, Answered, Arrived, Nothing, Asleep, Awake, Polled, Debt, BadWeight, Ahead}
 use Rattle.wf_def_lists.specs.Table.{has, upto}
 use Rattle.wf_def_lists.specs.Bounds.{greatest_window, greatest_start, greatest_exponent, greatest_weight, greatest_tid, greatest_tick, greatest_air, deepest_deficit}
 use Rattle.wf_def_air.specs.Airtime.{is_rate}
 use Rattle.wf_def_world.specs.Rates.{rate_asked}
-use Rattle.wf_def_world.specs.World.{World, Exchange, station, is_live, inside, share, exchange}
+use Rattle.wf_def_world.specs.World.{World, Exchange, station, is_live, inside, share, exchange, owed_by_all}
 use Rattle.wf_frame.specs.Classes.{same_class, lower_tid, upper_tid, class_of}
 use Rattle.wf_def_world.specs.FlowQueues.{frames_queued}
 use Rattle.wf_def_world.specs.CanSend.{can_send}
@@ -49,6 +49,11 @@ open_of_station w s = count_by (λ x. x.station == s) w.opened
 abbrev pub open_of_class : World → Class → ℕ
 open_of_class w c = count_by (λ x. same_class x.class c) w.opened
 
+-- whether the airtime in flight in all classes has reached the setting `aql_total`, which is no limit if it
+-- is 0
+abbrev pub is_at_aql_total : World → Bool
+is_at_aql_total w = nat_lt 0 w.config.aql_total && nat_le w.config.aql_total (owed_by_all w.opened)
+
 -- whether some TID of a station can send
 abbrev pub can_send_any : World → ℕ → Bool
 can_send_any w s = list_any (can_send w s) (upto (1 + greatest_tid))
@@ -74,6 +79,7 @@ refusals_of w (Rate s rate) = (
 refusals_of w (Tick by) = ((nat_lt greatest_tick by, BadTick) ∷ [])
 refusals_of w (Pull c) = (
     (nat_le w.config.inflight (open_of_class w c), Full (open_of_class w c)) ∷
+    (is_at_aql_total w, Ahead (owed_by_all w.opened)) ∷
     (is_none (picked_station w c).winner, Idle) ∷ [])
 refusals_of w (Arrive e i) = (
     (is_none (exchange w e), NoExchange) ∷
@@ -100,8 +106,10 @@ refusals_of w (Poll s) = (
     (is_some (station w s).credit, Polled) ∷ (not (can_send_any w s), Nothing) ∷ [])
 refusals_of w (Rx s c air) = (
     (is_bad_station w s, BadStation) ∷ (not (is_within 1 greatest_air air), BadAir)
-    ∷ (not (is_live w s), NoStation) ∷
-    (int_lt ((share w s c).deficit -ℤ pos air) deepest_deficit, Debt (share w s c).deficit) ∷ [])
+    ∷ (not (is_live w s), NoStation) ∷ (
+      int_lt ((share w s c).deficit -ℤ pos air) (deepest_deficit w.config.debt),
+      Debt (share w s c).deficit,
+    ) ∷ [])
 refusals_of w Reap = ((length w.finished == 0, Nothing) ∷ [])
 
 -- the rows of a call, in order

@@ -1,10 +1,10 @@
 -- Defines the state of the machine, and how to read and change it. Times, stations' deficits and airtime are
 -- in microseconds, lengths and queues' deficits in octets. Sequence numbers do not wrap here; on the air they
 -- are modulo 4096.
-use Rattle.std.specs.Prelude.{ℕ, ◌+◌, ◌*◌, ◌==◌, nat_lt, ℤ, pos, Bool, true, false, not, List, [], ◌∷◌, ◌++◌, Option, None, is_some, unwrap_or, option_map, if◌then◌else◌, length, map, filter, find, count_by}
+use Rattle.std.specs.Prelude.{ℕ, ◌+◌, ◌*◌, ◌==◌, nat_lt, ℤ, pos, Bool, true, false, not, ◌&&◌, List, [], ◌∷◌, ◌++◌, Option, None, is_some, unwrap_or, option_map, if◌then◌else◌, length, map, filter, find, count_by}
 use Rattle.wf_frame.specs.declared.settings.Config.{Config}
 use Rattle.wf_frame.specs.declared.classes.Class.{Class}
-use Rattle.wf_frame.specs.Classes.{class_number}
+use Rattle.wf_frame.specs.Classes.{class_number, same_class}
 use Rattle.wf_frame.specs.declared.classes.Fate.{Fate}
 use Rattle.wf_frame.specs.declared.classes.Fate.TheVariants.{Held}
 use Rattle.wf_frame.specs.declared.notes.Note.{Note}
@@ -193,6 +193,11 @@ abbrev pub len_of : Note → ℕ
 len_of (Enqueue station tid flow len) = len
 len_of (Asked ask) = 0
 
+-- the flow number of the frame that a call brings; 0 if it brings none
+abbrev pub flow_of : Note → ℕ
+flow_of (Enqueue station tid flow len) = flow
+flow_of (Asked ask) = 0
+
 -- whether a frame has no fate yet
 abbrev pub is_held : Fate → Bool
 is_held Held = true
@@ -217,6 +222,16 @@ codel_params w s = params_at (station w s).rate
 -- whether the window of a TID's agreement is above 64, so that its BlockAcks have 256 bits
 abbrev pub is_wide : World → ℕ → ℕ → Bool
 is_wide w s t = nat_lt narrow_window (session w s t).size
+
+-- the airtime that is computed of these exchanges to station s in class c, in microseconds
+abbrev pub owed : ℕ → Class → List Exchange → ℕ
+owed s c [] = 0
+owed s c (x ∷ xs) = (if (x.station == s) && same_class x.class c then x.charge else 0) + owed s c xs
+
+-- the airtime that is computed of these exchanges, to all stations in all classes, in microseconds
+abbrev pub owed_by_all : List Exchange → ℕ
+owed_by_all [] = 0
+owed_by_all (x ∷ xs) = x.charge + owed_by_all xs
 
 -- the open exchange with number e, if there is one
 abbrev pub exchange : World → ℕ → Option Exchange

@@ -3,7 +3,7 @@
 use Rattle.std.proofs.Common.{◌≡◌, ◌∙◌, ◌↔◌, ℕ, zero, suc, ◌<◌, ◌≤◌, nat_le, Bool, true, false, cond, not, ◌&&◌, List, [], ◌∷◌, get_or, length, None, Some, find, refl, ap, lit<, arith}
 use Rattle.wf_frame.specs.declared.settings.Config.{Config}
 use Rattle.wf_frame.specs.declared.settings.Field.{Field}
-use Rattle.wf_frame.specs.declared.settings.Field.TheVariants.{Stations, Flows, Limit, Room, FlowQuantum, Quantum, Inflight, Attempts, Agg, Cap, Sleeping, Calls, Charge}
+use Rattle.wf_frame.specs.declared.settings.Field.TheVariants.{Stations, Flows, Limit, Room, FlowQuantum, Quantum, Inflight, Attempts, Agg, Cap, Sleeping, Calls, Charge, Debt, AqlTotal, KeepOrder, CodelReset}
 use Rattle.wf_frame.specs.Settings.{fields, lowest_of, greatest_of, value_of, with_value, is_in_range, first_out_of_range, IsInRange}
 
 -- if nothing is found, the first item does not pass and nothing is found after it
@@ -50,6 +50,10 @@ each_bounded c h Cap = h.cap
 each_bounded c h Sleeping = h.sleeping
 each_bounded c h Calls = h.calls
 each_bounded c h Charge = h.charge
+each_bounded c h Debt = h.debt
+each_bounded c h AqlTotal = h.aql_total
+each_bounded c h KeepOrder = h.keep_order
+each_bounded c h CodelReset = h.codel_reset
 
 all_bounded : (c : Config) → ((field : Field) → IsBounded c field) → IsInRange c
 all_bounded c each = record {
@@ -66,6 +70,10 @@ all_bounded c each = record {
   sleeping = each Sleeping;
   calls = each Calls;
   charge = each Charge;
+  debt = each Debt;
+  aql_total = each AqlTotal;
+  keep_order = each KeepOrder;
+  codel_reset = each CodelReset;
 }
 
 -- if one setting is set to a value in its range, each setting is in its range
@@ -84,6 +92,10 @@ bounded_anew c Cap Cap value h b = b
 bounded_anew c Sleeping Sleeping value h b = b
 bounded_anew c Calls Calls value h b = b
 bounded_anew c Charge Charge value h b = b
+bounded_anew c Debt Debt value h b = b
+bounded_anew c AqlTotal AqlTotal value h b = b
+bounded_anew c KeepOrder KeepOrder value h b = b
+bounded_anew c CodelReset CodelReset value h b = b
 bounded_anew c field other value h b = each_bounded c h other
 
 pub set_in_range : (c : Config) (field : Field) (value : ℕ) → IsInRange c → (lowest_of field ≤ value) ×
@@ -108,6 +120,10 @@ in_range c none =
       sleeping = bounds _ _ _ (holds 10 Stations (lit< tt));
       calls = bounds _ _ _ (holds 11 Stations (lit< tt));
       charge = bounds _ _ _ (holds 12 Stations (lit< tt));
+      debt = bounds _ _ _ (holds 13 Stations (lit< tt));
+      aql_total = bounds _ _ _ (holds 14 Stations (lit< tt));
+      keep_order = bounds _ _ _ (holds 15 Stations (lit< tt));
+      codel_reset = bounds _ _ _ (holds 16 Stations (lit< tt));
     }
 
 each_holds : (c : Config) → IsInRange c → (field : Field) → not (is_in_range c field) ≡ false

@@ -1,3 +1,4 @@
+-- Lists the modules of specs/ of wf_frame.
 pub mod Answers
 pub mod Calls
 pub mod Classes

@@ -2,7 +2,7 @@
 -- of them.
 use Rattle.std.specs.Prelude.{ℕ, ℤ, pos, ◌==◌, Option, Some, None, List, [], ◌∷◌, codes, find}
 use Rattle.wf_frame.specs.declared.notes.Refusal.{Refusal}
-use Rattle.wf_frame.specs.declared.notes.Refusal.TheVariants.{BadStation, BadWindow, BadStart, BadExponent, BadRate, BadTick, BadTid, BadAir, BadIndex, Live, NoStation, NoExchange, NoAnswer, Open, Room, Sleeping, Full, Idle, Answered, Arrived, Nothing, Asleep, Awake, Polled, Debt, HistoryFull, BadWeight}
+use Rattle.wf_frame.specs.declared.notes.Refusal.TheVariants.{BadStation, BadWindow, BadStart, BadExponent, BadRate, BadTick, BadTid, BadAir, BadIndex, Live, NoStation, NoExchange, NoAnswer, Open, Room, Sleeping, Full, Idle, Answered, Arrived, Nothing, Asleep, Awake, Polled, Debt, HistoryFull, BadWeight, Ahead}
 
 -- a row of the table: the number of a refusal in C, and its word in texts
 abbrev pub refusal_row : Refusal → ℕ × List ℕ
@@ -33,6 +33,7 @@ refusal_row Polled = (24, codes "polled")
 refusal_row (Debt deficit) = (25, codes "debt")
 refusal_row HistoryFull = (26, codes "history-full")
 refusal_row BadWeight = (27, codes "bad-weight")
+refusal_row (Ahead owed) = (28, codes "ahead")
 
 -- the number of a refusal
 abbrev pub refusal_number : Refusal → ℕ
@@ -43,22 +44,23 @@ abbrev pub refusal_word : Refusal → List ℕ
 refusal_word refusal = (refusal_row refusal).1
 
 -- the number that follows the word of a refusal: the number of open exchanges, of frames inside or of
--- frames queued, or the deficit in microseconds
+-- frames queued, or the deficit or the airtime in flight in microseconds
 abbrev pub number_told : Refusal → Option ℤ
 number_told (Open count) = Some (pos count)
 number_told (Room inside) = Some (pos inside)
 number_told (Sleeping queued) = Some (pos queued)
 number_told (Full count) = Some (pos count)
 number_told (Debt deficit) = Some deficit
+number_told (Ahead owed) = Some (pos owed)
 number_told _ = None
 
 -- the refusals by their numbers; a number that follows the word is 0
-abbrev pub refusals : List Refusal
-refusals =
+abbrev pub refusal_list : List Refusal
+refusal_list =
     BadStation ∷ BadWindow ∷ BadStart ∷ BadExponent ∷ BadRate ∷ BadTick ∷ BadTid ∷ BadAir ∷ BadIndex ∷ Live
     ∷ NoStation ∷ NoExchange ∷ NoAnswer ∷ Open 0 ∷ Room 0 ∷ Sleeping 0 ∷ Full 0 ∷ Idle ∷ Answered ∷ Arrived
-    ∷ Nothing ∷ Asleep ∷ Awake ∷ Polled ∷ Debt (pos 0) ∷ HistoryFull ∷ BadWeight ∷ []
+    ∷ Nothing ∷ Asleep ∷ Awake ∷ Polled ∷ Debt (pos 0) ∷ HistoryFull ∷ BadWeight ∷ Ahead 0 ∷ []
 
 -- the refusal with this number; a number that follows its word is 0
 abbrev pub refusal_numbered : ℕ → Option Refusal
-refusal_numbered number = find (λ refusal. refusal_number refusal == number) refusals
+refusal_numbered number = find (λ refusal. refusal_number refusal == number) refusal_list

@@ -4,7 +4,7 @@ use Rattle.std.specs.Prelude.{ℕ, ◌==◌, ◌≤◌, nat_le, Bool, false, ◌
 use Rattle.std.specs.Str.{bytes_eq}
 use Rattle.wf_frame.specs.declared.settings.Config.{Config}
 use Rattle.wf_frame.specs.declared.settings.Field.{Field}
-use Rattle.wf_frame.specs.declared.settings.Field.TheVariants.{Stations, Flows, Limit, Room, FlowQuantum, Quantum, Inflight, Attempts, Agg, Cap, Sleeping, Calls, Charge}
+use Rattle.wf_frame.specs.declared.settings.Field.TheVariants.{Stations, Flows, Limit, Room, FlowQuantum, Quantum, Inflight, Attempts, Agg, Cap, Sleeping, Calls, Charge, Debt, AqlTotal, KeepOrder, CodelReset}
 
 -- a row: the number of a setting, its word, its least value and its greatest value
 pub record Row : Type 0 where
@@ -31,6 +31,10 @@ setting_row Cap = row 10 (codes "cap") 3000 5400
 setting_row Sleeping = row 11 (codes "sleeping") 1 65535
 setting_row Calls = row 12 (codes "calls") 1 4294967295
 setting_row Charge = row 13 (codes "charge") 0 65535
+setting_row Debt = row 14 (codes "debt") 0 1000000
+setting_row AqlTotal = row 15 (codes "aql_total") 0 262144
+setting_row KeepOrder = row 16 (codes "keep_order") 0 1
+setting_row CodelReset = row 17 (codes "codel_reset") 0 1
 
 -- the standard settings: those of a head that sets none
 abbrev pub standard : Config
@@ -48,12 +52,16 @@ standard = record {
   sleeping = 64;
   calls = 1048576;
   charge = 0;
+  debt = 1000000;
+  aql_total = 0;
+  keep_order = 0;
+  codel_reset = 0;
 }
 
 -- the settings, in the order in which they are checked
 abbrev pub fields : List Field
 fields = Stations ∷ Flows ∷ Limit ∷ Room ∷ FlowQuantum ∷ Quantum ∷ Inflight ∷ Attempts ∷ Agg ∷ Cap ∷ Sleeping
-    ∷ Calls ∷ Charge ∷ []
+    ∷ Calls ∷ Charge ∷ Debt ∷ AqlTotal ∷ KeepOrder ∷ CodelReset ∷ []
 
 -- the number of a setting in C
 abbrev pub setting_number : Field → ℕ
@@ -94,6 +102,10 @@ value_of c Cap = c.cap
 value_of c Sleeping = c.sleeping
 value_of c Calls = c.calls
 value_of c Charge = c.charge
+value_of c Debt = c.debt
+value_of c AqlTotal = c.aql_total
+value_of c KeepOrder = c.keep_order
+value_of c CodelReset = c.codel_reset
 
 -- the settings with one of them set to a value
 abbrev pub with_value : Config → Field → ℕ → Config
@@ -110,6 +122,10 @@ with_value c Cap value = record c { cap = value }
 with_value c Sleeping value = record c { sleeping = value }
 with_value c Calls value = record c { calls = value }
 with_value c Charge value = record c { charge = value }
+with_value c Debt value = record c { debt = value }
+with_value c AqlTotal value = record c { aql_total = value }
+with_value c KeepOrder value = record c { keep_order = value }
+with_value c CodelReset value = record c { codel_reset = value }
 
 -- the standard value of a setting
 abbrev pub standard_of : Field → ℕ
@@ -145,3 +161,7 @@ pub record IsInRange (config : Config) : Type 0 where
   pub sleeping : (1 ≤ config.sleeping) × (config.sleeping ≤ 65535)
   pub calls : (1 ≤ config.calls) × (config.calls ≤ 4294967295)
   pub charge : (0 ≤ config.charge) × (config.charge ≤ 65535)
+  pub debt : (0 ≤ config.debt) × (config.debt ≤ 1000000)
+  pub aql_total : (0 ≤ config.aql_total) × (config.aql_total ≤ 262144)
+  pub keep_order : (0 ≤ config.keep_order) × (config.keep_order ≤ 1)
+  pub codel_reset : (0 ≤ config.codel_reset) × (config.codel_reset ≤ 1)

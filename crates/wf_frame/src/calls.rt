@@ -11,20 +11,20 @@ use crate::Class;
 /// Names in capitals are those of the line.
 #[derive(Clone, Copy)]
 pub enum CallForm {
-    /// A station joins: S, its window W, its first sequence number START, its exponent X, and its weight,
-    /// which is 1 if it is left out.
+    /// A station joins: S, its window W, its first sequence number START, its A-MPDU length exponent X, and
+    /// its weight, which is 1 if it is left out.
     Join,
     /// A station leaves.
     Leave,
-    /// A station is sent to at this rate of HT from now on.
+    /// From now on data to the station is sent at this HT rate.
     Rate,
-    /// A station is sent to at this rate of VHT, of N streams, from now on.
+    /// From now on data to the station is sent at this VHT rate with N streams.
     RateVht,
-    /// A station is sent to at this rate of HE, of N streams, from now on; GUARD is in nanoseconds.
+    /// From now on data to the station is sent at this HE rate with N streams; GUARD is in nanoseconds.
     RateHe,
     /// The clock moves on.
     Tick,
-    /// A frame comes for a station; LENGTH is that of its body, in octets.
+    /// A frame for a station is enqueued; LENGTH is the length of its body in octets.
     Enqueue,
     /// The driver asks for the next exchange of a class.
     Pull,

@@ -136,15 +136,15 @@ pub enum Refusal {
     BadStart,
     /// The A-MPDU length exponent is above 3.
     BadExponent,
-    /// There is no such rate: the MCS, the width, the guard interval or the streams are none of its format,
-    /// or are one of the ten combinations that VHT leaves out.
+    /// The rate does not exist: its format does not have this MCS, width, guard interval or number of
+    /// streams, or it is one of the ten combinations that VHT leaves out.
     BadRate,
     /// The clock would move by more than 10,000,000 microseconds.
     BadTick,
     /// The TID is above 7.
     BadTid,
-    /// The airtime is 0 or above 65,535 microseconds; at the end of an exchange: the one that is named is
-    /// above `charge`.
+    /// `rx`: the airtime is 0 or above 65,535 microseconds; `done`: the airtime that is given is 0 or above
+    /// `charge`.
     BadAir,
     /// The exchange has no transmission of that index.
     BadIndex,
@@ -154,7 +154,7 @@ pub enum Refusal {
     NoStation,
     /// No open exchange has that number.
     NoExchange,
-    /// The exchange was to be heard, but its station never answered.
+    /// The call says that the BlockAck was heard, but the station has not answered the exchange.
     NoAnswer,
     /// The station has `count` open exchanges.
     Open { count: u32 },
@@ -178,12 +178,14 @@ pub enum Refusal {
     Awake,
     /// The station has a credit that is not spent yet.
     Polled,
-    /// The deficit, which stays at `deficit`, would fall below -1,000,000 microseconds.
+    /// The deficit, which stays at `deficit`, would fall below -`debt` microseconds.
     Debt { deficit: i64 },
-    /// The history has `calls` entries; the call is none.
+    /// The history has `calls` entries; this call is not added to it.
     HistoryFull,
     /// The weight is not 1 to 16.
     BadWeight,
+    /// `owed` microseconds of computed airtime are in flight in all classes: `aql_total` or more.
+    Ahead { owed: u32 },
 }
 
 /// The answer to a call as one value. Code never makes one, since it would have up to 4 kB: calls fill an

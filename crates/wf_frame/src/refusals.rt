@@ -6,7 +6,7 @@ ghost use Rattle.wf_frame.specs.Refusals.{refusal_number, refusal_word, number_t
 use crate::Refusal;
 
 // The refusals by their numbers. A number that follows the word is 0.
-const REFUSALS: [Refusal; 27] = [
+const REFUSALS: [Refusal; 28] = [
     Refusal::BadStation,
     Refusal::BadWindow,
     Refusal::BadStart,
@@ -34,6 +34,7 @@ const REFUSALS: [Refusal; 27] = [
     Refusal::Debt { deficit: 0 },
     Refusal::HistoryFull,
     Refusal::BadWeight,
+    Refusal::Ahead { owed: 0 },
 ];
 
 impl Refusal {
@@ -41,7 +42,7 @@ impl Refusal {
     fn row(self) -> (u8, &'static [u8])
         ensures number { result.0 ≡ refusal_number self }
         ensures word { result.1.now ≡ refusal_word self }
-        ensures range { (0 < result.0) × (result.0 ≤ 27) }
+        ensures range { (0 < result.0) × (result.0 ≤ 28) }
         ensures short { length result.1.now ≤ 12 }
     {
         match self {
@@ -72,13 +73,14 @@ impl Refusal {
             Refusal::Debt { .. } => (25, b"debt"),
             Refusal::HistoryFull => (26, b"history-full"),
             Refusal::BadWeight => (27, b"bad-weight"),
+            Refusal::Ahead { .. } => (28, b"ahead"),
         }
     }
 
-    /// Returns the number of the refusal in C: 1 to 27.
+    /// Returns the number of the refusal in C: 1 to 28.
     pub fn number(self) -> u8
         ensures number { result ≡ refusal_number self }
-        ensures range { (0 < result) × (result ≤ 27) }
+        ensures range { (0 < result) × (result ≤ 28) }
     {
         self.row().0
     }
@@ -103,7 +105,8 @@ impl Refusal {
     }
 
     /// Returns the number that follows the word of the refusal, or `None` if none does: the number of open
-    /// exchanges, of frames inside or of frames queued, or the deficit in microseconds.
+    /// exchanges, of frames inside or of frames queued, or the deficit or the airtime in flight in
+    /// microseconds.
     pub fn number_told(self) -> Option<i64>
         ensures { result ≡ number_told self }
     {
@@ -112,6 +115,7 @@ impl Refusal {
             Refusal::Room { inside } => Some(i64::from(inside)),
             Refusal::Sleeping { queued } => Some(i64::from(queued)),
             Refusal::Debt { deficit } => Some(deficit),
+            Refusal::Ahead { owed } => Some(i64::from(owed)),
             _ => None,
         }
     }

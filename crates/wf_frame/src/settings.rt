@@ -33,17 +33,26 @@ pub struct Config {
     pub calls: u32,
     /// The greatest airtime that a Done may give, in microseconds. If it is 0, a Done may give none.
     pub charge: u32,
+    /// How far below 0 a receive charge may bring a deficit, in microseconds.
+    pub debt: u32,
+    /// The limit on the computed airtime of all open exchanges of all classes, in microseconds. 0 is no
+    /// limit.
+    pub aql_total: u32,
+    /// Whether frames of one flow keep their order: 1, or 0.
+    pub keep_order: u32,
+    /// Whether CoDel forgets its dropping state when a queue is listed: 1, or 0.
+    pub codel_reset: u32,
 }
 
 /// A setting. The comment of each variant is its sentence in include/wf.h, docs/TRACE.md and
 /// sim/settings.json.
 #[derive(Clone, Copy, Debug, PartialEq, Eq)]
 pub enum Field {
-    /// Station numbers.
+    /// Greatest number of stations, which are numbered 0 to `stations` - 1.
     Stations,
     /// Shared flow queues.
     Flows,
-    /// Frames in flow queues.
+    /// Frames in flow and overflow queues.
     Limit,
     /// Frames accepted and not yet reaped.
     Room,
@@ -61,14 +70,22 @@ pub enum Field {
     Cap,
     /// Frames queued per sleeping station and class.
     Sleeping,
-    /// Calls of a history, as that of a trace; a path keeps none.
+    /// Limit on the calls in a history, such as that of a trace; a path has none.
     Calls,
-    /// Greatest airtime that the end of an exchange may name, microseconds.
+    /// Greatest airtime that `done` may give, in microseconds; with 0 it may give none.
     Charge,
+    /// How far below 0 `rx` may bring a deficit, in microseconds.
+    Debt,
+    /// Limit on the airtime in flight of all classes together, in microseconds; 0 means no limit.
+    AqlTotal,
+    /// Whether the frames of a flow keep their order.
+    KeepOrder,
+    /// Whether CoDel starts outside its dropping state when a queue joins a TID's list.
+    CodelReset,
 }
 
 // The settings, in the order in which they are checked.
-const FIELDS: [Field; 13] = [
+const FIELDS: [Field; 17] = [
     Field::Stations,
     Field::Flows,
     Field::Limit,
@@ -82,11 +99,15 @@ const FIELDS: [Field; 13] = [
     Field::Sleeping,
     Field::Calls,
     Field::Charge,
+    Field::Debt,
+    Field::AqlTotal,
+    Field::KeepOrder,
+    Field::CodelReset,
 ];
 
 impl Field {
     /// Returns the settings, in the order in which they are checked.
-    pub fn all() -> [Field; 13]
+    pub fn all() -> [Field; 17]
         ensures { result ≡ fields }
     {
         FIELDS
@@ -98,7 +119,7 @@ impl Field {
         ensures word { result.1.now ≡ setting_word self }
         ensures least { result.2 ≡ lowest_of self }
         ensures greatest { result.3 ≡ greatest_of self }
-        ensures numbered { (1 ≤ result.0) × (result.0 ≤ 13) }
+        ensures numbered { (1 ≤ result.0) × (result.0 ≤ 17) }
         ensures short { length result.1.now ≤ 12 }
     {
         match self {
@@ -115,13 +136,17 @@ impl Field {
             Field::Sleeping => (11, b"sleeping", 1, 65_535),
             Field::Calls => (12, b"calls", 1, u32::MAX),
             Field::Charge => (13, b"charge", 0, 65_535),
+            Field::Debt => (14, b"debt", 0, 1_000_000),
+            Field::AqlTotal => (15, b"aql_total", 0, 262_144),
+            Field::KeepOrder => (16, b"keep_order", 0, 1),
+            Field::CodelReset => (17, b"codel_reset", 0, 1),
         }
     }
 
-    /// Returns the number of the setting in C: 1 to 13.
+    /// Returns the number of the setting in C: 1 to 17.
     pub fn number(self) -> u8
         ensures number { result ≡ setting_number self }
-        ensures range { (1 ≤ result) × (result ≤ 13) }
+        ensures range { (1 ≤ result) × (result ≤ 17) }
     {
         self.row().0
     }
@@ -193,6 +218,10 @@ impl Field {
             Field::Sleeping => config.sleeping,
             Field::Calls => config.calls,
             Field::Charge => config.charge,
+            Field::Debt => config.debt,
+            Field::AqlTotal => config.aql_total,
+            Field::KeepOrder => config.keep_order,
+            Field::CodelReset => config.codel_reset,
         }
     }
 
@@ -214,6 +243,10 @@ impl Field {
             Field::Sleeping => config.sleeping = value,
             Field::Calls => config.calls = value,
             Field::Charge => config.charge = value,
+            Field::Debt => config.debt = value,
+            Field::AqlTotal => config.aql_total = value,
+            Field::KeepOrder => config.keep_order = value,
+            Field::CodelReset => config.codel_reset = value,
         }
     }
 }
@@ -237,6 +270,10 @@ impl Config {
             sleeping: 64,
             calls: 1_048_576,
             charge: 0,
+            debt: 1_000_000,
+            aql_total: 0,
+            keep_order: 0,
+            codel_reset: 0,
         }
     }
 

@@ -1,3 +1,4 @@
+-- Lists the modules of proofs/ of wf_gate. Other crates may use those that are `pub`.
 mod Calls
 pub mod Clients
 mod Counts

@@ -1,3 +1,4 @@
+-- Lists the modules of specs/ of wf_gate.
 pub mod Faults
 pub mod Pairs
 pub mod Passes

@@ -1,3 +1,4 @@
+-- Lists the modules of specs/ of wf_io.
 pub mod Digits
 pub mod Faults
 pub mod Fronts

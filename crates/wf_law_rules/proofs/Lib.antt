@@ -6,3 +6,6 @@ mod OneVisit
 mod LoopLaw
 mod LoopEnds
 mod FourKeys
+mod Standing
+mod Rate
+mod Witnesses

@@ -1,5 +1,6 @@
-//! Laws about the shared definitions (`wf_def_*`). CoDel's closed form equals the dequeue of RFC 8289. The
-//! pick in closed form has the result of the loop of "Ending the Anomaly". `root` is the integer square
+//! Laws about the shared definitions (`wf_def_*`). CoDel's closed form equals the dequeue of RFC 8289. CoDel
+//! drops only from a queue that has stood for an interval, and only so many frames in a time. The pick in
+//! closed form has the result of the loop of "Ending the Anomaly". `root` is the integer square
 //! root. A pick depends only on the needs and the readiness of the listed keys, and not on the numbers of
 //! the keys.
 //!
@@ -13,6 +14,7 @@ ghost use Rattle.wf_def_codel.specs.Codel.{Item, Codel, Params, dequeue, drops_d
 ghost use Rattle.wf_def_codel.specs.CodelLoop.{stepped};
 ghost use Rattle.wf_def_rotation.specs.Rotation.{Rotation, pick};
 ghost use Rattle.wf_def_rotation.specs.Loop.{EndLaw, LoopLaw, VisitLaw};
+ghost use Rattle.wf_law_rules.specs.CodelLaws.{RateLaw, StandingLaw};
 ghost use Rattle.wf_law_rules.specs.FourKeys.{LoopEnds, FourKeysGive};
 ghost use Rattle.wf_law_rules.specs.Renamed.{KeepsApart, Agrees, renamed, IsRenamed, IsSame, IsIdle};
 
@@ -38,6 +40,21 @@ pub fn root_law()
 pub fn step_law()
     ensures { (interval count : ℕ) → interval < 2 ^ 32 → 0 < count →
         IsGreatestStep interval count (step_of interval count) }
+{}
+
+/// CoDel drops a frame only if its queue has stood for an interval: since a look at least an interval before
+/// the drop, each look saw a frame that had waited at least for the target, with more than 2304 octets behind
+/// it (specs/CodelLaws).
+pub fn standing_law()
+    ensures { StandingLaw }
+{}
+
+/// As long as CoDel drops, from a drop with the count 1 on and at one interval, drop n after the first comes
+/// no sooner than the sum of the control law's first n steps. So if T is below the square of the interval, at
+/// most (T / interval + 1)^2 frames are dropped in T microseconds. With n + 1 drops in T microseconds, the
+/// root of n + 1 is at most 1 + (T + n) / (2 * interval) (specs/CodelLaws).
+pub fn rate_law()
+    ensures { RateLaw }
 {}
 
 /// The pick has the same result before and after a turn of the paper's loop that does not end it. If a key

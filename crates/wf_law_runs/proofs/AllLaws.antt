@@ -9,6 +9,7 @@ use Rattle.wf_law_runs.proofs.Windows.Law.{window_law}
 use Rattle.wf_law_runs.proofs.Windows.Answers.{answer_law}
 use Rattle.wf_law_runs.proofs.Releases.Named.{release_law}
 use Rattle.wf_law_runs.proofs.Releases.Placed.{once_law}
+use Rattle.wf_law_runs.proofs.Orders.Law.{flow_queue_law, flow_release_law}
 use Rattle.wf_law_runs.proofs.Frames.DeliveryLaw.{delivery_law}
 use Rattle.wf_law_runs.proofs.Frames.FateLaw.{fate_law}
 use Rattle.wf_law_runs.proofs.Kept.Law.{kept_law}
@@ -25,10 +26,12 @@ use Rattle.wf_law_runs.proofs.Frames.Rooms.{room_law}
 use Rattle.wf_law_runs.proofs.Queues.Limit.{limit_law}
 use Rattle.wf_law_runs.proofs.Ranges.Law.{range_law}
 use Rattle.wf_law_runs.proofs.Deficits.Numbers.{number_law}
+use Rattle.wf_law_runs.proofs.Deficits.InFlight.{in_flight_law}
 use Rattle.wf_law_runs.proofs.Windows.TwelveBits.{twelve_bit_law}
 use Rattle.wf_law_runs.proofs.Sums.Law.{sum_law}
 use Rattle.wf_law_runs.proofs.Sent.Law.{sent_law}
 use Rattle.wf_law_runs.proofs.Attempts.Law.{attempts_law}
+use Rattle.wf_law_runs.proofs.Tries.Law.{tries_law}
 use Rattle.wf_law_runs.proofs.Queues.Law.{queue_law, queue_deficit_law}
 
 pub laws : (config : Config) (history : List Entry) → IsInRange config → Laws config history
@@ -37,6 +40,8 @@ laws config h range = record {
   answers = answer_law config h;
   releases = release_law config h range;
   once = once_law config h;
+  flow_queues = flow_queue_law config h range;
+  flow_releases = flow_release_law config h range;
   delivery = delivery_law config h range;
   fates = fate_law config h;
   kept = kept_law config h;
@@ -58,7 +63,9 @@ laws config h range = record {
   queue_deficits = queue_deficit_law config h range;
   ranges = range_law config h range;
   numbers = number_law config h range;
+  in_flight = in_flight_law config h range;
   sums = sum_law config h range;
   sent = sent_law config h;
   attempts = attempts_law config h range;
+  tries = tries_law config h range;
 }

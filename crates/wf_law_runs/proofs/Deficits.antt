@@ -9,7 +9,7 @@
 -- - Mild, MildStep: only the station that a call concerns can become ready. Ready: so every ready station
 --   is listed.
 -- - Quiet: when a station's received airtime is 0.
--- - Numbers: the greatest charges and deficits.
+-- - Numbers: the greatest charges and deficits. InFlight: the limits on airtime in flight.
 pub mod Books
 pub mod BookSteps
 pub mod Openings
@@ -27,3 +27,4 @@ pub mod Quiet
 pub mod Configs
 pub mod Balance
 pub mod Numbers
+pub mod InFlight

@@ -4,12 +4,12 @@
 -- - Delivered: each acknowledged frame has arrived. DeliveryLaw: it arrived at its own receiver.
 -- - Untouched: changes that do not affect the frames.
 -- - Fates: a fate other than Held never changes, because only held frames are in queues and at unsettled
---   numbers, and each frame that gets a fate goes on the finished list. FinishedLaw: so it is there once,
---   until it is reaped.
+--   numbers, and each frame that gets a fate goes on the finished list. FinishedLaw: the frame is there
+--   exactly once, until it is reaped.
 -- - Owners: the TID of each frame at a number.
--- - Covered, CoveredStep: each held frame is in a queue or at an unsettled number. Places: so it is in one
+-- - Covered, CoveredStep: each held frame is in a queue or at an unsettled number. Places: it is in one
 --   place.
--- - Counted: so there are as many held frames as frames in places. Rooms: the law of room.
+-- - Counted: there are as many held frames as frames in places. Rooms: the law of room.
 -- - Tallies: the counts of frames by fate add up.
 pub mod Fewer
 pub mod Delivered

@@ -9,12 +9,14 @@
 --   kept_law                                    Kept (Law)
 --   queue_law, queue_deficit_law, limit_law     Queues (Law, Limit)
 --   range_law                                   Ranges (Law)
---   deficit_law, quiet_law, number_law          Deficits (Law, Quiet, Numbers)
+--   deficit_law, quiet_law, number_law,         Deficits (Law, Quiet, Numbers, InFlight)
+--     in_flight_law
 --   fairness_law                                Fairness (Law)
 --   share_law, waiting_law, sparse_law          Shares (Law, Waits)
 --   sum_law                                     Sums (Law)
 --   sent_law                                    Sent (Law)
 --   attempts_law                                Attempts (Law)
+--   tries_law                                   Tries (Law)
 --   rotation_law                                Rotations (Law)
 --
 -- Each law is an invariant of worlds, or a relation between a world and a later one. For each part of a
@@ -31,10 +33,12 @@ pub mod Queues
 pub mod Deficits
 pub mod Ranges
 mod Fairness
-pub mod Shares
+mod Shares
 pub mod Sums
 pub mod Sent
 pub mod Attempts
+mod Tries
 mod Rotations
+mod Orders
 mod Witnesses
 pub mod AllLaws

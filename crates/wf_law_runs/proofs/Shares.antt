@@ -1,6 +1,7 @@
--- The laws of shares and of waiting. Picks: what a pick gives to two stations, if one keeps its place.
--- Turns: what a call does to them. Stretch: the same over entries. Law: the share law. Sends: the station
--- that a Pull sends to, and the charges of open exchanges. Waits: the waiting law and the sparse law.
+-- The proofs of the laws of shares and of waiting. Picks: the quanta that a pick gives to two stations, if
+-- one keeps its place. Turns: how a call changes both. Stretch: the same over entries. Law: the share law.
+-- Sends: the station that a Pull sends to, and the charges of open exchanges. Waits: the waiting law and the
+-- sparse law.
 pub mod Picks
 pub mod Turns
 pub mod Stretch

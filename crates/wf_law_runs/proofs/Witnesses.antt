@@ -2,7 +2,10 @@
 pub mod Airtime
 pub mod Shares
 pub mod Waiting
+pub mod Debtor
 pub mod Releases
+pub mod Flows
 pub mod Places
 pub mod Rotations
 pub mod Kept
+pub mod Tries

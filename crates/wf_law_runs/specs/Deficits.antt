@@ -8,8 +8,7 @@ use Rattle.wf_frame.specs.declared.notes.Note.{Note}
 use Rattle.wf_frame.specs.declared.notes.Note.TheVariants.{Asked}
 use Rattle.wf_def_air.specs.Airtime.{longest_answer}
 use Rattle.wf_def_rotation.specs.Rotation.{has_key}
-use Rattle.wf_def_lists.specs.Bounds.{greatest_debt}
-use Rattle.wf_def_world.specs.World.{World, Exchange, station, share, rotation, is_live, opening}
+use Rattle.wf_def_world.specs.World.{World, owed, station, share, rotation, is_live, opening}
 use Rattle.wf_frame.specs.Classes.{same_class}
 use Rattle.wf_def_world.specs.CanSend.{is_ready}
 use Rattle.wf_def_world.specs.Refusals.{refusal}
@@ -30,25 +29,20 @@ longest_exchange config = max (longest_computed config) config.charge
 abbrev pub most_owed : Config → ℕ
 most_owed config = config.inflight * longest_exchange config
 
--- Returns the sum of the computed charges of a station's open exchanges in a class.
-abbrev pub owed : ℕ → Class → List Exchange → ℕ
-owed s c [] = 0
-owed s c (x ∷ xs) = (if (x.station == s) && same_class x.class c then x.charge else 0) + owed s c xs
-
 -- Returns a station's quantum in microseconds: the setting `quantum` times its weight.
 abbrev pub own_quantum : Config → World → ℕ → ℕ
 own_quantum config w s = config.quantum * (station w s).weight
 
 -- The deficit of a live station in a class, in microseconds. `exact`: it is the quantum of the join and the
 -- quanta of the visits since then, less the charged and the received airtime. `most`: it is at most one
--- quantum. `least`: it is at least 0 - (greatest_debt + most_owed). `quiet`, `floor`: without receive
--- charges since the join, it is at least 1 - most_owed, also after the computed charges of the station's
--- own open exchanges are subtracted. `ready`: a ready station is listed.
+-- quantum. `least`: it is at least 0 - (debt + most_owed), with the setting `debt`. `quiet`, `floor`:
+-- without receive charges since the join, it is at least 1 - most_owed, also after the computed charges of
+-- the station's own open exchanges are subtracted. `ready`: a ready station is listed.
 pub record IsAccounted (config : Config) (w : World) (s : ℕ) (c : Class) : Type 0 where
   pub exact : (share w s c).deficit ≡ pos (own_quantum config w s + own_quantum config w s *
       (share w s c).quanta) -ℤ pos ((share w s c).charged + (share w s c).received)
   pub most : (share w s c).deficit ≤ℤ pos (own_quantum config w s)
-  pub least : (pos 0 -ℤ pos (greatest_debt + most_owed config)) ≤ℤ (share w s c).deficit
+  pub least : (pos 0 -ℤ pos (config.debt + most_owed config)) ≤ℤ (share w s c).deficit
   pub quiet : IsQuiet w s c → (pos 1 -ℤ pos (most_owed config)) ≤ℤ
       ((share w s c).deficit -ℤ pos (owed s c w.opened))
   pub floor : IsQuiet w s c → (pos 1 -ℤ pos (most_owed config)) ≤ℤ (share w s c).deficit

@@ -6,6 +6,7 @@ use Rattle.wf_def_world.specs.Run.{Entry}
 use Rattle.wf_law_runs.specs.Windows.{WindowLaw}
 use Rattle.wf_law_runs.specs.Answers.{AnswerLaw}
 use Rattle.wf_law_runs.specs.Releases.{ReleaseLaw, OnceLaw}
+use Rattle.wf_law_runs.specs.Flows.{FlowQueueLaw, FlowReleaseLaw}
 use Rattle.wf_law_runs.specs.Delivery.{DeliveryLaw}
 use Rattle.wf_law_runs.specs.Fates.{FateLaw}
 use Rattle.wf_law_runs.specs.Kept.{KeptLaw}
@@ -20,9 +21,11 @@ use Rattle.wf_law_runs.specs.Shares.{ShareLaw}
 use Rattle.wf_law_runs.specs.Waiting.{WaitingLaw, SparseLaw}
 use Rattle.wf_law_runs.specs.Ranges.{RangeLaw}
 use Rattle.wf_law_runs.specs.Numbers.{NumberLaw}
+use Rattle.wf_law_runs.specs.InFlight.{InFlightLaw}
 use Rattle.wf_law_runs.specs.Sums.{SumLaw}
 use Rattle.wf_law_runs.specs.Sent.{SentLaw}
 use Rattle.wf_law_runs.specs.Attempts.{AttemptsLaw}
+use Rattle.wf_law_runs.specs.Tries.{TriesLaw}
 use Rattle.wf_law_runs.specs.Rotations.{RotationLaw}
 
 -- The laws of a history.
@@ -35,6 +38,10 @@ pub record Laws (config : Config) (history : List Entry) : Type 0 where
   -- No id is released twice, each acknowledged frame has reached its receiver, and no fate other than Held
   -- changes.
   pub once : OnceLaw config history
+  -- With `keep_order`, the queued frames of each flow are in one queue, and each flow is passed up in the
+  -- order in which it was put in.
+  pub flow_queues : FlowQueueLaw config history
+  pub flow_releases : FlowReleaseLaw config history
   pub delivery : DeliveryLaw config history
   pub fates : FateLaw config history
   -- A number keeps its frame, and stays acknowledged or failed.
@@ -69,10 +76,13 @@ pub record Laws (config : Config) (history : List Entry) : Type 0 where
   -- The laws that code with numbers of fixed width relies on.
   pub ranges : RangeLaw config history
   pub numbers : NumberLaw config history
+  -- The computed airtime of the open exchanges stays near its limit.
+  pub in_flight : InFlightLaw config history
   -- The sums of airtime are those of the calls since the join, and the sums and counts are bounded by the
   -- number of entries.
   pub sums : SumLaw config history
   -- What an open exchange sends.
   pub sent : SentLaw config history
-  -- How often a number is sent without being acknowledged.
+  -- How often a number is sent without being acknowledged, and how often a frame is sent in the whole run.
   pub attempts : AttemptsLaw config history
+  pub tries : TriesLaw config history

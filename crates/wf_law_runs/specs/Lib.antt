@@ -1,7 +1,9 @@
+-- Lists the modules of specs/ of wf_law_runs.
 pub mod Windows
 pub mod TwelveBits
 pub mod Answers
 pub mod Releases
+pub mod Flows
 pub mod Delivery
 pub mod Fates
 pub mod Kept
@@ -21,3 +23,5 @@ pub mod Rotations
 pub mod Finished
 pub mod Shares
 pub mod Waiting
+pub mod InFlight
+pub mod Tries

@@ -28,8 +28,8 @@ greatest_charge = max greatest_computed (greatest_of Charge)
 abbrev pub greatest_owed : ℕ
 greatest_owed = greatest_of Inflight * greatest_charge
 
--- The least deficit of a station in a class, in microseconds: below 0 by the greatest debt and the greatest
--- charge of all open exchanges of the class.
+-- The least deficit of a station in a class, in microseconds: below 0 by the greatest setting `debt` and
+-- the greatest charge of all open exchanges of the class.
 abbrev pub least_deficit : ℤ
 least_deficit = pos 0 -ℤ pos (greatest_debt + greatest_owed)
 

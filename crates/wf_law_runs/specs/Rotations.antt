@@ -12,7 +12,7 @@ use Rattle.wf_def_rotation.specs.Rotation.{has_key, in_order}
 use Rattle.wf_def_world.specs.World.{World, share, queue, quantum, rotation, tid_of, is_live}
 use Rattle.wf_def_world.specs.FlowQueues.{has_frames}
 use Rattle.wf_def_world.specs.CanSend.{is_ready}
-use Rattle.wf_def_world.specs.Refusals.{refusal, open_of_class}
+use Rattle.wf_def_world.specs.Refusals.{refusal, open_of_class, is_at_aql_total}
 use Rattle.wf_def_world.specs.Run.{Entry}
 use Rattle.wf_def_world.specs.Stretches.{world_at}
 
@@ -20,9 +20,10 @@ use Rattle.wf_def_world.specs.Stretches.{world_at}
 abbrev pub NoneReady : World → Class → Type 0
 NoneReady w c = (s : ℕ) → is_ready w c s ≡ false
 
--- The class has fewer open exchanges than the setting `inflight`.
+-- The class has fewer open exchanges than the setting `inflight`, and the airtime in flight in all classes
+-- has not reached the setting `aql_total`.
 abbrev pub MayOpen : World → Class → Type 0
-MayOpen w c = open_of_class w c < w.config.inflight
+MayOpen w c = (open_of_class w c < w.config.inflight) × (is_at_aql_total w ≡ false)
 
 -- One turn of the paper's loop over the stations of a class: the pick has the same result before and after
 -- the turn, or gives the station that wins in this turn.

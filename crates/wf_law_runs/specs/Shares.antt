@@ -1,4 +1,5 @@
--- Shares of airtime, in microseconds: a backlogged station gets as much for its weight as any other.
+-- Defines the share law: up to a constant, a backlogged station gets as much airtime for its weight, in
+-- microseconds, as any other station.
 use Rattle.std.specs.Prelude.{◌≢◌, ℕ, ◌+◌, ◌-◌, ◌*◌, ◌≤◌, ℤ, pos, ◌+ℤ◌, ◌*ℤ◌, ◌≤ℤ◌, List, [], ◌∷◌, IsTrue, take, drop}
 use Rattle.wf_frame.specs.declared.settings.Config.{Config}
 use Rattle.wf_frame.specs.declared.classes.Class.{Class}
@@ -43,15 +44,15 @@ StaysOld config h s c a b = (m : ℕ) → a ≤ m → m ≤ b → IsOld config h
 abbrev pub StaysLive : Config → List Entry → ℕ → ℕ → ℕ → Type 0
 StaysLive config h s a b = (m : ℕ) → a ≤ m → m ≤ b → IsTrue (is_live (world_at config h m) s)
 
--- What station s, which has been backlogged from a to b, grants to another station i in that time.
+-- The bounds on what another station i gets from a to b, while station s is backlogged.
 pub record IsShared (config : Config) (h : List Entry) (s i : ℕ) (c : Class) (a b : ℕ) : Type 0 where
   -- i gets at most one quantum more than s
   pub quanta : got_between config h i c a b ≤ got_between config h s c a b + 1
   -- the charges of i are at most its quanta for the count of s, and the overrun
   pub charged : charged_between config h i c a b
       ≤ quantum_then config h b i * (got_between config h s c a b + 1) + overrun config
-  -- times the other's weight, i is charged at most what s uses, and a constant: two quanta and the overrun,
-  -- less the deficit that s had at a
+  -- multiplied by the other station's weight, the charges of i are at most the airtime that s uses, plus a
+  -- constant: two quanta and the overrun, less the deficit that s had at a
   pub weighted : (pos (charged_between config h i c a b * weight_at config h b s) +ℤ
       pos (weight_at config h b i) *ℤ deficit_then config h a s c) ≤ℤ
       pos (used_between config h s c a b * weight_at config h b i +

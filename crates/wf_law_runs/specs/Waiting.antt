@@ -1,4 +1,5 @@
--- How long a station waits for its turn: nobody starves, and who comes back with airtime left is next.
+-- Defines the waiting law and the sparse law: a ready station gets its turn after a bounded airtime, and a
+-- station that returns with airtime left is next.
 use Rattle.std.specs.Prelude.{◌≡◌, ◌≢◌, ◌⊎◌, ℕ, zero, suc, ◌+◌, ◌-◌, ◌*◌, ◌/◌, ◌==◌, ◌≤◌, ℤ, pos, negsuc, ◌≤ℤ◌, Bool, false, ◌&&◌, List, [], ◌∷◌, IsTrue, take, drop, if◌then◌else◌}
 use Rattle.wf_frame.specs.declared.settings.Config.{Config}
 use Rattle.wf_frame.specs.declared.classes.Class.{Class}
@@ -42,19 +43,22 @@ sends_between config h s c a b = sends (world_at config h a) s c (take (b - a) (
 abbrev pub StaysReady : Config → List Entry → ℕ → Class → ℕ → ℕ → Type 0
 StaysReady config h s c a b = (m : ℕ) → a ≤ m → m ≤ b → IsTrue (is_ready (world_at config h m) c s)
 
--- By how much a deficit is below 1.
+-- The amount by which a deficit is below 1, or 0.
 abbrev pub below_one : ℤ → ℕ
 below_one (pos zero) = 1
 below_one (pos (suc n)) = 0
 below_one (negsuc n) = n + 2
 
--- m divided by n, and rounded up.
+-- m divided by n, rounded up.
 abbrev pub rounds_up : ℕ → ℕ → ℕ
 rounds_up m n = (m + (n - 1)) / n
 
--- What station s, which is ready from a to b and sends nothing, grants to another station i in that time.
+-- The bounds on what another station i gets from a to b, while station s is ready and sends nothing, and on
+-- the quanta of s.
 pub record IsWait (config : Config) (h : List Entry) (s i : ℕ) (c : Class) (a b : ℕ) : Type 0 where
+  -- i gets at most one quantum more than s
   pub quanta : got_between config h i c a b ≤ got_between config h s c a b + 1
+  -- the charges of i are at most its quanta for the count of s, and the overrun
   pub charged : charged_between config h i c a b
       ≤ quantum_then config h b i * (got_between config h s c a b + 1) + overrun config
   -- The quanta of s are few. They cover what its open exchanges are charged, its debt at a, and the airtime
@@ -62,6 +66,9 @@ pub record IsWait (config : Config) (h : List Entry) (s i : ℕ) (c : Class) (a 
   pub most : got_between config h s c a b ≤ rounds_up
       (most_owed config + below_one (deficit_then config h a s c) + received_between config h s c a b)
       (quantum_then config h b s)
+  -- This bound does not depend on that deficit: apart from its open exchanges, s owes at most `debt`.
+  pub debtor : got_between config h s c a b ≤ rounds_up
+      (most_owed config + config.debt + 1 + received_between config h s c a b) (quantum_then config h b s)
   -- They are fewer if s was never charged for what it sent: the deficit then covers the open exchanges.
   pub quiet : IsQuiet (world_at config h b) s c → got_between config h s c a b
       ≤ rounds_up (most_owed config) (quantum_then config h b s)

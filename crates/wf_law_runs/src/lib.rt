@@ -15,9 +15,11 @@ ghost use Rattle.wf_def_world.specs.Run.{Entry};
 ghost use Rattle.wf_law_runs.specs.Answers.{AnswerLaw};
 ghost use Rattle.wf_law_runs.specs.Attempts.{AttemptsLaw};
 ghost use Rattle.wf_law_runs.specs.Deficits.{DeficitLaw, FairnessLaw, QuietLaw};
+ghost use Rattle.wf_law_runs.specs.Flows.{FlowQueueLaw, FlowReleaseLaw};
 ghost use Rattle.wf_law_runs.specs.Delivery.{DeliveryLaw};
 ghost use Rattle.wf_law_runs.specs.Fates.{FateLaw};
 ghost use Rattle.wf_law_runs.specs.Finished.{FinishedLaw};
+ghost use Rattle.wf_law_runs.specs.InFlight.{InFlightLaw};
 ghost use Rattle.wf_law_runs.specs.Kept.{KeptLaw};
 ghost use Rattle.wf_law_runs.specs.Laws.{Laws};
 ghost use Rattle.wf_law_runs.specs.Numbers.{NumberLaw};
@@ -31,6 +33,7 @@ ghost use Rattle.wf_law_runs.specs.Shares.{ShareLaw};
 ghost use Rattle.wf_law_runs.specs.Sums.{SumLaw};
 ghost use Rattle.wf_law_runs.specs.Rotations.{RotationLaw};
 ghost use Rattle.wf_law_runs.specs.Tallies.{TallyLaw};
+ghost use Rattle.wf_law_runs.specs.Tries.{TriesLaw};
 ghost use Rattle.wf_law_runs.specs.TwelveBits.{TwelveBitLaw};
 ghost use Rattle.wf_law_runs.specs.Waiting.{SparseLaw, WaitingLaw};
 ghost use Rattle.wf_law_runs.specs.Windows.{WindowLaw};
@@ -58,6 +61,17 @@ pub fn release_law()
 /// No id is released twice in a run (specs/Releases).
 pub fn once_law()
     ensures { (config : Config) → (history : List Entry) → OnceLaw config history }
+{}
+
+/// With `keep_order`, all queued frames of a flow of a TID are in one queue (specs/Flows).
+pub fn flow_queue_law()
+    ensures { (config : Config) → (history : List Entry) → IsInRange config → FlowQueueLaw config history }
+{}
+
+/// With `keep_order`, the ids of each flow that are released in a run increase strictly: each flow of each
+/// station is passed up in the order in which it was put in (specs/Flows).
+pub fn flow_release_law()
+    ensures { (config : Config) → (history : List Entry) → IsInRange config → FlowReleaseLaw config history }
 {}
 
 /// Each acknowledged frame was held until a Done of an exchange that sent it ended as heard. By then it had
@@ -175,10 +189,10 @@ pub fn queue_deficit_law()
     ensures { (config : Config) → (history : List Entry) → IsInRange config → QueueDeficitLaw config history }
 {}
 
-/// After every entry, the computed charge of an open exchange is 1 to 5456 microseconds: the greatest time
-/// of data, 5400, SIFS and the longest BlockAck. A class has at most eight open exchanges. The deficits of
-/// live stations are between bounds that are far within 32 bits. If no frame is longer than the greatest
-/// body, the deficits of listed queues are too (specs/Numbers).
+/// After every entry, the computed charge of an open exchange is 1 to 5456 microseconds: the greatest data
+/// time, 5400, SIFS and the longest BlockAck. A class has at most eight open exchanges. The deficits of live
+/// stations are between bounds that are far within 32 bits. If no frame is longer than the greatest body, the
+/// deficits of listed queues are too (specs/Numbers).
 pub fn number_law()
     ensures { (config : Config) → (history : List Entry) → IsInRange config → NumberLaw config history }
 {}
@@ -204,6 +218,20 @@ pub fn sent_law()
 /// the setting `attempts`, and a failed number has exactly that many (specs/Attempts).
 pub fn attempts_law()
     ensures { (config : Config) → (history : List Entry) → IsInRange config → AttemptsLaw config history }
+{}
+
+/// In every run, a frame is sent at most as often as the setting `attempts`, all exchanges counted. A number
+/// that waits or is on the air counts how often its frame was sent. All frames together are sent at most
+/// `attempts` times the number of accepted frames; and there are at most as many exchanges of data, if no
+/// frame is longer than the greatest body (specs/Tries).
+pub fn tries_law()
+    ensures { (config : Config) → (history : List Entry) → IsInRange config → TriesLaw config history }
+{}
+
+/// If the setting `aql_total` is not 0, the computed airtime of all open exchanges exceeds it by less than
+/// one exchange, after every entry (specs/InFlight).
+pub fn in_flight_law()
+    ensures { (config : Config) → (history : List Entry) → IsInRange config → InFlightLaw config history }
 {}
 
 /// All laws of a history (specs/Laws).

@@ -1,3 +1,4 @@
+-- Lists the modules of proofs/ of wf_octets. Other crates may use those that are `pub`.
 mod Distances
 pub mod Sets
 pub mod Words

@@ -1,3 +1,4 @@
+-- Lists the modules of specs/ of wf_octets.
 pub mod Distance
 pub mod BitsInverse
 pub mod Offsets

@@ -1,5 +1,5 @@
--- A frame that is given to a path, and a frame that is reaped: what the call leaves, and which frame comes
--- back.
+-- Proves the clauses of an enqueue and of a reap from those of the half: the path after the call, its counts,
+-- and the frame that is returned.
 use Rattle.std.proofs.Common.{◌≡◌, refl, ap, sym, ◌∙◌, subst, ℕ, true, List, Option, Some, None}
 use Rattle.std.specs.Prelude.{IfSome, IfNone}
 use Rattle.wf_frame.specs.Answers.{reply_with}

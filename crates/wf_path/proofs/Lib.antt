@@ -1,3 +1,4 @@
+-- Lists the modules of proofs/ of wf_path. Other crates may use those that are `pub`.
 mod CallAnswers
 mod Counts
 mod Dones

@@ -1,5 +1,5 @@
--- Proves that an open exchange of the half agrees with the world's: its station and TID are in range, its answer
--- and its summary agree.
+-- Proves that an open exchange of the half agrees with the world's: its station and TID are in range, and its
+-- answer and its summary agree.
 use Rattle.std.proofs.Common.{◌≡◌, refl, ap, sym, ◌∙◌, subst, arith, ℕ, ◌<◌, ◌==◌, Bool, true, List, Some, None, option_map}
 use Rattle.std.specs.Prelude.{find}
 use Rattle.std.specs.Option.{option_map_or}

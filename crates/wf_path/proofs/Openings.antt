@@ -12,7 +12,7 @@ use Rattle.wf_send_parts.specs.Members.{member, charged_in, received_in}
 use Rattle.wf_send_half_model.specs.Standing.{StandsFor, AreBoth, IsMember}
 use Rattle.wf_path.specs.Paths.{HasCountsBelow}
 
--- no member, no count
+-- a station that is not live has no airtimes
 none_large : (P : Member → Type 0) (o : Option Member) → AreBoth IsMember o None → IfSome o P
 none_large P None both = tt
 none_large P (Some m) both = absurd both

@@ -15,11 +15,11 @@ use Rattle.wf_frame.specs.declared.notes.ReplyNote.{ReplyNote}
 use Rattle.wf_frame.specs.declared.notes.ReplyNote.TheVariants.{Send, Refused}
 use Rattle.wf_frame.specs.declared.settings.Config.{Config}
 use Rattle.wf_def_world.specs.World.{World}
-use Rattle.wf_def_world.specs.Refusals.{refusal, first_refusal, open_of_class}
+use Rattle.wf_def_world.specs.Refusals.{refusal, first_refusal, open_of_class, is_at_aql_total}
 use Rattle.wf_def_world.specs.Step.{step}
-use Rattle.wf_send_half_model.specs.Half.{TransmitValue}
+use Rattle.wf_send_half_model.specs.Half.{TransmitValue, is_ahead_of}
 use Rattle.wf_send_half_model.specs.Standing.{StandsFor, Meets}
-use Rattle.wf_send_half_model.proofs.Readers.{class_count_same}
+use Rattle.wf_send_half_model.proofs.Readers.{class_count_same, ahead_same}
 use Rattle.wf_path.specs.Addresses.{Addresses}
 use Rattle.wf_send_half.specs.Replies.{bodies_sent}
 use Rattle.wf_path.specs.Jobs.{changes_nothing}
@@ -64,40 +64,47 @@ pull_met w bodies c y b pairs ids m =
       reply = said;
     }
 
--- ---- a refusal that is not Full
+-- ---- a refusal that is neither Full nor Ahead
 
-only_idle : (a b : Bool) (x r : Refusal) → a ≡ false → first_refusal ((a, x) ∷ (b, Idle) ∷ []) ≡ Some r →
-    r ≡ Idle
+only_idle : (a b d : Bool) (x y r : Refusal) → a ≡ false → b ≡ false →
+    first_refusal ((a, x) ∷ (b, y) ∷ (d, Idle) ∷ []) ≡ Some r → r ≡ Idle
 unfolding first_refusal
-only_idle true b x r off is = absurd (cc off)
-only_idle false true x r off is = cc is
-only_idle false false x r off is = absurd (cc is)
+only_idle true b d x y r off behind is = absurd (cc off)
+only_idle false true d x y r off behind is = absurd (cc behind)
+only_idle false false true x y r off behind is = cc is
+only_idle false false false x y r off behind is = absurd (cc is)
 
-pub not_full : (w : World) (c : Class) → nat_le w.config.inflight (open_of_class w c) ≡ false →
-    changes_nothing (step w (Asked (Pull c))).reply ≡ false
-not_full w c off = from (says w c)
+pub may_open : (w : World) (c : Class) → nat_le w.config.inflight (open_of_class w c) ≡ false →
+    is_at_aql_total w ≡ false → changes_nothing (step w (Asked (Pull c))).reply ≡ false
+may_open w c off behind = from (says w c)
   where
     from : Says w c (step w (Asked (Pull c))).reply → changes_nothing (step w (Asked (Pull c))).reply ≡ false
     from (Sends sent) = ap changes_nothing sent.is
-    from (Refuses r h how) = ap changes_nothing (how ∙ ap Refused (only_idle _ _ _ r off h))
+    from (Refuses r h how) = ap changes_nothing (how ∙ ap Refused (only_idle _ _ _ _ _ r off behind h))
 
--- a pull whose answer says that it changed nothing was refused as Full
-pub full_or_same : (v y : TransmitValue) (w : World) (bodies after : ℕ → FrameValue) (c : Class) (b : Brief)
+-- a pull whose answer says that it changed nothing was refused as Full or Ahead
+pub closed_or_same : (v y : TransmitValue) (w : World) (bodies after : ℕ → FrameValue) (c : Class) (b : Brief)
     (pairs : List (ℕ × ℕ)) (ids : List ℕ) → StandsFor v w bodies →
     Meets w after (Asked (Pull c)) y (reply_with b pairs ids) →
     (nat_le v.config.inflight (count_by (λ x. same_class x.class c) v.opened) ≡ true → y ≡ v) →
+    (nat_le v.config.inflight (count_by (λ x. same_class x.class c) v.opened) ≡ false →
+    is_ahead_of v ≡ true → y ≡ v) →
     changes_nothing (reply_with b pairs ids) ≡ true → y ≡ v
-full_or_same v y w bodies after c b pairs ids h m full is =
-    from (nat_le v.config.inflight (count_by (λ x. same_class x.class c) v.opened)) refl
+closed_or_same v y w bodies after c b pairs ids h m full ahead is =
+    from (nat_le v.config.inflight (count_by (λ x. same_class x.class c) v.opened)) refl (is_ahead_of v) refl
   where
-    from : (a : Bool) → nat_le v.config.inflight (count_by (λ x. same_class x.class c) v.opened) ≡ a → y ≡ v
-    from true e = full e
-    from false e =
+    from : (a : Bool) → nat_le v.config.inflight (count_by (λ x. same_class x.class c) v.opened) ≡ a →
+        (d : Bool) → is_ahead_of v ≡ d → y ≡ v
+    from true e d k = full e
+    from false e true k = ahead e k
+    from false e false k =
         let same : nat_le w.config.inflight (open_of_class w c) ≡ false =
         ap₂ (λ (z : Config) (n : ℕ). nat_le z.inflight n) (sym h.parts.others.config)
         (sym (class_count_same v w bodies c h.parts)) ∙ e in
-        absurd (let k : false ≡ true = sym (not_full w c same) ∙ ap changes_nothing (sym m.reply) ∙ is in
-        cc k)
+        let behind : is_at_aql_total w ≡ false = sym (ahead_same v w bodies h.parts) ∙ k in
+        absurd (let z : false ≡ true = sym (may_open w c same behind) ∙ ap changes_nothing (sym m.reply) ∙
+        is in
+        cc z)
 
 -- ---- a whole pull
 
@@ -115,13 +122,15 @@ module _ (x : TransmitValue) (h : IsPath x) (c : Class) (b : Brief) (pairs : Lis
   pub pull_answered : (a : Addresses) (p : PathValue) →
       ◌≡◌ {A = PathValue} (record { half = x; addresses = a }) p →
       (nat_le x.config.inflight (count_by (λ y. same_class y.class c) x.opened) ≡ true → u ≡ x) →
+      (nat_le x.config.inflight (count_by (λ y. same_class y.class c) x.opened) ≡ false →
+      is_ahead_of x ≡ true → u ≡ x) →
       IsAnswered p (Pull c) (record { half = u; addresses = a }) b pairs
-  pull_answered a p same full = record {
+  pull_answered a p same full ahead = record {
     meets = λ w bodies ids st. pull_met w bodies c u b pairs ids
         (meets w bodies (subst (λ (z : TransmitValue). StandsFor z w bodies) (sym (half_is same)) st));
     refused = λ ids is. ap (λ (z : TransmitValue). with_half a z)
-        (full_or_same x u h.world h.bodies _ c b pairs ids h.stands
-        (pull_met h.world h.bodies c u b pairs ids met) full is) ∙ same;
+        (closed_or_same x u h.world h.bodies _ c b pairs ids h.stands
+        (pull_met h.world h.bodies c u b pairs ids met) full ahead is) ∙ same;
     addresses = addresses_are same;
     path = unheard;
     rises = subst (λ (z : TransmitValue). RiseLittle z u) (half_is same) (rises_by x u h

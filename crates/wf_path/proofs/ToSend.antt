@@ -9,7 +9,7 @@ use Rattle.wf_send_half_model.specs.Standing.{StandsFor}
 use Rattle.wf_send_half_model.proofs.Readers.{live_same}
 use Rattle.wf_path.specs.Paths.{IsPath}
 
--- a live station's number is below the setting
+-- the number of a station that is live in the world is below the setting
 live_low : (v : TransmitValue) (w : World) (bodies : ℕ → FrameValue) → StandsFor v w bodies → (s : ℕ) →
     is_live w s ≡ true → s < v.config.stations
 live_low v w bodies h s live = omega (

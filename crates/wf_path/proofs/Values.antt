@@ -1,4 +1,4 @@
--- The half and the addresses of a path's value, by its fields.
+-- Proves that the value of a path has the half and the addresses that its fields have.
 use Rattle.std.proofs.Common.{◌≡◌, ap}
 use Rattle.wf_send_half_model.specs.Half.{TransmitValue}
 use Rattle.wf_path.specs.Addresses.{Addresses}

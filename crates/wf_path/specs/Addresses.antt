@@ -1,4 +1,4 @@
--- The addresses of a path: the access point's, and one for each station number.
+-- Defines the addresses of a path: the access point's, and one for each station number.
 use Rattle.std.specs.Prelude.{ℕ, ◌%◌, ◌==◌, nat_le, nat_lt, Bool, List, map, slice_index, slice_index_or, slice_set, Option, Some, None, if◌then◌else◌}
 use Rattle.std.specs.List.{range_with_len}
 use Rattle.wf_octets.specs.Addresses.{base as made_up_base, address_of_station}

@@ -1,5 +1,5 @@
--- The checks of the octets of a BlockAck to an open exchange, in their order, and the content of the BlockAck
--- (IEEE 802.11-2012, 8.3.1.9).
+-- Defines the checks of the octets of a BlockAck to an open exchange, in their order, and the content of the
+-- BlockAck (IEEE 802.11-2012, 8.3.1.9).
 use Rattle.std.specs.Prelude.{ℕ, ◌/◌, ◌==◌, Bool, ◌&&◌, List, drop, slice_index, Option, Some, None, if◌then◌else◌}
 use Rattle.std.specs.Option.{option_map, option_map_or, option_or}
 use Rattle.std.specs.Str.{bytes_eq}
@@ -42,16 +42,16 @@ block_ack_in octets = (number_at octets start_at / 16, offsets_in (drop bitmap_a
 
 -- ---- the checks: each gives its fault, or none
 
--- a BlockAck of the session's width: of 256 numbers if the session is wide, else of 64
+-- the check that the octets are a BlockAck of the session's width: 256 numbers if it is wide, else 64
 abbrev pub layout_fault : Bool → List ℕ → Option DoneFault
 layout_fault wide octets = option_map Block (first_block_fault (block_ack_octets wide) answer wide octets)
 
--- to the access point, from station s
+-- the check that the BlockAck is to the access point and from station s
 abbrev pub address_fault : Addresses → ℕ → List ℕ → Option DoneFault
 address_fault a s octets = if bytes_eq (recipient_in octets) a.base
     && bytes_eq (transmitter_in octets) (address_in a s) then None else Some NotMine
 
--- of TID t
+-- the check that the BlockAck is for TID t
 abbrev pub tid_fault : ℕ → List ℕ → Option DoneFault
 tid_fault t octets = if tid_in octets == t then None else Some (WrongTid (tid_in octets))
 

@@ -1,4 +1,4 @@
--- The end of an exchange of a path.
+-- Defines how a path ends an exchange.
 use Rattle.std.specs.Prelude.{◌≡◌, ◌==◌, ℕ, true, false, List, find, Option, None, Some, is_some, IfNone, IfSome, if◌then◌else◌}
 use Rattle.wf_frame.specs.Answers.{reply_with}
 use Rattle.wf_frame.specs.Frames.{FrameValue}
@@ -23,11 +23,12 @@ use Rattle.wf_path.specs.Paths.{PathValue, IsPath, RiseLittle}
 use Rattle.wf_frame.specs.Settings.{is_bad_air}
 use Rattle.wf_frame.specs.declared.notes.Refusal.{Refusal}
 
--- The end of exchange e makes q of the path p and answers with a brief. `heard` is the start and the offsets
--- of a BlockAck, if one was heard; `air` is the airtime, if it was given.
+-- The end of exchange e makes q of the path p and answers with a brief. `heard` is the start and the
+-- offsets of a BlockAck, if one was heard; `air` is the airtime, if it was given.
 --
 --   lost         if nothing was heard, the end is the machine's Done that was not heard
---   shown        if the bits agree with the receiver's answer about each of its numbers, the end is the Done that was heard
+--   shown        if the bits agree with the receiver's answer about each of its numbers, the end is the Done
+--                that was heard
 --   none_shown   if they show none of an aggregate's numbers, the end is the Done that was not heard
 --   driven       in an unheard world the end is the Done after exactly the calls that the BlockAck implies,
 --                and it leaves an unheard world

@@ -1,4 +1,4 @@
--- A data transmission of an open exchange, in the half and in its world.
+-- Defines a data transmission of an open exchange, in the half and in its world.
 use Rattle.std.specs.Prelude.{◌≡◌, ℕ, Some, slice_get}
 use Rattle.wf_frame.specs.Frames.{FrameValue}
 use Rattle.wf_send_parts.specs.declared.exchanges.opened.Open.{Open}
@@ -18,7 +18,7 @@ pub record IsInFlight (v : TransmitValue) (o : Open) (index : ℕ) (w : World) (
   pub same : o ≡ open_of x
   pub among : slice_get (mpdus_of x.content) index ≡ Some m
 
--- in some world
+-- in some world, the transmission of o with this index flies and carries the number seq modulo 4096
 pub record Flies (v : TransmitValue) (o : Open) (index seq : ℕ) : Type 0 where
   pub world : World
   pub bodies : ℕ → FrameValue

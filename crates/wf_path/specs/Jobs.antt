@@ -1,4 +1,4 @@
--- The calls of a path, and the frames that they bring and return.
+-- Defines the calls of a path, and the frames that they bring and return.
 use Rattle.std.specs.Prelude.{ℕ, ◌+◌, ◌==◌, Bool, true, false, if◌then◌else◌, List, [], ◌∷◌, Option, Some, None}
 use Rattle.wf_frame.specs.Frames.{FrameValue}
 use Rattle.wf_frame.specs.declared.notes.Ask.{Ask}

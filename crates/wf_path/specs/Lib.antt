@@ -1,3 +1,4 @@
+-- Lists the modules of specs/ of wf_path.
 pub mod Addresses
 pub mod Answers
 pub mod Driver

@@ -1,4 +1,4 @@
--- The value of a path, and the conditions and effects of its calls.
+-- Defines the value of a path, and the conditions and effects of its calls.
 use Rattle.std.specs.Prelude.{◌≡◌, ℕ, ◌+◌, ◌<◌, ◌^◌, true, List, IfSome}
 use Rattle.wf_frame.specs.declared.classes.Class.{Class}
 use Rattle.wf_frame.specs.Answers.{reply_with}
@@ -56,6 +56,6 @@ pub record IsAnswered (p : PathValue) (ask : Ask) (q : PathValue) (brief : Brief
   pub path : IsPath q.half
   pub rises : RiseLittle p.half q.half
 
--- the same if the answer has no lists
+-- the same for an answer without lists: it holds with any list of pairs
 abbrev pub IsAnsweredBriefly : PathValue → Ask → PathValue → Brief → Type 0
 IsAnsweredBriefly p ask q brief = (pairs : List (ℕ × ℕ)) → IsAnswered p ask q brief pairs

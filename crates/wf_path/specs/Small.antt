@@ -1,4 +1,4 @@
--- The airtimes of a station that must be small.
+-- Defines when the airtimes of a station are small.
 use Rattle.std.specs.Prelude.{ℕ, ◌<◌, ◌^◌, IfSome}
 use Rattle.wf_frame.specs.declared.classes.Class.{Class}
 use Rattle.wf_send_parts.specs.Members.{member, charged_in, received_in}

@@ -1,4 +1,4 @@
--- The stations of a half that sleep and have traffic, and their association identifiers.
+-- Defines the stations of a half that sleep and have traffic, and their association identifiers.
 use Rattle.std.specs.Prelude.{◌≡◌, ℕ, ◌+◌, ◌<◌, Bool, false, ◌&&◌, List, length, is_some, slice_index_or}
 use Rattle.wf_send_parts.specs.Members.{member}
 use Rattle.wf_send_parts.specs.Sleepers.{sleeper}

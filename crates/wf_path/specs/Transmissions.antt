@@ -1,4 +1,4 @@
--- The transmissions of an open exchange, as octets (IEEE 802.11-2012, 8.2.4, 8.3.1.8 and 8.3.2.1).
+-- Defines the transmissions of an open exchange, as octets (IEEE 802.11-2012, 8.2.4, 8.3.1.8 and 8.3.2.1).
 --
 -- The world `w` has the exchange, `bodies` has the frame of each id as it was accepted, and `a` has the
 -- addresses.

@@ -1,4 +1,4 @@
--- The checks before a transmission is written, in their order.
+-- Defines the checks before a transmission is written, in their order.
 use Rattle.std.specs.Prelude.{ℕ, nat_lt, List, length, Option, Some, None, if◌then◌else◌}
 use Rattle.std.specs.Option.{option_map_or}
 use Rattle.wf_frame.specs.Frames.{FrameValue}

@@ -25,7 +25,7 @@ impl Path {
     /// and the bits of the BlockAck that was heard (IEEE 802.11-2012, 8.3.1.9), if one was; the first 64 bits
     /// count, or all 256 if the TID's window is above 64. Each number that it shows is acknowledged; each
     /// other number waits again, or fails if it was sent `attempts` times. A request is heard if anything
-    /// was. If `air` is given, the station is charged so many microseconds instead of the computed charge.
+    /// was. If `air` is given, the station is charged `air` microseconds instead of the computed charge.
     /// Refused as NoExchange if the exchange is not open, then as BadAir if `air` is 0 or above the setting
     /// `charge`.
     pub fn done_bits(

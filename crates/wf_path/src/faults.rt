@@ -1,4 +1,4 @@
-//! The faults: of a new path, of an address, of a transmission to write, and of a BlockAck that was read.
+//! The faults of a new path, of an address, of a transmission to write, and of a BlockAck that was read.
 
 ghost use Rattle.std.specs.Prelude.{◌≡◌};
 ghost use Rattle.wf_path.specs.declared.faults.NewFault.TheVariants.{NoMemory};

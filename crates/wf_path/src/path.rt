@@ -22,7 +22,7 @@ use wf_send_half::Transmit;
 use wf_send_parts::stations::Tally;
 
 /// The transmit path. A contract sees its transmit half, and says what a call makes of each world of a run
-/// that the half stands for (`wf_send_half_model`); there is always one. A contract also sees the addresses,
+/// that the half represents (`wf_send_half_model`); there is always one. A contract also sees the addresses,
 /// which only `set_base` and `set_address` change. Only `new` allocates memory.
 pub struct Path {
     pub(crate) half: Transmit,
@@ -71,7 +71,7 @@ impl Path {
         Ok(Path { half, addresses })
     }
 
-    /// Returns the settings. By clause `path` there is a world that the path stands for.
+    /// Returns the settings. By clause `path` there is a world that the path represents.
     pub fn config(&self) -> Config
         ensures value { result ≡ self.now.half.config }
         ensures world { (w : World) (bodies : ℕ → FrameValue) → StandsFor self.now.half w bodies →

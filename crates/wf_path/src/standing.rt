@@ -1,4 +1,4 @@
-//! What a driver may ask before a pull: whether there is something to send, and how much.
+//! The readers for a driver before a pull: whether there is something to send, and how much.
 
 ghost use Rattle.std.specs.Prelude.{◌≡◌, ◌<◌, ℕ, length, is_none};
 ghost use Rattle.wf_frame.specs.Frames.{FrameValue};
@@ -18,7 +18,7 @@ use wf_rotation::Side;
 
 impl Path {
     /// Returns whether a pull of a class would send now: exactly if it would be refused neither as Full nor
-    /// as Idle.
+    /// as Ahead nor as Idle.
     pub fn can_pull(&self, class: Class) -> bool
         ensures { (w : World) (bodies : ℕ → FrameValue) → StandsFor self.now.half w bodies →
             result ≡ is_none (refusal w (Asked (Pull class))) }

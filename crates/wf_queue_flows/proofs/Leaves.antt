@@ -3,7 +3,7 @@
 use Rattle.std.proofs.Common.{◌≡◌, ℕ, ◌+◌, ◌*◌, ◌-◌, ◌<◌, ◌≤◌, true, false, not, List, ◌^◌, [], ◌∷◌, ◌++◌, length, get_or, set, drop, map, refl, sym, ap, ◌∙◌, subst, inl, inr, arith, length-drop, length-set, eq-eqb}
 use Rattle.std.specs.Prelude.{◌==◌, ◌%◌}
 use Rattle.std.proofs.lemmas.List.{get_or-map, get_or_past, length-map, get_or_read, get_or_default, get_or-set_same, get_or-set_other, nil_from_length}
-use Rattle.std.proofs.lemmas.Bool.{cases_eq, cases_lt, both_ways, ne_eqb, cond-true, cond-false}
+use Rattle.std.proofs.lemmas.Bool.{cases_eq, cases_lt, both_ways, ne_eqb}
 use Rattle.wf_frame.specs.Frames.{FrameValue}
 use Rattle.wf_def_rotation.specs.Rotation.{Rotation, no_keys, in_order, without_key}
 use Rattle.wf_def_lists.specs.Lists.{on}
@@ -13,7 +13,7 @@ use Rattle.wf_rotation.specs.Rotas.{Rotas, IsUnlisted}
 use Rattle.wf_law_rules.proofs.Lemmas.Counts.{on_order-none}
 use Rattle.wf_law_rules.proofs.Lemmas.Counts.{on-nil, on-append}
 use Rattle.wf_queue_flows.specs.Backlog.{BacklogValue, frames_at, held_in_backlog, with_frames, after_head_drop, after_flush}
-use Rattle.wf_queue_flows.specs.Flows.{FlowsValue, tids, queues, is_listed, is_listed_by_another, queue_for}
+use Rattle.wf_queue_flows.specs.Flows.{FlowsValue, tids, queues, is_listed, is_listed_by_another}
 use Rattle.wf_queue_flows.specs.Kept.{depth, AreFlowsKept, CanList}
 use Rattle.wf_queue_flows.proofs.Flags.{changed_at}
 use Rattle.wf_queue_flows.proofs.Picks.{on-filter, on-filter_le, on-filter_out}
@@ -223,26 +223,10 @@ module _ (v now : FlowsValue) (counts : List ℕ) (same : v ≡ now) (ok : AreFl
             (ap (λ (b : BacklogValue). b.room) flush) (low_place i low_i) low_q stands_i
             (omega (arith, purge_fits, count, read i x low_i read_x))
 
-  -- ---- queue_for: the code reads `flows` from the fields
+  -- ---- the queue for a frame: the code reads `flows` from the fields
 
   flows_same : v.flows ≡ now.flows
   flows_same = ap (λ (w : FlowsValue). w.flows) same
-
-  pub overflow_by : (i flow : ℕ) → is_listed_by_another now i (flow % v.flows) ≡ true →
-      v.flows + i ≡ queue_for now i flow
-  unfolding queue_for
-  overflow_by i flow is = subst (λ (n : ℕ). is_listed_by_another now i (flow % n) ≡ true →
-      n + i ≡ queue_for now i flow) (sym flows_same)
-      (λ e. sym (cond-true (is_listed_by_another now i (flow % now.flows)) (now.flows + i)
-      (flow % now.flows) e)) is
-
-  pub shared_by : (i flow : ℕ) → is_listed_by_another now i (flow % v.flows) ≡ false →
-      flow % v.flows ≡ queue_for now i flow
-  unfolding queue_for
-  shared_by i flow is = subst (λ (n : ℕ). is_listed_by_another now i (flow % n) ≡ false →
-      flow % n ≡ queue_for now i flow) (sym flows_same)
-      (λ e. sym (cond-false (is_listed_by_another now i (flow % now.flows)) (now.flows + i)
-      (flow % now.flows) e)) is
 
   pub can_overflow : (i q : ℕ) → q ≡ v.flows + i → CanList now i q
   can_overflow i q e = record {

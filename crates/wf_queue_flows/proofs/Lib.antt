@@ -1,3 +1,4 @@
+-- Lists the modules of proofs/ of wf_queue_flows. Other crates may use those that are `pub`.
 mod Lanes
 mod CodelBegins
 pub mod Flags
@@ -8,6 +9,7 @@ mod Leaves
 mod Listing
 mod LongestLemmas
 mod Moves
+mod Overs
 pub mod Owners
 mod Paid
 mod Picking
@@ -16,5 +18,6 @@ mod Purges
 mod Puts
 mod Settings
 mod Taking
+mod Turning
 pub mod Waiting
 mod Whole

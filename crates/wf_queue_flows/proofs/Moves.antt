@@ -15,9 +15,9 @@ use Rattle.wf_rotation.specs.declared.side.Side.TheVariants.{New, Old}
 use Rattle.wf_rotation.specs.Lists.{lists_at, on_at, has_on, side_of}
 use Rattle.wf_rotation.specs.Rotas.{Rotas, deficit_at, quantum_at, IsUnlisted}
 use Rattle.wf_law_rules.proofs.Lemmas.Counts.{on_order-none, on-append}
-use Rattle.wf_queue_flows.specs.Backlog.{BacklogValue, frames_at, held_in_backlog, with_frames, drops_at, given_at, backlog_after_take}
+use Rattle.wf_queue_flows.specs.Backlog.{BacklogValue, frames_at, held_in_backlog, with_frames, backlog_when_listed, drops_at, given_at, backlog_after_take}
 use Rattle.wf_queue_flows.specs.Flows.{FlowsValue, tids, queues, is_listed, is_listed_by_another, with_listed_queue, frames_of_tid, frames_waiting}
-use Rattle.wf_queue_flows.specs.Kept.{AreFlowsKept, CanList}
+use Rattle.wf_queue_flows.specs.Kept.{AreListed, AreFlowsKept, CanList}
 use Rattle.wf_queue_flows.proofs.Owners.{listed_elsewhere, listed_nowhere_else, on-listed, listed-on}
 use Rattle.wf_queue_flows.proofs.Keeps.{kept_frames, kept_deficit, kept_fresh, depth_counted, count_few}
 use Rattle.wf_queue_flows.proofs.Waiting.{waiting-set}
@@ -156,24 +156,54 @@ module _ (v now : FlowsValue) (counts : List ℕ) (same : v ≡ now) (ok : AreFl
     deficits = set v.rotas.deficits q d;
   }
 
-  pub list_keeps : (i q : ℕ) (after : Rotas) → i < tids now → q < queues now → CanList now i q →
-      IsUnlisted v.rotas.lists q → after ≡ fresh i q (pos (quantum_at v.rotas.quanta q)) →
-      AreFlowsKept (record v { rotas = after }) counts
-  list_keeps i q after low_i low_q can none is =
+  -- only the frames and the room of the backlog matter
+  same_frames : (u : FlowsValue) (b : BacklogValue) → b.queues ≡ u.backlog.queues →
+      b.room ≡ u.backlog.room → AreFlowsKept u counts → AreFlowsKept (record u { backlog = b }) counts
+  same_frames u b frames room k = record {
+    sized = record {
+      lists = k.sized.lists;
+      deficits = k.sized.deficits;
+      queues = ap (λ (all : List (List FrameValue)). length all) frames ∙ k.sized.queues;
+      tids = k.sized.tids;
+      some_limit = k.sized.some_limit;
+      some_flows = k.sized.some_flows;
+      few_flows = k.sized.few_flows;
+      few_stations = k.sized.few_stations;
+      small_room = subst (λ (n : ℕ). n ≤ 131072) (sym room) k.sized.small_room;
+      positive = k.sized.positive;
+      quanta = k.sized.quanta;
+      low = k.sized.low;
+    };
+    listed = subst (λ (all : List (List FrameValue)). AreListed u.flows (u.flows + 8 * u.stations)
+        u.rotas.lists all counts) (sym frames) k.listed;
+  }
+
+  pub list_keeps : (i q : ℕ) (after : Rotas) (b : BacklogValue) → i < tids now → q < queues now →
+      CanList now i q → IsUnlisted v.rotas.lists q →
+      after ≡ fresh i q (pos (quantum_at v.rotas.quanta q)) → b.queues ≡ v.backlog.queues →
+      b.room ≡ v.backlog.room → AreFlowsKept (record v { backlog = b; rotas = after }) counts
+  list_keeps i q after b low_i low_q can none is frames room =
       let own : v.flows ≤ q → q ≡ v.flows + i = subst (λ (w : FlowsValue). w.flows ≤ q → q ≡ w.flows + i)
       (sym same) can.overflow in
-      kept_fresh v counts ok after i q (pos (quantum_at v.rotas.quanta q)) is (omega (arith, ints))
-      (low_tid i low_i) (low_queue q low_q) (unlisted_off q none) own
+      same_frames (record v { rotas = after }) b frames room
+      (kept_fresh v counts ok after i q (pos (quantum_at v.rotas.quanta q)) is (omega (arith, ints))
+      (low_tid i low_i) (low_queue q low_q) (unlisted_off q none) own)
 
-  pub list_is : (i q : ℕ) (after : Rotas) → q < queues now → IsUnlisted v.rotas.lists q →
-      after ≡ fresh i q (pos (quantum_at v.rotas.quanta q)) →
-      record v { rotas = after } ≡ with_listed_queue now i q
+  pub list_is : (i q : ℕ) (after : Rotas) (b : BacklogValue) → q < queues now →
+      IsUnlisted v.rotas.lists q → after ≡ fresh i q (pos (quantum_at v.rotas.quanta q)) →
+      b ≡ backlog_when_listed v.codel_reset v.backlog q →
+      record v { backlog = b; rotas = after } ≡ with_listed_queue now i q
   unfolding with_listed_queue
-  list_is i q after low_q none is =
-      ap (λ (r : Rotas). let w : FlowsValue = record v { rotas = r } in w)
+  list_is i q after b low_q none is started =
+      ap (λ (x : BacklogValue). let w : FlowsValue = record v { backlog = x; rotas = after } in w) started
+      ∙ ap (λ (r : Rotas). let w : FlowsValue = record v { backlog = calm; rotas = r } in w)
       (is ∙ ap (λ (n : ℕ). fresh i q (pos n)) (ok.sized.quanta q (low_queue q low_q)))
-      ∙ sym (cond-false (is_listed v i q) v (record v { rotas = fresh i q (pos v.flow_quantum) }) (none i))
+      ∙ sym (cond-false (is_listed v i q) v
+      (record v { backlog = calm; rotas = fresh i q (pos v.flow_quantum) }) (none i))
       ∙ ap (λ (w : FlowsValue). with_listed_queue w i q) same
+    where
+      calm : BacklogValue
+      calm = backlog_when_listed v.codel_reset v.backlog q
 
   pub list_stands : (i q : ℕ) (d : ℤ) (after : Rotas) → i < tids now → after ≡ fresh i q d →
       has_key (lists_at after.lists i) q ≡ true

@@ -1,6 +1,6 @@
 -- The parts of each call compose to the definition of the call.
 use Rattle.std.proofs.Common.{◌≡◌, ℕ, ◌<◌, true, false, List, Option, Some, None, length, set, refl, sym, ap, ◌∙◌, subst, inl, inr, arith}
-use Rattle.std.specs.Prelude.{pos, ◌-ℤ◌}
+use Rattle.std.specs.Prelude.{◌==◌, pos, ◌-ℤ◌}
 use Rattle.std.proofs.lemmas.Bool.{cases_Bool, cond-true, cond-false}
 use Rattle.wf_frame.specs.Frames.{FrameValue}
 use Rattle.wf_def_codel.specs.Codel.{Params}
@@ -25,12 +25,13 @@ module _ (v now : FlowsValue) (same : v ≡ now) where
   })
 
 pub put_parts : (now a b c : FlowsValue) (i q : ℕ) (f : FrameValue) → a ≡ after_limit now →
-    q ≡ queue_for a i f.flow → b ≡ with_listed_queue a i q → c ≡ with_appended b q f → c ≡ after_put now i f
+    q ≡ queue_for (after_limit now) i f.flow → b ≡ with_listed_queue a i q → c ≡ with_appended b q f → c
+    ≡ after_put now i f
 unfolding after_put
 put_parts now a b c i q f limited chosen listed pushed =
     pushed ∙ ap (λ (w : FlowsValue). with_appended w q f) listed ∙ put_is a i q f
     ∙ ap (λ (k : ℕ). after_put_in a i k f) chosen
-    ∙ ap (λ (w : FlowsValue). after_put_in w i (queue_for w i f.flow) f) limited
+    ∙ ap (λ (w : FlowsValue). after_put_in w i (queue_for (after_limit now) i f.flow) f) limited
 
 -- there is room
 module _ (v : FlowsValue) (roomy : flows_at_limit v ≡ false) where
@@ -65,19 +66,17 @@ module _ (v : FlowsValue) (full : flows_at_limit v ≡ true) (k : ℕ)
   unfolding with_listed_queue
   dropped_listed i q = elim (cases_Bool (is_listed v i q)) [
     | inl holds ↦ rw holds refl
-    | inr fails ↦ rw fails refl
+    | inr fails ↦ elim (cases_Bool (v.codel_reset == 1)) [
+      | inl calms ↦ rw (fails, calms) refl
+      | inr stays ↦ rw (fails, stays) refl
+    ]
   ]
 
-  for_dropped : (i flow : ℕ) → queue_for v i flow ≡ queue_for dropped i flow
-  unfolding queue_for
-  for_dropped i flow = refl
-
-  pub put_full : (b c : FlowsValue) (i q : ℕ) (f : FrameValue) → q ≡ queue_for v i f.flow →
+  pub put_full : (b c : FlowsValue) (i q : ℕ) (f : FrameValue) → q ≡ queue_for (after_limit v) i f.flow →
       b ≡ with_listed_queue v i q
       → c ≡ with_appended (record b { backlog = after_head_drop b.backlog k }) q f → c ≡ after_put v i f
   put_full b c i q f chosen listed exchanged =
-      put_parts v dropped (with_listed_queue dropped i q) c i q f full_dropped (chosen ∙ for_dropped i f.flow)
-      refl
+      put_parts v dropped (with_listed_queue dropped i q) c i q f full_dropped chosen refl
       (exchanged ∙ ap (λ (w : FlowsValue). with_appended
       (record w { backlog = after_head_drop w.backlog k }) q f) listed
       ∙ ap (λ (w : FlowsValue). with_appended w q f) (dropped_listed i q))

@@ -1,12 +1,13 @@
 -- Defines numbered queues of frames, each with a CoDel state (RFC 8289, section 5.2), and the list of the
 -- finished frames.
-use Rattle.std.specs.Prelude.{◌≡◌, ◌<◌, ◌≤◌, ◌^◌, ℕ, suc, ◌+◌, ◌-◌, nat_lt, Bool, List, [], ◌∷◌, ◌++◌, Option, Some, None, All, length, map, take, drop, sum_by, slice_get, slice_index_or, slice_set}
+use Rattle.std.specs.Prelude.{◌≡◌, ◌<◌, ◌≤◌, ◌^◌, ℕ, suc, ◌+◌, ◌-◌, ◌==◌, nat_lt, Bool, if◌then◌else◌, List, [], ◌∷◌, ◌++◌, Option, Some, None, All, length, map, take, drop, sum_by, slice_get, slice_index_or, slice_set}
 use Rattle.wf_frame.specs.Frames.{FrameValue}
 use Rattle.wf_frame.specs.declared.classes.Fate.{Fate}
 use Rattle.wf_frame.specs.declared.classes.Fate.TheVariants.{Dropped}
 use Rattle.wf_frame.specs.declared.classes.Cause.TheVariants.{Overlimit, Codel as By_codel, Left}
 use Rattle.wf_def_codel.specs.Codel.{Item, Params, Codel, new_codel, Dequeued, dequeue}
 use Rattle.wf_def_lists.specs.Lengths.{greatest_body}
+use Rattle.wf_def_world.specs.FlowQueues.{calmed}
 
 -- the queues by number, the CoDel state of each, and the finished frames in the order in which they will be
 -- reaped
@@ -75,6 +76,14 @@ frame_with_fate fate f = record f { fate = fate }
 -- v with these frames in queue q
 abbrev pub with_frames : BacklogValue → ℕ → List FrameValue → BacklogValue
 with_frames v q frames = record v { queues = slice_set v.queues q frames }
+
+-- v with the CoDel state of queue q calmed
+abbrev pub with_calmed : BacklogValue → ℕ → BacklogValue
+with_calmed v q = record v { codels = slice_set v.codels q (calmed (codel_at v q)) }
+
+-- queue q becomes listed: with the setting `codel_reset` its CoDel state is calmed
+abbrev pub backlog_when_listed : ℕ → BacklogValue → ℕ → BacklogValue
+backlog_when_listed codel_reset v q = if codel_reset == 1 then with_calmed v q else v
 
 -- the first frame of queue q goes last on the finished list, as dropped for the limit
 abbrev pub after_head_drop : BacklogValue → ℕ → BacklogValue

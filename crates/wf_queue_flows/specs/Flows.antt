@@ -1,7 +1,7 @@
 -- Defines the flow queues of "Ending the Anomaly" (USENIX ATC 2017), section 3.1, algorithms 1 and 2: the
--- frames in each queue, the queues that each TID lists, and how a frame is put in and taken out. One rule is
--- this project's own: a queue's deficit is set when the queue is listed.
-use Rattle.std.specs.Prelude.{nat_le, ◌≡◌, ◌<◌, ◌≤◌, ℕ, suc, ◌+◌, ◌*◌, ◌%◌, ◌==◌, nat_lt, ℤ, pos, ◌+ℤ◌, ◌-ℤ◌, Bool, true, not, ◌&&◌, List, [], ◌∷◌, ◌++◌, Option, Some, None, if◌then◌else◌, length, map, filter, replicate, sum_by, slice_index_or, slice_set}
+-- frames in each queue, the queues that each TID lists, and how a frame is put in and taken out. Two rules
+-- are this project's own: a queue's deficit is set when the queue is listed, and `codel_reset`.
+use Rattle.std.specs.Prelude.{nat_le, ◌≡◌, ◌<◌, ◌≤◌, ℕ, suc, ◌+◌, ◌*◌, ◌%◌, ◌==◌, nat_lt, ℤ, pos, ◌+ℤ◌, ◌-ℤ◌, Bool, true, not, ◌&&◌, ◌||◌, List, [], ◌∷◌, ◌++◌, Option, Some, None, if◌then◌else◌, length, map, filter, replicate, sum_by, slice_index_or, slice_set}
 use Rattle.std.specs.List.{list_any}
 use Rattle.wf_frame.specs.Classes.{tid_number}
 use Rattle.wf_frame.specs.Frames.{FrameValue}
@@ -13,7 +13,7 @@ use Rattle.wf_rotation.specs.Lists.{lists_at}
 use Rattle.wf_rotation.specs.Rotas.{Rotas, deficit_at, need_at}
 use Rattle.wf_def_world.specs.World.{Queue}
 use Rattle.wf_def_world.specs.FlowQueues.{longest_of}
-use Rattle.wf_queue_flows.specs.Backlog.{BacklogValue, frames_at, in_queues, first_id, item_of, with_frames, after_head_drop, after_flush, given_at, backlog_after_take}
+use Rattle.wf_queue_flows.specs.Backlog.{BacklogValue, frames_at, in_queues, first_id, item_of, with_frames, backlog_when_listed, after_head_drop, after_flush, given_at, backlog_after_take}
 
 -- Queues below `flows` are shared by all TIDs; each TID has one more, its overflow queue. Queue q is key q of
 -- the rotations.
@@ -22,6 +22,8 @@ pub record FlowsValue : Type 0 where
   pub stations : ℕ
   pub limit : ℕ
   pub flow_quantum : ℕ
+  pub keep_order : ℕ
+  pub codel_reset : ℕ
   pub backlog : BacklogValue
   pub rotas : Rotas
 
@@ -31,6 +33,8 @@ pub record SettingsValue : Type 0 where
   pub stations : ℕ
   pub limit : ℕ
   pub flow_quantum : ℕ
+  pub keep_order : ℕ
+  pub codel_reset : ℕ
   pub room : ℕ
 
 abbrev pub settings : FlowsValue → SettingsValue
@@ -39,6 +43,8 @@ settings v = record {
   stations = v.stations;
   limit = v.limit;
   flow_quantum = v.flow_quantum;
+  keep_order = v.keep_order;
+  codel_reset = v.codel_reset;
   room = v.backlog.room;
 }
 
@@ -75,6 +81,8 @@ empty_flows c =
       stations = c.stations;
       limit = c.limit;
       flow_quantum = c.flow_quantum;
+      keep_order = c.keep_order;
+      codel_reset = c.codel_reset;
       backlog = record {
         room = c.room;
         queues = replicate n [];
@@ -135,14 +143,28 @@ is_listed_by_another v i q = list_any (λ j. not (j == i) && is_listed v j q) (u
 abbrev pub overflow_of_tid : FlowsValue → ℕ → ℕ
 overflow_of_tid v i = v.flows + i
 
+-- a frame of flow queue q, if there are so many flow queues
+abbrev pub is_of_queue : ℕ → ℕ → FrameValue → Bool
+is_of_queue flows q f = (f.flow % flows) == q
+
+-- whether the overflow queue of TID i holds a frame of flow queue q
+abbrev pub is_in_overflow : FlowsValue → ℕ → ℕ → Bool
+is_in_overflow v i q = list_any (is_of_queue v.flows q) (frames_at v.backlog (overflow_of_tid v i))
+
+-- whether a frame of flow queue q goes into the overflow queue of TID i: another TID lists q or, with
+-- `keep_order`, the overflow queue still holds a frame of q
+unfoldable pub goes_to_overflow : FlowsValue → ℕ → ℕ → Bool
+goes_to_overflow v i q = is_listed_by_another v i q || ((v.keep_order == 1) && is_in_overflow v i q)
+
 unfoldable pub queue_for : FlowsValue → ℕ → ℕ → ℕ
-queue_for v i flow = if is_listed_by_another v i (flow % v.flows) then overflow_of_tid v i else flow % v.flows
+queue_for v i flow = if goes_to_overflow v i (flow % v.flows) then overflow_of_tid v i else flow % v.flows
 
 -- the queue goes last on the TID's new list, with a fresh deficit, unless it is listed
 unfoldable pub with_listed_queue : FlowsValue → ℕ → ℕ → FlowsValue
 with_listed_queue v i q =
     if is_listed v i q then v
     else record v {
+      backlog = backlog_when_listed v.codel_reset v.backlog q;
       rotas = record v.rotas {
         lists = slice_set v.rotas.lists i (with_new_key (tid_rotation v i) q);
         deficits = slice_set v.rotas.deficits q (pos v.flow_quantum);

@@ -1,3 +1,4 @@
+-- Lists the modules of specs/ of wf_queue_flows.
 pub mod CodelTakes
 pub mod CodelLooks
 pub mod CodelParams

@@ -1,9 +1,10 @@
 //! Numbered queues of parcels, each with a CoDel state, and the list of the finished parcels.
 
-ghost use Rattle.std.specs.Prelude.{◌≡◌, ◌+◌, ◌^◌, true, slice_index, slice_set, ◌<◌, ◌≤◌, ◌↔◌, [], ◌∷◌, ◌++◌, Some, length, replicate, is_some, if◌then◌else◌, IfOk, IfNone, IfSome, IsNone, MatchOption};
+ghost use Rattle.std.specs.Prelude.{◌≡◌, ◌+◌, ◌^◌, true, drop, slice_index, slice_set, ◌<◌, ◌≤◌, ◌↔◌, [], ◌∷◌, ◌++◌, Some, length, replicate, is_some, if◌then◌else◌, IfOk, IfNone, IfSome, IsNone, MatchOption};
 ghost use Rattle.wf_def_codel.specs.Codel.{new_codel};
-ghost use Rattle.wf_queue_flows.specs.Backlog.{is_some_frame, frames_at, in_queues, held_in_backlog, spare_of, first_id, frame_with_fate, with_frames, after_head_drop, after_flush, IsLongest};
-ghost use Rattle.wf_queue_flows.specs.Flows.{longest_queue};
+ghost use Rattle.wf_queue_flows.specs.Backlog.{is_some_frame, frames_at, in_queues, held_in_backlog, spare_of, first_id, frame_with_fate, with_frames, backlog_when_listed, after_head_drop, after_flush, IsLongest};
+ghost use Rattle.std.specs.List.{list_any};
+ghost use Rattle.wf_queue_flows.specs.Flows.{longest_queue, is_of_queue};
 
 use crate::codel::Codel;
 use std::alloc::{AllocError, Global};
@@ -94,6 +95,23 @@ fn octets_then(octets: &Peak, from: u32, left: u64, to: u32) -> u64
     ensures { result ≡ slice_index (slice_set octets.now from left) to }
 {
     if from == to { left } else { octets.value(to) }
+}
+
+/// Returns whether a chain has a frame of flow queue `q` after its first `skip` frames, if there are `flows`
+/// flow queues. Each parcel goes from the front to the end, so the chain ends as it began.
+fn holds_flow(chain: &mut Chain, skip: u32, flows: u32, q: u32) -> bool
+    requires { 1 ≤ flows }
+    ensures found { result ≡ list_any (is_of_queue flows q) (drop skip chain.old) }
+    ensures same { chain.new ≡ chain.old }
+{
+    let mut found = false;
+    for place in 0..chain.len() {
+        let parcel = chain.pop_front().unwrap();
+        let here = parcel.frame().flow() % flows == q;
+        found |= (place >= skip) & here;
+        chain.push_back(parcel);
+    }
+    found
 }
 
 /// Returns `queues` empty chains. Fails if there is no memory.
@@ -211,6 +229,20 @@ impl Backlog {
         count
     }
 
+    /// Prepares a queue that becomes listed. If `codel_reset` is 1, its CoDel state is calmed: it begins
+    /// without a dropping state and without a long wait. Otherwise nothing changes.
+    pub fn start_listed(&mut self, q: u32, codel_reset: u32)
+        requires { q < length self.old.queues }
+        ensures state { self.new ≡ backlog_when_listed codel_reset self.old q }
+        ensures frames { self.new.queues ≡ self.old.queues }
+        ensures finished { self.new.finished ≡ self.old.finished }
+        ensures room { self.new.room ≡ self.old.room }
+    {
+        if codel_reset == 1 {
+            self.codels[q as usize].calm();
+        }
+    }
+
     /// Puts a parcel, unchanged, last on the finished list.
     pub fn finish(&mut self, parcel: Parcel)
         requires { held_in_backlog self.old < self.old.room }
@@ -230,6 +262,17 @@ impl Backlog {
             (λ _. held_in_backlog self.new + 1 ≡ held_in_backlog self.old) }
     {
         self.finished.pop_front()
+    }
+
+    /// Returns whether queue `at` has a frame of flow queue `q` after its first `skip` frames, if there are
+    /// `flows` flow queues. The queues stay as they are. It looks at each frame of the queue.
+    pub fn holds_flow(&mut self, at: u32, skip: u32, flows: u32, q: u32) -> bool
+        requires queue { at < length self.old.queues }
+        requires some { 1 ≤ flows }
+        ensures found { result ≡ list_any (is_of_queue flows q) (drop skip (frames_at self.old at)) }
+        ensures same { self.new ≡ self.old }
+    {
+        holds_flow(&mut self.queues[at as usize], skip, flows, q)
     }
 
     /// Returns the number of frames in a queue.

@@ -7,6 +7,7 @@ ghost use Rattle.wf_def_codel.specs.Codel.{IsGreatestStep, step_of, octets, new_
 ghost use Rattle.wf_queue_flows.specs.CodelTakes.{Takes};
 ghost use Rattle.wf_queue_flows.specs.CodelLooks.{look_by, count_again, started};
 ghost use Rattle.wf_def_codel.specs.Parameters.{params_at};
+ghost use Rattle.wf_def_world.specs.FlowQueues.{calmed};
 ghost use Rattle.wf_queue_flows.specs.CodelParams.{params_of};
 
 use std::marker::Model;
@@ -194,6 +195,14 @@ impl Codel {
             last_count: 0,
             dropping: false,
         }
+    }
+
+    /// Ends the dropping state, and forgets that frames waited too long. The numbers of the control law stay.
+    pub fn calm(&mut self)
+        ensures { self.new ≡ calmed self.old }
+    {
+        self.first_above = 0;
+        self.dropping = false;
     }
 
     /// Takes a frame from the lane (dequeue of RFC 8289, section 5.5): the frames before it that have waited

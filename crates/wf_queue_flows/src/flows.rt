@@ -5,7 +5,7 @@ ghost use Rattle.wf_frame.specs.Settings.{first_out_of_range};
 ghost use Rattle.wf_queue_flows.specs.CodelParams.{params_of};
 ghost use Rattle.wf_queue_flows.specs.Backlog.{frames_at, in_queues, held_in_backlog, first_id, after_head_drop, IsLongest};
 ghost use Rattle.wf_frame.specs.Classes.{tid_number};
-ghost use Rattle.wf_queue_flows.specs.Flows.{settings, tids, queues, is_listed, frames_of_tid, flows_at_limit, longest_queue, loses_next, dropped_for_limit, is_listed_by_another, queue_for, with_listed_queue, with_appended, after_put, taken_for_tid, after_purge, empty_flows, AreListedOnce, TakeGives};
+ghost use Rattle.wf_queue_flows.specs.Flows.{settings, tids, queues, is_listed, frames_of_tid, flows_at_limit, longest_queue, loses_next, dropped_for_limit, is_listed_by_another, goes_to_overflow, queue_for, after_limit, with_listed_queue, with_appended, after_put, taken_for_tid, after_purge, empty_flows, AreListedOnce, TakeGives};
 ghost use Rattle.wf_queue_flows.specs.Kept.{CanList, without_queue};
 
 use crate::backlog::{Backlog, Taken};
@@ -31,6 +31,18 @@ struct Listed {
     queue: u32,
 }
 
+// Returns how many frames queue `at` loses if the head of the queue `over` is dropped: 1 or 0.
+fn frames_lost(over: Option<Listed>, at: u32) -> u32
+    ensures none { IfNone over (result ≡ 0) }
+    ensures here { IfSome over (λ from. from.queue ≡ at → result ≡ 1) }
+    ensures elsewhere { IfSome over (λ from. (from.queue ≡ at → ⊥) → result ≡ 0) }
+{
+    match over {
+        Some(from) if from.queue == at => 1,
+        _ => 0,
+    }
+}
+
 /// The flow queues of all stations, and the list of the finished frames.
 ///
 /// There are `flows` queues that all TIDs share, and one more for each TID, its overflow queue. A queue
@@ -41,6 +53,8 @@ pub struct Flows {
     stations: u32,
     limit: u32,
     flow_quantum: u32,
+    keep_order: u32,
+    codel_reset: u32,
     waiting: Backlog,
     rota: Rota,
     queued: Vec<u32>,
@@ -57,6 +71,8 @@ impl Model for Flows {
       stations = f.stations;
       limit = f.limit;
       flow_quantum = f.flow_quantum;
+      keep_order = f.keep_order;
+      codel_reset = f.codel_reset;
       backlog = f.waiting;
       rotas = f.rota;
     } };
@@ -67,14 +83,16 @@ impl Model for Flows {
           stations = f.stations;
           limit = f.limit;
           flow_quantum = f.flow_quantum;
+          keep_order = f.keep_order;
+          codel_reset = f.codel_reset;
           backlog = f.waiting;
           rotas = f.rota;
         }) f.queued.items };
 }
 
 impl Flows {
-    /// Creates empty flow queues with the numbers of stations and queues, the limit, the room and the flow
-    /// quantum of these settings. Fails if there is no memory. No other call allocates.
+    /// Creates empty flow queues with the numbers of stations and queues, the limit, the room, the flow
+    /// quantum and `codel_reset` of these settings. Fails if there is no memory. No other call allocates.
     pub fn new(alloc: Global, config: Config) -> Result<Flows, AllocError>
         requires { first_out_of_range config ≡ None }
         ensures made { IfOk result (λ f. f ≡ empty_flows config) }
@@ -90,6 +108,8 @@ impl Flows {
             stations: config.stations,
             limit: config.limit,
             flow_quantum: config.flow_quantum,
+            keep_order: config.keep_order,
+            codel_reset: config.codel_reset,
             waiting,
             rota,
             queued,
@@ -114,10 +134,11 @@ impl Flows {
         self.waiting.total()
     }
 
-    /// Puts a frame into a queue of its station and TID (algorithm 1 of "Ending the Anomaly"). The queue is
-    /// the flow's number modulo `flows`, or the TID's overflow queue if another TID lists that queue. If the
-    /// queues already hold `limit` frames or more, the head of the longest queue is dropped and returned;
-    /// else this returns None. `now` is the clock in microseconds, which is the frame's stamp.
+    /// Puts a frame into a queue of its station and TID (algorithm 1 of "Ending the Anomaly"). The queue
+    /// is the flow's number modulo `flows`, or the TID's overflow queue if another TID lists that queue.
+    /// With `keep_order`, it is also the overflow queue while that has a frame of that queue's flows. If
+    /// the queues already hold `limit` frames or more, the head of the longest queue is dropped and
+    /// returned; else this returns None. `now` is the clock in microseconds, which is the frame's stamp.
     pub fn put(&mut self, parcel: Parcel, now: u64) -> Option<Lost>
         requires station { parcel.station < self.old.stations }
         requires tid { parcel.tid < 8 }
@@ -139,7 +160,7 @@ impl Flows {
         let list = tid_number(parcel.frame().station(), parcel.frame().tid());
         let flow = parcel.frame().flow();
         let over = self.over_limit();
-        let q = self.queue_for(list, flow);
+        let q = self.queue_for(list, flow, over);
         self.list_queue(list, q);
         match over {
             None => {
@@ -293,23 +314,52 @@ impl Flows {
         }
     }
 
-    // Returns the queue for a frame of a flow: the shared queue, or the overflow queue of the TID if another
-    // TID lists the shared one.
-    fn queue_for(&self, list: u32, flow: u32) -> u32
-        requires { list < tids self.now }
-        ensures queue { result ≡ queue_for self.now list flow }
-        ensures below { result < queues self.now }
-        ensures own { CanList self.now list result }
+    // Returns whether a frame of flow queue `q` goes into the overflow queue of a TID: another TID lists
+    // `q` or, if flows keep their order, the overflow queue has a frame of it. The head of the queue
+    // `over`, which is to be dropped, does not count. The queues stay as they are.
+    fn goes_over(&mut self, list: u32, q: u32, over: Option<Listed>) -> bool
+        requires list { list < tids self.old }
+        requires queue { q < queues self.old }
+        requires roomy { IfNone over (flows_at_limit self.old ≡ false) }
+        requires full { IfSome over (λ _. flows_at_limit self.old ≡ true) }
+        requires longest { IfSome over (λ from. from.queue ≡ longest_queue self.old.backlog) }
+        ensures over { result ≡ goes_to_overflow (after_limit self.old) list q }
+        ensures free { result ≡ false → is_listed_by_another self.old list q ≡ false }
+        ensures same { self.new ≡ self.old }
     {
-        let shared = flow % self.flows;
-        if self.is_listed_elsewhere(list, shared) {
-            self.flows + list
-        } else {
-            shared
+        if self.is_listed_elsewhere(list, q) {
+            return true;
         }
+        if self.keep_order != 1 {
+            return false;
+        }
+        let (at, flows) = (self.flows + list, self.flows);
+        let lost = frames_lost(over, at);
+        self.waiting.holds_flow(at, lost, flows, q)
     }
 
-    // Lists a queue that no other TID lists, with a fresh deficit, unless it is listed already.
+    // Returns the queue for a frame of a flow, once the head of the queue `over` is dropped: the shared
+    // queue, or the overflow queue of the TID. The queues stay as they are.
+    fn queue_for(&mut self, list: u32, flow: u32, over: Option<Listed>) -> u32
+        requires list { list < tids self.old }
+        requires roomy { IfNone over (flows_at_limit self.old ≡ false) }
+        requires full { IfSome over (λ _. flows_at_limit self.old ≡ true) }
+        requires longest { IfSome over (λ from. from.queue ≡ longest_queue self.old.backlog) }
+        ensures queue { result ≡ queue_for (after_limit self.old) list flow }
+        ensures below { result < queues self.old }
+        ensures own { CanList self.old list result }
+        ensures same { self.new ≡ self.old }
+    {
+        let flows = self.flows;
+        let shared = flow % flows;
+        if self.goes_over(list, shared, over) {
+            return flows + list;
+        }
+        shared
+    }
+
+    // Lists a queue that no other TID lists, with a fresh deficit, unless it is listed already. With
+    // `codel_reset`, the queue's CoDel does not drop at first.
     fn list_queue(&mut self, list: u32, q: u32)
         requires list { list < tids self.old }
         requires queue { q < queues self.old }
@@ -317,12 +367,17 @@ impl Flows {
         ensures listed { self.new ≡ with_listed_queue self.old list q }
         ensures stands { is_listed self.new list q ≡ true }
         ensures stay { (i k : ℕ) → is_listed self.old i k ≡ true → is_listed self.new i k ≡ true }
-        ensures backlog { self.new.backlog ≡ self.old.backlog }
+        ensures frames { self.new.backlog.queues ≡ self.old.backlog.queues }
+        ensures finished { self.new.backlog.finished ≡ self.old.backlog.finished }
+        ensures room { self.new.backlog.room ≡ self.old.backlog.room }
         ensures flows { self.new.flows ≡ self.old.flows }
         ensures stations { self.new.stations ≡ self.old.stations }
     {
         match self.rota.where_is(q) {
-            None => self.rota.add_fresh(list, q),
+            None => {
+                self.rota.add_fresh(list, q);
+                self.waiting.start_listed(q, self.codel_reset);
+            }
             Some(_) => {}
         }
     }

@@ -1,6 +1,6 @@
 -- Proves that flow queues and world still agree after a change of one queue, or of the lists of one TID.
 use Rattle.std.proofs.Common.{◌≡◌, ap, ap₂, sym, ◌∙◌, subst, arith, ℕ, zero, suc, ◌+◌, ◌<◌, ◌≤◌, true, List, [], ◌++◌, map, length, get_or, set, length-set, inl, inr, ◌⊎◌}
-use Rattle.std.specs.Prelude.{ℤ, pos}
+use Rattle.std.specs.Prelude.{ℤ, pos, All}
 use Rattle.std.proofs.lemmas.List.{get_or-set_same, get_or-set_other}
 use Rattle.std.proofs.lemmas.List.Sums.{sum_by-set}
 use Rattle.std.proofs.lemmas.Bool.{cases_eq}
@@ -71,11 +71,12 @@ times_at b q id low = omega (arith, times_set b q [] id low, on-nil id)
 
 pub stands_queue : (v : FlowsValue) (p : Part) (q : ℕ) (frames : List FrameValue) (c : Codel) (d : ℤ)
     (y : Queue) → Stands v p → q < queue_count v → y.items ≡ map item_of frames → y.codel ≡ c
-    → ((i : ℕ) → has_key (tid_rotation v i) q ≡ true → y.deficit ≡ d) →
+    → All (λ f. p.flows f.id ≡ f.flow) frames → ((i : ℕ) → has_key (tid_rotation v i) q ≡ true →
+    y.deficit ≡ d) →
     ((id : ℕ) → 0 < on (ids frames) id → id < p.accepted)
     → ((id : ℕ) → times_held v.backlog id + on (ids frames) id ≤ 1 + on (ids (frames_at v.backlog q)) id) →
     Stands (with_queue v q frames c d) (part_with p q y)
-stands_queue v p q frames c d y st low items codel deficit known once = record {
+stands_queue v p q frames c d y st low items codel flows deficit known once = record {
   sized = record {
     lists = st.sized.lists;
     deficits = length-set v.rotas.deficits q d ∙ st.sized.deficits;
@@ -103,6 +104,8 @@ stands_queue v p q frames c d y st low items codel deficit known once = record {
         | inr there ↦ st.accepted id there
       ];
   held_once = λ id. omega (arith, once id, times_set v.backlog q frames id low_queue);
+  flows = each_set (λ (k : ℕ) (fs : List FrameValue). All (λ (f : FrameValue). p.flows f.id ≡ f.flow) fs)
+      v.backlog.queues [] q frames low_queue st.flows flows;
 }
   where
     low_queue : q < length v.backlog.queues
@@ -126,14 +129,15 @@ module _ (v : FlowsValue) (p : Part) (st : Stands v p) (q : ℕ) (low : q < queu
   pub out_known : (id : ℕ) → 0 < on (ids out) id → id < p.accepted
   out_known id h = st.accepted id (omega (arith, h, both_parts id, times_at v.backlog q id low_all))
 
-  pub stands_moved : (c : Codel) (d : ℤ) (y : Queue) (fate : Fate) → y.items ≡ map item_of left →
+  pub stands_moved : All (λ f. p.flows f.id ≡ f.flow) left → (c : Codel) (d : ℤ) (y : Queue) (fate : Fate) →
+      y.items ≡ map item_of left →
       y.codel ≡ c → ((i : ℕ) → has_key (tid_rotation v i) q ≡ true → y.deficit ≡ d)
       → Stands (with_finished (with_queue v q left c d)
       (v.backlog.finished ++ map (frame_with_fate fate) out))
       (all_finished (part_with p q y) fate (ids out))
-  stands_moved c d y fate items codel deficit =
+  stands_moved kept c d y fate items codel deficit =
       stands_finish_all out (with_queue v q left c d) (part_with p q y) fate
-      (stands_queue v p q left c d y st low items codel deficit
+      (stands_queue v p q left c d y st low items codel kept deficit
       (λ id h. st.accepted id (omega (arith, h, fewer id, both_parts id, times_at v.backlog q id low_all)))
       (λ id. omega (arith, fewer id, both_parts id, st.held_once id)))
       out_known
@@ -204,6 +208,7 @@ stands_list v p s t r st low_s low_t once below deficits = record {
   fates = st.fates;
   accepted = st.accepted;
   held_once = st.held_once;
+  flows = st.flows;
 }
   where
     low : tid_number s t < length v.rotas.lists

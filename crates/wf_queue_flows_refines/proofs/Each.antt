@@ -1,6 +1,6 @@
 -- Proves that a property of each frame of the flow queues holds after every call: each call only moves
 -- frames.
-use Rattle.std.proofs.Common.{◌≡◌, sym, subst, ℕ, zero, suc, List, [], ◌∷◌, ◌++◌, map, length, get_or, set, take, drop, Option, Some, None, inl, inr}
+use Rattle.std.proofs.Common.{◌≡◌, sym, subst, ℕ, zero, suc, ◌==◌, List, [], ◌∷◌, ◌++◌, map, length, get_or, set, take, drop, Option, Some, None, inl, inr}
 use Rattle.std.specs.Prelude.{All, IfSome, slice_get}
 use Rattle.std.proofs.lemmas.List.{set_past}
 use Rattle.std.proofs.lemmas.List.Elements.{All-append, All-drop, All-head, All-map, All-push, All-tail, All-take, All-weaker, All-nil}
@@ -10,7 +10,7 @@ use Rattle.wf_frame.specs.declared.classes.Cause.{Cause}
 use Rattle.wf_frame.specs.declared.classes.Cause.TheVariants.{Overlimit, Codel as By_codel, Left}
 use Rattle.wf_frame.specs.declared.classes.Fate.TheVariants.{Dropped}
 use Rattle.wf_def_codel.specs.Codel.{Codel, Params, new_codel}
-use Rattle.wf_queue_flows.specs.Backlog.{BacklogValue, frames_at, frame_with_fate, after_head_drop, after_flush, dequeue_at, drops_at}
+use Rattle.wf_queue_flows.specs.Backlog.{BacklogValue, frames_at, frame_with_fate, with_calmed, after_head_drop, after_flush, dequeue_at, drops_at}
 use Rattle.wf_queue_flows.specs.Flows.{FlowsValue, flows_at_limit, is_listed, longest_queue, after_limit, queue_for, with_listed_queue, with_appended, after_put, pick_of_tid, after_pick, taken_from_picked, taken_for_tid, queues_of, all_flushed, after_purge}
 use Rattle.wf_queue_flows_refines.specs.Standing.{with_finished}
 use Rattle.wf_queue_flows_refines.specs.Frames.{HasEach, DropsTo}
@@ -57,7 +57,8 @@ module _ (P R : FrameValue → Type 0) (drops : DropsTo P R) where
       HasEach P R (with_listed_queue v i q).backlog
   unfolding with_listed_queue
   each_listed v i q h = cond_both (is_listed v i q) v _ (λ (z : FlowsValue). HasEach P R z.backlog) (λ e. h)
-      (λ e. h)
+      (λ e. cond_both (v.codel_reset == 1) (with_calmed v.backlog q) v.backlog (HasEach P R)
+      (λ e. record { queued = h.queued; finished = h.finished }) (λ e. h))
 
   pub each_put : (v : FlowsValue) (i : ℕ) (f : FrameValue) → HasEach P R v.backlog → P f →
       HasEach P R (after_put v i f).backlog

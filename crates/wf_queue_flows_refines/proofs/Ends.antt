@@ -69,6 +69,7 @@ stands_finish v p f st low none = record {
     | inl e ↦ subst (λ (n : ℕ). n < p.accepted) (sym e) low
     | inr other ↦ st.accepted id (omega (arith, h, times_finished v.backlog (f ∷ []) id, one_other id other))
   ];
+  flows = st.flows;
   held_once = λ id. elim (cases_eq id f.id) [
     | inl e ↦ subst (λ (n : ℕ). times_held (record v.backlog { finished = v.backlog.finished ++ f ∷ [] }) n
         ≤ 1) (sym e) (omega (
@@ -135,6 +136,7 @@ stands_reap v p f rest st e =
       fates = cc all;
       accepted = λ id h. st.accepted id (omega (arith, h, fewer id));
       held_once = λ id. omega (arith, st.held_once id, fewer id);
+      flows = st.flows;
     }
 
 -- ---- the same for a world

@@ -1,6 +1,6 @@
 -- Proves that the queued frames stay held through all calls: a call changes the fate only of frames that
 -- it finishes.
-use Rattle.std.proofs.Common.{◌≡◌, refl, ap, sym, ◌∙◌, subst, arith, ℕ, suc, ◌<◌, ◌≤◌, true, List, [], ◌∷◌, ◌++◌, length, get_or, set, drop, Option, Some, None, inl, inr}
+use Rattle.std.proofs.Common.{◌≡◌, refl, ap, sym, ◌∙◌, subst, arith, ℕ, suc, ◌==◌, ◌<◌, ◌≤◌, true, List, [], ◌∷◌, ◌++◌, length, get_or, set, drop, Option, Some, None, inl, inr}
 use Rattle.std.proofs.lemmas.List.{set_past, get_or_past}
 use Rattle.std.proofs.lemmas.Bool.{cases_eq, cases_lt, cond_both}
 use Rattle.wf_frame.specs.declared.classes.Cause.TheVariants.{Left}
@@ -18,7 +18,7 @@ use Rattle.wf_def_world.specs.FlowQueues.{after_limit as world_after_limit, queu
 use Rattle.wf_def_world.specs.Step.{with_frame, next_item, enqueue_outcome, reap_outcome, waiting_ids, after_tid_left}
 use Rattle.wf_law_runs.proofs.Deficits.Books.{put_upd, upd_other}
 use Rattle.wf_law_runs.proofs.Queues.ShelvedStep.{accepted_put}
-use Rattle.wf_queue_flows.specs.Backlog.{BacklogValue, frames_at, after_flush, drops_at}
+use Rattle.wf_queue_flows.specs.Backlog.{BacklogValue, frames_at, with_calmed, after_flush, drops_at}
 use Rattle.wf_frame.specs.Classes.{tid_number}
 use Rattle.wf_queue_flows.specs.Flows.{FlowsValue, flows_at_limit, is_listed, longest_queue, after_limit, queue_for, with_listed_queue, with_appended, after_put, pick_of_tid, after_pick, taken_from_picked, taken_for_tid, queues_of, all_flushed, after_purge}
 use Rattle.wf_queue_flows_refines.specs.Standing.{ids, times_held, with_finished, FlowsStandFor}
@@ -135,10 +135,12 @@ fewer_purge : (v : FlowsValue) (i : ℕ) → HasFewer v.backlog (after_purge v i
 unfolding after_purge
 fewer_purge v i = fewer_flushed (queues_of v i) v.backlog
 
-listed_same : (v : FlowsValue) (i q : ℕ) → (with_listed_queue v i q).backlog ≡ v.backlog
+listed_same : (v : FlowsValue) (i q : ℕ) → (with_listed_queue v i q).backlog.queues ≡ v.backlog.queues
 unfolding with_listed_queue
-listed_same v i q = cond_both (is_listed v i q) v _ (λ (z : FlowsValue). z.backlog ≡ v.backlog) (λ e. refl)
-    (λ e. refl)
+listed_same v i q = cond_both (is_listed v i q) v _
+    (λ (z : FlowsValue). z.backlog.queues ≡ v.backlog.queues) (λ e. refl)
+    (λ e. cond_both (v.codel_reset == 1) (with_calmed v.backlog q) v.backlog
+    (λ (b : BacklogValue). b.queues ≡ v.backlog.queues) (λ e. refl) (λ e. refl))
 
 -- a put adds no frame except its own
 fewer_put : (v : FlowsValue) (i : ℕ) (f : FrameValue) (q id : ℕ) → (f.id ≡ id → ⊥) →
@@ -157,7 +159,7 @@ fewer_put v i f q id other =
     ) in
     omega (
       arith,
-      ap (λ (b : BacklogValue). on (ids (frames_at b q)) id)
+      ap (λ (all : List (List FrameValue)). on (ids (get_or all q [])) id)
           (listed_same (with_appended u k f) i k),
       fewer_set u.backlog.queues k frames id as_many q,
       fewer_within v q id,

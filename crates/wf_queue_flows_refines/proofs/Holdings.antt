@@ -1,6 +1,6 @@
 -- Proves which frames are queued or finished after a call: only the frame that the call adds or removes
 -- changes this.
-use Rattle.std.proofs.Common.{◌≡◌, refl, ap, ◌∙◌, arith, ℕ, zero, suc, ◌+◌, ◌<◌, true, List, [], ◌∷◌, ◌++◌, map, length, set, take, drop, length-set, Option, Some, None}
+use Rattle.std.proofs.Common.{◌≡◌, refl, ap, ◌∙◌, arith, ℕ, zero, suc, ◌+◌, ◌==◌, ◌<◌, true, List, [], ◌∷◌, ◌++◌, map, length, set, take, drop, length-set, Option, Some, None}
 use Rattle.std.specs.Prelude.{slice_get}
 use Rattle.std.proofs.lemmas.Bool.{cond_both}
 use Rattle.wf_frame.specs.declared.classes.Cause.TheVariants.{Overlimit, Codel as By_codel, Left}
@@ -13,7 +13,7 @@ use Rattle.wf_def_lists.specs.Lists.{on}
 use Rattle.wf_rotation.specs.Rotas.{need_at}
 use Rattle.wf_law_rules.proofs.Lemmas.Counts.{on-nil, on-first}
 use Rattle.wf_law_rules.proofs.Lemmas.Members.{has_filter, has_head, has_tail}
-use Rattle.wf_queue_flows.specs.Backlog.{BacklogValue, frames_at, frame_with_fate, after_head_drop, after_flush, drops_at}
+use Rattle.wf_queue_flows.specs.Backlog.{BacklogValue, frames_at, frame_with_fate, with_calmed, after_head_drop, after_flush, drops_at}
 use Rattle.wf_frame.specs.Classes.{tid_number}
 use Rattle.wf_queue_flows.specs.Flows.{FlowsValue, queues as queue_count, tid_rotation, is_listed, backlog_has_frames, longest_queue, after_limit, queue_for, with_listed_queue, with_appended, after_put, pick_of_tid, after_pick, taken_from_picked, queues_of, all_flushed, after_purge, taken_for_tid as take_out, flows_at_limit}
 use Rattle.wf_queue_flows.proofs.Flags.{nothing_dropped}
@@ -127,7 +127,9 @@ module _ (v : FlowsValue) (p : Part) (st : Stands v p) (id : ℕ) where
       ≡ times_held z.backlog id
   unfolding with_listed_queue
   times_listed z i q = cond_both (is_listed z i q) z _
-      (λ (x : FlowsValue). times_held x.backlog id ≡ times_held z.backlog id) (λ e. refl) (λ e. refl)
+      (λ (x : FlowsValue). times_held x.backlog id ≡ times_held z.backlog id) (λ e. refl)
+      (λ e. cond_both (z.codel_reset == 1) (with_calmed z.backlog q) z.backlog
+      (λ (b : BacklogValue). times_held b id ≡ times_held z.backlog id) (λ e. refl) (λ e. refl))
 
   -- the frame is there once more
   pub times_put : (s t : ℕ) (f : FrameValue) → s < v.stations → t < 8 →

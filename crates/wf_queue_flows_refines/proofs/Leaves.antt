@@ -130,6 +130,7 @@ stands_gone v w s st empty =
       fates = st.fates;
       accepted = st.accepted;
       held_once = st.held_once;
+      flows = st.flows;
     })
 
 -- ---- the scheduler's parts of a call

@@ -1,6 +1,7 @@
 -- Proves that flow queues and world still agree after the limit has dropped the head of the longest queue.
 use Rattle.std.proofs.Common.{◌≡◌, refl, ap, ap₂, sym, ◌∙◌, subst, arith, ℕ, ◌<◌, Bool, true, false, if◌then◌else◌, List, [], ◌∷◌, ◌++◌, map, length, set, take, drop, inl, inr}
 use Rattle.std.specs.Prelude.{nat_le, ℤ, pos}
+use Rattle.std.proofs.lemmas.List.Elements.{All-rest}
 use Rattle.std.proofs.lemmas.List.{set-get_or, get_or_past}
 use Rattle.std.proofs.lemmas.Bool.{cases_lt}
 use Rattle.wf_frame.specs.declared.classes.Cause.TheVariants.{Overlimit}
@@ -82,7 +83,10 @@ head_gone v w q (f ∷ rest) st e =
     (λ id. omega arith) in
     let moved : Stands (with_finished (with_queue v q rest c d) finished)
     (all_finished (part_with (flows_part w) q (change (queue w q))) (Dropped Overlimit) (f.id ∷ [])) =
-    stands_moved v (flows_part w) st q low (f ∷ []) rest rest e (λ id. omega arith) c d (change (queue w q))
+    stands_moved v (flows_part w) st q low (f ∷ []) rest rest e (λ id. omega arith)
+    (All-rest (λ (g : FrameValue). (flows_part w).flows g.id ≡ g.flow) f rest (frames_at v.backlog q) e
+    (st.flows q)) c d
+    (change (queue w q))
     (Dropped Overlimit) refl (st.codels q) (λ i. st.deficits i q) in
     let worlds : flows_part (with_frame_finished (on_queue w q change) (Dropped Overlimit) f.id)
     ≡ all_finished (part_with (flows_part w) q (change (queue w q))) (Dropped Overlimit) (f.id ∷ []) =

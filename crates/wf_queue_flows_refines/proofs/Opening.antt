@@ -1,7 +1,8 @@
 -- Proves that the new flow queues agree with the opening world, since all queues are empty and no TID
 -- lists any.
-use Rattle.std.proofs.Common.{◌≡◌, refl, ap, sym, ◌∙◌, arith, ℕ, ◌+◌, ◌*◌, List, [], map, get_or, replicate, inl, inr}
-use Rattle.std.specs.Prelude.{sum_by, pos}
+use Rattle.std.proofs.Common.{◌≡◌, refl, ap, sym, subst, ◌∙◌, arith, ℕ, ◌+◌, ◌*◌, List, [], map, get_or, replicate, inl, inr}
+use Rattle.std.specs.Prelude.{sum_by, pos, All}
+use Rattle.std.proofs.lemmas.List.Elements.{All-nil}
 use Rattle.std.proofs.lemmas.List.{get_or-replicate, get_or_past, length-replicate}
 use Rattle.std.proofs.lemmas.List.Folds.{sum_by-replicate}
 use Rattle.std.proofs.lemmas.Bool.{cases_lt}
@@ -10,7 +11,7 @@ use Rattle.wf_frame.specs.Settings.{IsInRange}
 use Rattle.wf_frame.specs.Frames.{FrameValue}
 use Rattle.wf_def_codel.specs.Codel.{new_codel}
 use Rattle.wf_def_rotation.specs.Rotation.{Rotation, no_keys, has_key, in_order}
-use Rattle.wf_def_world.specs.World.{opening}
+use Rattle.wf_def_world.specs.World.{opening, flow_of, no_frame}
 use Rattle.wf_queue_flows.specs.Backlog.{frames_at, item_of}
 use Rattle.wf_queue_flows.specs.Flows.{tid_rotation, empty_flows}
 use Rattle.wf_def_lists.specs.Lists.{on}
@@ -60,4 +61,6 @@ module _ (c : Config) where
     fates = refl;
     accepted = λ id h. absurd (omega (arith, h, none_held id));
     held_once = λ id. omega (arith, none_held id);
+    flows = λ q. subst (All (λ (f : FrameValue). flow_of no_frame.note ≡ f.flow)) (sym (no_frames q))
+        (All-nil (λ (f : FrameValue). flow_of no_frame.note ≡ f.flow));
   }

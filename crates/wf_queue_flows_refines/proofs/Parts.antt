@@ -1,5 +1,5 @@
 -- Computes how each change of a world changes the part that the flow queues represent.
-use Rattle.std.proofs.Common.{◌≡◌, refl, ap, sym, ◌∙◌, arith, ℕ, zero, suc, ◌+◌, ◌*◌, ◌<◌, pos, ◌+ℤ◌, true, List, [], ◌∷◌, ◌++◌, length, Option, Some, None, is_some, unwrap_or, option_map, inl, inr}
+use Rattle.std.proofs.Common.{◌≡◌, refl, ap, ap₂, sym, ◌∙◌, arith, ℕ, zero, suc, ◌+◌, ◌*◌, ◌<◌, pos, ◌+ℤ◌, true, List, [], ◌∷◌, ◌++◌, length, Option, Some, None, is_some, unwrap_or, option_map, inl, inr}
 use Rattle.std.proofs.Math.Path.{fun_ext}
 use Rattle.std.proofs.lemmas.List.{length-append}
 use Rattle.std.proofs.lemmas.Bool.{cases_eq}
@@ -8,7 +8,7 @@ use Rattle.wf_frame.specs.declared.classes.Fate.TheVariants.{Held}
 use Rattle.wf_frame.specs.declared.notes.Note.{Note}
 use Rattle.wf_def_lists.specs.Table.{at, put, change}
 use Rattle.wf_def_rotation.specs.Rotation.{Rotation}
-use Rattle.wf_def_world.specs.World.{World, Station, Tid, Queue, Frame, no_frame, no_tid, no_station, new_queue, queue, is_live, accepted_count, with_station, on_station, on_tid, with_queues, on_queue, with_fate, with_frame_finished, with_frames_finished}
+use Rattle.wf_def_world.specs.World.{World, Station, Tid, Queue, Frame, no_frame, no_tid, no_station, new_queue, flow_of, queue, is_live, accepted_count, with_station, on_station, on_tid, with_queues, on_queue, with_fate, with_frame_finished, with_frames_finished}
 use Rattle.wf_def_world.specs.FlowQueues.{with_queues_paid}
 use Rattle.wf_def_world.specs.Step.{with_frame}
 use Rattle.wf_law_rules.proofs.Lemmas.Sums.{length_put}
@@ -99,11 +99,17 @@ part_finish w fate id low =
       fates =
           λ k. (at no_frame (put no_frame w.frames id (record (at no_frame w.frames id) { fate = fate }))
           k).fate;
+      flows =
+          λ k. flow_of (at no_frame (put no_frame w.frames id (record (at no_frame w.frames id)
+          { fate = fate })) k).note;
       accepted = n;
       finished = w.finished ++ id ∷ [];
     }) (length_put no_frame w.frames id _ low)
-    ∙ ap (λ (f : ℕ → Fate). record (flows_part w) { fates = f; finished = w.finished ++ id ∷ [] })
+    ∙ ap₂ (λ (f : ℕ → Fate) (g : ℕ → ℕ).
+    record (flows_part w) { fates = f; flows = g; finished = w.finished ++ id ∷ [] })
     (put_upd (λ (x : Frame). x.fate) no_frame w.frames id _)
+    (put_upd (λ (x : Frame). flow_of x.note) no_frame w.frames id _
+    ∙ upd_idle (flows_part w).flows id (flow_of (at no_frame w.frames id).note) refl)
 
 -- ---- an accepted frame
 
@@ -118,32 +124,38 @@ end_other [] x (suc k) h = refl
 end_other (y ∷ fs) x zero h = refl
 end_other (y ∷ fs) x (suc k) h = end_other fs x k (λ e. h (ap suc e))
 
-at_end : (fs : List Frame) (x : Frame) (k : ℕ) →
-    (at no_frame (fs ++ x ∷ []) k).fate ≡ upd (λ i. (at no_frame fs i).fate) (length fs) x.fate k
-at_end fs x k = elim (cases_eq k (length fs)) [
-  | inl e ↦ ap (λ (n : ℕ). (at no_frame (fs ++ x ∷ []) n).fate) e ∙ ap (λ (z : Frame). z.fate) (end_is fs x)
-      ∙ sym (upd_same (λ i. (at no_frame fs i).fate) (length fs) x.fate)
-      ∙ ap (upd (λ i. (at no_frame fs i).fate) (length fs) x.fate) (sym e)
-  | inr other ↦ ap (λ (z : Frame). z.fate) (end_other fs x k other)
-      ∙ sym (upd_other (λ i. (at no_frame fs i).fate) (length fs) k x.fate other)
+at_end : {Y : Type 0} (read : Frame → Y) (fs : List Frame) (x : Frame) (k : ℕ) →
+    read (at no_frame (fs ++ x ∷ []) k) ≡ upd (λ i. read (at no_frame fs i)) (length fs) (read x) k
+at_end read fs x k = elim (cases_eq k (length fs)) [
+  | inl e ↦ ap (λ (n : ℕ). read (at no_frame (fs ++ x ∷ []) n)) e ∙ ap read (end_is fs x)
+      ∙ sym (upd_same (λ i. read (at no_frame fs i)) (length fs) (read x))
+      ∙ ap (upd (λ i. read (at no_frame fs i)) (length fs) (read x)) (sym e)
+  | inr other ↦ ap read (end_other fs x k other)
+      ∙ sym (upd_other (λ i. read (at no_frame fs i)) (length fs) k (read x) other)
 ]
 
--- one more frame is accepted
-abbrev pub accepted_part : Part → Part
-accepted_part p = record p { fates = upd p.fates p.accepted Held; accepted = p.accepted + 1 }
+-- one more frame is accepted, with this flow number
+abbrev pub accepted_part : Part → ℕ → Part
+accepted_part p flow = record p {
+  fates = upd p.fates p.accepted Held;
+  flows = upd p.flows p.accepted flow;
+  accepted = p.accepted + 1;
+}
 
 pub part_with_frame : (w : World) (note : Note) →
-    flows_part (with_frame w note) ≡ accepted_part (flows_part w)
+    flows_part (with_frame w note) ≡ accepted_part (flows_part w) (flow_of note)
 unfolding with_frame
 part_with_frame w note =
     let x : Frame = record { note = note; fate = Held } in
     ap (λ (n : ℕ). record (flows_part w) {
       fates = λ k. (at no_frame (w.frames ++ x ∷ []) k).fate;
+      flows = λ k. flow_of (at no_frame (w.frames ++ x ∷ []) k).note;
       accepted =
           n;
     }) (length-append w.frames (x ∷ []))
-    ∙ ap (λ (f : ℕ → Fate). record (flows_part w) { fates = f; accepted = accepted_count w + 1 })
-    (fun_ext (at_end w.frames x))
+    ∙ ap₂ (λ (f : ℕ → Fate) (g : ℕ → ℕ).
+    record (flows_part w) { fates = f; flows = g; accepted = accepted_count w + 1 })
+    (fun_ext (at_end (λ z. z.fate) w.frames x)) (fun_ext (at_end (λ z. flow_of z.note) w.frames x))
 
 -- these frames are finished, one after another
 unfoldable pub all_finished : Part → Fate → List ℕ → Part

@@ -2,6 +2,7 @@
 -- leaves.
 use Rattle.std.proofs.Common.{◌≡◌, refl, ap, sym, ◌∙◌, subst, arith, ℕ, ◌<◌, true, List, [], ◌∷◌, ◌++◌, map, Option, None, is_some, unwrap_or}
 use Rattle.std.specs.Prelude.{ℤ, pos}
+use Rattle.std.proofs.lemmas.List.Elements.{All-nil}
 use Rattle.std.proofs.lemmas.List.{append-nil, set-get_or, get_or-set_same, get_or-set_other}
 use Rattle.wf_frame.specs.declared.classes.Cause.TheVariants.{Left}
 use Rattle.wf_frame.specs.declared.classes.Fate.{Fate}
@@ -45,7 +46,8 @@ stands_flush v w q st low =
     let moved : Stands (with_finished (with_queue v q [] new_codel d)
     (v.backlog.finished ++ map (frame_with_fate (Dropped Left)) frames))
     (all_finished (part_with (flows_part w) q (change (queue w q))) (Dropped Left) (ids frames)) =
-    stands_moved v (flows_part w) st q low frames [] [] split (λ id. omega arith) new_codel d
+    stands_moved v (flows_part w) st q low frames [] [] split (λ id. omega arith)
+    (All-nil (λ (f : FrameValue). (flows_part w).flows f.id ≡ f.flow)) new_codel d
     (change (queue w q)) (Dropped Left) refl refl (λ i h. st.deficits i q h) in
     subst (λ (ds : List ℤ). Stands (record v {
       backlog = after_flush v.backlog q;

@@ -1,8 +1,9 @@
 -- Proves that flow queues and world still agree after a put: the limit, the accepted frame, its queue and the
 -- listing compose.
-use Rattle.std.proofs.Common.{◌≡◌, refl, ap, ap₂, sym, ◌∙◌, subst, arith, ℕ, ◌+◌, ◌%◌, ◌<◌, ◌≤◌, Bool, true, false, if◌then◌else◌, List, [], ◌∷◌, ◌++◌, length, set, inl, inr}
-use Rattle.std.specs.Prelude.{ℤ, pos}
-use Rattle.std.proofs.lemmas.List.{map-append, get_or-set_same, set-get_or}
+use Rattle.std.proofs.Common.{◌≡◌, refl, ap, ap₂, sym, ◌∙◌, subst, arith, ℕ, ◌+◌, ◌%◌, ◌==◌, ◌<◌, ◌≤◌, Bool, true, false, if◌then◌else◌, List, [], ◌∷◌, ◌++◌, length, set, inl, inr}
+use Rattle.std.specs.Prelude.{ℤ, pos, All}
+use Rattle.std.proofs.lemmas.List.{map-append, get_or-set_same, get_or_past, set-get_or}
+use Rattle.std.proofs.lemmas.List.Elements.{All-nil, All-cons, All-head, All-tail, All-push}
 use Rattle.std.proofs.lemmas.Bool.{cases_eq, cases_lt, cond_both}
 use Rattle.std.proofs.Math.Nat.{mod-lt}
 use Rattle.wf_frame.specs.declared.classes.Fate.TheVariants.{Held}
@@ -14,15 +15,15 @@ use Rattle.wf_def_codel.specs.Codel.{Item, Codel, new_codel}
 use Rattle.wf_def_rotation.specs.Rotation.{Rotation, has_key, in_order, with_new_key}
 use Rattle.wf_def_lists.specs.Lists.{on}
 use Rattle.wf_rotation.specs.Rotas.{deficit_at}
-use Rattle.wf_law_rules.proofs.Lemmas.Counts.{on-nil, on-cons_same, on-cons_other, on-append}
+use Rattle.wf_law_rules.proofs.Lemmas.Counts.{on-nil, on-first, on-cons_same, on-cons_other, on-append}
 use Rattle.wf_law_rules.proofs.Lemmas.Counts.{listed-some, listed-none, on_order-none}
-use Rattle.wf_def_world.specs.World.{World, Queue, is_live, tid_of, accepted_count, on_queue, with_queues}
-use Rattle.wf_def_world.specs.FlowQueues.{after_limit as world_within_limit, queue_for as world_queue_for, with_listed_queue as world_listed_queue, with_appended as world_appended, after_put_in as world_put_in}
+use Rattle.wf_def_world.specs.World.{World, Queue, flow_of, is_live, tid_of, accepted_count, on_queue, with_queues}
+use Rattle.wf_def_world.specs.FlowQueues.{calmed, when_listed, after_limit as world_within_limit, queue_for as world_queue_for, with_listed_queue as world_listed_queue, with_appended as world_appended, after_put_in as world_put_in}
 use Rattle.wf_def_world.specs.Step.{with_frame, enqueue_outcome}
-use Rattle.wf_queue_flows.specs.Backlog.{BacklogValue, frames_at, codel_at, item_of}
+use Rattle.wf_queue_flows.specs.Backlog.{BacklogValue, frames_at, codel_at, item_of, with_calmed, backlog_when_listed}
 use Rattle.wf_frame.specs.Classes.{tid_number}
-use Rattle.wf_queue_flows.specs.Flows.{FlowsValue, SettingsValue, queues as queue_count, tid_rotation, is_listed, is_listed_by_another, after_limit, dropped_for_limit, queue_for, with_listed_queue, with_appended, after_put_in, after_put}
-use Rattle.wf_law_runs.proofs.Deficits.Books.{upd, upd_same}
+use Rattle.wf_queue_flows.specs.Flows.{FlowsValue, SettingsValue, queues as queue_count, tid_rotation, is_listed, goes_to_overflow, after_limit, dropped_for_limit, queue_for, with_listed_queue, with_appended, after_put_in, after_put}
+use Rattle.wf_law_runs.proofs.Deficits.Books.{upd, upd_same, upd_other}
 use Rattle.wf_law_runs.proofs.Queues.ShelvedStep.{accepted_put}
 use Rattle.wf_queue_flows_refines.specs.Standing.{Part, flows_part, ids, times_held, Stands, FlowsStandFor}
 use Rattle.wf_queue_flows_refines.proofs.Parts.{accepted_part, part_with_frame, part_on_queue, part_with_queues}
@@ -40,8 +41,20 @@ next_nowhere v p st = elim (cases_lt 0 (times_held v.backlog p.accepted)) [
   | inr few ↦ omega (arith, few)
 ]
 
-pub stands_accepted : (v : FlowsValue) (p : Part) → Stands v p → Stands v (accepted_part p)
-stands_accepted v p st = record {
+-- the flow numbers of frames with other ids stay
+other_flows : (frames : List FrameValue) (flows : ℕ → ℕ) (id flow : ℕ) → on (ids frames) id ≡ 0 →
+    All (λ f. flows f.id ≡ f.flow) frames → All (λ f. upd flows id flow f.id ≡ f.flow) frames
+other_flows [] flows id flow none h = All-nil (λ f. upd flows id flow f.id ≡ f.flow)
+other_flows (f ∷ fs) flows id flow none h = elim (cases_eq f.id id) [
+  | inl e ↦ absurd (omega (arith, none, ap (λ (n : ℕ). on (n ∷ ids fs) id) e, on-cons_same id (ids fs)))
+  | inr other ↦ All-cons (λ g. upd flows id flow g.id ≡ g.flow) f fs
+      (upd_other flows id f.id flow other ∙ All-head (λ g. flows g.id ≡ g.flow) f fs h)
+      (other_flows fs flows id flow (omega (arith, none, on-first f.id id (ids fs)))
+      (All-tail (λ g. flows g.id ≡ g.flow) f fs h))
+]
+
+pub stands_accepted : (v : FlowsValue) (p : Part) (flow : ℕ) → Stands v p → Stands v (accepted_part p flow)
+stands_accepted v p flow st = record {
   sized = st.sized;
   settings = st.settings;
   items = st.items;
@@ -55,6 +68,13 @@ stands_accepted v p st = record {
       ∙ st.fates;
   accepted = λ id h. omega (arith, st.accepted id h);
   held_once = st.held_once;
+  flows = λ q. elim (cases_lt q (length v.backlog.queues)) [
+    | inl low ↦ other_flows (frames_at v.backlog q) p.flows p.accepted flow
+        (omega (arith, next_nowhere v p st, times_at v.backlog q p.accepted low)) (st.flows q)
+    | inr past ↦ subst (All (λ (f : FrameValue). upd p.flows p.accepted flow f.id ≡ f.flow))
+        (sym (get_or_past v.backlog.queues q [] past))
+        (All-nil (λ (f : FrameValue). upd p.flows p.accepted flow f.id ≡ f.flow))
+  ];
 }
 
 -- ---- it goes last into a queue
@@ -63,15 +83,17 @@ abbrev pub appended_part : Part → ℕ → Item → Part
 appended_part p q x = part_with p q (record (p.queues q) { items = (p.queues q).items ++ x ∷ [] })
 
 pub stands_appended : (v : FlowsValue) (p : Part) (q : ℕ) (f : FrameValue) → Stands v p → q < queue_count v →
-    f.id < p.accepted → times_held v.backlog f.id ≡ 0 →
+    f.id < p.accepted → times_held v.backlog f.id ≡ 0 → p.flows f.id ≡ f.flow →
     Stands (with_appended v q f) (appended_part p q (item_of f))
-stands_appended v p q f st low known none =
+stands_appended v p q f st low known none flow =
     let frames : List FrameValue = frames_at v.backlog q ++ f ∷ [] in
     subst (λ (z : FlowsValue). Stands z (appended_part p q (item_of f))) (same_queue v q frames)
     (stands_queue v p q frames (codel_at v.backlog q) (deficit_at v.rotas.deficits q)
     (record (p.queues q) { items = (p.queues q).items ++ item_of f ∷ [] }) st low
     (ap (λ (l : List Item). l ++ item_of f ∷ []) (st.items q)
-    ∙ sym (map-append item_of (frames_at v.backlog q) (f ∷ []))) (st.codels q) (λ i. st.deficits i q)
+    ∙ sym (map-append item_of (frames_at v.backlog q) (f ∷ []))) (st.codels q)
+    (All-push (λ (g : FrameValue). p.flows g.id ≡ g.flow) (frames_at v.backlog q) f (st.flows q) flow)
+    (λ i. st.deficits i q)
     (λ id h. elim (cases_eq id f.id) [
       | inl e ↦ subst (λ (n : ℕ). n < p.accepted) (sym e) known
       | inr other ↦ st.accepted id (omega (
@@ -140,13 +162,14 @@ listed_before r q k other is = elim (cases_lt 0 (on (in_order r) k)) [
 -- a queue that is not listed
 abbrev fresh_part : Part → ℕ → ℕ → ℕ → Part
 fresh_part p s t q = part_with_list (part_with p q
-    (record (p.queues q) { deficit = pos p.config.flow_quantum })) s t (with_new_key (p.lists s t) q)
+    (when_listed p.config (p.queues q))) s t (with_new_key (p.lists s t) q)
 
 abbrev pub listed_part : Part → ℕ → ℕ → ℕ → Part
 listed_part p s t q = if has_key (p.lists s t) q then p else fresh_part p s t q
 
 abbrev fresh_queue : FlowsValue → ℕ → ℕ → FlowsValue
 fresh_queue v i q = record v {
+  backlog = backlog_when_listed v.codel_reset v.backlog q;
   rotas = record
       v.rotas {
         lists = set v.rotas.lists i (with_new_key (tid_rotation v i) q);
@@ -166,10 +189,10 @@ module _ (v : FlowsValue) (p : Part) (s t q : ℕ) (st : Stands v p) (low_s : s 
       let d : ℤ = pos v.flow_quantum in
       let same : pos p.config.flow_quantum ≡ d = ap (λ (x : SettingsValue). pos x.flow_quantum)
       (sym st.settings) in
-      let y : Queue = record (p.queues q) { deficit = pos p.config.flow_quantum } in
+      let y : Queue = when_listed p.config (p.queues q) in
       let r : Rotation = with_new_key (tid_rotation v (tid_number s t)) q in
-      let paid : Stands (with_queue v q (frames_at v.backlog q) (codel_at v.backlog q) d) (part_with p q y) =
-      stands_queue v p q (frames_at v.backlog q) (codel_at v.backlog q) d y st low (st.items q) (st.codels q)
+      let paid : Stands (with_queue v q (frames_at v.backlog q) state d) (part_with p q y) =
+      stands_queue v p q (frames_at v.backlog q) state d y st low (st.items q) same_state (st.flows q)
       (λ j h. same)
       (λ id h. st.accepted id (omega (
         arith,
@@ -177,7 +200,7 @@ module _ (v : FlowsValue) (p : Part) (s t q : ℕ) (st : Stands v p) (low_s : s 
         times_at v.backlog q id
             (omega (arith, low, st.sized.queues)),
       ))) (λ id. omega (arith, st.held_once id)) in
-      let u : FlowsValue = with_queue v q (frames_at v.backlog q) (codel_at v.backlog q) d in
+      let u : FlowsValue = with_queue v q (frames_at v.backlog q) state d in
       let fresh : deficit_at u.rotas.deficits q ≡ d =
       get_or-set_same v.rotas.deficits q d (pos 0) (omega (arith, low, st.sized.deficits)) in
       let listed : Stands (with_list u (tid_number s t) r) (part_with_list (part_with p q y) s t r) =
@@ -199,14 +222,29 @@ module _ (v : FlowsValue) (p : Part) (s t q : ℕ) (st : Stands v p) (low_s : s 
       (subst (λ (b : BacklogValue). Stands (record (fresh_queue v (tid_number s t) q) { backlog = b })
       (part_with_list (part_with p q y) s t r)) same_backlog listed)
     where
+      state : Codel
+      state = if v.codel_reset == 1 then calmed (codel_at v.backlog q) else codel_at v.backlog q
+
+      same_state : (when_listed p.config (p.queues q)).codel ≡ state
+      same_state = ap (λ (x : SettingsValue). if x.codel_reset == 1 then calmed (p.queues q).codel
+          else (p.queues q).codel) (sym st.settings)
+          ∙ ap (λ (c : Codel). if v.codel_reset == 1 then calmed c else c) (st.codels q)
+
       same_backlog : record v.backlog {
         queues = set v.backlog.queues q (frames_at v.backlog q);
-        codels =
-            set v.backlog.codels q (codel_at v.backlog q);
-      } ≡ v.backlog
-      same_backlog = ap₂ (λ (all : List (List FrameValue)) (cs : List Codel).
-          record v.backlog { queues = all; codels = cs }) (set-get_or v.backlog.queues q [])
-          (set-get_or v.backlog.codels q new_codel)
+        codels = set v.backlog.codels q state;
+      } ≡ backlog_when_listed v.codel_reset v.backlog q
+      same_backlog = ap (λ (all : List (List FrameValue)).
+          record v.backlog { queues = all; codels = set v.backlog.codels q state })
+          (set-get_or v.backlog.queues q []) ∙ go (v.codel_reset == 1)
+        where
+          go : (b : Bool) → record v.backlog {
+            codels =
+                set v.backlog.codels q (if b then calmed (codel_at v.backlog q) else codel_at v.backlog q);
+          } ≡ (if b then with_calmed v.backlog q else v.backlog)
+          go true = refl
+          go false = ap (λ (cs : List Codel). record v.backlog { codels = cs })
+              (set-get_or v.backlog.codels q new_codel)
 
   pub stands_listed : Stands (with_listed_queue v (tid_number s t) q) (listed_part p s t q)
   unfolding with_listed_queue
@@ -230,16 +268,16 @@ unfolding world_listed_queue
 part_listed w s t q live = go (has_key (tid_of w s t).queues q)
   where
     go : (b : Bool) → flows_part (if b then w else with_queues
-        (on_queue w q (λ y. record y { deficit = pos w.config.flow_quantum })) s t
+        (on_queue w q (when_listed w.config)) s t
         (with_new_key (tid_of w s t).queues q)) ≡
         (if b then flows_part w else fresh_part (flows_part w) s t q)
     go true = refl
     go false =
-        part_with_queues (on_queue w q (λ y. record y { deficit = pos w.config.flow_quantum })) s t
+        part_with_queues (on_queue w q (when_listed w.config)) s t
         (with_new_key (tid_of w s t).queues q) (live_on w q
-        (λ y. record y { deficit = pos w.config.flow_quantum }) s ∙ live)
+        (when_listed w.config) s ∙ live)
         ∙ ap (λ (p : Part). part_with_list p s t (with_new_key (tid_of w s t).queues q))
-        (part_on_queue w q (λ y. record y { deficit = pos w.config.flow_quantum }))
+        (part_on_queue w q (when_listed w.config))
 
 -- ---- the whole put
 
@@ -247,20 +285,20 @@ part_listed w s t q live = go (has_key (tid_of w s t).queues q)
 pub queue_below : (v : FlowsValue) (s t flow : ℕ) → 1 ≤ v.flows → s < v.stations → t < 8 →
     queue_for v (tid_number s t) flow < queue_count v
 unfolding queue_for
-queue_below v s t flow some low_s low_t = cond_both (is_listed_by_another v (tid_number s t) (flow % v.flows))
+queue_below v s t flow some low_s low_t = cond_both (goes_to_overflow v (tid_number s t) (flow % v.flows))
     (v.flows + tid_number s t) (flow % v.flows) (λ (n : ℕ). n < queue_count v)
     (λ e. omega arith) (λ e. let m : flow % v.flows < v.flows = mod-lt flow some in omega arith)
 
 -- the frame may be accepted before it is put in
-accepted_listed : (p : Part) (s t q : ℕ) (x : Item) →
-    accepted_part (listed_part (appended_part p q x) s t q)
-    ≡ listed_part (appended_part (accepted_part p) q x) s t q
-accepted_listed p s t q x = go (has_key (p.lists s t) q)
+accepted_listed : (p : Part) (s t q flow : ℕ) (x : Item) →
+    accepted_part (listed_part (appended_part p q x) s t q) flow
+    ≡ listed_part (appended_part (accepted_part p flow) q x) s t q
+accepted_listed p s t q flow x = go (has_key (p.lists s t) q)
   where
     go : (b : Bool) → accepted_part (if b then appended_part p q x
-        else fresh_part (appended_part p q x) s t q)
-        ≡ (if b then appended_part (accepted_part p) q x
-        else fresh_part (appended_part (accepted_part p) q x) s t q)
+        else fresh_part (appended_part p q x) s t q) flow
+        ≡ (if b then appended_part (accepted_part p flow) q x
+        else fresh_part (appended_part (accepted_part p flow) q x) s t q)
     go true = refl
     go false = refl
 
@@ -270,13 +308,14 @@ live_appended w q x s = refl
 
 part_put : (w : World) (s t q : ℕ) (x : Item) (note : Note) → is_live w s ≡ true →
     flows_part (with_frame (world_put_in w s t q x) note)
-    ≡ listed_part (appended_part (accepted_part (flows_part w)) q x) s t q
+    ≡ listed_part (appended_part (accepted_part (flows_part w) (flow_of note)) q x) s t q
 unfolding world_put_in
 part_put w s t q x note live =
     part_with_frame (world_listed_queue (world_appended w q x) s t q) note
-    ∙ ap accepted_part (part_listed (world_appended w q x) s t q (live_appended w q x s ∙ live)
+    ∙ ap (λ (p : Part). accepted_part p (flow_of note)) (part_listed (world_appended w q x) s t q
+    (live_appended w q x s ∙ live)
     ∙ ap (λ (p : Part). listed_part p s t q) (part_appended w q x))
-    ∙ accepted_listed (flows_part w) s t q x
+    ∙ accepted_listed (flows_part w) s t q (flow_of note) x
 
 pub stands_put : (v : FlowsValue) (w : World) (s t : ℕ) (f : FrameValue) → FlowsStandFor v w →
     is_live w s ≡ true → s < w.config.stations → t < 8 → f.id ≡ accepted_count w → f.stamp ≡ w.clock
@@ -292,22 +331,27 @@ stands_put v w s t f st live high_s low_t next now =
     let q : ℕ = queue_for u (tid_number s t) f.flow in
     let low : q < queue_count u = queue_below u s t f.flow st'.sized.some_flows low_s low_t in
     let id_is : f.id ≡ accepted_count w' = next ∙ sym b.accepted in
-    let joined : Stands u (accepted_part (flows_part w')) = stands_accepted u (flows_part w') st' in
+    let joined : Stands u (accepted_part (flows_part w') f.flow) = stands_accepted u (flows_part w')
+    f.flow st' in
     let none : times_held u.backlog f.id ≡ 0 = ap (times_held u.backlog) id_is
     ∙ next_nowhere u (flows_part w') st' in
-    let added : Stands (with_appended u q f) (appended_part (accepted_part (flows_part w')) q (item_of f)) =
-    stands_appended u (accepted_part (flows_part w')) q f joined low (omega (arith, id_is)) none in
+    let added : Stands (with_appended u q f) (appended_part (accepted_part (flows_part w') f.flow) q
+    (item_of f)) =
+    stands_appended u (accepted_part (flows_part w') f.flow) q f joined low (omega (arith, id_is)) none
+    (ap (upd (flows_part w').flows (accepted_count w') f.flow) id_is
+    ∙ upd_same (flows_part w').flows (accepted_count w') f.flow) in
     let all : Stands (after_put_in u (tid_number s t) q f)
-    (listed_part (appended_part (accepted_part (flows_part w')) q (item_of f)) s t q) =
-    stands_listed (with_appended u q f) (appended_part (accepted_part (flows_part w')) q (item_of f)) s t
+    (listed_part (appended_part (accepted_part (flows_part w') f.flow) q (item_of f)) s t q) =
+    stands_listed (with_appended u q f) (appended_part (accepted_part (flows_part w') f.flow) q (item_of
+    f)) s t
     q added low_s low_t low in
     let x : Item = record { id = accepted_count w; stamp = w.clock; len = length f.body } in
     let item : item_of f ≡ x = ap₂ (λ (a c : ℕ). let y : Item =
     record { id = a; stamp = c; len = length f.body } in y) next now in
     let q_is : q ≡ world_queue_for w' s t f.flow = same_queue_for u w' s t f.flow st' low_s low_t in
     subst (λ (p : Part). Stands (after_put_in u (tid_number s t) q f) p)
-    (ap (λ (y : Item). listed_part (appended_part (accepted_part (flows_part w')) q y) s t q) item
-    ∙ ap (λ (n : ℕ). listed_part (appended_part (accepted_part (flows_part w')) n x) s t n) q_is
+    (ap (λ (y : Item). listed_part (appended_part (accepted_part (flows_part w') f.flow) q y) s t q) item
+    ∙ ap (λ (n : ℕ). listed_part (appended_part (accepted_part (flows_part w') f.flow) n x) s t n) q_is
     ∙ sym (part_put w' s t (world_queue_for w' s t f.flow) x (Enqueue s t f.flow (length f.body))
     (b.live s ∙ live)))
     all

@@ -1,8 +1,9 @@
 -- Proves that each reader of the flow queues returns what the world's reader returns.
 use Rattle.std.proofs.Common.{◌≡◌, refl, ap, ap₂, sym, ◌∙◌, arith, ℕ, zero, suc, ◌+◌, ◌*◌, ◌/◌, ◌%◌, ◌<◌, ◌≤◌, ◌==◌, Bool, true, false, not, ◌&&◌, ◌||◌, if◌then◌else◌, List, [], ◌∷◌, map, filter, length, get_or, Option, Some, None, is_some, unwrap_or, eq-eqb, inl, inr}
-use Rattle.std.specs.Prelude.{nat_le, sum_by}
+use Rattle.std.specs.Prelude.{nat_le, sum_by, All}
 use Rattle.std.specs.List.{list_any}
 use Rattle.std.proofs.Math.Path.{fun_ext}
+use Rattle.std.proofs.lemmas.List.Elements.{All-head, All-tail}
 use Rattle.std.proofs.lemmas.List.{length-map}
 use Rattle.std.proofs.lemmas.List.Sums.{sum_by-cons}
 use Rattle.std.proofs.lemmas.Bool.{cases_Bool, cases_eq, ne_eqb, not_from_false, not_from_true, and_from, and_parts, or_left, or_right}
@@ -10,12 +11,12 @@ use Rattle.wf_frame.specs.Frames.{FrameValue}
 use Rattle.wf_def_lists.specs.Table.{at, has, upto, count_from}
 use Rattle.wf_def_codel.specs.Codel.{Item, octets}
 use Rattle.wf_def_rotation.specs.Rotation.{Rotation, has_key, in_order}
-use Rattle.wf_def_world.specs.World.{World, Station, Queue, new_queue, no_tid, no_station, queue, tid_of, is_live, live_stations}
-use Rattle.wf_def_world.specs.FlowQueues.{total_queued, head_id, frames_queued as world_queued, longest_queue as world_longest, is_listed_elsewhere as world_listed_elsewhere, queue_for as world_queue_for, dropped_for_limit as world_dropped, is_at_limit as world_at_limit}
+use Rattle.wf_def_world.specs.World.{World, Station, Queue, new_queue, no_tid, no_station, flow_of, frame, queue, tid_of, is_live, live_stations}
+use Rattle.wf_def_world.specs.FlowQueues.{total_queued, head_id, frames_queued as world_queued, longest_queue as world_longest, is_listed_elsewhere as world_listed_elsewhere, stays_over as world_stays_over, goes_over as world_goes_over, queue_for as world_queue_for, dropped_for_limit as world_dropped, is_at_limit as world_at_limit}
 use Rattle.wf_def_world.proofs.Longest.{octets_at, longest_same}
 use Rattle.wf_queue_flows.specs.Backlog.{frames_at, in_queues, item_of, first_id}
 use Rattle.wf_frame.specs.Classes.{tid_number}
-use Rattle.wf_queue_flows.specs.Flows.{FlowsValue, SettingsValue, tids, tid_rotation, is_listed, frames_of_tid, as_queue, longest_queue, dropped_for_limit, is_listed_by_another, queue_for}
+use Rattle.wf_queue_flows.specs.Flows.{FlowsValue, SettingsValue, tids, tid_rotation, is_listed, frames_of_tid, as_queue, longest_queue, dropped_for_limit, is_listed_by_another, is_of_queue, is_in_overflow, goes_to_overflow, queue_for}
 use Rattle.wf_law_rules.proofs.Lemmas.Numbers.{same_bool, either, eq_yes}
 use Rattle.wf_law_rules.proofs.Lemmas.Members.{has_filter}
 use Rattle.wf_queue_flows_refines.specs.Standing.{FlowsStandFor}
@@ -242,6 +243,39 @@ module _ (v : FlowsValue) (w : World) (st : FlowsStandFor v w) (s t q : ℕ) (lo
   same_elsewhere low_s = same_bool (list_any in_code (upto (tids v)))
       (list_any (λ a. list_any (in_world a) (upto 8)) (live_stations w)) to_world (to_code low_s)
 
+-- ---- the queue for a frame
+
+-- one of the frames is of the flow queue, by the flow numbers of the calls that brought them
+same_any : (frames : List FrameValue) (notes : ℕ → ℕ) (n q : ℕ) → All (λ f. notes f.id ≡ f.flow) frames →
+    list_any (is_of_queue n q) frames ≡ list_any (λ (x : Item). (notes x.id % n) == q) (map item_of frames)
+same_any [] notes n q h = refl
+same_any (f ∷ fs) notes n q h = ap₂ (λ (k : ℕ) (b : Bool). ((k % n) == q) || b)
+    (sym (All-head (λ g. notes g.id ≡ g.flow) f fs h))
+    (same_any fs notes n q (All-tail (λ g. notes g.id ≡ g.flow) f fs h))
+
+-- whether a TID's overflow queue holds a frame of a flow queue
+same_stays : (v : FlowsValue) (w : World) (s t q : ℕ) → FlowsStandFor v w →
+    is_in_overflow v (tid_number s t) q ≡ world_stays_over w s t q
+same_stays v w s t q st =
+    let flows : v.flows ≡ w.config.flows = ap (λ (x : SettingsValue). x.flows) st.settings in
+    let over : v.flows + (8 * s + t) ≡ w.config.flows + 8 * s + t = omega (arith, flows) in
+    same_any (frames_at v.backlog (v.flows + (8 * s + t))) (λ id. flow_of (frame w id).note) v.flows q
+    (st.flows (v.flows + (8 * s + t)))
+    ∙ ap (list_any (λ (x : Item). (flow_of (frame w x.id).note % v.flows) == q))
+    (sym (st.items (v.flows + (8 * s + t))))
+    ∙ ap₂ (λ (n m : ℕ). list_any (λ (x : Item). (flow_of (frame w x.id).note % n) == q) (queue w m).items)
+    flows over
+
+-- whether a frame of a flow queue goes into the TID's overflow queue
+same_over : (v : FlowsValue) (w : World) (st : FlowsStandFor v w) (s t q : ℕ) → t < 8 → s < v.stations →
+    goes_to_overflow v (tid_number s t) q ≡ world_goes_over w s t q
+unfolding goes_to_overflow
+same_over v w st s t q low_t low_s =
+    ap (λ (b : Bool). b || ((v.keep_order == 1) && is_in_overflow v (tid_number s t) q))
+    (same_elsewhere v w st s t q low_t low_s)
+    ∙ ap₂ (λ (n : ℕ) (b : Bool). world_listed_elsewhere w s t q || ((n == 1) && b))
+    (ap (λ (x : SettingsValue). x.keep_order) st.settings) (same_stays v w s t q st)
+
 -- the queue for a frame
 pub same_queue_for : (v : FlowsValue) (w : World) (s t flow : ℕ) → FlowsStandFor v w → s < v.stations →
     t < 8 → queue_for v (tid_number s t) flow ≡ world_queue_for w s t flow
@@ -250,5 +284,5 @@ same_queue_for v w s t flow st low_s low_t =
     let flows : v.flows ≡ w.config.flows = ap (λ (x : SettingsValue). x.flows) st.settings in
     let overflow : v.flows + (8 * s + t) ≡ w.config.flows + 8 * s + t = omega (arith, flows) in
     ap (λ (b : Bool). if b then v.flows + (8 * s + t) else flow % v.flows)
-    (same_elsewhere v w st s t (flow % v.flows) low_t low_s)
-    ∙ ap₂ (λ (n m : ℕ). if world_listed_elsewhere w s t (flow % m) then n else flow % m) overflow flows
+    (same_over v w st s t (flow % v.flows) low_t low_s)
+    ∙ ap₂ (λ (n m : ℕ). if world_goes_over w s t (flow % m) then n else flow % m) overflow flows

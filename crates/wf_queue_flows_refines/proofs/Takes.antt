@@ -3,6 +3,7 @@
 use Rattle.std.proofs.Common.{◌≡◌, refl, ap, ap₂, sym, ◌∙◌, subst, arith, ℕ, zero, suc, ◌+◌, ◌*◌, ◌<◌, ◌≤◌, true, if◌then◌else◌, List, [], ◌∷◌, ◌++◌, map, length, take, drop, Option, Some, None, inl, inr}
 use Rattle.std.specs.Prelude.{ℤ, pos, ◌+ℤ◌, ◌-ℤ◌, option_map, unwrap_or, slice_get}
 use Rattle.std.proofs.lemmas.List.{take-append-drop}
+use Rattle.std.proofs.lemmas.List.Elements.{All-drop}
 use Rattle.std.proofs.lemmas.Bool.{cases_lt}
 use Rattle.wf_frame.specs.declared.classes.Cause.TheVariants.{Codel as By_codel}
 use Rattle.wf_frame.specs.declared.classes.Fate.TheVariants.{Dropped}
@@ -157,6 +158,7 @@ module _ (v : FlowsValue) (w : World) (st : FlowsStandFor v w) (s t : ℕ) (live
     fates = st.fates;
     accepted = st.accepted;
     held_once = st.held_once;
+    flows = st.flows;
   }
 
   still_listed : (q : ℕ) → has_key (pick_of_tid v (tid_number s t)).lists q ≡ true → has_key own q ≡ true
@@ -271,7 +273,10 @@ module _ (v : FlowsValue) (w : World) (st : FlowsStandFor v w) (s q : ℕ) (low 
             (ids (take count frames)) known) ∙ ap (λ (l : List ℕ).
             flows_part (with_frames_finished (on_queue w q left_queue) (Dropped By_codel) l)) (sym k.dropped))
             (stands_moved v (flows_part w) st q low (take count frames) (drop count frames)
-            (drop (suc count) frames) split (fewer_left count frames) cut.state
+            (drop (suc count) frames) split (fewer_left count frames)
+            (All-drop (λ (f : FrameValue). (flows_part w).flows f.id ≡ f.flow) (suc count) frames
+            (st.flows q))
+            cut.state
             (deficit_at v.rotas.deficits q -ℤ pos (length_given (given_at p now v.backlog q)))
             (left_queue (queue w q)) (Dropped By_codel) k.rest refl
             (λ j h. ap₂ (λ (d : ℤ) (n : ℕ). d -ℤ pos n) (st.deficits j q h)

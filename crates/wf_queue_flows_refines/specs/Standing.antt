@@ -5,14 +5,14 @@
 -- frames themselves in the queues. A world has tables that grow: one for the queues, with their CoDel
 -- states and deficits, and the rotations in the stations' entries. It stores of a queued frame only what
 -- CoDel needs; the fate of a frame is stored under its id.
-use Rattle.std.specs.Prelude.{◌≡◌, ◌<◌, ◌≤◌, ℕ, ◌+◌, true, List, ◌∷◌, [], length, map, sum_by, Option, Some, None}
+use Rattle.std.specs.Prelude.{◌≡◌, ◌<◌, ◌≤◌, ℕ, ◌+◌, true, All, List, ◌∷◌, [], length, map, sum_by, Option, Some, None}
 use Rattle.wf_frame.specs.declared.settings.Config.{Config}
 use Rattle.wf_frame.specs.declared.classes.Fate.{Fate}
 use Rattle.wf_frame.specs.Frames.{FrameValue}
 use Rattle.wf_def_rotation.specs.Rotation.{Rotation, has_key as lists_of, in_order}
 use Rattle.wf_def_lists.specs.Lists.{on}
 use Rattle.wf_rotation.specs.Rotas.{deficit_at, quantum_at}
-use Rattle.wf_def_world.specs.World.{World, Queue, tid_of, queue, frame, accepted_count}
+use Rattle.wf_def_world.specs.World.{World, Queue, flow_of, tid_of, queue, frame, accepted_count}
 use Rattle.wf_queue_flows.specs.Backlog.{BacklogValue, frames_at, codel_at, item_of}
 use Rattle.wf_frame.specs.Classes.{tid_number}
 use Rattle.wf_queue_flows.specs.Flows.{FlowsValue, SettingsValue, settings, tids, queues as queue_count, tid_rotation}
@@ -25,6 +25,7 @@ pub record Part : Type 0 where
   pub lists : ℕ → ℕ → Rotation  -- by station and TID: the queues that it lists
   pub queues : ℕ → Queue  -- by number
   pub fates : ℕ → Fate  -- by id
+  pub flows : ℕ → ℕ  -- the flow number of an accepted frame, by its id
   pub accepted : ℕ
   pub finished : List ℕ
 
@@ -34,6 +35,7 @@ flows_part w = record {
   lists = λ s t. (tid_of w s t).queues;
   queues = λ q. queue w q;
   fates = λ id. (frame w id).fate;
+  flows = λ id. flow_of (frame w id).note;
   accepted = accepted_count w;
   finished = w.finished;
 }
@@ -43,8 +45,9 @@ settings_in c = record {
   flows = c.flows;
   stations = c.stations;
   limit = c.limit;
-  flow_quantum =
-      c.flow_quantum;
+  flow_quantum = c.flow_quantum;
+  keep_order = c.keep_order;
+  codel_reset = c.codel_reset;
   room = c.room;
 }
 
@@ -83,7 +86,8 @@ pub record AreFlowsSized (v : FlowsValue) : Type 0 where
 -- same frames and CoDel state; each TID lists the same queues, each at most once, with the same
 -- deficits. The deficit of a queue that no TID lists does not matter, since listing sets it. The
 -- finished lists are the same, and the world has the same fate for each finished frame. Each queued or
--- finished frame was accepted, and is there once.
+-- finished frame was accepted, and is there once. Each queued frame has the flow number of the call that
+-- brought it.
 pub record Stands (v : FlowsValue) (p : Part) : Type 0 where
   pub sized : AreFlowsSized v
   pub settings : settings v ≡ settings_in p.config
@@ -98,6 +102,7 @@ pub record Stands (v : FlowsValue) (p : Part) : Type 0 where
   pub fates : map (λ f. p.fates f.id) v.backlog.finished ≡ map (λ f. f.fate) v.backlog.finished
   pub accepted : (id : ℕ) → 0 < times_held v.backlog id → id < p.accepted
   pub held_once : (id : ℕ) → times_held v.backlog id ≤ 1
+  pub flows : (q : ℕ) → All (λ f. p.flows f.id ≡ f.flow) (frames_at v.backlog q)
 
 -- The flow queues v agree with those of the world w.
 abbrev pub FlowsStandFor : FlowsValue → World → Type 0

@@ -1,3 +1,4 @@
+-- Lists the modules of proofs/ of wf_queue_parts. Other crates may use those that are `pub`.
 mod Linked
 mod Nodes
 mod NodeSend

@@ -1,1 +1,2 @@
+-- Lists the modules of specs/ of wf_recv_marks.
 pub mod Marks

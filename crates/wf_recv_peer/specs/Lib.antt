@@ -1,3 +1,4 @@
+-- Lists the modules of specs/ of wf_recv_peer.
 pub mod Board
 pub mod Buffer
 pub mod Agreements

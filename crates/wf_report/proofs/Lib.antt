@@ -1,3 +1,4 @@
+-- Lists the modules of proofs/ of wf_report. Other crates may use those that are `pub`.
 mod Rows
 mod ShareLaws
 mod Counted

@@ -1,3 +1,4 @@
+-- Lists the modules of specs/ of wf_report.
 pub mod Replies
 pub mod Parts
 pub mod Frames

@@ -1,3 +1,4 @@
+-- Lists the modules of proofs/ of wf_rotation. Other crates use none of them.
 mod LeastLemmas
 mod CountLemmas
 mod ListsLemmas

@@ -1,3 +1,4 @@
+-- Lists the modules of specs/ of wf_rotation.
 pub mod Rotas
 pub mod Cuts
 pub mod Lists

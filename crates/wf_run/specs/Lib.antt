@@ -1,3 +1,4 @@
+-- Lists the modules of specs/ of wf_run.
 pub mod Outcome
 pub mod Commands
 pub mod Runs

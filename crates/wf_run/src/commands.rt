@@ -34,6 +34,7 @@ use wf_run_scripts::uplink::uplink;
 /// Runs the soak of a seed and a number of calls, 1 to 1,000,000, and writes its summary.
 ///
 /// `Status::NoMemory` means that memory ran out, and `Status::WriteFault` that the sink failed.
+#[inline(never)]
 pub fn soaked<K: Sink>(alloc: Global, seed: u64, calls: u32, sink: &mut K) -> Status
     requires { (1 ≤ calls) × (calls ≤ 1000000) }
     ensures ends { CommandWrites K.held K.faults (λ status written. SoakStatusSays status seed calls written)
@@ -106,7 +107,17 @@ pub fn run<R: Threads + Wait + Sync, S: Source, K: Sink, T: Turnstile + Sync>(
     carry_out(rt, alloc, command_from(words), source, sink, turnstile)
 }
 
+// Lists a capture. It is a function of its own, so that its stack does not add to that of other commands.
+#[inline(never)]
+fn listed<S: Source, K: Sink>(alloc: Global, source: &mut S, sink: &mut K) -> Status
+    ensures ends { CommandEnds S.left S.faults K.held K.faults FramesOutcome FramesAnswered
+        source.old source.new sink.old sink.new result }
+{
+    frames(alloc, source, sink)
+}
+
 // Runs a command, or does nothing if there is none.
+#[inline(never)]
 fn carry_out<R: Threads + Wait + Sync, S: Source, K: Sink, T: Turnstile + Sync>(
     rt: &R,
     alloc: Global,
@@ -133,7 +144,7 @@ fn carry_out<R: Threads + Wait + Sync, S: Source, K: Sink, T: Turnstile + Sync>(
         ) => lived(rt, alloc, seed, senders, frames, sink, turnstile),
         Some(Command::Session) => session(alloc, source, sink),
         Some(Command::Uplink) => uplink(alloc, source, sink),
-        Some(Command::Frames) => frames(alloc, source, sink),
+        Some(Command::Frames) => listed(alloc, source, sink),
         Some(Command::Help(topic)) => help(topic, sink),
         Some(Command::Version) => version(sink),
     }

@@ -1,3 +1,4 @@
+-- Lists the modules of proofs/ of wf_run_histories. Other crates may use those that are `pub`.
 mod Names
 mod Openings
 mod Prints

@@ -1,3 +1,4 @@
+-- Lists the modules of specs/ of wf_run_histories.
 pub mod Desks
 pub mod Drivers
 pub mod Makings

@@ -1,3 +1,4 @@
+-- Lists the modules of proofs/ of wf_run_replay. Other crates may use those that are `pub`.
 mod Cells
 mod Sendings
 mod Tellings

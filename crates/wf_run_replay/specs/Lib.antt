@@ -1,3 +1,4 @@
+-- Lists the modules of specs/ of wf_run_replay.
 pub mod Texts
 pub mod Running
 pub mod Sending

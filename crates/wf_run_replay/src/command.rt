@@ -17,6 +17,7 @@ use wf_io::{Sink, Source, Status};
 /// It writes the answer lines of all calls that it has read before it reads the source again, and the summary
 /// after the `end` line. If the trace has a fault, it writes the fault line instead of the summary. Octets
 /// after the `end` line are ignored.
+#[inline(never)]
 pub fn replay<S: Source, K: Sink>(alloc: Global, source: &mut S, sink: &mut K) -> Status
     ensures ends { CommandEnds S.left S.faults K.held K.faults StatusSays TraceAnswered
         source.old source.new sink.old sink.new result }

@@ -78,6 +78,7 @@ fn cell_for(alloc: Global, config: Config) -> Result<Cell, AllocError>
 impl Plays for Stage {
     ghost past = { λ s. s };
 
+    #[inline(never)]
     fn open(alloc: Global, config: Config) -> Result<Self, AllocError>
         requires { IsInRange config }
         ensures { IfOk result (λ stage. stage ≡ record { config = config; history = [] }) }

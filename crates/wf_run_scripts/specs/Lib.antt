@@ -1,3 +1,4 @@
+-- Lists the modules of specs/ of wf_run_scripts.
 pub mod SessionLines
 pub mod SessionAnswers
 pub mod Wires

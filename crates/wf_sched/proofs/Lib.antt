@@ -1,2 +1,3 @@
+-- Lists the modules of proofs/ of wf_sched. Other crates may use those that are `pub`.
 mod Loops
 pub mod Views

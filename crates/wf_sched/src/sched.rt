@@ -15,9 +15,6 @@ use std::marker::Model;
 use wf_frame::Class;
 use wf_rotation::{Rota, Side};
 
-/// The greatest debt, in microseconds, that a receive charge may leave.
-const DEEPEST_DEBT: i64 = 1_000_000;
-
 /// The scheduler: for each access class a rotation of the stations that may have frames to send, and each
 /// station's deficit of airtime in microseconds. Stations are numbered from 0.
 ///
@@ -102,17 +99,18 @@ impl Sched {
 
     /// Subtracts the airtime of a frame that the station sent, in microseconds, from its deficit in a class,
     /// and returns the new deficit ("Ending the Anomaly", section 3.2: received airtime is charged too).
-    /// Fails with `Debt` if the deficit would be below -1,000,000 microseconds; then nothing changes.
-    pub fn rx(&mut self, station: u16, class: Class, air: u32) -> Result<i64, Debt>
+    /// Fails with `Debt` if the deficit would be below -`debt` microseconds; then nothing changes.
+    pub fn rx(&mut self, station: u16, class: Class, air: u32, debt: u32) -> Result<i64, Debt>
         requires { station < self.old.stations }
-        ensures refused { IsErr result ↔ (deficit self.old class station -ℤ pos air) <ℤ deepest_deficit }
+        ensures refused { IsErr result ↔
+            (deficit self.old class station -ℤ pos air) <ℤ deepest_deficit debt }
         ensures outcome { MatchResult result
             (λ left. (left ≡ deficit self.old class station -ℤ pos air) ×
             (self.new ≡ with_deficit self.old class station left))
-            (λ debt. (debt.deficit ≡ deficit self.old class station) × (self.new ≡ self.old)) }
+            (λ refusal. (refusal.deficit ≡ deficit self.old class station) × (self.new ≡ self.old)) }
     {
         let deficit = self.deficit(station, class);
-        if deficit < i64::from(air) - DEEPEST_DEBT {
+        if deficit < i64::from(air) - i64::from(debt) {
             return Err(Debt { deficit });
         }
         self.charge(station, class, air);

@@ -85,11 +85,11 @@ receive_reply v w s c air h is = ap (λ (z : ℤ). Charged (z -ℤ pos air)) (sy
 -- both sides refuse a receive charge by the same test
 pub debt_same : (v : SchedValue) (w : World) (s : ℕ) (c : Class) (air : ℕ) → SchedulerStandsFor v w →
     is_live w s ≡ true →
-    ((deficit v c s -ℤ pos air) <ℤ deepest_deficit ↔
-    int_lt ((share w s c).deficit -ℤ pos air) deepest_deficit ≡ true)
-debt_same v w s c air h is = subst (λ (z : ℤ). (deficit v c s -ℤ pos air) <ℤ deepest_deficit ↔
-    int_lt (z -ℤ pos air) deepest_deficit ≡ true) (h.deficits s c is)
-    (by_test (deficit v c s -ℤ pos air) deepest_deficit)
+    ((deficit v c s -ℤ pos air) <ℤ deepest_deficit w.config.debt ↔
+    int_lt ((share w s c).deficit -ℤ pos air) (deepest_deficit w.config.debt) ≡ true)
+debt_same v w s c air h is = subst (λ (z : ℤ). (deficit v c s -ℤ pos air) <ℤ deepest_deficit w.config.debt ↔
+    int_lt (z -ℤ pos air) (deepest_deficit w.config.debt) ≡ true) (h.deficits s c is)
+    (by_test (deficit v c s -ℤ pos air) (deepest_deficit w.config.debt))
   where
     by_test : (a b : ℤ) → (a <ℤ b ↔ int_lt a b ≡ true)
     by_test a b = grind arith

@@ -1,2 +1,3 @@
+-- Lists the modules of specs/ of wf_sched_refines.
 pub mod Standing
 pub mod Calls

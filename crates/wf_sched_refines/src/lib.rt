@@ -83,8 +83,8 @@ pub fn a_receive_charge()
         (rx_outcome w s c air).reply ≡ Charged (deficit v c s -ℤ pos air) }
     ensures refused { (v : SchedValue) (w : World) (s : ℕ) (c : Class) (air : ℕ) → SchedulerStandsFor v w →
         is_live w s ≡ true →
-        ((deficit v c s -ℤ pos air) <ℤ deepest_deficit ↔
-        int_lt ((share w s c).deficit -ℤ pos air) deepest_deficit ≡ true) }
+        ((deficit v c s -ℤ pos air) <ℤ deepest_deficit w.config.debt ↔
+        int_lt ((share w s c).deficit -ℤ pos air) (deepest_deficit w.config.debt) ≡ true) }
 {}
 
 /// Both sides still agree after a station joins. Its deficit and its quantum in each class are the setting

@@ -1,5 +1,5 @@
--- A frame that comes into a path: the flag of its station, and that of the station that loses a frame to the
--- limit.
+-- Proves that the flags are right after an enqueue that sets two of them: the flag of the frame's station,
+-- and that of the station which loses a frame to the limit, if one does.
 use Rattle.std.proofs.Common.{◌≡◌, refl, ap, ap₂, sym, ◌∙◌, subst, arith, ℕ, ◌<◌, ◌≤◌, Bool, true, false, ◌||◌, length, Option, Some, None, ◌⊎◌, inl, inr}
 use Rattle.std.specs.Prelude.{nat_lt}
 use Rattle.std.proofs.lemmas.Bool.Decides.{nat_tests}
@@ -37,7 +37,8 @@ either : (a b : Bool) → (a || b) ≡ true → (a ≡ true) ⊎ (b ≡ true)
 either true b e = inl refl
 either false b e = inr e
 
--- the flags that an enqueue may turn: its station's in the class of its TID, and those of who loses a frame
+-- the flags that an enqueue may change: its station's in the class of its TID, and the flag of the station
+-- and class that lose a frame
 abbrev pub Turned : World → FrameValue → ℕ → Class → Type 0
 Turned w f i d = ((i ≡ f.station) × (class_of f.tid ≡ d)) ⊎
     (loses_in w (Enqueue f.station f.tid f.flow (length f.body)) i d ≡ true)
@@ -80,7 +81,7 @@ module _ (v y : TransmitValue) (r : Flags) (flags : AreFlags v r) (w : World) (b
           (Less (Turned w f) f.station c)
       own_set = set_one y r (Turned w f) f.station c (nearly_enqueued some most) low
 
-      -- nobody loses a frame
+      -- no station loses a frame
       pub enqueued_alone : (loser : Option (ℕ × ℕ)) →
           ((s t : ℕ) → t < 8 → loses_next v.flows s t ≡ true → loser ≡ Some (s, t)) → loser ≡ None →
           AreFlags y (with_flag r c f.station (is_ready_of y c f.station))
@@ -100,7 +101,7 @@ module _ (v y : TransmitValue) (r : Flags) (flags : AreFlags v r) (w : World) (b
           left : (i : ℕ) (d : Class) → i < y.config.stations → Less (Turned w f) f.station c i d → ⊥
           left i d small q = turned i d small q.1 q.0
 
-      -- TID t of station s does
+      -- TID t of station s loses a frame
       pub enqueued_both : (loser : Option (ℕ × ℕ)) →
           ((s t : ℕ) → t < 8 → loses_next v.flows s t ≡ true → loser ≡ Some (s, t)) → (s t : ℕ) →
           loser ≡ Some (s, t) → (b : Class) → b ≡ class_of t → s < y.config.stations →
@@ -148,7 +149,7 @@ pub flag_told : (u : TransmitValue) (r z : Flags) (f : FrameValue) (c : Class) (
 flag_told u r z f c t s of tid station b told set = set
     ∙ ap (with_flag r c s) (told ∙ sym (ap₂ (is_ready_of u) (of ∙ ap class_of tid) station))
 
--- x are the fields of a path, and u what they are once it has accepted f
+-- x is the half before the enqueue of f, with the flags r, and u is the half after it
 module _ (x : TransmitValue) (r : Flags) (h : IsTracked x r) (f : FrameValue) (reply : ReplyNote)
     (grow : (ℕ → FrameValue) → ℕ → FrameValue) (u : TransmitValue)
     (meets : Leaves x u grow (Enqueue f.station f.tid f.flow (length f.body)) reply)

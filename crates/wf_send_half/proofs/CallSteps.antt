@@ -3,6 +3,7 @@ use Rattle.std.proofs.Common.{◌≡◌, ap, sym, ◌∙◌, subst, ℕ, suc, ar
 use Rattle.std.specs.Prelude.{int_lt, ◌<ℤ◌}
 use Rattle.std.proofs.lemmas.Bool.{cases_Bool}
 use Rattle.std.proofs.lemmas.Bool.Decides.{nat_tests}
+use Rattle.wf_frame.specs.declared.settings.Config.{Config}
 use Rattle.wf_frame.specs.declared.classes.Class.{Class}
 use Rattle.wf_frame.specs.declared.notes.AskedRate.{AskedRate}
 use Rattle.wf_frame.specs.declared.notes.Note.TheVariants.{Asked}
@@ -117,23 +118,35 @@ module _ (v x : TransmitValue) (same : x ≡ v) (w : World) (bodies : ℕ → Fr
       }) s) (Polled k)) (sym is)
       (poll_meets x w bodies at_x s (sym done)))
 
+  -- the setting `debt` of the half is that of the world
+  to_x : (s : ℕ) (c : Class) (air : ℕ) → (deficit x.sched c s -ℤ pos air) <ℤ deepest_deficit w.config.debt →
+      (deficit x.sched c s -ℤ pos air) <ℤ deepest_deficit x.config.debt
+  to_x s c air = subst (λ (z : Config). (deficit x.sched c s -ℤ pos air) <ℤ deepest_deficit z.debt)
+      (sym at_x.parts.others.config)
+
+  to_w : (s : ℕ) (c : Class) (air : ℕ) → (deficit x.sched c s -ℤ pos air) <ℤ deepest_deficit x.config.debt →
+      (deficit x.sched c s -ℤ pos air) <ℤ deepest_deficit w.config.debt
+  to_w s c air = subst (λ (z : Config). (deficit x.sched c s -ℤ pos air) <ℤ deepest_deficit z.debt)
+      at_x.parts.others.config
+
   no_debt : (s : ℕ) (c : Class) (air : ℕ) → is_some (member v.members s) ≡ true →
-      ((deficit x.sched c s -ℤ pos air) <ℤ deepest_deficit → ⊥) →
-      int_lt ((share w s c).deficit -ℤ pos air) deepest_deficit ≡ false
-  no_debt s c air live above = elim (cases_Bool (int_lt ((share w s c).deficit -ℤ pos air) deepest_deficit)) [
-    | inl is ↦ absurd (above ((debt_same x.sched w s c air at_x.parts.others.turns
-        (live_of v w bodies h s live)).1 is))
-    | inr off ↦ off
-  ]
+      ((deficit x.sched c s -ℤ pos air) <ℤ deepest_deficit w.config.debt → ⊥) →
+      int_lt ((share w s c).deficit -ℤ pos air) (deepest_deficit w.config.debt) ≡ false
+  no_debt s c air live above = elim (cases_Bool
+      (int_lt ((share w s c).deficit -ℤ pos air) (deepest_deficit w.config.debt))) [
+        | inl is ↦ absurd (above ((debt_same x.sched w s c air at_x.parts.others.turns
+            (live_of v w bodies h s live)).1 is))
+        | inr off ↦ off
+      ]
 
   -- a receive charge that stays within the greatest debt
   pub rx_done : (s : ℕ) (c : Class) (air : ℕ) (left : ℤ) (turns : SchedValue)
       (members : List (Option Member)) → left ≡ deficit x.sched c s -ℤ pos air →
       turns ≡ with_deficit_charged x.sched s c air → members ≡ on_member x.members s (with_receipt c air) →
       is_some (member v.members s) ≡ true → refusal w (Asked (Rx s c air))
-      ≡ (if int_lt ((share w s c).deficit -ℤ pos air) deepest_deficit
+      ≡ (if int_lt ((share w s c).deficit -ℤ pos air) (deepest_deficit w.config.debt)
       then Some (Debt (share w s c).deficit) else None) →
-      ((deficit x.sched c s -ℤ pos air) <ℤ deepest_deficit → ⊥) →
+      ((deficit x.sched c s -ℤ pos air) <ℤ deepest_deficit x.config.debt → ⊥) →
       Meets w bodies (Asked (Rx s c air)) (record x { sched = turns; members = members }) (Charged left)
   rx_done s c air left turns members is e f live passed above =
       met_by (record x {
@@ -153,15 +166,15 @@ module _ (v x : TransmitValue) (same : x ≡ v) (w : World) (bodies : ℕ → Fr
       }) (Charged d)) (sym is)
       (rx_meets x w bodies at_x s c air (passed ∙ ap
       (λ (b : Bool). if b then Some (Debt (share w s c).deficit) else None)
-      (no_debt s c air live above))))
+      (no_debt s c air live (λ is. above (to_x s c air is))))))
 
   -- a receive charge that would exceed the greatest debt
   pub rx_refused : (s : ℕ) (c : Class) (air : ℕ) (d : ℤ) (turns : SchedValue) → d ≡ deficit x.sched c s →
       turns ≡ x.sched →
       is_some (member v.members s) ≡ true → refusal w (Asked (Rx s c air))
-      ≡ (if int_lt ((share w s c).deficit -ℤ pos air) deepest_deficit
+      ≡ (if int_lt ((share w s c).deficit -ℤ pos air) (deepest_deficit w.config.debt)
       then Some (Debt (share w s c).deficit) else None) →
-      (deficit x.sched c s -ℤ pos air) <ℤ deepest_deficit →
+      (deficit x.sched c s -ℤ pos air) <ℤ deepest_deficit x.config.debt →
       Meets w bodies (Asked (Rx s c air)) (record x { sched = turns }) (Refused (Debt d))
   rx_refused s c air d turns is e live passed below =
       let there : is_live w s ≡ true = live_of v w bodies h s live in
@@ -171,7 +184,7 @@ module _ (v x : TransmitValue) (same : x ≡ v) (w : World) (bodies : ℕ → Fr
       (λ e. cc e, (λ e. cc e, (λ e. cc e, (λ e. cc e, tt)))) at_x
       (ap (λ (z : ℤ). Some (Debt z)) (is ∙ deficit_same x.sched w s c at_x.parts.others.turns there)
       ∙ sym (passed ∙ ap (λ (b : Bool). if b then Some (Debt (share w s c).deficit) else None)
-      ((debt_same x.sched w s c air at_x.parts.others.turns there).0 below))))
+      ((debt_same x.sched w s c air at_x.parts.others.turns there).0 (to_w s c air below)))))
 
   finished_is : w.finished ≡ ids x.flows.backlog.finished
   finished_is = at_x.parts.others.flows.finished

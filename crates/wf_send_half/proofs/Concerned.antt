@@ -1,4 +1,4 @@
--- A call that concerns one station, whose four flags are set after it.
+-- Proves that the flags are right after a call that concerns one station, whose four flags are set after it.
 use Rattle.std.proofs.Common.{◌≡◌, sym, subst, arith, ℕ, ◌<◌, ◌∷◌, drop, Some}
 use Rattle.wf_frame.specs.declared.notes.Ask.{Ask}
 use Rattle.wf_frame.specs.declared.notes.Note.TheVariants.{Asked}
@@ -23,7 +23,7 @@ room_for x r s flags low c = omega (arith, (flags c).stations, low)
 -- x is the half before the call, with the flags r, and u is the half after it
 module _ (x : TransmitValue) (r : Flags) (h : IsTracked x r) (ask : Ask) (reply : ReplyNote)
     (u : TransmitValue) (meets : Leaves x u same_bodies (Asked ask) reply) where
-  -- of a call of one station, which is not refused
+  -- the call concerns station s and is not refused
   module _ (s : ℕ) (first : (w : World) → refusals w (Asked ask) ≡ (is_bad_station w s, BadStation)
       ∷ drop 1 (refusals w (Asked ask))) (fine : (why : Refusal) → reply ≡ Refused why → ⊥) where
     pub low_before : s < x.config.stations

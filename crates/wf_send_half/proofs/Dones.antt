@@ -228,14 +228,14 @@ module _ (v : TransmitValue) (some : HasWorld v) (e : ℕ) (o : Open)
   charge_small small = subst (λ (f : Option Open).
       IfSome f (λ x. IfSome (member v.members x.station) (λ m. charged_in m x.class < 2 ^ 62))) (sym is) small
 
-  pub closes : (air : Option ℕ) (n : ℕ) (opened : List Open) (turns : SchedValue)
-      (members : List (Option Member)) → n ≡ unwrap_or air o.charge →
+  pub closes : (air : Option ℕ) {n : ℕ} {opened : List Open} {turns : SchedValue}
+      {members : List (Option Member)} → n ≡ unwrap_or air o.charge →
       opened ≡ filter (λ x. not (x.number == e)) v.opened →
       turns ≡ with_turns_charged v.sched o.station o.class n →
       members ≡ on_member v.members o.station (with_charge o.class n) →
       record v { opened = opened; sched = turns; members = members } ≡ after_close v o
       (unwrap_or air o.charge)
-  closes air n opened turns members charge a b c =
+  closes air {n} {opened} {turns} {members} charge a b c =
       let number : e ≡ o.number = sym (ap (λ (k : Open). k.number) it.same
       ∙ found_number some.world e it.exchange_is it.known) in
       ap₂ (λ (z : List Open) (y : SchedValue). record v { opened = z; sched = y; members = members })
@@ -353,3 +353,34 @@ module _ (v : TransmitValue) (w : World) (bodies : ℕ → FrameValue) (h : Stan
       subst (λ (k : TransmitValue). Meets w bodies (Asked (Done e answered air)) k (ended_reply ended))
       (sym is)
       (subst (λ (r : ReplyNote). Meets w bodies (Asked (Done e answered air)) after r) (sym told) met)
+
+-- x is the value of the fields of the half v; u has the exchange o taken out and charged; z has it settled
+module _ {x v : TransmitValue} (same : x ≡ v) {e : ℕ} {o : Open}
+    (is : Some o ≡ find (λ k. k.number == e) x.opened) {air : Option ℕ}
+    (fine : is_bad_air x.config air ≡ false) {u : TransmitValue}
+    (shut : u ≡ after_close x o (unwrap_or air o.charge)) {heard : Option (ℕ × List ℕ)}
+    {z y : TransmitValue} {ended : Ended}
+    (settled : (p : TransmitValue) (w : World) (bodies : ℕ → FrameValue) (n : ℕ) (k : Exchange)
+    (answered : Bool) (named : Option ℕ) → StandsFor p w bodies → exchange w n ≡ Some k → o ≡ open_of k →
+    u ≡ after_close p o (charge_of named k) → GoesBy w k heard answered →
+    Parts z (done_outcome w k answered named).world bodies)
+    (told : (p : TransmitValue) (w : World) (bodies : ℕ → FrameValue) (n : ℕ) (k : Exchange)
+    (answered : Bool) (named : Option ℕ) → StandsFor p w bodies → exchange w n ≡ Some k → o ≡ open_of k →
+    u ≡ after_close p o (charge_of named k) → GoesBy w k heard answered →
+    ended_reply ended ≡ (done_outcome w k answered named).reply)
+    {c : Class} (of : c ≡ class_of o.tid) (listed : y ≡ after_listing_in z o.station c) where
+  -- it is the world's Done if the BlockAck agrees and the world does not refuse it
+  pub done_met : {w : World} {bodies : ℕ → FrameValue} → StandsFor v w bodies → (answered : Bool) →
+      ((k : Exchange) → exchange w e ≡ Some k → GoesBy w k heard answered) →
+      ((k : Exchange) → exchange w e ≡ Some k → is_bad_air w.config air ≡ false →
+      refusal w (Asked (Done e answered air)) ≡ None) →
+      Meets w bodies (Asked (Done e answered air)) y (ended_reply ended)
+  done_met {w} {bodies} h answered goes allowed =
+      let at : StandsFor x w bodies = subst (λ (t : TransmitValue). StandsFor t w bodies) (sym same) h in
+      let k : IsKnown w e o = known_of x w bodies at e o is in
+      let n : Exchange = k.exchange_is in
+      let closed = at_charge x u o n air k.same shut in
+      done_whole x w bodies at e n k.known o k.same answered air
+      (allowed n k.known (ap (λ (t : Config). is_bad_air t air) (sym at.parts.others.config) ∙ fine))
+      z y ended (settled x w bodies e n answered air at k.known k.same closed (goes n k.known))
+      (told x w bodies e n answered air at k.known k.same closed (goes n k.known)) c of listed

@@ -66,7 +66,7 @@ module _ (x : TransmitValue) (r : Flags) (h : IsTracked x r) (u : TransmitValue)
       (config_ended h.some.world 0 e heard air (exchange h.some.world e))
       ∙ sym ended.stands.parts.others.config
 
-  -- of the exchange that was open
+  -- the exchange was open, and has ended
   module _ (closed : Closed) (own : HasClosed x u e closed) where
     low : closed.station < x.config.stations
     low = omega (arith, within_config x (has_world x h.some) e own.exchange_is own.known, own.station)

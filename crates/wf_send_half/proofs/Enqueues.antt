@@ -62,7 +62,7 @@ module _ (v : TransmitValue) (h : HasWorld v) where
         (in_order (tid_rotation v.flows i)) (h.stands.parts.others.flows.once i),
   )
 
-  -- if fewer frames are inside than there is room for, so are the queued and the finished ones
+  -- if fewer frames are inside than the setting `room`, fewer are queued and finished
   pub held_few : v.inside < v.config.room → held_in_backlog v.flows.backlog < v.flows.backlog.room
   held_few low =
       omega (

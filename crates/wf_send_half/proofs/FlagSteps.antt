@@ -1,4 +1,4 @@
--- The flags of a path, while some of them are still to be set.
+-- Proves how flags change when they are set one after another, and that they are right when the last is set.
 use Rattle.std.proofs.Common.{◌≡◌, ◌≢◌, refl, ap, sym, ◌∙◌, subst, arith, ℕ, ◌<◌, ◌≤◌, Bool, false, List, [], length, slice_set, inl, inr}
 use Rattle.std.proofs.lemmas.Bool.{cases_eq, cases_lt}
 use Rattle.std.proofs.lemmas.List.{get_or-set_same, get_or-set_other, get_or_past, length-set, set-set, set-get_or}
@@ -28,7 +28,7 @@ set_own r c s b P old new = elim (cases_lt (class_number c) (length r)) [
   | inr far ↦ subst P (sym (past_last r c s b far)) old
 ]
 
--- of another class
+-- the flags of another class
 set_elsewhere : (r : Flags) (c : Class) (s : ℕ) (b : Bool) (d : Class) →
     (class_number d ≡ class_number c → ⊥) → flags_in (with_flag r c s b) d ≡ flags_in r d
 set_elsewhere r c s b d other = get_or-set_other r (class_number c) (class_number d) _ [] other
@@ -48,7 +48,7 @@ pub room_after : (r z : Flags) (c d : Class) (s : ℕ) (b : Bool) → z ≡ with
 room_after r z c d s b is low = subst (λ (y : Flags). s < length (flags_in y d)) (sym is)
     (omega (arith, set_sized r c s b d, low))
 
--- a flag that is set again as it is stays
+-- to set a flag a second time to the same value changes nothing
 pub flag_twice : (r z : Flags) (c : Class) (s : ℕ) (b : Bool) → z ≡ with_flag r c s b →
     with_flag z c s b ≡ z
 flag_twice r z c s b is = subst (λ (y : Flags). with_flag y c s b ≡ y) (sym is)
@@ -67,7 +67,7 @@ flag_twice r z c s b is = subst (λ (y : Flags). with_flag y c s b ≡ y) (sym i
           ap (λ (xs : List Bool). slice_set xs s b) e ∙ sym e
     ]
 
--- of station s itself
+-- the flag of station s itself
 set_here : (r : Flags) (c : Class) (s : ℕ) (b : Bool) → s < length (flags_in r c) →
     entry (flags_in (with_flag r c s b) c) s ≡ b
 set_here r c s b low = elim (cases_lt (class_number c) (length r)) [
@@ -77,7 +77,7 @@ set_here r c s b low = elim (cases_lt (class_number c) (length r)) [
   | inr far ↦ absurd (omega (arith, low, ap length (get_or_past r (class_number c) [] far)))
 ]
 
--- of another station
+-- the flag of another station
 set_beside : (r : Flags) (c : Class) (s : ℕ) (b : Bool) (i : ℕ) → i ≢ s →
     entry (flags_in (with_flag r c s b) c) i ≡ entry (flags_in r c) i
 set_beside r c s b i other = set_own r c s b (λ xs. entry xs i ≡ entry (flags_in r c) i) refl
@@ -99,7 +99,7 @@ pub record AreNearly (v : TransmitValue) (r : Flags) (Q : ℕ → Class → Type
   pub tells : (c : Class) (s : ℕ) → s < v.config.stations → (Q s c → ⊥) →
       entry (flags_in r c) s ≡ is_ready_of v c s
 
--- those that remain after the flag of station s in class c is set
+-- the exceptions that remain after the flag of station s in class c is set
 abbrev pub Less : (ℕ → Class → Type 0) → ℕ → Class → ℕ → Class → Type 0
 Less Q s c i d = Q i d × (i ≡ s → d ≡ c → ⊥)
 
@@ -123,12 +123,12 @@ set_one v r Q s c h low = record {
       ];
 }
 
--- none is left
+-- no exception remains
 pub all_set : (v : TransmitValue) (r : Flags) (Q : ℕ → Class → Type 0) → AreNearly v r Q →
     ((s : ℕ) (c : Class) → s < v.config.stations → Q s c → ⊥) → AreFlags v r
 all_set v r Q h none c = record { stations = h.sized c; tells = λ s low. h.tells c s low (none s c low) }
 
--- the four of one station
+-- the four flags of a station are set
 pub set_four : (v : TransmitValue) (r : Flags) (s : ℕ) → AreNearly v r (λ i d. i ≡ s) →
     s < v.config.stations → AreFlags v (with_flags r v s)
 set_four v r s h low = all_set v (with_flags r v s) _
@@ -141,7 +141,7 @@ set_four v r s h low = all_set v (with_flags r v s) _
     none i Vi small left = left.0.1 left.0.0.0.0 refl
     none i Vo small left = left.1 left.0.0.0.0 refl
 
--- the one of a station in a class
+-- the flag of a station in one class is set
 pub set_alone : (v : TransmitValue) (r : Flags) (s : ℕ) (c : Class) →
     AreNearly v r (λ i d. (i ≡ s) × (d ≡ c)) → s < v.config.stations →
     AreFlags v (with_flag r c s (is_ready_of v c s))

@@ -178,7 +178,7 @@ quiet_now x v same z s t at due read none =
     ap (λ (y : TransmitValue). is_some (window_of y.windows s t).due) (sym same)
     ∙ ap (λ (y : WindowValue). is_some y.due) (sym at) ∙ sym read ∙ none
 
--- so the half fills an aggregate
+-- if no request is due, the half fills an aggregate
 pub to_fill : (v : TransmitValue) (s t : ℕ) (h : HasToPrepare v s t) →
     is_some (window_of v.windows s t).due ≡ false → IsToFill v h.world h.bodies s t
 to_fill v s t h quiet = record {

@@ -66,7 +66,7 @@ same_config v y w bodies after note reply h m =
 
 module _ (v y : TransmitValue) (r : Flags) (flags : AreFlags v r) (w : World) (bodies after : ℕ → FrameValue)
     (note : Note) (reply : ReplyNote) (h : StandsFor v w bodies) (m : Meets w after note y reply) where
-  -- where the call leaves who is ready, the flags stay right
+  -- a flag stays right if the call does not change the readiness that it shows
   pub nearly : (Q : ℕ → Class → Type 0) → ((s : ℕ) (c : Class) → (Q s c → ⊥) →
       is_ready (step w note).world c s ≡ is_ready w c s) → AreNearly y r Q
   nearly Q same =
@@ -84,7 +84,7 @@ module _ (v y : TransmitValue) (r : Flags) (flags : AreFlags v r) (w : World) (b
   still_right e = all_set y r (λ _ _. ⊥) (nearly (λ _ _. ⊥) (λ s c _. ready_left w note h.reached e s c))
       (λ s c low no. no)
 
--- for a call without a frame, except the station that it concerns
+-- the same for a call without a frame, except the flags of the station that it concerns
 pub nearly_asked : (v y : TransmitValue) (r : Flags) → AreFlags v r →
     (w : World) (bodies after : ℕ → FrameValue) (ask : Ask) (reply : ReplyNote) → StandsFor v w bodies →
     Meets w after (Asked ask) y reply →
@@ -96,7 +96,7 @@ nearly_asked v y r flags w bodies after ask reply h m s concerned =
 
 -- ---- whole calls
 
--- a call that leaves everybody's readiness
+-- a call that changes the readiness of no station
 pub tracked_still : (v y : TransmitValue) (r : Flags) (ask : Ask) (reply : ReplyNote) → IsTracked v r →
     Leaves v y same_bodies (Asked ask) reply → IsSilent (Asked ask) → leaves_ready (Asked ask) ≡ true →
     IsTracked y r

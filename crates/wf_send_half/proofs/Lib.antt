@@ -1,3 +1,4 @@
+-- Lists the modules of proofs/ of wf_send_half. Other crates may use those that are `pub`.
 mod Rows
 mod Polls
 mod Worlds

@@ -1,7 +1,9 @@
 -- Proves the clauses of a pull: the station that is picked sends a request, or an aggregate.
-use Rattle.std.proofs.Common.{◌≡◌, refl, ap, sym, ◌∙◌, subst, arith, ℕ, ◌<◌, ◌≤◌, ◌==◌, Bool, true, false, not, ◌||◌, if◌then◌else◌, List, [], length, Option, Some, None, IfSome, is_some, option_map, unwrap_or}
+use Rattle.std.proofs.Common.{◌≡◌, refl, ap, sym, ◌∙◌, subst, arith, ℕ, ◌<◌, ◌≤◌, ◌==◌, Bool, true, false, not, ◌||◌, if◌then◌else◌, List, [], ◌∷◌, ◌++◌, length, Option, Some, None, IfSome, is_some, option_map, unwrap_or}
 use Rattle.std.specs.Prelude.{All, nat_le, count_by}
 use Rattle.std.proofs.lemmas.Bool.Decides.{nat_tests}
+use Rattle.std.proofs.lemmas.List.Elements.{All-head, All-tail}
+use Rattle.wf_send_parts.specs.declared.exchanges.opened.Open.{Open}
 use Rattle.std.proofs.lemmas.List.{get_or-set_same}
 use Rattle.wf_frame.specs.declared.answers.Brief.{Brief}
 use Rattle.wf_frame.specs.declared.answers.Brief.TheVariants.{Send}
@@ -10,16 +12,18 @@ use Rattle.wf_frame.specs.declared.notes.Ask.TheVariants.{Pull}
 use Rattle.wf_frame.specs.declared.notes.Note.TheVariants.{Asked}
 use Rattle.wf_frame.specs.declared.notes.Part.TheVariants.{Mpdus, Request as Starts}
 use Rattle.wf_frame.specs.declared.notes.ReplyNote.TheVariants.{Send as Sends, Refused as Refuses}
-use Rattle.wf_frame.specs.declared.notes.Refusal.TheVariants.{Idle, Full}
+use Rattle.wf_frame.specs.declared.notes.Refusal.TheVariants.{Idle, Full, Ahead}
 use Rattle.wf_frame.specs.Answers.{reply_with}
 use Rattle.wf_frame.specs.Classes.{lower_tid, same_class}
 use Rattle.wf_frame.specs.Frames.{FrameValue}
+use Rattle.wf_def_lists.specs.Bounds.{greatest_air}
 use Rattle.wf_def_lists.specs.Lengths.{greatest_body}
 use Rattle.wf_def_rotation.specs.Rotation.{Rotation, has_key}
 use Rattle.wf_def_agreement.specs.Session.{request_due}
 use Rattle.wf_def_lists.specs.Table.{at}
 use Rattle.wf_def_world.specs.World.{World, Station, no_station, is_live, station, session}
 use Rattle.wf_def_world.specs.CanSend.{can_give, can_send, has_waiting, request_open}
+use Rattle.wf_def_world.specs.Step.{step}
 use Rattle.wf_def_world.specs.Exchanges.{aggregate_of, picked_station, after_pick, sending_tid, after_tid_turn}
 use Rattle.wf_law_runs.proofs.Deficits.Books.{books}
 use Rattle.wf_law_runs.proofs.Deficits.Kept.{IsKept}
@@ -35,16 +39,17 @@ use Rattle.wf_send_parts.specs.declared.exchanges.opened.Sending.{Sending}
 use Rattle.wf_send_parts.specs.declared.exchanges.opened.Sending.TheVariants.{Data, Request as Starts_at}
 use Rattle.wf_send_parts.proofs.Calls.{due_is}
 use Rattle.wf_send_parts.specs.declared.stations.members.Member.{Member}
+use Rattle.wf_send_parts.specs.Exchanges.{airtime_of}
 use Rattle.wf_send_parts.specs.Members.{member, with_upper}
 use Rattle.wf_send_parts.specs.Windows.{window_of}
-use Rattle.wf_send_half_model.specs.Half.{TransmitValue, can_send_of}
+use Rattle.wf_send_half_model.specs.Half.{TransmitValue, can_send_of, is_ahead_of}
 use Rattle.wf_send_half_model.specs.Standing.{IsMember, AreBoth, IsReached, Parts, StandsFor, Meets}
 use Rattle.wf_send_half_model.specs.Changes.{after_listing_in}
 use Rattle.wf_send_half_model.specs.Filling.{IsTurned}
 use Rattle.wf_send_half_model.specs.Pulling.{sending_tid_of, after_turn, open_next, after_sending}
-use Rattle.wf_send_half_model.proofs.Asked.{turn_sends, full_refused, idle_refused, not_refused}
+use Rattle.wf_send_half_model.proofs.Asked.{turn_sends, full_refused, ahead_refused, idle_refused, not_refused}
 use Rattle.wf_send_half_model.proofs.Meets.{refused_meets}
-use Rattle.wf_send_half_model.proofs.Openings.{opens_above, opens_within}
+use Rattle.wf_send_half_model.proofs.Openings.{opens_above, opens_small, opens_within}
 use Rattle.wf_send_half_model.proofs.Pulls.{pick_parts, idle_pull}
 use Rattle.wf_send_half_model.proofs.Reached.{by_law}
 use Rattle.wf_send_half_model.proofs.Readers.{can_send_same, live_same, ready_same}
@@ -88,13 +93,19 @@ turn_small v s t c low h =
     None low))
     (upper_small (member v.members s) c (t == lower_tid c) h)
 
+last_small : (xs : List Open) (y : Open) → All (λ o. o.charge ≤ greatest_air) (xs ++ y ∷ []) →
+    y.charge ≤ greatest_air
+last_small [] y h = All-head (λ (o : Open). o.charge ≤ greatest_air) y [] h
+last_small (x ∷ xs) y h = last_small xs y (All-tail (λ (o : Open). o.charge ≤ greatest_air) x (xs ++ y ∷
+    []) h)
+
 -- ---- the station that is picked
 
 sends_data : (b x y : Bool) → (if b then x else y) ≡ true → b ≡ false → y ≡ true
 sends_data true x y h quiet = absurd (cc quiet)
 sends_data false x y h quiet = h
 
-module _ (v u : TransmitValue) (w : World) (bodies : ℕ → FrameValue) (s : ℕ) (c : Class)
+module _ {v u : TransmitValue} {w : World} {bodies : ℕ → FrameValue} {s : ℕ} {c : Class}
     (h : IsPickedInClass v u w bodies s c) where
   abbrev picked_half : TransmitValue
   picked_half = record v { sched = u.sched }
@@ -119,7 +130,7 @@ module _ (v u : TransmitValue) (w : World) (bodies : ℕ → FrameValue) (s : �
       ∙ live_same picked_half (after_pick w c) bodies s picked_parts
       ∙ winner_live v w bodies h.stands c s h.won
 
-  module _ (t : ℕ) (t_is : t ≡ sending_tid_of u s c) (y : TransmitValue) (y_is : y ≡ after_turn u s c t) where
+  module _ {t : ℕ} (t_is : t ≡ sending_tid_of u s c) {y : TransmitValue} (y_is : y ≡ after_turn u s c t) where
     abbrev turned_world : World
     turned_world = after_tid_turn (after_pick w c) s c t
 
@@ -205,13 +216,13 @@ module _ (v u : TransmitValue) (w : World) (bodies : ℕ → FrameValue) (s : �
       part_sent (Data numbers) k = data_sent numbers k
       part_sent (Starts_at start) k = request_sent start k
 
-      pub pull_done : (sending : Sending) → IsPreparedFor y z s t charge pairs sending → (a : TransmitValue) →
+      pub pull_done : (sending : Sending) → IsPreparedFor y z s t charge pairs sending → {a : TransmitValue} →
           a ≡ after_listing_in (after_sending z s t c charge sending) s c →
-          (brief : Brief) → brief ≡ Send z.exchanges s t charge (start_sent sending)
+          {brief : Brief} → brief ≡ Send z.exchanges s t charge (start_sent sending)
           (open_next z s t c charge sending).more →
           Meets w (bodies_sent (reply_with brief pairs []) bodies) (Asked (Pull c)) a
           (reply_with brief pairs [])
-      pull_done sending k a a_is brief brief_is =
+      pull_done sending k {a} a_is {brief} brief_is =
           subst (λ (x : TransmitValue). Meets w (bodies_sent (reply_with brief pairs []) bodies)
           (Asked (Pull c)) x (reply_with brief pairs [])) (sym a_is)
           (subst (λ (b : Brief). Meets w (bodies_sent (reply_with b pairs []) bodies) (Asked (Pull c))
@@ -219,9 +230,17 @@ module _ (v u : TransmitValue) (w : World) (bodies : ℕ → FrameValue) (s : �
           (sym brief_is)
           (part_sent sending k))
 
+      -- its charge is small, as that of each open exchange in the world of a run
+      pub charge_small : (sending : Sending) → IsPreparedFor y z s t charge pairs sending →
+          charge ≤ greatest_air
+      charge_small sending k =
+          let a : TransmitValue = after_listing_in (after_sending z s t c charge sending) s c in
+          last_small z.opened (open_next z s t c charge sending)
+          (opens_small a (step w (Asked (Pull c))).world _ (pull_done sending k refl refl).stands)
+
     -- its number is above those of all open exchanges
-    pub opens_next : (z : TransmitValue) → IsSameButFrames y z → All (λ o. o.number < z.exchanges) z.opened
-    opens_next z same =
+    pub opens_next : {z : TransmitValue} → IsSameButFrames y z → All (λ o. o.number < z.exchanges) z.opened
+    opens_next same =
         subst (λ (x : TransmitValue). All (λ o. o.number < x.exchanges) x.opened) (sym same)
         (subst (λ (x : TransmitValue). All (λ o. o.number < x.exchanges) x.opened) (sym half_is)
         (opens_above v w bodies h.stands))
@@ -237,10 +256,10 @@ many_open n m k h e = grind (arith, nat_tests)
 abbrev open_in : TransmitValue → Class → ℕ
 open_in v c = count_by (λ x. same_class x.class c) v.opened
 
-pub pull_full : (x v : TransmitValue) → x ≡ v → (w : World) (bodies : ℕ → FrameValue) → StandsFor v w bodies →
-    (c : Class) (n : ℕ) → n ≡ open_in x c → x.config.inflight ≤ n →
+pub pull_full : {x v : TransmitValue} → x ≡ v → {w : World} {bodies : ℕ → FrameValue} →
+    StandsFor v w bodies → {c : Class} {n : ℕ} → n ≡ open_in x c → x.config.inflight ≤ n →
     Meets w bodies (Asked (Pull c)) v (Refuses (Full n))
-pull_full x v same w bodies h c n is full =
+pull_full {x} {v} same {w} {bodies} h {c} {n} is full =
     let at_x : StandsFor x w bodies = subst (λ (z : TransmitValue). StandsFor z w bodies) (sym same) h in
     subst (λ (z : TransmitValue). Meets w bodies (Asked (Pull c)) z (Refuses (Full n))) same
     (subst (λ (k : ℕ). Meets w bodies (Asked (Pull c)) x (Refuses (Full k))) (sym is)
@@ -248,12 +267,24 @@ pull_full x v same w bodies h c n is full =
     (full_refused x w bodies c at_x.parts (many_open x.config.inflight n (open_in x c) full is))
     (λ e. cc e)))
 
+-- refused as Ahead
+pub pull_ahead : {x v : TransmitValue} → x ≡ v → {w : World} {bodies : ℕ → FrameValue} →
+    StandsFor v w bodies → {c : Class} {n k : ℕ} → n ≡ open_in x c → n < x.config.inflight →
+    is_ahead_of x ≡ true → k ≡ airtime_of x.opened → Meets w bodies (Asked (Pull c)) v (Refuses (Ahead k))
+pull_ahead {x} {v} same {w} {bodies} h {c} {n} {k} is less ahead owed =
+    let at_x : StandsFor x w bodies = subst (λ (z : TransmitValue). StandsFor z w bodies) (sym same) h in
+    subst (λ (z : TransmitValue). Meets w bodies (Asked (Pull c)) z (Refuses (Ahead k))) same
+    (subst (λ (m : ℕ). Meets w bodies (Asked (Pull c)) x (Refuses (Ahead m))) (sym owed)
+    (refused_meets x w bodies (Asked (Pull c)) (Ahead (airtime_of x.opened)) at_x
+    (ahead_refused x w bodies c at_x.parts (few_open x.config.inflight n (open_in x c) less is) ahead)
+    (λ e. cc e)))
+
 -- ---- the pick
 
 -- x is the value of the fields of the half v
-module _ (x v : TransmitValue) (same : x ≡ v) (w : World) (bodies : ℕ → FrameValue)
-    (stands : StandsFor v w bodies) (c : Class) (ready : List Bool) (told : TellsWhoIsReady v c ready) (n : ℕ)
-    (count : n ≡ open_in x c) (less : n < x.config.inflight) where
+module _ {x v : TransmitValue} (same : x ≡ v) {w : World} {bodies : ℕ → FrameValue}
+    (stands : StandsFor v w bodies) {c : Class} {ready : List Bool} (told : TellsWhoIsReady v c ready) {n : ℕ}
+    (count : n ≡ open_in x c) (less : n < x.config.inflight) (behind : is_ahead_of x ≡ false) where
   at_x : StandsFor x w bodies
   at_x = subst (λ (z : TransmitValue). StandsFor z w bodies) (sym same) stands
 
@@ -273,16 +304,16 @@ module _ (x v : TransmitValue) (same : x ≡ v) (w : World) (bodies : ℕ → Fr
   winner_is : (picked_station w c).winner ≡ (pick_of_class x.sched c ready).winner
   winner_is = sym (pick_same x.sched w c ready at_x.parts.others.turns tells).winner
 
-  module _ (turns : SchedValue) (after : IsAfterPick (class_rota x.sched c) (pick_of_class x.sched c ready)
+  module _ {turns : SchedValue} (after : IsAfterPick (class_rota x.sched c) (pick_of_class x.sched c ready)
       (class_rota turns c)) (others : turns ≡ with_class_rota x.sched c (class_rota turns c)) where
     has_picked : HasPickedInClass w c x.sched turns
     has_picked = record { ready = ready; tells = tells; turned = after; others = others }
 
-    pub picked_one : (s : ℕ) → Some s ≡ (pick_of_class x.sched c ready).winner →
+    pub picked_one : {s : ℕ} → Some s ≡ (pick_of_class x.sched c ready).winner →
         IsPickedInClass x (record x { sched = turns }) w bodies s c
-    picked_one s is = record {
+    picked_one {s} is = record {
       stands = at_x;
-      passes = not_refused x w bodies c at_x.parts few s (winner_is ∙ sym is);
+      passes = not_refused x w bodies c at_x.parts few behind s (winner_is ∙ sym is);
       won = winner_is ∙ sym is;
       picked = has_picked;
       others = refl;
@@ -291,4 +322,4 @@ module _ (x v : TransmitValue) (same : x ≡ v) (w : World) (bodies : ℕ → Fr
     pub picked_none : None ≡ (pick_of_class x.sched c ready).winner →
         Meets w bodies (Asked (Pull c)) (record x { sched = turns }) (Refuses Idle)
     picked_none is = idle_pull x w bodies at_x c turns
-        (idle_refused x w bodies c at_x.parts few (winner_is ∙ sym is)) has_picked
+        (idle_refused x w bodies c at_x.parts few behind (winner_is ∙ sym is)) has_picked

@@ -166,7 +166,8 @@ module _ (result : Result (Unit {0}) Refusal) (v : TransmitValue) (s : ℕ) (c :
   passes_at : (r : Result (Unit {0}) Refusal) →
       result_err r ≡ (if not (is_some (member v.members s)) then Some NoStation else None) →
       IfOk r (λ _. (w : World) (bodies : ℕ → FrameValue) → StandsFor v w bodies →
-      refusal w (Asked (Rx s c air)) ≡ (if int_lt ((share w s c).deficit -ℤ pos air) deepest_deficit
+      refusal w (Asked (Rx s c air)) ≡ (if int_lt ((share w s c).deficit -ℤ pos air) (deepest_deficit
+      w.config.debt)
       then Some (Debt (share w s c).deficit) else None))
   passes_at (Ok u) e = λ w bodies h. before w bodies h _ ∙ there v w bodies h s _ e
       ∙ sym (last_row _ _ _ refl)
@@ -177,6 +178,7 @@ module _ (result : Result (Unit {0}) Refusal) (v : TransmitValue) (s : ℕ) (c :
   receipt_fails = fails_at result is
 
   pub receipt_passes : IfOk result (λ _. (w : World) (bodies : ℕ → FrameValue) → StandsFor v w bodies →
-      refusal w (Asked (Rx s c air)) ≡ (if int_lt ((share w s c).deficit -ℤ pos air) deepest_deficit
+      refusal w (Asked (Rx s c air)) ≡ (if int_lt ((share w s c).deficit -ℤ pos air) (deepest_deficit
+      w.config.debt)
       then Some (Debt (share w s c).deficit) else None))
   receipt_passes = passes_at result is

@@ -1,4 +1,5 @@
--- The replies of a pull, and the one flag that is set after it.
+-- Proves that the flags are right after a pull. By cases of its reply: the flag of the station that sends is
+-- set, or the pull is refused.
 use Rattle.std.proofs.Common.{◌≡◌, refl, ap, sym, ◌∙◌, subst, arith, ℕ, ◌<◌, Bool, true, false, List, [], length, Option, Some, None, inl, inr}
 use Rattle.std.specs.Prelude.{is_none, is_some, IfSome}
 use Rattle.std.proofs.lemmas.Bool.{cases_lt}
@@ -47,7 +48,7 @@ pub record HasSent (winner : Option ℕ) (reply : ReplyNote) : Type 0 where
   pub more : Bool
   pub is : reply ≡ Send exchange station tid air part more
 
--- what a pull answers: that a station sends, or that it is refused
+-- the reply of a pull: a station sends, or the pull is refused
 pub data Says (w : World) (c : Class) (reply : ReplyNote) : Type 0 where
   Sends : HasSent (picked_station w c).winner reply → Says w c reply
   Refuses : (r : Refusal) → refusal w (Asked (Pull c)) ≡ Some r → reply ≡ Refused r → Says w c reply
@@ -83,9 +84,9 @@ says w c = from (refusal w (Asked (Pull c))) refl
     from None e =
         let rows : NoRow (refusals w (Asked (Pull c))) = no_row (refusals w (Asked (Pull c))) e in
         subst (λ (x : ReplyNote). Says w c x) (sym (ap (λ (o : Outcome). o.reply)
-        (step_done w (Asked (Pull c)) e))) (Sends (sent_by w c rows.1.0))
+        (step_done w (Asked (Pull c)) e))) (Sends (sent_by w c rows.1.1.0))
 
--- who sends was picked
+-- the station that sends was picked
 pub sender_won : (w : World) (c : Class) (e s t air : ℕ) (part : Part) (more : Bool) →
     Send e s t air part more ≡ (step w (Asked (Pull c))).reply → (picked_station w c).winner ≡ Some s
 sender_won w c e s t air part more is = from (says w c)
@@ -100,7 +101,7 @@ sender_won w c e s t air part more is = from (says w c)
 
 -- ---- the flags
 
--- a pull that is refused leaves them right, and one that is not all but that of its station
+-- after a refused pull all flags are right, after any other all except that of the station that sends
 module _ (v y : TransmitValue) (r : Flags) (flags : AreFlags v r) (w : World) (bodies after : ℕ → FrameValue)
     (c : Class) (reply : ReplyNote) (h : StandsFor v w bodies)
     (m : Meets w after (Asked (Pull c)) y reply) where
@@ -110,13 +111,13 @@ module _ (v y : TransmitValue) (r : Flags) (flags : AreFlags v r) (w : World) (b
       nearly v y r flags w bodies after (Asked (Pull c)) reply h m Q
       (λ s d out. ready_pulled w c h.reached s d (λ won same. out (left s d won (sym same))))
 
--- ---- who wins
+-- ---- the station that is picked
 
 winner_ready : (w : World) (c : Class) (s : ℕ) → (picked_station w c).winner ≡ Some s → is_ready w c s ≡ true
 winner_ready w c s won = subst (λ (o : Option ℕ). IfSome o (λ k. is_ready w c k ≡ true)) won
     (pick_ready _ (is_ready w c) (rotation w c))
 
--- a live station is one of the stations
+-- the number of a live station is below the setting `stations`
 live_within : (v : TransmitValue) (w : World) (bodies : ℕ → FrameValue) (s : ℕ) → StandsFor v w bodies →
     is_live w s ≡ true → s < v.config.stations
 live_within v w bodies s h live = elim (cases_lt s (length v.members)) [
@@ -212,7 +213,7 @@ module _ (x : TransmitValue) (r : Flags) (h : IsTracked x r) (c : Class) (b : Br
           sender_within;
     })
 
-  -- nobody does
+  -- no station sends
   pub tracked_idle : (IsSend b → ⊥) → IsTracked u r
   tracked_idle none = record {
     some = pulled_unheard;

@@ -59,7 +59,7 @@ next_of [] [] seq e = absurd (cc e)
 next_of [] (m ∷ ms) seq e = record { mpdu = m; behind = ms; first = refl; air = cc e }
 next_of (k ∷ ks) left seq e = next_of ks left seq e
 
--- after i numbers: these transmissions are settled, and those are left
+-- after i numbers: the transmissions `before` are settled, and `left` are not yet
 pub record HasSettled (v : TransmitValue) (bodies : ℕ → FrameValue) (s t e : ℕ) (acked : ℕ → Bool) (i : ℕ)
     (mpdus : List Mpdu) (after : World) (ended : Ended) : Type 0 where
   pub world : World
@@ -256,8 +256,26 @@ answer_fate false limit bodies x = by_limit (nat_le limit (x.attempts + 1))
 
 -- ---- in the loop
 
-module _ (start v : TransmitValue) (s t : ℕ) (numbers : List ℕ) (acked : ℕ → Bool) (i : ℕ) (ended : Ended)
-    (so_far : IsSettling start v s t numbers acked i ended) (seq : ℕ)
+module _ {start v : TransmitValue} {s t : ℕ} {numbers : List ℕ} {acked : ℕ → Bool} {i : ℕ}
+    {ended : Ended} where
+  -- an equal half is settled as far
+  pub settling_at : {u : TransmitValue} → u ≡ v → IsSettling start v s t numbers acked i ended →
+      IsSettling start u s t numbers acked i ended
+  settling_at same so_far =
+      subst (λ (z : TransmitValue). IsSettling start z s t numbers acked i ended) (sym same) so_far
+
+  -- the limit of the half at the start, whose fields are x, is still the setting
+  pub limit_at : {x : TransmitValue} → x ≡ start → IsSettling start v s t numbers acked i ended →
+      x.config.attempts ≡ v.config.attempts
+  limit_at same so_far = ap (λ (z : TransmitValue). z.config.attempts) same
+      ∙ ap (λ (k : Config). k.attempts) (sym so_far.config)
+
+  pub all_shown : IsSettling start v s t numbers acked i ended → length numbers ≤ i →
+      ended.acked ≡ count_by acked numbers
+  all_shown so_far all = so_far.shown ∙ ap (count_by acked) (take_all i numbers all)
+
+module _ {start v : TransmitValue} {s t : ℕ} {numbers : List ℕ} {acked : ℕ → Bool} {i : ℕ} {ended : Ended}
+    (so_far : IsSettling start v s t numbers acked i ended) {seq : ℕ}
     (at_i : slice_get numbers i ≡ Some seq) where
   next_in : (bodies : ℕ → FrameValue) (e : ℕ) (mpdus : List Mpdu) (after : World) →
       numbers ≡ numbers_on_air mpdus → (h : HasSettled v bodies s t e acked i mpdus after ended) →
@@ -289,7 +307,7 @@ module _ (start v : TransmitValue) (s t : ℕ) (numbers : List ℕ) (acked : ℕ
         omega (arith, parts.windows.sized, parts.others.turns.live s ending_here.live, ending_here.tid)
 
     -- the result of the window
-    module _ (windows : List WindowValue) (a : Settled) (b : Bool) (limit : ℕ) (b_is : b ≡ acked seq)
+    module _ {windows : List WindowValue} {a : Settled} {b : Bool} {limit : ℕ} (b_is : b ≡ acked seq)
         (limit_is : limit ≡ v.config.attempts) (alike : (n : ℕ) → acked (on_air n) ≡ acked n)
         (room : WindowsHaveRoom windows)
         (stands_then : (y : Session) (bodies : ℕ → FrameValue) (n : ℕ) →
@@ -386,9 +404,9 @@ none_behind : (before left : List Mpdu) → length (before ++ left) ≤ length b
 none_behind before [] h = refl
 none_behind before (m ∷ ms) h = absurd (omega (arith, h, length-append before (m ∷ ms)))
 
-module _ (start v : TransmitValue) (s t : ℕ) (numbers : List ℕ) (acked : ℕ → Bool) (i : ℕ) (ended : Ended)
+module _ {start v : TransmitValue} {s t : ℕ} {numbers : List ℕ} {acked : ℕ → Bool} {i : ℕ} {ended : Ended}
     (so_far : IsSettling start v s t numbers acked i ended) (all : length numbers ≤ i)
-    (w after : World) (bodies : ℕ → FrameValue) (e : ℕ) (mpdus : List Mpdu)
+    {w after : World} {bodies : ℕ → FrameValue} {e : ℕ} {mpdus : List Mpdu}
     (ending : IsEnding start w bodies s t e acked mpdus after) (is : numbers ≡ numbers_on_air mpdus) where
   last : HasSettled v bodies s t e acked i mpdus after ended
   last = so_far.each w after bodies e mpdus ending is
@@ -414,9 +432,3 @@ module _ (start v : TransmitValue) (s t : ℕ) (numbers : List ℕ) (acked : ℕ
       let whole : last.before ≡ mpdus = sym (append-nil last.before)
       ∙ ap (λ (l : List Mpdu). last.before ++ l) (sym none_left) ∙ last.all in
       subst (λ (l : List Mpdu). AreCounted after s t l ended) whole last.counted
-
-pub all_shown : (start v : TransmitValue) (s t : ℕ) (numbers : List ℕ) (acked : ℕ → Bool) (i : ℕ)
-    (ended : Ended) → IsSettling start v s t numbers acked i ended → length numbers ≤ i →
-    ended.acked ≡ count_by acked numbers
-all_shown start v s t numbers acked i ended so_far all =
-    so_far.shown ∙ ap (count_by acked) (take_all i numbers all)

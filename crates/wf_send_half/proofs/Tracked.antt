@@ -1,4 +1,4 @@
--- A new half: no station is ready, so all flags are down.
+-- Proves that all flags of a new half are down, since no station is ready.
 use Rattle.std.proofs.Common.{◌≡◌, refl, ap, sym, ◌∙◌, subst, ℕ, ◌<◌, Bool, false, List, length, replicate}
 use Rattle.std.proofs.lemmas.List.{get_or-replicate, length-replicate}
 use Rattle.wf_frame.specs.Frames.{FrameValue}

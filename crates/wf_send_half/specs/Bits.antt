@@ -1,4 +1,4 @@
--- The sequence numbers that a BlockAck shows, by its start and its bits, and how an exchange ends by it.
+-- Defines which sequence numbers a BlockAck shows, by its start and its bits, and how an exchange ends by it.
 use Rattle.std.specs.Prelude.{◌≡◌, ℕ, ◌+◌, ◌<◌, ◌≤◌, ◌^◌, ◌==◌, nat_lt, Bool, true, false, is_some, is_none, ◌&&◌, List, [], count_by, find, Option, Some, None, IfSome, if◌then◌else◌}
 use Rattle.wf_frame.specs.Classes.{class_of}
 use Rattle.wf_frame.specs.Frames.{FrameValue}

@@ -1,4 +1,4 @@
--- How many numbers of an exchange are in each state.
+-- Defines how many numbers of an exchange are in each state.
 use Rattle.std.specs.Prelude.{◌≡◌, ◌≢◌, ℕ, Bool, List, count_by}
 use Rattle.wf_frame.specs.declared.classes.Fate.TheVariants.{Held}
 use Rattle.wf_def_agreement.specs.Session.{State, slot, is_acknowledged, is_waiting, is_failed}

@@ -1,4 +1,4 @@
--- The end of an exchange by the BlockAck that a driver heard, without a receiver.
+-- Defines the end of an exchange by the BlockAck that a driver heard, without a receiver.
 use Rattle.std.specs.Prelude.{◌≡◌, ℕ, Bool, true, false, List, Option, Some, None, is_none, if◌then◌else◌, IfSome, IfNone, Result, is_ok, IfErr}
 use Rattle.wf_frame.specs.declared.notes.Ask.TheVariants.{Done}
 use Rattle.wf_frame.specs.declared.notes.Note.TheVariants.{Asked}
@@ -20,10 +20,10 @@ use Rattle.wf_send_half.specs.Replies.{reply_of_result}
 
 -- ---- in the machine
 
--- The machine's outcome for w if exchange e ends with this BlockAck or with none. For a BlockAck of x, the open exchange,
--- the calls that it implies come first (`inferred`, wf_law_driver): exactly the numbers that it shows arrive,
--- and their receiver answers. If nothing was heard, the Done comes alone and is not heard. If no exchange is
--- open, or the airtime is out of range, the Done is refused.
+-- The machine's outcome for w if exchange e ends with this BlockAck or without one. For a BlockAck to x, the
+-- open exchange, the calls that it implies come first (`inferred`, wf_law_driver): exactly the numbers that
+-- it shows arrive, and their receiver answers. If nothing was heard, the only call is a Done that is not
+-- heard. If no exchange is open, or the airtime is out of range, the Done is refused.
 abbrev pub ended_by : World → ℕ → ℕ → Option (ℕ × List ℕ) → Option ℕ → Option Exchange → Outcome
 ended_by w caller e None air x = step w (Asked (Done e false air))
 ended_by w caller e (Some score) air None = step w (Asked (Done e false air))

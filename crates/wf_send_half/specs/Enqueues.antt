@@ -1,4 +1,4 @@
--- An enqueue.
+-- Defines the call of an enqueue, and the frame as it is accepted.
 use Rattle.std.specs.Prelude.{ℕ, ◌+◌, length}
 use Rattle.wf_frame.specs.Classes.{lower_tid, upper_tid, tid_number}
 use Rattle.wf_frame.specs.Frames.{FrameValue}

@@ -1,4 +1,4 @@
--- The flags of a transmit half, which say in which classes each station is ready.
+-- Defines the flags of a transmit half, which say in which classes each station is ready.
 use Rattle.std.specs.Prelude.{◌≡◌, ◌<◌, ℕ, Bool, false, List, [], length, map, replicate, get_or, slice_set}
 use Rattle.wf_frame.specs.declared.classes.Class.{Class}
 use Rattle.wf_frame.specs.declared.classes.Class.TheVariants.{Bk, Be, Vi, Vo}
@@ -33,7 +33,7 @@ with_flags r v s =
     with_flag (with_flag (with_flag (with_flag r Bk s (is_ready_of v Bk s)) Be s (is_ready_of v Be s)) Vi s
     (is_ready_of v Vi s)) Vo s (is_ready_of v Vo s)
 
--- the flags of a class: one for each station, which is up where the station is ready in the class
+-- the flags of a class: one for each station, which is up exactly if the station is ready in the class
 pub record TellsClass (v : TransmitValue) (c : Class) (flags : List Bool) : Type 0 where
   pub stations : length flags ≡ v.config.stations
   pub tells : (s : ℕ) → s < v.config.stations → entry flags s ≡ is_ready_of v c s

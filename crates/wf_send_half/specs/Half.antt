@@ -1,4 +1,4 @@
--- The facts about every transmit half, and the conditions of its calls.
+-- Defines the facts about every transmit half, and the conditions of its calls.
 use Rattle.std.specs.Prelude.{◌≡◌, ◌<◌, ℕ, ◌*◌, ◌^◌, Bool, true, ◌||◌, length, is_some, IfSome}
 use Rattle.wf_frame.specs.declared.classes.Class.{Class}
 use Rattle.wf_frame.specs.Classes.{lower_tid, upper_tid}
@@ -25,8 +25,8 @@ pub record HasWorld (v : TransmitValue) : Type 0 where
   pub bodies : ℕ → FrameValue
   pub stands : StandsFor v world bodies
 
--- it represents the transmit half of some world of a run in which no receiver has a frame that its sender
--- does not know to have arrived
+-- the half represents some world of a run in which no receiver has a frame that its sender does not know to
+-- have arrived
 pub record HasUnheardWorld (v : TransmitValue) : Type 0 where
   pub world : World
   pub bodies : ℕ → FrameValue

@@ -1,4 +1,4 @@
--- The states between the steps of a leave.
+-- Defines the states between the steps of a leave.
 use Rattle.std.specs.Prelude.{◌≡◌, ℕ, None, List}
 use Rattle.wf_frame.specs.Frames.{FrameValue}
 use Rattle.wf_frame.specs.declared.notes.Ask.TheVariants.{Leave}
@@ -30,7 +30,7 @@ pub record GivesFrames (before : TransmitValue) (w : World) (bodies : ℕ → Fr
   pub frames : List FrameValue
   pub expelling : IsExpelling before w bodies s t v frames dropped
 
--- the same for some world
+-- for some world, TID t of station s is leaving, and some frames of its window are finished
 pub record SomeGives (v : TransmitValue) (s t : ℕ) : Type 0 where
   pub before : TransmitValue
   pub world : World

@@ -1,3 +1,4 @@
+-- Lists the modules of specs/ of wf_send_half.
 pub mod Half
 pub mod Pulls
 pub mod Replies

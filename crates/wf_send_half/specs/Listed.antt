@@ -1,4 +1,4 @@
--- The list of a class that a station is on.
+-- Defines the list of a class that a station is on.
 use Rattle.std.specs.Prelude.{ℕ, Option, Some, None, if◌then◌else◌}
 use Rattle.wf_def_lists.specs.Table.{has}
 use Rattle.wf_def_rotation.specs.Rotation.{Rotation}

@@ -1,4 +1,4 @@
--- The states between the steps of a pull: the condition and the effect of each step.
+-- Defines the states between the steps of a pull: the condition and the effect of each step.
 use Rattle.std.specs.Prelude.{◌≡◌, ℕ, ◌%◌, ◌≤◌, Bool, true, false, List, [], length, Option, None, Some, is_some, option_map, map, take, drop, IfSome, if◌then◌else◌}
 use Rattle.wf_frame.specs.declared.classes.Class.{Class}
 use Rattle.wf_frame.specs.declared.notes.Ask.TheVariants.{Pull}
@@ -65,7 +65,7 @@ pub record AggregateGoesOn (v : TransmitValue) (bodies : ℕ → FrameValue) (s 
   pub mpdus : List Mpdu
   pub filling : IsFilling v world bodies s t room numbers mpdus after
 
--- it continues and ends at some aggregate
+-- in some world the filling of this aggregate to TID t of station s continues and ends at some aggregate
 pub record HasFilling (v : TransmitValue) (s t : ℕ) (room : AggregateSizeValue)
     (numbers : List ℕ) : Type 0 where
   pub bodies : ℕ → FrameValue

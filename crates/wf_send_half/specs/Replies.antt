@@ -1,4 +1,4 @@
--- The results of the calls as the machine's replies.
+-- Defines the machine's reply for each result of a call, and the frames after it.
 use Rattle.std.specs.Prelude.{ℕ, Option, Some, None, Result, Ok, Err}
 use Rattle.wf_frame.specs.Frames.{FrameValue}
 use Rattle.wf_frame.specs.declared.notes.Part.TheVariants.{Mpdus}

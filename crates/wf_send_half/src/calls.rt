@@ -1,17 +1,19 @@
 //! The calls of a transmit half. Each sets the flags of the stations whose readiness it may change.
 
-ghost use Rattle.std.specs.Prelude.{◌≡◌, ◌==◌, ◌<◌, ◌^◌, ℕ, [], true, Some, find, nat_le, count_by, IfOk, IfErr, IfSome, IfNone};
+ghost use Rattle.std.specs.Prelude.{◌≡◌, ◌==◌, ◌<◌, ◌^◌, ℕ, [], true, false, Some, find, nat_le, count_by, IfOk, IfErr, IfSome, IfNone};
 ghost use Rattle.wf_frame.specs.Answers.{reply_with};
 ghost use Rattle.wf_frame.specs.Classes.{same_class};
 ghost use Rattle.wf_frame.specs.Frames.{FrameValue};
 ghost use Rattle.wf_frame.specs.declared.answers.Brief.TheVariants.{Refused as Refuses};
 ghost use Rattle.wf_frame.specs.declared.notes.Ask.TheVariants.{Join, Leave, Rate, Tick, Pull, Sleep, Wake, Poll, Rx, Reap};
 ghost use Rattle.wf_frame.specs.declared.notes.Note.TheVariants.{Asked};
-ghost use Rattle.wf_frame.specs.declared.notes.Refusal.TheVariants.{Full};
+ghost use Rattle.wf_frame.specs.declared.notes.Refusal.TheVariants.{Full, Ahead};
 ghost use Rattle.wf_frame.specs.declared.notes.ReplyNote.TheVariants.{Joined, Left, Set, Now, Slept, Woken, Polled, Charged, Accepted, Refused};
 ghost use Rattle.wf_def_world.specs.World.{World};
 ghost use Rattle.wf_queue_flows_refines.specs.Frames.{with_body, IsBodySettled};
+ghost use Rattle.wf_send_half_model.specs.Half.{is_ahead_of};
 ghost use Rattle.wf_send_half_model.specs.Standing.{StandsFor, Meets};
+ghost use Rattle.wf_send_parts.specs.Exchanges.{airtime_of};
 ghost use Rattle.wf_send_half.specs.Bits.{IsChargeSmall, count_shown_of};
 ghost use Rattle.wf_send_half.specs.Driven.{IsAfterDone};
 ghost use Rattle.wf_send_half.specs.Enqueues.{enqueue_of, as_accepted};
@@ -27,8 +29,8 @@ use wf_queue_parts::chain::Parcel;
 
 impl Transmit {
     /// Accepts a frame. If the queues hold `limit` frames, the head of the longest queue is dropped. Refused
-    /// as BadStation, BadTid, NoStation, Room if `room` frames are inside, or Sleeping if `sleeping` frames
-    /// of its class are queued for a station that sleeps; a refused frame is returned.
+    /// as BadStation, BadTid, NoStation, Room if `room` frames are inside, or Sleeping if the station sleeps
+    /// and `sleeping` frames of the class are queued for it; a refused frame is returned.
     pub fn enqueue(&mut self, parcel: Parcel) -> Result<Admission, (Refusal, Parcel)>
         requires small { self.old.tally.accepted < 2 ^ 62 }
         ensures meets { IfOk result (λ given. (w : World) (bodies : ℕ → FrameValue) →
@@ -63,7 +65,8 @@ impl Transmit {
     /// Opens the next exchange of a class. The station whose turn it is sends what is due on one of its TIDs:
     /// a request, or an aggregate, whose frames are written to `pairs`, each by its id and its sequence
     /// number; each counts that it is sent once more. Refused as Full if as many exchanges of the class are
-    /// open as the setting `inflight` allows, or as Idle if no station is ready in the class.
+    /// open as the setting `inflight` allows, as Ahead if the computed airtime of all open exchanges has
+    /// reached the setting `aql_total` and this is not 0, or as Idle if no station is ready in the class.
     pub fn pull(&mut self, class: Class, pairs: &mut Pairs) -> Brief
         requires clock { self.old.clock < 2 ^ 62 }
         requires exchanges { self.old.exchanges < 2 ^ 62 }
@@ -74,6 +77,10 @@ impl Transmit {
             (count_by (λ x. same_class x.class class) self.old.opened) ≡ true →
             (result ≡ Refuses (Full (count_by (λ x. same_class x.class class) self.old.opened))) ×
             (self.new ≡ self.old) }
+        ensures ahead { nat_le self.old.config.inflight
+            (count_by (λ x. same_class x.class class) self.old.opened) ≡ false →
+            is_ahead_of self.old ≡ true →
+            (result ≡ Refuses (Ahead (airtime_of self.old.opened))) × (self.new ≡ self.old) }
         ensures unheard { HasUnheardWorld self.new }
     {
         let pulled = self.half.pull(class, self.ready.of(class), pairs);
@@ -87,7 +94,7 @@ impl Transmit {
     /// and the bits of the BlockAck that was heard (IEEE 802.11-2012, 8.3.1.9), if one was; the first 64 bits
     /// count, or all 256 if the TID's window is above 64. Each number that it shows is acknowledged; each
     /// other number waits again, or fails if it was sent `attempts` times. A request is heard if anything
-    /// was. If `air` is given, the station is charged so many microseconds instead of the computed charge.
+    /// was. If `air` is given, the station is charged `air` microseconds instead of the computed charge.
     /// Refused as NoExchange if the exchange is not open, then as BadAir if `air` is 0 or above the setting
     /// `charge`.
     pub fn done(
@@ -211,9 +218,9 @@ impl Transmit {
         }
     }
 
-    /// A sleeping station asks for one frame (PS-Poll, 10.2.1.6). Returns the most urgent class in which one
-    /// of its TIDs can send; the station may be sent one exchange of this class. Refused as BadStation,
-    /// NoStation, Awake, Polled or Nothing.
+    /// A sleeping station asks for one frame (PS-Poll, 10.2.1.6). Returns the most urgent class in which the
+    /// station can send; it may then be sent one exchange of this class. Refused as BadStation, NoStation,
+    /// Awake, Polled or Nothing.
     pub fn poll(&mut self, station: u16) -> Result<Class, Refusal>
         ensures meets { (w : World) (bodies : ℕ → FrameValue) → StandsFor self.old w bodies →
             Meets w bodies (Asked (Poll station)) self.new (reply_of_result Polled result) }

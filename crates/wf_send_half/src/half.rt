@@ -1,11 +1,12 @@
 //! The parts of the transmit half.
 
-ghost use Rattle.std.specs.Prelude.{◌≡◌, ℕ, None, is_some, not, nat_le, count_by, IfOk};
+ghost use Rattle.std.specs.Prelude.{◌≡◌, ℕ, None, is_some, not, ◌&&◌, nat_le, count_by, IfOk};
 ghost use Rattle.wf_frame.specs.Classes.{same_class};
 ghost use Rattle.wf_frame.specs.Frames.{FrameValue};
 ghost use Rattle.wf_frame.specs.Settings.{first_out_of_range};
 ghost use Rattle.wf_def_world.specs.World.{World, opening, is_live, rotation};
 ghost use Rattle.wf_send_parts.specs.Members.{member};
+ghost use Rattle.wf_send_half_model.specs.Half.{is_ahead_of};
 ghost use Rattle.wf_send_half_model.specs.Standing.{StandsFor};
 ghost use Rattle.wf_send_half.specs.Listed.{list_of};
 
@@ -20,7 +21,7 @@ use wf_send_parts::stations::{Members, Sleepers, Tally};
 use wf_send_parts::window::Windows;
 
 /// The transmit half without the flags of `Transmit`. A contract sees its parts, and says what a call makes
-/// of each world of a run that the half stands for (`wf_send_half_model`).
+/// of each world of a run that the half represents (`wf_send_half_model`).
 pub(crate) struct Half {
     pub(crate) config: Config,
     pub(crate) clock: u64,
@@ -140,11 +141,20 @@ impl Half {
         }
     }
 
-    // Returns whether fewer exchanges of a class are open than the setting `inflight` allows.
+    // Returns whether fewer exchanges of a class are open than the setting `inflight` allows, and the
+    // airtime in flight has not reached its limit.
     pub(crate) fn may_open(&self, class: Class) -> bool
-        ensures { result ≡ not (nat_le self.now.config.inflight
-            (count_by (λ x. same_class x.class class) self.now.opened)) }
+        ensures { result ≡ (not (nat_le self.now.config.inflight
+            (count_by (λ x. same_class x.class class) self.now.opened)) && not (is_ahead_of self.now)) }
     {
-        self.opened.of_class(class) < self.config.inflight
+        self.opened.of_class(class) < self.config.inflight && !self.is_ahead()
+    }
+
+    // Returns whether the airtime in flight in all classes has reached the setting `aql_total`, which is no
+    // limit if it is 0.
+    pub(crate) fn is_ahead(&self) -> bool
+        ensures { result ≡ is_ahead_of self.now }
+    {
+        0 < self.config.aql_total && self.config.aql_total <= self.opened.airtime()
     }
 }

@@ -1,17 +1,19 @@
 //! The next exchange of a class.
 
-ghost use Rattle.std.specs.Prelude.{◌≡◌, ◌<◌, ◌^◌, ◌||◌, ℕ, List, [], All, true, nat_le, nat_lt, count_by, length};
+ghost use Rattle.std.specs.Prelude.{◌≡◌, ◌<◌, ◌^◌, ◌≤◌, ◌||◌, ℕ, List, [], All, true, false, nat_le, nat_lt, count_by, length};
 ghost use Rattle.wf_frame.specs.Classes.{same_class, tid_number};
 ghost use Rattle.wf_frame.specs.Frames.{FrameValue};
 ghost use Rattle.wf_frame.specs.Answers.{reply_with};
 ghost use Rattle.wf_frame.specs.declared.answers.Brief.TheVariants.{Send, Refused};
 ghost use Rattle.wf_frame.specs.declared.notes.Ask.TheVariants.{Pull};
 ghost use Rattle.wf_frame.specs.declared.notes.Note.TheVariants.{Asked};
-ghost use Rattle.wf_frame.specs.declared.notes.Refusal.TheVariants.{Full};
+ghost use Rattle.wf_frame.specs.declared.notes.Refusal.TheVariants.{Full, Ahead};
 ghost use Rattle.wf_queue_flows.specs.Flows.{frames_of_tid};
+ghost use Rattle.wf_def_lists.specs.Bounds.{greatest_air};
+ghost use Rattle.wf_send_parts.specs.Exchanges.{airtime_of};
 ghost use Rattle.wf_send_parts.specs.Windows.{window_of};
 ghost use Rattle.wf_def_world.specs.World.{World, Mpdu};
-ghost use Rattle.wf_send_half_model.specs.Half.{some_wait, is_ready_of};
+ghost use Rattle.wf_send_half_model.specs.Half.{some_wait, is_ready_of, is_ahead_of};
 ghost use Rattle.wf_send_half_model.specs.Standing.{StandsFor, Meets, numbers_on_air};
 ghost use Rattle.wf_send_half_model.specs.Changes.{after_listing_in};
 ghost use Rattle.wf_send_half_model.specs.Filling.{IsTakingOff};
@@ -58,11 +60,22 @@ impl Half {
             (count_by (λ x. same_class x.class class) self.old.opened) ≡ true →
             (result.brief ≡ Refused (Full (count_by (λ x. same_class x.class class) self.old.opened))) ×
             (self.new ≡ self.old) }
+        ensures ahead { nat_le self.old.config.inflight
+            (count_by (λ x. same_class x.class class) self.old.opened) ≡ false →
+            is_ahead_of self.old ≡ true →
+            (result.brief ≡ Refused (Ahead (airtime_of self.old.opened))) × (self.new ≡ self.old) }
     {
         let count = self.opened.of_class(class);
         if self.config.inflight <= count {
             return Pulled {
                 brief: Brief::Refused(Refusal::Full { count }),
+                is_ready: false,
+            };
+        }
+        if self.is_ahead() {
+            let owed = self.opened.airtime();
+            return Pulled {
+                brief: Brief::Refused(Refusal::Ahead { owed }),
                 is_ready: false,
             };
         }
@@ -84,6 +97,7 @@ impl Half {
         requires within { station < self.old.config.stations }
         requires small { self.old.exchanges < 2 ^ 62 }
         requires room { length self.old.opened < 32 }
+        requires charge { prepared.charge ≤ greatest_air }
         requires above { All (λ x. x.number < self.old.exchanges) self.old.opened }
         requires request { prepared.request ≡ start_sent prepared.sending }
         ensures opened { self.new ≡ after_listing_in

@@ -146,7 +146,7 @@ impl Transmit {
     }
 
     /// Returns whether a pull of a class would send now: exactly if it would be refused neither as Full nor
-    /// as Idle.
+    /// as Ahead nor as Idle.
     pub fn can_pull(&self, class: Class) -> bool
         ensures { (w : World) (bodies : ℕ → FrameValue) → StandsFor self.now w bodies →
             result ≡ is_none (refusal w (Asked (Pull class))) }

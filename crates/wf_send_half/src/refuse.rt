@@ -176,7 +176,7 @@ impl Half {
         ensures passed { IfOk result (λ _. (w : World) (bodies : ℕ → FrameValue) →
             StandsFor self.now w bodies →
             refusal w (Asked (Rx station class air))
-            ≡ (if int_lt ((share w station class).deficit -ℤ pos air) deepest_deficit
+            ≡ (if int_lt ((share w station class).deficit -ℤ pos air) (deepest_deficit w.config.debt)
             then Some (Debt (share w station class).deficit) else None)) }
         ensures within { IfOk result (λ _. station < self.now.config.stations) }
         ensures live { IfOk result (λ _. IsLive self.now station) }

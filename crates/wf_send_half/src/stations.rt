@@ -109,7 +109,7 @@ impl Half {
         ensures refused { IfErr result (λ _. self.new ≡ self.old) }
     {
         self.check_rx(station, class, air)?;
-        match self.sched.rx(station, class, air) {
+        match self.sched.rx(station, class, air, self.config.debt) {
             Ok(deficit) => {
                 self.members.add_received(station, class, air);
                 Ok(deficit)

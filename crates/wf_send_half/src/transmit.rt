@@ -17,7 +17,7 @@ use wf_frame::Config;
 /// compute it for each station.
 ///
 /// A contract sees the parts of the half, and says what a call makes of each world of a run that the half
-/// stands for (`wf_send_half_model`). By the invariant there is always such a world, and an unheard one: no
+/// represents (`wf_send_half_model`). By the invariant there is always such a world, and an unheard one: no
 /// receiver in it has a frame that its sender does not know to have arrived.
 pub struct Transmit {
     pub(crate) half: Half,

@@ -16,10 +16,10 @@ ghost use Rattle.wf_send_half.specs.Driven.{outcome_after_done, world_after_done
 ghost use Rattle.wf_send_half.specs.Replies.{reply_of_result};
 ghost use Rattle.wf_send_half.specs.declared.finish.Ended.{Ended};
 
-/// An exchange ends, whatever bits were heard and whatever airtime is given. A half that stood for an unheard
-/// world then stands for the world in which exactly the numbers that the bits show arrived just before the
-/// Done. This world is unheard too, and the reply is that of the Done. So a half always has a world. The same
-/// stations are ready as before, except the exchange's station in the class of its TID.
+/// An exchange ends, whatever bits were heard and whatever airtime is given. A half that represented an
+/// unheard world then represents the world in which exactly the numbers that the bits show arrived just
+/// before the Done. This world is unheard too, and the reply is the Done's, so a half always has a world. The
+/// same stations are ready as before, except the exchange's station in the class of its TID.
 pub fn an_exchange_ends_as_a_driver_tells()
     ensures meets { (v u : TransmitValue) (w : World) (bodies : ℕ → FrameValue) → StandsFor v w bodies →
         IsUnheard w →

@@ -7,16 +7,16 @@ use Rattle.wf_frame.specs.Classes.{lower_tid, upper_tid, same_class, tid_number}
 use Rattle.wf_frame.specs.declared.notes.Note.TheVariants.{Asked}
 use Rattle.wf_frame.specs.declared.notes.Ask.TheVariants.{Pull}
 use Rattle.wf_frame.specs.declared.notes.Refusal.{Refusal}
-use Rattle.wf_frame.specs.declared.notes.Refusal.TheVariants.{Full, Idle}
+use Rattle.wf_frame.specs.declared.notes.Refusal.TheVariants.{Full, Ahead, Idle}
 use Rattle.wf_frame.specs.Frames.{FrameValue}
 use Rattle.wf_def_air.specs.Airtime.{Rate}
 use Rattle.wf_def_codel.specs.Codel.{Params}
 use Rattle.wf_def_codel.specs.Parameters.{params_at}
 use Rattle.wf_def_lists.specs.Table.{at}
-use Rattle.wf_def_world.specs.World.{World, Station, no_station, is_live, station, share, codel_params}
+use Rattle.wf_def_world.specs.World.{World, Station, no_station, is_live, station, share, codel_params, owed_by_all}
 use Rattle.wf_def_world.specs.CanSend.{can_send, can_send_in}
 use Rattle.wf_def_world.specs.Exchanges.{most_frames, picked_station, after_pick, sending_tid}
-use Rattle.wf_def_world.specs.Refusals.{open_of_class, first_refusal, refusal}
+use Rattle.wf_def_world.specs.Refusals.{open_of_class, is_at_aql_total, first_refusal, refusal}
 use Rattle.wf_law_runs.proofs.Windows.Agreed.{sends, winner_ready}
 use Rattle.wf_air.specs.Sizes.{empty_size}
 use Rattle.wf_sched.specs.ClassRotas.{SchedValue}
@@ -25,14 +25,15 @@ use Rattle.wf_queue_flows.specs.Flows.{TakenFromFlows, frames_of_tid, taken_for_
 use Rattle.wf_queue_flows_refines.specs.Standing.{flows_part}
 use Rattle.wf_queue_flows_refines.proofs.Heads.{drops_counted}
 use Rattle.wf_send_parts.specs.declared.stations.members.Member.{Member}
+use Rattle.wf_send_parts.specs.Exchanges.{airtime_of}
 use Rattle.wf_send_parts.specs.Members.{member}
 use Rattle.wf_send_parts.specs.Sleepers.{sleeper}
-use Rattle.wf_send_half_model.specs.Half.{TransmitValue, can_send_of}
+use Rattle.wf_send_half_model.specs.Half.{TransmitValue, can_send_of, is_ahead_of}
 use Rattle.wf_send_half_model.specs.Standing.{IsMember, AreBoth, Parts, StandsFor}
 use Rattle.wf_send_half_model.specs.Pulling.{sending_tid_of, is_wide_of}
 use Rattle.wf_send_half_model.specs.Filling.{room_for}
 use Rattle.wf_send_half_model.proofs.Pulls.{pick_parts, sending_same, sending_low, wide_same}
-use Rattle.wf_send_half_model.proofs.Readers.{can_send_same, class_count_same}
+use Rattle.wf_send_half_model.proofs.Readers.{can_send_same, class_count_same, airtime_same, ahead_same}
 use Rattle.wf_send_half_model.proofs.Sends.{from_winner, winner_live}
 
 -- ---- the station
@@ -123,17 +124,28 @@ turn_sends v w bodies h c s won turns picked =
 
 -- ---- refusals
 
-two_rows : (a b : Bool) (r q : Refusal) → first_refusal ((a, r) ∷ (b, q) ∷ [])
-    ≡ (if a then Some r else if b then Some q else None)
+three_rows : (a b d : Bool) (r q k : Refusal) → first_refusal ((a, r) ∷ (b, q) ∷ (d, k) ∷ [])
+    ≡ (if a then Some r else if b then Some q else if d then Some k else None)
 unfolding first_refusal
-two_rows a b r q = refl
+three_rows a b d r q k = refl
+
+-- what the rows of a pull give, by their tests
+abbrev judged_by : ℕ → ℕ → Bool → Bool → Bool → Option Refusal
+judged_by count airtime full ahead idle =
+    if full then Some (Full count) else if ahead then Some (Ahead airtime)
+    else if idle then Some Idle else None
 
 module _ (v : TransmitValue) (w : World) (bodies : ℕ → FrameValue) (c : Class) (h : Parts v w bodies) where
-  rows_are : refusal w (Asked (Pull c)) ≡ (if nat_le w.config.inflight (open_of_class w c)
-      then Some (Full (open_of_class w c)) else if is_none (picked_station w c).winner then Some Idle
-      else None)
-  rows_are = two_rows (nat_le w.config.inflight (open_of_class w c)) (is_none (picked_station w c).winner)
-      (Full (open_of_class w c)) Idle
+  abbrev nobody : Bool
+  nobody = is_none (picked_station w c).winner
+
+  abbrev judged : Bool → Bool → Bool → Option Refusal
+  judged = judged_by (open_of_class w c) (owed_by_all w.opened)
+
+  rows_are : refusal w (Asked (Pull c))
+      ≡ judged (nat_le w.config.inflight (open_of_class w c)) (is_at_aql_total w) nobody
+  rows_are = three_rows (nat_le w.config.inflight (open_of_class w c)) (is_at_aql_total w) nobody
+      (Full (open_of_class w c)) (Ahead (owed_by_all w.opened)) Idle
 
   count_read : count_by (λ x. same_class x.class c) v.opened ≡ open_of_class w c
   count_read = class_count_same v w bodies c h
@@ -146,23 +158,30 @@ module _ (v : TransmitValue) (w : World) (bodies : ℕ → FrameValue) (c : Clas
       refusal w (Asked (Pull c)) ≡ Some (Full (count_by (λ x. same_class x.class c) v.opened))
   full_refused full =
       rows_are
-      ∙ ap (λ (b : Bool). if b then Some (Full (open_of_class w c))
-      else if is_none (picked_station w c).winner then Some Idle else None) (sym test_read ∙ full)
+      ∙ ap (λ (b : Bool). judged b (is_at_aql_total w) nobody) (sym test_read ∙ full)
       ∙ ap (λ (n : ℕ). Some (Full n)) (sym count_read)
 
-  judged : (o : Option ℕ) → (picked_station w c).winner ≡ o →
-      nat_le v.config.inflight (count_by (λ x. same_class x.class c) v.opened) ≡ false →
-      refusal w (Asked (Pull c)) ≡ (if is_none o then Some Idle else None)
-  judged o is few =
-      rows_are
-      ∙ ap (λ (b : Bool). if b then Some (Full (open_of_class w c))
-      else if is_none (picked_station w c).winner then Some Idle else None) (sym test_read ∙ few)
-      ∙ ap (λ (z : Option ℕ). if is_none z then Some Idle else None) is
+  module _ (few : nat_le v.config.inflight (count_by (λ x. same_class x.class c) v.opened) ≡ false) where
+    with_room : refusal w (Asked (Pull c)) ≡ judged false (is_at_aql_total w) nobody
+    with_room = rows_are ∙ ap (λ (b : Bool). judged b (is_at_aql_total w) nobody) (sym test_read ∙ few)
 
-  pub idle_refused : nat_le v.config.inflight (count_by (λ x. same_class x.class c) v.opened) ≡ false →
-      (picked_station w c).winner ≡ None → refusal w (Asked (Pull c)) ≡ Some Idle
-  idle_refused few none = judged None none few
+    pub ahead_refused : is_ahead_of v ≡ true →
+        refusal w (Asked (Pull c)) ≡ Some (Ahead (airtime_of v.opened))
+    ahead_refused ahead =
+        with_room
+        ∙ ap (λ (b : Bool). judged false b nobody) (sym (ahead_same v w bodies h) ∙ ahead)
+        ∙ ap (λ (n : ℕ). Some (Ahead n)) (sym (airtime_same v w bodies h))
 
-  pub not_refused : nat_le v.config.inflight (count_by (λ x. same_class x.class c) v.opened) ≡ false →
-      (s : ℕ) → (picked_station w c).winner ≡ Some s → refusal w (Asked (Pull c)) ≡ None
-  not_refused few s won = judged (Some s) won few
+    module _ (behind : is_ahead_of v ≡ false) where
+      by_winner : (o : Option ℕ) → (picked_station w c).winner ≡ o →
+          refusal w (Asked (Pull c)) ≡ (if is_none o then Some Idle else None)
+      by_winner o is =
+          with_room
+          ∙ ap (λ (b : Bool). judged false b nobody) (sym (ahead_same v w bodies h) ∙ behind)
+          ∙ ap (λ (z : Option ℕ). if is_none z then Some Idle else None) is
+
+      pub idle_refused : (picked_station w c).winner ≡ None → refusal w (Asked (Pull c)) ≡ Some Idle
+      idle_refused none = by_winner None none
+
+      pub not_refused : (s : ℕ) → (picked_station w c).winner ≡ Some s → refusal w (Asked (Pull c)) ≡ None
+      not_refused s won = by_winner (Some s) won

@@ -1,5 +1,5 @@
--- Proves that a Done leaves the readiness of the exchange's station in each class except that of the
--- exchange's TID, because it changes nothing that the other TIDs' readiness depends on.
+-- Proves that a Done changes the readiness of the exchange's station only in the class of the exchange's TID,
+-- because it changes nothing that the readiness of the other TIDs depends on.
 use Rattle.std.proofs.Common.{◌≡◌, refl, ap, sym, ◌∙◌, subst, ℕ, Bool, true, false, not, ◌&&◌, ◌||◌, if◌then◌else◌, List, [], ◌∷◌, length, filter, Option, Some, None, unwrap_or, option_map, inl, inr}
 use Rattle.std.specs.Prelude.{◌==◌}
 use Rattle.std.proofs.lemmas.Bool.{cases_Bool, cases_eq, ne_eqb, eqb-true, not-false}
@@ -26,8 +26,7 @@ use Rattle.wf_send_half_model.proofs.Steady.{asks, receives_on_station}
 use Rattle.wf_send_half_model.proofs.Spared.{IsSameTid, ready_same_by, queued_same, ready_stepped, ready_others, orderly_reached}
 use Rattle.wf_send_half_model.proofs.OwnClass.{lower_class, upper_class}
 
--- nothing changes that the readiness of station s depends on, except on its TID t; the same exchanges are
--- open
+-- v and w agree in what the readiness of station s depends on, except its TID t; the same exchanges are open
 pub record IsBeyond (s t : ℕ) (w v : World) : Type 0 where
   pub tids : (j : ℕ) → (j ≡ t → ⊥) → tid_of v s j ≡ tid_of w s j
   pub live : is_live v s ≡ is_live w s
@@ -57,7 +56,7 @@ pub on_station_opened : (w : World) (s : ℕ) (f : Station → Station) → (on_
 unfolding on_station with_station
 on_station_opened w s f = refl
 
--- a change of the station that leaves TID j leaves it as read from the world, too
+-- a change of a station that does not affect its TID j does not affect this TID in the world
 pub tid_on_station : (w : World) (s j : ℕ) (f : Station → Station) →
     ((x : Station) → at no_tid (f x).tids j ≡ at no_tid x.tids j) →
     tid_of (on_station w s f) s j ≡ tid_of w s j

@@ -1,5 +1,5 @@
--- Proves, for the calls that change little, that the parts represent the world that each call leaves before
--- its station is listed. Each change of a part is matched by one of its view.
+-- Proves, for the calls that change little, that the parts represent the world after the call, before its
+-- station is listed. Each change of a part corresponds to a change of its view.
 use Rattle.std.proofs.Common.{◌≡◌, refl, ap, sym, ◌∙◌, subst, arith, ℕ, ◌+◌, ◌-◌, ◌<◌, pos, ◌-ℤ◌, Bool, true, false, List, ◌∷◌, length, Option, Some, None}
 use Rattle.std.proofs.lemmas.List.Elements.{All-rest}
 use Rattle.wf_frame.specs.declared.classes.Class.{Class}

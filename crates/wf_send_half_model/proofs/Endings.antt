@@ -219,7 +219,7 @@ module _ (w : World) (r : IsReached w) (s t : ℕ) where
     ids_once (suc m.number) ms each.1 rises.1,
   )
 
--- closing and charging an exchange leaves this view of the world
+-- closing and charging an exchange does not change this view of the world
 closed_part : (w : World) (x : Exchange) (air : Option ℕ) →
     flows_part (after_charge (without_exchange w x.number) x air) ≡ flows_part w
 unfolding after_charge

@@ -99,7 +99,7 @@ behind_wait y bodies e m ms a = record {
       (omega (arith, a.rising.0)) a.rising.1;
 }
 
--- counting an attempt in one frame leaves the ids of all frames
+-- counting an attempt in one frame does not change the ids of the frames
 sent_each : (y : Session) (bodies : ℕ → FrameValue) (id : ℕ) (ms : List Mpdu) →
     EachMpdu (IsWaitingWith y bodies) ms → EachMpdu (IsWaitingWith y (with_one_sent id bodies)) ms
 sent_each y bodies id [] h = tt

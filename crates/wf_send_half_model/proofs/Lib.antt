@@ -1,3 +1,4 @@
+-- Lists the modules of proofs/ of wf_send_half_model. Other crates may use those that are `pub`.
 mod Alone
 mod Apart
 pub mod Asked

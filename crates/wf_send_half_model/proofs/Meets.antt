@@ -21,7 +21,7 @@ use Rattle.wf_send_half_model.specs.Readiness.{IsListedBut}
 use Rattle.wf_send_half_model.proofs.Reached.{reached_step, step_done, step_refused, nothing_changed}
 use Rattle.wf_send_half_model.proofs.Listings.{listing_parts, nobody_new, one_listing}
 
--- the step leaves this world, with this reply
+-- the step leads to this world, with this reply
 by_step : (v : TransmitValue) (w : World) (bodies : ℕ → FrameValue) (note : Note) (o : Outcome) →
     step w note ≡ o → Parts v o.world bodies → IsReached (step w note).world → Meets w bodies note v o.reply
 by_step v w bodies note o e h r = record {

@@ -24,7 +24,7 @@ use Rattle.wf_send_half_model.proofs.Pulled.{whole_pulled}
 use Rattle.wf_send_half_model.proofs.Beyond.{own_ended}
 use Rattle.wf_send_half_model.proofs.Whole.{listed_where_ready}
 
--- a class with the same list as before, in which no station got ready, lists each station that is ready there
+-- a class whose list is unchanged and in which no station became ready lists each station that is ready there
 still_listed : (w u : World) → IsReached w → (s : ℕ) (d : Class) → rotation u d ≡ rotation w d →
     (is_ready u d s ≡ true → is_ready w d s ≡ true) → is_ready u d s ≡ true → has_key (rotation u d) s ≡ true
 still_listed w u r s d lists ready is =

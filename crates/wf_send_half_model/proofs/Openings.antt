@@ -11,9 +11,11 @@ use Rattle.wf_frame.specs.declared.classes.Class.{Class}
 use Rattle.wf_frame.specs.declared.classes.Class.TheVariants.{Bk, Be, Vi, Vo}
 use Rattle.wf_frame.specs.Classes.{same_class}
 use Rattle.wf_frame.specs.Frames.{FrameValue}
+use Rattle.wf_def_lists.specs.Bounds.{greatest_air}
 use Rattle.wf_def_world.specs.World.{World, Exchange}
 use Rattle.wf_def_world.specs.Refusals.{open_of_class}
-use Rattle.wf_law_runs.specs.Windows.{OpenRises}
+use Rattle.wf_law_runs.specs.Numbers.{greatest_computed}
+use Rattle.wf_law_runs.specs.Windows.{EachOpen, OpenRises}
 use Rattle.wf_law_runs.proofs.Deficits.Numbers.{number_law}
 use Rattle.wf_send_parts.specs.declared.exchanges.opened.Open.{Open}
 use Rattle.wf_send_half_model.specs.Half.{TransmitValue}
@@ -33,6 +35,21 @@ opens_above v w bodies h =
     subst (λ (n : ℕ). All (λ o. o.number < n) v.opened) (sym h.parts.others.exchanges)
     (subst (λ (xs : List Open). All (λ o. o.number < w.exchanges) xs) (sym h.parts.others.opened)
     (all_below 0 w.exchanges w.opened (rises w h.reached)))
+
+all_small : (xs : List Exchange) → EachOpen (λ x. (1 ≤ x.charge) × (x.charge ≤ greatest_computed)) xs →
+    All (λ o. o.charge ≤ greatest_air) (map open_of xs)
+all_small [] h = All-nil (λ (o : Open). o.charge ≤ greatest_air)
+all_small (x ∷ xs) h = All-cons (λ (o : Open). o.charge ≤ greatest_air) (open_of x) (map open_of xs)
+    (omega (arith, h.0.1)) (all_small xs h.1)
+
+pub opens_small : (v : TransmitValue) (w : World) (bodies : ℕ → FrameValue) → StandsFor v w bodies →
+    All (λ o. o.charge ≤ greatest_air) v.opened
+opens_small v w bodies h =
+    let r : IsReached w = h.reached in
+    subst (λ (xs : List Open). All (λ o. o.charge ≤ greatest_air) xs) (sym h.parts.others.opened)
+    (all_small w.opened (by_law (λ u. EachOpen (λ x. (1 ≤ x.charge) × (x.charge ≤ greatest_computed))
+    u.opened)
+    w r (λ m. (number_law w.config r.history r.in_range m).charges)))
 
 -- ---- one of each class
 

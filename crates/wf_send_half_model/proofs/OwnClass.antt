@@ -1,6 +1,6 @@
--- Proves that an enqueue leaves its own station's readiness in each class except that of its TID and those in
--- which the limit drops a frame. In the latter the station does not get ready.
-use Rattle.std.proofs.Common.{◌≡◌, refl, ap, sym, ◌∙◌, subst, arith, ℕ, true, false, List, [], ◌∷◌, ◌++◌, length, Option, Some, None, option_map, pos, inl, inr}
+-- Proves that an enqueue changes its own station's readiness only in the class of its TID, and in a class in
+-- which the limit drops a frame. In the latter the station does not become ready.
+use Rattle.std.proofs.Common.{◌≡◌, refl, ap, sym, ◌∙◌, subst, arith, ℕ, true, false, List, [], ◌∷◌, ◌++◌, length, Option, Some, None, option_map, inl, inr}
 use Rattle.std.proofs.lemmas.Bool.{cases_eq, not-false}
 use Rattle.wf_frame.specs.declared.classes.Class.{Class}
 use Rattle.wf_frame.specs.declared.classes.Class.TheVariants.{Bk, Be, Vi, Vo}
@@ -11,7 +11,7 @@ use Rattle.wf_def_lists.specs.Lengths.{greatest_body}
 use Rattle.wf_def_codel.specs.Codel.{Item}
 use Rattle.wf_def_rotation.specs.Rotation.{Rotation, has_key, with_new_key}
 use Rattle.wf_def_world.specs.World.{World, Station, Queue, new_queue, tid_of, queue, is_live, on_queue, with_queues, on_tid, on_station, with_station, with_frame_finished, with_fate}
-use Rattle.wf_def_world.specs.FlowQueues.{is_at_limit, longest_queue, without_head, after_limit, queue_for, with_appended, with_listed_queue, after_put_in}
+use Rattle.wf_def_world.specs.FlowQueues.{is_at_limit, longest_queue, without_head, after_limit, queue_for, with_appended, when_listed, with_listed_queue, after_put_in}
 use Rattle.wf_def_world.specs.CanSend.{may_receive, is_ready}
 use Rattle.wf_def_world.specs.Refusals.{refusal, refusals}
 use Rattle.wf_def_world.specs.Step.{Outcome, outcome_of, step, next_item, with_frame, enqueue_outcome}
@@ -60,9 +60,9 @@ unfolding without_head with_frame_finished with_fate on_queue
 live_headless [] w q s = refl
 live_headless (x ∷ rest_of_world) w q s = refl
 
--- the queue with its deficit set anew
+-- the queue when it becomes listed
 abbrev refreshed : World → ℕ → World
-refreshed w q = on_queue w q (λ y. record y { deficit = pos w.config.flow_quantum })
+refreshed w q = on_queue w q (when_listed w.config)
 
 live_refreshed : (w : World) (q s : ℕ) → is_live (refreshed w q) s ≡ is_live w s
 unfolding on_queue
@@ -119,7 +119,7 @@ other_queue w p q f other = at_put_other new_queue w.queues p q _ other
 queue_listed : (w : World) (s t p q : ℕ) → (p ≡ q → ⊥) → queue (with_listed_queue w s t p) q ≡ queue w q
 unfolding with_listed_queue with_queues on_tid on_station with_station
 queue_listed w s t p q other = on_if (λ (v : World). queue v q ≡ queue w q) (has_key (lists w s t) p) _ _
-    (λ _. refl) (λ _. other_queue w p q (λ y. record y { deficit = pos w.config.flow_quantum }) other)
+    (λ _. refl) (λ _. other_queue w p q (when_listed w.config) other)
 
 queue_put_in : (w : World) (s t p q : ℕ) (x : Item) → (p ≡ q → ⊥) →
     queue (after_put_in w s t p x) q ≡ queue w q
@@ -263,7 +263,7 @@ own_enqueued w s t flow len r done row c other spared =
     (enqueued_tid w s t flow len live r done (upper_tid c)
     (λ e. other (ap class_of (sym e) ∙ upper_class c)) parts.1)
 
--- in a class in which the limit drops a frame, the station does not get ready either
+-- in a class in which the limit drops a frame, the station does not become ready either
 pub own_less : (w : World) (s t flow len : ℕ) → IsReached (step w (Enqueue s t flow len)).world →
     refusal w (Enqueue s t flow len) ≡ None → (c : Class) → (class_of t ≡ c → ⊥) →
     is_ready (outcome_of w (Enqueue s t flow len)).world c s ≡ true → is_ready w c s ≡ true

@@ -1,4 +1,4 @@
--- Proves that a pull leaves the readiness of the station that it picks in each class except the pull's.
+-- Proves that a pull changes the readiness of the station that it picks only in the pull's class.
 use Rattle.std.proofs.Common.{◌≡◌, refl, ap, sym, ◌∙◌, subst, arith, ℕ, zero, suc, ◌<◌, ◌≤◌, Bool, true, false, not, ◌&&◌, ◌||◌, if◌then◌else◌, List, [], ◌∷◌, length, Option, Some, None, IfSome, option_map, inl, inr}
 use Rattle.std.specs.Prelude.{◌==◌}
 use Rattle.std.proofs.lemmas.Bool.{cases_eq, ne_eqb, and_parts}

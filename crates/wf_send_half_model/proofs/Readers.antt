@@ -1,5 +1,5 @@
 -- Proves that each query of a half returns the same as the query of its world, by the part that it reads.
-use Rattle.std.proofs.Common.{◌≡◌, refl, ap, ap₂, sym, ◌∙◌, arith, ℕ, ◌+◌, ◌==◌, ◌<◌, nat_lt, Bool, true, false, not, ◌&&◌, ◌||◌, if◌then◌else◌, cond, List, [], ◌∷◌, map, Option, Some, None, is_some, option_map, inl, inr, zero, suc, unwrap_or}
+use Rattle.std.proofs.Common.{◌≡◌, refl, ap, ap₂, sym, ◌∙◌, arith, ℕ, ◌+◌, ◌==◌, ◌<◌, nat_lt, nat_le, Bool, true, false, not, ◌&&◌, ◌||◌, if◌then◌else◌, cond, List, [], ◌∷◌, map, Option, Some, None, is_some, option_map, inl, inr, zero, suc, unwrap_or}
 use Rattle.std.specs.Prelude.{count_by, find}
 use Rattle.std.specs.List.{list_any}
 use Rattle.std.proofs.lemmas.Bool.{cases_Bool}
@@ -10,10 +10,10 @@ use Rattle.wf_frame.specs.Classes.{lower_tid, upper_tid, same_class, tid_number}
 use Rattle.wf_frame.specs.Frames.{FrameValue}
 use Rattle.wf_def_agreement.specs.Session.{request_due, has_room}
 use Rattle.wf_def_lists.specs.Table.{at, upto, count_from}
-use Rattle.wf_def_world.specs.World.{World, Station, Exchange, Content, Frames, Request, is_live, session, exchange}
+use Rattle.wf_def_world.specs.World.{World, Station, Exchange, Content, Frames, Request, is_live, session, exchange, owed_by_all}
 use Rattle.wf_def_world.specs.FlowQueues.{frames_queued as world_queued}
 use Rattle.wf_def_world.specs.CanSend.{is_request as world_request, request_open, has_waiting, can_give, can_send, has_credit, can_send_in, may_receive, is_ready}
-use Rattle.wf_def_world.specs.Refusals.{open_of_station, open_of_class, can_send_any, queued_in_class}
+use Rattle.wf_def_world.specs.Refusals.{is_at_aql_total, open_of_station, open_of_class, can_send_any, queued_in_class}
 use Rattle.wf_def_world.specs.Step.{class_to_send}
 use Rattle.wf_queue_flows.specs.Flows.{frames_of_tid}
 use Rattle.wf_queue_flows_refines.proofs.Readers.{same_queued}
@@ -22,11 +22,11 @@ use Rattle.wf_send_parts.proofs.Calls.{due_is, can_take_is}
 use Rattle.wf_send_parts.proofs.Counting.{some_waits}
 use Rattle.wf_send_parts.specs.Windows.{window_of}
 use Rattle.wf_send_parts.specs.declared.exchanges.opened.Open.{Open}
-use Rattle.wf_send_parts.specs.Exchanges.{sending_is_request, asks}
+use Rattle.wf_send_parts.specs.Exchanges.{sending_is_request, asks, airtime_of}
 use Rattle.wf_send_parts.specs.declared.stations.members.Member.{Member}
 use Rattle.wf_send_parts.specs.Members.{member}
 use Rattle.wf_send_parts.specs.Sleepers.{sleeper}
-use Rattle.wf_send_half_model.specs.Half.{TransmitValue, some_wait, can_send_of, is_ready_of}
+use Rattle.wf_send_half_model.specs.Half.{TransmitValue, some_wait, can_send_of, is_ready_of, is_ahead_of}
 use Rattle.wf_send_half_model.specs.Standing.{sending_of, open_of, IsMember, AreBoth, Parts}
 
 -- ---- open exchanges
@@ -81,6 +81,19 @@ pub exchange_same : (v : TransmitValue) (w : World) (bodies : ℕ → FrameValue
     find (λ x. x.number == e) v.opened ≡ option_map open_of (exchange w e)
 exchange_same v w bodies e h = ap (λ (xs : List Open). find (λ (x : Open). x.number == e) xs) h.others.opened
     ∙ find_among (λ (x : Open). x.number == e) (λ (x : Exchange). x.number == e) (λ x. refl) w.opened
+
+airtime_among : (xs : List Exchange) → airtime_of (map open_of xs) ≡ owed_by_all xs
+airtime_among [] = refl
+airtime_among (x ∷ xs) = ap (λ (n : ℕ). x.charge + n) (airtime_among xs)
+
+pub airtime_same : (v : TransmitValue) (w : World) (bodies : ℕ → FrameValue) → Parts v w bodies →
+    airtime_of v.opened ≡ owed_by_all w.opened
+airtime_same v w bodies h = ap airtime_of h.others.opened ∙ airtime_among w.opened
+
+pub ahead_same : (v : TransmitValue) (w : World) (bodies : ℕ → FrameValue) → Parts v w bodies →
+    is_ahead_of v ≡ is_at_aql_total w
+ahead_same v w bodies h = ap₂ (λ (limit n : ℕ). nat_lt 0 limit && nat_le limit n)
+    (ap (λ x. x.aql_total) h.others.config) (airtime_same v w bodies h)
 
 -- ---- stations
 

@@ -1,5 +1,5 @@
 -- Proves that the numbers of an exchange that ends are settled one after the other, as in the world. By
--- induction over the transmissions; a step leaves all other frames and sessions.
+-- induction over the transmissions; a step does not change the other frames and sessions.
 use Rattle.std.proofs.Common.{◌≡◌, ◌≢◌, refl, ap, sym, ◌∙◌, subst, arith, ℕ, ◌+◌, ◌-◌, ◌<◌, ◌==◌, ◌||◌, nat_le, Bool, true, false, if◌then◌else◌, List, [], ◌∷◌, ◌++◌, map, eq-eqb}
 use Rattle.std.proofs.lemmas.Bool.{or_left}
 use Rattle.wf_frame.specs.declared.classes.Cause.TheVariants.{Retries}
@@ -34,7 +34,7 @@ use Rattle.wf_send_half_model.proofs.Views.{agreements_rest, agreements_session}
 use Rattle.wf_queue_flows_refines.proofs.Elsewhere.{rest_finish}
 use Rattle.wf_send_half_model.proofs.Moves.{session_parts, session_is, finish_parts}
 
--- ---- a step leaves the other frames
+-- ---- a step does not change the other frames
 
 -- the frames of other ids keep their places and fates
 record LeavesOthers (id : ℕ) (v : TransmitValue) (w : World) (x : TransmitValue) (u : World) : Type 0 where

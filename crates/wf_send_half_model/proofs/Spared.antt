@@ -1,6 +1,6 @@
--- Proves that a call leaves the readiness of each station that it does not concern, in each class in which
--- the limit drops none of its frames. By cases of the call: it changes nothing that readiness reads.
-use Rattle.std.proofs.Common.{◌≡◌, refl, ap, sym, ◌∙◌, subst, arith, ℕ, suc, ◌<◌, ◌≤◌, Bool, true, false, not, ◌&&◌, ◌||◌, if◌then◌else◌, nat_lt, List, [], ◌∷◌, ◌++◌, length, Option, Some, None, unwrap_or, option_map, inl, inr, sum_by, is_some, IfSome, pos}
+-- Proves that a call does not change the readiness of a station that it does not concern, in each class in
+-- which the limit drops none of its frames. By cases of the call: it changes nothing that readiness reads.
+use Rattle.std.proofs.Common.{◌≡◌, refl, ap, sym, ◌∙◌, subst, arith, ℕ, suc, ◌<◌, ◌≤◌, Bool, true, false, not, ◌&&◌, ◌||◌, if◌then◌else◌, nat_lt, List, [], ◌∷◌, ◌++◌, length, Option, Some, None, unwrap_or, option_map, inl, inr, sum_by, is_some, IfSome}
 use Rattle.std.proofs.lemmas.Bool.{cases_eq, not-false, and_parts, ltb-true, lt-ltb}
 use Rattle.std.proofs.lemmas.List.{length-append}
 use Rattle.std.proofs.lemmas.List.Sums.{sum_by-cons}
@@ -17,7 +17,7 @@ use Rattle.wf_def_codel.specs.Codel.{Item}
 use Rattle.wf_def_rotation.specs.Rotation.{Rotation, has_key, in_order}
 use Rattle.wf_def_agreement.specs.Session.{Session, waiting_numbers, request_due, has_room}
 use Rattle.wf_def_world.specs.World.{World, Station, Queue, Exchange, no_tid, no_station, new_queue, tid_of, session, queue, is_live, rotation, exchange, on_queue, with_rotation, on_station, with_station, on_share, with_frame_finished, with_fate, with_queues, on_tid}
-use Rattle.wf_def_world.specs.FlowQueues.{frames_queued, is_at_limit, longest_queue, without_head, after_limit, queue_for, with_appended, with_listed_queue, after_put_in}
+use Rattle.wf_def_world.specs.FlowQueues.{frames_queued, is_at_limit, longest_queue, without_head, after_limit, queue_for, with_appended, when_listed, with_listed_queue, after_put_in}
 use Rattle.wf_def_world.specs.CanSend.{request_open, can_send, can_send_in, has_credit, may_receive, is_ready, with_listing_in, with_listings_in, with_listings_of}
 use Rattle.wf_def_world.specs.Exchanges.{after_pick, picked_station, station_need}
 use Rattle.wf_def_world.specs.Refusals.{refusal, refusals}
@@ -91,7 +91,7 @@ either_less true b c d h k e = ap (λ (z : Bool). z || d) (h refl)
 either_less false b true d h k e = refl
 either_less false b false d h k e = k e
 
--- if only the number of queued frames falls, no station gets ready
+-- if only the number of queued frames falls, no station becomes ready
 pub ready_less_by : (w v : World) (c : Class) (s : ℕ) → is_live v s ≡ is_live w s →
     may_receive v s c ≡ may_receive w s c → IsLessTid w v s (lower_tid c) → IsLessTid w v s (upper_tid c) →
     is_ready v c s ≡ true → is_ready w c s ≡ true
@@ -249,7 +249,7 @@ long_listed_queue : (w : World) (s t p q : ℕ) →
 unfolding with_listed_queue with_queues on_tid on_station with_station
 long_listed_queue w s t p q = on_if (λ (v : World). length (queue w q).items ≤ length (queue v q).items)
     (has_key (tid_of w s t).queues p) _ _
-    (λ _. omega arith) (λ _. long_on_queue w p q (λ y. record y { deficit = pos w.config.flow_quantum })
+    (λ _. omega arith) (λ _. long_on_queue w p q (when_listed w.config)
     (λ _. omega arith))
 
 long_put_in : (w : World) (s t p q : ℕ) (x : Item) →
@@ -387,7 +387,7 @@ unfolding with_listings_in
 ready_listings [] w i c s = refl
 ready_listings (d ∷ ds) w i c s = ready_listings ds (with_listing_in w i d) i c s ∙ ready_listing w i d c s
 
--- the scheduler's lists do not matter to who is ready
+-- readiness does not depend on the scheduler's lists
 pub ready_listed : (o : Option ℕ) (w : World) (c : Class) (s : ℕ) →
     is_ready (with_listings_of w o) c s ≡ is_ready w c s
 unfolding with_listings_of
@@ -445,8 +445,8 @@ done_others o w note e r row s c other spared =
     (λ q k. long_done note w s (lower_tid c) q row keeps apart (spares_lower note w s c spared) k)
     (λ q k. long_done note w s (upper_tid c) q row keeps apart (spares_upper note w s c spared) k)
 
--- a step leaves a station's readiness if the call's outcome does, because neither a refusal nor a listing
--- changes it
+-- a step does not change a station's readiness if the call's outcome does not, because neither a refusal nor
+-- a listing changes it
 pub ready_stepped : (w : World) (note : Note) (s : ℕ) (c : Class) →
     (refusal w note ≡ None → is_ready (outcome_of w note).world c s ≡ is_ready w c s) →
     is_ready (step w note).world c s ≡ is_ready w c s

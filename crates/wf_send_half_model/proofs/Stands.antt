@@ -179,7 +179,7 @@ of_pieces v w bodies h = record {
   };
 }
 
--- a change of the world that leaves all views but the turns, with a scheduler that represents the new turns
+-- a change of the world that changes no view except the turns, with a scheduler that represents the new turns
 pub same_views : (v : TransmitValue) (w u : World) (bodies : ℕ → FrameValue) (turns : SchedValue) →
     HasSameViews w u → TurnsStandFor turns u → Parts v w bodies → Parts (record v { sched = turns }) u bodies
 same_views v w u bodies turns same stands h =

@@ -1,5 +1,5 @@
--- Proves that some calls leave the readiness of every station: a rate, a tick, an Arrive, an Answer, a
--- receive charge and a reap. They change neither sessions, queues and open requests nor who may receive.
+-- Proves that some calls change the readiness of no station: a rate, a tick, an Arrive, an Answer, a receive
+-- charge and a reap. They change no session, queue or open request, nor which stations may receive.
 use Rattle.std.proofs.Common.{◌≡◌, refl, ap, ap₂, sym, ◌∙◌, ℕ, Bool, true, not, ◌&&◌, ◌||◌, List, [], ◌∷◌, length, Option, Some, None, unwrap_or, option_map, map, sum_by}
 use Rattle.std.specs.Prelude.{◌==◌}
 use Rattle.std.specs.List.{list_any}
@@ -54,7 +54,7 @@ steady_ready w v h c s = ready_same_by w v c s (ap (λ (a : Agreements). a.live 
 abbrev pub receives : Class → Option Station → Bool
 receives c o = not (unwrap_or o no_station).asleep || has_credit (unwrap_or o no_station).credit c
 
--- the change leaves sleep and credit
+-- the change does not affect sleep and credit
 pub record KeepsSleep (f : Station → Station) : Type 0 where
   pub asleep : (x : Station) → (f x).asleep ≡ x.asleep
   pub credit : (x : Station) → (f x).credit ≡ x.credit

@@ -1,4 +1,4 @@
--- Proves which views each change of a world leaves, and how the others change.
+-- Proves which views each change of a world keeps unchanged, and how the others change.
 use Rattle.std.proofs.Common.{◌≡◌, refl, ap, ap₂, ◌∙◌, ℕ, Bool, true, List, Option, Some, None, is_some, option_map, map}
 use Rattle.std.proofs.Math.Path.{fun_ext}
 use Rattle.wf_frame.specs.declared.settings.Config.{Config}

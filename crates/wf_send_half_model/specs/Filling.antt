@@ -1,4 +1,4 @@
--- Defines the stages in the middle of a pull: an aggregate is filled, and its numbers take off, one after the
+-- Defines the stages in the middle of a pull: an aggregate is filled, and then its numbers fly, one after the
 -- other.
 use Rattle.std.specs.Prelude.{◌≡◌, ℕ, zero, suc, ◌-◌, ◌<◌, true, false, List, length, map}
 use Rattle.wf_frame.specs.declared.classes.Cause.TheVariants.{Codel as By_codel}
@@ -43,9 +43,9 @@ pub record IsAlone (v : TransmitValue) (w : World) (s t : ℕ) (m : Mpdu) : Type
   pub nowhere : times_held v.flows.backlog m.id ≡ 0
   pub sole : (i j n : ℕ) → IsNumbered w m.id i j n → (i ≡ s) × (j ≡ t) × (n ≡ m.number)
 
--- In the middle of the take-off of exchange e, which sends to TID t of station s. The numbers of `mpdus`
--- still wait, each with a frame that is held nowhere else; after their take-off the world is `after`. The
--- frames that fly already have counted the attempt.
+-- Some numbers of exchange e, which sends to TID t of station s, fly already. The numbers of `mpdus` still
+-- wait, each with a frame that is held nowhere else; when they fly too, the world is `after`. The frames that
+-- fly already have counted the attempt.
 pub record IsTakingOff (v : TransmitValue) (w : World) (bodies : ℕ → FrameValue) (s t e : ℕ)
     (mpdus : List Mpdu) (after : World) : Type 0 where
   pub parts : Parts v w bodies
@@ -79,7 +79,7 @@ with_so_many_fresh zero w s t = w
 with_so_many_fresh (suc n) w s t = with_one_fresh (with_so_many_fresh n w s t) s t
 
 -- A world in the middle of a pull of a run: a class was picked, TID t of station s took the turn, and `given`
--- of its fresh frames have got numbers.
+-- fresh frames of the TID have numbers.
 pub record IsUnderway (w : World) (s t : ℕ) : Type 0 where
   pub before : World
   pub reached : IsReached before
@@ -111,8 +111,8 @@ pub record IsToFill (v : TransmitValue) (w : World) (bodies : ℕ → FrameValue
   pub turned : IsTurned v w bodies s t
   pub quiet : request_due (session w s t) ≡ false
 
--- In the middle of choosing. Of the waiting numbers, which a window lists from its start on, those in
--- `chosen` fit, and the others are listed from `from` on.
+-- In the middle of choosing. A window lists its waiting numbers from its start on. Those in `chosen` fit, and
+-- the others are listed from `from` on.
 pub record IsChoosing (room : AggregateSizeValue) (numbers : List ℕ) (from : ℕ) (w : World)
     (s t : ℕ) : Type 0 where
   pub chosen : List ℕ

@@ -1,6 +1,6 @@
 -- Defines what a transmit half of an access point keeps, as its callers see it; what stations received is no
 -- part of it. Times, deficits and airtime are in microseconds.
-use Rattle.std.specs.Prelude.{ℕ, ◌*◌, ◌==◌, nat_lt, Bool, not, ◌&&◌, ◌||◌, List, [], ◌∷◌, ◌++◌, Option, Some, None, is_some, option_map, if◌then◌else◌, map, find, replicate}
+use Rattle.std.specs.Prelude.{ℕ, ◌*◌, ◌==◌, nat_lt, nat_le, Bool, not, ◌&&◌, ◌||◌, List, [], ◌∷◌, ◌++◌, Option, Some, None, is_some, option_map, if◌then◌else◌, map, find, replicate}
 use Rattle.std.specs.List.{list_any}
 use Rattle.wf_frame.specs.declared.settings.Config.{Config}
 use Rattle.wf_frame.specs.declared.classes.Class.{Class}
@@ -14,7 +14,7 @@ use Rattle.wf_send_parts.specs.declared.window.place.Place.TheVariants.{Waiting 
 use Rattle.wf_send_parts.specs.Window.{WindowValue, waits, can_take}
 use Rattle.wf_send_parts.specs.Windows.{new_window, window_of}
 use Rattle.wf_send_parts.specs.declared.exchanges.opened.Open.{Open}
-use Rattle.wf_send_parts.specs.Exchanges.{asks}
+use Rattle.wf_send_parts.specs.Exchanges.{asks, airtime_of}
 use Rattle.wf_send_parts.specs.declared.stations.members.Member.{Member}
 use Rattle.wf_send_parts.specs.Members.{member}
 use Rattle.wf_send_parts.specs.declared.stations.sleepers.Sleeper.{Sleeper}
@@ -71,6 +71,11 @@ is_ready_of v c s =
     is_some (member v.members s)
     && ((can_send_of v s (lower_tid c) || can_send_of v s (upper_tid c))
     && (not (sleeper v.sleepers s).asleep || has_credit (sleeper v.sleepers s).credit c))
+
+-- whether the airtime in flight in all classes has reached the setting `aql_total`, which is no limit if it
+-- is 0
+abbrev pub is_ahead_of : TransmitValue → Bool
+is_ahead_of v = nat_lt 0 v.config.aql_total && nat_le v.config.aql_total (airtime_of v.opened)
 
 -- the frame that a place holds, if any
 abbrev pub frame_in : Option Place → List FrameValue

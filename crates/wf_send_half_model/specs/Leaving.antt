@@ -71,7 +71,7 @@ pub record AreEmptied (before after : List WindowValue) (s t : ℕ) : Type 0 whe
   pub empty : (k : ℕ) → k < t → (window_of after s k).places ≡ []
   pub others : (i k : ℕ) → k < 8 → (i ≡ s → k < t → ⊥) → window_of after i k ≡ window_of before i k
 
--- In the middle of the leave of station s. Before it, `before` stood for w. Only the windows and the flow
+-- In the middle of the leave of station s. Before it, `before` represented w. Only the windows and the flow
 -- queues of v have changed since. The frames of the ids `taken` had numbers and are finished, `dropped`
 -- frames are dropped in all, and the world is `now`. The TIDs below t list no queue. The counts are settled
 -- at the end of the leave, all at once.

@@ -1,3 +1,4 @@
+-- Lists the modules of specs/ of wf_send_half_model.
 pub mod Changes
 pub mod Counting
 pub mod Ending

@@ -1,6 +1,6 @@
--- Defines what each part of a transmit half reads of a world. A part still represents the world after a
--- change that leaves its view. The flow queues' view is in wf_queue_flows_refines, and the scheduler's, its
--- rotations and deficits, in wf_sched_refines.
+-- Defines what each part of a transmit half reads of a world, its view. After a change of the world that does
+-- not change its view, a part still represents the world. The view of the flow queues is in
+-- wf_queue_flows_refines. The view of the scheduler, its rotations and deficits, is in wf_sched_refines.
 use Rattle.std.specs.Prelude.{◌≡◌, ℕ, Bool, List, Option, None, option_map, map}
 use Rattle.wf_frame.specs.declared.settings.Config.{Config}
 use Rattle.wf_frame.specs.declared.classes.Class.{Class}
@@ -84,11 +84,11 @@ pub record HasSameViews (w u : World) : Type 0 where
   pub roster : roster u ≡ roster w
   pub ledger : ledger u ≡ ledger w
 
--- a change of a station that leaves what members and sleepers keep of it
+-- a change of a station that does not affect what members and sleepers keep of it
 abbrev pub KeepsView : (Station → Station) → Type 0
 KeepsView f = (x : Station) → view_of (f x) ≡ view_of x
 
--- a change of a share that leaves the turn and both sums
+-- a change of a share that does not affect the turn and both sums
 pub record KeepsSums (f : Share → Share) : Type 0 where
   pub upper : (y : Share) → (f y).upper ≡ y.upper
   pub charged : (y : Share) → (f y).charged ≡ y.charged

@@ -25,7 +25,7 @@ ghost use Rattle.wf_frame.specs.declared.notes.AskedRate.{AskedRate};
 ghost use Rattle.wf_frame.specs.declared.notes.Note.{Note};
 ghost use Rattle.wf_frame.specs.declared.notes.Note.TheVariants.{Enqueue, Asked};
 ghost use Rattle.wf_frame.specs.declared.notes.Refusal.{Refusal};
-ghost use Rattle.wf_frame.specs.declared.notes.Refusal.TheVariants.{Idle, Full};
+ghost use Rattle.wf_frame.specs.declared.notes.Refusal.TheVariants.{Idle, Full, Ahead};
 ghost use Rattle.wf_frame.specs.declared.notes.ReplyNote.TheVariants.{Accepted, Left, Joined, Set, Now, Slept, Woken, Polled, Charged, Reaped, Refused, Send};
 ghost use Rattle.wf_frame.specs.declared.notes.ReplyNote.TheVariants as reply;
 ghost use Rattle.wf_frame.specs.declared.settings.Config.{Config};
@@ -35,6 +35,7 @@ ghost use Rattle.wf_def_codel.specs.Codel.{Params};
 ghost use Rattle.wf_def_codel.specs.Parameters.{params_at};
 ghost use Rattle.wf_def_air.specs.Fit.{fits, aggregate_octets};
 ghost use Rattle.wf_send_parts.specs.declared.exchanges.opened.Sending.TheVariants.{Data, Request as Starts_at};
+ghost use Rattle.wf_def_lists.specs.Bounds.{greatest_air};
 ghost use Rattle.wf_def_lists.specs.Lengths.{greatest_body};
 ghost use Rattle.wf_def_lists.specs.Lists.{IsOnce};
 ghost use Rattle.wf_def_agreement.specs.Receiver.{Receiver};
@@ -42,11 +43,11 @@ ghost use Rattle.wf_def_lists.specs.Table.{has, upto};
 ghost use Rattle.wf_def_rotation.specs.Rotation.{Rotation, has_key};
 ghost use Rattle.wf_def_agreement.specs.Session.{Session, State, slot, start_of, next_number, request_due, with_state, is_acknowledged, is_waiting, is_failed, with_number_given};
 ghost use Rattle.wf_def_world.specs.Rates.{rate_asked};
-ghost use Rattle.wf_def_world.specs.World.{World, Station, Tid, Share, Queue, Exchange, Mpdu, frame, accepted_count, is_held, codel_params, with_frame_finished, with_frames_finished, Frames, Request, opening, without_exchange, is_live, session, rotation, exchange, on_station, on_tid, on_session, on_receiver, on_share, on_queue, with_queues, with_rotation, is_wide};
+ghost use Rattle.wf_def_world.specs.World.{World, Station, Tid, Share, Queue, Exchange, Mpdu, frame, accepted_count, is_held, codel_params, with_frame_finished, with_frames_finished, Frames, Request, opening, without_exchange, is_live, session, rotation, exchange, owed_by_all, on_station, on_tid, on_session, on_receiver, on_share, on_queue, with_queues, with_rotation, is_wide};
 ghost use Rattle.wf_def_world.specs.FlowQueues.{frames_queued as world_queued, after_limit, dropped_for_limit as dropped_for_limit_in};
 ghost use Rattle.wf_def_world.specs.CanSend.{request_open, has_waiting, can_send, can_send_in, is_ready, with_listings_of};
 ghost use Rattle.wf_def_world.specs.Exchanges.{Aggregate, Prepared, picked_station, sending_tid, after_pick, after_tid_turn, aggregate_of, prepared_data, mpdus_of, is_acked, charge_of, after_charge, with_settled, with_all_settled, count_in, part_of, lens_of, mpdu_of, aggregate_charge};
-ghost use Rattle.wf_def_world.specs.Refusals.{refusal, open_of_station, open_of_class, queued_in_class, can_send_any};
+ghost use Rattle.wf_def_world.specs.Refusals.{refusal, is_at_aql_total, open_of_station, open_of_class, queued_in_class, can_send_any};
 ghost use Rattle.wf_def_world.specs.Step.{outcome_of, concerned_station, class_to_send, step, done_outcome, send_outcome};
 ghost use Rattle.wf_law_runs.specs.Queues.{HasLength, IsAtMost};
 ghost use Rattle.wf_send_parts.specs.Tally.{held_in, settled_as, many_settled_as};
@@ -68,10 +69,10 @@ ghost use Rattle.wf_sched_refines.specs.Calls.{HasPickedInClass};
 ghost use Rattle.wf_octets.specs.Distance.{distance};
 ghost use Rattle.wf_send_parts.specs.Listing.{IsListedNext};
 ghost use Rattle.wf_send_parts.specs.Windows.{WindowsHaveRoom, window_of, with_window};
-ghost use Rattle.wf_send_parts.specs.Exchanges.{asks};
+ghost use Rattle.wf_send_parts.specs.Exchanges.{asks, airtime_of};
 ghost use Rattle.wf_send_parts.specs.Members.{member, on_member, new_member, with_rate, with_receipt};
 ghost use Rattle.wf_send_parts.specs.Sleepers.{sleeper, with_sleeper, awake};
-ghost use Rattle.wf_send_half_model.specs.Half.{TransmitValue, opening_half, some_wait, can_send_of, is_ready_of};
+ghost use Rattle.wf_send_half_model.specs.Half.{TransmitValue, opening_half, some_wait, can_send_of, is_ready_of, is_ahead_of};
 ghost use Rattle.wf_send_half_model.specs.Standing.{open_of, counts_in, HasWindows, Parts, IsReached, StandsFor, Meets, sending_of, numbers_on_air};
 ghost use Rattle.wf_send_half_model.specs.Changes.{after_listing, after_listing_in, AreReset, after_enqueue};
 ghost use Rattle.wf_send_half_model.specs.Counting.{with_overlimit};
@@ -169,6 +170,10 @@ pub fn the_readers_agree()
     ensures of_class { (v : TransmitValue) (w : World) (bodies : ℕ → FrameValue) (c : Class) →
         Parts v w bodies →
         count_by (λ x. same_class x.class c) v.opened ≡ open_of_class w c }
+    ensures airtime { (v : TransmitValue) (w : World) (bodies : ℕ → FrameValue) → Parts v w bodies →
+        airtime_of v.opened ≡ owed_by_all w.opened }
+    ensures ahead { (v : TransmitValue) (w : World) (bodies : ℕ → FrameValue) → Parts v w bodies →
+        is_ahead_of v ≡ is_at_aql_total w }
     ensures class_queued { (v : TransmitValue) (w : World) (bodies : ℕ → FrameValue) (s : ℕ) (c : Class) →
         Parts v w bodies → is_live w s ≡ true →
         frames_of_tid v.flows (tid_number s (lower_tid c)) + frames_of_tid v.flows
@@ -508,26 +513,36 @@ pub fn a_pull_that_finds_nobody()
 {}
 
 /// Decides from the half whether a pull is refused: with `full` if the class has as many open exchanges as
-/// are allowed, otherwise with `idle` if no station is picked, otherwise not.
+/// are allowed, otherwise with `ahead` if the airtime in flight has reached its limit, otherwise with
+/// `idle` if no station is picked, otherwise not.
 pub fn a_pull_is_refused()
     ensures full { (v : TransmitValue) (w : World) (bodies : ℕ → FrameValue) (c : Class) → Parts v w bodies →
         nat_le v.config.inflight (count_by (λ x. same_class x.class c) v.opened) ≡ true →
         refusal w (Asked (Pull c)) ≡ Some (Full (count_by (λ x. same_class x.class c) v.opened)) }
+    ensures ahead { (v : TransmitValue) (w : World) (bodies : ℕ → FrameValue) (c : Class) → Parts v w bodies →
+        nat_le v.config.inflight (count_by (λ x. same_class x.class c) v.opened) ≡ false →
+        is_ahead_of v ≡ true →
+        refusal w (Asked (Pull c)) ≡ Some (Ahead (airtime_of v.opened)) }
     ensures idle { (v : TransmitValue) (w : World) (bodies : ℕ → FrameValue) (c : Class) → Parts v w bodies →
         nat_le v.config.inflight (count_by (λ x. same_class x.class c) v.opened) ≡ false →
+        is_ahead_of v ≡ false →
         (picked_station w c).winner ≡ None →
         refusal w (Asked (Pull c)) ≡ Some Idle }
     ensures none { (v : TransmitValue) (w : World) (bodies : ℕ → FrameValue) (c : Class) → Parts v w bodies →
-        nat_le v.config.inflight (count_by (λ x. same_class x.class c) v.opened) ≡ false → (s : ℕ) →
+        nat_le v.config.inflight (count_by (λ x. same_class x.class c) v.opened) ≡ false →
+        is_ahead_of v ≡ false → (s : ℕ) →
         (picked_station w c).winner ≡ Some s →
         refusal w (Asked (Pull c)) ≡ None }
 {}
 
-/// In the world of a run another exchange may be opened. All open exchanges have lower numbers. If a class
-/// has fewer open exchanges than are allowed, there is room for one more among the 32 of all classes.
+/// In the world of a run another exchange may be opened. All open exchanges have lower numbers, and each
+/// has a charge of at most 65,535 microseconds. If a class has fewer open exchanges than are allowed, there
+/// is room for one more among the 32 of all classes.
 pub fn an_exchange_may_open()
     ensures above { (v : TransmitValue) (w : World) (bodies : ℕ → FrameValue) → StandsFor v w bodies →
         All (λ o. o.number < v.exchanges) v.opened }
+    ensures charges { (v : TransmitValue) (w : World) (bodies : ℕ → FrameValue) → StandsFor v w bodies →
+        All (λ o. o.charge ≤ greatest_air) v.opened }
     ensures room { (v : TransmitValue) (w : World) (bodies : ℕ → FrameValue) → StandsFor v w bodies →
         (c : Class) →
         nat_le v.config.inflight (count_by (λ x. same_class x.class c) v.opened) ≡ false →

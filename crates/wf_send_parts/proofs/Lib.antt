@@ -1,3 +1,5 @@
+-- Lists the modules of proofs/ of wf_send_parts. Other crates may use those that are `pub`.
+mod Airtime
 pub mod Callers
 pub mod Calls
 pub mod Changes

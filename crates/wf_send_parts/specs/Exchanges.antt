@@ -1,5 +1,5 @@
 -- Defines queries of an open exchange.
-use Rattle.std.specs.Prelude.{ℕ, ◌==◌, Bool, true, false, ◌&&◌, List, length, Option, None, slice_get}
+use Rattle.std.specs.Prelude.{ℕ, ◌+◌, ◌==◌, Bool, true, false, ◌&&◌, List, [], ◌∷◌, length, Option, None, slice_get}
 use Rattle.std.specs.List.{list_any}
 use Rattle.wf_send_parts.specs.declared.exchanges.opened.Open.{Open}
 use Rattle.wf_send_parts.specs.declared.exchanges.opened.Sending.{Sending}
@@ -27,6 +27,11 @@ sending_is_request (Request start) = true
 -- whether it sends a BlockAckReq to TID t of station s
 abbrev pub is_request_of : ℕ → ℕ → Open → Bool
 is_request_of s t x = (x.station == s) && ((x.tid == t) && sending_is_request x.sending)
+
+-- the computed airtime of these exchanges together, in microseconds
+abbrev pub airtime_of : List Open → ℕ
+airtime_of [] = 0
+airtime_of (x ∷ xs) = x.charge + airtime_of xs
 
 -- whether a BlockAckReq to TID t of station s is open
 abbrev pub asks : List Open → ℕ → ℕ → Bool

@@ -1,3 +1,4 @@
+-- Lists the modules of specs/ of wf_send_parts.
 pub mod Answers
 pub mod Ending
 pub mod Expelling
@@ -10,6 +11,7 @@ pub mod Window
 pub mod Windows
 pub mod Exchanges
 pub mod Kept
+pub mod Counted
 pub mod Members
 pub mod Tally
 pub mod Sleepers

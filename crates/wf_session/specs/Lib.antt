@@ -1,3 +1,4 @@
+-- Lists the modules of specs/ of wf_session.
 pub mod Layout
 pub mod Faults
 pub mod Ends

@@ -1,1 +1,2 @@
+-- Lists the modules of specs/ of wf_show_gate.
 pub mod Sums

@@ -1,3 +1,4 @@
+-- Lists the modules of proofs/ of wf_trace. Other crates may use those that are `pub`.
 mod ScanLaws
 mod Taking
 mod CutLaws

@@ -1,3 +1,4 @@
+-- Lists the modules of specs/ of wf_trace.
 pub mod Lines
 pub mod Scanning
 pub mod Cutting

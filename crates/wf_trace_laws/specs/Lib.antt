@@ -1,3 +1,4 @@
+-- Lists the modules of specs/ of wf_trace_laws.
 pub mod Histories
 pub mod Laws
 pub mod Endings

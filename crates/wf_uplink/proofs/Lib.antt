@@ -1,3 +1,4 @@
+-- Lists the modules of proofs/ of wf_uplink. Other crates may use those that are `pub`.
 pub mod Calls
 pub mod Heard
 pub mod Moves

@@ -1,3 +1,4 @@
+-- Lists the modules of specs/ of wf_uplink.
 pub mod Frames
 pub mod Laws
 pub mod Reordering

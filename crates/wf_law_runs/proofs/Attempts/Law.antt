@@ -32,16 +32,16 @@ use Rattle.wf_law_runs.proofs.Windows.Agreed.{IsLawful, IsReady, IsEnding, IsFou
 use Rattle.wf_law_runs.proofs.Frames.Delivered.{same_enqueued}
 
 -- The attempts of each number of a session.
-abbrev AllTried : ℕ → Session → Type 0
+abbrev pub AllTried : ℕ → Session → Type 0
 AllTried limit y = (i : ℕ) → IsTried limit (at no_slot y.slots i)
 
 -- The attempts of each number of each session.
-abbrev Tried : ℕ → World → Type 0
+abbrev pub Tried : ℕ → World → Type 0
 Tried limit w = (s t : ℕ) → AllTried limit (session w s t)
 
 -- ---- sessions
 
-none_given : (limit : ℕ) → 1 ≤ limit → IsTried limit no_slot
+pub none_given : (limit : ℕ) → 1 ≤ limit → IsTried limit no_slot
 none_given limit some = record { fewer = λ _. omega (arith, some); failed = λ e. absurd (cc e) }
 
 tried_put : (limit : ℕ) (y : Session) (n : ℕ) (f : Slot → Slot) → IsTried limit (f (slot y n)) →
@@ -360,7 +360,7 @@ tried_answer None limit w note some same_limit i h =
     (same_listed (concerned_station w note) (outcome_of w note).world)
     (tried_done note limit w some same_limit i h)
 
-tried_step : (limit : ℕ) (w : World) (note : Note) → 1 ≤ limit → w.config.attempts ≡ limit → IsLawful w →
+pub tried_step : (limit : ℕ) (w : World) (note : Note) → 1 ≤ limit → w.config.attempts ≡ limit → IsLawful w →
     Tried limit w → Tried limit (step w note).world
 unfolding step
 tried_step limit w note some same_limit i h = tried_answer (refusal w note) limit w note some same_limit i h

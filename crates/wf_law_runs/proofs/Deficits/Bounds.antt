@@ -5,7 +5,7 @@ use Rattle.std.proofs.lemmas.Int.{ints}
 use Rattle.std.proofs.lemmas.Nat.{div-add-mod', mod_below}
 use Rattle.wf_frame.specs.declared.settings.Config.{Config}
 use Rattle.wf_def_rotation.specs.Rotation.{need_of}
-use Rattle.wf_def_lists.specs.Bounds.{greatest_debt, deepest_deficit}
+use Rattle.wf_def_lists.specs.Bounds.{deepest_deficit}
 use Rattle.wf_def_world.specs.World.{Share}
 use Rattle.wf_law_runs.specs.Deficits.{most_owed}
 use Rattle.wf_law_runs.proofs.Deficits.BookSteps.{pay_share, charge_share, receive_share, fresh_share}
@@ -13,7 +13,7 @@ use Rattle.wf_law_runs.proofs.Deficits.BookSteps.{pay_share, charge_share, recei
 -- The bounds of a deficit. m is the greatest charge of the station's open exchanges.
 pub record IsBounded (config : Config) (m weight : ℕ) (x : Share) : Type 0 where
   pub most : x.deficit ≤ℤ pos (config.quantum * weight)
-  pub least : pos m ≤ℤ (x.deficit +ℤ pos (greatest_debt + most_owed config))
+  pub least : pos m ≤ℤ (x.deficit +ℤ pos (config.debt + most_owed config))
   pub quiet : x.received ≡ 0 → pos (1 + m) ≤ℤ (x.deficit +ℤ pos (most_owed config))
 
 -- ---- giving quanta
@@ -86,9 +86,9 @@ bounded_charge config m k n weight x h b = record {
   quiet = λ r. omega (arith, ints, b.quiet r);
 }
 
--- A receive charge brings the deficit at most the greatest debt below 0.
+-- A receive charge brings the deficit at most the setting `debt` below 0.
 pub bounded_receive : (config : Config) (m n weight : ℕ) (x : Share) → m ≤ most_owed config → 0 < n →
-    deepest_deficit ≤ℤ (x.deficit -ℤ pos n) → IsBounded config m weight x →
+    deepest_deficit config.debt ≤ℤ (x.deficit -ℤ pos n) → IsBounded config m weight x →
     IsBounded config m weight (receive_share n x)
 bounded_receive config m n weight x h some debt b = record {
   most = omega (arith, ints, b.most);

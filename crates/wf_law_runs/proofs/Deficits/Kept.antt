@@ -8,7 +8,7 @@ use Rattle.wf_frame.specs.declared.classes.Class.TheVariants.{Bk, Be, Vi, Vo}
 use Rattle.wf_def_lists.specs.Table.{has}
 use Rattle.wf_def_rotation.specs.Rotation.{Rotation, without_key, with_new_key, has_key, in_order, Picked, need_of}
 use Rattle.wf_def_air.specs.Airtime.{IsRate}
-use Rattle.wf_def_world.specs.World.{Exchange}
+use Rattle.wf_def_world.specs.World.{Exchange, owed_by_all}
 use Rattle.wf_frame.specs.Classes.{class_number, same_class}
 use Rattle.wf_frame.specs.Settings.{IsInRange}
 use Rattle.wf_law_runs.specs.Deficits.{longest_computed, longest_exchange, most_owed}
@@ -16,7 +16,7 @@ use Rattle.wf_def_lists.specs.Lists.{on}
 use Rattle.wf_law_rules.proofs.Lemmas.Counts.{on-nil, on-cons_same, on-cons_other, on-append, on-filter_le, on-filter_out, hasnot-on}
 use Rattle.wf_law_runs.proofs.Deficits.Books.{each_upd, upd_other, each_updc, updc_same, cases_class, same_number, Account, core, Books, with_account, with_lists, on_part}
 use Rattle.wf_law_runs.proofs.Deficits.BookSteps.{with_opened, without, charge_share, with_charge, off, all_off, fresh_account, pay_share, paid, all_paid, after}
-use Rattle.wf_law_runs.proofs.Deficits.Openings.{Every, every_map, every_append, every_filter, Rising, rising_append, rising_filter, many, many-more, many-other, many-filter, part_of, reserved, reserved-append, reserved-filter, reserved-ended, reserved_most}
+use Rattle.wf_law_runs.proofs.Deficits.Openings.{Every, every_map, every_append, every_filter, Rising, rising_append, rising_filter, many, many-more, many-other, many-filter, part_of, reserved, reserved-append, reserved-filter, reserved-ended, reserved_most, owed_all-filter}
 use Rattle.wf_law_runs.proofs.Deficits.Bounds.{IsBounded, paid_least, bounded_pay, bounded_open, bounded_less, bounded_charge, bounded_fresh}
 
 -- The invariant of an open exchange.
@@ -36,6 +36,10 @@ pub record IsGood (config : Config) (opened : List Exchange) (s : ℕ) (a : Acco
   pub rate : IsRate a.rate
   pub bounds : (c : Class) → IsBounded config (at_stake config s c opened) a.weight (a.shares c)
 
+-- The open exchanges exceed the limit on airtime in flight by less than one exchange.
+pub record IsWithin (config : Config) (opened : List Exchange) : Type 0 where
+  pub total : 1 ≤ config.aql_total → owed_by_all opened < config.aql_total + longest_computed config
+
 pub record IsKept (b : Books) : Type 0 where
   pub range : IsInRange b.config
   pub once : (c : Class) (y : ℕ) → on (in_order (b.rotations c)) y ≤ 1
@@ -43,6 +47,7 @@ pub record IsKept (b : Books) : Type 0 where
   pub opens : Every (IsOpen b) b.opened
   pub rising : Rising 0 b.opened
   pub few : (c : Class) → many c b.opened ≤ b.config.inflight
+  pub within : IsWithin b.config b.opened
   pub goods : (s : ℕ) → IfSome (b.accounts s) (IsGood b.config b.opened s)
 
 -- ---- accounts
@@ -83,6 +88,7 @@ kept_on b s g i h = record {
       }) b.opened i.opens;
   rising = i.rising;
   few = i.few;
+  within = i.within;
   goods = each_upd (λ y o. IfSome o (IsGood b.config b.opened y)) b.accounts s _ i.goods
       (if_map (IsGood b.config b.opened s) (IsGood b.config b.opened s) g (b.accounts s) (i.goods s) h);
 }
@@ -101,6 +107,7 @@ kept_lists b c r i h = record {
       (λ x o. record { live = o.live; below = o.below; charge = o.charge; some = o.some }) b.opened i.opens;
   rising = i.rising;
   few = i.few;
+  within = i.within;
   goods = i.goods;
 }
 
@@ -153,6 +160,7 @@ kept_add b c s i off_lists is = record {
       (λ x o. record { live = o.live; below = o.below; charge = o.charge; some = o.some }) b.opened i.opens;
   rising = i.rising;
   few = i.few;
+  within = i.within;
   goods = i.goods;
 }
 
@@ -177,6 +185,7 @@ kept_fresh b s weight i some = record {
       b.opened i.opens;
   rising = i.rising;
   few = i.few;
+  within = i.within;
   goods = each_upd (λ y o. IfSome o (IsGood b.config b.opened y)) b.accounts s _ i.goods
       (record {
         weight = some;
@@ -235,6 +244,7 @@ kept_gone b s i away = record {
   opens = both b.opened i.opens away;
   rising = i.rising;
   few = i.few;
+  within = i.within;
   goods = each_upd (λ y o. IfSome o (IsGood b.config b.opened y)) b.accounts s None i.goods tt;
 }
   where
@@ -258,9 +268,9 @@ kept_gone b s i away = record {
 
 pub kept_opened : (b : Books) (x : Exchange) → IsKept b → is_some (b.accounts x.station) ≡ true →
     x.number ≡ b.exchanges → x.charge ≤ longest_computed b.config → 1 ≤ x.charge →
-    many x.class b.opened < b.config.inflight
+    many x.class b.opened < b.config.inflight → IsWithin b.config (b.opened ++ core x ∷ [])
     → IfSome (b.accounts x.station) (λ a. pos 1 ≤ℤ (a.shares x.class).deficit) → IsKept (with_opened b x)
-kept_opened b x i is number charge some room above = record {
+kept_opened b x i is number charge some room within above = record {
   range = i.range;
   once = i.once;
   live = i.live;
@@ -269,6 +279,7 @@ kept_opened b x i is number charge some room above = record {
       (every_map (IsOpen b) (λ y. y.number < x.number) (λ y o. omega (arith, o.below)) b.opened i.opens)
       (omega arith);
   few = few;
+  within = within;
   goods = λ s. if_same (IsGood b.config b.opened s) (IsGood b.config (b.opened ++ core x ∷ []) s)
       (b.accounts s) (i.goods s) (λ a e good. record {
         weight = good.weight;
@@ -345,6 +356,13 @@ kept_ended b x e n i found within = record {
       }) b.opened i.opens);
   rising = rising_filter _ 0 b.opened i.rising;
   few = λ c. omega (arith, many-filter c (λ y. not (y.number == e)) b.opened, i.few c);
+  within = record {
+    total = λ limited. omega (
+      arith,
+      owed_all-filter (λ y. not (y.number == e)) b.opened,
+      i.within.total limited,
+    );
+  };
   goods = each_upd (λ y o. IfSome o (IsGood b.config (without b e).opened y)) b.accounts x.station _
       (λ s. if_same (IsGood b.config b.opened s) (IsGood b.config (without b e).opened s) (b.accounts s)
       (i.goods s) (λ a _ good. record {
@@ -429,6 +447,7 @@ kept_after b c p i k = kept_lists (all_paid b c p.quanta (in_order (b.rotations 
           }) b.opened i.opens;
       rising = i.rising;
       few = i.few;
+      within = i.within;
       goods = λ s. if_map (IsGood b.config b.opened s) (IsGood b.config b.opened s)
           (paid b.config.quantum c (on (in_order (b.rotations c)) s * p.quanta s)) (b.accounts s) (i.goods s)
           (λ a e good. record {

@@ -2,6 +2,7 @@
 use Rattle.std.proofs.Common.{◌≡◌, ◌≢◌, refl, ap, sym, ◌∙◌, subst, arith, ℕ, ◌+◌, ◌*◌, ◌<◌, ◌≤◌, ℤ, pos, ◌-ℤ◌, ◌≤ℤ◌, Bool, true, false, if◌then◌else◌, cond, List, [], ◌∷◌, Option, Some, None, is_some, IfSome, unwrap_or, option_map, not, ◌&&◌, map, find, nat_lt, int_lt, zero-add, ◌==◌, count_by, nat_le}
 use Rattle.std.proofs.lemmas.Int.{ints}
 use Rattle.std.proofs.lemmas.Bool.{eqb-true, eqb-false, and_parts, not-true, not-false, leb-true}
+use Rattle.std.proofs.lemmas.Bool.Decides.{nat_tests}
 use Rattle.std.proofs.lemmas.List.Sums.{sum_by-cons}
 use Rattle.std.proofs.Math.Nat.{le-max_left, le-max_right}
 use Rattle.wf_frame.specs.declared.settings.Config.{Config}
@@ -15,12 +16,12 @@ use Rattle.wf_def_lists.specs.Table.{at}
 use Rattle.wf_def_rotation.specs.Rotation.{with_new_key, has_key, need_of}
 use Rattle.wf_def_lists.specs.Bounds.{greatest_air, deepest_deficit}
 use Rattle.wf_def_air.specs.Airtime.{IsRate}
-use Rattle.wf_def_world.specs.World.{World, Station, Exchange, no_share, no_station, station, share, rotation, is_live, exchange, with_exchange, with_rotation, on_receiver, on_tid, on_station, with_station, opening}
+use Rattle.wf_def_world.specs.World.{World, Station, Exchange, no_share, no_station, station, share, rotation, is_live, exchange, owed_by_all, with_exchange, with_rotation, on_receiver, on_tid, on_station, with_station, opening}
 use Rattle.wf_law_rules.proofs.Lemmas.Numbers.{le_no}
 use Rattle.wf_frame.specs.Classes.{class_number, all_classes}
 use Rattle.wf_def_world.specs.CanSend.{is_ready, with_listing_in, with_listings_in, with_listings_of}
 use Rattle.wf_def_world.specs.Exchanges.{Prepared, station_need, picked_station, after_pick, after_tid_turn, prepared_exchange, exchange_of, after_arrival, sending_tid, charge_of}
-use Rattle.wf_def_world.specs.Refusals.{first_refusal, refusals, refusal, open_of_class, is_within}
+use Rattle.wf_def_world.specs.Refusals.{first_refusal, refusals, refusal, open_of_class, is_at_aql_total, is_within}
 use Rattle.wf_def_world.specs.Step.{Outcome, tick_outcome, send_outcome, pull_outcome_for, pull_outcome, arrive_outcome, answer_outcome, outcome_where_open, rx_outcome, outcome_of, after_refusal, judged_outcome, step}
 use Rattle.wf_def_world.specs.Run.{Entry, world_after}
 use Rattle.wf_frame.specs.Settings.{IsInRange, is_bad_air}
@@ -30,7 +31,7 @@ use Rattle.wf_law_rules.proofs.Lemmas.Counts.{on-nil}
 use Rattle.wf_law_rules.proofs.Lemmas.Rotations.{pick_on, pick_need, IsWinner, pick_winner}
 use Rattle.wf_law_runs.proofs.Deficits.Books.{Account, account, core, Books, books, on_part, each_updc, books_with_rotation, books_on_receiver}
 use Rattle.wf_law_runs.proofs.Deficits.BookSteps.{books_after_turn, books_prepared, books_sent, books_ended, books_gone, books_enqueued, receive_share, books_received, books_reaped, books_slept, books_woken, books_credited, rated, books_with_rate, books_joined, books_after_pick}
-use Rattle.wf_law_runs.proofs.Deficits.Openings.{Every, every_map, every_find, only_one, many, many-count, many-core}
+use Rattle.wf_law_runs.proofs.Deficits.Openings.{Every, every_map, every_find, only_one, many, many-count, many-core, owed_all-core, owed_all-append}
 use Rattle.wf_law_runs.proofs.Deficits.Bounds.{IsBounded, bounded_receive}
 use Rattle.wf_law_runs.proofs.Deficits.Kept.{IsOpen, at_stake, IsGood, IsKept, some_map, if_same, kept_on, kept_add, at_stake_most, kept_fresh, kept_gone, kept_opened, kept_ended, IsPick, kept_after, above_after}
 use Rattle.wf_law_runs.proofs.Deficits.LongestCharge.{charge_most, charge_some}
@@ -115,6 +116,7 @@ kept_after_pick w c i = is _ _ (books_after_pick w c)
 record MaySend (c : Class) (s : ℕ) (b : Books) : Type 0 where
   live : is_some (b.accounts s) ≡ true
   room : many c b.opened < b.config.inflight
+  behind : 1 ≤ b.config.aql_total → owed_by_all b.opened < b.config.aql_total
   above : IfSome (b.accounts s) (λ a. pos 1 ≤ℤ (a.shares c).deficit)
 
 room_left : (w : World) (c : Class) → IsKept (books w) →
@@ -124,15 +126,29 @@ room_left w c i h =
     many-count c w.opened ∙ sym (many-core c w.opened) in
     omega (arith, same, le_no w.config.inflight (open_of_class w c) h)
 
+not_ahead : (limit n : ℕ) → nat_lt 0 limit && nat_le limit n ≡ false → 1 ≤ limit → n < limit
+not_ahead limit n off some = grind (arith, nat_tests)
+
+-- The airtime in flight is below its limit, if there is one.
+behind_still : (w : World) → is_at_aql_total w ≡ false → 1 ≤ w.config.aql_total →
+    owed_by_all (map core w.opened) < w.config.aql_total
+behind_still w off limited = omega (
+  arith,
+  owed_all-core w.opened,
+  not_ahead w.config.aql_total (owed_by_all w.opened) off limited,
+)
+
 may_send : (w : World) (c : Class) (s : ℕ) → IsKept (books w) →
-    (nat_le w.config.inflight (open_of_class w c)) ≡ false → (picked_station w c).winner ≡ Some s →
+    (nat_le w.config.inflight (open_of_class w c)) ≡ false → is_at_aql_total w ≡ false → (picked_station w
+    c).winner ≡ Some s →
     MaySend c s (books (after_pick w c))
-may_send w c s i h won =
+may_send w c s i h off won =
     let winner : IsWinner (station_need w c) (is_ready w c) (rotation w c) (picked_station w c) s =
     pick_winner (station_need w c) (is_ready w c) (rotation w c) s won in
     subst (MaySend c s) (sym (books_after_pick w c)) (record {
       live = some_map _ ((books w).accounts s) ∙ i.live c s winner.listed;
       room = room_left w c i h;
+      behind = behind_still w off;
       above = above_after (books w) c (picked_station w c) s i winner.listed
           (if_same _ _ ((books w).accounts s) (need_is w c s) (λ a _ e. winner.given ∙ e));
     })
@@ -155,9 +171,17 @@ kept_sent v c s t i m =
     let n : MaySend c s (books p.world) = subst (MaySend c s) (sym e) m in
     let cap : longest_computed p.world.config ≡ longest_computed v.config =
     ap (λ (b : Books). longest_computed b.config) e in
-    is _ _ (books_sent s t c p) (kept_opened (books p.world) (exchange_of s t c p) k n.live refl
-    (subst (λ (l : ℕ). p.charge ≤ l) (sym cap) (charge_most v s t (i.range.cap.0) (rate_kept v s i)))
-    (charge_some v s t) n.room n.above)
+    let fit : p.charge ≤ longest_computed p.world.config =
+    subst (λ (l : ℕ). p.charge ≤ l) (sym cap) (charge_most v s t (i.range.cap.0) (rate_kept v s i)) in
+    is _ _ (books_sent s t c p) (kept_opened (books p.world) (exchange_of s t c p) k n.live refl fit
+    (charge_some v s t) n.room (record {
+      total = λ limited. omega (
+        arith,
+        n.behind limited,
+        owed_all-append (books p.world).opened (core (exchange_of s t c p)),
+        fit,
+      );
+    }) n.above)
 
 kept_pulled_by : (o : Option ℕ) (v : World) (c : Class) → IsKept (books v) →
     ((s : ℕ) → o ≡ Some s → MaySend c s (books v)) → IsKept (books (pull_outcome_for v c o).world)
@@ -170,10 +194,11 @@ kept_pulled_by (Some s) v c i m =
     (subst (MaySend c s) (sym e) (m s refl))
 
 kept_pulled : (w : World) (c : Class) → (nat_le w.config.inflight (open_of_class w c)) ≡ false →
-    IsKept (books w) → IsKept (books (pull_outcome w c).world)
+    is_at_aql_total w ≡ false → IsKept (books w) → IsKept (books (pull_outcome w c).world)
 unfolding pull_outcome
-kept_pulled w c h i = kept_pulled_by (picked_station w c).winner (after_pick w c) c (kept_after_pick w c i)
-    (λ s won. may_send w c s i h won)
+kept_pulled w c h off i = kept_pulled_by (picked_station w c).winner (after_pick w c) c (kept_after_pick w
+    c i)
+    (λ s won. may_send w c s i h off won)
 
 -- ---- exchanges
 
@@ -273,11 +298,12 @@ unfolding outcome_where_open
 kept_open w e None f k i h = i
 kept_open w e (Some x) f k i h = h x k
 
-debt_fits : (d : ℤ) (n : ℕ) → int_lt (d -ℤ pos n) deepest_deficit ≡ false → deepest_deficit ≤ℤ (d -ℤ pos n)
-debt_fits d n h = omega (arith, ints)
+debt_fits : (d : ℤ) (n debt : ℕ) → int_lt (d -ℤ pos n) (deepest_deficit debt) ≡ false →
+    deepest_deficit debt ≤ℤ (d -ℤ pos n)
+debt_fits d n debt h = omega (arith, ints)
 
 kept_received : (w : World) (s : ℕ) (c : Class) (air : ℕ) → not (is_within 1 greatest_air air) ≡ false →
-    int_lt ((share w s c).deficit -ℤ pos air) deepest_deficit ≡ false → IsKept (books w) →
+    int_lt ((share w s c).deficit -ℤ pos air) (deepest_deficit w.config.debt) ≡ false → IsKept (books w) →
     IsKept (books (rx_outcome w s c air).world)
 kept_received w s c air h k i = is _ _ (books_received w s c air)
     (kept_on (books w) s (on_part c (receive_share air)) i (λ a e good. record {
@@ -292,17 +318,17 @@ kept_received w s c air h k i = is _ _ (books_received w s c air)
     }))
   where
     known : (a : Account) → (books w).accounts s ≡ Some a →
-        deepest_deficit ≤ℤ ((a.shares c).deficit -ℤ pos air)
-    known a e = go (at None w.stations s) refl e (debt_fits (share w s c).deficit air k)
+        deepest_deficit w.config.debt ≤ℤ ((a.shares c).deficit -ℤ pos air)
+    known a e = go (at None w.stations s) refl e (debt_fits (share w s c).deficit air w.config.debt k)
       where
         go : (o : Option Station) → at None w.stations s ≡ o → option_map account o ≡ Some a →
-            deepest_deficit ≤ℤ ((share w s c).deficit -ℤ pos air) →
-            deepest_deficit ≤ℤ ((a.shares c).deficit -ℤ pos air)
+            deepest_deficit w.config.debt ≤ℤ ((share w s c).deficit -ℤ pos air) →
+            deepest_deficit w.config.debt ≤ℤ ((a.shares c).deficit -ℤ pos air)
         go None f e h = absurd (cc e)
         go (Some x) f e h =
             let same : account x ≡ a = cc e in
-            subst (λ (z : Account). deepest_deficit ≤ℤ ((z.shares c).deficit -ℤ pos air)) same
-            (subst (λ (o : Option Station). deepest_deficit ≤ℤ
+            subst (λ (z : Account). deepest_deficit w.config.debt ≤ℤ ((z.shares c).deficit -ℤ pos air)) same
+            (subst (λ (o : Option Station). deepest_deficit w.config.debt ≤ℤ
             ((at no_share (unwrap_or o no_station).shares (class_number c)).deficit -ℤ pos air)) f h)
 
 none_open_if : (b : Bool) (x : Exchange) (xs : List Exchange) (s n : ℕ) → (x.station == s) ≡ b →
@@ -336,7 +362,7 @@ kept_done (Asked (Rate s rate)) w e i =
     (kept_on (books w) s (rated rate) i
     (λ a _ good. record { weight = good.weight; rate = not-false _ e.1.0; bounds = good.bounds }))
 kept_done (Asked (Tick by)) w e i = i
-kept_done (Asked (Pull c)) w e i = kept_pulled w c e.0 i
+kept_done (Asked (Pull c)) w e i = kept_pulled w c e.0 e.1.0 i
 kept_done (Asked (Arrive e j)) w _ i = kept_open w e (exchange w e) _ refl i
     (λ x f. is _ _ (books_arrived w e j x i f) i)
 kept_done (Asked (Answer e)) w _ i = kept_open w e (exchange w e) _ refl i
@@ -379,6 +405,7 @@ kept_opening config range = record {
   opens = tt;
   rising = tt;
   few = λ c. omega arith;
+  within = record { total = λ limited. omega (arith, limited) };
   goods = λ s. tt;
 }
 

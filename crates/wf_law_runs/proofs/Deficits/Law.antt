@@ -1,11 +1,11 @@
 -- Proves the law of the deficits in every world of a run, from Shares and Ready.
 use Rattle.std.proofs.Common.{List, take}
 use Rattle.wf_frame.specs.declared.settings.Config.{Config}
-use Rattle.wf_def_world.specs.World.{rotation, share}
+use Rattle.wf_def_world.specs.World.{owed, rotation, share}
 use Rattle.wf_def_world.specs.Run.{Entry}
 use Rattle.wf_def_world.specs.Stretches.{world_at}
 use Rattle.wf_frame.specs.Settings.{IsInRange}
-use Rattle.wf_law_runs.specs.Deficits.{owed, weight_at, DeficitLaw}
+use Rattle.wf_law_runs.specs.Deficits.{weight_at, DeficitLaw}
 use Rattle.wf_law_runs.proofs.Deficits.Shares.{IsMoney}
 use Rattle.wf_law_runs.proofs.Fairness.Law.{share_at}
 use Rattle.wf_law_runs.proofs.Deficits.MildStep.{lists-on}

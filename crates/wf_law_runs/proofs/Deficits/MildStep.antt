@@ -1,5 +1,5 @@
 -- Proves that only the station that a call concerns can become ready, by cases of the call.
-use Rattle.std.proofs.Common.{◌≡◌, refl, ap, sym, ◌∙◌, subst, arith, ℕ, zero, suc, ◌+◌, ◌%◌, ◌<◌, ◌≤◌, Bool, true, false, if◌then◌else◌, List, [], ◌∷◌, ◌++◌, Option, Some, None, is_some, unwrap_or, option_map, not, ◌&&◌, ◌||◌, length, map, filter, ◌==◌, inl, inr, ◌⊎◌, pos}
+use Rattle.std.proofs.Common.{◌≡◌, refl, ap, sym, ◌∙◌, subst, arith, ℕ, zero, suc, ◌+◌, ◌%◌, ◌<◌, ◌≤◌, Bool, true, false, if◌then◌else◌, List, [], ◌∷◌, ◌++◌, Option, Some, None, is_some, unwrap_or, option_map, not, ◌&&◌, ◌||◌, length, map, filter, ◌==◌, inl, inr, ◌⊎◌}
 use Rattle.std.specs.List.{list_any}
 use Rattle.std.proofs.lemmas.Bool.{cases_Bool, cases_eq, ne_eqb, eqb-true, or_parts, not-false, leb-false, ltb-false}
 use Rattle.std.proofs.lemmas.Nat.{mod_below}
@@ -15,7 +15,7 @@ use Rattle.wf_def_rotation.specs.Rotation.{Rotation, no_keys, has_key, in_order,
 use Rattle.wf_def_agreement.specs.Session.{Session}
 use Rattle.wf_def_agreement.specs.Receiver.{Receiver}
 use Rattle.wf_def_world.specs.World.{World, Station, Tid, Queue, Exchange, Mpdu, Content, Frames, Request, no_tid, no_station, new_queue, new_tid, tid_of, queue, is_live, live_stations, exchange, with_station, on_station, on_tid, on_session, on_receiver, with_queues, on_queue, with_exchange, without_exchange}
-use Rattle.wf_def_world.specs.FlowQueues.{without_head, after_limit, is_listed_elsewhere, overflow_queue, queue_for, with_listed_queue, with_appended, after_put_in, with_queues_paid, taken_by_codel, taken_from_picked, taken_for_tid, picked_queue, queue_need, has_frames, after_queue_left, after_queues_left}
+use Rattle.wf_def_world.specs.FlowQueues.{without_head, after_limit, is_listed_elsewhere, goes_over, overflow_queue, queue_for, when_listed, with_listed_queue, with_appended, after_put_in, with_queues_paid, taken_by_codel, taken_from_picked, taken_for_tid, picked_queue, queue_need, has_frames, after_queue_left, after_queues_left}
 use Rattle.wf_def_world.specs.CanSend.{is_request}
 use Rattle.wf_def_world.specs.Exchanges.{Aggregate, Prepared, picked_station, with_station_paid, with_stations_paid, after_pick, after_tid_turn, with_number, with_fresh, aggregate_of, prepared_data, prepared_exchange, without_credit, exchange_of, with_exchange_opened, after_charge, with_failed_finished, with_settled, with_all_settled, after_done, sending_tid, after_arrival}
 use Rattle.wf_def_world.specs.Refusals.{refusals}
@@ -408,9 +408,9 @@ listing_live w y t q h = go (at None w.stations y) h
 -- No other station's TID lists the queue for a frame.
 no_clash : (w : World) (s t flow y j : ℕ) → IsOwning w → t < 8 → (y ≡ s → ⊥) → j < 8 →
     Lists w y j (queue_for w s t flow) → ⊥
-no_clash w s t flow y j i below other low h = go (is_listed_elsewhere w s t (flow % w.config.flows)) refl h
+no_clash w s t flow y j i below other low h = go (goes_over w s t (flow % w.config.flows)) refl h
   where
-    go : (b : Bool) → is_listed_elsewhere w s t (flow % w.config.flows) ≡ b →
+    go : (b : Bool) → goes_over w s t (flow % w.config.flows) ≡ b →
         Lists w y j (if b then overflow_queue w s t else flow % w.config.flows) → ⊥
     go true e k = elim (i.owned y j (overflow_queue w s t) k) [
       | inl l ↦ absurd (omega arith)
@@ -426,7 +426,8 @@ no_clash w s t flow y j i below other low h = go (is_listed_elsewhere w s t (flo
         let none : list_any (λ l. not ((y == s) && (l == t))
         && has_key (tid_of w y l).queues (flow % w.config.flows)) (upto 8) ≡ false =
         any_false (λ x. list_any (λ l. not ((x == s) && (l == t))
-        && has_key (tid_of w x l).queues (flow % w.config.flows)) (upto 8)) (live_stations w) y e here in
+        && has_key (tid_of w x l).queues (flow % w.config.flows)) (upto 8)) (live_stations w) y
+        (or_parts (is_listed_elsewhere w s t (flow % w.config.flows)) _ e).0 here in
         let not_here : (not ((y == s) && (j == t)) && has_key (tid_of w y j).queues (flow % w.config.flows))
         ≡ false =
         any_false (λ l. not ((y == s) && (l == t)) && has_key (tid_of w y l).queues (flow % w.config.flows))
@@ -437,7 +438,7 @@ no_clash w s t flow y j i below other low h = go (is_listed_elsewhere w s t (flo
         absurd (cc (rw (differs, listed) at not_here))
 
 owned_for : (w : World) (s t flow : ℕ) → IsOwning w → Owned w.config s t (queue_for w s t flow)
-owned_for w s t flow i = go (is_listed_elsewhere w s t (flow % w.config.flows))
+owned_for w s t flow i = go (goes_over w s t (flow % w.config.flows))
   where
     go : (b : Bool) → Owned w.config s t (if b then overflow_queue w s t else flow % w.config.flows)
     go true = inr refl
@@ -475,7 +476,7 @@ mild_listed_queue : (w : World) (s t q : ℕ) → Owned w.config s t q → IsMil
 unfolding with_listed_queue
 mild_listed_queue w s t q o =
     mild_if (has_key (tid_of w s t).queues q) s w _ _ (mild_here s w)
-    (mild_then s w _ _ (mild_on_queue s w q (λ y. record y { deficit = pos w.config.flow_quantum })
+    (mild_then s w _ _ (mild_on_queue s w q (when_listed w.config)
     (omega arith)) (mild_added w s t q _ o))
 
 mild_put_in : (w : World) (s t flow : ℕ) (x : Item) → IsOwning w → t < 8 →

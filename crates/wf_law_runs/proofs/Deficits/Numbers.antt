@@ -60,7 +60,7 @@ number_law config h range m =
           let d : IsAccounted config w s c = deficits config h range m s c live in
           let quantum = times config.quantum _ (greatest_of Quantum) greatest_weight range.quantum.1
           (r.stations s live).weight.1 in
-          (omega (arith, ints, d.least, owed), omega (arith, ints, d.most, quantum));
+          (omega (arith, ints, d.least, owed, range.debt.1), omega (arith, ints, d.most, quantum));
       queue_deficits = λ short s t q listed.
           let d = queue_deficit_law config h range greatest_body short m s t q listed in
           (d.1, omega (arith, ints, d.0, range.flow_quantum.1));

@@ -4,9 +4,8 @@ use Rattle.std.proofs.Common.{◌≡◌, refl, ap, ◌∙◌, subst, arith, ℕ,
 use Rattle.std.proofs.lemmas.Bool.{ne_eqb, eqb-true, eqb-false}
 use Rattle.std.proofs.lemmas.List.Sums.{sum_by-cons}
 use Rattle.wf_frame.specs.declared.classes.Class.{Class}
-use Rattle.wf_def_world.specs.World.{Exchange}
+use Rattle.wf_def_world.specs.World.{Exchange, owed, owed_by_all}
 use Rattle.wf_frame.specs.Classes.{class_number, same_class}
-use Rattle.wf_law_runs.specs.Deficits.{owed}
 use Rattle.wf_law_runs.proofs.Deficits.Books.{core}
 
 abbrev pub Every : (Exchange → Type 0) → List Exchange → Type 0
@@ -154,6 +153,26 @@ pub owed-core : (s : ℕ) (c : Class) (xs : List Exchange) → owed s c (map cor
 owed-core s c [] = refl
 owed-core s c (x ∷ xs) =
     ap (λ (n : ℕ). (if (x.station == s) && same_class x.class c then x.charge else 0) + n) (owed-core s c xs)
+
+pub owed_all-core : (xs : List Exchange) → owed_by_all (map core xs) ≡ owed_by_all xs
+owed_all-core [] = refl
+owed_all-core (x ∷ xs) = ap (λ (n : ℕ). x.charge + n) (owed_all-core xs)
+
+pub owed_all-append : (xs : List Exchange) (x : Exchange) →
+    owed_by_all (xs ++ x ∷ []) ≡ owed_by_all xs + x.charge
+owed_all-append [] x = omega arith
+owed_all-append (y ∷ ys) x = omega (arith, owed_all-append ys x)
+
+owed_all_if : (b : Bool) (x : Exchange) (xs : List Exchange) (n : ℕ) → owed_by_all xs ≤ n →
+    owed_by_all (cond b (x ∷ xs) xs) ≤ x.charge + n
+owed_all_if true x xs n h = omega arith
+owed_all_if false x xs n h = omega arith
+
+pub owed_all-filter : (p : Exchange → Bool) (xs : List Exchange) →
+    owed_by_all (filter p xs) ≤ owed_by_all xs
+owed_all-filter p [] = omega arith
+owed_all-filter p (x ∷ xs) =
+    owed_all_if (p x) x (filter p xs) (owed_by_all xs) (owed_all-filter p xs)
 
 -- Returns the greatest charge of an exchange to a station in a class, if no charge is more than l.
 abbrev pub part_of : ℕ → ℕ → Class → Exchange → ℕ

@@ -5,12 +5,11 @@ use Rattle.std.proofs.Math.Nat.{le-max_left}
 use Rattle.wf_frame.specs.declared.settings.Config.{Config}
 use Rattle.wf_frame.specs.declared.classes.Class.{Class}
 use Rattle.wf_def_lists.specs.Table.{at}
-use Rattle.wf_def_lists.specs.Bounds.{greatest_debt}
-use Rattle.wf_def_world.specs.World.{World, Station, Share, no_share, no_station, station, share, is_live, opening}
+use Rattle.wf_def_world.specs.World.{owed, World, Station, Share, no_share, no_station, station, share, is_live, opening}
 use Rattle.wf_frame.specs.Classes.{class_number}
 use Rattle.wf_def_world.specs.Run.{Entry, world_after}
 use Rattle.wf_frame.specs.Settings.{IsInRange}
-use Rattle.wf_law_runs.specs.Deficits.{longest_computed, longest_exchange, most_owed, owed}
+use Rattle.wf_law_runs.specs.Deficits.{longest_computed, longest_exchange, most_owed}
 use Rattle.wf_law_runs.proofs.Deficits.Balance.{IsBalanced, IsFairStation, IsFair}
 use Rattle.wf_law_runs.proofs.Deficits.Accounts.{accounts, below_four}
 use Rattle.wf_law_runs.proofs.Deficits.Books.{plain, account, core, books}
@@ -24,7 +23,7 @@ pub record IsMoney (config : Config) (m weight : ℕ) (x : Share) : Type 0 where
   pub exact : x.deficit ≡ pos (config.quantum * weight + config.quantum * weight * x.quanta) -ℤ pos
       (x.charged + x.received)
   pub most : x.deficit ≤ℤ pos (config.quantum * weight)
-  pub least : (pos 0 -ℤ pos (greatest_debt + most_owed config)) ≤ℤ x.deficit
+  pub least : (pos 0 -ℤ pos (config.debt + most_owed config)) ≤ℤ x.deficit
   pub quiet : x.received ≡ 0 → (pos 1 -ℤ pos (most_owed config)) ≤ℤ (x.deficit -ℤ pos m)
   pub floor : x.received ≡ 0 → (pos 1 -ℤ pos (most_owed config)) ≤ℤ x.deficit
 

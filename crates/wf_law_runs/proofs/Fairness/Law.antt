@@ -6,12 +6,12 @@ use Rattle.std.proofs.lemmas.Int.{ints}
 use Rattle.wf_frame.specs.declared.settings.Config.{Config}
 use Rattle.wf_frame.specs.declared.classes.Class.{Class}
 use Rattle.wf_def_lists.specs.Table.{at}
-use Rattle.wf_def_world.specs.World.{World, Station, Share, no_station, station, share, rotation, is_live, opening}
+use Rattle.wf_def_world.specs.World.{owed, World, Station, Share, no_station, station, share, rotation, is_live, opening}
 use Rattle.wf_def_world.specs.Step.{step}
 use Rattle.wf_def_world.specs.Run.{Entry, world_after}
 use Rattle.wf_def_world.specs.Stretches.{world_at, charges, charged_between, IsStretch, IsQuiet}
 use Rattle.wf_frame.specs.Settings.{IsInRange}
-use Rattle.wf_law_runs.specs.Deficits.{most_owed, owed, got_between, IsNear, weight_at, IsFairStretch, FairnessLaw}
+use Rattle.wf_law_runs.specs.Deficits.{most_owed, got_between, IsNear, weight_at, IsFairStretch, FairnessLaw}
 use Rattle.wf_def_lists.specs.Lists.{on}
 use Rattle.wf_law_rules.proofs.Lemmas.Counts.{ahead, has-on, on-append}
 use Rattle.wf_law_runs.proofs.Deficits.Books.{Account, account, Books, books}

@@ -1,6 +1,6 @@
 -- Proves that each held frame stays in a queue or at an unsettled number, by cases of the call.
 use Rattle.wf_law_runs.proofs.Releases.Placed.{less_left_tids, Placing, Any, placed_less, placed_settled, placed_without, accepted_with_frame, side_with_frame, IsIdOf, has_ids}
-use Rattle.std.proofs.Common.{◌≡◌, refl, ap, sym, ◌∙◌, subst, arith, ℕ, zero, suc, ◌<◌, ◌-◌, pos, Bool, true, false, if◌then◌else◌, ◌==◌, inl, inr, List, [], ◌∷◌, ◌++◌, length, Option, Some, None, is_some, unwrap_or}
+use Rattle.std.proofs.Common.{◌≡◌, refl, ap, sym, ◌∙◌, subst, arith, ℕ, zero, suc, ◌<◌, ◌-◌, Bool, true, false, if◌then◌else◌, ◌==◌, inl, inr, List, [], ◌∷◌, ◌++◌, length, Option, Some, None, is_some, unwrap_or}
 use Rattle.std.proofs.lemmas.Bool.{cases_eq}
 use Rattle.wf_frame.specs.declared.classes.Class.{Class}
 use Rattle.wf_frame.specs.declared.classes.Cause.TheVariants.{Overlimit, Left, Retries}
@@ -14,7 +14,7 @@ use Rattle.wf_def_codel.specs.Codel.{Item, new_codel}
 use Rattle.wf_def_rotation.specs.Rotation.{Rotation, has_key, in_order, no_keys}
 use Rattle.wf_def_agreement.specs.Session.{Session, Slot, State, no_slot, slot, on_slot, is_settled, is_failed, is_waiting, slot_after_miss, next_number, numbers_where, new_session}
 use Rattle.wf_def_world.specs.World.{World, Station, Queue, Exchange, Mpdu, Content, Frames, Request, Frame, no_frame, no_tid, no_station, new_queue, queue, session, tid_of, is_live, accepted_count, on_queue, on_session, on_tid, on_station, on_share, with_station, with_queues, with_rotation, with_fate, with_frame_finished, with_frames_finished, without_exchange}
-use Rattle.wf_def_world.specs.FlowQueues.{is_at_limit, longest_queue, without_head, after_limit, queue_for, with_listed_queue, with_appended, after_put_in, after_queue_left, after_queues_left}
+use Rattle.wf_def_world.specs.FlowQueues.{is_at_limit, longest_queue, without_head, after_limit, queue_for, when_listed, with_listed_queue, with_appended, after_put_in, after_queue_left, after_queues_left}
 use Rattle.wf_def_world.specs.Exchanges.{is_acked, with_heard_start, mpdus_of, after_charge, with_settled, with_failed_finished, with_all_settled, after_done, ids_of}
 use Rattle.wf_def_world.specs.Step.{with_frame, enqueue_outcome, done_outcome, waiting_ids, in_rising_order, after_tid_left, after_tids_left, without_listings, leave_outcome, join_outcome}
 use Rattle.wf_law_rules.proofs.Lemmas.Tables.{each_put}
@@ -160,7 +160,7 @@ unfolding with_listed_queue with_queues on_tid on_station with_station on_queue
 listed_keeps u s t q c k h = on_if (λ (v : World). carries (queue v c).items k ≡ true)
     (has_key (tid_of u s t).queues q) _ _ (λ _. h)
     (λ _. each_put (λ i y. carries (queue u i).items k ≡ true → carries y.items k ≡ true) new_queue u.queues q
-    (record (queue u q) { deficit = pos u.config.flow_quantum }) (λ i h. h) (λ h. h) c h)
+    (when_listed u.config (queue u q)) (λ i h. h) (λ h. h) c h)
 
 put_keeps : (u : World) (s t q : ℕ) (x : Item) (c k : ℕ) →
     carries (queue (with_appended u q x) c).items k ≡ true →

@@ -156,6 +156,12 @@ named_filled w s t r =
     (with_fresh (most_frames w s - length chosen) w s t chosen) (record { world = w; mpdus = chosen })
     (λ _. named_fresh (most_frames w s - length chosen) w s t w chosen r k) (λ _. k)
 
+-- The transmissions of an aggregate have the ids of their numbers.
+pub labelled_filled : (w : World) (s t : ℕ) → IsLawful w → is_live w s ≡ true →
+    request_due (session w s t) ≡ false →
+    Labelled (session (aggregate_of w s t).world s t) (aggregate_of w s t).mpdus
+labelled_filled w s t i live quiet = (named_filled w s t (ready_start w s t i live quiet)).labels
+
 -- A prepared exchange; u is the world before the pull.
 pub record IsPrepared (s t : ℕ) (u : World) (p : Prepared) : Type 0 where
   pub opened : p.world.opened ≡ u.opened

@@ -1,6 +1,6 @@
--- Defines the changes of a world that add no frame to a queue, remove no accepted frame, and acknowledge
--- only some frames. Proves that the parts of a call that do not enqueue are such changes.
-use Rattle.std.proofs.Common.{◌≡◌, refl, ap, sym, ◌∙◌, subst, arith, ℕ, zero, suc, ◌≤◌, Bool, true, false, if◌then◌else◌, ◌==◌, ◌||◌, ◌⊎◌, inl, inr, List, [], ◌∷◌, length, map, Option, Some, None, IfSome}
+-- Defines the changes of a world that add no frame to a queue, remove no accepted frame and keep its call,
+-- and acknowledge only some frames. Proves that the parts of a call that do not enqueue are such changes.
+use Rattle.std.proofs.Common.{◌≡◌, refl, ap, sym, ◌∙◌, subst, arith, ℕ, zero, suc, ◌≤◌, ◌<◌, Bool, true, false, if◌then◌else◌, ◌==◌, ◌||◌, ◌⊎◌, inl, inr, List, [], ◌∷◌, length, map, Option, Some, None, IfSome}
 use Rattle.wf_frame.specs.declared.classes.Class.{Class}
 use Rattle.wf_frame.specs.declared.classes.Fate.{Fate}
 use Rattle.wf_def_lists.specs.Table.{at, put}
@@ -82,10 +82,12 @@ carries_from (x ∷ xs) lo k o h = elim (either (x.id == k) (carries xs k) h) [
   | inr e ↦ omega (arith, o.0, carries_from xs (suc x.id) k o.1 e)
 ]
 
--- The frame that a dequeue returns was in the queue and is no longer there.
+-- The frame that a dequeue returns was in the queue and is no longer there. If the ids of the queue increase,
+-- those that are left are greater.
 pub record IsGiven (ys xs : List Item) (x : Item) : Type 0 where
   pub there : carries ys x.id ≡ true
   pub gone : (lo : ℕ) → Ordered lo ys → carries xs x.id ≡ false
+  pub later : (lo : ℕ) → Ordered lo ys → (k : ℕ) → carries xs k ≡ true → x.id < k
 
 pub record IsDequeued (ys : List Item) (d : Dequeued) : Type 0 where
   pub rest : Fewer ys d.rest
@@ -98,6 +100,7 @@ dequeued_head x xs c = record {
     there = or_left (x.id == x.id) (carries xs x.id) (yes_eq x.id x.id refl);
     gone = λ lo o. on_bool (carries xs x.id) (λ h.
         absurd (omega (arith, carries_from xs (suc x.id) x.id o.1 h))) (λ h. h);
+    later = λ lo o k h. omega (arith, carries_from xs (suc x.id) k o.1 h);
   };
 }
 
@@ -108,6 +111,7 @@ given_along (Some x) ys zs xs h k = record {
   there = h.has x.id k.there;
   gone =
       λ lo o. k.gone lo (h.ordered lo o);
+  later = λ lo o. k.later lo (h.ordered lo o);
 }
 
 dequeued_dropping : (x : Item) (xs : List Item) (d : Dequeued) → IsDequeued xs d →
@@ -131,15 +135,22 @@ pub record Less (P : ℕ → Type 0) (w v : World) : Type 0 where
   pub queues : (q : ℕ) → Fewer (queue w q).items (queue v q).items
   pub accepted : accepted_count w ≤ accepted_count v
   pub fates : (id : ℕ) → IsAcked v id → IsAcked w id ⊎ P id
+  pub notes : (id : ℕ) → id < accepted_count w → (frame v id).note ≡ (frame w id).note
 
 pub less : (P : ℕ → Type 0) (w : World) → Less P w w
-less P w = record { queues = λ q. fewer (queue w q).items; accepted = omega arith; fates = λ id h. inl h }
+less P w = record {
+  queues = λ q. fewer (queue w q).items;
+  accepted = omega arith;
+  fates = λ id h. inl h;
+  notes = λ id h. refl;
+}
 
 pub then_less : (P : ℕ → Type 0) (u v w : World) → Less P u v → Less P v w → Less P u w
 then_less P u v w h k = record {
   queues = λ q. then_fewer (queue u q).items (queue v q).items (queue w q).items (h.queues q) (k.queues q);
   accepted = omega (arith, h.accepted, k.accepted);
   fates = λ id e. elim (k.fates id e) [ inl a ↦ h.fates id a | inr p ↦ inr p ];
+  notes = λ id e. k.notes id (omega (arith, e, h.accepted)) ∙ h.notes id e;
 }
 
 pub if_less : (P : ℕ → Type 0) (b : Bool) (w u v : World) → Less P w u → Less P w v →
@@ -153,6 +164,7 @@ less_plain P w v a b = record {
       (fewer (queue w q).items);
   accepted = omega (arith, ap (length {A = Frame}) b);
   fates = λ id h. inl (ap (λ (fs : List Frame). (at no_frame fs id).fate) b ∙ h);
+  notes = λ id h. ap (λ (fs : List Frame). (at no_frame fs id).note) (sym b);
 }
 
 pub less_on_station : (P : ℕ → Type 0) (w : World) (s : ℕ) (f : Station → Station) →
@@ -191,6 +203,7 @@ less_on_queue P w q f h = record {
       (λ i. fewer (queue w i).items) h;
   accepted = omega arith;
   fates = λ id e. inl e;
+  notes = λ id e. refl;
 }
 
 pub less_with_rotation : (P : ℕ → Type 0) (w : World) (c : Class) (r : Rotation) →
@@ -211,6 +224,8 @@ less_finish P w fate id h = record {
   accepted = length_put_frames w.frames id _;
   fates = λ i. each_put (λ j x. j ≡ i → x.fate ≡ Acked → IsAcked w i ⊎ P i) no_frame w.frames id _
       (λ j e a. inl (subst (IsAcked w) e a)) (λ e a. inr (subst P e (h a))) i refl;
+  notes = λ i low. each_put (λ j x. j ≡ i → x.note ≡ (frame w i).note) no_frame w.frames id _
+      (λ j e. ap (λ (n : ℕ). (frame w n).note) e) (λ e. ap (λ (n : ℕ). (frame w n).note) e) i refl;
 }
 
 pub less_drop_all : (P : ℕ → Type 0) (ids : List ℕ) (w : World) (fate : Fate) → (fate ≡ Acked → ⊥) →
@@ -290,11 +305,14 @@ less_charged air P w x = less_on_share P w _ _ _
 
 -- ---- a take
 
--- The frame of a take was in one queue, and is no longer there.
+-- The frame of a take was in one queue, and is no longer there. If the ids of each queue increase, those that
+-- are left in this queue are greater.
 pub record IsTaken (w v : World) (x : Item) : Type 0 where
   pub place : ℕ
   pub there : carries (queue w place).items x.id ≡ true
   pub gone : ((q : ℕ) → Ordered 0 (queue w q).items) → carries (queue v place).items x.id ≡ false
+  pub later : ((q : ℕ) → Ordered 0 (queue w q).items) → (k : ℕ) →
+      carries (queue v place).items k ≡ true → x.id < k
 
 pub queues_dropped : (ids : List ℕ) (w : World) (fate : Fate) →
     (with_frames_finished w fate ids).queues ≡ w.queues
@@ -314,6 +332,7 @@ taken_by (Some x) w v q xs e h = record {
   there = h.there;
   gone =
       λ o. ap (λ (ys : List Item). carries ys x.id) e ∙ h.gone 0 (o q);
+  later = λ o k c. h.later 0 (o q) k (ap (λ (ys : List Item). carries ys k) (sym e) ∙ c);
 }
 
 pub less_dequeued : (P : ℕ → Type 0) (w : World) (q : ℕ) (d : Dequeued) → IsDequeued (queue w q).items d →
@@ -355,6 +374,7 @@ taken_before (Some x) w u v h k = record {
   place = k.place;
   there = (h.queues k.place).has x.id k.there;
   gone = λ o. k.gone (λ q. (h.queues q).ordered 0 (o q));
+  later = λ o. k.later (λ q. (h.queues q).ordered 0 (o q));
 }
 
 pub given_take : (w : World) (s t : ℕ) → IfSome (taken_for_tid w s t).item

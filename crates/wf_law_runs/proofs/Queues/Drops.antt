@@ -1,11 +1,22 @@
 -- Proves that CoDel's counts stay in their ranges.
-use Rattle.std.proofs.Common.{◌≡◌, arith, ℕ, zero, suc, ◌-◌, ◌*◌, ◌≤◌, ◌&&◌, nat_lt, true, List}
+use Rattle.std.proofs.Common.{◌≡◌, arith, ℕ, zero, suc, ◌-◌, ◌*◌, ◌==◌, ◌≤◌, ◌&&◌, nat_lt, Bool, true, false, if◌then◌else◌, List}
+use Rattle.wf_frame.specs.declared.settings.Config.{Config}
 use Rattle.wf_def_codel.specs.Codel.{Item, Params, Codel, Look, new_codel, look, raised_count, first_count, begin_dropping, state_dropping, state_plain, drops, state_after, dequeue}
+use Rattle.wf_def_world.specs.World.{Queue}
+use Rattle.wf_def_world.specs.FlowQueues.{calmed, when_listed}
 use Rattle.wf_law_runs.specs.Ranges.{CountsRight}
 use Rattle.wf_law_rules.proofs.Lemmas.Numbers.{on_if, lt_yes, both}
 
 pub counts_new : CountsRight new_codel
 counts_new = record { some = λ e. absurd (cc e); count = omega arith; last = omega arith }
+
+pub counts_listed : (config : Config) (y : Queue) → CountsRight y.codel →
+    CountsRight (when_listed config y).codel
+counts_listed config y h = go (config.codel_reset == 1)
+  where
+    go : (b : Bool) → CountsRight (if b then calmed y.codel else y.codel)
+    go true = record { some = λ e. absurd (cc e); count = h.count; last = h.last }
+    go false = h
 
 raised_some : (i count : ℕ) → 1 ≤ count → 1 ≤ raised_count count i
 raised_some zero count h = h

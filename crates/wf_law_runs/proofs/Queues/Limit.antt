@@ -152,7 +152,12 @@ small_enqueued n w s t flow len some one i =
     (λ r. ((less_within_limit Any w).queues r).sized (i.sized r))))
 
 less_any : (P : ℕ → Type 0) (w v : World) → Less P w v → Less Any w v
-less_any P w v h = record { queues = h.queues; accepted = h.accepted; fates = λ id a. inr tt }
+less_any P w v h = record {
+  queues = h.queues;
+  accepted = h.accepted;
+  fates = λ id a. inr tt;
+  notes = h.notes;
+}
 
 less_open : (o : Option Exchange) (w : World) (f : Exchange → Outcome) →
     ((x : Exchange) → Less Any w (f x).world) → Less Any w (outcome_where_open w o f).world

@@ -1,7 +1,7 @@
 -- Proves that each call keeps the invariant of the shelves, by cases of the call.
 use Rattle.wf_law_runs.proofs.Queues.Shelved.{part_none, restated, each_item, IsWithin, IsOf, Owned, IsShelved, IsPart, part_tail, IsLeft, left_dequeue, if_longer, keep_queue, CanList, relisted, appended_to, noted, paid}
 use Rattle.wf_law_runs.specs.Ranges.{CountsRight}
-use Rattle.wf_law_runs.proofs.Queues.Drops.{counts_new, counts_dequeue}
+use Rattle.wf_law_runs.proofs.Queues.Drops.{counts_new, counts_listed, counts_dequeue}
 use Rattle.wf_law_rules.proofs.Lemmas.Sums.{length_put}
 use Rattle.wf_def_rotation.specs.Rotation.{no_keys, Rotation, has_key, in_order, with_new_key}
 use Rattle.wf_law_rules.proofs.Lemmas.Counts.{on-has, on-nil, on-cons_same, on-cons_other, on-append, on-filter, has-on}
@@ -10,7 +10,7 @@ use Rattle.wf_def_codel.specs.Codel.{new_codel, Item, Dequeued, dequeue}
 use Rattle.wf_law_runs.proofs.Windows.Sides.{Same, same_take, on_live, same_after_turn, same_after_pick, same_within_limit}
 use Rattle.wf_frame.specs.declared.classes.Cause.TheVariants.{Left, Overlimit}
 use Rattle.wf_def_world.specs.World.{on_session, with_frames_finished, Mpdu, new_tid, session, rotation, World, Queue, no_frame, queue, tid_of, is_live, accepted_count, live_stations, codel_params, on_queue, with_queues, with_frame_finished, with_fate, on_tid, on_station, with_station}
-use Rattle.wf_def_world.specs.FlowQueues.{after_queues_left, after_queue_left, longest_queue, without_head, after_limit, is_listed_elsewhere, overflow_queue, queue_for, with_listed_queue, with_appended, after_put_in, queue_need, has_frames, with_queues_paid, len_given, taken_by_codel, taken_from_picked, picked_queue, taken_for_tid, is_at_limit}
+use Rattle.wf_def_world.specs.FlowQueues.{after_queues_left, after_queue_left, longest_queue, without_head, after_limit, is_listed_elsewhere, goes_over, overflow_queue, queue_for, when_listed, with_listed_queue, with_appended, after_put_in, queue_need, has_frames, with_queues_paid, len_given, taken_by_codel, taken_from_picked, picked_queue, taken_for_tid, is_at_limit}
 use Rattle.wf_law_runs.proofs.Queues.Shelves.{spot, shelves_with_station, shelves_on_session, shelves_sent, shelves_after_turn, shelves_after_pick, shelves_off_lists, Spot, Shelves, shelves, with_listed, with_queue, with_note, all_paid, shelves_with_queues, shelves_on_queue, shelves_finish, shelves_finish_all, shelves_pay_queues, shelves_with_frame}
 use Rattle.wf_law_rules.proofs.Lemmas.Numbers.{on_bool, lt_yes, lt_no, has_with, has_old, on_if, yes_lt, yes_eq, or_left, or_right, either, eq_yes}
 use Rattle.wf_frame.specs.declared.classes.Class.{Class}
@@ -24,7 +24,7 @@ use Rattle.wf_law_runs.proofs.Deficits.Books.{each_upd, upd, upd_same, upd_other
 use Rattle.std.proofs.Math.Path.{fun_ext}
 use Rattle.std.proofs.lemmas.Int.{ints}
 use Rattle.std.proofs.lemmas.Nat.{mod_below}
-use Rattle.std.proofs.lemmas.Bool.{cases_eq}
+use Rattle.std.proofs.lemmas.Bool.{cases_eq, or_parts}
 use Rattle.std.specs.List.{list_any}
 use Rattle.wf_frame.specs.declared.classes.Fate.TheVariants.{Dropped}
 use Rattle.wf_frame.specs.declared.notes.Note.{Note}
@@ -51,7 +51,7 @@ shelved_without_head (x ∷ rest) most w q e i =
     (subst (λ (ys : List Item). IsPart ys rest) (sym e) (part_tail x rest)) (λ s t l. i.deficits s t q l)
     (i.counts q) i)
 
-shelved_within_limit : (most : ℕ) (w : World) → IsShelved most (shelves w) →
+pub shelved_within_limit : (most : ℕ) (w : World) → IsShelved most (shelves w) →
     IsShelved most (shelves (after_limit w))
 unfolding after_limit
 shelved_within_limit most w i =
@@ -107,8 +107,8 @@ record CanTake (b : Shelves) (s t q : ℕ) : Type 0 where
 put_new : (most : ℕ) (b : Shelves) (s t q : ℕ) (x : Item) (r : Rotation) →
     (b.spots s).listed t ≡ (λ p. on (in_order r) p) → has_key r q ≡ false → CanTake b s t q →
     IsOf b.notes most s t x → x.stamp ≡ b.clock → IsShelved most b →
-    IsShelved most (with_listed (with_queue b q (record
-    (b.queues q) { items = (b.queues q).items ++ x ∷ []; deficit = pos b.config.flow_quantum })) s t
+    IsShelved most (with_listed (with_queue b q (when_listed b.config (record
+    (b.queues q) { items = (b.queues q).items ++ x ∷ [] }))) s t
     (λ p. on (in_order (with_new_key r q)) p))
 put_new most b s t q x r same unlisted c own now i =
     subst (λ (f : ℕ → Queue). IsShelved most (record (with_listed b s t g) { queues = f }))
@@ -118,17 +118,20 @@ put_new most b s t q x r same unlisted c own now i =
     g = λ p. on (in_order (with_new_key r q)) p
 
     y : Queue
-    y = record (b.queues q) { deficit = pos b.config.flow_quantum }
+    y = when_listed b.config (b.queues q)
 
     z : Queue
-    z = record (b.queues q) { items = (b.queues q).items ++ x ∷ []; deficit = pos b.config.flow_quantum }
+    z = when_listed b.config (record (b.queues q) { items = (b.queues q).items ++ x ∷ [] })
+
+    calm : CountsRight y.codel
+    calm = counts_listed b.config (b.queues q) (i.counts q)
 
     was : (p : ℕ) → (b.spots s).listed t p ≡ on (in_order r) p
     was p = ap (λ (f : ℕ → ℕ). f p) same
 
     first : IsShelved most (with_queue b q y)
     first = keep_queue most b q y (whole (b.queues q).items)
-        (λ j k l. fresh_within b.config.flow_quantum most i.quantum) (i.counts q) i
+        (λ j k l. fresh_within b.config.flow_quantum most i.quantum) calm i
 
     fresh : (with_queue b q y).queues q ≡ y
     fresh = upd_same b.queues q y
@@ -162,7 +165,7 @@ put_new most b s t q x r same unlisted c own now i =
     put : IsShelved most (with_queue (with_listed (with_queue b q y) s t g) q z)
     put = appended_to most (with_listed (with_queue b q y) s t g) s t q x z here own now
         (ap (λ (u : Queue). u.items ++ x ∷ []) (sym fresh)) (ap (λ (u : Queue). u.deficit) (sym fresh))
-        (i.counts q) second
+        calm second
 
 any_false : (p : ℕ → Bool) (xs : List ℕ) (y : ℕ) → list_any p xs ≡ false → 0 < on xs y → p y ≡ false
 any_false p [] y h k = absurd (let none : on [] y ≡ 0 = on-nil y in omega arith)
@@ -180,7 +183,7 @@ any_false p (x ∷ xs) y h k =
 -- No other TID lists the queue for a frame.
 alone : (most : ℕ) (w : World) (s t flow i j : ℕ) → IsShelved most (shelves w) → t < 8 →
     0 < on (in_order (tid_of w i j).queues) (queue_for w s t flow) → (i ≡ s) × (j ≡ t)
-alone most w s t flow i j k below h = go (is_listed_elsewhere w s t (flow % w.config.flows)) refl h
+alone most w s t flow i j k below h = go (goes_over w s t (flow % w.config.flows)) refl h
   where
     same_pair : (a b : Bool) → not (a && b) ≡ false → (a ≡ true) × (b ≡ true)
     same_pair true true e = (refl, refl)
@@ -191,7 +194,7 @@ alone most w s t flow i j k below h = go (is_listed_elsewhere w s t (flow % w.co
     last_false true b e f = absurd (cc (e, f))
     last_false false b e f = refl
 
-    go : (b : Bool) → is_listed_elsewhere w s t (flow % w.config.flows) ≡ b →
+    go : (b : Bool) → goes_over w s t (flow % w.config.flows) ≡ b →
         0 < on (in_order (tid_of w i j).queues) (if b then overflow_queue w s t else flow % w.config.flows) →
         (i ≡ s) × (j ≡ t)
     go true e l =
@@ -211,7 +214,7 @@ alone most w s t flow i j k below h = go (is_listed_elsewhere w s t (flow % w.co
         let none : list_any (λ m. not ((i == s) && (m == t)) && has_key (tid_of w i m).queues q) (upto 8)
         ≡ false =
         any_false (λ x. list_any (λ m. not ((x == s) && (m == t)) && has_key (tid_of w x m).queues q)
-        (upto 8)) (live_stations w) i e here in
+        (upto 8)) (live_stations w) i (or_parts (is_listed_elsewhere w s t q) _ e).0 here in
         let not_here : (not ((i == s) && (j == t)) && has_key (tid_of w i j).queues q) ≡ false =
         any_false (λ m. not ((i == s) && (m == t)) && has_key (tid_of w i m).queues q) (upto 8) j none
         (on_upto 8 j (k.below i j q l)) in
@@ -220,7 +223,7 @@ alone most w s t flow i j k below h = go (is_listed_elsewhere w s t (flow % w.co
         (eq_yes i s d.0, eq_yes j t d.1)
 
 owned_for : (w : World) (s t flow : ℕ) → 0 < w.config.flows → Owned w.config s t (queue_for w s t flow)
-owned_for w s t flow some = go (is_listed_elsewhere w s t (flow % w.config.flows))
+owned_for w s t flow some = go (goes_over w s t (flow % w.config.flows))
   where
     go : (b : Bool) → Owned w.config s t (if b then overflow_queue w s t else flow % w.config.flows)
     go true = inr refl
@@ -228,14 +231,14 @@ owned_for w s t flow some = go (is_listed_elsewhere w s t (flow % w.config.flows
 
 put_made : (w : World) (s t q : ℕ) (x : Item) (r : Rotation) → is_live w s ≡ true →
     shelves (with_queues (on_queue (with_appended w q x) q
-    (λ y. record y { deficit = pos w.config.flow_quantum })) s t r)
-    ≡ with_listed (with_queue (shelves w) q (record
-    (queue w q) { items = (queue w q).items ++ x ∷ []; deficit = pos w.config.flow_quantum })) s t
+    (when_listed w.config)) s t r)
+    ≡ with_listed (with_queue (shelves w) q (when_listed w.config (record
+    (queue w q) { items = (queue w q).items ++ x ∷ [] }))) s t
     (λ p. on (in_order r) p)
 unfolding with_appended on_queue
 put_made w s t q x r live =
     let f : Queue → Queue = λ y. record y { items = y.items ++ x ∷ [] } in
-    let h : Queue → Queue = λ y. record y { deficit = pos w.config.flow_quantum } in
+    let h : Queue → Queue = when_listed w.config in
     let v : World = on_queue w q f in
     shelves_with_queues (on_queue v q h) s t r live
     ∙ ap (λ (u : Shelves). with_listed u s t (λ p. on (in_order r) p))
@@ -257,7 +260,7 @@ shelved_put : (b : Bool) (most : ℕ) (w : World) (s t q : ℕ) (x : Item) (note
     → ((p : ℕ) → EachItem (λ y. y.id ≡ x.id → ⊥) (queue w p).items) → IsShelved most (shelves w)
     → IsShelved most (with_note (shelves (if b then with_appended w q x
     else with_queues (on_queue (with_appended w q x) q
-    (λ y. record y { deficit = pos w.config.flow_quantum })) s t (with_new_key (tid_of w s t).queues q)))
+    (when_listed w.config)) s t (with_new_key (tid_of w s t).queues q)))
     x.id note)
 shelved_put true most w s t q x note listed live c for short now apart i =
     let b : Shelves = with_note (shelves w) x.id note in

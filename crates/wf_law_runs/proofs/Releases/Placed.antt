@@ -7,7 +7,7 @@ use Rattle.wf_def_lists.specs.Table.{at, has, with_member, upto}
 use Rattle.wf_def_codel.specs.Codel.{Item}
 use Rattle.wf_def_agreement.specs.Receiver.{Receiver, with_arrived, with_start, release_start, greatest, released_between}
 use Rattle.wf_def_agreement.specs.Session.{request_due, Session, Slot, State, is_settled, is_failed, slot_after_miss, slot, on_slot, with_number_given, after_miss, next_number, no_slot}
-use Rattle.wf_def_world.specs.World.{receiver, World, Station, Tid, Exchange, Mpdu, Content, Frames, Request, new_tid, no_tid, rotation, session, is_live, exchange, with_station, on_station, on_tid, on_session, on_receiver, on_queue, with_frame_finished, with_exchange, without_exchange, opening, new_queue, queue, accepted_count}
+use Rattle.wf_def_world.specs.World.{receiver, World, Station, Tid, Frame, no_frame, Exchange, Mpdu, Content, Frames, Request, new_tid, no_tid, rotation, session, is_live, exchange, with_station, on_station, on_tid, on_session, on_receiver, on_queue, with_frame_finished, with_exchange, without_exchange, opening, new_queue, queue, accepted_count}
 use Rattle.wf_frame.specs.Classes.{all_classes}
 use Rattle.wf_def_world.specs.FlowQueues.{after_limit, with_appended, after_put_in, taken_for_tid, queue_for}
 use Rattle.wf_def_world.specs.CanSend.{is_ready, can_give}
@@ -42,7 +42,7 @@ pub data Place : Type 0 where
   Queued : (queue : ℕ) → Place
   Numbered : (station : ℕ) → (tid : ℕ) → (number : ℕ) → Place
 
--- The id of an assigned number is that of an accepted frame, its place is this number, and it was released
+-- The id of an assigned number belongs to an accepted frame, its place is this number, and it was released
 -- only if the number is below the release start.
 pub record IsLabel (home : ℕ → Place) (l : List ℕ) (c s t : ℕ) (a : Side) (n : ℕ) : Type 0 where
   pub old : (slot a.session n).id < c
@@ -138,7 +138,7 @@ slot_new_id y id n e =
     ap (λ (i : ℕ). (at no_slot (with_number_given y id).slots i).id) k
     ∙ ap (λ (x : Slot). x.id) (at_append y.slots _)
 
-placed_give : (l : List ℕ) (u v : World) (s t : ℕ) (x : Item) → Same u v → Less Any u v → IsTaken u v x →
+pub placed_give : (l : List ℕ) (u v : World) (s t : ℕ) (x : Item) → Same u v → Less Any u v → IsTaken u v x →
     Placing l u → Placing l (on_session v s t (λ y. with_number_given y x.id))
 unfolding on_session
 placed_give l u v s t x k h taken p =
@@ -232,7 +232,7 @@ placed_fresh (suc n) l w s t ms p =
     placed_filled_if (not (can_give w s t)) l _ _ p
     (placed_filled_if _ l _ _ (placed_fresh n l _ s t _ numbered) numbered)
 
-placed_filled : (l : List ℕ) (w : World) (s t : ℕ) → Placing l w → Placing l (aggregate_of w s t).world
+pub placed_filled : (l : List ℕ) (w : World) (s t : ℕ) → Placing l w → Placing l (aggregate_of w s t).world
 unfolding aggregate_of
 placed_filled l w s t p =
     let chosen : List Mpdu = longest_fitting w s (waiting_mpdus w s t) in
@@ -295,7 +295,7 @@ placed_pulled l w c i p =
 
 -- ---- the end of an exchange
 
-unit_any : (k : ℕ) → Any k
+pub unit_any : (k : ℕ) → Any k
 unit_any k = tt
 
 placed_slot : (l : List ℕ) (e s t : ℕ) (acked : ℕ → Bool) (w : World) (m : Mpdu) (ms : List Mpdu)
@@ -402,7 +402,7 @@ climbs_filter p (x ∷ xs) lo c = on_if (Climbs lo) (p x) (x ∷ filter p xs) (f
     (λ _. (c.0, climbs_filter p xs (suc x) c.1))
     (λ _. climbs_from (suc x) lo (filter p xs) (omega (arith, c.0)) (climbs_filter p xs (suc x) c.1))
 
-filter_has : (p : ℕ → Bool) (xs : List ℕ) (n : ℕ) → has (filter p xs) n ≡ true → (has xs n ≡ true) ×
+pub filter_has : (p : ℕ → Bool) (xs : List ℕ) (n : ℕ) → has (filter p xs) n ≡ true → (has xs n ≡ true) ×
     (p n ≡ true)
 filter_has p [] n h = absurd (cc h)
 filter_has p (x ∷ xs) n h = on_if (λ (ys : List ℕ). has ys n ≡ true → (((x == n) || has xs n) ≡ true) ×
@@ -414,12 +414,12 @@ filter_has p (x ∷ xs) n h = on_if (λ (ys : List ℕ). has ys n ≡ true → (
     (λ _ e. let q = filter_has p xs n e in (or_right (x == n) (has xs n) q.0, q.1)) h
 
 -- What a receiver releases when it becomes q.
-record Grows (y : Session) (r q : Receiver) : Type 0 where
-  rising : Climbs 0 q.arrived
-  within : (n : ℕ) → has q.arrived n ≡ true → (y.first ≤ n) × (n < next_number y)
-  rises : release_start r ≤ release_start q
+pub record Grows (y : Session) (r q : Receiver) : Type 0 where
+  pub rising : Climbs 0 q.arrived
+  pub within : (n : ℕ) → has q.arrived n ≡ true → (y.first ≤ n) × (n < next_number y)
+  pub rises : release_start r ≤ release_start q
 
-passes_more : (l : List ℕ) (w v : World) (s t : ℕ) (q : Receiver) → Less Any w v →
+pub passes_more : (l : List ℕ) (w v : World) (s t : ℕ) (q : Receiver) → Less Any w v →
     ((i j : ℕ) → (i ≡ s → j ≡ t → ⊥) → side v i j ≡ side w i j) →
     side v s t ≡ record { session = session w s t; receiver = q } → Grows (session w s t) (receiver w s t) q →
     Placing l w
@@ -530,7 +530,7 @@ grows_start y r f a = record {
       (λ k h. greatest_has (with_start f r).starts r.first k (has_old r.starts f k h))) a.rising (λ n h. h);
 }
 
-grows_after : (c : Content) (w : World) (i : IsLawful w) (x : Exchange) (n : ℕ) → x.content ≡ c →
+pub grows_after : (c : Content) (w : World) (i : IsLawful w) (x : Exchange) (n : ℕ) → x.content ≡ c →
     IsOpenIn w x → n < transmissions c → Grows (session w x.station x.tid) (receiver w x.station x.tid)
     (after_arrival c n (receiver w x.station x.tid))
 grows_after (Frames ms) w i x n e o l =
@@ -542,7 +542,7 @@ grows_after (Frames ms) w i x n e o l =
 grows_after (Request f) w i x n e o l = grows_start (session w x.station x.tid) (receiver w x.station x.tid) f
     (i.agreed x.station x.tid)
 
-less_taken : (w : World) (x z : Exchange) (g : Receiver → Receiver) →
+pub less_taken : (w : World) (x z : Exchange) (g : Receiver → Receiver) →
     Less Any w (with_exchange (on_receiver w x.station x.tid g) z)
 unfolding with_exchange
 less_taken w x z g = then_less Any w _ _ (less_on_receiver Any w x.station x.tid g)
@@ -582,10 +582,11 @@ pub less_with_station : (w : World) (s : ℕ) (o : Option Station) → Less Any 
 unfolding with_station
 less_with_station w s o = less_plain Any w _ refl refl
 
-abbrev IsBare : Side → Type 0
+abbrev pub IsBare : Side → Type 0
 IsBare a = next_number a.session ≡ a.session.first
 
-placed_station : (l : List ℕ) (w : World) (i : ℕ) (o : Option Station) → ((t : ℕ) → IsBare (sides_of o t)) →
+pub placed_station : (l : List ℕ) (w : World) (i : ℕ) (o : Option Station) → ((t : ℕ) → IsBare (sides_of
+    o t)) →
     Placing l w → Placing l (with_station w i o)
 placed_station l w i o bare p =
     let v : World = with_station w i o in
@@ -607,7 +608,7 @@ placed_station l w i o bare p =
       once = p.once;
     }
 
-new_bare : (first size : ℕ) → IsBare (side_of (new_tid first size))
+pub new_bare : (first size : ℕ) → IsBare (side_of (new_tid first size))
 new_bare first size = omega arith
 
 pub placed_joined : (l : List ℕ) (w : World) (s window start exponent weight : ℕ) → Placing l w →
@@ -729,9 +730,16 @@ pub less_put_in : (u : World) (s t q : ℕ) (x : Item) → Less Any (with_append
 unfolding after_put_in
 less_put_in u s t q x = less_listed_queue Any (with_appended u q x) s t q
 
-accepted_appended : (u : World) (q : ℕ) (x : Item) → accepted_count (with_appended u q x) ≡ accepted_count u
+pub accepted_appended : (u : World) (q : ℕ) (x : Item) → accepted_count (with_appended u q x) ≡
+    accepted_count u
 unfolding with_appended on_queue
 accepted_appended u q x = refl
+
+at_before : (fs : List Frame) (x : Frame) (k : ℕ) → k < length fs →
+    at no_frame (fs ++ x ∷ []) k ≡ at no_frame fs k
+at_before [] x k h = absurd (omega arith)
+at_before (f ∷ fs) x zero h = refl
+at_before (f ∷ fs) x (suc k) h = at_before fs x k (omega arith)
 
 pub less_with_frame : (w : World) (note : Note) → Less Any w (with_frame w note)
 unfolding with_frame
@@ -739,6 +747,8 @@ less_with_frame w note = record {
   queues = λ q. fewer (queue w q).items;
   accepted = omega (arith, length-append w.frames (record { note = note; fate = Held } ∷ []));
   fates = λ id h. inr tt;
+  notes = λ id h. ap (λ (f : Frame). f.note)
+      (at_before w.frames (record { note = note; fate = Held }) id h);
 }
 
 pub accepted_with_frame : (w : World) (note : Note) →
@@ -781,11 +791,11 @@ unfolding outcome_where_open
 placed_open P Q None l w f h k p = p
 placed_open P Q (Some x) l w f h k p = k x h
 
-any_some : (o : Option Exchange) → IfSome o (λ _. Unit {0})
+pub any_some : (o : Option Exchange) → IfSome o (λ _. Unit {0})
 any_some None = tt
 any_some (Some x) = tt
 
-named_open : (o : Option Exchange) (w : World) (f : Exchange → Outcome) →
+pub named_open : (o : Option Exchange) (w : World) (f : Exchange → Outcome) →
     ((x : Exchange) → named_by (f x).reply ≡ []) → named_by (outcome_where_open w o f).reply ≡ []
 unfolding outcome_where_open
 named_open None w f h = refl
@@ -816,7 +826,7 @@ unfolding answer_outcome with_exchange
 placed_answered l w x p = placed_less l w _ (less_plain Any w _ refl refl) (λ s t. refl) p
 
 -- The reply to a call that is not an arrival releases no id.
-named_done : (note : Note) (w : World) → (named_by (outcome_of w note).reply ≡ []) ⊎
+pub named_done : (note : Note) (w : World) → (named_by (outcome_of w note).reply ≡ []) ⊎
     ((e : ℕ) × (n : ℕ) × (note ≡ Asked (Arrive e n)))
 unfolding outcome_of enqueue_outcome join_outcome leave_outcome rate_outcome tick_outcome pull_outcome
     answer_outcome done_outcome sleep_outcome wake_outcome poll_outcome rx_outcome

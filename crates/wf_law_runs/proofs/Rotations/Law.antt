@@ -5,14 +5,14 @@ use Rattle.wf_frame.specs.declared.settings.Config.{Config}
 use Rattle.wf_frame.specs.Settings.{IsInRange}
 use Rattle.wf_frame.specs.declared.classes.Class.{Class}
 use Rattle.wf_frame.specs.declared.notes.Refusal.{Refusal}
-use Rattle.wf_frame.specs.declared.notes.Refusal.TheVariants.{Full, Idle}
+use Rattle.wf_frame.specs.declared.notes.Refusal.TheVariants.{Full, Ahead, Idle}
 use Rattle.wf_def_lists.specs.Table.{at}
 use Rattle.wf_def_rotation.specs.Rotation.{in_order}
-use Rattle.wf_def_world.specs.World.{World, Station, no_station, share, quantum, queue, rotation, tid_of, is_live}
+use Rattle.wf_def_world.specs.World.{World, Station, owed_by_all, no_station, share, quantum, queue, rotation, tid_of, is_live}
 use Rattle.wf_def_world.specs.FlowQueues.{has_frames}
 use Rattle.wf_def_world.specs.CanSend.{is_ready}
 use Rattle.wf_def_world.specs.Exchanges.{station_need, picked_station}
-use Rattle.wf_def_world.specs.Refusals.{first_refusal, open_of_class}
+use Rattle.wf_def_world.specs.Refusals.{first_refusal, open_of_class, is_at_aql_total}
 use Rattle.wf_def_world.specs.Run.{Entry}
 use Rattle.wf_def_world.specs.Stretches.{world_at}
 use Rattle.wf_law_runs.specs.Rotations.{NoneReady, MayOpen, KeepsRotations, RotationLaw}
@@ -48,38 +48,48 @@ ready_none w c none = go (picked_station w c).winner refl
 
 -- ---- the refusal of a Pull
 
-full_or_idle : ℕ → Bool → Bool → Option Refusal
-full_or_idle count full idle = if full then Some (Full count) else (if idle then Some Idle else None)
+full_or_idle : ℕ → ℕ → Bool → Bool → Bool → Option Refusal
+full_or_idle count airtime full ahead idle =
+    if full then Some (Full count) else if ahead then Some (Ahead airtime)
+    else if idle then Some Idle else None
 
-both_where_idle : (count : ℕ) (full idle : Bool) → full_or_idle count full idle ≡ Some Idle → (full ≡ false) ×
-    (idle ≡ true)
+all_where_idle : (count airtime : ℕ) (full ahead idle : Bool) →
+    full_or_idle count airtime full ahead idle ≡ Some Idle →
+    ((full ≡ false) × (ahead ≡ false)) × (idle ≡ true)
 unfolding full_or_idle
-both_where_idle count true idle e = absurd (cc e)
-both_where_idle count false true e = (refl, refl)
-both_where_idle count false false e = absurd (cc e)
+all_where_idle count airtime true ahead idle e = absurd (cc e)
+all_where_idle count airtime false true idle e = absurd (cc e)
+all_where_idle count airtime false false true e = ((refl, refl), refl)
+all_where_idle count airtime false false false e = absurd (cc e)
 
-idle_where_both : (count : ℕ) (full idle : Bool) → full ≡ false → idle ≡ true →
-    full_or_idle count full idle ≡ Some Idle
+idle_where_all : (count airtime : ℕ) (full ahead idle : Bool) → full ≡ false → ahead ≡ false → idle ≡ true →
+    full_or_idle count airtime full ahead idle ≡ Some Idle
 unfolding full_or_idle
-idle_where_both count full idle e f = rw (e, f) refl
+idle_where_all count airtime full ahead idle e f g = rw (e, f, g) refl
 
 is_none_of : (o : Option ℕ) → is_none o ≡ true → o ≡ None
 is_none_of None e = refl
 is_none_of (Some s) e = absurd (cc e)
 
+abbrev full_in : World → Class → Bool
+full_in w c = nat_le w.config.inflight (open_of_class w c)
+
+abbrev idle_in : World → Class → Bool
+idle_in w c = is_none (picked_station w c).winner
+
 refused_idle : (w : World) (c : Class) → IsListed w →
-    (full_or_idle (open_of_class w c) (nat_le w.config.inflight (open_of_class w c))
-    (is_none (picked_station w c).winner) ≡ Some Idle) ↔ (MayOpen w c × NoneReady w c)
+    (full_or_idle (open_of_class w c) (owed_by_all w.opened) (full_in w c) (is_at_aql_total w) (idle_in w c)
+    ≡ Some Idle) ↔ (MayOpen w c × NoneReady w c)
 refused_idle w c listed = (
   (λ e.
-      let k = both_where_idle (open_of_class w c) (nat_le w.config.inflight (open_of_class w c))
-      (is_none (picked_station w c).winner) e in (
-        below w.config.inflight (open_of_class w c) k.0,
+      let k = all_where_idle (open_of_class w c) (owed_by_all w.opened) (full_in w c) (is_at_aql_total w)
+      (idle_in w c) e in (
+        (below w.config.inflight (open_of_class w c) k.0.0, k.0.1),
         none_ready w c listed (is_none_of (picked_station w c).winner k.1),
       )),
-  (λ h. idle_where_both (open_of_class w c) (nat_le w.config.inflight (open_of_class w c))
-      (is_none (picked_station w c).winner) (not_full w.config.inflight (open_of_class w c) h.0)
-      (rw (ready_none w c h.1) refl)),
+  (λ h. idle_where_all (open_of_class w c) (owed_by_all w.opened) (full_in w c) (is_at_aql_total w)
+      (idle_in w c)
+      (not_full w.config.inflight (open_of_class w c) h.0.0) h.0.1 (rw (ready_none w c h.1) refl)),
 )
   where
     below : (m n : ℕ) → nat_le m n ≡ false → n < m
@@ -89,8 +99,12 @@ refused_idle w c listed = (
     not_full m n h = grind arith
 
 idle_pull : (w : World) (c : Class) → IsListed w →
-    (first_refusal ((nat_le w.config.inflight (open_of_class w c), Full (open_of_class w c))
-    ∷ (is_none (picked_station w c).winner, Idle) ∷ []) ≡ Some Idle) ↔ (MayOpen w c × NoneReady w c)
+    (first_refusal ((full_in w c, Full (open_of_class w c)) ∷ (
+      is_at_aql_total w,
+      Ahead (owed_by_all
+          w.opened),
+    )
+    ∷ (idle_in w c, Idle) ∷ []) ≡ Some Idle) ↔ (MayOpen w c × NoneReady w c)
 unfolding first_refusal full_or_idle
 idle_pull w c listed = refused_idle w c listed
 

@@ -1,6 +1,6 @@
 -- Proves that queued frames and the frames of open exchanges have the lengths that their Enqueue calls
 -- gave, in every world of a run. By cases of the call.
-use Rattle.std.proofs.Common.{◌≡◌, refl, ap, sym, ◌∙◌, subst, arith, ℕ, zero, suc, ◌-◌, pos, ◌<◌, ◌≤◌, Bool, true, false, if◌then◌else◌, not, ◌==◌, List, [], ◌∷◌, ◌++◌, append-nil, length, map, take, drop, Option, Some, None, IfSome}
+use Rattle.std.proofs.Common.{◌≡◌, refl, ap, sym, ◌∙◌, subst, arith, ℕ, zero, suc, ◌-◌, ◌<◌, ◌≤◌, Bool, true, false, if◌then◌else◌, not, ◌==◌, List, [], ◌∷◌, ◌++◌, append-nil, length, map, take, drop, Option, Some, None, IfSome}
 use Rattle.std.proofs.lemmas.Bool.{not-false}
 use Rattle.std.proofs.lemmas.List.{take-append-drop}
 use Rattle.wf_frame.specs.declared.settings.Config.{Config}
@@ -20,7 +20,7 @@ use Rattle.wf_def_rotation.specs.Rotation.{Rotation, has_key, with_new_key, in_o
 use Rattle.wf_def_agreement.specs.Receiver.{score}
 use Rattle.wf_def_agreement.specs.Session.{Session, slot, waiting_numbers, next_number, request_due}
 use Rattle.wf_def_world.specs.World.{World, Station, Share, Queue, Exchange, Mpdu, new_queue, no_tid, no_frame, Frame, len_of, session, tid_of, queue, is_live, accepted_count, exchange, codel_params, with_station, on_station, on_tid, on_receiver, on_share, on_queue, with_queues, with_frames_finished, with_exchange, without_exchange, receiver, opening}
-use Rattle.wf_def_world.specs.FlowQueues.{Taken, after_limit, is_at_limit, longest_queue, without_head, queue_for, with_appended, with_listed_queue, after_put_in, with_queues_paid, after_dequeue, taken_by_codel, taken_from_picked, taken_for_tid, picked_queue, after_queue_left, after_queues_left}
+use Rattle.wf_def_world.specs.FlowQueues.{Taken, after_limit, is_at_limit, longest_queue, without_head, queue_for, with_appended, when_listed, with_listed_queue, after_put_in, with_queues_paid, after_dequeue, taken_by_codel, taken_from_picked, taken_for_tid, picked_queue, after_queue_left, after_queues_left}
 use Rattle.wf_def_world.specs.CanSend.{can_give, can_send_in, with_listings_of}
 use Rattle.wf_def_world.specs.Exchanges.{Aggregate, Prepared, most_frames, mpdus_of, mpdu_of, fits_in, picked_station, sending_tid, waiting_mpdus, longest_fitting, fresh_mpdus, with_number, with_fresh, aggregate_of, prepared_data, prepared_exchange, exchange_of, after_pick, after_tid_turn, with_exchange_opened, after_arrival}
 use Rattle.wf_def_world.specs.Refusals.{refusals, refusal}
@@ -436,13 +436,13 @@ unfolding with_listed_queue with_queues on_queue on_tid on_station with_station
 measured_listed notes w s t q k = go (has_key (tid_of w s t).queues q)
   where
     fresh : World
-    fresh = on_queue w q (λ y. record y { deficit = pos w.config.flow_quantum })
+    fresh = on_queue w q (when_listed w.config)
 
     go : (b : Bool) → AllMeasured notes (shelves (if b then w
         else with_queues fresh s t (with_new_key (tid_of w s t).queues q)))
     go true = k
     go false = each_put (λ _ y. EachItem (IsMeasured notes) y.items) new_queue w.queues q
-        (record (queue w q) { deficit = pos w.config.flow_quantum }) k (k q)
+        (when_listed w.config (queue w q)) k (k q)
 
 measured_put_in : (notes : ℕ → Note) (w : World) (s t q : ℕ) (x : Item) → IsMeasured notes x →
     AllMeasured notes (shelves w)

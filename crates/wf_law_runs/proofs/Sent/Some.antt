@@ -273,7 +273,7 @@ unmoved_turned : (w : World) (s : ℕ) (c : Class) (t : ℕ) → Unmoved w (afte
 unfolding after_tid_turn
 unmoved_turned w s c t = unmoved_on_share w s c _
 
-abbrev AllSome : World → Type 0
+abbrev pub AllSome : World → Type 0
 AllSome w = Each HasSome w.opened
 
 some_opened : (w v : World) → v.opened ≡ w.opened → AllSome w → AllSome v
@@ -389,7 +389,7 @@ some_answer None w note l a h =
     (concerned_station w note)) (same_listed (concerned_station w note) (outcome_of w note).world).opened
     (some_done note w l a h)
 
-some_step : (w : World) (note : Note) → IsLawful w → IsApt w → AllSome w → AllSome (step w note).world
+pub some_step : (w : World) (note : Note) → IsLawful w → IsApt w → AllSome w → AllSome (step w note).world
 unfolding step
 some_step w note l a h = some_answer (refusal w note) w note l a h
 

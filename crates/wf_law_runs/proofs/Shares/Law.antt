@@ -1,13 +1,14 @@
--- A station that stays on a class's old list gets as much for its weight as any other.
+-- Proves the share law: up to a constant, a station that stays on a class's old list gets as much airtime for
+-- its weight as any other station.
 use Rattle.std.proofs.Common.{◌≡◌, ap, sym, ◌∙◌, subst, arith, ℕ, suc, ◌+◌, ◌-◌, ◌*◌, ◌≤◌, ℤ, pos, negsuc, ◌+ℤ◌, ◌-ℤ◌, ◌*ℤ◌, ◌≤ℤ◌, Bool, true, List, map, take, drop}
 use Rattle.std.proofs.lemmas.Int.{ints}
 use Rattle.wf_frame.specs.declared.settings.Config.{Config}
 use Rattle.wf_frame.specs.declared.classes.Class.{Class}
 use Rattle.wf_frame.specs.Settings.{IsInRange}
-use Rattle.wf_def_world.specs.World.{share, rotation, is_live, opening}
+use Rattle.wf_def_world.specs.World.{owed, share, rotation, is_live, opening}
 use Rattle.wf_def_world.specs.Run.{Entry, world_after}
 use Rattle.wf_def_world.specs.Stretches.{world_at, charged_between}
-use Rattle.wf_law_runs.specs.Deficits.{most_owed, owed, got_between, weight_at}
+use Rattle.wf_law_runs.specs.Deficits.{most_owed, got_between, weight_at}
 use Rattle.wf_law_runs.specs.Shares.{received_between, used_between, deficit_then, quantum_then, overrun, IsShared, ShareLaw}
 use Rattle.wf_law_rules.proofs.Lemmas.Counts.{has-on}
 use Rattle.wf_law_runs.proofs.Deficits.Books.{core}
@@ -90,7 +91,7 @@ spent_number u q qa n ch chb rc rcb p r d db e f most is_q is_ch is_rc =
     let whole : u * q ≡ u * qa + u * n = ap (λ (z : ℕ). u * z) is_q ∙ omega arith in
     omega (arith, ints)
 
--- what s used pays for its quanta, up to one
+-- the airtime that s used covers its quanta, except at most one
 pub spent_between : (config : Config) (h : List Entry) (s i : ℕ) (c : Class) (a b : ℕ) → IsInRange config →
     is_live (world_at config h a) s ≡ true → is_live (world_at config h b) s ≡ true →
     IsHeld config c s i (charged_between config h i c a b) (charged_between config h s c a b)

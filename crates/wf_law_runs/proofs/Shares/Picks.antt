@@ -1,4 +1,4 @@
--- What a pick gives to two stations, one of which keeps its place in the rotation.
+-- Proves how many quanta a pick gives to two stations, one of which keeps its place in the rotation.
 use Rattle.std.proofs.Common.{◌≡◌, refl, ap, sym, ◌∙◌, subst, arith, ℕ, zero, suc, ◌+◌, ◌-◌, ◌*◌, ◌<◌, ◌≤◌, min, max, Bool, true, false, if◌then◌else◌, cond, not, ◌&&◌, ◌==◌, nat_le, List, [], ◌∷◌, ◌++◌, filter, eq-eqb, inl, inr, ◌⊎◌, Option, Some, None, find}
 use Rattle.std.proofs.lemmas.Bool.{cases_Bool, cases_eq, cases_lt, eqb-true, eqb-false, ne_eqb, and_parts, leb-true, leb-false, not_from_false}
 use Rattle.wf_def_lists.specs.Table.{has}
@@ -102,7 +102,7 @@ lead_most s i r once = go (on r.old s) (on r.old i) (on r.new s) (ahead s i r.ol
     go (suc m) n k a b h e f = let z : m ≡ 0 = omega arith in
         let h' : a ≤ (suc 0) * n = subst (λ (z : ℕ). a ≤ (suc z) * n) z h in omega arith
 
--- a key that is listed changes nothing for two others
+-- adding another key to the new list does not change the lead
 pub lead_added : (s i k : ℕ) (r : Rotation) → (k ≡ s → ⊥) → lead s i (with_new_key r k) ≡ lead s i r
 unfolding lead
 lead_added s i k r other =
@@ -113,7 +113,7 @@ lead_added s i k r other =
     omega (arith, ahead-append i s r.new (k ∷ []), ahead-none i s (k ∷ []) none) in
     rw (there, before) refl
 
--- nor does a key that leaves
+-- removing another key does not change the lead
 pub lead_off : (s i k : ℕ) (r : Rotation) → (s ≡ k → ⊥) → (i ≡ k → ⊥) →
     lead s i (without_key r k) ≡ lead s i r
 unfolding lead
@@ -538,7 +538,7 @@ later_win need ready r s i differs l =
       on-nil s,
     )
 
--- The winner leads nobody.
+-- The winner is ahead of no other key.
 pub win_lead : (need : ℕ → ℕ) (ready : ℕ → Bool) (r : Rotation) (s i : ℕ) → Once r → (s ≡ i → ⊥) →
     (pick need ready r).winner ≡ Some i → lead s i (pick need ready r).lists ≡ 0
 win_lead need ready r s i once differs = pick_cases (λ p. p.winner ≡ Some i → lead s i p.lists ≡ 0)

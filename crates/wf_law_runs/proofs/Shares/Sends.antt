@@ -1,4 +1,5 @@
--- Who a Pull sends to, and what the open exchanges of a station may be charged after a call.
+-- Proves which station a Pull sends to, and how much the open exchanges of a station may be charged after
+-- a call.
 use Rattle.std.proofs.Common.{◌≡◌, refl, ap, sym, ◌∙◌, subst, arith, ℕ, zero, suc, ◌+◌, ◌<◌, ◌≤◌, ℤ, pos, negsuc, ◌≤ℤ◌, Bool, true, false, if◌then◌else◌, cond, List, [], ◌∷◌, Option, Some, None, not, ◌&&◌, ◌==◌, find, map, filter, eq-eqb, inl, inr, ◌⊎◌}
 use Rattle.std.proofs.lemmas.Bool.{cases_eq, eqb-true, ne_eqb}
 use Rattle.wf_frame.specs.declared.classes.Class.{Class}
@@ -44,7 +45,7 @@ unfolding judged_outcome outcome_of pull_outcome
 sent_answer (Some r) w d v h = absurd (cc h)
 sent_answer None w d v h = sent_by (picked_station w d).winner (after_pick w d) d v h
 
--- a Pull sends to the station that is picked
+-- a Pull sends only to the station that is picked
 pub sent_winner : (w : World) (d : Class) (v : ℕ) → is_sent_to v (step w (Asked (Pull d))).reply ≡ true →
     (picked_station w d).winner ≡ Some v
 unfolding step
@@ -56,7 +57,7 @@ unfolding pull_outcome_for send_outcome
 wins_sent None w d v e = absurd (cc e)
 wins_sent (Some k) w d v e = let same : k ≡ v = cc in eq-eqb k v same
 
--- and if it is not refused, it sends to the station that is picked
+-- a Pull that is not refused sends to the station that is picked
 pub winner_sent : (w : World) (d : Class) (v : ℕ) → refusal w (Asked (Pull d)) ≡ None →
     (picked_station w d).winner ≡ Some v → is_sent_to v (step w (Asked (Pull d))).reply ≡ true
 unfolding step judged_outcome outcome_of pull_outcome
@@ -114,7 +115,7 @@ picked_first need ready r s v stands is none won = go (find (λ y. ready y && (n
     go None e k = absurd (cc (passes, find-none (λ y. ready y && (need y == 0)) r.new e s stands))
     go (Some u) e k = found_first (λ y. ready y && (need y == 0)) r.new s v passes stands (e ∙ k)
 
--- ---- what open exchanges may be charged
+-- ---- the airtime that open exchanges may be charged
 
 opened_if : (b : Bool) (w : World) (k : ℕ) (d : Class) (r : Rotation) →
     (books (if b then with_rotation w d r else w)).opened ≡ (books w).opened
@@ -136,7 +137,7 @@ unfolding with_listings_of
 opened_listed None w = refl
 opened_listed (Some k) w = opened_in_all all_classes w k
 
--- after a call that charges n to s, the open exchanges of s may be charged so much less
+-- after a call that charges n to s, the open exchanges of s may be charged less than before, by at least n
 pub record Less (l : ℕ) (c : Class) (s n : ℕ) (b b' : Books) : Type 0 where
   pub most : n + reserved l s c b'.opened ≤ reserved l s c b.opened
 
@@ -259,7 +260,7 @@ pub less_step : (w : World) (note : Note) (c : Class) (s : ℕ) → IsKept (book
 unfolding step
 less_step w note c s kept unsent = less_answer (refusal w note) w note c s refl kept unsent
 
--- entries that open none
+-- entries that open no exchange of a station
 pub less_run : (es : List Entry) (l : ℕ) (w : World) (c : Class) (s : ℕ) → IsKept (books w) →
     longest_exchange w.config ≡ l → sends w s c es ≡ 0 →
     Less l c s (charges w s c es) (books w) (books (world_after w es))

@@ -1,4 +1,5 @@
--- What two stations of a class get over a stretch of entries in which one of them keeps its place.
+-- Proves how many quanta and charges two stations of a class get over a stretch of entries in which one of
+-- them keeps its place. By induction on the entries.
 use Rattle.std.proofs.Common.{◌≡◌, refl, ap, sym, ◌∙◌, subst, arith, ℕ, zero, suc, ◌+◌, ◌-◌, ◌*◌, ◌<◌, ◌≤◌, ℤ, pos, ◌-ℤ◌, ◌≤ℤ◌, Bool, true, false, if◌then◌else◌, List, [], ◌∷◌, ◌++◌, take, map, Option, Some, None, is_some, is_none, IfSome, unwrap_or, option_map, ◌&&◌, ◌==◌, inl, inr, ◌⊎◌}
 use Rattle.std.proofs.lemmas.Int.{ints}
 use Rattle.std.proofs.lemmas.Bool.{cases_eq, ne_eqb}
@@ -12,13 +13,13 @@ use Rattle.wf_frame.specs.Classes.{class_number}
 use Rattle.wf_def_lists.specs.Table.{at}
 use Rattle.wf_def_lists.specs.Lists.{on}
 use Rattle.wf_def_rotation.specs.Rotation.{in_order}
-use Rattle.wf_def_world.specs.World.{World, Station, no_share, no_station, station, share, rotation, is_live}
+use Rattle.wf_def_world.specs.World.{owed, World, Station, no_share, no_station, station, share, rotation, is_live}
 use Rattle.wf_def_world.specs.CanSend.{is_ready}
 use Rattle.wf_def_world.specs.Refusals.{refusals, refusal}
 use Rattle.wf_def_world.specs.Step.{step}
 use Rattle.wf_def_world.specs.Run.{Entry, world_after}
 use Rattle.wf_def_world.specs.Stretches.{charge_by, charges}
-use Rattle.wf_law_runs.specs.Deficits.{longest_exchange, most_owed, owed}
+use Rattle.wf_law_runs.specs.Deficits.{longest_exchange, most_owed}
 use Rattle.wf_law_runs.specs.Sums.{since_join, air_by}
 use Rattle.wf_law_runs.specs.Shares.{receipts}
 use Rattle.wf_law_rules.proofs.Lemmas.Counts.{on-append}
@@ -138,7 +139,7 @@ if_weight : (config : Config) (s : ℕ) (w : World) (o : Option Station) → is_
 if_weight config s w None is h = absurd (cc is)
 if_weight config s w (Some x) is h = h.weight
 
--- nothing happened yet
+-- the stretch without a call
 held_first : (config : Config) (c : Class) (s i : ℕ) (w : World) → w.config ≡ config → IsKept (books w) →
     is_live w i ≡ true → IsHeld config c s i 0 0 0 w w
 held_first config c s i w same k live = record {
@@ -174,14 +175,14 @@ held_first config c s i w same k live = record {
 pub times_le : (u m n : ℕ) → m ≤ n → u * m ≤ u * n
 times_le u m n h = grind arith
 
--- i is bound to no more than before
+-- the bound holds after a call that does not raise the charges of i, with those of its open exchanges
 held_less : (u ch res ch' res' ch0 q q' q0 m : ℕ) → ch' + res' ≤ ch + res →
     ch + res + 1 ≤ ch0 + u * (q - q0 + 1) + m → q ≤ q' → ch' + res' + 1 ≤ ch0 + u * (q' - q0 + 1) + m
 held_less u ch res ch' res' ch0 q q' q0 m h k l =
     let more : u * (q - q0 + 1) ≤ u * (q' - q0 + 1) =
     times_le u (q - q0 + 1) (q' - q0 + 1) (omega arith) in omega arith
 
--- i has just won
+-- the bound holds after a pick that i won
 held_won : (u gi qi0 gs ch rc ch0 rc0 res m : ℕ) → ch + rc + 1 ≤ u + u * (qi0 + gi) → u * qi0 ≤ ch0 + rc0 →
     rc0 ≤ rc → gi ≤ gs → res ≤ m → ch + res + 1 ≤ ch0 + u * (gs + 1) + m
 held_won u gi qi0 gs ch rc ch0 rc0 res m above below more near stake =
@@ -236,7 +237,7 @@ abbrev Spent : Class → ℕ → World → World → Config → Type 0
 Spent c i v v' z = ((acc (books v') i).shares c).charged + at_stake z i c (map core v'.opened)
     ≤ ((acc (books v) i).shares c).charged + at_stake z i c (map core v.opened)
 
--- one call more
+-- the stretch and one more call
 held_step : (config : Config) (t : Bool) (c : Class) (s i n p q : ℕ) (w v : World) (note : Note) →
     (s ≡ i → ⊥) → IsGround config w → IsGround config v → is_live w i ≡ true → Fits t c s i v →
     Fits t c s i (step v note).world → IsHeld config c s i n p q w v →

@@ -1,4 +1,5 @@
--- What a call does to two stations of a class, one of which keeps its place in the rotation.
+-- Proves how a call changes the quanta and charges of two stations of a class, one of which keeps its place
+-- in the rotation. By cases of the call.
 use Rattle.std.proofs.Common.{◌≡◌, refl, ap, sym, ◌∙◌, subst, arith, ℕ, zero, suc, ◌+◌, ◌*◌, ◌<◌, ◌≤◌, pos, ◌≤ℤ◌, Bool, true, false, if◌then◌else◌, List, [], ◌∷◌, ◌++◌, Option, Some, None, is_some, IfSome, unwrap_or, not, ◌&&◌, ◌==◌, inl, inr, ◌⊎◌}
 use Rattle.std.proofs.lemmas.Bool.{cases_eq, ne_eqb, and_parts, not-true, not_from_false}
 use Rattle.wf_frame.specs.declared.classes.Class.{Class}
@@ -31,16 +32,16 @@ use Rattle.wf_law_runs.proofs.Shares.Picks.{lead, lead_added, lead_off, Stands, 
 
 -- ---- a move
 
--- an account goes on: it keeps its weight and loses no quantum
+-- an account keeps its weight and loses no quantum
 pub record Goes (c : Class) (a a' : Account) : Type 0 where
   pub weight : a'.weight ≡ a.weight
   pub quanta : (a.shares c).quanta ≤ (a'.shares c).quanta
 
--- what a station was charged and what its open exchanges may be charged, l each
+-- the airtime that a station was charged, and that its open exchanges may be charged, at most l each
 abbrev pub bound_to : ℕ → Class → ℕ → Books → ℕ
 bound_to l c i b = ((acc b i).shares c).charged + reserved l i c b.opened
 
--- i is bound to no more than before, or it has just opened an exchange and leads s no more
+-- this sum is at most as before, or i has just opened an exchange and is not ahead of s
 abbrev pub Spends : ℕ → Class → ℕ → ℕ → Books → Books → Type 0
 Spends l c s i b b' = (bound_to l c i b' ≤ bound_to l c i b)
     ⊎ ((lead s i (b'.rotations c) ≡ 0) × (pos 1 ≤ℤ ((acc b' i).shares c).deficit))
@@ -53,7 +54,7 @@ pub record IsMove (l : ℕ) (c : Class) (s i : ℕ) (b b' : Books) : Type 0 wher
   pub other : Goes c (acc b i) (acc b' i)
   pub spends : Spends l c s i b b'
 
--- the lists of the class stay
+-- the lists of the class are unchanged
 move_turn : (l : ℕ) (c : Class) (s i m n : ℕ) (b b' : Books) → 0 < on (in_order (b.rotations c)) s →
     b'.rotations c ≡ b.rotations c → m + reserved l i c b'.opened ≤ reserved l i c b.opened →
     IsTurn c i s m n b b' → IsMove l c s i b b'
@@ -263,7 +264,7 @@ move_after l w d c s i k differs h = elim (cases_class d c) [
   | inr other ↦ move_class_other l w d c s i (stays_listed c s i w _ h) (λ e. other (sym e))
 ]
 
--- an exchange opens that is none of i's in the class
+-- an exchange opens, of another station or of another class
 move_opened_other : (l : ℕ) (c : Class) (s i : ℕ) (b b' : Books) (x : Exchange) → part_of l i c (core x) ≡ 0 →
     IsMove l c s i b b' → IsMove l c s i b (with_opened b' x)
 move_opened_other l c s i b b' x none h = record {
@@ -293,7 +294,7 @@ if_acc : (P : Account → Type 0) (o : Option Account) → is_some o ≡ true �
 if_acc P None is h = absurd (cc is)
 if_acc P (Some a) is h = h
 
--- the books after a pull: the pick's, with an exchange of the winner
+-- the books after a pull: those after the pick, with the winner's exchange
 pub pulled_by : (P : Books → Type 0) (o : Option ℕ) (v : World) (d : Class) → (o ≡ None → P (books v))
     → ((k : ℕ) (x : Exchange) → o ≡ Some k → x.station ≡ k → x.class ≡ d → P (with_opened (books v) x))
     → P (books (pull_outcome_for v d o).world)

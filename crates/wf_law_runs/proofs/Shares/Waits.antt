@@ -1,4 +1,5 @@
--- Nobody starves, and a station of the new list with airtime left is next.
+-- Proves the waiting law and the sparse law: no station starves, and a ready station on the new list with
+-- airtime left is next.
 use Rattle.std.proofs.Common.{◌≡◌, ap, subst, arith, ℕ, zero, suc, ◌+◌, ◌-◌, ◌*◌, ◌/◌, ◌%◌, ◌<◌, ◌≤◌, ℤ, pos, negsuc, ◌+ℤ◌, ◌≤ℤ◌, true, false, List, take, drop, map, Option, Some, None, is_some, IfSome, unwrap_or, option_map, inl, inr}
 use Rattle.std.proofs.lemmas.Int.{ints}
 use Rattle.std.proofs.lemmas.Bool.{cases_lt}
@@ -38,7 +39,7 @@ sparse_law config h m s v c new is above sent =
 
 -- ---- the waiting law
 
--- a number of whole parts is at most what is divided, rounded up
+-- a number of whole parts is at most the quotient, rounded up
 rounds_most : (n m u : ℕ) → 0 < u → u * n + 1 ≤ m + u → n ≤ rounds_up m u
 rounds_most n m u some h =
     let whole : (m + (u - 1)) / u * u + (m + (u - 1)) % u ≡ m + (u - 1) = div-add-mod' (m + (u - 1)) u in
@@ -64,7 +65,28 @@ quiet_number : (u n p k m : ℕ) (d : ℤ) → (pos (u * n) +ℤ d) ≤ℤ pos (
     pos (1 + k) ≤ℤ (d +ℤ pos m) → u * n + 1 ≤ m + u
 quiet_number u n p k m d h l b = omega (arith, ints)
 
--- what a station that was never charged for sending has left covers its open exchanges
+debtor_number : (u n p r k m debt : ℕ) (d : ℤ) → (pos (u * n) +ℤ d) ≤ℤ pos (p + r + u) → p ≤ k →
+    pos k ≤ℤ (d +ℤ pos (debt + m)) → u * n + 1 ≤ m + debt + 1 + r + u
+debtor_number u n p r k m debt d h l b = omega (arith, ints)
+
+-- apart from its open exchanges a station owes at most the setting `debt`
+debtor_stake : (config : Config) (w : World) (s : ℕ) (c : Class) → IsGround config w → is_live w s ≡ true →
+    pos (at_stake config s c (map core w.opened)) ≤ℤ
+    ((share w s c).deficit +ℤ pos (config.debt + most_owed config))
+debtor_stake config w s c g live =
+    subst (λ (z : Config). pos (at_stake z s c (map core w.opened)) ≤ℤ
+    ((share w s c).deficit +ℤ pos (z.debt + most_owed z))) g.same
+    (go (at None w.stations s) live (g.kept.goods s))
+  where
+    go : (o : Option Station) → is_some o ≡ true →
+        IfSome (option_map account o) (IsGood w.config (map core w.opened) s) →
+        pos (at_stake w.config s c (map core w.opened)) ≤ℤ
+        ((at no_share (unwrap_or o no_station).shares (class_number c)).deficit
+        +ℤ pos (w.config.debt + most_owed w.config))
+    go None is h = absurd (cc is)
+    go (Some x) is h = (h.bounds c).least
+
+-- if a station was never charged for sending, its deficit covers its open exchanges
 quiet_stake : (config : Config) (w : World) (s : ℕ) (c : Class) → IsGround config w → is_live w s ≡ true →
     (share w s c).received ≡ 0 →
     pos (1 + at_stake config s c (map core w.opened)) ≤ℤ ((share w s c).deficit +ℤ pos (most_owed config))
@@ -89,6 +111,12 @@ waiting_law config h range s i c a b order differs ready unsent live = record {
       (waited_number (quantum_then config h b s) (got_between config h s c a b)
       (charged_between config h s c a b) (received_between config h s c a b) (most_owed config)
       (deficit_then config h a s c) spent (omega (arith, used, stake)));
+  debtor = rounds_most (got_between config h s c a b) _ (quantum_then config h b s) some
+      (debtor_number (quantum_then config h b s) (got_between config h s c a b)
+      (charged_between config h s c a b) (received_between config h s c a b)
+      (at_stake config s c (map core (world_at config h a).opened)) (most_owed config) config.debt
+      (deficit_then config h a s c) spent used
+      (debtor_stake config (world_at config h a) s c start (at_s a (omega arith) order)));
   quiet = λ none.
       let no_more : received_between config h s c a b ≡ 0 = omega (arith, between.own_received, none) in
       let before : (share (world_at config h a) s c).received ≡ 0 =

@@ -1,6 +1,6 @@
--- Proves where the start of an open exchange's answer is. An exchange is answered only after a transmission
--- of it arrived, so the window of the answer's scoreboard contains one of its numbers, and this number is
--- on the air as long as the exchange is open.
+-- Proves the bounds on the start of an open exchange's answer. An exchange is answered only after one of its
+-- transmissions arrived, so the window of the answer's scoreboard contains one of its numbers, and this
+-- number is on the air as long as the exchange is open.
 use Rattle.std.proofs.Common.{◌≡◌, ◌≢◌, refl, ap, sym, ◌∙◌, subst, arith, ℕ, zero, suc, ◌+◌, ◌-◌, ◌<◌, ◌≤◌, nat_lt, nat_le, Bool, true, false, if◌then◌else◌, ◌==◌, ◌⊎◌, inl, inr, List, [], ◌∷◌, ◌++◌, length, map, Option, Some, None, IfSome, is_some}
 use Rattle.wf_frame.specs.declared.settings.Config.{Config}
 use Rattle.wf_frame.specs.declared.classes.Class.{Class}

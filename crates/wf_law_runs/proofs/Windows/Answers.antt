@@ -102,7 +102,7 @@ module _ (e : ℕ) (b : Score) (s t : ℕ) (c : Content) where
         (λ y _ g. g) h.stands);
   }
 
-  -- The exchange has no answer, so it is another one.
+  -- An exchange without an answer is another one.
   other_one : (x : Exchange) → AsThen x → is_some x.answer ≡ false → x.number ≢ e
   other_one x f none k = cc ((ap is_some (f k).answer), none)
 

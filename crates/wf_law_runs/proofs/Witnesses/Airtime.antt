@@ -2,6 +2,7 @@
 -- sixteen exchanges.
 use Rattle.std.proofs.Common.{◌≡◌, refl, ℕ, zero, suc, Bool, true, ◌&&◌, List, [], ◌∷◌, ◌++◌, None, map, replicate}
 use Rattle.wf_frame.specs.declared.settings.Config.{Config}
+use Rattle.wf_frame.specs.Settings.{standard}
 use Rattle.wf_frame.specs.declared.classes.Class.TheVariants.{Be}
 use Rattle.wf_frame.specs.declared.notes.Ask.TheVariants.{Join, Pull, Arrive, Answer, Done}
 use Rattle.wf_frame.specs.declared.notes.Note.{Note}
@@ -14,21 +15,7 @@ use Rattle.wf_law_runs.specs.Deficits.{got_between}
 use Rattle.wf_def_world.specs.Computed.{the_machine}
 
 abbrev config : Config
-config = record {
-  stations = 16;
-  flows = 1024;
-  limit = 8192;
-  room = 65536;
-  flow_quantum = 300;
-  quantum = 300;
-  inflight = 2;
-  attempts = 10;
-  agg = 1;
-  cap = 4000;
-  sleeping = 64;
-  calls = 1048576;
-  charge = 0;
-}
+config = record standard { agg = 1 }
 
 abbrev rounds : ℕ → ℕ → List Note
 rounds zero e = []

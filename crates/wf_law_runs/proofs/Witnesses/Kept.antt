@@ -3,6 +3,7 @@
 -- leaves, joins again and assigns the same number to another frame.
 use Rattle.std.proofs.Common.{◌≡◌, refl, true, false, List, [], ◌∷◌, ◌++◌, map, Some, None, option_map}
 use Rattle.wf_frame.specs.declared.settings.Config.{Config}
+use Rattle.wf_frame.specs.Settings.{standard}
 use Rattle.wf_frame.specs.declared.classes.Class.TheVariants.{Be}
 use Rattle.wf_frame.specs.declared.notes.Ask.TheVariants.{Join, Leave, Pull, Arrive, Answer, Done}
 use Rattle.wf_frame.specs.declared.notes.Note.TheVariants.{Enqueue, Asked}
@@ -13,21 +14,7 @@ use Rattle.wf_def_world.specs.Run.{Entry, by, world_after}
 use Rattle.wf_def_world.specs.Computed.{the_machine}
 
 abbrev config : Config
-config = record {
-  stations = 16;
-  flows = 1024;
-  limit = 8;
-  room = 8;
-  flow_quantum = 300;
-  quantum = 300;
-  inflight = 2;
-  attempts = 10;
-  agg = 1;
-  cap = 4000;
-  sleeping = 64;
-  calls = 1048576;
-  charge = 0;
-}
+config = record standard { limit = 8; room = 8; agg = 1 }
 
 abbrev until_kept : List Entry
 until_kept = map (by 0) (

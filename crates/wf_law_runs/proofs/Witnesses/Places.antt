@@ -3,6 +3,7 @@
 -- did not arrive. One call is refused for room, one frame is reaped, and one is dropped for the limit.
 use Rattle.std.proofs.Common.{◌≡◌, refl, pos, true, List, [], ◌∷◌, map, None}
 use Rattle.wf_frame.specs.declared.settings.Config.{Config}
+use Rattle.wf_frame.specs.Settings.{standard}
 use Rattle.wf_frame.specs.declared.classes.Cause.TheVariants.{Overlimit}
 use Rattle.wf_frame.specs.declared.classes.Class.TheVariants.{Be}
 use Rattle.wf_frame.specs.declared.classes.Fate.TheVariants.{Held, Acked, Dropped}
@@ -22,21 +23,7 @@ use Rattle.wf_law_runs.specs.Room.{in_windows, reaped_in}
 use Rattle.wf_law_runs.specs.Finished.{reaped_ids}
 
 abbrev config : Config
-config = record {
-  stations = 16;
-  flows = 1024;
-  limit = 3;
-  room = 6;
-  flow_quantum = 300;
-  quantum = 300;
-  inflight = 2;
-  attempts = 10;
-  agg = 2;
-  cap = 4000;
-  sleeping = 64;
-  calls = 1048576;
-  charge = 0;
-}
+config = record standard { limit = 3; room = 6; agg = 2 }
 
 abbrev first_part : List Entry
 first_part = map (by 0) (

@@ -2,6 +2,7 @@
 -- frame that is sent twice.
 use Rattle.std.proofs.Common.{◌≡◌, refl, true, List, [], ◌∷◌, map, None}
 use Rattle.wf_frame.specs.declared.settings.Config.{Config}
+use Rattle.wf_frame.specs.Settings.{standard}
 use Rattle.wf_frame.specs.declared.classes.Class.TheVariants.{Be}
 use Rattle.wf_frame.specs.declared.classes.Fate.TheVariants.{Acked}
 use Rattle.wf_frame.specs.declared.notes.Ask.TheVariants.{Join, Leave, Pull, Arrive, Answer, Done}
@@ -12,21 +13,7 @@ use Rattle.wf_def_world.specs.Computed.{the_machine}
 use Rattle.wf_law_runs.specs.Releases.{passed_from, passed, named_from}
 
 abbrev config : Config
-config = record {
-  stations = 16;
-  flows = 1024;
-  limit = 8192;
-  room = 65536;
-  flow_quantum = 300;
-  quantum = 300;
-  inflight = 2;
-  attempts = 10;
-  agg = 32;
-  cap = 4000;
-  sleeping = 64;
-  calls = 1048576;
-  charge = 0;
-}
+config = standard
 
 abbrev first_part : List Entry
 first_part = map (by 0) (

@@ -2,6 +2,7 @@
 -- is Idle.
 use Rattle.std.proofs.Common.{◌≡◌, refl, false, List, [], ◌∷◌, map, Some}
 use Rattle.wf_frame.specs.declared.settings.Config.{Config}
+use Rattle.wf_frame.specs.Settings.{standard}
 use Rattle.wf_frame.specs.declared.classes.Class.TheVariants.{Be}
 use Rattle.wf_frame.specs.declared.notes.Ask.TheVariants.{Join, Pull, Sleep}
 use Rattle.wf_frame.specs.declared.notes.Note.TheVariants.{Enqueue, Asked}
@@ -14,21 +15,7 @@ use Rattle.wf_def_world.specs.Run.{Entry, by, world_after}
 use Rattle.wf_def_world.specs.Computed.{the_machine}
 
 abbrev config : Config
-config = record {
-  stations = 16;
-  flows = 1024;
-  limit = 8192;
-  room = 65536;
-  flow_quantum = 300;
-  quantum = 300;
-  inflight = 2;
-  attempts = 10;
-  agg = 32;
-  cap = 4000;
-  sleeping = 64;
-  calls = 1048576;
-  charge = 0;
-}
+config = standard
 
 abbrev history : List Entry
 history = map (by 0) (

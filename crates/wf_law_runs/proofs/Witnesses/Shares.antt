@@ -1,5 +1,6 @@
--- Histories that attain the bounds of the share law, and what breaks the law in a wrong form. A Done that is
--- not heard keeps the frame waiting, so a station with one frame stays ready.
+-- Computes a history that attains the bounds of the share law. In it, smaller bounds fail, and so does the
+-- law for a station that leaves and joins again. A Done that is not heard keeps the frame waiting, so a
+-- station with one frame stays ready.
 use Rattle.std.proofs.Common.{◌≡◌, refl, ℕ, ◌+◌, ◌-◌, ◌*◌, pos, ◌+ℤ◌, ◌*ℤ◌, Bool, true, false, ◌&&◌, nat_le, List, [], ◌∷◌, Some, map}
 use Rattle.wf_frame.specs.declared.settings.Config.{Config}
 use Rattle.wf_frame.specs.declared.classes.Class.TheVariants.{Be}
@@ -91,7 +92,7 @@ charged_most : quantum_then config history 21 2 * (got_between config history 0 
 unfolding the_machine
 charged_most = refl
 
--- an overrun that is 1 smaller is refused
+-- the bound fails with an overrun that is 1 smaller
 charged_short : nat_le (charged_between config history 2 Be 15 21)
     (quantum_then config history 21 2 * (got_between config history 0 Be 15 21 + 1) + (most_owed config - 2))
     ≡ false
@@ -115,7 +116,7 @@ weighted_most : used_between config history 0 Be 15 21 * weight_at config histor
 unfolding the_machine
 weighted_most = refl
 
--- one quantum instead of two is refused
+-- the bound fails with one quantum instead of two
 weighted_short : nat_le 8199 (used_between config history 0 Be 15 21 * weight_at config history 21 2 +
     1 * config.quantum * weight_at config history 21 0 * weight_at config history 21 2 +
     weight_at config history 21 0 * overrun config) ≡ false

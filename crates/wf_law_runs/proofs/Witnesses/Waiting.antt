@@ -1,4 +1,5 @@
--- A history that attains the bound of the waiting law, and a station that the sparse law leaves out.
+-- Computes a history that attains the bound of the waiting law. In it, a station on the new list with a
+-- deficit of at most 0 is not next, so the sparse law needs its condition.
 use Rattle.std.proofs.Common.{◌≡◌, refl, ℕ, ◌-◌, pos, ◌-ℤ◌, Bool, true, false, ◌&&◌, nat_le, List, [], ◌∷◌, Some, map}
 use Rattle.wf_frame.specs.declared.settings.Config.{Config}
 use Rattle.wf_frame.specs.declared.classes.Class.TheVariants.{Be}
@@ -63,7 +64,7 @@ got_most : rounds_up (most_owed config) (quantum_then config history 15 0) ≡ 2
 unfolding the_machine
 got_most = refl
 
--- one exchange less in flight is refused
+-- the bound fails with one exchange less in flight
 got_short : nat_le (got_between config history 0 Be 9 15)
     (rounds_up (most_owed config - 4000) (quantum_then config history 15 0)) ≡ false
 unfolding the_machine

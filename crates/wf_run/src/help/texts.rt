@@ -71,7 +71,8 @@ A trace is a head, then calls, then the line end:
 
 Settings: stations=1..256 flows=1..4096 limit=1..65535 room=1..131072 flow_quantum=64..65535
 quantum=100..10000 inflight=1..8 attempts=1..64 agg=1..256 cap=3000..5400 sleeping=1..65535
-calls=1..4294967295 charge=0..65535
+calls=1..4294967295 charge=0..65535 debt=0..1000000 aql_total=0..262144 keep_order=0..1
+codel_reset=0..1
 
 Words are separated by spaces. A line that begins with #, after any spaces, is a comment and
 is skipped. A call line may begin with its caller, @0 to @65535. A number has 1 to 10 decimal
@@ -172,7 +173,8 @@ The last line on standard output is then: fault line N KIND. Lines count from 1,
 skipped ones. A fault at the end of the input is on the line after the last. If a line has
 several faults, the first of these kinds is reported:
 
-  too-big    the line does not end within the first 1099511627776 octets of the input
+  too-big    the line does not end within the first 1099511627776 octets of the input; until
+             then a line without an end is read, and not answered
   long-line  the line has more than 160 characters (comments too)
   not-ascii  an octet is not in 32..126 (comments too): a tab (9), a letter outside ASCII, or a
              carriage return (13), as at the ends of lines from Windows (use dos2unix)

@@ -15,6 +15,7 @@ use wf_gate::Turnstile;
 use wf_io::{Sink, Status};
 
 // Writes the trace and the summary of the record.
+#[inline(never)]
 fn tell<K: Sink>(cell: &Record, sink: &mut K) -> Status
     requires standard { cell.now.past.config ≡ standard }
     requires live { (seed senders frames : ℕ) × (senders ≤ 8) ×
@@ -33,6 +34,7 @@ fn tell<K: Sink>(cell: &Record, sink: &mut K) -> Status
 /// share one cell. Writes the trace of the resulting history, and its summary.
 ///
 /// `Status::NoMemory` means that memory ran out, and `Status::WriteFault` that the sink failed.
+#[inline(never)]
 pub fn lived<R: Threads + Wait + Sync, K: Sink, T: Turnstile + Sync>(
     rt: &R,
     alloc: Global,

@@ -16,6 +16,7 @@ use wf_cell::record::Record;
 use wf_gate::{Gate, Seat, Turnstile};
 
 // Returns the gate of a new record on which the opening calls were made, and all seats of the gate.
+#[inline(never)]
 fn open_gate(
     alloc: Global,
     senders: u32,

@@ -45,6 +45,7 @@ impl Opens for Opened {
 
 impl Opened {
     // Returns a record with the standard settings and no calls.
+    #[inline(never)]
     fn new(alloc: Global) -> Result<Opened, AllocError>
         ensures { IfOk result (λ o. o ≡ record { config = standard; history = [] }) }
     {

@@ -44,6 +44,7 @@ impl Model for SoakRun {
 /// Returns the cell after the soak of a seed and a number of calls, 1 to 1,000,000: the standard settings,
 /// sixteen stations, and rounds of enqueues, pulls, losses and reaps until that number of calls was made.
 /// Fails only if memory runs out.
+#[inline(never)]
 #[tactic(auto, unfolding(crate::specs::Soak::soak_history), using(crate::proofs::SoakLengths::soak_lengths))]
 pub fn soak(alloc: Global, seed: u64, calls: u32) -> Result<Cell, AllocError>
     requires { (1 ≤ calls) × (calls ≤ 1000000) }
@@ -60,6 +61,7 @@ pub fn soak(alloc: Global, seed: u64, calls: u32) -> Result<Cell, AllocError>
 }
 
 impl SoakRun {
+    #[inline(never)]
     fn new(alloc: Global, seed: u64, calls: u32) -> Result<SoakRun, AllocError>
         requires { calls ≤ 1000000 }
         ensures { IfOk result (λ k. k ≡ soak_begun seed calls) }

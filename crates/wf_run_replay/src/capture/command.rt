@@ -16,6 +16,7 @@ use wf_io::{Sink, Source, Status};
 /// each transmission of the exchange that the call begins, or for the BlockAck that answers an exchange. The
 /// time of a packet is the clock in microseconds. If the trace has a fault, the capture has the calls before
 /// it. Octets after the `end` line are ignored.
+#[inline(never)]
 pub fn capture<S: Source, K: Sink>(alloc: Global, source: &mut S, sink: &mut K) -> Status
     ensures ends { CommandEnds S.left S.faults K.held K.faults CaptureOutcome TraceAnswered
         source.old source.new sink.old sink.new result }

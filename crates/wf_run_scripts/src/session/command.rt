@@ -58,6 +58,7 @@ impl Answers for Parley {
 /// It writes the answer to each event before it reads the next one. After the line `end` it writes how many
 /// messages each end sent, and the agreement. If the script has a fault, it writes the fault line instead.
 /// Octets after the `end` line are ignored.
+#[inline(never)]
 pub fn session<S: Source, K: Sink>(alloc: Global, source: &mut S, sink: &mut K) -> Status
     ensures ends { CommandEnds S.left S.faults K.held K.faults SessionOutcome SessionAnswered
         source.old source.new sink.old sink.new result }

@@ -57,6 +57,7 @@ impl Answers for Reception {
 ///
 /// It allocates only before it reads. After that, `Status::NoMemory` means that the clock or a total has no
 /// room left below 2^62.
+#[inline(never)]
 pub fn uplink<S: Source, K: Sink>(alloc: Global, source: &mut S, sink: &mut K) -> Status
     ensures ends { CommandEnds S.left S.faults K.held K.faults UplinkOutcome UplinkAnswered
         source.old source.new sink.old sink.new result }

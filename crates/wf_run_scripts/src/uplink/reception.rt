@@ -47,6 +47,7 @@ impl Model for Reception {
 
 impl Reception {
     /// Returns an uplink without open stations, with the clock at 0. Fails only if memory runs out.
+    #[inline(never)]
     pub fn new(alloc: Global) -> Result<Reception, AllocError>
         ensures { IfOk result (λ r. r ≡ first) }
     {

@@ -1,5 +1,5 @@
 -- Proves the law `the_readers_agree` by the lemmas of Readers.
-use Rattle.wf_send_half_model.proofs.Readers.{live_same, queued_same, due_same, waiting_same, can_send_same, can_send_in_same, ready_same, asks_same, exchange_same, station_count_same, class_count_same, class_queued_same, any_tid_same, class_same}
+use Rattle.wf_send_half_model.proofs.Readers.{live_same, queued_same, due_same, waiting_same, can_send_same, can_send_in_same, ready_same, asks_same, exchange_same, station_count_same, class_count_same, airtime_same, ahead_same, class_queued_same, any_tid_same, class_same}
 use Rattle.wf_send_half_model.proofs.the_readers_agree.Goals as goal
 
 pub returns-clause-live : goal.returns-clause-live
@@ -34,6 +34,12 @@ returns-clause-of_station c = station_count_same
 
 pub returns-clause-of_class : goal.returns-clause-of_class
 returns-clause-of_class c = class_count_same
+
+pub returns-clause-airtime : goal.returns-clause-airtime
+returns-clause-airtime c = airtime_same
+
+pub returns-clause-ahead : goal.returns-clause-ahead
+returns-clause-ahead c = ahead_same
 
 pub returns-clause-class_queued : goal.returns-clause-class_queued
 returns-clause-class_queued c = class_queued_same

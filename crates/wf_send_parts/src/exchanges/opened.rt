@@ -2,6 +2,7 @@
 
 ghost use Rattle.std.specs.Prelude.{◌≡◌, ◌<◌, ◌≤◌, ◌==◌, ◌++◌, ◌∷◌, [], not, length, filter, find, count_by, map, option_map, position, IfOk, All};
 ghost use Rattle.wf_frame.specs.Classes.{same_class};
+ghost use Rattle.wf_def_lists.specs.Bounds.{greatest_air};
 ghost use Rattle.wf_def_lists.specs.Lists.{IsRising};
 
 use std::alloc::{AllocError, Global};
@@ -90,38 +91,42 @@ impl Open {
 #[derive(Drop)]
 pub struct Opened {
     list: Vec<Open>,
+    /// The sum of their charges, in microseconds.
+    airtime: u32,
 }
 
 impl Model for Opened {
     ghost use Rattle.std.specs.Prelude.{List, vec_capacity};
     ghost use Rattle.wf_send_parts.specs.declared.exchanges.opened.Open.{Open};
-    ghost use Rattle.wf_send_parts.specs.Exchanges.{exchange_number};
-    ghost use Rattle.wf_send_parts.specs.Kept.{AreKept};
+    ghost use Rattle.wf_send_parts.specs.Counted.{KnowsAirtime};
 
     ghost Value = { List Open };
 
     ghost view = { λ o. o.list.items };
 
-    ghost invariant = { λ o. AreKept exchange_number o.list.items (vec_capacity o.list) };
+    ghost invariant = { λ o. KnowsAirtime o.list.items (vec_capacity o.list) o.airtime };
 }
 
 impl Opened {
-    ghost use Rattle.wf_send_parts.specs.Exchanges.{exchange_number, asks};
+    ghost use Rattle.wf_send_parts.specs.Exchanges.{exchange_number, asks, airtime_of};
 
     /// Creates it with no open exchange. Fails only if memory runs out.
     pub fn new(alloc: Global) -> Result<Opened, AllocError>
         ensures { IfOk result (λ made. made ≡ []) }
     {
         let list = Vec::with_capacity(alloc, MOST_OPEN)?;
-        Ok(Opened { list })
+        Ok(Opened { list, airtime: 0 })
     }
 
-    /// Adds an open exchange. Fewer than 32 may be open before, all with lower numbers.
+    /// Adds an open exchange. Fewer than 32 may be open before, all with lower numbers. Its charge is at most
+    /// 65,535 microseconds.
     pub fn push(&mut self, exchange: Open)
         requires room { length self.old < MOST_OPEN }
         requires above { All (λ other. other.number < exchange.number) self.old }
+        requires small { exchange.charge ≤ greatest_air }
         ensures { self.new ≡ self.old ++ exchange ∷ [] }
     {
+        self.airtime += exchange.charge;
         self.list.push_reserved(exchange);
     }
 
@@ -138,7 +143,11 @@ impl Opened {
         ensures rest { self.new ≡ filter (λ x. not (x.number == number)) self.old }
     {
         match self.place_of(number) {
-            Some(place) => Some(self.list.remove(place)),
+            Some(place) => {
+                let exchange = self.list.remove(place);
+                self.airtime -= exchange.charge;
+                Some(exchange)
+            }
             None => None,
         }
     }
@@ -159,6 +168,13 @@ impl Opened {
         ensures rising { IsRising 0 (map exchange_number self.now) }
     {
         self.list.len() as u32
+    }
+
+    /// Returns the airtime in flight: the sum of the charges of the open exchanges, in microseconds.
+    pub fn airtime(&self) -> u32
+        ensures { result ≡ airtime_of self.now }
+    {
+        self.airtime
     }
 
     /// Returns how many exchanges to this station are open.

@@ -45,6 +45,7 @@ kinds_are (Refused (refusal.Room inside)) pairs ids = refl
 kinds_are (Refused (refusal.Sleeping queued)) pairs ids = refl
 kinds_are (Refused (refusal.Full count)) pairs ids = refl
 kinds_are (Refused (refusal.Debt deficit)) pairs ids = refl
+kinds_are (Refused (refusal.Ahead owed)) pairs ids = refl
 kinds_are (Refused _) pairs ids = refl
 
 fates_are : (f : Fate) → word_at fate_word_at (pos (fate_number f)) ≡ fate_word f

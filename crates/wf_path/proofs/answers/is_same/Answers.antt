@@ -1,3 +1,4 @@
+-- Proves what `is_same` promises: all pairs of octets are equal exactly if the two addresses are.
 use Rattle.std.proofs.Common.{rules, tests}
 use Rattle.std.specs.Bool.{one_answer}
 use Rattle.std.specs.Str.{bytes_eq}

@@ -1,3 +1,5 @@
+-- Proves what `read_block_ack` promises: the half's exchange is the world's, so the check that fails first is
+-- the same. By cases: the exchange is not open, or the BlockAck is read for its session.
 use Rattle.std.proofs.Common.{ap, ◌∙◌, nat_lt}
 use Rattle.wf_send_parts.specs.Window.{WindowValue}
 use Rattle.wf_send_half.proofs.Dones.{open_low}

@@ -1,3 +1,5 @@
+-- Proves what `frame_of` promises: a number in flight has its frame in the window of its TID, and this frame
+-- is the transmission's.
 use Rattle.std.proofs.Common.{◌≡◌, sym, ap, ◌∙◌, subst, true}
 use Rattle.wf_send_parts.specs.Window.{WindowValue, WindowStandsFor, state_at, holds_parcel}
 use Rattle.wf_def_world.specs.World.{session}

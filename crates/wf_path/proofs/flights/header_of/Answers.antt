@@ -1,3 +1,4 @@
+-- Proves what `header_of` promises: each field comes from a part of the half that agrees with the world.
 use Rattle.std.proofs.Common.{◌≡◌, refl, sym, ap, ◌∙◌, subst, true, nat_lt, arith}
 use Rattle.wf_frame.specs.Frames.{FrameValue}
 use Rattle.wf_send_parts.specs.declared.exchanges.opened.Open.{Open}

@@ -1,3 +1,5 @@
+-- Proves what `frame_id` promises. By cases: the exchange is not open, it has no number at the index, or the
+-- number's frame is the world's and has its id.
 use Rattle.std.proofs.Common.{◌∙◌, sym}
 use Rattle.wf_path.proofs.Flying.{some_flies, id_is, no_exchange, no_number}
 use Rattle.wf_path.proofs.reading.frame_id.Goals as goal

@@ -1,3 +1,5 @@
+-- Proves what `frame_tag` promises. By cases: the exchange is not open, it has no number at the index, or the
+-- number's frame is the world's and has its tag.
 use Rattle.std.proofs.Common.{◌∙◌, sym}
 use Rattle.wf_path.proofs.Flying.{some_flies, tag_is, no_tag, no_tagged}
 use Rattle.wf_path.proofs.reading.frame_tag.Goals as goal

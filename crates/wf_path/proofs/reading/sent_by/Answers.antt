@@ -1,3 +1,4 @@
+-- Proves what `sent_by` promises. By cases: the exchange is not open, or it agrees with the world's exchange.
 use Rattle.std.proofs.Common.{◌∙◌}
 use Rattle.wf_path.proofs.Opened.{none_sent, some_sent}
 use Rattle.wf_path.proofs.reading.sent_by.Goals as goal

@@ -1,3 +1,5 @@
+-- Proves what `present_in` promises: each step sets the entry of one more station, by the
+-- lemmas of Identifiers.
 use Rattle.std.proofs.Common.{ap, arith}
 use Rattle.wf_frame.specs.declared.settings.Config.{Config}
 use Rattle.wf_path.specs.Traffic.{has_traffic_of}

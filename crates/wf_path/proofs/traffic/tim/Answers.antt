@@ -1,3 +1,5 @@
+-- Proves what `tim` promises: the identifiers that are present are those of the world's sleeping stations
+-- with traffic, so the element that is written is the world's.
 use Rattle.std.proofs.Common.{◌≡◌, ap, ◌∙◌, arith, List, ℕ, length}
 use Rattle.wf_frame.specs.declared.settings.Config.{Config}
 use Rattle.wf_def_tim.specs.Tim.{tim_element}

@@ -1,3 +1,5 @@
+-- Proves what `write_header` promises. By cases: the exchange is not open, it has no data at the index, or
+-- the header of its transmission is written.
 use Rattle.std.proofs.Common.{◌≡◌, sym, ap, ◌∙◌}
 use Rattle.wf_octets.specs.HeaderLayout.{size_of, header_as_octets}
 use Rattle.wf_path.proofs.Flying.{some_flies, header_is, header_there, no_header, no_data}

@@ -1,3 +1,5 @@
+-- Proves what `write_transmission` promises. By cases: the exchange is not open, it has no such transmission,
+-- or the octets of its data or of its request are written.
 use Rattle.std.proofs.Common.{◌≡◌, ℕ, sym, ap, ◌∙◌, arith, ◌++◌, [], Some, length, take}
 use Rattle.std.specs.Prelude.{slice_get}
 use Rattle.wf_path.specs.Addresses.{address_in}

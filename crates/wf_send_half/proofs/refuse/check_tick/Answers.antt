@@ -1,3 +1,4 @@
+-- Proves what `check_tick` promises: its test is the only row of the world's refusals of a Tick.
 use Rattle.std.proofs.Common.{◌∙◌, refl}
 use Rattle.wf_send_half.proofs.Rows.{last_row}
 use Rattle.wf_send_half.proofs.refuse.check_tick.Goals as goal

@@ -1,3 +1,4 @@
+-- Proves that `rate_of` refuses exactly the numbers of which no rate exists. By cases of `made_rate`.
 use Rattle.std.proofs.Common.{sym, ap, not, Bool, if◌then◌else◌, Some, None}
 use Rattle.wf_frame.specs.declared.notes.Refusal.TheVariants.{BadRate}
 use Rattle.wf_send_half.proofs.refuse.rate_of.Goals as goal

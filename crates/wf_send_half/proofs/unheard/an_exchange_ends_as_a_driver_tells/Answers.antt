@@ -1,3 +1,4 @@
+-- Proves the law `an_exchange_ends_as_a_driver_tells` by the lemmas of Driven.
 use Rattle.wf_send_half.proofs.Driven.{meets_unheard, ready_after_done, ready_as_before}
 use Rattle.wf_send_half.proofs.unheard.an_exchange_ends_as_a_driver_tells.Goals as goal
 

@@ -1,3 +1,5 @@
+-- Proves what `AddressBook::new` promises: the loop adds the placeholder address of each of the 256
+-- station numbers.
 use Rattle.std.proofs.Common.{◌≡◌, arith, ◌∙◌, sym, ap, ap₂, ℕ, List, ◌++◌, ◌∷◌, [], map, length}
 use Rattle.std.specs.List.{range_with_len}
 use Rattle.std.proofs.lemmas.List.FromFn.{map-range_with_len_more, length-map-range_with_len}

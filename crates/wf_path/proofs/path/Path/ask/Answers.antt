@@ -1,3 +1,4 @@
+-- Proves what `Path::ask` promises. By cases of the call, from the promise of its function.
 use Rattle.std.proofs.Common.{sym, subst}
 use Rattle.wf_frame.specs.declared.notes.Ask.{Ask}
 use Rattle.wf_path.specs.Paths.{IsAnsweredBriefly}

@@ -1,3 +1,5 @@
+-- Proves what `Path::call` promises from the clauses of the half's calls. By cases of the job: a frame, a
+-- Pull, a Reap, or a call whose answer has no lists.
 use Rattle.std.proofs.Common.{◌≡◌, ◌∙◌, sym, subst, rules}
 use Rattle.wf_path.specs.declared.job.Job.TheVariants.{Give, Call}
 use Rattle.wf_frame.specs.declared.notes.Ask.TheVariants.{Pull, Reap}
@@ -37,7 +39,8 @@ returns-in-Call-Pull c =
     c.pull-answer.result c.pull-answer.new.pairs
     c.pull-answer.new.self c.pull-answer.ensures.meets c.pull-answer.ensures.unheard
     c.self-in-Call-Pull.inside.addresses c.args.self.now
-    c.self-in-Call-Pull.view_is (λ e. (c.pull-answer.ensures.full e).1) in
+    c.self-in-Call-Pull.view_is (λ e. (c.pull-answer.ensures.full e).1)
+    (λ few e. (c.pull-answer.ensures.ahead few e).1) in
     record {
       meets = λ w bodies h. asked_meets c.args.self.now.half c.pull-answer.new.self c.args.job
           (Pull c.in-Call-Pull.class) is c.pull-answer.result c.pull-answer.new.pairs c.args.answer.now.ids

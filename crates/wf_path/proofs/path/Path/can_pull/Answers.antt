@@ -1,3 +1,5 @@
+-- Proves what `Path::can_pull` promises from the clause of `Transmit::can_pull`, since the path represents
+-- the worlds that its half represents.
 use Rattle.std.proofs.Common.{sym, subst}
 use Rattle.wf_send_half_model.specs.Half.{TransmitValue}
 use Rattle.wf_send_half_model.specs.Standing.{StandsFor}

@@ -1,3 +1,4 @@
+-- Proves what `Path::done_bits` promises from the clauses of `Transmit::done`. By cases of its result.
 use Rattle.std.proofs.Common.{◌≡◌, sym, ◌∙◌, subst, ℕ, ◌==◌, ap, is_none}
 use Rattle.std.specs.Prelude.{find, IfSome, Ok, Err}
 use Rattle.wf_frame.specs.Answers.{reply_with}

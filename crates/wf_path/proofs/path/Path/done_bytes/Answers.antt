@@ -1,3 +1,4 @@
+-- Proves that `Path::done_bytes` raises no count if it returns a fault, since the path is then unchanged.
 use Rattle.wf_path.proofs.Rises.{no_rise}
 use Rattle.wf_path.proofs.path.Path.done_bytes.Goals as goal
 

@@ -1,3 +1,4 @@
+-- Proves that the counts are small if `Path::has_small_counts` returns true, from its four tests.
 use Rattle.std.proofs.Common.{rules}
 use Rattle.wf_path.proofs.SmallSums.{small_counts}
 use Rattle.wf_path.proofs.path.Path.has_small_counts.Goals as goal

@@ -1,3 +1,5 @@
+-- Proves what `Path::has_small_sums` promises: the loop tests the stations 0 to 255, and no other station
+-- is live.
 use Rattle.std.proofs.Common.{arith, subst}
 use Rattle.wf_path.specs.Paths.{IsPath}
 use Rattle.wf_path.proofs.SmallSums.{all_small, one_more}

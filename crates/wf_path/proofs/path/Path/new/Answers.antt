@@ -1,3 +1,4 @@
+-- Proves that all counts of a new path are below 1, and so below 2^62.
 use Rattle.std.proofs.Common.{lit<, ◌^◌}
 use Rattle.wf_path.proofs.Openings.{new_below}
 use Rattle.wf_path.proofs.path.Path.new.Goals as goal

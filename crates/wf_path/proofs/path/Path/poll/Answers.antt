@@ -1,3 +1,4 @@
+-- Proves what `Path::poll` promises from the clauses of `Transmit::poll`. By cases of its result.
 use Rattle.std.proofs.Common.{refl, ap}
 use Rattle.wf_frame.specs.Answers.{reply_with}
 use Rattle.wf_frame.specs.declared.answers.Brief.{Brief}

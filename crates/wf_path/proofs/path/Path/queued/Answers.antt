@@ -1,3 +1,5 @@
+-- Proves what `Path::queued` promises: the number of a live station is within the settings, and the queues of
+-- its TID are the world's.
 use Rattle.std.proofs.Common.{sym, subst, ◌∙◌}
 use Rattle.wf_send_half.specs.Half.{IsLive}
 use Rattle.wf_send_half_model.specs.Half.{TransmitValue}

@@ -1,3 +1,5 @@
+-- Proves what `Path::rx` promises from the clauses of `Transmit::rx`. By cases of its result; the deficit
+-- fits in 64 bits, so the answer has it unchanged.
 use Rattle.std.proofs.Common.{◌≡◌, ◌∙◌, refl, ap, arith}
 use Rattle.std.proofs.lemmas.Int.{ints}
 use mir.Val.{to_z, of_z}

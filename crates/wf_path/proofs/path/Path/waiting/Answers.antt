@@ -1,3 +1,5 @@
+-- Proves what `Path::waiting` promises: the number of a live station is within the settings, and the
+-- window of its TID represents the world's session.
 use Rattle.std.proofs.Common.{sym, subst}
 use Rattle.wf_def_world.specs.World.{session}
 use Rattle.wf_send_parts.specs.Window.{WindowValue, WindowStandsFor}

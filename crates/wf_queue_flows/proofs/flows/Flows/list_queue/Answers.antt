@@ -4,12 +4,13 @@ use Rattle.wf_queue_flows.proofs.flows.Flows.list_queue.Goals as goal
 
 pub invariant_of-self : goal.invariant_of-self
 invariant_of-self c = list_keeps _ _ _ c.self.view_is c.self.invariant c.args.list c.args.q
-    c.add_fresh.new.self c.requires.list c.requires.queue c.requires.own c.in-None.ensures.none
-    c.add_fresh.ensures
+    c.add_fresh.new.self c.start_listed.new.self c.requires.list c.requires.queue c.requires.own
+    c.in-None.ensures.none c.add_fresh.ensures c.start_listed.ensures.frames c.start_listed.ensures.room
 
 pub returns-in-None-clause-listed : goal.returns-in-None-clause-listed
 returns-in-None-clause-listed c = list_is _ _ _ c.self.view_is c.self.invariant c.args.list c.args.q
-    c.add_fresh.new.self c.requires.queue c.in-None.ensures.none c.add_fresh.ensures
+    c.add_fresh.new.self c.start_listed.new.self c.requires.queue c.in-None.ensures.none
+    c.add_fresh.ensures c.start_listed.ensures.state
 
 pub returns-in-None-clause-stands : goal.returns-in-None-clause-stands
 returns-in-None-clause-stands c = list_stands _ _ _ c.self.view_is c.self.invariant c.args.list c.args.q _

@@ -38,6 +38,8 @@ before c = record {
   stations = c.self.inside.stations;
   limit = c.self.inside.limit;
   flow_quantum = c.self.inside.flow_quantum;
+  keep_order = c.self.inside.keep_order;
+  codel_reset = c.self.inside.codel_reset;
   backlog = c.self.inside.waiting;
   rotas = c.self.inside.rota;
 }

@@ -1,3 +1,5 @@
+-- Proves that `Ready::set_all` may take each of its four steps: a flag set in one class leaves room for the
+-- station's flag in the next.
 use Rattle.wf_frame.specs.declared.classes.Class.TheVariants.{Bk, Be, Vi, Vo}
 use Rattle.wf_send_half.proofs.FlagSteps.{room_after}
 use Rattle.wf_send_half.proofs.flags.Ready.set_all.Goals as goal

@@ -1,3 +1,5 @@
+-- Proves what `Half::accept` promises from the clauses of its steps: the frame is put in a queue and counted,
+-- and its station is listed.
 use Rattle.std.proofs.Common.{◌≡◌, ◌<◌, ◌∙◌, ℕ, true, Some, sym, ap, ap₂, subst}
 use Rattle.std.specs.Prelude.{IfSome, option_map}
 use Rattle.wf_queue_flows.specs.Flows.{loses_next}

@@ -1,3 +1,6 @@
+-- Proves what `Half::add_fresh` promises: each step adds the frame that the world's aggregate adds next.
+-- By cases of what ends the loop: a full aggregate, a full window, no queued frame, or a frame that does
+-- not fit.
 use Rattle.std.proofs.Common.{refl, ap, sym, ◌∙◌, arith, ℕ, ◌∷◌, [], length, length-append, Option, option_map}
 use Rattle.wf_frame.specs.Frames.{FrameValue}
 use Rattle.wf_def_air.specs.Airtime.{Rate}

@@ -1,3 +1,5 @@
+-- Invariants of the loop of `Half::add_fresh`: the aggregate so far continues to the same final aggregate.
+-- The loop ends since an aggregate has at most 256 numbers.
 use Rattle.std.proofs.Common.{◌≡◌, ℕ, ◌-◌, length}
 use Rattle.wf_frame.specs.Frames.{FrameValue}
 use Rattle.wf_def_world.specs.Exchanges.{Aggregate}

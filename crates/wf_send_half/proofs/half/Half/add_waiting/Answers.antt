@@ -1,3 +1,5 @@
+-- Proves what `Half::add_waiting` promises: each step adds the waiting number that the world's aggregate adds
+-- next. By cases of what ends the loop: a number that does not fit, or no waiting number is left.
 use Rattle.std.proofs.Common.{refl, ap, sym, ◌∙◌, subst, arith, ℕ, ◌≤◌, [], ◌∷◌, length, length-append, Some, None}
 use Rattle.wf_send_parts.specs.Window.{WindowValue}
 use Rattle.wf_send_half_model.specs.Half.{TransmitValue}

@@ -1,3 +1,5 @@
+-- Invariants of the loop of `Half::add_waiting`: the numbers so far are those that the world's aggregate
+-- takes below `from`. The loop ends since an aggregate has at most 256 numbers.
 use Rattle.std.proofs.Common.{◌≡◌, ℕ, ◌-◌, length}
 use Rattle.wf_frame.specs.Frames.{FrameValue}
 use Rattle.wf_def_world.specs.World.{World}

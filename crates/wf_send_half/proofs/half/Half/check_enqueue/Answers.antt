@@ -1,3 +1,5 @@
+-- Proves what `Half::check_enqueue` promises: each test is one row of the world's refusals of an Enqueue. By
+-- cases of the first test that fails.
 use Rattle.std.proofs.Common.{◌∙◌, refl, ap, sym, subst, ℕ, Bool, false, ◌&&◌, None}
 use Rattle.std.specs.Prelude.{nat_le}
 use Rattle.std.proofs.lemmas.Result.{err_from_is_err_and}

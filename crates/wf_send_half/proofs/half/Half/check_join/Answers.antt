@@ -1,3 +1,5 @@
+-- Proves what `Half::check_join` promises: each test is one row of the world's refusals of a Join. By
+-- cases of the first test that fails.
 use Rattle.std.proofs.Common.{◌∙◌, refl, sym, ap, not, ℕ, is_some}
 use Rattle.std.proofs.lemmas.Result.{err_from_is_err_and}
 use Rattle.wf_def_lists.specs.Bounds.{greatest_window, greatest_weight}

@@ -1,3 +1,5 @@
+-- Proves what `Half::check_leave` promises: the tests are the world's, for the station's number, whether it
+-- is live, and its open exchanges. By cases of the first test that fails.
 use Rattle.std.proofs.Common.{◌∙◌, refl, sym, ap, ℕ, nat_lt, ◌==◌, Some, None, if◌then◌else◌}
 use Rattle.std.specs.Prelude.{count_by}
 use Rattle.std.proofs.lemmas.Result.{err_from_is_err_and}

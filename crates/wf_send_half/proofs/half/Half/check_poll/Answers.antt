@@ -1,3 +1,5 @@
+-- Proves what `Half::check_poll` promises: a Poll is refused as a Wake is, then for an unspent credit, then
+-- if the station can send in no class.
 use Rattle.std.proofs.Common.{◌∙◌, sym, ap, not, is_some}
 use Rattle.std.proofs.lemmas.Result.{err_from_is_err_and}
 use Rattle.wf_frame.specs.declared.notes.Note.TheVariants.{Asked}

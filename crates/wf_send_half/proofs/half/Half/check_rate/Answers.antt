@@ -1,3 +1,5 @@
+-- Proves what `Half::check_rate` promises: the tests are the world's, for the station's number, the rate, and
+-- whether the station is live. By cases of the first test that fails.
 use Rattle.std.proofs.Common.{◌∙◌, refl, sym}
 use Rattle.std.proofs.lemmas.Result.{err_from_is_err_and}
 use Rattle.wf_send_half.proofs.Rows.{row_refuses, row_passes, out_of_range, in_range, not_there, there, no_row_left}

@@ -1,3 +1,5 @@
+-- Proves what `Half::check_rx` promises: the tests are the world's rows except the last, the debt, so a call
+-- that passes them is refused exactly for its debt.
 use Rattle.std.proofs.Common.{◌∙◌, sym, ap, not}
 use Rattle.std.proofs.lemmas.Result.{err_from_is_err_and}
 use Rattle.wf_send_half.proofs.Rows.{row_refuses, out_of_range, in_range, receipt_fails, receipt_passes}

@@ -1,3 +1,5 @@
+-- Proves what `Half::done` promises: to take the exchange out, charge its station and settle its numbers is
+-- the world's Done. By cases: a bad airtime, no such exchange, and then which numbers the BlockAck shows.
 use Rattle.std.proofs.Common.{◌≡◌, refl, sym, ap, ◌∙◌, subst, arith, Option, Some, true, false, List, ℕ, ◌==◌, is_none}
 use Rattle.std.specs.Prelude.{find, IfSome}
 use Rattle.wf_frame.specs.declared.settings.Config.{Config}
@@ -8,15 +10,13 @@ use Rattle.wf_frame.specs.declared.notes.ReplyNote.TheVariants.{Refused}
 use Rattle.wf_def_world.specs.World.{Exchange}
 use Rattle.wf_send_parts.specs.declared.exchanges.opened.Open.{Open}
 use Rattle.wf_send_half_model.specs.Half.{TransmitValue}
-use Rattle.wf_send_half_model.specs.Standing.{StandsFor}
 use Rattle.wf_law_driver.proofs.Ended.{may_end_lost, may_end_heard}
 use Rattle.wf_send_half.specs.Bits.{IsChargeSmall, end_refusal, GoesBy, count_shown_of}
 use Rattle.wf_send_half.specs.Half.{HasWorld}
 use Rattle.wf_send_half.proofs.CallSteps.{view_of}
 use Rattle.wf_send_half.proofs.Worlds.{met_by}
-use Rattle.wf_send_half.proofs.Dones.{IsKnown, known_of, refused_done, ends_unknown, ends_well, bad_of, fine_then, bad_meets_lost, bad_meets_heard, at_charge, within_turns, within_members, charge_low, charge_small, closes, closed_now, unopened, where_none, where_some, within_config, open_low, goes_lost, goes_shown, goes_unshown, done_whole}
+use Rattle.wf_send_half.proofs.Dones.{refused_done, ends_unknown, ends_well, bad_of, fine_then, bad_meets_lost, bad_meets_heard, within_turns, within_members, charge_low, charge_small, closes, closed_now, unopened, where_none, where_some, within_config, open_low, goes_lost, goes_shown, goes_unshown, done_met}
 use Rattle.wf_send_half.proofs.half.Half.done.Goals as goal
-use Rattle.wf_frame.specs.Settings.{is_bad_air}
 
 pub returns-then-has_bad_air-clause-lost : goal.returns-then-has_bad_air-clause-lost
 returns-then-has_bad_air-clause-lost c =
@@ -102,9 +102,7 @@ settle-ended-requires c = record {
   some = closed_now (view_of c.self.inside) (subst HasWorld (sym c.self.view_is) c.requires.some)
       c.args.exchange c.in-Some.open c.in-Some.ensures.taken c.args.air _
       (closes (view_of c.self.inside) (subst HasWorld (sym c.self.view_is) c.requires.some) c.args.exchange
-      c.in-Some.open c.in-Some.ensures.taken c.args.air c.unwrap_or-charge.result c.take_out.new.self
-      c.charge.new.self
-      c.charge-2.new.self c.unwrap_or-charge.ensures
+      c.in-Some.open c.in-Some.ensures.taken c.args.air c.unwrap_or-charge.ensures
       c.in-Some.ensures.rest c.charge.ensures c.charge-2.ensures);
 }
 
@@ -125,96 +123,44 @@ list_in-is_ready-requires c = record {
 }
 
 pub returns-clause-lost : goal.returns-clause-lost
-returns-clause-lost c = where_none _ c.args.heard (λ none w bodies h.
-    let at : StandsFor (view_of c.self.inside) w bodies =
-    (subst (λ (z : TransmitValue). StandsFor z w bodies) (sym c.self.view_is) h) in
-    let k : IsKnown w c.args.exchange c.in-Some.open =
-    known_of (view_of c.self.inside) w bodies at c.args.exchange c.in-Some.open c.in-Some.ensures.taken in
-    let shut = closes (view_of c.self.inside) (subst HasWorld (sym c.self.view_is) c.requires.some)
-    c.args.exchange c.in-Some.open c.in-Some.ensures.taken c.args.air c.unwrap_or-charge.result
-    c.take_out.new.self
-    c.charge.new.self c.charge-2.new.self c.unwrap_or-charge.ensures c.in-Some.ensures.rest c.charge.ensures
-    c.charge-2.ensures in
-    let y : Exchange = k.exchange_is in
-    let closed = at_charge (view_of c.self.inside) _ c.in-Some.open y c.args.air k.same shut in
-    let fine = ap (λ (z : Config). is_bad_air z c.args.air) (sym at.parts.others.config) ∙
+returns-clause-lost c = where_none _ c.args.heard (λ none w bodies h. done_met c.self.view_is
+    c.in-Some.ensures.taken
     (fine_then c.args.self.now (view_of c.self.inside) c.args.exchange c.args.air c.in-Some.open
-    c.has_bad_air.result c.self.view_is c.has_bad_air.ensures c.if-has_bad_air.false
-    c.in-Some.ensures.taken) in
-    let goes : GoesBy w y c.args.heard false = subst (λ (o : Option (ℕ × List ℕ)). GoesBy w y o false)
-    (sym none) (goes_lost w y) in
-    done_whole (view_of c.self.inside) w bodies at c.args.exchange y k.known c.in-Some.open k.same false
-    c.args.air
-    (may_end_lost w c.args.exchange y c.args.air k.known fine) c.settle-ended.new.self
-    c.list_in-is_ready.new.self c.settle-ended.result
-    (c.settle-ended.ensures.settled
-    (view_of c.self.inside) w bodies c.args.exchange y false c.args.air at k.known
-    k.same
-    closed goes) (c.settle-ended.ensures.reply
-    (view_of c.self.inside) w bodies c.args.exchange y false c.args.air at k.known k.same closed goes)
-    c.of_tid-class.result c.of_tid-class.ensures c.list_in-is_ready.ensures.listed)
+    c.has_bad_air.result c.self.view_is c.has_bad_air.ensures c.if-has_bad_air.false c.in-Some.ensures.taken)
+    (closes (view_of c.self.inside) (subst HasWorld (sym c.self.view_is) c.requires.some) c.args.exchange
+    c.in-Some.open c.in-Some.ensures.taken c.args.air c.unwrap_or-charge.ensures c.in-Some.ensures.rest
+    c.charge.ensures c.charge-2.ensures) c.settle-ended.ensures.settled c.settle-ended.ensures.reply
+    c.of_tid-class.ensures c.list_in-is_ready.ensures.listed h false
+    (λ k there. subst (λ (o : Option (ℕ × List ℕ)). GoesBy w k o false) (sym none) (goes_lost w k))
+    (λ k there fine. may_end_lost w c.args.exchange k c.args.air there fine))
 
 pub returns-clause-shown : goal.returns-clause-shown
 returns-clause-shown c = where_some _ c.args.heard (λ score is w bodies x b h known kept shown.
-    let at : StandsFor (view_of c.self.inside) w bodies =
-    (subst (λ (z : TransmitValue). StandsFor z w bodies) (sym c.self.view_is) h) in
-    let k : IsKnown w c.args.exchange c.in-Some.open =
-    known_of (view_of c.self.inside) w bodies at c.args.exchange c.in-Some.open c.in-Some.ensures.taken in
-    let shut = closes (view_of c.self.inside) (subst HasWorld (sym c.self.view_is) c.requires.some)
-    c.args.exchange c.in-Some.open c.in-Some.ensures.taken c.args.air c.unwrap_or-charge.result
-    c.take_out.new.self
-    c.charge.new.self c.charge-2.new.self c.unwrap_or-charge.ensures c.in-Some.ensures.rest c.charge.ensures
-    c.charge-2.ensures in
-    let y : Exchange = k.exchange_is in
-    let closed = at_charge (view_of c.self.inside) _ c.in-Some.open y c.args.air k.same shut in
-    let it : x ≡ y = cc (known, k.known) in
-    let fine = ap (λ (z : Config). is_bad_air z c.args.air) (sym at.parts.others.config) ∙
+    done_met c.self.view_is c.in-Some.ensures.taken
     (fine_then c.args.self.now (view_of c.self.inside) c.args.exchange c.args.air c.in-Some.open
-    c.has_bad_air.result c.self.view_is c.has_bad_air.ensures c.if-has_bad_air.false
-    c.in-Some.ensures.taken) in
-    let goes : GoesBy w y c.args.heard true = subst (λ (o : Option (ℕ × List ℕ)). GoesBy w y o true) (sym is)
-    (subst (λ (z : Exchange). GoesBy w z (Some score) true) it (goes_shown w x b score kept shown)) in
-    done_whole (view_of c.self.inside) w bodies at c.args.exchange y k.known c.in-Some.open k.same true
-    c.args.air
-    (may_end_heard w c.args.exchange y b c.args.air k.known
-    (ap (λ (z : Exchange). z.answer) (sym it) ∙ kept) fine)
-    c.settle-ended.new.self c.list_in-is_ready.new.self c.settle-ended.result
-    (c.settle-ended.ensures.settled
-    (view_of c.self.inside) w bodies c.args.exchange y true c.args.air at k.known k.same
-    closed goes) (c.settle-ended.ensures.reply
-    (view_of c.self.inside) w bodies c.args.exchange y true c.args.air at k.known k.same closed goes)
-    c.of_tid-class.result c.of_tid-class.ensures c.list_in-is_ready.ensures.listed)
+    c.has_bad_air.result c.self.view_is c.has_bad_air.ensures c.if-has_bad_air.false c.in-Some.ensures.taken)
+    (closes (view_of c.self.inside) (subst HasWorld (sym c.self.view_is) c.requires.some) c.args.exchange
+    c.in-Some.open c.in-Some.ensures.taken c.args.air c.unwrap_or-charge.ensures c.in-Some.ensures.rest
+    c.charge.ensures c.charge-2.ensures) c.settle-ended.ensures.settled c.settle-ended.ensures.reply
+    c.of_tid-class.ensures c.list_in-is_ready.ensures.listed h true
+    (λ k there. subst (λ (o : Option (ℕ × List ℕ)). GoesBy w k o true) (sym is)
+    (subst (λ (z : Exchange). GoesBy w z (Some score) true) (let it : x ≡ k = cc (known, there) in it)
+    (goes_shown w x b score kept shown)))
+    (λ k there fine. may_end_heard w c.args.exchange k b c.args.air there
+    (ap (λ (z : Exchange). z.answer) (let it : k ≡ x = cc (known, there) in it) ∙ kept) fine))
 
 pub returns-clause-none_shown : goal.returns-clause-none_shown
 returns-clause-none_shown c w bodies x h known data_is none =
-    let at : StandsFor (view_of c.self.inside) w bodies =
-    (subst (λ (z : TransmitValue). StandsFor z w bodies) (sym c.self.view_is) h) in
-    let k : IsKnown w c.args.exchange c.in-Some.open =
-    known_of (view_of c.self.inside) w bodies at c.args.exchange c.in-Some.open c.in-Some.ensures.taken in
-    let shut = closes (view_of c.self.inside) (subst HasWorld (sym c.self.view_is) c.requires.some)
-    c.args.exchange c.in-Some.open c.in-Some.ensures.taken c.args.air c.unwrap_or-charge.result
-    c.take_out.new.self
-    c.charge.new.self c.charge-2.new.self c.unwrap_or-charge.ensures c.in-Some.ensures.rest c.charge.ensures
-    c.charge-2.ensures in
-    let y : Exchange = k.exchange_is in
-    let closed = at_charge (view_of c.self.inside) _ c.in-Some.open y c.args.air k.same shut in
-    let it : x ≡ y = cc (known, k.known) in
-    let fine = ap (λ (z : Config). is_bad_air z c.args.air) (sym at.parts.others.config) ∙
+    done_met c.self.view_is c.in-Some.ensures.taken
     (fine_then c.args.self.now (view_of c.self.inside) c.args.exchange c.args.air c.in-Some.open
-    c.has_bad_air.result c.self.view_is c.has_bad_air.ensures c.if-has_bad_air.false
-    c.in-Some.ensures.taken) in
-    let goes : GoesBy w y c.args.heard false = subst (λ (z : Exchange). GoesBy w z c.args.heard false) it
-    (goes_unshown w x c.args.heard data_is none) in
-    done_whole (view_of c.self.inside) w bodies at c.args.exchange y k.known c.in-Some.open k.same false
-    c.args.air
-    (may_end_lost w c.args.exchange y c.args.air k.known fine) c.settle-ended.new.self
-    c.list_in-is_ready.new.self c.settle-ended.result
-    (c.settle-ended.ensures.settled
-    (view_of c.self.inside) w bodies c.args.exchange y false c.args.air at k.known
-    k.same
-    closed goes) (c.settle-ended.ensures.reply
-    (view_of c.self.inside) w bodies c.args.exchange y false c.args.air at k.known k.same closed goes)
-    c.of_tid-class.result c.of_tid-class.ensures c.list_in-is_ready.ensures.listed
+    c.has_bad_air.result c.self.view_is c.has_bad_air.ensures c.if-has_bad_air.false c.in-Some.ensures.taken)
+    (closes (view_of c.self.inside) (subst HasWorld (sym c.self.view_is) c.requires.some) c.args.exchange
+    c.in-Some.open c.in-Some.ensures.taken c.args.air c.unwrap_or-charge.ensures c.in-Some.ensures.rest
+    c.charge.ensures c.charge-2.ensures) c.settle-ended.ensures.settled c.settle-ended.ensures.reply
+    c.of_tid-class.ensures c.list_in-is_ready.ensures.listed h false
+    (λ k there. subst (λ (z : Exchange). GoesBy w z c.args.heard false)
+    (let it : x ≡ k = cc (known, there) in it) (goes_unshown w x c.args.heard data_is none))
+    (λ k there fine. may_end_lost w c.args.exchange k c.args.air there fine)
 
 pub returns-clause-found : goal.returns-clause-found
 returns-clause-found c = sym (ap (λ (z : TransmitValue). is_none (end_refusal z c.args.exchange c.args.air))

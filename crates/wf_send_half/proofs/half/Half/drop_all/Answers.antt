@@ -1,3 +1,5 @@
+-- Proves what `Half::drop_all` promises: each step drops the frames of one TID, and after eight steps all
+-- TIDs have left. The sum fits in 32 bits since it is at most the setting `room`.
 use Rattle.std.proofs.Common.{◌≡◌, ◌<◌, ◌^◌, ◌+◌, ℕ, subst, arith}
 use Rattle.wf_send_half_model.specs.Leaving.{IsLeaving}
 use Rattle.wf_send_half_model.proofs.Leavings.{leave_begins}

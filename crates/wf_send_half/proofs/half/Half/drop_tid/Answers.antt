@@ -1,3 +1,5 @@
+-- Proves what `Half::drop_tid` promises: a TID has left when the frames of its window are finished and its
+-- queues are purged. The sum fits in 32 bits since it is at most the setting `room`.
 use Rattle.std.proofs.Common.{◌<◌, ◌^◌, ◌+◌, arith, subst, sym}
 use Rattle.wf_send_parts.specs.Windows.{WindowsHaveRoom}
 use Rattle.wf_send_half_model.specs.Half.{TransmitValue}

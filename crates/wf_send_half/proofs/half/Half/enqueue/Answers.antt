@@ -1,3 +1,5 @@
+-- Proves what `Half::enqueue` promises. By cases of the checks: the frame is accepted as in the world, or
+-- refused for the world's reason.
 use Rattle.std.proofs.Common.{◌∙◌, ap, length}
 use Rattle.wf_frame.specs.Frames.{FrameValue}
 use Rattle.wf_send_half.proofs.Enqueues.{of_frame, enqueue_refused, enqueue_done}

@@ -1,3 +1,5 @@
+-- Proves what `Half::expel_all` promises: each step finishes and counts one frame of the window, until the
+-- window is empty. The count fits in 32 bits since it is at most the setting `room`.
 use Rattle.std.proofs.Common.{◌<◌, ◌^◌, ◌+◌, refl, arith}
 use Rattle.wf_send_half.proofs.Leaves.{first_gives, one_more, gives_few}
 use Rattle.wf_send_half.proofs.half.Half.expel_all.Goals as goal

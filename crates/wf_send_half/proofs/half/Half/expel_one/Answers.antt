@@ -1,3 +1,5 @@
+-- Proves what `Half::expel_one` promises. By cases: the window returns a frame, for which the finished list
+-- has room, or the window is empty.
 use Rattle.wf_send_parts.specs.Windows.{window_of}
 use Rattle.wf_send_half.proofs.CallSteps.{view_of}
 use Rattle.wf_send_half.proofs.Leaves.{window_there, window_still, finish_room, frame_given, none_given}

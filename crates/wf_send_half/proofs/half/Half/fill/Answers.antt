@@ -1,3 +1,5 @@
+-- Proves what `Half::fill` promises: the empty aggregate has the limits of the world's aggregate, and the two
+-- loops add the numbers that the world's aggregate has.
 use Rattle.std.proofs.Common.{◌≡◌, refl, ap, ap₂, sym, ◌∙◌, subst, ℕ, ◌≤◌, Bool, List, Option, Some, None, option_map}
 use Rattle.std.specs.Prelude.{IfSome, nat_lt, if◌then◌else◌}
 use Rattle.wf_def_world.specs.Exchanges.{aggregate_of}

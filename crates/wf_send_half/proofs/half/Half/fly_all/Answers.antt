@@ -1,3 +1,5 @@
+-- Proves what `Half::fly_all` promises: each step marks the next number as in flight and writes its pair, by
+-- the lemmas of Flying.
 use Rattle.std.proofs.Common.{◌≡◌, ap, sym, ◌∙◌, subst, arith, ℕ, List}
 use Rattle.std.specs.Prelude.{slice_get}
 use Rattle.wf_frame.specs.Frames.{FrameValue}

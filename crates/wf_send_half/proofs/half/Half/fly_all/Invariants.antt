@@ -1,3 +1,5 @@
+-- Invariants of the loop of `Half::fly_all`: the first `i` numbers are in flight and have their pairs, and
+-- only the windows have changed.
 use Rattle.std.proofs.Common.{◌≡◌, ℕ, List, length}
 use Rattle.wf_frame.specs.Frames.{FrameValue}
 use Rattle.wf_def_world.specs.World.{World, Mpdu}

@@ -1,3 +1,5 @@
+-- Proves what `Half::is_ready` promises: its tests compute `is_ready_of`, which agrees with the world. By
+-- cases of the tests.
 use Rattle.std.proofs.Common.{rules, ◌∙◌}
 use Rattle.wf_send_half_model.proofs.Readers.{ready_same}
 use Rattle.wf_send_half.proofs.half.Half.is_ready.Goals as goal

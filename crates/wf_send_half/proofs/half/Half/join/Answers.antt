@@ -1,3 +1,5 @@
+-- Proves what `Half::join` promises. By cases of the checks: the call is refused, or the changes of the parts
+-- make the half represent the world after the Join.
 use Rattle.std.proofs.Common.{◌∙◌, sym, ap, subst, ℕ, ◌%◌}
 use Rattle.std.proofs.lemmas.Result.{err_from_is_err_and}
 use Rattle.wf_send_parts.specs.Windows.{WindowsHaveRoom}

@@ -1,3 +1,5 @@
+-- Proves what `Half::leave` promises. By cases of the checks: the call is refused, or the station's frames
+-- are dropped and counted, and the half represents the world after the Leave.
 use Rattle.std.proofs.Common.{sym, subst}
 use Rattle.std.proofs.lemmas.Result.{err_from_is_err_and}
 use Rattle.wf_send_parts.specs.Tally.{counts_of}

@@ -1,3 +1,5 @@
+-- Proves what `Half::listed` promises: the scheduler's lists are the world's, and no list has a station that
+-- is not live.
 use Rattle.std.proofs.Common.{◌≡◌, ap, sym, ◌∙◌, subst, None, false, true}
 use Rattle.std.specs.Prelude.{IfNone, IfSome}
 use Rattle.wf_def_lists.specs.Table.{has}

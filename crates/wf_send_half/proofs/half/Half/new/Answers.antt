@@ -1,3 +1,5 @@
+-- Proves what `Half::new` promises: the new parts have the sizes that the invariant asks for, and represent
+-- the opening world.
 use Rattle.wf_frame.proofs.Ranges.{in_range}
 use Rattle.wf_send_half.proofs.Openings.{sizes, stands}
 use Rattle.wf_send_half.proofs.half.Half.new.Goals as goal

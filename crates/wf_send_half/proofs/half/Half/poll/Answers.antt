@@ -1,3 +1,5 @@
+-- Proves what `Half::poll` promises. By cases of the checks: the call is refused, or the half with the credit
+-- represents the world after the Poll.
 use Rattle.std.proofs.lemmas.Result.{err_from_is_err_and}
 use Rattle.wf_send_half.proofs.Rows.{refused_call}
 use Rattle.wf_send_half.proofs.CallSteps.{view_of, poll_done}

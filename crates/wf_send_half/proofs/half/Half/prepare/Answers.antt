@@ -1,3 +1,5 @@
+-- Proves what `Half::prepare` promises if no request is due: the aggregate is filled as in the world, its
+-- numbers fly, and its charge is the world's.
 use Rattle.std.proofs.Common.{refl, ℕ}
 use Rattle.wf_def_world.specs.Exchanges.{Aggregate, aggregate_of, prepared_data}
 use Rattle.wf_send_half.proofs.CallSteps.{view_of}

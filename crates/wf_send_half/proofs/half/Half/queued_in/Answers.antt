@@ -1,3 +1,4 @@
+-- Proves that the sum of `Half::queued_in` fits in 32 bits, since each TID has at most 131,072 queued frames.
 use Rattle.std.proofs.Common.{sym, subst, arith}
 use Rattle.wf_send_half.specs.Half.{HasWorld}
 use Rattle.wf_send_half.proofs.CallSteps.{view_of}

@@ -1,3 +1,5 @@
+-- Proves what `Half::rate` promises. By cases of the checks: the call is refused, or the half with the
+-- station's new rate represents the world after the Rate.
 use Rattle.std.proofs.lemmas.Result.{err_from_is_err_and}
 use Rattle.wf_send_half.proofs.Rows.{refused_call}
 use Rattle.wf_send_half.proofs.CallSteps.{view_of, rate_done}

@@ -1,3 +1,5 @@
+-- Proves what `Half::reap` promises: the first finished frame is the world's. By cases: there is one,
+-- or none.
 use Rattle.wf_send_half.proofs.CallSteps.{view_of, reap_done, reap_refused}
 use Rattle.wf_send_half.proofs.half.Half.reap.Goals as goal
 

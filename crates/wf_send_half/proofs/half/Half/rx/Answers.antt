@@ -1,3 +1,5 @@
+-- Proves what `Half::rx` promises. By cases of the checks and of the scheduler's test: the call is refused,
+-- the debt would be too large, or the half with the new deficit represents the world after the Rx.
 use Rattle.std.proofs.Common.{◌≡◌, ◌∙◌, refl, sym, ap, subst, rules, w64, SFits, ℤ}
 use Rattle.std.proofs.lemmas.Int.{to_z-of_z}
 use mir.Val.{to_z, of_z}

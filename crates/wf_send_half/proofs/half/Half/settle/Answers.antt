@@ -1,3 +1,5 @@
+-- Proves what `Half::settle` promises. By cases of the exchange: the numbers of an aggregate are settled one
+-- by one, and a request that was heard is recorded in its window.
 use Rattle.std.proofs.Common.{sym, ap, ◌∙◌, subst, arith, ◌+◌, ◌≤◌, nat_lt, Bool, length}
 use Rattle.wf_octets.specs.Distance.{distance}
 use Rattle.wf_send_parts.specs.Window.{WindowValue}

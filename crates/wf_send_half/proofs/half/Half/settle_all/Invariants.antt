@@ -1,3 +1,5 @@
+-- Invariants of the loop of `Half::settle_all`: the first `i` numbers are settled as in the world, and
+-- `ended` counts them.
 use Rattle.wf_send_half.specs.Bits.{is_shown}
 use Rattle.wf_send_half.proofs.Settling.{IsSettling}
 use Rattle.wf_send_half.proofs.half.Half.settle_all.Given as goal

@@ -1,3 +1,5 @@
+-- Proves what `Half::sleep` promises. By cases of the checks: the call is refused, or the half in which the
+-- station sleeps represents the world after the Sleep.
 use Rattle.std.proofs.lemmas.Result.{err_from_is_err_and}
 use Rattle.wf_send_half.proofs.Rows.{refused_call}
 use Rattle.wf_send_half.proofs.CallSteps.{view_of, sleep_done}

@@ -1,3 +1,5 @@
+-- Proves what `Half::tick` promises. By cases of the check: the call is refused, or the half with the new
+-- clock represents the world after the Tick.
 use Rattle.std.proofs.lemmas.Result.{err_from_is_err_and}
 use Rattle.wf_send_half.proofs.Rows.{refused_call}
 use Rattle.wf_send_half.proofs.CallSteps.{view_of, tick_done}

@@ -1,3 +1,5 @@
+-- Proves what `Half::wake` promises. By cases of the checks: the call is refused, or the half in which the
+-- station is awake represents the world after the Wake.
 use Rattle.std.proofs.lemmas.Result.{err_from_is_err_and}
 use Rattle.wf_send_half.proofs.Rows.{refused_call}
 use Rattle.wf_send_half.proofs.CallSteps.{view_of, wake_done}

@@ -1,3 +1,5 @@
+-- Proves what `Transmit::done` promises from the clauses of `Half::done`. Only the readiness of the
+-- exchange's station in the class of its TID may change, and this flag is set.
 use Rattle.std.proofs.Common.{◌≡◌, subst, ◌==◌, Ok, Err}
 use Rattle.std.specs.Prelude.{find, IfSome}
 use Rattle.wf_send_half_model.specs.Half.{TransmitValue}

@@ -1,3 +1,5 @@
+-- Proves what `Transmit::enqueue` promises from the clauses of `Half::enqueue`. Two flags may change: that of
+-- the frame's station, and that of the station which loses a frame to the limit, if one does.
 use Rattle.std.proofs.Common.{sym, ◌∙◌, ap, subst, ℕ, ◌<◌, Option, Some}
 use Rattle.std.specs.Prelude.{option_map, IfSome}
 use Rattle.wf_queue_flows.specs.declared.flows.Lost.{Lost}

@@ -1,3 +1,5 @@
+-- Proves what `Transmit::join` promises from the clauses of `Half::join`: a Join changes only the
+-- readiness of its station, whose four flags are set.
 use Rattle.std.proofs.Common.{refl}
 use Rattle.wf_frame.specs.declared.notes.Ask.TheVariants.{Join}
 use Rattle.wf_frame.specs.declared.notes.Note.TheVariants.{Asked}

@@ -1,3 +1,4 @@
+-- Proves what `Transmit::new` promises: no station is ready in a new half, so no flag is set.
 use Rattle.wf_send_half.proofs.Tracked.{new_tracked}
 use Rattle.wf_send_half.proofs.transmit.Transmit.new.Goals as goal
 

@@ -1,3 +1,5 @@
+-- Proves what `Transmit::poll` promises from the clauses of `Half::poll`: a Poll changes only the
+-- readiness of its station, whose four flags are set.
 use Rattle.std.proofs.Common.{refl}
 use Rattle.wf_frame.specs.declared.notes.Ask.TheVariants.{Poll}
 use Rattle.wf_frame.specs.declared.notes.Note.TheVariants.{Asked}

@@ -1,10 +1,13 @@
-use Rattle.std.proofs.Common.{◌≡◌, ◌∙◌, ap, sym, subst, true}
+-- Proves what `Transmit::pull` promises from the clauses of `Half::pull`. By cases: the flag of the station
+-- that sends is set, or none sends and no flag changes.
+use Rattle.std.proofs.Common.{◌≡◌, ◌∙◌, ap, sym, subst, true, false}
 use Rattle.std.specs.Prelude.{nat_le, count_by}
 use Rattle.wf_frame.specs.Classes.{same_class}
 use Rattle.wf_frame.specs.declared.answers.Brief.TheVariants.{Refused as Refuses}
-use Rattle.wf_frame.specs.declared.notes.Refusal.TheVariants.{Full}
-use Rattle.wf_send_half_model.specs.Half.{TransmitValue}
+use Rattle.wf_frame.specs.declared.notes.Refusal.TheVariants.{Full, Ahead}
+use Rattle.wf_send_half_model.specs.Half.{TransmitValue, is_ahead_of}
 use Rattle.wf_send_half_model.specs.Standing.{StandsFor}
+use Rattle.wf_send_parts.specs.Exchanges.{airtime_of}
 use Rattle.wf_send_half.specs.Flags.{with_flag}
 use Rattle.wf_send_half.proofs.Sends.{pulled_unheard, sender_room, tracked_sender, tracked_idle}
 use Rattle.wf_send_half.proofs.transmit.Transmit.pull.Goals as goal
@@ -46,6 +49,10 @@ returns-in_default c = record {
       (count_by (λ x. same_class x.class c.args.class) v.opened) ≡ true →
       (c.pull-pulled.result.brief ≡ Refuses (Full (count_by (λ x. same_class x.class c.args.class)
       v.opened))) × (c.pull-pulled.new.self ≡ v)) c.self.view_is c.pull-pulled.ensures.full;
+  ahead = subst (λ (v : TransmitValue). nat_le v.config.inflight
+      (count_by (λ x. same_class x.class c.args.class) v.opened) ≡ false → is_ahead_of v ≡ true →
+      (c.pull-pulled.result.brief ≡ Refuses (Ahead (airtime_of v.opened))) × (c.pull-pulled.new.self ≡ v))
+      c.self.view_is c.pull-pulled.ensures.ahead;
   unheard = pulled_unheard c.self.inside.half c.self.inside.ready c.self.invariant c.args.class
       c.pull-pulled.result.brief c.pull-pulled.new.pairs c.pull-pulled.new.self c.pull-pulled.ensures.meets;
 }

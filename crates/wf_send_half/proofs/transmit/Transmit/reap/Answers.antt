@@ -1,3 +1,4 @@
+-- Proves what `Transmit::reap` promises: a Reap changes the readiness of no station, so the flags stay right.
 use Rattle.std.proofs.Common.{refl}
 use Rattle.wf_frame.specs.declared.notes.Ask.TheVariants.{Reap}
 use Rattle.wf_send_half.proofs.Kept.{tracked_still}

@@ -1,3 +1,4 @@
+-- Proves what `Transmit::rx` promises: an Rx changes the readiness of no station, so the flags stay right.
 use Rattle.std.proofs.Common.{refl}
 use Rattle.wf_frame.specs.declared.notes.Ask.TheVariants.{Rx}
 use Rattle.wf_send_half.proofs.Kept.{tracked_still}

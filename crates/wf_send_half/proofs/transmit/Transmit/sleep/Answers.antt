@@ -1,3 +1,5 @@
+-- Proves what `Transmit::sleep` promises from the clauses of `Half::sleep`: a Sleep changes only the
+-- readiness of its station, whose four flags are set.
 use Rattle.std.proofs.Common.{refl}
 use Rattle.wf_frame.specs.declared.notes.Ask.TheVariants.{Sleep}
 use Rattle.wf_frame.specs.declared.notes.Note.TheVariants.{Asked}

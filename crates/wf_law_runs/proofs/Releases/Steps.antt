@@ -1,0 +1,337 @@
+-- Proves that a relation of the released ids and a world holds after each call, if each elementary change
+-- keeps it: frames leave the queues, a session keeps its numbers, a number is given, numbers are released,
+-- a station joins or leaves, and a frame is enqueued.
+use Rattle.std.proofs.Common.{◌≡◌, refl, ap, sym, ◌∙◌, subst, arith, ℕ, zero, suc, ◌+◌, ◌-◌, ◌<◌, append-nil, Bool, true, false, if◌then◌else◌, not, ◌==◌, inl, inr, List, [], ◌∷◌, ◌++◌, length, nat_le, Option, Some, None, IfSome}
+use Rattle.wf_frame.specs.declared.classes.Class.{Class}
+use Rattle.wf_frame.specs.declared.classes.Fate.{Fate}
+use Rattle.wf_def_lists.specs.Table.{at, with_member, upto}
+use Rattle.wf_def_codel.specs.Codel.{Item}
+use Rattle.wf_def_agreement.specs.Receiver.{Receiver, released_between}
+use Rattle.wf_def_agreement.specs.Session.{request_due, Session, Slot, State, is_settled, is_failed, slot_after_miss, slot, on_slot, with_number_given, after_miss, next_number}
+use Rattle.wf_def_world.specs.World.{receiver, World, Station, Exchange, Mpdu, Content, Frames, Request, new_tid, no_tid, rotation, session, is_live, exchange, with_station, on_station, on_session, on_receiver, with_frame_finished, with_exchange, without_exchange}
+use Rattle.wf_frame.specs.Classes.{all_classes}
+use Rattle.wf_def_world.specs.FlowQueues.{taken_for_tid}
+use Rattle.wf_def_world.specs.CanSend.{is_ready, can_give}
+use Rattle.wf_def_world.specs.Exchanges.{is_acked, transmissions, station_need, most_frames, picked_station, after_arrival, sending_tid, with_heard_start, Prepared, after_pick, after_tid_turn, with_fresh, aggregate_of, with_number, with_flying, waiting_mpdus, longest_fitting, prepared_data, prepared_exchange, with_exchange_opened, after_charge, with_failed_finished, with_settled, with_all_settled, after_done, ids_of, Aggregate}
+use Rattle.wf_frame.specs.declared.notes.Ask.TheVariants.{Join, Leave, Rate, Tick, Pull, Arrive, Answer, Done, Sleep, Wake, Poll, Rx, Reap}
+use Rattle.wf_frame.specs.declared.notes.Note.{Note}
+use Rattle.wf_frame.specs.declared.notes.Note.TheVariants.{Enqueue, Asked}
+use Rattle.wf_frame.specs.declared.notes.Refusal.{Refusal}
+use Rattle.wf_frame.specs.declared.notes.Refusal.TheVariants.{Idle}
+use Rattle.wf_def_world.specs.Refusals.{refusals, refusal}
+use Rattle.wf_def_world.specs.Step.{Outcome, join_outcome, leave_outcome, rate_outcome, tick_outcome, enqueue_outcome, send_outcome, pull_outcome_for, pull_outcome, arrive_outcome, answer_outcome, done_outcome, outcome_where_open, sleep_outcome, wake_outcome, poll_outcome, rx_outcome, reap_outcome, outcome_of, after_refusal, judged_outcome, step, concerned_station}
+use Rattle.wf_law_runs.proofs.Sessions.Starts.{length-change}
+use Rattle.wf_law_runs.proofs.Sessions.Flights.{flown}
+use Rattle.wf_law_runs.proofs.Windows.Sides.{side_of, side, sides_of, Same, then_same, same_on_station, same_on_share, same_finish, same_listed, same_after_pick, same_after_turn, same_spent, same_take, same_charged}
+use Rattle.wf_law_runs.proofs.Windows.Opened.{some_along, pick_ready, left_true, eight, NoRow, no_row}
+use Rattle.wf_frame.specs.declared.notes.ReplyNote.TheVariants.{Released, Refused}
+use Rattle.wf_law_runs.specs.Releases.{named_by}
+use Rattle.wf_law_runs.proofs.Releases.Kept.{KeptSession, kept_on_slot, kept_fly, kept_heard}
+use Rattle.wf_law_runs.proofs.Windows.Agreed.{IsLawful, IsOpenIn, IsReady, IsEnding, IsFound, found, ready_filled, ending_settled, ending_of, lawful_same, same_left_tids, same_off_lists, if_on}
+use Rattle.wf_law_runs.proofs.Releases.Released.{side_taken, side_untaken, opened_in}
+use Rattle.wf_law_runs.proofs.Frames.Fewer.{Less, then_less, less_plain, less_on_station, less_on_share, less_finish, less_listed, less_after_pick, less_after_turn, less_spent, less_charged, less_take, IsTaken, given_take}
+use Rattle.wf_law_runs.proofs.Releases.Placed.{Any, next-heard, Grows, grows_after, less_taken, IsBare, new_bare, less_left_tids, less_off_lists, any_some, named_done}
+
+module _ (P : List ℕ → World → Type 0) (Good : World → Type 0)
+    (plain : (l : List ℕ) (w v : World) → Less Any w v → ((s t : ℕ) → side v s t ≡ side w s t) → P l w →
+    P l v)
+    (kept : (l : List ℕ) (w : World) (s t : ℕ) (f : Session → Session) →
+    KeptSession (session w s t) (f (session w s t)) →
+    next_number (f (session w s t)) ≡ next_number (session w s t) → P l w → P l (on_session w s t f))
+    (give : (l : List ℕ) (u v : World) (s t : ℕ) (x : Item) → Same u v → Less Any u v → IsTaken u v x → P
+    l u →
+    P l (on_session v s t (λ y. with_number_given y x.id)))
+    (release : (l : List ℕ) (w v : World) (s t : ℕ) (q : Receiver) → Good w → Less Any w v →
+    ((i j : ℕ) → (i ≡ s → j ≡ t → ⊥) → side v i j ≡ side w i j) →
+    side v s t ≡ record { session = session w s t; receiver = q } →
+    Grows (session w s t) (receiver w s t) q → P l w →
+    P (l ++ ids_of (session w s t) (released_between (receiver w s t) q)) v)
+    (station_changed : (l : List ℕ) (w : World) (i : ℕ) (o : Option Station) →
+    ((t : ℕ) → IsBare (sides_of o t)) → P l w → P l (with_station w i o))
+    (enqueue : (l : List ℕ) (w : World) (s t flow len : ℕ) → Good w →
+    NoRow (refusals w (Enqueue s t flow len)) → P l w → P l (enqueue_outcome w s t flow len).world) where
+  through_number : (o : Option Item) (l : List ℕ) (u v : World) (s t : ℕ) → Same u v → Less Any u v →
+      IfSome o (IsTaken u v) → P l u → P l (with_number v s t o)
+  unfolding with_number
+  through_number None l u v s t k h taken p = plain l u v h k.sides p
+  through_number (Some x) l u v s t k h taken p = give l u v s t x k h taken p
+
+  through_filled_if : (b : Bool) (l : List ℕ) (x y : Aggregate) → P l x.world → P l y.world →
+      P l (if b then x else y).world
+  through_filled_if true l x y h k = h
+  through_filled_if false l x y h k = k
+
+  through_fresh : (n : ℕ) (l : List ℕ) (w : World) (s t : ℕ) (ms : List Mpdu) → P l w →
+      P l (with_fresh n w s t ms).world
+  unfolding with_fresh
+  through_fresh zero l w s t ms p = p
+  through_fresh (suc n) l w s t ms p =
+      let taken = taken_for_tid w s t in
+      let numbered : P l (with_number taken.world s t taken.item) =
+      through_number taken.item l w taken.world s t (same_take w s t) (less_take Any w s t)
+      (given_take w s t) p in
+      through_filled_if (not (can_give w s t)) l _ _ p
+      (through_filled_if _ l _ _ (through_fresh n l _ s t _ numbered) numbered)
+
+  through_filled : (l : List ℕ) (w : World) (s t : ℕ) → P l w → P l (aggregate_of w s t).world
+  unfolding aggregate_of
+  through_filled l w s t p =
+      let chosen : List Mpdu = longest_fitting w s (waiting_mpdus w s t) in
+      through_filled_if (length chosen == length (waiting_mpdus w s t)) l
+      (with_fresh (most_frames w s - length chosen) w s t chosen) (record { world = w; mpdus = chosen })
+      (through_fresh (most_frames w s - length chosen) l w s t chosen p) p
+
+  -- ---- pulls
+
+  through_frames : (l : List ℕ) (s t : ℕ) (f : Aggregate) → IsReady s t f.world f.mpdus → P l f.world →
+      P l (prepared_data s t f).world
+  unfolding prepared_data
+  through_frames l s t f r p =
+      let y : Session = session f.world s t in
+      kept l f.world s t (with_flying f.world.exchanges f.mpdus)
+      (kept_fly f.mpdus y f.world.exchanges)
+      (flown f.mpdus y f.world.exchanges (next_number y) y.first
+      (omega arith) r.chosen.rising r.chosen.waiting).next p
+
+  through_prepared_if : (b : Bool) (l : List ℕ) (x y : Prepared) → P l x.world →
+      (b ≡ false → P l y.world) → P l (if b then x else y).world
+  through_prepared_if true l x y h k = h
+  through_prepared_if false l x y h k = k refl
+
+  through_prepared : (l : List ℕ) (w : World) (s t : ℕ) → IsLawful w → is_live w s ≡ true → P l w →
+      P l (prepared_exchange w s t).world
+  unfolding prepared_exchange
+  through_prepared l w s t i live p = through_prepared_if (request_due (session w s t)) l _ _ p
+      (λ quiet. through_frames l s t (aggregate_of w s t) (ready_filled w s t i live quiet)
+      (through_filled l w s t p))
+
+  through_sent : (l : List ℕ) (s t : ℕ) (c : Class) (q : Prepared) → P l q.world →
+      P l (send_outcome s t c q).world
+  unfolding send_outcome with_exchange_opened
+  through_sent l s t c q p = plain l _ _ (less_spent Any _ s) (same_spent _ s).sides
+      (plain l q.world _ (less_plain Any q.world _ refl refl) (λ i j. refl) p)
+
+  through_same : (l : List ℕ) (w v : World) → Same w v → Less Any w v → P l w → P l v
+  through_same l w v k h p = plain l w v h k.sides p
+
+  through_pulled_by : (o : Option ℕ) (l : List ℕ) (w : World) (c : Class) → IfSome o (λ s. is_live w s ≡
+      true) →
+      IsLawful w → P l w → P l (pull_outcome_for w c o).world
+  unfolding pull_outcome_for
+  through_pulled_by None l w c live i p = p
+  through_pulled_by (Some s) l w c live i p =
+      let k : Same w (after_tid_turn w s c (sending_tid w s c)) = same_after_turn w s c (sending_tid w s c) in
+      through_sent l s _ c _ (through_prepared l _ s _ (lawful_same _ _ k i) (k.live s ∙ live)
+      (through_same l w _ k (less_after_turn Any w s c _) p))
+
+  through_pulled : (l : List ℕ) (w : World) (c : Class) → IsLawful w → P l w →
+      P l (pull_outcome w c).world
+  unfolding pull_outcome
+  through_pulled l w c i p =
+      let k : Same w (after_pick w c) = same_after_pick w c in
+      through_pulled_by (picked_station w c).winner l (after_pick w c) c
+      (some_along (λ s. is_ready w c s ≡ true) (λ s. is_live (after_pick w c) s ≡ true)
+      (picked_station w c).winner (λ s h. k.live s ∙ left_true (is_live w s) _ h)
+      (pick_ready (station_need w c) (is_ready w c) (rotation w c))) (lawful_same _ _ k i)
+      (through_same l w _ k (less_after_pick Any w c) p)
+
+  -- ---- the end of an exchange
+
+  through_slot : (l : List ℕ) (e s t : ℕ) (acked : ℕ → Bool) (w : World) (m : Mpdu) (ms : List Mpdu)
+      (f : Slot → Slot) → ((x : Slot) → (f x).id ≡ x.id) → IsEnding e s t acked w (m ∷ ms) → P l w →
+      P l (on_session w s t (on_slot m.number f))
+  through_slot l e s t acked w m ms f h n p =
+      let y : Session = session w s t in
+      let unsettled : is_settled (slot y m.number).state ≡ false = ap is_settled n.flies.flying.0 in
+      kept l w s t (on_slot m.number f) (kept_on_slot y m.number f h)
+      (ap (λ (k : ℕ). y.first + k) (length-change y.slots (m.number - y.first) f unsettled)) p
+
+  through_if : (b : Bool) (l : List ℕ) (w v : World) → P l w → P l v → P l (if b then w else v)
+  through_if true l w v h k = h
+  through_if false l w v h k = k
+
+  through_finish : (l : List ℕ) (w : World) (fate : Fate) (id : ℕ) → P l w →
+      P l (with_frame_finished w fate id)
+  through_finish l w fate id p = through_same l w _ (same_finish w fate id)
+      (less_finish Any w fate id (λ _. tt)) p
+
+  through_settled : (b : Bool) (l : List ℕ) (e s t : ℕ) (acked : ℕ → Bool) (w : World) (m : Mpdu)
+      (ms : List Mpdu) → IsEnding e s t acked w (m ∷ ms) → P l w → P l (with_settled w s t b m)
+  unfolding with_settled with_failed_finished
+  through_settled true l e s t acked w m ms n p =
+      through_finish l _ _ _ (through_slot l e s t acked w m ms (λ x. record x { state = State.Acked })
+      (λ x. refl) n p)
+  through_settled false l e s t acked w m ms n p =
+      let v : World = on_session w s t (after_miss w.config.attempts m.number) in
+      let k : P l v = through_slot l e s t acked w m ms (slot_after_miss w.config.attempts)
+      (λ x. refl) n p in
+      through_if (is_failed (slot (session v s t) m.number).state) l _ v (through_finish l v _ _ k) k
+
+  through_all : (ms : List Mpdu) (l : List ℕ) (e s t : ℕ) (acked : ℕ → Bool) (w : World) →
+      IsEnding e s t acked w ms → P l w → P l (with_all_settled w s t acked ms)
+  unfolding with_all_settled
+  through_all [] l e s t acked w n p = p
+  through_all (m ∷ ms) l e s t acked w n p = through_all ms l e s t acked _
+      (ending_settled (acked m.number) e s t acked w m ms refl n)
+      (through_settled (acked m.number) l e s t acked w m ms n p)
+
+  through_without : (l : List ℕ) (w : World) (e : ℕ) → P l w → P l (without_exchange w e)
+  unfolding without_exchange
+  through_without l w e p = plain l w _ (less_plain Any w _ refl refl) (λ s t. refl) p
+
+  through_after : (air : Option ℕ) (c : Content) (l : List ℕ) (w : World) (i : IsLawful w)
+      (x : Exchange) (heard : Bool) →
+      x.content ≡ c → IsFound w i x → P l (after_charge (without_exchange w x.number) x air) →
+      P l (after_done (after_charge (without_exchange w x.number) x air) x heard c)
+  unfolding after_done
+  through_after air (Frames ms) l w i x heard e f p =
+      through_all ms l x.number x.station x.tid (is_acked heard x.answer) _ (ending_of air w i x ms heard
+      e f) p
+  through_after air (Request g) l w i x heard e f p =
+      kept l _ x.station x.tid (with_heard_start heard g) (kept_heard heard g _)
+      (next-heard heard g _) p
+
+  through_ended : (air : Option ℕ) (l : List ℕ) (w : World) (i : IsLawful w) (x : Exchange) (heard : Bool) →
+      IsFound w i x →
+      P l w → P l (done_outcome w x heard air).world
+  unfolding done_outcome
+  through_ended air l w i x heard f p = through_after air x.content l w i x heard refl f
+      (through_same l _ _ (same_charged air _ x) (less_charged air Any _ x) (through_without l w x.number p))
+
+  -- ---- arrivals
+
+  through_arrived : (l : List ℕ) (w : World) (i : IsLawful w) (x : Exchange) (n : ℕ) → Good w →
+      IsOpenIn w x → nat_le (transmissions x.content) n ≡ false → P l w →
+      P (l ++ named_by (arrive_outcome w x n).reply) (arrive_outcome w x n).world
+  unfolding arrive_outcome
+  through_arrived l w i x n good o few p =
+      let g : Receiver → Receiver = after_arrival x.content n in
+      let z : Exchange = record x { arrived = with_member n x.arrived } in
+      release l w (with_exchange (on_receiver w x.station x.tid g) z) x.station x.tid
+      (g (receiver w x.station x.tid)) good (less_taken w x z g) (side_untaken w x z g)
+      (side_taken w x z g o.live) (grows_after x.content w i x n refl o (not_le _ _ few)) p
+    where
+      not_le : (a b : ℕ) → nat_le a b ≡ false → b < a
+      not_le a b e = grind arith
+
+  -- No id is released.
+  through_plain : (l : List ℕ) (o : Outcome) → named_by o.reply ≡ [] → P l o.world →
+      P (l ++ named_by o.reply) o.world
+  through_plain l o e p = subst (λ (k : List ℕ). P k o.world)
+      (sym (ap (λ (ids : List ℕ). l ++ ids) e ∙ append-nil l)) p
+
+  through_arrive : (o : Option Exchange) (l : List ℕ) (w : World) (i : IsLawful w) (n : ℕ) → Good w →
+      IfSome o (IsOpenIn w) → IfSome o (λ x. nat_le (transmissions x.content) n ≡ false) → P l w →
+      P (l ++ named_by (outcome_where_open w o (λ x. arrive_outcome w x n)).reply)
+      (outcome_where_open w o (λ x. arrive_outcome w x n)).world
+  unfolding outcome_where_open
+  through_arrive None l w i n g f few p = through_plain l (record { world = w; reply = Released [] }) refl p
+  through_arrive (Some x) l w i n g f few p = through_arrived l w i x n g f few p
+
+  -- ---- joining and leaving
+
+  through_joined : (l : List ℕ) (w : World) (s window start exponent weight : ℕ) → P l w →
+      P l (join_outcome w s window start exponent weight).world
+  unfolding join_outcome
+  through_joined l w s window start exponent weight p =
+      station_changed l w s _ (eight (λ y. IsBare (side_of y)) (new_tid start window) (new_bare start window)
+      (new_bare 0 0)) p
+
+  through_gone : (l : List ℕ) (w : World) (s : ℕ) → P l w → P l (leave_outcome w s).world
+  unfolding leave_outcome
+  through_gone l w s p =
+      station_changed l _ s None (λ t. new_bare 0 0)
+      (through_same l w _ (then_same _ _ _ (same_left_tids (upto 8) w s) (same_off_lists all_classes _ s))
+      (then_less Any _ _ _ (less_left_tids (upto 8) w s) (less_off_lists all_classes _ s)) p)
+
+  -- ---- the step
+
+  through_open : (IsFit Q : Exchange → Type 0) (o : Option Exchange) (l : List ℕ) (w : World)
+      (f : Exchange → Outcome) → IfSome o IsFit → ((x : Exchange) → IsFit x → P l (f x).world) → P l w →
+      P l (outcome_where_open w o f).world
+  unfolding outcome_where_open
+  through_open IsFit Q None l w f h k p = p
+  through_open IsFit Q (Some x) l w f h k p = k x h
+
+  through_reaped : (ids : List ℕ) (l : List ℕ) (w : World) → P l w → P l (reap_outcome w ids).world
+  unfolding reap_outcome
+  through_reaped [] l w p = p
+  through_reaped (id ∷ ids) l w p = plain l w _ (less_plain Any w _ refl refl) (λ s t. refl) p
+
+  through_on_station : (l : List ℕ) (w : World) (s : ℕ) (f : Station → Station) →
+      ((x : Station) (t : ℕ) → side_of (at no_tid (f x).tids t) ≡ side_of (at no_tid x.tids t)) → P l w →
+      P l (on_station w s f)
+  through_on_station l w s f h p = through_same l w _ (same_on_station w s f h) (less_on_station Any w s f) p
+
+  through_answered : (l : List ℕ) (w : World) (x : Exchange) → P l w → P l (answer_outcome w x).world
+  unfolding answer_outcome with_exchange
+  through_answered l w x p = plain l w _ (less_plain Any w _ refl refl) (λ s t. refl) p
+
+  -- The call releases no id.
+  through_call : (note : Note) (l : List ℕ) (w : World) (i : IsLawful w) → Good w → NoRow (refusals w note) →
+      P l w → named_by (outcome_of w note).reply ≡ [] → P l (outcome_of w note).world
+  unfolding outcome_of tick_outcome rate_outcome sleep_outcome wake_outcome poll_outcome rx_outcome
+  through_call (Enqueue s t flow len) l w i g e p r = enqueue l w s t flow len g e p
+  through_call (Asked (Join s window start exponent weight)) l w i g e p r =
+      through_joined l w s window start exponent weight p
+  through_call (Asked (Leave s)) l w i g e p r = through_gone l w s p
+  through_call (Asked (Rate s rate)) l w i g e p r = through_on_station l w s _ (λ x t. refl) p
+  through_call (Asked (Tick by)) l w i g e p r = plain l w _ (less_plain Any w _ refl refl) (λ s t. refl) p
+  through_call (Asked (Pull c)) l w i g e p r = through_pulled l w c i p
+  through_call (Asked (Arrive x n)) l w i g e p r =
+      subst (λ (k : List ℕ). P k (outcome_where_open w (exchange w x) (λ y. arrive_outcome w y n)).world)
+      (ap (λ (ids : List ℕ). l ++ ids) r ∙ append-nil l)
+      (through_arrive (exchange w x) l w i n g (opened_in w i x)
+      (if_on (exchange w x) (λ y. nat_le (transmissions y.content) n) e.1.0) p)
+  through_call (Asked (Answer x)) l w i g e p r = through_open (λ _. Unit {0}) (λ _. Unit {0}) (exchange
+      w x) l w _
+      (any_some (exchange w x)) (λ y _. through_answered l w y p) p
+  through_call (Asked (Done x heard air)) l w i g e p r =
+      through_open (IsFound w i) (λ _. Unit {0}) (exchange w x) l w _ (found w i x)
+      (λ y f. through_ended air l w i y heard f p) p
+  through_call (Asked (Sleep s)) l w i g e p r = through_on_station l w s _ (λ x t. refl) p
+  through_call (Asked (Wake s)) l w i g e p r = through_on_station l w s _ (λ x t. refl) p
+  through_call (Asked (Poll s)) l w i g e p r = through_on_station l w s _ (λ x t. refl) p
+  through_call (Asked (Rx s c air)) l w i g e p r =
+      through_same l w _ (same_on_share w s c _) (less_on_share Any w s c _) p
+  through_call (Asked Reap) l w i g e p r = through_reaped w.finished l w p
+
+  through_arrival : (l : List ℕ) (w : World) (i : IsLawful w) (e n : ℕ) → Good w →
+      NoRow (refusals w (Asked (Arrive e n))) → P l w →
+      P (l ++ named_by (outcome_of w (Asked (Arrive e n))).reply)
+      (outcome_of w (Asked (Arrive e n))).world
+  unfolding outcome_of
+  through_arrival l w i e n g r p = through_arrive (exchange w e) l w i n g (opened_in w i e)
+      (if_on (exchange w e) (λ y. nat_le (transmissions y.content) n) r.1.0) p
+
+  through_done : (note : Note) (l : List ℕ) (w : World) (i : IsLawful w) → Good w → NoRow (refusals w note) →
+      P l w → P (l ++ named_by (outcome_of w note).reply) (outcome_of w note).world
+  through_done note l w i g e p = elim (named_done note w) [
+    | inl r ↦ through_plain l (outcome_of w note) r (through_call note l w i g e p r)
+    | inr a ↦ subst (λ (c : Note). NoRow (refusals w c) →
+        P (l ++ named_by (outcome_of w c).reply) (outcome_of w c).world) (sym a.2)
+        (λ d. through_arrival l w i a.0 a.1 g d p) e
+  ]
+
+  through_refused : (note : Note) (r : Refusal) (l : List ℕ) (w : World) → P l w →
+      P l (after_refusal w note r)
+  unfolding after_refusal
+  through_refused (Asked (Pull c)) Idle l w p = through_same l w _ (same_after_pick w c)
+      (less_after_pick Any w c) p
+  through_refused _ _ l w p = p
+
+  through_answer : (r : Option Refusal) (l : List ℕ) (w : World) (i : IsLawful w) (note : Note) → Good w →
+      refusal w note ≡ r → P l w → P (l ++ named_by (judged_outcome w note r).reply)
+      (judged_outcome w note r).world
+  unfolding judged_outcome
+  through_answer (Some r) l w i note g e p = through_plain l
+      (record { world = after_refusal w note r; reply = Refused r }) refl (through_refused note r l w p)
+  through_answer None l w i note g e p = through_same _ _ _
+      (same_listed (concerned_station w note) (outcome_of w note).world)
+      (less_listed Any (concerned_station w note) (outcome_of w note).world)
+      (through_done note l w i g (no_row (refusals w note) e) p)
+
+  pub through_step : (l : List ℕ) (w : World) (i : IsLawful w) (note : Note) → Good w → P l w →
+      P (l ++ named_by (step w note).reply) (step w note).world
+  unfolding step
+  through_step l w i note g p = through_answer (refusal w note) l w i note g refl p

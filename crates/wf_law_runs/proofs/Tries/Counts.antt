@@ -1,0 +1,742 @@
+-- Proves that a number that waits or is on the air counts how often its frame was sent. By induction on the
+-- run and cases of the call.
+use Rattle.std.proofs.Common.{◌≡◌, refl, ap, sym, ◌∙◌, subst, arith, ℕ, zero, suc, ◌+◌, ◌-◌, ◌<◌, ◌≤◌, nat_le, Bool, true, false, if◌then◌else◌, not, ◌==◌, ◌&&◌, inl, inr, List, [], ◌∷◌, ◌++◌, length, map, ◌%◌, Option, Some, None, IfSome, add-zero}
+use Rattle.wf_frame.specs.declared.settings.Config.{Config}
+use Rattle.wf_frame.specs.declared.classes.Class.{Class}
+use Rattle.wf_frame.specs.declared.classes.Fate.{Fate}
+use Rattle.wf_frame.specs.declared.notes.Ask.TheVariants.{Join, Leave, Rate, Tick, Pull, Arrive, Answer, Done, Sleep, Wake, Poll, Rx, Reap}
+use Rattle.wf_frame.specs.declared.notes.Note.{Note}
+use Rattle.wf_frame.specs.declared.notes.Note.TheVariants.{Enqueue, Asked}
+use Rattle.wf_frame.specs.declared.notes.Refusal.{Refusal}
+use Rattle.wf_frame.specs.declared.notes.Refusal.TheVariants.{Idle}
+use Rattle.wf_frame.specs.Classes.{all_classes}
+use Rattle.wf_def_lists.specs.Table.{at, upto}
+use Rattle.wf_def_codel.specs.Codel.{Item}
+use Rattle.wf_def_agreement.specs.Session.{Session, Slot, State, no_slot, slot, on_slot, with_state, with_number_given, after_miss, slot_after_miss, next_number, is_settled, is_failed, request_due, new_session}
+use Rattle.wf_def_world.specs.World.{World, Station, Exchange, Mpdu, Content, Frames, Request, new_tid, no_tid, session, queue, is_live, exchange, accepted_count, with_station, on_station, on_session, on_receiver, with_exchange, without_exchange, with_frame_finished, opening}
+use Rattle.wf_def_world.specs.FlowQueues.{taken_for_tid, after_limit, after_put_in, with_appended, queue_for}
+use Rattle.wf_def_world.specs.CanSend.{can_send_in, can_give}
+use Rattle.wf_def_world.specs.Exchanges.{Aggregate, Prepared, most_frames, is_acked, mpdus_of, part_of, picked_station, sending_tid, waiting_mpdus, longest_fitting, with_number, with_fresh, aggregate_of, with_flying, prepared_data, prepared_exchange, with_exchange_opened, after_pick, after_tid_turn, after_arrival, after_charge, with_failed_finished, with_settled, with_all_settled, with_heard_start, after_done}
+use Rattle.wf_def_world.specs.Refusals.{refusal}
+use Rattle.wf_def_world.specs.Step.{Outcome, with_frame, enqueue_outcome, join_outcome, leave_outcome, rate_outcome, tick_outcome, send_outcome, pull_outcome_for, pull_outcome, arrive_outcome, answer_outcome, done_outcome, outcome_where_open, sleep_outcome, wake_outcome, poll_outcome, rx_outcome, reap_outcome, outcome_of, concerned_station, after_refusal, judged_outcome, step}
+use Rattle.wf_def_world.specs.Run.{Entry, world_after}
+use Rattle.wf_law_runs.specs.Tries.{count_of, count_in_part, tries_by, tries, IsCounted}
+use Rattle.wf_law_rules.proofs.Lemmas.Numbers.{on_bool, on_if, eq_yes, eq_no, yes_eq, not_eq, both, and_true}
+use Rattle.wf_law_rules.proofs.Lemmas.Tables.{each_put}
+use Rattle.wf_law_runs.proofs.Sessions.Starts.{at_change_same, at_change_other, length-change}
+use Rattle.wf_law_runs.proofs.Sessions.Flights.{AllIn, Rises, rises_weaken, all_in_later}
+use Rattle.wf_law_runs.proofs.Windows.Opened.{eight}
+use Rattle.wf_law_runs.proofs.Windows.Sides.{Side, Same, side_of, sides_of, then_same, each_side_on, same_on_station, same_on_share, same_finish, same_listed, same_after_pick, same_after_turn, same_spent, same_take, same_charged, same_within_limit, same_put_in}
+use Rattle.wf_law_runs.proofs.Windows.Agreed.{IsLawful, IsReady, IsEnding, IsFound, found, ready_filled, ending_settled, ending_of, lawful_same, lawful_step, lawful_at_first, session_same, session_on_session, winner_ready, same_left_tids, same_off_lists}
+use Rattle.wf_law_runs.proofs.Releases.Kept.{KeptSession, kept_on_slot}
+use Rattle.wf_law_runs.proofs.Releases.Placed.{Placing, Numbered, Queued, Place, Any, placed_filled, placed_less, placed_step, placed_at_first, queue_appended, less_put_in, less_with_frame, less_with_station, less_left_tids, less_off_lists, accepted_appended, accepted_with_frame, side_with_frame}
+use Rattle.wf_law_runs.proofs.Frames.Fewer.{carries, Less, then_less, less_plain, less_on_station, less_on_session, less_on_receiver, less_on_share, less_finish, less_listed, less_after_pick, less_after_turn, less_spent, less_within_limit, less_charged, less_take, IsTaken, given_take}
+use Rattle.wf_law_runs.proofs.Frames.Delivered.{Labelled, labelled_kept, labelled_filled}
+
+-- The counts of each number of a session.
+abbrev pub AllCounted : (ℕ → ℕ) → Session → Type 0
+AllCounted n y = (i : ℕ) → IsCounted n (at no_slot y.slots i)
+
+-- n says how often each frame was sent.
+pub record Counts (n : ℕ → ℕ) (w : World) : Type 0 where
+  pub slots : (s t : ℕ) → AllCounted n (session w s t)
+  -- A frame in a queue was never sent.
+  pub queued : (q k : ℕ) → carries (queue w q).items k ≡ true → n k ≡ 0
+  -- Nor was a frame that is not yet accepted.
+  pub fresh : (k : ℕ) → accepted_count w ≤ k → n k ≡ 0
+
+-- ---- sessions
+
+settled_counted : (n : ℕ → ℕ) (x : Slot) → is_settled x.state ≡ true → IsCounted n x
+settled_counted n x h = record {
+  waits = λ e. absurd (cc (h, ap is_settled e));
+  flies = λ k e. absurd (cc (h, ap is_settled e));
+}
+
+counted_equal : (n m : ℕ → ℕ) (x : Slot) → m x.id ≡ n x.id → IsCounted n x → IsCounted m x
+counted_equal n m x e h = record { waits = λ d. e ∙ h.waits d; flies = λ k d. e ∙ h.flies k d }
+
+counted_put : (n : ℕ → ℕ) (y : Session) (k : ℕ) (f : Slot → Slot) → IsCounted n (f (slot y k)) →
+    AllCounted n y → AllCounted n (on_slot k f y)
+counted_put n y k f h a = each_put (λ i x. IsCounted n x) no_slot y.slots (k - y.first) (f (slot y k)) a h
+
+counted_append : (n : ℕ → ℕ) (xs : List Slot) (x : Slot) → IsCounted n x →
+    ((i : ℕ) → IsCounted n (at no_slot xs i)) → (i : ℕ) → IsCounted n (at no_slot (xs ++ x ∷ []) i)
+counted_append n [] x k h zero = k
+counted_append n [] x k h (suc i) = h i
+counted_append n (y ∷ xs) x k h zero = h zero
+counted_append n (y ∷ xs) x k h (suc i) = counted_append n xs x k (λ j. h (suc j)) i
+
+counted_give : (n : ℕ → ℕ) (y : Session) (id : ℕ) → n id ≡ 0 → AllCounted n y →
+    AllCounted n (with_number_given y id)
+counted_give n y id none a = counted_append n y.slots _
+    (record { waits = λ _. none; flies = λ k e. absurd (cc e) }) a
+
+-- ---- the numbers of an aggregate are sent
+
+-- How often an aggregate sends a frame.
+abbrev pub times_in : ℕ → List Mpdu → ℕ
+times_in id [] = 0
+times_in id (m ∷ ms) = (if m.id == id then 1 else 0) + times_in id ms
+
+-- Each number of the session has a frame for itself.
+abbrev AreApart : (ℕ → ℕ) → Session → Type 0
+AreApart home y = (k : ℕ) → y.first ≤ k → k < next_number y → home (slot y k).id ≡ k
+
+apart_kept : (home : ℕ → ℕ) (y z : Session) → KeptSession y z → next_number z ≡ next_number y →
+    AreApart home y → AreApart home z
+apart_kept home y z k e a i from below =
+    let low : y.first ≤ i = omega (arith, from, k.first) in
+    let high : i < next_number y = omega (arith, below, e) in
+    ap home (k.ids i low high) ∙ a i low high
+
+pub one_if : (b : Bool) → b ≡ true → ◌≡◌ {A = ℕ} (if b then 1 else 0) 1
+one_if true e = refl
+one_if false e = absurd (cc e)
+
+pub none_if : (b : Bool) → b ≡ false → ◌≡◌ {A = ℕ} (if b then 1 else 0) 0
+none_if true e = absurd (cc e)
+none_if false e = refl
+
+unsettled_below : (xs : List Slot) (i : ℕ) → is_settled (at no_slot xs i).state ≡ false → i < length xs
+unsettled_below [] i h = absurd (cc h)
+unsettled_below (x ∷ xs) zero h = omega arith
+unsettled_below (x ∷ xs) (suc i) h = omega (arith, unsettled_below xs i h)
+
+-- One number is sent again.
+counted_one : (n home : ℕ → ℕ) (y : Session) (e : ℕ) (m : Mpdu) → y.first ≤ m.number →
+    m.number < next_number y → (slot y m.number).state ≡ State.Waiting → (slot y m.number).id ≡ m.id →
+    AreApart home y → AllCounted n y →
+    AllCounted (λ k. n k + (if m.id == k then 1 else 0)) (with_state (State.Flying e) m.number y)
+counted_one n home y e m from below waits label apart a i =
+    on_bool (i == m.number - y.first) here other
+  where
+    f : Slot → Slot
+    f x = record x { state = State.Flying e }
+
+    n' : ℕ → ℕ
+    n' k = n k + (if m.id == k then 1 else 0)
+
+    same_id : (slot y m.number).id ≡ m.id → n' (slot y m.number).id ≡ n (slot y m.number).id + 1
+    same_id h = ap (λ (k : ℕ). n (slot y m.number).id + k) (one_if (m.id == (slot y m.number).id)
+        (yes_eq m.id (slot y m.number).id (sym h)))
+
+    here : (i == m.number - y.first) ≡ true → IsCounted n' (at no_slot (on_slot m.number f y).slots i)
+    here h = subst (λ (j : ℕ). IsCounted n' (at no_slot (on_slot m.number f y).slots j))
+        (sym (eq_yes i (m.number - y.first) h))
+        (subst (IsCounted n') (sym (at_change_same y.slots (m.number - y.first) f))
+        (record {
+          waits = λ d. absurd (cc d);
+          flies = λ k d. same_id label
+              ∙ ap (λ (j : ℕ). j + 1) ((a (m.number - y.first)).waits waits);
+        }))
+
+    apart_from : (x : Slot) → at no_slot y.slots i ≡ x → (i ≡ m.number - y.first → ⊥) →
+        is_settled x.state ≡ false → m.id ≡ x.id → ⊥
+    apart_from x is ne open_yet same =
+        let inside : i < length y.slots = unsettled_below y.slots i (ap (λ (z : Slot). is_settled z.state) is
+        ∙ open_yet) in
+        let spot : y.first + i - y.first ≡ i = omega arith in
+        let carried : (slot y (y.first + i)).id ≡ x.id = ap (λ (j : ℕ). (at no_slot y.slots j).id) spot
+        ∙ ap (λ (z : Slot). z.id) is in
+        let theirs : home (slot y (y.first + i)).id ≡ y.first + i =
+        apart (y.first + i) (omega arith) (omega (arith, inside)) in
+        let ours : home (slot y m.number).id ≡ m.number = apart m.number from below in
+        let both_same : y.first + i ≡ m.number = cc (theirs, ours, carried, label, same) in
+        ne (omega (arith, both_same))
+
+    other : (i == m.number - y.first) ≡ false → IsCounted n' (at no_slot (on_slot m.number f y).slots i)
+    other h =
+        let ne : i ≡ m.number - y.first → ⊥ = eq_no i (m.number - y.first) h in
+        subst (IsCounted n') (sym (at_change_other y.slots (m.number - y.first) i f (λ d. ne (sym d))))
+        (go (at no_slot y.slots i) refl ne)
+      where
+        go : (x : Slot) → at no_slot y.slots i ≡ x → (i ≡ m.number - y.first → ⊥) → IsCounted n' x
+        go x is ne = on_bool (is_settled x.state) (settled_counted n' x)
+            (λ open_yet. counted_equal n n' x
+            (ap (λ (k : ℕ). n x.id + k) (none_if (m.id == x.id) (not_eq m.id x.id (apart_from x is ne
+            open_yet)))
+            ∙ add-zero (n x.id)) (subst (IsCounted n) is (a i)))
+
+counted_all : (ms : List Mpdu) (n home : ℕ → ℕ) (y : Session) (e lo hi : ℕ) → y.first ≤ lo →
+    hi ≡ next_number y → Rises lo hi ms → AllIn y State.Waiting ms → Labelled y ms → AreApart home y →
+    AllCounted n y → AllCounted (λ k. n k + times_in k ms) (with_flying e ms y)
+counted_all [] n home y e lo hi b top r w l apart a i = counted_equal n _ _ (add-zero _) (a i)
+counted_all (m ∷ ms) n home y e lo hi b top r w l apart a i =
+    let f : Slot → Slot = λ x. record x { state = State.Flying e } in
+    let z : Session = on_slot m.number f y in
+    let kept : KeptSession y z = kept_on_slot y m.number f (λ x. refl) in
+    let next : next_number z ≡ next_number y = ap (λ (k : ℕ). y.first + k)
+    (length-change y.slots (m.number - y.first) f (ap is_settled w.0)) in
+    let from : y.first ≤ m.number = omega (arith, b, r.0) in
+    let below : m.number < next_number y = omega (arith, r.1, top) in
+    counted_equal _ _ _ (omega arith)
+    (counted_all ms (λ k. n k + (if m.id == k then 1 else 0)) home z e (suc m.number) hi (omega (arith, from))
+    (omega (arith, top, next)) r.2
+    (all_in_later y State.Waiting m.number hi f ms from r.2 w.1)
+    (labelled_kept ms y z (suc m.number) kept (omega (arith, from))
+    (rises_weaken (suc m.number) (suc m.number) hi (next_number y) ms (omega arith) (omega (arith, top))
+    r.2) l.1)
+    (apart_kept home y z kept next apart)
+    (counted_one n home y e m from below w.0 l.0 apart a) i)
+
+-- ---- worlds
+
+counts_less : (n : ℕ → ℕ) (w v : World) → ((s t : ℕ) → session v s t ≡ session w s t) → Less Any w v →
+    Counts n w → Counts n v
+counts_less n w v e h c = record {
+  slots = λ s t. subst (AllCounted n) (sym (e s t)) (c.slots s t);
+  queued = λ q k d. c.queued q k ((h.queues q).has k d);
+  fresh = λ k d. c.fresh k (omega (arith, d, h.accepted));
+}
+
+counts_same : (n : ℕ → ℕ) (w v : World) → Same w v → Less Any w v → Counts n w → Counts n v
+counts_same n w v k h c = counts_less n w v (session_same w v k) h c
+
+slots_on_session : (n : ℕ → ℕ) (w : World) (s t : ℕ) (f : Session → Session) →
+    AllCounted n (f (session w s t)) → ((i j : ℕ) → AllCounted n (session w i j)) → (i j : ℕ) →
+    AllCounted n (session (on_session w s t f) i j)
+unfolding on_session
+slots_on_session n w s t f k h = each_side_on (λ _ _ z. AllCounted n z.session) w s t
+    (λ y. record y { session = f y.session }) h k
+
+counts_session : (n : ℕ → ℕ) (w : World) (s t : ℕ) (f : Session → Session) →
+    AllCounted n (f (session w s t)) → Counts n w → Counts n (on_session w s t f)
+counts_session n w s t f k c =
+    let h : Less Any w (on_session w s t f) = less_on_session Any w s t f in
+    record {
+      slots = slots_on_session n w s t f k c.slots;
+      queued = λ q i d. c.queued q i ((h.queues q).has i d);
+      fresh = λ i d. c.fresh i (omega (arith, d, h.accepted));
+    }
+
+slots_with_station : (n : ℕ → ℕ) (w : World) (s : ℕ) (o : Option Station) →
+    ((t : ℕ) → AllCounted n (sides_of o t).session) → ((i j : ℕ) → AllCounted n (session w i j)) → (i j : ℕ) →
+    AllCounted n (session (with_station w s o) i j)
+unfolding with_station
+slots_with_station n w s o k h = each_put
+    (λ _ z. (t : ℕ) → AllCounted n (sides_of z t).session) None w.stations s o h k
+
+counts_with_station : (n : ℕ → ℕ) (w : World) (s : ℕ) (o : Option Station) →
+    ((t : ℕ) → AllCounted n (sides_of o t).session) → Counts n w → Counts n (with_station w s o)
+counts_with_station n w s o k c =
+    let h : Less Any w (with_station w s o) = less_with_station w s o in
+    record {
+      slots = slots_with_station n w s o k c.slots;
+      queued = λ q i d. c.queued q i ((h.queues q).has i d);
+      fresh = λ i d. c.fresh i (omega (arith, d, h.accepted));
+    }
+
+-- ---- a pull
+
+-- u is the world before the take.
+counts_number : (o : Option Item) (n : ℕ → ℕ) (u v : World) (s t : ℕ) → Same u v → Less Any u v →
+    IfSome o (IsTaken u v) → Counts n u → Counts n (with_number v s t o)
+unfolding with_number
+counts_number None n u v s t k h taken c = counts_same n u v k h c
+counts_number (Some x) n u v s t k h taken c =
+    let d : Counts n v = counts_same n u v k h c in
+    counts_session n v s t (λ y. with_number_given y x.id)
+    (counted_give n (session v s t) x.id (c.queued taken.place x.id taken.there) (d.slots s t)) d
+
+filled_if : (b : Bool) (n : ℕ → ℕ) (x y : Aggregate) → Counts n x.world → Counts n y.world →
+    Counts n (if b then x else y).world
+filled_if true n x y h k = h
+filled_if false n x y h k = k
+
+counts_fresh : (m : ℕ) (n : ℕ → ℕ) (w : World) (s t : ℕ) (ms : List Mpdu) → Counts n w →
+    Counts n (with_fresh m w s t ms).world
+unfolding with_fresh
+counts_fresh zero n w s t ms c = c
+counts_fresh (suc m) n w s t ms c =
+    let taken = taken_for_tid w s t in
+    let numbered : Counts n (with_number taken.world s t taken.item) =
+    counts_number taken.item n w taken.world s t (same_take w s t) (less_take Any w s t) (given_take w s t) c
+    in
+    filled_if (not (can_give w s t)) n _ _ c (filled_if _ n _ _ (counts_fresh m n _ s t _ numbered) numbered)
+
+counts_filled : (n : ℕ → ℕ) (w : World) (s t : ℕ) → Counts n w → Counts n (aggregate_of w s t).world
+unfolding aggregate_of
+counts_filled n w s t c =
+    let chosen : List Mpdu = longest_fitting w s (waiting_mpdus w s t) in
+    filled_if (length chosen == length (waiting_mpdus w s t)) n
+    (with_fresh (most_frames w s - length chosen) w s t chosen) (record { world = w; mpdus = chosen })
+    (counts_fresh (most_frames w s - length chosen) n w s t chosen c) c
+
+-- The number at which a frame stands.
+abbrev number_at : Place → ℕ
+number_at (Queued q) = 0
+number_at (Numbered s t n) = n
+
+abbrev station_at : Place → ℕ
+station_at (Queued q) = 0
+station_at (Numbered s t n) = s
+
+abbrev tid_at : Place → ℕ
+tid_at (Queued q) = 0
+tid_at (Numbered s t n) = t
+
+-- A frame at a number of another TID is not in the aggregate.
+none_times : (ms : List Mpdu) (y : Session) (lo k : ℕ) → y.first ≤ lo → Rises lo (next_number y) ms →
+    Labelled y ms → ((n : ℕ) → y.first ≤ n → n < next_number y → (slot y n).id ≡ k → ⊥) → times_in k ms ≡ 0
+none_times [] y lo k b r l apart = refl
+none_times (m ∷ ms) y lo k b r l apart =
+    let low : y.first ≤ m.number = omega (arith, b, r.0) in
+    let ne : m.id ≡ k → ⊥ = λ e. apart m.number low r.1 (l.0 ∙ e) in
+    omega (
+      arith,
+      none_if (m.id == k) (not_eq m.id k ne),
+      none_times ms y (suc m.number) k (omega (arith, low)) r.2 l.1 apart,
+    )
+
+session_other : (w : World) (s t : ℕ) (f : Session → Session) (i j : ℕ) → (i ≡ s → j ≡ t → ⊥) →
+    session (on_session w s t f) i j ≡ session w i j
+unfolding on_session
+session_other w s t f i j ne = each_side_on (λ a b z. (a ≡ s → b ≡ t → ⊥) → z.session ≡ session w a b) w s t
+    (λ y. record y { session = f y.session }) (λ a b _. refl) (λ no. absurd (no refl refl)) i j ne
+
+-- The aggregate is sent: each of its frames is sent again.
+counts_flying : (l : List ℕ) (n : ℕ → ℕ) (s t : ℕ) (f : Aggregate) → IsReady s t f.world f.mpdus →
+    Labelled (session f.world s t) f.mpdus → Placing l f.world → Counts n f.world →
+    Counts (λ k. n k + times_in k f.mpdus) (prepared_data s t f).world
+unfolding prepared_data
+counts_flying l n s t f r labels p c = record {
+  slots = λ i j. on_bool ((i == s) && (j == t)) (λ h.
+      let b = both (i == s) (j == t) h in
+      subst (λ (a : ℕ). AllCounted n' (session v a j)) (sym (eq_yes i s b.0))
+      (subst (λ (a : ℕ). AllCounted n' (session v s a)) (sym (eq_yes j t b.1)) own)) (λ h.
+      let ne : i ≡ s → j ≡ t → ⊥ = λ es et. cc
+      (h, and_true (i == s) (j == t) (yes_eq i s es) (yes_eq j t et)) in
+      subst (AllCounted n') (sym (session_other u s t g i j ne)) (others i j ne));
+  queued = λ q k d.
+      let there : carries (queue u q).items k ≡ true = (h_less.queues q).has k d in
+      omega (
+        arith,
+        c.queued q k there,
+        none_times f.mpdus y y.first k (omega arith) r.chosen.rising labels
+            (λ m from below e. cc ((p.queued q k there).place, (p.numbered s t m from below).place, e)),
+      );
+  fresh = λ k d.
+      let old : accepted_count u ≤ k = omega (arith, d, h_less.accepted) in
+      omega (
+        arith,
+        c.fresh k old,
+        none_times f.mpdus y y.first k (omega arith) r.chosen.rising labels
+            (λ m from below e. omega (arith, e, (p.numbered s t m from below).old, old)),
+      );
+}
+  where
+    u : World
+    u = f.world
+
+    y : Session
+    y = session u s t
+
+    g : Session → Session
+    g = with_flying u.exchanges f.mpdus
+
+    v : World
+    v = on_session u s t g
+
+    n' : ℕ → ℕ
+    n' k = n k + times_in k f.mpdus
+
+    h_less : Less Any u v
+    h_less = less_on_session Any u s t g
+
+    own : AllCounted n' (session v s t)
+    own = subst (AllCounted n') (sym (session_on_session u s t g r.live))
+        (counted_all f.mpdus n (λ k. number_at (p.home k)) y u.exchanges y.first (next_number y) (omega
+        arith) refl
+        r.chosen.rising r.chosen.waiting labels (λ k from below. ap number_at (p.numbered s t k from
+        below).place)
+        (c.slots s t))
+
+    others : (i j : ℕ) → (i ≡ s → j ≡ t → ⊥) → AllCounted n' (session u i j)
+    others i j ne a = go (at no_slot (session u i j).slots a) refl
+      where
+        go : (x : Slot) → at no_slot (session u i j).slots a ≡ x → IsCounted n' x
+        go x is = on_bool (is_settled x.state) (settled_counted n' x) (λ open_yet.
+            let z : Session = session u i j in
+            let inside : a < length z.slots = unsettled_below z.slots a (ap (λ (b : Slot). is_settled
+            b.state) is
+            ∙ open_yet) in
+            let k : ℕ = z.first + a in
+            let spot : k - z.first ≡ a = omega arith in
+            let carried : (slot z k).id ≡ x.id = ap (λ (b : ℕ). (at no_slot z.slots b).id) spot
+            ∙ ap (λ (b : Slot). b.id) is in
+            let theirs : p.home (slot z k).id ≡ Numbered i j k =
+            (p.numbered i j k (omega arith) (omega (arith, inside))).place in
+            let none : times_in x.id f.mpdus ≡ 0 = none_times f.mpdus y y.first x.id (omega arith)
+            r.chosen.rising labels (λ m from below e. (
+            let ours : p.home (slot y m).id ≡ Numbered s t m = (p.numbered s t m from below).place in
+            let same : Numbered i j k ≡ Numbered s t m = cc (theirs, ours, ap p.home carried, ap p.home e) in
+            ne (ap station_at same) (ap tid_at same))) in
+            counted_equal n n' x (ap (λ (b : ℕ). n x.id + b) none ∙ add-zero (n x.id))
+            (subst (IsCounted n) is (c.slots i j a)))
+
+-- How often a prepared exchange sends a frame.
+abbrev pub times_by : ℕ → Content → ℕ
+times_by k c = times_in k (mpdus_of c)
+
+prepared_if : (b : Bool) (n : ℕ → ℕ) (x y : Prepared) → Counts (λ k. n k + times_by k x.content) x.world →
+    (b ≡ false → Counts (λ k. n k + times_by k y.content) y.world) →
+    Counts (λ k. n k + times_by k (if b then x else y).content) (if b then x else y).world
+prepared_if true n x y h k = h
+prepared_if false n x y h k = k refl
+
+pub counts_equal : (n m : ℕ → ℕ) (w : World) → ((k : ℕ) → m k ≡ n k) → Counts n w → Counts m w
+counts_equal n m w e c = record {
+  slots = λ s t i. counted_equal n m _ (e _) (c.slots s t i);
+  queued = λ q k d. e k ∙ c.queued q k d;
+  fresh = λ k d. e k ∙ c.fresh k d;
+}
+
+content_of_data : (s t : ℕ) (f : Aggregate) → mpdus_of (prepared_data s t f).content ≡ f.mpdus
+unfolding prepared_data
+content_of_data s t f = refl
+
+counts_prepared : (l : List ℕ) (n : ℕ → ℕ) (w : World) (s t : ℕ) → IsLawful w → is_live w s ≡ true →
+    Placing l w → Counts n w →
+    Counts (λ k. n k + times_by k (prepared_exchange w s t).content) (prepared_exchange w s t).world
+unfolding prepared_exchange
+counts_prepared l n w s t i live p c =
+    prepared_if (request_due (session w s t)) n _ _ (counts_equal n _ w (λ k. add-zero (n k)) c)
+    (λ quiet. counts_equal _ _ _ (λ k. ap (λ (ms : List Mpdu). n k + times_in k ms)
+    (content_of_data s t (aggregate_of w s t)))
+    (counts_flying l n s t (aggregate_of w s t) (ready_filled w s t i live quiet)
+    (labelled_filled w s t i live quiet) (placed_filled l w s t p) (counts_filled n w s t c)))
+
+times_named : (id : ℕ) (ms : List Mpdu) → count_of id (map (λ m. (m.id, m.number % 4096)) ms) ≡ times_in id ms
+times_named id [] = refl
+times_named id (m ∷ ms) = ap (λ (k : ℕ). (if m.id == id then 1 else 0) + k) (times_named id ms)
+
+pub times_part : (id : ℕ) (c : Content) → count_in_part id (part_of c) ≡ times_by id c
+times_part id (Frames ms) = times_named id ms
+times_part id (Request f) = refl
+
+counts_sent : (n : ℕ → ℕ) (s t : ℕ) (c : Class) (p : Prepared) →
+    Counts (λ k. n k + times_by k p.content) p.world →
+    Counts (λ k. n k + tries_by k (send_outcome s t c p).reply) (send_outcome s t c p).world
+unfolding send_outcome with_exchange_opened
+counts_sent n s t c p h = counts_same _ _ _ (same_spent _ s) (less_spent Any _ s)
+    (counts_less _ p.world _ (λ i j. refl) (less_plain Any p.world _ refl refl)
+    (counts_equal _ _ p.world (λ k. ap (λ (m : ℕ). n k + m) (times_part k p.content)) h))
+
+counts_pulled_by : (o : Option ℕ) (l : List ℕ) (n : ℕ → ℕ) (w : World) (c : Class) →
+    IfSome o (λ s. (is_live w s ≡ true) × (can_send_in w s c ≡ true)) → IsLawful w → Placing l w →
+    Counts n w → Counts (λ k. n k + tries_by k (pull_outcome_for w c o).reply) (pull_outcome_for w c o).world
+unfolding pull_outcome_for
+counts_pulled_by None l n w c ready i p h = counts_equal n _ w (λ k. add-zero (n k)) h
+counts_pulled_by (Some s) l n w c ready i p h =
+    let t : ℕ = sending_tid w s c in
+    let k : Same w (after_tid_turn w s c t) = same_after_turn w s c t in
+    counts_sent n s t c _ (counts_prepared l n _ s t (lawful_same _ _ k i) (k.live s ∙ ready.0)
+    (placed_less l w _ (less_after_turn Any w s c t) k.sides p)
+    (counts_same n w _ k (less_after_turn Any w s c t) h))
+
+counts_pulled : (l : List ℕ) (n : ℕ → ℕ) (w : World) (c : Class) → IsLawful w → Placing l w →
+    Counts n w → Counts (λ k. n k + tries_by k (pull_outcome w c).reply) (pull_outcome w c).world
+unfolding pull_outcome
+counts_pulled l n w c i p h =
+    let k : Same w (after_pick w c) = same_after_pick w c in
+    counts_pulled_by (picked_station w c).winner l n (after_pick w c) c (winner_ready w c)
+    (lawful_same _ _ k i) (placed_less l w _ (less_after_pick Any w c) k.sides p)
+    (counts_same n w _ k (less_after_pick Any w c) h)
+
+-- ---- the end of an exchange
+
+counted_miss : (n : ℕ → ℕ) (limit e : ℕ) (x : Slot) → x.state ≡ State.Flying e → IsCounted n x →
+    IsCounted n (slot_after_miss limit x)
+counted_miss n limit e x flies h = go (nat_le limit (x.attempts + 1))
+  where
+    go : (b : Bool) → IsCounted n (record {
+      id = x.id;
+      attempts = x.attempts + 1;
+      state =
+          if b then State.Failed else State.Waiting;
+    })
+    go true = record { waits = λ d. absurd (cc d); flies = λ k d. absurd (cc d) }
+    go false = record { waits = λ _. h.flies e flies; flies = λ k d. absurd (cc d) }
+
+counts_finish : (n : ℕ → ℕ) (w : World) (fate : Fate) (id : ℕ) → Counts n w →
+    Counts n (with_frame_finished w fate id)
+counts_finish n w fate id c = counts_same n w _ (same_finish w fate id) (less_finish Any w fate id (λ _.
+    tt)) c
+
+counts_settled : (b : Bool) (n : ℕ → ℕ) (e : ℕ) (w : World) (s t : ℕ) (m : Mpdu) →
+    (slot (session w s t) m.number).state ≡ State.Flying e → Counts n w → Counts n (with_settled w s t b m)
+unfolding with_settled with_failed_finished
+counts_settled true n e w s t m flies c =
+    let y : Session = session w s t in
+    counts_finish n _ _ _ (counts_session n w s t (with_state State.Acked m.number)
+    (counted_put n y m.number (λ x. record x { state = State.Acked }) (settled_counted n _ refl) (c.slots s
+    t)) c)
+counts_settled false n e w s t m flies c =
+    let y : Session = session w s t in
+    let v : World = on_session w s t (after_miss w.config.attempts m.number) in
+    let k : Counts n v = counts_session n w s t (after_miss w.config.attempts m.number)
+    (counted_put n y m.number (slot_after_miss w.config.attempts)
+    (counted_miss n w.config.attempts e (slot y m.number) flies (c.slots s t (m.number - y.first)))
+    (c.slots s t)) c in
+    on_if (Counts n) (is_failed (slot (session v s t) m.number).state) _ v (λ _. counts_finish n v _ _ k)
+    (λ _. k)
+
+counts_all : (ms : List Mpdu) (n : ℕ → ℕ) (e s t : ℕ) (w : World) (acked : ℕ → Bool) →
+    IsEnding e s t acked w ms → Counts n w → Counts n (with_all_settled w s t acked ms)
+unfolding with_all_settled
+counts_all [] n e s t w acked i c = c
+counts_all (m ∷ ms) n e s t w acked i c =
+    counts_all ms n e s t _ acked (ending_settled (acked m.number) e s t acked w m ms refl i)
+    (counts_settled (acked m.number) n e w s t m i.flies.flying.0 c)
+
+counted_heard : (b : Bool) (n : ℕ → ℕ) (f : ℕ) (y : Session) → AllCounted n y →
+    AllCounted n (with_heard_start b f y)
+counted_heard true n f y a = a
+counted_heard false n f y a = a
+
+counts_after : (air : Option ℕ) (c : Content) (n : ℕ → ℕ) (w : World) (i : IsLawful w) (x : Exchange)
+    (heard : Bool) → x.content ≡ c → IsFound w i x →
+    Counts n (after_charge (without_exchange w x.number) x air) →
+    Counts n (after_done (after_charge (without_exchange w x.number) x air) x heard c)
+unfolding after_done
+counts_after air (Frames ms) n w i x heard e f h =
+    counts_all ms n x.number x.station x.tid _ (is_acked heard x.answer) (ending_of air w i x ms heard e f) h
+counts_after air (Request g) n w i x heard e f h =
+    let v : World = after_charge (without_exchange w x.number) x air in
+    counts_session n v x.station x.tid (with_heard_start heard g)
+    (counted_heard heard n g (session v x.station x.tid) (h.slots x.station x.tid)) h
+
+counts_without : (n : ℕ → ℕ) (w : World) (e : ℕ) → Counts n w → Counts n (without_exchange w e)
+unfolding without_exchange
+counts_without n w e c = counts_less n w _ (λ s t. refl) (less_plain Any w _ refl refl) c
+
+counts_ended : (air : Option ℕ) (n : ℕ → ℕ) (w : World) (i : IsLawful w) (x : Exchange) (heard : Bool) →
+    IsFound w i x → Counts n w → Counts n (done_outcome w x heard air).world
+unfolding done_outcome
+counts_ended air n w i x heard f c = counts_after air x.content n w i x heard refl f
+    (counts_same n _ _ (same_charged air _ x) (less_charged air Any _ x) (counts_without n w x.number c))
+
+-- ---- the other calls
+
+slots_arrived : (n : ℕ → ℕ) (w : World) (x : Exchange) (k : ℕ) → ((s t : ℕ) → AllCounted n (session w s t)) →
+    (s t : ℕ) → AllCounted n (session (arrive_outcome w x k).world s t)
+unfolding arrive_outcome with_exchange on_receiver
+slots_arrived n w x k h = each_side_on (λ _ _ z. AllCounted n z.session) w x.station x.tid
+    (λ y. record y { receiver = after_arrival x.content k y.receiver }) h (h x.station x.tid)
+
+less_arrived : (w : World) (x : Exchange) (k : ℕ) → Less Any w (arrive_outcome w x k).world
+unfolding arrive_outcome with_exchange
+less_arrived w x k = then_less Any w _ _ (less_on_receiver Any w x.station x.tid (after_arrival x.content k))
+    (less_plain Any _ _ refl refl)
+
+counts_arrived : (n : ℕ → ℕ) (w : World) (x : Exchange) (k : ℕ) → Counts n w →
+    Counts n (arrive_outcome w x k).world
+counts_arrived n w x k c =
+    let h : Less Any w (arrive_outcome w x k).world = less_arrived w x k in
+    record {
+      slots = slots_arrived n w x k c.slots;
+      queued = λ q i d. c.queued q i ((h.queues q).has i d);
+      fresh = λ i d. c.fresh i (omega (arith, d, h.accepted));
+    }
+
+counts_answered : (n : ℕ → ℕ) (w : World) (x : Exchange) → Counts n w → Counts n (answer_outcome w x).world
+unfolding answer_outcome with_exchange
+counts_answered n w x c = counts_less n w _ (λ s t. refl) (less_plain Any w _ refl refl) c
+
+bare_counted : (n : ℕ → ℕ) (first size : ℕ) → AllCounted n (new_session first size)
+bare_counted n first size i = settled_counted n _ refl
+
+counts_joined : (n : ℕ → ℕ) (w : World) (s window start exponent weight : ℕ) → Counts n w →
+    Counts n (join_outcome w s window start exponent weight).world
+unfolding join_outcome
+counts_joined n w s window start exponent weight c =
+    counts_with_station n w s _ (eight (λ y. AllCounted n y.session) (new_tid start window)
+    (bare_counted n start window) (bare_counted n 0 0)) c
+
+counts_gone : (n : ℕ → ℕ) (w : World) (s : ℕ) → Counts n w → Counts n (leave_outcome w s).world
+unfolding leave_outcome
+counts_gone n w s c =
+    counts_with_station n _ s None (λ _. bare_counted n 0 0)
+    (counts_same n w _ (then_same _ _ _ (same_left_tids (upto 8) w s) (same_off_lists all_classes _ s))
+    (then_less Any _ _ _ (less_left_tids (upto 8) w s) (less_off_lists all_classes _ s)) c)
+
+counts_put : (n : ℕ → ℕ) (w u v : World) (q : ℕ) (x : Item) → x.id ≡ accepted_count w → Less Any w u →
+    Less Any (with_appended u q x) v → ((s t : ℕ) → session v s t ≡ session w s t) →
+    accepted_count w < accepted_count v → Counts n w → Counts n v
+counts_put n w u v q x e h k same more c = record {
+  slots = λ s t. subst (AllCounted n) (sym (same s t)) (c.slots s t);
+  queued = λ b i d. elim (queue_appended u q x b i ((k.queues b).has i d)) [
+    | inl was ↦ c.queued b i ((h.queues b).has i was)
+    | inr new ↦ c.fresh i (omega (arith, new.1, e))
+  ];
+  fresh = λ i d. c.fresh i (omega (arith, d, more));
+}
+
+counts_enqueued : (n : ℕ → ℕ) (w : World) (s t flow len : ℕ) → Counts n w →
+    Counts n (enqueue_outcome w s t flow len).world
+unfolding enqueue_outcome
+counts_enqueued n w s t flow len c =
+    let u : World = after_limit w in
+    let q : ℕ = queue_for u s t flow in
+    let x : Item = record { id = accepted_count w; stamp = w.clock; len = len } in
+    let a : World = after_put_in u s t q x in
+    let v : World = with_frame a (Enqueue s t flow len) in
+    let h : Less Any w u = less_within_limit Any w in
+    let k : Less Any (with_appended u q x) a = less_put_in u s t q x in
+    counts_put n w u v q x refl h (then_less Any _ a _ k (less_with_frame a (Enqueue s t flow len)))
+    (λ i j. ap (λ (b : Side). b.session) (side_with_frame a (Enqueue s t flow len) i j
+    ∙ (then_same w u a (same_within_limit w) (same_put_in u s t q x)).sides i j))
+    (omega (
+      arith,
+      accepted_with_frame a (Enqueue s t flow len),
+      k.accepted,
+      h.accepted,
+      accepted_appended u q x,
+    )) c
+
+counts_reaped : (ids : List ℕ) (n : ℕ → ℕ) (w : World) → Counts n w → Counts n (reap_outcome w ids).world
+unfolding reap_outcome
+counts_reaped [] n w c = c
+counts_reaped (id ∷ ids) n w c = counts_less n w _ (λ s t. refl) (less_plain Any w _ refl refl) c
+
+counts_open : (P : Exchange → Type 0) (o : Option Exchange) (n : ℕ → ℕ) (w : World) (f : Exchange → Outcome) →
+    IfSome o P → ((x : Exchange) → P x → Counts n (f x).world) → Counts n w →
+    Counts n (outcome_where_open w o f).world
+unfolding outcome_where_open
+counts_open P None n w f p k h = h
+counts_open P (Some x) n w f p k h = k x p
+
+counts_on_station : (n : ℕ → ℕ) (w : World) (s : ℕ) (f : Station → Station) →
+    ((x : Station) (t : ℕ) → side_of (at no_tid (f x).tids t) ≡ side_of (at no_tid x.tids t)) → Counts n w →
+    Counts n (on_station w s f)
+counts_on_station n w s f h c = counts_same n w _ (same_on_station w s f h) (less_on_station Any w s f) c
+
+-- ---- the step
+
+-- A call that sends nothing.
+counts_plain : (n : ℕ → ℕ) (o : Outcome) → ((k : ℕ) → tries_by k o.reply ≡ 0) → Counts n o.world →
+    Counts (λ k. n k + tries_by k o.reply) o.world
+counts_plain n o none c = counts_equal n _ o.world (λ k. ap (λ (m : ℕ). n k + m) (none k) ∙ add-zero (n k)) c
+
+none_open : (o : Option Exchange) (w : World) (f : Exchange → Outcome) (k : ℕ) →
+    ((x : Exchange) → tries_by k (f x).reply ≡ 0) → tries_by k (outcome_where_open w o f).reply ≡ 0
+unfolding outcome_where_open
+none_open None w f k h = refl
+none_open (Some x) w f k h = h x
+
+none_arrived : (w : World) (x : Exchange) (n k : ℕ) → tries_by k (arrive_outcome w x n).reply ≡ 0
+unfolding arrive_outcome
+none_arrived w x n k = refl
+
+none_answered : (w : World) (x : Exchange) (k : ℕ) → tries_by k (answer_outcome w x).reply ≡ 0
+unfolding answer_outcome
+none_answered w x k = refl
+
+none_ended : (w : World) (x : Exchange) (heard : Bool) (air : Option ℕ) (k : ℕ) →
+    tries_by k (done_outcome w x heard air).reply ≡ 0
+unfolding done_outcome
+none_ended w x heard air k = refl
+
+none_reaped : (ids : List ℕ) (w : World) (k : ℕ) → tries_by k (reap_outcome w ids).reply ≡ 0
+unfolding reap_outcome
+none_reaped [] w k = refl
+none_reaped (id ∷ ids) w k = refl
+
+none_enqueued : (w : World) (s t flow len k : ℕ) → tries_by k (enqueue_outcome w s t flow len).reply ≡ 0
+unfolding enqueue_outcome
+none_enqueued w s t flow len k = refl
+
+none_joined : (w : World) (s window start exponent weight k : ℕ) →
+    tries_by k (join_outcome w s window start exponent weight).reply ≡ 0
+unfolding join_outcome
+none_joined w s window start exponent weight k = refl
+
+none_gone : (w : World) (s k : ℕ) → tries_by k (leave_outcome w s).reply ≡ 0
+unfolding leave_outcome
+none_gone w s k = refl
+
+counts_done : (note : Note) (l : List ℕ) (n : ℕ → ℕ) (w : World) (i : IsLawful w) → Placing l w → Counts n w →
+    Counts (λ k. n k + tries_by k (outcome_of w note).reply) (outcome_of w note).world
+unfolding outcome_of tick_outcome rate_outcome sleep_outcome wake_outcome poll_outcome rx_outcome
+counts_done (Enqueue s t flow len) l n w i p c = counts_plain n (enqueue_outcome w s t flow len)
+    (none_enqueued w s t flow len) (counts_enqueued n w s t flow len c)
+counts_done (Asked (Join s window start exponent weight)) l n w i p c =
+    counts_plain n (join_outcome w s window start exponent weight) (none_joined w s window start exponent
+    weight)
+    (counts_joined n w s window start exponent weight c)
+counts_done (Asked (Leave s)) l n w i p c = counts_plain n (leave_outcome w s) (none_gone w s) (counts_gone
+    n w s c)
+counts_done (Asked (Rate s rate)) l n w i p c = counts_plain n (rate_outcome w s rate) (λ k. refl)
+    (counts_on_station n w s _ (λ x t. refl) c)
+counts_done (Asked (Tick by)) l n w i p c = counts_plain n (tick_outcome w by) (λ k. refl)
+    (counts_less n w _ (λ s t. refl) (less_plain Any w _ refl refl) c)
+counts_done (Asked (Pull c)) l n w i p k = counts_pulled l n w c i p k
+counts_done (Asked (Arrive e m)) l n w i p c =
+    counts_plain n (outcome_where_open w (exchange w e) (λ x. arrive_outcome w x m))
+    (λ k. none_open (exchange w e) w _ k (λ x. none_arrived w x m k))
+    (counts_open (IsFound w i) (exchange w e) n w _ (found w i e) (λ x _. counts_arrived n w x m c) c)
+counts_done (Asked (Answer e)) l n w i p c =
+    counts_plain n (outcome_where_open w (exchange w e) (λ x. answer_outcome w x))
+    (λ k. none_open (exchange w e) w _ k (λ x. none_answered w x k))
+    (counts_open (IsFound w i) (exchange w e) n w _ (found w i e) (λ x _. counts_answered n w x c) c)
+counts_done (Asked (Done e heard air)) l n w i p c =
+    counts_plain n (outcome_where_open w (exchange w e) (λ x. done_outcome w x heard air))
+    (λ k. none_open (exchange w e) w _ k (λ x. none_ended w x heard air k))
+    (counts_open (IsFound w i) (exchange w e) n w _ (found w i e)
+    (λ x f. counts_ended air n w i x heard f c) c)
+counts_done (Asked (Sleep s)) l n w i p c = counts_plain n (sleep_outcome w s) (λ k. refl)
+    (counts_on_station n w s _ (λ x t. refl) c)
+counts_done (Asked (Wake s)) l n w i p c = counts_plain n (wake_outcome w s) (λ k. refl)
+    (counts_on_station n w s _ (λ x t. refl) c)
+counts_done (Asked (Poll s)) l n w i p c = counts_plain n (poll_outcome w s) (λ k. refl)
+    (counts_on_station n w s _ (λ x t. refl) c)
+counts_done (Asked (Rx s c air)) l n w i p k = counts_plain n (rx_outcome w s c air) (λ k. refl)
+    (counts_same n w _ (same_on_share w s c _) (less_on_share Any w s c _) k)
+counts_done (Asked Reap) l n w i p c = counts_plain n (reap_outcome w w.finished) (none_reaped w.finished w)
+    (counts_reaped w.finished n w c)
+
+counts_refused : (note : Note) (r : Refusal) (n : ℕ → ℕ) (w : World) → Counts n w →
+    Counts n (after_refusal w note r)
+unfolding after_refusal
+counts_refused (Asked (Pull c)) Idle n w k = counts_same n w _ (same_after_pick w c) (less_after_pick Any w
+    c) k
+counts_refused _ _ n w k = k
+
+counts_answer : (r : Option Refusal) (l : List ℕ) (n : ℕ → ℕ) (w : World) (note : Note) (i : IsLawful w) →
+    Placing l w → Counts n w →
+    Counts (λ k. n k + tries_by k (judged_outcome w note r).reply) (judged_outcome w note r).world
+unfolding judged_outcome
+counts_answer (Some r) l n w note i p c = counts_equal n _ _ (λ k. add-zero (n k)) (counts_refused note r n
+    w c)
+counts_answer None l n w note i p c =
+    let o : Outcome = outcome_of w note in
+    counts_same _ o.world _ (same_listed (concerned_station w note) o.world)
+    (less_listed Any (concerned_station w note) o.world) (counts_done note l n w i p c)
+
+pub counts_step : (l : List ℕ) (n : ℕ → ℕ) (w : World) (note : Note) (i : IsLawful w) → Placing l w →
+    Counts n w → Counts (λ k. n k + tries_by k (step w note).reply) (step w note).world
+unfolding step
+counts_step l n w note i p c = counts_answer (refusal w note) l n w note i p c
+
+counts_run : (h : List Entry) (l : List ℕ) (n : ℕ → ℕ) (w : World) (i : IsLawful w) → Placing l w → Counts
+    n w →
+    Counts (λ k. n k + tries w k h) (world_after w h)
+unfolding world_after
+counts_run [] l n w i p c = counts_equal n _ w (λ k. add-zero (n k)) c
+counts_run (e ∷ es) l n w i p c = counts_equal _ _ _ (λ k. omega arith)
+    (counts_run es _ _ (step w e.1).world (lawful_step w e.1 i) (placed_step l w i e.1 p)
+    (counts_step l n w e.1 i p c))
+
+pub counts_first : (config : Config) → Counts (λ k. 0) (opening config)
+counts_first config = record {
+  slots = λ s t i. settled_counted (λ k. 0) no_slot refl;
+  queued = λ q k d. refl;
+  fresh = λ k d. refl;
+}
+
+pub counts : (config : Config) (h : List Entry) →
+    Counts (λ k. tries (opening config) k h) (world_after (opening config) h)
+counts config h = counts_equal _ _ _ (λ k. omega arith)
+    (counts_run h [] (λ k. 0) (opening config) (lawful_at_first config) (placed_at_first config)
+    (counts_first config))

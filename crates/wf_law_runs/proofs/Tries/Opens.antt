@@ -1,0 +1,138 @@
+-- Proves that a call that sends frames opens the exchange that its reply names, and that all other calls send
+-- none. By cases of the call.
+use Rattle.std.proofs.Common.{◌≡◌, refl, sym, subst, ℕ, ◌⊎◌, inl, inr, List, [], ◌∷◌, ◌++◌, Option, Some, None}
+use Rattle.wf_frame.specs.declared.classes.Class.{Class}
+use Rattle.wf_frame.specs.declared.notes.Ask.TheVariants.{Join, Leave, Rate, Tick, Pull, Arrive, Answer, Done, Sleep, Wake, Poll, Rx, Reap}
+use Rattle.wf_frame.specs.declared.notes.Note.{Note}
+use Rattle.wf_frame.specs.declared.notes.Note.TheVariants.{Enqueue, Asked}
+use Rattle.wf_frame.specs.declared.notes.Refusal.{Refusal}
+use Rattle.wf_frame.specs.declared.notes.ReplyNote.{ReplyNote}
+use Rattle.wf_frame.specs.declared.notes.ReplyNote.TheVariants.{Send}
+use Rattle.wf_def_world.specs.World.{World, Exchange, exchange}
+use Rattle.wf_def_world.specs.Exchanges.{Prepared, part_of, exchange_of, picked_station, after_pick, with_exchange_opened}
+use Rattle.wf_def_world.specs.Refusals.{refusal}
+use Rattle.wf_def_world.specs.Step.{Outcome, enqueue_outcome, join_outcome, leave_outcome, rate_outcome, tick_outcome, send_outcome, pull_outcome_for, pull_outcome, arrive_outcome, answer_outcome, done_outcome, outcome_where_open, sleep_outcome, wake_outcome, poll_outcome, rx_outcome, reap_outcome, outcome_of, concerned_station, judged_outcome, step}
+use Rattle.wf_law_runs.specs.Windows.{SomeOpen}
+use Rattle.wf_law_runs.specs.Tries.{tries_by, frames_sent_by, data_exchanges_by}
+use Rattle.wf_law_runs.proofs.Windows.Opened.{Each}
+use Rattle.wf_law_runs.proofs.Windows.Sides.{same_spent, same_listed}
+
+-- A reply that sends no frame.
+pub record SendsNone (r : ReplyNote) : Type 0 where
+  pub tries : (k : ℕ) → tries_by k r ≡ 0
+  pub frames : frames_sent_by r ≡ 0
+  pub exchanges : data_exchanges_by r ≡ 0
+
+-- An outcome that opens an exchange, and whose reply names it.
+pub record Opens (o : Outcome) : Type 0 where
+  pub exchange : Exchange
+  pub among : SomeOpen (λ y. y ≡ exchange) o.world.opened
+  pub reply : o.reply ≡ Send exchange.number exchange.station exchange.tid exchange.charge
+      (part_of exchange.content) exchange.more
+
+abbrev pub NoneOrOpens : Outcome → Type 0
+NoneOrOpens o = SendsNone o.reply ⊎ Opens o
+
+pub at_some : (P : Exchange → Type 0) (xs : List Exchange) (x : Exchange) → Each P xs →
+    SomeOpen (λ y. y ≡ x) xs → P x
+at_some P [] x h s = absurd s
+at_some P (y ∷ ys) x h s = elim s [ inl e ↦ subst P e h.0 | inr e ↦ at_some P ys x h.1 e ]
+
+some_last : (xs : List Exchange) (x : Exchange) → SomeOpen (λ y. y ≡ x) (xs ++ x ∷ [])
+some_last [] x = inl refl
+some_last (y ∷ ys) x = inr (some_last ys x)
+
+nothing : (r : ReplyNote) → ((k : ℕ) → tries_by k r ≡ 0) → frames_sent_by r ≡ 0 → data_exchanges_by r ≡ 0 →
+    SendsNone r
+nothing r t f d = record { tries = t; frames = f; exchanges = d }
+
+none_open : (o : Option Exchange) (w : World) (f : Exchange → Outcome) →
+    ((x : Exchange) → SendsNone (f x).reply) → SendsNone (outcome_where_open w o f).reply
+unfolding outcome_where_open
+none_open None w f h = nothing _ (λ k. refl) refl refl
+none_open (Some x) w f h = h x
+
+none_reaped : (ids : List ℕ) (w : World) → SendsNone (reap_outcome w ids).reply
+unfolding reap_outcome
+none_reaped [] w = nothing _ (λ k. refl) refl refl
+none_reaped (id ∷ ids) w = nothing _ (λ k. refl) refl refl
+
+opens_sent : (s t : ℕ) (c : Class) (p : Prepared) → Opens (send_outcome s t c p)
+unfolding send_outcome with_exchange_opened
+opens_sent s t c p =
+    let x : Exchange = exchange_of s t c p in
+    record {
+      exchange = x;
+      among = subst (SomeOpen (λ y. y ≡ x)) (sym (same_spent (with_exchange_opened p.world x) s).opened)
+          (some_last p.world.opened x);
+      reply = refl;
+    }
+
+opens_pulled_by : (o : Option ℕ) (w : World) (c : Class) → NoneOrOpens (pull_outcome_for w c o)
+unfolding pull_outcome_for
+opens_pulled_by None w c = inl (nothing _ (λ k. refl) refl refl)
+opens_pulled_by (Some s) w c = inr (opens_sent s _ c _)
+
+opens_pulled : (w : World) (c : Class) → NoneOrOpens (pull_outcome w c)
+unfolding pull_outcome
+opens_pulled w c = opens_pulled_by (picked_station w c).winner (after_pick w c) c
+
+-- A call that is not a Pull sends nothing.
+abbrev pub PullsOr : Note → ReplyNote → Type 0
+PullsOr note r = ((c : Class) × (note ≡ Asked (Pull c))) ⊎ SendsNone r
+
+none_done : (note : Note) (w : World) → PullsOr note (outcome_of w note).reply
+unfolding outcome_of enqueue_outcome join_outcome leave_outcome tick_outcome rate_outcome sleep_outcome
+    wake_outcome poll_outcome rx_outcome arrive_outcome answer_outcome done_outcome
+none_done (Enqueue s t flow len) w = inr (nothing _ (λ k. refl) refl refl)
+none_done (Asked (Join s window start exponent weight)) w = inr (nothing _ (λ k. refl) refl refl)
+none_done (Asked (Leave s)) w = inr (nothing _ (λ k. refl) refl refl)
+none_done (Asked (Rate s rate)) w = inr (nothing _ (λ k. refl) refl refl)
+none_done (Asked (Tick by)) w = inr (nothing _ (λ k. refl) refl refl)
+none_done (Asked (Pull c)) w = inl (c, refl)
+none_done (Asked (Arrive e n)) w = inr (none_open (exchange w e) w _ (λ x. nothing _ (λ k. refl) refl refl))
+none_done (Asked (Answer e)) w = inr (none_open (exchange w e) w _ (λ x. nothing _ (λ k. refl) refl refl))
+none_done (Asked (Done e heard air)) w = inr (none_open (exchange w e) w _ (λ x.
+    nothing _ (λ k. refl) refl refl))
+none_done (Asked (Sleep s)) w = inr (nothing _ (λ k. refl) refl refl)
+none_done (Asked (Wake s)) w = inr (nothing _ (λ k. refl) refl refl)
+none_done (Asked (Poll s)) w = inr (nothing _ (λ k. refl) refl refl)
+none_done (Asked (Rx s c air)) w = inr (nothing _ (λ k. refl) refl refl)
+none_done (Asked Reap) w = inr (none_reaped w.finished w)
+
+none_answer : (r : Option Refusal) (w : World) (note : Note) → PullsOr note (judged_outcome w note r).reply
+unfolding judged_outcome
+none_answer (Some r) w note = inr (nothing _ (λ k. refl) refl refl)
+none_answer None w note = none_done note w
+
+pub none_step : (w : World) (note : Note) → PullsOr note (step w note).reply
+unfolding step
+none_step w note = none_answer (refusal w note) w note
+
+pulled_is : (w : World) (c : Class) → outcome_of w (Asked (Pull c)) ≡ pull_outcome w c
+unfolding outcome_of
+pulled_is w c = refl
+
+opens_done : (note : Note) (w : World) → NoneOrOpens (outcome_of w note)
+opens_done note w = elim (none_done note w) [
+  | inl p ↦ subst (λ (n : Note). NoneOrOpens (outcome_of w n)) (sym p.1)
+      (subst NoneOrOpens (sym (pulled_is w p.0)) (opens_pulled w p.0))
+  | inr h ↦ inl h
+]
+
+opens_answer : (r : Option Refusal) (w : World) (note : Note) → NoneOrOpens (judged_outcome w note r)
+unfolding judged_outcome
+opens_answer (Some r) w note = inl (nothing _ (λ k. refl) refl refl)
+opens_answer None w note = elim (opens_done note w) [
+  | inl h ↦ inl h
+  | inr h ↦ inr (record {
+    exchange = h.exchange;
+    among = subst (SomeOpen (λ y. y ≡ h.exchange))
+        (sym (same_listed (concerned_station w note) (outcome_of w note).world).opened) h.among;
+    reply = h.reply;
+  })
+]
+
+pub opens_step : (w : World) (note : Note) → NoneOrOpens (step w note)
+unfolding step
+opens_step w note = opens_answer (refusal w note) w note

@@ -1,0 +1,83 @@
+-- Defines the law of tries: how often a frame is sent in a whole run, by the setting `attempts`.
+use Rattle.std.specs.Prelude.{◌≡◌, ℕ, ◌+◌, ◌*◌, ◌≤◌, ◌==◌, List, [], ◌∷◌, if◌then◌else◌, length, take}
+use Rattle.wf_frame.specs.declared.settings.Config.{Config}
+use Rattle.wf_frame.specs.declared.notes.Part.{Part}
+use Rattle.wf_frame.specs.declared.notes.Part.TheVariants.{Mpdus, Request}
+use Rattle.wf_frame.specs.declared.notes.ReplyNote.{ReplyNote}
+use Rattle.wf_frame.specs.declared.notes.ReplyNote.TheVariants.{Send}
+use Rattle.wf_def_lists.specs.Lengths.{greatest_body}
+use Rattle.wf_def_agreement.specs.Session.{Slot, State, slot}
+use Rattle.wf_def_world.specs.World.{World, session, accepted_count, opening}
+use Rattle.wf_def_world.specs.Step.{step}
+use Rattle.wf_def_world.specs.Run.{Entry}
+use Rattle.wf_def_world.specs.Stretches.{world_at}
+use Rattle.wf_law_runs.specs.Queues.{AreAtMost}
+
+-- Returns how many subframes of an aggregate have this id. A subframe is its id and its number modulo 4096.
+abbrev pub count_of : ℕ → List (ℕ × ℕ) → ℕ
+count_of id [] = 0
+count_of id (m ∷ ms) = (if m.0 == id then 1 else 0) + count_of id ms
+
+-- Returns how often an exchange sends a frame. A request sends none.
+abbrev pub count_in_part : ℕ → Part → ℕ
+count_in_part id (Mpdus mpdus) = count_of id mpdus
+count_in_part id (Request start) = 0
+
+-- Returns how often a reply sends a frame. Only the reply to a Pull sends frames.
+abbrev pub tries_by : ℕ → ReplyNote → ℕ
+tries_by id (Send exchange station tid air part more) = count_in_part id part
+tries_by id reply = 0
+
+-- Returns how often the calls of a history send a frame, from a world on.
+abbrev pub tries : World → ℕ → List Entry → ℕ
+tries w id [] = 0
+tries w id (e ∷ es) = tries_by id (step w e.1).reply + tries (step w e.1).world id es
+
+-- Returns how many frames an exchange sends.
+abbrev pub frames_in_part : Part → ℕ
+frames_in_part (Mpdus mpdus) = length mpdus
+frames_in_part (Request start) = 0
+
+-- Returns how many frames a reply sends.
+abbrev pub frames_sent_by : ReplyNote → ℕ
+frames_sent_by (Send exchange station tid air part more) = frames_in_part part
+frames_sent_by reply = 0
+
+-- Returns how many frames the calls of a history send, from a world on. A frame counts each time it is sent.
+abbrev pub frames_sent_in : World → List Entry → ℕ
+frames_sent_in w [] = 0
+frames_sent_in w (e ∷ es) = frames_sent_by (step w e.1).reply + frames_sent_in (step w e.1).world es
+
+-- Returns how many exchanges of data a reply opens.
+abbrev pub data_exchanges_by : ReplyNote → ℕ
+data_exchanges_by (Send exchange station tid air (Mpdus mpdus) more) = 1
+data_exchanges_by reply = 0
+
+-- Returns how many exchanges of data the calls of a history open, from a world on.
+abbrev pub data_exchanges : World → List Entry → ℕ
+data_exchanges w [] = 0
+data_exchanges w (e ∷ es) = data_exchanges_by (step w e.1).reply + data_exchanges (step w e.1).world es
+
+-- The `attempts` of a slot, if its frame was sent n times: one for each time that the frame was sent and not
+-- acknowledged. As long as the frame is on the air, its last time is not counted yet.
+pub record IsCounted (n : ℕ → ℕ) (x : Slot) : Type 0 where
+  pub waits : x.state ≡ State.Waiting → n x.id ≡ x.attempts
+  pub flies : (e : ℕ) → x.state ≡ State.Flying e → n x.id ≡ x.attempts + 1
+
+-- The tries of the entries `past`, and the world w after them.
+pub record KeepsTries (config : Config) (past : List Entry) (w : World) : Type 0 where
+  -- A frame is sent at most as often as the setting `attempts` says.
+  pub each : (id : ℕ) → tries (opening config) id past ≤ config.attempts
+  -- A frame that is not yet accepted was never sent.
+  pub accepted : (id : ℕ) → accepted_count w ≤ id → tries (opening config) id past ≡ 0
+  -- A number that waits or is on the air counts how often its frame was sent.
+  pub counted : (s t n : ℕ) → IsCounted (λ id. tries (opening config) id past) (slot (session w s t) n)
+  -- All frames together are sent at most `attempts` times the number of accepted frames.
+  pub all : frames_sent_in (opening config) past ≤ config.attempts * accepted_count w
+  -- If no frame is longer than the greatest body, there are at most as many exchanges of data as frames sent.
+  pub exchanges : AreAtMost greatest_body past → data_exchanges (opening config) past
+      ≤ frames_sent_in (opening config) past
+
+-- The law: `KeepsTries` holds after the first m entries of a history, for each m.
+abbrev pub TriesLaw : Config → List Entry → Type 0
+TriesLaw config history = (m : ℕ) → KeepsTries config (take m history) (world_at config history m)
