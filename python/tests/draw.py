@@ -1,0 +1,261 @@
+"""Random calls of a path and of a cell, with the lines of their trace and of the answers."""
+from __future__ import annotations
+
+import random
+from collections.abc import Callable
+from typing import Any
+
+from wfpath import RANGES, AccessClass, Cell, Exchange, Path, Rate, Refused, trace
+
+STATIONS, CHARGE, TICK = 6, 5000, 10_000_000
+SETTINGS = {"stations": STATIONS, "flows": 32, "limit": 40, "room": 400, "attempts": 4, "sleeping": 8}
+SETTINGS["charge"] = CHARGE
+# Rules that are off in the standard settings, for every second seed, as far as the library has them.
+RULES = {"aql_total": 1500, "debt": 20000, "keep_order": 1, "codel_reset": 1}
+WORDS = {"join": "joined", "set_rate": "set", "sleep": "slept", "wake": "woken"}
+
+
+def settings_of(seed: int) -> dict[str, int]:
+    """Returns the settings for a seed."""
+    rules = {name: value for name, value in RULES.items() if name in RANGES and seed % 2 == 0}
+    return {**SETTINGS, **rules}
+
+
+def answer_of(name: str, value: Any) -> str:
+    """Returns the line of an answer, for a method and what it returned."""
+    if name in WORDS:
+        return WORDS[name]
+    if name == "leave":
+        return f"left {value}"
+    if name == "tick":
+        return f"now {value}"
+    if name == "poll":
+        return f"polled {AccessClass(value).word}"
+    if name == "rx":
+        return f"charged {value}"
+    if name == "arrive":
+        return " ".join(["released", *map(str, value)])
+    return str(value)
+
+
+class Draw:
+    """Random numbers, and the lines so far. The line of an answer is None if only receivers know it."""
+
+    def __init__(self, seed: int, handle: Any) -> None:
+        self.random = random.Random(seed)
+        self.handle = handle
+        self.lines: list[str] = [trace.head(handle.settings)]
+        self.answers: list[str | None] = []
+
+    def below(self, count: int) -> int:
+        """A number below another."""
+        return self.random.randrange(count)
+
+    def call(self, line: str, name: str, *given: Any, **named: Any) -> Any:
+        """Makes a call, and notes its line and its answer. Returns None if it was refused."""
+        value = None
+        try:
+            value = getattr(self.handle, name)(*given, **named)
+            answer = answer_of(name, value)
+        except Refused as refusal:
+            answer = refusal.line
+        self.lines.append(line)
+        self.answers.append(answer)
+        return value
+
+    def station(self) -> int:
+        """A station number, seldom one that does not exist."""
+        return self.below(STATIONS if self.below(100) else STATIONS + 1)
+
+    def join(self, station: int) -> None:
+        """A join."""
+        window = 1 + self.below(64 if self.below(4) else 257)
+        start, exponent, weight = self.below(4100), self.below(5), self.below(18)
+        given = (station, window, start, exponent, weight)
+        self.call(" ".join(map(str, ("join", *given))), "join", *given)
+
+    def rate(self, station: int) -> None:
+        """A rate of one of the formats, sometimes one that does not exist."""
+        mhz = self.random.choice((20, 40, 80, 160, 30))
+        rate = self.random.choice(
+            (
+                Rate.ht(self.below(17), mhz, self.below(2) == 1),
+                Rate.vht(self.below(11), mhz, self.below(10), self.below(2) == 1),
+                Rate.he(self.below(13), mhz, self.below(10), self.random.choice((800, 1600, 3200, 400))),
+            )
+        )
+        self.call(f"rate {station} {rate}", "set_rate", station, rate)
+
+    def enqueue(self, station: int) -> None:
+        """An enqueue."""
+        tid = self.below(8 if self.below(50) else 10)
+        flow, length = self.below(20), 1 + self.below(200 if self.below(4) else 2304)
+        body = bytes((flow + place) % 256 for place in range(length)) if length < 50 else length
+        tag = station << 48 | tid << 40 | flow << 16 | length
+        self.call(f"enq {station} {tid} {flow} {length}", "enqueue", station, body, tid, flow, tag)
+
+    def reap(self) -> None:
+        """A reap, and a look at the frame."""
+        has_body = self.below(2) == 1
+        frame = self.call("reap", "reap", has_body)
+        if frame is not None:
+            assert frame.tag == frame.station << 48 | frame.tid << 40 | frame.flow << 16 | frame.length
+            assert frame.body is None or len(frame.body) == frame.length
+            assert not has_body or frame.length >= 50 or frame.body[0] == frame.flow
+
+    def other(self, station: int) -> None:
+        """One of the other calls."""
+        class_ = AccessClass(self.below(4))
+        number = self.below(2000) if self.below(50) else TICK + self.below(2)
+        name = self.random.choice(("leave", "sleep", "wake", "poll", "rx", "tick"))
+        if name == "rx":
+            self.call(f"rx {station} {class_.word} {number}", "rx", station, class_, number)
+        elif name == "tick":
+            self.call(f"tick {number * 10}", "tick", number * 10)
+        else:
+            self.call(f"{name} {station}", name, station)
+
+    def common(self, which: int) -> None:
+        """A call that a path and a cell have; `which` is below 70."""
+        station = self.station()
+        if which < 40:
+            self.enqueue(station)
+        elif which < 60:
+            self.reap()
+        elif which < 64:
+            self.join(station)
+        elif which < 66:
+            self.rate(station)
+        else:
+            self.other(station)
+
+
+class PathDraw(Draw):
+    """Random calls of a path. It keeps what arrives at the stations, and passes it on in BlockAcks."""
+
+    def __init__(self, seed: int, calls: int) -> None:
+        super().__init__(seed, Path(calls=4 * calls + 1000, **settings_of(seed)))
+        self.open: list[Exchange] = []
+        # The id that arrived last, by station, TID and sequence number.
+        self.arrived: dict[tuple[int, int, int], int] = {}
+        for _ in range(calls):
+            self.step()
+        self.lines.append("end")
+        self.summary()
+
+    def step(self) -> None:
+        """A call."""
+        which = self.below(100)
+        if which < 70:
+            self.common(which)
+        elif which < 85:
+            self.pull()
+        elif self.open:
+            self.finish(self.open.pop(self.below(len(self.open))))
+
+    def pull(self) -> None:
+        """A pull, and a look at what it opened."""
+        class_ = AccessClass(self.below(4))
+        can = self.handle.can_pull(class_)
+        exchange = self.call(f"pull {class_.word}", "pull", class_)
+        assert can == (exchange is not None)
+        if exchange is None:
+            return
+        self.open.append(exchange)
+        sent = self.handle.sent(exchange.number)
+        assert sent == (exchange.station, exchange.transmissions, exchange.tid, exchange.request)
+        for index, number in enumerate(exchange.ids):
+            assert self.handle.frame_id(exchange.number, index) == number
+            octets = self.handle.mpdu(exchange.number, index)
+            assert self.handle.header(exchange.number, index) == octets[:26]
+            assert self.handle.frame_tag(exchange.number, index) % 2**16 == len(octets) - 26
+
+    def finish(self, exchange: Exchange) -> None:
+        """Lets transmissions arrive, and ends the exchange."""
+        number = exchange.number
+        came = [index for index in range(exchange.transmissions) if self.below(4)]
+        self.lines += [f"arrive {number} {index}" for index in came]
+        for index in came if exchange.ids else ():
+            self.arrived[exchange.station, exchange.tid, exchange.numbers[index]] = exchange.ids[index]
+        if came:
+            self.lines.append(f"answer {number}")
+        self.answers += [None] * (len(came) + bool(came))
+        heard = bool(came) and self.below(4) > 0
+        air = 1 + self.below(CHARGE) if self.below(2) else 0
+        if self.below(8) == 0:
+            self.end(exchange, heard, CHARGE + 1)
+        self.end(exchange, heard, air)
+
+    def end(self, exchange: Exchange, heard: bool, air: int) -> None:
+        """Ends an exchange; it stays open if the airtime is too great."""
+        number = exchange.number
+        line = f"done {number} {'heard' if heard else 'lost'}" + (f" air {air}" if air else "")
+        if not heard:
+            self.call(line, "done_lost", number, air)
+            return
+        start = exchange.start if exchange.request else exchange.numbers[0]
+        bits = 0
+        for frame, at in zip(exchange.ids, exchange.numbers):
+            if self.arrived.get((exchange.station, exchange.tid, at)) == frame:
+                bits |= 1 << ((at - start) % 4096)
+        self.call(line, "done_bits", number, start, bits, air)
+
+    def summary(self) -> None:
+        """The lines of the summary."""
+        path: Path = self.handle
+        tally = path.tally()
+        words = " ".join(f"{name} {value}" for name, value in zip(tally._fields[1:], tally[1:]))
+        self.answers += [f"calls {len(self.lines) - 2}", f"now {path.now}"]
+        self.answers.append(f"frames {tally.accepted} {words} held {tally.held}")
+        self.answers.append(f"exchanges {path.exchanges} open {path.open_count}")
+        for station in filter(path.live, range(STATIONS)):
+            for class_ in AccessClass:
+                share = path.share(station, class_)
+                if share.charged or share.rx:
+                    said = f"charged {share.charged} rx {share.rx} deficit {share.deficit}"
+                    self.answers.append(f"sta {station} {class_.word} {said}")
+        self.answers.append(f"tim {path.tim().hex()}")
+
+
+class CellDraw(Draw):
+    """Random calls of a cell."""
+
+    def __init__(self, seed: int, calls: int) -> None:
+        super().__init__(seed, Cell(calls=calls, **settings_of(seed)))
+        self.open: list[int] = []
+        self.opened = 0
+        for _ in range(calls):
+            self.step()
+        self.lines.append("end")
+
+    def step(self) -> None:
+        """A call."""
+        which = self.below(200)
+        if which < 70:
+            self.common(which)
+        elif which < 100:
+            class_ = AccessClass(self.below(4))
+            exchange = self.call(f"pull {class_.word}", "pull", class_)
+            if exchange is not None:
+                self.open.append(exchange.number)
+                self.opened += 1
+        else:
+            self.exchange(which - 100)
+
+    def exchange(self, which: int) -> None:
+        """A call of an exchange, seldom of one that is not open."""
+        known = bool(self.open) and self.below(50) > 0
+        number = self.random.choice(self.open) if known else self.below(self.opened + 2)
+        if which < 60:
+            index = self.below(4 if self.below(4) else 40)
+            self.call(f"arrive {number} {index}", "arrive", number, index)
+        elif which < 80:
+            self.call(f"answer {number}", "answer", number)
+        else:
+            heard, air = self.below(4) > 0, self.below(CHARGE + 3) if self.below(2) else 0
+            line = f"done {number} {'heard' if heard else 'lost'}" + (f" air {air}" if air else "")
+            if self.call(line, "done", number, heard, air) is not None:
+                self.open.remove(number)
+
+
+DRAWS: list[Callable[[int, int], Draw]] = [PathDraw, CellDraw]

@@ -1,0 +1,76 @@
+"""What the class Cell does, and how it fails."""
+from __future__ import annotations
+
+import unittest
+
+from wfpath import AccessClass, CallKind, Cell, Rate, errors
+
+
+class Calls(unittest.TestCase):
+    """A cell of two stations, with a short history."""
+
+    def setUp(self) -> None:
+        self.cell = Cell(stations=2, calls=12, charge=5000)
+        self.addCleanup(self.cell.close)
+
+    def test_an_exchange(self) -> None:
+        cell = self.cell
+        cell.join(1, window=128)
+        cell.set_rate(1, Rate.he(11, streams=2, guard=1600))
+        cell.caller = 7
+        cell.enqueue(1, b"one", flow=5)
+        cell.enqueue(1, 200)
+        exchange = cell.pull(AccessClass.BE)
+        self.assertEqual((exchange.ids, exchange.numbers), ([0, 1], [0, 1]))
+        self.assertEqual(cell.arrive(0, 1), [])
+        self.assertEqual(cell.arrive(0, 0), [0, 1])
+        self.assertEqual(str(cell.answer(0)), "ba 0 " + "0" * 63 + "3")
+        self.assertEqual(cell.done(0, True, 1234), (2, 0, 0))
+        self.assertEqual([frame.body for frame in cell.reap_all(body=True)], [b"one", bytes(200)])
+        self.assertEqual((len(cell), cell.room), (12, 0))
+        self.assertEqual(
+            list(cell.trace())[1:-1],
+            ["join 1 128 0 3 1", "rate 1 he 11 80 1600 2", "@7 enq 1 0 5 3", "@7 enq 1 0 0 200"]
+            + ["@7 pull be", "@7 arrive 0 1", "@7 arrive 0 0", "@7 answer 0", "@7 done 0 heard air 1234"]
+            + ["@7 reap", "@7 reap", "@7 reap"],
+        )
+
+    def test_a_full_history_refuses_each_call(self) -> None:
+        for _ in range(12):
+            self.cell.tick(1)
+        cell = self.cell
+        for call in (lambda: cell.tick(1), lambda: cell.enqueue(0, 1), cell.reap, lambda: cell.pull(1)):
+            with self.assertRaises(errors.HistoryFull):
+                call()
+        self.assertEqual((len(self.cell), self.cell.room, bool(self.cell)), (12, 0, True))
+        self.assertEqual(self.cell.entry(11).kind, CallKind.TICK)
+        with self.assertRaises(errors.HistoryFull):
+            self.cell.reap_all()
+        with self.assertRaises(errors.BadIndex):
+            self.cell.entry(12)
+
+    def test_a_refused_call_is_an_entry(self) -> None:
+        with self.assertRaises(errors.NoExchange):
+            self.cell.done(3, False)
+        with self.assertRaises(errors.Idle):
+            self.cell.pull(AccessClass.VO)
+        self.assertIsNone(self.cell.try_pull(AccessClass.VO))
+        entries = [str(self.cell.entry(place)) for place in range(3)]
+        self.assertEqual(entries, ["done 3 lost", "pull vo", "pull vo"])
+
+    def test_numbers_that_do_not_fit_are_errors(self) -> None:
+        cell = self.cell
+        for call in (lambda: cell.arrive(0, 65536), lambda: cell.done(-1, True), lambda: cell.rx(0, 4, 1)):
+            with self.assertRaises(ValueError):
+                call()
+        with self.assertRaises(ValueError):
+            self.cell.caller = 65536
+
+    def test_a_closed_cell_refuses_every_call(self) -> None:
+        self.cell.close()
+        with self.assertRaisesRegex(ValueError, "the cell is closed"):
+            len(self.cell)
+
+
+if __name__ == "__main__":
+    unittest.main()

@@ -1,0 +1,206 @@
+"""What the class Path does, and how it fails."""
+from __future__ import annotations
+
+import copy
+import ctypes
+import pickle
+import unittest
+from pathlib import Path as File
+
+from wfpath import (
+    GREATEST_BODY,
+    RANGES,
+    AccessClass,
+    BlockError,
+    Fate,
+    Path,
+    Rate,
+    Refused,
+    Settings,
+    WfError,
+    errors,
+)
+from wfpath import _tables as tables
+from wfpath._handle import C
+
+BE = AccessClass.BE
+# The package has these from the tables, or calls them when a handle is made, closed or loaded.
+NOT_CALLED = {"wf_code_name", "wf_kind_name", "wf_fate_name", "wf_setting_name", "wf_settings_standard"}
+NOT_CALLED |= {"wf_version", "wf_path_make", "wf_path_free", "wf_cell_make", "wf_cell_free"}
+
+
+class Calls(unittest.TestCase):
+    """A path of two stations."""
+
+    def setUp(self) -> None:
+        self.path = Path(stations=2, charge=5000)
+        self.addCleanup(self.path.close)
+
+    def block_ack(self, exchange: int, start: int, bits: int) -> bytes:
+        """Returns the octets of a compressed BlockAck to an exchange of TID 0."""
+        frame = self.path.mpdu(exchange, 0)
+        head = bytes((0x94, 0, 0, 0)) + frame[10:16] + frame[4:10] + bytes((4, 0))
+        return head + (start << 4).to_bytes(2, "little") + bits.to_bytes(8, "little")
+
+    def test_a_frame_comes_back_with_its_tag_and_body(self) -> None:
+        path = self.path
+        path.join(0)
+        path.set_rate(0, Rate.ht(7, short_guard=True))
+        source = b"\x0a\0\0\0\0\7"
+        self.assertEqual(path.enqueue(0, b"hello", flow=3, tag=2**64 - 1, source=source), (0, None))
+        exchange = path.pull(BE)
+        self.assertEqual(str(exchange), "send 0 sta 0 tid 0 air 92 data 0:0")
+        self.assertEqual(path.mpdu(0, 0)[26:], b"hello")
+        self.assertEqual(path.done_octets(0, self.block_ack(0, 0, 1), 300), (1, 0, 0))
+        frame = path.reap(body=True)
+        self.assertEqual((frame.tag, frame.body, frame.source), (2**64 - 1, b"hello", source))
+        self.assertEqual((frame.fate, frame.attempts), (Fate.ACKED, 1))
+        self.assertEqual(path.share(0, BE).charged, 300)
+        self.assertIsNone(path.try_pull(BE))
+        self.assertIsNone(path.try_reap())
+
+    def test_a_number_is_a_body_of_zeros(self) -> None:
+        self.path.join(1)
+        self.path.enqueue(1, GREATEST_BODY)
+        self.path.pull(BE)
+        self.assertEqual(self.path.mpdu(0, 0)[26:], bytes(GREATEST_BODY))
+        for length in (0, GREATEST_BODY + 1, 2**40):
+            with self.assertRaises(errors.BadLength):
+                self.path.enqueue(1, length)
+
+    def test_a_refusal_is_an_exception_of_its_class(self) -> None:
+        self.path.join(0)
+        self.path.enqueue(0, 100)
+        self.path.pull(BE)
+        with self.assertRaises(errors.Open) as caught:
+            self.path.leave(0)
+        self.assertEqual((caught.exception.number, caught.exception.line), (1, "refused open 1"))
+        self.assertEqual(str(caught.exception), "open: the station has 1 open exchanges")
+        with self.assertRaises(errors.BadStation):
+            self.path.join(2)
+        with self.assertRaises(errors.NoStation):
+            self.path.queued(1, 0)
+        with self.assertRaises(Refused):
+            self.path.tick(10_000_001)
+        while self.path.share(0, BE).deficit > -934_000:
+            self.path.rx(0, BE, 65535)
+        with self.assertRaises(errors.Debt) as debt:
+            self.path.rx(0, BE, 65535)
+        self.assertEqual(debt.exception.number, self.path.share(0, BE).deficit)
+
+    def test_octets_that_are_no_block_ack_leave_the_exchange_open(self) -> None:
+        self.path.join(0)
+        self.path.enqueue(0, 100)
+        self.path.pull(BE)
+        octets = self.block_ack(0, 0, 1)
+        with self.assertRaises(errors.BlockLength):
+            self.path.done_octets(0, octets[:-1])
+        with self.assertRaises(BlockError):
+            self.path.done_octets(0, bytes(28))
+        self.assertEqual(self.path.open_count, 1)
+
+    def test_numbers_that_do_not_fit_are_errors(self) -> None:
+        self.path.join(0)
+        for call in (
+            lambda: self.path.enqueue(65536, 1),
+            lambda: self.path.enqueue(-1, 1),
+            lambda: self.path.enqueue(0, 1, tid=256),
+            lambda: self.path.enqueue(0, 1, flow=2**32),
+            lambda: self.path.enqueue(0, 1, tag=-1),
+            lambda: self.path.pull(4),
+            lambda: self.path.tick(2**32),
+            lambda: self.path.done_lost(2**64),
+            lambda: self.path.set_base(b"12345"),
+            lambda: self.path.enqueue(0, 1, source=b"1"),
+            lambda: self.path.done_bits(0, 0, bytes(33)),
+        ):
+            with self.assertRaises(ValueError):
+                call()
+        with self.assertRaises(OverflowError):
+            self.path.done_bits(0, 0, 2**256)
+
+    def test_addresses(self) -> None:
+        self.path.set_base(b"\0\0\x5e\0\x53\1")
+        self.path.set_address(1, b"\0\0\x5e\0\x53\2")
+        self.assertEqual((self.path.base, self.path.address(1)), (b"\0\0\x5e\0\x53\1", b"\0\0\x5e\0\x53\2"))
+        self.assertEqual(self.path.address(0), b"\2\0\0\1\0\0")
+        with self.assertRaises(errors.BadAddress):
+            self.path.set_base(b"\1\0\0\0\0\0")
+
+    def test_the_readers(self) -> None:
+        path = self.path
+        path.join(0)
+        path.sleep(0)
+        path.enqueue(0, 100, tid=6)
+        self.assertEqual(path.queued(0, 6), 1)
+        self.assertEqual(path.waiting(0, 6), 0)
+        self.assertEqual(path.tim()[0], 5)
+        self.assertEqual(path.poll(0), AccessClass.VO)
+        self.assertTrue(path.can_pull(AccessClass.VO))
+        self.assertTrue(path.live(0) and not path.live(1) and not path.live(70000))
+        self.assertIn(path.listed(0, AccessClass.VO), (1, 2))
+        path.advance(5_000_000_000)
+        self.assertEqual((path.now, path.exchanges, path.has_small_counts), (5_000_000_000, 0, True))
+        self.assertEqual(path.tally(), (1, 0, 0, 0, 0, 0))
+        self.assertEqual(path.leave(0), 1)
+        self.assertEqual([frame.fate.word for frame in path.reap_all()], ["left"])
+
+
+class Handles(unittest.TestCase):
+    """Making and closing."""
+
+    def test_a_closed_path_refuses_every_call(self) -> None:
+        with Path() as path:
+            path.join(0)
+        for call in (path.tally, path.try_reap, lambda: path.pull(1), lambda: path.join(1), lambda: path.now):
+            with self.assertRaisesRegex(ValueError, "the path is closed"):
+                call()
+        path.close()
+
+    def test_settings(self) -> None:
+        standard, struct = Settings(), tables.SettingsStruct()
+        C.wf_settings_standard(struct)
+        for name in RANGES:
+            self.assertEqual(getattr(standard, name), getattr(struct, name), name)
+        for place, (name, (least, most)) in enumerate(RANGES.items(), 1):
+            for value in (least - 1, most + 1, 2**40):
+                with self.assertRaisesRegex(errors.BadSetting, name) as caught:
+                    Path(Settings(**{name: value}))
+                self.assertEqual((caught.exception.place, caught.exception.code), (place, 100 + place))
+        with self.assertRaises(TypeError):
+            Path(color=1)
+        with Path(Settings(stations=3), flows=8) as path:
+            self.assertEqual((path.settings.stations, path.settings.flows), (3, 8))
+
+    def test_a_path_is_not_copied(self) -> None:
+        with Path() as path:
+            for way in (copy.copy, copy.deepcopy, pickle.dumps):
+                with self.assertRaisesRegex(TypeError, "a path cannot be copied"):
+                    way(path)
+
+    def test_each_function_of_the_header_is_called(self) -> None:
+        modules = File(tables.__file__).parent.glob("[!_]*.py")
+        text = "".join(module.read_text(encoding="utf-8") for module in modules)
+        missing = [name for name in tables.FUNCTIONS if name not in text and name not in NOT_CALLED]
+        self.assertEqual(missing, [], "a class of wfpath has no method for these functions of include/wf.h")
+
+    def test_words(self) -> None:
+        """The words of the package are those of the library."""
+        name = ctypes.create_string_buffer(16)
+        for code, kind in errors.ERRORS.items():
+            C.wf_code_name(code, name)
+            self.assertEqual((kind.code, kind.word), (code, name.value.decode()))
+            self.assertTrue(issubclass(kind, WfError) and kind.about)
+        for number in tables.Kind:
+            C.wf_kind_name(number, name)
+            self.assertEqual(number.word, name.value.decode())
+        for fate in Fate:
+            C.wf_fate_name(fate, name)
+            self.assertEqual(fate.word, name.value.decode())
+        for place, setting in enumerate(RANGES, 1):
+            C.wf_setting_name(place, name)
+            self.assertEqual(setting, name.value.decode())
+
+
+if __name__ == "__main__":
+    unittest.main()

@@ -1,0 +1,55 @@
+"""Random calls through the package get the answers of `wf replay` for their trace.
+
+WF_PROGRAM names the program that replays, and WFPATH_CALLS how many calls are drawn. checks/python sets the
+first.
+"""
+from __future__ import annotations
+
+import os
+import subprocess
+import unittest
+
+from .draw import CellDraw, Draw, PathDraw
+
+PROGRAM = os.environ.get("WF_PROGRAM", "")
+CALLS = int(os.environ.get("WFPATH_CALLS", "4000"))
+
+
+def replayed(lines: list[str]) -> list[str]:
+    """Returns what `wf replay` answers."""
+    text = "".join(f"{line}\n" for line in lines).encode()
+    done = subprocess.run([PROGRAM, "replay"], input=text, stdout=subprocess.PIPE, check=True)
+    return done.stdout.decode().splitlines()
+
+
+@unittest.skipUnless(PROGRAM, "WF_PROGRAM names no program")
+class Replay(unittest.TestCase):
+    """Calls of a path and of a cell."""
+
+    def compare(self, draw: Draw, count: int) -> None:
+        """Compares the answers with those of the replay: the first ones, which are so many."""
+        wanted = replayed(draw.lines)
+        self.assertEqual(len(draw.answers), count)
+        self.assertGreaterEqual(len(wanted), count)
+        for place, (found, other) in enumerate(zip(draw.answers, wanted)):
+            if found is not None and found != other:
+                line = draw.lines[place + 1] if place + 1 < len(draw.lines) else "the summary"
+                self.fail(f"answer {place} to '{line}': '{found}'; the replay says '{other}'")
+
+    def test_path(self) -> None:
+        for seed in (1, 2):
+            draw = PathDraw(seed, CALLS)
+            self.compare(draw, len(replayed(draw.lines)))
+            draw.handle.close()
+
+    def test_cell(self) -> None:
+        for seed in (3, 4):
+            draw = CellDraw(seed, CALLS)
+            self.compare(draw, CALLS)
+            self.assertEqual(list(draw.handle.trace()), draw.lines)
+            self.assertEqual(len(draw.handle), CALLS)
+            draw.handle.close()
+
+
+if __name__ == "__main__":
+    unittest.main()

@@ -1,0 +1,129 @@
+"""The answers to calls. `str` of an answer is its line in a trace (docs/TRACE.md), without the line's end."""
+from __future__ import annotations
+
+from typing import NamedTuple
+
+from ._tables import AccessClass, Fate
+
+CLASSES = tuple(AccessClass)
+FATES = tuple(Fate)
+
+
+class Accepted(NamedTuple):
+    """An accepted frame. `dropped` is the id of the frame that was dropped because the flow queues were full,
+    if any."""
+
+    id: int
+    dropped: int | None = None
+
+    def __str__(self) -> str:
+        return f"accepted {self.id}" if self.dropped is None else f"accepted {self.id} dropped {self.dropped}"
+
+
+class Exchange(NamedTuple):
+    """An exchange to send: an aggregate, or a BlockAckReq if `request` is true.
+
+    `air` is in microseconds. `ids` and `numbers` are the frames of the aggregate and their sequence numbers.
+    `start` is that of the BlockAckReq. `more` says whether the station has more to be sent.
+    """
+
+    number: int
+    station: int
+    tid: int
+    air: int
+    request: bool
+    start: int
+    more: bool
+    ids: list[int]
+    numbers: list[int]
+
+    @property
+    def transmissions(self) -> int:
+        """The number of transmissions: one for each frame, or 1 for a BlockAckReq."""
+        return 1 if self.request else len(self.ids)
+
+    def __str__(self) -> str:
+        sent = f"bar {self.start}" if self.request else "data"
+        frames = "".join(f" {one}:{at}" for one, at in zip(self.ids, self.numbers))
+        more = " more" if self.more else ""
+        return f"send {self.number} sta {self.station} tid {self.tid} air {self.air} {sent}{frames}{more}"
+
+
+class Done(NamedTuple):
+    """The end of an exchange: how many of its frames are acknowledged, wait to be sent again, and are
+    dropped."""
+
+    acked: int
+    waiting: int
+    failed: int
+
+    def __str__(self) -> str:
+        return f"done acked {self.acked} waiting {self.waiting} failed {self.failed}"
+
+
+class Reaped(NamedTuple):
+    """A finished frame. `stamp` is the clock when it was accepted, `attempts` how often it was sent.
+
+    `body` has its octets if they were asked for.
+    """
+
+    id: int
+    stamp: int
+    tag: int
+    flow: int
+    station: int
+    length: int
+    source: bytes
+    tid: int
+    fate: Fate
+    attempts: int
+    body: bytes | None = None
+
+    def __str__(self) -> str:
+        return f"reaped {self.id} {self.fate.word}"
+
+
+class Block(NamedTuple):
+    """A station's BlockAck: bit n of `bits` is for the sequence number start + n, modulo 4096. `wide` says
+    256 bits, not 64."""
+
+    start: int
+    bits: int
+    wide: bool
+
+    def __str__(self) -> str:
+        return f"ba {self.start} {self.bits:0{64 if self.wide else 16}x}"
+
+
+class Sent(NamedTuple):
+    """What an open exchange sends, and to which station."""
+
+    station: int
+    transmissions: int
+    tid: int
+    request: bool
+
+
+class Tally(NamedTuple):
+    """How many frames were accepted, and how many of them have each fate."""
+
+    accepted: int
+    acked: int
+    overlimit: int
+    codel: int
+    retries: int
+    left: int
+
+    @property
+    def held(self) -> int:
+        """How many frames are inside."""
+        return self.accepted - self.acked - self.overlimit - self.codel - self.retries - self.left
+
+
+class Share(NamedTuple):
+    """A station's airtime in a class since its join, in microseconds: its deficit, and what was charged for
+    exchanges and by `rx`."""
+
+    deficit: int
+    charged: int
+    rx: int

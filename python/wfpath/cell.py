@@ -1,0 +1,288 @@
+"""A cell, for test benches: class Cell."""
+from __future__ import annotations
+
+import ctypes
+from collections.abc import Iterator
+
+from . import _tables as tables
+from . import trace
+from ._handle import BODY_ROOM, NO_ROOM, NO_SOURCE, QUICK, WAITS, Body, C, Handle, view
+from ._library import out_of_range
+from ._tables import AccessClass, CallKind, CallStruct, Form, Settings
+from .answers import CLASSES, Accepted, Block, Done, Exchange, Reaped
+from .errors import Nothing
+from .rates import Rate
+
+_ask = QUICK.wf_cell_ask
+_enqueue = QUICK.wf_cell_enqueue
+_reap = QUICK.wf_cell_reap
+_frames = QUICK.wf_cell_frames
+_released = QUICK.wf_cell_released
+_NOTHING = Nothing.code
+
+
+class _Call:
+    """A call whose struct is made once: only the fields that differ are written each time."""
+
+    __slots__ = ("struct", "at")
+
+    def __init__(self, kind: CallKind) -> None:
+        self.struct = CallStruct(kind=kind)
+        self.at = ctypes.byref(self.struct)
+
+
+class Cell(Handle):
+    """A path with the receive halves of its stations, and the history of all calls.
+
+    `Cell(stations=4, calls=100_000)` makes one with these settings and standard ones. The history has room
+    for `calls` calls. A refused call raises the exception of its refusal (wfpath.errors), and is an entry of
+    the history, except HistoryFull. `caller`, 0 to 65535, is the caller that the history notes for the calls
+    that follow.
+    """
+
+    def __init__(self, settings: Settings | None = None, /, **fields: int) -> None:
+        self._caller = 0
+        self._calls = {kind: _Call(kind) for kind in CallKind}
+        self._arrive, self._done = self._calls[CallKind.ARRIVE], self._calls[CallKind.DONE]
+        self._up = tables.PassedUpStruct()
+        self._up_at = ctypes.byref(self._up)
+        self._up_ids = view(self._up.ids, "Q")
+        super().__init__(settings, fields, "cell", tables.CellStruct())
+
+    @property
+    def caller(self) -> int:
+        """The caller that the history notes."""
+        return self._caller
+
+    @caller.setter
+    def caller(self, number: int) -> None:
+        if number >> 16:
+            raise out_of_range(caller=(number, 16))
+        self._caller = number
+
+    # ---- stations
+
+    def join(
+        self, station: int, window: int = 64, start: int = 0, exponent: int = 3, weight: int = 1
+    ) -> None:
+        """Makes a station live: its window in frames, first sequence number, A-MPDU length exponent, and
+        weight in airtime."""
+        if station >> 16 or window >> 16 or start >> 16 or exponent >> 8 or weight >> 8:
+            other = {"exponent": (exponent, 8), "weight": (weight, 8)}
+            raise out_of_range(station=(station, 16), window=(window, 16), start=(start, 16), **other)
+        call = self._calls[CallKind.JOIN]
+        made = call.struct
+        made.station, made.window, made.start = station, window, start
+        made.exponent, made.weight = exponent, weight
+        self._must(self._code(call))
+
+    def leave(self, station: int) -> int:
+        """Makes a station leave, and returns how many of its frames were dropped."""
+        self._of_station(CallKind.LEAVE, station)
+        return self._reply.count
+
+    def set_rate(self, station: int, rate: Rate) -> None:
+        """Sets the rate of data to a station."""
+        form, mcs, mhz, short, streams, guard = rate
+        if station >> 16 or mcs >> 8 or mhz >> 8 or streams >> 8 or guard >> 16:
+            other = {"streams": (streams, 8), "guard": (guard, 16)}
+            raise out_of_range(station=(station, 16), mcs=(mcs, 8), mhz=(mhz, 8), **other)
+        call = self._calls[CallKind.RATE]
+        made = call.struct
+        made.station, made.form, made.mcs, made.mhz = station, Form(form), mcs, mhz
+        made.short_guard, made.streams, made.guard = short, streams, guard
+        self._must(self._code(call))
+
+    def sleep(self, station: int) -> None:
+        """Says that a station goes to sleep."""
+        self._of_station(CallKind.SLEEP, station)
+
+    def wake(self, station: int) -> None:
+        """Says that a sleeping station wakes."""
+        self._of_station(CallKind.WAKE, station)
+
+    def poll(self, station: int) -> AccessClass:
+        """Says that a sleeping station asks for one frame, and returns the class that may send it."""
+        self._of_station(CallKind.POLL, station)
+        return CLASSES[self._reply.class_]
+
+    def rx(self, station: int, class_: int, air: int) -> int:
+        """Charges a station for airtime that it used to send, and returns its deficit."""
+        if station >> 16 or class_ >> 2 or air >> 32:
+            raise out_of_range(station=(station, 16), class_=(class_, 2), air=(air, 32))
+        call = self._calls[CallKind.RX]
+        call.struct.station, call.struct.class_, call.struct.air = station, class_, air
+        self._must(self._code(call))
+        return self._reply.deficit
+
+    def tick(self, by: int) -> int:
+        """Moves the clock on by at most 10,000,000 microseconds, and returns it."""
+        if by >> 32:
+            raise out_of_range(by=(by, 32))
+        call = self._calls[CallKind.TICK]
+        call.struct.by = by
+        self._must(self._code(call))
+        return self._reply.now
+
+    # ---- frames and exchanges
+
+    def enqueue(
+        self, station: int, body: Body, tid: int = 0, flow: int = 0, tag: int = 0, source: bytes = NO_SOURCE
+    ) -> Accepted:
+        """Accepts a packet for a station as a frame. The body is copied; a number means a body of so many
+        zeros.
+
+        The tag comes back with the frame. The history has neither source nor tag.
+        """
+        if station >> 16:
+            raise out_of_range(station=(station, 16))
+        self._fill_packet(body, tid, flow, tag, source)
+        code = _enqueue(self._at, self._caller, station, self._packet_at, self._reply_at)
+        if code:
+            raise self._error(code)
+        return self._accepted()
+
+    def pull(self, class_: int) -> Exchange:
+        """Opens the next exchange of a class. Raises Idle, Full or the like if there is none."""
+        self._must(self._pull_code(class_))
+        return self._opened()
+
+    def try_pull(self, class_: int) -> Exchange | None:
+        """Does what `pull` does, and returns None if there is none now."""
+        code = self._pull_code(class_)
+        if code in WAITS:
+            return None
+        self._must(code)
+        return self._opened()
+
+    def arrive(self, exchange: int, index: int) -> list[int]:
+        """Lets a transmission arrive at its station, and returns the ids of the frames that the station
+        passed up."""
+        if exchange >> 64 or index >> 16:
+            raise out_of_range(exchange=(exchange, 64), index=(index, 16))
+        made = self._arrive.struct
+        made.exchange, made.index = exchange, index
+        code = _ask(self._at, self._caller, self._arrive.at, self._reply_at)
+        if code:
+            raise self._error(code)
+        _released(self._at, self._up_at)
+        found: list[int] = self._up_ids[: self._up.count].tolist()
+        return found
+
+    def answer(self, exchange: int) -> Block:
+        """Lets the station answer an exchange, and returns its BlockAck."""
+        if exchange >> 64:
+            raise out_of_range(exchange=(exchange, 64))
+        call = self._calls[CallKind.ANSWER]
+        call.struct.exchange = exchange
+        self._must(self._code(call))
+        block = tables.BlockStruct()
+        C.wf_cell_block(self._at, ctypes.byref(block))
+        return Block(block.start, int.from_bytes(block.bits, "little"), block.wide != 0)
+
+    def done(self, exchange: int, heard: bool, air: int = 0) -> Done:
+        """Ends an exchange, whose answer was heard or lost. `air` is the measured airtime, or 0 for the one
+        of `pull`."""
+        if exchange >> 64 or air >> 32:
+            raise out_of_range(exchange=(exchange, 64), air=(air, 32))
+        made = self._done.struct
+        made.exchange, made.heard, made.air = exchange, 1 if heard else 0, air
+        code = _ask(self._at, self._caller, self._done.at, self._reply_at)
+        if code:
+            raise self._error(code)
+        reply = self._reply
+        return Done(reply.acked, reply.waiting, reply.failed)
+
+    def reap(self, body: bool = False) -> Reaped:
+        """Takes the first finished frame out of the cell, with its octets if `body` is true. Raises Nothing
+        if there is none."""
+        self._must(self._reap_code(body))
+        return self._reaped(body)
+
+    def try_reap(self, body: bool = False) -> Reaped | None:
+        """Does what `reap` does, and returns None instead of raising Nothing."""
+        code = self._reap_code(body)
+        if code == _NOTHING:
+            return None
+        self._must(code)
+        return self._reaped(body)
+
+    def reap_all(self, body: bool = False) -> list[Reaped]:
+        """Takes all finished frames out of the cell. The last reap finds none; it is an entry of the history,
+        too."""
+        found: list[Reaped] = []
+        while True:
+            code = self._reap_code(body)
+            if code == _NOTHING:
+                return found
+            self._must(code)
+            found.append(self._reaped(body))
+
+    # ---- the history
+
+    def __len__(self) -> int:
+        """Returns how many entries the history has."""
+        return int(C.wf_cell_len(self._at))
+
+    def __bool__(self) -> bool:
+        """Returns true: a cell with an empty history is a cell, too."""
+        return True
+
+    @property
+    def room(self) -> int:
+        """How many more entries the history has room for."""
+        return int(C.wf_cell_room(self._at))
+
+    def entry(self, place: int) -> trace.Entry:
+        """Returns an entry of the history; `place` counts from 0. Raises BadIndex if the history is
+        shorter."""
+        if place >> 64:
+            raise out_of_range(place=(place, 64))
+        caller, call = ctypes.c_uint32(), CallStruct()
+        self._must(C.wf_cell_entry(self._at, place, ctypes.byref(caller), ctypes.byref(call)))
+        return trace.entry(caller.value, call)
+
+    def trace(self) -> Iterator[str]:
+        """Yields the lines of the trace of all calls so far, which `./wf replay` replays."""
+        yield trace.head(self.settings)
+        for place in range(len(self)):
+            yield str(self.entry(place))
+        yield "end"
+
+    # ---- parts
+
+    def _must(self, code: int) -> None:
+        """Raises the exception of a code other than 0."""
+        if code:
+            raise self._error(code)
+
+    def _code(self, call: _Call) -> int:
+        """Makes a call, and returns its code."""
+        return int(_ask(self._at, self._caller, call.at, self._reply_at))
+
+    def _of_station(self, kind: CallKind, station: int) -> None:
+        """Makes a call that has only a station."""
+        if station >> 16:
+            raise out_of_range(station=(station, 16))
+        call = self._calls[kind]
+        call.struct.station = station
+        self._must(self._code(call))
+
+    def _pull_code(self, class_: int) -> int:
+        """Makes the call of a pull."""
+        if class_ >> 2:
+            raise out_of_range(class_=(class_, 2))
+        call = self._calls[CallKind.PULL]
+        call.struct.class_ = class_
+        return self._code(call)
+
+    def _opened(self) -> Exchange:
+        """Returns the answer to a pull."""
+        _frames(self._at, self._frames_at)
+        return self._exchange()
+
+    def _reap_code(self, body: bool) -> int:
+        """Makes the call of a reap."""
+        if body:
+            return int(_reap(self._at, self._caller, self._reply_at, self._taken_at, self._octets, BODY_ROOM))
+        return int(_reap(self._at, self._caller, self._reply_at, self._taken_at, None, NO_ROOM))

@@ -1,0 +1,405 @@
+"""The exceptions: a class for each code of include/wf.h. tools/tables writes this file: do not edit it.
+
+Refused is the base of the machine's refusals, and BlockError of the codes for octets that are no BlockAck.
+"""
+from __future__ import annotations
+
+from ._base import BadLibrary as BadLibrary
+from ._base import BadSetting as BadSetting
+from ._base import BlockError as BlockError
+from ._base import Refused as Refused
+from ._base import WfError as WfError
+
+
+class BadStation(Refused):
+    """The station number is not below `stations`."""
+
+    code = 1
+    word = "bad-station"
+    about = "the station number is not below `stations`"
+
+
+class BadWindow(Refused):
+    """The window is not 1 to 256."""
+
+    code = 2
+    word = "bad-window"
+    about = "the window is not 1 to 256"
+
+
+class BadStart(Refused):
+    """The first sequence number is above 4095."""
+
+    code = 3
+    word = "bad-start"
+    about = "the first sequence number is above 4095"
+
+
+class BadExponent(Refused):
+    """The A-MPDU length exponent is above 3."""
+
+    code = 4
+    word = "bad-exponent"
+    about = "the A-MPDU length exponent is above 3"
+
+
+class BadRate(Refused):
+    """The rate does not exist: its format does not have this MCS, width, guard interval or number of streams,
+    or it is one of the ten combinations that VHT leaves out (wf_path_rate_vht).
+    """
+
+    code = 5
+    word = "bad-rate"
+    about = (
+        "the rate does not exist: its format does not have this MCS, width, guard interval or number of "
+        "streams, or it is one of the ten combinations that VHT leaves out (wf_path_rate_vht)"
+    )
+
+
+class BadTick(Refused):
+    """The clock would move by more than 10,000,000 microseconds; wf_path_advance: back, or to 2^61 or more.
+    """
+
+    code = 6
+    word = "bad-tick"
+    about = (
+        "the clock would move by more than 10,000,000 microseconds; wf_path_advance: back, or to 2^61 or "
+        "more"
+    )
+
+
+class BadTid(Refused):
+    """The TID is above 7."""
+
+    code = 7
+    word = "bad-tid"
+    about = "the TID is above 7"
+
+
+class BadAir(Refused):
+    """`rx`: the airtime is 0 or above 65,535 microseconds; `done`: the airtime that is given is 0 or above
+    `charge`.
+    """
+
+    code = 8
+    word = "bad-air"
+    about = (
+        "`rx`: the airtime is 0 or above 65,535 microseconds; `done`: the airtime that is given is 0 or "
+        "above `charge`"
+    )
+
+
+class BadIndex(Refused):
+    """The exchange has no transmission of that index."""
+
+    code = 9
+    word = "bad-index"
+    about = "the exchange has no transmission of that index"
+
+
+class Live(Refused):
+    """The station is live already."""
+
+    code = 10
+    word = "live"
+    about = "the station is live already"
+
+
+class NoStation(Refused):
+    """The station is not live."""
+
+    code = 11
+    word = "no-station"
+    about = "the station is not live"
+
+
+class NoExchange(Refused):
+    """No open exchange has that number."""
+
+    code = 12
+    word = "no-exchange"
+    about = "no open exchange has that number"
+
+
+class NoAnswer(Refused):
+    """The call says that the BlockAck was heard, but the station has not answered the exchange."""
+
+    code = 13
+    word = "no-answer"
+    about = "the call says that the BlockAck was heard, but the station has not answered the exchange"
+
+
+class Open(Refused):
+    """The station has `count` open exchanges."""
+
+    code = 14
+    word = "open"
+    about = "the station has `count` open exchanges"
+    field = "count"
+
+
+class Room(Refused):
+    """`count` frames are accepted and not yet reaped: as many as `room`."""
+
+    code = 15
+    word = "room"
+    about = "`count` frames are accepted and not yet reaped: as many as `room`"
+    field = "count"
+
+
+class Sleeping(Refused):
+    """The station sleeps, and `count` frames of the class are queued for it: `sleeping` or more."""
+
+    code = 16
+    word = "sleeping"
+    about = "the station sleeps, and `count` frames of the class are queued for it: `sleeping` or more"
+    field = "count"
+
+
+class Full(Refused):
+    """`count` exchanges of the class are open: as many as `inflight`."""
+
+    code = 17
+    word = "full"
+    about = "`count` exchanges of the class are open: as many as `inflight`"
+    field = "count"
+
+
+class Idle(Refused):
+    """No station of the class is ready; the only refusal after which something may have changed."""
+
+    code = 18
+    word = "idle"
+    about = "no station of the class is ready; the only refusal after which something may have changed"
+
+
+class Answered(Refused):
+    """The exchange was answered already."""
+
+    code = 19
+    word = "answered"
+    about = "the exchange was answered already"
+
+
+class Arrived(Refused):
+    """That transmission arrived already."""
+
+    code = 20
+    word = "arrived"
+    about = "that transmission arrived already"
+
+
+class Nothing(Refused):
+    """There is nothing to answer, to send or to reap."""
+
+    code = 21
+    word = "nothing"
+    about = "there is nothing to answer, to send or to reap"
+
+
+class Asleep(Refused):
+    """The station is asleep already."""
+
+    code = 22
+    word = "asleep"
+    about = "the station is asleep already"
+
+
+class Awake(Refused):
+    """The station is awake."""
+
+    code = 23
+    word = "awake"
+    about = "the station is awake"
+
+
+class Polled(Refused):
+    """The station has a credit that is not spent yet."""
+
+    code = 24
+    word = "polled"
+    about = "the station has a credit that is not spent yet"
+
+
+class Debt(Refused):
+    """The deficit, which stays at `deficit`, would fall below -`debt` microseconds."""
+
+    code = 25
+    word = "debt"
+    about = "the deficit, which stays at `deficit`, would fall below -`debt` microseconds"
+    field = "deficit"
+
+
+class HistoryFull(Refused):
+    """The history has `calls` entries; this call is not added to it."""
+
+    code = 26
+    word = "history-full"
+    about = "the history has `calls` entries; this call is not added to it"
+
+
+class BadWeight(Refused):
+    """The weight is not 1 to 16."""
+
+    code = 27
+    word = "bad-weight"
+    about = "the weight is not 1 to 16"
+
+
+class Ahead(Refused):
+    """`owed` microseconds of computed airtime are in flight in all classes: `aql_total` or more."""
+
+    code = 28
+    word = "ahead"
+    about = "`owed` microseconds of computed airtime are in flight in all classes: `aql_total` or more"
+    field = "air"
+
+
+class NoMemory(WfError):
+    """Out of memory."""
+
+    code = 40
+    word = "no-memory"
+    about = "out of memory"
+
+
+class BadLength(WfError):
+    """The body is empty, or longer than WF_GREATEST_BODY."""
+
+    code = 41
+    word = "bad-length"
+    about = "the body is empty, or longer than WF_GREATEST_BODY"
+
+
+class SmallBuffer(WfError):
+    """The buffer is too small."""
+
+    code = 42
+    word = "small-buffer"
+    about = "the buffer is too small"
+
+
+class BadCall(WfError):
+    """No call, a call that enqueues or reaps, or a rate of no format."""
+
+    code = 43
+    word = "bad-call"
+    about = "no call, a call that enqueues or reaps, or a rate of no format"
+
+
+class BadAddress(WfError):
+    """The address is a group address: the lowest bit of its first octet is set."""
+
+    code = 44
+    word = "bad-address"
+    about = "the address is a group address: the lowest bit of its first octet is set"
+
+
+class BlockLength(BlockError):
+    """Not 28 octets, or, if the window is above 64, not 52."""
+
+    code = 51
+    word = "block-length"
+    about = "not 28 octets, or, if the window is above 64, not 52"
+
+
+class BlockKind(BlockError):
+    """Not a BlockAck."""
+
+    code = 52
+    word = "block-kind"
+    about = "not a BlockAck"
+
+
+class BlockBasic(BlockError):
+    """Not compressed."""
+
+    code = 53
+    word = "block-basic"
+    about = "not compressed"
+
+
+class BlockMulti(BlockError):
+    """For several TIDs."""
+
+    code = 54
+    word = "block-multi"
+    about = "for several TIDs"
+
+
+class BlockFragment(BlockError):
+    """Its fragment number is not 0."""
+
+    code = 55
+    word = "block-fragment"
+    about = "its fragment number is not 0"
+
+
+class BlockNarrow(BlockError):
+    """The window is above 64, and the bitmap does not have 256 bits."""
+
+    code = 56
+    word = "block-narrow"
+    about = "the window is above 64, and the bitmap does not have 256 bits"
+
+
+class NotMine(BlockError):
+    """Not to the access point, or not from the exchange's station."""
+
+    code = 57
+    word = "not-mine"
+    about = "not to the access point, or not from the exchange's station"
+
+
+class WrongTid(BlockError):
+    """For another TID."""
+
+    code = 58
+    word = "wrong-tid"
+    about = "for another TID"
+
+
+# The error of each code.
+ERRORS: dict[int, type[WfError]] = {
+    1: BadStation,
+    2: BadWindow,
+    3: BadStart,
+    4: BadExponent,
+    5: BadRate,
+    6: BadTick,
+    7: BadTid,
+    8: BadAir,
+    9: BadIndex,
+    10: Live,
+    11: NoStation,
+    12: NoExchange,
+    13: NoAnswer,
+    14: Open,
+    15: Room,
+    16: Sleeping,
+    17: Full,
+    18: Idle,
+    19: Answered,
+    20: Arrived,
+    21: Nothing,
+    22: Asleep,
+    23: Awake,
+    24: Polled,
+    25: Debt,
+    26: HistoryFull,
+    27: BadWeight,
+    28: Ahead,
+    40: NoMemory,
+    41: BadLength,
+    42: SmallBuffer,
+    43: BadCall,
+    44: BadAddress,
+    51: BlockLength,
+    52: BlockKind,
+    53: BlockBasic,
+    54: BlockMulti,
+    55: BlockFragment,
+    56: BlockNarrow,
+    57: NotMine,
+    58: WrongTid,
+}

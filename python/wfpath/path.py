@@ -1,0 +1,360 @@
+"""A transmit path, for drivers and simulators: class Path."""
+from __future__ import annotations
+
+import ctypes
+import struct
+
+from . import _tables as tables
+from ._handle import BODY_ROOM, NO_ROOM, NO_SOURCE, QUICK, WAITS, Body, C, Handle, address_octets
+from ._library import out_of_range
+from ._tables import AccessClass, Form, Settings
+from .answers import CLASSES, Accepted, Done, Exchange, Reaped, Sent, Share, Tally
+from .errors import Nothing
+from .rates import Rate
+
+_enqueue = QUICK.wf_path_enqueue
+_pull = QUICK.wf_path_pull
+_reap = QUICK.wf_path_reap
+_can_pull = QUICK.wf_path_can_pull
+_tick = QUICK.wf_path_tick
+_now = QUICK.wf_path_now
+_done_lost = QUICK.wf_path_done_lost
+_done_bits = QUICK.wf_path_done_bits
+_number = ctypes.c_uint64
+_NOTHING = Nothing.code
+_TALLY = struct.Struct(tables.TallyStruct.LAYOUT)
+_SHARE = struct.Struct(tables.ShareStruct.LAYOUT)
+
+
+class Path(Handle):
+    """A transmit path, with a driver that sends its exchanges and reports how they ended.
+
+    `Path(stations=4, inflight=1)` makes one with these settings and standard ones. Numbers of stations count
+    from 0, times are in microseconds. A refused call raises the exception of its refusal (wfpath.errors);
+    then nothing has changed.
+    """
+
+    def __init__(self, settings: Settings | None = None, /, **fields: int) -> None:
+        super().__init__(settings, fields, "path", tables.PathStruct())
+
+    # ---- stations
+
+    def join(
+        self, station: int, window: int = 64, start: int = 0, exponent: int = 3, weight: int = 1
+    ) -> None:
+        """Makes a station live: its window in frames, first sequence number, A-MPDU length exponent, and
+        weight in airtime."""
+        if station >> 16 or window >> 16 or start >> 16 or exponent >> 8 or weight >> 8:
+            other = {"exponent": (exponent, 8), "weight": (weight, 8)}
+            raise out_of_range(station=(station, 16), window=(window, 16), start=(start, 16), **other)
+        self._must(C.wf_path_join(self._at, station, window, start, exponent, weight, self._reply_at))
+
+    def leave(self, station: int) -> int:
+        """Makes a station leave, and returns how many of its frames were dropped."""
+        self._of_station(C.wf_path_leave, station)
+        return self._reply.count
+
+    def set_rate(self, station: int, rate: Rate) -> None:
+        """Sets the rate of data to a station."""
+        form, mcs, mhz, short, streams, guard = rate
+        if station >> 16 or mcs >> 8 or mhz >> 8 or streams >> 8 or guard >> 16:
+            other = {"streams": (streams, 8), "guard": (guard, 16)}
+            raise out_of_range(station=(station, 16), mcs=(mcs, 8), mhz=(mhz, 8), **other)
+        if form == Form.HT:
+            code = C.wf_path_rate(self._at, station, mcs, mhz, short, self._reply_at)
+        elif form == Form.VHT:
+            code = C.wf_path_rate_vht(self._at, station, mcs, mhz, short, streams, self._reply_at)
+        else:
+            code = C.wf_path_rate_he(self._at, station, mcs, mhz, guard, streams, self._reply_at)
+        self._must(code)
+
+    def sleep(self, station: int) -> None:
+        """Says that a station goes to sleep."""
+        self._of_station(C.wf_path_sleep, station)
+
+    def wake(self, station: int) -> None:
+        """Says that a sleeping station wakes."""
+        self._of_station(C.wf_path_wake, station)
+
+    def poll(self, station: int) -> AccessClass:
+        """Says that a sleeping station asks for one frame, and returns the class that may send it."""
+        self._of_station(C.wf_path_poll, station)
+        return CLASSES[self._reply.class_]
+
+    def rx(self, station: int, class_: int, air: int) -> int:
+        """Charges a station for airtime that it used to send, and returns its deficit."""
+        if station >> 16 or class_ >> 2 or air >> 32:
+            raise out_of_range(station=(station, 16), class_=(class_, 2), air=(air, 32))
+        self._must(C.wf_path_rx(self._at, station, class_, air, self._reply_at))
+        return self._reply.deficit
+
+    # ---- time
+
+    def tick(self, by: int) -> int:
+        """Moves the clock on by at most 10,000,000, and returns it."""
+        if by >> 32:
+            raise out_of_range(by=(by, 32))
+        self._must(_tick(self._at, by, self._reply_at))
+        return self._reply.now
+
+    def advance(self, now: int) -> None:
+        """Moves the clock on to a time."""
+        if now >> 64:
+            raise out_of_range(now=(now, 64))
+        self._must(C.wf_path_advance(self._at, now, self._reply_at))
+
+    # ---- frames and exchanges
+
+    def enqueue(
+        self, station: int, body: Body, tid: int = 0, flow: int = 0, tag: int = 0, source: bytes = NO_SOURCE
+    ) -> Accepted:
+        """Accepts a packet for a station as a frame. The body is copied; a number means a body of so many
+        zeros.
+
+        The tag comes back with the frame. `source` is the third address of its header; six zeros mean a
+        placeholder.
+        """
+        if station >> 16:
+            raise out_of_range(station=(station, 16))
+        self._fill_packet(body, tid, flow, tag, source)
+        code = _enqueue(self._at, station, self._packet_at, self._reply_at)
+        if code:
+            raise self._error(code)
+        return self._accepted()
+
+    def pull(self, class_: int) -> Exchange:
+        """Opens the next exchange of a class, which the driver then sends. Raises Idle, Full or the like if
+        there is none."""
+        if class_ >> 2:
+            raise out_of_range(class_=(class_, 2))
+        self._must(_pull(self._at, class_, self._reply_at, self._frames_at))
+        return self._exchange()
+
+    def try_pull(self, class_: int) -> Exchange | None:
+        """Does what `pull` does, and returns None if there is none now."""
+        if class_ >> 2:
+            raise out_of_range(class_=(class_, 2))
+        code = _pull(self._at, class_, self._reply_at, self._frames_at)
+        if code in WAITS:
+            return None
+        self._must(code)
+        return self._exchange()
+
+    def can_pull(self, class_: int) -> bool:
+        """Returns whether `pull` of a class would open an exchange now."""
+        if class_ >> 2:
+            raise out_of_range(class_=(class_, 2))
+        return bool(_can_pull(self._at, class_))
+
+    def done_lost(self, exchange: int, air: int = 0) -> Done:
+        """Ends an exchange whose BlockAck was not heard. `air` is the measured airtime, or 0 for the one of
+        `pull`."""
+        if exchange >> 64 or air >> 32:
+            raise out_of_range(exchange=(exchange, 64), air=(air, 32))
+        return self._done(_done_lost(self._at, _number(exchange), air, self._reply_at))
+
+    def done_bits(self, exchange: int, start: int, bits: int | bytes, air: int = 0) -> Done:
+        """Ends an exchange by the start and the bitmap of a BlockAck: bit n is for the sequence number start
+        + n."""
+        if exchange >> 64 or start >> 16 or air >> 32:
+            raise out_of_range(exchange=(exchange, 64), start=(start, 16), air=(air, 32))
+        octets = bits.to_bytes(32, "little") if isinstance(bits, int) else bytes(bits).ljust(32, b"\0")
+        if len(octets) > 32:
+            raise ValueError(f"bits has {len(octets)} octets: expected at most 32")
+        return self._done(_done_bits(self._at, _number(exchange), start, octets, air, self._reply_at))
+
+    def done_octets(self, exchange: int, octets: bytes, air: int = 0) -> Done:
+        """Ends an exchange by the octets of a BlockAck, without its check sequence. Raises BlockError if they
+        are none."""
+        if exchange >> 64 or air >> 32:
+            raise out_of_range(exchange=(exchange, 64), air=(air, 32))
+        given = bytes(octets)
+        return self._done(C.wf_path_done_octets(self._at, exchange, given, len(given), air, self._reply_at))
+
+    def reap(self, body: bool = False) -> Reaped:
+        """Takes the first finished frame out of the path, with its octets if `body` is true. Raises Nothing
+        if there is none."""
+        self._must(self._reap_code(body))
+        return self._reaped(body)
+
+    def try_reap(self, body: bool = False) -> Reaped | None:
+        """Does what `reap` does, and returns None instead of raising Nothing."""
+        code = self._reap_code(body)
+        if code == _NOTHING:
+            return None
+        self._must(code)
+        return self._reaped(body)
+
+    def reap_all(self, body: bool = False) -> list[Reaped]:
+        """Takes all finished frames out of the path."""
+        found: list[Reaped] = []
+        while True:
+            code = self._reap_code(body)
+            if code == _NOTHING:
+                return found
+            self._must(code)
+            found.append(self._reaped(body))
+
+    # ---- an open exchange
+
+    def sent(self, exchange: int) -> Sent:
+        """Returns the station of an open exchange, and what it sends."""
+        if exchange >> 64:
+            raise out_of_range(exchange=(exchange, 64))
+        sent = tables.SentStruct()
+        self._must(C.wf_path_sent(self._at, exchange, ctypes.byref(sent)))
+        return Sent(sent.station, sent.count, sent.tid, sent.request != 0)
+
+    def frame_id(self, exchange: int, index: int) -> int:
+        """Returns the id of the frame of a transmission; `index` counts from 0."""
+        return self._of_frame(C.wf_path_frame_id, exchange, index)
+
+    def frame_tag(self, exchange: int, index: int) -> int:
+        """Returns the tag of the frame of a transmission."""
+        return self._of_frame(C.wf_path_frame_tag, exchange, index)
+
+    def header(self, exchange: int, index: int) -> bytes:
+        """Returns the header of a data transmission: 26 octets."""
+        self._check_index(exchange, index)
+        self._must(C.wf_path_header(self._at, exchange, index, self._octets))
+        return bytes(self._octets_view[: tables.HEADER])
+
+    def mpdu(self, exchange: int, index: int) -> bytes:
+        """Returns the octets of a transmission, without its check sequence."""
+        self._check_index(exchange, index)
+        size, room = ctypes.c_size_t(), tables.GREATEST_MPDU
+        self._must(C.wf_path_mpdu(self._at, exchange, index, self._octets, room, ctypes.byref(size)))
+        return bytes(self._octets_view[: size.value])
+
+    # ---- addresses
+
+    def set_base(self, address: bytes) -> None:
+        """Sets the access point's address: six octets, in the order of the air."""
+        self._must(C.wf_path_set_base(self._at, address_octets(address)))
+
+    def set_address(self, station: int, address: bytes) -> None:
+        """Sets the address of a station, live or not."""
+        if station >> 16:
+            raise out_of_range(station=(station, 16))
+        self._must(C.wf_path_set_address(self._at, station, address_octets(address)))
+
+    @property
+    def base(self) -> bytes:
+        """The access point's address."""
+        C.wf_path_base(self._at, self._octets)
+        return bytes(self._octets_view[:6])
+
+    def address(self, station: int) -> bytes:
+        """Returns the address of a station, live or not."""
+        self._of_station_read(C.wf_path_address, station, self._octets)
+        return bytes(self._octets_view[:6])
+
+    # ---- reading
+
+    @property
+    def now(self) -> int:
+        """The clock."""
+        return int(_now(self._at))
+
+    @property
+    def exchanges(self) -> int:
+        """How many exchanges were opened so far."""
+        return int(C.wf_path_exchanges(self._at))
+
+    @property
+    def open_count(self) -> int:
+        """How many exchanges are open."""
+        return int(C.wf_path_open_count(self._at))
+
+    @property
+    def has_small_counts(self) -> bool:
+        """Whether all counts are below 2^62, as every other call requires."""
+        return bool(C.wf_path_has_small_counts(self._at))
+
+    def live(self, station: int) -> bool:
+        """Returns whether a station is live."""
+        return station >> 16 == 0 and bool(C.wf_path_live(self._at, station))
+
+    def tally(self) -> Tally:
+        """Returns how many frames were accepted, and how many of them have each fate."""
+        tally = tables.TallyStruct()
+        C.wf_path_tally(self._at, ctypes.byref(tally))
+        return Tally(*_TALLY.unpack_from(tally)[: len(Tally._fields)])
+
+    def share(self, station: int, class_: int) -> Share:
+        """Returns a station's airtime in a class."""
+        if station >> 16 or class_ >> 2:
+            raise out_of_range(station=(station, 16), class_=(class_, 2))
+        share = tables.ShareStruct()
+        self._must(C.wf_path_share(self._at, station, class_, ctypes.byref(share)))
+        return Share(*_SHARE.unpack_from(share)[: len(Share._fields)])
+
+    def listed(self, station: int, class_: int) -> int:
+        """Returns the list of a class that has a station: 1 the new list, 2 the old list, 0 neither."""
+        if station >> 16 or class_ >> 2:
+            raise out_of_range(station=(station, 16), class_=(class_, 2))
+        return int(C.wf_path_listed(self._at, station, class_))
+
+    def queued(self, station: int, tid: int) -> int:
+        """Returns how many frames of a station's TID are in flow queues."""
+        return self._of_tid(C.wf_path_queued, station, tid)
+
+    def waiting(self, station: int, tid: int) -> int:
+        """Returns how many sequence numbers of a station's TID wait to be sent."""
+        return self._of_tid(C.wf_path_waiting, station, tid)
+
+    def tim(self) -> bytes:
+        """Returns the TIM element of the stations that sleep and have traffic."""
+        return bytes(self._octets_view[: C.wf_path_tim(self._at, self._octets)])
+
+    # ---- parts
+
+    def _must(self, code: int) -> None:
+        """Raises the exception of a code other than 0."""
+        if code:
+            raise self._error(code)
+
+    def _of_station(self, function: "ctypes._FuncPointer", station: int) -> None:
+        """Makes a call that has only a station."""
+        if station >> 16:
+            raise out_of_range(station=(station, 16))
+        self._must(function(self._at, station, self._reply_at))
+
+    def _of_station_read(self, function: "ctypes._FuncPointer", station: int, out: object) -> None:
+        """Reads what belongs to a station."""
+        if station >> 16:
+            raise out_of_range(station=(station, 16))
+        self._must(function(self._at, station, out))
+
+    def _of_tid(self, function: "ctypes._FuncPointer", station: int, tid: int) -> int:
+        """Reads a count that belongs to a station's TID."""
+        if station >> 16 or tid >> 8:
+            raise out_of_range(station=(station, 16), tid=(tid, 8))
+        count = ctypes.c_uint32()
+        self._must(function(self._at, station, tid, ctypes.byref(count)))
+        return count.value
+
+    def _check_index(self, exchange: int, index: int) -> None:
+        """Checks the arguments that name a transmission."""
+        if exchange >> 64 or index >> 16:
+            raise out_of_range(exchange=(exchange, 64), index=(index, 16))
+
+    def _of_frame(self, function: "ctypes._FuncPointer", exchange: int, index: int) -> int:
+        """Reads a number that belongs to a transmission."""
+        self._check_index(exchange, index)
+        found = ctypes.c_uint64()
+        self._must(function(self._at, exchange, index, ctypes.byref(found)))
+        return found.value
+
+    def _done(self, code: int) -> Done:
+        """Returns the answer to the end of an exchange."""
+        if code:
+            raise self._error(code)
+        reply = self._reply
+        return Done(reply.acked, reply.waiting, reply.failed)
+
+    def _reap_code(self, body: bool) -> int:
+        """Makes the call of a reap."""
+        if body:
+            return int(_reap(self._at, self._reply_at, self._taken_at, self._octets, BODY_ROOM))
+        return int(_reap(self._at, self._reply_at, self._taken_at, None, NO_ROOM))
