@@ -5,6 +5,8 @@ The same scenario makes the same arrivals and losses for each path, because each
 from __future__ import annotations
 
 import functools
+import heapq
+import math
 import random
 from collections import deque
 from collections.abc import Callable
@@ -62,7 +64,11 @@ class Bench:
         self.blocked: list[Eager] = []  # flows that wait for room
         for station in scenario.stations:  # before the flows, so that a frame of the same time finds its station
             self.plan(station)
+        self.arrivals: list[tuple[int, int, Timed]] = []  # a heap: the next frame of each timed flow
         self.sources = [self.source(flow) for flow in scenario.flows]
+        self.has_eager = any(isinstance(source, Eager) for source in self.sources)
+        self.backlogs = {source.flow.number: source for source in self.sources if isinstance(source, Backlog)}
+        self.until = 0  # when the run ends
         self.receivers = Receivers(self.clock, self.sources, self.uplinks, self.enqueue_control, self.ask)
         self.loads: list[list[tuple[int, int]]] = [[] for _ in scenario.flows]  # when each transfer began, and how long it took
         self.plan_transfers()
@@ -71,9 +77,10 @@ class Bench:
 
     def run(self, until: int) -> int:
         """Runs to a time, or until the program takes no more calls. Returns the time that was reached."""
+        self.until = until
         try:
-            while self.clock.has_event(until):
-                self.step()
+            while (now := min(self.clock.next_time(), self.next_arrival())) <= until:
+                self.step(int(now))
             self.clock.now = until
             self.path.advance(until)
         except OutOfCalls:
@@ -82,10 +89,12 @@ class Bench:
         self.note_ended()
         return self.clock.now
 
-    def step(self) -> None:
+    def step(self, now: int) -> None:
         """All that happens at one time: the events, then what flows send, then what the path sends."""
-        self.path.advance(self.clock.advance())
+        self.advance(now)
         self.clock.act()
+        while self.next_arrival() == now:
+            self.arrive()
         if self.path.ended:
             self.note_ended()
         if self.eager:
@@ -93,8 +102,29 @@ class Bench:
         self.pull()
         if self.path.ended:
             self.note_ended()
+        if self.medium.is_busy and self.arrivals:
+            self.arrive_while_busy()
         if self.progress:
-            self.progress(self.clock.now)
+            self.progress(now)
+
+    def advance(self, now: int) -> None:
+        """Moves the clocks on."""
+        self.clock.now = now
+        self.path.advance(now)
+
+    def arrive_while_busy(self) -> None:
+        """Lets frames of timed flows come before the next event, as long as nothing else can happen because of them."""
+        limit, inflight = min(self.clock.next_time(), self.until + 1), self.scenario.air.inflight
+        arrivals, arrive, clock, path = self.arrivals, self.arrive, self.clock, self.path
+        while arrivals and arrivals[0][0] < limit:
+            now, _, source = arrivals[0]
+            if self.open[source.frame_class] < inflight and not source.flow.is_up:
+                break
+            clock.now = now
+            path.advance(now)
+            arrive()
+            if self.has_eager and path.ended:
+                break
 
     # Stations
 
@@ -154,7 +184,8 @@ class Bench:
             self.clock.at(tcp.start + TIMER, lambda: self.check(tcp))
             return self.eager_source(tcp)
         timed = Timed(flow, self.scenario.seed)
-        self.start_timed(timed)
+        if timed.at is not None:
+            heapq.heappush(self.arrivals, (timed.at, flow.number, timed))
         return timed
 
     def plan_transfers(self) -> None:
@@ -186,21 +217,27 @@ class Bench:
         self.clock.at(source.start, lambda: self.ask(source))
         return source
 
-    def start_timed(self, source: Timed) -> None:
-        """Has the frames of a timed flow come, each event planning the next. While the station is absent they are not counted."""
+    def next_arrival(self) -> float:
+        """When the next frame of a timed flow comes; infinity if none does."""
+        return self.arrivals[0][0] if self.arrivals else math.inf
 
-        def plan() -> None:
-            time = source.next_time()
-            if time is not None:
-                self.clock.at(time, arrive)
-
-        def arrive() -> None:
-            frame = source.frame(self.clock.now)
-            if self.here[frame.station]:
-                self.enqueue(frame)
-            plan()
-
-        plan()
+    def arrive(self) -> None:
+        """Lets the next frame of a timed flow come. While its station is absent it is not counted."""
+        arrivals = self.arrivals
+        now, number, source = arrivals[0]
+        frame = source.frame(now)
+        if source.at is None:
+            heapq.heappop(arrivals)
+        else:
+            heapq.heapreplace(arrivals, (source.at, number, source))
+        if not self.here[frame.station]:
+            return
+        if source.flow.is_up:
+            self.enqueue(frame)
+        else:
+            self.frames[number - 1].append(frame)
+            self.may_send[source.frame_class] = True
+            self.path.enqueue(frame)
 
     def enqueue(self, frame: Frame) -> None:
         """Puts a frame of a flow into the path, or into the queue of the station that sends it."""
@@ -243,14 +280,13 @@ class Bench:
                 self.ask(source)
 
     def note_ended(self) -> None:
-        """Notes frames that ended, and asks flows that wait for that."""
-        for frame, fate, time in self.path.take_ended():
-            frame.ended = time
-            frame.fate = fate
-            source = self.sources[frame.flow.number - 1]
-            source.ended(frame)
-            if isinstance(source, Backlog):
+        """Asks flows that wait for frames to end, or for room."""
+        for frame in self.path.take_ended() if self.backlogs else ():
+            source = self.backlogs.get(frame.flow.number)
+            if source:
+                source.ended(frame)
                 self.ask(source)
+        self.path.ended.clear()
         self.unblock()
 
     # Exchanges
@@ -276,8 +312,9 @@ class Bench:
 
     def start_air(self) -> None:
         """Begins the next exchange, of the access point or of a station, if there is one."""
-        everyone: list[Contender] = [self.access_point, *self.uplinks]
-        contenders = [one for one in everyone if one.has_something()]
+        contenders: list[Contender] = [one for one in self.uplinks if one.count]
+        if self.access_point.count:
+            contenders.insert(0, self.access_point)
         if not contenders:
             return
         winner, access = self.medium.next(contenders)
@@ -290,7 +327,10 @@ class Bench:
 
     def draw(self, station: Station, numbers: random.Random, count: int) -> list[bool]:
         """Which of this many transmissions arrive."""
-        return [not station.loss or numbers.random() >= station.loss for _ in range(count)]
+        if not station.loss:
+            return [True] * count
+        loss, draw = station.loss, numbers.random
+        return [draw() >= loss for _ in range(count)]
 
     def finish(self, exchange: Exchange, access: int) -> None:
         """The access point's exchange ends: draws what arrived and whether the BlockAck was heard."""
@@ -307,8 +347,7 @@ class Bench:
         if used != exchange.air or station.is_measured:
             exchange.charge = self.measured(station, used)
         self.count(exchange, access, used)
-        for frame in self.path.finish(exchange, arrived, heard):
-            self.receivers.receive(frame)
+        self.receivers.receive_all(self.path.finish(exchange, arrived, heard))
         if exchange.station in self.leaving and not self.open_of[exchange.station]:
             self.remove(station)
 
@@ -321,8 +360,10 @@ class Bench:
 
     def count(self, exchange: Exchange, access: int, used: int) -> None:
         """Counts an exchange for its station, if it ended after the warm-up: the airtime that it used, whatever was measured."""
-        again = sum(1 for frame in exchange.frames if frame.sent)
+        again = 0
         for frame in exchange.frames:
+            if frame.sent:
+                again += 1
             frame.sent += 1
         if self.clock.now > self.warmup:
             served = self.served[exchange.station]

@@ -12,10 +12,10 @@ from pathlib import Path
 from typing import TextIO
 
 from . import paper, summary
-from .exports import run_numbers, write_csv, write_json
+from .exports import Numbers, run_numbers, write_csv, write_json
 from .fields import Fault
 from .figures import MISSING, write_figures
-from .keep import Numbers, Store, standard_folder
+from .keep import Store, standard_folder
 from .measure import Result
 from .models import NAMES, Choice, choose_all
 from .outputs import Outputs, about
@@ -259,7 +259,10 @@ def run_paper(given: argparse.Namespace) -> None:
         experiments = paper.all_groups(program, seeds, seconds)
         runs = iter(side_by_side(given, [group for groups in experiments for group in groups]))
         results = [[next(runs) for group in groups for _ in group] for groups in experiments]
-        file.write(paper.page(results, seeds))
+        has_pictures = paper.draw_all(outputs, given.paper, results)
+        if not has_pictures:
+            report(MISSING)
+        file.write(paper.page(results, seeds, seconds, has_pictures))
 
 
 def run(given: argparse.Namespace) -> None:

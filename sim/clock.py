@@ -2,6 +2,7 @@
 from __future__ import annotations
 
 import heapq
+import math
 from collections.abc import Callable
 
 Action = Callable[[], None]
@@ -20,14 +21,9 @@ class Clock:
         self.order += 1
         heapq.heappush(self.events, (time, self.order, action))
 
-    def has_event(self, until: int) -> bool:
-        """Whether an event happens no later than a time."""
-        return bool(self.events) and self.events[0][0] <= until
-
-    def advance(self) -> int:
-        """Advances to the next event. Returns its time."""
-        self.now = self.events[0][0]
-        return self.now
+    def next_time(self) -> float:
+        """When the next event happens; infinity if there is none."""
+        return self.events[0][0] if self.events else math.inf
 
     def act(self) -> None:
         """Has all events of the present happen, and those that they add to it."""

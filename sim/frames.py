@@ -4,7 +4,6 @@ from __future__ import annotations
 from abc import ABC, abstractmethod
 from collections.abc import Callable, Sequence
 from dataclasses import dataclass, field
-from typing import NamedTuple
 
 from .rates import Rate
 from .scenario import Flow, Station
@@ -52,35 +51,29 @@ class Exchange:
         return self.air if self.charge is None else self.charge
 
 
-class Ended(NamedTuple):
-    """A frame that left the path, why, and when, in microseconds."""
-
-    frame: Frame
-    fate: str
-    time: int
-
-
 @dataclass
 class Path(ABC):
     """A transmit path. Calls come in the order of time; `advance` says the time of the calls that follow."""
 
     now: int = 0
-    ended: list[Ended] = field(default_factory=list)  # frames that ended since `take_ended`
+    ended: list[Frame] = field(default_factory=list)  # frames that ended since `take_ended`
     calls: int = 0  # calls that the machine was asked; 0 for a model
     summary: list[str] = field(default_factory=list)  # the machine's summary
 
-    def take_ended(self) -> list[Ended]:
+    def take_ended(self) -> list[Frame]:
         """The frames that ended since this was asked last."""
         ended, self.ended = self.ended, []
         return ended
 
     def end(self, frame: Frame, fate: str) -> None:
         """Notes that a frame ended now."""
-        self.ended.append(Ended(frame, fate, self.now))
+        self.end_at(frame, fate, self.now)
 
     def end_at(self, frame: Frame, fate: str, time: int) -> None:
         """Notes that a frame ended earlier."""
-        self.ended.append(Ended(frame, fate, time))
+        frame.ended = time
+        frame.fate = fate
+        self.ended.append(frame)
 
     def advance(self, now: int) -> None:
         self.now = now
@@ -132,3 +125,6 @@ class Path(ABC):
 
     def close(self) -> None:
         """Ends the path; it is asked nothing afterwards."""
+
+    def abandon(self) -> None:
+        """Releases what the path holds, whatever it does; it is asked nothing afterwards."""

@@ -17,6 +17,7 @@ from .exports import Numbers
 from .scenario import Scenario
 
 SOURCES = Path(__file__).resolve().parent
+ONLY_SHOW = ("cli", "figures", "outputs", "paper", "plots", "progress", "summary", "svg", "table")  # modules that no number depends on
 IRRELEVANT = ("name", "title", "note", "pictures", "shown", "compare")  # parts of a scenario that no number depends on
 
 
@@ -32,9 +33,11 @@ def checksum_of_file(path: str) -> str:
 
 @functools.cache
 def checksum_of_bench() -> str:
-    """A checksum of the bench's sources, without its tests."""
+    """A checksum of the bench's sources, without its tests and without the modules that only show numbers."""
     whole = hashlib.sha256()
     for path in sorted([*SOURCES.glob("*.py"), *SOURCES.glob("*.json"), *SOURCES.glob("baselines/*.py")]):
+        if path.stem in ONLY_SHOW:
+            continue
         whole.update(f"{path.relative_to(SOURCES)} {checksum_of_file(str(path))}\n".encode())
     return whole.hexdigest()
 

@@ -1,9 +1,4 @@
-"""The machine: a path whose every decision is an answer of `wf replay`.
-
-Calls are collected and written together, as soon as one of them needs its answer: frames that come while the driver is full cost no
-round trip on the pipe. No call is made that is not needed: one tick for all that happens at one time, and as many reaps as frames ended.
-That CoDel dropped a frame is known at the next reap, at the end of the exchange after it.
-"""
+"""The machine: a path whose every decision is an answer of the program or of the C library. `Held` is what both have in common."""
 from __future__ import annotations
 
 from collections.abc import Sequence
@@ -16,29 +11,83 @@ from .rates import Rate
 from .scenario import Flow, Scenario, Station
 
 LONGEST_TICK = 10_000_000
-MOST_WAITING = 256  # calls that wait to be written
+MOST_COMING = 200  # enqueues whose answers are not noted yet
 
 
-class Machine(Path):
-    """A cell of `wf replay`, call by call."""
+class Held(Path):
+    """A machine's frames as the bench knows them.
 
-    def __init__(self, scenario: Scenario, program: str, calls: int, copy: TextIO | None = None) -> None:
+    Answers to enqueues are noted together, when another call needs its answer: on a pipe that saves round trips. That CoDel dropped a
+    frame is known at the next reap, at the end of the exchange after it.
+    """
+
+    def __init__(self, scenario: Scenario) -> None:
         super().__init__()
         self.room = min(scenario.setting("limit"), scenario.setting("room"))
         self.room_asleep = scenario.setting("sleeping")
-        most = min(calls, scenario.settings.get("calls", calls))
-        settings = {**scenario.settings, "inflight": scenario.air.inflight, "calls": most}
-        head = " ".join(["cell", *(f"{name}={value}" for name, value in settings.items())])
-        self.pipe = Pipe(program, head, most, copy)
         self.told = 0  # the machine's clock, after the calls that wait
-        self.lines: list[str] = []  # calls that wait
-        self.notes: list[tuple[int, Frame, int]] = []  # for each enqueue among them its place, the frame, and the time
-        self.coming = 0  # enqueues among them
-        self.inside: dict[int, Frame] = {}  # frames by id, from their acceptance to their reaping
-        self.unreleased: dict[int, Frame] = {}  # frames by id that may still be released
-        self.of_station = [0] * len(scenario.stations)  # frames inside, and those that wait to be written
+        self.coming = 0  # enqueues whose answers are not noted yet
+        self.uncounted = 0  # frames among them that are not in `frames`
+        self.frames: list[Frame] = []  # all accepted frames: a frame's id is its place
+        self.inside = 0  # frames among them that are not reaped
+        self.of_station = [0] * len(scenario.stations)  # frames inside, and those that are coming
         self.asleep: set[int] = set()
         self.unreaped = 0  # frames on the machine's finished list, as far as answers have shown
+
+    def settings(self, scenario: Scenario, calls: int) -> dict[str, int]:
+        """The settings of the scenario and the most calls that the machine takes."""
+        most = min(calls, scenario.settings.get("calls", calls))
+        return {**scenario.settings, "inflight": scenario.air.inflight, "calls": most}
+
+    def can_sleep(self) -> bool:
+        return True
+
+    def has_room(self, flow: Flow) -> bool:
+        station = flow.station.number
+        if station in self.asleep and self.of_station[station] >= self.room_asleep:
+            return False
+        return self.inside + self.uncounted < self.room
+
+    def entered(self, frame: Frame) -> None:
+        """Notes that a frame was accepted, with the next id."""
+        self.frames.append(frame)
+        self.inside += 1
+
+    def refused(self, frame: Frame, came: int) -> None:
+        """Notes that a frame was refused."""
+        self.of_station[frame.station] -= 1
+        self.end_at(frame, "refused", came)
+
+    def overflowed(self, number: int, came: int) -> None:
+        """Notes that a frame was dropped because the queues were full when another one came."""
+        self.unreaped += 1
+        self.end_at(self.frames[number], "overlimit", came)
+
+    def reaped(self, number: int, fate: str) -> None:
+        """Notes that a frame was reaped. CoDel's drops, and only these, were not counted when they came on the list."""
+        frame = self.frames[number]
+        self.inside -= 1
+        self.of_station[frame.station] -= 1
+        if fate != "codel":
+            self.unreaped -= 1
+        if fate != "overlimit":
+            self.end(frame, fate)
+
+
+class Machine(Held):
+    """A cell of `wf replay`, call by call on a pipe.
+
+    Calls are collected and written together, as soon as one of them needs its answer: frames that come while the driver is full cost
+    no round trip. No call is made that is not needed: one tick for all that happens at one time, and as many reaps as frames ended.
+    """
+
+    def __init__(self, scenario: Scenario, program: str, calls: int, copy: TextIO | None = None) -> None:
+        super().__init__(scenario)
+        settings = self.settings(scenario, calls)
+        head = " ".join(["cell", *(f"{name}={value}" for name, value in settings.items())])
+        self.pipe = Pipe(program, head, settings["calls"], copy)
+        self.lines: list[str] = []  # calls that wait
+        self.notes: list[tuple[int, Frame, int]] = []  # for each enqueue among them its place, the frame, and the time
 
     def add(self, line: str) -> None:
         """Adds a call that waits, after the ticks to the present."""
@@ -53,23 +102,20 @@ class Machine(Path):
         for line in lines:
             self.add(line)
         asked, notes = self.lines, self.notes
-        self.lines, self.notes, self.coming = [], [], 0
+        self.lines, self.notes, self.coming, self.uncounted = [], [], 0, 0
         answers = self.pipe.ask(asked)
         for place, frame, came in notes:
-            self.entered(frame, came, answers[place].split())
+            self.note(frame, came, answers[place].split())
         return answers[len(answers) - len(lines) :]
 
-    def entered(self, frame: Frame, came: int, answer: list[str]) -> None:
+    def note(self, frame: Frame, came: int, answer: list[str]) -> None:
         """Notes the answer to an enqueue: accepted, with the frame that was dropped for it, or refused."""
         if answer[0] != "accepted":
-            self.of_station[frame.station] -= 1
-            self.end_at(frame, "refused", came)
+            self.refused(frame, came)
             return
-        number = int(answer[1])
-        self.inside[number] = self.unreleased[number] = frame
+        self.entered(frame)
         if len(answer) > 2:
-            self.unreaped += 1
-            self.end_at(self.inside[int(answer[3])], "overlimit", came)
+            self.overflowed(int(answer[3]), came)
 
     def must(self, line: str, expected: str) -> str:
         """The answer to a call that the machine cannot refuse here."""
@@ -88,9 +134,6 @@ class Machine(Path):
     def set_rate(self, station: Station, rate: Rate) -> None:
         self.must(f"rate {station.number} {rate}", "set")
 
-    def can_sleep(self) -> bool:
-        return True
-
     def sleep(self, station: Station) -> None:
         self.must(f"sleep {station.number}", "slept")
         self.asleep.add(station.number)
@@ -107,18 +150,13 @@ class Machine(Path):
         """Charges a station for what it sent. The machine refuses that to a station whose deficit is as low as it can be."""
         self.add(f"rx {station.number} {frame_class} {air}")
 
-    def has_room(self, flow: Flow) -> bool:
-        station = flow.station.number
-        if station in self.asleep and self.of_station[station] >= self.room_asleep:
-            return False
-        return len(self.inside) + self.coming < self.room
-
     def enqueue(self, frame: Frame) -> None:
         self.of_station[frame.station] += 1
         self.coming += 1
+        self.uncounted += 1
         self.add(f"enq {frame.station} {frame.tid} {frame.flow.number} {frame.octets}")
         self.notes.append((len(self.lines) - 1, frame, self.now))
-        if len(self.lines) >= MOST_WAITING:
+        if self.coming >= MOST_COMING:
             self.ask([])
 
     def pull(self, frame_class: str) -> Exchange | None:
@@ -126,7 +164,7 @@ class Machine(Path):
         if words[0] != "send":
             return None
         listed = words[9:] if words[8] == "data" else []
-        frames = [self.inside[int(word.partition(":")[0])] for word in listed if word != "more"]
+        frames = [self.frames[int(word.partition(":")[0])] for word in listed if word != "more"]
         return Exchange(int(words[1]), int(words[3]), int(words[5]), int(words[7]), frames)
 
     def finish(self, exchange: Exchange, arrived: Sequence[bool], heard: bool) -> list[Frame]:
@@ -141,9 +179,9 @@ class Machine(Path):
         if heard and exchange.frames:
             lines += ["reap"] * len(indices)  # at least this many are acknowledged now
         answers = self.ask(lines)
-        released = [self.unreleased.pop(int(word)) for answer in answers[: len(indices)] for word in answer.split()[1:]]
+        released = [self.frames[int(word)] for answer in answers[: len(indices)] for word in answer.split()[1:]]
         self.count_done(lines[done - 1], answers[done - 1])
-        self.reaped(answers[done:])
+        self.note_reaped(answers[done:])
         self.reap()
         return released
 
@@ -154,23 +192,16 @@ class Machine(Path):
             raise Fault(f"the machine answers '{line}' with '{answer}': expected 'done'")
         self.unreaped += int(words[2]) + int(words[6])
 
-    def reaped(self, answers: Sequence[str]) -> None:
-        """Notes frames that ended. CoDel's drops, and only these, were not counted when they came on the list."""
+    def note_reaped(self, answers: Sequence[str]) -> None:
+        """Notes the answers to reaps."""
         for answer in answers:
             _, number, fate = answer.split()
-            frame = self.inside.pop(int(number))
-            self.of_station[frame.station] -= 1
-            if fate not in ("acked", "retries"):
-                self.unreleased.pop(int(number))
-            if fate != "codel":
-                self.unreaped -= 1
-            if fate != "overlimit":
-                self.end(frame, fate)
+            self.reaped(int(number), fate)
 
     def reap(self) -> None:
         """Reaps the frames that are known to be on the finished list."""
         while self.unreaped > 0:
-            self.reaped(self.ask(["reap"] * self.unreaped))
+            self.note_reaped(self.ask(["reap"] * self.unreaped))
 
     def close(self) -> None:
         """Writes the calls that wait, if the program takes them, and ends the trace."""
@@ -178,3 +209,6 @@ class Machine(Path):
             self.ask([])
         self.calls = self.pipe.calls
         self.summary = self.pipe.end()
+
+    def abandon(self) -> None:
+        self.pipe.abandon()

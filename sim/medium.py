@@ -6,7 +6,6 @@ of 0 to `cw` slots, the least wins, and the others keep the rest of theirs. Coll
 from __future__ import annotations
 
 import random
-from abc import ABC, abstractmethod
 from collections.abc import Callable, Sequence
 from dataclasses import dataclass
 
@@ -19,15 +18,12 @@ MOST_UPLINK_FRAMES = 64
 UPLINK_QUEUE = 1000  # frames that a station holds
 
 
-class Contender(ABC):
+class Contender:
     """One that contends for the medium."""
 
+    count = 0  # exchanges or frames that it has to send
     backoff: int | None = None  # slots that are left
     turn = 0  # when it sent last; a fixed time of access gives turns
-
-    @abstractmethod
-    def has_something(self) -> bool:
-        """Whether it has something to send."""
 
 
 class AccessPoint(Contender):
@@ -36,14 +32,13 @@ class AccessPoint(Contender):
     def __init__(self) -> None:
         self.waiting: dict[str, list[Exchange]] = {frame_class: [] for frame_class in CLASSES}
 
-    def has_something(self) -> bool:
-        return any(self.waiting.values())
-
     def add(self, exchange: Exchange) -> None:
         self.waiting[CLASS_OF_TID[exchange.tid]].append(exchange)
+        self.count += 1
 
     def take(self) -> Exchange:
         """The exchange that goes on the air next."""
+        self.count -= 1
         return next(waiting for waiting in self.waiting.values() if waiting).pop(0)
 
 
@@ -74,11 +69,7 @@ class Uplink(Contender):
         self.cap = cap
         self.rate: Rate = station.rate
         self.waiting: dict[str, list[UplinkFrame]] = {frame_class: [] for frame_class in CLASSES}
-        self.count = 0
         self.is_here = True
-
-    def has_something(self) -> bool:
-        return self.count > 0
 
     def add(self, frame: UplinkFrame) -> bool:
         """Takes a frame, unless the station has left or its queue is full. Returns whether it does."""

@@ -1,16 +1,20 @@
 """The experiments of "Ending the Anomaly", as a page: `./wf sim --paper` runs all of them and writes docs/PAPER.md.
 
-The paper's numbers here are from its table 1. This repository has no other number of the paper.
+The paper's numbers here are those of its table 1, as we read them in the paper: the repository has no copy of it, and no script compares
+them. It has no other number of the paper.
 """
 from __future__ import annotations
 
 import dataclasses
 from collections.abc import Callable, Sequence
 from dataclasses import dataclass, field
+from pathlib import Path
 
+from .exports import Numbers
 from .fields import Fault
-from .keep import Numbers
+from .figures import write_picture
 from .models import choose_all
+from .outputs import Outputs
 from .program import TOP
 from .reading import load
 from .runs import Job, Program, jobs_of, repeated
@@ -18,13 +22,14 @@ from .summary import Group, grouped, of_runs, over
 from .sweep import Point, parse_all, points
 
 PAGE = TOP / "docs" / "PAPER.md"
+PICTURES = "pictures/paper"  # below the folder of the page
 STANDARD_SEEDS = 10
 ALL = ("fifo", "fq_codel", "fq_mac", "airtime")
 
-ABOUT = "`./wf sim --paper` runs these experiments and writes this page. [SIM.md](SIM.md) describes the bench and what is modelled."
+ABOUT = "`{}` runs these experiments and writes this page. [SIM.md](SIM.md) describes the bench and what is modelled."
 LEFT_OUT = (
-    "The paper's numbers are in the first table alone. Those of its other tables and figures are left out, because this repository "
-    "has no copy of them to check against."
+    "The paper's numbers are in the first table alone, as we read them in the paper; no script compares them with it. The numbers of its "
+    "other tables and figures are left out, because this repository has no copy of them."
 )
 
 # Table 1: by path and station the calculated share of the airtime in %, and the calculated and the measured Mbit/s.
@@ -82,6 +87,7 @@ class Experiment:
     differs: str
     paths: Sequence[str] = ALL
     sweeps: Sequence[str] = ()
+    figures: Sequence[str] = ()  # kinds of figures (`sim.figures`)
     table: Callable[[Experiment, Sequence[Group]], list[str]] | None = field(default=None, compare=False)
 
     def points(self, seconds: float | None) -> list[Point]:
@@ -150,6 +156,7 @@ EXPERIMENTS = (
         "and `airtime agg=18` has the paper's. It counts a share by the time of the data; a share here includes SIFS and BlockAck. "
         "Measured stations also collide, and their host takes time.",
         paths=(*ALL, "airtime:agg=18"),
+        figures=("airtime", "throughput"),
         table=table_1,
     ),
     Experiment(
@@ -157,12 +164,14 @@ EXPERIMENTS = (
         "scenarios/latency.toml",
         tuple(delay(f"ping to {one}", percent, one) for one in ("fast 1", "slow") for percent in (50, 95)),
         "Floods are UDP, and a ping comes every 10 ms.",
+        figures=("delay",),
     ),
     Experiment(
         "The airtime of TCP, and Jain's index",
         "paper/tcp.toml",
         (share("fast 1"), share("fast 2"), share("slow"), JAIN, TOTAL),
         "One flow of CUBIC to each station; the rest of a round trip is 20 ms.",
+        figures=("airtime", "throughput"),
     ),
     Experiment(
         "The sparse station optimisation",
@@ -170,12 +179,14 @@ EXPERIMENTS = (
         (delay("ping to sparse", 50, "sparse"), delay("ping to sparse", 95, "sparse")),
         "`one_list` is `airtime` without the optimisation. Pings come 10 ms apart on average.",
         paths=("one_list", "airtime"),
+        figures=("delay",),
     ),
     Experiment(
         "Thirty stations",
         "scenarios/thirty.toml",
         (share("slow"), TOTAL, delay("ping to sparse", 50, "sparse"), delay("ping to sparse", 95, "sparse")),
         "The slow station of the paper sends at 1 Mbit/s, a legacy rate that the machine does not have; here it has 7.2 Mbit/s. Floods are UDP.",
+        figures=("throughput", "delay"),
     ),
     Experiment(
         "Calls (table 2)",
@@ -208,14 +219,43 @@ def all_groups(program: Program, seeds: int, seconds: float | None) -> list[list
     return [experiment.groups(program, seeds, seconds) for experiment in EXPERIMENTS]
 
 
-def page(results: Sequence[Sequence[Numbers]], seeds: int) -> str:
+def name_of(experiment: Experiment, kind: str) -> str:
+    """The name of a picture of an experiment, below the page's folder, without its suffix."""
+    return f"{PICTURES}/{Path(experiment.file).stem}-{kind}"
+
+
+def draw_all(outputs: Outputs, page_file: str, results: Sequence[Sequence[Numbers]]) -> bool:
+    """Draws the pictures of all experiments next to a page. Returns whether matplotlib is there."""
+    for experiment, runs in zip(EXPERIMENTS, results):
+        scenario = experiment.points(None)[0].scenario
+        for kind in experiment.figures:
+            path = Path(page_file).parent / name_of(experiment, kind)
+            if not write_picture(outputs, str(path), scenario, runs, kind):
+                return False
+    return True
+
+
+def interval_of(seeds: int) -> str:
+    """What a number of the page is."""
+    if seeds == 1:
+        return "A number is of one run, with seed 1."
+    return f"A number is the mean over {seeds} seeds with its 95 % confidence interval by Student's t."
+
+
+def command(seeds: int, seconds: float | None) -> str:
+    """The command that writes the page."""
+    options = [f" --seeds {seeds}" if seeds != STANDARD_SEEDS else "", f" --seconds {seconds:g}" if seconds is not None else ""]
+    return "".join(["./wf sim --paper", *options])
+
+
+def page(results: Sequence[Sequence[Numbers]], seeds: int, seconds: float | None = None, has_pictures: bool = False) -> str:
     """The page, from the runs of each experiment."""
     lines = [
         '# The experiments of "Ending the Anomaly"',
         "",
         "<!-- Written by ./wf sim --paper; do not edit. -->",
         "",
-        *wrapped(f"{ABOUT} A number is the mean over {seeds} seeds with its 95 % confidence interval by Student's t."),
+        *wrapped(f"{ABOUT.format(command(seeds, seconds))} {interval_of(seeds)}"),
         "",
         *wrapped(LEFT_OUT),
     ]
@@ -224,6 +264,8 @@ def page(results: Sequence[Sequence[Numbers]], seeds: int) -> str:
         measured = runs[0]["simulated_s"]
         lines += ["", f"## {experiment.title}", "", *wrapped(f"`sim/{experiment.file}`, {measured:g} s. {experiment.differs}"), ""]
         lines += (experiment.table or by_path)(experiment, groups)
+        if has_pictures and experiment.figures:
+            lines += ["", *(f"![{experiment.title}: {kind}]({name_of(experiment, kind)}.svg)" for kind in experiment.figures)]
     return "\n".join(lines) + "\n"
 
 

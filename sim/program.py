@@ -32,9 +32,9 @@ def build() -> tuple[str, str] | None:
     return find()
 
 
-def describe(kind: str, path: str) -> str:
-    """How a table names the program: below the repository's top by its path there."""
-    return f"the {kind} program {os.path.relpath(path, TOP) if pathlib.Path(path).is_relative_to(TOP) else path}"
+def describe(kind: str, path: str, what: str = "program") -> str:
+    """How a table names the program or the library: below the repository's top by its path there."""
+    return f"the {kind} {what} {os.path.relpath(path, TOP) if pathlib.Path(path).is_relative_to(TOP) else path}"
 
 
 def most_calls(path: str) -> int:

@@ -32,6 +32,16 @@ class Receivers:
         self.uplinks = uplinks
         self.down = down
         self.ask = ask
+        self.is_plain = [not (isinstance(one, Tcp) or one.flow.echo) for one in sources]  # nobody answers frames of these flows
+
+    def receive_all(self, frames: Sequence[Frame]) -> None:
+        """Takes frames that were released now."""
+        now, is_plain = self.clock.now, self.is_plain
+        for frame in frames:
+            if is_plain[frame.flow.number - 1] and frame.action is None:
+                frame.released = now
+            else:
+                self.receive(frame)
 
     def receive(self, frame: Frame) -> None:
         """Takes a frame that was released now, by a station or above the access point."""

@@ -1,19 +1,25 @@
 """Runs of a scenario: one after the other with all that they found, or many side by side with their numbers alone."""
 from __future__ import annotations
 
+import contextlib
 import dataclasses
+import functools
+import gc
 import multiprocessing
 import signal
 import time
-from collections.abc import Callable, Sequence
+from collections.abc import Callable, Iterator, Sequence
 from concurrent.futures import Executor, Future, ProcessPoolExecutor, as_completed
 from dataclasses import dataclass, field
 from typing import TextIO
 
+from . import library
 from .bench import Bench
-from .exports import run_numbers
+from .cell import Cell, NoRoom
+from .exports import Numbers, run_numbers
 from .fields import Fault
-from .keep import Numbers, Store, key
+from .frames import Path
+from .keep import Store, key
 from .machine import Machine
 from .measure import Result, measure
 from .models import MODELS, Choice
@@ -26,20 +32,28 @@ Within = Callable[[int], None]  # is called with the simulated time
 
 @dataclass(frozen=True)
 class Program:
-    """The program that decides: its file, how tables name it, and the most calls of one trace."""
+    """The machine: the program's file, how tables name what decides, the most calls of one trace, and the library, if it decides."""
 
     path: str
     description: str
     calls: int
+    library: str | None = None  # the shared object
 
 
 def find_program(report: Callable[[str], None]) -> Program:
-    """The program that `./wf which` names; the unproved one is built if there is none. A line says which it is."""
+    """The program that `./wf which` names; the unproved one is built if there is none. A line says which it is.
+
+    If a library is built from the same sources, and is proved if the program is, it decides in the program's place.
+    """
     found = find() or build()
     if found is None:
         raise Fault("no program is built from these sources: build one by './wf build --unproved'")
-    report(f"by {describe(*found)}")
-    return Program(found[1], describe(*found), most_calls(found[1]))
+    kind, path = found
+    archive = library.find() if kind != "named" else None
+    shared = library.shared(archive[1]) if archive and archive[0] == kind else None
+    description = describe(kind, archive[1], "library") if archive and shared else describe(kind, path)
+    report(f"by {description}")
+    return Program(path, description, most_calls(path), shared)
 
 
 @dataclass
@@ -63,22 +77,51 @@ class Job:
         return key(self.scenario, self.choice.label, self.program.path if self.program else None, self.until)
 
 
+def paths_of(job: Job, trace: TextIO | None) -> list[Callable[[Scenario], Path]]:
+    """The ways to make a job's path: the first one that has room for the run is the one to take."""
+    program = job.program
+    if not job.choice.is_machine or program is None:
+        return [MODELS[job.choice.name]]
+    pipe = functools.partial(Machine, program=program.path, calls=program.calls, copy=trace)
+    if program.library is None or trace is not None:
+        return [pipe]
+    return [functools.partial(Cell, library=library.loaded(program.library), calls=program.calls), pipe]
+
+
 def run_one(job: Job, trace: TextIO | None = None, within: Within | None = None) -> Result:
     """The result of a run, which ends early if the program takes no more calls."""
+    *others, last = paths_of(job, trace)
+    for make in others:
+        with contextlib.suppress(NoRoom):
+            return run_over(job, make, within)
+    return run_over(job, last, within)
+
+
+def run_over(job: Job, make: Callable[[Scenario], Path], within: Within | None) -> Result:
+    """The result of a run over a path that is made for it."""
     chosen = job.scenario.with_settings(job.choice.settings)
     began = time.monotonic()
-    if job.choice.is_machine and job.program:
-        machine = Machine(chosen, job.program.path, job.program.calls, trace)
-        try:
-            bench = Bench(chosen, machine, within)
+    path = make(chosen)
+    try:
+        with without_collection():
+            bench = Bench(chosen, path, within)
             reached = bench.run(job.until)
-        except BaseException:
-            machine.pipe.abandon()
-            raise
-    else:
-        bench = Bench(chosen, MODELS[job.choice.name](chosen), within)
-        reached = bench.run(job.until)
-    return measure(bench, job.choice.label, job.choice.name, reached, time.monotonic() - began)
+            return measure(bench, job.choice.label, job.choice.name, reached, time.monotonic() - began)
+    except BaseException:
+        path.abandon()
+        raise
+
+
+@contextlib.contextmanager
+def without_collection() -> Iterator[None]:
+    """Keeps Python from looking for cycles of objects: a run keeps all its frames, and looking at them again and again takes long."""
+    was_on = gc.isenabled()
+    gc.disable()
+    try:
+        yield
+    finally:
+        if was_on:
+            gc.enable()
 
 
 def work(job: Job) -> Numbers:

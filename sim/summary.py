@@ -4,9 +4,9 @@ from __future__ import annotations
 from collections.abc import Sequence
 from typing import Any
 
+from .exports import Numbers
 from .frames import CAUSES
 from .intervals import Interval, interval
-from .keep import Numbers
 from .measure import PERCENTILES
 from .scenario import Scenario
 from .table import MOST_COLUMNS, rows

@@ -1,13 +1,14 @@
 """The sources of frames: timed flows, flows with a backlog, and senders of TCP."""
 from __future__ import annotations
 
+import itertools
 import math
 import random
 from abc import ABC, abstractmethod
 from collections import deque
-from collections.abc import Callable
+from collections.abc import Callable, Iterator
 
-from .frames import Frame
+from .frames import CLASS_OF_TID, Frame
 from .scenario import Flow
 from .window import WINDOWS
 
@@ -15,6 +16,8 @@ SECOND = 1_000_000
 HEADERS = 60  # octets of a frame of TCP before its data: LLC 8, IPv4 20, TCP with timestamps 32
 LEAST_TIMEOUT = 200_000  # microseconds, as in Linux
 MOST_TIMEOUT = 60_000_000
+BLOCK = 256  # sizes of frames that are drawn at once
+END: tuple[int | None, int] = (None, 0)  # the time and the octets after a flow's last frame
 
 
 class Source(ABC):
@@ -22,6 +25,7 @@ class Source(ABC):
 
     def __init__(self, flow: Flow, seed: int) -> None:
         self.flow = flow
+        self.frame_class = CLASS_OF_TID[flow.tid]
         self.random = random.Random(f"{seed} flow {flow.number} {flow.label}")
         self.start = flow.start + (self.random.randint(0, flow.offset) if flow.offset else 0)
         self.count = 0  # frames so far
@@ -37,39 +41,48 @@ class Source(ABC):
         self.count += 1
         return Frame(self.flow, now, self.size(), self.count)
 
-    def ended(self, frame: Frame) -> None:
-        """Notes that a frame was acknowledged or dropped."""
-
 
 class Timed(Source):
     """A flow of frames that come at their times, whatever happens to them: at equal distances, or at random (Poisson)."""
 
     def __init__(self, flow: Flow, seed: int) -> None:
         super().__init__(flow, seed)
-        self.is_random = flow.kind in ("flood_mbit", "poisson_per_s")
-        self.at = float(self.start)
-        self.left_of_burst = flow.burst - 1
-        self.steps = 0
-        if self.is_random:
-            self.step()
+        is_random = flow.kind in ("flood_mbit", "poisson_per_s")
+        self.coming = zip(self.random_times() if is_random else self.regular_times(), self.sizes())
+        self.at, self.next_size = next(self.coming, END)
 
-    def step(self) -> None:
-        """Advances to the time of the next frame."""
-        if self.is_random:
-            self.at += self.random.expovariate(1 / self.flow.every)
-        elif self.left_of_burst > 0:
-            self.left_of_burst -= 1
-        else:
-            self.steps += 1
-            self.at = self.start + self.steps * self.flow.every
+    def random_times(self) -> Iterator[int]:
+        """The whole microseconds of frames at random times, until the flow's stop."""
+        at, stop, every, draw = float(self.start), self.flow.stop, self.flow.every, self.random.random
+        while True:
+            at -= math.log(1.0 - draw()) * every
+            if at >= stop:
+                return
+            yield int(at)
+
+    def regular_times(self) -> Iterator[int]:
+        """The whole microseconds of frames at equal distances after the burst, until the flow's stop."""
+        for nth in itertools.count(1 - self.flow.burst):
+            at = self.start + max(nth, 0) * self.flow.every
+            if at >= self.flow.stop:
+                return
+            yield int(at)
+
+    def sizes(self) -> Iterator[int]:
+        """The octets of frames. They are drawn in blocks, which is faster than one by one."""
+        if len(self.octets) == 1:
+            yield from itertools.repeat(self.octets[0])
+        while True:
+            yield from self.random.choices(self.octets, self.weights, k=BLOCK)
 
     def next_time(self) -> int | None:
         """The whole microsecond of the next frame, or None after the flow's stop."""
-        return int(self.at) if self.at < self.flow.stop else None
+        return self.at
 
     def frame(self, now: int) -> Frame:
-        made = super().frame(now)
-        self.step()
+        self.count += 1
+        made = Frame(self.flow, now, self.next_size, self.count)
+        self.at, self.next_size = next(self.coming, END)
         return made
 
 
@@ -105,6 +118,7 @@ class Backlog(Eager):
         return super().frame(now)
 
     def ended(self, frame: Frame) -> None:
+        """Notes that a frame was acknowledged or dropped."""
         self.inside -= 1
 
 
@@ -123,7 +137,7 @@ class Tcp(Eager):
         self.finished: Callable[[int], None] | None = None  # is called with the time when all data was released
         self.restart()
         if flow.kind == "tcp":
-            self.promised = math.inf if flow.octets is None else flow.octets
+            self.give(math.inf if flow.octets is None else flow.octets)
 
     def restart(self) -> None:
         """Begins a new connection, with no data to send."""
@@ -139,7 +153,7 @@ class Tcp(Eager):
         self.smoothed = 0.0  # the round trip, and its variation
         self.variation = 0.0
 
-    def give(self, octets: int, finished: Callable[[int], None]) -> None:
+    def give(self, octets: float, finished: Callable[[int], None] | None = None) -> None:
         """Adds data to send. `finished` is called when all data was released."""
         self.promised += octets
         self.finished = finished

@@ -1,8 +1,13 @@
 """The quality of a voice call, by the E-model of ITU-T G.107 in its simplified form: a rating R, and the mean opinion score (MOS).
 
-The rating is 93.2, the standard values' own, less an impairment by delay and one by loss. The delay's is the approximation of Cole and
-Rosenbluth ("Voice over IP performance monitoring", 2001); the loss's is from G.107, with the values of G.711 with concealment
-(ITU-T G.113, appendix I).
+R is STANDARD_RATING less an impairment by delay and one by loss. The constants are written down from memory of their sources, which this
+repository has no copy of; no script compares them:
+- 93.2, R with all parameters of G.107 at their default values: ITU-T G.107, table 3 and its note.
+- 0.024, 0.11 and 177.3 ms: the impairment by delay, fitted to that of G.107 by R. G. Cole and J. H. Rosenbluth, "Voice over IP performance
+  monitoring", ACM SIGCOMM CCR 31(2), 2001, section 2.
+- 95: the effective equipment impairment, Ie + (95 - Ie) Ppl / (Ppl + Bpl): ITU-T G.107, section 7.5, with bursts left out.
+- Ie 0 and Bpl 25.1: G.711 with the packet-loss concealment of its appendix I, at random losses: ITU-T G.113, appendix I.
+- MOS of R: ITU-T G.107, annex B.
 """
 from __future__ import annotations
 

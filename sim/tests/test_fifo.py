@@ -49,8 +49,8 @@ class Queue(unittest.TestCase):
             self.path.enqueue(one)
         return frames
 
-    def ended(self) -> list[tuple[Frame, str]]:
-        return [(one.frame, one.fate) for one in self.path.take_ended()]
+    def ended(self) -> list[tuple[Frame, str | None]]:
+        return [(one, one.fate) for one in self.path.take_ended()]
 
     def pull(self) -> Exchange:
         exchange = self.path.pull("be")

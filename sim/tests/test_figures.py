@@ -15,6 +15,7 @@ from sim.cli import main
 from sim.exports import run_numbers
 from sim.outputs import Outputs
 from sim.runs import repeated
+from sim.summary import Group
 
 from .support import ONE_STATION, run, scenario
 from .test_repeats import SHORT
@@ -37,12 +38,34 @@ class Drawing(unittest.TestCase):
         pyplot = unittest.mock.MagicMock()
         drawn, axes = unittest.mock.MagicMock(), unittest.mock.MagicMock()
         pyplot.subplots.return_value = drawn, axes
-        with unittest.mock.patch("sim.figures.library", return_value=pyplot), Outputs() as outputs:
+        without_ticks = unittest.mock.patch("sim.figures.make_logarithmic")
+        with unittest.mock.patch("sim.figures.library", return_value=pyplot), without_ticks, Outputs() as outputs:
             self.assertTrue(figures.write_figures(outputs, self.folder, self.scenario, self.runs))
         self.assertEqual(len(os.listdir(self.folder)), 9)
         self.assertEqual([call.kwargs["format"] for call in drawn.savefig.call_args_list], ["png", "svg", "pdf"] * 3)
         self.assertEqual(axes.bar.call_args_list[0].args[1], [100.0])  # the airtime of the only station
         self.assertEqual(axes.bar.call_args_list[0].kwargs["yerr"], [0.0])
+
+    def test_matplotlib_draws_them(self) -> None:
+        if figures.library() is None:
+            self.skipTest("matplotlib is not installed")
+        with Outputs() as outputs:
+            self.assertTrue(figures.write_figures(outputs, self.folder, self.scenario, self.runs))
+        heads = {path.suffix: path.read_bytes()[:5] for path in sorted(pathlib.Path(self.folder).iterdir())}
+        self.assertEqual((heads[".png"][1:4], heads[".pdf"], heads[".svg"]), (b"PNG", b"%PDF-", b"<?xml"))
+
+    def test_the_axis_names_the_delay(self) -> None:
+        group = [{"flows": [{"delay": "one-way"}, {"delay": "round-trip"}]}]
+        titles = [figures.axis_title(figures.FIGURES[2], group, shown) for shown in ([(0, "a")], [(1, "b")], [(0, "a"), (1, "b")])]
+        self.assertEqual(titles, ["median one-way delay, ms", "median round-trip time, ms", "median delay, ms"])
+
+    def test_a_path_looks_the_same_in_every_figure(self) -> None:
+        def groups(*names: str) -> list[Group]:
+            return [[{"path": name, "parameters": {}}] for name in names]
+
+        self.assertEqual(figures.styles(groups("fifo", "fq_codel", "fq_mac", "airtime", "airtime agg=18")), [0, 1, 2, 3, 5])
+        self.assertEqual(figures.styles(groups("one_list", "airtime")), [4, 3])
+        self.assertEqual(figures.styles(groups("airtime limit=1", "airtime limit=2", "airtime")), [5, 6, 3])
 
     def test_many_stations_are_boxes(self) -> None:
         many = scenario(ONE_STATION.replace("seconds = 1", "seconds = 0.02") + "[[station]]\ncount = 20\n")

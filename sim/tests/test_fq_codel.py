@@ -79,7 +79,7 @@ class Rounds(unittest.TestCase):
         self.assertEqual(path.take_ended(), [])
         path.enqueue(frame(self.sparse))
         ended = path.take_ended()
-        self.assertEqual({(one.frame.flow.name, one.fate) for one in ended}, {("heavy", "overlimit")})
+        self.assertEqual({(one.flow.name, one.fate) for one in ended}, {("heavy", "overlimit")})
         self.assertEqual(len(ended), 64)
 
 
@@ -92,7 +92,7 @@ class InTheDriver(unittest.TestCase):
         heavy = [frame(chosen.flows[0]) for _ in range(3)]
         for one in [*heavy, frame(chosen.flows[2])]:
             path.enqueue(one)
-        self.assertEqual([(one.frame, one.fate) for one in path.take_ended()], [(heavy[0], "overlimit")])
+        self.assertEqual([(one, one.fate) for one in path.take_ended()], [(heavy[0], "overlimit")])
         exchange = path.pull("be")
         assert exchange
         self.assertEqual([one.flow.name for one in exchange.frames], ["heavy", "sparse", "heavy"])

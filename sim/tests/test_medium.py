@@ -82,7 +82,7 @@ class Uplinks(unittest.TestCase):
         sender = uplink(60)
         sender.leave()
         sender.add(UplinkFrame(60, 0, lambda now: None))
-        self.assertFalse(sender.has_something())
+        self.assertEqual(sender.count, 0)
 
     def test_an_aggregate_is_bounded(self) -> None:
         self.assertEqual(len(uplink(*[60] * 100).take().frames), 64)

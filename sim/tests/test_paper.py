@@ -4,12 +4,13 @@ from __future__ import annotations
 import contextlib
 import io
 import pathlib
+import re
 import tempfile
 import unittest
 import unittest.mock
 from typing import Any
 
-from sim import paper
+from sim import figures, paper
 from sim.cli import main
 from sim.runs import Job, Program
 
@@ -19,9 +20,11 @@ NONE = Program("/bin/true", "", 1)
 def numbers(job: Job) -> dict[str, Any]:
     """The result of a run: each number is the seed."""
     seed = job.scenario.seed
-    stations = [{"station": one.name, **dict.fromkeys(("airtime_share", "throughput_mbit_per_s", "aggregate_frames"), seed)} for one in job.scenario.stations]
-    names = ("delay_p50_us", "delay_p95_us", "mos", "transfers", "transfer_mean_us", "transfer_p95_us")
-    flows = [{"flow": one.name, "station": one.station.name, **dict.fromkeys(names, seed)} for one in job.scenario.flows]
+    of_station = dict.fromkeys(("airtime_share", "throughput_mbit_per_s", "aggregate_frames"), seed)
+    stations: list[dict[str, Any]] = [{"station": one.name, **of_station} for one in job.scenario.stations]
+    of_flow = dict.fromkeys(("delay_p50_us", "delay_p95_us", "mos", "transfers", "transfer_mean_us", "transfer_p95_us"), seed)
+    kind = {"delay": "one-way", "direction": "down", "connection": 0}
+    flows: list[dict[str, Any]] = [{"flow": one.name, "station": one.station.name, **kind, **of_flow} for one in job.scenario.flows]
     whole = {"path": job.choice.label, "seed": seed, "simulated_s": 20, "jain": seed, "throughput_mbit_per_s": seed}
     return {**whole, "parameters": job.parameters, "stations": stations, "flows": flows}
 
@@ -41,6 +44,12 @@ class Pages(unittest.TestCase):
         self.assertEqual(written.count("| large | `"), 4)
         self.assertIn("mean over 3 seeds", " ".join(written.split()))
         self.assertLessEqual(max(len(line) for line in written.splitlines() if not line.startswith("|")), 110)
+
+    def test_the_page_has_its_command(self) -> None:
+        self.assertEqual(paper.command(10, None), "./wf sim --paper")
+        self.assertEqual(paper.command(3, 10), "./wf sim --paper --seeds 3 --seconds 10")
+        self.assertIn("`./wf sim --paper --seeds 1`", page(1))
+        self.assertIn("A number is of one run", page(1))
 
     def test_each_row_has_as_many_cells_as_its_head(self) -> None:
         table = 0
@@ -62,14 +71,32 @@ class Command(unittest.TestCase):
         with contextlib.redirect_stderr(io.StringIO()), self.assertRaises(SystemExit):
             main([])
 
+    def write(self, folder: str) -> tuple[int, str]:
+        """Writes the page of runs that are made up."""
+        run = unittest.mock.patch("sim.cli.side_by_side", side_effect=lambda given, groups: [numbers(job) for group in groups for job in group])
+        with run, unittest.mock.patch("sim.cli.find_program", return_value=NONE):
+            self.assertEqual(self.call(f"{folder}/PAPER.md", "--seeds", "1", "--seconds", "1")[0], 2)
+            return self.call(f"{folder}/PAPER.md", "--seeds", "1")
+
     def test_the_page_is_written(self) -> None:
+        with tempfile.TemporaryDirectory() as folder, unittest.mock.patch("sim.figures.library", return_value=None):
+            status, said = self.write(folder)
+            self.assertEqual((status, "matplotlib is not installed" in said), (0, True))
+            written = pathlib.Path(folder, "PAPER.md").read_text(encoding="utf-8")
+        self.assertIn("## Pages", written)
+        self.assertNotIn("![", written)
+
+    def test_the_page_has_its_pictures(self) -> None:
+        if figures.library() is None:
+            self.skipTest("matplotlib is not installed")
         with tempfile.TemporaryDirectory() as folder:
-            file = pathlib.Path(folder, "PAPER.md")
-            run = unittest.mock.patch("sim.cli.side_by_side", side_effect=lambda given, groups: [numbers(job) for group in groups for job in group])
-            with run, unittest.mock.patch("sim.cli.find_program", return_value=NONE):
-                self.assertEqual(self.call(str(file), "--seeds", "1"), (0, ""))
-                self.assertEqual(self.call(str(file), "--seeds", "1", "--seconds", "1")[0], 2)
-            self.assertIn("## Pages", file.read_text(encoding="utf-8"))
+            self.assertEqual(self.write(folder), (0, ""))
+            named = re.findall(r"\]\((.+)\)", pathlib.Path(folder, "PAPER.md").read_text(encoding="utf-8"))
+            pictures = [one for one in named if one.endswith(".svg")]
+            self.assertEqual(len(pictures), sum(len(one.figures) for one in paper.EXPERIMENTS))
+            first = {name: pathlib.Path(folder, name).read_bytes() for name in pictures}
+            self.write(folder)
+            self.assertEqual(first, {name: pathlib.Path(folder, name).read_bytes() for name in pictures})
 
 
 if __name__ == "__main__":

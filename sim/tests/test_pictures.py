@@ -123,7 +123,7 @@ class Scenarios(unittest.TestCase):
     def test_all_that_come_with_the_bench_are_read(self) -> None:
         files = sorted(TOP.glob("sim/scenarios/*.toml"))
         self.assertGreaterEqual(len(files), 11)
-        for file in files:
+        for file in [*files, *TOP.glob("sim/paper/*.toml"), *TOP.glob("sim/speed/*.toml"), *TOP.glob("checks/ns3.d/*.toml")]:
             choose_all(read(file).compare, str(file))
 
 
