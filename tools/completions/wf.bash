@@ -3,7 +3,7 @@ _wf() {
   local current=${COMP_WORDS[COMP_CWORD]} first=${COMP_WORDS[1]-} words='' kind='' script='' reply
   local program='replay frames session uplink soak live help --version'
   local topics='replay frames session uplink soak live faults'
-  [ ! -d "$(dirname -- "$1")/tools/wfdev" ] || script='build lib install uninstall dist sim explain timeline which'
+  [ ! -d "$(dirname -- "$1")/tools/wfdev" ] || script='build lib install uninstall dist sim explain timeline convert which'
   if [ "$COMP_CWORD" -eq 1 ]; then
     words="$program $script ${script:+--quiet}"
   elif [ "$first" = help ]; then
@@ -15,13 +15,14 @@ _wf() {
       session) [ -z "$script" ] || { kind=-f; } ;;
       uplink) [ -z "$script" ] || { kind=-f; } ;;
       build) words='--unproved' ;;
-      lib) words='--unproved' ;;
-      install) words='--unproved' kind=-d ;;
+      lib) words='--unproved --kernel' ;;
+      install) words='--unproved --library' kind=-d ;;
       uninstall) kind=-d ;;
       dist) words='--unproved' kind=-d ;;
       sim) kind=-f ;;
       explain) kind=-f ;;
       timeline) words='-o' kind=-f ;;
+      convert) words='--fcs' kind=-f ;;
       which) words='--library' ;;
     esac
     case "$current" in -*) kind= ;; esac

@@ -24,8 +24,10 @@ complete -c wf -n '__wf_is_script; and __fish_use_subcommand' -a 'build' -d 'pro
 complete -c wf -n '__fish_seen_subcommand_from build' -a '--unproved'
 complete -c wf -n '__wf_is_script; and __fish_use_subcommand' -a 'lib' -d 'proves and builds the static library for C (docs/C.md)'
 complete -c wf -n '__fish_seen_subcommand_from lib' -a '--unproved'
+complete -c wf -n '__fish_seen_subcommand_from lib' -a '--kernel'
 complete -c wf -n '__wf_is_script; and __fish_use_subcommand' -a 'install' -d 'puts the built program and library in a folder, with manual pages'
 complete -c wf -n '__fish_seen_subcommand_from install' -a '--unproved'
+complete -c wf -n '__fish_seen_subcommand_from install' -a '--library'
 complete -c wf -n '__fish_seen_subcommand_from install' -a '(__fish_complete_directories)'
 complete -c wf -n '__wf_is_script; and __fish_use_subcommand' -a 'uninstall' -d 'removes what install PREFIX put there'
 complete -c wf -n '__fish_seen_subcommand_from uninstall' -a '(__fish_complete_directories)'
@@ -39,6 +41,9 @@ complete -c wf -n '__fish_seen_subcommand_from explain' -F
 complete -c wf -n '__wf_is_script; and __fish_use_subcommand' -a 'timeline' -d 'replays a trace, and draws its exchanges in time'
 complete -c wf -n '__fish_seen_subcommand_from timeline' -a '-o'
 complete -c wf -n '__fish_seen_subcommand_from timeline' -F
+complete -c wf -n '__wf_is_script; and __fish_use_subcommand' -a 'convert' -d 'makes a capture that frames reads, without radiotap fields'
+complete -c wf -n '__fish_seen_subcommand_from convert' -a '--fcs'
+complete -c wf -n '__fish_seen_subcommand_from convert' -F
 complete -c wf -n '__wf_is_script; and __fish_use_subcommand' -a 'which' -d 'prints which program answers, or which library is built'
 complete -c wf -n '__fish_seen_subcommand_from which' -a '--library'
 complete -c wf -n '__fish_seen_subcommand_from help' -a 'replay frames session uplink soak live faults'

@@ -2,7 +2,7 @@
 
 The tables are in crates/wf_frame/src: each row is a number and words in a `match`, and the sentence of a row is the doc comment of its
 variant. Generated from them are the regions between `begin NAME` and `end NAME` in include/wf.h, docs/TRACE.md and docs/MACHINE.md, two
-parts of the help (crates/wf_run/src/help/texts.rt), and the file sim/settings.json.
+parts of the help (crates/wf_run/src/help/texts.rt), the file sim/settings.json, and two modules of python/wfpath.
 
     tables            writes them
     tables --check    names each file that is out of date, and ends with status 1 if there is one
@@ -15,6 +15,8 @@ from collections.abc import Iterator, Mapping, Sequence
 from dataclasses import asdict, dataclass
 from pathlib import Path
 
+from wfdev import python_tables
+
 TOP = Path(__file__).resolve().parent.parent.parent
 SOURCES = Path("crates/wf_frame/src")
 HEADER = Path("include/wf.h")
@@ -22,6 +24,8 @@ TRACE = Path("docs/TRACE.md")
 MACHINE = Path("docs/MACHINE.md")
 HELP = Path("crates/wf_run/src/help/texts.rt")
 SIM = Path("sim/settings.json")
+PYTHON = Path("python/wfpath/_tables.py")
+ERRORS = Path("python/wfpath/errors.py")
 
 HEADER_WIDTH = 100
 HELP_WIDTH = 95
@@ -338,16 +342,28 @@ def sim_file(tables: Tables) -> str:
     return json.dumps([asdict(one) for one in tables.settings], indent=2) + "\n"
 
 
+def python_files(wf_h: str, tables: Tables) -> dict[Path, str]:
+    """The modules of python/wfpath that are made from this text of the header."""
+    settings = [python_tables.Row(**asdict(one)) for one in tables.settings]
+    refusals = {one.number: one.counts for one in tables.refusals}
+    try:
+        return {PYTHON: python_tables.tables_module(wf_h, settings), ERRORS: python_tables.errors_module(wf_h, refusals)}
+    except (KeyError, ValueError) as why:
+        raise Fault(f"include/wf.h has another form than tools/wfdev/header.py reads: {why}") from why
+
+
 def made(top: Path) -> Mapping[Path, str]:
     """The text of each file that is generated, or has generated regions."""
     tables = read(top)
     texts = {path: (top / path).read_text(encoding="utf-8") for path in (HEADER, TRACE, MACHINE, HELP)}
+    wf_h = header(texts[HEADER], tables)
     return {
-        HEADER: header(texts[HEADER], tables),
+        HEADER: wf_h,
         TRACE: trace_page(texts[TRACE], tables),
         MACHINE: machine_page(texts[MACHINE], tables),
         HELP: help_texts(texts[HELP], tables),
         SIM: sim_file(tables),
+        **python_files(wf_h, tables),
     }
 
 

@@ -10,7 +10,7 @@ import shlex
 import shutil
 import time
 
-from . import fresh, proved, snapshot, unproved
+from . import fresh, kernel, proved, shared, snapshot, unproved
 from .children import noted_signals
 from .files import lock, place, reason, temporary_folder, write_whole
 from .kit import need_rt
@@ -28,11 +28,12 @@ KEPT = "out/built"
 
 @dataclasses.dataclass(frozen=True)
 class Product:
-    """A file that is built: its name below the top, its crate, and whether it is proved."""
+    """A file that is built: its name below the top, its crate, whether it is proved, and whether it is for a kernel module."""
 
     name: str
     crate: str
     is_proved: bool
+    is_kernel: bool = False
 
     @property
     def path(self) -> pathlib.Path:
@@ -56,6 +57,8 @@ class Product:
 
     def is_fresh(self) -> bool:
         """Returns whether the file is made from the sources as they are."""
+        if self.is_kernel and not kernel.is_older_than(self.path):
+            return False
         return fresh.Sources(str(TOP)).is_fresh(self.name, may_adopt=self == PROGRAM)
 
 
@@ -63,6 +66,8 @@ PROGRAM = Product(fresh.PROGRAM, PROGRAM_CRATE, True)
 UNPROVED_PROGRAM = Product(fresh.UNPROVED_PROGRAM, PROGRAM_CRATE, False)
 LIBRARY = Product(fresh.LIBRARY, LIBRARY_CRATE, True)
 UNPROVED_LIBRARY = Product(fresh.UNPROVED_LIBRARY, LIBRARY_CRATE, False)
+KERNEL_LIBRARY = Product(fresh.KERNEL_LIBRARY, LIBRARY_CRATE, True, is_kernel=True)
+UNPROVED_KERNEL_LIBRARY = Product(fresh.UNPROVED_KERNEL_LIBRARY, LIBRARY_CRATE, False, is_kernel=True)
 
 
 def build(product: Product) -> None:
@@ -118,6 +123,8 @@ def _keep(made: pathlib.Path, target: pathlib.Path, record: fresh.Record, when: 
 def _take_kept(product: Product) -> bool:
     """Puts the second copy in place if it is made from the sources as they are, and returns whether it is."""
     kept = TOP / product.kept_name
+    if product.is_kernel and not kernel.is_older_than(kept):
+        return False
     if not fresh.Sources(str(TOP)).is_fresh(product.kept_name):
         return False
     record = fresh.read_record(str(kept))
@@ -131,13 +138,15 @@ def _take_kept(product: Product) -> bool:
 def _make(product: Product, copy: pathlib.Path, room: pathlib.Path, log: pathlib.Path) -> pathlib.Path:
     """Makes the file from a copy of the sources, and returns its path."""
     if product.is_proved and product.is_library:
-        return proved.build_library(copy, product.crate, log)
+        return proved.build_library(copy, product.crate, log, product.is_kernel)
     if product.is_proved:
         return proved.build_program(copy, product.crate, TOP, log)
     watched, made = room / "watched", room / "made"
     watched.mkdir()
     crate = copy / "crates" / product.crate
-    if product.is_library:
+    if product.is_kernel:
+        unproved.build_kernel_library(crate, made, watched)
+    elif product.is_library:
         unproved.build_library(crate, made, watched)
     else:
         unproved.build_program(crate, made, watched)
@@ -159,12 +168,20 @@ def program(is_proved: bool) -> None:
 
 
 def library(is_proved: bool) -> None:
-    """The word `lib`: prints the library's path, and writes a file for pkg-config next to it."""
+    """The word `lib`: prints the library's path, writes a file for pkg-config next to it, and makes the shared library for Python."""
     product = LIBRARY if is_proved else UNPROVED_LIBRARY
     build(product)
+    shared.build(product.path)
     write_whole(product.path.parent / "wf.pc", pkg_config(product))
     print(product.path, flush=True)
     Notes.say(f"cc -std=c99 -I{shlex.quote(str(TOP / 'include'))} examples/c/driver.c {shlex.quote(str(product.path))}")
+
+
+def kernel_library(is_proved: bool) -> None:
+    """The word `lib` with --kernel: prints the path of the library for a kernel module."""
+    product = KERNEL_LIBRARY if is_proved else UNPROVED_KERNEL_LIBRARY
+    build(product)
+    print(product.path, flush=True)
 
 
 def pkg_config(product: Product) -> str:

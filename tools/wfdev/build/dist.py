@@ -17,6 +17,7 @@ import subprocess
 import tarfile
 import tempfile
 from collections.abc import Mapping
+from typing import IO, cast
 
 from . import fresh, install
 from .files import reason
@@ -82,7 +83,7 @@ def entry(name: str, path: pathlib.Path, when: int) -> tuple[tarfile.TarInfo, by
 def archive(target: pathlib.Path, top: str, files: Files, when: int) -> None:
     """Writes an archive in which all files are in one folder."""
     with open(target, "wb") as file, gzip.GzipFile("", "wb", 9, file, mtime=0) as packed:
-        with tarfile.open(fileobj=packed, mode="w", format=tarfile.PAX_FORMAT) as tar:
+        with tarfile.open(fileobj=cast("IO[bytes]", packed), mode="w", format=tarfile.PAX_FORMAT) as tar:
             for name in sorted(files):
                 info, octets = entry(f"{top}/{name}", files[name], when)
                 tar.addfile(info, io.BytesIO(octets))

@@ -10,7 +10,7 @@ import sys
 import tempfile
 from typing import NoReturn
 
-from . import builds, dist, fresh, install, reading, refuse, texts
+from . import builds, converting, dist, fresh, install, reading, refuse, texts
 from .children import ENDING, Stopped, end_with_parent
 from .files import reason
 from .report import FAILED, Failure, Notes, Refusal, WriteFault, complain, complain_of, show, write
@@ -131,6 +131,8 @@ def run_script_word(name: str, words: list[str]) -> int:
         return run_sim(words)
     if name in reading.READS:
         return read_file([name, *words])
+    if name == "convert":
+        return converting.convert(words)
     flags = [word for word in words if word.startswith("-")]
     rest = [word for word in words if not word.startswith("-")]
     word = BY_NAME[name]
@@ -146,10 +148,11 @@ def run_script_word(name: str, words: list[str]) -> int:
     if name == "dist":
         return dist.dist(rest[0] if rest else None, takes_unproved=not is_proved)
     if name == "install":
-        return install.install(rest[0], takes_unproved=not is_proved)
+        return install.install(rest[0], takes_unproved=not is_proved, only_library="--library" in flags)
     if MARK in os.environ:
         end_with_parent()
-    (builds.program if name == "build" else builds.library)(is_proved)
+    make = builds.program if name == "build" else builds.kernel_library if "--kernel" in flags else builds.library
+    make(is_proved)
     return 0
 
 

@@ -102,3 +102,11 @@ def write_whole(target: pathlib.Path, text: str) -> None:
         made = pathlib.Path(folder) / "text"
         made.write_text(text, encoding="utf-8")
         place(made, target)
+
+
+def link_all(source: pathlib.Path, target: pathlib.Path, without: tuple[str, ...]) -> None:
+    """Makes a folder of links to all entries of another but some."""
+    target.mkdir(parents=True)
+    for entry in source.iterdir():
+        if entry.name not in without:
+            (target / entry.name).symlink_to(entry)

@@ -11,12 +11,11 @@ import dataclasses
 import os
 import pathlib
 import re
-import shlex
 import shutil
 import tempfile
 from collections.abc import Iterator
 
-from . import children, completions, fresh, manifest
+from . import completions, fresh, manifest, shared
 from .children import noted_signals, stop_if_asked
 from .files import reason
 from .manifest import Entry, Manifest
@@ -24,13 +23,10 @@ from .report import Failure, Notes, complain
 
 TOP = pathlib.Path(fresh.TOP)
 TEMPLATES = TOP / "tools" / "installed"
-HEADER = TOP / "include" / "wf.h"
 PROGRAM, LIBRARY = "program", "library"
-# The libraries that a shared library may need: the C library, and on some systems the loader, which belongs to it.
-ALLOWED = re.compile(r"libc\.(so\.6|musl-.*\.so\.1)|ld-linux.*|ld-musl.*")
 COPIES = {
     LIBRARY: {
-        "include/wf.h": HEADER,
+        "include/wf.h": shared.HEADER,
         "include/wf/path.hpp": TOP / "examples" / "c" / "path.hpp",
         "share/man/man3/wf.h.3": TOP / "man" / "wf.h.3",
     },
@@ -47,6 +43,7 @@ FILLED = {
     "lib/cmake/wf/wf-config-version.cmake": TEMPLATES / "wf-config-version.cmake",
 }
 TAKES_UNPROVED = "'./wf install PREFIX --unproved' installs what is not proved, too"
+NO_LIBRARY = "install: no library is as new as the sources: './wf lib' proves and builds it, and './wf lib --unproved' builds it with no proof"
 NOTHING_BUILT = (
     "install: no program and no library is as new as the sources: './wf build' and './wf lib' prove and build them, and with --unproved "
     "they build them with no proof"
@@ -75,11 +72,11 @@ def built_files() -> list[Built]:
     return [Built(component, one[0], pathlib.Path(one[1])) for component, one in found.items() if one]
 
 
-def chosen(takes_unproved: bool) -> list[Built]:
-    """Returns the products that are built from these sources; without the flag each has to be proved."""
-    built = built_files()
+def chosen(takes_unproved: bool, only_library: bool) -> list[Built]:
+    """Returns the products that are built from these sources, or the library alone; without the flag each has to be proved."""
+    built = [one for one in built_files() if one.component == LIBRARY or not only_library]
     if not built:
-        raise Failure(NOTHING_BUILT)
+        raise Failure(NO_LIBRARY if only_library else NOTHING_BUILT)
     for one in built:
         if one.kind != "proved" and not takes_unproved:
             raise Failure(f"install: {one.path} is not known to be proved; {TAKES_UNPROVED}")
@@ -91,9 +88,8 @@ class Stage:
 
     def __init__(self, folder: pathlib.Path) -> None:
         self.folder = folder
-        self.log = folder / ".log"
         self.components: dict[str, str] = {}
-        self.version = (TOP / "VERSION").read_text(encoding="utf-8").strip()
+        self.version = shared.version()
         self.major = self.version.partition(".")[0]
 
     def add(self, component: str, name: str) -> pathlib.Path:
@@ -114,67 +110,26 @@ class Stage:
         text = re.sub(r"@(\w+)@", lambda found: values[found[1]], source.read_text(encoding="utf-8"))
         self.add(LIBRARY, name).write_text(text, encoding="utf-8")
 
-    def run(self, words: list[str]) -> str:
-        """Returns the output of a tool, which must succeed."""
-        self.log.unlink(missing_ok=True)
-        if children.run(words, self.folder, self.log) != 0:
-            raise Failure(f"install: {words[0]} failed", children.last_lines(self.log, 5))
-        return self.log.read_text(encoding="utf-8", errors="replace")
-
     def finish(self) -> None:
         """Sets the permissions of all files."""
-        self.log.unlink(missing_ok=True)
         for name in self.components:
             path = self.folder / name
             if not path.is_symlink():
                 path.chmod(0o755 if name.startswith("bin/") or ".so." in name else 0o644)
 
 
-def exports() -> list[str]:
-    """Returns the functions of the header."""
-    return re.findall(r"^\w+ (wf_\w+)\(", HEADER.read_text(encoding="utf-8"), re.M)
-
-
-def c_compiler() -> list[str]:
-    """Returns the words that call the C compiler; it and readelf have to be there."""
-    words = shlex.split(os.environ.get("CC") or "cc")
-    for tool in (words[0], "readelf"):
-        if shutil.which(tool) is None:
-            raise Failure(f"install: there is no {tool}: the shared library needs a C compiler (cc, or what CC names) and binutils")
-    return words
-
-
 def link(stage: Stage, archive: pathlib.Path, compiler: list[str]) -> list[str]:
-    """Links the shared library from all of the static one, with only the header's functions visible.
-
-    Returns the names of the libraries that it needs.
-    """
+    """Links the shared library in the stage, and returns which libraries it needs."""
     made = stage.add(LIBRARY, f"lib/libwf.so.{stage.version}")
-    script = stage.folder / ".exports"
-    names = "".join(f"{name}; " for name in exports())
-    script.write_text(f"WF_{stage.major} {{ global: {names}local: *; }};\n", encoding="utf-8")
-    words = ["-shared", f"-Wl,-soname,libwf.so.{stage.major}", "-Xlinker", "--version-script", "-Xlinker", str(script)]
-    words += ["-Wl,-z,defs,-z,relro,-z,now,-Bsymbolic-functions,--gc-sections"]
-    words += ["-Wl,--whole-archive", str(archive), "-Wl,--no-whole-archive"]
-    stage.run([*compiler, *words, "-o", str(made)])
-    script.unlink()
+    needs = shared.link(archive, made, compiler, stage.folder)
     stage.add(LIBRARY, f"lib/libwf.so.{stage.major}").symlink_to(made.name)
     stage.add(LIBRARY, "lib/libwf.so").symlink_to(f"libwf.so.{stage.major}")
-    return needed(stage, made)
-
-
-def needed(stage: Stage, library: pathlib.Path) -> list[str]:
-    """Returns which libraries a shared library needs: only the C library is allowed."""
-    names = re.findall(r"\(NEEDED\).*\[(.*)\]", stage.run(["readelf", "-d", str(library)]))
-    strange = [name for name in names if not ALLOWED.fullmatch(name)]
-    if strange:
-        raise Failure(f"install: the shared library needs {', '.join(strange)}: expected the C library only")
-    return names
+    return needs
 
 
 def fill(stage: Stage, built: list[Built]) -> None:
     """Makes all files in the stage."""
-    compiler = c_compiler() if any(one.component == LIBRARY for one in built) else []
+    compiler = shared.c_compiler() if any(one.component == LIBRARY for one in built) else []
     for one in built:
         stage.copy(one.component, one.name, one.path)
         for name, source in COPIES[one.component].items():
@@ -296,17 +251,19 @@ def install_below(target: pathlib.Path, built: list[Built]) -> list[str]:
             return put(stage, target)
     except OSError as fault:
         raise Failure(f"install: {reason(fault)}") from None
+    except shared.NotLinked as why:
+        raise Failure(f"install: {why.why}", why.said) from None
 
 
-def install(prefix: str, takes_unproved: bool) -> int:
+def install(prefix: str, takes_unproved: bool, only_library: bool = False) -> int:
     """The word `install`."""
-    built = chosen(takes_unproved)
+    built = chosen(takes_unproved, only_library)
     target = destination(prefix)
     print_names(target, install_below(target, built))
     for one in built:
         Notes.say(f"installed the {one.kind} {one.component}")
     for component, word in ((PROGRAM, "build"), (LIBRARY, "lib")):
-        if component not in {one.component for one in built}:
+        if component not in {one.component for one in built} and not only_library:
             Notes.say(f"no {component} is built from these sources, so none was installed ('./wf {word}' builds one)")
     return 0
 

@@ -1,5 +1,5 @@
-"""Compiles the static library of a crate over libraries that `rt ci` left in a copy of the sources: `over_kept.py KIT`, in the crate's
-folder.
+"""Compiles the static library of a crate over libraries that `rt ci` left in a copy of the sources: `over_kept.py KIT [FLAG ..]`, in the
+crate's folder. The flags are for the compiler.
 
 `rt lib` compiles a static library only over libraries that it built itself, and proves all of them again. This script makes the same call
 of the prover and compiler over what `rt ci` proved; the crate itself is proved by that call. Status 3 means that the kit does not have
@@ -28,7 +28,7 @@ def load(kit: str) -> ModuleType:
     return module
 
 
-def main(kit: str) -> int:
+def main(kit: str, flags: list[str]) -> int:
     """Compiles the crate of the current folder to out/libNAME.a."""
     sys.dont_write_bytecode = True
     try:
@@ -37,7 +37,7 @@ def main(kit: str) -> int:
         here = os.getcwd()
         crate = commands.Crate(here, commands.root_above(here), {})
         os.makedirs("out", exist_ok=True)
-        status = crate.compile([], f"out/lib{crate.name}.a")
+        status = crate.compile(flags, f"out/lib{crate.name}.a")
     except (AttributeError, TypeError, ImportError, OSError) as fault:
         print(f"over_kept: {fault}", file=sys.stderr)
         return OTHER_KIT
@@ -45,4 +45,4 @@ def main(kit: str) -> int:
 
 
 if __name__ == "__main__":
-    sys.exit(main(sys.argv[1]))
+    sys.exit(main(sys.argv[1], sys.argv[2:]))

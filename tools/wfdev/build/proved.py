@@ -8,8 +8,9 @@ from __future__ import annotations
 import pathlib
 import re
 import sys
+from collections.abc import Sequence
 
-from . import children, crates, snapshot
+from . import children, crates, kernel, snapshot
 from .kit import find_kit
 from .report import Failure, Notes
 from .unproved import add_heap, heap_objects
@@ -81,9 +82,9 @@ def build_program(copy: pathlib.Path, crate: str, top: pathlib.Path, log: pathli
     return copy / "crates" / crate / "out" / crate
 
 
-def build_library(copy: pathlib.Path, crate: str, log: pathlib.Path) -> pathlib.Path:
+def build_library(copy: pathlib.Path, crate: str, log: pathlib.Path, is_kernel: bool = False) -> pathlib.Path:
     """Builds the static library of a crate in a copy of the sources, and returns its path. `rt ci` proves the crates below; the call that
-    compiles the library proves the crate itself."""
+    compiles the library proves the crate itself. A library for a kernel module is compiled by the kit's LLVM, with more words."""
     kit = find_kit()
     known = crates.read(copy / "crates.txt")
     names = crates.below(known, crate)
@@ -93,10 +94,16 @@ def build_library(copy: pathlib.Path, crate: str, log: pathlib.Path) -> pathlib.
     snapshot.write_lines(copy, [known[name].line for name in names])
     folder = _with(copy, crate)
     Notes.say(f"proving and compiling {crate}")
-    compile_library(folder, kit.folder, log, copy.parent / "temporary")
     made = folder / "out" / f"lib{crate}.a"
-    add_heap(kit, folder / "out", log)
-    if children.run([kit.tool("llvm-ar"), "rs", made, *heap_objects(folder / "out")], folder / "out", log) != 0:
+    if is_kernel:
+        shaping = kernel.make_frame(kit, copy.parent / "shaping")
+        compile_library(folder, shaping, log, copy.parent / "temporary", ["--backend", "llvm"])
+        heap = [kernel.compile_heap(kit.tool("clang"), folder / "out", log)]
+    else:
+        compile_library(folder, kit.folder, log, copy.parent / "temporary")
+        add_heap(kit, folder / "out", log)
+        heap = heap_objects(folder / "out")
+    if children.run([kit.tool("llvm-ar"), "rs", made, *heap], folder / "out", log) != 0:
         raise Failure("the heap object could not be added to the library", children.last_lines(log))
     return made
 
@@ -112,11 +119,13 @@ def _with(copy: pathlib.Path, crate: str) -> pathlib.Path:
     return (copy.parent / crate).rename(copy / "crates" / crate)
 
 
-def compile_library(folder: pathlib.Path, kit: pathlib.Path, log: pathlib.Path, temporary: pathlib.Path) -> None:
-    """Compiles a static library over what `rt ci` left, or by `rt lib` if the kit is another one."""
+def compile_library(
+    folder: pathlib.Path, kit: pathlib.Path, log: pathlib.Path, temporary: pathlib.Path, flags: Sequence[str] = ()
+) -> None:
+    """Compiles a static library over what `rt ci` left, with these flags, or by `rt lib` if the kit is another one and there are none."""
     variables = {"TMPDIR": str(temporary)}
-    status = children.run([sys.executable, OVER_KEPT, str(kit)], folder, log, variables)
-    if status == OTHER_KIT:
+    status = children.run([sys.executable, OVER_KEPT, str(kit), *flags], folder, log, variables)
+    if status == OTHER_KIT and not flags:
         Notes.say("this kit compiles no library over what 'rt ci' kept: 'rt lib' proves every crate below it again")
         status = children.run(["rt", "lib"], folder, log, variables)
     if status:

@@ -112,7 +112,9 @@ def view(request: Request) -> shown.View:
     """Returns the way to show a replay."""
     if request.command == "explain":
         return explain.Explain()
-    return shown.Json(has_calls=ECHO in request.options) if JSON in request.options else shown.Echo()
+    if JSON in request.options:
+        return shown.Json(has_calls=ECHO in request.options)
+    return shown.Echo()
 
 
 def replay(program: str, how: shown.View) -> int:

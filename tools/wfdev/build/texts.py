@@ -52,8 +52,8 @@ def topics() -> list[str]:
 def script_overview() -> str:
     """Returns the part of the overview with the script's own words."""
     lines = ["", "The script ./wf has further words:", ""]
-    for word in (*TABLE, *EXTENSIONS):
-        for form in word.forms:
+    for forms in (*(word.forms for word in TABLE), *(one.forms for one in EXTENSIONS)):
+        for form in forms:
             call = f"  ./wf {form.words}"
             lines += [f"{call:{WIDTH}}  {form.does}"] if len(call) <= WIDTH else [call, f"{'':{WIDTH}}  {form.does}"]
     lines += [f"{f'  ./wf {QUIET} WORDS':{WIDTH}}  leaves out the notes on standard error", ""]

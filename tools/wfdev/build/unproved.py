@@ -13,17 +13,15 @@ import re
 import shlex
 import shutil
 import sys
-from collections.abc import Callable, Iterator
+from collections.abc import Callable, Iterator, Sequence
 
-from . import children, fresh, snapshot
+from . import children, fresh, hints, kernel, snapshot
 from .exports import calling_test, exports, with_exports
-from .files import place
+from .files import link_all, place
 from .kit import Kit, find_kit
 from .report import Failure
 
 WRAPPED = ("clang", "ld.lld")
-# These look for the kit next to themselves, so links to them would lead to the kit itself.
-COPIED = ("rt", "rtlib.py")
 WRAPPER = """#!/bin/bash
 kept=$(mktemp -d {kept}/{tool}.XXXXXX)
 printf '%s\\n' "$@" >"$kept/words"
@@ -37,9 +35,10 @@ Change = Callable[[str], str]
 class Watched:
     """The calls of compiler and linker that `rt try` made."""
 
-    def __init__(self, kit: Kit, room: pathlib.Path) -> None:
+    def __init__(self, kit: Kit, room: pathlib.Path, crates: pathlib.Path) -> None:
         self.kit = kit
         self.room = room
+        self.crates = crates
         self.kept = room / "kept"
         self.log = room / "said"
         self.optimized = room / "optimized.o"
@@ -58,8 +57,8 @@ class Watched:
         if children.run([self.kit.tool(tool), *words], folder, self.log) != 0:
             raise Failure(f"{tool} refused the call of 'rt try', changed to optimize")
 
-    def compile_again(self, change: Change | None = None, level: str = "-O3") -> None:
-        """Compiles the module that `rt try` compiled last at this level; `change` changes its text before."""
+    def compile_again(self, change: Change | None = None, level: str = "-O3", more: Sequence[str] = ()) -> None:
+        """Compiles the module that `rt try` compiled last at this level, with more words; `change` changes its text before."""
         call, words = self.last_call("clang", "module.bc")
         words = [word for word in words if word != "-c" and not word.startswith(("-O", "-fsanitize="))]
         out, module = words.index("-o") + 1, words.index("module.bc")
@@ -69,7 +68,22 @@ class Watched:
             self.run("clang", [*words[:module], "module.bc", *words[module + 1 :], "-O0", "-S", "-emit-llvm"], call)
             text.write_text(change(text.read_text(encoding="utf-8")), encoding="utf-8")
         words[out] = str(self.optimized)
-        self.run("clang", [*words, "-c", level, *(["-fPIC"] if change else [])], call)
+        words += self._hints()
+        self.run("clang", [*words, "-c", level, *more], call)
+
+    def _hints(self) -> list[str]:
+        """Returns the compiler's words for the functions that the sources mark `#[inline(never)]`. `rt try` leaves the marks out."""
+        marked = hints.symbols(hints.never_inlined(self.crates), self._object().read_bytes())
+        if not marked:
+            return []
+        listed = self.room / "never-inlined.csv"
+        listed.write_text("".join(f"{name},noinline\n" for name in marked), encoding="utf-8")
+        return ["-mllvm", f"-forceattrs-csv-path={listed}"]
+
+    def _object(self) -> pathlib.Path:
+        """Returns the object of the module that `rt try` linked last."""
+        call, _ = self.last_call("ld.lld", "input-0")
+        return call / "input-0"
 
     def link_again(self, out: pathlib.Path) -> None:
         """Links what `rt try` linked, with the optimized module instead of its own, and without the archive of the checks."""
@@ -81,23 +95,15 @@ class Watched:
         self.run("ld.lld", words, call)
 
 
-def link_all(source: pathlib.Path, target: pathlib.Path, without: tuple[str, ...]) -> None:
-    """Makes a folder of links to all entries of another but some."""
-    target.mkdir(parents=True)
-    for entry in source.iterdir():
-        if entry.name not in without:
-            (target / entry.name).symlink_to(entry)
-
-
 def make_frame(kit: Kit, room: pathlib.Path) -> pathlib.Path:
     """Makes a kit whose compiler and linker keep their input in the folder `kept`, and returns its `rt`."""
     frame, kept = room / "kit", room / "kept"
     kept.mkdir()
     link_all(kit.folder, frame, ("bin", "toolchain"))
-    link_all(kit.folder / "bin", frame / "bin", COPIED)
+    link_all(kit.folder / "bin", frame / "bin", kernel.COPIED)
     link_all(kit.folder / "toolchain", frame / "toolchain", ("bin",))
     link_all(kit.folder / "toolchain/bin", frame / "toolchain/bin", WRAPPED)
-    for name in COPIED:
+    for name in kernel.COPIED:
         shutil.copy(kit.folder / "bin" / name, frame / "bin" / name)
     for name in WRAPPED:
         wrapper = frame / "toolchain/bin" / name
@@ -110,7 +116,7 @@ def make_frame(kit: Kit, room: pathlib.Path) -> pathlib.Path:
 @contextlib.contextmanager
 def tried(crate: pathlib.Path, room: pathlib.Path, *words: str) -> Iterator[Watched]:
     """Runs `rt try` with these words on the crate in a folder. If its calls cannot be used, the failure has the end of its output."""
-    watched = Watched(find_kit(), room)
+    watched = Watched(find_kit(), room, crate.parent)
     rt = make_frame(watched.kit, room)
     temporary = room / "temporary"
     temporary.mkdir()
@@ -169,8 +175,18 @@ def build_library(crate: pathlib.Path, made: pathlib.Path, room: pathlib.Path) -
     names = [name for _, name, _ in exports(_sources_of(crate))]
     add_calling_test(crate)
     with tried(crate, room, "--test") as watched:
-        watched.compile_again(lambda text: with_exports(text, names))
+        watched.compile_again(lambda text: with_exports(text, names), more=["-fPIC"])
         archive(watched, made)
+
+
+def build_kernel_library(crate: pathlib.Path, made: pathlib.Path, room: pathlib.Path) -> None:
+    """Builds the static library of the crate in a folder, which is a copy, for a kernel module."""
+    names = [name for _, name, _ in exports(_sources_of(crate))]
+    add_calling_test(crate)
+    with tried(crate, room, "--test") as watched:
+        watched.compile_again(lambda text: kernel.shaped(with_exports(text, names)), kernel.LEVEL, kernel.FLAGS)
+        heap = kernel.compile_heap(watched.kit.tool("clang"), room, watched.log)
+        watched.run("llvm-ar", ["rcs", str(made), watched.optimized.name, heap], room)
 
 
 def build_tests(crate: pathlib.Path, made: pathlib.Path, room: pathlib.Path) -> None:

@@ -57,34 +57,41 @@ temporary files, in the folder that TMPDIR names; with proofs it needs three gig
     ),
     Word(
         "lib",
-        "lib [--unproved]",
+        "lib [--unproved] [--kernel]",
         (
             Form("lib", "proves and builds the static library for C (docs/C.md)"),
             Form("lib --unproved", "builds it optimized, with no proof, in about a minute"),
+            Form("lib --kernel", "builds it for a kernel module"),
         ),
         """Proves each crate that the library needs, builds crates/wf_c/out/libwf.a, and prints its path. With
 --unproved the library is crates/wf_c/out/libwf.unproved.a. The file wf.pc in the same folder is for
-pkg-config: it names the library that was built last, and its variable 'proved' is yes or no.
+pkg-config: it names the library that was built last, and its variable 'proved' is yes or no. If there
+is a C compiler, the folder crates/wf_c/out/shared gets a shared library of the same, for Python.
+
+With --kernel the library is crates/wf_c/out/libwf.kernel.a or libwf.kernel.unproved.a, for a kernel module: it
+uses no floating point, and needs only malloc, free, memcpy, memmove and memset (docs/C.md).
 
 The library is built from the same sources under the same rules as the program: './wf help build'.""",
-        ("--unproved",),
+        ("--unproved", "--kernel"),
     ),
     Word(
         "install",
-        "install PREFIX [--unproved]",
+        "install PREFIX [--unproved] [--library]",
         (
             Form("install PREFIX", "puts the built program and library in a folder, with manual pages"),
             Form("install PREFIX --unproved", "also takes what is not proved"),
+            Form("install PREFIX --library", "puts only the library there"),
         ),
         """Puts the program, the library for C (static and shared), its headers, files for pkg-config and CMake,
 manual pages and completions for shells below the folder PREFIX, and prints each file. Only the program is
-installed if no library is built, and only the library if no program is built. Without --unproved both have to
-be proved.
+installed if no library is built, and only the library if no program is built. With --library only the
+library is installed. Without --unproved all that is installed has to be proved. pkg-config and CMake know the
+library as 'wf', proved or not: 'pkg-config --variable=proved wf' and wf_PROVED of CMake say which it is.
 
 Each file is replaced whole, and no file is replaced if one of them cannot be. If DESTDIR is set, everything is
 put below DESTDIR/PREFIX. CC names the C compiler that links the shared library. PREFIX/share/wf/manifest lists
 the files.""",
-        ("--unproved",),
+        ("--unproved", "--library"),
         "folder",
     ),
     Word(
@@ -148,6 +155,21 @@ The picture is drawn by the script. It is not proved.""",
         "file",
     ),
     Word(
+        "convert",
+        "convert [--fcs] IN OUT",
+        (Form("convert IN OUT", "makes a capture that frames reads, without radiotap fields"),),
+        """Reads the capture IN, of the format of libpcap or pcapng, and writes the capture OUT for './wf frames': of
+the format of libpcap, with IEEE 802.11 frames alone (link type 105). Radiotap fields (link type 127) are
+removed, and the frame check sequence of each frame of which they say that it has one. With --fcs the last four
+octets of every frame are removed: some captures of link type 105 have a frame check sequence and do not say
+so. IN and OUT may be -, standard input and output. OUT is replaced whole.
+
+Status 2: IN is no such capture; a file OUT stays as it was. Nothing of the conversion is proved.
+checks/captures compares it with tshark.""",
+        ("--fcs",),
+        "file",
+    ),
+    Word(
         "which",
         "which [--library]",
         (Form("which [--library]", "prints which program answers, or which library is built"),),
@@ -191,7 +213,8 @@ None of this is proved. The kinds of faults are:
   too-big   a header or a packet does not end within the first 2^40 octets
   magic     the input does not begin as a file of the format of libpcap
   version   the version is not 2.4
-  link      the link type is not 105: packets of another network, or with radio fields (127)
+  link      the link type is not 105: packets of another network, or with radio fields (127);
+            './wf convert IN OUT' removes these
   long      the captured length of a packet is above 262144
   short     the input ends inside a header or a packet""",
     ),

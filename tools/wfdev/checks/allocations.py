@@ -57,9 +57,12 @@ class Shim:
 
 def run(program: Path, command: Command, environment: dict[str, str] | None = None) -> Ended:
     """Runs a command once."""
-    done = subprocess.run(
-        command.line(program), input=command.given or b"", capture_output=True, env=environment, check=False, timeout=SECONDS
-    )
+    try:
+        done = subprocess.run(
+            command.line(program), input=command.given or b"", capture_output=True, env=environment, check=False, timeout=SECONDS
+        )
+    except subprocess.TimeoutExpired:
+        SCRIPT.fail(f"{command.name} did not end within {SECONDS} seconds; on a busy machine the threads of `live` take long turns")
     return Ended(done.returncode, done.stderr, done.stdout)
 
 

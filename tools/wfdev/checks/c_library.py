@@ -1,11 +1,15 @@
 """Builds the C programs of examples/c with the static library, runs them, and compares the library's answers with a replay.
 
+First it reads the header alone, without a warning, as each standard from C89 to C23 and from C++98 to C++23, with gcc and with clang, as
+far as they are there and know the standard.
+
 The library is the proved one that `./wf lib` left if it is as new as the sources, else the unproved one, which is built if
 necessary. The programs are built without a warning: plainly, with the address and undefined-behaviour sanitizers, which also see
 that all memory is freed, and, if they have threads, with the thread sanitizer. c-library.d has the program that calls the readers
 on handles in memory that cannot be written. The replay is by the program that `./wf which` names, and left out if there is none.
 """
 import re
+import shutil
 import subprocess
 import sys
 import tempfile
@@ -22,8 +26,13 @@ SOURCES = paths.EXAMPLES / "c"
 COMPILER = ["cc", "-std=c99", "-Wall", "-Wextra", "-Wconversion", "-pedantic", "-Werror", "-O1", "-pthread"]
 SANITIZED = ("-g", "-fsanitize=address,undefined", "-fno-sanitize-recover=all")
 THREADS = ("-g", "-fsanitize=thread")
+WARNINGS = ["-Wall", "-Wextra", "-pedantic", "-Wshadow", "-Wconversion", "-Wundef", "-Werror"]
+# A standard may have an older name in an older compiler.
+C_STANDARDS = [("c89",), ("c99",), ("c11",), ("c17",), ("c23", "c2x")]
+CPP_STANDARDS = [("c++98",), ("c++03",), ("c++11",), ("c++14",), ("c++17",), ("c++20", "c++2a"), ("c++23", "c++2b")]
+LANGUAGES = [("c", ("gcc", "clang"), C_STANDARDS), ("c++", ("g++", "clang++"), CPP_STANDARDS)]
 SECONDS = 600
-UNKNOWN = "?"  # an answer of the receivers' own, which the library does not have
+UNKNOWN = "?"  # an answer of a receiver, which a path of the library does not have
 
 
 @dataclass(frozen=True)
@@ -69,7 +78,8 @@ class Bench:
             if answer not in (UNKNOWN, other):
                 raise Difference(f"line {place}: the library says '{answer}', the replay '{other}'")
         own = said.count(UNKNOWN)
-        SCRIPT.say(f"{program.name}, seed {seed}: {len(said)} lines are equal, except {own} that are the receivers' own")
+        rest = f"; {own} answers of receivers are not compared" if own else ""
+        SCRIPT.say(f"{program.name}, seed {seed}: {len(said) - own} lines are equal{rest}")
 
 
 def run(words: Sequence[str], given: IO[bytes] | None = None) -> str:
@@ -86,6 +96,27 @@ def uncalled() -> list[str]:
     text = "".join(paths.read(file) for file in [*sorted(SOURCES.glob("*.c")), SOURCES / "words.h"])
     names = set(re.findall(r"^\w+ (wf_\w+)\(", paths.read(paths.HEADER), re.M))
     return sorted(name for name in names if f"{name}(" not in text)
+
+
+def compiles(compiler: str, language: str, standard: str, source: str) -> str | None:
+    """Compiles a text without output. Returns what the compiler says, or None if it does not know the standard."""
+    words = [compiler, "-x", language, f"-std={standard}", *WARNINGS, "-fsyntax-only", "-I", str(paths.HEADER.parent), "-"]
+    done = subprocess.run(words, input=source, capture_output=True, text=True, check=False)
+    return None if done.returncode and re.search(r"-std=|invalid value", done.stderr) else done.stderr
+
+
+def read_header() -> None:
+    """Reads the header as each standard that the compilers know. Raises Difference if one gives a warning."""
+    source = "#include <wf.h>\nint main(void) { return 0; }\n"
+    read = []
+    for language, compilers, standards in LANGUAGES:
+        for compiler in filter(shutil.which, compilers):
+            for names in standards:
+                known = [(name, said) for name in names if (said := compiles(compiler, language, name, source)) is not None]
+                if known and known[0][1]:
+                    raise Difference(f"{compiler} -std={known[0][0]} says of wf.h:\n{known[0][1]}")
+                read += [f"{compiler} {known[0][0]}"] if known else []
+    SCRIPT.say(f"the header is read without a warning by {', '.join(read)}")
 
 
 def run_programs(bench: Bench) -> None:
@@ -108,6 +139,10 @@ def main(words: Sequence[str] | None = None) -> int:
     SCRIPT.require("cc")
     if uncalled():
         SCRIPT.fail(f"no program calls {' '.join(uncalled())}")
+    try:
+        read_header()
+    except Difference as difference:
+        SCRIPT.fail(difference)
     library, program = SCRIPT.library(), SCRIPT.program_or_none()
     try:
         with tempfile.TemporaryDirectory(prefix="wf-c-") as room:

@@ -3,7 +3,8 @@ there.
 
 Both runs have to make the same octets, and all checksums have to be right. The unpacked sources run by the
 unpacked program, without the kit. A program in C is built with the unpacked library, if there are a compiler
-and pkg-config. The check is skipped if the program or the library that is built from these sources is not
+and pkg-config. Program and shared library need the C library alone; with the rights of root, the program and
+that program in C also run in a root that has only what was unpacked and the C library. The check is skipped if the program or the library that is built from these sources is not
 proved; with --unproved it takes those that are not proved. """
 import hashlib
 import os
@@ -11,7 +12,6 @@ import re
 import shutil
 import subprocess
 import sys
-import tarfile
 import tempfile
 from collections.abc import Iterator, Mapping, Sequence
 from pathlib import Path
@@ -23,6 +23,9 @@ from wfdev.repo import paths, programs
 SCRIPT = Script("dist")
 SUMS = "SHA256SUMS"
 SECONDS = 1200
+NEEDED = re.compile(r"\(NEEDED\) .*\[(.+)\]")
+# What `ldd` prints of a library: its path.
+LOADED = re.compile(r"(?:=> )?(/\S+) \(0x")
 # Folders with tools of the system: the kit is not among them.
 TOOLS = "/usr/local/bin:/usr/bin:/bin"
 # Commands of the page that need more than was unpacked, or minutes.
@@ -75,8 +78,7 @@ def check_sums(folder: Path) -> int:
 
 def unpack(archive: Path, folder: Path) -> Path:
     """Unpacks an archive in an empty folder, and returns the one folder that it has."""
-    with tarfile.open(archive) as tar:
-        tar.extractall(folder, filter="data")
+    subprocess.run(["tar", "-xzf", archive, "-C", folder], check=True)
     (top,) = folder.iterdir()
     return top
 
@@ -100,6 +102,40 @@ def run_page(source: Path, variables: Mapping[str, str]) -> int:
             raise Difference(f"{example.command}: another output than README.md shows:\n{written}"[:4000])
         count += 1
     return count
+
+
+def check_needed(files: Sequence[Path]) -> None:
+    """Checks that these files need no library but the C library and its loader."""
+    for file in files:
+        found = NEEDED.findall(run(["readelf", "-d", file], file.parent, {**os.environ, "LC_ALL": "C"}))
+        others = [name for name in found if not name.startswith(("libc.so", "ld-linux"))]
+        expect(f"the libraries besides the C library that {file.name} needs", others, [])
+
+
+def run_in_empty_root(prefix: Path, room: Path) -> str:
+    """Runs the program on the examples, and a program in C that was built, in a root that has only what was
+    unpacked and the C library. Returns a message about it."""
+    chroot = shutil.which("chroot")
+    if os.geteuid() != 0 or chroot is None or shutil.which("ldd") is None:
+        return "not run in an empty root, since that needs the rights of root, chroot and ldd"
+    root = room / "empty"
+    shutil.copytree(prefix, root / "usr", symlinks=True)
+    for library in LOADED.findall(run(["ldd", prefix / "bin" / "wf"], room, {**os.environ, "LC_ALL": "C"})):
+        copied = root / library.lstrip("/")
+        copied.parent.mkdir(parents=True, exist_ok=True)
+        shutil.copy(library, copied)
+    traces = sorted(paths.EXAMPLES.glob("*.trace"))
+    for trace in traces:
+        inside: list[str | Path] = [chroot, root, "/usr/bin/wf", "replay"]
+        done = subprocess.run(inside, input=trace.read_bytes(), capture_output=True, check=False)
+        expect(f"{trace.name} in an empty root", done.stdout, trace.with_suffix(".out").read_bytes())
+    ran = f"{len(traces)} traces"
+    if (room / "small").is_file():
+        shutil.copy(room / "small", root / "small")
+        written = run([chroot, root, "/small"], room, {"LD_LIBRARY_PATH": "/usr/lib"})
+        expect("what a program in C writes in an empty root", written, paths.read(SMALL / "small.out"))
+        ran += " and the program in C"
+    return f"{ran} run in an empty root"
 
 
 def build_in_c(prefix: Path, room: Path, variables: Mapping[str, str]) -> str:
@@ -144,9 +180,11 @@ def try_archives(room: Path, flags: Sequence[str]) -> None:
     expect(
         "the installed program", run(["bash", "-c", f"wf replay <'{example}.trace'"], room, variables), wanted
     )
+    check_needed([program, prefix / "lib" / "libwf.so"])
     ran = run_page(sources, variables)
     SCRIPT.say(
-        f"{binary}: {count} checksums, {ran} commands of README.md; {build_in_c(prefix, room, variables)}"
+        f"{binary}: {count} checksums, {ran} commands of README.md; {build_in_c(prefix, room, variables)}; "
+        f"{run_in_empty_root(prefix, room)}"
     )
 
 

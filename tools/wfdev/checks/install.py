@@ -3,7 +3,8 @@
 The programs are built by pkg-config and by CMake, with the shared library and with the static one, and have to write the
 expected text. `./wf install` takes the built program and the built library, whether they are proved or not. It has to print each file
 that it installs, to replace them in a second run, and to obey DESTDIR. The shared library exports only the functions of the header,
-and needs only the C library. The check is skipped if no program or no library is built from these sources.
+and needs only the C library. `--library` installs the library alone. pkg-config and CMake know it as wf, and both say whether it is
+proved. Without a program only the library is installed and tried. The check is skipped if no library is built from these sources.
 """
 import os
 import re
@@ -67,11 +68,13 @@ def run(words: Sequence[str | Path], folder: Path | None = None, variables: Vari
     return done.stdout
 
 
-def require_built() -> None:
-    """Skips the check if no program or no library is built from these sources."""
-    for words in (["which"], ["which", "--library"]):
-        if subprocess.run([paths.SCRIPT, *words], env=programs.environment(), capture_output=True, check=False).returncode:
-            SCRIPT.skip("no program or no library is built from these sources (./wf build and ./wf lib build them)")
+def built_library() -> str:
+    """Returns whether the library that is built from these sources is proved: yes or no. Skips the check if there is none."""
+    words = [str(paths.SCRIPT), "which", "--library"]
+    done = subprocess.run(words, env=programs.environment(), capture_output=True, text=True, check=False)
+    if done.returncode:
+        SCRIPT.skip("no library is built from these sources (./wf lib builds one)")
+    return "yes" if done.stdout.startswith("proved ") else "no"
 
 
 def files_below(folder: Path) -> list[str]:
@@ -79,9 +82,9 @@ def files_below(folder: Path) -> list[str]:
     return sorted(str(path.relative_to(folder)) for path in folder.rglob("*") if path.is_symlink() or path.is_file())
 
 
-def installed(prefix: str | Path, where: Path, variables: Variables | None = None) -> list[str]:
+def installed(prefix: str | Path, where: Path, variables: Variables | None = None, more: Sequence[str] = ()) -> list[str]:
     """Installs, and returns the names of the files below the folder. Each must have been printed."""
-    printed = run([paths.SCRIPT, "install", prefix, "--unproved"], variables=variables).splitlines()
+    printed = run([paths.SCRIPT, "install", prefix, "--unproved", *more], variables=variables).splitlines()
     names = files_below(where)
     expect("the files that were printed", sorted(printed), sorted(str(where / name) for name in names))
     return names
@@ -96,6 +99,17 @@ def install_twice(room: Path) -> Path:
     expect("the header after a second run", (first / header).read_bytes(), paths.HEADER.read_bytes())
     expect("a run with DESTDIR", installed("/usr", stage / "usr", {"DESTDIR": stage}), names)
     return first.rename(room / "moved")
+
+
+def install_library(room: Path, proved: str) -> Path:
+    """Installs the library alone, and returns its place. pkg-config says whether it is proved."""
+    prefix = room / "library"
+    names = installed(prefix, prefix, more=["--library"])
+    expect("files of a program beside the library alone", [name for name in names if name.startswith(("bin/", "share/bash"))], [])
+    known = {"PKG_CONFIG_PATH": prefix / "lib" / "pkgconfig"}
+    expect("what pkg-config says of the proof", run(["pkg-config", "--variable=proved", "wf"], variables=known).strip(), proved)
+    SCRIPT.say(f"the library alone: {len(names)} files; proved: {proved}")
+    return prefix
 
 
 def needs(file: Path) -> str:
@@ -146,10 +160,11 @@ def by_pkg_config(prefix: Path, outside: Path) -> None:
             try_program(made, example, way.name, "pkg-config", {"LD_LIBRARY_PATH": prefix / "lib"})
 
 
-def by_cmake(prefix: Path, outside: Path) -> None:
-    """Builds the programs by CMake, with which they find the shared library."""
+def by_cmake(prefix: Path, outside: Path, proved: str) -> None:
+    """Builds the programs by CMake, with which they find the shared library. CMake says whether it is proved."""
     build = outside / "build"
-    run(["cmake", "-S", outside, "-B", build, f"-DCMAKE_PREFIX_PATH={prefix}", "-DCMAKE_BUILD_TYPE=Release"])
+    said = run(["cmake", "-S", outside, "-B", build, f"-DCMAKE_PREFIX_PATH={prefix}", "-DCMAKE_BUILD_TYPE=Release"])
+    expect("what CMake says of the proof", re.findall(r"wf is proved: (\w+)", said), [proved])
     run(["cmake", "--build", build])
     for example in EXAMPLES:
         for kind in ("shared", "static"):
@@ -160,16 +175,21 @@ def main(words: Sequence[str] | None = None) -> int:
     """Installs, builds, and returns the exit status."""
     SCRIPT.parser(__doc__).parse_args(words)
     SCRIPT.require("cc", "c++", "nm", "readelf", "pkg-config", "cmake")
-    require_built()
+    proved = built_library()
+    has_program = SCRIPT.program_or_none() is not None
     try:
         with tempfile.TemporaryDirectory(prefix="wf-install-", dir=os.environ.get("TMPDIR")) as folder:
             room = Path(folder)
-            prefix = install_twice(room)
-            expect("the version of the program", run([prefix / "bin" / "wf", "--version"]).split()[:2], ["wf", version()])
+            prefix = install_library(room, proved)
+            if has_program:
+                prefix = install_twice(room)
+                expect("the version of the program", run([prefix / "bin" / "wf", "--version"]).split()[:2], ["wf", version()])
+            else:
+                SCRIPT.say("no program is built from these sources, so only the library is installed")
             look_at_library(prefix)
             copy_sources(room / "outside")
             by_pkg_config(prefix, room / "outside")
-            by_cmake(prefix, room / "outside")
+            by_cmake(prefix, room / "outside", proved)
     except Difference as difference:
         SCRIPT.fail(difference)
     SCRIPT.say("all programs outside the tree were built and run")

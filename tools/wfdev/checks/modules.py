@@ -20,9 +20,6 @@ from wfdev.repo import crates, generated, paths
 
 SCRIPT = Script("modules")
 
-# Modules that are public before another crate uses them. Make each private, or use it, when its crate is next proved.
-AHEAD = {("wf_law_runs", "Shares")}
-
 
 @dataclass(frozen=True)
 class Module:
@@ -90,7 +87,7 @@ def faults(top: Path, found: Sequence[Module]) -> Iterator[str]:
     for module in found:
         if not module.about:
             yield f"{module.crate}, proofs/{module.name}: add a comment at its head that says what it has"
-        if (module.crate, module.name) not in used | AHEAD:
+        if (module.crate, module.name) not in used:
             yield f"{module.crate}, proofs/{module.name}: no other crate uses it, so it need not be public"
     page = generated.MODULES
     if page.read(top) != page.text(body(found)):

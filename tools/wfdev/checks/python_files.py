@@ -5,7 +5,7 @@ from pathlib import Path
 
 from wfdev.repo import paths
 
-FOLDERS = ("bench", "checks", "sim", "tools")
+FOLDERS = ("bench", "checks", "python", "sim", "tools")
 FIRST_LINE = "#!/usr/bin/env python3"
 Definition = ast.FunctionDef | ast.AsyncFunctionDef
 

@@ -74,6 +74,8 @@ ALL = [
     Check("install", quick=True),
     Check("dist"),
     Check("c-library", quick=True),
+    Check("python", quick=True),
+    Check("kernel"),
     Check("part-trials", quick=True),
     Check("command-trials", quick=True),
     Check("durations"),

@@ -2,18 +2,25 @@
 
   checks/sim            runs its tests, by the program that `./wf which` names; without one, those that need it are skipped
   checks/sim pictures   runs each scenario, a minute or two in all, and compares what it draws with docs/pictures
+  checks/sim speed      runs each scenario of sim/speed over the machine, and prints the seconds of a processor that it takes
 """
 import filecmp
 import subprocess
 import sys
 import tempfile
+import time
 from collections.abc import Sequence
 from pathlib import Path
 
 from wfdev.harness.script import Script
 from wfdev.repo import paths, programs
 
+from sim.models import choose
+from sim.reading import read
+from sim.runs import Job, find_program, run_one
+
 SCRIPT = Script("sim")
+LOOP = 10_000_000
 PICTURES = paths.DOCS / "pictures"
 
 
@@ -28,7 +35,7 @@ def compare_pictures() -> int:
     """Draws all pictures, compares them with docs/pictures, and returns the exit status."""
     with tempfile.TemporaryDirectory(prefix="wf-pictures-") as folder:
         draw(Path(folder))
-        names = {path.name for place in (PICTURES, Path(folder)) for path in place.iterdir()}
+        names = {path.name for place in (PICTURES, Path(folder)) for path in place.glob("*.svg")}
         _, changed, missing = filecmp.cmpfiles(PICTURES, folder, sorted(names), shallow=False)
     for name in [*changed, *missing]:
         SCRIPT.say(f"docs/pictures/{name} differs from what is drawn")
@@ -36,12 +43,30 @@ def compare_pictures() -> int:
     return 1 if changed or missing else 0
 
 
+def measure_speed() -> int:
+    """Prints how long the scenarios of sim/speed take, next to an empty loop, and returns the exit status."""
+    program = find_program(SCRIPT.say)
+    began = time.process_time()
+    for _ in range(LOOP):
+        pass
+    SCRIPT.say(f"{LOOP:,} turns of an empty loop take {time.process_time() - began:.2f} s")
+    for file in sorted((paths.TOP / "sim" / "speed").glob("*.toml")):
+        scenario = read(file)
+        began = time.process_time()
+        result = run_one(Job(scenario, choose("airtime"), program, round(1e6 * scenario.seconds)))
+        took = time.process_time() - began
+        head = f"{scenario.title}: {scenario.seconds:g} s in {took:.2f} s, {scenario.seconds / took:.2f} a second"
+        SCRIPT.say(f"{head}; {result.total:.0f} Mbit/s, {result.calls:,} calls, {sum(one.offered for one in result.flows):,} frames")
+    return 0
+
+
 def main(words: Sequence[str] | None = None) -> int:
     """Runs the tests, or compares the pictures, and returns the exit status."""
     parser = SCRIPT.parser(__doc__)
-    parser.add_argument("what", nargs="?", choices=["pictures"], help="compare the pictures instead")
-    if parser.parse_args(words).what:
-        return compare_pictures()
+    parser.add_argument("what", nargs="?", choices=["pictures", "speed"], help="compare the pictures, or measure the speed, instead")
+    what = parser.parse_args(words).what
+    if what:
+        return compare_pictures() if what == "pictures" else measure_speed()
     if SCRIPT.program_or_none() is None:
         SCRIPT.say("no program is as new as the sources, so tests of the machine are skipped (./wf build --unproved builds one)")
     command = [sys.executable, "-m", "unittest", "discover", "-s", "sim"]

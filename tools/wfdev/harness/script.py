@@ -83,6 +83,13 @@ class Script:
         except programs.NoLibrary as why:
             self.skip(str(why))
 
+    def shared_library(self) -> Path:
+        """Returns the shared library, built if necessary; skips the check if it cannot be built."""
+        try:
+            return programs.shared_library()
+        except programs.NoLibrary as why:
+            self.skip(str(why))
+
     def ended(self, bad: int, what: str = "runs") -> int:
         """Says how many runs had another result than expected, and returns the exit status."""
         self.say(f"{bad} {what} differed")

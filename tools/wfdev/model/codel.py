@@ -30,6 +30,10 @@ class State:
     last_count: int = 0
     dropping: bool = False
 
+    def calm(self) -> None:
+        """Ends the dropping, and forgets that frames waited too long. The other numbers stay."""
+        self.first_above, self.dropping = 0, False
+
 
 @dataclass
 class Queue:

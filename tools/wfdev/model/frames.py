@@ -32,9 +32,10 @@ CLASS_OF = {tid: one for one, tids in CLASS_TIDS.items() for tid in tids}
 
 @dataclass
 class Frame:
-    """An accepted frame: the octets of its body, and the clock when it was accepted."""
+    """An accepted frame: the octets of its body, the clock when it was accepted, and its flow."""
 
     id: int
     length: int
     stamp: int
+    flow: int
     fate: Fate = Fate.HELD

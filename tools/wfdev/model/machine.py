@@ -33,7 +33,6 @@ from wfdev.model.stations import Exchange, Station
 
 MOST_TICK = 10_000_000
 MOST_WINDOW, MOST_EXPONENT, MOST_WEIGHT, MOST_AIR = 256, 3, 16, 65_535
-LEAST_DEFICIT = -1_000_000
 POLL_ORDER = (Class.VO, Class.VI, Class.BE, Class.BK)
 
 
@@ -138,9 +137,9 @@ class Machine:
         refuse("room", inside >= self.settings.room, inside)
         queued = sum(self.queues.frames((station, one)) for one in CLASS_TIDS[CLASS_OF[tid]])
         refuse("sleeping", held.asleep and queued >= self.settings.sleeping, queued)
-        frame = Frame(len(self.frames), length, self.now)
+        frame = Frame(len(self.frames), length, self.now, flow)
         self.frames.append(frame)
-        dropped = self.queues.put((station, tid), flow, frame)
+        dropped = self.queues.put((station, tid), frame)
         if dropped is not None:
             self.finish([dropped], Fate.OVERLIMIT)
         self.list_ready(station)
@@ -186,6 +185,8 @@ class Machine:
         one = Class(access)
         count = sum(CLASS_OF[exchange.tid] is one for exchange in self.exchanges.values())
         refuse("full", count >= self.settings.inflight, count)
+        owed = sum(exchange.charge for exchange in self.exchanges.values())
+        refuse("ahead", 0 < self.settings.aql_total <= owed, owed)
         winner = self.rotations[one].pick(self.quantum, lambda station: self.is_ready(station, one))
         if winner is None:
             raise Refused("idle")
@@ -305,7 +306,7 @@ class Machine:
         held = self.live(station)
         one = Class(access)
         deficits = self.rotations[one].deficits
-        refuse("debt", deficits[station] - air < LEAST_DEFICIT, deficits[station])
+        refuse("debt", deficits[station] - air < -self.settings.debt, deficits[station])
         deficits[station] -= air
         held.received[one] += air
         self.list_ready(station)

@@ -27,19 +27,27 @@ class Queues:
     def number_for(self, owner: Owner, flow: int) -> int:
         """Returns the number of the queue that takes a frame of a flow."""
         number = flow % self.settings.flows
-        if self.owners.get(number, owner) != owner:
-            return self.settings.flows + TIDS * owner[0] + owner[1]
+        overflow = self.settings.flows + TIDS * owner[0] + owner[1]
+        if self.owners.get(number, owner) != owner or self.stays_over(overflow, number):
+            return overflow
         return number
 
-    def put(self, owner: Owner, flow: int, frame: Frame) -> Frame | None:
+    def stays_over(self, overflow: int, number: int) -> bool:
+        """Returns whether `keep_order` is 1 and an overflow queue holds a frame of a flow queue."""
+        frames = self.queues[overflow].frames if self.settings.keep_order else ()
+        return any(frame.flow % self.settings.flows == number for frame in frames)
+
+    def put(self, owner: Owner, frame: Frame) -> Frame | None:
         """Puts a frame into its queue, and returns the frame that is dropped for the limit, if any."""
         dropped = self.drop_longest() if self.held >= self.settings.limit else None
-        number, rotation = self.number_for(owner, flow), self.rotations[owner]
+        number, rotation = self.number_for(owner, frame.flow), self.rotations[owner]
         self.queues[number].put(frame)
         self.held += 1
         if not rotation.lists(number):
             rotation.add(number)
             rotation.deficits[number] = self.settings.flow_quantum
+            if self.settings.codel_reset:
+                self.queues[number].codel.calm()
             self.owners[number] = owner
         return dropped
 

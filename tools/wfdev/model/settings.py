@@ -25,6 +25,10 @@ class Settings:
     sleeping: int = setting(64, 1, 65_535)
     calls: int = setting(1_048_576, 1, 2**32 - 1)
     charge: int = setting(0, 0, 65_535)
+    debt: int = setting(1_000_000, 0, 1_000_000)
+    aql_total: int = setting(0, 0, 262_144)
+    keep_order: int = setting(0, 0, 1)
+    codel_reset: int = setting(0, 0, 1)
 
 
 RANGES: dict[str, range] = {one.name: one.metadata["range"] for one in fields(Settings)}

@@ -6,6 +6,7 @@ import subprocess
 from dataclasses import dataclass
 from pathlib import Path
 
+from wfdev.build import fresh
 from wfdev.repo import paths
 
 LIBRARY = paths.CRATES / "wf_c" / "out" / "libwf.a"
@@ -68,3 +69,26 @@ def library() -> Path:
         raise NoLibrary("no library is built from these sources, and there is no rt to build one")
     subprocess.run([paths.SCRIPT, "lib", "--unproved"], check=True, capture_output=True, timeout=BUILD_SECONDS)
     return UNPROVED_LIBRARY
+
+
+def shared_library() -> Path:
+    """Returns the shared library of the static one that `library` returns. `./wf lib` makes it if it is missing."""
+    archive = library()
+    made = archive.parent / "shared" / archive.with_suffix(".so").name
+    if not made.is_file() or made.stat().st_mtime < archive.stat().st_mtime:
+        words = [] if archive == LIBRARY else ["--unproved"]
+        subprocess.run([paths.SCRIPT, "lib", *words], check=True, capture_output=True, timeout=BUILD_SECONDS)
+    if not made.is_file():
+        raise NoLibrary(f"'./wf lib' made no {paths.shown(made)}: it needs a C compiler and readelf")
+    return made
+
+
+def kernel_library() -> Path:
+    """Returns the static library for a kernel module that is built from these sources. If there is none, builds the unproved one."""
+    if fresh.Sources(str(paths.TOP)).is_fresh(fresh.KERNEL_LIBRARY):
+        return paths.TOP / fresh.KERNEL_LIBRARY
+    if shutil.which("rt") is None and not fresh.Sources(str(paths.TOP)).is_fresh(fresh.UNPROVED_KERNEL_LIBRARY):
+        raise NoLibrary("no library for a kernel module is built from these sources, and there is no rt to build one")
+    words = ["lib", "--kernel", "--unproved"]
+    subprocess.run([paths.SCRIPT, *words], check=True, capture_output=True, timeout=BUILD_SECONDS)
+    return paths.TOP / fresh.UNPROVED_KERNEL_LIBRARY

@@ -3,6 +3,7 @@ import tempfile
 import unittest
 from pathlib import Path
 
+from wfdev import tables
 from wfdev.checks import table
 from wfdev.repo import paths
 
@@ -12,6 +13,8 @@ FILES = [
     "docs/MACHINE.md",
     "docs/TRACE.md",
     "include/wf.h",
+    "python/wfpath/_tables.py",
+    "python/wfpath/errors.py",
     "sim/settings.json",
 ]
 
@@ -52,7 +55,7 @@ class Table(unittest.TestCase):
         self.assertEqual(len(differences("docs/TRACE.md", "`rx S CLASS MICROSECONDS`", "`rx S CLASS MICROSECONDS N`")), 1)
 
     def test_a_number_behind_a_refusal(self) -> None:
-        self.assertEqual(len(differences("docs/TRACE.md", "`full N` and", "and")), 1)
+        self.assertEqual(len(differences("docs/TRACE.md", "`full N`, ", "")), 1)
 
     def test_a_table_of_another_form(self) -> None:
         self.assertEqual(len(differences("crates/wf_frame/src/refusals.rt", " => (", " => [")), 1)
@@ -61,7 +64,7 @@ class Table(unittest.TestCase):
         self.assertIn("rx S CLASS", differences("crates/wf_frame/src/calls.rt", 'b"rx S CLASS MICROSECONDS"', 'b"rx S CLASS"')[0])
 
     def test_a_range_of_a_setting(self) -> None:
-        named = ["wf.h", "TRACE.md", "texts.rt", "settings.json"]
+        named = ["wf.h", "TRACE.md", "texts.rt", "settings.json", "_tables.py"]
         found = differences("crates/wf_frame/src/settings.rt", 'b"agg", 1, 256', 'b"agg", 1, 255')
         self.assertEqual([line.partition(":")[0] for line in found], named)
 
@@ -70,4 +73,4 @@ class Table(unittest.TestCase):
 
     def test_a_sentence_of_a_refusal(self) -> None:
         found = differences("crates/wf_frame/src/notes.rt", "The TID is above 7.", "The TID is above 8.")
-        self.assertEqual([line.partition(":")[0] for line in found], ["wf.h", "MACHINE.md"])
+        self.assertEqual([line.partition(":")[0] for line in found], ["wf.h", "MACHINE.md", "errors.py"])

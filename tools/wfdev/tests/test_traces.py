@@ -123,7 +123,7 @@ class Fields(unittest.TestCase):
         texts += ["send 0 sta 1 tid 2 air 3 data 4:5 6:7 more", "send 0 sta 1 tid 2 air 80 bar 9"]
         texts += ["ba 100 00000000000000ff", "ba 1 " + "0" * 63 + "5", "done acked 1 waiting 2 failed 3"]
         texts += ["slept", "woken", "polled be", "charged -5", "reaped 3 codel"]
-        texts += ["refused open 2", "refused debt -7", "refused idle"]
+        texts += ["refused open 2", "refused debt -7", "refused ahead 3952", "refused idle"]
         nested = {"frames": "wf_frames", "passed_up": "wf_passed_up", "block": "wf_block"}
         for text in texts:
             reply = replies.read(text)
@@ -138,6 +138,7 @@ class Fields(unittest.TestCase):
         self.assertEqual(found.frames, [(4, 5), (6, 7)])
         self.assertTrue(found.fields["more"])
         self.assertEqual(replies.read("refused debt -7").fields, {"refusal": "debt", "deficit": -7})
+        self.assertEqual(replies.read("refused ahead 8").fields, {"refusal": "ahead", "air": 8})
         block = replies.read("ba 1 " + "0" * 15 + "3" + "0" * 47 + "5").fields["block"]
         self.assertEqual(
             block, {"bits": ["0" * 15 + "5", "0" * 16, "0" * 16, "0" * 15 + "3"], "start": 1, "wide": True}
@@ -213,7 +214,7 @@ class Explained(unittest.TestCase):
         self.assertIn("Station 0 holds 2 frames of the class, but sleeps and has no credit for it.", told)
 
     def test_the_page_has_each_refusal(self) -> None:
-        self.assertEqual(len(rules.table()), 27)
+        self.assertEqual(len(rules.table()), 28)
         said = rules.rule("room", 9, {"room": 9})
         self.assertEqual(said, "9 frames are accepted and not yet reaped: as many as room (9).")
 
@@ -270,19 +271,12 @@ class Captures(unittest.TestCase):
     HEAD = bytes.fromhex("d4c3b2a1 02000400 00000000 00000000 ffff0000 7f000000")
 
     def test_each_kind_says_what_was_found(self) -> None:
-        packet = bytes(16) + bytes.fromhex("00001200")
         big = bytes.fromhex("a1b2c3d4 00020003 00000000 00000000 0000ffff 00000001")
         for kind, number, head, wanted in (
-            ("link", 0, self.HEAD + packet, "'editcap -F pcap -C 18 -T ieee-802-11 IN OUT'"),
-            ("link", 0, self.HEAD, "-C LENGTH"),
+            ("link", 0, self.HEAD, "begins with radiotap fields; convert it with './wf convert IN OUT'"),
             ("link", 0, big, "the link type is 1, packets of Ethernet: expected 105"),
             ("version", 0, big, "version 2.3: expected 2.4; convert it with"),
-            (
-                "magic",
-                0,
-                b"\x0a\x0d\x0d\x0a",
-                "pcapng; convert it with 'editcap -F pcap IN OUT' or 'tshark -r IN -F pcap -w OUT'",
-            ),
+            ("magic", 0, b"\x0a\x0d\x0d\x0a", "pcapng; convert it with './wf convert IN OUT'"),
             ("magic", 0, b"\x1f\x8b\x08\x00", "gunzip"),
             ("magic", 0, b"# a trace\ncell\n", "it is a text: expected a capture"),
             ("magic", 0, b"\x00\x01\x02\x03", "begins with the octets 00 01 02 03"),

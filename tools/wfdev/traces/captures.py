@@ -1,10 +1,9 @@
 """The cause and the remedy of each fault of a capture that `wf frames` reports (docs/CAPTURES.md)."""
 from __future__ import annotations
 
-# The octets that are looked at: the file header, and of the first packet its header and the length of its
-# radiotap header.
-LOOKED_AT = 24 + 16 + 4
 FILE_HEADER = 24
+# The octets that are looked at.
+LOOKED_AT = FILE_HEADER
 ORDERS = {
     b"\xd4\xc3\xb2\xa1": "little",
     b"\x4d\x3c\xb2\xa1": "little",
@@ -12,9 +11,10 @@ ORDERS = {
     b"\xa1\xb2\x3c\x4d": "big",
 }
 RADIOTAP = 127
-CONVERT = "convert it with 'editcap -F pcap IN OUT' or 'tshark -r IN -F pcap -w OUT'"
+CONVERT = "convert it with 'editcap -F pcap IN OUT'"
+OURS = "convert it with './wf convert IN OUT'"
 FORMATS = {
-    b"\x0a\x0d\x0d\x0a": f"it is a file of the format pcapng; {CONVERT}",
+    b"\x0a\x0d\x0d\x0a": f"it is a file of the format pcapng; {OURS}",
     b"\xa1\xb2\xcd\x34": f"it is a file of a modified format of libpcap; {CONVERT}",
     b"\x34\xcd\xb2\xa1": f"it is a file of a modified format of libpcap; {CONVERT}",
     b"\x1f\x8b": "it is compressed with gzip; use 'gunzip -c FILE | ./wf frames'",
@@ -94,10 +94,4 @@ def link(head: bytes) -> str:
             f"the link type is {found}, packets {what}: expected 105, IEEE 802.11 frames; capture in monitor "
             "mode"
         )
-    length = int.from_bytes(head[42:44], "little")
-    chop = str(length) if len(head) == LOOKED_AT else "LENGTH"
-    return (
-        f"the link type is 127: each packet begins with radiotap fields; if all of them have {chop} octets, "
-        "remove them with "
-        f"'editcap -F pcap -C {chop} -T ieee-802-11 IN OUT'"
-    )
+    return f"the link type is 127: each packet begins with radiotap fields; {OURS}"

@@ -12,6 +12,7 @@ from typing import Any
 
 Fields = dict[str, Any]
 COUNTED = ("open", "room", "sleeping", "full")
+MEASURED = {"debt": "deficit", "ahead": "air"}
 DIGITS = 16
 WIDE_DIGITS = 64
 TALLY = ("acked", "overlimit", "codel", "retries", "left")
@@ -71,7 +72,7 @@ def _ba(words: list[str]) -> Fields:
 def _refused(words: list[str]) -> Fields:
     fields: Fields = {"refusal": words[0]}
     if len(words) > 1:
-        fields["count" if words[0] in COUNTED else "deficit"] = int(words[1])
+        fields["count" if words[0] in COUNTED else MEASURED[words[0]]] = int(words[1])
     return fields
 
 

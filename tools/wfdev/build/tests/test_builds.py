@@ -323,6 +323,21 @@ class Proved(Checkout):
         self.assertIn("proved=yes\n", path.with_name("wf.pc").read_text(encoding="utf-8"))
         self.assertEqual(self.asked("which", "--library")[0], f"proved {path}\n")
 
+    def test_the_library_for_a_kernel_module_has_a_heap_of_its_own(self) -> None:
+        told, why, status = self.asked("lib", "--kernel", WF_TEST_LOG=str(self.log))
+        path = self.top / fresh.KERNEL_LIBRARY
+        self.assertEqual((told, status), (f"{path}\n", 0), why)
+        self.assertEqual(self.calls(), ["ci low"])
+        self.assertRegex(path.read_text(encoding="utf-8"), "proved library(?s:.*)-mgeneral-regs-only(?s:.*)heap.c")
+        self.assertFalse(path.with_name("wf.pc").exists())
+        self.assertIn("is built from these sources already", self.asked("lib", "--kernel")[1])
+
+    def test_without_a_c_compiler_the_static_library_is_built_alone(self) -> None:
+        told, why, status = self.asked("lib", "--unproved", CC="/nowhere/cc")
+        self.assertEqual(status, 0)
+        self.assertIn("no shared library was made, which Python needs: there is no /nowhere/cc", why)
+        self.assertFalse((self.top / fresh.UNPROVED_LIBRARY).with_name("shared").joinpath("libwf.unproved.so").exists())
+
     def test_what_rt_ci_removed_is_taken_from_the_second_copy(self) -> None:
         for words in (["lib"], ["build"], ["lib", "--unproved"], ["build", "--unproved"]):
             self.assertEqual(self.asked(*words)[2], 0)

@@ -29,7 +29,7 @@ class Dist(Installing):
     def made(self, *words: str, folder: pathlib.Path | None = None, **more: str) -> dict[str, bytes]:
         """Makes archives, and returns their octets by their names."""
         place = folder or self.folder
-        told, said, status = self.asked("dist", str(place), *words, **more)
+        told, said, status = self.asked("dist", str(place), *words, script=None, given=b"", **more)
         self.assertEqual(status, 0, said)
         self.assertEqual(sorted(told.splitlines()), sorted(str(path) for path in place.iterdir()))
         return {path.name: path.read_bytes() for path in place.iterdir()}
@@ -44,6 +44,11 @@ class Dist(Installing):
             {(entry.uid, entry.gid, entry.uname, entry.gname) for entry in found}, {(0, 0, "", "")}
         )
         return {entry.name.removeprefix(f"{name}/"): entry for entry in found}
+
+    def unpack(self, name: str, folder: str) -> None:
+        """Unpacks an archive into a new folder of the room."""
+        (self.room / folder).mkdir()
+        subprocess.run(["tar", "-xzf", self.folder / f"{name}.tar.gz", "-C", self.room / folder], check=True)
 
     def test_what_the_archives_have(self) -> None:
         self.are_built()
@@ -65,8 +70,7 @@ class Dist(Installing):
             total, _, name = line.partition("  ")
             self.assertEqual(hashlib.sha256(made.pop(name)).hexdigest(), total)
         self.assertEqual(made, {})
-        with tarfile.open(self.folder / f"{UNPROVED}.tar.gz") as tar:
-            tar.extractall(self.room / "root", filter="data")
+        self.unpack(UNPROVED, "root")
         subprocess.run(
             ["sha256sum", "--quiet", "-c", "SHA256SUMS"], cwd=self.room / "root" / UNPROVED, check=True
         )
@@ -79,8 +83,7 @@ class Dist(Installing):
         self.assertEqual(
             self.made("--unproved", folder=self.room / "second", SOURCE_DATE_EPOCH="1000000000"), first
         )
-        with tarfile.open(self.folder / f"{SOURCE}.tar.gz") as tar:
-            tar.extractall(self.room / "unpacked", filter="data")
+        self.unpack(SOURCE, "unpacked")
         self.assertFalse((self.room / "unpacked" / SOURCE / fresh.UNPROVED_PROGRAM).exists())
 
     def test_in_a_checkout_of_git_the_files_that_it_knows_at_the_time_of_the_commit(self) -> None:

@@ -9,7 +9,7 @@ import signal
 import subprocess
 import unittest
 
-from wfdev.build import completions, fresh, install, manifest
+from wfdev.build import completions, fresh, install, manifest, shared
 
 from .support import Checkout
 
@@ -61,7 +61,7 @@ class Installing(Checkout):
 
     def installed(self, *words: str, **more: str) -> set[str]:
         """Installs, and returns the names that were printed, below the prefix."""
-        told, why, status = self.asked("install", str(self.prefix), *words, **more)
+        told, why, status = self.asked("install", str(self.prefix), *words, script=None, given=b"", **more)
         self.assertEqual(status, 0, why)
         return {os.path.relpath(line, self.prefix) for line in told.splitlines()}
 
@@ -119,6 +119,16 @@ class Install(Installing):
         self.assertEqual((len(told.splitlines()), status), (len(PROGRAM_FILES) + 1, 0))
         self.assertIn("no library is built", why)
         self.assertEqual(files_below(self.prefix), ALL_FILES)
+
+    def test_the_library_alone_by_its_flag(self) -> None:
+        self.has_program()
+        told, why, status = self.asked("install", str(self.prefix), "--library")
+        self.assertEqual((told, status), ("", 125))
+        self.assertIn("no library is as new as the sources", why)
+        self.has_library(fresh.LIBRARY)
+        self.assertEqual(self.installed("--library"), LIBRARY_FILES | {manifest.NAME})
+        self.assertEqual(files_below(self.prefix), LIBRARY_FILES | {manifest.NAME})
+        self.assertEqual(self.installed("--unproved"), ALL_FILES)
 
     def test_pkg_config_and_cmake_say_whether_the_library_is_proved(self) -> None:
         self.are_built()
@@ -205,7 +215,7 @@ class Install(Installing):
 class Uninstall(Installing):
     def removed(self, **more: str) -> tuple[set[str], str]:
         """Uninstalls, and returns the names that were printed, and standard error."""
-        told, why, status = self.asked("uninstall", str(self.prefix), **more)
+        told, why, status = self.asked("uninstall", str(self.prefix), script=None, given=b"", **more)
         self.assertEqual(status, 0, why)
         return {os.path.relpath(line, self.prefix) for line in told.splitlines()}, why
 
@@ -270,7 +280,7 @@ class Sources(unittest.TestCase):
 
     def test_each_call_of_a_path_is_a_method(self) -> None:
         text = install.COPIES["library"]["include/wf/path.hpp"].read_text(encoding="utf-8")
-        for name in install.exports():
+        for name in shared.exports():
             if name.startswith("wf_path_"):
                 self.assertIn(f"{name}(", text)
 
@@ -280,9 +290,9 @@ class Sources(unittest.TestCase):
 
     def test_the_c_library_may_be_needed_and_no_other(self) -> None:
         for name in ("libc.so.6", "ld-linux-x86-64.so.2", "libc.musl-x86_64.so.1"):
-            self.assertTrue(install.ALLOWED.fullmatch(name), name)
+            self.assertTrue(shared.ALLOWED.fullmatch(name), name)
         for name in ("libm.so.6", "libgcc_s.so.1", "libc.so.60", "libpthread.so.0"):
-            self.assertFalse(install.ALLOWED.fullmatch(name), name)
+            self.assertFalse(shared.ALLOWED.fullmatch(name), name)
 
 
 class Completions(unittest.TestCase):
@@ -305,7 +315,7 @@ class Completions(unittest.TestCase):
         self.assertEqual(self.completed(script, "b"), ["build"])
         self.assertEqual(self.completed(script, "build", ""), ["--unproved"])
         self.assertEqual(self.completed(script, "help", "u"), ["uplink", "uninstall"])
-        self.assertEqual(self.completed(script, "install", "--"), ["--unproved"])
+        self.assertEqual(self.completed(script, "install", "--"), ["--unproved", "--library"])
         self.assertIn("--library", self.completed(script, "which", ""))
 
     def test_other_shells_read_their_files(self) -> None:

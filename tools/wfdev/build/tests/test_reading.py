@@ -91,8 +91,9 @@ class Files(Reading):
 class Echo(Reading):
     def test_each_call_is_before_its_answer_and_the_rest_is_the_plain_output(self) -> None:
         plain = self.answers.read_text(encoding="utf-8")
-        for words, given in (([str(self.trace)], b""), ([], self.trace.read_bytes())):
-            told, said, status = self.replayed("replay", "--echo", *words, given=given)
+        ways: list[tuple[list[str], bytes]] = [([str(self.trace)], b""), ([], self.trace.read_bytes())]
+        for names, given in ways:
+            told, said, status = self.replayed("replay", "--echo", *names, given=given)
             lines = told.splitlines(True)
             self.assertEqual((said, status), ("", 0))
             self.assertEqual("".join(line for line in lines if not line.startswith("> ")), plain)
@@ -145,7 +146,7 @@ class Echo(Reading):
     def test_a_read_that_fails(self) -> None:
         folder = os.open(self.room, os.O_RDONLY)
         self.addCleanup(os.close, folder)
-        command = [self.top / "wf", "replay", "--echo"]
+        command = [str(self.top / "wf"), "replay", "--echo"]
         variables = self.variables(WF_TEST_ANSWERS=str(self.answers))
         done = subprocess.run(command, env=variables, stdin=folder, capture_output=True, check=False)
         self.assertEqual((done.stdout, done.stderr, done.returncode), (b"", b"wf: read fault\n", 3))
@@ -232,9 +233,7 @@ class Frames(Reading):
         told, said, status = self.listed(b"\x0a\x0d\x0d\x0a" + bytes(30), "fault packet 0 magic\n")
         self.assertEqual((told, status, len(said)), ("fault packet 0 magic\n", 2, 2))
         self.assertIn("wf help frames)", said[0])
-        self.assertIn(
-            "pcapng; convert it with 'editcap -F pcap IN OUT' or 'tshark -r IN -F pcap -w OUT'", said[1]
-        )
+        self.assertIn("pcapng; convert it with './wf convert IN OUT'", said[1])
 
     def test_quiet_leaves_the_program_alone(self) -> None:
         _, said, status = self.listed(b"\x0a\x0d\x0d\x0a", "fault packet 0 magic\n", "--quiet")

@@ -9,9 +9,14 @@ Written are: captures of the example traces and of 1,000 generated ones of a few
 files, of windows up to 64 and above: times, kinds, Retry and More Data bits, TIDs, sequence numbers, starts and bitmaps have
 to be equal to the model's. In captures of windows up to 64, tshark finds no malformed field and reports no error. There
 are some 4,000 runs.
+
+Converted are captures as devices give them, if tshark is installed: with radiotap fields, with and without frame check
+sequences (scapy), of the format pcapng, also with two link types (editcap, mergecap), and of A-MPDUs (ns-3). `./wf convert`
+makes captures of which `wf frames` lists what tshark lists of the originals: times, lengths, kinds and numbers.
 """
 import contextlib
 import itertools
+import os
 import shutil
 import struct
 import subprocess
@@ -21,15 +26,17 @@ from collections.abc import Mapping, Sequence
 from dataclasses import dataclass
 from pathlib import Path
 
-from wfdev.checks.captures import air, model, readers
+from wfdev.checks.captures import air, devices, model, readers
 from wfdev.checks.captures.readers import Capture
-from wfdev.harness.script import Difference, Script, expect
+from wfdev.harness.script import Difference, Script, expect, words_of
 from wfdev.repo import paths
 
 SCRIPT = Script("captures")
 MADE_TRACES = 1000
 SHOWN = 2000
 BAD_INPUT = 2
+# The variable that is set if the check has gone on in another Python.
+SECOND = "WF_CHECK_IS_SECOND"
 BLOCK = model.Packet(1, 2, bytes(model.LONGEST))
 # How many blocks go past this many octets.
 PAST_28_BITS, PAST_32_BITS = (2**bits // (model.LONGEST + model.PACKET_HEADER) + 1 for bits in (28, 32))
@@ -168,16 +175,28 @@ def read_by_others(captures: Sequence[Capture], folder: Path) -> None:
         SCRIPT.say(f"{len(captures)} captures: " + (f"read alike by {name}" if found else f"there is no {name} to read them"))
 
 
+def go_on_with_scapy(words: Sequence[str]) -> None:
+    """Goes on in another Python if that one has scapy and this one does not: a distribution brings scapy for its own Python."""
+    other = None if readers.has_scapy() or SECOND in os.environ else devices.python_with_scapy()
+    if other is not None:
+        os.execve(other, [other, "-P", "-m", "wfdev.checks.captures", *words], {**os.environ, SECOND: "1"})
+
+
 def main(words: Sequence[str] | None = None) -> int:
     """Compares all captures and returns the exit status."""
-    SCRIPT.parser(__doc__).parse_args(words)
+    parser = SCRIPT.parser(__doc__)
+    parser.add_argument("--devices", action="store_true", help="only the captures of devices")
+    asked = parser.parse_args(words)
+    go_on_with_scapy(words_of(words))
     wf = Wf(SCRIPT.program().path)
     try:
         with tempfile.TemporaryDirectory(prefix="wf-captures-") as folder:
-            small(wf)
-            large(wf)
-            of_other_programs(wf, Path(folder))
-            read_by_others(written(wf), Path(folder))
+            if not asked.devices:
+                small(wf)
+                large(wf)
+                of_other_programs(wf, Path(folder))
+                read_by_others(written(wf), Path(folder))
+            devices.check(SCRIPT, lambda octets: wf.run(["frames"], octets), Path(folder))
     except Difference as difference:
         SCRIPT.fail(difference)
     SCRIPT.say("all captures are as the model has them")

@@ -28,7 +28,7 @@ LONGEST_RUN = 60  # seconds of one run of the program
 
 def program_ended(program: Path, subject: Subject, octets: bytes) -> Ended:
     """Returns how the program ends."""
-    command = [program, *subject.command]
+    command = [str(program), *subject.command]
     run = subprocess.run(command, input=octets, capture_output=True, timeout=LONGEST_RUN, check=False)
     return run.stdout, run.returncode
 

@@ -8,7 +8,7 @@ from wfdev.model.calls import FORMS
 from wfdev.model.codel import SLOW, USUAL
 from wfdev.model.frames import Class
 from wfdev.model.grammar import LONGEST_LINE, Argument, NumberIn, OneOf
-from wfdev.model.machine import LEAST_DEFICIT, MOST_AIR, MOST_TICK, Machine
+from wfdev.model.machine import MOST_AIR, MOST_TICK, Machine
 from wfdev.model.rates import CARRIERS, MOST_MCS, SYMBOL, Format
 from wfdev.model.settings import RANGES
 from wfdev.model.text import Player
@@ -25,6 +25,7 @@ LIKELY = {
     "agg": (1, 2, 4, 64),
     "sleeping": (1, 2, 3),
     "charge": (1, 3000, 65_535),
+    "debt": (0, 1, 300, 20_000, 65_535),
 }
 # How often a setting is in a head, if not three times in ten. With little room most calls do nothing.
 CHANCE = {"stations": 0.6, "room": 0.06, "limit": 0.25, "calls": 0.0}
@@ -279,11 +280,12 @@ class Maker:
 
     def make_rx(self) -> Iterator[str]:
         """Yields a receive charge, or charges down to the greatest debt."""
-        station, access = self.station(), self.draw.choice(list(Class))
+        station = self.station()
+        access = self.draw.choice(tuple(Class.__members__.values()))
         yield f"rx {station} {access} {self.draw.choice(AIRS)}"
         if self.draw.random() < 0.1 and station in self.machine.stations:
             deficits = self.machine.rotations[access].deficits
-            while (left := deficits[station] - LEAST_DEFICIT) >= MOST_AIR:
+            while (left := deficits[station] + self.machine.settings.debt) >= MOST_AIR:
                 yield f"rx {station} {access} {MOST_AIR}"
             yield from (f"rx {station} {access} {air}" for air in (left + 1, left, 1) if air > 0)
 

@@ -1,8 +1,9 @@
 """Runs the built program against a hostile outside, and prints a table.
 
-Each command runs with standard output full, closed early and a terminal; with standard input closed, a directory, given octet
-by octet, cut after each octet, and without an end; with a signal in mid-run; and with limits of memory (`ulimit -v`), in steps
-of 2 kB around the least that is enough, and of stack (`ulimit -s`, from 128 kB). A run is good if its status and its line on
+Each command runs with standard output full, closed early, a terminal and a full pipe that does not block; with standard input
+closed, a directory, given octet by octet, by a pipe that does not block, cut after each octet, and without an end; with a signal
+in mid-run; and with limits of memory (`ulimit -v`), in steps of 2 kB around the least that is enough, and of stack
+(`ulimit -s`): 128 kB and more are enough, and with at most 96 kB the system ends the program before it reads. A run is good if its status and its line on
 standard error are those that docs/TRACE.md gives, and the output is a prefix of the whole text.
 """
 import sys

@@ -1,4 +1,5 @@
 """Little memory and little stack, in fine steps: the program has to end with its status, and never by a signal."""
+import signal
 from collections.abc import Callable, Sequence
 
 from wfdev.checks.hostile.case import Case, Ended, Subject, run
@@ -8,6 +9,7 @@ STEP = 2  # kilobytes
 LEAST, MOST = 512, 65536  # kilobytes of memory: too few for any program, enough for each of the small inputs
 BEFORE, AFTER = 512, 64  # kilobytes around the least memory that is enough, which are tried in steps
 COARSE = (4, 5, 6, 8, 10, 12, 16, 24, 32, 48, 64)  # megabytes
+TOO_FEW = (64, 80, 96)  # kilobytes of stack, below those that the program needs
 STACKS = (128, 132, 136, 144, 152, 160, 176, 192, 224, 256, 512, 1024, 8192)  # kilobytes
 STARTED = {Status.DONE, Status.NO_MEMORY}
 
@@ -63,4 +65,13 @@ def little_stack(subject: Subject) -> Case:
     return case
 
 
-ALL: list[Callable[[Subject], Case]] = [little_memory, memory_at_the_edge, little_stack]
+def too_little_stack(subject: Subject) -> Case:
+    """The stack is too small: the system ends the program before it reads or writes."""
+    case = Case(subject, f"{TOO_FEW[0]} to {TOO_FEW[-1]} kB of stack")
+    for kilobytes in TOO_FEW:
+        ended = run(limited("-s", kilobytes, subject.words), subject.given)
+        case.see(ended, {-signal.SIGSEGV}, b"", note=f"ulimit -s {kilobytes}")
+    return case
+
+
+ALL: list[Callable[[Subject], Case]] = [little_memory, memory_at_the_edge, little_stack, too_little_stack]

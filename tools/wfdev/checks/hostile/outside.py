@@ -1,4 +1,5 @@
 """Outputs and inputs that fail, are slow or have no end, and signals."""
+import contextlib
 import os
 import pty
 import signal
@@ -13,6 +14,7 @@ from wfdev.repo import paths
 PAUSE = 0.05
 CUT_OFF = 2  # seconds
 TERMINAL_PIECE = 65536
+PIECE = 512
 
 
 def output_full(subject: Subject) -> Case:
@@ -86,6 +88,46 @@ def input_octet_by_octet(subject: Subject) -> Case:
     for octet in subject.given:
         give(child, bytes([octet]))
     case.see(end(child), {Status.DONE})
+    return case
+
+
+def input_that_does_not_block(subject: Subject) -> Case:
+    """Standard input is a pipe whose reads fail while it is empty (EAGAIN), and comes in two pieces."""
+    case = Case(subject, "standard input that does not block")
+    ours, theirs = os.pipe()
+    os.set_blocking(ours, False)
+    child = subprocess.Popen(subject.words, stdin=ours, stdout=subprocess.PIPE, stderr=subprocess.PIPE)
+    os.close(ours)
+    half = len(subject.given) // 2
+    for piece in (subject.given[:half], subject.given[half:]):
+        time.sleep(PAUSE)
+        with contextlib.suppress(BrokenPipeError):
+            os.write(theirs, piece)
+    os.close(theirs)
+    written, errors = child.communicate(timeout=SECONDS)
+    case.see(Ended(child.returncode, errors, written), {Status.DONE})
+    return case
+
+
+def output_that_does_not_block(subject: Subject) -> Case:
+    """Standard output is a full pipe whose writes fail (EAGAIN), and is read after a while."""
+    case = Case(subject, "standard output that does not block")
+    theirs, ours = os.pipe()
+    os.set_blocking(ours, False)
+    filled = 0
+    with contextlib.suppress(BlockingIOError):
+        while True:
+            filled += os.write(ours, bytes(PIECE))
+    child = subprocess.Popen(subject.words, stdin=subprocess.PIPE, stdout=ours, stderr=subprocess.PIPE)
+    os.close(ours)
+    give(child, subject.given)
+    assert child.stdin is not None and child.stderr is not None
+    child.stdin.close()
+    time.sleep(PAUSE)
+    with open(theirs, "rb") as file:
+        written = file.read()[filled:]
+    errors = child.stderr.read()
+    case.see(Ended(child.wait(timeout=SECONDS), errors, written), {Status.DONE})
     return case
 
 
@@ -181,9 +223,15 @@ ALWAYS: list[Callable[[Subject], Case]] = [
     output_full,
     output_closed_early,
     output_is_a_terminal,
+    output_that_does_not_block,
     input_closed,
     input_is_a_directory,
     signal_in_mid_run,
     stopped_and_continued,
 ]
-WITH_INPUT: list[Callable[[Subject], Case]] = [input_octet_by_octet, input_cut, input_without_end]
+WITH_INPUT: list[Callable[[Subject], Case]] = [
+    input_octet_by_octet,
+    input_that_does_not_block,
+    input_cut,
+    input_without_end,
+]

@@ -1,0 +1,288 @@
+/*
+ * A freestanding program over the library for a kernel module: it has no C library, and provides the five
+ * functions that the library needs. It drives two stations, frees the path, and prints how much stack a call
+ * took at most, and that all memory is free again.
+ */
+#include <stddef.h>
+#include <stdint.h>
+
+#include <wf.h>
+
+enum { STATIONS = 2, ROUNDS = 500, QUEUED = 40, PAINTED = 16384, MOST_STACK = 4096 };
+
+/* ---- what a module provides */
+
+void *malloc(size_t size);
+void free(void *block);
+void *memcpy(void *to, const void *from, size_t size);
+void *memmove(void *to, const void *from, size_t size);
+void *memset(void *to, int octet, size_t size);
+
+/* A block of the heap, before its octets. */
+struct head {
+  size_t size;
+  struct head *next; /* the next free one */
+};
+
+static union {
+  uint8_t octets[16 << 20];
+  struct head align[1];
+} heap;
+static size_t used;
+static size_t blocks;  /* blocks that are not free */
+static size_t largest; /* the octets of the largest block so far */
+static struct head *unused;
+
+void *malloc(size_t size) {
+  struct head **at = &unused;
+  struct head *made;
+  if (size > largest) largest = size;
+  size = (size + 15) / 16 * 16;
+  while (*at && (*at)->size < size) at = &(*at)->next;
+  made = *at;
+  if (made) {
+    *at = made->next;
+  } else {
+    if (sizeof heap.octets - used < size + sizeof *made) return NULL;
+    made = (struct head *)(void *)(heap.octets + used);
+    used += size + sizeof *made;
+    made->size = size;
+  }
+  blocks++;
+  return made + 1;
+}
+
+void free(void *block) {
+  struct head *head = block;
+  if (!head) return;
+  head--;
+  head->next = unused;
+  unused = head;
+  blocks--;
+}
+
+/* `volatile` keeps the compiler from making a call of the function itself out of its loop. */
+void *memcpy(void *to, const void *from, size_t size) {
+  volatile uint8_t *out = to;
+  const uint8_t *in = from;
+  size_t i;
+  for (i = 0; i < size; i++) out[i] = in[i];
+  return to;
+}
+
+void *memmove(void *to, const void *from, size_t size) {
+  volatile uint8_t *out = to;
+  const uint8_t *in = from;
+  if ((uintptr_t)to < (uintptr_t)from) return memcpy(to, from, size);
+  while (size--) out[size] = in[size];
+  return to;
+}
+
+void *memset(void *to, int octet, size_t size) {
+  volatile uint8_t *out = to;
+  size_t i;
+  for (i = 0; i < size; i++) out[i] = (uint8_t)octet;
+  return to;
+}
+
+/* ---- the system */
+
+static long system_call(long number, long first, const void *second, long third) {
+  long result;
+  __asm__ volatile("syscall" : "=a"(result) : "a"(number), "D"(first), "S"(second), "d"(third) : "rcx", "r11", "memory");
+  return result;
+}
+
+static void print(const char *text) {
+  long length = 0;
+  while (text[length]) length++;
+  system_call(1, 1, text, length);
+}
+
+static void print_number(uint64_t number) {
+  char text[24];
+  int at = 23;
+  text[at] = 0;
+  do text[--at] = (char)('0' + number % 10);
+  while (number /= 10);
+  print(text + at);
+}
+
+static _Noreturn void leave(int status) {
+  for (;;) system_call(60, status, NULL, 0);
+}
+
+static _Noreturn void fail(const char *what, int32_t code) {
+  print("kernel: ");
+  print(what);
+  print(": code ");
+  print_number((uint64_t)code);
+  print("\n");
+  leave(1);
+}
+
+/* ---- the stack */
+
+static size_t deepest;
+static uintptr_t top;
+
+/* Writes a pattern to the stack below this call. */
+static __attribute__((noinline)) void paint(void) {
+  volatile uint8_t *low;
+  size_t i;
+  top = (uintptr_t)__builtin_frame_address(0);
+  low = (volatile uint8_t *)(top - PAINTED);
+  for (i = 0; i < PAINTED - 256; i++) low[i] = 0xa5;
+}
+
+/* Returns how much of the stack was written since `paint`. */
+static __attribute__((noinline)) size_t written(void) {
+  volatile uint8_t *low = (volatile uint8_t *)(top - PAINTED);
+  size_t i = 0;
+  while (i < PAINTED - 256 && low[i] == 0xa5) i++;
+  return PAINTED - i;
+}
+
+/* Notes how much stack the last call took. */
+static void note(void) {
+  size_t now = written();
+  if (now > deepest) deepest = now;
+}
+
+#define MUST(what, call)                \
+  do {                                  \
+    int32_t code_;                      \
+    paint();                            \
+    code_ = (call);                     \
+    note();                             \
+    if (code_ != WF_OK) fail(what, code_); \
+  } while (0)
+
+/* ---- the driver */
+
+static struct wf_path path;
+static struct wf_reply reply;
+static struct wf_frames frames;
+static uint8_t body[WF_GREATEST_BODY], mpdu[WF_GREATEST_MPDU];
+static uint32_t seed = 1;
+
+static uint32_t below(uint32_t n) {
+  seed = seed * 1664525u + 1013904223u;
+  return (seed >> 8) % n;
+}
+
+/* Keeps frames waiting for a station. */
+static void fill(uint16_t station) {
+  struct wf_packet packet = {0};
+  uint32_t queued = 0;
+  packet.body = body;
+  for (;;) {
+    MUST("queued", wf_path_queued(&path, station, 0, &queued));
+    if (queued >= QUEUED) return;
+    packet.length = 1 + below(WF_GREATEST_BODY);
+    packet.flow = below(8);
+    MUST("enqueue", wf_path_enqueue(&path, station, &packet, &reply));
+  }
+}
+
+/* Sends an exchange: some frames are lost, and some BlockAcks. */
+static void exchange(void) {
+  uint8_t bits[32] = {0};
+  uint64_t number;
+  size_t size = 0;
+  uint16_t i, start;
+  MUST("pull", wf_path_pull(&path, WF_BE, &reply, &frames));
+  number = reply.exchange;
+  start = reply.request ? reply.start : frames.numbers[0];
+  for (i = 0; i < frames.count; i++) {
+    unsigned offset = (unsigned)(frames.numbers[i] - start) & 4095;
+    MUST("mpdu", wf_path_mpdu(&path, number, i, mpdu, sizeof mpdu, &size));
+    MUST("header", wf_path_header(&path, number, i, mpdu));
+    if (below(8)) bits[offset / 8] |= (uint8_t)(1 << offset % 8);
+  }
+  MUST("tick", wf_path_tick(&path, reply.air, &reply));
+  if (below(8)) MUST("done_bits", wf_path_done_bits(&path, number, start, bits, 0, &reply));
+  else MUST("done_lost", wf_path_done_lost(&path, number, 0, &reply));
+}
+
+/* Reaps the finished frames, and returns how many they are. */
+static uint32_t reap(void) {
+  struct wf_taken taken = {0};
+  uint32_t count = 0;
+  for (;;) {
+    int32_t code;
+    paint();
+    code = wf_path_reap(&path, &reply, &taken, NULL, 0);
+    note();
+    if (code == WF_NOTHING) return count;
+    if (code) fail("reap", code);
+    count++;
+  }
+}
+
+/* Makes the calls that a driver makes seldom. */
+static void other_calls(void) {
+  MUST("rate", wf_path_rate_he(&path, 1, 11, 80, 800, 2, &reply));
+  MUST("sleep", wf_path_sleep(&path, 1, &reply));
+  MUST("wake", wf_path_wake(&path, 1, &reply));
+  MUST("rx", wf_path_rx(&path, 1, WF_BE, 100, &reply));
+  MUST("leave", wf_path_leave(&path, 1, &reply));
+}
+
+static void make(void) {
+  struct wf_settings settings = {0};
+  uint16_t station;
+  int32_t code;
+  wf_settings_standard(&settings);
+  settings.inflight = 1;
+  code = wf_path_make(&path, &settings);
+  if (code) fail("make", code);
+  print("make took ");
+  print_number(blocks);
+  print(" blocks, ");
+  print_number(used);
+  print(" octets; the largest has ");
+  print_number(largest);
+  print("\n");
+  largest = 0;
+  for (station = 0; station < STATIONS; station++) {
+    MUST("join", wf_path_join(&path, station, 64, 0, 3, 1, &reply));
+    MUST("rate", wf_path_rate(&path, station, station ? 0 : 7, 20, 0, &reply));
+  }
+}
+
+static int run(void) {
+  struct wf_tally tally = {0};
+  uint32_t count = 0;
+  int i;
+  make();
+  for (i = 0; i < ROUNDS; i++) {
+    uint16_t station;
+    for (station = 0; station < STATIONS; station++) fill(station);
+    exchange();
+    count += reap();
+  }
+  other_calls();
+  wf_path_tally(&path, &tally);
+  wf_path_free(&path);
+  print_number(ROUNDS);
+  print(" exchanges, ");
+  print_number(count);
+  print(" frames reaped, ");
+  print_number(tally.acked);
+  print(" acknowledged; blocks that are not free: ");
+  print_number(blocks);
+  print("\na call but make and free took at most ");
+  print_number(deepest);
+  print(" octets of stack; an enqueue allocates blocks of at most ");
+  print_number(largest);
+  print("\n");
+  return blocks || deepest >= MOST_STACK;
+}
+
+/* The stack is a multiple of 16 here. */
+__attribute__((used)) static _Noreturn void begin(void) {
+  leave(run());
+}
+
+__asm__(".globl _start\n_start:\n\txor %ebp, %ebp\n\tand $-16, %rsp\n\tcall begin\n");
