@@ -94,9 +94,15 @@ extern "C" {
 
 /* The values that functions of type int32_t return, except wf_path_live, wf_path_can_pull, wf_path_listed and
  * wf_path_has_small_counts. 0 means success. Any other code says why nothing has changed: neither what the
- * handle holds, nor the caller's structs and buffers, except `reply`, which shows the refusal, and except
- * what the comment of a function says. WF_IDLE may have changed something, and a refused call of a cell is an
- * entry of its history. */
+ * handle holds, nor the caller's structs and buffers. There are these exceptions:
+ * - `reply` shows the refusal, if the code is 1 to 28, unless the comment of the function says that it is
+ *   unchanged;
+ * - WF_FULL, WF_AHEAD and WF_IDLE set the count of wf_path_pull's `frames` to 0;
+ * - WF_IDLE may have changed something of the path or the cell;
+ * - a refused call of a cell is an entry of its history, except after WF_HISTORY_FULL;
+ * - after each refusal of a cell, also WF_HISTORY_FULL, wf_cell_frames and wf_cell_released write the count 0,
+ *   and wf_cell_block writes zeros;
+ * - the comments of the functions name the others. */
 enum wf_code {
   /* success */
   WF_OK = 0,
@@ -137,7 +143,7 @@ enum wf_code {
                          * microseconds */
   WF_HISTORY_FULL = 26, /* the history has `calls` entries; this call is not added to it */
   WF_BAD_WEIGHT = 27,   /* the weight is not 1 to 16 */
-  WF_AHEAD = 28,        /* `owed` microseconds of computed airtime are in flight in all classes:
+  WF_AHEAD = 28,        /* `air` microseconds of computed airtime are in flight in all classes:
                          * `aql_total` or more */
   /* end refusals */
   /* other codes */
@@ -157,11 +163,11 @@ enum wf_code {
   WF_WRONG_TID = 58,    /* for another TID */
   /* wf_path_make, wf_cell_make: 100 plus the place, counted from 1, of the first setting that is out of its
    * range, or of the first reserved number that is not 0; their places follow those of the settings, up to
-   * 20 */
+   * 32 */
   WF_BAD_SETTING = 100
 };
 
-/* The access classes: background, best effort, video and voice. Functions treat a greater number as WF_VO. */
+/* The access classes: background, best effort, video and voice. Functions treat a number above 3 as WF_VO. */
 enum wf_class { WF_BK = 0, WF_BE = 1, WF_VI = 2, WF_VO = 3 };
 
 /* The fates of frames. */
@@ -260,8 +266,10 @@ struct wf_settings {
   uint32_t keep_order;   /* whether the frames of a flow keep their order [0..1] */
   uint32_t codel_reset;  /* whether CoDel starts outside its dropping state when a queue joins a
                           * TID's list [0..1] */
+  uint32_t aql;          /* limit on the airtime in flight of one station in one class, in
+                          * microseconds; 0 means no limit [0..262144] */
+  uint32_t reserved[14]; /* for later settings: each has to be 0 */
   /* end settings */
-  uint32_t reserved[3];  /* for later settings: each has to be 0 */
 };
 
 /* The answer to a call. `kind` says which of the other fields have a meaning (enum wf_kind). */
@@ -288,7 +296,8 @@ struct wf_reply {
   uint8_t more;         /* 1 if the station has more to be sent (the More Data bit), else 0 */
 };
 
-/* The frames of an aggregate: the first `count` ids and sequence numbers (0 to 4095). */
+/* The frames of an aggregate: the first `count` ids and sequence numbers (0 to 4095). The entries after them
+ * have no meaning: no contract says what a function leaves there. */
 struct wf_frames {
   uint64_t ids[256];
   uint16_t numbers[256];
@@ -377,7 +386,8 @@ struct wf_call {
   uint8_t heard;       /* other than 0 if the BlockAck was heard; 1 in an entry that is read */
 };
 
-/* The frames that a station passed up: the first `count` ids, in order. */
+/* The frames that a station passed up: the first `count` ids, in order. The entries after them have no
+ * meaning. */
 struct wf_passed_up {
   uint64_t ids[256];
   uint16_t count;
@@ -405,9 +415,9 @@ struct wf_version_parts {
 void wf_version(struct wf_version_parts *version);
 
 /* Writes the word for a code, for reports and logs; the rest of `name`, at least one octet, is 0. A refusal
- * has its word in traces (docs/TRACE.md). Any other code of enum wf_code has its name in small letters with
- * "-", such as "no-memory", and WF_BAD_SETTING + 1 to WF_BAD_SETTING + 20 have "bad-setting". The word for
- * any other number is "?". */
+ * has its word in traces (docs/TRACE.md). WF_OK has "ok", and the codes from WF_NO_MEMORY to WF_WRONG_TID have
+ * their names in small letters with "-", such as "no-memory". WF_BAD_SETTING + 1 to WF_BAD_SETTING + 32 have
+ * "bad-setting". The word for any other number is "?", also for WF_BAD_SETTING, which no function returns. */
 void wf_code_name(int32_t code, char name[WF_NAME]);
 
 /* Writes the word for a kind of answer (enum wf_kind), the first word of its line in a trace; the rest of
@@ -418,7 +428,7 @@ void wf_kind_name(int32_t kind, char name[WF_NAME]);
  * word for any other number is "?". */
 void wf_fate_name(int32_t fate, char name[WF_NAME]);
 
-/* Writes the word for a setting, as in a trace, by its place in struct wf_settings, 1 to 17; the rest of
+/* Writes the word for a setting, as in a trace, by its place in struct wf_settings, 1 to 18; the rest of
  * `name`, at least one octet, is 0. The word for any other number is "?". */
 void wf_setting_name(int32_t place, char name[WF_NAME]);
 
@@ -427,9 +437,10 @@ void wf_setting_name(int32_t place, char name[WF_NAME]);
 /* Writes the standard settings, which a trace has unless it gives others. */
 void wf_settings_standard(struct wf_settings *settings);
 
-/* Puts a path with these settings into an empty handle. The settings are copied. Returns WF_OK;
- * WF_BAD_SETTING + n if the nth setting is out of its range; or WF_NO_MEMORY. After an error the handle is
- * still empty. */
+/* Puts a path with these settings into an empty handle. The settings are copied. No station is live, no frame
+ * is inside, the clock is 0, and the addresses are placeholders. Returns WF_OK; WF_BAD_SETTING + n if the nth
+ * setting is the first that is out of its range, or the nth number is the first reserved one that is not 0;
+ * or WF_NO_MEMORY. After an error the handle is still empty. */
 int32_t wf_path_make(struct wf_path *path, const struct wf_settings *settings);
 
 /* Frees the path of a handle with all frames inside. The handle is then empty. */
@@ -476,7 +487,7 @@ int32_t wf_path_leave(struct wf_path *path, uint16_t station, struct wf_reply *r
 
 /* Sets the rate of data to a live station, a rate of HT: MCS 0 to 15, 20 or 40 MHz, and the short guard
  * interval if `short_guard` is not 0. Returns WF_OK, WF_BAD_STATION, WF_BAD_RATE or WF_NO_STATION. */
-int32_t wf_path_rate(struct wf_path *path, uint16_t station, uint8_t mcs, uint8_t mhz, uint8_t short_guard,
+int32_t wf_path_rate_ht(struct wf_path *path, uint16_t station, uint8_t mcs, uint8_t mhz, uint8_t short_guard,
                      struct wf_reply *reply);
 
 /* Sets the rate of data to a live station, a rate of VHT: MCS 0 to 9, 20, 40, 80 or 160 MHz, the short guard
@@ -492,12 +503,15 @@ int32_t wf_path_rate_vht(struct wf_path *path, uint16_t station, uint8_t mcs, ui
 int32_t wf_path_rate_he(struct wf_path *path, uint16_t station, uint8_t mcs, uint8_t mhz, uint16_t guard, uint8_t streams,
                         struct wf_reply *reply);
 
-/* Moves the clock on by `by` microseconds, 0 to 10,000,000. Returns WF_OK or WF_BAD_TICK. */
+/* Moves the clock on by `by` microseconds, 0 to 10,000,000. `now` of the reply is the new clock. Returns
+ * WF_OK, or WF_BAD_TICK if `by` is greater. */
 int32_t wf_path_tick(struct wf_path *path, uint32_t by, struct wf_reply *reply);
 
-/* Moves the clock on to `now`, in microseconds, by as many ticks as are needed; `reply` gets the answer to
- * the last one. Returns WF_OK, or WF_BAD_TICK exactly if `now` is before the clock, or is 2^61 or more. The
- * clock has to stay below 2^62, so this limit leaves room for later ticks. */
+/* Moves the clock on to `now`, in microseconds. `now` of the reply is the new clock. It makes a tick for each
+ * 10,000,000 microseconds, so the time that the function takes is proportional to the distance: from 0 to the
+ * microseconds since 1970 it makes about 180,000,000 ticks. A clock that starts near 0 avoids this. Returns
+ * WF_OK, or WF_BAD_TICK exactly if `now` is before the clock, or is 2^61 or more. The clock has to stay below
+ * 2^62, so this limit leaves room for later ticks. */
 int32_t wf_path_advance(struct wf_path *path, uint64_t now, struct wf_reply *reply);
 
 /* Says that a live station goes to sleep: from then on it gets only what it polls for (wf_path_poll). Returns
@@ -524,10 +538,11 @@ int32_t wf_path_rx(struct wf_path *path, uint16_t station, uint8_t class_, uint3
  * WF_BAD_LENGTH and WF_NO_MEMORY `reply` is unchanged. */
 int32_t wf_path_enqueue(struct wf_path *path, uint16_t station, const struct wf_packet *packet, struct wf_reply *reply);
 
-/* Opens the next exchange of a class, which the driver then sends. If it is an aggregate, `frames` gets its
- * frames; otherwise their count is 0. `air` of the reply is the time of the transmissions and of the
- * BlockAck. Returns WF_OK, WF_FULL, WF_AHEAD or WF_IDLE. After WF_AHEAD, pull again when any exchange has
- * ended; after WF_IDLE, also after an enqueue, a wake or a poll. */
+/* Opens the next exchange of a class, which the driver then sends: `exchange` of the reply is its number. If it
+ * is an aggregate, `frames` gets its frames. If it is a BlockAckReq, or after an error, their count is 0. `air`
+ * of the reply is the time of the transmissions and of the BlockAck, in microseconds. Returns WF_OK, WF_FULL,
+ * WF_AHEAD or WF_IDLE. After WF_FULL, pull again when an exchange of the class has ended; after WF_AHEAD, when
+ * any exchange has ended; after WF_IDLE, also after an enqueue, a wake or a poll. */
 int32_t wf_path_pull(struct wf_path *path, uint8_t class_, struct wf_reply *reply, struct wf_frames *frames);
 
 /* Takes the first finished frame out of the path. `taken` gets its id, its fate and what its packet was, and
@@ -584,9 +599,10 @@ int32_t wf_path_done_bits(struct wf_path *path, uint64_t exchange, uint16_t star
 /* Ends an exchange by the octets of a BlockAck that was heard, without its check sequence. Frames that it
  * shows are acknowledged; the others wait to be sent again, or are dropped after their last transmission. The
  * station is charged `air`, 1 to `charge` microseconds as the device measured them, or, if `air` is 0, what
- * wf_path_pull answered. Returns WF_OK; WF_NO_EXCHANGE; WF_BLOCK_LENGTH to WF_WRONG_TID if the octets are not
- * a BlockAck to this exchange; or else WF_BAD_AIR if `air` is above the setting `charge`. After an error the
- * exchange is still open, and `reply` is unchanged. */
+ * wf_path_pull answered. Returns WF_OK, or the first of these that holds: WF_NO_EXCHANGE; WF_BLOCK_LENGTH,
+ * WF_BLOCK_KIND, WF_BLOCK_BASIC, WF_BLOCK_MULTI, WF_BLOCK_NARROW, WF_BLOCK_FRAGMENT, WF_NOT_MINE or
+ * WF_WRONG_TID if the octets are not a BlockAck to this exchange; WF_BAD_AIR if `air` is above the setting
+ * `charge`. After an error the exchange is still open, and `reply` is unchanged. */
 int32_t wf_path_done_octets(struct wf_path *path, uint64_t exchange, const uint8_t *octets, size_t length, uint32_t air,
                             struct wf_reply *reply);
 
@@ -643,42 +659,52 @@ size_t wf_path_tim(const struct wf_path *path, uint8_t out[256]);
  * history keeps and the machine does not use. */
 
 /* Puts a cell with these settings into an empty handle. The settings are copied. It allocates the path, the
- * receive halves, and a history of `calls` entries of 48 octets each. Returns WF_OK; WF_BAD_SETTING + n if
- * the nth setting is out of its range; or WF_NO_MEMORY. After an error the handle is still empty. */
+ * receive halves, and a history of `calls` entries of 48 octets each. No station is live, and no call was
+ * made. Returns WF_OK; WF_BAD_SETTING + n if the nth setting is the first that is out of its range, or the nth
+ * number is the first reserved one that is not 0; or WF_NO_MEMORY. After an error the handle is still empty. */
 int32_t wf_cell_make(struct wf_cell *cell, const struct wf_settings *settings);
 
 /* Frees the cell of a handle with all frames inside and the history. The handle is then empty. */
 void wf_cell_free(struct wf_cell *cell);
 
 /* Makes a call that neither accepts nor reaps a frame: all kinds except WF_CALL_ENQUEUE and WF_CALL_REAP. It
- * writes the answer to `reply`. Returns WF_OK; WF_BAD_CALL if the struct does not show such a call, or a rate
- * of no format, and then nothing has changed, nor `reply`; WF_HISTORY_FULL if the history has `calls`
- * entries, and then only `reply` has changed; or the refusal of the call. Otherwise the call is one entry of
- * the history, refused or not. */
+ * writes the answer to `reply`. `caller` is any number of the caller's, which the history keeps. Returns
+ * WF_OK, or the first of these that holds: WF_BAD_CALL if the struct does not show such a call, or shows a
+ * rate of no format, and then nothing has changed, nor `reply`; WF_HISTORY_FULL if the history has `calls`
+ * entries, and then the state and the history of the cell are unchanged; the refusal of the call. After WF_OK
+ * and a refusal of the call it is one entry of the history. */
 int32_t wf_cell_ask(struct wf_cell *cell, uint32_t caller, const struct wf_call *call, struct wf_reply *reply);
 
-/* Accepts a packet for a station as a frame, as wf_path_enqueue does and with its codes, or returns
- * WF_HISTORY_FULL. The call is one entry of the history, except after WF_BAD_LENGTH, WF_NO_MEMORY and
- * WF_HISTORY_FULL. The frame keeps the source and the tag of the packet until wf_cell_reap returns them; the
- * entry has neither, so a replay of the history has the placeholder source. */
+/* Accepts a packet for a station as a frame, whose id is `id` of the reply. The body is copied. Returns WF_OK,
+ * or the first of these that holds: WF_BAD_LENGTH exactly if `length` is not 1 to WF_GREATEST_BODY;
+ * WF_NO_MEMORY if there is no memory for the frame; WF_HISTORY_FULL if the history has `calls` entries;
+ * WF_BAD_STATION, WF_BAD_TID, WF_NO_STATION, WF_ROOM or WF_SLEEPING. After WF_BAD_LENGTH and WF_NO_MEMORY
+ * `reply` is unchanged. The call is one entry of the history, except after these two and WF_HISTORY_FULL. The
+ * frame keeps the source and the tag of the packet until wf_cell_reap returns them; the entry has neither, so a
+ * replay of the history has the placeholder source. */
 int32_t wf_cell_enqueue(struct wf_cell *cell, uint32_t caller, uint16_t station, const struct wf_packet *packet,
                         struct wf_reply *reply);
 
-/* Takes the first finished frame out of the cell, as wf_path_reap does and with its codes, or returns
- * WF_HISTORY_FULL; then too `taken` and `body` are unchanged. The call is one entry of the history, except
- * after WF_SMALL_BUFFER and WF_HISTORY_FULL. */
+/* Takes the first finished frame out of the cell. `taken` gets its id, its fate and what its packet was, and
+ * the front of `body` its `taken->length` octets; the rest of `body`, whose size is `room`, is unchanged. If
+ * `room` is 0, the octets are freed and not copied, and `body` may be null. Returns WF_OK, or the first of
+ * these that holds: WF_SMALL_BUFFER exactly if `room` is 1 to WF_GREATEST_BODY - 1, and then `reply` is
+ * unchanged; WF_HISTORY_FULL if the history has `calls` entries; WF_NOTHING. After an error `taken` and `body`
+ * are unchanged. The call is one entry of the history, except after WF_SMALL_BUFFER and WF_HISTORY_FULL. */
 int32_t wf_cell_reap(struct wf_cell *cell, uint32_t caller, struct wf_reply *reply, struct wf_taken *taken, uint8_t *body,
                      size_t room);
 
-/* Writes the frames of the aggregate, if the answer to the last call sends one; otherwise their count is
- * 0. */
+/* Writes the frames of the aggregate, if the answer to the last call sends one; otherwise their count is 0. A
+ * call that was refused with WF_HISTORY_FULL counts as the last call; one that returned WF_BAD_CALL,
+ * WF_BAD_LENGTH, WF_NO_MEMORY or WF_SMALL_BUFFER does not. */
 void wf_cell_frames(const struct wf_cell *cell, struct wf_frames *frames);
 
 /* Writes the frames that the station passed up, if a transmission arrived by the last call; otherwise their
- * count is 0. */
+ * count is 0. The last call is defined at wf_cell_frames. */
 void wf_cell_released(const struct wf_cell *cell, struct wf_passed_up *up);
 
-/* Writes the BlockAck of the station, if it answered by the last call; otherwise all fields are 0. */
+/* Writes the BlockAck of the station, if it answered by the last call; otherwise all fields are 0. The last
+ * call is defined at wf_cell_frames. */
 void wf_cell_block(const struct wf_cell *cell, struct wf_block *block);
 
 /* Returns how many entries the history has. */

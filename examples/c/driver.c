@@ -39,7 +39,7 @@ static int open_air(struct air *air) {
   if (wf_path_make(&air->path, &settings)) return 0;
   for (station = 0; station < STATIONS; station++) {
     if (wf_path_join(&air->path, station, 64, 0, 3, WEIGHT[station], &air->reply)) return 0;
-    if (wf_path_rate(&air->path, station, MCS[station], 20, 0, &air->reply)) return 0;
+    if (wf_path_rate_ht(&air->path, station, MCS[station], 20, 0, &air->reply)) return 0;
   }
   return 1;
 }

@@ -8,7 +8,31 @@
 
 #include "wf.h"
 
-enum { STATIONS = 4, CHARGE = 5000 };
+enum { STATIONS = 4, CHARGE = 5000, PLACES = sizeof(struct wf_settings) / sizeof(uint32_t) };
+
+/* Two values outside the range of each setting. */
+static const uint32_t OUTSIDE[][2] = {
+    /* begin outside: tools/tables writes these lines */
+    {0u, 257u}, /* stations */
+    {0u, 4097u}, /* flows */
+    {0u, 65536u}, /* limit */
+    {0u, 131073u}, /* room */
+    {63u, 65536u}, /* flow_quantum */
+    {99u, 10001u}, /* quantum */
+    {0u, 9u}, /* inflight */
+    {0u, 65u}, /* attempts */
+    {0u, 257u}, /* agg */
+    {2999u, 5401u}, /* cap */
+    {0u, 65536u}, /* sleeping */
+    {0u, 0u}, /* calls */
+    {65536u, 65536u}, /* charge */
+    {1000001u, 1000001u}, /* debt */
+    {262145u, 262145u}, /* aql_total */
+    {2u, 2u}, /* keep_order */
+    {2u, 2u}, /* codel_reset */
+    {262145u, 262145u}, /* aql */
+    /* end outside */
+};
 
 static struct wf_path path;
 static struct wf_reply reply;
@@ -58,28 +82,25 @@ static struct wf_settings some_settings(void) {
   return settings;
 }
 
-/* Each setting below and above its range, and each reserved number. */
+/* Makes a path and a cell with this value in one place of the settings. */
+static void misuse_setting(int place, uint32_t value) {
+  struct wf_path none = {0}, empty = {0};
+  struct wf_cell no_cell = {0};
+  struct wf_settings settings = some_settings();
+  uint32_t values[PLACES];
+  memcpy(values, &settings, sizeof values);
+  values[place] = value;
+  memcpy(&settings, values, sizeof values);
+  want(wf_path_make(&none, &settings), WF_BAD_SETTING + 1 + place, "wf_path_make");
+  want(wf_cell_make(&no_cell, &settings), WF_BAD_SETTING + 1 + place, "wf_cell_make");
+  unchanged(&none, &empty, sizeof none, "wf_path_make");
+}
+
+/* Each setting outside its range, and each reserved number. */
 static void misuse_settings(void) {
-  static const uint32_t LOW[20] = {0, 0, 0, 0,     63,      99,     0, 0, 0, 2999,
-                                   0, 0, 65536, 1000001, 262145, 2, 2, 1, 1, 1};
-  static const uint32_t HIGH[20] = {257,   4097, 65536, 131073,     65536,      10001, 9, 65, 257, 5401,
-                                    65536, 0,    65536, UINT32_MAX, UINT32_MAX, 3,     3, 7,  8,   9};
-  int i;
-  for (i = 0; i < 20; i++) {
-    struct wf_path none = {0}, empty = {0};
-    struct wf_cell no_cell = {0};
-    struct wf_settings settings = some_settings();
-    uint32_t values[20];
-    memcpy(values, &settings, sizeof values);
-    values[i] = LOW[i];
-    memcpy(&settings, values, sizeof values);
-    want(wf_path_make(&none, &settings), WF_BAD_SETTING + 1 + i, "wf_path_make");
-    want(wf_cell_make(&no_cell, &settings), WF_BAD_SETTING + 1 + i, "wf_cell_make");
-    values[i] = HIGH[i];
-    memcpy(&settings, values, sizeof values);
-    want(wf_path_make(&none, &settings), WF_BAD_SETTING + 1 + i, "wf_path_make");
-    unchanged(&none, &empty, sizeof none, "wf_path_make");
-  }
+  int known = sizeof OUTSIDE / sizeof *OUTSIDE, place, i;
+  for (place = 0; place < PLACES; place++)
+    for (i = 0; i < 2; i++) misuse_setting(place, place < known ? OUTSIDE[place][i] : 1u + 6u * (uint32_t)i);
 }
 
 /* Calls for station numbers that do not exist, or that are not live. */
@@ -89,14 +110,14 @@ static void misuse_stations(void) {
   const uint16_t none = STATIONS;
   want(wf_path_join(&path, none, 64, 0, 3, 1, &reply), WF_BAD_STATION, "wf_path_join");
   want(wf_path_leave(&path, none, &reply), WF_BAD_STATION, "wf_path_leave");
-  want(wf_path_rate(&path, none, 7, 20, 0, &reply), WF_BAD_STATION, "wf_path_rate");
+  want(wf_path_rate_ht(&path, none, 7, 20, 0, &reply), WF_BAD_STATION, "wf_path_rate_ht");
   want(wf_path_sleep(&path, none, &reply), WF_BAD_STATION, "wf_path_sleep");
   want(wf_path_wake(&path, none, &reply), WF_BAD_STATION, "wf_path_wake");
   want(wf_path_poll(&path, none, &reply), WF_BAD_STATION, "wf_path_poll");
   want(wf_path_rx(&path, none, WF_BE, 100, &reply), WF_BAD_STATION, "wf_path_rx");
   want(wf_path_enqueue(&path, none, &packet, &reply), WF_BAD_STATION, "wf_path_enqueue");
   want(wf_path_leave(&path, 3, &reply), WF_NO_STATION, "wf_path_leave");
-  want(wf_path_rate(&path, 3, 7, 20, 0, &reply), WF_NO_STATION, "wf_path_rate");
+  want(wf_path_rate_ht(&path, 3, 7, 20, 0, &reply), WF_NO_STATION, "wf_path_rate_ht");
   want(wf_path_sleep(&path, 3, &reply), WF_NO_STATION, "wf_path_sleep");
   want(wf_path_wake(&path, 3, &reply), WF_NO_STATION, "wf_path_wake");
   want(wf_path_poll(&path, 3, &reply), WF_NO_STATION, "wf_path_poll");
@@ -135,8 +156,8 @@ static void misuse_joins(void) {
 }
 
 static void misuse_rates(void) {
-  want(wf_path_rate(&path, 0, 16, 20, 0, &reply), WF_BAD_RATE, "MCS 16 of HT");
-  want(wf_path_rate(&path, 0, 7, 80, 0, &reply), WF_BAD_RATE, "80 MHz of HT");
+  want(wf_path_rate_ht(&path, 0, 16, 20, 0, &reply), WF_BAD_RATE, "MCS 16 of HT");
+  want(wf_path_rate_ht(&path, 0, 7, 80, 0, &reply), WF_BAD_RATE, "80 MHz of HT");
   want(wf_path_rate_vht(&path, 0, 10, 80, 0, 1, &reply), WF_BAD_RATE, "MCS 10 of VHT");
   want(wf_path_rate_vht(&path, 0, 9, 20, 0, 1, &reply), WF_BAD_RATE, "MCS 9 of VHT on 20 MHz");
   want(wf_path_rate_vht(&path, 0, 9, 80, 0, 9, &reply), WF_BAD_RATE, "9 streams of VHT");
@@ -366,7 +387,7 @@ static void misuse_cell(void) {
 
 /* Numbers without a meaning. */
 static void misuse_names(void) {
-  static const int32_t NONE[] = {-1, 29, 39, 45, 50, 59, 100, 121, INT32_MAX, INT32_MIN};
+  static const int32_t NONE[] = {-1, 29, 39, 45, 50, 59, 100, WF_BAD_SETTING + PLACES + 1, INT32_MAX, INT32_MIN};
   size_t i;
   for (i = 0; i < sizeof NONE / sizeof *NONE; i++) {
     char name[WF_NAME] = {0};

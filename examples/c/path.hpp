@@ -107,7 +107,7 @@ class Path {
   }
   [[nodiscard]] std::int32_t rate(std::uint16_t station, std::uint8_t mcs, std::uint8_t mhz, bool short_guard,
                                   wf_reply &reply) {
-    return wf_path_rate(&handle_, station, mcs, mhz, short_guard, &reply);
+    return wf_path_rate_ht(&handle_, station, mcs, mhz, short_guard, &reply);
   }
   [[nodiscard]] std::int32_t rate_vht(std::uint16_t station, std::uint8_t mcs, std::uint8_t mhz, bool short_guard,
                                       std::uint8_t streams, wf_reply &reply) {

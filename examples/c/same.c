@@ -17,7 +17,7 @@
 #include "words.h"
 #include "wf.h"
 
-enum { STATIONS = 6, NUMBERS = 4096, OPEN = 32, CHARGE = 5000, DEBT = 9000, TICK = 10000000, ATTEMPTS = 4, SETTINGS = 17 };
+enum { STATIONS = 6, NUMBERS = 4096, OPEN = 32, CHARGE = 5000, DEBT = 9000, TICK = 10000000, ATTEMPTS = 4, SETTINGS = 18 };
 
 /* An open exchange. */
 struct exchange {
@@ -87,7 +87,7 @@ static uint8_t some_width(void) {
 
 static void call_rate(uint16_t s) {
   uint8_t mcs = (uint8_t)below(17), mhz = some_width(), short_guard = (uint8_t)below(2);
-  int32_t code = wf_path_rate(&path, s, mcs, mhz, short_guard, &reply);
+  int32_t code = wf_path_rate_ht(&path, s, mcs, mhz, short_guard, &reply);
   fprintf(trace, "rate %u %u %u %s\n", (unsigned)s, (unsigned)mcs, (unsigned)mhz, GUARDS[short_guard]);
   write_answer(code, NULL);
 }

@@ -48,7 +48,7 @@ struct Station {
   /// Sets its rate in a path, and returns the code of that.
   int32_t SetRate(wf_path* path, uint16_t number, wf_reply* reply) const {
     const auto mhz = static_cast<uint8_t>(width);
-    if (form == WF_FORM_HT) return wf_path_rate(path, number, mcs, mhz, guard == 400, reply);
+    if (form == WF_FORM_HT) return wf_path_rate_ht(path, number, mcs, mhz, guard == 400, reply);
     if (form == WF_FORM_VHT) return wf_path_rate_vht(path, number, mcs, mhz, guard == 400, streams, reply);
     return wf_path_rate_he(path, number, mcs, mhz, guard, streams, reply);
   }

@@ -1,5 +1,5 @@
 -- Defines the settings that a struct shows, and the codes of making a path.
-use Rattle.std.specs.Prelude.{◌≡◌, ◌⊎◌, ℕ, ℤ, pos, List, [], ◌∷◌, Option, Some, None, ◌+◌, ◌==◌, if◌then◌else◌}
+use Rattle.std.specs.Prelude.{◌≡◌, ◌⊎◌, ℕ, ℤ, pos, List, Option, Some, None, option_map, position, ◌+◌, ◌==◌, not}
 use Rattle.wf_frame.specs.Settings.{setting_number, first_out_of_range}
 use Rattle.wf_frame.specs.declared.settings.Field.{Field}
 use Rattle.wf_frame.specs.declared.settings.Config.{Config}
@@ -7,16 +7,17 @@ use Rattle.wf_c.specs.declared.settings.Settings.{Settings}
 
 -- the place of the first reserved number: it follows the settings
 abbrev pub first_reserved : ℕ
-first_reserved = 18
+first_reserved = 19
 
--- the place of the first number that is not 0, if the first number has place n
-abbrev pub first_set : ℕ → List ℕ → Option ℕ
-first_set n [] = None
-first_set n (x ∷ xs) = if x == 0 then first_set (n + 1) xs else Some n
+-- the place of the first reserved number that is not 0, if any
+abbrev pub first_set : List ℕ → Option ℕ
+first_set reserved = option_map (λ i. first_reserved + i) (position (λ number. not (number == 0)) reserved)
 
 -- the code of a setting that is out of its range, by its place
 abbrev pub bad_setting : ℕ → ℕ
 bad_setting place = 100 + place
+
+-- begin settings: tools/tables writes these lines
 
 -- the settings that the caller's struct shows
 abbrev pub config_of : Settings → Config
@@ -38,7 +39,10 @@ config_of s = record {
   aql_total = s.aql_total;
   keep_order = s.keep_order;
   codel_reset = s.codel_reset;
+  aql = s.aql;
 }
+
+-- end settings
 
 -- the place of a setting, which is its number; without a setting, the other place
 abbrev pub place_or : Option Field → Option ℕ → Option ℕ
@@ -48,7 +52,7 @@ place_or None other = other
 -- the place of the first setting that is out of its range, or of the first reserved number that is not 0, if
 -- any
 unfoldable pub bad_place : Settings → Option ℕ
-bad_place s = place_or (first_out_of_range (config_of s)) (first_set first_reserved s.reserved)
+bad_place s = place_or (first_out_of_range (config_of s)) (first_set s.reserved)
 
 -- the code for "out of memory"
 abbrev pub no_memory : ℕ

@@ -64,12 +64,12 @@ own_rows =
 abbrev pub own_word : ℕ → List ℕ
 own_word = word_among own_rows
 
--- the word for any code: 1 to 39 are for refusals, and 101 to 120 for settings, by their places
+-- the word for any code: 1 to 39 are for refusals, and 101 to 132 for settings, by their places
 abbrev pub code_word : ℕ → List ℕ
 code_word n =
     if is_within 1 39 n then refusal_word_at n
     else (if is_within 51 58 n then block_word n
-    else (if is_within 101 120 n then codes "bad-setting"
+    else (if is_within 101 132 n then codes "bad-setting"
     else own_word n))
 
 -- ---- answers, fates, settings

@@ -67,6 +67,8 @@ abbrev pub with_request_start : Option ℕ → Reply → Reply
 with_request_start None r = r
 with_request_start (Some start) r = record r { start = start; request = 1 }
 
+-- begin refusals: tools/tables writes these lines
+
 -- with the number that a refusal has, if any
 abbrev pub with_refusal : Refusal → Reply → Reply
 with_refusal (refusal.Open count) r = record r { count = count }
@@ -76,6 +78,8 @@ with_refusal (refusal.Full count) r = record r { count = count }
 with_refusal (refusal.Debt deficit) r = record r { deficit = deficit }
 with_refusal (refusal.Ahead owed) r = record r { air = owed }
 with_refusal _ r = r
+
+-- end refusals
 
 -- the fields of an answer; its lists, and the fields of a BlockAck, are in other structs
 abbrev pub numbers_of : Brief → Reply

@@ -6,8 +6,7 @@ ghost use Rattle.std.specs.Prelude.{◌≡◌, true, is_some, pos, IfSome};
 ghost use Rattle.wf_frame.specs.Classes.{all_classes, class_among};
 ghost use Rattle.wf_frame.specs.declared.notes.Ask.TheVariants.{Join, Leave, Rate, Tick, Pull, Sleep, Wake, Poll, Rx};
 ghost use Rattle.wf_frame.specs.declared.notes.AskedRate.TheVariants.{Ht, Vht, He};
-ghost use Rattle.wf_path.specs.Jobs.{IsHeard};
-ghost use Rattle.wf_path.specs.declared.job.Job.TheVariants.{Call};
+ghost use Rattle.wf_path.specs.Jobs.{as_ask};
 ghost use Rattle.wf_c.specs.Calls.{Becomes, HoldsSmall, IsCalled};
 ghost use Rattle.wf_c.specs.Numbers.{is_up};
 ghost use Rattle.wf_c.specs.Pulled.{ShowsAggregate};
@@ -15,15 +14,15 @@ ghost use Rattle.wf_c.specs.Pulled.{ShowsAggregate};
 use crate::pulled::Frames;
 use crate::reply::Reply;
 use crate::slot::PathSlot;
-use wf_frame::{Ask, AskedRate, Class};
+use wf_frame::{AskedRate, Class};
+use wf_path::PathAsk;
 
 impl PathSlot {
-    // Makes a call that has no frame and is not a reap.
-    fn ask(&mut self, ask: Ask, reply: &mut Reply) -> i32
+    // Makes a call that brings and returns no frame, and whose answer has no lists.
+    fn ask(&mut self, ask: PathAsk, reply: &mut Reply) -> i32
         requires open { is_some self.old.value ≡ true }
         requires small { HoldsSmall self.old.value }
-        requires heard { IsHeard (Call ask) }
-        ensures called { Becomes (λ h k. IsCalled h ask k reply.new) self.old.value self.new.value }
+        ensures called { Becomes (λ h k. IsCalled h (as_ask ask) k reply.new) self.old.value self.new.value }
         ensures code { result ≡ pos reply.new.refusal }
     {
         *reply = self.held().ask(ask);
@@ -60,7 +59,7 @@ pub extern "C" fn wf_path_join(
         (Join station window start exponent weight) k reply.new) path.old.value path.new.value }
     ensures code { result ≡ pos reply.new.refusal }
 {
-    let ask = Ask::Join {
+    let ask = PathAsk::Join {
         station,
         window,
         start,
@@ -78,12 +77,12 @@ pub extern "C" fn wf_path_leave(path: &mut PathSlot, station: u16, reply: &mut R
     ensures called { Becomes (λ h k. IsCalled h (Leave station) k reply.new) path.old.value path.new.value }
     ensures code { result ≡ pos reply.new.refusal }
 {
-    path.ask(Ask::Leave { station }, reply)
+    path.ask(PathAsk::Leave { station }, reply)
 }
 
 /// Sets a station's rate, a rate of HT; `short` other than 0 means the short guard interval.
 #[unsafe(no_mangle)]
-pub extern "C" fn wf_path_rate(
+pub extern "C" fn wf_path_rate_ht(
     path: &mut PathSlot,
     station: u16,
     mcs: u8,
@@ -102,7 +101,7 @@ pub extern "C" fn wf_path_rate(
         mhz,
         short: short != 0,
     };
-    path.ask(Ask::Rate { station, rate }, reply)
+    path.ask(PathAsk::Rate { station, rate }, reply)
 }
 
 /// Sets a station's rate, a rate of VHT; `short` other than 0 means the short guard interval.
@@ -128,7 +127,7 @@ pub extern "C" fn wf_path_rate_vht(
         short: short != 0,
         streams,
     };
-    path.ask(Ask::Rate { station, rate }, reply)
+    path.ask(PathAsk::Rate { station, rate }, reply)
 }
 
 /// Sets a station's rate, a rate of HE, with a guard interval of `guard` nanoseconds.
@@ -154,7 +153,7 @@ pub extern "C" fn wf_path_rate_he(
         guard,
         streams,
     };
-    path.ask(Ask::Rate { station, rate }, reply)
+    path.ask(PathAsk::Rate { station, rate }, reply)
 }
 
 /// Moves the clock on by `by` microseconds.
@@ -165,7 +164,7 @@ pub extern "C" fn wf_path_tick(path: &mut PathSlot, by: u32, reply: &mut Reply) 
     ensures called { Becomes (λ h k. IsCalled h (Tick by) k reply.new) path.old.value path.new.value }
     ensures code { result ≡ pos reply.new.refusal }
 {
-    path.ask(Ask::Tick { by }, reply)
+    path.ask(PathAsk::Tick { by }, reply)
 }
 
 /// Puts a station to sleep.
@@ -176,7 +175,7 @@ pub extern "C" fn wf_path_sleep(path: &mut PathSlot, station: u16, reply: &mut R
     ensures called { Becomes (λ h k. IsCalled h (Sleep station) k reply.new) path.old.value path.new.value }
     ensures code { result ≡ pos reply.new.refusal }
 {
-    path.ask(Ask::Sleep { station }, reply)
+    path.ask(PathAsk::Sleep { station }, reply)
 }
 
 /// Wakes a station.
@@ -187,7 +186,7 @@ pub extern "C" fn wf_path_wake(path: &mut PathSlot, station: u16, reply: &mut Re
     ensures called { Becomes (λ h k. IsCalled h (Wake station) k reply.new) path.old.value path.new.value }
     ensures code { result ≡ pos reply.new.refusal }
 {
-    path.ask(Ask::Wake { station }, reply)
+    path.ask(PathAsk::Wake { station }, reply)
 }
 
 /// Gives a credit to a sleeping station that asks for one frame (PS-Poll).
@@ -198,7 +197,7 @@ pub extern "C" fn wf_path_poll(path: &mut PathSlot, station: u16, reply: &mut Re
     ensures called { Becomes (λ h k. IsCalled h (Poll station) k reply.new) path.old.value path.new.value }
     ensures code { result ≡ pos reply.new.refusal }
 {
-    path.ask(Ask::Poll { station }, reply)
+    path.ask(PathAsk::Poll { station }, reply)
 }
 
 /// Charges a station for `air` microseconds that it used to send in a class.
@@ -216,7 +215,7 @@ pub extern "C" fn wf_path_rx(
         (Rx station (class_among all_classes class) air) k reply.new) path.old.value path.new.value }
     ensures code { result ≡ pos reply.new.refusal }
 {
-    let ask = Ask::Rx {
+    let ask = PathAsk::Rx {
         station,
         class: class_of_number(class),
         air,
@@ -242,7 +241,7 @@ pub extern "C" fn wf_path_pull(
 {
     let class = class_of_number(class);
     let held = path.held();
-    *reply = held.ask(Ask::Pull { class });
+    *reply = held.pull(class);
     frames.show(&held.answer);
     i32::from(reply.refusal)
 }

@@ -9,7 +9,8 @@ ghost use Rattle.wf_c.specs.Clock.{IsAdvanced, IsMovedTo, IsTicked};
 use crate::held::Held;
 use crate::reply::Reply;
 use crate::slot::PathSlot;
-use wf_frame::{Ask, Brief, GREATEST_TICK, Refusal};
+use wf_frame::{Brief, GREATEST_TICK, Refusal};
+use wf_path::PathAsk;
 
 /// A path's clock is moved to times below this, in microseconds. The clock has to stay below 2^62, so there
 /// is room for later ticks.
@@ -39,7 +40,7 @@ impl Held {
         ensures { IsTicked self.old by self.new result }
     {
         let _ = self.path.config();
-        self.ask(Ask::Tick { by })
+        self.ask(PathAsk::Tick { by })
     }
 
     // Moves the clock on to `now`, or is refused.

@@ -13,8 +13,8 @@ use crate::make::NO_MEMORY;
 use crate::reply::Reply;
 use crate::slot::PathSlot;
 use std::alloc::{AllocError, Global};
-use wf_frame::{Ask, Frame, GREATEST_BODY, source_address};
-use wf_path::Job;
+use wf_frame::{Frame, GREATEST_BODY, source_address};
+use wf_path::PathJob;
 use wf_queue_parts::chain::Parcel;
 
 /// The code of a body that is empty, or longer than 2304 octets.
@@ -97,18 +97,16 @@ impl Held {
         requires small { IsSmall self.old.path.half }
         ensures { IsGivenToC self.old parcel self.new result }
     {
-        let _ = self.path.call(Job::Give(parcel), &mut self.answer);
+        let _ = self.path.call(PathJob::Give(parcel), &mut self.answer);
         Reply::of(self.answer.brief)
     }
-}
 
-impl Held {
     // Takes out the first finished frame.
     fn reap(&mut self, taken: &mut Taken, body: &mut [u8]) -> Reply
         requires small { IsSmall self.old.path.half }
         ensures { IsReapedFromC self.old self.new result taken.old body.old taken.new body.new }
     {
-        let back = self.path.call(Job::Call(Ask::Reap), &mut self.answer);
+        let back = self.path.call(PathJob::Reap, &mut self.answer);
         show_back(back, taken, body);
         Reply::of(self.answer.brief)
     }

@@ -2,18 +2,18 @@
 
 ghost use Rattle.std.specs.Prelude.{◌≡◌, ℕ, IfSome};
 ghost use Rattle.wf_frame.specs.Frames.{FrameValue};
+ghost use Rattle.wf_frame.specs.declared.notes.Ask.TheVariants.{Pull};
 ghost use Rattle.wf_def_world.specs.World.{opening};
 ghost use Rattle.wf_send_half_model.specs.Standing.{StandsFor};
 ghost use Rattle.wf_path.specs.Addresses.{made_up};
-ghost use Rattle.wf_path.specs.Jobs.{IsHeard};
+ghost use Rattle.wf_path.specs.Jobs.{as_ask};
 ghost use Rattle.wf_path.specs.Paths.{IsSmall};
-ghost use Rattle.wf_path.specs.declared.job.Job.TheVariants.{Call};
 ghost use Rattle.wf_c.specs.Calls.{IsCalled};
 
 use crate::reply::Reply;
 use std::alloc::Global;
-use wf_frame::{Answer, Ask, Config};
-use wf_path::{Job, Path};
+use wf_frame::{Answer, Class, Config};
+use wf_path::{Path, PathAsk, PathJob};
 
 /// A path, and the buffer that each call writes its answer to.
 #[derive(Drop)]
@@ -48,13 +48,21 @@ impl Held {
         }
     }
 
-    // Makes a call that has no frame and is not a reap.
-    pub(crate) fn ask(&mut self, ask: Ask) -> Reply
-        requires heard { IsHeard (Call ask) }
+    // Opens the next exchange of a class.
+    pub(crate) fn pull(&mut self, class: Class) -> Reply
         requires small { IsSmall self.old.path.half }
-        ensures { IsCalled self.old ask self.new result }
+        ensures { IsCalled self.old (Pull class) self.new result }
     {
-        let _ = self.path.call(Job::Call(ask), &mut self.answer);
+        let _ = self.path.call(PathJob::Pull(class), &mut self.answer);
+        Reply::of(self.answer.brief)
+    }
+
+    // Makes a call that brings and returns no frame, and whose answer has no lists.
+    pub(crate) fn ask(&mut self, ask: PathAsk) -> Reply
+        requires small { IsSmall self.old.path.half }
+        ensures { IsCalled self.old (as_ask ask) self.new result }
+    {
+        let _ = self.path.call(PathJob::Call(ask), &mut self.answer);
         Reply::of(self.answer.brief)
     }
 }

@@ -28,7 +28,7 @@ mod version;
 
 pub use addresses::{wf_path_address, wf_path_base, wf_path_set_address, wf_path_set_base};
 pub use asks::{
-    wf_path_join, wf_path_leave, wf_path_poll, wf_path_pull, wf_path_rate, wf_path_rate_he,
+    wf_path_join, wf_path_leave, wf_path_poll, wf_path_pull, wf_path_rate_he, wf_path_rate_ht,
     wf_path_rate_vht, wf_path_rx, wf_path_sleep, wf_path_tick, wf_path_wake,
 };
 pub use cell::answers::{Block, PassedUp, wf_cell_block, wf_cell_frames, wf_cell_released};

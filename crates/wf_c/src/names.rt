@@ -46,7 +46,7 @@ fn word_of_code(code: u32) -> &'static [u8]
     match code {
         1..=39 => word_of_refusal(code),
         51..=58 => word_of_block(code),
-        101..=120 => b"bad-setting",
+        101..=132 => b"bad-setting",
         _ => word_of_own(code),
     }
 }
@@ -159,7 +159,7 @@ fn word_of_fate(fate: u32) -> &'static [u8]
     }
 }
 
-/// Writes the word for a setting, by its place, 1 to 17; `?` for any other number.
+/// Writes the word for a setting, by its place, 1 to 18; `?` for any other number.
 #[unsafe(no_mangle)]
 pub extern "C" fn wf_setting_name(place: i32, name: &mut [u8; 16])
     ensures { name.new ≡ name_text (word_at setting_word_at place) }

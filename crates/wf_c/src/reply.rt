@@ -213,6 +213,7 @@ fn refused(refusal: Refusal) -> Reply
         ..of_kind(14)
     };
     match refusal {
+        // begin refusals: tools/tables writes these lines
         Refusal::Open { count } => Reply { count, ..reply },
         Refusal::Room { inside } => Reply {
             count: inside,
@@ -225,6 +226,7 @@ fn refused(refusal: Refusal) -> Reply
         Refusal::Full { count } => Reply { count, ..reply },
         Refusal::Debt { deficit } => Reply { deficit, ..reply },
         Refusal::Ahead { owed } => Reply { air: owed, ..reply },
+        // end refusals
         _ => reply,
     }
 }

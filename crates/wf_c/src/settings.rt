@@ -1,15 +1,19 @@
 //! The settings of a path, in a struct of the caller's.
 
-ghost use Rattle.std.specs.Prelude.{◌≡◌, ◌∷◌, []};
+ghost use Rattle.std.specs.Prelude.{◌≡◌, ◌<◌, ◌==◌, not, position, replicate, IfSome};
 ghost use Rattle.wf_frame.specs.Settings.{standard};
-ghost use Rattle.wf_c.specs.Making.{bad_place, config_of, first_reserved, first_set};
+ghost use Rattle.wf_c.specs.Making.{bad_place, config_of, first_set};
 
 use wf_frame::Config;
+
+// The place of the first reserved number: it follows the settings.
+const FIRST_RESERVED: u8 = 19;
 
 /// The settings of a path: those of `wf_frame::Config`, in its order, with the same units and ranges.
 #[repr(C)]
 #[derive(Clone, Copy)]
 pub struct Settings {
+    // begin fields: tools/tables writes these lines
     pub stations: u32,
     pub flows: u32,
     pub limit: u32,
@@ -27,8 +31,10 @@ pub struct Settings {
     pub aql_total: u32,
     pub keep_order: u32,
     pub codel_reset: u32,
+    pub aql: u32,
+    // end fields
     /// Room for later settings: each has to be 0.
-    pub reserved: [u32; 3],
+    pub reserved: [u32; 14],
 }
 
 impl Settings {
@@ -37,6 +43,7 @@ impl Settings {
         ensures { result ≡ config_of self.now }
     {
         Config {
+            // begin config: tools/tables writes these lines
             stations: self.stations,
             flows: self.flows,
             limit: self.limit,
@@ -54,6 +61,8 @@ impl Settings {
             aql_total: self.aql_total,
             keep_order: self.keep_order,
             codel_reset: self.codel_reset,
+            aql: self.aql,
+            // end config
         }
     }
 
@@ -70,18 +79,20 @@ impl Settings {
 
     // The place of the first reserved number that is not 0.
     fn reserved_fault(&self) -> Option<u8>
-        ensures { result ≡ first_set first_reserved self.now.reserved }
+        ensures { result ≡ first_set self.now.reserved }
     {
-        let [first, second, third] = self.reserved;
-        if first != 0 {
-            Some(18)
-        } else if second != 0 {
-            Some(19)
-        } else if third != 0 {
-            Some(20)
-        } else {
-            None
+        match self.first_set() {
+            Some(i) => Some(FIRST_RESERVED + i as u8),
+            None => None,
         }
+    }
+
+    // The index of the first reserved number that is not 0.
+    fn first_set(&self) -> Option<usize>
+        ensures index { result ≡ position (λ number. not (number == 0)) self.now.reserved }
+        ensures inside { IfSome result (λ i. i < 14) }
+    {
+        self.reserved.iter().position(|number| *number != 0)
     }
 }
 
@@ -89,10 +100,11 @@ impl Settings {
 #[unsafe(no_mangle)]
 pub extern "C" fn wf_settings_standard(settings: &mut Settings)
     ensures config { config_of settings.new ≡ standard }
-    ensures reserved { settings.new.reserved ≡ 0 ∷ 0 ∷ 0 ∷ [] }
+    ensures reserved { settings.new.reserved ≡ replicate 14 0 }
 {
     let config = Config::standard();
     *settings = Settings {
+        // begin standard: tools/tables writes these lines
         stations: config.stations,
         flows: config.flows,
         limit: config.limit,
@@ -110,6 +122,8 @@ pub extern "C" fn wf_settings_standard(settings: &mut Settings)
         aql_total: config.aql_total,
         keep_order: config.keep_order,
         codel_reset: config.codel_reset,
-        reserved: [0, 0, 0],
+        aql: config.aql,
+        // end standard
+        reserved: [0; 14],
     };
 }

@@ -28,7 +28,11 @@ use Rattle.wf_send_half_model.specs.Standing.{StandsFor, IsReached, Meets as Pat
 use Rattle.wf_send_half_model.proofs.Reached.{step_done, step_refused}
 use Rattle.wf_path.specs.declared.job.Job.{Job}
 use Rattle.wf_path.specs.declared.job.Job.TheVariants.{Call}
-use Rattle.wf_path.specs.Jobs.{IsHeard, note_of, bodies_after, changes_nothing, frame_given_back}
+use Rattle.wf_path.specs.declared.asks.PathAsk.{PathAsk}
+use Rattle.wf_path.specs.declared.asks.PathAsk.TheVariants as path_ask
+use Rattle.wf_path.specs.declared.asks.PathJob.{PathJob}
+use Rattle.wf_path.specs.declared.asks.PathJob.TheVariants as path_job
+use Rattle.wf_path.specs.Jobs.{as_ask, job_of, note_of, bodies_after, changes_nothing, frame_given_back}
 use Rattle.wf_cell_model.specs.Arriving.{IsUntold}
 use Rattle.wf_cell_model.specs.Hearing.{Hears, HasAddresses, with_peer, peer_of}
 use Rattle.wf_cell.specs.Engines.{EngineValue, EngineIsIn, IsJobDone, EngineMeets}
@@ -46,22 +50,26 @@ pub record PathTakes (before : TransmitValue) (job : Job) (after : TransmitValue
   pub parcel : (w : World) (bodies : ℕ → FrameValue) → StandsFor before w bodies →
       back ≡ frame_given_back bodies job answered
 
--- a job that changes no receive half and no mark
-pub untold_done : (v : EngineValue) (job : Job) (after : TransmitValue) (answered : ReplyNote)
+-- A job that changes no receive half and no mark. u is the engine before it, and v has the fields of u.
+pub untold_done : (v u : EngineValue) → v ≡ u → (job : Job) (after : TransmitValue) (answered : ReplyNote)
     (back : Option FrameValue) → PathTakes v.half job after answered back → IsUntold (note_of job) →
-    (w : World) (bodies : ℕ → FrameValue) → EngineIsIn v w bodies →
-    IsJobDone w bodies job v.half (record v { half = after }) answered back
-untold_done v job after answered back path untold w bodies i =
-    let m = path.meets w bodies i.half in
-    record {
-      is_in = record {
-        half = m.stands;
-        hears = untold_hears v.peers v.marks w
-            (note_of job) i.half.reached i.hears untold;
-      };
-      reply = m.reply;
-      back = path.parcel w bodies i.half;
-    }
+    (w : World) (bodies : ℕ → FrameValue) → EngineIsIn u w bodies →
+    IsJobDone w bodies job u.half (record v { half = after }) answered back
+untold_done v u same job after answered back path untold w bodies i =
+    subst (λ (x : EngineValue). IsJobDone w bodies job x.half (record v { half = after }) answered back) same
+    (of (subst (λ (x : EngineValue). EngineIsIn x w bodies) (sym same) i))
+  where
+    of : EngineIsIn v w bodies → IsJobDone w bodies job v.half (record v { half = after }) answered back
+    of j =
+        let m = path.meets w bodies j.half in
+        record {
+          is_in = record {
+            half = m.stands;
+            hears = untold_hears v.peers v.marks w (note_of job) j.half.reached j.hears untold;
+          };
+          reply = m.reply;
+          back = path.parcel w bodies j.half;
+        }
 
 -- a job without a frame that returns no frame, from the effect of its call
 pub ask_done : (v u : EngineValue) (a : Ask) (answered : ReplyNote) →
@@ -284,32 +292,41 @@ pub send_brief : (b : Brief) (pairs : List (ℕ × ℕ)) (ids : List ℕ) → Is
 send_brief (brief.Send e s t a r m) pairs ids sent other = other e s t a r m refl
 send_brief _ pairs ids sent other = cc (sent.is)
 
--- ---- calls that change neither a receive half nor a mark
+-- ---- calls of the path that change neither a receive half nor a mark
 
-pub record NotTold (a : Ask) : Type 0 where
-  pub arrive : (e i : ℕ) → a ≡ ask.Arrive e i → ⊥
-  pub answer : (e : ℕ) → a ≡ ask.Answer e → ⊥
-  pub done : (e : ℕ) (heard : Bool) (air : Option ℕ) → a ≡ ask.Done e heard air → ⊥
-  pub join : (s window start exponent weight : ℕ) → a ≡ ask.Join s window start exponent weight → ⊥
-  pub pull : (c : Class) → a ≡ ask.Pull c → ⊥
+pub ask_untold : (ask : PathAsk) →
+    ((s window start exponent weight : ℕ) → ask ≡ path_ask.Join s window start exponent weight → ⊥) →
+    IsUntold (Asked (as_ask ask))
+ask_untold (path_ask.Join s window start exponent weight) other = other s window start exponent weight refl
+ask_untold (path_ask.Leave s) other = tt
+ask_untold (path_ask.Rate s rate) other = tt
+ask_untold (path_ask.Tick by) other = tt
+ask_untold (path_ask.Sleep s) other = tt
+ask_untold (path_ask.Wake s) other = tt
+ask_untold (path_ask.Poll s) other = tt
+ask_untold (path_ask.Rx s c air) other = tt
 
-pub other_heard : (a : Ask) → NotTold a → IsHeard (Call a)
-other_heard (ask.Arrive e i) n = n.arrive e i refl
-other_heard (ask.Answer e) n = n.answer e refl
-other_heard (ask.Done e heard air) n = n.done e heard air refl
-other_heard _ n = tt
+pub job_untold : (job : PathJob) → ((ask : PathAsk) → job ≡ path_job.Call ask → ⊥) →
+    ((c : Class) → job ≡ path_job.Pull c → ⊥) → IsUntold (note_of (job_of job))
+job_untold (path_job.Give f) no_call no_pull = tt
+job_untold path_job.Reap no_call no_pull = tt
+job_untold (path_job.Call ask) no_call no_pull = absurd (no_call ask refl)
+job_untold (path_job.Pull c) no_call no_pull = no_pull c refl
 
-pub other_untold : (a : Ask) → NotTold a → IsUntold (Asked a)
-other_untold (ask.Arrive e i) n = n.arrive e i refl
-other_untold (ask.Answer e) n = n.answer e refl
-other_untold (ask.Done e heard air) n = n.done e heard air refl
-other_untold (ask.Join s window start exponent weight) n = n.join s window start exponent weight refl
-other_untold (ask.Pull c) n = n.pull c refl
-other_untold _ n = tt
+not_received : (job : PathJob) → is_received (job_of job) ≡ false
+not_received (path_job.Give f) = refl
+not_received path_job.Reap = refl
+not_received (path_job.Call (path_ask.Join s window start exponent weight)) = refl
+not_received (path_job.Pull c) = refl
+not_received (path_job.Call (path_ask.Leave s)) = refl
+not_received (path_job.Call (path_ask.Rate s rate)) = refl
+not_received (path_job.Call (path_ask.Tick by)) = refl
+not_received (path_job.Call (path_ask.Sleep s)) = refl
+not_received (path_job.Call (path_ask.Wake s)) = refl
+not_received (path_job.Call (path_ask.Poll s)) = refl
+not_received (path_job.Call (path_ask.Rx s c air)) = refl
 
 -- for a call of the path alone, the reply says whether the path is unchanged
-pub path_kept_by : (a : Ask) (answered : ReplyNote) → NotTold a →
-    (is_received (Call a) || changes_nothing answered) ≡ true → changes_nothing answered ≡ true
-path_kept_by (ask.Arrive e i) answered n is = absurd (n.arrive e i refl)
-path_kept_by (ask.Answer e) answered n is = absurd (n.answer e refl)
-path_kept_by _ answered n is = is
+pub path_kept_by : (job : PathJob) (answered : ReplyNote) →
+    (is_received (job_of job) || changes_nothing answered) ≡ true → changes_nothing answered ≡ true
+path_kept_by job answered is = ap (λ (b : Bool). b || changes_nothing answered) (sym (not_received job)) ∙ is

@@ -8,7 +8,7 @@ ghost use Rattle.wf_frame.specs.declared.notes.Ask.TheVariants.{Join, Pull};
 ghost use Rattle.wf_frame.specs.declared.notes.Note.TheVariants.{Asked};
 ghost use Rattle.wf_def_world.specs.World.{World, opening};
 ghost use Rattle.wf_send_half.specs.Replies.{bodies_sent};
-ghost use Rattle.wf_path.specs.Jobs.{changes_nothing};
+ghost use Rattle.wf_path.specs.Jobs.{ask_about, as_ask, job_of, changes_nothing};
 ghost use Rattle.wf_path.specs.Paths.{IsSmall};
 ghost use Rattle.wf_cell.specs.Engines.{EngineHasWorld, IsJobDone, EngineIsIn, EngineMeets};
 ghost use Rattle.wf_cell.specs.Cells.{is_received};
@@ -19,7 +19,7 @@ use std::marker::Model;
 use wf_frame::{Answer, Ask, Brief, Class, Config};
 use wf_octets::header::GREATEST_MPDU;
 use wf_octets::seq12::Seq12;
-use wf_path::{Job, Path};
+use wf_path::{ExchangeAsk, Job, Path, PathAsk, PathJob};
 use wf_queue_parts::chain::Parcel;
 use wf_recv_marks::Marks;
 
@@ -78,12 +78,12 @@ impl Engine {
             self.new.half ≡ self.old.half }
     {
         match job {
-            Job::Give(parcel) => self.path.call(Job::Give(parcel), answer),
+            Job::Give(parcel) => self.path_call(PathJob::Give(parcel), answer),
             Job::Call(ask) => self.ask(ask, answer),
         }
     }
 
-    // Makes a call that has no frame.
+    // Makes a call that brings no frame.
     fn ask(&mut self, ask: Ask, answer: &mut Answer) -> Option<Parcel>
         requires some { EngineHasWorld self.old }
         requires small { IsSmall self.old.half }
@@ -92,24 +92,45 @@ impl Engine {
         ensures path_kept { (is_received (Job.Call ask) || changes_nothing (reply_of answer.new)) ≡ true →
             self.new.half ≡ self.old.half }
     {
+        match PathJob::of(ask) {
+            Ok(job) => self.path_call(job, answer),
+            Err(about) => {
+                self.exchange_call(about, answer);
+                None
+            }
+        }
+    }
+
+    // Makes a call of the path. An exchange that opens gets a mark.
+    fn path_call(&mut self, job: PathJob, answer: &mut Answer) -> Option<Parcel>
+        requires some { EngineHasWorld self.old }
+        requires small { IsSmall self.old.half }
+        ensures done { (w : World) (bodies : ℕ → FrameValue) → EngineIsIn self.old w bodies →
+            IsJobDone w bodies (job_of job) self.old.half self.new (reply_of answer.new) result }
+        ensures path_kept { changes_nothing (reply_of answer.new) ≡ true →
+            self.new.half ≡ self.old.half }
+    {
+        match job {
+            PathJob::Call(ask) => self.path_ask(ask, answer),
+            PathJob::Pull(class) => {
+                self.pull(class, answer);
+                None
+            }
+            _ => self.path.call(job, answer),
+        }
+    }
+
+    // Makes a call of the path that brings no frame. A station that joins gets a new receive half.
+    fn path_ask(&mut self, ask: PathAsk, answer: &mut Answer) -> Option<Parcel>
+        requires some { EngineHasWorld self.old }
+        requires small { IsSmall self.old.half }
+        ensures done { (w : World) (bodies : ℕ → FrameValue) → EngineIsIn self.old w bodies →
+            IsJobDone w bodies (Job.Call (as_ask ask)) self.old.half self.new (reply_of answer.new) result }
+        ensures path_kept { changes_nothing (reply_of answer.new) ≡ true →
+            self.new.half ≡ self.old.half }
+    {
         match ask {
-            Ask::Arrive { exchange, index } => {
-                self.arrive(exchange, index, answer);
-                None
-            }
-            Ask::Answer { exchange } => {
-                self.answer(exchange, answer);
-                None
-            }
-            Ask::Done {
-                exchange,
-                heard,
-                air,
-            } => {
-                self.done(exchange, heard, air, answer);
-                None
-            }
-            Ask::Join {
+            PathAsk::Join {
                 station,
                 window,
                 start,
@@ -119,11 +140,29 @@ impl Engine {
                 self.join(station, window, start, exponent, weight, answer);
                 None
             }
-            Ask::Pull { class } => {
-                self.pull(class, answer);
-                None
-            }
-            _ => self.path.call(Job::Call(ask), answer),
+            _ => self.path.call(PathJob::Call(ask), answer),
+        }
+    }
+
+    // Makes a call about an open exchange.
+    fn exchange_call(&mut self, about: ExchangeAsk, answer: &mut Answer)
+        requires some { EngineHasWorld self.old }
+        requires small { IsSmall self.old.half }
+        ensures done { (w : World) (bodies : ℕ → FrameValue) → EngineIsIn self.old w bodies →
+            IsJobDone w bodies (Job.Call (ask_about about)) self.old.half self.new
+            (reply_of answer.new) None }
+        ensures path_kept { let job = Job.Call (ask_about about) in
+            (is_received job || changes_nothing (reply_of answer.new)) ≡ true →
+            self.new.half ≡ self.old.half }
+    {
+        match about {
+            ExchangeAsk::Arrive { exchange, index } => self.arrive(exchange, index, answer),
+            ExchangeAsk::Answer { exchange } => self.answer(exchange, answer),
+            ExchangeAsk::Done {
+                exchange,
+                heard,
+                air,
+            } => self.done(exchange, heard, air, answer),
         }
     }
 
@@ -145,14 +184,14 @@ impl Engine {
         ensures path_kept { changes_nothing (reply_of answer.new) ≡ true →
             self.new.half ≡ self.old.half }
     {
-        let ask = Ask::Join {
+        let ask = PathAsk::Join {
             station,
             window,
             start,
             exponent,
             weight,
         };
-        let _ = self.path.call(Job::Call(ask), answer);
+        let _ = self.path.call(PathJob::Call(ask), answer);
         match answer.brief {
             Brief::Joined => self
                 .peers
@@ -171,7 +210,7 @@ impl Engine {
         ensures path_kept { changes_nothing (reply_of answer.new) ≡ true →
             self.new.half ≡ self.old.half }
     {
-        let _ = self.path.call(Job::Call(Ask::Pull { class }), answer);
+        let _ = self.path.call(PathJob::Pull(class), answer);
         match answer.brief {
             Brief::Send { exchange, .. } => self.marks.open(exchange),
             _ => {}

@@ -6,7 +6,7 @@ use Rattle.std.specs.List.{list_any}
 use Rattle.wf_frame.specs.declared.classes.Class.{Class}
 use Rattle.wf_def_rotation.specs.Rotation.{Rotation, has_key, with_new_key}
 use Rattle.wf_def_agreement.specs.Session.{waiting_numbers, request_due, has_room}
-use Rattle.wf_def_world.specs.World.{World, Content, Frames, Request, station, session, is_live, rotation, with_rotation}
+use Rattle.wf_def_world.specs.World.{World, Content, Frames, Request, station, session, is_live, rotation, owed, with_rotation}
 use Rattle.wf_frame.specs.Classes.{lower_tid, upper_tid, same_class, all_classes}
 use Rattle.wf_def_world.specs.FlowQueues.{frames_queued}
 
@@ -43,9 +43,15 @@ has_credit (Some d) c = same_class d c
 abbrev pub can_send_in : World → ℕ → Class → Bool
 can_send_in w s c = can_send w s (lower_tid c) || can_send w s (upper_tid c)
 
--- whether a station may receive in a class: it is awake, or has a credit for the class
+-- whether the airtime in flight to a station in a class is below the setting `aql`, which is no limit if it
+-- is 0
+abbrev pub is_below_aql : World → ℕ → Class → Bool
+is_below_aql w s c = (w.config.aql == 0) || nat_lt (owed s c w.opened) w.config.aql
+
+-- whether a station may receive in a class: it is awake, or has a credit for the class, and its airtime in
+-- flight is below the limit
 abbrev pub may_receive : World → ℕ → Class → Bool
-may_receive w s c = not (station w s).asleep || has_credit (station w s).credit c
+may_receive w s c = (not (station w s).asleep || has_credit (station w s).credit c) && is_below_aql w s c
 
 -- whether a station is ready in a class, so that a pull of the class may pick it
 abbrev pub is_ready : World → Class → ℕ → Bool

@@ -3,7 +3,7 @@
 use Rattle.std.proofs.Common.{◌≡◌, ◌∙◌, ◌↔◌, ℕ, zero, suc, ◌<◌, ◌≤◌, nat_le, Bool, true, false, cond, not, ◌&&◌, List, [], ◌∷◌, get_or, length, None, Some, find, refl, ap, lit<, arith}
 use Rattle.wf_frame.specs.declared.settings.Config.{Config}
 use Rattle.wf_frame.specs.declared.settings.Field.{Field}
-use Rattle.wf_frame.specs.declared.settings.Field.TheVariants.{Stations, Flows, Limit, Room, FlowQuantum, Quantum, Inflight, Attempts, Agg, Cap, Sleeping, Calls, Charge, Debt, AqlTotal, KeepOrder, CodelReset}
+use Rattle.wf_frame.specs.declared.settings.Field.TheVariants.{Stations, Flows, Limit, Room, FlowQuantum, Quantum, Inflight, Attempts, Agg, Cap, Sleeping, Calls, Charge, Debt, AqlTotal, KeepOrder, CodelReset, Aql}
 use Rattle.wf_frame.specs.Settings.{fields, lowest_of, greatest_of, value_of, with_value, is_in_range, first_out_of_range, IsInRange}
 
 -- if nothing is found, the first item does not pass and nothing is found after it
@@ -36,6 +36,8 @@ within least value greatest h = grind (arith, h.0, h.1)
 abbrev IsBounded : Config → Field → Type 0
 IsBounded c field = (lowest_of field ≤ value_of c field) × (value_of c field ≤ greatest_of field)
 
+-- begin bounds: tools/tables writes these lines
+
 each_bounded : (c : Config) → IsInRange c → (field : Field) → IsBounded c field
 each_bounded c h Stations = h.stations
 each_bounded c h Flows = h.flows
@@ -54,6 +56,7 @@ each_bounded c h Debt = h.debt
 each_bounded c h AqlTotal = h.aql_total
 each_bounded c h KeepOrder = h.keep_order
 each_bounded c h CodelReset = h.codel_reset
+each_bounded c h Aql = h.aql
 
 all_bounded : (c : Config) → ((field : Field) → IsBounded c field) → IsInRange c
 all_bounded c each = record {
@@ -74,6 +77,7 @@ all_bounded c each = record {
   aql_total = each AqlTotal;
   keep_order = each KeepOrder;
   codel_reset = each CodelReset;
+  aql = each Aql;
 }
 
 -- if one setting is set to a value in its range, each setting is in its range
@@ -96,12 +100,17 @@ bounded_anew c Debt Debt value h b = b
 bounded_anew c AqlTotal AqlTotal value h b = b
 bounded_anew c KeepOrder KeepOrder value h b = b
 bounded_anew c CodelReset CodelReset value h b = b
+bounded_anew c Aql Aql value h b = b
 bounded_anew c field other value h b = each_bounded c h other
+
+-- end bounds
 
 pub set_in_range : (c : Config) (field : Field) (value : ℕ) → IsInRange c → (lowest_of field ≤ value) ×
     (value ≤ greatest_of field) → IsInRange (with_value c field value)
 set_in_range c field value h b =
     all_bounded (with_value c field value) (λ other. bounded_anew c field other value h b)
+
+-- begin found: tools/tables writes these lines
 
 pub in_range : (c : Config) → first_out_of_range c ≡ None → IsInRange c
 in_range c none =
@@ -124,7 +133,10 @@ in_range c none =
       aql_total = bounds _ _ _ (holds 14 Stations (lit< tt));
       keep_order = bounds _ _ _ (holds 15 Stations (lit< tt));
       codel_reset = bounds _ _ _ (holds 16 Stations (lit< tt));
+      aql = bounds _ _ _ (holds 17 Stations (lit< tt));
     }
+
+-- end found
 
 each_holds : (c : Config) → IsInRange c → (field : Field) → not (is_in_range c field) ≡ false
 each_holds c h field = let b = each_bounded c h field in

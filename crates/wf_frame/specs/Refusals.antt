@@ -4,6 +4,8 @@ use Rattle.std.specs.Prelude.{ℕ, ℤ, pos, ◌==◌, Option, Some, None, List,
 use Rattle.wf_frame.specs.declared.notes.Refusal.{Refusal}
 use Rattle.wf_frame.specs.declared.notes.Refusal.TheVariants.{BadStation, BadWindow, BadStart, BadExponent, BadRate, BadTick, BadTid, BadAir, BadIndex, Live, NoStation, NoExchange, NoAnswer, Open, Room, Sleeping, Full, Idle, Answered, Arrived, Nothing, Asleep, Awake, Polled, Debt, HistoryFull, BadWeight, Ahead}
 
+-- begin rows: tools/tables writes these lines
+
 -- a row of the table: the number of a refusal in C, and its word in texts
 abbrev pub refusal_row : Refusal → ℕ × List ℕ
 refusal_row BadStation = (1, codes "bad-station")
@@ -35,6 +37,8 @@ refusal_row HistoryFull = (26, codes "history-full")
 refusal_row BadWeight = (27, codes "bad-weight")
 refusal_row (Ahead owed) = (28, codes "ahead")
 
+-- end rows
+
 -- the number of a refusal
 abbrev pub refusal_number : Refusal → ℕ
 refusal_number refusal = (refusal_row refusal).0
@@ -42,6 +46,8 @@ refusal_number refusal = (refusal_row refusal).0
 -- the word of a refusal
 abbrev pub refusal_word : Refusal → List ℕ
 refusal_word refusal = (refusal_row refusal).1
+
+-- begin numbers: tools/tables writes these lines
 
 -- the number that follows the word of a refusal: the number of open exchanges, of frames inside or of
 -- frames queued, or the deficit or the airtime in flight in microseconds
@@ -60,6 +66,8 @@ refusal_list =
     BadStation ∷ BadWindow ∷ BadStart ∷ BadExponent ∷ BadRate ∷ BadTick ∷ BadTid ∷ BadAir ∷ BadIndex ∷ Live
     ∷ NoStation ∷ NoExchange ∷ NoAnswer ∷ Open 0 ∷ Room 0 ∷ Sleeping 0 ∷ Full 0 ∷ Idle ∷ Answered ∷ Arrived
     ∷ Nothing ∷ Asleep ∷ Awake ∷ Polled ∷ Debt (pos 0) ∷ HistoryFull ∷ BadWeight ∷ Ahead 0 ∷ []
+
+-- end numbers
 
 -- the refusal with this number; a number that follows its word is 0
 abbrev pub refusal_numbered : ℕ → Option Refusal

@@ -4,7 +4,7 @@ use Rattle.std.specs.Prelude.{ℕ, ◌==◌, ◌≤◌, nat_le, Bool, false, ◌
 use Rattle.std.specs.Str.{bytes_eq}
 use Rattle.wf_frame.specs.declared.settings.Config.{Config}
 use Rattle.wf_frame.specs.declared.settings.Field.{Field}
-use Rattle.wf_frame.specs.declared.settings.Field.TheVariants.{Stations, Flows, Limit, Room, FlowQuantum, Quantum, Inflight, Attempts, Agg, Cap, Sleeping, Calls, Charge, Debt, AqlTotal, KeepOrder, CodelReset}
+use Rattle.wf_frame.specs.declared.settings.Field.TheVariants.{Stations, Flows, Limit, Room, FlowQuantum, Quantum, Inflight, Attempts, Agg, Cap, Sleeping, Calls, Charge, Debt, AqlTotal, KeepOrder, CodelReset, Aql}
 
 -- a row: the number of a setting, its word, its least value and its greatest value
 pub record Row : Type 0 where
@@ -15,6 +15,8 @@ pub record Row : Type 0 where
 
 abbrev pub row : ℕ → List ℕ → ℕ → ℕ → Row
 row number word least most = record { number = number; word = word; least = least; most = most }
+
+-- begin rows: tools/tables writes these lines
 
 -- the table
 abbrev pub setting_row : Field → Row
@@ -35,6 +37,7 @@ setting_row Debt = row 14 (codes "debt") 0 1000000
 setting_row AqlTotal = row 15 (codes "aql_total") 0 262144
 setting_row KeepOrder = row 16 (codes "keep_order") 0 1
 setting_row CodelReset = row 17 (codes "codel_reset") 0 1
+setting_row Aql = row 18 (codes "aql") 0 262144
 
 -- the standard settings: those of a head that sets none
 abbrev pub standard : Config
@@ -56,12 +59,15 @@ standard = record {
   aql_total = 0;
   keep_order = 0;
   codel_reset = 0;
+  aql = 0;
 }
 
 -- the settings, in the order in which they are checked
 abbrev pub fields : List Field
 fields = Stations ∷ Flows ∷ Limit ∷ Room ∷ FlowQuantum ∷ Quantum ∷ Inflight ∷ Attempts ∷ Agg ∷ Cap ∷ Sleeping
-    ∷ Calls ∷ Charge ∷ Debt ∷ AqlTotal ∷ KeepOrder ∷ CodelReset ∷ []
+    ∷ Calls ∷ Charge ∷ Debt ∷ AqlTotal ∷ KeepOrder ∷ CodelReset ∷ Aql ∷ []
+
+-- end rows
 
 -- the number of a setting in C
 abbrev pub setting_number : Field → ℕ
@@ -87,6 +93,8 @@ setting_named word = find (λ field. bytes_eq (setting_word field) word) fields
 abbrev pub setting_numbered : ℕ → Option Field
 setting_numbered number = find (λ field. setting_number field == number) fields
 
+-- begin values: tools/tables writes these lines
+
 -- the value of a setting
 abbrev pub value_of : Config → Field → ℕ
 value_of c Stations = c.stations
@@ -106,6 +114,7 @@ value_of c Debt = c.debt
 value_of c AqlTotal = c.aql_total
 value_of c KeepOrder = c.keep_order
 value_of c CodelReset = c.codel_reset
+value_of c Aql = c.aql
 
 -- the settings with one of them set to a value
 abbrev pub with_value : Config → Field → ℕ → Config
@@ -126,6 +135,9 @@ with_value c Debt value = record c { debt = value }
 with_value c AqlTotal value = record c { aql_total = value }
 with_value c KeepOrder value = record c { keep_order = value }
 with_value c CodelReset value = record c { codel_reset = value }
+with_value c Aql value = record c { aql = value }
+
+-- end values
 
 -- the standard value of a setting
 abbrev pub standard_of : Field → ℕ
@@ -146,6 +158,8 @@ abbrev pub is_bad_air : Config → Option ℕ → Bool
 is_bad_air config None = false
 is_bad_air config (Some air) = not (nat_le 1 air && nat_le air config.charge)
 
+-- begin ranges: tools/tables writes these lines
+
 -- every setting is in its range
 pub record IsInRange (config : Config) : Type 0 where
   pub stations : (1 ≤ config.stations) × (config.stations ≤ 256)
@@ -165,3 +179,6 @@ pub record IsInRange (config : Config) : Type 0 where
   pub aql_total : (0 ≤ config.aql_total) × (config.aql_total ≤ 262144)
   pub keep_order : (0 ≤ config.keep_order) × (config.keep_order ≤ 1)
   pub codel_reset : (0 ≤ config.codel_reset) × (config.codel_reset ≤ 1)
+  pub aql : (0 ≤ config.aql) × (config.aql ≤ 262144)
+
+-- end ranges

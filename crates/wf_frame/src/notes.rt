@@ -128,6 +128,7 @@ pub enum Part {
 /// its number and its word are in the table in `refusals`.
 #[derive(Clone, Copy, Debug, PartialEq, Eq)]
 pub enum Refusal {
+    // begin refusals: tools/tables writes these lines
     /// The station number is not below `stations`.
     BadStation,
     /// The window is not 1 to 256.
@@ -186,6 +187,7 @@ pub enum Refusal {
     BadWeight,
     /// `owed` microseconds of computed airtime are in flight in all classes: `aql_total` or more.
     Ahead { owed: u32 },
+    // end refusals
 }
 
 /// The answer to a call as one value. Code never makes one, since it would have up to 4 kB: calls fill an

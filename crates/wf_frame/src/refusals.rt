@@ -7,6 +7,7 @@ use crate::Refusal;
 
 // The refusals by their numbers. A number that follows the word is 0.
 const REFUSALS: [Refusal; 28] = [
+    // begin list: tools/tables writes these lines
     Refusal::BadStation,
     Refusal::BadWindow,
     Refusal::BadStart,
@@ -35,6 +36,7 @@ const REFUSALS: [Refusal; 28] = [
     Refusal::HistoryFull,
     Refusal::BadWeight,
     Refusal::Ahead { owed: 0 },
+    // end list
 ];
 
 impl Refusal {
@@ -46,6 +48,7 @@ impl Refusal {
         ensures short { length result.1.now ≤ 12 }
     {
         match self {
+            // begin rows: tools/tables writes these lines
             Refusal::BadStation => (1, b"bad-station"),
             Refusal::BadWindow => (2, b"bad-window"),
             Refusal::BadStart => (3, b"bad-start"),
@@ -74,6 +77,7 @@ impl Refusal {
             Refusal::HistoryFull => (26, b"history-full"),
             Refusal::BadWeight => (27, b"bad-weight"),
             Refusal::Ahead { .. } => (28, b"ahead"),
+            // end rows
         }
     }
 
@@ -111,11 +115,13 @@ impl Refusal {
         ensures { result ≡ number_told self }
     {
         match self {
+            // begin number: tools/tables writes these lines
             Refusal::Open { count } | Refusal::Full { count } => Some(i64::from(count)),
             Refusal::Room { inside } => Some(i64::from(inside)),
             Refusal::Sleeping { queued } => Some(i64::from(queued)),
             Refusal::Debt { deficit } => Some(deficit),
             Refusal::Ahead { owed } => Some(i64::from(owed)),
+            // end number
             _ => None,
         }
     }

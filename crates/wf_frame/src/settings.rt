@@ -7,6 +7,7 @@ ghost use Rattle.wf_frame.specs.Settings.{standard, standard_of, fields, setting
 /// returns the first that is out of its range.
 #[derive(Clone, Copy, Debug, PartialEq, Eq)]
 pub struct Config {
+    // begin fields: tools/tables writes these lines
     /// The number of stations: their numbers are 0 to below this.
     pub stations: u32,
     /// The number of flow queues, which all stations share.
@@ -42,12 +43,17 @@ pub struct Config {
     pub keep_order: u32,
     /// Whether CoDel forgets its dropping state when a queue is listed: 1, or 0.
     pub codel_reset: u32,
+    /// The limit on the computed airtime of a station's open exchanges of one class, in microseconds. 0 is
+    /// no limit.
+    pub aql: u32,
+    // end fields
 }
 
 /// A setting. The comment of each variant is its sentence in include/wf.h, docs/TRACE.md and
 /// sim/settings.json.
 #[derive(Clone, Copy, Debug, PartialEq, Eq)]
 pub enum Field {
+    // begin variants: tools/tables writes these lines
     /// Greatest number of stations, which are numbered 0 to `stations` - 1.
     Stations,
     /// Shared flow queues.
@@ -82,10 +88,14 @@ pub enum Field {
     KeepOrder,
     /// Whether CoDel starts outside its dropping state when a queue joins a TID's list.
     CodelReset,
+    /// Limit on the airtime in flight of one station in one class, in microseconds; 0 means no limit.
+    Aql,
+    // end variants
 }
 
 // The settings, in the order in which they are checked.
-const FIELDS: [Field; 17] = [
+const FIELDS: [Field; 18] = [
+    // begin list: tools/tables writes these lines
     Field::Stations,
     Field::Flows,
     Field::Limit,
@@ -103,11 +113,13 @@ const FIELDS: [Field; 17] = [
     Field::AqlTotal,
     Field::KeepOrder,
     Field::CodelReset,
+    Field::Aql,
+    // end list
 ];
 
 impl Field {
     /// Returns the settings, in the order in which they are checked.
-    pub fn all() -> [Field; 17]
+    pub fn all() -> [Field; 18]
         ensures { result ≡ fields }
     {
         FIELDS
@@ -119,10 +131,11 @@ impl Field {
         ensures word { result.1.now ≡ setting_word self }
         ensures least { result.2 ≡ lowest_of self }
         ensures greatest { result.3 ≡ greatest_of self }
-        ensures numbered { (1 ≤ result.0) × (result.0 ≤ 17) }
+        ensures numbered { (1 ≤ result.0) × (result.0 ≤ 18) }
         ensures short { length result.1.now ≤ 12 }
     {
         match self {
+            // begin rows: tools/tables writes these lines
             Field::Stations => (1, b"stations", 1, 256),
             Field::Flows => (2, b"flows", 1, 4096),
             Field::Limit => (3, b"limit", 1, 65_535),
@@ -140,13 +153,15 @@ impl Field {
             Field::AqlTotal => (15, b"aql_total", 0, 262_144),
             Field::KeepOrder => (16, b"keep_order", 0, 1),
             Field::CodelReset => (17, b"codel_reset", 0, 1),
+            Field::Aql => (18, b"aql", 0, 262_144),
+            // end rows
         }
     }
 
-    /// Returns the number of the setting in C: 1 to 17.
+    /// Returns the number of the setting in C: 1 to 18.
     pub fn number(self) -> u8
         ensures number { result ≡ setting_number self }
-        ensures range { (1 ≤ result) × (result ≤ 17) }
+        ensures range { (1 ≤ result) × (result ≤ 18) }
     {
         self.row().0
     }
@@ -205,6 +220,7 @@ impl Field {
         ensures { result ≡ value_of config.now self }
     {
         match self {
+            // begin value: tools/tables writes these lines
             Field::Stations => config.stations,
             Field::Flows => config.flows,
             Field::Limit => config.limit,
@@ -222,6 +238,8 @@ impl Field {
             Field::AqlTotal => config.aql_total,
             Field::KeepOrder => config.keep_order,
             Field::CodelReset => config.codel_reset,
+            Field::Aql => config.aql,
+            // end value
         }
     }
 
@@ -230,6 +248,7 @@ impl Field {
         ensures { config.new ≡ with_value config.old self value }
     {
         match self {
+            // begin set: tools/tables writes these lines
             Field::Stations => config.stations = value,
             Field::Flows => config.flows = value,
             Field::Limit => config.limit = value,
@@ -247,6 +266,8 @@ impl Field {
             Field::AqlTotal => config.aql_total = value,
             Field::KeepOrder => config.keep_order = value,
             Field::CodelReset => config.codel_reset = value,
+            Field::Aql => config.aql = value,
+            // end set
         }
     }
 }
@@ -257,6 +278,7 @@ impl Config {
         ensures { result ≡ standard }
     {
         Config {
+            // begin standard: tools/tables writes these lines
             stations: 16,
             flows: 1024,
             limit: 8192,
@@ -274,6 +296,8 @@ impl Config {
             aql_total: 0,
             keep_order: 0,
             codel_reset: 0,
+            aql: 0,
+            // end standard
         }
     }
 

@@ -1,5 +1,5 @@
 -- Derives the clauses about seats, as contracts see them, from the steps of a turn, the split and the join.
-use Rattle.std.proofs.Common.{◌≡◌, ℕ, ◌<◌, ◌≤◌, List, [], ◌∷◌, ◌++◌, length, get_or, drop, Option, Some, None, refl, sym, ap, ◌∙◌, subst, ⊎_elim, arith}
+use Rattle.std.proofs.Common.{◌≡◌, ℕ, ◌+◌, ◌<◌, ◌≤◌, List, [], ◌++◌, length, length-append, map, get_or, drop, Option, Some, None, refl, sym, ap, ◌∙◌, subst, ⊎_elim, arith}
 use Rattle.std.specs.Prelude.{All, EachIndex, slice_get}
 use mathlib.Core.Option.{some}
 use mathlib.Core.List.{IsPrefix}
@@ -8,38 +8,87 @@ use Rattle.std.proofs.lemmas.List.{drop_at}
 use Rattle.atomic_table.specs.Table.{Me, Final, Seen}
 use Rattle.atomic_table.specs.Seated.{TableId}
 use Rattle.atomic_table.specs.declared.shared.Seat.{Seat}
-use Rattle.atomic_table.proofs.Lists.{at_snoc}
 use Rattle.wf_gate.specs.declared.view.Face.{Face}
 use Rattle.wf_gate.specs.declared.view.Opening.{Opening}
 use Rattle.wf_gate.specs.declared.view.View.{View}
 use Rattle.wf_gate.specs.declared.view.Stage.TheVariants.{Idle}
-use Rattle.wf_gate.specs.Turns.{AllSeats, Kept, after_turn, new_view, faces_of}
+use Rattle.wf_gate.specs.Turns.{AllSeats, Kept, at_turn, waiting, after_turn, entries_by, numbers_from, new_view, faces_of}
 use Rattle.wf_gate.specs.Passes.{HasTurn, IsInGate, GateEnds}
-use Rattle.wf_gate.specs.Seats.{GateView, SeatView, view_of, IsAtGate, face_of, new_seat, AreAll, AreOfSeats, IsRecorded, made_since, places_of}
-use Rattle.wf_gate.proofs.Counts.{prefix_push, inside}
+use Rattle.wf_gate.specs.Seats.{AreRight, HasMadeAll, GateView, SeatView, view_of, IsAtGate, face_of, new_seat, AreAll, AreOfSeats, IsRecorded, made_since, places_of}
+use Rattle.wf_gate.proofs.Counts.{at_append, caller_at, count_map, length-count_from, prefix_push, inside}
 use Rattle.wf_gate.proofs.Steps.{closes, ends_with, not_gone}
 use Rattle.wf_gate.proofs.Elements.{at_here, all_of, get_at}
 
 module _ {M N T : Type 0} (past : M → List (ℕ × N)) (settings : M → T) (spare : M → ℕ) (o : Opening M) where
   -- after a turn the seat has seen more than before
-  pub sees_more : (ticket : ℕ) (v : View M N) (m m' : Me (Option M) (View M N)) (e : ℕ × N) →
-      HasTurn past settings spare o ticket v m → m' ≡ (after_turn m.0 e, []) →
+  pub sees_more : (ticket count : ℕ) (v : View M N) (m m' : Me (Option M) (View M N)) (n : ℕ)
+      (notes : List N) →
+      HasTurn past settings spare o ticket count v m → m' ≡ (after_turn m.0 n notes, []) →
       IsPrefix v.face.seen m'.0.face.seen
-  sees_more ticket v m m' e turn after =
+  sees_more ticket count v m m' n notes turn after =
       subst (λ (z : Me (Option M) (View M N)). IsPrefix v.face.seen z.0.face.seen)
-      (sym (after ∙ ap (λ (z : Me (Option M) (View M N)). (after_turn z.0 e, [])) turn.4))
-      (prefix_push v.face.seen turn.0 (e ∷ []) turn.3)
+      (sym (after ∙ ap (λ (z : Me (Option M) (View M N)). (after_turn z.0 n notes, [])) turn.4))
+      (prefix_push v.face.seen turn.0 (entries_by n notes) turn.3)
 
   -- every caller in the entries that the seat has seen is a seat
-  pub sees_seats : (ticket : ℕ) (v : View M N) (m m' : Me (Option M) (View M N)) (e : ℕ × N) →
-      HasTurn past settings spare o ticket v m → m' ≡ (after_turn m.0 e, []) → e.0 < length o.quotas
-      → All (λ (x : ℕ × N). x.0 < length o.quotas) m'.0.face.seen
-  sees_seats ticket v m m' e turn after mine =
+  pub sees_seats : (ticket count : ℕ) (v : View M N) (m m' : Me (Option M) (View M N)) (n : ℕ)
+      (notes : List N) → HasTurn past settings spare o ticket count v m → m' ≡ (after_turn m.0 n notes, []) →
+      n < length o.quotas → All (λ (x : ℕ × N). x.0 < length o.quotas) m'.0.face.seen
+  sees_seats ticket count v m m' n notes turn after mine =
+      let own : List (ℕ × N) = entries_by n notes in
       subst (λ (z : Me (Option M) (View M N)). All (λ (x : ℕ × N). x.0 < length o.quotas) z.0.face.seen)
-      (sym (after ∙ ap (λ (z : Me (Option M) (View M N)). (after_turn z.0 e, [])) turn.4))
-      (all_of (λ (x : ℕ × N). x.0 < length o.quotas) (turn.0 ++ e ∷ [])
+      (sym (after ∙ ap (λ (z : Me (Option M) (View M N)). (after_turn z.0 n notes, [])) turn.4))
+      (all_of (λ (x : ℕ × N). x.0 < length o.quotas) (turn.0 ++ own)
       (λ k x d. ⊎_elim (λ (t : get_elem? turn.0 k ≡ some x). turn.6 k x t)
-      (λ (t : e ≡ x). subst (λ (z : ℕ × N). z.0 < length o.quotas) t mine) (at_snoc turn.0 e x k d)))
+      (λ (t : (i : ℕ) × (get_elem? own i ≡ some x)). subst (λ (z : ℕ). z < length o.quotas)
+      (caller_at n notes t.0 x t.1) mine) (at_append turn.0 own k x d)))
+
+  -- a seat after a burst: p when it drew its tickets, w when its turn came, and q when the machine was back
+  module _ (number quota used added ticket count : ℕ) (p w q : Seat (Option M) (View M N)) (v : View M N)
+      (notes : List N) (drew : v ≡ waiting p.me.0 ticket added)
+      (turn : HasTurn past settings spare o ticket count v w.me)
+      (after : q.me ≡ (after_turn w.me.0 number notes, [])) where
+    ends : q.me
+        ≡ (after_turn (at_turn (waiting p.me.0 ticket added) ticket count turn.2 turn.0) number notes, [])
+    ends = after ∙ (ap (λ (z : Me (Option M) (View M N)). (after_turn z.0 number notes, [])) turn.4
+        ∙ ap (λ (z : View M N). (after_turn (at_turn z ticket count turn.2 turn.0) number notes, [])) drew)
+
+    -- it is at rest, with these calls counted
+    pub rests : IsAtGate number quota used p → length notes ≡ added → used + added ≤ quota →
+        IsAtGate number quota (used + added) q
+    rests at as_many enough = record {
+      numbered = at.numbered ∙ sym (ap (λ m. m.0.face.number) ends);
+      counted = omega (
+        arith,
+        at.counted,
+        ap (λ m. length m.0.face.own) ends,
+        length-append p.me.0.face.own (numbers_from (length turn.0) notes),
+        length-count_from (length turn.0) notes,
+        as_many,
+      );
+      within = enough;
+      allotted = λ z is. at.allotted z (sym (ap (λ m. m.0.opening) ends) ∙ is);
+      idle = ap (λ m. m.0.stage) ends;
+      unread = ap (λ m. m.0.read) ends;
+      free = ap (λ m. m.1) ends;
+    }
+
+    -- it has made these calls
+    pub made_by : {C A : Type 0} (note : C → N) (right : T → List (ℕ × N) → ℕ → C → A → Type 0)
+        (table : TableId) (calls : List C) (replies : List A) → notes ≡ map note calls
+        → AreRight note right (settings o.machine) (past o.machine ++ w.me.0.face.seen) number calls replies →
+        HasMadeAll past settings note right (record { table = table; opening = o })
+        (view_of number quota used p) (view_of number quota (used + added) q) calls replies
+    made_by note right table calls replies same rights = record {
+      before = turn.0;
+      grown = subst (λ (z : View M N). IsPrefix z.face.seen turn.0) drew turn.3;
+      entries = ap (λ m. m.0.face.seen) ends ∙ ap (λ l. turn.0 ++ entries_by number l) same;
+      own = ap (λ m. m.0.face.own) ends
+          ∙ (ap (λ l. p.me.0.face.own ++ numbers_from (length turn.0) l) same
+          ∙ ap (λ l. p.me.0.face.own ++ l) (count_map note (length turn.0) calls));
+      each = subst (λ (h : List (ℕ × N)). AreRight note right (settings o.machine) (past o.machine ++ h)
+          number calls replies) (ap (λ m. m.0.face.seen) turn.4) rights;
+    }
 
   -- the machine's history is the opening history followed by the entries made since
   pub ends_since : (table : TableId) (faces : List (Face N)) (m : M) → GateEnds past settings o faces m →

@@ -3,4 +3,5 @@ mod Calls
 pub mod Clients
 mod Counts
 mod Elements
+mod Stepping
 mod Steps

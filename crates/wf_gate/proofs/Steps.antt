@@ -1,6 +1,6 @@
--- Proves that each step on the gate's table keeps its rule, by cases of the step. Tickets are drawn one by
--- one and served in order, so at most one seat has its turn, and the slot is with that seat or in the table.
-use Rattle.std.proofs.Common.{◌≡◌, ◌≢◌, ◌⊎◌, ℕ, zero, suc, ◌+◌, ◌%◌, ◌^◌, ◌<◌, ◌≤◌, Bool, true, false, true≢false, eqb, List, [], ◌∷◌, ◌++◌, length, get_or, set, drop, map, zero-add, Option, Some, None, refl, sym, ap, ◌∙◌, subst, inl, inr, ⊎_elim, arith, length-append, eq-eqb, ne_eqb}
+-- Proves that each step on the gate's table keeps its rule, by cases of the step. Tickets are drawn and
+-- served in order, so at most one seat has its turn, and the slot is with that seat or in the table.
+use Rattle.std.proofs.Common.{◌≡◌, ◌≢◌, ◌⊎◌, ℕ, zero, suc, ◌+◌, ◌-◌, ◌%◌, ◌^◌, ◌<◌, ◌≤◌, Bool, true, false, true≢false, eqb, List, [], ◌∷◌, ◌++◌, length, get_or, set, drop, map, zero-add, Option, Some, None, refl, sym, ap, ◌∙◌, subst, inl, inr, ⊎_elim, arith, length-append, eq-eqb, ne_eqb}
 use Rattle.std.specs.Prelude.{sum, ltb}
 use mathlib.Core.Logic.{dite}
 use mathlib.Core.Option.{none, some, some-injective, some-ne-none}
@@ -9,15 +9,15 @@ use native.Mathlib.Decide.{ℕ_discrete, dec_le}
 use lib.ListN.{get_elem?}
 use prog.Atomic.{either}
 use Rattle.atomic_table.specs.Table.{State, Me, step, keeps, takes, gives, put_back, rest, Allows, Splits, Joins, opening, Final, Seen}
-use Rattle.atomic_table.proofs.Lists.{at_set, at_snoc, at_map, at_longer, at_last, set_else}
+use Rattle.atomic_table.proofs.Lists.{at_set, at_snoc, at_map, at_longer, set_else}
 use Rattle.wf_gate.specs.declared.view.Opening.{Opening}
 use Rattle.wf_gate.specs.declared.view.Face.{Face}
 use Rattle.wf_gate.specs.declared.view.Stage.{Stage}
 use Rattle.wf_gate.specs.declared.view.Stage.TheVariants.{Idle, Waits, Served}
 use Rattle.wf_gate.specs.declared.view.View.{View}
-use Rattle.wf_gate.specs.Turns.{one_if, times, total, places, has_turn, tickets_held, face_number, numbers_if, numbers, faces_of, FaceFits, InLine, Sits, FitsIf, Fits, IsAt, Home, Out, Kept, waiting, having_read, at_turn, after_turn, in_vain, AllSeats, drawn, TurnComes, looked, peeked, tried, GivesBack, served, deal_left, deal_right, joined, spent, tail, numbers_from, new_view, first_view}
+use Rattle.wf_gate.specs.Turns.{one_if, times, total, places, entries_by, has_turn, tickets_held, face_number, numbers_if, numbers, faces_of, FaceFits, HasDrawn, InLine, Sits, FitsIf, Fits, IsAt, Home, Out, Kept, waiting, having_read, at_turn, after_turn, in_vain, AllSeats, drawn, TurnComes, looked, peeked, tried, GivesBack, served, deal_left, deal_right, joined, spent, tail, numbers_from, new_view, first_view}
 use Rattle.wf_gate.specs.Passes.{with_read, HasTurn, AtTurn, GateEnds}
-use Rattle.wf_gate.proofs.Counts.{times-append, times_push_same, times_push_other, times_at, length_fits, total_set, total_push, total_one, total_two, places_push_other, places_push_same, prefix_self, prefix_push, push_injective, at_bound, set_self, length_prefix, at_append, count_drop, count_at, all_numbers, length_by_times, callers_of, length-places}
+use Rattle.wf_gate.proofs.Counts.{times-append, copies, length-copies, times_add_same, times_add_other, at_added, times_at, length_fits, total_set, total_push, total_one, total_two, length-entries, caller_at, entries_injective, places_add_other, places_add_same, length-count_from, prefix_self, prefix_push, append_injective, at_bound, set_self, length_prefix, at_append, count_drop, count_at, all_numbers, length_by_times, callers_of, length-places}
 use Rattle.std.proofs.lemmas.List.{append_assoc, append-nil, map-append, length-map, get_or_past}
 
 at_most_one : (b : Bool) → one_if b ≤ 1
@@ -113,14 +113,26 @@ module _ {M N T : Type 0} (past : M → List (ℕ × N)) (settings : M → T) (s
     );
   }
 
+  -- the first of a seat's tickets is in line
+  first_drawn : (h : H) (line : List ℕ) (f : Face N) (t count : ℕ) → HasDrawn o h line f t count →
+      get_elem? line t ≡ some f.number
+  first_drawn h line f t count k = let same : t + 0 ≡ t = omega arith in
+      subst (λ (z : ℕ). get_elem? line z ≡ some f.number) same (k.1 0 k.0)
+
   line_stays : (h h' : H) (line line' : List ℕ) (f : Face N) (st : Stage) →
       ((t n : ℕ) → get_elem? line t ≡ some n → get_elem? line' t ≡ some n)
       → ((t : ℕ) → get_elem? line t ≡ some f.number → length h ≤ t → length h' ≤ t) →
       (has_turn st ≡ true → h ≡ h') → InLine o h line f st → InLine o h' line' f st
   line_stays h h' line line' f Idle kept before same k = tt
-  line_stays h h' line line' f (Waits t) kept before same k = (kept t f.number k.0, before t k.0 k.1)
-  line_stays h h' line line' f (Served t) kept before same k = let is = same refl in
-      (kept t f.number k.0, sym (ap length is) ∙ k.1, k.2 ∙ is)
+  line_stays h h' line line' f (Waits t count) kept before same k = (
+    (k.0.0, λ i l. kept (t + i) f.number (k.0.1 i l)),
+    before t (first_drawn h line f t count k.0) k.1,
+  )
+  line_stays h h' line line' f (Served t count) kept before same k = let is = same refl in (
+    (k.0.0, λ i l. kept (t + i) f.number (k.0.1 i l)),
+    sym (ap length is) ∙ k.1,
+    k.2 ∙ is,
+  )
 
   stays : (h h' : H) (line line' : List ℕ) (v : V) (z : Option (Opening M)) → v.opening ≡ z →
       ((xs : H) → IsPrefix xs h → IsPrefix xs h') → length h ≤ length h' → length line ≤ length line'
@@ -229,11 +241,12 @@ module _ {M N T : Type 0} (past : M → List (ℕ × N)) (settings : M → T) (s
         twice s r id v op at,
       ))
 
-  -- A seat with the view v, which has no ticket and a call left, draws the next ticket.
-  module _ (s : St) (r : Rule s) (id : ℕ) (v : V) (op : v.opening ≡ Some o) (idle : v.stage ≡ Idle)
-      (room : length v.face.own < get_or o.quotas v.face.number 0) (at : get_elem? s.views id ≡ some v) where
+  -- A seat with the view v, which has no ticket and these calls left, draws the next tickets, this many.
+  module _ (s : St) (r : Rule s) (id count : ℕ) (v : V) (op : v.opening ≡ Some o) (idle : v.stage ≡ Idle)
+      (room : length v.face.own + count ≤ get_or o.quotas v.face.number 0)
+      (at : get_elem? s.views id ≡ some v) where
     abbrev more : List ℕ
-    more = r.line ++ v.face.number ∷ []
+    more = r.line ++ copies count v.face.number
 
     its : Sits o r.history r.line v
     its = sits r.history r.line v op (r.each id v at)
@@ -243,30 +256,35 @@ module _ {M N T : Type 0} (past : M → List (ℕ × N)) (settings : M → T) (s
         its.face.drawn in let none_held : tickets_held v.stage ≡ 0 = ap tickets_held idle in omega arith
 
     allowed : (m : ℕ) → times m more ≤ get_or o.quotas m 0
-    allowed m = let one_more = times_push_same v.face.number r.line in dite (ℕ_discrete m v.face.number)
+    allowed m = let all_more = times_add_same v.face.number count r.line in dite (ℕ_discrete m v.face.number)
         (λ same. subst (λ (z : ℕ). times z more ≤ get_or o.quotas z 0) (sym same)
         (omega (arith, drawn_before)))
-        (λ other. let x = r.fits m in let y = times_push_other m v.face.number r.line (λ e. other (sym e)) in
+        (λ other. let x = r.fits m in
+        let y = times_add_other m v.face.number count r.line (λ e. other (sym e)) in
         omega arith)
 
-    length-more : length more ≡ length r.line + 1
-    length-more = omega (arith, length-append r.line (v.face.number ∷ []))
+    length-more : length more ≡ length r.line + count
+    length-more = omega (
+      arith,
+      length-append r.line (copies count v.face.number),
+      length-copies count v.face.number,
+    )
 
-    small_more : length r.line + 1 < 2 ^ 64
+    small_more : length r.line + count < 2 ^ 64
     small_more = omega (arith, length_fits more o.quotas allowed, length-more, r.room, r.small)
 
-    face_more : FaceFits o r.history more 1 v.face
+    face_more : FaceFits o r.history more count v.face
     face_more = let k = its.face in record {
       inside = k.inside;
       seen = k.seen;
       own = k.own;
-      drawn = omega (arith, times_push_same v.face.number r.line, drawn_before);
+      drawn = omega (arith, times_add_same v.face.number count r.line, drawn_before);
       looks = λ i p e. let l = k.looks i p e in (l.0, l.1, (let x = l.2 in omega (arith, length-more)));
     }
 
     records_more : (i : ℕ) (g : Face N) → get_elem? v.records i ≡ some g → FaceFits o r.history more 0 g
     records_more i g e = face_stays r.history r.history r.line more 0 g (λ xs p. p) (omega arith)
-        (omega (arith, length-more)) (times_push_other g.number v.face.number r.line
+        (omega (arith, length-more)) (times_add_other g.number v.face.number count r.line
         (λ same. not_mine s r id v op at i g e same)) refl (its.records i g e)
 
     give_more : (i m : ℕ) → get_elem? v.give i ≡ some m → (m < length o.quotas) ×
@@ -274,31 +292,33 @@ module _ {M N T : Type 0} (past : M → List (ℕ × N)) (settings : M → T) (s
     give_more i m e = let x = its.give i m e in (
       x.0,
       x.1,
-      times_push_other m v.face.number r.line (λ same. not_to_give s r id v op at i m e same) ∙ x.2,
+      times_add_other m v.face.number count r.line (λ same. not_to_give s r id v op at i m e same) ∙ x.2,
     )
 
     others_more : (j : ℕ) (u : V) → j ≢ id → get_elem? s.views j ≡ some u → Fits o r.history more u
     others_more j u other e = stays r.history r.history r.line more u u.opening refl (λ xs p. p) (omega arith)
-        (omega (arith, length-more)) (λ i m x. at_longer r.line (v.face.number ∷ []) i m x) (λ _ _ _ l. l)
+        (omega (arith, length-more)) (λ i m x. at_longer r.line (copies count v.face.number) i m x)
+        (λ _ _ _ l. l)
         (λ _. refl)
         (λ m has. (
-          times_push_other m v.face.number r.line
+          times_add_other m v.face.number count r.line
               (λ same. other (apart s r id j v u v.face.number at e (own_number v op)
               (subst (λ (z : ℕ). 0 < times z (numbers u)) (sym same) has))),
           refl,
         )) (r.each j u e)
 
-  pub draws : (slots id : ℕ) (me : Me (Option M) V) → me.0.opening ≡ Some o → me.0.stage ≡ Idle →
-      length me.0.face.own < get_or o.quotas me.0.face.number 0
-      → Allows Rule slots id me 0 (λ n. (n + 1) % 2 ^ 64) (drawn (step slots 0 1 0 none) me)
-  draws slots id me op idle room s r _ at _ =
-      let v : V = me.0 in let h : H = r.history in let line : List ℕ = r.line ++ v.face.number ∷ [] in
-      let t : ℕ = length r.line in let w : V = waiting v t in
-      let k = its s r id v op idle room at in
-      let longer : length line ≡ t + 1 = length-more s r id v op idle room at in
-      let small : t + 1 < 2 ^ 64 = small_more s r id v op idle room at in
+  pub draws : (slots id count : ℕ) (me : Me (Option M) V) → me.0.opening ≡ Some o → me.0.stage ≡ Idle →
+      0 < count → length me.0.face.own + count ≤ get_or o.quotas me.0.face.number 0
+      → Allows Rule slots id me 0 (λ n. (n + count) % 2 ^ 64) (drawn (step slots 0 count 0 none) me)
+  draws slots id count me op idle any room s r _ at _ =
+      let v : V = me.0 in let h : H = r.history in let n : ℕ = v.face.number in
+      let line : List ℕ = r.line ++ copies count n in
+      let t : ℕ = length r.line in let w : V = waiting v t count in
+      let k = its s r id count v op idle room at in
+      let longer : length line ≡ t + count = length-more s r id count v op idle room at in
+      let small : t + count < 2 ^ 64 = small_more s r id count v op idle room at in
       let order = r.order in
-      let number : (t + 1) % 2 ^ 64 ≡ length line = omega arith in
+      let number : (t + count) % 2 ^ 64 ≡ length line = omega arith in
       let found : get_or s.words 0 0 ≡ t = ap (λ (ws : List ℕ). get_or ws 0 0) r.words in (
         w,
         keeps,
@@ -306,35 +326,35 @@ module _ {M N T : Type 0} (past : M → List (ℕ × N)) (settings : M → T) (s
         record {
           history = h;
           line = line;
-          words = ap (λ (ws : List ℕ). set ws 0 ((get_or ws 0 0 + 1) % 2 ^ 64)) r.words
+          words = ap (λ (ws : List ℕ). set ws 0 ((get_or ws 0 0 + count) % 2 ^ 64)) r.words
               ∙ ap (λ (z : ℕ). z ∷ length h ∷ []) number;
           order = omega arith;
-          fits = allowed s r id v op idle room at;
+          fits = allowed s r id count v op idle room at;
           room = r.room;
           small = r.small;
           callers = r.callers;
           given = given_set s r id v w at (same_numbers v w op op refl);
           each = each_set h line s.views id w
               (fits h line w op record {
-                face = face_more s r id v op idle room at;
-                in_line = (at_last r.line v.face.number t refl, order);
+                face = face_more s r id count v op idle room at;
+                in_line = ((any, λ i l. at_added r.line count n (t + i) (omega arith) (omega arith)), order);
                 read = k.read;
-                records = records_more s r id v op idle room at;
-                give = give_more s r id v op idle room at;
+                records = records_more s r id count v op idle room at;
+                give = give_more s r id count v op idle room at;
               })
-              (others_more s r id v op idle room at);
-          slot = slot_stays h s (set s.words 0 ((get_or s.words 0 0 + 1) % 2 ^ 64)) id v w at
+              (others_more s r id count v op idle room at);
+          slot = slot_stays h s (set s.words 0 ((get_or s.words 0 0 + count) % 2 ^ 64)) id v w at
               (ap has_turn idle) refl r.slot;
         },
-        ap (λ (z : ℕ). (waiting v z, me.1)) (sym found),
+        ap (λ (z : ℕ). (waiting v z count, me.1)) (sym found),
       )
 
   -- the seat that is first in line
   turn_first : (h : H) (line : List ℕ) (f : Face N) (st : Stage) → has_turn st ≡ true → InLine o h line f st →
       get_elem? line (length h) ≡ some f.number
   turn_first h line f Idle turn k = absurd (true≢false (sym turn))
-  turn_first h line f (Waits t) turn k = absurd (true≢false (sym turn))
-  turn_first h line f (Served t) turn k = ap (get_elem? line) k.1 ∙ k.0
+  turn_first h line f (Waits t count) turn k = absurd (true≢false (sym turn))
+  turn_first h line f (Served t count) turn k = ap (get_elem? line) k.1 ∙ first_drawn h line f t count k.0
 
   only_turn : (s : St) (r : Rule s) (id : ℕ) (v : V) → v.opening ≡ Some o → get_elem? s.views id ≡ some v →
       get_elem? r.line (length r.history) ≡ some v.face.number
@@ -362,8 +382,8 @@ module _ {M N T : Type 0} (past : M → List (ℕ × N)) (settings : M → T) (s
   some_same p z a b = cc
 
   abbrev ticket_of : Stage → ℕ
-  ticket_of (Waits t) = t
-  ticket_of (Served t) = t
+  ticket_of (Waits t count) = t
+  ticket_of (Served t count) = t
   ticket_of Idle = 0
 
   -- ticket t is served: the seat has seen h, and has the machine
@@ -377,15 +397,18 @@ module _ {M N T : Type 0} (past : M → List (ℕ × N)) (settings : M → T) (s
     looks = k.looks;
   }
 
-  pub looks : (slots id : ℕ) (me : Me (Option M) V) (t : ℕ) → me.0.opening ≡ Some o → me.0.stage ≡ Waits t
+  pub looks : (slots id : ℕ) (me : Me (Option M) V) (t count : ℕ) → me.0.opening ≡ Some o →
+      me.0.stage ≡ Waits t count
       → Allows Rule slots id me 1 (λ n. n) (looked past settings spare (step slots 1 0 0 none) me)
-  looks slots id me t op waits s r _ at _ =
+  looks slots id me t count op waits s r _ at _ =
       let v : V = me.0 in let h : H = r.history in let n : ℕ = v.face.number in
       let k = sits h r.line v op (r.each id v at) in
       let drawn : times n r.line ≡ length v.face.own + tickets_held v.stage = k.face.drawn in
-      let one_held : tickets_held v.stage ≡ 1 = ap tickets_held waits in
+      let held : tickets_held v.stage ≡ count = ap tickets_held waits in
       let waits_too = subst (InLine o h r.line v.face) waits k.in_line in
-      let in_line : t < length r.line = at_bound r.line t n waits_too.0 in
+      let any : 0 < count = waits_too.0.0 in
+      let last : t + (count - 1) < length r.line =
+      at_bound r.line (t + (count - 1)) n (waits_too.0.1 (count - 1) (omega arith)) in
       let most = length_fits r.line o.quotas r.fits in
       let enough = r.room in
       let found : get_or s.words 1 0 ≡ length h = ap (λ (ws : List ℕ). get_or ws 1 0) r.words in
@@ -393,9 +416,10 @@ module _ {M N T : Type 0} (past : M → List (ℕ × N)) (settings : M → T) (s
       ap (λ (ws : List ℕ). set ws 1 (get_or ws 1 0)) r.words in
       dite (ℕ_discrete (get_or s.words 1 0) t)
       (λ hit. let here : length h ≡ t = sym found ∙ hit in
-      let room : length h < spare o.machine = omega arith in
-      let home = at_home s r id v op at (ap has_turn waits) (ap (get_elem? r.line) here ∙ waits_too.0) in
-      let w : V = at_turn v t (Some (get_or s.words 1 0)) h in (
+      let room : length h + count ≤ spare o.machine = omega arith in
+      let home = at_home s r id v op at (ap has_turn waits)
+      (ap (get_elem? r.line) here ∙ first_drawn h r.line v.face t count waits_too.0) in
+      let w : V = at_turn v t count (Some (get_or s.words 1 0)) h in (
         w,
         takes 0 (Some home.0),
         ap (λ hs. get_elem? hs 0) home.1,
@@ -411,7 +435,7 @@ module _ {M N T : Type 0} (past : M → List (ℕ × N)) (settings : M → T) (s
           given = given_set s r id v w at (same_numbers v w op op refl);
           each = each_set h r.line s.views id w
               (fits h r.line w op record {
-                face = face_seen h r.line 1 v.face (subst (λ (z : ℕ). FaceFits o h r.line z v.face) one_held
+                face = face_seen h r.line count v.face (subst (λ (z : ℕ). FaceFits o h r.line z v.face) held
                     k.face);
                 in_line = (waits_too.0, here, refl);
                 read = λ x e. let same : get_or s.words 1 0 ≡ x = cc in omega arith;
@@ -421,17 +445,22 @@ module _ {M N T : Type 0} (past : M → List (ℕ × N)) (settings : M → T) (s
               (λ j u other e. r.each j u e);
           slot = inr (ap (λ hs. set hs 0 none) home.1, (id, w, set_self s.views id v w at, refl));
         },
-        λ t' is. let same : t ≡ t' = ap ticket_of (sym waits ∙ is) in (
-          (λ _. (
-            h,
-            home.0,
-            k.face.seen,
-            (ap (λ (z : ℕ). (at_turn v z (Some (get_or s.words 1 0)) h, (0, Some home.0) ∷ me.1)) same),
-            λ p is_p. subst (λ (z : Opening M). IsAt past settings spare z h home.0 × AllSeats z h ×
-                (length h < spare z.machine)) (some_same p v.opening op is_p) (home.2, r.callers, room),
-          )),
-          (λ miss. absurd (miss (hit ∙ same))),
-        ),
+        λ t' count' is. let same : t ≡ t' = ap ticket_of (sym waits ∙ is) in
+            let as_many : count ≡ count' = ap tickets_held (sym waits ∙ is) in (
+              (λ _. (
+                h,
+                home.0,
+                k.face.seen,
+                (λ i. (
+                  at_turn v (same i) (as_many i) (Some (get_or s.words 1 0)) h,
+                  (0, Some home.0) ∷ me.1,
+                )),
+                λ p is_p. subst (λ (z : Opening M). IsAt past settings spare z h home.0 × AllSeats z h ×
+                    (length h + count' ≤ spare z.machine)) (some_same p v.opening op is_p)
+                    (home.2, r.callers, omega arith),
+              )),
+              (λ miss. absurd (miss (hit ∙ same))),
+            ),
       ))
       (λ miss. let w : V = having_read v (get_or s.words 1 0) in (
         w,
@@ -459,18 +488,18 @@ module _ {M N T : Type 0} (past : M → List (ℕ × N)) (settings : M → T) (s
           slot = slot_stays h s (set s.words 1 (get_or s.words 1 0)) id v w at (ap has_turn waits)
               (ap has_turn waits) r.slot;
         },
-        λ t' is. let same : t ≡ t' = ap ticket_of (sym waits ∙ is) in
+        λ t' count' is. let same : t ≡ t' = ap ticket_of (sym waits ∙ is) in
             ((λ hit. absurd (miss (hit ∙ sym same))), (λ _. refl)),
       ))
 
   -- a seat without a ticket loads the serving word
   pub peeks : (slots id : ℕ) (me : Me (Option M) V) → me.0.opening ≡ Some o → me.0.stage ≡ Idle →
-      length me.0.face.own < get_or o.quotas me.0.face.number 0
+      length me.0.face.own + 1 ≤ get_or o.quotas me.0.face.number 0
       → Allows Rule slots id me 1 (λ n. n) (peeked (step slots 1 0 0 none) me)
   peeks slots id me op idle room s r _ at _ =
       let v : V = me.0 in let h : H = r.history in
-      let k = its s r id v op idle room at in
-      let small : length r.line + 1 < 2 ^ 64 = small_more s r id v op idle room at in
+      let k = its s r id 1 v op idle room at in
+      let small : length r.line + 1 < 2 ^ 64 = small_more s r id 1 v op idle room at in
       let order = r.order in
       let found : get_or s.words 1 0 ≡ length h = ap (λ (ws : List ℕ). get_or ws 1 0) r.words in
       let w : V = having_read v (get_or s.words 1 0) in (
@@ -504,30 +533,30 @@ module _ {M N T : Type 0} (past : M → List (ℕ × N)) (settings : M → T) (s
 
   -- the exchange of the ticket word, which draws the ticket and takes the slot
   pub tries : (slots id : ℕ) (me : Me (Option M) V) (old new : ℕ) → me.0.opening ≡ Some o →
-      me.0.stage ≡ Idle → length me.0.face.own < get_or o.quotas me.0.face.number 0 → me.0.read ≡ Some old →
-      new ≡ old + 1
+      me.0.stage ≡ Idle → length me.0.face.own + 1 ≤ get_or o.quotas me.0.face.number 0 →
+      me.0.read ≡ Some old → new ≡ old + 1
       → Allows Rule slots id me 0 (λ n. either (eqb n old) new n)
       (tried past settings spare (step slots 0 old new none) me)
   tries slots id me old new op idle room had up s r _ at _ =
       let v : V = me.0 in let h : H = r.history in let n : ℕ = v.face.number in
-      let k = its s r id v op idle room at in
+      let k = its s r id 1 v op idle room at in
       let old_enough : old ≤ length h = k.read old had in
       let order = r.order in
       let found : get_or s.words 0 0 ≡ length r.line = ap (λ (ws : List ℕ). get_or ws 0 0) r.words in
       let most = length_fits r.line o.quotas r.fits in
       dite (ℕ_discrete (get_or s.words 0 0) old)
       (λ hit.
-      let line : List ℕ = r.line ++ n ∷ [] in
+      let line : List ℕ = r.line ++ copies 1 n in
       let here : length h ≡ old = omega arith in
       let end : length r.line ≡ old = omega arith in
-      let longer : length line ≡ length r.line + 1 = length-more s r id v op idle room at in
-      let most_more = length_fits line o.quotas (allowed s r id v op idle room at) in
-      let enough : length h < spare o.machine = (let q = r.room in omega arith) in
+      let longer : length line ≡ length r.line + 1 = length-more s r id 1 v op idle room at in
+      let most_more = length_fits line o.quotas (allowed s r id 1 v op idle room at) in
+      let enough : length h + 1 ≤ spare o.machine = (let q = r.room in omega arith) in
       let home : Home past settings spare o h s = ⊎_elim (λ (t : Home past settings spare o h s). t)
       (λ (t : Out s). let u = t.1.1 in let k' = turn_sits h r.line u u.opening t.1.3 (r.each t.1.0 u t.1.2) in
       let far = at_bound r.line (length h) u.face.number
       (turn_first h r.line u.face u.stage t.1.3 k'.1.in_line) in absurd (omega arith)) r.slot in
-      let w : V = at_turn v old None h in
+      let w : V = at_turn v old 1 None h in
       let yes_hit : either (eqb (get_or s.words 0 0) old) new (get_or s.words 0 0) ≡ length line =
       subst (λ b. either b new (get_or s.words 0 0) ≡ length line)
       (sym (eq-eqb (get_or s.words 0 0) old hit)) (omega arith) in (
@@ -539,20 +568,24 @@ module _ {M N T : Type 0} (past : M → List (ℕ × N)) (settings : M → T) (s
           line = line;
           words = (λ i. set (r.words i) 0 (yes_hit i));
           order = omega arith;
-          fits = allowed s r id v op idle room at;
+          fits = allowed s r id 1 v op idle room at;
           room = r.room;
           small = r.small;
           callers = r.callers;
           given = given_set s r id v w at (same_numbers v w op op refl);
           each = each_set h line s.views id w
               (fits h line w op record {
-                face = face_seen h line 1 v.face (face_more s r id v op idle room at);
-                in_line = (at_last r.line n old end, here, refl);
+                face = face_seen h line 1 v.face (face_more s r id 1 v op idle room at);
+                in_line = (
+                  (omega arith, λ i l. at_added r.line 1 n (old + i) (omega arith) (omega arith)),
+                  here,
+                  refl,
+                );
                 read = λ x e. absurd (cc);
-                records = records_more s r id v op idle room at;
-                give = give_more s r id v op idle room at;
+                records = records_more s r id 1 v op idle room at;
+                give = give_more s r id 1 v op idle room at;
               })
-              (others_more s r id v op idle room at);
+              (others_more s r id 1 v op idle room at);
           slot = inr (ap (λ hs. set hs 0 none) home.1, (id, w, set_self s.views id v w at, refl));
         },
         (
@@ -563,7 +596,7 @@ module _ {M N T : Type 0} (past : M → List (ℕ × N)) (settings : M → T) (s
             refl,
             λ p is_p.
                 subst (λ (z : Opening M). IsAt past settings spare z h home.0 × AllSeats z h ×
-                (length h < spare z.machine)) (some_same p v.opening op is_p) (home.2, r.callers, enough),
+                (length h + 1 ≤ spare z.machine)) (some_same p v.opening op is_p) (home.2, r.callers, enough),
           )),
           (λ miss. absurd (miss hit)),
         ),
@@ -612,69 +645,84 @@ module _ {M N T : Type 0} (past : M → List (ℕ × N)) (settings : M → T) (s
         ((λ hit. absurd (miss hit)), (λ _. (refl, below))),
       ))
 
-  pub serves : (slots id : ℕ) (me : Me (Option M) V) (t : ℕ) (m : M) (e : ℕ × N) → me.0.opening ≡ Some o →
-      me.0.stage ≡ Served t → me.1 ≡ (0, Some m) ∷ [] → e.0 ≡ me.0.face.number
-      → past m ≡ (past o.machine ++ me.0.face.seen) ++ e ∷ [] → settings m ≡ settings o.machine →
-      spare m + (length me.0.face.seen + 1) ≡ spare o.machine
-      → Allows Rule slots id me 1 (λ n. (n + 1) % 2 ^ 64)
-      (served past settings spare (step slots 1 1 0 none) me)
-  serves slots id me t m e op turn has mine after same left s r _ at _ =
-      let v : V = me.0 in let h : H = r.history in let n : ℕ = v.face.number in let now : H = h ++ e ∷ [] in
-      let w : V = after_turn v e in
+  pub serves : (slots id : ℕ) (me : Me (Option M) V) (t count : ℕ) (m : M) (notes : List N) →
+      me.0.opening ≡ Some o → me.0.stage ≡ Served t count → me.1 ≡ (0, Some m) ∷ [] → length notes ≡ count
+      → past m ≡ (past o.machine ++ me.0.face.seen) ++ entries_by me.0.face.number notes →
+      settings m ≡ settings o.machine → spare m + (length me.0.face.seen + count) ≡ spare o.machine
+      → Allows Rule slots id me 1 (λ n. (n + count) % 2 ^ 64)
+      (served past settings spare (step slots 1 count 0 none) me)
+  serves slots id me t count m notes op turn has as_many after same left s r _ at _ =
+      let v : V = me.0 in let h : H = r.history in let n : ℕ = v.face.number in
+      let es : H = entries_by n notes in let now : H = h ++ es in
+      let w : V = after_turn v n notes in
       let k = sits h r.line v op (r.each id v at) in
       let drawn : times n r.line ≡ length v.face.own + tickets_held v.stage = k.face.drawn in
-      let one_held : tickets_held v.stage ≡ 1 = ap tickets_held turn in
+      let held : tickets_held v.stage ≡ count = ap tickets_held turn in
       let first = subst (InLine o h r.line v.face) turn k.in_line in
       let whole : v.face.seen ≡ h = first.2 in
-      let front : get_elem? r.line (length h) ≡ some n = ap (get_elem? r.line) first.1 ∙ first.0 in
-      let inside : length h < length r.line = at_bound r.line (length h) n front in
-      let longer : length now ≡ length h + 1 = omega (arith, length-append h (e ∷ [])) in
+      let here : length h ≡ t = first.1 in
+      let any : 0 < count = first.0.0 in
+      let front : get_elem? r.line (length h) ≡ some n = ap (get_elem? r.line) here
+      ∙ first_drawn h r.line v.face t count first.0 in
+      let inside : t + (count - 1) < length r.line =
+      at_bound r.line (t + (count - 1)) n (first.0.1 (count - 1) (omega arith)) in
+      let longer : length now ≡ length h + count =
+      omega (arith, length-append h es, length-entries n notes) in
       let small : length r.line < 2 ^ 64 = omega (arith, length_fits r.line o.quotas r.fits, r.room, r.small)
       in
-      let number : (length h + 1) % 2 ^ 64 ≡ length now = omega arith in
+      let number : (length h + count) % 2 ^ 64 ≡ length now = omega arith in
       let found : get_or s.words 1 0 ≡ length h = ap (λ (ws : List ℕ). get_or ws 1 0) r.words in
       let away : s.homes ≡ none ∷ [] = ⊎_elim (λ (x : Home past settings spare o h s).
       absurd (off (sym (x.3 id v at) ∙ ap has_turn turn))) (λ (x : Out s). x.0) r.slot in
       let none_else : (j : ℕ) (u : V) → j ≢ id → get_elem? s.views j ≡ some u →
       has_turn u.stage ≡ false = λ j u other d.
       no_turn u.stage (λ yes. other (only_turn s r id v op at front j u d yes)) in
-      let own_last : (v.face.own ++ length v.face.seen ∷ []) ≡ places n 0 now =
-      (λ i. k.face.own i ++ length (whole i) ∷ []) ∙
-      (ap (λ (z : ℕ). places n 0 h ++ z ∷ []) (omega arith) ∙ sym (places_push_same n 0 h e mine)) in (
+      let own_last : (v.face.own ++ numbers_from (length v.face.seen) notes) ≡ places n 0 now =
+      (λ i. k.face.own i ++ numbers_from (length (whole i)) notes) ∙
+      (ap (λ (z : ℕ). places n 0 h ++ numbers_from z notes) (omega arith)
+      ∙ sym (places_add_same n 0 h notes)) in
+      -- the tickets before the next one to be served are all of this seat
+      let mine : (i : ℕ) → length h ≤ i → i < length h + count → get_elem? r.line i ≡ some n =
+      λ i from below. let same : t + (i - t) ≡ i = omega arith in
+      subst (λ (z : ℕ). get_elem? r.line z ≡ some n) same (first.0.1 (i - t) (omega arith)) in (
         w,
         gives,
         tt,
         record {
           history = now;
           line = r.line;
-          words = ap (λ (ws : List ℕ). set ws 1 ((get_or ws 1 0 + 1) % 2 ^ 64)) r.words
+          words = ap (λ (ws : List ℕ). set ws 1 ((get_or ws 1 0 + count) % 2 ^ 64)) r.words
               ∙ ap (λ (z : ℕ). length r.line ∷ z ∷ []) number;
           order = omega arith;
           fits = r.fits;
           room = r.room;
           small = r.small;
           callers = λ i x d. ⊎_elim (λ (y : get_elem? h i ≡ some x). r.callers i x y)
-              (λ (y : e ≡ x). subst (λ (z : ℕ × N). z.0 < length o.quotas) y
-              (subst (λ (z : ℕ). z < length o.quotas) (sym mine) k.face.inside)) (at_snoc h e x i d);
+              (λ (y : (j : ℕ) × (get_elem? es j ≡ some x)). subst (λ (z : ℕ). z < length o.quotas)
+              (caller_at n notes y.0 x y.1) k.face.inside) (at_append h es i x d);
           given = given_set s r id v w at (same_numbers v w op op refl);
           each = each_set now r.line s.views id w
               (fits now r.line w op record {
                 face = record {
                   inside = k.face.inside;
-                  seen = ([], append-nil (v.face.seen ++ e ∷ []) ∙ ap (λ (z : H). z ++ e ∷ []) whole);
+                  seen = ([], append-nil (v.face.seen ++ es) ∙ ap (λ (z : H). z ++ es) whole);
                   own = own_last;
-                  drawn = omega (arith, length-append v.face.own (length v.face.seen ∷ []));
+                  drawn = omega (
+                    arith,
+                    length-append v.face.own (numbers_from (length v.face.seen) notes),
+                    length-count_from (length v.face.seen) notes,
+                  );
                   looks = λ i p d. let l = k.face.looks i p d in (l.0, (let x = l.1 in omega arith), l.2);
                 };
                 in_line = tt;
                 read = λ x d. absurd (cc);
-                records = λ i g d. face_stays h now r.line r.line 0 g (λ xs p. prefix_push xs h (e ∷ []) p)
+                records = λ i g d. face_stays h now r.line r.line 0 g (λ xs p. prefix_push xs h es p)
                     (omega arith) (omega arith) refl
-                    (places_push_other g.number 0 h e (λ is. not_mine s r id v op at i g d (sym mine ∙ is)))
+                    (places_add_other g.number n 0 h notes (λ is. not_mine s r id v op at i g d is))
                     (k.records i g d);
                 give = λ i x d. let y = k.give i x d in (
                   y.0,
-                  places_push_other x 0 h e (λ is. not_to_give s r id v op at i x d (sym mine ∙ is)) ∙ y.1,
+                  places_add_other x n 0 h notes (λ is. not_to_give s r id v op at i x d is) ∙ y.1,
                   y.2,
                 );
               })
@@ -682,26 +730,26 @@ module _ {M N T : Type 0} (past : M → List (ℕ × N)) (settings : M → T) (s
               let not_n : u.opening ≡ Some o → (x : ℕ) → 0 < times x (numbers u) →
               x ≢ n = λ _ x has_x is. other (apart s r id j v u n at d (own_number v op)
               (subst (λ (z : ℕ). 0 < times z (numbers u)) is has_x)) in
-              stays h now r.line r.line u u.opening refl (λ xs p. prefix_push xs h (e ∷ []) p) (omega arith)
+              stays h now r.line r.line u u.opening refl (λ xs p. prefix_push xs h es p) (omega arith)
               (omega arith) (λ i x y. y)
-              (λ is i y l. dite (ℕ_discrete (length h) i)
-              (λ eq. absurd (not_n is u.face.number (own_number u is)
-              (some-injective _ _ (sym y ∙ (ap (get_elem? r.line) (sym eq) ∙ front)))))
-              (λ ne. omega arith))
+              (λ is i y l. dite (dec_le (suc i) (length h + count))
+              (λ below. absurd (not_n is u.face.number (own_number u is)
+              (some-injective _ _ (sym y ∙ mine i l below))))
+              (λ above. omega arith))
               (λ yes. absurd (off (sym (none_else j u other d) ∙ yes)))
               (λ x has_x. (
                 refl,
-                places_push_other x 0 h e (λ is.
+                places_add_other x n 0 h notes (λ is.
                     other (apart s r id j v u n at d (own_number v op)
-                    (subst (λ (z : ℕ). 0 < times z (numbers u)) (sym is ∙ mine) has_x))),
+                    (subst (λ (z : ℕ). 0 < times z (numbers u)) (sym is) has_x))),
               ))
               (r.each j u d));
           slot = inl (
             m,
             (λ i. put_back (away i) (has i)),
             record {
-              after = after ∙ (append_assoc (past o.machine) v.face.seen (e ∷ [])
-                  ∙ ap (λ (z : H). past o.machine ++ (z ++ e ∷ [])) whole);
+              after = after ∙ (append_assoc (past o.machine) v.face.seen es
+                  ∙ ap (λ (z : H). past o.machine ++ (z ++ es)) whole);
               same = same;
               left =
                   (let l : length v.face.seen ≡ length h = ap length whole in omega arith);
@@ -710,17 +758,17 @@ module _ {M N T : Type 0} (past : M → List (ℕ × N)) (settings : M → T) (s
           );
         },
         (
-          turn ∙ ap Served (sym first.1 ∙ sym found),
+          turn ∙ ap (λ (z : ℕ). Served z count) (sym here ∙ sym found),
           λ p is_p. subst (λ (z : Opening M). GivesBack past settings spare z me (w, rest me.1))
               (some_same p v.opening op is_p)
-              (m, e, has, after, ap (λ c. (w, rest c)) has),
+              (m, notes, has, after, ap (λ c. (w, rest c)) has),
         ),
       )
     where
       no_turn : (st : Stage) → (has_turn st ≡ true → ⊥) → has_turn st ≡ false
       no_turn Idle not = refl
-      no_turn (Waits t) not = refl
-      no_turn (Served t) not = absurd (not refl)
+      no_turn (Waits t count) not = refl
+      no_turn (Served t count) not = absurd (not refl)
 
   -- a new seat's number is the first that may be given away
   pub splits : (id : ℕ) (v : V) (g : ℕ) (gs : List ℕ) → v.opening ≡ Some o → v.stage ≡ Idle →
@@ -888,11 +936,11 @@ module _ {M N T : Type 0} (past : M → List (ℕ × N)) (settings : M → T) (s
           (subst (λ (z : ℕ). FaceFits o h line z w.face) none_held k.face)
       record_of h line w k none_held (suc j) f e = k.records j f e
 
-  pub turn_of : (m m' : Me (Option M) V) (v : V) (read found : Option ℕ) (t : ℕ) →
-      m ≡ (with_read v read, []) → v.opening ≡ Some o → TurnComes past settings spare m t found m' →
-      HasTurn past settings spare o t v m'
-  turn_of m m' v read found t is op comes = let k =
-      subst (λ (z : Me (Option M) V). TurnComes past settings spare z t found m') is comes in
+  pub turn_of : (m m' : Me (Option M) V) (v : V) (read found : Option ℕ) (t count : ℕ) →
+      m ≡ (with_read v read, []) → v.opening ≡ Some o → TurnComes past settings spare m t count found m' →
+      HasTurn past settings spare o t count v m'
+  turn_of m m' v read found t count is op comes = let k =
+      subst (λ (z : Me (Option M) V). TurnComes past settings spare z t count found m') is comes in
       (k.0, k.1, found, k.2, k.3, (k.4 o op).0, (k.4 o op).1, (k.4 o op).2)
 
   abbrev value_or : M → Option M → M
@@ -904,19 +952,21 @@ module _ {M N T : Type 0} (past : M → List (ℕ × N)) (settings : M → T) (s
   held_or d (x ∷ xs) = value_or d x.1
 
   -- HasTurn implies AtTurn
-  pub takes_turn : (t : ℕ) (v : V) (m : Me (Option M) V) → HasTurn past settings spare o t v m →
-      AtTurn past settings spare o m
-  takes_turn t v m k = subst (AtTurn past settings spare o) (sym k.4) (t, refl, (k.1, refl, k.5), k.7)
+  pub takes_turn : (t count : ℕ) (v : V) (m : Me (Option M) V) → HasTurn past settings spare o t count v m →
+      AtTurn past settings spare o count m
+  takes_turn t count v m k = subst (AtTurn past settings spare o count) (sym k.4)
+      (t, refl, (k.1, refl, k.5), k.7)
 
   -- the same seat after x was written to the slot
   abbrev leaving : Me (Option M) V → M → Me (Option M) V
   leaving p x = (p.0, (0, Some x) ∷ rest p.1)
 
   -- a seat that has its turn borrowed the slot with x in it, and left x' there
-  pub lent : (p : Me (Option M) V) (r : Option M) (x x' : M) → p.1 ≡ (0, r) ∷ rest p.1 →
-      AtTurn past settings spare o p → r ≡ Some x
-      → (leaving p x' ≡ (p.0, (0, Some x') ∷ [])) × IsAt past settings spare o p.0.face.seen x × (0 < spare x)
-  lent p r x x' holds turn is =
+  pub lent : (count : ℕ) (p : Me (Option M) V) (r : Option M) (x x' : M) → p.1 ≡ (0, r) ∷ rest p.1 →
+      AtTurn past settings spare o count p → r ≡ Some x
+      → (leaving p x' ≡ (p.0, (0, Some x') ∷ [])) × IsAt past settings spare o p.0.face.seen x ×
+      (count ≤ spare x)
+  lent count p r x x' holds turn is =
       let y = turn.2.0 in let has = turn.2.1 in
       let same : y ≡ x = ap (held_or x) (sym has ∙ holds) ∙ ap (value_or x) is in
       let was : IsAt past settings spare o p.0.face.seen x =
@@ -927,30 +977,37 @@ module _ {M N T : Type 0} (past : M → List (ℕ × N)) (settings : M → T) (s
         omega arith,
       )
 
-  pub serves_at : (slots id : ℕ) (me : Me (Option M) V) (v : V) (t : ℕ) (x x' : M) (e : ℕ × N) →
-      me ≡ (v, (0, Some x') ∷ []) → v.opening ≡ Some o → v.stage ≡ Served t → e.0 ≡ v.face.number
-      → IsAt past settings spare o v.face.seen x → past x' ≡ past x ++ e ∷ [] → settings x' ≡ settings x →
-      spare x' + 1 ≡ spare x
-      → Allows Rule slots id me 1 (λ n. (n + 1) % 2 ^ 64)
-      (served past settings spare (step slots 1 1 0 none) me)
-  serves_at slots id me v t x x' e is op turn mine was more same less =
-      subst (λ (z : Me (Option M) V). Allows Rule slots id z 1 (λ n. (n + 1) % 2 ^ 64)
-      (served past settings spare (step slots 1 1 0 none) z)) (sym is)
-      (let left = was.left in serves slots id (v, (0, Some x') ∷ []) t x' e op turn refl mine
-      (more ∙ ap (λ (l : H). l ++ e ∷ []) was.after) (same ∙ was.same) (omega arith))
+  pub serves_at : (slots id : ℕ) (me : Me (Option M) V) (v : V) (t count : ℕ) (x x' : M) (number : ℕ)
+      (notes : List N) → me ≡ (v, (0, Some x') ∷ []) → v.opening ≡ Some o → v.stage ≡ Served t count →
+      length notes ≡ count → number ≡ v.face.number
+      → IsAt past settings spare o v.face.seen x → past x' ≡ past x ++ entries_by number notes →
+      settings x' ≡ settings x → spare x' + count ≡ spare x
+      → Allows Rule slots id me 1 (λ n. (n + count) % 2 ^ 64)
+      (served past settings spare (step slots 1 count 0 none) me)
+  serves_at slots id me v t count x x' number notes is op turn as_many mine was more same less =
+      subst (λ (z : Me (Option M) V). Allows Rule slots id z 1 (λ n. (n + count) % 2 ^ 64)
+      (served past settings spare (step slots 1 count 0 none) z)) (sym is)
+      (let left = was.left in serves slots id (v, (0, Some x') ∷ []) t count x' notes op turn refl as_many
+      (more ∙ (ap (λ (l : H). l ++ entries_by number notes) was.after
+      ∙ ap (λ (z : ℕ). (past o.machine ++ v.face.seen) ++ entries_by z notes) mine))
+      (same ∙ was.same) (omega arith))
 
-  pub gave : (p2 p3 : Me (Option M) V) (v : V) (x x' : M) (e : ℕ × N) → p2 ≡ (v, (0, Some x') ∷ []) →
-      v.opening ≡ Some o → IsAt past settings spare o v.face.seen x → past x' ≡ past x ++ e ∷ []
+  pub gave : (p2 p3 : Me (Option M) V) (v : V) (x x' : M) (number : ℕ) (notes : List N) →
+      p2 ≡ (v, (0, Some x') ∷ []) → v.opening ≡ Some o → number ≡ v.face.number →
+      IsAt past settings spare o v.face.seen x → past x' ≡ past x ++ entries_by number notes
       → ((z : Opening M) → p2.0.opening ≡ Some z → GivesBack past settings spare z p2 p3) →
-      p3 ≡ (after_turn v e, [])
-  gave p2 p3 v x x' e is op was more back =
+      p3 ≡ (after_turn v number notes, [])
+  gave p2 p3 v x x' number notes is op mine was more back =
       let k = subst (λ (z : Me (Option M) V). GivesBack past settings spare o z p3) is
       (back o (ap (λ (z : Me (Option M) V). z.0.opening) is ∙ op)) in
+      let n : ℕ = v.face.number in
       let y = k.0 in let has = k.2 in
       let same : y ≡ x' = sym (ap (held_or x') has) in
-      let one : k.1 ≡ e = push_injective (past o.machine ++ v.face.seen) k.1 e
-      (sym k.3 ∙ (ap past same ∙ (more ∙ ap (λ (l : H). l ++ e ∷ []) was.after))) in
-      k.4 ∙ ap (λ z. (after_turn v z, [])) one
+      let those : k.1 ≡ notes = entries_injective n k.1 notes
+      (append_injective (past o.machine ++ v.face.seen) (entries_by n k.1) (entries_by n notes)
+      (sym k.3 ∙ (ap past same ∙ (more ∙ (ap (λ (l : H). l ++ entries_by number notes) was.after
+      ∙ ap (λ (z : ℕ). (past o.machine ++ v.face.seen) ++ entries_by z notes) mine))))) in
+      k.4 ∙ (ap (λ z. (after_turn v n z, [])) those ∙ ap (λ z. (after_turn v z notes, [])) (sym mine))
 
   -- a reply that is right for the machine is right after the opening history and the entries
   pub right_there : {C A : Type 0} (right : T → List (ℕ × N) → ℕ → C → A → Type 0) (h : H) (x : M)
@@ -963,7 +1020,7 @@ module _ {M N T : Type 0} (past : M → List (ℕ × N)) (settings : M → T) (s
 
   pub tries_at : (slots id : ℕ) (m : Me (Option M) V) (v : V) (c : List (ℕ × Option M)) (old new : ℕ) →
       m ≡ (having_read v old, c) → v.opening ≡ Some o → v.stage ≡ Idle →
-      length v.face.own < get_or o.quotas v.face.number 0 → new ≡ old + 1
+      length v.face.own + 1 ≤ get_or o.quotas v.face.number 0 → new ≡ old + 1
       → Allows Rule slots id m 0 (λ n. either (eqb n old) new n)
       (tried past settings spare (step slots 0 old new none) m)
   tries_at slots id m v c old new is op idle room up =
@@ -973,10 +1030,10 @@ module _ {M N T : Type 0} (past : M → List (ℕ × N)) (settings : M → T) (s
 
   -- both outcomes of a try
   pub tried_of : (m0 m1 m2 : Me (Option M) V) (s t : ℕ) → m0.1 ≡ [] → m1 ≡ (having_read m0.0 s, m0.1) →
-      m0.0.opening ≡ Some o → (t ≡ s → TurnComes past settings spare m1 s None m2) → t ≡ s →
-      HasTurn past settings spare o s m0.0 m2
+      m0.0.opening ≡ Some o → (t ≡ s → TurnComes past settings spare m1 s 1 None m2) → t ≡ s →
+      HasTurn past settings spare o s 1 m0.0 m2
   tried_of m0 m1 m2 s t none_held is op comes hit =
-      let k = subst (λ (z : Me (Option M) V). TurnComes past settings spare z s None m2)
+      let k = subst (λ (z : Me (Option M) V). TurnComes past settings spare z s 1 None m2)
       (is ∙ ap (λ l. (having_read m0.0 s, l)) none_held) (comes hit) in
       (k.0, k.1, None, k.2, k.3, (k.4 o op).0, (k.4 o op).1, (k.4 o op).2)
 

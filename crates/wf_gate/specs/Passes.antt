@@ -1,5 +1,5 @@
 -- Defines the conditions on a pass (the token of a seat) before and after each step of a turn.
-use Rattle.std.specs.Prelude.{◌≡◌, ℕ, ◌<◌, ◌≤◌, List, [], ◌∷◌, ◌++◌, length, Option, Some, slice_index_or}
+use Rattle.std.specs.Prelude.{◌≡◌, ℕ, ◌+◌, ◌≤◌, List, [], ◌∷◌, ◌++◌, length, Option, Some, slice_index_or}
 use mathlib.Core.Option.{some}
 use mathlib.Core.List.{IsPrefix}
 use lib.ListN.{get_elem?}
@@ -21,23 +21,23 @@ module _ {M N : Type 0} where
   abbrev pub IsPassOf : TableId → Opening M → Seat (Option M) (View M N) → Type 0
   IsPassOf z o p = (p.table_id ≡ z) × (p.me.0.opening ≡ Some o)
 
-  -- the seat has made fewer calls than its quota
-  abbrev pub MayDraw : Opening M → Face N → Type 0
-  MayDraw o f = length f.own < slice_index_or o.quotas f.number 0
+  -- the seat may make this many more calls
+  abbrev pub MayDraw : Opening M → Face N → ℕ → Type 0
+  MayDraw o f count = length f.own + count ≤ slice_index_or o.quotas f.number 0
 
 module _ {M N T : Type 0} (past : M → List (ℕ × N)) (settings : M → T) (spare : M → ℕ) where
-  -- the seat, whose view was v, has its turn with ticket t: it has seen the history h, and has the machine y
-  -- after h
-  abbrev pub HasTurn : Opening M → ℕ → View M N → Me (Option M) (View M N) → Type 0
-  HasTurn o t v m = (h : List (ℕ × N)) × (y : M) × (read : Option ℕ) × IsPrefix v.face.seen h ×
-      (m ≡ (at_turn v t read h, (0, Some y) ∷ [])) × IsAt past settings spare o h y × AllSeats o h ×
-      (length h < spare o.machine)
+  -- the seat, whose view was v, has its turn with the tickets from t on, this many: it has seen the history
+  -- h, and has the machine y after h, which has room for a call for each ticket
+  abbrev pub HasTurn : Opening M → ℕ → ℕ → View M N → Me (Option M) (View M N) → Type 0
+  HasTurn o t count v m = (h : List (ℕ × N)) × (y : M) × (read : Option ℕ) × IsPrefix v.face.seen h ×
+      (m ≡ (at_turn v t count read h, (0, Some y) ∷ [])) × IsAt past settings spare o h y × AllSeats o h ×
+      (length h + count ≤ spare o.machine)
 
   -- the same, for a pass whose earlier view is not known
-  abbrev pub AtTurn : Opening M → Me (Option M) (View M N) → Type 0
-  AtTurn o m = (t : ℕ) × (m.0.stage ≡ Served t) ×
+  abbrev pub AtTurn : Opening M → ℕ → Me (Option M) (View M N) → Type 0
+  AtTurn o count m = (t : ℕ) × (m.0.stage ≡ Served t count) ×
       ((y : M) × (m.1 ≡ (0, Some y) ∷ []) × IsAt past settings spare o m.0.face.seen y) ×
-      (length m.0.face.seen < spare o.machine)
+      (length m.0.face.seen + count ≤ spare o.machine)
 
 abbrev pub with_read : {M N : Type 0} → View M N → Option ℕ → View M N
 with_read v read = record v { read = read }

@@ -1,6 +1,7 @@
 -- Defines what contracts see of a gate and its seats, and the conditions that they state.
-use Rattle.std.specs.Prelude.{◌≡◌, ℕ, ◌-◌, ◌<◌, ◌≤◌, List, [], ◌∷◌, ◌++◌, length, take, drop, Option, Some, None, slice_get, slice_index_or, All, Any, EachIndex}
+use Rattle.std.specs.Prelude.{◌≡◌, ℕ, ◌-◌, ◌<◌, ◌≤◌, List, [], ◌∷◌, ◌++◌, length, map, take, drop, Option, Some, None, slice_get, slice_index_or, All, Any, EachIndex}
 use mathlib.Core.Option.{some}
+use mathlib.Core.List.{IsPrefix}
 use lib.ListN.{get_elem?}
 use Rattle.atomic_table.specs.Seated.{TableId}
 use Rattle.atomic_table.specs.declared.shared.Seat.{Seat}
@@ -10,7 +11,7 @@ use Rattle.wf_gate.specs.declared.view.Opening.{Opening}
 use Rattle.wf_gate.specs.declared.view.View.{View}
 use Rattle.wf_gate.specs.declared.view.Stage.{Stage}
 use Rattle.wf_gate.specs.declared.view.Stage.TheVariants.{Idle}
-use Rattle.wf_gate.specs.Turns.{places, faces_of, opening_of}
+use Rattle.wf_gate.specs.Turns.{entries_by, numbers_from, places, faces_of, opening_of}
 
 -- A gate is identified by its table. Its opening is the machine at the moment when the gate was made, and the
 -- quotas by seat number.
@@ -34,7 +35,7 @@ pub record SeatView (M N : Type 0) : Type 0 where
   -- for each try that did not get a turn: the number loaded from the serving word, and the ticket that the
   -- exchange found
   pub looks : List (ℕ × ℕ)
-  -- whether the seat has a ticket, and whether its ticket is served
+  -- whether the seat has tickets, and whether the first of them is served
   pub stage : Stage
   -- the number last loaded from the serving word, if no step has used it yet
   pub read : Option ℕ
@@ -146,6 +147,31 @@ abbrev pub IsRightAt : {M N T C A : Type 0} → (M → List (ℕ × N)) → (M �
     (T → List (ℕ × N) → ℕ → C → A → Type 0) → GateView M → List (ℕ × N) → ℕ → ℕ → C → A → Type 0
 IsRightAt past settings right g entries place caller call reply =
     right (settings g.opening.machine) (past g.opening.machine ++ take place entries) caller call reply
+
+-- the replies to these calls, which a caller makes one after another, are right: each is right for these
+-- settings, after the entries before it
+abbrev pub AreRight : {N T C A : Type 0} → (C → N) → (T → List (ℕ × N) → ℕ → C → A → Type 0) → T →
+    List (ℕ × N) → ℕ → List C → List A → Type 0
+AreRight note right settings past caller [] [] = Unit {0}
+AreRight note right settings past caller (call ∷ calls) (reply ∷ replies) =
+    right settings past caller call reply ×
+    AreRight note right settings (past ++ (caller, note call) ∷ []) caller calls replies
+AreRight note right settings past caller _ _ = ⊥
+
+-- A seat has made these calls, one after another: `old` before them and `new` after them. `before` are the
+-- entries of the gate before these calls.
+pub record HasMadeAll {M N T C A : Type 0} (past : M → List (ℕ × N)) (settings : M → T) (note : C → N)
+    (right : T → List (ℕ × N) → ℕ → C → A → Type 0) (g : GateView M) (old new : SeatView M N)
+    (calls : List C) (replies : List A) : Type 0 where
+  pub before : List (ℕ × N)
+  -- the seat had seen no more than these
+  pub grown : IsPrefix old.seen before
+  -- it has seen these, and then its own calls, in order
+  pub entries : new.seen ≡ before ++ entries_by old.number (map note calls)
+  pub own : new.own ≡ old.own ++ numbers_from (length before) calls
+  -- each reply is right at its place
+  pub each : AreRight note right (settings g.opening.machine) (past g.opening.machine ++ before) old.number
+      calls replies
 
 -- the part of the machine's history that was made since the gate was made
 abbrev pub made_since : {M N : Type 0} → (M → List (ℕ × N)) → GateView M → M → List (ℕ × N)

@@ -113,7 +113,7 @@ impl<M: Machine + Drop> Gate<M> {
             return Err((Spent, call));
         }
         let shared = &self.table.shared;
-        let ticket = draw(shared, &mut seat.pass);
+        let ticket = draw(shared, &mut seat.pass, 1);
         wait(rt, shared, &mut seat.pass, ticket);
         let reply = serve(shared, &mut seat.pass, seat.number, call);
         seat.used += 1;

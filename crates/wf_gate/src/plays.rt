@@ -7,14 +7,14 @@ use atomic_table::{Join, Play, Split};
 use std::marker::PhantomData;
 use wf_machine::Machine;
 
-/// Draws a ticket.
+/// Draws tickets with consecutive numbers.
 pub(crate) struct Draw;
 
 impl<M, N> Play<Option<M>, View<M, N>> for Draw {
     ghost then = { drawn };
 }
 
-/// Loads the serving word, by a seat with a ticket. The seat takes the slot if its ticket is served.
+/// Loads the serving word, by a seat with tickets. The seat takes the slot if its first ticket is served.
 pub(crate) struct Look<M> {
     machine: PhantomData<M>,
 }
@@ -23,7 +23,7 @@ impl<M: Machine> Play<Option<M>, View<M, M::Note>> for Look<M> {
     ghost then = { looked M.past M.settings M.calls_left };
 }
 
-/// Returns the slot and serves the next ticket.
+/// Returns the slot and serves the ticket that follows the seat's tickets.
 pub(crate) struct Serve<M> {
     machine: PhantomData<M>,
 }

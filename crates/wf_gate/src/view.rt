@@ -25,11 +25,12 @@ pub struct Face<N> {
     pub looks: LinkedList<(u64, u64)>,
 }
 
-/// Whether a seat has a ticket, and whether its ticket is served.
+/// Whether a seat has tickets, and whether the first of them is served. The tickets of a seat have
+/// consecutive numbers.
 pub enum Stage {
     Idle,
-    Waits(u64),
-    Served(u64),
+    Waits { first: u64, count: u64 },
+    Served { first: u64, count: u64 },
 }
 
 /// The ghost state of one seat. It has no opening if its seat was joined into another.

@@ -1,6 +1,6 @@
 -- Proves that an Arrive and an Answer do not change what a transmit path keeps. They change receivers and
 -- marks, on which readiness does not depend, so no station is listed by them.
-use Rattle.std.proofs.Common.{◌≡◌, refl, ap, ap₂, sym, ◌∙◌, subst, arith, ℕ, suc, ◌<◌, ◌==◌, nat_lt, Bool, true, false, not, ◌&&◌, ◌||◌, if◌then◌else◌, List, [], ◌∷◌, ◌++◌, length, map, find, sum_by, Option, Some, None, is_some, unwrap_or, option_map}
+use Rattle.std.proofs.Common.{◌≡◌, refl, ap, ap₂, sym, ◌∙◌, subst, arith, ℕ, suc, ◌+◌, ◌<◌, ◌==◌, nat_lt, Bool, true, false, not, ◌&&◌, ◌||◌, if◌then◌else◌, List, [], ◌∷◌, ◌++◌, length, map, find, sum_by, Option, Some, None, is_some, unwrap_or, option_map}
 use Rattle.std.specs.List.{list_any}
 use Rattle.std.proofs.Math.Seq.{take-length}
 use Rattle.wf_frame.specs.declared.settings.Config.{Config}
@@ -9,15 +9,15 @@ use Rattle.wf_frame.specs.declared.notes.Ask.TheVariants.{Arrive, Answer}
 use Rattle.wf_frame.specs.declared.notes.Note.{Note}
 use Rattle.wf_frame.specs.declared.notes.Note.TheVariants.{Asked}
 use Rattle.wf_frame.specs.declared.notes.Refusal.{Refusal}
-use Rattle.wf_frame.specs.Classes.{all_classes, lower_tid, upper_tid, class_number}
+use Rattle.wf_frame.specs.Classes.{all_classes, lower_tid, upper_tid, class_number, same_class}
 use Rattle.wf_frame.specs.Settings.{IsInRange}
 use Rattle.wf_def_lists.specs.Table.{at}
 use Rattle.wf_def_rotation.specs.Rotation.{Rotation, has_key, in_order, no_keys, with_new_key}
 use Rattle.wf_def_agreement.specs.Session.{Session, request_due, has_room, waiting_numbers}
 use Rattle.wf_law_rules.proofs.Lemmas.Numbers.{on_bool, both, not_eq, eq_yes}
 use Rattle.wf_law_rules.proofs.Lemmas.Tables.{each_put}
-use Rattle.wf_def_world.specs.World.{World, Station, Tid, Queue, Exchange, no_tid, no_station, new_queue, session, tid_of, station, rotation, is_live, exchange, with_station, on_station, on_tid, on_receiver, with_rotation, with_exchange, opening}
-use Rattle.wf_def_world.specs.CanSend.{is_request, request_open, can_send, can_send_in, has_credit, may_receive, is_ready, with_listing_in, with_listings_in, with_listings_of}
+use Rattle.wf_def_world.specs.World.{World, Station, Tid, Queue, Exchange, no_tid, no_station, new_queue, session, tid_of, station, rotation, is_live, owed, exchange, with_station, on_station, on_tid, on_receiver, with_rotation, with_exchange, opening}
+use Rattle.wf_def_world.specs.CanSend.{is_request, request_open, can_send, can_send_in, has_credit, is_below_aql, may_receive, is_ready, with_listing_in, with_listings_in, with_listings_of}
 use Rattle.wf_def_world.specs.Exchanges.{after_arrival}
 use Rattle.wf_def_world.specs.Refusals.{refusal}
 use Rattle.wf_def_world.specs.Step.{Outcome, arrive_outcome, answer_outcome, outcome_where_open, outcome_of, station_of, after_refusal, judged_outcome, step}
@@ -219,6 +219,24 @@ live_same : (w u : World) (s : ℕ) → HasSameTransmit w u → is_live u s ≡ 
 live_same w u s k = sym (some_bare (at None u.stations s))
     ∙ (ap is_some (k.stations s) ∙ some_bare (at None w.stations s))
 
+owed_unmarked : (s : ℕ) (c : Class) (xs : List Exchange) → owed s c xs ≡ owed s c (map unmarked xs)
+owed_unmarked s c [] = refl
+owed_unmarked s c (x ∷ xs) =
+    ap (λ (n : ℕ). (if (x.station == s) && same_class x.class c then x.charge else 0) + n)
+    (owed_unmarked s c xs)
+
+below_aql_same : (w u : World) (s : ℕ) (c : Class) → HasSameTransmit w u →
+    is_below_aql u s c ≡ is_below_aql w s c
+below_aql_same w u s c h =
+    ap₂ (λ (config : Config) (n : ℕ). (config.aql == 0) || nat_lt n config.aql) h.config
+    (owed_unmarked s c u.opened ∙ (ap (owed s c) h.opened ∙ sym (owed_unmarked s c w.opened)))
+
+may_receive_same : (w u : World) (s : ℕ) (c : Class) → HasSameTransmit w u →
+    may_receive u s c ≡ may_receive w s c
+may_receive_same w u s c h = ap₂ (λ (a b : Bool). a && b)
+    (reads_same (λ (x : Station). not x.asleep || has_credit x.credit c) (λ x. refl) w u s h)
+    (below_aql_same w u s c h)
+
 ready_same : (w u : World) (c : Class) (s : ℕ) → HasSameTransmit w u → is_ready u c s ≡ is_ready w c s
 ready_same w u c s h =
     let live : is_live u s ≡ is_live w s = live_same w u s h in
@@ -226,8 +244,7 @@ ready_same w u c s h =
     can_send_same w u s (lower_tid c) h in
     let upper : can_send u s (upper_tid c) ≡ can_send w s (upper_tid c) =
     can_send_same w u s (upper_tid c) h in
-    let may : may_receive u s c ≡ may_receive w s c =
-    reads_same (λ (x : Station). not x.asleep || has_credit x.credit c) (λ x. refl) w u s h in
+    let may : may_receive u s c ≡ may_receive w s c = may_receive_same w u s c h in
     ap (λ (b : Bool). b && ((can_send u s (lower_tid c) || can_send u s (upper_tid c)) && may_receive u s c))
     live
     ∙ (ap (λ (b : Bool). is_live w s && ((b || can_send u s (upper_tid c)) && may_receive u s c)) lower

@@ -5,7 +5,7 @@ use Rattle.std.specs.Prelude.{nat_lt}
 use Rattle.std.proofs.lemmas.Bool.Decides.{leb_tells}
 use Rattle.std.proofs.Math.Nat.{div-lt_iff_lt-mul, lt-div-mul-add, mul-le-mul, mul-le-mul_left, mul-le-mul_right, le-div_iff_mul-le}
 use Rattle.wf_def_codel.specs.Codel.{Item, Params, Codel, IsGreatestStep, step_of, look, raised_count, next_due, drops, drops_dropping, drops_plain, state_dropping, state_plain, state_after, dequeue, begin_dropping}
-use Rattle.wf_law_rules.specs.CodelLaws.{Dequeue, after_dequeue, drops_by, drops_in, Begins, StaysDropping, least_time, RateLaw}
+use Rattle.wf_law_rules.specs.CodelLaws.{Dequeue, codel_after, drops_by, drops_in, Begins, StaysDropping, least_time, RateLaw}
 use Rattle.wf_law_rules.proofs.Lemmas.Numbers.{on_bool, on_if, lt_yes, lt_no}
 use Rattle.wf_law_rules.proofs.Lemmas.Drops.{drops_before}
 use Rattle.wf_law_rules.proofs.Lemmas.Roots.{step_greatest}
@@ -179,7 +179,7 @@ abbrev IfDropping : ℕ → ℕ → ℕ → Codel → Type 0
 IfDropping interval b n c = c.dropping ≡ true → Paced interval b n c
 
 visit_paced : (interval b n : ℕ) (c : Codel) (v : Dequeue) → interval < 2 ^ 32 → v.times.interval ≡ interval →
-    c.dropping ≡ true → IfDropping interval b n c → IfDropping interval b (n + drops_by c v) (after_dequeue
+    c.dropping ≡ true → IfDropping interval b n c → IfDropping interval b (n + drops_by c v) (codel_after
     c v)
 unfolding dequeue
 visit_paced interval b n c v small same sure k =
@@ -198,7 +198,7 @@ times_run : (visits : List Dequeue) (interval b T n : ℕ) (c : Codel) → inter
 times_run [] interval b T n c small p stays k below = absurd (omega (arith, below))
 times_run (v ∷ vs) interval b T n c small p stays k below = on_bool (nat_lt k (drops_by c v))
     (λ h. here (lt_yes k (drops_by c v) h))
-    (λ h. later (lt_no k (drops_by c v) h) (times_run vs interval b T (n + drops_by c v) (after_dequeue c
+    (λ h. later (lt_no k (drops_by c v) h) (times_run vs interval b T (n + drops_by c v) (codel_after c
     v) small
     (visit_paced interval b n c v small stays.1 stays.0 p) stays.3 (k - drops_by c v)))
   where
@@ -213,7 +213,7 @@ times_run (v ∷ vs) interval b T n c small p stays k below = on_bool (nat_lt k 
         paced_due k n (n + k) interval b v.times c.count c.drop_next small stays.1 q.some q.most q.due refl in
         omega (arith, due, from, stays.2)
 
-    later : drops_by c v ≤ k → (k - drops_by c v < drops_in (after_dequeue c v) vs →
+    later : drops_by c v ≤ k → (k - drops_by c v < drops_in (codel_after c v) vs →
         least_time interval (suc (n + drops_by c v + (k - drops_by c v))) ≤ T) →
         least_time interval (suc (n + k)) ≤ T
     later past next =
@@ -241,7 +241,7 @@ begun_state p now c items plain one =
     none false never h = omega arith
 
 paced_begun : (interval : ℕ) (c : Codel) (v : Dequeue) → v.times.interval ≡ interval → Begins c v →
-    Paced interval v.now 0 (after_dequeue c v)
+    Paced interval v.now 0 (codel_after c v)
 unfolding dequeue
 paced_begun interval c v same h =
     subst (Paced interval v.now 0) (sym (begun_state v.times v.now c v.items h.plain h.drop))
@@ -272,7 +272,7 @@ rate_law interval T c v visits h = record {
     times zero below = omega arith
     times (suc n) below =
         let t : least_time interval (suc (0 + n)) ≤ T =
-        times_run visits interval v.now T 0 (after_dequeue c v) h.small
+        times_run visits interval v.now T 0 (codel_after c v) h.small
         (λ _. paced_begun interval c v h.same h.begins) h.stays n (omega (arith, below, h.begins.drop)) in
         let same : suc (0 + n) ≡ suc n = omega arith in
         omega (arith, t, ap (least_time interval) same)

@@ -3,7 +3,7 @@
 use Rattle.std.proofs.Common.{◌≡◌, ◌≢◌, ℕ, zero, suc, ◌+◌, ◌-◌, ◌≤◌, ◌<◌, ◌==◌, ◌∙◌, refl, ap, sym, subst, arith, inl, inr, ◌⊎◌, Bool, true, false, not, ◌||◌, List, [], ◌∷◌, ◌++◌, if◌then◌else◌, append_assoc, append-nil}
 use Rattle.std.specs.Prelude.{nat_lt, nat_le}
 use Rattle.wf_def_codel.specs.Codel.{Item, Params, Codel, Look, max_packet, octets, look_at, look, drops_dropping, drops_plain, drops, state_dropping, state_plain, state_after, dequeue, next_due}
-use Rattle.wf_law_rules.specs.CodelLaws.{Dequeue, after_dequeue, drops_by, after_dequeues, looked_at, first_looks, looks_in, IsStanding, EachStanding, HasStood, StandingLaw}
+use Rattle.wf_law_rules.specs.CodelLaws.{Dequeue, codel_after, drops_by, codel_after_all, looked_at, first_looks, looks_in, IsStanding, EachStanding, HasStood, StandingLaw}
 use Rattle.wf_law_rules.proofs.Lemmas.Numbers.{on_bool, on_if, lt_no, le_no, le_yes, eq_no}
 use Rattle.wf_law_rules.proofs.Lemmas.Drops.{drops_before}
 
@@ -167,19 +167,19 @@ state_above p now c items = on_if (λ (z : Codel). z.first_above
     (λ never. plain_above _ p now c items refl
     ∙ ap (λ (n : ℕ). (look p now c.first_above items n).first_above) (sym (drops_no p now c items never)))
 
-visit_above : (c : Codel) (v : Dequeue) → (after_dequeue c v).first_above
+visit_above : (c : Codel) (v : Dequeue) → (codel_after c v).first_above
     ≡ (look v.times v.now c.first_above v.items (drops_by c v)).first_above
 unfolding dequeue
 visit_above c v = state_above v.times v.now c v.items
 
 known_run : (visits : List Dequeue) (c : Codel) (looks : List Dequeue) → Known c.first_above looks →
-    Known (after_dequeues c visits).first_above (looks ++ looks_in c visits)
+    Known (codel_after_all c visits).first_above (looks ++ looks_in c visits)
 known_run [] c looks k = subst (Known c.first_above) (sym (append-nil looks)) k
 known_run (v ∷ vs) c looks k =
     let seen : List Dequeue = first_looks v (suc (drops_by c v)) in
-    subst (Known (after_dequeues c (v ∷ vs)).first_above)
-    (append_assoc looks seen (looks_in (after_dequeue c v) vs))
-    (known_run vs (after_dequeue c v) (looks ++ seen) (subst (λ (a : ℕ). Known a (looks ++ seen))
+    subst (Known (codel_after_all c (v ∷ vs)).first_above)
+    (append_assoc looks seen (looks_in (codel_after c v) vs))
+    (known_run vs (codel_after c v) (looks ++ seen) (subst (λ (a : ℕ). Known a (looks ++ seen))
     (sym (visit_above c v)) (known_looks (drops_by c v) v c.first_above looks k)))
 
 -- A look at a frame that is dropped is ok.
@@ -215,6 +215,6 @@ ok_dropped p now c items i below = on_bool c.dropping
 pub standing_law : StandingLaw
 standing_law c visits v i start below =
     let k : Known c.first_above [] = record { known = λ some. absurd (some start) } in
-    let z : Codel = after_dequeues c visits in
+    let z : Codel = codel_after_all c visits in
     stood_looks i v z.first_above (looks_in c visits) (known_run visits c [] k)
     (ok_dropped v.times v.now z v.items i below)

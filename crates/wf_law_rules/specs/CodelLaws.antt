@@ -11,22 +11,22 @@ pub record Dequeue : Type 0 where
   pub items : List Item
 
 -- Returns the state after a dequeue.
-abbrev pub after_dequeue : Codel → Dequeue → Codel
-after_dequeue c v = (dequeue v.times v.now c v.items).state
+abbrev pub codel_after : Codel → Dequeue → Codel
+codel_after c v = (dequeue v.times v.now c v.items).state
 
 -- Returns how many frames a dequeue drops.
 abbrev pub drops_by : Codel → Dequeue → ℕ
 drops_by c v = drops v.times v.now c v.items
 
 -- Returns the state after dequeues.
-abbrev pub after_dequeues : Codel → List Dequeue → Codel
-after_dequeues c [] = c
-after_dequeues c (v ∷ vs) = after_dequeues (after_dequeue c v) vs
+abbrev pub codel_after_all : Codel → List Dequeue → Codel
+codel_after_all c [] = c
+codel_after_all c (v ∷ vs) = codel_after_all (codel_after c v) vs
 
 -- Returns how many frames dequeues drop.
 abbrev pub drops_in : Codel → List Dequeue → ℕ
 drops_in c [] = 0
-drops_in c (v ∷ vs) = drops_by c v + drops_in (after_dequeue c v) vs
+drops_in c (v ∷ vs) = drops_by c v + drops_in (codel_after c v) vs
 
 -- ---- standing queues
 
@@ -42,7 +42,7 @@ first_looks v (suc n) = first_looks v n ++ looked_at v n ∷ []
 -- Returns what all looks of dequeues see. A dequeue looks at each frame that it drops, and again.
 abbrev pub looks_in : Codel → List Dequeue → List Dequeue
 looks_in c [] = []
-looks_in c (v ∷ vs) = first_looks v (suc (drops_by c v)) ++ looks_in (after_dequeue c v) vs
+looks_in c (v ∷ vs) = first_looks v (suc (drops_by c v)) ++ looks_in (codel_after c v) vs
 
 -- The first frame has waited at least for the target, and more than `max_packet` octets are after it.
 abbrev pub IsStanding : Dequeue → List Item → Type 0
@@ -68,7 +68,7 @@ pub record HasStood (now : ℕ) (looks : List Dequeue) : Type 0 where
 -- frame. c is a state in which no look saw a standing queue, as a new one.
 abbrev pub StandingLaw : Type 0
 StandingLaw = (c : Codel) (visits : List Dequeue) (v : Dequeue) (i : ℕ) → c.first_above ≡ 0 →
-    i < drops_by (after_dequeues c visits) v → HasStood v.now (looks_in c visits ++ first_looks v (suc i))
+    i < drops_by (codel_after_all c visits) v → HasStood v.now (looks_in c visits ++ first_looks v (suc i))
 
 -- ---- the rate of drops
 
@@ -83,7 +83,7 @@ pub record Begins (c : Codel) (v : Dequeue) : Type 0 where
 abbrev pub StaysDropping : ℕ → ℕ → ℕ → Codel → List Dequeue → Type 0
 StaysDropping interval b T c [] = Unit {0}
 StaysDropping interval b T c (v ∷ vs) = (c.dropping ≡ true) × (v.times.interval ≡ interval) ×
-    (v.now ≤ b + T) × StaysDropping interval b T (after_dequeue c v) vs
+    (v.now ≤ b + T) × StaysDropping interval b T (codel_after c v) vs
 
 -- Returns the least time from the drop with which dropping begins to the n-th drop after it: the sum of the
 -- steps of the control law for the counts 1 to n.
@@ -96,7 +96,7 @@ pub record IsDroppingTime (interval T : ℕ) (c : Codel) (v : Dequeue) (visits :
   pub small : interval < 2 ^ 32
   pub begins : Begins c v
   pub same : v.times.interval ≡ interval
-  pub stays : StaysDropping interval v.now T (after_dequeue c v) visits
+  pub stays : StaysDropping interval v.now T (codel_after c v) visits
 
 -- How many frames are dropped in this time.
 pub record HasRate (interval T : ℕ) (c : Codel) (visits : List Dequeue) : Type 0 where

@@ -8,8 +8,9 @@ use Rattle.wf_law_rules.proofs.Lemmas.Visits.{visit_law}
 use Rattle.wf_law_runs.proofs.Windows.Law.{window_law}
 use Rattle.wf_law_runs.proofs.Windows.Answers.{answer_law}
 use Rattle.wf_law_runs.proofs.Releases.Named.{release_law}
-use Rattle.wf_law_runs.proofs.Releases.Placed.{once_law}
+use Rattle.wf_law_runs.proofs.Releases.Once.{once_law}
 use Rattle.wf_law_runs.proofs.Orders.Law.{flow_queue_law, flow_release_law}
+use Rattle.wf_law_runs.proofs.Orders.Sends.{flow_send_law}
 use Rattle.wf_law_runs.proofs.Frames.DeliveryLaw.{delivery_law}
 use Rattle.wf_law_runs.proofs.Frames.FateLaw.{fate_law}
 use Rattle.wf_law_runs.proofs.Kept.Law.{kept_law}
@@ -27,6 +28,7 @@ use Rattle.wf_law_runs.proofs.Queues.Limit.{limit_law}
 use Rattle.wf_law_runs.proofs.Ranges.Law.{range_law}
 use Rattle.wf_law_runs.proofs.Deficits.Numbers.{number_law}
 use Rattle.wf_law_runs.proofs.Deficits.InFlight.{in_flight_law}
+use Rattle.wf_law_runs.proofs.Deficits.Delay.{delay_law}
 use Rattle.wf_law_runs.proofs.Windows.TwelveBits.{twelve_bit_law}
 use Rattle.wf_law_runs.proofs.Sums.Law.{sum_law}
 use Rattle.wf_law_runs.proofs.Sent.Law.{sent_law}
@@ -42,6 +44,7 @@ laws config h range = record {
   once = once_law config h;
   flow_queues = flow_queue_law config h range;
   flow_releases = flow_release_law config h range;
+  flow_sends = flow_send_law config h range;
   delivery = delivery_law config h range;
   fates = fate_law config h;
   kept = kept_law config h;
@@ -64,6 +67,7 @@ laws config h range = record {
   ranges = range_law config h range;
   numbers = number_law config h range;
   in_flight = in_flight_law config h range;
+  delay = delay_law config h range;
   sums = sum_law config h range;
   sent = sent_law config h;
   attempts = attempts_law config h range;

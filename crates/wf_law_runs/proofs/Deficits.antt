@@ -10,6 +10,7 @@
 --   is listed.
 -- - Quiet: when a station's received airtime is 0.
 -- - Numbers: the greatest charges and deficits. InFlight: the limits on airtime in flight.
+--   Delay: the delay in the device.
 pub mod Books
 pub mod BookSteps
 pub mod Openings
@@ -28,3 +29,4 @@ pub mod Configs
 pub mod Balance
 pub mod Numbers
 pub mod InFlight
+pub mod Delay

@@ -3,14 +3,16 @@
 --
 --   law of lib.rt                               proved in
 --   window_law, answer_law, twelve_bit_law      Windows (Law, Answers, TwelveBits)
---   release_law, once_law                       Releases (Named, Placed)
+--   release_law, once_law                       Releases (Named, Once)
+--   flow_queue_law, flow_release_law,           Orders (Law, Sends)
+--     flow_send_law
 --   delivery_law, fate_law, finished_law,       Frames (DeliveryLaw, FateLaw, FinishedLaw, Places, Rooms,
 --     place_law, room_law, tally_law              Tallies)
 --   kept_law                                    Kept (Law)
 --   queue_law, queue_deficit_law, limit_law     Queues (Law, Limit)
 --   range_law                                   Ranges (Law)
---   deficit_law, quiet_law, number_law,         Deficits (Law, Quiet, Numbers, InFlight)
---     in_flight_law
+--   deficit_law, quiet_law, number_law,         Deficits (Law, Quiet, Numbers, InFlight, Delay)
+--     in_flight_law, delay_law
 --   fairness_law                                Fairness (Law)
 --   share_law, waiting_law, sparse_law          Shares (Law, Waits)
 --   sum_law                                     Sums (Law)

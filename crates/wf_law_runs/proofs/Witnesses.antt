@@ -1,5 +1,6 @@
 -- Computed histories that satisfy the conditions of the laws, which shows that the laws are not empty.
 pub mod Airtime
+pub mod InFlight
 pub mod Shares
 pub mod Waiting
 pub mod Debtor

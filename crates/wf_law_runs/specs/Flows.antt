@@ -1,13 +1,17 @@
 -- Defines the laws of flows: with the setting `keep_order`, the queued frames of a flow are in one queue,
--- and the frames of a flow are passed up in the order in which they were enqueued. When a frame goes into
--- the overflow queue is in wf_def_world, specs/FlowQueues (`goes_over`).
-use Rattle.std.specs.Prelude.{◌≡◌, ℕ, ◌==◌, Bool, true, false, ◌&&◌, List, [], filter, map}
+-- and the frames of a flow are sent and passed up in the order in which they were enqueued. The rule for the
+-- overflow queue is in wf_def_world, specs/FlowQueues (`goes_over`).
+use Rattle.std.specs.Prelude.{◌≡◌, ℕ, ◌==◌, Bool, true, false, not, ◌&&◌, List, [], ◌∷◌, ◌++◌, filter, map}
 use Rattle.wf_frame.specs.declared.settings.Config.{Config}
 use Rattle.wf_frame.specs.declared.notes.Note.{Note}
 use Rattle.wf_frame.specs.declared.notes.Note.TheVariants.{Enqueue, Asked}
+use Rattle.wf_frame.specs.declared.notes.Part.TheVariants.{Mpdus}
+use Rattle.wf_frame.specs.declared.notes.ReplyNote.{ReplyNote}
+use Rattle.wf_frame.specs.declared.notes.ReplyNote.TheVariants.{Send}
 use Rattle.wf_def_lists.specs.Table.{has}
 use Rattle.wf_def_lists.specs.Lists.{IsRising}
 use Rattle.wf_def_world.specs.World.{World, frame, queue, opening}
+use Rattle.wf_def_world.specs.Step.{Outcome, step}
 use Rattle.wf_def_world.specs.Run.{Entry, world_after}
 use Rattle.wf_def_world.specs.Stretches.{world_at}
 use Rattle.wf_law_runs.specs.Releases.{named_from}
@@ -42,3 +46,33 @@ released_of config history s t flow =
 abbrev pub FlowReleaseLaw : Config → List Entry → Type 0
 FlowReleaseLaw config history =
     config.keep_order ≡ 1 → (s t flow : ℕ) → IsRising 0 (released_of config history s t flow)
+
+-- Returns the ids that a reply sends, in their order. Only the reply to a Pull sends frames.
+abbrev pub ids_sent_by : ReplyNote → List ℕ
+ids_sent_by (Send exchange station tid air (Mpdus mpdus) more) = map (λ m. m.0) mpdus
+ids_sent_by reply = []
+
+-- Returns the ids that are not among the old ones.
+abbrev pub not_among : List ℕ → List ℕ → List ℕ
+not_among old ids = filter (λ id. not (has old id)) ids
+
+-- Returns all ids that the replies of a history send, after the ids `before`. Each is listed once, at the
+-- place of its first send.
+unfoldable pub sent_from : World → List ℕ → List Entry → List ℕ
+sent_from w before [] = before
+sent_from w before (e ∷ es) =
+    let o : Outcome = step w e.1 in
+    sent_from o.world (before ++ not_among before (ids_sent_by o.reply)) es
+
+-- The ids of a flow that the replies of a history send, in the order of their first sends: those of its
+-- frames for TID t of station s, over all joins of the station.
+abbrev pub first_sends : Config → List Entry → ℕ → ℕ → ℕ → List ℕ
+first_sends config history s t flow =
+    filter (λ id. is_of_flow s t flow (frame (world_after (opening config) history) id).note)
+    (sent_from (opening config) [] history)
+
+-- The law of sent flows: if flows keep their order, the ids of each flow increase strictly in the order in
+-- which they are sent first, in the whole run.
+abbrev pub FlowSendLaw : Config → List Entry → Type 0
+FlowSendLaw config history =
+    config.keep_order ≡ 1 → (s t flow : ℕ) → IsRising 0 (first_sends config history s t flow)

@@ -6,7 +6,7 @@ use Rattle.wf_def_world.specs.Run.{Entry}
 use Rattle.wf_law_runs.specs.Windows.{WindowLaw}
 use Rattle.wf_law_runs.specs.Answers.{AnswerLaw}
 use Rattle.wf_law_runs.specs.Releases.{ReleaseLaw, OnceLaw}
-use Rattle.wf_law_runs.specs.Flows.{FlowQueueLaw, FlowReleaseLaw}
+use Rattle.wf_law_runs.specs.Flows.{FlowQueueLaw, FlowReleaseLaw, FlowSendLaw}
 use Rattle.wf_law_runs.specs.Delivery.{DeliveryLaw}
 use Rattle.wf_law_runs.specs.Fates.{FateLaw}
 use Rattle.wf_law_runs.specs.Kept.{KeptLaw}
@@ -22,6 +22,7 @@ use Rattle.wf_law_runs.specs.Waiting.{WaitingLaw, SparseLaw}
 use Rattle.wf_law_runs.specs.Ranges.{RangeLaw}
 use Rattle.wf_law_runs.specs.Numbers.{NumberLaw}
 use Rattle.wf_law_runs.specs.InFlight.{InFlightLaw}
+use Rattle.wf_law_runs.specs.Delay.{DelayLaw}
 use Rattle.wf_law_runs.specs.Sums.{SumLaw}
 use Rattle.wf_law_runs.specs.Sent.{SentLaw}
 use Rattle.wf_law_runs.specs.Attempts.{AttemptsLaw}
@@ -42,6 +43,8 @@ pub record Laws (config : Config) (history : List Entry) : Type 0 where
   -- order in which it was put in.
   pub flow_queues : FlowQueueLaw config history
   pub flow_releases : FlowReleaseLaw config history
+  -- Each flow is first sent in this order.
+  pub flow_sends : FlowSendLaw config history
   pub delivery : DeliveryLaw config history
   pub fates : FateLaw config history
   -- A number keeps its frame, and stays acknowledged or failed.
@@ -76,8 +79,10 @@ pub record Laws (config : Config) (history : List Entry) : Type 0 where
   -- The laws that code with numbers of fixed width relies on.
   pub ranges : RangeLaw config history
   pub numbers : NumberLaw config history
-  -- The computed airtime of the open exchanges stays near its limit.
+  -- The computed airtime of the open exchanges stays near its limits, and so does what ends while an exchange
+  -- is in the device.
   pub in_flight : InFlightLaw config history
+  pub delay : DelayLaw config history
   -- The sums of airtime are those of the calls since the join, and the sums and counts are bounded by the
   -- number of entries.
   pub sums : SumLaw config history

@@ -24,4 +24,5 @@ pub mod Finished
 pub mod Shares
 pub mod Waiting
 pub mod InFlight
+pub mod Delay
 pub mod Tries

@@ -1,16 +1,24 @@
 -- Defines the law of tries: how often a frame is sent in a whole run, by the setting `attempts`.
-use Rattle.std.specs.Prelude.{◌≡◌, ℕ, ◌+◌, ◌*◌, ◌≤◌, ◌==◌, List, [], ◌∷◌, if◌then◌else◌, length, take}
+use Rattle.std.specs.Prelude.{◌≡◌, ℕ, ◌+◌, ◌*◌, ◌≤◌, ◌==◌, Bool, false, ◌&&◌, List, [], ◌∷◌, Option, Some, None, is_none, if◌then◌else◌, length, take}
 use Rattle.wf_frame.specs.declared.settings.Config.{Config}
+use Rattle.wf_frame.specs.declared.classes.Cause.TheVariants.{Retries}
+use Rattle.wf_frame.specs.declared.classes.Fate.TheVariants.{Dropped}
+use Rattle.wf_frame.specs.declared.notes.Ask.TheVariants.{Done}
+use Rattle.wf_frame.specs.declared.notes.Note.{Note}
+use Rattle.wf_frame.specs.declared.notes.Note.TheVariants.{Asked}
 use Rattle.wf_frame.specs.declared.notes.Part.{Part}
 use Rattle.wf_frame.specs.declared.notes.Part.TheVariants.{Mpdus, Request}
 use Rattle.wf_frame.specs.declared.notes.ReplyNote.{ReplyNote}
 use Rattle.wf_frame.specs.declared.notes.ReplyNote.TheVariants.{Send}
 use Rattle.wf_def_lists.specs.Lengths.{greatest_body}
 use Rattle.wf_def_agreement.specs.Session.{Slot, State, slot}
-use Rattle.wf_def_world.specs.World.{World, session, accepted_count, opening}
+use Rattle.wf_def_world.specs.World.{World, Exchange, session, exchange, accepted_count, opening}
+use Rattle.wf_def_world.specs.CanSend.{is_request}
+use Rattle.wf_def_world.specs.Refusals.{refusal}
 use Rattle.wf_def_world.specs.Step.{step}
 use Rattle.wf_def_world.specs.Run.{Entry}
 use Rattle.wf_def_world.specs.Stretches.{world_at}
+use Rattle.wf_def_world.specs.Text.{tally}
 use Rattle.wf_law_runs.specs.Queues.{AreAtMost}
 
 -- Returns how many subframes of an aggregate have this id. A subframe is its id and its number modulo 4096.
@@ -58,6 +66,22 @@ abbrev pub data_exchanges : World → List Entry → ℕ
 data_exchanges w [] = 0
 data_exchanges w (e ∷ es) = data_exchanges_by (step w e.1).reply + data_exchanges (step w e.1).world es
 
+-- Returns whether an exchange is open and sends a BlockAckReq.
+abbrev pub asks_in : Option Exchange → Bool
+asks_in None = false
+asks_in (Some x) = is_request x.content
+
+-- Returns how many requests a call ends as heard: 1 or 0.
+abbrev pub requests_heard_by : World → Note → ℕ
+requests_heard_by w (Asked (Done e heard air)) =
+    if heard && (is_none (refusal w (Asked (Done e heard air))) && asks_in (exchange w e)) then 1 else 0
+requests_heard_by w _ = 0
+
+-- Returns how many requests the calls of a history end as heard, from a world on.
+abbrev pub requests_heard : World → List Entry → ℕ
+requests_heard w [] = 0
+requests_heard w (e ∷ es) = requests_heard_by w e.1 + requests_heard (step w e.1).world es
+
 -- The `attempts` of a slot, if its frame was sent n times: one for each time that the frame was sent and not
 -- acknowledged. As long as the frame is on the air, its last time is not counted yet.
 pub record IsCounted (n : ℕ → ℕ) (x : Slot) : Type 0 where
@@ -77,6 +101,8 @@ pub record KeepsTries (config : Config) (past : List Entry) (w : World) : Type 0
   -- If no frame is longer than the greatest body, there are at most as many exchanges of data as frames sent.
   pub exchanges : AreAtMost greatest_body past → data_exchanges (opening config) past
       ≤ frames_sent_in (opening config) past
+  -- There are at most as many heard requests as frames dropped because their number failed.
+  pub requests : requests_heard (opening config) past ≤ tally w (Dropped Retries)
 
 -- The law: `KeepsTries` holds after the first m entries of a history, for each m.
 abbrev pub TriesLaw : Config → List Entry → Type 0

@@ -15,7 +15,8 @@ ghost use Rattle.wf_def_world.specs.Run.{Entry};
 ghost use Rattle.wf_law_runs.specs.Answers.{AnswerLaw};
 ghost use Rattle.wf_law_runs.specs.Attempts.{AttemptsLaw};
 ghost use Rattle.wf_law_runs.specs.Deficits.{DeficitLaw, FairnessLaw, QuietLaw};
-ghost use Rattle.wf_law_runs.specs.Flows.{FlowQueueLaw, FlowReleaseLaw};
+ghost use Rattle.wf_law_runs.specs.Delay.{DelayLaw};
+ghost use Rattle.wf_law_runs.specs.Flows.{FlowQueueLaw, FlowReleaseLaw, FlowSendLaw};
 ghost use Rattle.wf_law_runs.specs.Delivery.{DeliveryLaw};
 ghost use Rattle.wf_law_runs.specs.Fates.{FateLaw};
 ghost use Rattle.wf_law_runs.specs.Finished.{FinishedLaw};
@@ -72,6 +73,12 @@ pub fn flow_queue_law()
 /// station is passed up in the order in which it was put in (specs/Flows).
 pub fn flow_release_law()
     ensures { (config : Config) → (history : List Entry) → IsInRange config → FlowReleaseLaw config history }
+{}
+
+/// With `keep_order`, the ids of each flow increase strictly in the order in which they are sent first in a
+/// run: each flow of each station goes on the air in the order in which it was put in (specs/Flows).
+pub fn flow_send_law()
+    ensures { (config : Config) → (history : List Entry) → IsInRange config → FlowSendLaw config history }
 {}
 
 /// Each acknowledged frame was held until a Done of an exchange that sent it ended as heard. By then it had
@@ -223,15 +230,24 @@ pub fn attempts_law()
 /// In every run, a frame is sent at most as often as the setting `attempts`, all exchanges counted. A number
 /// that waits or is on the air counts how often its frame was sent. All frames together are sent at most
 /// `attempts` times the number of accepted frames; and there are at most as many exchanges of data, if no
-/// frame is longer than the greatest body (specs/Tries).
+/// frame is longer than the greatest body. At most as many requests end as heard as frames are dropped for
+/// retries (specs/Tries).
 pub fn tries_law()
     ensures { (config : Config) → (history : List Entry) → IsInRange config → TriesLaw config history }
 {}
 
-/// If the setting `aql_total` is not 0, the computed airtime of all open exchanges exceeds it by less than
-/// one exchange, after every entry (specs/InFlight).
+/// After every entry, the computed airtime of all open exchanges exceeds the setting `aql_total` by less than
+/// one exchange, if it is not 0. The computed airtime of each station's open exchanges of a class exceeds
+/// the setting `aql` by less than one exchange, if it is not 0 (specs/InFlight).
 pub fn in_flight_law()
     ensures { (config : Config) → (history : List Entry) → IsInRange config → InFlightLaw config history }
+{}
+
+/// If exchanges end in the order of their numbers from the Pull of an exchange to its Done, and the setting
+/// `aql_total` is not 0, the computed airtime that ends until then, that of the exchange included, exceeds
+/// the setting by less than one exchange (specs/Delay).
+pub fn delay_law()
+    ensures { (config : Config) → (history : List Entry) → IsInRange config → DelayLaw config history }
 {}
 
 /// All laws of a history (specs/Laws).

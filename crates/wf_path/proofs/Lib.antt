@@ -5,6 +5,7 @@ mod Dones
 mod Flying
 mod Given
 mod Identifiers
+mod Inside
 mod Jobs
 mod Joining
 pub mod MadeUp

@@ -2,7 +2,8 @@
 use Rattle.std.specs.Prelude.{ℕ, ◌+◌, ◌==◌, Bool, true, false, if◌then◌else◌, List, [], ◌∷◌, Option, Some, None}
 use Rattle.wf_frame.specs.Frames.{FrameValue}
 use Rattle.wf_frame.specs.declared.notes.Ask.{Ask}
-use Rattle.wf_frame.specs.declared.notes.Ask.TheVariants.{Pull, Arrive, Answer, Done, Reap}
+use Rattle.wf_frame.specs.declared.notes.Ask.TheVariants as machine
+use Rattle.wf_frame.specs.declared.notes.Ask.TheVariants.{Pull, Reap}
 use Rattle.wf_frame.specs.declared.notes.Note.{Note}
 use Rattle.wf_frame.specs.declared.notes.Note.TheVariants.{Asked}
 use Rattle.wf_frame.specs.declared.notes.Part.TheVariants.{Mpdus}
@@ -13,6 +14,12 @@ use Rattle.wf_queue_flows_refines.specs.Frames.{with_body}
 use Rattle.wf_send_half.specs.Enqueues.{enqueue_of, as_accepted}
 use Rattle.wf_send_half.specs.Replies.{bodies_sent}
 use Rattle.wf_send_half_model.specs.Half.{TransmitValue}
+use Rattle.wf_path.specs.declared.asks.ExchangeAsk.{ExchangeAsk}
+use Rattle.wf_path.specs.declared.asks.ExchangeAsk.TheVariants as about
+use Rattle.wf_path.specs.declared.asks.PathAsk.{PathAsk}
+use Rattle.wf_path.specs.declared.asks.PathAsk.TheVariants as path
+use Rattle.wf_path.specs.declared.asks.PathJob.{PathJob}
+use Rattle.wf_path.specs.declared.asks.PathJob.TheVariants as paths
 use Rattle.wf_path.specs.declared.job.Job.{Job}
 use Rattle.wf_path.specs.declared.job.Job.TheVariants.{Give, Call}
 
@@ -26,22 +33,29 @@ abbrev pub frame_of : Job → Option FrameValue
 frame_of (Give f) = Some f
 frame_of (Call ask) = None
 
--- the calls that `Path::call` takes: all except an Arrive, an Answer and a Done
-abbrev pub IsHeard : Job → Type 0
-IsHeard (Call (Arrive exchange index)) = ⊥
-IsHeard (Call (Answer exchange)) = ⊥
-IsHeard (Call (Done exchange heard air)) = ⊥
-IsHeard job = Unit {0}
+-- the machine's call that an ask of a path is
+abbrev pub as_ask : PathAsk → Ask
+as_ask (path.Join station window start exponent weight) = machine.Join station window start exponent weight
+as_ask (path.Leave station) = machine.Leave station
+as_ask (path.Rate station rate) = machine.Rate station rate
+as_ask (path.Tick by) = machine.Tick by
+as_ask (path.Sleep station) = machine.Sleep station
+as_ask (path.Wake station) = machine.Wake station
+as_ask (path.Poll station) = machine.Poll station
+as_ask (path.Rx station class air) = machine.Rx station class air
 
--- the calls whose answer has no lists and no frame: all except a pull, a reap, and those about an open
--- exchange
-abbrev pub IsBrief : Ask → Type 0
-IsBrief (Pull class) = ⊥
-IsBrief (Arrive exchange index) = ⊥
-IsBrief (Answer exchange) = ⊥
-IsBrief (Done exchange heard air) = ⊥
-IsBrief Reap = ⊥
-IsBrief ask = Unit {0}
+-- the machine's job that a path's job is
+abbrev pub job_of : PathJob → Job
+job_of (paths.Give f) = Give f
+job_of (paths.Pull class) = Call (Pull class)
+job_of (paths.Call ask) = Call (as_ask ask)
+job_of paths.Reap = Call Reap
+
+-- the machine's call that a call about an open exchange is
+abbrev pub ask_about : ExchangeAsk → Ask
+ask_about (about.Arrive exchange index) = machine.Arrive exchange index
+ask_about (about.Answer exchange) = machine.Answer exchange
+ask_about (about.Done exchange heard air) = machine.Done exchange heard air
 
 -- The frame of each id after a call of v, as it was accepted, with the number of its transmissions since. An
 -- accepted frame is added; the frames that a pull sends, by its reply, count one more transmission.

@@ -10,34 +10,32 @@ ghost use Rattle.wf_def_world.specs.Step.{step};
 ghost use Rattle.wf_law_driver.specs.Unheard.{IsUnheard};
 ghost use Rattle.wf_send_half.specs.Replies.{reaped_reply};
 ghost use Rattle.wf_send_half_model.specs.Standing.{StandsFor, Meets};
-ghost use Rattle.wf_path.specs.Jobs.{IsHeard, IsBrief, note_of, bodies_after, frame_given_back, changes_nothing};
+ghost use Rattle.wf_path.specs.Jobs.{as_ask, job_of, note_of, bodies_after, frame_given_back, changes_nothing};
 ghost use Rattle.wf_path.specs.Paths.{IsPath, IsSmall, RiseLittle, IsAnsweredBriefly};
 
-use crate::{Job, Path};
-use wf_frame::{Answer, Ask, AskedRate, Brief, Class, Refusal};
+use crate::{Path, PathAsk, PathJob};
+use wf_frame::{Answer, AskedRate, Brief, Class, Refusal};
 use wf_queue_parts::chain::Parcel;
 use wf_send_half::Admission;
 
 impl Path {
-    /// Makes a call other than Arrive, Answer and Done, and writes its answer. Returns the frame exactly if
-    /// it was refused, or reaped.
-    pub fn call(&mut self, job: Job, answer: &mut Answer) -> Option<Parcel>
-        requires heard { IsHeard job }
+    /// Makes a call, and writes its answer. Returns the frame exactly if it was refused, or reaped.
+    pub fn call(&mut self, job: PathJob, answer: &mut Answer) -> Option<Parcel>
         requires small { IsSmall self.old.half }
         ensures meets { (w : World) (bodies : ℕ → FrameValue) → StandsFor self.old.half w bodies →
-            Meets w (bodies_after self.old.half job (reply_of answer.new) bodies) (note_of job) self.new.half
-            (reply_of answer.new) }
+            Meets w (bodies_after self.old.half (job_of job) (reply_of answer.new) bodies)
+            (note_of (job_of job)) self.new.half (reply_of answer.new) }
         ensures parcel { (w : World) (bodies : ℕ → FrameValue) → StandsFor self.old.half w bodies →
-            result ≡ frame_given_back bodies job (reply_of answer.new) }
+            result ≡ frame_given_back bodies (job_of job) (reply_of answer.new) }
         ensures refused { changes_nothing (reply_of answer.new) ≡ true → self.new ≡ self.old }
         ensures unheard { (w : World) (bodies : ℕ → FrameValue) → StandsFor self.old.half w bodies →
-            IsUnheard w → IsUnheard (step w (note_of job)).world }
+            IsUnheard w → IsUnheard (step w (note_of (job_of job))).world }
         ensures addresses { self.new.addresses ≡ self.old.addresses }
         ensures path { IsPath self.new.half }
         ensures rises { RiseLittle self.old.half self.new.half }
     {
         match job {
-            Job::Give(parcel) => match self.half.enqueue(parcel) {
+            PathJob::Give(parcel) => match self.half.enqueue(parcel) {
                 Ok(Admission { id, dropped }) => {
                     answer.brief = Brief::Accepted { id, dropped };
                     None
@@ -47,53 +45,46 @@ impl Path {
                     Some(parcel)
                 }
             },
-            Job::Call(Ask::Reap) => {
+            PathJob::Pull(class) => {
+                answer.brief = self.half.pull(class, &mut answer.pairs);
+                None
+            }
+            PathJob::Call(ask) => {
+                answer.brief = self.ask(ask);
+                None
+            }
+            PathJob::Reap => {
                 let reaped = self.half.reap();
                 answer.brief = reaped_brief(&reaped);
                 reaped
             }
-            Job::Call(Ask::Pull { class }) => {
-                answer.brief = self.half.pull(class, &mut answer.pairs);
-                None
-            }
-            Job::Call(ask) => {
-                answer.brief = self.ask(ask);
-                None
-            }
         }
     }
 
-    // Makes a call whose answer has no lists.
-    fn ask(&mut self, ask: Ask) -> Brief
-        requires brief { IsBrief ask }
+    // Makes a call that brings and returns no frame, and whose answer has no lists.
+    fn ask(&mut self, ask: PathAsk) -> Brief
         requires small { IsSmall self.old.half }
-        ensures answered { IsAnsweredBriefly self.old ask self.new result }
-        ensures brief { IsBrief ask }
+        ensures { IsAnsweredBriefly self.old (as_ask ask) self.new result }
     {
         match ask {
-            Ask::Join {
+            PathAsk::Join {
                 station,
                 window,
                 start,
                 exponent,
                 weight,
             } => self.join(station, window, start, exponent, weight),
-            Ask::Leave { station } => self.leave(station),
-            Ask::Rate { station, rate } => self.rate(station, rate),
-            Ask::Tick { by } => self.tick(by),
-            Ask::Sleep { station } => self.sleep(station),
-            Ask::Wake { station } => self.wake(station),
-            Ask::Poll { station } => self.poll(station),
-            Ask::Rx {
+            PathAsk::Leave { station } => self.leave(station),
+            PathAsk::Rate { station, rate } => self.rate(station, rate),
+            PathAsk::Tick { by } => self.tick(by),
+            PathAsk::Sleep { station } => self.sleep(station),
+            PathAsk::Wake { station } => self.wake(station),
+            PathAsk::Poll { station } => self.poll(station),
+            PathAsk::Rx {
                 station,
                 class,
                 air,
             } => self.rx(station, class, air),
-            Ask::Pull { .. }
-            | Ask::Arrive { .. }
-            | Ask::Answer { .. }
-            | Ask::Done { .. }
-            | Ask::Reap => unreachable!(),
         }
     }
 

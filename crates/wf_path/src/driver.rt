@@ -1,20 +1,19 @@
-//! What a driver can read about an open exchange, and how it ends one.
+//! The octets of an open exchange, and how a driver ends one.
 
 ghost use Rattle.std.specs.Prelude.{◌≡◌, ◌≤◌, ℕ, Some, option_map, take, drop, length, IfOk, OnOk, OnErr};
 ghost use Rattle.wf_frame.specs.Frames.{FrameValue};
-ghost use Rattle.wf_def_world.specs.Text.{traffic_map, with_traffic};
-ghost use Rattle.wf_def_world.specs.World.{World, exchange as exchange_in};
+ghost use Rattle.wf_def_world.specs.World.{World};
 ghost use Rattle.wf_send_half_model.specs.Standing.{StandsFor};
 ghost use Rattle.std.specs.Result.{result_err};
 ghost use Rattle.wf_path.specs.Answers.{block_ack_in};
-ghost use Rattle.wf_path.specs.Transmissions.{sent_of, id_sent, tag_sent, octets_sent, header_sent};
+ghost use Rattle.wf_path.specs.Transmissions.{octets_sent, header_sent};
 ghost use Rattle.wf_path.specs.Writing.{write_fault, write_header_fault};
 ghost use Rattle.wf_path.specs.Driver.{IsEnded, end_fault};
 ghost use Rattle.wf_path.specs.Paths.{IsPath, IsSmall, RiseLittle};
 
 use crate::answers::read_block_ack;
 use crate::writing::{write_header, write_transmission};
-use crate::{DoneFault, Path, PathFault, Sent};
+use crate::{DoneFault, Path, PathFault};
 use wf_frame::Brief;
 use wf_octets::bits::Bits256;
 use wf_octets::header::DATA_HEADER_OCTETS;
@@ -75,33 +74,6 @@ impl Path {
         Ok(self.done_bits(exchange, shown, air))
     }
 
-    /// Returns the station and the TID of an open exchange, and how many transmissions it has. None if the
-    /// exchange is not open.
-    pub fn sent(&self, exchange: u64) -> Option<Sent>
-        ensures { (w : World) (bodies : ℕ → FrameValue) → StandsFor self.now.half w bodies →
-            result ≡ option_map sent_of (exchange_in w exchange) }
-    {
-        crate::sent_by(&self.half, exchange)
-    }
-
-    /// Returns the id of the frame of a transmission. None if the exchange is not open, is a request, or has
-    /// no transmission of that index.
-    pub fn frame_id(&self, exchange: u64, index: u16) -> Option<u64>
-        ensures { (w : World) (bodies : ℕ → FrameValue) → StandsFor self.now.half w bodies →
-            result ≡ id_sent w exchange index }
-    {
-        crate::frame_id(&self.half, exchange, index)
-    }
-
-    /// Returns the tag of the frame of a transmission, by which its owner finds it again. None exactly if
-    /// `frame_id` is None.
-    pub fn frame_tag(&self, exchange: u64, index: u16) -> Option<u64>
-        ensures { (w : World) (bodies : ℕ → FrameValue) → StandsFor self.now.half w bodies →
-            result ≡ tag_sent w bodies exchange index }
-    {
-        crate::frame_tag(&self.half, exchange, index)
-    }
-
     /// Writes only the header of a data transmission of an open exchange (8.3.2.1), for a driver that sends
     /// the body from its own buffer. Returns NoExchange if the exchange is not open, or BadIndex if it has no
     /// data of that index, as a BlockAckReq has none; then `out` is unchanged.
@@ -135,17 +107,5 @@ impl Path {
         ensures rest { IfOk result (λ n. drop n out.new ≡ drop n out.old) }
     {
         write_transmission(&self.half, &self.addresses, exchange, index, out)
-    }
-
-    /// Writes the TIM element (8.4.2.7) of the live stations that sleep and have traffic, and returns its
-    /// length in octets. The rest of `out` is unchanged.
-    pub fn tim(&self, out: &mut [u8; 256]) -> usize
-        ensures octets { (w : World) (bodies : ℕ → FrameValue) → StandsFor self.now.half w bodies →
-            take result out.new ≡ traffic_map (with_traffic w) }
-        ensures size { (w : World) (bodies : ℕ → FrameValue) → StandsFor self.now.half w bodies →
-            result ≡ length (traffic_map (with_traffic w)) }
-        ensures rest { drop result out.new ≡ drop result out.old }
-    {
-        crate::tim(&self.half, out)
     }
 }

@@ -1,7 +1,7 @@
 //! The transmit path that drivers use, `Path`: the transmit half, and the octets that it sends and reads.
 //!
-//! `call` makes any call except those of a receiver. `done_bits` and `done_bytes` end an exchange by the
-//! BlockAck that the driver heard. `has_small_counts` returns whether these calls may be made.
+//! `call` makes any call except those about an open exchange. `done_bits` and `done_bytes` end an exchange by
+//! the BlockAck that the driver heard. `has_small_counts` returns whether these calls may be made.
 //!
 //! `sent`, `frame_id`, `frame_tag`, `header` and `mpdu` describe the transmissions of an open exchange, as
 //! values and as octets (IEEE 802.11-2012, 8.2.4, 8.3.1.8, 8.3.2.1; specs/Transmissions). `done_bytes` reads
@@ -14,6 +14,7 @@
 
 mod addresses;
 mod answers;
+mod asks;
 mod calls;
 mod driver;
 mod faults;
@@ -26,9 +27,9 @@ mod standing;
 mod traffic;
 mod writing;
 
+pub use asks::{ExchangeAsk, PathAsk, PathJob};
 pub use faults::{BadAddress, DoneFault, NewFault, PathFault};
 pub use job::{Job, each_time_that_a_frame_is_sent_counts};
 pub use path::Path;
-pub use reading::{Sent, frame_id, frame_tag, sent_by};
+pub use reading::Sent;
 pub use small::first_calls_law;
-pub use traffic::tim;

@@ -5,7 +5,7 @@ ghost use Rattle.wf_frame.specs.Frames.{FrameValue};
 ghost use Rattle.wf_def_world.specs.World.{World};
 ghost use Rattle.wf_def_world.specs.CanSend.{is_ready, has_credit};
 ghost use Rattle.wf_send_parts.specs.Sleepers.{sleeper};
-ghost use Rattle.wf_send_half_model.specs.Half.{can_send_of, is_ready_of};
+ghost use Rattle.wf_send_half_model.specs.Half.{can_send_of, is_below_aql_of, may_receive_of, is_ready_of};
 ghost use Rattle.wf_send_half_model.specs.Standing.{StandsFor};
 ghost use Rattle.wf_send_half_model.specs.Changes.{after_listing, after_listing_in};
 ghost use Rattle.wf_send_half.specs.Half.{can_send_in_of};
@@ -14,8 +14,9 @@ use crate::half::Half;
 use wf_frame::Class;
 
 impl Half {
-    /// Returns whether a station is ready in a class: it is live, one of the class's two TIDs can send, and
-    /// it is awake or has a credit for the class. The station's number is below the setting `stations`.
+    /// Returns whether a station is ready in a class: it is live, one of the class's two TIDs can send, it is
+    /// awake or has a credit for the class, and its airtime in flight is below the setting `aql`. The
+    /// station's number is below the setting `stations`.
     pub(crate) fn is_ready(&self, station: u16, class: Class) -> bool
         requires within { station < self.now.config.stations }
         ensures value { result ≡ is_ready_of self.now class station }
@@ -24,7 +25,26 @@ impl Half {
     {
         self.members.is_live(station)
             && self.can_send_in(station, class)
-            && (!self.sleepers.asleep(station) || self.has_credit(station, class))
+            && self.may_receive(station, class)
+    }
+
+    // Returns whether a station may receive in a class: it is awake or has a credit for the class, and its
+    // airtime in flight is below the setting `aql`.
+    fn may_receive(&self, station: u16, class: Class) -> bool
+        requires within { station < self.now.config.stations }
+        ensures value { result ≡ may_receive_of self.now station class }
+    {
+        (!self.sleepers.asleep(station) || self.has_credit(station, class))
+            && self.is_below_aql(station, class)
+    }
+
+    // Returns whether the airtime in flight to a station in a class is below the setting `aql`, which is no
+    // limit if it is 0.
+    fn is_below_aql(&self, station: u16, class: Class) -> bool
+        requires within { station < self.now.config.stations }
+        ensures value { result ≡ is_below_aql_of self.now station class }
+    {
+        self.config.aql == 0 || self.opened.airtime_to(station, class) < self.config.aql
     }
 
     // Returns whether a station has a credit for a class.

@@ -1,30 +1,31 @@
 -- Proves that a Done changes the readiness of the exchange's station only in the class of the exchange's TID,
 -- because it changes nothing that the readiness of the other TIDs depends on.
-use Rattle.std.proofs.Common.{◌≡◌, refl, ap, sym, ◌∙◌, subst, ℕ, Bool, true, false, not, ◌&&◌, ◌||◌, if◌then◌else◌, List, [], ◌∷◌, length, filter, Option, Some, None, unwrap_or, option_map, inl, inr}
+use Rattle.std.proofs.Common.{◌≡◌, refl, ap, sym, ◌∙◌, subst, ℕ, Bool, true, false, not, ◌&&◌, ◌||◌, if◌then◌else◌, List, [], ◌∷◌, length, filter, Option, Some, None, unwrap_or, option_map, inl, inr, nat_lt}
 use Rattle.std.specs.Prelude.{◌==◌}
 use Rattle.std.proofs.lemmas.Bool.{cases_Bool, cases_eq, ne_eqb, eqb-true, not-false}
 use Rattle.wf_frame.specs.declared.classes.Class.{Class}
 use Rattle.wf_frame.specs.declared.classes.Fate.{Fate}
 use Rattle.wf_frame.specs.declared.notes.Note.TheVariants.{Asked}
 use Rattle.wf_frame.specs.declared.notes.Ask.TheVariants.{Done}
-use Rattle.wf_frame.specs.Classes.{lower_tid, upper_tid, class_of}
+use Rattle.wf_frame.specs.Classes.{lower_tid, upper_tid, class_number, class_of}
 use Rattle.wf_def_lists.specs.Table.{at, change}
 use Rattle.wf_def_agreement.specs.Session.{Session}
-use Rattle.wf_def_world.specs.World.{World, Station, Tid, Share, Exchange, Mpdu, Content, Frames, Request, no_tid, no_station, tid_of, is_live, exchange, with_station, on_station, on_tid, on_session, on_share, with_fate, with_frame_finished, without_exchange}
-use Rattle.wf_def_world.specs.CanSend.{is_request, may_receive, is_ready}
+use Rattle.wf_def_world.specs.World.{World, Station, Tid, Share, Exchange, Mpdu, Content, Frames, Request, no_tid, no_station, station, tid_of, is_live, exchange, with_station, on_station, on_tid, on_session, on_share, with_fate, with_frame_finished, without_exchange}
+use Rattle.wf_def_world.specs.CanSend.{is_request, has_credit, may_receive, is_ready}
 use Rattle.wf_def_world.specs.Exchanges.{after_charge, with_failed_finished, with_settled, with_all_settled, after_done}
 use Rattle.wf_def_world.specs.Step.{outcome_of, outcome_where_open, station_of, done_outcome, step}
 use Rattle.wf_law_rules.proofs.Lemmas.Tables.{at_put_same, at_put_other}
 use Rattle.wf_law_runs.proofs.Queues.Shelves.{Shelves, shelves_ended}
 use Rattle.wf_law_runs.proofs.Windows.Sides.{live_on}
-use Rattle.wf_law_runs.proofs.Deficits.Books.{books, core}
-use Rattle.wf_law_runs.proofs.Deficits.Openings.{Every, every_map}
+use Rattle.wf_law_runs.proofs.Deficits.Books.{books, core, same_number}
+use Rattle.wf_law_runs.proofs.Deficits.Openings.{Every, every_map, every_find}
 use Rattle.wf_law_runs.proofs.Deficits.Kept.{IsKept}
 use Rattle.wf_law_runs.proofs.Deficits.KeptStep.{IsFound, only_this}
 use Rattle.wf_send_half_model.specs.Standing.{IsReached}
 use Rattle.wf_send_half_model.proofs.Steady.{asks, receives_on_station}
 use Rattle.wf_send_half_model.proofs.Spared.{IsSameTid, ready_same_by, queued_same, ready_stepped, ready_others, orderly_reached}
 use Rattle.wf_send_half_model.proofs.OwnClass.{lower_class, upper_class}
+use Rattle.wf_send_half_model.proofs.ChargedClass.{HaveOwnClass, own_class, owed_filter}
 
 -- v and w agree in what the readiness of station s depends on, except its TID t; the same exchanges are open
 pub record IsBeyond (s t : ℕ) (w v : World) : Type 0 where
@@ -140,8 +141,25 @@ asks_filtered s j p (y ∷ ys) h = elim (cases_Bool (p y)) [
     not_this true b = refl
     not_this false b = refl
 
+-- an exchange that ends was in flight only in the class of its TID
+without_elsewhere : (w : World) (e : ℕ) (x : Exchange) → IsKept (books w) → HaveOwnClass w.opened →
+    IsFound w e x → (s : ℕ) (c : Class) → (class_of x.tid ≡ c → ⊥) →
+    may_receive (without_exchange w x.number) s c ≡ may_receive w s c
+unfolding without_exchange
+without_elsewhere w e x kept own found s c other =
+    let mine : class_of x.tid ≡ x.class =
+    (every_find (λ y. class_of y.tid ≡ y.class) (λ y. y.number == e) w.opened x own found).1 in
+    ap (λ (n : ℕ). (not (station w s).asleep || has_credit (station w s).credit c)
+    && ((w.config.aql == 0) || nat_lt n w.config.aql))
+    (owed_filter s c (λ y. not (y.number == x.number)) w.opened
+    (every_map (λ z. z.number ≡ x.number → core z ≡ core x)
+    (λ z. not (z.number == x.number) ≡ false → class_number z.class ≡ class_number c → ⊥)
+    (λ z k goes is. other (mine ∙ same_number x.class c
+    (sym (ap (λ (y : Exchange). class_number y.class) (k (eqb-true _ _ (not-false _ goes)))) ∙ is)))
+    w.opened (only_this w e x kept found)))
+
 module _ (w : World) (e : ℕ) (x : Exchange) (heard : Bool) (air : Option ℕ) (kept : IsKept (books w))
-    (found : IsFound w e x) where
+    (own : HaveOwnClass w.opened) (found : IsFound w e x) where
   ended_tid : (j : ℕ) → (j ≡ x.tid → ⊥) → IsSameTid w (done_outcome w x heard air).world x.station j
   unfolding without_exchange
   ended_tid j other =
@@ -166,7 +184,8 @@ module _ (w : World) (e : ℕ) (x : Exchange) (heard : Bool) (air : Option ℕ) 
   own_ended c other =
       let b : IsBeyond x.station x.tid (without_exchange w x.number) (done_outcome w x heard air).world =
       beyond_ended w x heard air in
-      ready_same_by w (done_outcome w x heard air).world c x.station b.live (b.receives c)
+      ready_same_by w (done_outcome w x heard air).world c x.station b.live
+      (b.receives c ∙ without_elsewhere w e x kept own found x.station c other)
       (ended_tid (lower_tid c) (λ k. other (ap class_of (sym k) ∙ lower_class c)))
       (ended_tid (upper_tid c) (λ k. other (ap class_of (sym k) ∙ upper_class c)))
 
@@ -185,7 +204,7 @@ ready_ended w e heard air x r found i c other = elim (cases_eq i x.station) [
       (sym same)
       (ready_stepped w (Asked (Done e heard air)) x.station c
       (λ _. ap (λ (u : World). is_ready u c x.station) (done_is w e heard air x found)
-      ∙ own_ended w e x heard air (orderly_reached w r).kept found c (other same)))
+      ∙ own_ended w e x heard air (orderly_reached w r).kept (own_class w r) found c (other same)))
   | inr differs ↦ ready_others w (Asked (Done e heard air)) r i c
       (λ k. differs (elsewhere (exchange w e) found k)) refl
 ]

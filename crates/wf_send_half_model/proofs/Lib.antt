@@ -4,6 +4,7 @@ mod Apart
 pub mod Asked
 pub mod Beyond
 mod Calls
+mod ChargedClass
 mod Closes
 pub mod Dones
 pub mod Dropping

@@ -22,6 +22,7 @@ use Rattle.wf_send_half_model.proofs.Spared.{orderly_reached}
 use Rattle.wf_send_half_model.proofs.OwnClass.{own_less}
 use Rattle.wf_send_half_model.proofs.Pulled.{whole_pulled}
 use Rattle.wf_send_half_model.proofs.Beyond.{own_ended}
+use Rattle.wf_send_half_model.proofs.ChargedClass.{own_class}
 use Rattle.wf_send_half_model.proofs.Whole.{listed_where_ready}
 
 -- a class whose list is unchanged and in which no station became ready lists each station that is ready there
@@ -64,4 +65,5 @@ pub done_listed : (w : World) (e : ℕ) (x : Exchange) (heard : Bool) (air : Opt
 done_listed w e x heard air r known d other =
     still_listed w (done_outcome w x heard air).world r x.station d
     (ap (λ (b : Books). b.rotations d) (books_ended air w x heard))
-    (λ is. sym (own_ended w e x heard air (orderly_reached w r).kept known d (λ k. other (sym k))) ∙ is)
+    (λ is. sym (own_ended w e x heard air (orderly_reached w r).kept (own_class w r) known d
+    (λ k. other (sym k))) ∙ is)

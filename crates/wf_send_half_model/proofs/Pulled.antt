@@ -1,5 +1,5 @@
 -- Proves that a pull changes the readiness of the station that it picks only in the pull's class.
-use Rattle.std.proofs.Common.{◌≡◌, refl, ap, sym, ◌∙◌, subst, arith, ℕ, zero, suc, ◌<◌, ◌≤◌, Bool, true, false, not, ◌&&◌, ◌||◌, if◌then◌else◌, List, [], ◌∷◌, length, Option, Some, None, IfSome, option_map, inl, inr}
+use Rattle.std.proofs.Common.{◌≡◌, refl, ap, ap₂, sym, ◌∙◌, subst, arith, ℕ, zero, suc, ◌<◌, ◌≤◌, Bool, true, false, not, ◌&&◌, ◌||◌, if◌then◌else◌, List, [], ◌∷◌, length, Option, Some, None, IfSome, option_map, inl, inr, nat_lt}
 use Rattle.std.specs.Prelude.{◌==◌}
 use Rattle.std.proofs.lemmas.Bool.{cases_eq, ne_eqb, and_parts}
 use Rattle.std.proofs.lemmas.List.Folds.{list_any-append}
@@ -12,12 +12,11 @@ use Rattle.wf_def_lists.specs.Table.{at, change}
 use Rattle.wf_def_codel.specs.Codel.{Item}
 use Rattle.wf_def_lists.specs.Lists.{on}
 use Rattle.wf_def_rotation.specs.Rotation.{Rotation, in_order}
-use Rattle.wf_def_world.specs.World.{World, Station, Tid, Queue, Mpdu, no_tid, share, rotation, tid_of, queue, is_live, on_queue, with_station, on_station, on_tid, with_queues, with_frames_finished}
+use Rattle.wf_def_world.specs.World.{World, Station, Tid, Queue, Mpdu, no_tid, rotation, tid_of, queue, is_live, on_queue, with_station, on_station, on_tid, with_queues, with_frames_finished}
 use Rattle.wf_def_world.specs.FlowQueues.{taken_from_picked, taken_by_codel, taken_for_tid, with_queues_paid}
-use Rattle.wf_def_world.specs.CanSend.{is_request, can_send, has_credit, may_receive, is_ready}
-use Rattle.wf_def_world.specs.Exchanges.{Aggregate, Prepared, picked_station, station_need, with_fresh, aggregate_of, prepared_data, prepared_exchange, with_number, after_pick, after_tid_turn, first_tid, other_tid, sending_tid, exchange_of, with_exchange_opened, without_credit}
+use Rattle.wf_def_world.specs.CanSend.{is_request, has_credit, may_receive, is_ready}
+use Rattle.wf_def_world.specs.Exchanges.{Aggregate, Prepared, picked_station, station_need, with_fresh, aggregate_of, prepared_data, prepared_exchange, with_number, after_pick, after_tid_turn, sending_tid, exchange_of, with_exchange_opened, without_credit}
 use Rattle.wf_def_world.specs.Step.{outcome_of, send_outcome, pull_outcome_for, pull_outcome, step}
-use Rattle.wf_law_rules.proofs.Lemmas.Numbers.{on_if}
 use Rattle.wf_law_rules.proofs.Lemmas.Counts.{listed-some}
 use Rattle.wf_law_rules.proofs.Lemmas.Tables.{at_put_same, at_put_other}
 use Rattle.wf_law_runs.specs.Queues.{KeepsQueues}
@@ -27,7 +26,7 @@ use Rattle.wf_law_runs.proofs.Windows.Sides.{live_on}
 use Rattle.wf_law_runs.proofs.Windows.Opened.{pick_ready}
 use Rattle.wf_law_runs.proofs.Frames.Delivered.{less_pulled}
 use Rattle.wf_law_runs.proofs.Releases.Placed.{Any}
-use Rattle.wf_law_runs.proofs.Deficits.Books.{cases_class}
+use Rattle.wf_law_runs.proofs.Deficits.Books.{cases_class, same_number}
 use Rattle.wf_law_runs.proofs.Deficits.Mild.{Lists}
 use Rattle.wf_queue_flows_refines.specs.Standing.{Part}
 use Rattle.wf_queue_flows_refines.proofs.Leaves.{pick_alone}
@@ -37,6 +36,7 @@ use Rattle.wf_send_half_model.proofs.Apart.{IsApart, apart_pulled}
 use Rattle.wf_send_half_model.proofs.Steady.{asks, receives, receives_on_station}
 use Rattle.wf_send_half_model.proofs.Spared.{IsSameTid, ready_same_by, queued_same, ready_stepped, ready_others, ready_after_pick, winner_live}
 use Rattle.wf_send_half_model.proofs.OwnClass.{lower_class, upper_class}
+use Rattle.wf_send_half_model.proofs.ChargedClass.{sending_class, owed_append}
 use Rattle.wf_send_half_model.proofs.Beyond.{IsBeyond, beyond_here, beyond_then, beyond_on_session, beyond_on_share, beyond_finish, tid_on_station, on_station_opened}
 
 -- ---- the parts
@@ -118,16 +118,6 @@ beyond_turn : (w : World) (s : ℕ) (c : Class) (t : ℕ) → IsBeyond s t w (af
 unfolding after_tid_turn
 beyond_turn w s c t = beyond_on_share w s t c _
 
--- ---- the TID that sends belongs to the class
-
-sending_class : (w : World) (s : ℕ) (d : Class) → class_of (sending_tid w s d) ≡ d
-sending_class w s d =
-    on_if (λ (t : ℕ). class_of t ≡ d) (can_send w s (first_tid w s d)) (first_tid w s d) (other_tid w s d)
-    (λ _. on_if (λ (t : ℕ). class_of t ≡ d) (share w s d).upper (upper_tid d) (lower_tid d)
-    (λ _. upper_class d) (λ _. lower_class d))
-    (λ _. on_if (λ (t : ℕ). class_of t ≡ d) (share w s d).upper (lower_tid d) (upper_tid d)
-    (λ _. lower_class d) (λ _. upper_class d))
-
 -- ---- the exchange opens, and the credit is spent
 
 sent_tids : (s t j : ℕ) (d : Class) (p : Prepared) →
@@ -177,10 +167,12 @@ no_credit (Some x) d c other h = go x.asleep x.credit h
 sent_receives : (s t : ℕ) (d c : Class) (p : Prepared) → (d ≡ c → ⊥) → may_receive p.world s d ≡ true →
     may_receive (send_outcome s t d p).world s c ≡ may_receive p.world s c
 unfolding send_outcome without_credit with_exchange_opened on_station with_station
-sent_receives s t d c p other h =
-    ap (receives c) (at_put_same None p.world.stations s
+sent_receives s t d c p other h = ap₂ (λ (a b : Bool). a && b)
+    (ap (receives c) (at_put_same None p.world.stations s
     (option_map (λ (x : Station). record x { credit = None }) (at None p.world.stations s)))
-    ∙ no_credit (at None p.world.stations s) d c other h
+    ∙ no_credit (at None p.world.stations s) d c other (and_parts _ _ h).0)
+    (ap (λ (n : ℕ). (p.world.config.aql == 0) || nat_lt n p.world.config.aql)
+    (owed_append s c p.world.opened (exchange_of s t d p) (λ e. other (same_number d c e))))
 
 -- ---- the pull
 

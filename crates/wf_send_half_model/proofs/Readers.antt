@@ -10,9 +10,9 @@ use Rattle.wf_frame.specs.Classes.{lower_tid, upper_tid, same_class, tid_number}
 use Rattle.wf_frame.specs.Frames.{FrameValue}
 use Rattle.wf_def_agreement.specs.Session.{request_due, has_room}
 use Rattle.wf_def_lists.specs.Table.{at, upto, count_from}
-use Rattle.wf_def_world.specs.World.{World, Station, Exchange, Content, Frames, Request, is_live, session, exchange, owed_by_all}
+use Rattle.wf_def_world.specs.World.{World, Station, Exchange, Content, Frames, Request, is_live, session, exchange, owed, owed_by_all}
 use Rattle.wf_def_world.specs.FlowQueues.{frames_queued as world_queued}
-use Rattle.wf_def_world.specs.CanSend.{is_request as world_request, request_open, has_waiting, can_give, can_send, has_credit, can_send_in, may_receive, is_ready}
+use Rattle.wf_def_world.specs.CanSend.{is_request as world_request, request_open, has_waiting, can_give, can_send, has_credit, can_send_in, is_below_aql, may_receive, is_ready}
 use Rattle.wf_def_world.specs.Refusals.{is_at_aql_total, open_of_station, open_of_class, can_send_any, queued_in_class}
 use Rattle.wf_def_world.specs.Step.{class_to_send}
 use Rattle.wf_queue_flows.specs.Flows.{frames_of_tid}
@@ -22,11 +22,10 @@ use Rattle.wf_send_parts.proofs.Calls.{due_is, can_take_is}
 use Rattle.wf_send_parts.proofs.Counting.{some_waits}
 use Rattle.wf_send_parts.specs.Windows.{window_of}
 use Rattle.wf_send_parts.specs.declared.exchanges.opened.Open.{Open}
-use Rattle.wf_send_parts.specs.Exchanges.{sending_is_request, asks, airtime_of}
+use Rattle.wf_send_parts.specs.Exchanges.{sending_is_request, asks, airtime_of, airtime_to}
 use Rattle.wf_send_parts.specs.declared.stations.members.Member.{Member}
 use Rattle.wf_send_parts.specs.Members.{member}
-use Rattle.wf_send_parts.specs.Sleepers.{sleeper}
-use Rattle.wf_send_half_model.specs.Half.{TransmitValue, some_wait, can_send_of, is_ready_of, is_ahead_of}
+use Rattle.wf_send_half_model.specs.Half.{TransmitValue, some_wait, can_send_of, is_below_aql_of, may_receive_of, is_ready_of, is_ahead_of}
 use Rattle.wf_send_half_model.specs.Standing.{sending_of, open_of, IsMember, AreBoth, Parts}
 
 -- ---- open exchanges
@@ -94,6 +93,22 @@ pub ahead_same : (v : TransmitValue) (w : World) (bodies : ℕ → FrameValue) �
     is_ahead_of v ≡ is_at_aql_total w
 ahead_same v w bodies h = ap₂ (λ (limit n : ℕ). nat_lt 0 limit && nat_le limit n)
     (ap (λ x. x.aql_total) h.others.config) (airtime_same v w bodies h)
+
+airtime_to_among : (xs : List Exchange) (s : ℕ) (c : Class) → airtime_to (map open_of xs) s c ≡ owed s c xs
+airtime_to_among [] s c = refl
+airtime_to_among (x ∷ xs) s c =
+    ap (λ (n : ℕ). (if (x.station == s) && same_class x.class c then x.charge else 0) + n)
+    (airtime_to_among xs s c)
+
+pub airtime_to_same : (v : TransmitValue) (w : World) (bodies : ℕ → FrameValue) (s : ℕ) (c : Class) →
+    Parts v w bodies → airtime_to v.opened s c ≡ owed s c w.opened
+airtime_to_same v w bodies s c h = ap (λ (xs : List Open). airtime_to xs s c) h.others.opened
+    ∙ airtime_to_among w.opened s c
+
+pub below_aql_same : (v : TransmitValue) (w : World) (bodies : ℕ → FrameValue) (s : ℕ) (c : Class) →
+    Parts v w bodies → is_below_aql_of v s c ≡ is_below_aql w s c
+below_aql_same v w bodies s c h = ap₂ (λ (limit n : ℕ). (limit == 0) || nat_lt n limit)
+    (ap (λ x. x.aql) h.others.config) (airtime_to_same v w bodies s c h)
 
 -- ---- stations
 
@@ -178,11 +193,12 @@ ready_same v w bodies c s h = elim (cases_Bool (is_live w s)) [
   | inl live ↦
       ap₂ (λ (a b : Bool). a && b) (live_same v w bodies s h)
       (ap₂ (λ (a b : Bool). a && b) (can_send_in_same v w bodies s c h live)
+      (ap₂ (λ (a b : Bool). a && b)
       (ap₂ (λ (a : Bool) (k : Option Class). not a || has_credit k c) (h.others.stations.asleep s live)
-      (h.others.stations.credit s live)))
+      (h.others.stations.credit s live)) (below_aql_same v w bodies s c h)))
   | inr off ↦
       ap (λ (b : Bool). b && ((can_send_of v s (lower_tid c) || can_send_of v s (upper_tid c))
-      && (not (sleeper v.sleepers s).asleep || has_credit (sleeper v.sleepers s).credit c)))
+      && may_receive_of v s c))
       (live_same v w bodies s h ∙ off)
       ∙ ap (λ (b : Bool). b && (can_send_in w s c && may_receive w s c)) (sym off)
 ]

@@ -1,10 +1,11 @@
 -- Proves that a call does not change the readiness of a station that it does not concern, in each class in
 -- which the limit drops none of its frames. By cases of the call: it changes nothing that readiness reads.
-use Rattle.std.proofs.Common.{◌≡◌, refl, ap, sym, ◌∙◌, subst, arith, ℕ, suc, ◌<◌, ◌≤◌, Bool, true, false, not, ◌&&◌, ◌||◌, if◌then◌else◌, nat_lt, List, [], ◌∷◌, ◌++◌, length, Option, Some, None, unwrap_or, option_map, inl, inr, sum_by, is_some, IfSome}
+use Rattle.std.proofs.Common.{◌≡◌, refl, ap, ap₂, sym, ◌∙◌, subst, arith, ℕ, suc, ◌==◌, ◌<◌, ◌≤◌, Bool, true, false, not, ◌&&◌, ◌||◌, if◌then◌else◌, nat_lt, List, [], ◌∷◌, ◌++◌, length, Option, Some, None, unwrap_or, option_map, inl, inr, sum_by, is_some, IfSome}
 use Rattle.std.proofs.lemmas.Bool.{cases_eq, not-false, and_parts, ltb-true, lt-ltb}
 use Rattle.std.proofs.lemmas.List.{length-append}
 use Rattle.std.proofs.lemmas.List.Sums.{sum_by-cons}
 use Rattle.wf_frame.specs.declared.classes.Class.{Class}
+use Rattle.wf_frame.specs.declared.settings.Config.{Config}
 use Rattle.wf_frame.specs.declared.notes.Note.{Note}
 use Rattle.wf_frame.specs.declared.notes.Note.TheVariants.{Enqueue, Asked}
 use Rattle.wf_frame.specs.declared.notes.Ask.TheVariants.{Join, Leave, Rate, Tick, Pull, Arrive, Answer, Done, Sleep, Wake, Poll, Rx, Reap}
@@ -206,8 +207,11 @@ module _ (w v : World) (i s : ℕ) (other : s ≡ i → ⊥) (m : IsMild i w v) 
       let same : option_map sends (at None v.stations s) ≡ option_map sends (at None w.stations s) =
       m.stations s other in
       ready_same_by w v c s (live_same (at None v.stations s) (at None w.stations s) same)
+      (ap₂ (λ (a b : Bool). a && b)
       (sends_same (λ x. not x.asleep || has_credit x.credit c) (λ x. refl) (at None v.stations s)
       (at None w.stations s) same)
+      (ap₂ (λ (config : Config) (n : ℕ). (config.aql == 0) || nat_lt n config.aql) m.config
+      (m.airtime s c other)))
       (tid_same (lower_tid c) (lower_low c) lower) (tid_same (upper_tid c) (upper_low c) upper)
 
 -- ---- an enqueue shortens only the queue that loses its head

@@ -1,9 +1,10 @@
 -- Proves that some calls change the readiness of no station: a rate, a tick, an Arrive, an Answer, a receive
 -- charge and a reap. They change no session, queue or open request, nor which stations may receive.
-use Rattle.std.proofs.Common.{◌≡◌, refl, ap, ap₂, sym, ◌∙◌, ℕ, Bool, true, not, ◌&&◌, ◌||◌, List, [], ◌∷◌, length, Option, Some, None, unwrap_or, option_map, map, sum_by}
+use Rattle.std.proofs.Common.{◌≡◌, refl, ap, ap₂, sym, ◌∙◌, ℕ, Bool, true, not, ◌&&◌, ◌||◌, List, [], ◌∷◌, length, Option, Some, None, unwrap_or, option_map, map, sum_by, nat_lt}
 use Rattle.std.specs.Prelude.{◌==◌}
 use Rattle.std.specs.List.{list_any}
 use Rattle.wf_frame.specs.declared.classes.Class.{Class}
+use Rattle.wf_frame.specs.declared.settings.Config.{Config}
 use Rattle.wf_frame.specs.declared.notes.AskedRate.{AskedRate}
 use Rattle.wf_frame.specs.declared.notes.Note.{Note}
 use Rattle.wf_frame.specs.declared.notes.Note.TheVariants.{Enqueue, Asked}
@@ -12,11 +13,12 @@ use Rattle.wf_frame.specs.Classes.{lower_tid, upper_tid}
 use Rattle.wf_def_lists.specs.Table.{at}
 use Rattle.wf_def_rotation.specs.Rotation.{in_order}
 use Rattle.wf_def_agreement.specs.Receiver.{Receiver}
-use Rattle.wf_def_world.specs.World.{World, Station, Exchange, no_station, exchange, on_station, with_station, on_tid, on_receiver, on_share, with_exchange}
-use Rattle.wf_def_world.specs.CanSend.{is_request, request_open, has_credit, may_receive, is_ready}
+use Rattle.wf_def_world.specs.World.{World, Station, Exchange, no_station, owed, exchange, on_station, with_station, on_tid, on_receiver, on_share, with_exchange}
+use Rattle.wf_def_world.specs.CanSend.{is_request, request_open, has_credit, is_below_aql, may_receive, is_ready}
 use Rattle.wf_def_world.specs.Step.{Outcome, outcome_of, step, outcome_where_open, rate_outcome, tick_outcome, arrive_outcome, answer_outcome, rx_outcome, reap_outcome}
 use Rattle.wf_law_rules.proofs.Lemmas.Tables.{each_put}
 use Rattle.wf_law_runs.proofs.Deficits.Books.{Books, books, core}
+use Rattle.wf_law_runs.proofs.Deficits.Openings.{owed-core}
 use Rattle.wf_law_runs.proofs.Deficits.Kept.{IsKept}
 use Rattle.wf_law_runs.proofs.Deficits.KeptStep.{IsFound, books_arrived, books_answered}
 use Rattle.wf_queue_flows_refines.specs.Standing.{Part, flows_part}
@@ -65,12 +67,22 @@ receives_mapped f h c None = refl
 receives_mapped f h c (Some x) = ap₂ (λ (b : Bool) (o : Option Class). not b || has_credit o c) (h.asleep x)
     (h.credit x)
 
-pub receives_on_station : (w : World) (i : ℕ) (f : Station → Station) → KeepsSleep f → (s : ℕ) (c : Class) →
-    may_receive (on_station w i f) s c ≡ may_receive w s c
+heard_on_station : (w : World) (i : ℕ) (f : Station → Station) → KeepsSleep f → (s : ℕ) (c : Class) →
+    receives c (at None (on_station w i f).stations s) ≡ receives c (at None w.stations s)
 unfolding on_station with_station
-receives_on_station w i f h s c =
+heard_on_station w i f h s c =
     each_put (λ y o. receives c o ≡ receives c (at None w.stations y)) None w.stations i
     (option_map f (at None w.stations i)) (λ y. refl) (receives_mapped f h c (at None w.stations i)) s
+
+pub below_on_station : (w : World) (i : ℕ) (f : Station → Station) (s : ℕ) (c : Class) →
+    is_below_aql (on_station w i f) s c ≡ is_below_aql w s c
+unfolding on_station with_station
+below_on_station w i f s c = refl
+
+pub receives_on_station : (w : World) (i : ℕ) (f : Station → Station) → KeepsSleep f → (s : ℕ) (c : Class) →
+    may_receive (on_station w i f) s c ≡ may_receive w s c
+receives_on_station w i f h s c = ap₂ (λ (a b : Bool). a && b) (heard_on_station w i f h s c)
+    (below_on_station w i f s c)
 
 requests_on_station : (w : World) (i : ℕ) (f : Station → Station) (s t : ℕ) →
     request_open (on_station w i f) s t ≡ request_open w s t
@@ -114,15 +126,21 @@ agreements_marked : (w : World) (z : Exchange) → agreements (with_exchange w z
 unfolding with_exchange
 agreements_marked w z = refl
 
-receives_marked : (w : World) (z : Exchange) (s : ℕ) (c : Class) →
-    may_receive (with_exchange w z) s c ≡ may_receive w s c
+heard_marked : (w : World) (z : Exchange) (s : ℕ) (c : Class) →
+    receives c (at None (with_exchange w z).stations s) ≡ receives c (at None w.stations s)
 unfolding with_exchange
-receives_marked w z s c = refl
+heard_marked w z s c = refl
 
-receives_receiver : (w : World) (i t : ℕ) (f : Receiver → Receiver) (s : ℕ) (c : Class) →
-    may_receive (on_receiver w i t f) s c ≡ may_receive w s c
+heard_receiver : (w : World) (i t : ℕ) (f : Receiver → Receiver) (s : ℕ) (c : Class) →
+    receives c (at None (on_receiver w i t f).stations s) ≡ receives c (at None w.stations s)
 unfolding on_receiver on_tid
-receives_receiver w i t f = receives_on_station w i _ (record { asleep = λ x. refl; credit = λ x. refl })
+heard_receiver w i t f = heard_on_station w i _ (record { asleep = λ x. refl; credit = λ x. refl })
+
+-- the same books have the same airtime in flight
+same_below : (w v : World) → books v ≡ books w → (s : ℕ) (c : Class) → is_below_aql v s c ≡ is_below_aql w s c
+same_below w v e s c = ap₂ (λ (config : Config) (n : ℕ). (config.aql == 0) || nat_lt n config.aql)
+    (ap (λ (b : Books). b.config) e)
+    (sym (owed-core s c v.opened) ∙ ap (λ (b : Books). owed s c b.opened) e ∙ owed-core s c w.opened)
 
 steady_arrived : (w : World) (e i : ℕ) (x : Exchange) → IsKept (books w) → IsFound w e x →
     IsSteady w (arrive_outcome w x i).world
@@ -131,7 +149,9 @@ steady_arrived w e i x kept found = record {
   part = exchange_alone _ _ ∙ receiver_alone w x.station x.tid _;
   agreements = agreements_marked _ _ ∙ agreements_receiver w x.station x.tid _;
   requests = same_requests w (arrive_outcome w x i).world (books_arrived w e i x kept found);
-  receives = λ s c. receives_marked _ _ s c ∙ receives_receiver w x.station x.tid _ s c;
+  receives = λ s c. ap₂ (λ (a b : Bool). a && b)
+      (heard_marked _ _ s c ∙ heard_receiver w x.station x.tid _ s c)
+      (same_below w (arrive_outcome w x i).world (books_arrived w e i x kept found) s c);
 }
 
 steady_answered : (w : World) (e : ℕ) (x : Exchange) → IsKept (books w) → IsFound w e x →
@@ -141,7 +161,8 @@ steady_answered w e x kept found = record {
   part = exchange_alone w _;
   agreements = agreements_marked w _;
   requests = same_requests w (answer_outcome w x).world (books_answered w e x kept found);
-  receives = receives_marked w _;
+  receives = λ s c. ap₂ (λ (a b : Bool). a && b) (heard_marked w _ s c)
+      (same_below w (answer_outcome w x).world (books_answered w e x kept found) s c);
 }
 
 steady_open : (o : Option Exchange) (w : World) (e : ℕ) (f : Exchange → Outcome) → exchange w e ≡ o →

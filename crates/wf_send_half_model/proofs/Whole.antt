@@ -17,7 +17,7 @@ use Rattle.wf_frame.specs.Frames.{FrameValue}
 use Rattle.wf_def_rotation.specs.Rotation.{Rotation, has_key}
 use Rattle.wf_def_world.specs.Rates.{rate_asked}
 use Rattle.wf_def_world.specs.World.{World, Exchange, rotation, is_live, exchange, on_station, on_tid, on_receiver, on_share, with_station, with_exchange}
-use Rattle.wf_def_world.specs.CanSend.{has_credit, is_ready, with_listings_of}
+use Rattle.wf_def_world.specs.CanSend.{is_ready, with_listings_of}
 use Rattle.wf_def_world.specs.Refusals.{refusal, refusals}
 use Rattle.wf_def_world.specs.Step.{outcome_of, outcome_where_open, station_of, after_refusal, judged_outcome, step, arrive_outcome, answer_outcome, class_to_send, tick_outcome, rate_outcome, sleep_outcome, wake_outcome, poll_outcome, rx_outcome, join_outcome}
 use Rattle.wf_law_runs.specs.Windows.{OpenRises}
@@ -33,7 +33,7 @@ use Rattle.wf_send_parts.specs.Window.{WindowValue}
 use Rattle.wf_send_parts.specs.declared.stations.members.Member.{Member}
 use Rattle.wf_send_parts.specs.Members.{member, on_member, new_member, with_rate, with_receipt}
 use Rattle.wf_send_parts.specs.Sleepers.{sleeper, with_sleeper, awake}
-use Rattle.wf_send_half_model.specs.Half.{TransmitValue, can_send_of, is_ready_of}
+use Rattle.wf_send_half_model.specs.Half.{TransmitValue, can_send_of, may_receive_of, is_ready_of}
 use Rattle.wf_send_half_model.specs.Standing.{Parts, IsReached, StandsFor, Meets}
 use Rattle.wf_send_half_model.specs.Changes.{after_listing, AreReset}
 use Rattle.wf_send_half_model.proofs.Reached.{by_law, reached_step}
@@ -79,7 +79,7 @@ same_ready : (v : TransmitValue) (s : ℕ) (f : Member → Member) (turns : Sche
     ≡ is_ready_of v c s
 same_ready v s f turns low c = ap (λ (b : Bool). b
     && ((can_send_of v s (lower_tid c) || can_send_of v s (upper_tid c))
-    && (not (sleeper v.sleepers s).asleep || has_credit (sleeper v.sleepers s).credit c)))
+    && may_receive_of v s c))
     (member_kept v.members s f low)
 
 rate_lists : (w : World) (s : ℕ) (rate : AskedRate) (c : Class) →

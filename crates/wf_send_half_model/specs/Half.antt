@@ -14,7 +14,7 @@ use Rattle.wf_send_parts.specs.declared.window.place.Place.TheVariants.{Waiting 
 use Rattle.wf_send_parts.specs.Window.{WindowValue, waits, can_take}
 use Rattle.wf_send_parts.specs.Windows.{new_window, window_of}
 use Rattle.wf_send_parts.specs.declared.exchanges.opened.Open.{Open}
-use Rattle.wf_send_parts.specs.Exchanges.{asks, airtime_of}
+use Rattle.wf_send_parts.specs.Exchanges.{asks, airtime_of, airtime_to}
 use Rattle.wf_send_parts.specs.declared.stations.members.Member.{Member}
 use Rattle.wf_send_parts.specs.Members.{member}
 use Rattle.wf_send_parts.specs.declared.stations.sleepers.Sleeper.{Sleeper}
@@ -64,13 +64,23 @@ can_send_of v s t =
     if is_some x.due then not (asks v.opened s t)
     else some_wait x || (nat_lt 0 (frames_of_tid v.flows (tid_number s t)) && can_take x)
 
--- whether a station is ready in a class: it is live, one of its two TIDs of the class can send, and it is
--- awake or has the credit of the class
+-- whether the airtime in flight to a station in a class is below the setting `aql`, which is no limit if it
+-- is 0
+abbrev pub is_below_aql_of : TransmitValue → ℕ → Class → Bool
+is_below_aql_of v s c = (v.config.aql == 0) || nat_lt (airtime_to v.opened s c) v.config.aql
+
+-- whether a station may receive in a class: it is awake, or has a credit for the class, and its airtime in
+-- flight is below the limit
+abbrev pub may_receive_of : TransmitValue → ℕ → Class → Bool
+may_receive_of v s c =
+    (not (sleeper v.sleepers s).asleep || has_credit (sleeper v.sleepers s).credit c) && is_below_aql_of v s c
+
+-- whether a station is ready in a class: it is live, one of its two TIDs of the class can send, and it may
+-- receive in the class
 abbrev pub is_ready_of : TransmitValue → Class → ℕ → Bool
 is_ready_of v c s =
     is_some (member v.members s)
-    && ((can_send_of v s (lower_tid c) || can_send_of v s (upper_tid c))
-    && (not (sleeper v.sleepers s).asleep || has_credit (sleeper v.sleepers s).credit c))
+    && ((can_send_of v s (lower_tid c) || can_send_of v s (upper_tid c)) && may_receive_of v s c)
 
 -- whether the airtime in flight in all classes has reached the setting `aql_total`, which is no limit if it
 -- is 0

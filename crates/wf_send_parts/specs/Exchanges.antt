@@ -1,6 +1,8 @@
 -- Defines queries of an open exchange.
-use Rattle.std.specs.Prelude.{ℕ, ◌+◌, ◌==◌, Bool, true, false, ◌&&◌, List, [], ◌∷◌, length, Option, None, slice_get}
+use Rattle.std.specs.Prelude.{ℕ, ◌+◌, ◌==◌, Bool, true, false, ◌&&◌, List, [], ◌∷◌, length, Option, None, slice_get, if◌then◌else◌}
 use Rattle.std.specs.List.{list_any}
+use Rattle.wf_frame.specs.declared.classes.Class.{Class}
+use Rattle.wf_frame.specs.Classes.{same_class}
 use Rattle.wf_send_parts.specs.declared.exchanges.opened.Open.{Open}
 use Rattle.wf_send_parts.specs.declared.exchanges.opened.Sending.{Sending}
 use Rattle.wf_send_parts.specs.declared.exchanges.opened.Sending.TheVariants.{Data, Request}
@@ -32,6 +34,12 @@ is_request_of s t x = (x.station == s) && ((x.tid == t) && sending_is_request x.
 abbrev pub airtime_of : List Open → ℕ
 airtime_of [] = 0
 airtime_of (x ∷ xs) = x.charge + airtime_of xs
+
+-- the computed airtime of those of these exchanges that go to station s in class c, in microseconds
+abbrev pub airtime_to : List Open → ℕ → Class → ℕ
+airtime_to [] s c = 0
+airtime_to (x ∷ xs) s c =
+    (if (x.station == s) && same_class x.class c then x.charge else 0) + airtime_to xs s c
 
 -- whether a BlockAckReq to TID t of station s is open
 abbrev pub asks : List Open → ℕ → ℕ → Bool

@@ -5,4 +5,4 @@ mod narrow;
 mod opened;
 
 pub use narrow::widened;
-pub use opened::{MOST_OPEN, Numbers, Open, Opened, Sending};
+pub use opened::{MOST_OPEN, MOST_STATIONS, Numbers, Open, Opened, Sending};

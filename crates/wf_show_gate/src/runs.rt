@@ -1,11 +1,16 @@
 //! The same calls, directly to the machine and through a gate.
+ghost use Rattle.std.specs.Prelude.{◌≡◌, ◌<◌, [], length, OnOk};
 ghost use Rattle.wf_gate.specs.Seats.{IsOf};
 
 use crate::counter::Counter;
 use anyhow::{Context, Result};
-use std::alloc::Global;
+use std::alloc::{AllocError, Global};
+use std::collections::VecDeque;
 use std::sync::Wait;
 use wf_gate::{Gate, Machine, Seat};
+
+/// The number of calls in a burst.
+const BURST: u32 = 16;
 
 /// The octets that the call with this number adds.
 fn octets(call: u32) -> u32 {
@@ -46,4 +51,44 @@ pub fn call_all<R: Wait>(
         sum = next;
     }
     Some(sum)
+}
+
+/// Puts the calls of a burst into an empty queue; `first` is the number of the first call.
+fn fill(calls: &mut VecDeque<u32>, first: u32) -> Result<(), AllocError>
+    requires { calls.old.items ≡ [] }
+    ensures { OnOk result (0 < length calls.new.items) }
+{
+    calls.push_back(octets(first))?;
+    for place in 1..BURST {
+        calls.push_back(octets(first.wrapping_add(place)))?;
+    }
+    Ok(())
+}
+
+/// Makes this many calls by the seat, in bursts; calls that fill no burst are left out. Returns the last sum,
+/// or `None` if the seat has fewer calls left.
+pub fn call_in_bursts<R: Wait>(
+    rt: &R,
+    alloc: Global,
+    gate: &Gate<Counter>,
+    seat: &mut Seat<Counter>,
+    calls: u32,
+) -> Result<Option<u64>, AllocError>
+    requires { IsOf gate.now seat.old }
+{
+    let mut waiting = VecDeque::new(alloc);
+    let mut sums = Vec::new(alloc);
+    let mut sum = 0;
+    for burst in 0..calls / BURST {
+        fill(&mut waiting, burst.wrapping_mul(BURST))?;
+        sums.reserve(waiting.len())?;
+        if gate.call_all(rt, seat, &mut waiting, &mut sums).is_err() {
+            return Ok(None);
+        }
+        if let Some(last) = sums.pop() {
+            sum = last;
+        }
+        sums.clear();
+    }
+    Ok(Some(sum))
 }

@@ -1,14 +1,12 @@
 //! A small program over a path and a peer; docs/USING.md shows its whole text.
 #![tactic(auto)]
 
-ghost use Rattle.wf_path.specs.Jobs.{IsHeard};
-
 use anyhow::{Result, bail, ensure};
 use std::alloc::Global;
-use wf_frame::{Answer, Ask, Brief, Class, Config, Frame, Ids};
+use wf_frame::{Answer, Brief, Class, Config, Frame, Ids};
 use wf_octets::header::{GREATEST_MPDU, base_address, station_address};
 use wf_octets::seq12::Seq12;
-use wf_path::{Job, Path};
+use wf_path::{Path, PathAsk, PathJob};
 use wf_queue_parts::chain::Parcel;
 use wf_recv_peer::Peer;
 
@@ -21,7 +19,7 @@ const WINDOW: u16 = 64;
 
 const START: u16 = 100;
 
-const JOIN: Ask = Ask::Join {
+const JOIN: PathAsk = PathAsk::Join {
     station: STATION,
     window: WINDOW,
     start: START,
@@ -49,9 +47,7 @@ impl Air {
     }
 
     /// Makes a call of the path, and prints the answer. Returns the frame that was refused or reaped, if any.
-    fn call(&mut self, rt: &HostRuntime, job: Job) -> Result<Option<Parcel>>
-        requires { IsHeard job }
-    {
+    fn call(&mut self, rt: &HostRuntime, job: PathJob) -> Result<Option<Parcel>> {
         ensure!(self.path.has_small_counts(), "the path ran for too long");
         let back = self.path.call(job, &mut self.answer);
         println!(rt; "{:?}", self.answer.brief)?;
@@ -64,14 +60,14 @@ impl Air {
         let Ok(parcel) = Parcel::new(rt.alloc(), frame) else {
             bail!("out of memory");
         };
-        let _ = self.call(rt, Job::Give(parcel))?;
+        let _ = self.call(rt, PathJob::Give(parcel))?;
         Ok(())
     }
 
     /// Pulls an exchange, loses the transmission with the index `lost`, and ends it by the station's
     /// BlockAck.
     fn exchange(&mut self, rt: &HostRuntime, lost: Option<u16>) -> Result<()> {
-        let _ = self.call(rt, Job::Call(Ask::Pull { class: Class::Vi }))?;
+        let _ = self.call(rt, PathJob::Pull(Class::Vi))?;
         let Brief::Send { exchange, .. } = self.answer.brief else {
             bail!("nothing to send");
         };
@@ -112,14 +108,14 @@ impl Air {
     /// The station joins and gets three frames, the second of them on its second transmission; then all three
     /// are reaped.
     fn play(&mut self, rt: &HostRuntime) -> Result<()> {
-        let _ = self.call(rt, Job::Call(JOIN))?;
+        let _ = self.call(rt, PathJob::Call(JOIN))?;
         for flow in 0..3 {
             self.enqueue(rt, flow)?;
         }
         self.exchange(rt, Some(1))?;
         self.exchange(rt, None)?;
         for _ in 0..3 {
-            let _ = self.call(rt, Job::Call(Ask::Reap))?;
+            let _ = self.call(rt, PathJob::Reap)?;
         }
         Ok(())
     }

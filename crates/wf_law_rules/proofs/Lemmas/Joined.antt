@@ -35,7 +35,7 @@ has_without x (y ∷ ys) k ne h = go (y == x) refl (either (y == k) (has ys k) h
     go false e (inl a) f = or_left (y == k) (has (without x ys) k) a
     go false e (inr a) f = or_right (y == k) (has (without x ys) k) (f a)
 
-not_more : (xs ys : List ℕ) → IsOnce xs → ((k : ℕ) → has xs k ≡ true → has ys k ≡ true) →
+pub not_more : (xs ys : List ℕ) → IsOnce xs → ((k : ℕ) → has xs k ≡ true → has ys k ≡ true) →
     length xs ≤ length ys
 not_more [] ys o h = omega arith
 not_more (x ∷ xs) ys o h =

@@ -10,12 +10,13 @@ use Rattle.wf_law_runs.proofs.Deficits.Books.{books}
 use Rattle.wf_law_runs.proofs.Deficits.Configs.{config_run}
 use Rattle.wf_law_runs.proofs.Deficits.Kept.{IsKept}
 use Rattle.wf_law_runs.proofs.Deficits.KeptStep.{kept}
-use Rattle.wf_law_runs.proofs.Deficits.Openings.{owed_all-core}
+use Rattle.wf_law_runs.proofs.Deficits.Openings.{owed-core, owed_all-core}
 
 -- The limits hold in a world whose books are kept, by its own settings.
 keeps_in_flight : (w : World) → IsKept (books w) → KeepsInFlight w.config w
 keeps_in_flight w k = record {
   total = λ limited. omega (arith, k.within.total limited, owed_all-core w.opened);
+  station = λ limited s c. omega (arith, k.within.station limited s c, owed-core s c w.opened);
 }
 
 pub in_flight_law : (config : Config) (h : List Entry) → IsInRange config → InFlightLaw config h

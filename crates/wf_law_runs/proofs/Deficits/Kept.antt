@@ -1,6 +1,6 @@
 -- Defines an invariant of the books about each class's lists, the open exchanges and the bounds of the
 -- deficits. Proves that each kind of change keeps it.
-use Rattle.std.proofs.Common.{◌≡◌, ◌≢◌, refl, ap, sym, ◌∙◌, subst, arith, ℕ, zero, suc, ◌+◌, ◌*◌, ◌<◌, ◌≤◌, pos, ◌≤ℤ◌, Bool, true, false, List, [], ◌∷◌, ◌++◌, Option, Some, None, is_some, IfSome, option_map, not, ◌&&◌, find, ◌==◌, eq-eqb, inl, inr}
+use Rattle.std.proofs.Common.{◌≡◌, ◌≢◌, refl, ap, sym, ◌∙◌, subst, arith, ℕ, zero, suc, ◌+◌, ◌*◌, ◌<◌, ◌≤◌, pos, ◌≤ℤ◌, Bool, true, false, if◌then◌else◌, List, [], ◌∷◌, ◌++◌, Option, Some, None, is_some, IfSome, option_map, not, ◌&&◌, find, ◌==◌, eq-eqb, inl, inr}
 use Rattle.std.proofs.lemmas.Bool.{cases_eq, eqb-true, or_parts, and_parts, not_from_true}
 use Rattle.wf_frame.specs.declared.settings.Config.{Config}
 use Rattle.wf_frame.specs.declared.classes.Class.{Class}
@@ -8,7 +8,7 @@ use Rattle.wf_frame.specs.declared.classes.Class.TheVariants.{Bk, Be, Vi, Vo}
 use Rattle.wf_def_lists.specs.Table.{has}
 use Rattle.wf_def_rotation.specs.Rotation.{Rotation, without_key, with_new_key, has_key, in_order, Picked, need_of}
 use Rattle.wf_def_air.specs.Airtime.{IsRate}
-use Rattle.wf_def_world.specs.World.{Exchange, owed_by_all}
+use Rattle.wf_def_world.specs.World.{Exchange, owed, owed_by_all}
 use Rattle.wf_frame.specs.Classes.{class_number, same_class}
 use Rattle.wf_frame.specs.Settings.{IsInRange}
 use Rattle.wf_law_runs.specs.Deficits.{longest_computed, longest_exchange, most_owed}
@@ -16,7 +16,7 @@ use Rattle.wf_def_lists.specs.Lists.{on}
 use Rattle.wf_law_rules.proofs.Lemmas.Counts.{on-nil, on-cons_same, on-cons_other, on-append, on-filter_le, on-filter_out, hasnot-on}
 use Rattle.wf_law_runs.proofs.Deficits.Books.{each_upd, upd_other, each_updc, updc_same, cases_class, same_number, Account, core, Books, with_account, with_lists, on_part}
 use Rattle.wf_law_runs.proofs.Deficits.BookSteps.{with_opened, without, charge_share, with_charge, off, all_off, fresh_account, pay_share, paid, all_paid, after}
-use Rattle.wf_law_runs.proofs.Deficits.Openings.{Every, every_map, every_append, every_filter, Rising, rising_append, rising_filter, many, many-more, many-other, many-filter, part_of, reserved, reserved-append, reserved-filter, reserved-ended, reserved_most, owed_all-filter}
+use Rattle.wf_law_runs.proofs.Deficits.Openings.{Every, every_map, every_append, every_filter, Rising, rising_append, rising_filter, many, many-more, many-other, many-filter, part_of, reserved, reserved-append, reserved-filter, reserved-ended, reserved_most, owed-filter, owed-append, owed_all-filter, owed_all-append}
 use Rattle.wf_law_runs.proofs.Deficits.Bounds.{IsBounded, paid_least, bounded_pay, bounded_open, bounded_less, bounded_charge, bounded_fresh}
 
 -- The invariant of an open exchange.
@@ -36,9 +36,10 @@ pub record IsGood (config : Config) (opened : List Exchange) (s : ℕ) (a : Acco
   pub rate : IsRate a.rate
   pub bounds : (c : Class) → IsBounded config (at_stake config s c opened) a.weight (a.shares c)
 
--- The open exchanges exceed the limit on airtime in flight by less than one exchange.
+-- The open exchanges exceed each limit on airtime in flight by less than one exchange.
 pub record IsWithin (config : Config) (opened : List Exchange) : Type 0 where
   pub total : 1 ≤ config.aql_total → owed_by_all opened < config.aql_total + longest_computed config
+  pub station : 1 ≤ config.aql → (s : ℕ) (c : Class) → owed s c opened < config.aql + longest_computed config
 
 pub record IsKept (b : Books) : Type 0 where
   pub range : IsInRange b.config
@@ -266,6 +267,34 @@ kept_gone b s i away = record {
 
 -- ---- exchanges
 
+-- One exchange more keeps the limits, if what it adds to was below them.
+pub within_opened : (b : Books) (x : Exchange) → IsKept b → x.charge ≤ longest_computed b.config →
+    (1 ≤ b.config.aql_total → owed_by_all b.opened < b.config.aql_total) →
+    (1 ≤ b.config.aql → owed x.station x.class b.opened < b.config.aql) →
+    IsWithin b.config (b.opened ++ core x ∷ [])
+within_opened b x i fit behind below = record {
+  total = λ limited. omega (arith, behind limited, owed_all-append b.opened (core x), fit);
+  station = λ limited s c. each limited s c ((x.station == s) && same_class x.class c) refl;
+}
+  where
+    each : 1 ≤ b.config.aql → (s : ℕ) (c : Class) (t : Bool) →
+        ((x.station == s) && same_class x.class c) ≡ t →
+        owed s c (b.opened ++ core x ∷ []) < b.config.aql + longest_computed b.config
+    each limited s c true t =
+        let both : ((x.station == s) ≡ true) × (same_class x.class c ≡ true) = and_parts _ _ t in
+        let here : owed s c b.opened < b.config.aql =
+        subst (λ (d : Class). owed s d b.opened < b.config.aql) (same_number _ _ (eqb-true _ _ both.1))
+        (subst (λ (n : ℕ). owed n x.class b.opened < b.config.aql) (eqb-true _ _ both.0) (below limited)) in
+        let more : owed s c (b.opened ++ core x ∷ []) ≡ owed s c b.opened + x.charge =
+        owed-append s c b.opened (core x)
+        ∙ ap (λ (z : Bool). owed s c b.opened + (if z then x.charge else 0)) t in
+        omega (arith, here, more, fit)
+    each limited s c false t =
+        let same : owed s c (b.opened ++ core x ∷ []) ≡ owed s c b.opened + 0 =
+        owed-append s c b.opened (core x)
+        ∙ ap (λ (z : Bool). owed s c b.opened + (if z then x.charge else 0)) t in
+        omega (arith, same, i.within.station limited s c)
+
 pub kept_opened : (b : Books) (x : Exchange) → IsKept b → is_some (b.accounts x.station) ≡ true →
     x.number ≡ b.exchanges → x.charge ≤ longest_computed b.config → 1 ≤ x.charge →
     many x.class b.opened < b.config.inflight → IsWithin b.config (b.opened ++ core x ∷ [])
@@ -361,6 +390,11 @@ kept_ended b x e n i found within = record {
       arith,
       owed_all-filter (λ y. not (y.number == e)) b.opened,
       i.within.total limited,
+    );
+    station = λ limited s c. omega (
+      arith,
+      owed-filter s c (λ y. not (y.number == e)) b.opened,
+      i.within.station limited s c,
     );
   };
   goods = each_upd (λ y o. IfSome o (IsGood b.config (without b e).opened y)) b.accounts x.station _

@@ -1,5 +1,5 @@
 -- Proves that each call keeps the invariant of the books, by cases of the call.
-use Rattle.std.proofs.Common.{◌≡◌, ◌≢◌, refl, ap, sym, ◌∙◌, subst, arith, ℕ, ◌+◌, ◌*◌, ◌<◌, ◌≤◌, ℤ, pos, ◌-ℤ◌, ◌≤ℤ◌, Bool, true, false, if◌then◌else◌, cond, List, [], ◌∷◌, Option, Some, None, is_some, IfSome, unwrap_or, option_map, not, ◌&&◌, map, find, nat_lt, int_lt, zero-add, ◌==◌, count_by, nat_le}
+use Rattle.std.proofs.Common.{◌≡◌, ◌≢◌, refl, ap, sym, ◌∙◌, subst, arith, ℕ, ◌+◌, ◌*◌, ◌<◌, ◌≤◌, ℤ, pos, ◌-ℤ◌, ◌≤ℤ◌, Bool, true, false, if◌then◌else◌, cond, List, [], ◌∷◌, Option, Some, None, is_some, IfSome, unwrap_or, option_map, not, ◌&&◌, ◌||◌, map, find, nat_lt, int_lt, zero-add, ◌==◌, count_by, nat_le}
 use Rattle.std.proofs.lemmas.Int.{ints}
 use Rattle.std.proofs.lemmas.Bool.{eqb-true, eqb-false, and_parts, not-true, not-false, leb-true}
 use Rattle.std.proofs.lemmas.Bool.Decides.{nat_tests}
@@ -16,10 +16,10 @@ use Rattle.wf_def_lists.specs.Table.{at}
 use Rattle.wf_def_rotation.specs.Rotation.{with_new_key, has_key, need_of}
 use Rattle.wf_def_lists.specs.Bounds.{greatest_air, deepest_deficit}
 use Rattle.wf_def_air.specs.Airtime.{IsRate}
-use Rattle.wf_def_world.specs.World.{World, Station, Exchange, no_share, no_station, station, share, rotation, is_live, exchange, owed_by_all, with_exchange, with_rotation, on_receiver, on_tid, on_station, with_station, opening}
+use Rattle.wf_def_world.specs.World.{World, Station, Exchange, no_share, no_station, station, share, rotation, is_live, exchange, owed, owed_by_all, with_exchange, with_rotation, on_receiver, on_tid, on_station, with_station, opening}
 use Rattle.wf_law_rules.proofs.Lemmas.Numbers.{le_no}
 use Rattle.wf_frame.specs.Classes.{class_number, all_classes}
-use Rattle.wf_def_world.specs.CanSend.{is_ready, with_listing_in, with_listings_in, with_listings_of}
+use Rattle.wf_def_world.specs.CanSend.{has_credit, can_send_in, is_below_aql, may_receive, is_ready, with_listing_in, with_listings_in, with_listings_of}
 use Rattle.wf_def_world.specs.Exchanges.{Prepared, station_need, picked_station, after_pick, after_tid_turn, prepared_exchange, exchange_of, after_arrival, sending_tid, charge_of}
 use Rattle.wf_def_world.specs.Refusals.{first_refusal, refusals, refusal, open_of_class, is_at_aql_total, is_within}
 use Rattle.wf_def_world.specs.Step.{Outcome, tick_outcome, send_outcome, pull_outcome_for, pull_outcome, arrive_outcome, answer_outcome, outcome_where_open, rx_outcome, outcome_of, after_refusal, judged_outcome, step}
@@ -31,9 +31,9 @@ use Rattle.wf_law_rules.proofs.Lemmas.Counts.{on-nil}
 use Rattle.wf_law_rules.proofs.Lemmas.Rotations.{pick_on, pick_need, IsWinner, pick_winner}
 use Rattle.wf_law_runs.proofs.Deficits.Books.{Account, account, core, Books, books, on_part, each_updc, books_with_rotation, books_on_receiver}
 use Rattle.wf_law_runs.proofs.Deficits.BookSteps.{books_after_turn, books_prepared, books_sent, books_ended, books_gone, books_enqueued, receive_share, books_received, books_reaped, books_slept, books_woken, books_credited, rated, books_with_rate, books_joined, books_after_pick}
-use Rattle.wf_law_runs.proofs.Deficits.Openings.{Every, every_map, every_find, only_one, many, many-count, many-core, owed_all-core, owed_all-append}
+use Rattle.wf_law_runs.proofs.Deficits.Openings.{Every, every_map, every_find, only_one, many, many-count, many-core, owed-core, owed_all-core}
 use Rattle.wf_law_runs.proofs.Deficits.Bounds.{IsBounded, bounded_receive}
-use Rattle.wf_law_runs.proofs.Deficits.Kept.{IsOpen, at_stake, IsGood, IsKept, some_map, if_same, kept_on, kept_add, at_stake_most, kept_fresh, kept_gone, kept_opened, kept_ended, IsPick, kept_after, above_after}
+use Rattle.wf_law_runs.proofs.Deficits.Kept.{IsOpen, at_stake, IsGood, IsKept, some_map, if_same, kept_on, kept_add, at_stake_most, kept_fresh, kept_gone, within_opened, kept_opened, kept_ended, IsPick, kept_after, above_after}
 use Rattle.wf_law_runs.proofs.Deficits.LongestCharge.{charge_most, charge_some}
 
 -- ---- a call that is not refused
@@ -117,6 +117,7 @@ record MaySend (c : Class) (s : ℕ) (b : Books) : Type 0 where
   live : is_some (b.accounts s) ≡ true
   room : many c b.opened < b.config.inflight
   behind : 1 ≤ b.config.aql_total → owed_by_all b.opened < b.config.aql_total
+  below : 1 ≤ b.config.aql → owed s c b.opened < b.config.aql
   above : IfSome (b.accounts s) (λ a. pos 1 ≤ℤ (a.shares c).deficit)
 
 room_left : (w : World) (c : Class) → IsKept (books w) →
@@ -138,6 +139,19 @@ behind_still w off limited = omega (
   not_ahead w.config.aql_total (owed_by_all w.opened) off limited,
 )
 
+below_limit : (limit n : ℕ) → (limit == 0) || nat_lt n limit ≡ true → 1 ≤ limit → n < limit
+below_limit limit n h some = grind (arith, nat_tests)
+
+-- The airtime in flight of a ready station is below its limit, if there is one.
+below_still : (w : World) (c : Class) (s : ℕ) → is_ready w c s ≡ true → 1 ≤ w.config.aql →
+    owed s c (map core w.opened) < w.config.aql
+below_still w c s is limited =
+    let sends : (can_send_in w s c && may_receive w s c) ≡ true = (and_parts (is_live w s) _ is).1 in
+    let may : may_receive w s c ≡ true = (and_parts (can_send_in w s c) _ sends).1 in
+    let below : is_below_aql w s c ≡ true =
+    (and_parts (not (station w s).asleep || has_credit (station w s).credit c) _ may).1 in
+    omega (arith, owed-core s c w.opened, below_limit w.config.aql (owed s c w.opened) below limited)
+
 may_send : (w : World) (c : Class) (s : ℕ) → IsKept (books w) →
     (nat_le w.config.inflight (open_of_class w c)) ≡ false → is_at_aql_total w ≡ false → (picked_station w
     c).winner ≡ Some s →
@@ -149,6 +163,7 @@ may_send w c s i h off won =
       live = some_map _ ((books w).accounts s) ∙ i.live c s winner.listed;
       room = room_left w c i h;
       behind = behind_still w off;
+      below = below_still w c s winner.is_ready;
       above = above_after (books w) c (picked_station w c) s i winner.listed
           (if_same _ _ ((books w).accounts s) (need_is w c s) (λ a _ e. winner.given ∙ e));
     })
@@ -174,14 +189,8 @@ kept_sent v c s t i m =
     let fit : p.charge ≤ longest_computed p.world.config =
     subst (λ (l : ℕ). p.charge ≤ l) (sym cap) (charge_most v s t (i.range.cap.0) (rate_kept v s i)) in
     is _ _ (books_sent s t c p) (kept_opened (books p.world) (exchange_of s t c p) k n.live refl fit
-    (charge_some v s t) n.room (record {
-      total = λ limited. omega (
-        arith,
-        n.behind limited,
-        owed_all-append (books p.world).opened (core (exchange_of s t c p)),
-        fit,
-      );
-    }) n.above)
+    (charge_some v s t) n.room (within_opened (books p.world) (exchange_of s t c p) k fit n.behind n.below)
+    n.above)
 
 kept_pulled_by : (o : Option ℕ) (v : World) (c : Class) → IsKept (books v) →
     ((s : ℕ) → o ≡ Some s → MaySend c s (books v)) → IsKept (books (pull_outcome_for v c o).world)
@@ -246,7 +255,7 @@ units : (xs : List Exchange) → Every (λ _. Unit {0}) xs
 units [] = tt
 units (x ∷ xs) = (tt, units xs)
 
-found_number : (w : World) (e : ℕ) (x : Exchange) → IsFound w e x → x.number ≡ e
+pub found_number : (w : World) (e : ℕ) (x : Exchange) → IsFound w e x → x.number ≡ e
 found_number w e x found = eqb-true _ _ (every_find (λ _. Unit {0}) (λ z. z.number == e) w.opened x
     (units w.opened) found).0
 
@@ -405,7 +414,10 @@ kept_opening config range = record {
   opens = tt;
   rising = tt;
   few = λ c. omega arith;
-  within = record { total = λ limited. omega (arith, limited) };
+  within = record {
+    total = λ limited. omega (arith, limited);
+    station = λ limited s c. omega (arith, limited);
+  };
   goods = λ s. tt;
 }
 

@@ -1,6 +1,6 @@
 -- Defines the changes of a world by which no other station becomes ready (mild changes). Proves that each
 -- part of a call is one.
-use Rattle.std.proofs.Common.{◌≡◌, refl, ap, sym, ◌∙◌, subst, arith, ℕ, ◌+◌, ◌*◌, ◌<◌, ◌≤◌, Bool, true, false, if◌then◌else◌, List, [], ◌∷◌, Option, Some, None, is_some, unwrap_or, option_map, not, ◌&&◌, ◌||◌, length, nat_lt, inl, inr, ◌⊎◌, sum_by}
+use Rattle.std.proofs.Common.{◌≡◌, refl, ap, ap₂, sym, ◌∙◌, subst, arith, ℕ, ◌+◌, ◌*◌, ◌<◌, ◌≤◌, Bool, true, false, if◌then◌else◌, List, [], ◌∷◌, Option, Some, None, is_some, unwrap_or, option_map, not, ◌&&◌, ◌||◌, length, nat_lt, ◌==◌, inl, inr, ◌⊎◌, sum_by}
 use Rattle.std.proofs.lemmas.Bool.{and_parts, ltb-true, lt-ltb}
 use Rattle.std.proofs.lemmas.List.Sums.{sum_by-cons}
 use Rattle.wf_frame.specs.declared.settings.Config.{Config}
@@ -10,10 +10,10 @@ use Rattle.wf_frame.specs.declared.classes.Fate.{Fate}
 use Rattle.wf_def_lists.specs.Table.{at, change}
 use Rattle.wf_def_rotation.specs.Rotation.{Rotation, in_order}
 use Rattle.wf_def_agreement.specs.Session.{waiting_numbers, request_due, has_room}
-use Rattle.wf_def_world.specs.World.{World, Station, Share, Tid, Queue, no_tid, no_station, new_queue, station, tid_of, queue, is_live, with_station, on_station, on_tid, on_share, on_queue, with_rotation, with_fate, with_frame_finished, with_frames_finished}
+use Rattle.wf_def_world.specs.World.{World, Station, Share, Tid, Queue, no_tid, no_station, new_queue, station, tid_of, queue, is_live, owed, with_station, on_station, on_tid, on_share, on_queue, with_rotation, with_fate, with_frame_finished, with_frames_finished}
 use Rattle.wf_frame.specs.Classes.{lower_tid, upper_tid}
 use Rattle.wf_def_world.specs.FlowQueues.{frames_queued}
-use Rattle.wf_def_world.specs.CanSend.{request_open, can_send, has_credit, can_send_in, is_ready}
+use Rattle.wf_def_world.specs.CanSend.{request_open, can_send, has_credit, can_send_in, is_below_aql, may_receive, is_ready}
 use Rattle.wf_law_rules.proofs.Lemmas.Tables.{each_put, at_put_other}
 use Rattle.wf_def_lists.specs.Lists.{on}
 use Rattle.wf_law_rules.proofs.Lemmas.Counts.{on-cons_same, on-cons}
@@ -36,6 +36,7 @@ pub record IsMild (s : ℕ) (w v : World) : Type 0 where
   pub stations : (y : ℕ) → (y ≡ s → ⊥) → option_map sends (at None v.stations y)
       ≡ option_map sends (at None w.stations y)
   pub requests : (y t : ℕ) → (y ≡ s → ⊥) → request_open v y t ≡ request_open w y t
+  pub airtime : (y : ℕ) (c : Class) → (y ≡ s → ⊥) → owed y c v.opened ≡ owed y c w.opened
   pub lengths : (y t q : ℕ) → (y ≡ s → ⊥) → t < 8 → Lists w y t q →
       length (queue v q).items ≤ length (queue w q).items
   pub keys : (y t q : ℕ) → Lists v y t q → Lists w y t q ⊎ Owned w.config y t q
@@ -128,26 +129,33 @@ or_less true b a' b' h k e = ap (λ (z : Bool). z || b') (h refl)
 or_less false b true b' h k e = refl
 or_less false b false b' h k e = k e
 
+-- The limit on airtime in flight holds or not as before.
+below_same : (s : ℕ) (w v : World) → IsMild s w v → (y : ℕ) (c : Class) → (y ≡ s → ⊥) →
+    is_below_aql v y c ≡ is_below_aql w y c
+below_same s w v m y c other = ap₂ (λ (config : Config) (n : ℕ). (config.aql == 0) || nat_lt n config.aql)
+    m.config (m.airtime y c other)
+
+may_receive_same : (s : ℕ) (w v : World) → IsMild s w v → (y : ℕ) (c : Class) → (y ≡ s → ⊥) →
+    may_receive v y c ≡ may_receive w y c
+may_receive_same s w v m y c other = ap₂ (λ (a b : Bool). a && b)
+    (reads (λ x. not x.asleep || has_credit x.credit c) (λ x. refl) s w v m y other)
+    (below_same s w v m y c other)
+
 -- No other station becomes ready.
 pub ready_less : (s : ℕ) (w v : World) → IsMild s w v → (y : ℕ) (c : Class) → (y ≡ s → ⊥) →
     is_ready v c y ≡ true → is_ready w c y ≡ true
 ready_less s w v m y c other h =
-    let parts : (is_live v y ≡ true) × (can_send_in v y c
-    && (not (station v y).asleep || has_credit (station v y).credit c) ≡ true) = and_parts _ _ h in
-    let more : (can_send_in v y c ≡ true) × ((not (station v y).asleep || has_credit (station v y).credit c)
-    ≡ true) = and_parts _ _ parts.1 in
+    let parts : (is_live v y ≡ true) × ((can_send_in v y c && may_receive v y c) ≡ true) =
+    and_parts _ _ h in
+    let more : (can_send_in v y c ≡ true) × (may_receive v y c ≡ true) = and_parts _ _ parts.1 in
     let live : is_live w y ≡ true = sym (live_same s w v m y other) ∙ parts.0 in
     let can : can_send_in w y c ≡ true =
     or_less (can_send v y (lower_tid c)) (can_send v y (upper_tid c)) (can_send w y (lower_tid c))
     (can_send w y (upper_tid c))
     (can_send_less s w v m y (lower_tid c) other (lower_below c))
     (can_send_less s w v m y (upper_tid c) other (upper_below c)) more.0 in
-    let awake : (not (station w y).asleep || has_credit (station w y).credit c) ≡ true =
-    subst (λ (b : Bool). (not b || has_credit (station w y).credit c) ≡ true)
-    (reads (λ x. x.asleep) (λ x. refl) s w v m y other)
-    (subst (λ (o : Option Class). (not (station v y).asleep || has_credit o c) ≡ true)
-    (reads (λ x. x.credit) (λ x. refl) s w v m y other) more.1) in
-    rw (live, can, awake) refl
+    let may : may_receive w y c ≡ true = sym (may_receive_same s w v m y c other) ∙ more.1 in
+    rw (live, can, may) refl
 
 -- ---- sequences of changes
 
@@ -156,6 +164,7 @@ mild_here s w = record {
   config = refl;
   stations = λ y _. refl;
   requests = λ y t _. refl;
+  airtime = λ y c _. refl;
   lengths =
       λ y t q _ _ _. omega arith;
   keys = λ y t q k. inl k;
@@ -167,6 +176,7 @@ mild_then s w u v h k = record {
   config = k.config ∙ h.config;
   stations = λ y other. k.stations y other ∙ h.stations y other;
   requests = λ y t other. k.requests y t other ∙ h.requests y t other;
+  airtime = λ y c other. k.airtime y c other ∙ h.airtime y c other;
   lengths = λ y t q other below on_list.
       let first : length (queue u q).items ≤ length (queue w q).items = h.lengths y t q other below on_list in
       let second : length (queue v q).items ≤ length (queue u q).items =
@@ -213,6 +223,7 @@ mild_on_tid w s t f h = record {
   config = refl;
   stations = λ y other. ap (option_map sends) (at_put_other None w.stations s y _ (λ e. other (sym e)));
   requests = λ y j _. refl;
+  airtime = λ y c _. refl;
   lengths = λ y j q _ _ _. omega arith;
   keys = λ y j q. each_put (λ y o. (j q : ℕ) → 0
       < on (in_order (at no_tid (unwrap_or o no_station).tids j).queues) q → Lists w y j q ⊎
@@ -238,6 +249,7 @@ mild_on_station w s f h = record {
   config = refl;
   stations = λ y other. ap (option_map sends) (at_put_other None w.stations s y _ (λ e. other (sym e)));
   requests = λ y j _. refl;
+  airtime = λ y c _. refl;
   lengths = λ y j q _ _ _. omega arith;
   keys = λ y j q k. inl (each_put (λ y o. (j q : ℕ) →
       0 < on (in_order (at no_tid (unwrap_or o no_station).tids j).queues) q → Lists w y j q) None w.stations
@@ -260,6 +272,7 @@ mild_on_share s w i c f = record {
   stations = λ y _. each_put (λ y o. option_map sends o ≡ option_map sends (at None w.stations y)) None
       w.stations i _ (λ y. refl) (hidden_sends _ (λ x. refl) (at None w.stations i)) y;
   requests = λ y j _. refl;
+  airtime = λ y c _. refl;
   lengths = λ y j q _ _ _. omega arith;
   keys = λ y j q k. inl (each_put (λ y o. (j q : ℕ) →
       0 < on (in_order (at no_tid (unwrap_or o no_station).tids j).queues) q → Lists w y j q) None w.stations
@@ -277,6 +290,7 @@ mild_with_station w s o none h = record {
   config = refl;
   stations = λ y other. ap (option_map sends) (at_put_other None w.stations s y o (λ e. other (sym e)));
   requests = λ y j _. refl;
+  airtime = λ y c _. refl;
   lengths = λ y j q _ _ _. omega arith;
   keys = each_put (λ y z. (j q : ℕ) → 0 < on (in_order (at no_tid (unwrap_or z no_station).tids j).queues) q →
       Lists w y j q ⊎ Owned w.config y j q) None w.stations s o (λ y j q k. inl k)
@@ -294,6 +308,7 @@ mild_on_queue s w q f h = record {
   config = refl;
   stations = λ y _. refl;
   requests = λ y t _. refl;
+  airtime = λ y c _. refl;
   lengths = λ y t p _ _ _. each_put (λ p x. length x.items ≤ length (queue w p).items) new_queue w.queues q
       (f (queue w q)) (λ p. omega arith) h p;
   keys = λ y t p k. inl k;
@@ -306,6 +321,7 @@ mild_with_rotation s w c r = record {
   config = refl;
   stations = λ y _. refl;
   requests = λ y t _. refl;
+  airtime = λ y c _. refl;
   lengths = λ y t q _ _ _. omega arith;
   keys = λ y t q k. inl k;
   live = λ y k. inl k;
@@ -317,6 +333,7 @@ mild_finish s w fate id = record {
   config = refl;
   stations = λ y _. refl;
   requests = λ y t _. refl;
+  airtime = λ y c _. refl;
   lengths =
       λ y t q _ _ _. omega arith;
   keys = λ y t q k. inl k;

@@ -14,7 +14,7 @@ use Rattle.wf_def_codel.specs.Codel.{Item, Dequeued}
 use Rattle.wf_def_rotation.specs.Rotation.{Rotation, no_keys, has_key, in_order, with_new_key, Picked}
 use Rattle.wf_def_agreement.specs.Session.{Session}
 use Rattle.wf_def_agreement.specs.Receiver.{Receiver}
-use Rattle.wf_def_world.specs.World.{World, Station, Tid, Queue, Exchange, Mpdu, Content, Frames, Request, no_tid, no_station, new_queue, new_tid, tid_of, queue, is_live, live_stations, exchange, with_station, on_station, on_tid, on_session, on_receiver, with_queues, on_queue, with_exchange, without_exchange}
+use Rattle.wf_def_world.specs.World.{World, Station, Tid, Queue, Exchange, Mpdu, Content, Frames, Request, no_tid, no_station, new_queue, new_tid, tid_of, queue, is_live, live_stations, owed, exchange, with_station, on_station, on_tid, on_session, on_receiver, with_queues, on_queue, with_exchange, without_exchange}
 use Rattle.wf_def_world.specs.FlowQueues.{without_head, after_limit, is_listed_elsewhere, goes_over, overflow_queue, queue_for, when_listed, with_listed_queue, with_appended, after_put_in, with_queues_paid, taken_by_codel, taken_from_picked, taken_for_tid, picked_queue, queue_need, has_frames, after_queue_left, after_queues_left}
 use Rattle.wf_def_world.specs.CanSend.{is_request}
 use Rattle.wf_def_world.specs.Exchanges.{Aggregate, Prepared, picked_station, with_station_paid, with_stations_paid, after_pick, after_tid_turn, with_number, with_fresh, aggregate_of, prepared_data, prepared_exchange, without_credit, exchange_of, with_exchange_opened, after_charge, with_failed_finished, with_settled, with_all_settled, after_done, sending_tid, after_arrival}
@@ -25,7 +25,7 @@ use Rattle.wf_def_lists.specs.Lists.{on}
 use Rattle.wf_law_rules.proofs.Lemmas.Counts.{on-nil, on-cons_same, on-cons_other, on-append, on-filter, hasnot-on}
 use Rattle.wf_law_rules.proofs.Lemmas.Rotations.{pick_on}
 use Rattle.wf_law_runs.proofs.Deficits.Books.{core, books}
-use Rattle.wf_law_runs.proofs.Deficits.Openings.{Every, every_map}
+use Rattle.wf_law_runs.proofs.Deficits.Openings.{Every, every_map, owed-core, owed-others_append, owed-others_filter}
 use Rattle.wf_law_runs.proofs.Deficits.Kept.{IsKept, added-on}
 use Rattle.wf_law_runs.proofs.Deficits.KeptStep.{NoRow, IsFound, only_this, replaced}
 use Rattle.wf_law_runs.proofs.Deficits.Mild.{sends, Lists, Owned, IsMild, mild_here, mild_then, mild_if, mild_on_tid, mild_on_station, mild_on_share, mild_with_station, mild_on_queue, mild_with_rotation, mild_finish, mild_finish_all}
@@ -196,11 +196,13 @@ asks-filter y t p (x ∷ xs) h = elim (cases_Bool (p x)) [
 -- Only the open exchanges change.
 mild_opened : (s : ℕ) (w : World) (xs : List Exchange) (n : ℕ) →
     ((y t : ℕ) → (y ≡ s → ⊥) → asks y t xs ≡ asks y t w.opened) →
+    ((y : ℕ) (c : Class) → (y ≡ s → ⊥) → owed y c xs ≡ owed y c w.opened) →
     IsMild s w (record w { opened = xs; exchanges = n })
-mild_opened s w xs n h = record {
+mild_opened s w xs n h k = record {
   config = refl;
   stations = λ y _. refl;
   requests = h;
+  airtime = k;
   lengths =
       λ y t q _ _ _. omega arith;
   keys = λ y t q k. inl k;
@@ -211,14 +213,20 @@ mild_opening : (w : World) (x : Exchange) → IsMild x.station w (with_exchange_
 unfolding with_exchange_opened
 mild_opening w x = mild_opened x.station w (w.opened ++ x ∷ []) (w.exchanges + 1)
     (λ y t other. asks-append y t w.opened x (λ e. other (sym e)))
+    (λ y c other. owed-others_append y c w.opened x (λ e. other (sym e)))
 
 mild_without : (w : World) (e s : ℕ) → Every (λ y. y.number ≡ e → y.station ≡ s) w.opened →
     IsMild s w (without_exchange w e)
 unfolding without_exchange
 mild_without w e s h = mild_opened s w (filter (λ y. not (y.number == e)) w.opened) w.exchanges
-    (λ y t other. asks-filter y t (λ y. not (y.number == e)) w.opened
-    (every_map (λ z. z.number ≡ e → z.station ≡ s) (λ z. not (z.number == e) ≡ false → z.station ≡ y → ⊥)
-    (λ z k not_it is. other (sym is ∙ k (eqb-true _ _ (not-false _ not_it)))) w.opened h))
+    (λ y t other. asks-filter y t (λ y. not (y.number == e)) w.opened (only_of_s y other))
+    (λ y c other. owed-others_filter y c (λ y. not (y.number == e)) w.opened (only_of_s y other))
+  where
+    only_of_s : (y : ℕ) → (y ≡ s → ⊥) →
+        Every (λ z. not (z.number == e) ≡ false → z.station ≡ y → ⊥) w.opened
+    only_of_s y other = every_map (λ z. z.number ≡ e → z.station ≡ s)
+        (λ z. not (z.number == e) ≡ false → z.station ≡ y → ⊥)
+        (λ z k not_it is. other (sym is ∙ k (eqb-true _ _ (not-false _ not_it)))) w.opened h
 
 mild_exchange : (s : ℕ) (w : World) (x : Exchange) →
     Every (λ y. y.number ≡ x.number → core y ≡ core x) w.opened → IsMild s w (with_exchange w x)
@@ -227,6 +235,8 @@ mild_exchange s w x h = mild_opened s w (map (λ y. if y.number == x.number then
     w.exchanges (λ y t _.
     sym (asks-core y t (map (λ y. if y.number == x.number then x else y) w.opened))
     ∙ (ap (asks y t) (replaced x w.opened h) ∙ asks-core y t w.opened))
+    (λ y c _. sym (owed-core y c (map (λ y. if y.number == x.number then x else y) w.opened))
+    ∙ (ap (owed y c) (replaced x w.opened h) ∙ owed-core y c w.opened))
 
 mild_sent : (s t : ℕ) (c : Class) (p : Prepared) → IsMild s p.world (send_outcome s t c p).world
 unfolding send_outcome without_credit
@@ -451,6 +461,7 @@ mild_appended w s q x h = record {
   config = refl;
   stations = λ y _. refl;
   requests = λ y t _. refl;
+  airtime = λ y c _. refl;
   lengths = λ y j p other below k. elim (cases_eq p q) [
     | inl e ↦ absurd (h y j other below (subst (λ (z : ℕ). Lists w y j z) e k))
     | inr differs ↦
@@ -494,6 +505,7 @@ mild_frame s w note = record {
   config = refl;
   stations = λ y _. refl;
   requests = λ y t _. refl;
+  airtime = λ y c _. refl;
   lengths =
       λ y t q _ _ _. omega arith;
   keys = λ y t q k. inl k;
@@ -524,6 +536,7 @@ mild_plain s w v a b c d = record {
   config = a;
   stations = λ y _. ap (λ (z : List (Option Station)). option_map sends (at None z y)) b;
   requests = λ y t _. ap (asks y t) c;
+  airtime = λ y k _. ap (owed y k) c;
   lengths = λ y t q _ _ _. subst (λ (z : List Queue). length (at new_queue z q).items
       ≤ length (queue w q).items) (sym d) (omega arith);
   keys = λ y t q k. inl (subst (λ (z : List (Option Station)). 0

@@ -1,7 +1,7 @@
 -- Proves facts about lists of open exchanges: a property that each has, how many they are, and their
 -- greatest charges. By induction on the list.
-use Rattle.std.proofs.Common.{◌≡◌, refl, ap, ◌∙◌, subst, arith, ℕ, suc, ◌+◌, ◌*◌, ◌<◌, ◌≤◌, Bool, true, false, if◌then◌else◌, cond, List, [], ◌∷◌, ◌++◌, Some, not, ◌&&◌, map, filter, find, ◌==◌, count_by}
-use Rattle.std.proofs.lemmas.Bool.{ne_eqb, eqb-true, eqb-false}
+use Rattle.std.proofs.Common.{◌≡◌, refl, ap, ◌∙◌, subst, arith, ℕ, suc, ◌+◌, ◌*◌, ◌<◌, ◌≤◌, Bool, true, false, if◌then◌else◌, cond, List, [], ◌∷◌, ◌++◌, Some, not, ◌&&◌, map, filter, find, ◌==◌, count_by, inl, inr}
+use Rattle.std.proofs.lemmas.Bool.{cases_Bool, ne_eqb, eqb-true, eqb-false}
 use Rattle.std.proofs.lemmas.List.Sums.{sum_by-cons}
 use Rattle.wf_frame.specs.declared.classes.Class.{Class}
 use Rattle.wf_def_world.specs.World.{Exchange, owed, owed_by_all}
@@ -153,6 +153,43 @@ pub owed-core : (s : ℕ) (c : Class) (xs : List Exchange) → owed s c (map cor
 owed-core s c [] = refl
 owed-core s c (x ∷ xs) =
     ap (λ (n : ℕ). (if (x.station == s) && same_class x.class c then x.charge else 0) + n) (owed-core s c xs)
+
+pub owed-append : (s : ℕ) (c : Class) (xs : List Exchange) (x : Exchange) → owed s c (xs ++ x ∷ [])
+    ≡ owed s c xs + (if (x.station == s) && same_class x.class c then x.charge else 0)
+owed-append s c [] x = omega arith
+owed-append s c (y ∷ ys) x = omega (arith, owed-append s c ys x)
+
+owed_if : (b : Bool) (s : ℕ) (c : Class) (x : Exchange) (xs : List Exchange) (n : ℕ) → owed s c xs ≤ n →
+    owed s c (cond b (x ∷ xs) xs) ≤ (if (x.station == s) && same_class x.class c then x.charge else 0) + n
+owed_if true s c x xs n h = omega arith
+owed_if false s c x xs n h = omega arith
+
+pub owed-filter : (s : ℕ) (c : Class) (p : Exchange → Bool) (xs : List Exchange) →
+    owed s c (filter p xs) ≤ owed s c xs
+owed-filter s c p [] = omega arith
+owed-filter s c p (x ∷ xs) = owed_if (p x) s c x (filter p xs) (owed s c xs) (owed-filter s c p xs)
+
+-- An exchange to another station adds nothing to the airtime in flight of a station.
+pub owed-others_append : (s : ℕ) (c : Class) (xs : List Exchange) (x : Exchange) → (x.station ≡ s → ⊥) →
+    owed s c (xs ++ x ∷ []) ≡ owed s c xs
+owed-others_append s c [] x other =
+    let none : (x.station == s) ≡ false = ne_eqb x.station s other in rw none refl
+owed-others_append s c (y ∷ ys) x other =
+    ap (λ (n : ℕ). (if (y.station == s) && same_class y.class c then y.charge else 0) + n)
+    (owed-others_append s c ys x other)
+
+-- If only exchanges to other stations are removed, the airtime in flight of a station does not change.
+pub owed-others_filter : (s : ℕ) (c : Class) (p : Exchange → Bool) (xs : List Exchange) →
+    Every (λ x. p x ≡ false → x.station ≡ s → ⊥) xs → owed s c (filter p xs) ≡ owed s c xs
+owed-others_filter s c p [] h = refl
+owed-others_filter s c p (x ∷ xs) h = elim (cases_Bool (p x)) [
+  | inl stays ↦ rw stays
+      (ap (λ (n : ℕ). (if (x.station == s) && same_class x.class c then x.charge else 0) + n)
+      (owed-others_filter s c p xs h.1))
+  | inr goes ↦
+      let none : (x.station == s) ≡ false = ne_eqb x.station s (h.0 goes) in
+      rw (goes, none) (omega (arith, owed-others_filter s c p xs h.1))
+]
 
 pub owed_all-core : (xs : List Exchange) → owed_by_all (map core xs) ≡ owed_by_all xs
 owed_all-core [] = refl

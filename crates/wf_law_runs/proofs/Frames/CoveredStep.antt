@@ -1,5 +1,6 @@
 -- Proves that each held frame stays in a queue or at an unsettled number, by cases of the call.
-use Rattle.wf_law_runs.proofs.Releases.Placed.{less_left_tids, Placing, Any, placed_less, placed_settled, placed_without, accepted_with_frame, side_with_frame, IsIdOf, has_ids}
+use Rattle.wf_law_runs.proofs.Releases.Placed.{less_left_tids, Placing, Any, placed_less, accepted_with_frame, side_with_frame, IsIdOf, has_ids}
+use Rattle.wf_law_runs.proofs.Releases.Once.{placed_settled, placed_without}
 use Rattle.std.proofs.Common.{◌≡◌, refl, ap, sym, ◌∙◌, subst, arith, ℕ, zero, suc, ◌<◌, ◌-◌, Bool, true, false, if◌then◌else◌, ◌==◌, inl, inr, List, [], ◌∷◌, ◌++◌, length, Option, Some, None, is_some, unwrap_or}
 use Rattle.std.proofs.lemmas.Bool.{cases_eq}
 use Rattle.wf_frame.specs.declared.classes.Class.{Class}

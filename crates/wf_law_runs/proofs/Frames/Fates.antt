@@ -45,7 +45,8 @@ use Rattle.wf_def_lists.specs.Lists.{IsOnce}
 use Rattle.wf_law_runs.specs.Releases.{named_by, named_from}
 use Rattle.wf_law_runs.proofs.Windows.Agreed.{IsLawful, IsReady, IsEnding, IsFound, found, ready_filled, ending_settled, ending_of, lawful_same, lawful_step, lawful_at_first, session_same, session_on_session, same_off_lists}
 use Rattle.wf_law_runs.proofs.Frames.Fewer.{Ordered, carries, carries_from, Fewer, Less, then_less, less_plain, less_on_station, less_on_session, less_on_queue, less_with_queues, less_pay_queues, less_after_pick, less_after_turn, less_spent, less_listed, less_charged, fewer_tail, less_drop_all, less_purge_queues, less_finish, less_take, given_take, less_dequeued, queue_on, queues_dropped, right_dequeue}
-use Rattle.wf_law_runs.proofs.Releases.Placed.{Queued, Numbered, Placing, Any, placed_less, placed_number, placed_frames, placed_session, placed_without, next-heard, queue_appended, less_put_in, less_with_frame, side_with_frame, less_with_station, less_off_lists, placed_gone, placed_joined, placed_step, once_ids, has_ids, IsIdOf, placed_at_first, slot_new_id}
+use Rattle.wf_law_runs.proofs.Releases.Placed.{Queued, Numbered, Placing, Any, placed_less, placed_session, next-heard, queue_appended, less_put_in, less_with_frame, side_with_frame, less_with_station, less_off_lists, once_ids, has_ids, IsIdOf, placed_at_first, slot_new_id}
+use Rattle.wf_law_runs.proofs.Releases.Once.{placed_number, placed_frames, placed_without, placed_gone, placed_joined, placed_step}
 
 abbrev pub IsHeld : World → ℕ → Type 0
 IsHeld w k = (frame w k).fate ≡ Held
@@ -109,13 +110,13 @@ stays_same w v u = record {
   inside = inside_same w v u;
 }
 
-remains_same : (w v : World) → v.frames ≡ w.frames → Remains w v
+pub remains_same : (w v : World) → v.frames ≡ w.frames → Remains w v
 remains_same w v e = record { remains = λ k. inr (fate_same w v e k) }
 
-remains_of : (w v : World) → Stays w v → Remains w v
+pub remains_of : (w v : World) → Stays w v → Remains w v
 remains_of w v h = record { remains = h.stays }
 
-then_remains : (u v w : World) → Remains u v → Remains v w → Remains u w
+pub then_remains : (u v w : World) → Remains u v → Remains v w → Remains u w
 then_remains u v w h k = record {
   remains = λ n.
       elim (h.remains n) [
@@ -849,7 +850,7 @@ stopped l e s t acked w m ms f same_id n own p h =
           ∙ ap (λ (x : Slot). x.state) (slot_same y m.number f);
     }
 
-safe_settled : (b : Bool) (l : List ℕ) (e s t : ℕ) (acked : ℕ → Bool) (w : World) (m : Mpdu)
+pub safe_settled : (b : Bool) (l : List ℕ) (e s t : ℕ) (acked : ℕ → Bool) (w : World) (m : Mpdu)
     (ms : List Mpdu) → IsEnding e s t acked w (m ∷ ms) → (slot (session w s t) m.number).id ≡ m.id →
     Placing l w → Fresh w → Safe l w (with_settled w s t b m)
 unfolding with_settled with_failed_finished
@@ -882,7 +883,7 @@ safe_all (m ∷ ms) l e s t acked w n a p h =
     (labelled_kept ms (session w s t) (session v s t) (suc m.number) (kept.sessions s t)
     (omega (arith, n.flies.rising.0)) n.flies.rising.2 a.1) k.placing k.fresh)
 
-fresh_without : (w : World) (e : ℕ) → Fresh w → Fresh (without_exchange w e)
+pub fresh_without : (w : World) (e : ℕ) → Fresh w → Fresh (without_exchange w e)
 unfolding without_exchange
 fresh_without w e h = fresh_calm w _ (less_plain Any w _ refl refl) (λ s t. refl) refl h
 

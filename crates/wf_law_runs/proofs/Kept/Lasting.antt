@@ -1,22 +1,19 @@
 -- Proves which changes keep the ids of a session's numbers and the slots of its settled numbers.
-use Rattle.std.proofs.Common.{◌≡◌, refl, ap, sym, ◌∙◌, subst, arith, ℕ, zero, suc, ◌-◌, ◌<◌, ◌≤◌, Bool, true, false, not, ◌==◌, List, [], ◌∷◌, ◌++◌, length, Option, Some, None, IfSome}
+use Rattle.std.proofs.Common.{◌≡◌, refl, ap, sym, ◌∙◌, subst, arith, ℕ, suc, ◌<◌, ◌≤◌, Bool, true, false, List, [], ◌∷◌, Option}
 use Rattle.wf_frame.specs.declared.classes.Cause.TheVariants.{Retries}
 use Rattle.wf_frame.specs.declared.classes.Class.{Class}
 use Rattle.wf_frame.specs.declared.classes.Fate.TheVariants.{Dropped}
-use Rattle.wf_def_codel.specs.Codel.{Item}
-use Rattle.wf_def_agreement.specs.Session.{Session, Slot, State, request_due, with_state, is_settled, is_failed, slot_after_miss, slot, on_slot, with_number_given, after_miss, next_number}
-use Rattle.wf_def_world.specs.World.{World, Exchange, Mpdu, Content, Frames, Request, session, rotation, is_live, on_session, on_receiver, with_exchange, without_exchange, with_frame_finished}
-use Rattle.wf_def_world.specs.FlowQueues.{taken_for_tid}
-use Rattle.wf_def_world.specs.CanSend.{is_ready, can_give}
-use Rattle.wf_def_world.specs.Exchanges.{is_acked, station_need, most_frames, picked_station, sending_tid, with_heard_start, fits_in, Aggregate, Prepared, after_pick, after_tid_turn, with_fresh, aggregate_of, with_number, fresh_mpdus, with_flying, waiting_mpdus, longest_fitting, prepared_request, prepared_data, prepared_exchange, with_exchange_opened, after_arrival, after_charge, with_failed_finished, with_settled, with_all_settled, after_done}
-use Rattle.wf_def_world.specs.Step.{send_outcome, pull_outcome_for, pull_outcome, arrive_outcome, answer_outcome, done_outcome}
+use Rattle.wf_def_agreement.specs.Session.{Session, Slot, State, with_state, is_settled, is_failed, slot_after_miss, slot, on_slot, with_number_given, after_miss, next_number}
+use Rattle.wf_def_world.specs.World.{World, Exchange, Mpdu, Content, Frames, Request, session, is_live, on_session, on_receiver, with_exchange, without_exchange, with_frame_finished}
+use Rattle.wf_def_world.specs.Exchanges.{is_acked, with_heard_start, with_flying, with_exchange_opened, after_arrival, after_charge, with_failed_finished, with_settled, with_all_settled, after_done}
+use Rattle.wf_def_world.specs.Step.{pull_outcome, arrive_outcome, answer_outcome, done_outcome}
 use Rattle.wf_law_rules.proofs.Lemmas.Numbers.{on_if}
 use Rattle.wf_law_runs.proofs.Sessions.Flights.{AllIn, Rises, all_in_later}
-use Rattle.wf_law_runs.proofs.Windows.Sides.{Side, Same, each_side_on, on_live, same_finish, same_after_pick, same_after_turn, same_spent, same_take, same_charged}
+use Rattle.wf_law_runs.proofs.Windows.Sides.{Side, Same, each_side_on, on_live, same_finish, same_charged}
 use Rattle.wf_law_runs.proofs.Windows.Agreement.{slot_give, slot_other}
-use Rattle.wf_law_runs.proofs.Windows.Opened.{some_along, pick_ready, left_true}
-use Rattle.wf_law_runs.proofs.Windows.Agreed.{IsLawful, IsReady, IsFound, IsEnding, ready_filled, lawful_same, ending_settled, ending_of}
+use Rattle.wf_law_runs.proofs.Windows.Agreed.{IsLawful, IsReady, IsFound, IsEnding, ending_settled, ending_of}
 use Rattle.wf_law_runs.proofs.Releases.Kept.{KeptSession, kept_refl, then_kept, kept_on_slot, kept_give, kept_heard}
+use Rattle.wf_law_runs.proofs.Kept.Pulls.{along_pull}
 
 -- ---- one session
 
@@ -101,76 +98,22 @@ last_on_session w s t f h = record {
 
 -- ---- pulls
 
-last_number : (o : Option Item) (w : World) (s t : ℕ) → Last w (with_number w s t o)
-unfolding with_number
-last_number None w s t = last_here w
-last_number (Some x) w s t = last_on_session w s t (λ y. with_number_given y x.id)
-    (lasts_give (session w s t) x.id)
+last_given : (w : World) (s t id : ℕ) → Last w (on_session w s t (λ y. with_number_given y id))
+last_given w s t id = last_on_session w s t (λ y. with_number_given y id) (lasts_give (session w s t) id)
 
-last_fresh : (n : ℕ) (w : World) (s t : ℕ) (ms : List Mpdu) → Last w (with_fresh n w s t ms).world
-unfolding with_fresh
-last_fresh zero w s t ms = last_here w
-last_fresh (suc n) w s t ms =
-    let taken = taken_for_tid w s t in
-    let longer : List Mpdu = ms ++ fresh_mpdus w s t taken.item in
-    let numbered : World = with_number taken.world s t taken.item in
-    let lasting : Last w numbered = then_last w taken.world numbered
-    (last_same w taken.world (same_take w s t)) (last_number taken.item taken.world s t) in
-    on_if (λ (a : Aggregate). Last w a.world) (not (can_give w s t)) _ _ (λ _. last_here w) (λ _.
-    on_if (λ (a : Aggregate). Last w a.world) (fits_in w s longer) (with_fresh n numbered s t longer)
-    (record { world = numbered; mpdus = ms })
-    (λ _. then_last w numbered _ lasting (last_fresh n numbered s t longer)) (λ _. lasting))
+last_flown : (w : World) (s t : ℕ) (ms : List Mpdu) → IsReady s t w ms →
+    Last w (on_session w s t (with_flying w.exchanges ms))
+last_flown w s t ms r =
+    let y : Session = session w s t in
+    last_on_session w s t (with_flying w.exchanges ms) (lasts_fly ms y w.exchanges y.first (next_number y)
+    (omega arith) r.chosen.rising r.chosen.waiting)
 
-last_filled : (w : World) (s t : ℕ) → Last w (aggregate_of w s t).world
-unfolding aggregate_of
-last_filled w s t =
-    let chosen : List Mpdu = longest_fitting w s (waiting_mpdus w s t) in
-    on_if (λ (a : Aggregate). Last w a.world) (length chosen == length (waiting_mpdus w s t))
-    (with_fresh (most_frames w s - length chosen) w s t chosen) (record { world = w; mpdus = chosen })
-    (λ _. last_fresh (most_frames w s - length chosen) w s t chosen) (λ _. last_here w)
-
-last_frames : (w : World) (s t : ℕ) (f : Aggregate) → IsReady s t f.world f.mpdus → Last w f.world →
-    Last w (prepared_data s t f).world
-unfolding prepared_data
-last_frames w s t f r h =
-    let y : Session = session f.world s t in
-    then_last w f.world _ h (last_on_session f.world s t (with_flying f.world.exchanges f.mpdus)
-    (lasts_fly f.mpdus y f.world.exchanges y.first (next_number y)
-    (omega arith) r.chosen.rising r.chosen.waiting))
-
-last_prepared : (w : World) (s t : ℕ) → IsLawful w → is_live w s ≡ true →
-    Last w (prepared_exchange w s t).world
-unfolding prepared_exchange
-last_prepared w s t i live = on_if (λ (p : Prepared). Last w p.world) (request_due (session w s t))
-    (prepared_request w s t) (prepared_data s t (aggregate_of w s t))
-    (λ _. last_here w) (λ quiet. last_frames w s t (aggregate_of w s t) (ready_filled w s t i live quiet)
-    (last_filled w s t))
-
-last_sent : (w : World) (s t : ℕ) (c : Class) (p : Prepared) → Last w p.world →
-    Last w (send_outcome s t c p).world
-unfolding send_outcome with_exchange_opened
-last_sent w s t c p h = then_last w p.world _ h
-    (then_last p.world _ _ (record { sessions = λ i j. lasts_refl (session p.world i j); live = λ i. refl })
-    (last_same _ _ (same_spent _ s)))
-
-last_pulled_by : (o : Option ℕ) (w : World) (c : Class) → IfSome o (λ s. is_live w s ≡ true) → IsLawful w →
-    Last w (pull_outcome_for w c o).world
-unfolding pull_outcome_for
-last_pulled_by None w c live i = last_here w
-last_pulled_by (Some s) w c live i =
-    let k : Same w (after_tid_turn w s c (sending_tid w s c)) = same_after_turn w s c (sending_tid w s c) in
-    last_sent w s _ c _ (then_last w _ _ (last_same w _ k)
-    (last_prepared _ s _ (lawful_same _ _ k i) (k.live s ∙ live)))
+last_opening : (w : World) (x : Exchange) → Last w (with_exchange_opened w x)
+unfolding with_exchange_opened
+last_opening w x = record { sessions = λ i j. lasts_refl (session w i j); live = λ i. refl }
 
 pub last_pulled : (w : World) (c : Class) → IsLawful w → Last w (pull_outcome w c).world
-unfolding pull_outcome
-last_pulled w c i =
-    let k : Same w (after_pick w c) = same_after_pick w c in
-    then_last w (after_pick w c) _ (last_same w _ k)
-    (last_pulled_by (picked_station w c).winner (after_pick w c) c
-    (some_along (λ s. is_ready w c s ≡ true) (λ s. is_live (after_pick w c) s ≡ true)
-    (picked_station w c).winner (λ s h. k.live s ∙ left_true (is_live w s) _ h)
-    (pick_ready (station_need w c) (is_ready w c) (rotation w c))) (lawful_same _ _ k i))
+last_pulled = along_pull Last last_same then_last last_given last_flown last_opening
 
 -- ---- exchanges
 

@@ -44,7 +44,7 @@ line_call flows l w s t flow len g r p = line_enqueued g.most flows l w s t flow
     g.flows_are g.keeps
     (omega (arith, ltb-false 7 t r.1.0)) p
 
-line_first : (flows : ℕ) (config : Config) → InLine flows [] (opening config)
+pub line_first : (flows : ℕ) (config : Config) → InLine flows [] (opening config)
 line_first flows config = record {
   placing = placed_at_first config;
   lane = λ k. record { station = 0; tid = 0; queue = 0 };
@@ -64,7 +64,7 @@ line_first flows config = record {
 
 -- ---- a history with one entry more
 
-world_more : (h : List Entry) (w : World) (e : Entry) →
+pub world_more : (h : List Entry) (w : World) (e : Entry) →
     world_after w (h ++ e ∷ []) ≡ (step (world_after w h) e.1).world
 unfolding world_after
 world_more [] w e = refl
@@ -86,7 +86,7 @@ module _ (config : Config) (range : IsInRange config) (keeps : config.keep_order
     keeps = ap (λ (c : Config). c.keep_order) (config_run h (opening config)) ∙ keeps;
   }
 
-  in_line : (es h : List Entry) → InLine config.flows (named_from (opening config) [] h)
+  pub in_line : (es h : List Entry) → InLine config.flows (named_from (opening config) [] h)
       (world_after (opening config) h) → InLine config.flows (named_from (opening config) [] (h ++ es))
       (world_after (opening config) (h ++ es))
   in_line [] h p = subst (λ (k : List Entry).
@@ -128,7 +128,7 @@ same_flow flows s t flow (Asked ask) b a e = absurd (cc a)
 same_flow flows s t flow (Enqueue i j f len) (Asked ask) a e = absurd (cc e)
 
 -- The ids of one flow increase, if those of each lane do.
-flow_rises : (flows : ℕ) (lane : ℕ → Lane) (w : World) (s t flow : ℕ) (ks : List ℕ) (lo : ℕ) →
+pub flow_rises : (flows : ℕ) (lane : ℕ → Lane) (w : World) (s t flow : ℕ) (ks : List ℕ) (lo : ℕ) →
     ((k : ℕ) → has ks k ≡ true → Agrees flows lane w k) → AreLined lane ks →
     ((k : ℕ) → has ks k ≡ true → is_of_flow s t flow (frame w k).note ≡ true → lo ≤ k) →
     IsRising lo (filter (λ k. is_of_flow s t flow (frame w k).note) ks)
@@ -158,7 +158,7 @@ flow_release_law config h range keeps s t flow =
     (λ k e is. omega arith)
 
 -- A queue carries the frames whose ids it has.
-carried_held : (xs : List Item) (k : ℕ) → has (map (λ x. x.id) xs) k ≡ true → carries xs k ≡ true
+pub carried_held : (xs : List Item) (k : ℕ) → has (map (λ x. x.id) xs) k ≡ true → carries xs k ≡ true
 carried_held [] k e = e
 carried_held (x ∷ xs) k e = elim (either (x.id == k) (has (map (λ y. y.id) xs) k) e) [
   | inl here ↦ or_left (x.id == k) (carries xs k) here

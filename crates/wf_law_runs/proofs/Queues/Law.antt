@@ -1,5 +1,6 @@
 -- Proves the laws of the queues and of their deficits, in every world of a run. By induction on the run.
-use Rattle.wf_law_runs.proofs.Releases.Placed.{placed, Placing, placed_step, placed_at_first}
+use Rattle.wf_law_runs.proofs.Releases.Placed.{Placing, placed_at_first}
+use Rattle.wf_law_runs.proofs.Releases.Once.{placed, placed_step}
 use Rattle.wf_law_rules.proofs.Lemmas.Counts.{has-on, on-nil, on-cons_same, on-cons}
 use Rattle.std.proofs.Common.{◌≡◌, refl, sym, subst, arith, ℕ, zero, suc, ◌+◌, ◌<◌, ◌≤◌, pos, ◌≤ℤ◌, Bool, true, false, not, List, [], ◌∷◌, map, take, Option, Some, None}
 use Rattle.std.proofs.lemmas.Bool.{leb-false, ltb-false}

@@ -17,7 +17,8 @@ use Rattle.wf_def_world.specs.Exchanges.{ids_of}
 use Rattle.wf_law_runs.proofs.Windows.Agreed.{lawful}
 use Rattle.wf_law_runs.proofs.Releases.Released.{passed_all, rising_passed}
 use Rattle.wf_law_rules.proofs.Lemmas.Joined.{has_append}
-use Rattle.wf_law_runs.proofs.Releases.Placed.{Placing, placed, has_ids, IsIdOf}
+use Rattle.wf_law_runs.proofs.Releases.Placed.{Placing, has_ids, IsIdOf}
+use Rattle.wf_law_runs.proofs.Releases.Once.{placed}
 use Rattle.wf_frame.specs.Settings.{IsInRange}
 use Rattle.wf_law_runs.proofs.Frames.Owners.{IsOwned}
 use Rattle.wf_law_runs.proofs.Frames.Places.{standing}

@@ -1,42 +1,35 @@
--- Proves that each frame has one place, and is released at most once. By cases of the call.
-use Rattle.std.proofs.Common.{◌≡◌, ◌≢◌, refl, ap, sym, ◌∙◌, subst, arith, ℕ, zero, suc, ◌+◌, ◌-◌, ◌<◌, ◌≤◌, nat_lt, append-nil, Bool, true, false, if◌then◌else◌, not, ◌&&◌, ◌==◌, ◌||◌, ◌⊎◌, inl, inr, List, [], ◌∷◌, ◌++◌, length, filter, nat_le, Option, Some, None, IfSome, length-append}
+-- Defines an invariant of the released ids and a world: each frame has one place, and is released at most
+-- once. Proves that each elementary change of a world keeps it.
+use Rattle.std.proofs.Common.{◌≡◌, ◌≢◌, refl, ap, sym, ◌∙◌, subst, arith, ℕ, zero, suc, ◌-◌, ◌<◌, ◌≤◌, nat_lt, Bool, true, false, if◌then◌else◌, ◌&&◌, ◌==◌, ◌||◌, ◌⊎◌, inl, inr, List, [], ◌∷◌, ◌++◌, length, filter, nat_le, Option, Some, None, IfSome, length-append}
 use Rattle.wf_frame.specs.declared.settings.Config.{Config}
 use Rattle.wf_frame.specs.declared.classes.Class.{Class}
-use Rattle.wf_frame.specs.declared.classes.Fate.{Fate}
-use Rattle.wf_def_lists.specs.Table.{at, has, with_member, upto}
+use Rattle.wf_def_lists.specs.Table.{at, has}
 use Rattle.wf_def_codel.specs.Codel.{Item}
 use Rattle.wf_def_agreement.specs.Receiver.{Receiver, with_arrived, with_start, release_start, greatest, released_between}
-use Rattle.wf_def_agreement.specs.Session.{request_due, Session, Slot, State, is_settled, is_failed, slot_after_miss, slot, on_slot, with_number_given, after_miss, next_number, no_slot}
-use Rattle.wf_def_world.specs.World.{receiver, World, Station, Tid, Frame, no_frame, Exchange, Mpdu, Content, Frames, Request, new_tid, no_tid, rotation, session, is_live, exchange, with_station, on_station, on_tid, on_session, on_receiver, on_queue, with_frame_finished, with_exchange, without_exchange, opening, new_queue, queue, accepted_count}
-use Rattle.wf_frame.specs.Classes.{all_classes}
-use Rattle.wf_def_world.specs.FlowQueues.{after_limit, with_appended, after_put_in, taken_for_tid, queue_for}
-use Rattle.wf_def_world.specs.CanSend.{is_ready, can_give}
-use Rattle.wf_def_world.specs.Exchanges.{is_acked, transmissions, no_mpdu, station_need, most_frames, picked_station, after_arrival, sending_tid, with_heard_start, Prepared, mpdus_of, after_pick, after_tid_turn, with_fresh, aggregate_of, with_number, with_flying, waiting_mpdus, longest_fitting, prepared_data, prepared_exchange, with_exchange_opened, after_charge, with_failed_finished, with_settled, with_all_settled, after_done, ids_of, Aggregate}
+use Rattle.wf_def_agreement.specs.Session.{Session, Slot, slot, with_number_given, next_number, no_slot}
+use Rattle.wf_def_world.specs.World.{receiver, World, Station, Tid, Frame, no_frame, Exchange, Content, Frames, Request, new_tid, session, exchange, with_station, on_tid, on_session, on_receiver, on_queue, with_exchange, opening, new_queue, queue, accepted_count}
+use Rattle.wf_def_world.specs.FlowQueues.{after_limit, with_appended, after_put_in, queue_for}
+use Rattle.wf_def_world.specs.Exchanges.{transmissions, no_mpdu, picked_station, after_arrival, with_heard_start, mpdus_of, after_pick, ids_of}
 use Rattle.wf_frame.specs.declared.notes.Ask.TheVariants.{Join, Leave, Rate, Tick, Pull, Arrive, Answer, Done, Sleep, Wake, Poll, Rx, Reap}
 use Rattle.wf_frame.specs.declared.notes.Note.{Note}
 use Rattle.wf_frame.specs.declared.notes.Note.TheVariants.{Enqueue, Asked}
-use Rattle.wf_frame.specs.declared.notes.Refusal.{Refusal}
-use Rattle.wf_frame.specs.declared.notes.Refusal.TheVariants.{Idle}
-use Rattle.wf_def_world.specs.Refusals.{refusals, refusal}
-use Rattle.wf_def_world.specs.Step.{Outcome, join_outcome, after_tid_left, after_tids_left, without_listings, leave_outcome, rate_outcome, tick_outcome, with_frame, enqueue_outcome, send_outcome, pull_outcome_for, pull_outcome, arrive_outcome, answer_outcome, done_outcome, outcome_where_open, sleep_outcome, wake_outcome, poll_outcome, rx_outcome, reap_outcome, outcome_of, after_refusal, judged_outcome, step, concerned_station}
-use Rattle.wf_def_world.specs.Run.{Entry, world_after}
+use Rattle.wf_def_world.specs.Step.{Outcome, join_outcome, after_tid_left, after_tids_left, without_listings, leave_outcome, rate_outcome, tick_outcome, with_frame, enqueue_outcome, send_outcome, pull_outcome_for, pull_outcome, answer_outcome, done_outcome, outcome_where_open, sleep_outcome, wake_outcome, poll_outcome, rx_outcome, reap_outcome, outcome_of}
 use Rattle.wf_law_rules.proofs.Lemmas.Joined.{has_append, once_append}
 use Rattle.wf_law_rules.proofs.Lemmas.Tables.{each_put}
-use Rattle.wf_law_runs.proofs.Sessions.Starts.{length-change, at_append}
-use Rattle.wf_law_runs.proofs.Sessions.Flights.{flown, next-give}
+use Rattle.wf_law_runs.proofs.Sessions.Starts.{at_append}
+use Rattle.wf_law_runs.proofs.Sessions.Flights.{next-give}
 use Rattle.wf_law_rules.proofs.Lemmas.Numbers.{Climbs, climbs_from, on_bool, on_if, lt_yes, lt_no, eq_yes, eq_no, yes_eq, not_eq, le_yes, either, both, and_true, or_left, or_right, has_old, climbs_with, climbs_at, greatest_least, greatest_has, greatest_within}
-use Rattle.wf_law_runs.proofs.Windows.Sides.{Side, side_of, side, sides_of, Same, each_side_on, then_same, same_on_station, same_on_share, same_finish, same_listed, same_after_pick, same_after_turn, same_spent, same_within_limit, same_put_in, same_take, same_charged}
+use Rattle.wf_law_runs.proofs.Windows.Sides.{Side, side_of, side, sides_of, Same, each_side_on, then_same, same_within_limit, same_put_in}
 use Rattle.wf_law_runs.proofs.Windows.Agreement.{slot_give, IsAgreed, agreed_arrived}
-use Rattle.wf_law_runs.proofs.Windows.Opened.{FlyIn, some_along, pick_ready, left_true, eight, NoRow, no_row}
-use Rattle.wf_frame.specs.declared.notes.ReplyNote.TheVariants.{Released, Refused}
+use Rattle.wf_law_runs.proofs.Windows.Opened.{FlyIn}
 use Rattle.wf_frame.specs.declared.classes.Fate.TheVariants.{Held}
 use Rattle.wf_law_runs.proofs.Releases.Passing.{release_rises}
 use Rattle.wf_def_lists.specs.Lists.{IsOnce}
-use Rattle.wf_law_runs.specs.Releases.{named_by, named_from, OnceLaw}
-use Rattle.wf_law_runs.proofs.Releases.Kept.{KeptSession, kept_on_slot, kept_fly, kept_heard}
-use Rattle.wf_law_runs.proofs.Windows.Agreed.{IsLawful, IsOpenIn, IsReady, IsEnding, IsFound, found, ready_filled, ending_settled, ending_of, lawful_same, lawful_step, lawful_at_first, same_left_tids, same_off_lists, rises_at, if_on}
-use Rattle.wf_law_runs.proofs.Releases.Released.{side_taken, side_untaken, side_with_station, side_own_station, opened_in}
-use Rattle.wf_law_runs.proofs.Frames.Fewer.{Ordered, carries, fewer, Less, less, then_less, less_plain, less_on_station, less_on_tid, less_on_receiver, less_with_queues, less_on_share, less_with_rotation, less_finish, less_drop_all, less_listed, less_after_pick, less_after_turn, less_spent, less_within_limit, less_listed_queue, less_purge_queues, less_charged, less_take, IsTaken, given_take}
+use Rattle.wf_law_runs.specs.Releases.{named_by}
+use Rattle.wf_law_runs.proofs.Releases.Kept.{KeptSession}
+use Rattle.wf_law_runs.proofs.Windows.Agreed.{IsLawful, IsOpenIn, rises_at}
+use Rattle.wf_law_runs.proofs.Releases.Released.{side_with_station, side_own_station}
+use Rattle.wf_law_runs.proofs.Frames.Fewer.{Ordered, carries, fewer, Less, less, then_less, less_plain, less_on_tid, less_on_receiver, less_with_queues, less_with_rotation, less_drop_all, less_within_limit, less_listed_queue, less_purge_queues, IsTaken}
 
 pub data Place : Type 0 where
   Queued : (queue : ℕ) → Place
@@ -209,158 +202,11 @@ placed_give l u v s t x k h taken p =
       once = p.once;
     }
 
-pub placed_number : (o : Option Item) (l : List ℕ) (u v : World) (s t : ℕ) → Same u v → Less Any u v →
-    IfSome o (IsTaken u v) → Placing l u → Placing l (with_number v s t o)
-unfolding with_number
-placed_number None l u v s t k h taken p = placed_less l u v h k.sides p
-placed_number (Some x) l u v s t k h taken p = placed_give l u v s t x k h taken p
-
-placed_filled_if : (b : Bool) (l : List ℕ) (x y : Aggregate) → Placing l x.world → Placing l y.world →
-    Placing l (if b then x else y).world
-placed_filled_if true l x y h k = h
-placed_filled_if false l x y h k = k
-
-placed_fresh : (n : ℕ) (l : List ℕ) (w : World) (s t : ℕ) (ms : List Mpdu) → Placing l w →
-    Placing l (with_fresh n w s t ms).world
-unfolding with_fresh
-placed_fresh zero l w s t ms p = p
-placed_fresh (suc n) l w s t ms p =
-    let taken = taken_for_tid w s t in
-    let numbered : Placing l (with_number taken.world s t taken.item) =
-    placed_number taken.item l w taken.world s t (same_take w s t) (less_take Any w s t)
-    (given_take w s t) p in
-    placed_filled_if (not (can_give w s t)) l _ _ p
-    (placed_filled_if _ l _ _ (placed_fresh n l _ s t _ numbered) numbered)
-
-pub placed_filled : (l : List ℕ) (w : World) (s t : ℕ) → Placing l w → Placing l (aggregate_of w s t).world
-unfolding aggregate_of
-placed_filled l w s t p =
-    let chosen : List Mpdu = longest_fitting w s (waiting_mpdus w s t) in
-    placed_filled_if (length chosen == length (waiting_mpdus w s t)) l
-    (with_fresh (most_frames w s - length chosen) w s t chosen) (record { world = w; mpdus = chosen })
-    (placed_fresh (most_frames w s - length chosen) l w s t chosen p) p
-
--- ---- pulls
-
-pub placed_frames : (l : List ℕ) (s t : ℕ) (f : Aggregate) → IsReady s t f.world f.mpdus → Placing l f.world →
-    Placing l (prepared_data s t f).world
-unfolding prepared_data
-placed_frames l s t f r p =
-    let y : Session = session f.world s t in
-    placed_session l f.world s t (with_flying f.world.exchanges f.mpdus)
-    (kept_fly f.mpdus y f.world.exchanges)
-    (flown f.mpdus y f.world.exchanges (next_number y) y.first
-    (omega arith) r.chosen.rising r.chosen.waiting).next p
-
-placed_prepared_if : (b : Bool) (l : List ℕ) (x y : Prepared) → Placing l x.world →
-    (b ≡ false → Placing l y.world) → Placing l (if b then x else y).world
-placed_prepared_if true l x y h k = h
-placed_prepared_if false l x y h k = k refl
-
-placed_prepared : (l : List ℕ) (w : World) (s t : ℕ) → IsLawful w → is_live w s ≡ true → Placing l w →
-    Placing l (prepared_exchange w s t).world
-unfolding prepared_exchange
-placed_prepared l w s t i live p = placed_prepared_if (request_due (session w s t)) l _ _ p
-    (λ quiet. placed_frames l s t (aggregate_of w s t) (ready_filled w s t i live quiet)
-    (placed_filled l w s t p))
-
-placed_sent : (l : List ℕ) (s t : ℕ) (c : Class) (q : Prepared) → Placing l q.world →
-    Placing l (send_outcome s t c q).world
-unfolding send_outcome with_exchange_opened
-placed_sent l s t c q p = placed_less l _ _ (less_spent Any _ s) (same_spent _ s).sides
-    (placed_less l q.world _ (less_plain Any q.world _ refl refl) (λ i j. refl) p)
-
-placed_same : (l : List ℕ) (w v : World) → Same w v → Less Any w v → Placing l w → Placing l v
-placed_same l w v k h p = placed_less l w v h k.sides p
-
-placed_pulled_by : (o : Option ℕ) (l : List ℕ) (w : World) (c : Class) → IfSome o (λ s. is_live w s ≡ true) →
-    IsLawful w → Placing l w → Placing l (pull_outcome_for w c o).world
-unfolding pull_outcome_for
-placed_pulled_by None l w c live i p = p
-placed_pulled_by (Some s) l w c live i p =
-    let k : Same w (after_tid_turn w s c (sending_tid w s c)) = same_after_turn w s c (sending_tid w s c) in
-    placed_sent l s _ c _ (placed_prepared l _ s _ (lawful_same _ _ k i) (k.live s ∙ live)
-    (placed_same l w _ k (less_after_turn Any w s c _) p))
-
-pub placed_pulled : (l : List ℕ) (w : World) (c : Class) → IsLawful w → Placing l w →
-    Placing l (pull_outcome w c).world
-unfolding pull_outcome
-placed_pulled l w c i p =
-    let k : Same w (after_pick w c) = same_after_pick w c in
-    placed_pulled_by (picked_station w c).winner l (after_pick w c) c
-    (some_along (λ s. is_ready w c s ≡ true) (λ s. is_live (after_pick w c) s ≡ true)
-    (picked_station w c).winner (λ s h. k.live s ∙ left_true (is_live w s) _ h)
-    (pick_ready (station_need w c) (is_ready w c) (rotation w c))) (lawful_same _ _ k i)
-    (placed_same l w _ k (less_after_pick Any w c) p)
-
 -- ---- the end of an exchange
-
-pub unit_any : (k : ℕ) → Any k
-unit_any k = tt
-
-placed_slot : (l : List ℕ) (e s t : ℕ) (acked : ℕ → Bool) (w : World) (m : Mpdu) (ms : List Mpdu)
-    (f : Slot → Slot) → ((x : Slot) → (f x).id ≡ x.id) → IsEnding e s t acked w (m ∷ ms) → Placing l w →
-    Placing l (on_session w s t (on_slot m.number f))
-placed_slot l e s t acked w m ms f h n p =
-    let y : Session = session w s t in
-    let unsettled : is_settled (slot y m.number).state ≡ false = ap is_settled n.flies.flying.0 in
-    placed_session l w s t (on_slot m.number f) (kept_on_slot y m.number f h)
-    (ap (λ (k : ℕ). y.first + k) (length-change y.slots (m.number - y.first) f unsettled)) p
-
-placed_if : (b : Bool) (l : List ℕ) (w v : World) → Placing l w → Placing l v → Placing l (if b then w else v)
-placed_if true l w v h k = h
-placed_if false l w v h k = k
-
-placed_finish : (l : List ℕ) (w : World) (fate : Fate) (id : ℕ) → Placing l w →
-    Placing l (with_frame_finished w fate id)
-placed_finish l w fate id p = placed_same l w _ (same_finish w fate id)
-    (less_finish Any w fate id (λ _. tt)) p
-
-pub placed_settled : (b : Bool) (l : List ℕ) (e s t : ℕ) (acked : ℕ → Bool) (w : World) (m : Mpdu)
-    (ms : List Mpdu) → IsEnding e s t acked w (m ∷ ms) → Placing l w → Placing l (with_settled w s t b m)
-unfolding with_settled with_failed_finished
-placed_settled true l e s t acked w m ms n p =
-    placed_finish l _ _ _ (placed_slot l e s t acked w m ms (λ x. record x { state = State.Acked })
-    (λ x. refl) n p)
-placed_settled false l e s t acked w m ms n p =
-    let v : World = on_session w s t (after_miss w.config.attempts m.number) in
-    let k : Placing l v = placed_slot l e s t acked w m ms (slot_after_miss w.config.attempts)
-    (λ x. refl) n p in
-    placed_if (is_failed (slot (session v s t) m.number).state) l _ v (placed_finish l v _ _ k) k
-
-placed_all : (ms : List Mpdu) (l : List ℕ) (e s t : ℕ) (acked : ℕ → Bool) (w : World) →
-    IsEnding e s t acked w ms → Placing l w → Placing l (with_all_settled w s t acked ms)
-unfolding with_all_settled
-placed_all [] l e s t acked w n p = p
-placed_all (m ∷ ms) l e s t acked w n p = placed_all ms l e s t acked _
-    (ending_settled (acked m.number) e s t acked w m ms refl n)
-    (placed_settled (acked m.number) l e s t acked w m ms n p)
 
 pub next-heard : (b : Bool) (f : ℕ) (y : Session) → next_number (with_heard_start b f y) ≡ next_number y
 next-heard true f y = refl
 next-heard false f y = refl
-
-pub placed_without : (l : List ℕ) (w : World) (e : ℕ) → Placing l w → Placing l (without_exchange w e)
-unfolding without_exchange
-placed_without l w e p = placed_less l w _ (less_plain Any w _ refl refl) (λ s t. refl) p
-
-pub placed_after : (air : Option ℕ) (c : Content) (l : List ℕ) (w : World) (i : IsLawful w)
-    (x : Exchange) (heard : Bool) →
-    x.content ≡ c → IsFound w i x → Placing l (after_charge (without_exchange w x.number) x air) →
-    Placing l (after_done (after_charge (without_exchange w x.number) x air) x heard c)
-unfolding after_done
-placed_after air (Frames ms) l w i x heard e f p =
-    placed_all ms l x.number x.station x.tid (is_acked heard x.answer) _ (ending_of air w i x ms heard e f) p
-placed_after air (Request g) l w i x heard e f p =
-    placed_session l _ x.station x.tid (with_heard_start heard g) (kept_heard heard g _)
-    (next-heard heard g _) p
-
-pub placed_ended : (air : Option ℕ) (l : List ℕ) (w : World) (i : IsLawful w) (x : Exchange) (heard : Bool) →
-    IsFound w i x →
-    Placing l w → Placing l (done_outcome w x heard air).world
-unfolding done_outcome
-placed_ended air l w i x heard f p = placed_after air x.content l w i x heard refl f
-    (placed_same l _ _ (same_charged air _ x) (less_charged air Any _ x) (placed_without l w x.number p))
 
 -- ---- arrivals
 
@@ -548,34 +394,6 @@ unfolding with_exchange
 less_taken w x z g = then_less Any w _ _ (less_on_receiver Any w x.station x.tid g)
     (less_plain Any _ _ refl refl)
 
-placed_arrived : (l : List ℕ) (w : World) (i : IsLawful w) (x : Exchange) (n : ℕ) → IsOpenIn w x →
-    nat_le (transmissions x.content) n ≡ false → Placing l w →
-    Placing (l ++ named_by (arrive_outcome w x n).reply) (arrive_outcome w x n).world
-unfolding arrive_outcome
-placed_arrived l w i x n o few p =
-    let g : Receiver → Receiver = after_arrival x.content n in
-    let z : Exchange = record x { arrived = with_member n x.arrived } in
-    passes_more l w (with_exchange (on_receiver w x.station x.tid g) z) x.station x.tid
-    (g (receiver w x.station x.tid)) (less_taken w x z g) (side_untaken w x z g)
-    (side_taken w x z g o.live) (grows_after x.content w i x n refl o (not_le _ _ few)) p
-  where
-    not_le : (a b : ℕ) → nat_le a b ≡ false → b < a
-    not_le a b e = grind arith
-
--- No id is released.
-placed_plain : (l : List ℕ) (o : Outcome) → named_by o.reply ≡ [] → Placing l o.world →
-    Placing (l ++ named_by o.reply) o.world
-placed_plain l o e p = subst (λ (k : List ℕ). Placing k o.world)
-    (sym (ap (λ (ids : List ℕ). l ++ ids) e ∙ append-nil l)) p
-
-placed_arrive : (o : Option Exchange) (l : List ℕ) (w : World) (i : IsLawful w) (n : ℕ) →
-    IfSome o (IsOpenIn w) → IfSome o (λ x. nat_le (transmissions x.content) n ≡ false) → Placing l w →
-    Placing (l ++ named_by (outcome_where_open w o (λ x. arrive_outcome w x n)).reply)
-    (outcome_where_open w o (λ x. arrive_outcome w x n)).world
-unfolding outcome_where_open
-placed_arrive None l w i n f few p = placed_plain l (record { world = w; reply = Released [] }) refl p
-placed_arrive (Some x) l w i n f few p = placed_arrived l w i x n f few p
-
 -- ---- joining and leaving
 
 pub less_with_station : (w : World) (s : ℕ) (o : Option Station) → Less Any w (with_station w s o)
@@ -611,13 +429,6 @@ placed_station l w i o bare p =
 pub new_bare : (first size : ℕ) → IsBare (side_of (new_tid first size))
 new_bare first size = omega arith
 
-pub placed_joined : (l : List ℕ) (w : World) (s window start exponent weight : ℕ) → Placing l w →
-    Placing l (join_outcome w s window start exponent weight).world
-unfolding join_outcome
-placed_joined l w s window start exponent weight p =
-    placed_station l w s _ (eight (λ y. IsBare (side_of y)) (new_tid start window) (new_bare start window)
-    (new_bare 0 0)) p
-
 pub less_left_tids : (ts : List ℕ) (w : World) (s : ℕ) → Less Any w (after_tids_left w s ts)
 unfolding after_tids_left after_tid_left
 less_left_tids [] w s = less Any w
@@ -629,13 +440,6 @@ pub less_off_lists : (cs : List Class) (w : World) (s : ℕ) → Less Any w (wit
 unfolding without_listings
 less_off_lists [] w s = less Any w
 less_off_lists (c ∷ cs) w s = then_less Any _ _ _ (less_with_rotation Any w c _) (less_off_lists cs _ s)
-
-pub placed_gone : (l : List ℕ) (w : World) (s : ℕ) → Placing l w → Placing l (leave_outcome w s).world
-unfolding leave_outcome
-placed_gone l w s p =
-    placed_station l _ s None (λ t. new_bare 0 0)
-    (placed_same l w _ (then_same _ _ _ (same_left_tids (upto 8) w s) (same_off_lists all_classes _ s))
-    (then_less Any _ _ _ (less_left_tids (upto 8) w s) (less_off_lists all_classes _ s)) p)
 
 -- ---- a frame is enqueued
 
@@ -782,14 +586,7 @@ placed_enqueued l w s t flow len p =
       accepted_appended u q x,
     )) p
 
--- ---- the step
-
-placed_open : (P Q : Exchange → Type 0) (o : Option Exchange) (l : List ℕ) (w : World)
-    (f : Exchange → Outcome) → IfSome o P → ((x : Exchange) → P x → Placing l (f x).world) → Placing l w →
-    Placing l (outcome_where_open w o f).world
-unfolding outcome_where_open
-placed_open P Q None l w f h k p = p
-placed_open P Q (Some x) l w f h k p = k x h
+-- ---- the ids that a call releases
 
 pub any_some : (o : Option Exchange) → IfSome o (λ _. Unit {0})
 any_some None = tt
@@ -811,20 +608,6 @@ unfolding reap_outcome
 named_reaped [] w = refl
 named_reaped (id ∷ ids) w = refl
 
-placed_reaped : (ids : List ℕ) (l : List ℕ) (w : World) → Placing l w → Placing l (reap_outcome w ids).world
-unfolding reap_outcome
-placed_reaped [] l w p = p
-placed_reaped (id ∷ ids) l w p = placed_less l w _ (less_plain Any w _ refl refl) (λ s t. refl) p
-
-placed_on_station : (l : List ℕ) (w : World) (s : ℕ) (f : Station → Station) →
-    ((x : Station) (t : ℕ) → side_of (at no_tid (f x).tids t) ≡ side_of (at no_tid x.tids t)) → Placing l w →
-    Placing l (on_station w s f)
-placed_on_station l w s f h p = placed_same l w _ (same_on_station w s f h) (less_on_station Any w s f) p
-
-placed_answered : (l : List ℕ) (w : World) (x : Exchange) → Placing l w → Placing l (answer_outcome w x).world
-unfolding answer_outcome with_exchange
-placed_answered l w x p = placed_less l w _ (less_plain Any w _ refl refl) (λ s t. refl) p
-
 -- The reply to a call that is not an arrival releases no id.
 pub named_done : (note : Note) (w : World) → (named_by (outcome_of w note).reply ≡ []) ⊎
     ((e : ℕ) × (n : ℕ) × (note ≡ Asked (Arrive e n)))
@@ -845,81 +628,6 @@ named_done (Asked (Poll s)) w = inl refl
 named_done (Asked (Rx s c air)) w = inl refl
 named_done (Asked Reap) w = inl (named_reaped w.finished w)
 
--- The call releases no id.
-placed_call : (note : Note) (l : List ℕ) (w : World) (i : IsLawful w) → NoRow (refusals w note) →
-    Placing l w → named_by (outcome_of w note).reply ≡ [] → Placing l (outcome_of w note).world
-unfolding outcome_of tick_outcome rate_outcome sleep_outcome wake_outcome poll_outcome rx_outcome
-placed_call (Enqueue s t flow len) l w i e p r = placed_enqueued l w s t flow len p
-placed_call (Asked (Join s window start exponent weight)) l w i e p r =
-    placed_joined l w s window start exponent weight p
-placed_call (Asked (Leave s)) l w i e p r = placed_gone l w s p
-placed_call (Asked (Rate s rate)) l w i e p r = placed_on_station l w s _ (λ x t. refl) p
-placed_call (Asked (Tick by)) l w i e p r = placed_less l w _ (less_plain Any w _ refl refl) (λ s t. refl) p
-placed_call (Asked (Pull c)) l w i e p r = placed_pulled l w c i p
-placed_call (Asked (Arrive x n)) l w i e p r =
-    subst (λ (k : List ℕ). Placing k (outcome_where_open w (exchange w x) (λ y. arrive_outcome w y n)).world)
-    (ap (λ (ids : List ℕ). l ++ ids) r ∙ append-nil l)
-    (placed_arrive (exchange w x) l w i n (opened_in w i x)
-    (if_on (exchange w x) (λ y. nat_le (transmissions y.content) n) e.1.0) p)
-placed_call (Asked (Answer x)) l w i e p r = placed_open (λ _. Unit {0}) (λ _. Unit {0}) (exchange w x) l w _
-    (any_some (exchange w x)) (λ y _. placed_answered l w y p) p
-placed_call (Asked (Done x heard air)) l w i e p r =
-    placed_open (IsFound w i) (λ _. Unit {0}) (exchange w x) l w _ (found w i x)
-    (λ y f. placed_ended air l w i y heard f p) p
-placed_call (Asked (Sleep s)) l w i e p r = placed_on_station l w s _ (λ x t. refl) p
-placed_call (Asked (Wake s)) l w i e p r = placed_on_station l w s _ (λ x t. refl) p
-placed_call (Asked (Poll s)) l w i e p r = placed_on_station l w s _ (λ x t. refl) p
-placed_call (Asked (Rx s c air)) l w i e p r =
-    placed_same l w _ (same_on_share w s c _) (less_on_share Any w s c _) p
-placed_call (Asked Reap) l w i e p r = placed_reaped w.finished l w p
-
-placed_arrival : (l : List ℕ) (w : World) (i : IsLawful w) (e n : ℕ) →
-    NoRow (refusals w (Asked (Arrive e n))) → Placing l w →
-    Placing (l ++ named_by (outcome_of w (Asked (Arrive e n))).reply)
-    (outcome_of w (Asked (Arrive e n))).world
-unfolding outcome_of
-placed_arrival l w i e n r p = placed_arrive (exchange w e) l w i n (opened_in w i e)
-    (if_on (exchange w e) (λ y. nat_le (transmissions y.content) n) r.1.0) p
-
-placed_done : (note : Note) (l : List ℕ) (w : World) (i : IsLawful w) → NoRow (refusals w note) →
-    Placing l w → Placing (l ++ named_by (outcome_of w note).reply) (outcome_of w note).world
-placed_done note l w i e p = elim (named_done note w) [
-  | inl r ↦ placed_plain l (outcome_of w note) r (placed_call note l w i e p r)
-  | inr a ↦ subst (λ (c : Note). NoRow (refusals w c) →
-      Placing (l ++ named_by (outcome_of w c).reply) (outcome_of w c).world) (sym a.2)
-      (λ d. placed_arrival l w i a.0 a.1 d p) e
-]
-
-placed_refused : (note : Note) (r : Refusal) (l : List ℕ) (w : World) → Placing l w →
-    Placing l (after_refusal w note r)
-unfolding after_refusal
-placed_refused (Asked (Pull c)) Idle l w p = placed_same l w _ (same_after_pick w c)
-    (less_after_pick Any w c) p
-placed_refused _ _ l w p = p
-
-placed_answer : (r : Option Refusal) (l : List ℕ) (w : World) (i : IsLawful w) (note : Note) →
-    refusal w note ≡ r → Placing l w → Placing (l ++ named_by (judged_outcome w note r).reply)
-    (judged_outcome w note r).world
-unfolding judged_outcome
-placed_answer (Some r) l w i note e p = placed_plain l
-    (record { world = after_refusal w note r; reply = Refused r }) refl (placed_refused note r l w p)
-placed_answer None l w i note e p = placed_same _ _ _
-    (same_listed (concerned_station w note) (outcome_of w note).world)
-    (less_listed Any (concerned_station w note) (outcome_of w note).world)
-    (placed_done note l w i (no_row (refusals w note) e) p)
-
-pub placed_step : (l : List ℕ) (w : World) (i : IsLawful w) (note : Note) → Placing l w →
-    Placing (l ++ named_by (step w note).reply) (step w note).world
-unfolding step
-placed_step l w i note p = placed_answer (refusal w note) l w i note refl p
-
-pub placed_run : (h : List Entry) (l : List ℕ) (w : World) (i : IsLawful w) → Placing l w →
-    Placing (named_from w l h) (world_after w h)
-unfolding named_from world_after
-placed_run [] l w i p = p
-placed_run (e ∷ es) l w i p = placed_run es _ (step w e.1).world (lawful_step w e.1 i)
-    (placed_step l w i e.1 p)
-
 pub placed_at_first : (config : Config) → Placing [] (opening config)
 placed_at_first config = record {
   home = λ k. Queued 0;
@@ -929,10 +637,3 @@ placed_at_first config = record {
   old = λ k e. absurd (cc e);
   once = tt;
 }
-
-pub placed : (config : Config) (h : List Entry) →
-    Placing (named_from (opening config) [] h) (world_after (opening config) h)
-placed config h = placed_run h [] (opening config) (lawful_at_first config) (placed_at_first config)
-
-pub once_law : (config : Config) (h : List Entry) → OnceLaw config h
-once_law config h = (placed config h).once

@@ -50,7 +50,7 @@ module _ (P : List ℕ → World → Type 0) (Good : World → Type 0)
     ((t : ℕ) → IsBare (sides_of o t)) → P l w → P l (with_station w i o))
     (enqueue : (l : List ℕ) (w : World) (s t flow len : ℕ) → Good w →
     NoRow (refusals w (Enqueue s t flow len)) → P l w → P l (enqueue_outcome w s t flow len).world) where
-  through_number : (o : Option Item) (l : List ℕ) (u v : World) (s t : ℕ) → Same u v → Less Any u v →
+  pub through_number : (o : Option Item) (l : List ℕ) (u v : World) (s t : ℕ) → Same u v → Less Any u v →
       IfSome o (IsTaken u v) → P l u → P l (with_number v s t o)
   unfolding with_number
   through_number None l u v s t k h taken p = plain l u v h k.sides p
@@ -73,7 +73,7 @@ module _ (P : List ℕ → World → Type 0) (Good : World → Type 0)
       through_filled_if (not (can_give w s t)) l _ _ p
       (through_filled_if _ l _ _ (through_fresh n l _ s t _ numbered) numbered)
 
-  through_filled : (l : List ℕ) (w : World) (s t : ℕ) → P l w → P l (aggregate_of w s t).world
+  pub through_filled : (l : List ℕ) (w : World) (s t : ℕ) → P l w → P l (aggregate_of w s t).world
   unfolding aggregate_of
   through_filled l w s t p =
       let chosen : List Mpdu = longest_fitting w s (waiting_mpdus w s t) in
@@ -83,7 +83,7 @@ module _ (P : List ℕ → World → Type 0) (Good : World → Type 0)
 
   -- ---- pulls
 
-  through_frames : (l : List ℕ) (s t : ℕ) (f : Aggregate) → IsReady s t f.world f.mpdus → P l f.world →
+  pub through_frames : (l : List ℕ) (s t : ℕ) (f : Aggregate) → IsReady s t f.world f.mpdus → P l f.world →
       P l (prepared_data s t f).world
   unfolding prepared_data
   through_frames l s t f r p =
@@ -155,7 +155,7 @@ module _ (P : List ℕ → World → Type 0) (Good : World → Type 0)
   through_finish l w fate id p = through_same l w _ (same_finish w fate id)
       (less_finish Any w fate id (λ _. tt)) p
 
-  through_settled : (b : Bool) (l : List ℕ) (e s t : ℕ) (acked : ℕ → Bool) (w : World) (m : Mpdu)
+  pub through_settled : (b : Bool) (l : List ℕ) (e s t : ℕ) (acked : ℕ → Bool) (w : World) (m : Mpdu)
       (ms : List Mpdu) → IsEnding e s t acked w (m ∷ ms) → P l w → P l (with_settled w s t b m)
   unfolding with_settled with_failed_finished
   through_settled true l e s t acked w m ms n p =
@@ -175,7 +175,7 @@ module _ (P : List ℕ → World → Type 0) (Good : World → Type 0)
       (ending_settled (acked m.number) e s t acked w m ms refl n)
       (through_settled (acked m.number) l e s t acked w m ms n p)
 
-  through_without : (l : List ℕ) (w : World) (e : ℕ) → P l w → P l (without_exchange w e)
+  pub through_without : (l : List ℕ) (w : World) (e : ℕ) → P l w → P l (without_exchange w e)
   unfolding without_exchange
   through_without l w e p = plain l w _ (less_plain Any w _ refl refl) (λ s t. refl) p
 
@@ -230,14 +230,14 @@ module _ (P : List ℕ → World → Type 0) (Good : World → Type 0)
 
   -- ---- joining and leaving
 
-  through_joined : (l : List ℕ) (w : World) (s window start exponent weight : ℕ) → P l w →
+  pub through_joined : (l : List ℕ) (w : World) (s window start exponent weight : ℕ) → P l w →
       P l (join_outcome w s window start exponent weight).world
   unfolding join_outcome
   through_joined l w s window start exponent weight p =
       station_changed l w s _ (eight (λ y. IsBare (side_of y)) (new_tid start window) (new_bare start window)
       (new_bare 0 0)) p
 
-  through_gone : (l : List ℕ) (w : World) (s : ℕ) → P l w → P l (leave_outcome w s).world
+  pub through_gone : (l : List ℕ) (w : World) (s : ℕ) → P l w → P l (leave_outcome w s).world
   unfolding leave_outcome
   through_gone l w s p =
       station_changed l _ s None (λ t. new_bare 0 0)

@@ -29,7 +29,8 @@ use Rattle.wf_law_runs.proofs.Windows.Opened.{eight}
 use Rattle.wf_law_runs.proofs.Windows.Sides.{Side, Same, side_of, sides_of, then_same, each_side_on, same_on_station, same_on_share, same_finish, same_listed, same_after_pick, same_after_turn, same_spent, same_take, same_charged, same_within_limit, same_put_in}
 use Rattle.wf_law_runs.proofs.Windows.Agreed.{IsLawful, IsReady, IsEnding, IsFound, found, ready_filled, ending_settled, ending_of, lawful_same, lawful_step, lawful_at_first, session_same, session_on_session, winner_ready, same_left_tids, same_off_lists}
 use Rattle.wf_law_runs.proofs.Releases.Kept.{KeptSession, kept_on_slot}
-use Rattle.wf_law_runs.proofs.Releases.Placed.{Placing, Numbered, Queued, Place, Any, placed_filled, placed_less, placed_step, placed_at_first, queue_appended, less_put_in, less_with_frame, less_with_station, less_left_tids, less_off_lists, accepted_appended, accepted_with_frame, side_with_frame}
+use Rattle.wf_law_runs.proofs.Releases.Placed.{Placing, Numbered, Queued, Place, Any, placed_less, placed_at_first, queue_appended, less_put_in, less_with_frame, less_with_station, less_left_tids, less_off_lists, accepted_appended, accepted_with_frame, side_with_frame}
+use Rattle.wf_law_runs.proofs.Releases.Once.{placed_filled, placed_step}
 use Rattle.wf_law_runs.proofs.Frames.Fewer.{carries, Less, then_less, less_plain, less_on_station, less_on_session, less_on_receiver, less_on_share, less_finish, less_listed, less_after_pick, less_after_turn, less_spent, less_within_limit, less_charged, less_take, IsTaken, given_take}
 use Rattle.wf_law_runs.proofs.Frames.Delivered.{Labelled, labelled_kept, labelled_filled}
 

@@ -32,6 +32,7 @@ use Rattle.wf_law_runs.proofs.Sent.Some.{AllSome, some_step, apt}
 use Rattle.wf_law_runs.proofs.Attempts.Law.{AllTried, Tried, tried_step, none_given}
 use Rattle.wf_law_runs.proofs.Tries.Counts.{AllCounted, Counts, times_in, times_part, counts_step, counts_first, counts, one_if, none_if}
 use Rattle.wf_law_runs.proofs.Tries.Opens.{Opens, at_some, opens_step}
+use Rattle.wf_law_runs.proofs.Tries.Requests.{few_requests}
 
 -- ---- each frame
 
@@ -224,6 +225,7 @@ keeps_tries config past range =
       );
       exchanges = λ short. data_run past [] (opening config) short (kept_opening config range)
           (steady_first config) (stocked_first greatest_body config) tt;
+      requests = few_requests config past;
     }
 
 pub tries_law : (config : Config) (h : List Entry) → IsInRange config → TriesLaw config h

@@ -38,7 +38,7 @@ pub at_some : (P : Exchange → Type 0) (xs : List Exchange) (x : Exchange) → 
 at_some P [] x h s = absurd s
 at_some P (y ∷ ys) x h s = elim s [ inl e ↦ subst P e h.0 | inr e ↦ at_some P ys x h.1 e ]
 
-some_last : (xs : List Exchange) (x : Exchange) → SomeOpen (λ y. y ≡ x) (xs ++ x ∷ [])
+pub some_last : (xs : List Exchange) (x : Exchange) → SomeOpen (λ y. y ≡ x) (xs ++ x ∷ [])
 some_last [] x = inl refl
 some_last (y ∷ ys) x = inr (some_last ys x)
 

@@ -27,7 +27,7 @@ use Rattle.wf_law_runs.proofs.Sessions.Starts.{start_ge, length-change}
 use Rattle.wf_law_runs.proofs.Sessions.Flights.{AllIn, Rises, rises_weaken, all_in_later, IsFlown, flown, IsChosen, chosen_fitting, chosen_waiting, chosen_give, chosen_fresh}
 use Rattle.wf_law_rules.proofs.Lemmas.Numbers.{on_bool, on_if, eq_yes, eq_no, yes_eq, either, both, and_true, has_new}
 use Rattle.wf_law_runs.proofs.Windows.Sides.{Side, side_of, side, sides_of, Same, each_side_on, at_side_on, side_on, on_live, on_opened, on_exchanges, same, then_same, same_on_station, same_with_queues, same_on_share, same_with_rotation, same_finish, same_finish_all, same_listed, same_after_pick, same_after_turn, same_spent, same_within_limit, same_put_in, same_take, same_purge_queues, same_charged}
-use Rattle.wf_law_runs.proofs.Windows.Agreement.{IsAgreed, agreed_on_slot, not_due_give, agreed_give, agreed_heard, agreed_arrived, agreed_start, agreed_new, IsAsked, IsOpen, request_map, open_on_slot, open_flies, open_arrived, open_start, open_heard, agreed_fly, answer_right, AllRight, IfRequest}
+use Rattle.wf_law_runs.proofs.Windows.Agreement.{IsAgreed, due_at, agreed_on_slot, not_due_give, agreed_give, agreed_heard, agreed_arrived, agreed_start, agreed_new, IsAsked, IsOpen, request_map, open_on_slot, open_flies, open_arrived, open_start, open_heard, agreed_fly, answer_right, AllRight, IfRequest}
 use Rattle.wf_law_runs.proofs.Windows.Opened.{Each, each_map, each_both, each_append, each_filter, each_find, FlyIn, fly_give, differ, some_along, pick_ready, can_give-room, eight, none_open, NoRow, no_row}
 
 -- ---- worlds in which the invariant holds for each agreement and each open exchange
@@ -297,6 +297,7 @@ aloft w s t i live may = if_aloft (request_due (session w s t)) s t _ _
         start =
             omega arith;
         next = (i.agreed s t).within.within;
+        untold = let u = due_at (session w s t) due in (u.0, u.1, u.1.below);
       };
       alone = may due;
     })

@@ -427,6 +427,7 @@ pub record IsAsked (f : ℕ) (y : Session) : Type 0 where
   pub from : y.first ≤ f
   pub start : f ≤ start_of y
   pub next : next_number y ≤ f + y.size
+  pub untold : (n : ℕ) × IsUntold y n × (n < f)
 
 -- The answer of an open exchange is right for one of its numbers.
 pub record IsRight (b : Score) (r : Receiver) (m : Mpdu) : Type 0 where
@@ -511,6 +512,7 @@ open_on_slot x y r m f l h k o =
         from = a.from;
         start = omega (arith, a.start, start_on_slot y m f h);
         next = omega (arith, next, a.next);
+        untold = (a.untold.0, untold_after y m a.untold.0 f l h a.untold.1, a.untold.2);
       }) o.asked;
       told = o.told;
       marked = o.marked;

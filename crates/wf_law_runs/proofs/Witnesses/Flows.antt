@@ -1,7 +1,7 @@
--- Computes one history for the law of released flows: a flow of station 1 waits in the overflow queue
--- while station 0 lists the only flow queue, and goes into the flow queue once station 0 has left. Its
+-- Computes one history for the laws of sent and of released flows: a flow of station 1 waits in the overflow
+-- queue while station 0 lists the only flow queue, and goes into the flow queue once station 0 has left. Its
 -- frames are in order with `keep_order` alone.
-use Rattle.std.proofs.Common.{◌≡◌, refl, false, List, [], ◌∷◌, map, None}
+use Rattle.std.proofs.Common.{◌≡◌, refl, false, List, [], ◌∷◌, ◌++◌, map, None}
 use Rattle.wf_frame.specs.declared.settings.Config.{Config}
 use Rattle.wf_frame.specs.Settings.{standard}
 use Rattle.wf_frame.specs.declared.classes.Class.TheVariants.{Be}
@@ -10,7 +10,7 @@ use Rattle.wf_frame.specs.declared.notes.Note.TheVariants.{Enqueue, Asked}
 use Rattle.wf_def_world.specs.Run.{Entry, by}
 use Rattle.wf_def_world.specs.Computed.{the_machine}
 use Rattle.wf_law_runs.specs.Releases.{named_from}
-use Rattle.wf_law_runs.specs.Flows.{released_of}
+use Rattle.wf_law_runs.specs.Flows.{released_of, sent_from, first_sends}
 
 abbrev config : Config
 config = record standard { flows = 1 }
@@ -45,3 +45,15 @@ overtaken = refl
 kept : released_of keeping history 1 0 7 ≡ 1 ∷ 2 ∷ 3 ∷ 4 ∷ 5 ∷ []
 unfolding the_machine named_from
 kept = refl
+
+sent_overtaken : first_sends config history 1 0 7 ≡ 1 ∷ 4 ∷ 2 ∷ 5 ∷ 3 ∷ []
+unfolding the_machine sent_from
+sent_overtaken = refl
+
+-- The frames are sent again after the exchange was not heard. Each is listed where it was sent first.
+abbrev again : List Entry
+again = history ++ map (by 0) (Asked (Done 1 false None) ∷ Asked (Pull Be) ∷ [])
+
+sent_in_order : first_sends keeping again 1 0 7 ≡ 1 ∷ 2 ∷ 3 ∷ 4 ∷ 5 ∷ []
+unfolding the_machine sent_from
+sent_in_order = refl

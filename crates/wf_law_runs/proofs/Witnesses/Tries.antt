@@ -9,10 +9,11 @@ use Rattle.wf_frame.specs.declared.notes.Note.TheVariants.{Enqueue, Asked}
 use Rattle.wf_frame.specs.Settings.{standard}
 use Rattle.wf_def_agreement.specs.Session.{slot}
 use Rattle.wf_def_world.specs.World.{session, frame, accepted_count, opening}
+use Rattle.wf_def_world.specs.Text.{tally}
 use Rattle.wf_def_world.specs.Run.{Entry, by}
 use Rattle.wf_def_world.specs.Stretches.{world_at}
 use Rattle.wf_def_world.specs.Computed.{the_machine}
-use Rattle.wf_law_runs.specs.Tries.{tries, frames_sent_in, data_exchanges}
+use Rattle.wf_law_runs.specs.Tries.{tries, frames_sent_in, data_exchanges, requests_heard}
 
 -- three attempts, and two frames in an aggregate
 abbrev config : Config
@@ -86,3 +87,31 @@ counts_waiting = refl
 counts_flying : (slot (session (world_at config history 8) 0 0) 0).attempts ≡ 2
 unfolding the_machine
 counts_flying = refl
+
+-- With one attempt, the frame is dropped after one exchange, and a request follows.
+abbrev once : Config
+once = record standard { attempts = 1; agg = 1 }
+
+abbrev asked : List Entry
+asked = map (by 0) (
+    Asked (Join 0 64 0 3 1) ∷
+    Enqueue 0 0 1 100 ∷
+    Asked (Pull Be) ∷
+    Asked (Done 0 false None) ∷
+    Asked (Pull Be) ∷
+    Asked (Arrive 1 0) ∷
+    Asked (Answer 1) ∷ [])
+
+-- If the request is heard, as many requests are heard as frames are dropped.
+requests_attained : requests_heard (opening once) (asked ++ by 0 (Asked (Done 1 true None)) ∷ []) ≡ 1
+unfolding the_machine
+requests_attained = refl
+
+dropped_as_many : tally (world_at once asked 7) (Dropped Retries) ≡ 1
+unfolding the_machine
+dropped_as_many = refl
+
+-- A request that is not heard does not count, and is sent again.
+unheard : requests_heard (opening once) (asked ++ by 0 (Asked (Done 1 false None)) ∷ []) ≡ 0
+unfolding the_machine
+unheard = refl

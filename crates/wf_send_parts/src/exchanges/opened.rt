@@ -4,6 +4,7 @@ ghost use Rattle.std.specs.Prelude.{◌≡◌, ◌<◌, ◌≤◌, ◌==◌, ◌
 ghost use Rattle.wf_frame.specs.Classes.{same_class};
 ghost use Rattle.wf_def_lists.specs.Bounds.{greatest_air};
 ghost use Rattle.wf_def_lists.specs.Lists.{IsRising};
+ghost use Rattle.wf_send_parts.specs.Counted.{airtime_place};
 
 use std::alloc::{AllocError, Global};
 use std::marker::Model;
@@ -12,6 +13,9 @@ use wf_octets::seq12::Seq12;
 
 /// The greatest number of open exchanges: eight for each of the four classes.
 pub const MOST_OPEN: usize = 32;
+
+/// The greatest number of stations: the greatest value of the setting `stations`.
+pub const MOST_STATIONS: usize = 256;
 
 /// At most 256 sequence numbers, in the order in which they are sent.
 pub type Numbers = FixedList<Seq12>;
@@ -86,13 +90,23 @@ impl Open {
     }
 }
 
-/// At most 32 open exchanges, in the order of their numbers. Contracts see them as a list. Only `new`
-/// allocates.
+/// At most 32 open exchanges, in the order of their numbers, to stations below 256. Contracts see them as a
+/// list. Only `new` allocates.
 #[derive(Drop)]
 pub struct Opened {
     list: Vec<Open>,
     /// The sum of their charges, in microseconds.
     airtime: u32,
+    /// The sum of the charges of those to each station in each class, in microseconds: by class, the least
+    /// urgent first, then by station.
+    airtimes: Vec<u32>,
+}
+
+// Returns the place of a station's airtime in a class.
+fn airtime_place(station: u16, class: Class) -> usize
+    ensures { result ≡ airtime_place station class }
+{
+    class.number() * MOST_STATIONS + usize::from(station)
 }
 
 impl Model for Opened {
@@ -104,29 +118,36 @@ impl Model for Opened {
 
     ghost view = { λ o. o.list.items };
 
-    ghost invariant = { λ o. KnowsAirtime o.list.items (vec_capacity o.list) o.airtime };
+    ghost invariant = { λ o. KnowsAirtime o.list.items (vec_capacity o.list) o.airtime o.airtimes.items };
 }
 
 impl Opened {
-    ghost use Rattle.wf_send_parts.specs.Exchanges.{exchange_number, asks, airtime_of};
+    ghost use Rattle.wf_send_parts.specs.Exchanges.{exchange_number, asks, airtime_of, airtime_to};
 
     /// Creates it with no open exchange. Fails only if memory runs out.
     pub fn new(alloc: Global) -> Result<Opened, AllocError>
         ensures { IfOk result (λ made. made ≡ []) }
     {
+        let airtimes = vec![in alloc; 0; 4 * MOST_STATIONS]?;
         let list = Vec::with_capacity(alloc, MOST_OPEN)?;
-        Ok(Opened { list, airtime: 0 })
+        Ok(Opened {
+            list,
+            airtime: 0,
+            airtimes,
+        })
     }
 
-    /// Adds an open exchange. Fewer than 32 may be open before, all with lower numbers. Its charge is at most
-    /// 65,535 microseconds.
+    /// Adds an open exchange. Fewer than 32 may be open before, all with lower numbers. Its station is below
+    /// 256, and its charge at most 65,535 microseconds.
     pub fn push(&mut self, exchange: Open)
         requires room { length self.old < MOST_OPEN }
         requires above { All (λ other. other.number < exchange.number) self.old }
+        requires station { exchange.station < MOST_STATIONS }
         requires small { exchange.charge ≤ greatest_air }
         ensures { self.new ≡ self.old ++ exchange ∷ [] }
     {
         self.airtime += exchange.charge;
+        self.airtimes[airtime_place(exchange.station, exchange.class)] += exchange.charge;
         self.list.push_reserved(exchange);
     }
 
@@ -146,6 +167,7 @@ impl Opened {
             Some(place) => {
                 let exchange = self.list.remove(place);
                 self.airtime -= exchange.charge;
+                self.airtimes[airtime_place(exchange.station, exchange.class)] -= exchange.charge;
                 Some(exchange)
             }
             None => None,
@@ -175,6 +197,15 @@ impl Opened {
         ensures { result ≡ airtime_of self.now }
     {
         self.airtime
+    }
+
+    /// Returns the airtime in flight to this station in a class: the sum of the charges of its open exchanges
+    /// of the class, in microseconds. Constant time.
+    pub fn airtime_to(&self, station: u16, class: Class) -> u32
+        requires { station < MOST_STATIONS }
+        ensures { result ≡ airtime_to self.now station class }
+    {
+        self.airtimes[airtime_place(station, class)]
     }
 
     /// Returns how many exchanges to this station are open.

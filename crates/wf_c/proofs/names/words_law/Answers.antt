@@ -40,12 +40,14 @@ kinds_are Woken pairs ids = refl
 kinds_are (Polled class) pairs ids = refl
 kinds_are (Charged deficit) pairs ids = refl
 kinds_are (Reaped id fate) pairs ids = refl
+-- begin refusals: tools/tables writes these lines
 kinds_are (Refused (refusal.Open count)) pairs ids = refl
 kinds_are (Refused (refusal.Room inside)) pairs ids = refl
 kinds_are (Refused (refusal.Sleeping queued)) pairs ids = refl
 kinds_are (Refused (refusal.Full count)) pairs ids = refl
 kinds_are (Refused (refusal.Debt deficit)) pairs ids = refl
 kinds_are (Refused (refusal.Ahead owed)) pairs ids = refl
+-- end refusals
 kinds_are (Refused _) pairs ids = refl
 
 fates_are : (f : Fate) → word_at fate_word_at (pos (fate_number f)) ≡ fate_word f

@@ -1,4 +1,4 @@
--- Until the ticket is served, only the number read changes in the seat's view.
+-- Until the first ticket is served, only the number read changes in the seat's view.
 use Rattle.std.proofs.Common.{◌≡◌, ℕ, [], Option}
 use Rattle.wf_gate.specs.Passes.{with_read}
 use Rattle.wf_gate.proofs.turn.wait.Given as goal

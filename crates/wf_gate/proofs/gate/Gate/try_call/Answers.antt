@@ -1,5 +1,5 @@
 -- If the exchange found the ticket that is served, the seat has its turn, as in `call`.
-use Rattle.std.proofs.Common.{rules, ◌≡◌, ◌<◌, ◌∙◌, ap, sym, subst, length, Some}
+use Rattle.std.proofs.Common.{rules, [], ◌∷◌, ◌≡◌, ◌<◌, ◌∙◌, ap, sym, subst, length, Some}
 use Rattle.std.specs.Prelude.{All}
 use mathlib.Core.List.{IsPrefix}
 use Rattle.wf_gate.specs.Turns.{opening_of}
@@ -11,7 +11,8 @@ pub returns-clause-seen : goal.returns-clause-seen
 returns-clause-seen g c =
     let hit : c.attempt-serving.result.1 ≡ c.attempt-serving.result.0 = search rules in
     subst (λ z. IsPrefix z c.serve-reply.new.pass.me.0.face.seen) (ap (λ s. s.seen) c.seat.view_is)
-    (sees_more _ _ _ _ _ c.seat.inside.pass.me.0 c.attempt-serving.new.pass.me _ _
+    (sees_more _ _ _ _ _ _ c.seat.inside.pass.me.0 c.attempt-serving.new.pass.me _ c.seat.inside.number
+    (g.M.Machine.note c.args.call ∷ [])
     (c.attempt-serving.ensures.turn hit) c.serve-reply.ensures.seat.2)
 
 pub returns-clause-callers : goal.returns-clause-callers
@@ -24,10 +25,11 @@ returns-clause-callers g c =
     let mine = mine_inside o.quotas c.seat.inside.number c.seat.inside.quota c.seat.inside.used
     (c.seat.invariant.allotted o opening) less in
     subst (λ z. All (λ x. x.0 < length z.opening.quotas) c.serve-reply.new.pass.me.0.face.seen) c.self.view_is
-    (sees_seats _ _ _ _ _ c.seat.inside.pass.me.0 c.attempt-serving.new.pass.me _ _
+    (sees_seats _ _ _ _ _ _ c.seat.inside.pass.me.0 c.attempt-serving.new.pass.me _ c.seat.inside.number
+    (g.M.Machine.note c.args.call ∷ [])
     (c.attempt-serving.ensures.turn hit) c.serve-reply.ensures.seat.2 mine)
 
 pub serve-reply-requires-clause-turn : goal.serve-reply-requires-clause-turn
 serve-reply-requires-clause-turn g c =
     let hit : c.attempt-serving.result.1 ≡ c.attempt-serving.result.0 = search rules in
-    takes_turn _ _ _ _ _ c.seat.inside.pass.me.0 _ (c.attempt-serving.ensures.turn hit)
+    takes_turn _ _ _ _ _ _ c.seat.inside.pass.me.0 _ (c.attempt-serving.ensures.turn hit)

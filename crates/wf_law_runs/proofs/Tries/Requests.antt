@@ -1,0 +1,585 @@
+-- Proves that there are at most as many heard requests as frames that are dropped for retries. Each heard
+-- request announces a failed number that no earlier request announced, and the frame of this number is
+-- dropped for retries. By cases of the call and induction on the run.
+use Rattle.std.proofs.Common.{◌||◌, zero-add, ◌≡◌, ◌≢◌, refl, ap, sym, ◌∙◌, subst, arith, ℕ, zero, suc, ◌+◌, ◌-◌, ◌<◌, ◌≤◌, Bool, true, false, if◌then◌else◌, ◌&&◌, ◌==◌, ◌⊎◌, inl, inr, List, [], ◌∷◌, ◌++◌, length, count_by, Option, Some, None, IfSome, is_none}
+use Rattle.std.proofs.lemmas.List.Sums.{sum_by-cons}
+use Rattle.wf_frame.specs.declared.settings.Config.{Config}
+use Rattle.wf_frame.specs.declared.classes.Cause.TheVariants.{Retries}
+use Rattle.wf_frame.specs.declared.classes.Fate.{Fate}
+use Rattle.wf_frame.specs.declared.classes.Fate.TheVariants.{Acked, Dropped}
+use Rattle.wf_frame.specs.declared.notes.Ask.TheVariants.{Pull, Done}
+use Rattle.wf_frame.specs.declared.notes.Note.{Note}
+use Rattle.wf_frame.specs.declared.notes.Note.TheVariants.{Asked}
+use Rattle.wf_frame.specs.declared.notes.Refusal.{Refusal}
+use Rattle.wf_frame.specs.declared.notes.Refusal.TheVariants.{Idle}
+use Rattle.wf_def_lists.specs.Table.{at, has, put}
+use Rattle.wf_def_lists.specs.Lists.{IsOnce}
+use Rattle.wf_def_agreement.specs.Session.{Session, Slot, State, no_slot, slot, with_state, after_miss, slot_after_miss, next_number, is_settled, is_failed}
+use Rattle.wf_def_world.specs.World.{World, on_tid, on_station, Exchange, Frame, Mpdu, Content, Frames, Request, no_frame, session, frame, is_live, exchange, with_station, on_session, without_exchange, with_fate, with_frame_finished, opening}
+use Rattle.wf_def_world.specs.CanSend.{is_request, with_listings_of}
+use Rattle.wf_def_world.specs.Exchanges.{mpdus_of, is_acked, with_heard_start, after_charge, with_failed_finished, with_settled, with_all_settled, after_done}
+use Rattle.wf_def_world.specs.Refusals.{refusal}
+use Rattle.wf_def_world.specs.Step.{done_outcome, outcome_where_open, outcome_of, concerned_station, after_refusal, judged_outcome, step}
+use Rattle.wf_def_world.specs.Run.{Entry, world_after}
+use Rattle.wf_def_world.specs.Text.{same_fate, tally}
+use Rattle.wf_law_rules.proofs.Lemmas.Numbers.{on_bool, on_if, eq_yes, eq_no, yes_eq, not_eq, either, or_left, or_right}
+use Rattle.wf_law_rules.proofs.Lemmas.Tables.{each_put, at_put_same, at_put_other}
+use Rattle.wf_law_rules.proofs.Lemmas.Joined.{not_more}
+use Rattle.wf_law_runs.specs.Tries.{requests_heard_by, requests_heard, asks_in}
+use Rattle.wf_law_runs.specs.Releases.{named_by}
+use Rattle.wf_law_runs.proofs.Windows.Sides.{Side, Same, same, each_side_on, same_finish, same_listed, same_after_pick, same_charged}
+use Rattle.wf_law_runs.proofs.Windows.Agreement.{within_length, IsUntold, IsAsked, IfRequest, slot_same}
+use Rattle.wf_law_runs.proofs.Windows.Agreed.{live_without, session_same, IsLawful, IsEnding, ending_settled, ending_of, session_on_session}
+use Rattle.wf_law_runs.proofs.Windows.Settling.{without_same}
+use Rattle.wf_law_runs.proofs.Releases.Placed.{Placing, Numbered}
+use Rattle.wf_law_runs.proofs.Frames.Delivered.{Labelled, labelled_kept}
+use Rattle.wf_law_runs.proofs.Releases.Kept.{Kept, keep_settled}
+use Rattle.wf_law_runs.proofs.Frames.Fates.{IsHeld, Remains, Fresh, Safe, Steady, IsFoundNamed, found_named, remains_same, remains_of, then_remains, safe_calm, safe_settled, steady_step, steady_first, remains_step, fresh_without}
+use Rattle.std.proofs.Math.Nat.{le-max_left, le-max_right}
+use Rattle.wf_law_runs.proofs.Releases.Placed.{Any}
+use Rattle.wf_law_runs.proofs.Releases.Once.{placed_without}
+use Rattle.wf_law_runs.proofs.Frames.Fewer.{less_charged}
+use Rattle.wf_law_runs.proofs.Frames.Untouched.{untouched_charged, untouched_without, untouched_listed}
+use Rattle.wf_law_runs.proofs.Tries.Still.{Stands, Still, stands_equal, still_same, still_then, still_session, stands_on_slot, still_done}
+
+-- ---- the fates of frames at failed numbers
+
+abbrev WasRetried : World → ℕ → Type 0
+WasRetried w k = (frame w k).fate ≡ Dropped Retries
+
+-- The frame of each failed number is dropped for retries.
+record Fated (w : World) : Type 0 where
+  failed : (s t n : ℕ) → (slot (session w s t) n).state ≡ State.Failed →
+      WasRetried w (slot (session w s t) n).id
+
+-- World v is later than w. Each failed number of v has the same slot as in w, or its frame was held in w and
+-- is dropped for retries in v.
+record Fails (w v : World) : Type 0 where
+  fails : (s t n : ℕ) → (slot (session v s t) n).state ≡ State.Failed →
+      Stands (session w s t) (session v s t) n ⊎
+      (IsHeld w (slot (session v s t) n).id × WasRetried v (slot (session v s t) n).id)
+  remains : Remains w v
+
+fails_still : (w v : World) → Still w v → Remains w v → Fails w v
+fails_still w v h r = record { fails = λ s t n e. inl (h.still s t n e); remains = r }
+
+-- A frame that was dropped stays so.
+stays_retried : (w v : World) (k : ℕ) → Remains w v → WasRetried w k → WasRetried v k
+stays_retried w v k r e = elim (r.remains k) [
+  | inl held ↦ absurd (cc (held, e))
+  | inr same_fate ↦ same_fate ∙ e
+]
+
+was_held : (w v : World) (k : ℕ) → Remains w v → IsHeld v k → IsHeld w k
+was_held w v k r e = elim (r.remains k) [ inl held ↦ held | inr same_fate ↦ sym same_fate ∙ e ]
+
+failed_before : (y z : Session) (n : ℕ) → Stands y z n → (slot z n).state ≡ State.Failed →
+    (slot y n).state ≡ State.Failed
+failed_before y z n a e = ap (λ (x : Slot). x.state) (sym a.same_slot) ∙ e
+
+fails_then : (u v w : World) → Fails u v → Fails v w → Fails u w
+fails_then u v w h k = record {
+  fails = λ s t n e. elim (k.fails s t n e) [
+    | inl b ↦ elim (h.fails s t n (failed_before _ _ n b e)) [
+      | inl a ↦ inl (record {
+        same_slot = b.same_slot ∙ a.same_slot;
+        same_heard = b.same_heard ∙ a.same_heard;
+        same_first = b.same_first ∙ a.same_first;
+      })
+      | inr a ↦
+          let id : (slot (session w s t) n).id ≡ (slot (session v s t) n).id =
+          ap (λ (x : Slot). x.id) b.same_slot in
+          inr (
+            ap (λ (k : ℕ). (frame u k).fate) id ∙ a.0,
+            ap (λ (k : ℕ). (frame w k).fate) id ∙ stays_retried v w _ k.remains a.1,
+          )
+    ]
+    | inr b ↦ inr (was_held u v _ h.remains b.0, b.1)
+  ];
+  remains = then_remains u v w h.remains k.remains;
+}
+
+fated_later : (w v : World) → Fails w v → Fated w → Fated v
+fated_later w v h f = record {
+  failed = λ s t n e. elim (h.fails s t n e) [
+    | inl a ↦ ap (λ (k : ℕ). (frame v k).fate) (ap (λ (x : Slot). x.id) a.same_slot)
+        ∙ stays_retried w v _ h.remains (f.failed s t n (failed_before _ _ n a e))
+    | inr b ↦ b.1
+  ];
+}
+
+-- ---- the numbers of an exchange are settled
+
+fate_of_other : (w : World) (fate : Fate) (id k : ℕ) → k ≢ id →
+    (frame (with_frame_finished w fate id) k).fate ≡ (frame w k).fate
+unfolding with_frame_finished with_fate
+fate_of_other w fate id k other = ap (λ (x : Frame). x.fate)
+    (at_put_other no_frame w.frames id k (record (frame w id) { fate = fate }) (λ e. other (sym e)))
+
+fate_of_own : (w : World) (fate : Fate) (id k : ℕ) → k ≡ id →
+    (frame (with_frame_finished w fate id) k).fate ≡ fate
+unfolding with_frame_finished with_fate
+fate_of_own w fate id k own = ap (λ (j : ℕ). (at no_frame (put no_frame w.frames id
+    (record (frame w id) { fate = fate })) j).fate) own ∙ ap (λ (x : Frame). x.fate)
+    (at_put_same no_frame w.frames id (record (frame w id) { fate = fate }))
+
+-- A number is missed: it is the only one that can fail, and it carries frame id.
+missed : (w : World) (s t m id limit : ℕ) → (slot (session w s t) m).id ≡ id → (i j n : ℕ) →
+    (slot (session (on_session w s t (after_miss limit m)) i j) n).state ≡ State.Failed →
+    Stands (session w i j) (session (on_session w s t (after_miss limit m)) i j) n ⊎
+    (((slot (session (on_session w s t (after_miss limit m)) i j) n).id ≡ id) ×
+    (is_failed (slot_after_miss limit (slot (session w s t) m)).state ≡ true))
+unfolding on_session
+missed w s t m id limit own = each_side_on (λ i j a. (n : ℕ) → (slot a.session n).state ≡ State.Failed →
+    Stands (session w i j) a.session n ⊎ (((slot a.session n).id ≡ id) ×
+    (is_failed (slot_after_miss limit (slot (session w s t) m)).state ≡ true))) w s t
+    (λ y. record y { session = after_miss limit m y.session }) (λ i j n _. inl (stands_equal _ _ n refl))
+    (λ n e. go n e)
+  where
+    y : Session
+    y = session w s t
+
+    go : (n : ℕ) → (slot (after_miss limit m y) n).state ≡ State.Failed → Stands y (after_miss limit m y) n ⊎
+        (((slot (after_miss limit m y) n).id ≡ id) ×
+        (is_failed (slot_after_miss limit (slot y m)).state ≡ true))
+    go n e = elim (each_put (λ i x. x.state ≡ State.Failed → (x ≡ at no_slot y.slots i) ⊎
+        ((x.id ≡ id) × (is_failed (slot_after_miss limit (slot y m)).state ≡ true))) no_slot y.slots
+        (m - y.first) (slot_after_miss limit (slot y m)) (λ i _. inl refl)
+        (λ d. inr (own, ap is_failed d)) (n - y.first) e) [
+          | inl a ↦ inl (record { same_slot = a; same_heard = refl; same_first = refl })
+          | inr b ↦ inr b
+        ]
+
+-- One number is settled.
+fails_settled : (b : Bool) (l : List ℕ) (e s t : ℕ) (acked : ℕ → Bool) (w : World) (m : Mpdu)
+    (ms : List Mpdu) → IsEnding e s t acked w (m ∷ ms) → (slot (session w s t) m.number).id ≡ m.id →
+    IsHeld w m.id → Remains w (with_settled w s t b m) → Fails w (with_settled w s t b m)
+unfolding with_settled with_failed_finished
+fails_settled true l e s t acked w m ms n own held r =
+    let v : World = on_session w s t (with_state State.Acked m.number) in
+    fails_still w _ (still_then w v _ (still_session w s t (with_state State.Acked m.number)
+    (stands_on_slot (session w s t) m.number (λ x. record x { state = State.Acked }) (λ d. cc d)))
+    (still_same v _ (same_finish v Acked m.id))) r
+fails_settled false l e s t acked w m ms n own held r = go (is_failed (slot (session v s t) m.number).state)
+    fails_here r
+  where
+    v : World
+    v = on_session w s t (after_miss w.config.attempts m.number)
+
+    fails_here : is_failed (slot_after_miss w.config.attempts (slot (session w s t) m.number)).state
+        ≡ is_failed (slot (session v s t) m.number).state
+    fails_here = ap (λ (x : Slot). is_failed x.state) (sym (slot_same (session w s t) m.number
+        (slot_after_miss w.config.attempts))) ∙ ap (λ (y : Session). is_failed (slot y m.number).state)
+        (sym (session_on_session w s t (after_miss w.config.attempts m.number) n.live))
+
+    go : (b : Bool) →
+        is_failed (slot_after_miss w.config.attempts (slot (session w s t) m.number)).state ≡ b →
+        Remains w (if b then with_frame_finished v (Dropped Retries) m.id else v) →
+        Fails w (if b then with_frame_finished v (Dropped Retries) m.id else v)
+    go true d r = record {
+      fails = λ i j k h.
+          let same_sides : Same v (with_frame_finished v (Dropped Retries) m.id) =
+          same_finish v (Dropped Retries) m.id in
+          let here : session (with_frame_finished v (Dropped Retries) m.id) i j ≡ session v i j =
+          ap (λ (a : Side). a.session) (same_sides.sides i j) in
+          subst (λ (y : Session). Stands (session w i j) y k ⊎ (IsHeld w (slot y k).id ×
+          WasRetried (with_frame_finished v (Dropped Retries) m.id) (slot y k).id)) (sym here)
+          (elim (missed w s t m.number m.id w.config.attempts own i j k
+          (ap (λ (y : Session). (slot y k).state) (sym here) ∙ h)) [
+            | inl a ↦ inl a
+            | inr b ↦ inr (
+              ap (λ (q : ℕ). (frame w q).fate) b.0 ∙ held,
+              fate_of_own v (Dropped Retries) m.id _ b.0,
+            )
+          ]);
+      remains = r;
+    }
+    go false d r = record {
+      fails = λ i j k h. elim (missed w s t m.number m.id w.config.attempts own i j k h) [
+        | inl a ↦ inl a
+        | inr b ↦ absurd (cc (b.1, d))
+      ];
+      remains = r;
+    }
+
+fails_all : (ms : List Mpdu) (l : List ℕ) (e s t : ℕ) (acked : ℕ → Bool) (w : World) →
+    IsEnding e s t acked w ms → Labelled (session w s t) ms → Placing l w → Fresh w →
+    Fails w (with_all_settled w s t acked ms)
+unfolding with_all_settled
+fails_all [] l e s t acked w n a p h = fails_still w w (still_same w w (same w)) (remains_same w w refl)
+fails_all (m ∷ ms) l e s t acked w n a p h =
+    let v : World = with_settled w s t (acked m.number) m in
+    let k : Safe l w v = safe_settled (acked m.number) l e s t acked w m ms n a.0 p h in
+    let kept : Kept w v = keep_settled (acked m.number) w s t m in
+    let held : IsHeld w m.id = h.held m.id (inr (record {
+      station = s;
+      tid = t;
+      number = m.number;
+      slot_of = record {
+        from = n.flies.rising.0;
+        below = n.flies.rising.1;
+        unsettled = ap is_settled n.flies.flying.0;
+        id = a.0;
+      };
+    })) in
+    fails_then w v _ (fails_settled (acked m.number) l e s t acked w m ms n a.0 held (remains_of w v k.stays))
+    (fails_all ms l e s t acked v (ending_settled (acked m.number) e s t acked w m ms refl n)
+    (labelled_kept ms (session w s t) (session v s t) (suc m.number) (kept.sessions s t)
+    (omega (arith, n.flies.rising.0)) n.flies.rising.2 a.1) k.placing k.fresh)
+
+-- ---- a frame for each heard request
+
+-- l has a frame for each request that was heard. The frame was dropped for retries, and each failed number
+-- that is not yet announced has another frame.
+record Spent (l : List ℕ) (w : World) : Type 0 where
+  once : IsOnce l
+  dropped : (k : ℕ) → has l k ≡ true → WasRetried w k
+  untold : (s t n : ℕ) → (session w s t).first ≤ n → (slot (session w s t) n).state ≡ State.Failed →
+      (session w s t).heard ≤ n → has l (slot (session w s t) n).id ≡ false
+
+spent_later : (l : List ℕ) (w v : World) → Fails w v → Spent l w → Spent l v
+spent_later l w v h f = record {
+  once = f.once;
+  dropped = λ k e. stays_retried w v k h.remains (f.dropped k e);
+  untold = λ s t n from e told. elim (h.fails s t n e) [
+    | inl a ↦ ap (λ (x : Slot). has l x.id) a.same_slot ∙ f.untold s t n
+        (omega (arith, from, a.same_first)) (failed_before _ _ n a e) (omega (arith, told, a.same_heard))
+    | inr b ↦ on_bool (has l (slot (session v s t) n).id) (λ d. absurd (cc (f.dropped _ d, b.0))) (λ d. d)
+  ];
+}
+
+slot_below : (y : Session) (n : ℕ) → y.first ≤ n → (slot y n).state ≡ State.Failed → n < next_number y
+slot_below y n from e = omega (arith, from, within_length y.slots (n - y.first) (λ d. cc (d, e)))
+
+-- Two numbers that carry one frame are one.
+record OneNumber (i j n s t m : ℕ) : Type 0 where
+  station : i ≡ s
+  tid : j ≡ t
+  number : n ≡ m
+
+one_number : (l : List ℕ) (w : World) (p : Placing l w) (i j n s t m : ℕ) → (session w i j).first ≤ n →
+    n < next_number (session w i j) → (session w s t).first ≤ m → m < next_number (session w s t) →
+    (slot (session w i j) n).id ≡ (slot (session w s t) m).id → OneNumber i j n s t m
+one_number l w p i j n s t m from below from' below' e =
+    let here : p.home (slot (session w i j) n).id ≡ Numbered i j n = (p.numbered i j n from below).place in
+    let there : p.home (slot (session w s t) m).id ≡ Numbered s t m =
+    (p.numbered s t m from' below').place in
+    record {
+      station = cc (here, there, ap p.home e);
+      tid = cc (here, there, ap p.home e);
+      number = cc (here, there, ap p.home e);
+    }
+
+frames_heard : (w : World) (s t : ℕ) (b : Bool) (g : ℕ) →
+    (on_session w s t (with_heard_start b g)).frames ≡ w.frames
+unfolding on_session on_tid on_station with_station
+frames_heard w s t b g = refl
+
+elsewhere : (w : World) (s t g i j : ℕ) → (i ≡ s → j ≡ t → ⊥) →
+    session (on_session w s t (with_heard_start true g)) i j ≡ session w i j
+unfolding on_session
+elsewhere w s t g = each_side_on (λ i j a. (i ≡ s → j ≡ t → ⊥) → a.session ≡ session w i j) w s t
+    (λ y. record y { session = with_heard_start true g y.session }) (λ i j _. refl)
+    (λ ne. absurd (ne refl refl))
+
+neither : (a b : Bool) → a ≡ false → b ≡ false → a || b ≡ false
+neither a b h k = rw (h, k) refl
+
+-- If number n of the session failed and is not announced, its frame is not in l.
+abbrev IsApart : List ℕ → ℕ → Session → Type 0
+IsApart l n y = y.first ≤ n → (slot y n).state ≡ State.Failed → y.heard ≤ n →
+    has l (slot y n).id ≡ false
+
+-- A request with start g is heard, and number m below g failed and was not announced. Its frame is spent.
+module _ (r l : List ℕ) (w : World) (s t g m : ℕ) (p : Placing r w) (live : is_live w s ≡ true)
+    (fated : Fated w) (u : IsUntold (session w s t) m) (below : m < g) (f : Spent l w) where
+  spent_own : (n : ℕ) → IsApart ((slot (session w s t) m).id ∷ l) n
+      (session (on_session w s t (with_heard_start true g)) s t)
+  spent_own n =
+      let y : Session = session w s t in
+      subst (IsApart ((slot y m).id ∷ l) n) (sym (session_on_session w s t (with_heard_start true g) live))
+      (λ from e told. neither _ _
+      (not_eq (slot y m).id (slot y n).id (λ d.
+      let o : OneNumber s t m s t n = one_number r w p s t m s t n u.from (slot_below y m u.from u.failed)
+      from (slot_below y n from e) d in
+      omega (arith, o.number, below, told, le-max_right y.heard g)))
+      (f.untold s t n from e (omega (arith, told, le-max_left y.heard g))))
+
+  spent_other : (i j n : ℕ) → (i ≡ s → j ≡ t → ⊥) → IsApart ((slot (session w s t) m).id ∷ l) n
+      (session (on_session w s t (with_heard_start true g)) i j)
+  spent_other i j n ne =
+      let y : Session = session w s t in
+      let z : Session = session w i j in
+      subst (IsApart ((slot y m).id ∷ l) n) (sym (elsewhere w s t g i j ne))
+      (λ from e told. neither _ _
+      (not_eq (slot y m).id (slot z n).id (λ d.
+      let o : OneNumber s t m i j n = one_number r w p s t m i j n u.from (slot_below y m u.from u.failed)
+      from (slot_below z n from e) d in
+      ne (sym o.station) (sym o.tid)))
+      (f.untold i j n from e told))
+
+  spent_heard : Spent ((slot (session w s t) m).id ∷ l) (on_session w s t (with_heard_start true g))
+  spent_heard =
+      let id : ℕ = (slot (session w s t) m).id in
+      let v : World = on_session w s t (with_heard_start true g) in
+      let stays : (k : ℕ) → WasRetried w k → WasRetried v k = λ k e.
+      ap (λ (fs : List Frame). (at no_frame fs k).fate) (frames_heard w s t true g) ∙ e in
+      record {
+        once = (f.untold s t m u.from u.failed u.told, f.once);
+        dropped = λ k e. stays k (elim (either (id == k) (has l k) e) [
+          | inl d ↦ ap (λ (j : ℕ). (frame w j).fate) (sym (eq_yes id k d)) ∙ fated.failed s t m u.failed
+          | inr d ↦ f.dropped k d
+        ]);
+        untold = λ i j n. on_bool (i == s)
+            (λ is. on_bool (j == t)
+            (λ it. subst (λ (a : ℕ). IsApart (id ∷ l) n (session v a j)) (sym (eq_yes i s is))
+            (subst (λ (b : ℕ). IsApart (id ∷ l) n (session v s b)) (sym (eq_yes j t it)) (spent_own n)))
+            (λ nt. spent_other i j n (λ _ et. eq_no j t nt et)))
+            (λ ns. spent_other i j n (λ es _. eq_no i s ns es));
+      }
+
+failed_heard : (w : World) (s t g : ℕ) → Fated w → (i j n : ℕ) →
+    (slot (session (on_session w s t (with_heard_start true g)) i j) n).state ≡ State.Failed →
+    WasRetried w (slot (session (on_session w s t (with_heard_start true g)) i j) n).id
+unfolding on_session
+failed_heard w s t g f = each_side_on (λ i j a. (n : ℕ) → (slot a.session n).state ≡ State.Failed →
+    WasRetried w (slot a.session n).id) w s t (λ y. record y { session = with_heard_start true g y.session })
+    f.failed (f.failed s t)
+
+fated_heard : (w : World) (s t g : ℕ) → Fated w → Fated (on_session w s t (with_heard_start true g))
+fated_heard w s t g f = record {
+  failed = λ i j n e. ap (λ (fs : List Frame). (at no_frame fs
+      (slot (session (on_session w s t (with_heard_start true g)) i j) n).id).fate)
+      (frames_heard w s t true g) ∙ failed_heard w s t g f i j n e;
+}
+
+-- ---- a call
+
+-- After more calls, in which k requests were heard.
+record After (l : List ℕ) (k : ℕ) (v : World) : Type 0 where
+  list : List ℕ
+  more : length list ≡ k + length l
+  spent : Spent list v
+  fated : Fated v
+
+after_fails : (l : List ℕ) (w v : World) → Fails w v → Spent l w → Fated w → After l 0 v
+after_fails l w v h f d = record {
+  list = l;
+  more = omega arith;
+  spent = spent_later l w v h f;
+  fated = fated_later w v h d;
+}
+
+after_then : (l : List ℕ) (k : ℕ) (w v : World) → After l k w → Fails w v → After l k v
+after_then l k w v a h = record {
+  list = a.list;
+  more = a.more;
+  spent = spent_later a.list w v h a.spent;
+  fated = fated_later w v h a.fated;
+}
+
+still_without : (w : World) (e : ℕ) → Still w (without_exchange w e)
+unfolding without_exchange
+still_without w e = record { still = λ s t n _. stands_equal _ _ n refl }
+
+fails_charged : (air : Option ℕ) (w : World) (x : Exchange) →
+    Fails w (after_charge (without_exchange w x.number) x air)
+fails_charged air w x =
+    let u : World = without_exchange w x.number in
+    fails_still w _ (still_then w u _ (still_without w x.number)
+    (still_same u (after_charge u x air) (same_charged air u x)))
+    (remains_same w _ ((untouched_charged air u x).frames ∙ (untouched_without w x.number).frames))
+
+no_request : (b : Bool) → ◌≡◌ {A = ℕ} (if b && false then 1 else 0) 0
+no_request true = refl
+no_request false = refl
+
+safe_charged : (air : Option ℕ) (r : List ℕ) (w : World) (x : Exchange) → Placing r w → Fresh w →
+    Safe r (without_exchange w x.number) (after_charge (without_exchange w x.number) x air)
+safe_charged air r w x p h =
+    let u : World = without_exchange w x.number in
+    safe_calm r u (after_charge u x air) (less_charged air Any u x) (same_charged air u x)
+    (untouched_charged air u x) (placed_without r w x.number p) (fresh_without w x.number h)
+
+-- The session of the exchange does not change before its content is settled.
+same_session : (air : Option ℕ) (w : World) (x : Exchange) →
+    session (after_charge (without_exchange w x.number) x air) x.station x.tid ≡ session w x.station x.tid
+same_session air w x =
+    session_same _ _ (same_charged air (without_exchange w x.number) x) x.station x.tid
+    ∙ without_same w x.number x.station x.tid
+
+after_content : (c : Content) (heard : Bool) (air : Option ℕ) (r l : List ℕ) (w : World) (i : IsLawful w)
+    (x : Exchange) → x.content ≡ c → IsFoundNamed w i x → Placing r w → Fresh w → Spent l w → Fated w →
+    After l (if heard && is_request c then 1 else 0)
+    (after_done (after_charge (without_exchange w x.number) x air) x heard c)
+unfolding after_done
+after_content (Frames ms) heard air r l w i x e n p h f d =
+    let u : World = after_charge (without_exchange w x.number) x air in
+    let k : Safe r (without_exchange w x.number) u = safe_charged air r w x p h in
+    let labels : Labelled (session u x.station x.tid) ms =
+    subst (λ (y : Session). Labelled y ms) (sym (same_session air w x))
+    (subst (λ (c : Content). Labelled (session w x.station x.tid) (mpdus_of c)) e n.labels) in
+    subst (λ (m : ℕ). After l m (with_all_settled u x.station x.tid (is_acked heard x.answer) ms))
+    (sym (no_request heard)) (after_fails l w _ (fails_then w u _ (fails_charged air w x)
+    (fails_all ms r x.number x.station x.tid (is_acked heard x.answer) u
+    (ending_of air w i x ms heard e n.found_one) labels k.placing k.fresh)) f d)
+after_content (Request g) false air r l w i x e n p h f d =
+    let u : World = after_charge (without_exchange w x.number) x air in
+    after_fails l w _ (fails_then w u _ (fails_charged air w x)
+    (fails_still u _ (still_session u x.station x.tid (with_heard_start false g)
+    (λ n _. stands_equal _ _ n refl)) (remains_same u _ (frames_heard u x.station x.tid false g)))) f d
+after_content (Request g) true air r l w i x e n p h f d =
+    let u : World = after_charge (without_exchange w x.number) x air in
+    let k : Safe r (without_exchange w x.number) u = safe_charged air r w x p h in
+    let asked : IsAsked g (session u x.station x.tid) = subst (IsAsked g) (sym (same_session air w x))
+    (subst (λ (c : Content). IfRequest c (λ q. IsAsked q (session w x.station x.tid))) e
+    n.found_one.open_in.opened.asked) in
+    let live : is_live u x.station ≡ true = (same_charged air (without_exchange w x.number) x).live x.station
+    ∙ (live_without w x.number x.station ∙ n.found_one.open_in.live) in
+    let fated : Fated u = fated_later w u (fails_charged air w x) d in
+    let spent : Spent l u = spent_later l w u (fails_charged air w x) f in
+    record {
+      list = (slot (session u x.station x.tid) asked.untold.0).id ∷ l;
+      more = omega arith;
+      spent = spent_heard r l u x.station x.tid g asked.untold.0 k.placing live fated asked.untold.1
+          asked.untold.2 spent;
+      fated = fated_heard u x.station x.tid g fated;
+    }
+
+after_ended : (o : Option Exchange) (heard : Bool) (air : Option ℕ) (r l : List ℕ) (w : World)
+    (i : IsLawful w) → IfSome o (IsFoundNamed w i) → Placing r w → Fresh w → Spent l w → Fated w →
+    After l (if heard && asks_in o then 1 else 0)
+    (outcome_where_open w o (λ x. done_outcome w x heard air)).world
+unfolding outcome_where_open done_outcome
+after_ended None heard air r l w i n p h f d = subst (λ (m : ℕ). After l m w) (sym (no_request heard))
+    (after_fails l w w (fails_still w w (still_same w w (same w)) (remains_same w w refl)) f d)
+after_ended (Some x) heard air r l w i n p h f d =
+    after_content x.content heard air r l w i x refl n p h f d
+
+heard_here : (w : World) (e : ℕ) (heard : Bool) (air : Option ℕ) →
+    refusal w (Asked (Done e heard air)) ≡ None → requests_heard_by w (Asked (Done e heard air))
+    ≡ (if heard && asks_in (exchange w e) then 1 else 0)
+heard_here w e heard air h =
+    ap (λ (o : Option Refusal). if heard && (is_none o && asks_in (exchange w e)) then 1 else 0) h
+
+heard_refused : (note : Note) (r : Refusal) (w : World) → refusal w note ≡ Some r →
+    requests_heard_by w note ≡ 0
+heard_refused (Asked (Done e heard air)) r w h =
+    ap (λ (o : Option Refusal). if heard && (is_none o && asks_in (exchange w e)) then 1 else 0) h
+    ∙ no_request heard
+heard_refused _ r w h = refl
+
+after_done_is : (l : List ℕ) (k : ℕ) (w : World) (e : ℕ) (heard : Bool) (air : Option ℕ) →
+    After l k (outcome_where_open w (exchange w e) (λ x. done_outcome w x heard air)).world →
+    After l k (outcome_of w (Asked (Done e heard air))).world
+unfolding outcome_of
+after_done_is l k w e heard air a = a
+
+after_call : (note : Note) (r l : List ℕ) (w : World) → refusal w note ≡ None → Steady r w →
+    Remains w (outcome_of w note).world → Spent l w → Fated w →
+    After l (requests_heard_by w note) (outcome_of w note).world
+after_call (Asked (Done e heard air)) r l w h k s f d =
+    subst (λ (m : ℕ). After l m (outcome_of w (Asked (Done e heard air))).world)
+    (sym (heard_here w e heard air h)) (after_done_is l _ w e heard air
+    (after_ended (exchange w e) heard air r l w k.lawful (found_named w k.lawful k.labelled e) k.placing
+    k.fresh f d))
+after_call note r l w h k s f d =
+    after_fails l w _ (fails_still w _ (still_done note w k.lawful (λ b. b)) s) f d
+
+still_refused : (note : Note) (r : Refusal) (w : World) → Still w (after_refusal w note r)
+unfolding after_refusal
+still_refused (Asked (Pull c)) Idle w = still_same w _ (same_after_pick w c)
+still_refused _ _ w = still_same w w (same w)
+
+after_answer : (o : Option Refusal) (r l : List ℕ) (w : World) (note : Note) → refusal w note ≡ o →
+    Steady r w → Remains w (judged_outcome w note o).world → Spent l w → Fated w →
+    After l (requests_heard_by w note) (judged_outcome w note o).world
+unfolding judged_outcome
+after_answer (Some q) r l w note e k s f d =
+    subst (λ (m : ℕ). After l m (after_refusal w note q)) (sym (heard_refused note q w e))
+    (after_fails l w _ (fails_still w _ (still_refused note q w) s) f d)
+after_answer None r l w note e k s f d =
+    let u : World = (outcome_of w note).world in
+    let v : World = with_listings_of u (concerned_station w note) in
+    let same_frames : v.frames ≡ u.frames = (untouched_listed (concerned_station w note) u).frames in
+    after_then l (requests_heard_by w note) u v
+    (after_call note r l w e k (then_remains w v u s (remains_same v u (sym same_frames))) f d)
+    (fails_still u v (still_same u v (same_listed (concerned_station w note) u))
+    (remains_same u v same_frames))
+
+after_judged : (r l : List ℕ) (w : World) (note : Note) → Steady r w → Remains w (step w note).world →
+    Spent l w → Fated w → After l (requests_heard_by w note) (step w note).world
+unfolding step
+after_judged r l w note k s f d = after_answer (refusal w note) r l w note refl k s f d
+
+after_step : (r l : List ℕ) (w : World) (note : Note) → Steady r w → Spent l w → Fated w →
+    After l (requests_heard_by w note) (step w note).world
+after_step r l w note k f d = after_judged r l w note k (remains_step r w note k) f d
+
+-- ---- the run
+
+after_run : (h : List Entry) (r l : List ℕ) (w : World) → Steady r w → Spent l w → Fated w →
+    After l (requests_heard w h) (world_after w h)
+unfolding world_after
+after_run [] r l w k f d = record { list = l; more = omega arith; spent = f; fated = d }
+after_run (e ∷ es) r l w k f d =
+    let a : After l (requests_heard_by w e.1) (step w e.1).world = after_step r l w e.1 k f d in
+    let b : After a.list (requests_heard (step w e.1).world es) (world_after (step w e.1).world es) =
+    after_run es (r ++ named_by (step w e.1).reply) a.list (step w e.1).world (steady_step r w e.1 k) a.spent
+    a.fated in
+    record { list = b.list; more = omega (arith, a.more, b.more); spent = b.spent; fated = b.fated }
+
+-- ---- the frames that are dropped for retries
+
+retried_from : ℕ → List Frame → List ℕ
+retried_from n [] = []
+retried_from n (f ∷ fs) =
+    if same_fate f.fate (Dropped Retries) then n ∷ retried_from (suc n) fs else retried_from (suc n) fs
+
+retried_count : (fs : List Frame) (n : ℕ) → length (retried_from n fs)
+    ≡ count_by (λ f. same_fate f.fate (Dropped Retries)) fs
+unfolding retried_from
+retried_count [] n = refl
+retried_count (f ∷ fs) n = go (same_fate f.fate (Dropped Retries)) (retried_count fs (suc n))
+    ∙ sym (sum_by-cons (λ (y : Frame). if same_fate y.fate (Dropped Retries) then 1 else 0) f fs)
+  where
+    go : (b : Bool) → length (retried_from (suc n) fs)
+        ≡ count_by (λ f. same_fate f.fate (Dropped Retries)) fs →
+        length (if b then n ∷ retried_from (suc n) fs else retried_from (suc n) fs)
+        ≡ (if b then 1 else 0) + count_by (λ f. same_fate f.fate (Dropped Retries)) fs
+    go true e = omega (arith, e)
+    go false e = omega (arith, e)
+
+retried_has : (fs : List Frame) (n k : ℕ) → (at no_frame fs k).fate ≡ Dropped Retries →
+    has (retried_from n fs) (n + k) ≡ true
+unfolding retried_from
+retried_has [] n k e = absurd (cc e)
+retried_has (f ∷ fs) n zero e =
+    let is : same_fate f.fate (Dropped Retries) ≡ true =
+    ap (λ (x : Fate). same_fate x (Dropped Retries)) e in
+    let here : n + 0 ≡ n = omega arith in
+    rw (is, here) (or_left (n == n) (has (retried_from (suc n) fs) n) (yes_eq n n refl))
+retried_has (f ∷ fs) n (suc k) e =
+    let later : has (retried_from (suc n) fs) (n + suc k) ≡ true =
+    subst (λ (i : ℕ). has (retried_from (suc n) fs) i ≡ true) (omega arith) (retried_has fs (suc n) k e) in
+    on_if (λ (ns : List ℕ). has ns (n + suc k) ≡ true) (same_fate f.fate (Dropped Retries))
+    (n ∷ retried_from (suc n) fs) (retried_from (suc n) fs)
+    (λ _. or_right (n == n + suc k) (has (retried_from (suc n) fs) (n + suc k)) later) (λ _. later)
+
+spent_most : (l : List ℕ) (w : World) → Spent l w → length l ≤ tally w (Dropped Retries)
+spent_most l w f = omega (
+  arith,
+  not_more l (retried_from 0 w.frames) f.once (λ k e.
+      subst (λ (i : ℕ). has (retried_from 0 w.frames) i ≡ true) (zero-add k)
+      (retried_has w.frames 0 k (f.dropped k e))),
+  retried_count w.frames 0,
+)
+
+pub few_requests : (config : Config) (past : List Entry) →
+    requests_heard (opening config) past ≤ tally (world_after (opening config) past) (Dropped Retries)
+few_requests config past =
+    let a : After [] (requests_heard (opening config) past) (world_after (opening config) past) =
+    after_run past [] [] (opening config) (steady_first config)
+    (record { once = tt; dropped = λ k e. absurd (cc e); untold = λ s t n _ _ _. refl })
+    (record { failed = λ s t n e. absurd (cc e) }) in
+    omega (arith, a.more, spent_most a.list (world_after (opening config) past) a.spent)

@@ -1,0 +1,152 @@
+//! The calls that a path takes, as types.
+
+ghost use Rattle.std.specs.Prelude.{◌≡◌, IfOk, IfErr};
+ghost use Rattle.wf_path.specs.Jobs.{job_of, ask_about};
+ghost use Rattle.wf_path.specs.declared.asks.PathAsk.TheVariants.{Join};
+ghost use Rattle.wf_path.specs.declared.job.Job.TheVariants.{Call};
+
+use wf_frame::{Ask, AskedRate, Class};
+use wf_queue_parts::chain::Parcel;
+
+/// A call of a path.
+#[derive(Drop)]
+pub enum PathJob {
+    /// A frame for a station.
+    Give(Parcel),
+    /// The driver asks for the next exchange of a class. Its answer may have a list of frames.
+    Pull(Class),
+    /// A call that brings and returns no frame, and whose answer has no lists.
+    Call(PathAsk),
+    /// The caller takes the next finished frame.
+    Reap,
+}
+
+/// A call of a path that brings and returns no frame, and whose answer has no lists: one of eight. An
+/// argument outside its given range is refused.
+#[derive(Clone, Copy, Debug, PartialEq, Eq)]
+pub enum PathAsk {
+    /// A station joins, with its window size in frames (1 to 256), first sequence number (0 to 4095),
+    /// maximum A-MPDU length exponent (0 to 3; IEEE 802.11-2012, 8.4.2.58.3) and weight (1 to 16).
+    Join {
+        station: u16,
+        window: u16,
+        start: u16,
+        exponent: u8,
+        weight: u8,
+    },
+    /// A station leaves; its frames are dropped.
+    Leave {
+        station: u16,
+    },
+    /// Data to a station has this rate from now on.
+    Rate {
+        station: u16,
+        rate: AskedRate,
+    },
+    /// The clock moves forward by 0 to 10,000,000 microseconds.
+    Tick {
+        by: u32,
+    },
+    /// A station goes to sleep.
+    Sleep {
+        station: u16,
+    },
+    /// A station wakes.
+    Wake {
+        station: u16,
+    },
+    /// A sleeping station asks for one frame (PS-Poll).
+    Poll {
+        station: u16,
+    },
+    /// A station used this airtime to send in a class: 1 to 65,535 microseconds.
+    Rx {
+        station: u16,
+        class: Class,
+        air: u32,
+    },
+}
+
+/// A call of the machine about an open exchange. A path does not take it: it has no receivers, and
+/// `Path::done_bits` and `Path::done_bytes` end an exchange.
+#[derive(Clone, Copy, Debug, PartialEq, Eq)]
+pub enum ExchangeAsk {
+    /// A transmission of the exchange reached its station. `index` counts the transmissions from 0.
+    Arrive {
+        exchange: u64,
+        index: u16,
+    },
+    /// The station answers the exchange with a BlockAck.
+    Answer {
+        exchange: u64,
+    },
+    /// The exchange ends. `heard` is whether its answer was heard. It is charged the airtime `air`, 1 to
+    /// `charge` microseconds, or if that is `None` the airtime of its Send.
+    Done {
+        exchange: u64,
+        heard: bool,
+        air: Option<u32>,
+    },
+}
+
+impl PathAsk {
+    // Returns the call by which a station joins.
+    fn join(station: u16, window: u16, start: u16, exponent: u8, weight: u8) -> PathAsk
+        ensures value { result ≡ Join station window start exponent weight }
+    {
+        PathAsk::Join {
+            station,
+            window,
+            start,
+            exponent,
+            weight,
+        }
+    }
+}
+
+impl PathJob {
+    /// Returns the path's call that is this call of the machine, or the call about an open exchange that it
+    /// is.
+    pub fn of(ask: Ask) -> Result<PathJob, ExchangeAsk>
+        ensures path { IfOk result (λ job. Call ask ≡ job_of job) }
+        ensures exchange { IfErr result (λ about. ask ≡ ask_about about) }
+    {
+        match ask {
+            Ask::Join {
+                station,
+                window,
+                start,
+                exponent,
+                weight,
+            } => Ok(PathJob::Call(PathAsk::join(station, window, start, exponent, weight))),
+            Ask::Leave { station } => Ok(PathJob::Call(PathAsk::Leave { station })),
+            Ask::Rate { station, rate } => Ok(PathJob::Call(PathAsk::Rate { station, rate })),
+            Ask::Tick { by } => Ok(PathJob::Call(PathAsk::Tick { by })),
+            Ask::Pull { class } => Ok(PathJob::Pull(class)),
+            Ask::Arrive { exchange, index } => Err(ExchangeAsk::Arrive { exchange, index }),
+            Ask::Answer { exchange } => Err(ExchangeAsk::Answer { exchange }),
+            Ask::Done {
+                exchange,
+                heard,
+                air,
+            } => Err(ExchangeAsk::Done {
+                exchange,
+                heard,
+                air,
+            }),
+            Ask::Sleep { station } => Ok(PathJob::Call(PathAsk::Sleep { station })),
+            Ask::Wake { station } => Ok(PathJob::Call(PathAsk::Wake { station })),
+            Ask::Poll { station } => Ok(PathJob::Call(PathAsk::Poll { station })),
+            Ask::Rx {
+                station,
+                class,
+                air,
+            } => Ok(PathJob::Call(PathAsk::Rx {
+                station,
+                class,
+                air,
+            })),
+            Ask::Reap => Ok(PathJob::Reap),
+        }
+    }
+}
