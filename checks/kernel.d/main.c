@@ -247,7 +247,7 @@ static void make(void) {
   largest = 0;
   for (station = 0; station < STATIONS; station++) {
     MUST("join", wf_path_join(&path, station, 64, 0, 3, 1, &reply));
-    MUST("rate", wf_path_rate(&path, station, station ? 0 : 7, 20, 0, &reply));
+    MUST("rate", wf_path_rate_ht(&path, station, station ? 0 : 7, 20, 0, &reply));
   }
 }
 

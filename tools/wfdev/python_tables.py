@@ -1,7 +1,6 @@
 """Generates two modules of python/wfpath from include/wf.h: `_tables`, its numbers, structs and functions,
 and `errors`, its codes."""
 import json
-import re
 import textwrap
 from collections.abc import Iterable, Iterator, Mapping, Sequence
 from dataclasses import dataclass
@@ -89,22 +88,16 @@ def enum_class(name: str, about: str, rows: Iterable[Enumerator], prefix: str = 
     yield '        return self.name.lower().replace("_", "-")'
 
 
-def number_fields(wf_h: str) -> dict[str, str]:
-    """Returns the field of a reply that has the number of a refusal, by the refusals that the comments of the
-    fields name."""
-    reply = next(struct for struct in header.structs(wf_h) if struct.name == "reply")
-    return {name: field.name for field in reply.fields for name in re.findall(r"\bWF_(\w+)", field.about)}
-
-
-def error_class(row: Enumerator, refusals: Mapping[int, bool], fields: Mapping[str, str]) -> Iterator[str]:
-    """Yields the lines of the class of an error. `refusals` says of each refusal whether it has a number."""
+def error_class(row: Enumerator, refusals: Mapping[int, str]) -> Iterator[str]:
+    """Yields the lines of the class of an error. `refusals` gives for each refusal the field of a reply that has
+    its number, or an empty text if it has none."""
     base = "BlockError" if FIRST_BLOCK_CODE < row.number < SETTING_CODE else "WfError"
     yield from ("", "", f"class {camel(row.name)}({'Refused' if row.number in refusals else base}):")
     yield from doc(row.about)
     yield from ("", f"    code = {row.number}", f'    word = "{row.name.lower().replace("_", "-")}"')
     yield from string("about", row.about)
     if refusals.get(row.number):
-        yield f'    field = "{fields.get(row.name, "count")}"'
+        yield f'    field = "{refusals[row.number]}"'
 
 
 def error_table(rows: Iterable[Enumerator]) -> Iterator[str]:
@@ -206,13 +199,12 @@ def function_table(functions: Iterable[Function]) -> Iterator[str]:
     yield "}"
 
 
-def errors_module(wf_h: str, refusals: Mapping[int, bool]) -> str:
+def errors_module(wf_h: str, refusals: Mapping[int, str]) -> str:
     """Returns the text of the module `errors` for this header."""
     codes = [row for row in header.enum(wf_h, "wf_code") if row.number and row.number != SETTING_CODE]
     lines = ERRORS_HEAD.splitlines()
-    fields = number_fields(wf_h)
     for row in codes:
-        lines += error_class(row, refusals, fields)
+        lines += error_class(row, refusals)
     lines += error_table(codes)
     return "\n".join(lines) + "\n"
 

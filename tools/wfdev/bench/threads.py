@@ -9,9 +9,10 @@ The turn is measured by wf_show_gate: processor seconds of the same calls throug
 without calls.
 
 The locks are in threads.d/locks.c: a mutex of POSIX, a ticket lock whose waiters spin, and one whose waiters yield. Each guards
-the same work as the gate of wf_show_gate. A figure is the time by the clock of the median of five runs, less that of a run without
-calls, over the calls of all threads: in the fastest run the threads may have come one after another. A run that takes too long is cut
-off: a lock that spins may take long if there are more threads than processors.
+the same work as the gate of wf_show_gate. The column `burst` has calls through the gate in bursts of 16 (`Gate::call_all`), and
+`burst / bare` compares them with the calls of one thread without a gate. A figure is the time by the clock of the median of five
+runs, less that of a run without calls, over the calls of all threads: in the fastest run the threads may have come one after another.
+A run that takes too long is cut off: a lock that spins may take long if there are more threads than processors.
 """
 import os
 import re
@@ -32,10 +33,11 @@ RUNS = 5
 COUNTER = paths.CRATES / "wf_show_gate" / "out" / "wf_show_gate"
 TURNS = 2_000_000
 THREADS = (2, 4, 8, 12)
-GATE = "gate"
+GATE, BURST, BARE = "gate", "burst", "bare"
 LOCKS = ("mutex", "spin", "yield")
-WAYS = (GATE, *LOCKS)
-CALLS, CALLS_OF_MANY = 1_200_000, 48_000  # for threads up to the number of processors, and above
+AT_GATE = (GATE, BURST)
+WAYS = (*AT_GATE, *LOCKS)
+CALLS, CALLS_OF_MANY = 1_152_000, 46_080  # for threads up to the number of processors, and above: whole bursts for each thread
 LONGEST = 10  # seconds of a run
 SOAK = ["soak", "1", "1000000"]
 
@@ -92,7 +94,7 @@ def each(counter: Path, way: str) -> tuple[bytes, float]:
 
 def print_turn(counter: Path) -> None:
     """Prints what a turn at a gate costs."""
-    (text, gate), (same, bare) = each(counter, GATE), each(counter, "bare")
+    (text, gate), (same, bare) = each(counter, GATE), each(counter, BARE)
     if text != same:
         SCRIPT.fail("wf_show_gate gives another sum through the gate")
     costs = f"{gate:.1f} ns each through the gate and {bare:.1f} ns without"
@@ -116,8 +118,8 @@ class Meeting:
 
     def seconds(self, way: str, threads: int, calls: int) -> float | None:
         """Returns the seconds of a run of this many threads with this many calls each, or None if it took too long."""
-        at_gate = [str(self.counter), GATE, str(calls), str(threads)]
-        words = at_gate if way == GATE else [str(self.locks), way, str(threads), str(calls)]
+        at_gate = [str(self.counter), way, str(calls), str(threads)]
+        words = at_gate if way in AT_GATE else [str(self.locks), way, str(threads), str(calls)]
         began = time.monotonic()
         child = subprocess.Popen(words, stdin=subprocess.DEVNULL, stdout=subprocess.DEVNULL)
         # (the timeout of `wait` would look only every 50 ms)
@@ -139,23 +141,29 @@ class Meeting:
         return {way: statistics.median(times) if len(times) == RUNS else None for way, times in found.items()}
 
 
-def ratios(cost: Mapping[str, float | None]) -> list[str]:
-    """Returns what the gate costs in relation to each lock."""
-    gate = cost[GATE]
-    return [f"{gate / lock:.2f}" if gate and (lock := cost[way]) else "-" for way in LOCKS]
+def ratio(cost: float | None, other: float | None) -> str:
+    """Returns how many times one cost is another."""
+    return f"{cost / other:.2f}" if cost and other else "-"
+
+
+def ratios(cost: Mapping[str, float | None], bare: float) -> list[str]:
+    """Returns what the gate costs in relation to each lock, and a call of a burst in relation to one without a gate."""
+    return [*(ratio(cost[GATE], cost[way]) for way in LOCKS), ratio(cost[BURST], bare)]
 
 
 def print_locks(counter: Path) -> None:
     """Prints what a call costs through a gate and through locks."""
     meeting = Meeting(counter, built_locks())
-    print(f"{processors()} processors, a load of {os.getloadavg()[0]:.1f} before")
-    print("| threads | calls | " + " | ".join(f"{way}, ns" for way in WAYS) + " | " + " | ".join(f"gate / {way}" for way in LOCKS) + " |")
-    print("|---" * (2 + len(WAYS) + len(LOCKS)) + "|")
+    _, bare = each(counter, BARE)
+    print(f"{processors()} processors, a load of {os.getloadavg()[0]:.1f} before; a call without a gate takes {bare:.1f} ns")
+    compared = [*(f"gate / {way}" for way in LOCKS), "burst / bare"]
+    print("| threads | calls | " + " | ".join(f"{way}, ns" for way in WAYS) + " | " + " | ".join(compared) + " |")
+    print("|---" * (2 + len(WAYS) + len(compared)) + "|")
     for threads in THREADS:
         calls = (CALLS if threads <= processors() else CALLS_OF_MANY) // threads
         cost = meeting.medians(threads, calls)
         shown = [f"{nanoseconds:.0f}" if nanoseconds else "cut off" for nanoseconds in cost.values()]
-        print(f"| {threads} | {threads * calls} | {' | '.join(shown + ratios(cost))} |", flush=True)
+        print(f"| {threads} | {threads * calls} | {' | '.join(shown + ratios(cost, bare))} |", flush=True)
 
 
 def program_of(named: Path | None) -> Path:

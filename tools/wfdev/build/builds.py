@@ -174,7 +174,9 @@ def library(is_proved: bool) -> None:
     shared.build(product.path)
     write_whole(product.path.parent / "wf.pc", pkg_config(product))
     print(product.path, flush=True)
-    Notes.say(f"cc -std=c99 -I{shlex.quote(str(TOP / 'include'))} examples/c/driver.c {shlex.quote(str(product.path))}")
+    words = ["cc", "-std=c99", f"-I{TOP / 'include'}", str(TOP / "examples" / "c" / "driver.c"), str(product.path)]
+    Notes.say(f"to link an example and run it: {shlex.join(words)} && ./a.out")
+    Notes.say(f"to install it: ./wf install PREFIX{'' if product.is_proved else ' --unproved'}")
 
 
 def kernel_library(is_proved: bool) -> None:

@@ -1,5 +1,5 @@
-"""The word `dist`: an archive of the sources, one of what `install` puts in a folder, and the checksums of
-both.
+"""The word `dist`: an archive of the sources, one of what `install` puts in a folder and of the wheel for
+Python, and the checksums of both.
 
 The same sources and built files make the same archives: names are sorted, and owners, permissions and times
 are fixed. """
@@ -14,6 +14,7 @@ import pathlib
 import platform
 import shutil
 import subprocess
+import sys
 import tarfile
 import tempfile
 from collections.abc import Mapping
@@ -28,6 +29,10 @@ TOP = pathlib.Path(fresh.TOP)
 FOLDER = TOP / "out" / "dist"
 SUMS = "SHA256SUMS"
 LICENCES = ("LICENSE-APACHE", "LICENSE-MIT")
+# The backend of pip, which makes the wheel, and the names that the library gets in it.
+BACKEND = pathlib.Path("python") / "backend" / "wfpath_build.py"
+WHEEL_FOLDER = "python"
+IN_WHEEL = {"proved": "libwf.so", "unproved": "libwf.unproved.so"}
 # Folders with files that are made, which a source archive does not have.
 MADE = (".git", "out", "__pycache__")
 WORDS = {install.PROGRAM: "build", install.LIBRARY: "lib"}
@@ -112,11 +117,24 @@ def chosen(takes_unproved: bool) -> list[Built]:
     return list(found.values())
 
 
+def wheel(library: pathlib.Path, kind: str, folder: pathlib.Path) -> pathlib.Path:
+    """Makes the wheel of the package wfpath with a shared library in a folder, and returns its path."""
+    folder.mkdir()
+    words = [sys.executable, "-IS", str(TOP / BACKEND), str(folder), str(library), IN_WHEEL[kind]]
+    done = subprocess.run(words, capture_output=True, text=True, check=False)
+    if done.returncode:
+        raise Failure("dist: the wheel for Python could not be made", done.stderr)
+    return folder / done.stdout.strip()
+
+
 def binary_files(built: list[Built], room: pathlib.Path) -> Files:
-    """Installs into a folder, and returns the files of the binary archive."""
+    """Installs into a folder, makes the wheel, and returns the files of the binary archive."""
     prefix = room / "prefix"
     names = install.install_below(prefix, built)
+    (kind,) = (one.kind for one in built if one.component == install.LIBRARY)
+    for_python = wheel(prefix / "lib" / "libwf.so", kind, room / WHEEL_FOLDER)
     files = {name: prefix / name for name in names} | {name: TOP / name for name in LICENCES}
+    files[f"{WHEEL_FOLDER}/{for_python.name}"] = for_python
     listed = room / SUMS
     listed.write_text(sums(files), encoding="utf-8")
     return {**files, SUMS: listed}

@@ -111,7 +111,7 @@ def print_which(of_library: bool) -> int:
 def run_sim(words: list[str]) -> int:
     """Runs a scenario. If no program is built from these sources, the simulator has one built by this script."""
     command = [sys.executable, "-P", "-m", "sim", *words]
-    variables = {**os.environ, "PYTHONPATH": fresh.TOP}
+    variables = {**os.environ, "PYTHONPATH": os.pathsep.join([fresh.TOP, os.path.join(fresh.TOP, "python")])}
     if any(word in HELP_WORDS for word in words) or find_program():
         signal.signal(signal.SIGPIPE, signal.SIG_DFL)
         signal.signal(signal.SIGXFSZ, signal.SIG_DFL)
@@ -178,14 +178,15 @@ def carry_out(words: list[str]) -> int:
     return answer(words)
 
 
-def refused(why: str) -> int:
+def refused(refusal: Refusal) -> int:
     """Reports words that are wrong."""
+    why = str(refusal)
     if why.startswith("usage: "):
         write(why)
         return REFUSED
     if why:
         complain(why)
-    write(texts.usage())
+    write(f"'./wf help {refusal.command}' says more" if refusal.command else texts.usage())
     return REFUSED
 
 
@@ -205,7 +206,7 @@ def main(words: list[str]) -> int:
     try:
         return carry_out(words)
     except Refusal as why:
-        return refused(str(why))
+        return refused(why)
     except Failure as failure:
         return failed(failure)
     except Stopped as stopped:

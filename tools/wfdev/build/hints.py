@@ -40,10 +40,9 @@ def never_inlined(crates: pathlib.Path) -> list[Marked]:
     return found
 
 
-def symbols(marked: list[Marked], linked: bytes) -> list[str]:
-    """Returns the symbols of these functions in an object. Each stands there after `.text.`, the name of its section, or alone."""
+def symbols(marked: list[Marked], module: str) -> list[str]:
+    """Returns the symbols of these functions in the text of a module of LLVM."""
     if not marked:
         return []
     pattern = "|".join(function.pattern() for function in marked)
-    found: list[bytes] = re.findall(rb"(?:\0|\.text\.)(" + pattern.encode() + rb")(?=\0)", linked)
-    return sorted({name.decode() for name in found})
+    return sorted(set(re.findall(rf'^define .*?@"({pattern})"\(', module, re.M)))

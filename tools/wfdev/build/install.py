@@ -42,7 +42,7 @@ FILLED = {
     "lib/cmake/wf/wf-config.cmake": TEMPLATES / "wf-config.cmake",
     "lib/cmake/wf/wf-config-version.cmake": TEMPLATES / "wf-config-version.cmake",
 }
-TAKES_UNPROVED = "'./wf install PREFIX --unproved' installs what is not proved, too"
+TAKES_UNPROVED = "nothing was installed; './wf install PREFIX --unproved' installs what is not proved, too"
 NO_LIBRARY = "install: no library is as new as the sources: './wf lib' proves and builds it, and './wf lib --unproved' builds it with no proof"
 NOTHING_BUILT = (
     "install: no program and no library is as new as the sources: './wf build' and './wf lib' prove and build them, and with --unproved "

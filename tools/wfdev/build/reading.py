@@ -68,7 +68,8 @@ def read(words: list[str]) -> Request:
         at = rest.index("-o")
         if at + 1 == len(rest):
             raise Refusal(
-                "timeline: after -o the name of the picture is missing: ./wf timeline [FILE] [-o FILE.svg]"
+                "timeline: after -o the name of the picture is missing: ./wf timeline [FILE] [-o FILE.svg]",
+                command,
             )
         target = rest[at + 1]
         del rest[at : at + 2]
@@ -77,9 +78,9 @@ def read(words: list[str]) -> Request:
     known = OPTIONS.get(command, ())
     if len(files) > 1 or not set(options) <= set(known) or len(options) > len(set(options)):
         also = f", and the options {', '.join(known)}" if known else ""
-        raise Refusal(f"{command} takes the name of one file{also}: ./wf {command} [FILE]")
+        raise Refusal(f"{command} takes the name of one file{also}: ./wf {command} [FILE]", command)
     if PCAP in options and len(options) > 1:
-        raise Refusal(f"{PCAP} writes a capture: it goes with neither {ECHO} nor {JSON}")
+        raise Refusal(f"{PCAP} writes a capture: it goes with neither {ECHO} nor {JSON}", command)
     return Request(command, frozenset(options), files[0] if files else None, target)
 
 

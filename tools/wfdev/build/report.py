@@ -17,7 +17,11 @@ class Failure(Exception):
 
 
 class Refusal(Exception):
-    """The words are wrong: the script ends with status 1."""
+    """The words are wrong: the script ends with status 1. If the first word is a command, `command` names it."""
+
+    def __init__(self, why: str, command: str = "") -> None:
+        super().__init__(why)
+        self.command = command
 
 
 class WriteFault(Exception):

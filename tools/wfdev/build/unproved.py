@@ -1,9 +1,9 @@
 """Builds a program or the static library from the sources as they are: optimized, and with no proof.
 
 `rt try` compiles a program's module with checks of addresses and without optimization, links it and runs it. This module watches it: it
-makes a folder of links to the kit in which the compiler and the linker are wrappers that keep their input, runs `rt try` there on empty
-input, and then makes the last call of the compiler and of the linker once more, optimized and without the checks. The program does what
-`rt try` does, some hundred times faster. Nothing is proved of it.
+makes a folder of links to the kit in which the compiler and the linker are wrappers that keep their input and make nothing of it, and runs
+`rt try` there. Then it makes the last call of the compiler and of the linker itself, optimized and without the checks. So the module is
+compiled once. The program does what `rt try` does, some hundred times faster. Nothing is proved of it.
 """
 from __future__ import annotations
 
@@ -21,14 +21,33 @@ from .files import link_all, place
 from .kit import Kit, find_kit
 from .report import Failure
 
-WRAPPED = ("clang", "ld.lld")
-WRAPPER = """#!/bin/bash
+# Both wrappers keep the words and the input of a call.
+KEEP = """#!/bin/bash
 kept=$(mktemp -d {kept}/{tool}.XXXXXX)
 printf '%s\\n' "$@" >"$kept/words"
 cp module.bc input-* "$kept" 2>/dev/null
 date +%s%N >"$kept/time"
+"""
+# The compiler gets a module without functions, for the same system, in place of the kept one.
+COMPILER = """if [ -e module.bc ]; then
+  for word in "$@"; do
+    case $word in --target=*) system="target triple = \\"${{word#*=}}\\"" ;; esac
+  done
+  printf '%s\\n' "${{system:-}}" >module.bc
+fi
 exec {real} "$@"
 """
+# The linker links nothing: `rt try` gets a program that does nothing.
+LINKER = """out=; last=
+for word in "$@"; do
+  [ "$last" != -o ] || out=$word
+  last=$word
+done
+printf '#!/bin/sh\\n' >"$out" && chmod +x "$out"
+"""
+WRAPPERS = {"clang": COMPILER, "ld.lld": LINKER}
+# While it builds, `rt try` runs the prover beside, for hints on names. They do not matter here.
+NO_PROVER = "#!/bin/sh\n"
 Change = Callable[[str], str]
 
 
@@ -62,28 +81,24 @@ class Watched:
         call, words = self.last_call("clang", "module.bc")
         words = [word for word in words if word != "-c" and not word.startswith(("-O", "-fsanitize="))]
         out, module = words.index("-o") + 1, words.index("module.bc")
+        listed = self.room / "module.ll"
+        words[out] = str(listed)
+        self.run("clang", [*words, "-O0", "-S", "-emit-llvm"], call)
+        text = listed.read_text(encoding="utf-8")
         if change:
-            text = self.room / "module.ll"
-            words[out] = words[module] = str(text)
-            self.run("clang", [*words[:module], "module.bc", *words[module + 1 :], "-O0", "-S", "-emit-llvm"], call)
-            text.write_text(change(text.read_text(encoding="utf-8")), encoding="utf-8")
+            listed.write_text(change(text), encoding="utf-8")
+            words[module] = str(listed)
         words[out] = str(self.optimized)
-        words += self._hints()
-        self.run("clang", [*words, "-c", level, *more], call)
+        self.run("clang", [*words, *self._hints(text), "-c", level, *more], call)
 
-    def _hints(self) -> list[str]:
+    def _hints(self, text: str) -> list[str]:
         """Returns the compiler's words for the functions that the sources mark `#[inline(never)]`. `rt try` leaves the marks out."""
-        marked = hints.symbols(hints.never_inlined(self.crates), self._object().read_bytes())
+        marked = hints.symbols(hints.never_inlined(self.crates), text)
         if not marked:
             return []
         listed = self.room / "never-inlined.csv"
         listed.write_text("".join(f"{name},noinline\n" for name in marked), encoding="utf-8")
         return ["-mllvm", f"-forceattrs-csv-path={listed}"]
-
-    def _object(self) -> pathlib.Path:
-        """Returns the object of the module that `rt try` linked last."""
-        call, _ = self.last_call("ld.lld", "input-0")
-        return call / "input-0"
 
     def link_again(self, out: pathlib.Path) -> None:
         """Links what `rt try` linked, with the optimized module instead of its own, and without the archive of the checks."""
@@ -100,17 +115,22 @@ def make_frame(kit: Kit, room: pathlib.Path) -> pathlib.Path:
     frame, kept = room / "kit", room / "kept"
     kept.mkdir()
     link_all(kit.folder, frame, ("bin", "toolchain"))
-    link_all(kit.folder / "bin", frame / "bin", kernel.COPIED)
+    link_all(kit.folder / "bin", frame / "bin", (*kernel.COPIED, "rattle"))
     link_all(kit.folder / "toolchain", frame / "toolchain", ("bin",))
-    link_all(kit.folder / "toolchain/bin", frame / "toolchain/bin", WRAPPED)
+    link_all(kit.folder / "toolchain/bin", frame / "toolchain/bin", tuple(WRAPPERS))
     for name in kernel.COPIED:
         shutil.copy(kit.folder / "bin" / name, frame / "bin" / name)
-    for name in WRAPPED:
-        wrapper = frame / "toolchain/bin" / name
-        text = WRAPPER.format(kept=shlex.quote(str(kept)), tool=name, real=shlex.quote(str(kit.tool(name))))
-        wrapper.write_text(text, encoding="utf-8")
-        wrapper.chmod(0o755)
+    write_script(frame / "bin" / "rattle", NO_PROVER)
+    for name, text in WRAPPERS.items():
+        words = {"kept": shlex.quote(str(kept)), "tool": name, "real": shlex.quote(str(kit.tool(name)))}
+        write_script(frame / "toolchain/bin" / name, (KEEP + text).format(**words))
     return frame / "bin/rt"
+
+
+def write_script(path: pathlib.Path, text: str) -> None:
+    """Writes a script that can be run."""
+    path.write_text(text, encoding="utf-8")
+    path.chmod(0o755)
 
 
 @contextlib.contextmanager

@@ -98,9 +98,9 @@ the files.""",
         "uninstall",
         "uninstall PREFIX",
         (Form("uninstall PREFIX", "removes what 'install PREFIX' put there"),),
-        """Removes the files that PREFIX/share/wf/manifest lists, and the folders that './wf install' made, if they
-are empty, and prints each file. A file that was changed since is left and reported. DESTDIR is used as by
-'./wf install'.""",
+        """Removes the files that PREFIX/share/wf/manifest lists, and the folders below PREFIX that './wf install'
+made, if they are empty, and prints each file. A file that was changed since is left and reported. DESTDIR is
+used as by './wf install'.""",
         (),
         "folder",
     ),
@@ -110,7 +110,8 @@ are empty, and prints each file. A file that was changed since is left and repor
         (Form("dist [FOLDER]", "makes a source archive and a binary one, with checksums"),),
         """Makes three files in FOLDER, or in out/dist: the sources (wf-VERSION.tar.gz), the files of './wf install'
 (wf-VERSION-SYSTEM-MACHINE.tar.gz, with licences), and SHA256SUMS. The binary archive has a file SHA256SUMS of
-its own; unpack it anywhere. Program and library have to be built. Without --unproved both have to be proved;
+its own; unpack it anywhere. Its folder python has a wheel of the package wfpath, with the shared library in
+it, for 'pip install'. Program and library have to be built. Without --unproved both have to be proved;
 if one is not, the archive's name says 'unproved'.
 
 The same sources and the same built files make the same archives: names are sorted, and each file has the time

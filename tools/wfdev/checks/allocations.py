@@ -3,7 +3,9 @@
 Each command runs on a small input once for each request that it makes: a library loaded before the program refuses that one.
 The first run that makes fewer requests ends the row. A run is good if it ends with status 5 and its line on standard error (or
 as if nothing had been refused, if the program did not need the memory), and its output is a prefix of the whole text, in whole
-answer lines. A run of `live` in which a sender gets no memory goes on until the drivers have made 150,000 calls each.
+answer lines. A run of `live` in which a sender gets no memory goes on until the drivers have made 150,000 calls each. On a busy
+machine such a run takes minutes, or hours without the rights of root, which let its threads run first. A run is given up only
+if none of its threads runs for two minutes.
 """
 import os
 import subprocess
@@ -14,14 +16,13 @@ from collections.abc import Sequence
 from dataclasses import dataclass, field
 from pathlib import Path
 
-from wfdev.harness import commands
+from wfdev.harness import commands, progress
 from wfdev.harness.commands import Command, Status
 from wfdev.harness.script import Script
 
 SCRIPT = Script("allocations")
 SHIM = SCRIPT.folder / "failing_memory.c"
 SIZES = {"soak": ["1", "40"], "live": ["7", "2", "5"]}
-SECONDS = 900
 
 
 @dataclass(frozen=True)
@@ -58,11 +59,9 @@ class Shim:
 def run(program: Path, command: Command, environment: dict[str, str] | None = None) -> Ended:
     """Runs a command once."""
     try:
-        done = subprocess.run(
-            command.line(program), input=command.given or b"", capture_output=True, env=environment, check=False, timeout=SECONDS
-        )
-    except subprocess.TimeoutExpired:
-        SCRIPT.fail(f"{command.name} did not end within {SECONDS} seconds; on a busy machine the threads of `live` take long turns")
+        done = progress.run(command.line(program), command.given or b"", environment)
+    except progress.Stuck as stuck:
+        SCRIPT.fail(stuck)
     return Ended(done.returncode, done.stderr, done.stdout)
 
 

@@ -4,7 +4,9 @@ there.
 Both runs have to make the same octets, and all checksums have to be right. The unpacked sources run by the
 unpacked program, without the kit. A program in C is built with the unpacked library, if there are a compiler
 and pkg-config. Program and shared library need the C library alone; with the rights of root, the program and
-that program in C also run in a root that has only what was unpacked and the C library. The check is skipped if the program or the library that is built from these sources is not
+that program in C also run in a root that has only what was unpacked and the C library. There Python imports
+the package of the unpacked wheel, too, if pip can install it: that root has Python with its own library, and
+no other package. The check is skipped if the program or the library that is built from these sources is not
 proved; with --unproved it takes those that are not proved. """
 import hashlib
 import os
@@ -12,6 +14,7 @@ import re
 import shutil
 import subprocess
 import sys
+import sysconfig
 import tempfile
 from collections.abc import Iterator, Mapping, Sequence
 from pathlib import Path
@@ -31,6 +34,16 @@ TOOLS = "/usr/local/bin:/usr/bin:/bin"
 # Commands of the page that need more than was unpacked, or minutes.
 LEFT_OUT = re.compile(r"^rt |\./wf (?:build|lib|install|dist|sim)\b")
 SMALL = paths.CHECKS / "install.d"
+# Parts of Python's library that the package does not need.
+NOT_COPIED = ("site-packages", "dist-packages", "test", "tests", "__pycache__", "idlelib", "ensurepip", "config-*")
+PULL = """
+from wfpath import AccessClass, Path, library_path
+with Path(stations=1) as path:
+    path.join(0)
+    path.enqueue(0, b"a packet", tag=7)
+    print(library_path, path.pull(AccessClass.BE))
+"""
+PULLED = "send 0 sta 0 tid 0 air"
 
 
 def run(words: Sequence[str | Path], folder: Path, variables: Mapping[str, str]) -> str:
@@ -77,7 +90,8 @@ def check_sums(folder: Path) -> int:
 
 
 def unpack(archive: Path, folder: Path) -> Path:
-    """Unpacks an archive in an empty folder, and returns the one folder that it has."""
+    """Unpacks an archive in a new folder, and returns the one folder that it has."""
+    folder.mkdir()
     subprocess.run(["tar", "-xzf", archive, "-C", folder], check=True)
     (top,) = folder.iterdir()
     return top
@@ -112,6 +126,40 @@ def check_needed(files: Sequence[Path]) -> None:
         expect(f"the libraries besides the C library that {file.name} needs", others, [])
 
 
+def copy_with_libraries(file: Path, room: Path, root: Path) -> None:
+    """Copies a program or a shared library, and those that the loader finds for it, to the same places below a root."""
+    needed = LOADED.findall(run(["ldd", file], room, {**os.environ, "LC_ALL": "C"}))
+    for one in [file, *map(Path, needed)]:
+        copied = root / one.relative_to("/")
+        copied.parent.mkdir(parents=True, exist_ok=True)
+        shutil.copy(one, copied)
+
+
+def copy_python(room: Path, root: Path) -> Path:
+    """Copies this Python and its library to the same places below a root, and returns the path of the program."""
+    program, library = Path(os.path.realpath(sys.executable)), Path(sysconfig.get_path("stdlib"))
+    shutil.copytree(library, root / library.relative_to("/"), ignore=shutil.ignore_patterns(*NOT_COPIED), dirs_exist_ok=True)
+    for file in [program, *sorted(library.glob("lib-dynload/_ctypes.*"))]:
+        copy_with_libraries(file, room, root)
+    return program
+
+
+def pull_in_python(prefix: Path, room: Path, root: Path) -> str:
+    """Installs the unpacked wheel below a root, makes a path in Python there and pulls an exchange. Returns a message about it."""
+    pip = [sys.executable, "-m", "pip"]
+    if subprocess.run([*pip, "--version"], capture_output=True, check=False).returncode:
+        return ", and the wheel was not tried, since this Python has no pip"
+    (wheel,) = (prefix / "python").glob("wfpath-*.whl")
+    words = ["install", "--quiet", "--no-index", "--no-deps", "--disable-pip-version-check"]
+    run([*pip, *words, "--target", root / "wheel", wheel], room, {**os.environ, "PIP_ROOT_USER_ACTION": "ignore"})
+    program = copy_python(room, root)
+    inside: list[str | Path] = ["chroot", root, program, "-c", PULL]
+    written = run(inside, room, {"PATH": os.environ["PATH"], "PYTHONPATH": "/wheel"})
+    if not re.fullmatch(rf"/wheel/wfpath/libwf(\.unproved)?\.so {PULLED} \d+ data 0:0\n", written):
+        raise Difference(f"the package of the wheel wrote {written!r}; expected its library and {PULLED} ..")
+    return " and a path in Python"
+
+
 def run_in_empty_root(prefix: Path, room: Path) -> str:
     """Runs the program on the examples, and a program in C that was built, in a root that has only what was
     unpacked and the C library. Returns a message about it."""
@@ -121,9 +169,7 @@ def run_in_empty_root(prefix: Path, room: Path) -> str:
     root = room / "empty"
     shutil.copytree(prefix, root / "usr", symlinks=True)
     for library in LOADED.findall(run(["ldd", prefix / "bin" / "wf"], room, {**os.environ, "LC_ALL": "C"})):
-        copied = root / library.lstrip("/")
-        copied.parent.mkdir(parents=True, exist_ok=True)
-        shutil.copy(library, copied)
+        copy_with_libraries(Path(library), room, root)
     traces = sorted(paths.EXAMPLES.glob("*.trace"))
     for trace in traces:
         inside: list[str | Path] = [chroot, root, "/usr/bin/wf", "replay"]
@@ -135,6 +181,7 @@ def run_in_empty_root(prefix: Path, room: Path) -> str:
         written = run([chroot, root, "/small"], room, {"LD_LIBRARY_PATH": "/usr/lib"})
         expect("what a program in C writes in an empty root", written, paths.read(SMALL / "small.out"))
         ran += " and the program in C"
+    ran += pull_in_python(prefix, room, root)
     return f"{ran} run in an empty root"
 
 
@@ -165,9 +212,8 @@ def try_archives(room: Path, flags: Sequence[str]) -> None:
     expect("the files that differ in a second run", [name for name in first if second.get(name) != first[name]], [])
     check_sums(room / "first")
     source, binary = sorted((name for name in first if name != SUMS), key=len)
-    prefix, sources = unpack(room / "first" / binary, room / "root"), unpack(
-        room / "first" / source, room / "sources"
-    )
+    prefix = unpack(room / "first" / binary, room / "root")
+    sources = unpack(room / "first" / source, room / "sources")
     count = check_sums(prefix)
     program = prefix / "bin" / "wf"
     variables = {

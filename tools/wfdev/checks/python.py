@@ -2,7 +2,8 @@
 
 The package's structs have the layout of the C compiler's. The tests compare random calls of a path and of a
 cell with the replay of their trace by the program that `./wf which` names; that part is left out if there is
-none. The library is the one that the check c-library uses. mypy reads the package as Python 3.9, if it is
+none. The installed package is also tried with the library that `./wf install` installs, and its bench
+wfpath.sim has to print what docs/SIM.md says. The library is the one that the check c-library uses. mypy reads the package as Python 3.9, if it is
 installed.
 """
 import ast
@@ -104,19 +105,54 @@ def replay_example(program: Path) -> None:
     expect("the status of the replay of cell_trace.out", done.returncode, 0)
 
 
-def install(room: Path) -> None:
-    """Installs the package with pip into an environment of its own, and runs an example there."""
+def pip_install(room: Path, sources: Path, variables: Mapping[str, str] | None = None) -> tuple[Path, Path]:
+    """Installs the package with pip into an environment of its own; returns its Python and its folder of packages."""
     venv.create(room / "place", with_pip=False, symlinks=True)
     target = next((room / "place" / "lib").glob("python*/site-packages"))
     words = [sys.executable, "-m", "pip", "install", "--quiet", "--no-index", "--no-deps"]
-    run([*words, "--disable-pip-version-check", "--target", target, paths.TOP], room)
-    python = room / "place" / "bin" / "python3"
+    run([*words, "--disable-pip-version-check", "--target", target, sources], room, variables)
+    return room / "place" / "bin" / "python3", target
+
+
+def run_bench(python: Path, room: Path, library: str) -> None:
+    """Runs the example of the bench's page (docs/SIM.md), outside a checkout and without a program: the library
+    decides."""
+    found = re.search(r"```python\n(from wfpath\.sim import .*?)```.*?```\n(.*?)```", paths.read(paths.DOCS / "SIM.md"), re.S)
+    if not found:
+        raise Difference("docs/SIM.md has no example of wfpath.sim with its output")
+    variables = {"PYTHONPATH": "", "PATH": str(room), "XDG_CACHE_HOME": str(room / "cache")}
+    expect("what the example of docs/SIM.md prints", run([python, "-c", found[1]], room, variables), found[2])
+    say = "from wfpath.sim.runs import find_program; print(find_program(lambda what: None).library)"
+    expect("the library that decides in the bench", run([python, "-c", say], room, variables).strip(), library)
+
+
+def install(room: Path) -> None:
+    """Installs the package with pip from this checkout, and runs an example and the bench there."""
+    python, target = pip_install(room, paths.TOP)
     say = "import wfpath; print(wfpath.library_path, wfpath.library_is_proved)"
     path, proved = run([python, "-c", say], room, {"PYTHONPATH": ""}).split()
     expect("where the installed package has its library", Path(path).parent, target / "wfpath")
     found = run([python, PYTHON / "examples" / "three_stations.py"], room, {"PYTHONPATH": ""})
     expect("what the example writes", found, paths.read(PYTHON / "examples" / "three_stations.out"))
+    run_bench(python, room, path)
     SCRIPT.say(f"pip installed the package; its library is {'proved' if proved == 'True' else 'not proved'}")
+
+
+def install_over_library(room: Path) -> None:
+    """Installs the package from sources without a built library: pip takes the one that `./wf install` put below a
+    folder that pkg-config knows."""
+    prefix, sources = room / "prefix", room / "sources"
+    run([paths.SCRIPT, "install", prefix, "--library", "--unproved"], paths.TOP)
+    for name in ("python", "sim"):
+        shutil.copytree(paths.TOP / name, sources / name, ignore=shutil.ignore_patterns("__pycache__"))
+    for name in ("VERSION", "LICENSE-APACHE", "LICENSE-MIT", "pyproject.toml"):
+        shutil.copy(paths.TOP / name, sources)
+    python, target = pip_install(room, sources, {"PKG_CONFIG_PATH": str(prefix / "lib" / "pkgconfig")})
+    path = run([python, "-c", "import wfpath; print(wfpath.library_path)"], room, {"PYTHONPATH": ""}).strip()
+    expect("whether it is the installed library", Path(path).read_bytes(), (prefix / "lib" / "libwf.so").read_bytes())
+    expect("where the package has its library", Path(path).parent, target / "wfpath")
+    run_bench(python, room, path)
+    SCRIPT.say("pip installed the package with the library of ./wf install")
 
 
 def has_pip() -> bool:
@@ -147,6 +183,9 @@ def main(words: Sequence[str] | None = None) -> int:
         if has_pip():
             with tempfile.TemporaryDirectory(prefix="wf-python-") as room:
                 install(Path(room))
+            if shutil.which("pkg-config"):
+                with tempfile.TemporaryDirectory(prefix="wf-python-") as room:
+                    install_over_library(Path(room))
         else:
             SCRIPT.say("there is no pip, so nothing is installed")
     except Difference as difference:

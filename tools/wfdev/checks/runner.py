@@ -3,6 +3,7 @@ import datetime
 import enum
 import re
 import shlex
+import signal
 import subprocess
 import time
 from collections import Counter
@@ -55,6 +56,7 @@ class Request:
     whole: bool
     strict: bool
     keep: bool
+    lists: bool
 
 
 ALL = [
@@ -99,9 +101,14 @@ ALL = [
 ]
 
 
+def command_of(check: Check, whole: bool) -> list[str]:
+    """Returns the words that run a check."""
+    return [f"checks/{check.name}", *(check.whole if whole else check.words)]
+
+
 def run(check: Check, whole: bool) -> Run:
     """Runs a check."""
-    command = [f"checks/{check.name}", *(check.whole if whole else check.words)]
+    command = command_of(check, whole)
     began = time.monotonic()
     status: int | None = None
     try:
@@ -140,13 +147,14 @@ def request(script: Script, words: Sequence[str] | None, quick: bool) -> Request
     parser.add_argument("--whole", action="store_true", help="run the long checks at their whole length, for an hour and more")
     parser.add_argument("--strict", action="store_true", help="count a skipped check as a failed one")
     parser.add_argument("--keep", action="store_true", help="keep what each check wrote in checks/results")
+    parser.add_argument("--list", action="store_true", help="print the command of each of these checks, and run none")
     given = parser.parse_args(words)
     known = {check.name for check in ALL}
     for name in given.names:
         if name not in known:
             parser.error(f"there is no check {name}; the checks are: {' '.join(sorted(known))}")
     checks = [check for check in ALL if (check.name in given.names if given.names else check.quick or not quick)]
-    return Request(checks, given.whole, given.strict, given.keep)
+    return Request(checks, given.whole, given.strict, given.keep, given.list)
 
 
 def look_at(check: Check, asked: Request) -> Outcome:
@@ -165,6 +173,10 @@ def look_at(check: Check, asked: Request) -> Outcome:
 def main(script: Script, words: Sequence[str] | None = None, quick: bool = False) -> int:
     """Runs the checks and returns the exit status."""
     asked = request(script, words, quick)
+    if asked.lists:
+        signal.signal(signal.SIGPIPE, signal.SIG_DFL)
+        print("\n".join(shlex.join(command_of(check, asked.whole)) for check in asked.checks))
+        return 0
     LOGS.mkdir(exist_ok=True)
     counts = Counter(look_at(check, asked) for check in asked.checks)
     script.say(", ".join(f"{counts[how]} {how.value}" for how in Outcome))

@@ -2,25 +2,29 @@
 
   checks/sim            runs its tests, by the program that `./wf which` names; without one, those that need it are skipped
   checks/sim pictures   runs each scenario, a minute or two in all, and compares what it draws with docs/pictures
-  checks/sim speed      runs each scenario of sim/speed over the machine, and prints the seconds of a processor that it takes
+  checks/sim speed      runs each scenario of sim/speed over the machine, and prints the seconds of a processor that it takes: the
+                        least of five runs, because other programs slow down some of them
 """
 import filecmp
+import functools
 import subprocess
 import sys
 import tempfile
 import time
-from collections.abc import Sequence
+from collections.abc import Callable, Sequence
 from pathlib import Path
 
 from wfdev.harness.script import Script
 from wfdev.repo import paths, programs
 
+from sim.measure import Result
 from sim.models import choose
 from sim.reading import read
 from sim.runs import Job, find_program, run_one
 
 SCRIPT = Script("sim")
 LOOP = 10_000_000
+RUNS = 5  # of each scenario whose speed is measured
 PICTURES = paths.DOCS / "pictures"
 
 
@@ -43,6 +47,13 @@ def compare_pictures() -> int:
     return 1 if changed or missing else 0
 
 
+def seconds_of(action: Callable[[], Result]) -> tuple[float, Result]:
+    """Returns the seconds of a processor that an action takes, and its result."""
+    began = time.process_time()
+    result = action()
+    return time.process_time() - began, result
+
+
 def measure_speed() -> int:
     """Prints how long the scenarios of sim/speed take, next to an empty loop, and returns the exit status."""
     program = find_program(SCRIPT.say)
@@ -52,9 +63,8 @@ def measure_speed() -> int:
     SCRIPT.say(f"{LOOP:,} turns of an empty loop take {time.process_time() - began:.2f} s")
     for file in sorted((paths.TOP / "sim" / "speed").glob("*.toml")):
         scenario = read(file)
-        began = time.process_time()
-        result = run_one(Job(scenario, choose("airtime"), program, round(1e6 * scenario.seconds)))
-        took = time.process_time() - began
+        job = Job(scenario, choose("airtime"), program, round(1e6 * scenario.seconds))
+        took, result = min((seconds_of(functools.partial(run_one, job)) for _ in range(RUNS)), key=lambda pair: pair[0])
         head = f"{scenario.title}: {scenario.seconds:g} s in {took:.2f} s, {scenario.seconds / took:.2f} a second"
         SCRIPT.say(f"{head}; {result.total:.0f} Mbit/s, {result.calls:,} calls, {sum(one.offered for one in result.flows):,} frames")
     return 0

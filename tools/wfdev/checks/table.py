@@ -7,7 +7,7 @@ import sys
 from collections.abc import Iterator, Sequence
 from pathlib import Path
 
-from wfdev import tables
+from wfdev import table_rows, tables
 from wfdev.harness.script import Script
 from wfdev.repo import paths
 
@@ -27,7 +27,7 @@ def table_below(page: str, head: str) -> Iterator[list[str]]:
         yield [cell.strip() for cell in line.strip("|").split("|")]
 
 
-def of_machine(page: str, known: tables.Tables) -> Iterator[str]:
+def of_machine(page: str, known: table_rows.Tables) -> Iterator[str]:
     """Yields how the table of calls on the page of the machine differs."""
     rows = list(table_below(page, "Call"))
     names = [row[0] for row in rows]
@@ -41,10 +41,10 @@ def of_machine(page: str, known: tables.Tables) -> Iterator[str]:
     yield from (f"MACHINE.md: no call is refused by {word}" for word in sorted(words - said.keys() - OUTSIDE))
 
 
-def of_trace(page: str, known: tables.Tables) -> Iterator[str]:
+def of_trace(page: str, known: table_rows.Tables) -> Iterator[str]:
     """Yields how the refusals with a number on the page of traces differ."""
     with_number = set(re.findall(r"`([\w-]+) [A-Z]`", page[page.find("with a number for") :].split("\n")[0]))
-    counted = {refusal.word for refusal in known.refusals if refusal.counts}
+    counted = {refusal.word for refusal, _ in known.counted}
     if with_number != counted:
         yield f"TRACE.md: a number follows {', '.join(sorted(with_number))}; in the table {', '.join(sorted(counted))}"
 
@@ -52,9 +52,9 @@ def of_trace(page: str, known: tables.Tables) -> Iterator[str]:
 def differences(top: Path) -> list[str]:
     """Returns each difference, as a line."""
     try:
-        known = tables.read(top)
+        known = table_rows.read(top)
         found = [f"{path.name}: out of date: run tools/tables" for path in tables.differences(top)]
-    except tables.Fault as fault:
+    except table_rows.Fault as fault:
         return [str(fault)]
     if len(known.calls) < LEAST_ROWS or len(known.refusals) < LEAST_ROWS:
         found.append("the tables have too few rows")

@@ -170,7 +170,14 @@ class Machine:
         held = self.stations.get(station)
         if held is None or not (not held.asleep or held.credit is access):
             return False
+        if 0 < self.settings.aql <= self.in_flight(station, access):
+            return False
         return any(self.can_send(station, tid) for tid in CLASS_TIDS[access])
+
+    def in_flight(self, station: int, access: Class) -> int:
+        """Returns the computed airtime of the open exchanges of a station in a class."""
+        own = [one for one in self.exchanges.values() if one.station == station]
+        return sum(one.charge for one in own if CLASS_OF[one.tid] is access)
 
     def list_ready(self, station: int) -> None:
         """Lists the station that a call concerned in each class in which it is ready and unlisted."""

@@ -12,6 +12,7 @@ def setting(standard: int, least: int, most: int) -> int:
 class Settings:
     """The settings, each with its standard value and its range."""
 
+    # begin settings: tools/tables writes these lines
     stations: int = setting(16, 1, 256)
     flows: int = setting(1024, 1, 4096)
     limit: int = setting(8192, 1, 65_535)
@@ -29,6 +30,8 @@ class Settings:
     aql_total: int = setting(0, 0, 262_144)
     keep_order: int = setting(0, 0, 1)
     codel_reset: int = setting(0, 0, 1)
+    aql: int = setting(0, 0, 262_144)
+    # end settings
 
 
 RANGES: dict[str, range] = {one.name: one.metadata["range"] for one in fields(Settings)}

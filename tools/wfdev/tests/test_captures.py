@@ -1,6 +1,7 @@
 """Tests of the model in checks/captures."""
 import unittest
 
+from wfdev.build import texts
 from wfdev.checks.captures import air, model
 
 
@@ -17,6 +18,9 @@ class Listing(unittest.TestCase):
                 "packets 5",
             ],
         )
+
+    def test_the_most_octets_are_those_of_the_help(self) -> None:
+        self.assertIn(f"within the first {model.MOST} octets", texts.text("FAULTS"))
 
     def test_faults_of_the_header(self) -> None:
         whole = model.header()

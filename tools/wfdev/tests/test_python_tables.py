@@ -52,7 +52,7 @@ class Modules(unittest.TestCase):
         self.assertIn('    stations: int = 16\n    """Station numbers [1..256]."""\n', text)
 
     def test_errors(self) -> None:
-        text = python_tables.errors_module(TEXT, {14: True, 25: True, 1: False})
+        text = python_tables.errors_module(TEXT, {14: "count", 25: "deficit", 1: ""})
         self.assertIn("class Open(Refused):\n", text)
         self.assertIn('    field = "deficit"\n', text)
         self.assertIn('    field = "count"\n', text)

@@ -1,4 +1,6 @@
 """Tests of wfdev.checks.runner and wfdev.harness.trials: how the end of a check is reported, and where its files are."""
+import contextlib
+import io
 import os
 import tempfile
 import unittest
@@ -7,6 +9,7 @@ from pathlib import Path
 from wfdev.checks import runner
 from wfdev.checks.runner import Check, Outcome
 from wfdev.harness import trials
+from wfdev.harness.script import Script
 from wfdev.repo import crates, paths
 
 
@@ -25,6 +28,17 @@ class Outcomes(unittest.TestCase):
     def test_each_check_is_a_script_of_this_folder(self) -> None:
         for check in runner.ALL:
             self.assertTrue(os.access(paths.CHECKS / check.name, os.X_OK), check.name)
+
+    def test_each_script_of_this_folder_is_a_check(self) -> None:
+        others = {"all", "quick", "pre-commit"}
+        scripts = {path.name for path in paths.CHECKS.iterdir() if path.is_file() and os.access(path, os.X_OK)}
+        self.assertEqual({check.name for check in runner.ALL}, scripts - others)
+
+    def test_commands_are_listed_and_not_run(self) -> None:
+        written = io.StringIO()
+        with contextlib.redirect_stdout(written):
+            self.assertEqual(runner.main(Script("all"), ["--list", "--whole", "fuzz", "modules"]), 0)
+        self.assertEqual(written.getvalue(), "checks/modules --check\nchecks/fuzz 3600\n")
 
     def test_each_check_stands_in_the_readme(self) -> None:
         page = paths.read(paths.CHECKS / "README.md")

@@ -209,9 +209,23 @@ class Explained(unittest.TestCase):
 
     def test_a_refusal_has_its_rule_with_its_numbers(self) -> None:
         told = " ".join(explained("leaving-station").split())
-        self.assertIn("Call: Station 3 leaves. Refused: The station has 1 open exchanges. Nothing has changed.", told)
+        self.assertIn("Call: Station 3 leaves. Refused: The station has 1 open exchange. Nothing has changed.", told)
         told = " ".join(explained("sleeping-station").split())
         self.assertIn("Station 0 holds 2 frames of the class, but sleeps and has no credit for it.", told)
+
+    def test_numbers_and_settings_of_a_rule_are_filled_in(self) -> None:
+        told = rules.rule("ahead", 1976, {"aql_total": 100})
+        self.assertEqual(told, "1976 microseconds of computed airtime are in flight in all classes: aql_total (100) or more.")
+        self.assertEqual(rules.rule("full", 1, {"inflight": 1}), "1 exchange of the class is open: as many as inflight (1).")
+        self.assertEqual(rules.rule("open", 11, {}), "The station has 11 open exchanges.")
+
+    def test_no_rule_keeps_a_name_in_marks(self) -> None:
+        for refusal in rules.table():
+            self.assertNotIn("`", rules.rule(refusal, 1, {}), refusal)
+
+    def test_nothing_means_another_thing_for_each_call(self) -> None:
+        told = " ".join(explained("sleeping-station").split())
+        self.assertNotIn("There is nothing to answer, to send or to reap", told)
 
     def test_the_page_has_each_refusal(self) -> None:
         self.assertEqual(len(rules.table()), 28)

@@ -22,6 +22,7 @@ answer shows when CoDel drops a frame, so such a frame counts as held here until
 """
 CLASS_NAMES = {"bk": "background", "be": "best effort", "vi": "video", "vo": "voice"}
 FAULTY = "The line has a fault, so the run ends before it. './wf help faults' lists the kinds."
+CUT = "The trace stops before its last line, so the run ends without a summary. './wf help faults' lists the kinds."
 FATES = {
     "acked": "it was acknowledged",
     "overlimit": "it was dropped because the flow queues held `limit` frames",
@@ -68,7 +69,7 @@ class Explain:
                 return paragraph(head, [answer], f"Call: {ASKED[call.kind](call)}", self._answer(call, reply))
             case Faulted(line, text):
                 head = f"line {line.number}: {line.text.strip()}" if line else "the end of the trace"
-                return paragraph(head, [text], FAULTY)
+                return paragraph(head, [text], FAULTY if line else CUT)
             case Summed(text):
                 self._summary.append(text)
                 return ""
@@ -133,7 +134,7 @@ ASKED: dict[str, Callable[[Call], str]] = {
     "done": asked_done,
     "sleep": lambda call: f"{station_of(call).capitalize()} goes to sleep.",
     "wake": lambda call: f"{station_of(call).capitalize()} wakes.",
-    "poll": lambda call: f"{station_of(call).capitalize()} sleeps and asks for a frame.",
+    "poll": lambda call: f"{station_of(call).capitalize()} sends a PS-Poll: it asks for one frame.",
     "rx": lambda call: (
         f"{station_of(call).capitalize()} used {call.number('air')} us of class {call.word('class_')} to "
         "send."
@@ -142,15 +143,27 @@ ASKED: dict[str, Callable[[Call], str]] = {
 }
 
 
+# What `nothing` means, by the kind of call.
+NOTHING = {
+    "answer": "No transmission of the exchange has arrived.",
+    "poll": "No TID of the station can send.",
+    "reap": "No frame is finished.",
+}
+AFTER_IDLE = "This is the only refusal after which something may have changed."
+
+
 def refused(call: Call, reply: Reply, book: Ledger) -> str:
     """Returns why a call was refused."""
     number = reply.fields.get("count", reply.fields.get("deficit"))
-    text = f"Refused: {rules.rule(reply.refusal, number, book.settings)}"
     if reply.refusal == "idle":
         class_ = call.word("class_")
         known = [said for one in book.stations.values() if (said := why_not_ready(one, class_, book))]
-        return f"{text} {some(known) or f'No live station holds a frame of class {class_}.'}"
-    return f"{text} Nothing has changed."
+        why = some(known) or f"No live station holds a frame of class {class_}."
+        return f"Refused: No station of the class is ready. {why} {AFTER_IDLE}"
+    rule = rules.rule(reply.refusal, number, book.settings)
+    if reply.refusal == "nothing":
+        rule = NOTHING.get(call.kind, rule)
+    return f"Refused: {rule} Nothing has changed."
 
 
 def some(sentences: list[str]) -> str:
@@ -220,12 +233,12 @@ def why_picked(station: Station, class_: str, book: Ledger) -> str:
     """Says with which deficit the scheduler picked a station."""
     quantum, used, quanta = book.quantum(station), station.used.get(class_, 0), station.quanta[class_]
     credit = "It sleeps, so this spends its credit. " if station.is_asleep else ""
+    parts = [f"{quantum} at the join", f"less {used} charged" if used else ""]
+    parts += [f"plus {count(quanta, 'quantum')} of {quantum}".replace("quantums", "quanta") if quanta else ""]
     return (
         f"{credit}The scheduler picks the first ready station with a deficit above 0. That of station "
-        f"{station.number} was "
-        f"{book.deficit_when_picked(station, class_)} us: {quantum} at the join, less {used} charged, plus "
-        f"{count(quanta, 'quantum')} "
-        f"of {quantum}.".replace("quantums", "quanta")
+        f"{station.number} was {book.deficit_when_picked(station, class_)} us: "
+        f"{', '.join(filter(None, parts))}."
     )
 
 
@@ -329,13 +342,13 @@ def said_of_summary(texts: list[str]) -> str:
         return ""
     tally = found["tally"]
     fates = [f"{tally[name]} {words}" for name, words in SUMMED.items() if tally[name]]
-    held = f"{found['held']} still held"
+    held = [f"{found['held']} still held"] if found["held"] or not fates else []
     text = (
         f"{count(found['calls'], 'call')}, and the clock is at {found['now']} us. "
         f"{count(tally['accepted'], 'frame')} accepted: "
     )
     text += (
-        f"{listed([*fates, held])}. {count(found['exchanges'], 'exchange')}, {found['open']} of them open."
+        f"{listed([*fates, *held])}. {count(found['exchanges'], 'exchange')}, {found['open']} of them open."
     )
     for share in found["shares"]:
         text += (

@@ -7,7 +7,10 @@ import re
 
 PAGE = pathlib.Path(__file__).resolve().parents[3] / "docs" / "MACHINE.md"
 ROW = re.compile(r"^\| `([a-z-]+)` \| \d+ \| (.*) \|$", re.M)
-NUMBERS = ("count", "inside", "queued", "deficit")
+NUMBERS = ("count", "inside", "queued", "deficit", "owed")
+# Sentences about one thing, where the table speaks of several.
+ONE = {"1 open exchanges.": "1 open exchange.", "1 exchanges of the class are": "1 exchange of the class is"}
+ONE |= {"1 frames are": "1 frame is", "1 frames of the class are": "1 frame of the class is"}
 
 
 @functools.cache
@@ -30,4 +33,7 @@ def rule(refusal: str, number: int | None, settings: dict[str, int]) -> str:
             return str(number)
         return f"{name} ({settings[name]})" if name in settings else name
 
-    return re.sub(r"`([a-z]+)`", filled, table().get(refusal, f"The answer is {refusal}."))
+    text = re.sub(r"`([a-z_]+)`", filled, table().get(refusal, f"The answer is {refusal}."))
+    for several, one in ONE.items():
+        text = re.sub(rf"(?<!\d){re.escape(several)}", one, text)
+    return text

@@ -9,6 +9,7 @@ import platform
 import shutil
 import subprocess
 import tarfile
+import zipfile
 
 from wfdev.build import dist, fresh
 
@@ -16,6 +17,7 @@ from .support import TOP
 from .test_install import ALL_FILES, Installing
 
 SYSTEM = f"{platform.system().lower()}-{platform.machine()}"
+WHEEL = f"python/wfpath-1.0.0-py3-none-{platform.system().lower()}_{platform.machine()}.whl"
 SOURCE, BINARY, UNPROVED = "wf-1.0.0", f"wf-1.0.0-{SYSTEM}", f"wf-1.0.0-unproved-{SYSTEM}"
 
 
@@ -24,6 +26,8 @@ class Dist(Installing):
         super().setUp()
         for name in dist.LICENCES:
             shutil.copy(TOP / name, self.top)
+        made = shutil.ignore_patterns("__pycache__")
+        shutil.copytree(TOP / "python", self.top / "python", ignore=made)
         self.folder = self.room / "dist"
 
     def made(self, *words: str, folder: pathlib.Path | None = None, **more: str) -> dict[str, bytes]:
@@ -55,13 +59,22 @@ class Dist(Installing):
         made = self.made("--unproved", SOURCE_DATE_EPOCH="1000000000")
         self.assertEqual(set(made), {f"{SOURCE}.tar.gz", f"{UNPROVED}.tar.gz", "SHA256SUMS"})
         binary = self.entries(UNPROVED)
-        self.assertEqual(set(binary), ALL_FILES | {"SHA256SUMS", *dist.LICENCES})
+        self.assertEqual(set(binary), ALL_FILES | {"SHA256SUMS", *dist.LICENCES, WHEEL})
         self.assertEqual((binary["bin/wf"].mode, binary["include/wf.h"].mode), (0o755, 0o644))
         self.assertEqual(binary["lib/libwf.so"].linkname, "libwf.so.1")
         source = self.entries(SOURCE)
         self.assertIn("crates/wf/src/main.rt", source)
         self.assertEqual([name for name in source if "/out/" in name or "__pycache__" in name], [])
         self.assertEqual({entry.mtime for entry in [*binary.values(), *source.values()]}, {1_000_000_000})
+
+    def test_the_wheel_has_the_shared_library_that_is_installed_and_says_that_it_is_not_proved(self) -> None:
+        self.are_built()
+        self.made("--unproved")
+        self.unpack(UNPROVED, "root")
+        place = self.room / "root" / UNPROVED
+        with zipfile.ZipFile(place / WHEEL) as wheel:
+            self.assertEqual(wheel.read("wfpath/libwf.unproved.so"), (place / "lib/libwf.so").read_bytes())
+            self.assertIn("wfpath/__init__.py", wheel.namelist())
 
     def test_checksums_are_right(self) -> None:
         self.are_built()

@@ -1,4 +1,4 @@
-"""Hints on inlining: the functions that sources mark, and their symbols in an object."""
+"""Hints on inlining: the functions that sources mark, and their symbols in a module."""
 from __future__ import annotations
 
 import pathlib
@@ -21,9 +21,13 @@ impl Plays for Stage {
     fn close() {}
 }
 """
-LINKED = b"\0".join(
-    [b"", b".text.wf_run::input::read::<#98d0>", b"wf_run::input::StagePlays::close", b"wf_run::input::StagePlays::open", b"read", b""]
-)
+MODULE = """\
+define internal void @"wf_run::input::read::<#98d0>"(ptr %a0) #0 {
+  call void @"wf_run::input::StagePlays::open"()
+define internal void @"wf_run::input::StagePlays::close"() #0 {
+define internal void @"wf_run::input::StagePlays::closed"() #0 {
+define internal void @read() #0 {
+"""
 
 
 class Hints(unittest.TestCase):
@@ -40,8 +44,8 @@ class Hints(unittest.TestCase):
 
     def test_symbols_have_their_types_and_no_others_are_taken(self) -> None:
         marked = [Marked("wf_run::input", "read"), Marked("wf_run::input", "close")]
-        self.assertEqual(symbols(marked, LINKED), ["wf_run::input::StagePlays::close", "wf_run::input::read::<#98d0>"])
-        self.assertEqual(symbols([], LINKED), [])
+        self.assertEqual(symbols(marked, MODULE), ["wf_run::input::StagePlays::close", "wf_run::input::read::<#98d0>"])
+        self.assertEqual(symbols([], MODULE), [])
 
 
 if __name__ == "__main__":

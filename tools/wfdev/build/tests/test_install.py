@@ -87,7 +87,7 @@ class Install(Installing):
         self.are_built()
         told, why, status = self.asked("install", str(self.prefix))
         self.assertEqual((told, status), ("", 125))
-        self.assertIn("is not known to be proved; './wf install PREFIX --unproved' installs what is not proved, too", why)
+        self.assertIn("is not known to be proved; nothing was installed; './wf install PREFIX --unproved' installs what is not proved, too", why)
         self.assertFalse(self.prefix.exists())
 
     def test_what_is_proved_is_installed_with_and_without_the_flag(self) -> None:

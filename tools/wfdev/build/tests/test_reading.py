@@ -85,7 +85,7 @@ class Files(Reading):
             told, said, status = self.asked(*words)
             self.assertEqual((told, status), ("", 1), words)
             self.assertTrue(said.startswith(f"wf: {why}"), said)
-            self.assertIn("./wf replay --json [FILE]", said)
+            self.assertTrue(said.endswith(f"\n'./wf help {words[0]}' says more\n"), said)
 
 
 class Echo(Reading):

@@ -35,13 +35,17 @@ class Words(Checkout):
     def test_words_that_are_no_command_are_refused_before_anything_is_compiled(self) -> None:
         cases: list[list[str]] = [["bild"], ["soak"], ["soak", "1"], ["soak", "1", "0"], ["soak", "1", "1000001"], ["soak", "01", "1"]]
         cases += [["soak", "x", "1"], ["live", "1", "2"], ["live", "1", "9", "1"], ["live", "18446744073709551616", "1", "1"]]
-        cases += [["replay", "name", "other"], ["replay", "--ecko"], ["help", "nobody"]]
+        cases += [["help", "nobody"]]
         self.has_kit("#!/bin/sh\necho compiled >&2\nexit 1\n")
         for words in cases:
             told, why, status = self.asked(*words)
             self.assertEqual((told, status), ("", 1), words)
             self.assertRegex(why, "^wf: (.*\n)+usage: wf replay")
             self.assertNotIn("compiled", why)
+        for words in (["replay", "name", "other"], ["replay", "--ecko"]):
+            told, why, status = self.asked(*words)
+            self.assertEqual((told, status), ("", 1), words)
+            self.assertRegex(why, "^wf: replay takes .*\n'./wf help replay' says more\n$")
         self.assertEqual(self.asked()[::2], ("", 1))
 
     def test_numbers_in_their_ranges_go_to_the_build(self) -> None:
@@ -92,6 +96,10 @@ class Help(Checkout):
                 self.assertEqual(self.asked(word.name, "--help"), (told, "", 0))
         self.assertEqual(self.asked("help", "soak"), (texts.text("SOAK"), "", 0))
         self.assertEqual(self.asked("soak", "1", "-h"), (texts.text("SOAK"), "", 0))
+
+    def test_the_help_on_faults_says_what_becomes_of_a_line_without_an_end(self) -> None:
+        told = " ".join(self.asked("help", "faults")[0].split())
+        self.assertIn("until then a line without an end is read, and not answered", told)
 
     def test_the_overview_has_the_programs_text_and_a_line_for_each_form(self) -> None:
         told, why, status = self.asked("help")

@@ -26,6 +26,7 @@ LIKELY = {
     "sleeping": (1, 2, 3),
     "charge": (1, 3000, 65_535),
     "debt": (0, 1, 300, 20_000, 65_535),
+    "aql": (1, 80, 2000, 4000),
 }
 # How often a setting is in a head, if not three times in ten. With little room most calls do nothing.
 CHANCE = {"stations": 0.6, "room": 0.06, "limit": 0.25, "calls": 0.0}
