@@ -5,13 +5,13 @@ The same scenario makes the same arrivals and losses for each path, because each
 from __future__ import annotations
 
 import functools
-import heapq
-import math
+import itertools
 import random
 from collections import deque
-from collections.abc import Callable
+from collections.abc import Callable, Mapping, Sequence
 from dataclasses import dataclass
 
+from .arrivals import Arrivals
 from .clock import Clock
 from .frames import CLASS_OF_TID, CLASSES, Exchange, Frame, Path
 from .medium import AccessPoint, Contender, Medium, Uplink, UplinkExchange
@@ -19,7 +19,7 @@ from .program import OutOfCalls
 from .rates import Rate
 from .receivers import Receivers
 from .scenario import Flow, Scenario, Station
-from .traffic import Backlog, Eager, Source, Tcp, Timed
+from .traffic import Arrival, Backlog, Eager, Source, Tcp, Timed
 from .web import Browser
 
 TIMER = 50_000  # microseconds between looks at timeouts
@@ -52,6 +52,7 @@ class Bench:
         self.uplinks = [Uplink(station, scenario.setting("cap")) for station in scenario.stations]
         self.open = dict.fromkeys(CLASSES, 0)
         self.may_send = dict.fromkeys(CLASSES, False)  # whether a pull of the class might find something
+        self.shares_limit = scenario.setting("aql_total") > 0  # whether the end of an exchange may let any class send
         self.here = [False] * len(scenario.stations)
         self.open_of = [0] * len(scenario.stations)
         self.leaving: set[int] = set()
@@ -64,8 +65,9 @@ class Bench:
         self.blocked: list[Eager] = []  # flows that wait for room
         for station in scenario.stations:  # before the flows, so that a frame of the same time finds its station
             self.plan(station)
-        self.arrivals: list[tuple[int, int, Timed]] = []  # a heap: the next frame of each timed flow
         self.sources = [self.source(flow) for flow in scenario.flows]
+        self.arrivals = Arrivals([source for source in self.sources if isinstance(source, Timed)])
+        self.timed_classes = {source.frame_class for source in self.sources if isinstance(source, Timed) and not source.flow.is_up}
         self.has_eager = any(isinstance(source, Eager) for source in self.sources)
         self.backlogs = {source.flow.number: source for source in self.sources if isinstance(source, Backlog)}
         self.until = 0  # when the run ends
@@ -79,22 +81,29 @@ class Bench:
         """Runs to a time, or until the program takes no more calls. Returns the time that was reached."""
         self.until = until
         try:
-            while (now := min(self.clock.next_time(), self.next_arrival())) <= until:
+            while (now := min(self.clock.next_time(), self.arrivals.next_time())) <= until:
                 self.step(int(now))
             self.clock.now = until
             self.path.advance(until)
         except OutOfCalls:
-            pass
+            self.end_at(self.path.now)
         self.path.close()
         self.note_ended()
         return self.clock.now
+
+    def end_at(self, now: int) -> None:
+        """Ends the run at a time. Frames that came together with earlier ones, and later than this, do not count."""
+        self.clock.now = now
+        for frames in self.frames:
+            while frames and frames[-1].came > now:
+                frames.pop()
 
     def step(self, now: int) -> None:
         """All that happens at one time: the events, then what flows send, then what the path sends."""
         self.advance(now)
         self.clock.act()
-        while self.next_arrival() == now:
-            self.arrive()
+        while arrivals := self.arrivals.before(now + 1):
+            self.come(arrivals)
         if self.path.ended:
             self.note_ended()
         if self.eager:
@@ -102,7 +111,7 @@ class Bench:
         self.pull()
         if self.path.ended:
             self.note_ended()
-        if self.medium.is_busy and self.arrivals:
+        if self.medium.is_busy:
             self.arrive_while_busy()
         if self.progress:
             self.progress(now)
@@ -115,16 +124,20 @@ class Bench:
     def arrive_while_busy(self) -> None:
         """Lets frames of timed flows come before the next event, as long as nothing else can happen because of them."""
         limit, inflight = min(self.clock.next_time(), self.until + 1), self.scenario.air.inflight
-        arrivals, arrive, clock, path = self.arrivals, self.arrive, self.clock, self.path
-        while arrivals and arrivals[0][0] < limit:
-            now, _, source = arrivals[0]
-            if self.open[source.frame_class] < inflight and not source.flow.is_up:
+        is_full = {frame_class: self.open[frame_class] >= inflight for frame_class in self.timed_classes}
+        while arrivals := self.arrivals.before(limit):
+            if self.has_eager:
+                arrivals = arrivals[:1]  # a frame that ends because of it may let another flow send
+            if not all(is_full.values()):
+                arrivals = list(itertools.takewhile(lambda one: self.waits(one, is_full), arrivals))
+            self.come(arrivals)
+            if not arrivals or (self.has_eager and self.path.ended):
                 break
-            clock.now = now
-            path.advance(now)
-            arrive()
-            if self.has_eager and path.ended:
-                break
+
+    def waits(self, arrival: Arrival, is_full: Mapping[str, bool]) -> bool:
+        """Whether nothing is sent because of an arrival, if these classes have as many open exchanges as they may."""
+        source = self.sources[arrival[1] - 1]
+        return source.flow.is_up or is_full[source.frame_class]
 
     # Stations
 
@@ -183,10 +196,7 @@ class Bench:
             tcp = Tcp(flow, self.scenario.seed)
             self.clock.at(tcp.start + TIMER, lambda: self.check(tcp))
             return self.eager_source(tcp)
-        timed = Timed(flow, self.scenario.seed)
-        if timed.at is not None:
-            heapq.heappush(self.arrivals, (timed.at, flow.number, timed))
-        return timed
+        return Timed(flow, self.scenario.seed)
 
     def plan_transfers(self) -> None:
         """Has the ends of transfers noted: flows of TCP that have a size, and pages."""
@@ -217,27 +227,25 @@ class Bench:
         self.clock.at(source.start, lambda: self.ask(source))
         return source
 
-    def next_arrival(self) -> float:
-        """When the next frame of a timed flow comes; infinity if none does."""
-        return self.arrivals[0][0] if self.arrivals else math.inf
-
-    def arrive(self) -> None:
-        """Lets the next frame of a timed flow come. While its station is absent it is not counted."""
-        arrivals = self.arrivals
-        now, number, source = arrivals[0]
-        frame = source.frame(now)
-        if source.at is None:
-            heapq.heappop(arrivals)
-        else:
-            heapq.heapreplace(arrivals, (source.at, number, source))
-        if not self.here[frame.station]:
-            return
-        if source.flow.is_up:
-            self.enqueue(frame)
-        else:
-            self.frames[number - 1].append(frame)
-            self.may_send[source.frame_class] = True
-            self.path.enqueue(frame)
+    def come(self, arrivals: Sequence[Arrival]) -> None:
+        """Lets the next frames of timed flows come. While a station is absent its frames are not counted."""
+        self.arrivals.skip(len(arrivals))
+        sources, here, noted, may_send, down = self.sources, self.here, self.frames, self.may_send, []
+        for now, number, order, octets in arrivals:
+            source = sources[number - 1]
+            frame = Frame(source.flow, now, octets, order)
+            if not here[frame.station]:
+                continue
+            noted[number - 1].append(frame)
+            if source.flow.is_up:
+                self.clock.now = now
+                self.receivers.send_up(frame)
+            else:
+                may_send[source.frame_class] = True
+                down.append(frame)
+        self.path.enqueue_all(down)
+        if arrivals:
+            self.advance(arrivals[-1][0])
 
     def enqueue(self, frame: Frame) -> None:
         """Puts a frame of a flow into the path, or into the queue of the station that sends it."""
@@ -343,6 +351,8 @@ class Bench:
         self.open[frame_class] -= 1
         self.open_of[exchange.station] -= 1
         self.may_send[frame_class] = True
+        if self.shares_limit:
+            self.may_send = dict.fromkeys(CLASSES, True)
         used = exchange.air + (access if self.scenario.air.charge_access else 0)
         if used != exchange.air or station.is_measured:
             exchange.charge = self.measured(station, used)

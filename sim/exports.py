@@ -12,6 +12,7 @@ from .measure import PERCENTILES, FlowResult, Result, StationResult, nearest_ran
 from .scenario import Scenario
 
 Numbers = dict[str, Any]
+KINDS_OF_ROWS = ("station", "flow")
 STATION_COLUMNS = (
     *("rate", "weight", "airtime_us", "uplink_us", "airtime_share", "throughput_mbit_per_s", "throughput_up_mbit_per_s"),
     *("aggregate_frames", "retries_frames"),
@@ -102,6 +103,15 @@ def write_json(file: TextIO, scenario: Scenario, runs: Sequence[Numbers], progra
     file.write("\n")
 
 
+def rows_of(runs: Sequence[Numbers], kind: str) -> list[Numbers]:
+    """A row for each station or for each flow (`kind`) of each run, with what tells the runs apart."""
+    return [
+        {"path": run["path"], "seed": run["seed"], "simulated_s": run["simulated_s"], **run["parameters"], "row": kind, **numbers}
+        for run in runs
+        for numbers in run[f"{kind}s"]
+    ]
+
+
 def write_csv(file: TextIO, runs: Sequence[Numbers]) -> None:
     """Writes a row for each station and each flow of each run. Cells that have no meaning for a row are empty."""
     parameters = list(runs[0]["parameters"])
@@ -109,6 +119,5 @@ def write_csv(file: TextIO, runs: Sequence[Numbers]) -> None:
     writer = csv.DictWriter(file, head, lineterminator="\n", extrasaction="ignore")
     writer.writeheader()
     for run in runs:
-        common = {"path": run["path"], "seed": run["seed"], "simulated_s": run["simulated_s"], **run["parameters"]}
-        for kind in ("station", "flow"):
-            writer.writerows({**common, "row": kind, **numbers} for numbers in run[f"{kind}s"])
+        for kind in KINDS_OF_ROWS:
+            writer.writerows(rows_of([run], kind))

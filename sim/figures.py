@@ -12,6 +12,7 @@ from .exports import Numbers
 from .intervals import Interval
 from .outputs import Outputs
 from .scenario import Scenario
+from .styles import Style, styles_of
 from .summary import Group, grouped, label, over, swept
 
 MISSING = (
@@ -20,14 +21,10 @@ MISSING = (
 )
 FORMATS = ("png", "svg", "pdf")
 UNDATED: dict[str, dict[str, None]] = {"png": {}, "svg": {"Date": None}, "pdf": {"CreationDate": None}}
-# The colours of Okabe and Ito, with hatches, so that bars differ in grey too.
-COLOURS = ("#d55e00", "#e69f00", "#cc79a7", "#56b4e9", "#0072b2", "#009e73", "#f0e442", "#999999")
-HATCHES = ("", "//", "\\\\", "xx", "--", "++", "||", "..")
-MARKERS = ("o", "s", "^", "D", "v", "P", "X", "*")
 MOST_PLACES = 16  # on the axis; the values of more stations are drawn as boxes
+MOST_ALONE = 4  # stations that are shown by name next to boxes
 MOST_LEVEL = 6  # names on the axis that are not turned
-PATHS = ("fifo", "fq_codel", "fq_mac", "airtime", "one_list")  # paths with colours of their own, in the order of COLOURS
-IN_A_ROW = 6  # names in a row of the legend
+IN_A_ROW = 6  # names in a row of the legend, at most
 SIZE = (7.0, 4.2)  # inches
 
 
@@ -72,14 +69,9 @@ def group_name(group: Group) -> str:
     return ", ".join(filter(None, (group[0]["path"], swept(group[0]))))
 
 
-def styles(groups: Sequence[Group]) -> list[int]:
-    """The style of each group: that of its path, which is the same in every figure, or else one that no group has yet."""
-    found: list[int] = []
-    for name in map(group_name, groups):
-        own = PATHS.index(name) if name in PATHS else len(PATHS)
-        free = [style for style in range(len(PATHS), len(PATHS) + len(groups) + 1) if style not in found]
-        found.append(own if own < len(PATHS) else free[0])
-    return found
+def styles(groups: Sequence[Group]) -> list[Style]:
+    """The style of each group."""
+    return styles_of([group_name(group) for group in groups])
 
 
 def values(group: Group, figure: Figure, numbers: Sequence[int]) -> list[Interval]:
@@ -104,8 +96,8 @@ def draw_bars(axes: Any, groups: Sequence[Group], figure: Figure, shown: Sequenc
             0.94 * width,
             yerr=halves(found, figure),
             capsize=2,
-            color=COLOURS[style % len(COLOURS)],
-            hatch=HATCHES[style % len(HATCHES)],
+            color=style.colour,
+            hatch=style.hatch,
             edgecolor="black",
             linewidth=0.5,
             label=group_name(group),
@@ -123,10 +115,10 @@ def draw_points(axes: Any, groups: Sequence[Group], figure: Figure, shown: Seque
             [figure.factor * one.mean for one in found],
             yerr=halves(found, figure),
             capsize=3,
-            fmt=MARKERS[style % len(MARKERS)],
+            fmt=style.mark,
             markersize=7,
             color="black",
-            markerfacecolor=COLOURS[style % len(COLOURS)],
+            markerfacecolor=style.colour,
             markeredgecolor="black",
             linewidth=1,
             label=group_name(group),
@@ -134,14 +126,30 @@ def draw_points(axes: Any, groups: Sequence[Group], figure: Figure, shown: Seque
     axes.set_xlim(-0.5, len(shown) - 0.5)
 
 
-def draw_boxes(axes: Any, groups: Sequence[Group], figure: Figure, shown: Sequence[tuple[int, str]]) -> None:
-    """A box for each path: the distribution over many stations or flows."""
-    found = [[figure.factor * one.mean for one in values(group, figure, [nth for nth, _ in shown]) if one.count] for group in groups]
-    boxes = axes.boxplot(found, widths=0.6, patch_artist=True, medianprops={"color": "black", "linewidth": 1.5})
+def named_alone(scenario: Scenario, figure: Figure, shown: Sequence[tuple[int, str]]) -> list[tuple[int, str]]:
+    """A few stations that have tables of their own next to others that share one: a figure of boxes shows them by name."""
+    alone = [(nth, name) for nth, name in shown if figure.of == "stations" and scenario.stations[nth].group == name]
+    return alone if len(alone) <= MOST_ALONE else []
+
+
+def draw_boxes(axes: Any, scenario: Scenario, groups: Sequence[Group], figure: Figure, shown: Sequence[tuple[int, str]]) -> None:
+    """A box for each path: the distribution over many stations or flows. Stations that are named alone are points."""
+    alone = named_alone(scenario, figure, shown)
+    boxed = [nth for nth, name in shown if (nth, name) not in alone]
+    found = [[figure.factor * one.mean for one in values(group, figure, boxed) if one.count] for group in groups]
+    boxes = axes.boxplot(found, widths=0.5, patch_artist=True, medianprops={"color": "black", "linewidth": 1.5}, flierprops={"markersize": 3})
     for box, style in zip(boxes["boxes"], styles(groups)):
-        box.set(facecolor=COLOURS[style % len(COLOURS)], hatch=HATCHES[style % len(HATCHES)])
+        box.set(facecolor=style.colour, hatch=style.hatch)
+    for place, (group, style) in enumerate(zip(groups, styles(groups)), 1):
+        for nth, (one, (_, name)) in enumerate(zip(values(group, figure, [nth for nth, _ in alone]), alone)):
+            at = (place, figure.factor * one.mean)
+            side, anchor = [(7, "left"), (-7, "right")][nth % 2]
+            axes.plot(*at, style.mark, color=style.colour, markeredgecolor="black", markersize=7)
+            axes.annotate(name, at, (side, -3), textcoords="offset points", ha=anchor, fontsize="small")
     axes.set_xticks(range(1, len(groups) + 1), [group_name(group) for group in groups])
-    axes.set_xlabel(f"{len(shown)} {figure.of}; box: quartiles and median, whiskers: 1.5 interquartile ranges", fontsize="small")
+    axes.set_xlabel(f"{len(boxed)} {figure.of}; box: quartiles and median, whiskers: 1.5 interquartile ranges", fontsize="small")
+    if not figure.is_delay:
+        axes.set_ylim(bottom=0)
 
 
 def axis_title(figure: Figure, group: Group, shown: Sequence[tuple[int, str]]) -> str:
@@ -165,12 +173,12 @@ def draw(pyplot: Any, scenario: Scenario, groups: Sequence[Group], figure: Figur
     drawn, axes = pyplot.subplots(figsize=SIZE, layout="constrained")
     shown = names(groups[0], figure, scenario)
     if len(shown) > MOST_PLACES:
-        draw_boxes(axes, groups, figure, shown)
+        draw_boxes(axes, scenario, groups, figure, shown)
     else:
         (draw_points if figure.is_delay else draw_bars)(axes, groups, figure, shown)
         turned = {"rotation": 30, "ha": "right"} if len(shown) > MOST_LEVEL else {}
         axes.set_xticks(range(len(shown)), [name.replace(" to ", "\nto ") for _, name in shown], fontsize="small", **turned)
-        axes.legend(loc="lower center", bbox_to_anchor=(0.5, 1.0), ncols=min(IN_A_ROW, len(groups)), frameon=False, fontsize="small")
+        axes.legend(loc="lower center", bbox_to_anchor=(0.5, 1.0), ncols=columns(len(groups)), frameon=False, fontsize="small")
     if figure.is_delay:
         make_logarithmic(axes)
     axes.set_ylabel(axis_title(figure, groups[0], shown))
@@ -179,6 +187,11 @@ def draw(pyplot: Any, scenario: Scenario, groups: Sequence[Group], figure: Figur
     drawn.suptitle(scenario.title, fontsize="large")
     drawn.supxlabel(foot(len(groups[0]), len(shown) > MOST_PLACES), fontsize="x-small")
     return drawn
+
+
+def columns(entries: int) -> int:
+    """The columns of a legend, so that its rows are about equally long."""
+    return math.ceil(entries / math.ceil(entries / IN_A_ROW))
 
 
 def foot(seeds: int, are_boxes: bool) -> str:

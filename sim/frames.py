@@ -98,6 +98,12 @@ class Path(ABC):
     def enqueue(self, frame: Frame) -> None:
         """Takes a frame, or drops it."""
 
+    def enqueue_all(self, frames: Sequence[Frame]) -> None:
+        """Takes frames one after the other, each at the time at which it comes."""
+        for frame in frames:
+            self.advance(frame.came)
+            self.enqueue(frame)
+
     @abstractmethod
     def pull(self, frame_class: str) -> Exchange | None:
         """The next exchange of a class, if there is one."""

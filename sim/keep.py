@@ -17,7 +17,7 @@ from .exports import Numbers
 from .scenario import Scenario
 
 SOURCES = Path(__file__).resolve().parent
-ONLY_SHOW = ("cli", "figures", "outputs", "paper", "plots", "progress", "summary", "svg", "table")  # modules that no number depends on
+ONLY_SHOW = ("cli", "figures", "outputs", "paper", "plots", "progress", "study", "styles", "summary", "svg", "table")  # modules that no number depends on
 IRRELEVANT = ("name", "title", "note", "pictures", "shown", "compare")  # parts of a scenario that no number depends on
 
 

@@ -14,6 +14,13 @@ LONGEST_TICK = 10_000_000
 MOST_COMING = 200  # enqueues whose answers are not noted yet
 
 
+class NoRoom(Fault):
+    """The history of the library's cell is full, or there is no memory for it: a program takes more calls."""
+
+    def __init__(self) -> None:
+        super().__init__("the run has more calls than the library has memory for: expected a program wf on the PATH, which takes more")
+
+
 class Held(Path):
     """A machine's frames as the bench knows them.
 

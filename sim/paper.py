@@ -15,18 +15,22 @@ from .fields import Fault
 from .figures import write_picture
 from .models import choose_all
 from .outputs import Outputs
-from .program import TOP
+from .program import FOLDER, SCRIPT, TOP
 from .reading import load
 from .runs import Job, Program, jobs_of, repeated
 from .summary import Group, grouped, of_runs, over
 from .sweep import Point, parse_all, points
 
-PAGE = TOP / "docs" / "PAPER.md"
+PAGE = TOP / "docs" / "PAPER.md" if SCRIPT else Path("PAPER.md")
 PICTURES = "pictures/paper"  # below the folder of the page
 STANDARD_SEEDS = 10
-ALL = ("fifo", "fq_codel", "fq_mac", "airtime")
+ALL = ("fifo", "fq_codel", "fq_mac", "one_list", "airtime", "airtime:device")
 
 ABOUT = "`{}` runs these experiments and writes this page. [SIM.md](SIM.md) describes the bench and what is modelled."
+PATHS = (
+    "`airtime` is the machine with the standard settings, and `airtime device` with those for a driver of a device. `one_list` is the model "
+    "next to Linux 6.1: both have one list of stations for each class ([SIM.md](SIM.md#baselines) says how they differ)."
+)
 LEFT_OUT = (
     "The paper's numbers are in the first table alone, as we read them in the paper; no script compares them with it. The numbers of its "
     "other tables and figures are left out, because this repository has no copy of them."
@@ -92,7 +96,7 @@ class Experiment:
 
     def points(self, seconds: float | None) -> list[Point]:
         """The scenario, at each point of the sweeps."""
-        found = points(self.file, load(TOP / "sim" / self.file), parse_all(self.sweeps))
+        found = points(self.file, load(FOLDER / self.file), parse_all(self.sweeps))
         for point in found:
             if seconds is not None:
                 point.scenario.seconds = seconds
@@ -178,7 +182,7 @@ EXPERIMENTS = (
         "scenarios/sparse.toml",
         (delay("ping to sparse", 50, "sparse"), delay("ping to sparse", 95, "sparse")),
         "`one_list` is `airtime` without the optimisation. Pings come 10 ms apart on average.",
-        paths=("one_list", "airtime"),
+        paths=("one_list", "airtime", "airtime:device"),
         figures=("delay",),
     ),
     Experiment(
@@ -257,16 +261,23 @@ def page(results: Sequence[Sequence[Numbers]], seeds: int, seconds: float | None
         "",
         *wrapped(f"{ABOUT.format(command(seeds, seconds))} {interval_of(seeds)}"),
         "",
+        *wrapped(PATHS),
+        "",
         *wrapped(LEFT_OUT),
     ]
     for experiment, runs in zip(EXPERIMENTS, results):
         groups = grouped(runs)
-        measured = runs[0]["simulated_s"]
-        lines += ["", f"## {experiment.title}", "", *wrapped(f"`sim/{experiment.file}`, {measured:g} s. {experiment.differs}"), ""]
+        lines += ["", f"## {experiment.title}", "", *wrapped(f"{length(experiment, runs[0])} {experiment.differs}"), ""]
         lines += (experiment.table or by_path)(experiment, groups)
         if has_pictures and experiment.figures:
             lines += ["", *(f"![{experiment.title}: {kind}]({name_of(experiment, kind)}.svg)" for kind in experiment.figures)]
     return "\n".join(lines) + "\n"
+
+
+def length(experiment: Experiment, run: Numbers) -> str:
+    """The scenario of an experiment, and how long a run of it is."""
+    warmup = experiment.points(None)[0].scenario.warmup
+    return f"`sim/{experiment.file}`, {run['simulated_s']:g} s, of which the first {warmup:g} s are not counted."
 
 
 def wrapped(text: str) -> list[str]:

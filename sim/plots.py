@@ -5,46 +5,38 @@ from collections.abc import Callable, Sequence
 
 from .measure import FlowResult, Result, StationResult
 from .scenario import Scenario
+from .styles import FLOWS, Style, styles_of
 from .svg import Axis, Entry, Picture, linear, logarithmic
 
-# The colours of Okabe and Ito, which people with each kind of colour vision can tell apart.
-COLOURS = {"fifo": "#d55e00", "fq_codel": "#e69f00", "fq_mac": "#cc79a7", "one_list": "#56b4e9", "airtime": "#0072b2"}
-OTHERS = ["#009e73", "#000000", "#f0e442", "#999999"]  # for a path that runs once more with other settings
-SERIES = ["#0072b2", "#e69f00", "#009e73", "#d55e00", "#cc79a7", "#56b4e9"]  # for flows, if colours tell these apart
 DASHES = ["", "6 3", "2 2", "8 3 2 3"]  # one for each flow
 MOST_POINTS = 200  # of a curve
 MOST_MARKS = 600  # points of a flow in time
 MOST_LABELS = 16  # groups of bars that get labels
 
-Drawn = tuple[Result, str, FlowResult, str]  # a run and its colour, one of its flows and the dash of that
+Drawn = tuple[Result, Style, FlowResult, str]  # a run and its style, one of its flows and the dash of that
 
 
-def colours(results: Sequence[Result]) -> list[str]:
-    """A colour for each run: its model's, or another if the model had a run before."""
-    chosen: list[str] = []
-    others = list(OTHERS)
-    for result in results:
-        own = COLOURS[result.model]
-        chosen.append(own if own not in chosen else others.pop(0) if others else "#444444")
-    return chosen
+def styles(results: Sequence[Result]) -> list[Style]:
+    """The style of each run."""
+    return styles_of([result.label for result in results])
 
 
 def bars(scenario: Scenario, results: Sequence[Result], up_name: str, value: Callable[[StationResult], float]) -> str:
     """A group of bars for each station, a bar for each run."""
     names = [station.name for station in scenario.stations]
     values = [[value(one) for one in result.stations] for result in results]
-    legend: list[Entry] = [(result.label, colour, None) for result, colour in zip(results, colours(results))]
+    legend = [Entry(result.label, style) for result, style in zip(results, styles(results))]
     few = len(names) <= MOST_LABELS
     across = Axis("" if few else "station, by number", 0, len(names), [])
     picture = Picture(scenario.title, scenario.note, across, linear(up_name, 1.05 * max(max(one) for one in values)), legend)
     for group, name in enumerate(names):
         if few or group % 5 == 0:
             picture.text(picture.x(group + 0.5), picture.y(0) + 16, name if few else str(group))
-        for nth, colour in enumerate(colours(results)):
+        for nth, style in enumerate(styles(results)):
             left = group + 0.08 + 0.84 * nth / len(results)
             height = values[nth][group]
             label = f"{height:.1f}" if len(names) * len(results) <= MOST_LABELS else None
-            picture.bar(left, left + 0.84 / len(results) * 0.94, height, colour, label)
+            picture.bar(left, left + 0.84 / len(results) * 0.94, height, style, label)
     return picture.svg()
 
 
@@ -57,11 +49,11 @@ def throughput(scenario: Scenario, results: Sequence[Result]) -> str:
 
 
 def drawn_flows(scenario: Scenario, results: Sequence[Result]) -> list[Drawn]:
-    """The flows that pictures of delays show and that have some: the run gives the colour, the flow the dash."""
+    """The flows that pictures of delays show and that have some: the run gives the style, the flow the dash."""
     drawn = []
-    for result, colour in zip(results, colours(results)):
+    for result, style in zip(results, styles(results)):
         flows = [one for one in result.flows if one.delays and scenario.shows(one.flow)]
-        drawn += [(result, colour, one, DASHES[nth % len(DASHES)]) for nth, one in enumerate(flows)]
+        drawn += [(result, style, one, DASHES[nth % len(DASHES)]) for nth, one in enumerate(flows)]
     return drawn
 
 
@@ -95,21 +87,21 @@ def delay(scenario: Scenario, results: Sequence[Result]) -> str:
         scenario.note,
         logarithmic(delay_name(drawn), max(least, 100) / 1000, max(most, 100) / 1000),
         Axis("share of the frames", 0, 1, [0, 0.25, 0.5, 0.75, 1]),
-        [(label(result, one, drawn), colour, dash) for result, colour, one, dash in drawn],
+        [Entry(label(result, one, drawn), style, "curve", dash) for result, style, one, dash in drawn],
     )
-    for _, colour, one, dash in drawn:
-        picture.curve(distribution(one.delays), colour, dash)
+    for _, style, one, dash in drawn:
+        picture.curve(distribution(one.delays), style, dash)
     return picture.svg()
 
 
 def in_time(scenario: Scenario, results: Sequence[Result]) -> str:
-    """The delay of each frame by when it came; each run and flow has its own colour."""
+    """The delay of each frame by when it came; each run and flow has its own style."""
     drawn = drawn_flows(scenario, results)
-    palette = [colour for _, colour, _, _ in drawn]
+    palette = [style for _, style, _, _ in drawn]
     if len(set(palette)) < len(palette):
-        palette = [SERIES[nth % len(SERIES)] for nth in range(len(drawn))]
+        palette = [FLOWS[nth % len(FLOWS)] for nth in range(len(drawn))]
     longest = max((one.delays[-1] for _, _, one, _ in drawn), default=1000)
-    legend: list[Entry] = [(label(result, one, drawn), colour, None) for (result, _, one, _), colour in zip(drawn, palette)]
+    legend = [Entry(label(result, one, drawn), style, "points") for (result, _, one, _), style in zip(drawn, palette)]
     picture = Picture(
         scenario.title,
         scenario.note,
@@ -117,10 +109,10 @@ def in_time(scenario: Scenario, results: Sequence[Result]) -> str:
         linear(delay_name(drawn), 1.05 * longest / 1000),
         legend,
     )
-    for (_, _, one, _), colour in zip(drawn, palette):
+    for (_, _, one, _), style in zip(drawn, palette):
         points = one.points()
         points = points[:: max(1, len(points) // MOST_MARKS)]
-        picture.points([(came / 1e6, waited / 1000) for came, waited in points], colour)
+        picture.points([(came / 1e6, waited / 1000) for came, waited in points], style)
     return picture.svg()
 
 

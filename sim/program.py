@@ -4,13 +4,16 @@ from __future__ import annotations
 import contextlib
 import os
 import pathlib
+import shutil
 import subprocess
 from collections.abc import Sequence
 from typing import IO, TextIO
 
 from .fields import Fault
 
-TOP = pathlib.Path(__file__).resolve().parent.parent
+FOLDER = pathlib.Path(__file__).resolve().parent  # of the bench
+TOP = FOLDER.parent  # of the checkout, or of the installed package wfpath
+SCRIPT = TOP / "wf" if (TOP / "wf").is_file() else None  # the script of the checkout
 MOST_CALLS = (4294967295, 1048576)  # the greatest `calls` that some program takes, greatest first
 BATCH = 512  # lines written before their answers are read: far less than a pipe holds, both ways
 
@@ -20,15 +23,24 @@ class OutOfCalls(Exception):
 
 
 def find() -> tuple[str, str] | None:
-    """The kind of the program (proved, unproved or named) and its path, as `./wf which` says; None if there is none."""
-    done = subprocess.run([TOP / "wf", "which"], stdout=subprocess.PIPE, stderr=subprocess.DEVNULL, text=True, check=False)
+    """The kind of the program and its path, as `./wf which` says (proved, unproved or named); None if there is none.
+
+    Without a checkout it is the one that WF_PROGRAM names, or the one on the PATH, which is called installed.
+    """
+    if SCRIPT is None:
+        named = os.environ.get("WF_PROGRAM")
+        path = shutil.which(named or "wf")
+        return ("named" if named else "installed", path) if path else None
+    done = subprocess.run([SCRIPT, "which"], stdout=subprocess.PIPE, stderr=subprocess.DEVNULL, text=True, check=False)
     kind, _, path = done.stdout.strip().partition(" ")
     return (kind, path) if done.returncode == 0 else None
 
 
 def build() -> tuple[str, str] | None:
-    """Has the unproved program built, and returns what `find` then does."""
-    subprocess.run([TOP / "wf", "build", "--unproved"], check=False)
+    """Has the unproved program built, and returns what `find` then does. Without a checkout, nothing is built."""
+    if SCRIPT is None:
+        return None
+    subprocess.run([SCRIPT, "build", "--unproved"], check=False)
     return find()
 
 

@@ -15,15 +15,14 @@ from typing import TextIO
 
 from . import library
 from .bench import Bench
-from .cell import Cell, NoRoom
 from .exports import Numbers, run_numbers
 from .fields import Fault
 from .frames import Path
 from .keep import Store, key
-from .machine import Machine
+from .machine import Machine, NoRoom
 from .measure import Result, measure
 from .models import MODELS, Choice
-from .program import build, describe, find, most_calls
+from .program import SCRIPT, build, describe, find, most_calls
 from .progress import Progress
 from .scenario import Scenario
 
@@ -32,28 +31,40 @@ Within = Callable[[int], None]  # is called with the simulated time
 
 @dataclass(frozen=True)
 class Program:
-    """The machine: the program's file, how tables name what decides, the most calls of one trace, and the library, if it decides."""
+    """The machine: the program's file, how tables name what decides, the most calls of one run, and the library's file, if it decides.
 
-    path: str
+    At least one of the two files is there.
+    """
+
+    path: str | None
     description: str
     calls: int
-    library: str | None = None  # the shared object
+    library: str | None = None
+
+    @property
+    def decides(self) -> str:
+        """The file that stands for the machine among the results that are kept."""
+        found = self.path or self.library
+        assert found is not None
+        return found
 
 
 def find_program(report: Callable[[str], None]) -> Program:
     """The program that `./wf which` names; the unproved one is built if there is none. A line says which it is.
 
-    If a library is built from the same sources, and is proved if the program is, it decides in the program's place.
+    If a library is built from the same sources, and is proved if the program is, it decides in the program's place. Without a checkout,
+    the library of wfpath decides, and an installed program is for traces and for runs with more calls.
     """
-    found = find() or build()
-    if found is None:
+    found, inside = find() or build(), library.find()
+    if inside and (found[0] in (inside[0], "installed") if found else SCRIPT is None):
+        described = describe(*inside, "library")
+        made = Program(found[1] if found else None, described, most_calls(found[1]) if found else library.most_calls(), inside[1])
+    elif found:
+        made = Program(found[1], describe(*found), most_calls(found[1]))
+    else:
         raise Fault("no program is built from these sources: build one by './wf build --unproved'")
-    kind, path = found
-    archive = library.find() if kind != "named" else None
-    shared = library.shared(archive[1]) if archive and archive[0] == kind else None
-    description = describe(kind, archive[1], "library") if archive and shared else describe(kind, path)
-    report(f"by {description}")
-    return Program(path, description, most_calls(path), shared)
+    report(f"by {made.description}")
+    return made
 
 
 @dataclass
@@ -74,7 +85,7 @@ class Job:
 
     @property
     def key(self) -> str:
-        return key(self.scenario, self.choice.label, self.program.path if self.program else None, self.until)
+        return key(self.scenario, self.choice.label, self.program.decides if self.program else None, self.until)
 
 
 def paths_of(job: Job, trace: TextIO | None) -> list[Callable[[Scenario], Path]]:
@@ -82,10 +93,16 @@ def paths_of(job: Job, trace: TextIO | None) -> list[Callable[[Scenario], Path]]
     program = job.program
     if not job.choice.is_machine or program is None:
         return [MODELS[job.choice.name]]
-    pipe = functools.partial(Machine, program=program.path, calls=program.calls, copy=trace)
-    if program.library is None or trace is not None:
-        return [pipe]
-    return [functools.partial(Cell, library=library.loaded(program.library), calls=program.calls), pipe]
+    ways: list[Callable[[Scenario], Path]] = []
+    if program.library is not None and trace is None and library.raw() is not None:
+        from .cell import Cell  # it imports wfpath, which there may not be
+
+        ways.append(functools.partial(Cell, library=program.library, calls=program.calls))
+    if program.path is not None:
+        ways.append(functools.partial(Machine, program=program.path, calls=program.calls, copy=trace))
+    if not ways:
+        raise Fault("a trace needs a program: expected wf on the PATH, or WF_PROGRAM with its path")
+    return ways
 
 
 def run_one(job: Job, trace: TextIO | None = None, within: Within | None = None) -> Result:

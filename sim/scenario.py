@@ -140,6 +140,7 @@ class Scenario:
 
     def with_settings(self, changed: Mapping[str, int]) -> Scenario:
         """The same scenario with other settings of the machine or of the models."""
+        air = replace(self.air, inflight=changed.get("inflight", self.air.inflight))
         models = {name: value for name, value in changed.items() if name in MODEL_SETTINGS}
-        machine = {name: value for name, value in changed.items() if name not in MODEL_SETTINGS}
-        return replace(self, settings={**self.settings, **machine}, models={**self.models, **models})
+        machine = {name: value for name, value in changed.items() if name not in models and name != "inflight"}
+        return replace(self, air=air, settings={**self.settings, **machine}, models={**self.models, **models})

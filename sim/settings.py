@@ -7,6 +7,17 @@ from dataclasses import dataclass
 from pathlib import Path
 
 SOURCE = Path(__file__).resolve().parent / "settings.json"
+# Settings that belong together, by the name that `--compare airtime:NAME` gives them. docs/SIM.md says what each is for.
+PRESETS: dict[str, dict[str, int]] = {
+    "device": {
+        "inflight": 4,
+        "charge": 65_535,
+        "debt": 20_000,
+        "aql_total": 24_000,
+        "keep_order": 1,
+        "codel_reset": 1,
+    },
+}
 
 
 @dataclass(frozen=True)

@@ -4,7 +4,9 @@ from __future__ import annotations
 import math
 from collections.abc import Iterable, Sequence
 from dataclasses import dataclass, field
-from xml.sax.saxutils import escape
+from html import escape
+
+from .styles import Style
 
 WIDTH, HEIGHT = 680, 400
 LEFT, RIGHT, TOP = 64, 20, 60
@@ -13,9 +15,40 @@ LEGEND_ROW = 20
 CHARACTER = 6.4  # about the width of one at size 12
 LINE = 106  # characters of a note in one line
 
+TILE = 6  # the width of the square that a hatch repeats
+HATCHES = {  # by the name of a hatch, the lines in its square
+    "//": "M0 6L6 0",
+    "\\\\": "M0 0L6 6",
+    "xx": "M0 6L6 0M0 0L6 6",
+    "..": "M2 3h2",
+    "||": "M3 0v6",
+    "--": "M0 3h6",
+}
+MARKS = {  # by the name of a mark, its outline from its middle on
+    "o": "m-3.5 0a3.5 3.5 0 1 0 7 0a3.5 3.5 0 1 0 -7 0z",
+    "s": "m-3.2 -3.2h6.4v6.4h-6.4z",
+    "^": "m0 -4l3.8 6.6h-7.6z",
+    "v": "m0 4l3.8 -6.6h-7.6z",
+    "D": "m0 -4.4l4.4 4.4l-4.4 4.4l-4.4 -4.4z",
+    "P": "m-1.2 -3.8h2.4v2.6h2.6v2.4h-2.6v2.6h-2.4v-2.6h-2.6v-2.4h2.6z",
+}
+POINTS = {"o": "h0", "D": "m-2.5 0h5", "s": "m0 -2.5v5", "^": "m-2 -2l4 4", "v": "m-2 2l4 -4"}  # small marks, of which there are many
+MARKED = (0.1, 0.3, 0.5, 0.7, 0.9)  # parts of a curve at which it has marks
+
 Pairs = Iterable[tuple[float, float]]
-Entry = tuple[str, str, str | None]  # a legend's words, its colour, and its dash; None for a square
-Placed = tuple[float, str, str, str | None]
+
+
+@dataclass(frozen=True)
+class Entry:
+    """An entry of the legend: its words, and a bar, a curve or points of a style."""
+
+    words: str
+    style: Style
+    kind: str = "bar"
+    dash: str = ""
+
+
+Placed = tuple[float, Entry]
 
 
 def number(value: float) -> str:
@@ -66,8 +99,8 @@ def logarithmic(name: str, low: float, high: float) -> Axis:
 
 def tag(name: str, text: str | None = None, **attributes: object) -> str:
     """An element with attributes; `_` in their names is `-`."""
-    words = "".join(f' {key.replace("_", "-")}="{escape(str(value), {chr(34): "&quot;"})}"' for key, value in attributes.items())
-    return f"<{name}{words}/>" if text is None else f"<{name}{words}>{escape(text)}</{name}>"
+    words = "".join(f' {key.replace("_", "-")}="{escape(str(value))}"' for key, value in attributes.items())
+    return f"<{name}{words}/>" if text is None else f"<{name}{words}>{escape(text, quote=False)}</{name}>"
 
 
 @dataclass
@@ -80,6 +113,7 @@ class Picture:
     up: Axis
     legend: Sequence[Entry]
     parts: list[str] = field(default_factory=list)
+    hatches: set[str] = field(default_factory=set)  # the names of those that are defined
 
     def __post_init__(self) -> None:
         rows = self.legend_rows()
@@ -95,9 +129,9 @@ class Picture:
 
     def legend_rows(self) -> list[list[Placed]]:
         """The legend's entries in rows that fit the picture, in columns of one width, each with its place across."""
-        wide = max((46 + CHARACTER * len(words) for words, _, _ in self.legend), default=float(WIDTH))
+        wide = max((46 + CHARACTER * len(entry.words) for entry in self.legend), default=float(WIDTH))
         columns = max(1, int((WIDTH - LEFT - RIGHT) / wide))
-        placed = [(LEFT + wide * (nth % columns), *entry) for nth, entry in enumerate(self.legend)]
+        placed = [(LEFT + wide * (nth % columns), entry) for nth, entry in enumerate(self.legend)]
         return [placed[first : first + columns] for first in range(0, len(placed), columns)]
 
     def x(self, value: float) -> float:
@@ -132,30 +166,63 @@ class Picture:
         self.text((WIDTH + LEFT - RIGHT) / 2, base + 34, self.across.name)
 
     def draw_legend(self, row: Sequence[Placed], y: float) -> None:
-        for x, words, colour, dash in row:
-            if dash is None:
-                self.parts.append(tag("rect", x=number(x), y=number(y - 9), width=14, height=10, fill=colour))
+        for x, entry in row:
+            if entry.kind == "bar":
+                self.box(x, y - 9, 14, 10, entry.style)
+            elif entry.kind == "curve":
+                self.line(x, y - 4, x + 22, y - 4, entry.style.colour, 2, entry.dash)
+                self.mark(x + 11, y - 4, entry.style)
             else:
-                self.line(x, y - 4, x + 22, y - 4, colour, 2, dash)
-            self.text(x + 26, y, words, anchor="start")
+                self.small_marks([f"{number(x + place)} {number(y - 4)}" for place in (4, 11, 18)], entry.style)
+            self.text(x + 26, y, entry.words, anchor="start")
 
-    def bar(self, left: float, right: float, value: float, colour: str, label: str | None = None) -> None:
+    def fill(self, style: Style) -> str:
+        """The fill of a bar. A hatch is defined where a picture needs it first; equal definitions have the same name."""
+        if not style.hatch:
+            return style.colour
+        name = f"hatch-{style.colour[1:]}"
+        if name not in self.hatches:
+            self.hatches.add(name)
+            inside = tag("rect", width=TILE, height=TILE, fill=style.colour) + tag("path", d=HATCHES[style.hatch], stroke="black", stroke_width=0.8)
+            self.parts.append(f'<pattern id="{name}" width="{TILE}" height="{TILE}" patternUnits="userSpaceOnUse">{inside}</pattern>')
+        return f"url(#{name})"
+
+    def box(self, x: float, y: float, width: float, height: float, style: Style) -> None:
+        """A box with the hatch and the colour of a style."""
+        places = {"x": number(x), "y": number(y), "width": number(width), "height": number(height)}
+        self.parts.append(tag("rect", **places, fill=self.fill(style), stroke="black", stroke_width=0.5))
+
+    def bar(self, left: float, right: float, value: float, style: Style, label: str | None = None) -> None:
         """A bar between two places across, with its value above it if a label is given."""
         x, y, base = self.x(left), self.y(value), self.y(self.up.low)
-        self.parts.append(tag("rect", x=number(x), y=number(y), width=number(self.x(right) - x), height=number(base - y), fill=colour))
+        self.box(x, y, self.x(right) - x, base - y, style)
         if label:
             self.text((x + self.x(right)) / 2, y - 4, label, size=10)
 
-    def curve(self, pairs: Pairs, colour: str, dash: str = "") -> None:
-        dashes = {"stroke_dasharray": dash} if dash else {}
-        path = " ".join(f"{number(self.x(x))},{number(self.y(y))}" for x, y in pairs)
-        self.parts.append(tag("polyline", points=path, fill="none", stroke=colour, stroke_width=1.8, **dashes))
+    def mark(self, x: float, y: float, style: Style) -> None:
+        """The mark of a style."""
+        outline = MARKS.get(style.mark, MARKS["o"])
+        self.parts.append(tag("path", d=f"M{number(x)} {number(y)}{outline}", fill=style.colour, stroke="black", stroke_width=0.7))
 
-    def points(self, pairs: Pairs, colour: str) -> None:
-        """A mark at each place, each place once."""
-        places = dict.fromkeys(f"{number(self.x(x))} {number(self.y(y))}" for x, y in pairs)
-        path = "".join(f"M{place}h0" for place in places)
-        self.parts.append(tag("path", d=path, stroke=colour, stroke_width=3.2, stroke_linecap="round"))
+    def curve(self, pairs: Pairs, style: Style, dash: str = "") -> None:
+        """A line with some marks."""
+        dashes = {"stroke_dasharray": dash} if dash else {}
+        places = [(self.x(x), self.y(y)) for x, y in pairs]
+        path = " ".join(f"{number(x)},{number(y)}" for x, y in places)
+        self.parts.append(tag("polyline", points=path, fill="none", stroke=style.colour, stroke_width=1.8, **dashes))
+        for place in dict.fromkeys(int(part * (len(places) - 1)) for part in MARKED):
+            self.mark(*places[place], style)
+
+    def points(self, pairs: Pairs, style: Style) -> None:
+        """A small mark at each place, each place once."""
+        self.small_marks(list(dict.fromkeys(f"{number(self.x(x))} {number(self.y(y))}" for x, y in pairs)), style)
+
+    def small_marks(self, places: Sequence[str], style: Style) -> None:
+        """Small marks: dots, or lines of a direction."""
+        form = POINTS.get(style.mark, POINTS["o"])
+        width = 3.2 if form == POINTS["o"] else 1.6
+        path = "".join(f"M{place}{form}" for place in places)
+        self.parts.append(tag("path", d=path, fill="none", stroke=style.colour, stroke_width=width, stroke_linecap="round"))
 
     def svg(self) -> str:
         return "\n".join([*self.parts, "</svg>", ""])

@@ -5,8 +5,9 @@ import itertools
 import math
 import random
 from abc import ABC, abstractmethod
+from bisect import bisect_left
 from collections import deque
-from collections.abc import Callable, Iterator
+from collections.abc import Callable, Iterable, Iterator
 
 from .frames import CLASS_OF_TID, Frame
 from .scenario import Flow
@@ -16,8 +17,8 @@ SECOND = 1_000_000
 HEADERS = 60  # octets of a frame of TCP before its data: LLC 8, IPv4 20, TCP with timestamps 32
 LEAST_TIMEOUT = 200_000  # microseconds, as in Linux
 MOST_TIMEOUT = 60_000_000
-BLOCK = 256  # sizes of frames that are drawn at once
-END: tuple[int | None, int] = (None, 0)  # the time and the octets after a flow's last frame
+BLOCK = 256  # frames that are drawn at once
+Arrival = tuple[int, int, int, int]  # of a frame: the microsecond, the number of its flow, its place in the flow, and its octets
 
 
 class Source(ABC):
@@ -47,43 +48,37 @@ class Timed(Source):
 
     def __init__(self, flow: Flow, seed: int) -> None:
         super().__init__(flow, seed)
-        is_random = flow.kind in ("flood_mbit", "poisson_per_s")
-        self.coming = zip(self.random_times() if is_random else self.regular_times(), self.sizes())
-        self.at, self.next_size = next(self.coming, END)
+        self.is_random = flow.kind in ("flood_mbit", "poisson_per_s")
 
-    def random_times(self) -> Iterator[int]:
-        """The whole microseconds of frames at random times, until the flow's stop."""
-        at, stop, every, draw = float(self.start), self.flow.stop, self.flow.every, self.random.random
-        while True:
-            at -= math.log(1.0 - draw()) * every
-            if at >= stop:
+    def blocks(self) -> Iterator[list[Arrival]]:
+        """The arrivals until the flow's stop, in blocks: to draw many together is faster than one by one."""
+        order, number, stop = 1, self.flow.number, self.flow.stop
+        for times, sizes in self.random_blocks() if self.is_random else self.regular_blocks():
+            count = bisect_left(times, stop)
+            yield list(zip(map(int, times[:count]), itertools.repeat(number), itertools.count(order), sizes))
+            if count < BLOCK:
                 return
-            yield int(at)
+            order += BLOCK
 
-    def regular_times(self) -> Iterator[int]:
-        """The whole microseconds of frames at equal distances after the burst, until the flow's stop."""
-        for nth in itertools.count(1 - self.flow.burst):
-            at = self.start + max(nth, 0) * self.flow.every
-            if at >= self.flow.stop:
-                return
-            yield int(at)
-
-    def sizes(self) -> Iterator[int]:
-        """The octets of frames. They are drawn in blocks, which is faster than one by one."""
-        if len(self.octets) == 1:
-            yield from itertools.repeat(self.octets[0])
+    def random_blocks(self) -> Iterator[tuple[list[float], Iterable[int]]]:
+        """The microseconds and the octets of frames at random times, without an end."""
+        every, draw, log = self.flow.every, self.random.random, math.log
+        following = self.start - log(1.0 - draw()) * every
         while True:
-            yield from self.random.choices(self.octets, self.weights, k=BLOCK)
+            sizes = self.block_of_sizes()
+            times = list(itertools.accumulate((-log(1.0 - draw()) * every for _ in range(BLOCK)), initial=following))
+            following = times.pop()
+            yield times, sizes
 
-    def next_time(self) -> int | None:
-        """The whole microsecond of the next frame, or None after the flow's stop."""
-        return self.at
+    def regular_blocks(self) -> Iterator[tuple[list[float], Iterable[int]]]:
+        """The microseconds and the octets of frames at equal distances after the burst, without an end."""
+        start, every = self.start, self.flow.every
+        for first in itertools.count(1 - self.flow.burst, BLOCK):
+            yield [start + max(nth, 0) * every for nth in range(first, first + BLOCK)], self.block_of_sizes()
 
-    def frame(self, now: int) -> Frame:
-        self.count += 1
-        made = Frame(self.flow, now, self.next_size, self.count)
-        self.at, self.next_size = next(self.coming, END)
-        return made
+    def block_of_sizes(self) -> Iterable[int]:
+        """The octets of a block of frames."""
+        return itertools.repeat(self.octets[0]) if len(self.octets) == 1 else self.random.choices(self.octets, self.weights, k=BLOCK)
 
 
 class Eager(Source):

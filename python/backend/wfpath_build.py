@@ -1,8 +1,11 @@
 """Builds the wheel of the package wfpath for pip, with the standard library only (PEP 517 and PEP 660).
 
-The wheel contains the modules of python/wfpath and the shared library that './wf lib' built last from these
-sources. If there is none, it contains the library that './wf install' put below a folder that pkg-config
-knows.
+The wheel contains the modules of python/wfpath, the bench of sim/ as wfpath.sim, and the shared library that
+'./wf lib' built last from these sources. If there is none, it contains the library that './wf install' put
+below a folder that pkg-config knows.
+
+`python3 wfpath_build.py FOLDER LIBRARY NAME` writes the wheel with another library, which gets this name in
+it. `./wf dist` does so.
 """
 from __future__ import annotations
 
@@ -11,12 +14,16 @@ import hashlib
 import os
 import shutil
 import subprocess
+import sys
 import sysconfig
 import zipfile
 from pathlib import Path
 
 TOP = Path(__file__).resolve().parents[2]
 PACKAGE = TOP / "python" / "wfpath"
+BENCH = TOP / "sim"
+# The files of the bench: its modules, the machine's settings, and the scenarios that come with it.
+BENCH_FILES = ("*.py", "*.json", "baselines/*.py", "paper/*.toml", "scenarios/*.toml")
 NAMES = {"yes": "libwf.so", "no": "libwf.unproved.so"}
 FIRST_DAY = (1980, 1, 1, 0, 0, 0)
 HOW = (
@@ -29,6 +36,10 @@ Version: {version}
 Summary: The transmit path of a Wi-Fi access point: a thin layer over the library libwf
 License: MIT OR Apache-2.0
 Requires-Python: >=3.9
+Provides-Extra: figures
+Requires-Dist: matplotlib; extra == "figures"
+Provides-Extra: tables
+Requires-Dist: pandas; extra == "tables"
 """
 WHEEL = """Wheel-Version: 1.0
 Generator: wfpath_build
@@ -80,11 +91,13 @@ def tag() -> str:
     return "py3-none-" + sysconfig.get_platform().replace("-", "_").replace(".", "_")
 
 
-def package_files() -> dict[str, bytes]:
-    """Returns the content of each file of the package, and of the library, by their names in the wheel."""
+def package_files(path: Path, name: str) -> dict[str, bytes]:
+    """Returns the content of each file of the package, and of a library with its name there, by their names
+    in the wheel."""
     modules = [path for path in sorted(PACKAGE.iterdir()) if path.suffix in (".py", ".typed")]
     files = {f"wfpath/{path.name}": path.read_bytes() for path in modules}
-    path, name = library()
+    parts = [part for form in BENCH_FILES for part in sorted(BENCH.glob(form))]
+    files.update({f"wfpath/sim/{part.relative_to(BENCH)}": part.read_bytes() for part in parts})
     files[f"wfpath/{name}"] = path.read_bytes()
     return files
 
@@ -119,7 +132,7 @@ def build_wheel(
     metadata_directory: str | None = None,
 ) -> str:
     """Writes the wheel of the package. pip calls this function."""
-    return write_wheel(wheel_directory, package_files())
+    return write_wheel(wheel_directory, package_files(*library()))
 
 
 def build_editable(
@@ -127,5 +140,10 @@ def build_editable(
     config_settings: dict[str, object] | None = None,
     metadata_directory: str | None = None,
 ) -> str:
-    """Writes a wheel that leads to the modules of this checkout. `pip install -e .` calls this function."""
-    return write_wheel(wheel_directory, {"wfpath.pth": f"{PACKAGE.parent}\n".encode()})
+    """Writes a wheel that leads to the modules of this checkout. `pip install -e .` calls this function. The bench
+    is then the package `sim`."""
+    return write_wheel(wheel_directory, {"wfpath.pth": f"{PACKAGE.parent}\n{TOP}\n".encode()})
+
+
+if __name__ == "__main__":
+    print(write_wheel(sys.argv[1], package_files(Path(sys.argv[2]), sys.argv[3])))

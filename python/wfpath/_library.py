@@ -8,6 +8,7 @@ from __future__ import annotations
 
 import ctypes
 import os
+from collections.abc import Sequence
 from pathlib import Path
 from typing import Any
 
@@ -89,9 +90,8 @@ def unchecked(path: str) -> ctypes.PyDLL:
     return library
 
 
-def load() -> Library:
-    """Loads the first library that there is."""
-    tried = places()
+def load_from(tried: Sequence[str]) -> Library:
+    """Loads the first library that there is of these."""
     for path in tried:
         found = opened(path)
         if found is not None:
@@ -160,4 +160,4 @@ def out_of_range(**given: tuple[int, int]) -> ValueError:
     return ValueError("an argument is out of its range")
 
 
-LIBRARY = load()
+LIBRARY = load_from(places())

@@ -161,6 +161,11 @@ class Settings:
     codel_reset: int = 0
     """Whether CoDel starts outside its dropping state when a queue joins a TID's list [0..1]."""
 
+    aql: int = 0
+    """Limit on the airtime in flight of one station in one class, in microseconds; 0 means no limit
+    [0..262144].
+    """
+
 
 # The range of each setting, in the order of their places.
 RANGES: dict[str, tuple[int, int]] = {
@@ -181,6 +186,7 @@ RANGES: dict[str, tuple[int, int]] = {
     "aql_total": (0, 262144),
     "keep_order": (0, 1),
     "codel_reset": (0, 1),
+    "aql": (0, 262144),
 }
 
 
@@ -215,9 +221,10 @@ class SettingsStruct(ctypes.Structure):
     aql_total: int
     keep_order: int
     codel_reset: int
+    aql: int
     reserved: ctypes.Array[ctypes.c_uint32]
 
-    LAYOUT = "@IIIIIIIIIIIIIIIII3I"
+    LAYOUT = "@IIIIIIIIIIIIIIIIII14I"
     _fields_ = [
         ("stations", ctypes.c_uint32),
         ("flows", ctypes.c_uint32),
@@ -236,7 +243,8 @@ class SettingsStruct(ctypes.Structure):
         ("aql_total", ctypes.c_uint32),
         ("keep_order", ctypes.c_uint32),
         ("codel_reset", ctypes.c_uint32),
-        ("reserved", ctypes.c_uint32 * 3),
+        ("aql", ctypes.c_uint32),
+        ("reserved", ctypes.c_uint32 * 14),
     ]
 
 
@@ -546,7 +554,7 @@ FUNCTIONS: dict[str, tuple[Any, tuple[Any, ...]]] = {
             ctypes.POINTER(ReplyStruct),
         ),
     ),
-    "wf_path_rate": (
+    "wf_path_rate_ht": (
         ctypes.c_int32,
         (
             ctypes.POINTER(PathStruct),

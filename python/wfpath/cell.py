@@ -12,6 +12,7 @@ from ._tables import AccessClass, CallKind, CallStruct, Form, Settings
 from .answers import CLASSES, Accepted, Block, Done, Exchange, Reaped
 from .errors import Nothing
 from .rates import Rate
+from .raw import Call
 
 _ask = QUICK.wf_cell_ask
 _enqueue = QUICK.wf_cell_enqueue
@@ -19,16 +20,6 @@ _reap = QUICK.wf_cell_reap
 _frames = QUICK.wf_cell_frames
 _released = QUICK.wf_cell_released
 _NOTHING = Nothing.code
-
-
-class _Call:
-    """A call whose struct is made once: only the fields that differ are written each time."""
-
-    __slots__ = ("struct", "at")
-
-    def __init__(self, kind: CallKind) -> None:
-        self.struct = CallStruct(kind=kind)
-        self.at = ctypes.byref(self.struct)
 
 
 class Cell(Handle):
@@ -42,7 +33,7 @@ class Cell(Handle):
 
     def __init__(self, settings: Settings | None = None, /, **fields: int) -> None:
         self._caller = 0
-        self._calls = {kind: _Call(kind) for kind in CallKind}
+        self._calls = {kind: Call(kind) for kind in CallKind}
         self._arrive, self._done = self._calls[CallKind.ARRIVE], self._calls[CallKind.DONE]
         self._up = tables.PassedUpStruct()
         self._up_at = ctypes.byref(self._up)
@@ -256,7 +247,7 @@ class Cell(Handle):
         if code:
             raise self._error(code)
 
-    def _code(self, call: _Call) -> int:
+    def _code(self, call: Call) -> int:
         """Makes a call, and returns its code."""
         return int(_ask(self._at, self._caller, call.at, self._reply_at))
 

@@ -247,11 +247,11 @@ class BadWeight(Refused):
 
 
 class Ahead(Refused):
-    """`owed` microseconds of computed airtime are in flight in all classes: `aql_total` or more."""
+    """`air` microseconds of computed airtime are in flight in all classes: `aql_total` or more."""
 
     code = 28
     word = "ahead"
-    about = "`owed` microseconds of computed airtime are in flight in all classes: `aql_total` or more"
+    about = "`air` microseconds of computed airtime are in flight in all classes: `aql_total` or more"
     field = "air"
 
 

@@ -61,7 +61,7 @@ class Path(Handle):
             other = {"streams": (streams, 8), "guard": (guard, 16)}
             raise out_of_range(station=(station, 16), mcs=(mcs, 8), mhz=(mhz, 8), **other)
         if form == Form.HT:
-            code = C.wf_path_rate(self._at, station, mcs, mhz, short, self._reply_at)
+            code = C.wf_path_rate_ht(self._at, station, mcs, mhz, short, self._reply_at)
         elif form == Form.VHT:
             code = C.wf_path_rate_vht(self._at, station, mcs, mhz, short, streams, self._reply_at)
         else:

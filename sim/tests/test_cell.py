@@ -2,14 +2,21 @@
 from __future__ import annotations
 
 import functools
+import importlib
+import io
+import os
+import subprocess
+import sys
 import unittest
 import unittest.mock
+from typing import Any
 
-from sim import cell, header, library
-from sim.cell import Cell, NoRoom
+from sim import library
 from sim.fields import Fault
+from sim.machine import Held, NoRoom
 from sim.models import choose
-from sim.runs import Job, Program, run_one
+from sim.program import TOP
+from sim.runs import Job, Program, find_program, run_one
 from sim.scenario import Scenario
 
 from .support import ONE_STATION, THREE_STATIONS, fates, machine, program, run, scenario
@@ -29,23 +36,32 @@ limit = 700
 
 
 @functools.cache
-def loaded() -> library.Library:
-    """The library; the test that asks is skipped if there is none."""
-    found = library.find()
-    shared = library.shared(found[1]) if found else None
-    if shared is None:
+def module() -> Any:
+    """The module sim.cell; the test that asks is skipped if there is no library."""
+    if library.find() is None:
         raise unittest.SkipTest("no library is built from these sources: build one by './wf lib --unproved'")
-    return library.loaded(shared)
+    return importlib.import_module("sim.cell")
 
 
-def inside(chosen: Scenario, calls: int = 1 << 22) -> Cell:
-    return Cell(chosen, loaded(), calls)
+def file() -> str:
+    """The library's file."""
+    module()
+    found = library.find()
+    assert found
+    return found[1]
+
+
+def inside(chosen: Scenario, calls: int = 1 << 22) -> Held:
+    made: Held = module().Cell(chosen, file(), calls)
+    return made
 
 
 class TheCell(unittest.TestCase):
     def test_it_gives_what_the_pipe_gives(self) -> None:
-        for text in (THREE_STATIONS, COMING_AND_GOING, SLEEPING, TCP, MIXED, THREE_STATIONS + "[air]\ncharge_access = true\n"):
-            chosen = scenario(text)
+        device = choose("airtime:device").settings
+        charged = THREE_STATIONS + "[air]\ncharge_access = true\n"
+        chosen_all = [scenario(text) for text in (THREE_STATIONS, COMING_AND_GOING, SLEEPING, TCP, MIXED, charged)]
+        for chosen in [*chosen_all, *(one.with_settings(device) for one in chosen_all)]:
             (ours, here), (theirs, there) = (run(chosen, path) for path in (inside(chosen), machine(chosen)))
             self.assertEqual(fates(ours), fates(theirs))
             self.assertEqual(here.calls, there.calls)
@@ -65,24 +81,47 @@ class TheCell(unittest.TestCase):
 
     def test_a_full_history_is_left_to_the_pipe(self) -> None:
         chosen = scenario(THREE_STATIONS)
-        with unittest.mock.patch.object(cell, "HISTORIES", (5000,)):
+        with unittest.mock.patch.object(module(), "HISTORIES", (5000,)):
             with self.assertRaises(NoRoom):
                 run(chosen, inside(chosen))
             path, calls = program()
-            job = Job(chosen, choose("airtime"), Program(path, "", calls, loaded().path), 1_000_000)
+            job = Job(chosen, choose("airtime"), Program(path, "", calls, file()), 1_000_000)
             self.assertEqual(run_one(job).calls, run(chosen, machine(chosen))[1].calls)
 
+    def test_a_full_history_without_a_program(self) -> None:
+        with unittest.mock.patch.object(module(), "HISTORIES", (5000,)), self.assertRaisesRegex(NoRoom, "more calls than the library"):
+            run_one(Job(scenario(THREE_STATIONS), choose("airtime"), Program(None, "", 1 << 22, file()), 1_000_000))
+
+    def test_a_trace_without_a_program(self) -> None:
+        with self.assertRaisesRegex(Fault, "a trace needs a program"):
+            run_one(Job(scenario(ONE_STATION), choose("airtime"), Program(None, "", 1 << 22, file()), 1_000_000), io.StringIO())
+
+    def test_which_decides(self) -> None:
+        path, library_file = program()[0], file()
+        patch = unittest.mock.patch
+        for found, kind, script, expected in (
+            (("unproved", path), "unproved", TOP / "wf", (path, library_file)),
+            (("proved", path), "unproved", TOP / "wf", (path, None)),
+            (("named", path), "unproved", None, (path, None)),
+            (("installed", path), "proved", None, (path, library_file)),
+            (None, "installed", None, (None, library_file)),
+        ):
+            inside = (kind, library_file)
+            with patch("sim.runs.find", return_value=found), patch("sim.runs.build", return_value=None), patch("sim.runs.SCRIPT", script):
+                with patch("sim.library.find", return_value=inside):
+                    chosen = find_program(lambda what: None)
+            self.assertEqual((chosen.path, chosen.library), expected)
+
     def test_no_memory_is_left_to_the_pipe(self) -> None:
-        with unittest.mock.patch.object(library.Library, "make", return_value=None), self.assertRaises(NoRoom):
+        found = module()
+        with unittest.mock.patch.object(found, "RawCell", side_effect=found.NoMemory), self.assertRaises(NoRoom):
             inside(scenario(ONE_STATION))
 
-    def test_the_header_is_read(self) -> None:
-        self.assertEqual(header.numbers()["WF_KIND_REFUSED"], 14)
-        self.assertEqual([name for name, *_ in header.struct("wf_packet")._fields_], ["body", "length", "tag", "flow", "source", "tid"])
-
-    def test_a_file_that_is_no_library(self) -> None:
-        with self.assertRaisesRegex(Fault, "is no library that can be loaded"):
-            library.Library("/dev/null")
+    def test_without_a_library_there_is_the_pipe(self) -> None:
+        told = "from sim import library; print(library.find())"
+        variables = {**os.environ, "PYTHONPATH": str(TOP), "WFPATH_LIBRARY": "/dev/null"}
+        done = subprocess.run([sys.executable, "-P", "-c", told], env=variables, capture_output=True, text=True, check=True)
+        self.assertEqual(done.stdout, "None\n")
 
 
 if __name__ == "__main__":

@@ -154,7 +154,9 @@ FAULTS = [  # a file's text, and what is reported after the file's name
 
 CHOICES = [
     ("codel", 'unknown path "codel": expected one of fifo, fq_codel, fq_mac, one_list, airtime'),
-    ("airtime:inflight=1", '"airtime:inflight=1": unknown setting "inflight": expected one of flows, limit, '),
+    ("airtime:stations=1", '"airtime:stations=1": unknown setting "stations": expected one of flows, limit, '),
+    ("fifo:device", '"fifo:device": device has settings of the machine: expected it after airtime alone'),
+    ("airtime:limit=1:device", '"airtime:limit=1:device": unknown setting "device": expected one of flows, limit, '),
     ("airtime:limit", 'limit = "": expected a whole number from 1 to 65535'),
     ("airtime:limit=0", 'limit = "0": expected a whole number from 1 to 65535'),
     ("airtime:limit=1:limit=2", '"airtime:limit=1:limit=2": limit is given twice'),

@@ -15,7 +15,8 @@ from sim.cli import main
 from sim.exports import run_numbers
 from sim.outputs import Outputs
 from sim.runs import repeated
-from sim.summary import Group
+from sim.styles import FLOWS, OTHERS, PATHS, styles_of
+from sim.svg import HATCHES
 
 from .support import ONE_STATION, run, scenario
 from .test_repeats import SHORT
@@ -59,13 +60,17 @@ class Drawing(unittest.TestCase):
         titles = [figures.axis_title(figures.FIGURES[2], group, shown) for shown in ([(0, "a")], [(1, "b")], [(0, "a"), (1, "b")])]
         self.assertEqual(titles, ["median one-way delay, ms", "median round-trip time, ms", "median delay, ms"])
 
-    def test_a_path_looks_the_same_in_every_figure(self) -> None:
-        def groups(*names: str) -> list[Group]:
-            return [[{"path": name, "parameters": {}}] for name in names]
+    def test_a_path_looks_the_same_in_every_picture(self) -> None:
+        other, another = OTHERS[:2]
+        self.assertEqual(styles_of(["one_list", "airtime"]), [PATHS["one_list"], PATHS["airtime"]])
+        self.assertEqual(styles_of(["fifo", "airtime agg=18", "airtime"]), [PATHS["fifo"], other, PATHS["airtime"]])
+        self.assertEqual(styles_of(["airtime limit=1", "airtime limit=2"]), [other, another])
+        self.assertEqual(len({(style.hatch, style.mark) for style in PATHS.values()}), len(PATHS))
+        for style in (*PATHS.values(), *OTHERS, *FLOWS):
+            self.assertTrue(not style.hatch or style.hatch in HATCHES, style)
 
-        self.assertEqual(figures.styles(groups("fifo", "fq_codel", "fq_mac", "airtime", "airtime agg=18")), [0, 1, 2, 3, 5])
-        self.assertEqual(figures.styles(groups("one_list", "airtime")), [4, 3])
-        self.assertEqual(figures.styles(groups("airtime limit=1", "airtime limit=2", "airtime")), [5, 6, 3])
+    def test_a_legend_has_rows_of_one_length(self) -> None:
+        self.assertEqual([figures.columns(entries) for entries in (1, 6, 7, 12, 13)], [1, 6, 4, 6, 5])
 
     def test_many_stations_are_boxes(self) -> None:
         many = scenario(ONE_STATION.replace("seconds = 1", "seconds = 0.02") + "[[station]]\ncount = 20\n")
@@ -74,7 +79,8 @@ class Drawing(unittest.TestCase):
         pyplot = unittest.mock.MagicMock()
         pyplot.subplots.return_value = unittest.mock.MagicMock(), axes
         figures.draw(pyplot, many, [[numbers]], figures.FIGURES[0])
-        self.assertEqual(len(axes.boxplot.call_args.args[0][0]), 21)
+        self.assertEqual(len(axes.boxplot.call_args.args[0][0]), 20)
+        self.assertEqual(axes.annotate.call_args.args[0], "a")  # the station that has a table of its own
 
 
 class Command(unittest.TestCase):

@@ -174,9 +174,10 @@ class TheMachine(unittest.TestCase):
 
     def test_the_run_ends_when_no_more_calls_are_taken(self) -> None:
         chosen = scenario(THREE_STATIONS + "[machine]\ncalls = 5000\n")
-        _, result = run(chosen, machine(chosen))
+        bench, result = run(chosen, machine(chosen))
         self.assertTrue(result.cut)
         self.assertLess(result.seconds, 1)
+        self.assertLessEqual(max(frame.came for frames in bench.frames for frame in frames), bench.clock.now)
         self.assertLessEqual(result.calls, 5000)
         self.assertGreater(result.calls, 4400)
 
@@ -186,6 +187,13 @@ class TheMachine(unittest.TestCase):
         delays = [frame.released - frame.came for frame in bench.frames[0] if frame.released is not None]
         # Frames come at 450, 650, .. ms; polls are at 600, 700, .. 1400 ms; it wakes at 1500 ms.
         self.assertEqual([round(delay / 1000) for delay in delays], [0, 50, 50, 50, 50, 50, 0, 0])
+
+    def test_a_class_that_waited_for_the_airtime_limit_sends_when_another_class_has_ended(self) -> None:
+        voice = '[[flow]]\nstation = "a"\ntid = 6\nevery_ms = 1000\nstart = 0.5\noffset_ms = 0\n'
+        chosen = scenario(ONE_STATION.replace("mbit = 10", "flood_mbit = 100") + voice + "[machine]\naql_total = 1\n")
+        _, result = run(chosen, machine(chosen))
+        self.assertEqual(len(result.flows[1].delays), 1)
+        self.assertLess(result.flows[1].delays[0], 20_000)
 
     def test_every_setting_is_accepted(self) -> None:
         chosen = scenario(ONE_STATION + "[machine]\ncharge = 5000\nflows = 512\nsleeping = 10\n")

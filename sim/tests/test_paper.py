@@ -41,7 +41,10 @@ class Pages(unittest.TestCase):
             self.assertIn(f"## {experiment.title}\n", written)
         self.assertIn("| `fifo` | slow | 79 | 200.0 ±248.4 | 5.1 | 5.3 | 2.0 ±2.5 | 2.0 ±2.5 |", written)
         self.assertIn("| `airtime agg=18` | fast 1 |  | 200.0", written)
-        self.assertEqual(written.count("| large | `"), 4)
+        self.assertEqual(written.count("| large | `"), len(paper.ALL))
+        for path in ("`airtime device`", "`one_list`"):
+            self.assertIn(f"\n| {path} | slow |", written)
+        self.assertIn("`sim/paper/tcp.toml`, 20 s, of which the first 5 s are not counted.", written)
         self.assertIn("mean over 3 seeds", " ".join(written.split()))
         self.assertLessEqual(max(len(line) for line in written.splitlines() if not line.startswith("|")), 110)
 

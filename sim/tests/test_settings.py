@@ -4,9 +4,11 @@ from __future__ import annotations
 import re
 import unittest
 
-from sim.models import bounds
+from sim.models import bounds, choose
 from sim.program import TOP
-from sim.settings import parse, settings
+from sim.settings import PRESETS, parse, settings
+
+from .support import ONE_STATION, scenario
 
 SOURCE = """[
     {"name": "flow_quantum", "least": 64, "most": 65535, "standard": 300, "about": "octets per flow visit"},
@@ -29,8 +31,27 @@ class Settings(unittest.TestCase):
         self.assertEqual(said[1].split(), ours)
 
     def test_a_comparison_takes_them(self) -> None:
-        self.assertEqual(set(settings()) - set(bounds()), {"inflight", "stations"})
+        self.assertEqual(set(settings()) - set(bounds()), {"stations"})
         self.assertIn("charge", bounds())
+
+
+class Presets(unittest.TestCase):
+    def test_each_value_is_in_its_range(self) -> None:
+        for name, preset in PRESETS.items():
+            for key, value in preset.items():
+                self.assertTrue(settings()[key].least <= value <= settings()[key].greatest, (name, key))
+
+    def test_the_page_has_each_setting(self) -> None:
+        page = (TOP / "docs" / "SIM.md").read_text(encoding="utf-8")
+        for key, value in PRESETS["device"].items():
+            self.assertTrue(f"\n| `{key}` | {value} |" in page, key)
+
+    def test_a_preset_replaces_settings_and_is_replaced(self) -> None:
+        one = scenario(ONE_STATION + "[machine]\ndebt = 5\nlimit = 9\n")
+        changed = one.with_settings(choose("airtime:device:keep_order=0").settings)
+        self.assertEqual((changed.air.inflight, changed.settings["debt"], changed.settings["keep_order"]), (4, 20_000, 0))
+        self.assertEqual((changed.settings["limit"], one.air.inflight), (9, 2))
+        self.assertEqual(choose("airtime:device:keep_order=0").label, "airtime device keep_order=0")
 
 
 if __name__ == "__main__":

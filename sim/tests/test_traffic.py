@@ -1,8 +1,10 @@
 """When frames of each kind of flow come, and what a window does about losses."""
 from __future__ import annotations
 
+import itertools
 import unittest
 
+from sim.arrivals import Arrivals
 from sim.baselines.fifo import Fifo
 from sim.bench import Bench
 from sim.frames import Frame
@@ -19,11 +21,7 @@ def flow(line: str) -> Flow:
 
 def times(source: Timed, count: int) -> list[int]:
     """The times of the first frames."""
-    found: list[int] = []
-    while (time := source.next_time()) is not None and len(found) < count:
-        found.append(time)
-        source.frame(time)
-    return found
+    return [time for time, *_ in itertools.islice(itertools.chain.from_iterable(source.blocks()), count)]
 
 
 class TimedFlows(unittest.TestCase):
@@ -70,9 +68,30 @@ class TimedFlows(unittest.TestCase):
     def test_sizes_come_by_their_weights(self) -> None:
         mixed = scenario(ONE_STATION.replace("size = 1500", "size = [[1500, 3], [100, 1]]")).flows[0]
         source = Timed(mixed, 1)
-        sizes = [source.frame(0).octets for _ in range(2000)]
+        sizes = [octets for *_, octets in itertools.islice(itertools.chain.from_iterable(source.blocks()), 2000)]
         self.assertEqual(set(sizes), {100, 1500})
         self.assertAlmostEqual(sizes.count(1500) / 2000, 0.75, delta=0.04)
+
+
+class Merged(unittest.TestCase):
+    def arrivals(self, *lines: str) -> list[tuple[int, int, int]]:
+        """The time, the flow and the order of all arrivals of flows of these kinds."""
+        flows = "".join(f'[[flow]]\nstation = "a"\noffset_ms = 0\n{line}\n' for line in lines[1:])
+        chosen = scenario(ONE_STATION.replace("mbit = 10", lines[0]) + flows)
+        merged, found = Arrivals([Timed(one, 1) for one in chosen.flows]), []
+        while (time := merged.next_time()) < 1_000_000:
+            some = merged.before(time + 1000)
+            merged.skip(len(some))
+            found += [(at, number, order) for at, number, order, _ in some]
+        return found
+
+    def test_all_come_once_in_the_order_of_time_and_of_flows(self) -> None:
+        found = self.arrivals("every_ms = 1\nburst = 1000\nstop = 0.5", "poisson_per_s = 2700", "every_ms = 100\nstop = 0.4", "mbit = 1\nstop = 0")
+        self.assertEqual(found, sorted(found))
+        counts = [sum(number == nth for _, number, _ in found) for nth in (1, 2, 3, 4)]
+        self.assertEqual((counts[0], counts[2], counts[3]), (1499, 4, 0))
+        self.assertAlmostEqual(counts[1], 2700, delta=200)
+        self.assertEqual([order for _, number, order in found if number == 1], list(range(1, 1500)))
 
 
 class Backlogs(unittest.TestCase):
