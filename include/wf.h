@@ -12,10 +12,11 @@
  * handle, and a handle may be moved by copying its bits if the old one is then zeroed. A `struct wf_cell` is
  * the same for a cell.
  *
- * Memory. `wf_path_make` allocates memory for the path, and `wf_path_enqueue` for one frame; `wf_cell_make`
- * and `wf_cell_enqueue` do the same for a cell. They call malloc, realloc and free of the program. These
- * three have to belong to one allocator, and have to align a block to each power of two up to 16 that divides
- * its size.
+ * Memory. `wf_path_make` allocates memory for the path, and `wf_path_enqueue` for one frame and its body;
+ * `wf_cell_make` and `wf_cell_enqueue` do the same for a cell. `wf_path_enqueue_bare` and the enqueues of
+ * `wf_path_burst` need memory for a frame only if none is left of what `wf_path_reserve` allocated before;
+ * those of a cell always do. They call malloc, realloc and free of the program. These three have to belong to
+ * one allocator, and have to align a block to each power of two up to 16 that divides its size.
  *
  * Threads. A handle may move from thread to thread, and threads may share one under one lock of theirs. Two
  * calls on one handle must not run at the same time, unless both are readers: a reader is a function that
@@ -43,7 +44,8 @@
  * Units. Times are in microseconds. Station numbers are 0 to `stations` - 1, and TIDs 0 to 7. The counts of a
  * path must stay below 2^62: the clock, the exchanges, the accepted frames, and each live station's airtime
  * in each class (wf_path_now, wf_path_exchanges, wf_path_tally, wf_path_share). wf_path_has_small_counts says
- * whether they are. This does not apply to cells.
+ * whether they are. Before wf_path_burst they must be below 2^61, and a burst has fewer than 2^32 calls. This
+ * does not apply to cells.
  *
  * Breaches. A handle that is never freed leaks what it holds. Every other breach is undefined behaviour:
  * - to use a handle while it is empty, to make one while it holds something, to free one twice, or to use a
@@ -52,11 +54,13 @@
  * - to use one handle in two functions at once, unless both are readers;
  * - a `length` or `room` above the size of the buffer: memory after the buffer is read or written;
  * - a struct with another layout, or another kind of platform;
- * - a null pointer, an overlap, a buffer that is not initialized, or a count that is not below 2^62.
+ * - a null pointer, an overlap, a buffer that is not initialized, or a count that is not below its limit.
  *
  * Not proved.
  * - That memory is ever available: by its contract, each function that allocates may return WF_NO_MEMORY.
- * - That no other function allocates. By the code none does.
+ *   It is proved that the next n calls of wf_path_enqueue_bare after wf_path_reserve of n never return it.
+ * - That no other function allocates, nor wf_path_enqueue_bare while memory is in reserve. By the code none
+ *   does.
  * - That a reader writes neither to the handle nor to what it holds: its contract says only that the value of
  *   what it holds is unchanged. By the code no reader writes. checks/c-library calls each of them on a handle
  *   in read-only memory.
@@ -97,8 +101,9 @@ extern "C" {
  * handle holds, nor the caller's structs and buffers. There are these exceptions:
  * - `reply` shows the refusal, if the code is 1 to 28, unless the comment of the function says that it is
  *   unchanged;
+ * - after a code of wf_path_burst or wf_cell_burst the first `made` calls are made;
  * - WF_FULL, WF_AHEAD and WF_IDLE set the count of wf_path_pull's `frames` to 0;
- * - WF_IDLE may have changed something of the path or the cell;
+ * - WF_IDLE may have changed something of the path or the cell, unless the setting `pending` is 1;
  * - a refused call of a cell is an entry of its history, except after WF_HISTORY_FULL;
  * - after each refusal of a cell, also WF_HISTORY_FULL, wf_cell_frames and wf_cell_released write the count 0,
  *   and wf_cell_block writes zeros;
@@ -150,8 +155,12 @@ enum wf_code {
   WF_NO_MEMORY = 40,    /* out of memory */
   WF_BAD_LENGTH = 41,   /* the body is empty, or longer than WF_GREATEST_BODY */
   WF_SMALL_BUFFER = 42, /* the buffer is too small */
-  WF_BAD_CALL = 43,     /* no call, a call that enqueues or reaps, or a rate of no format */
+  WF_BAD_CALL = 43,     /* no call, a rate of no format, a class above 3, or a call that the
+                         * function does not make */
   WF_BAD_ADDRESS = 44,  /* the address is a group address: the lowest bit of its first octet is set */
+  WF_NO_BODY = 45,      /* the frame has no octets: write its header (wf_path_header), and send the
+                         * body from its owner's buffer */
+  WF_BAD_CLASS = 47,    /* the class is above 3 */
   /* why octets are not a BlockAck to the exchange */
   WF_BLOCK_LENGTH = 51, /* not 28 octets, or, if the window is above 64, not 52 */
   WF_BLOCK_KIND = 52,   /* not a BlockAck */
@@ -167,7 +176,8 @@ enum wf_code {
   WF_BAD_SETTING = 100
 };
 
-/* The access classes: background, best effort, video and voice. Functions treat a number above 3 as WF_VO. */
+/* The access classes: background, best effort, video and voice. For a number above 3 wf_path_can_pull and
+ * wf_path_listed return 0, calls of a cell or a burst WF_BAD_CALL, and all other functions WF_BAD_CLASS. */
 enum wf_class { WF_BK = 0, WF_BE = 1, WF_VI = 2, WF_VO = 3 };
 
 /* The fates of frames. */
@@ -214,7 +224,7 @@ enum wf_call_kind {
   WF_CALL_RATE = 2,    /* station, form, mcs, mhz; HT: short_guard; VHT: short_guard and streams;
                         * HE: guard and streams */
   WF_CALL_TICK = 3,    /* by */
-  WF_CALL_ENQUEUE = 4, /* station, tid, flow, length; made by wf_cell_enqueue */
+  WF_CALL_ENQUEUE = 4, /* station, tid, flow, length; made by wf_cell_enqueue, or in a burst */
   WF_CALL_PULL = 5,    /* class_ */
   WF_CALL_ARRIVE = 6,  /* exchange, index */
   WF_CALL_ANSWER = 7,  /* exchange */
@@ -223,7 +233,7 @@ enum wf_call_kind {
   WF_CALL_WAKE = 10,   /* station */
   WF_CALL_POLL = 11,   /* station */
   WF_CALL_RX = 12,     /* station, class_, air */
-  WF_CALL_REAP = 13    /* made by wf_cell_reap */
+  WF_CALL_REAP = 13    /* made by wf_cell_reap, or in a burst */
   /* end calls */
 };
 
@@ -268,7 +278,9 @@ struct wf_settings {
                           * TID's list [0..1] */
   uint32_t aql;          /* limit on the airtime in flight of one station in one class, in
                           * microseconds; 0 means no limit [0..262144] */
-  uint32_t reserved[14]; /* for later settings: each has to be 0 */
+  uint32_t pending;      /* whether the airtime in flight counts against a station when a pull
+                          * picks one [0..1] */
+  uint32_t reserved[13]; /* for later settings: each has to be 0 */
   /* end settings */
 };
 
@@ -322,6 +334,15 @@ struct wf_packet {
   uint8_t tid;         /* 0 to 7 */
 };
 
+/* A packet for a station, to be sent as a frame whose octets stay with its owner. */
+struct wf_bare {
+  uint64_t tag;        /* identifies the packet to its owner; the library does not use it */
+  uint32_t flow;       /* the number of its flow */
+  uint16_t length;     /* the number of its octets: 1 to WF_GREATEST_BODY */
+  uint8_t source[6];   /* its source address, the third of its header; six zeros mean 02:00:00:02:00:00 */
+  uint8_t tid;         /* 0 to 7 */
+};
+
 /* A frame that was reaped. */
 struct wf_taken {
   uint64_t id;
@@ -334,6 +355,7 @@ struct wf_taken {
   uint8_t tid;
   uint8_t fate;      /* enum wf_fate, never WF_HELD */
   uint8_t attempts;  /* how often it was sent, at most the setting `attempts` */
+  uint8_t bare;      /* 1 if its octets stayed with its owner (wf_path_enqueue_bare), else 0 */
 };
 
 /* How many frames were accepted, and how many of them have each fate. The others are held. */
@@ -428,7 +450,7 @@ void wf_kind_name(int32_t kind, char name[WF_NAME]);
  * word for any other number is "?". */
 void wf_fate_name(int32_t fate, char name[WF_NAME]);
 
-/* Writes the word for a setting, as in a trace, by its place in struct wf_settings, 1 to 18; the rest of
+/* Writes the word for a setting, as in a trace, by its place in struct wf_settings, 1 to 19; the rest of
  * `name`, at least one octet, is 0. The word for any other number is "?". */
 void wf_setting_name(int32_t place, char name[WF_NAME]);
 
@@ -436,6 +458,10 @@ void wf_setting_name(int32_t place, char name[WF_NAME]);
 
 /* Writes the standard settings, which a trace has unless it gives others. */
 void wf_settings_standard(struct wf_settings *settings);
+
+/* Writes the settings for devices: four exchanges of a class in flight, whose airtime counts and is
+ * limited, debts that age, flows that keep their order, and `wf_path_done` with measured airtime. */
+void wf_settings_device(struct wf_settings *settings);
 
 /* Puts a path with these settings into an empty handle. The settings are copied. No station is live, no frame
  * is inside, the clock is 0, and the addresses are placeholders. Returns WF_OK; WF_BAD_SETTING + n if the nth
@@ -507,9 +533,7 @@ int32_t wf_path_rate_he(struct wf_path *path, uint16_t station, uint8_t mcs, uin
  * WF_OK, or WF_BAD_TICK if `by` is greater. */
 int32_t wf_path_tick(struct wf_path *path, uint32_t by, struct wf_reply *reply);
 
-/* Moves the clock on to `now`, in microseconds. `now` of the reply is the new clock. It makes a tick for each
- * 10,000,000 microseconds, so the time that the function takes is proportional to the distance: from 0 to the
- * microseconds since 1970 it makes about 180,000,000 ticks. A clock that starts near 0 avoids this. Returns
+/* Moves the clock on to `now`, in microseconds, in constant time. `now` of the reply is the new clock. Returns
  * WF_OK, or WF_BAD_TICK exactly if `now` is before the clock, or is 2^61 or more. The clock has to stay below
  * 2^62, so this limit leaves room for later ticks. */
 int32_t wf_path_advance(struct wf_path *path, uint64_t now, struct wf_reply *reply);
@@ -527,8 +551,8 @@ int32_t wf_path_wake(struct wf_path *path, uint16_t station, struct wf_reply *re
 int32_t wf_path_poll(struct wf_path *path, uint16_t station, struct wf_reply *reply);
 
 /* Charges a live station for airtime that it used to send in a class: 1 to 65,535 microseconds. `deficit` of
- * the reply is its deficit after the charge. Returns WF_OK, WF_BAD_STATION, WF_BAD_AIR, WF_NO_STATION or
- * WF_DEBT. */
+ * the reply is its deficit after the charge. Returns WF_OK; WF_BAD_CLASS exactly if the class is above 3, and
+ * then `reply` is unchanged; or else WF_BAD_STATION, WF_BAD_AIR, WF_NO_STATION or WF_DEBT. */
 int32_t wf_path_rx(struct wf_path *path, uint16_t station, uint8_t class_, uint32_t air, struct wf_reply *reply);
 
 /* Accepts a packet for a station as a frame, whose id is `id` of the reply. The body is copied. A refused
@@ -538,19 +562,50 @@ int32_t wf_path_rx(struct wf_path *path, uint16_t station, uint8_t class_, uint3
  * WF_BAD_LENGTH and WF_NO_MEMORY `reply` is unchanged. */
 int32_t wf_path_enqueue(struct wf_path *path, uint16_t station, const struct wf_packet *packet, struct wf_reply *reply);
 
+/* Allocates memory until there is a reserve for `frames` frames without octets. wf_path_enqueue_bare and each
+ * enqueue of wf_path_burst take the memory of one frame from it. The memory of a frame that is reaped or
+ * refused goes back to the reserve while it has fewer frames than the largest reserve so far; otherwise it is
+ * freed. wf_path_free frees the reserve. Returns WF_OK, and then the next `frames` calls of
+ * wf_path_enqueue_bare do not return WF_NO_MEMORY; or WF_NO_MEMORY, and then the reserve is as before. */
+int32_t wf_path_reserve(struct wf_path *path, uint32_t frames);
+
+/* Accepts a packet for a station as a frame without octets, whose id is `id` of the reply. The octets stay with
+ * their owner, who has to keep them until the frame is reaped: the path only counts them. The driver writes
+ * the header of a transmission (wf_path_header) and sends the body from its own buffer, which it finds by
+ * wf_path_frame_tag. Returns WF_OK; WF_BAD_LENGTH exactly if `length` is not 1 to WF_GREATEST_BODY; else
+ * WF_NO_MEMORY if no memory is in reserve and there is none for the frame; or else WF_BAD_STATION,
+ * WF_BAD_TID, WF_NO_STATION, WF_ROOM or WF_SLEEPING. After WF_BAD_LENGTH and WF_NO_MEMORY `reply` is
+ * unchanged. */
+int32_t wf_path_enqueue_bare(struct wf_path *path, uint16_t station, const struct wf_bare *packet, struct wf_reply *reply);
+
 /* Opens the next exchange of a class, which the driver then sends: `exchange` of the reply is its number. If it
  * is an aggregate, `frames` gets its frames. If it is a BlockAckReq, or after an error, their count is 0. `air`
- * of the reply is the time of the transmissions and of the BlockAck, in microseconds. Returns WF_OK, WF_FULL,
+ * of the reply is the time of the transmissions and of the BlockAck, in microseconds. Returns WF_OK;
+ * WF_BAD_CLASS exactly if the class is above 3, and then `reply` and `frames` are unchanged; or else WF_FULL,
  * WF_AHEAD or WF_IDLE. After WF_FULL, pull again when an exchange of the class has ended; after WF_AHEAD, when
  * any exchange has ended; after WF_IDLE, also after an enqueue, a wake or a poll. */
 int32_t wf_path_pull(struct wf_path *path, uint8_t class_, struct wf_reply *reply, struct wf_frames *frames);
 
 /* Takes the first finished frame out of the path. `taken` gets its id, its fate and what its packet was, and
  * the front of `body` its `taken->length` octets; the rest of `body`, whose size is `room`, is unchanged. If
- * `room` is 0, the octets are freed and not copied, and `body` may be null. Returns WF_OK; WF_SMALL_BUFFER
- * exactly if `room` is 1 to WF_GREATEST_BODY - 1, even if there is nothing to reap, and then `reply` is
- * unchanged; or WF_NOTHING. After an error `taken` and `body` are unchanged. */
+ * `room` is 0, the octets are freed and not copied, and `body` may be null. A frame that
+ * wf_path_enqueue_bare accepted leaves `body` unchanged; `taken->length` is the length of its owner's octets.
+ * Returns WF_OK; WF_SMALL_BUFFER exactly if `room` is 1 to WF_GREATEST_BODY - 1, even if there is nothing to
+ * reap, and then `reply` is unchanged; or WF_NOTHING. After an error `taken` and `body` are unchanged. */
 int32_t wf_path_reap(struct wf_path *path, struct wf_reply *reply, struct wf_taken *taken, uint8_t *body, size_t room);
+
+/* Makes `count` calls in order, each as its own function does, and writes the answer of each to the entry of
+ * `replies` at its place. `room` is the number of entries of `replies`. An enqueue accepts a frame without
+ * octets, with the tag 0 and the placeholder source. A pull writes no frames: wf_path_sent, wf_path_frame_id
+ * and wf_path_frame_tag read them. A reap frees the frame; its answer has the id and the fate. A done is made
+ * as by wf_path_done_lost: `heard` has to be 0. A call that is refused counts as made, and the burst goes on.
+ * `made` is the number of calls that were made; the other entries of `replies` are unchanged. Returns WF_OK if
+ * all were made; WF_SMALL_BUFFER if `room` is below `count`, and then none is made; or else what stops it at
+ * the first call that is not made: WF_BAD_CALL if the struct shows no call, or an arrival, an answer or a done
+ * that was heard, which a path does not take; WF_BAD_LENGTH if it is an enqueue and `length` is not 1 to
+ * WF_GREATEST_BODY; or WF_NO_MEMORY if there is no memory for its frame. */
+int32_t wf_path_burst(struct wf_path *path, const struct wf_call *calls, size_t count, struct wf_reply *replies, size_t room,
+                      size_t *made);
 
 /* ---- an open exchange */
 
@@ -576,9 +631,9 @@ int32_t wf_path_header(const struct wf_path *path, uint64_t exchange, uint16_t i
 
 /* Writes the octets of a transmission (a QoS data frame or a BlockAckReq of IEEE 802.11-2012), and to `size`
  * how many they are: at most WF_GREATEST_MPDU, and at most `room`, the size of `out`. The rest of `out` is
- * unchanged. Returns WF_OK, WF_NO_EXCHANGE, WF_BAD_INDEX or WF_SMALL_BUFFER. After an error `out` is
- * unchanged; after WF_SMALL_BUFFER `size` is the room that is needed, and after the other errors it is
- * unchanged. */
+ * unchanged. Returns WF_OK, WF_NO_EXCHANGE, WF_BAD_INDEX, WF_NO_BODY exactly if the transmission has a frame
+ * without octets, or else WF_SMALL_BUFFER. After an error `out` is unchanged; after WF_SMALL_BUFFER
+ * `size` is the room that is needed, and after the other errors it is unchanged. */
 int32_t wf_path_mpdu(const struct wf_path *path, uint64_t exchange, uint16_t index, uint8_t *out, size_t room, size_t *size);
 
 /* Ends an exchange whose BlockAck was not heard. Its frames wait to be sent again, or are dropped after their
@@ -623,16 +678,16 @@ int32_t wf_path_live(const struct wf_path *path, uint16_t station);
 /* Writes how many frames were accepted, and how many of them have each fate. */
 void wf_path_tally(const struct wf_path *path, struct wf_tally *tally);
 
-/* Writes a live station's airtime in a class, in microseconds. Returns WF_OK; or WF_NO_STATION, and then
- * `share` is unchanged. */
+/* Writes a live station's airtime in a class, in microseconds. Returns WF_OK; WF_BAD_CLASS if the class is
+ * above 3; or else WF_NO_STATION. After an error `share` is unchanged. */
 int32_t wf_path_share(const struct wf_path *path, uint16_t station, uint8_t class_, struct wf_share *share);
 
 /* Returns 1 if wf_path_pull of a class would open an exchange now, else 0, because it would return WF_FULL,
- * WF_AHEAD or WF_IDLE. */
+ * WF_AHEAD or WF_IDLE, or because the class is above 3. */
 int32_t wf_path_can_pull(const struct wf_path *path, uint8_t class_);
 
 /* Returns the list of a class that contains a station: 1 the new list, 2 the old list, 0 neither. A station
- * that is not live is on neither. */
+ * that is not live is on neither. A class above 3 has no lists: 0. */
 int32_t wf_path_listed(const struct wf_path *path, uint16_t station, uint8_t class_);
 
 /* Returns 1 if the counts of the path are below 2^62, as every other function requires, else 0. This function
@@ -670,7 +725,7 @@ void wf_cell_free(struct wf_cell *cell);
 /* Makes a call that neither accepts nor reaps a frame: all kinds except WF_CALL_ENQUEUE and WF_CALL_REAP. It
  * writes the answer to `reply`. `caller` is any number of the caller's, which the history keeps. Returns
  * WF_OK, or the first of these that holds: WF_BAD_CALL if the struct does not show such a call, or shows a
- * rate of no format, and then nothing has changed, nor `reply`; WF_HISTORY_FULL if the history has `calls`
+ * rate of no format or a class above 3, and then nothing has changed, nor `reply`; WF_HISTORY_FULL if the history has `calls`
  * entries, and then the state and the history of the cell are unchanged; the refusal of the call. After WF_OK
  * and a refusal of the call it is one entry of the history. */
 int32_t wf_cell_ask(struct wf_cell *cell, uint32_t caller, const struct wf_call *call, struct wf_reply *reply);
@@ -685,14 +740,38 @@ int32_t wf_cell_ask(struct wf_cell *cell, uint32_t caller, const struct wf_call 
 int32_t wf_cell_enqueue(struct wf_cell *cell, uint32_t caller, uint16_t station, const struct wf_packet *packet,
                         struct wf_reply *reply);
 
+/* Accepts a packet for a station as a frame without octets, whose id is `id` of the reply, as
+ * wf_path_enqueue_bare does. Its octets are zeros to the station that it is sent to. Returns WF_OK, or the
+ * first of these that holds: WF_BAD_LENGTH exactly if `length` is not 1 to WF_GREATEST_BODY; WF_NO_MEMORY if
+ * there is no memory for the frame; WF_HISTORY_FULL if the history has `calls` entries; WF_BAD_STATION,
+ * WF_BAD_TID, WF_NO_STATION, WF_ROOM or WF_SLEEPING. After WF_BAD_LENGTH and WF_NO_MEMORY `reply` is
+ * unchanged. The call is one entry of the history, except after these two and WF_HISTORY_FULL; the entry has
+ * neither the source nor the tag. */
+int32_t wf_cell_enqueue_bare(struct wf_cell *cell, uint32_t caller, uint16_t station, const struct wf_bare *packet,
+                             struct wf_reply *reply);
+
 /* Takes the first finished frame out of the cell. `taken` gets its id, its fate and what its packet was, and
  * the front of `body` its `taken->length` octets; the rest of `body`, whose size is `room`, is unchanged. If
- * `room` is 0, the octets are freed and not copied, and `body` may be null. Returns WF_OK, or the first of
- * these that holds: WF_SMALL_BUFFER exactly if `room` is 1 to WF_GREATEST_BODY - 1, and then `reply` is
- * unchanged; WF_HISTORY_FULL if the history has `calls` entries; WF_NOTHING. After an error `taken` and `body`
- * are unchanged. The call is one entry of the history, except after WF_SMALL_BUFFER and WF_HISTORY_FULL. */
+ * `room` is 0, the octets are freed and not copied, and `body` may be null. A frame that wf_cell_enqueue_bare
+ * accepted leaves `body` unchanged. Returns WF_OK, or the first of these that holds: WF_SMALL_BUFFER exactly if
+ * `room` is 1 to WF_GREATEST_BODY - 1, and then `reply` is unchanged; WF_HISTORY_FULL if the history has
+ * `calls` entries; WF_NOTHING. After an error `taken` and `body` are unchanged. The call is one entry of the
+ * history, except after WF_SMALL_BUFFER and WF_HISTORY_FULL. */
 int32_t wf_cell_reap(struct wf_cell *cell, uint32_t caller, struct wf_reply *reply, struct wf_taken *taken, uint8_t *body,
                      size_t room);
+
+/* Makes `count` calls in order, each as wf_cell_ask, wf_cell_enqueue_bare or wf_cell_reap does, and writes the
+ * answer of each to the entry of `replies` at its place. `room` is the number of entries of `replies`. An
+ * enqueue accepts a frame without octets, with the tag 0 and the placeholder source. A reap frees the frame;
+ * its answer has the id and the fate. A call that is refused counts as made, and the burst goes on. `made` is
+ * the number of calls that were made, each of which is one entry of the history; the other entries of
+ * `replies` are unchanged. wf_cell_frames, wf_cell_released and wf_cell_block then are about the last call
+ * that was made. Returns WF_OK if all were made; WF_SMALL_BUFFER if `room` is below `count`, and then none is
+ * made; or else what stops it at the first call that is not made: WF_BAD_CALL if the struct shows no call;
+ * WF_HISTORY_FULL if the history has `calls` entries; WF_BAD_LENGTH if it is an enqueue and `length` is not 1
+ * to WF_GREATEST_BODY; or WF_NO_MEMORY if there is no memory for its frame. */
+int32_t wf_cell_burst(struct wf_cell *cell, uint32_t caller, const struct wf_call *calls, size_t count, struct wf_reply *replies,
+                      size_t room, size_t *made);
 
 /* Writes the frames of the aggregate, if the answer to the last call sends one; otherwise their count is 0. A
  * call that was refused with WF_HISTORY_FULL counts as the last call; one that returned WF_BAD_CALL,

@@ -31,6 +31,7 @@ static const uint32_t OUTSIDE[][2] = {
     {2u, 2u}, /* keep_order */
     {2u, 2u}, /* codel_reset */
     {262145u, 262145u}, /* aql */
+    {2u, 2u}, /* pending */
     /* end outside */
 };
 
@@ -101,6 +102,15 @@ static void misuse_settings(void) {
   int known = sizeof OUTSIDE / sizeof *OUTSIDE, place, i;
   for (place = 0; place < PLACES; place++)
     for (i = 0; i < 2; i++) misuse_setting(place, place < known ? OUTSIDE[place][i] : 1u + 6u * (uint32_t)i);
+}
+
+/* The settings for devices are in their ranges. */
+static void use_device_settings(void) {
+  struct wf_path made = {0};
+  struct wf_settings settings = {0};
+  wf_settings_device(&settings);
+  want(wf_path_make(&made, &settings), WF_OK, "the settings for devices");
+  wf_path_free(&made);
 }
 
 /* Calls for station numbers that do not exist, or that are not live. */
@@ -200,6 +210,104 @@ static void misuse_frames(void) {
     want(wf_path_enqueue(&path, 0, &packet, &reply), WF_OK, "a frame of the greatest length");
   }
   want(wf_path_enqueue(&path, 0, &packet, &reply), WF_ROOM, "one frame too many");
+}
+
+/* Frames without octets, of which a path writes only the header. */
+static void misuse_bare(void) {
+  struct wf_bare packet = {0};
+  struct wf_reply before = reply;
+  struct wf_taken taken = {0};
+  uint8_t out[WF_GREATEST_MPDU] = {0}, same[WF_GREATEST_MPDU] = {0}, body[WF_GREATEST_BODY] = {0};
+  size_t size = 7;
+  want(wf_path_reserve(&path, 2), WF_OK, "a reserve");
+  want(wf_path_enqueue_bare(&path, 0, &packet, &reply), WF_BAD_LENGTH, "a length of 0");
+  packet.length = WF_GREATEST_BODY + 1;
+  want(wf_path_enqueue_bare(&path, 0, &packet, &reply), WF_BAD_LENGTH, "a length that is too long");
+  unchanged(&reply, &before, sizeof reply, "a bad length");
+  packet.length = WF_GREATEST_BODY;
+  want(wf_path_enqueue_bare(&path, STATIONS, &packet, &reply), WF_BAD_STATION, "a length for no station");
+  want(wf_path_enqueue_bare(&path, 3, &packet, &reply), WF_NO_STATION, "a length for a station that is not live");
+  packet.tid = 8;
+  want(wf_path_enqueue_bare(&path, 0, &packet, &reply), WF_BAD_TID, "a length of TID 8");
+  packet.tid = 7;
+  packet.tag = 9;
+  want(wf_path_enqueue_bare(&path, 0, &packet, &reply), WF_OK, "a frame without octets");
+  want(wf_path_pull(&path, WF_VO, &reply, &frames), WF_OK, "a pull of it");
+  want(wf_path_mpdu(&path, reply.exchange, 0, out, sizeof out, &size), WF_NO_BODY, "its octets");
+  want(wf_path_mpdu(&path, reply.exchange, 0, out, 1, &size), WF_NO_BODY, "its octets in a small buffer");
+  want(wf_path_mpdu(&path, reply.exchange, 1, out, sizeof out, &size), WF_BAD_INDEX, "no second transmission");
+  want(size == 7, 1, "the size of no octets");
+  unchanged(out, same, sizeof out, "WF_NO_BODY");
+  want(wf_path_header(&path, reply.exchange, 0, out), WF_OK, "its header");
+  want(wf_path_done_bits(&path, reply.exchange, 0, (const uint8_t[32]){1}, 0, &reply), WF_OK, "its end");
+  want(wf_path_reap(&path, &reply, &taken, NULL, 0), WF_OK, "the frame that was dropped for it");
+  want(wf_path_reap(&path, &reply, &taken, body, sizeof body), WF_OK, "its reap");
+  want(taken.tag == 9 && taken.length == WF_GREATEST_BODY && taken.bare == 1 && taken.fate == WF_ACKED, 1, "what was reaped");
+  unchanged(body, same, sizeof body, "a reap of a frame without octets");
+}
+
+/* Classes above 3. */
+static void misuse_classes(void) {
+  struct wf_reply before = reply;
+  struct wf_share share = {0}, none = {0};
+  frames.count = 3;
+  want(wf_path_pull(&path, WF_VO + 1, &reply, &frames), WF_BAD_CLASS, "a pull of class 4");
+  want(frames.count, 3, "the frames of class 4");
+  want(wf_path_rx(&path, 0, 255, 100, &reply), WF_BAD_CLASS, "airtime of class 255");
+  want(wf_path_rx(&path, STATIONS, 4, 0, &reply), WF_BAD_CLASS, "no airtime of class 4");
+  unchanged(&reply, &before, sizeof reply, "WF_BAD_CLASS");
+  want(wf_path_share(&path, 0, 4, &share), WF_BAD_CLASS, "the share of class 4");
+  want(wf_path_share(&path, 3, 4, &share), WF_BAD_CLASS, "the share of class 4");
+  unchanged(&share, &none, sizeof share, "WF_BAD_CLASS");
+  want(wf_path_can_pull(&path, 4), 0, "a pull of class 4");
+  want(wf_path_listed(&path, 0, 4), 0, "the lists of class 4");
+}
+
+/* A burst of a path with this call after a tick. */
+static void misuse_burst(struct wf_call other, int32_t code, const char *what) {
+  struct wf_call calls[3] = {{0}, {0}, {0}};
+  struct wf_reply replies[3] = {{0}, {0}, {0}}, none = {0};
+  size_t made = 7;
+  calls[0].kind = calls[2].kind = WF_CALL_TICK;
+  calls[1] = other;
+  want(wf_path_burst(&path, calls, 3, replies, 3, &made), code, what);
+  want(made == (code == WF_OK ? 3 : 1) && replies[0].kind == WF_KIND_NOW, 1, "the calls before it");
+  if (code != WF_OK) unchanged(&replies[1], &none, sizeof none, what);
+  else want(replies[1].kind, WF_KIND_REFUSED, what);
+}
+
+static void misuse_bursts(void) {
+  struct wf_call call = {0};
+  struct wf_reply replies[1] = {{0}};
+  size_t made = 7;
+  call.kind = WF_CALL_TICK;
+  want(wf_path_burst(&path, &call, 1, replies, 0, &made), WF_SMALL_BUFFER, "room for no reply");
+  want(made == 0, 1, "no call");
+  made = 7;
+  want(wf_path_burst(&path, &call, 0, replies, 0, &made), WF_OK, "a burst of no call");
+  want(made == 0, 1, "no call");
+  call.kind = WF_CALL_ARRIVE;
+  misuse_burst(call, WF_BAD_CALL, "an arrival at no receiver");
+  call.kind = WF_CALL_ANSWER;
+  misuse_burst(call, WF_BAD_CALL, "an answer of no receiver");
+  call.kind = WF_CALL_DONE;
+  call.heard = 1;
+  misuse_burst(call, WF_BAD_CALL, "a BlockAck that was heard");
+  call.heard = 0;
+  call.exchange = 1000;
+  misuse_burst(call, WF_OK, "the end of no exchange");
+  call.kind = WF_CALL_REAP + 1;
+  misuse_burst(call, WF_BAD_CALL, "a call of no kind");
+  call.kind = WF_CALL_PULL;
+  call.class_ = 4;
+  misuse_burst(call, WF_BAD_CALL, "a pull of class 4");
+  call.kind = WF_CALL_ENQUEUE;
+  misuse_burst(call, WF_BAD_LENGTH, "a length of 0");
+  call.length = WF_GREATEST_BODY + 1;
+  misuse_burst(call, WF_BAD_LENGTH, "a length that is too long");
+  call.length = 1;
+  call.station = 3;
+  misuse_burst(call, WF_OK, "a frame for a station that is not live");
 }
 
 static void misuse_reaps(void) {
@@ -341,6 +449,9 @@ static void misuse_path(void) {
   misuse_airtime();
   misuse_frames();
   misuse_reaps();
+  misuse_bare();
+  misuse_classes();
+  misuse_bursts();
   misuse_exchanges();
   wf_path_free(&path);
   want(path.at == NULL, 1, "a handle that holds nothing");
@@ -359,6 +470,8 @@ static void misuse_cell(void) {
   struct wf_reply before;
   struct wf_taken taken = {0};
   struct wf_packet packet = packet_of(0, body, 0);
+  struct wf_bare bare = {0};
+  size_t made = 7;
   uint32_t caller = 7;
   want(wf_cell_make(&cell, &settings), WF_OK, "wf_cell_make");
   before = reply;
@@ -371,6 +484,17 @@ static void misuse_cell(void) {
   call.kind = WF_CALL_RATE;
   call.form = WF_FORM_HE + 1;
   want(wf_cell_ask(&cell, 0, &call, &reply), WF_BAD_CALL, "a rate of no format");
+  call.kind = WF_CALL_PULL;
+  call.class_ = 4;
+  want(wf_cell_ask(&cell, 0, &call, &reply), WF_BAD_CALL, "a pull of class 4");
+  call.kind = WF_CALL_RX;
+  want(wf_cell_ask(&cell, 0, &call, &reply), WF_BAD_CALL, "airtime of class 4");
+  want(wf_cell_burst(&cell, 0, &call, 1, &reply, 1, &made), WF_BAD_CALL, "a burst with class 4");
+  want(wf_cell_burst(&cell, 0, &call, 1, &reply, 0, &made), WF_SMALL_BUFFER, "a burst without room for its reply");
+  want(wf_cell_enqueue_bare(&cell, 0, 0, &bare, &reply), WF_BAD_LENGTH, "a length of 0");
+  call.kind = WF_CALL_ENQUEUE;
+  want(wf_cell_burst(&cell, 0, &call, 1, &reply, 1, &made), WF_BAD_LENGTH, "a burst with a length of 0");
+  want(made == 0, 1, "no call");
   want(wf_cell_enqueue(&cell, 0, 0, &packet, &reply), WF_BAD_LENGTH, "a body of no octet");
   want(wf_cell_reap(&cell, 0, &reply, &taken, body, 1), WF_SMALL_BUFFER, "room for one octet");
   unchanged(&reply, &before, sizeof reply, "a call of a cell that is none");
@@ -379,6 +503,11 @@ static void misuse_cell(void) {
   call.kind = WF_CALL_TICK;
   while (wf_cell_room(&cell)) want(wf_cell_ask(&cell, 0, &call, &reply), WF_OK, "a tick");
   want(wf_cell_ask(&cell, 0, &call, &reply), WF_HISTORY_FULL, "a call too many");
+  made = 7;
+  want(wf_cell_burst(&cell, 0, &call, 1, &reply, 1, &made), WF_HISTORY_FULL, "a burst too many");
+  want(made == 0, 1, "no call");
+  bare.length = 100;
+  want(wf_cell_enqueue_bare(&cell, 0, 0, &bare, &reply), WF_HISTORY_FULL, "a frame without octets too many");
   packet.length = 100;
   want(wf_cell_enqueue(&cell, 0, 0, &packet, &reply), WF_HISTORY_FULL, "a frame too many");
   want(wf_cell_reap(&cell, 0, &reply, &taken, NULL, 0), WF_HISTORY_FULL, "a reap too many");
@@ -387,7 +516,7 @@ static void misuse_cell(void) {
 
 /* Numbers without a meaning. */
 static void misuse_names(void) {
-  static const int32_t NONE[] = {-1, 29, 39, 45, 50, 59, 100, WF_BAD_SETTING + PLACES + 1, INT32_MAX, INT32_MIN};
+  static const int32_t NONE[] = {-1, 29, 39, 46, 48, 50, 59, 100, WF_BAD_SETTING + PLACES + 1, INT32_MAX, INT32_MIN};
   size_t i;
   for (i = 0; i < sizeof NONE / sizeof *NONE; i++) {
     char name[WF_NAME] = {0};
@@ -398,6 +527,7 @@ static void misuse_names(void) {
 
 int main(void) {
   misuse_settings();
+  use_device_settings();
   misuse_path();
   misuse_cell();
   misuse_names();

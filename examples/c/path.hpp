@@ -139,6 +139,14 @@ class Path {
   [[nodiscard]] std::int32_t enqueue(std::uint16_t station, const wf_packet &packet, wf_reply &reply) {
     return wf_path_enqueue(&handle_, station, &packet, &reply);
   }
+  [[nodiscard]] std::int32_t reserve(std::uint32_t frames) { return wf_path_reserve(&handle_, frames); }
+  [[nodiscard]] std::int32_t enqueue_bare(std::uint16_t station, const wf_bare &packet, wf_reply &reply) {
+    return wf_path_enqueue_bare(&handle_, station, &packet, &reply);
+  }
+  [[nodiscard]] std::int32_t burst(const wf_call *calls, std::size_t count, wf_reply *replies, std::size_t room,
+                                   std::size_t &made) {
+    return wf_path_burst(&handle_, calls, count, replies, room, &made);
+  }
   [[nodiscard]] std::int32_t pull(wf_class access, wf_reply &reply, wf_frames &frames) {
     return wf_path_pull(&handle_, static_cast<std::uint8_t>(access), &reply, &frames);
   }

@@ -17,7 +17,7 @@
 #include "words.h"
 #include "wf.h"
 
-enum { STATIONS = 6, NUMBERS = 4096, OPEN = 32, CHARGE = 5000, DEBT = 9000, TICK = 10000000, ATTEMPTS = 4, SETTINGS = 18 };
+enum { STATIONS = 6, NUMBERS = 4096, OPEN = 32, CHARGE = 5000, DEBT = 9000, TICK = 10000000, ATTEMPTS = 4, SETTINGS = 19 };
 
 /* An open exchange. */
 struct exchange {

@@ -4,7 +4,8 @@
  * sends again what was lost on the air, measures the airtime of all of it, and makes the station's BlockAck.
  * The access point and the stations have their own addresses, which the driver sets. One lock protects the
  * path. Each packet is in a buffer of a pool; its tag is the number of the buffer, which is free again after
- * the frame is reaped. The upper queue, from which packets come, is stopped while a station's TID has many
+ * the frame is reaped. The device gathers: the path has no octets of a packet, and writes only headers. The
+ * memory for its frames is taken before the lock is used. The upper queue, from which packets come, is stopped while a station's TID has many
  * queued frames or no buffer is free, and is woken when it may continue.
  */
 #include <pthread.h>
@@ -24,7 +25,7 @@ struct job {
   uint16_t count;
   uint8_t request;
   uint8_t tid;
-  uint8_t head[26];      /* the header of its first transmission */
+  uint8_t head[WF_HEADER]; /* the header of its first transmission */
   uint16_t numbers[256]; /* the sequence numbers of its frames */
 };
 
@@ -128,21 +129,26 @@ static void send_job(const struct job *job, struct outcome *outcome, uint32_t *r
 
 /* ---- the driver, under its lock */
 
+/* Writes the header of an exchange's first frame, or its BlockAckReq, which has no body. The device takes the
+ * body of each frame from the buffer that its tag names. */
+static int write_head(const struct wf_path *path, uint64_t exchange, uint8_t request, uint8_t head[WF_HEADER]) {
+  size_t size = 0;
+  if (request) return wf_path_mpdu(path, exchange, 0, head, WF_HEADER, &size) == WF_OK;
+  return wf_path_header(path, exchange, 0, head) == WF_OK;
+}
+
 /* Puts a pulled exchange into the hardware queue of its class. */
 static int hand_over(struct driver *driver, int access, const struct wf_reply *reply, const struct wf_frames *frames) {
   struct job *job = &driver->hardware.jobs[access][driver->hardware.count[access]];
-  uint8_t octets[WF_GREATEST_MPDU] = {0};
   struct wf_sent sent = {0};
-  size_t size = 0;
   if (wf_path_sent(&driver->path, reply->exchange, &sent)) return 0;
-  if (wf_path_mpdu(&driver->path, reply->exchange, 0, octets, sizeof octets, &size)) return 0;
+  if (!write_head(&driver->path, reply->exchange, sent.request, job->head)) return 0;
   job->exchange = reply->exchange;
   job->air = reply->air;
   job->station = sent.station;
   job->count = sent.count;
   job->request = sent.request;
   job->tid = sent.tid;
-  memcpy(job->head, octets, sizeof job->head);
   memcpy(job->numbers, frames->numbers, sizeof job->numbers);
   driver->hardware.count[access]++;
   return 1;
@@ -179,7 +185,7 @@ static int give_back(struct pool *pool, uint64_t number, uint16_t station) {
   return 1;
 }
 
-/* Reaps the finished frames. Their octets are still in the buffers of their tags, so no copy is needed. */
+/* Reaps the finished frames, and frees the buffers of their tags. */
 static int reap_all(struct driver *driver) {
   struct wf_reply reply = {0};
   struct wf_taken taken = {0};
@@ -272,14 +278,13 @@ static void wait_for_place(struct driver *driver, uint16_t station, uint8_t tid)
 static int hand_in(struct driver *driver, uint16_t station, uint8_t tid) {
   static const uint8_t HOST[6] = {0x0a, 0x00, 0x5e, 0x00, 0x53, 0x01};
   struct wf_reply reply = {0};
-  struct wf_packet packet = {0};
+  struct wf_bare packet = {0};
   packet.tag = take_buffer(&driver->pool, station);
-  packet.body = driver->pool.octets[packet.tag];
   packet.length = sizeof driver->pool.octets[packet.tag];
   packet.flow = station;
   packet.tid = tid;
   memcpy(packet.source, HOST, sizeof packet.source);
-  if (wf_path_enqueue(&driver->path, station, &packet, &reply) == WF_OK) return 1;
+  if (wf_path_enqueue_bare(&driver->path, station, &packet, &reply) == WF_OK) return 1;
   give_back(&driver->pool, packet.tag, station);
   return 0;
 }
@@ -322,6 +327,7 @@ static int open_driver(struct driver *driver) {
   settings.inflight = DEPTH + 1; /* one more is on the air */
   settings.charge = LONGEST;     /* the device gives the measured airtime */
   if (wf_path_make(&driver->path, &settings) || wf_path_set_base(&driver->path, BASE)) return 0;
+  if (wf_path_reserve(&driver->path, BUFFERS)) return 0; /* a frame for each buffer */
   for (station = 0; station < STATIONS; station++) {
     if (!open_station(&driver->path, station)) return 0;
   }

@@ -1,6 +1,6 @@
 -- Proves worked rows: the fields of one call of each form, and the call that fields of each kind show. By
 -- computation.
-use Rattle.std.proofs.Common.{◌≡◌, ℕ, ◌<◌, nat_eq, Bool, false, refl, arith}
+use Rattle.std.proofs.Common.{◌≡◌, ℕ, ◌<◌, ◌≤◌, nat_eq, nat_lt, Bool, true, false, refl, arith}
 use Rattle.std.specs.Prelude.{Some, None}
 use Rattle.std.proofs.lemmas.Bool.Decides.{nat_tests}
 use Rattle.wf_frame.specs.Calls.{call_numbered}
@@ -9,7 +9,7 @@ use Rattle.wf_frame.specs.declared.classes.Class.{Class}
 use Rattle.wf_frame.specs.declared.notes.Note.TheVariants.{Enqueue, Asked}
 use Rattle.wf_frame.specs.declared.notes.Ask.TheVariants.{Join, Leave, Rate, Tick, Pull, Arrive, Answer, Done, Sleep, Wake, Poll, Rx, Reap}
 use Rattle.wf_frame.specs.declared.notes.AskedRate.TheVariants.{Ht, Vht, He}
-use Rattle.wf_c.specs.CallNumbers.{blank_call, numbers_of_call, asked}
+use Rattle.wf_c.specs.CallNumbers.{blank_call, numbers_of_call, asked, call_noted}
 use Rattle.wf_c.specs.Numbers.{flag_of, is_up}
 use Rattle.wf_c.specs.declared.cell.calls.CallNumbers.{CallNumbers}
 
@@ -126,7 +126,8 @@ pub record Rows (c : CallNumbers) : Type 0 where
   pub no_rate : (n : ℕ) → 2 < n → asked (record c { kind = 2; form = n }) ≡ None
   pub tick : asked (record c { kind = 3 }) ≡ Some (Tick c.by)
   pub enqueue : asked (record c { kind = 4 }) ≡ None
-  pub pull : asked (record c { kind = 5 }) ≡ Some (Pull (class_among all_classes c.class))
+  pub pull : c.class ≤ 3 → asked (record c { kind = 5 }) ≡ Some (Pull (class_among all_classes c.class))
+  pub no_pull : (n : ℕ) → 3 < n → asked (record c { kind = 5; class = n }) ≡ None
   pub arrive : asked (record c { kind = 6 }) ≡ Some (Arrive c.exchange c.index)
   pub answer : asked (record c { kind = 7 }) ≡ Some (Answer c.exchange)
   pub done : asked (record c { kind = 8; air = 0 }) ≡ Some (Done c.exchange (is_up c.heard) None)
@@ -135,7 +136,9 @@ pub record Rows (c : CallNumbers) : Type 0 where
   pub sleep : asked (record c { kind = 9 }) ≡ Some (Sleep c.station)
   pub wake : asked (record c { kind = 10 }) ≡ Some (Wake c.station)
   pub poll : asked (record c { kind = 11 }) ≡ Some (Poll c.station)
-  pub rx : asked (record c { kind = 12 }) ≡ Some (Rx c.station (class_among all_classes c.class) c.air)
+  pub rx : c.class ≤ 3 →
+      asked (record c { kind = 12 }) ≡ Some (Rx c.station (class_among all_classes c.class) c.air)
+  pub no_rx : (n : ℕ) → 3 < n → asked (record c { kind = 12; class = n }) ≡ None
   pub reap : asked (record c { kind = 13 }) ≡ None
   pub no_call : (n : ℕ) → 13 < n → asked (record c { kind = n }) ≡ None
 
@@ -145,8 +148,14 @@ above n k less = grind (arith, nat_tests)
 none_numbered : (n : ℕ) → 13 < n → call_numbered n ≡ None
 none_numbered n less = grind (arith, nat_tests)
 
+is_class : (n : ℕ) → n ≤ 3 → nat_lt 3 n ≡ false
+is_class n low = grind (arith, nat_tests)
+
+no_class : (n : ℕ) → 3 < n → nat_lt 3 n ≡ true
+no_class n high = grind (arith, nat_tests)
+
 pub rows : (c : CallNumbers) → Rows c
-unfolding asked
+unfolding asked call_noted
 rows c = record {
   join = refl;
   leave = refl;
@@ -157,7 +166,8 @@ rows c = record {
       rw (above n 0 (omega (arith, less)), above n 1 (omega (arith, less)), above n 2 less) refl;
   tick = refl;
   enqueue = refl;
-  pull = refl;
+  pull = λ low. rw (is_class c.class low) refl;
+  no_pull = λ n high. rw (no_class n high) refl;
   arrive = refl;
   answer = refl;
   done = refl;
@@ -165,7 +175,8 @@ rows c = record {
   sleep = refl;
   wake = refl;
   poll = refl;
-  rx = refl;
+  rx = λ low. rw (is_class c.class low) refl;
+  no_rx = λ n high. rw (no_class n high) refl;
   reap = refl;
   no_call = λ n less. rw (none_numbered n less) refl;
 }

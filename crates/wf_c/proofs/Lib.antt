@@ -1,11 +1,13 @@
 -- Lists the modules of proofs/ of wf_c. Other crates use none of them.
+mod Advancing
+mod Bursting
 mod CallRows
 mod Ended
 mod Filled
 mod Ids
 mod Makings
 mod Pairs
+mod Rising
 mod Sending
 mod Slots
-mod Ticks
 mod Words

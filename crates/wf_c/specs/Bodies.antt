@@ -1,8 +1,8 @@
 -- Defines what an enqueue and a reap leave of a path and of the caller's structs.
-use Rattle.std.specs.Prelude.{◌≡◌, ◌<◌, ◌≤◌, ◌⊎◌, ◌&&◌, nat_eq, nat_lt, ℕ, ℤ, pos, Bool, true, List, [], ◌∷◌, if◌then◌else◌, Option, Some, None, length, take, drop}
+use Rattle.std.specs.Prelude.{◌≡◌, ◌<◌, ◌≤◌, ◌⊎◌, ◌&&◌, nat_eq, nat_lt, ℕ, ℤ, pos, Bool, true, false, List, [], ◌∷◌, if◌then◌else◌, Option, Some, None, length, take, drop}
 use Rattle.std.specs.Cmp.Lexicographic.{pointwise}
 use Rattle.wf_frame.specs.Answers.{reply_of}
-use Rattle.wf_frame.specs.Frames.{FrameValue, made_up_source, new_frame}
+use Rattle.wf_frame.specs.Frames.{FrameValue, made_up_source, new_frame, bare_frame}
 use Rattle.wf_frame.specs.declared.notes.Ask.TheVariants.{Reap}
 use Rattle.wf_def_lists.specs.Lengths.{greatest_body}
 use Rattle.wf_def_world.specs.World.{World}
@@ -13,7 +13,8 @@ use Rattle.wf_path.specs.Paths.{IsPath}
 use Rattle.wf_path.specs.declared.job.Job.TheVariants.{Call, Give}
 use Rattle.wf_c.specs.Calls.{IsCalled}
 use Rattle.wf_frame.specs.Classes.{fate_number}
-use Rattle.wf_c.specs.Numbers.{numbers_of}
+use Rattle.wf_c.specs.Numbers.{flag_of, numbers_of}
+use Rattle.wf_c.specs.declared.bare.Bare.{Bare}
 use Rattle.wf_c.specs.declared.frames.NoFrame.{NoFrame}
 use Rattle.wf_c.specs.declared.frames.NoFrame.TheVariants.{NoMemory, BadLength}
 use Rattle.wf_c.specs.declared.frames.Packet.{Packet}
@@ -49,6 +50,11 @@ source_named octets = if pointwise nat_eq octets no_source then made_up_source e
 abbrev pub frame_shown : ℕ → Packet → FrameValue
 frame_shown station p = record
     (new_frame station p.tid p.flow p.body.now) { source = source_named p.source; tag = p.tag }
+
+-- the frame of a packet whose octets stay with its owner, before it is accepted
+abbrev pub bare_shown : ℕ → Bare → FrameValue
+bare_shown station p = record
+    (bare_frame station p.tid p.flow p.length) { source = source_named p.source; tag = p.tag }
 
 -- the code of a body that does not fit in a frame
 abbrev pub bad_length : ℕ
@@ -94,13 +100,15 @@ pub record IsAbout (f : FrameValue) (taken : Taken) : Type 0 where
   pub source : taken.source ≡ f.source
   pub fate : taken.fate ≡ fate_number f.fate
   pub attempts : taken.attempts ≡ f.attempts
+  pub bare : taken.bare ≡ flag_of f.bare
 
 -- The caller's struct shows frame f, and the front of a buffer with room shows its body; the rest of the
--- buffer is unchanged.
+-- buffer is unchanged, and all of it if f is bare.
 pub record ShowsFrame (f : FrameValue) (taken : Taken) (before buffer : List ℕ) : Type 0 where
   pub about : IsAbout f taken
-  pub body : greatest_body ≤ length before → take (length f.body) buffer ≡ f.body
+  pub body : f.bare ≡ false → greatest_body ≤ length before → take (length f.body) buffer ≡ f.body
   pub rest : drop (length f.body) buffer ≡ drop (length f.body) before
+  pub bare : f.bare ≡ true → buffer ≡ before
 
 -- the caller's struct and buffer show the frame that was reaped, if any, and are otherwise unchanged
 abbrev pub ShowsBack : Option FrameValue → Taken → List ℕ → Taken → List ℕ → Type 0

@@ -1,5 +1,5 @@
 -- Defines how the fields of a struct show a call, by the table of calls: each argument has its own field.
-use Rattle.std.specs.Prelude.{ℕ, ◌==◌, List, ◌∷◌, Option, Some, None, map, option_and_then, if◌then◌else◌}
+use Rattle.std.specs.Prelude.{ℕ, nat_lt, ◌==◌, List, ◌∷◌, Option, Some, None, map, option_and_then, if◌then◌else◌}
 use Rattle.wf_frame.specs.Calls.{form_number, call_numbered, arguments_of, form_of_end, note_form, note_values, note_made}
 use Rattle.wf_frame.specs.Classes.{all_classes, class_among, class_number}
 use Rattle.wf_frame.specs.declared.calls.Argument.{Argument}
@@ -127,11 +127,17 @@ form_of_format n =
     else (if n == 2 then Some form.RateHe
     else None))
 
+-- the form of a call that has a class, if there is a class with this number
+abbrev pub form_of_class : CallForm → ℕ → Option CallForm
+form_of_class f class = if nat_lt 3 class then None else Some f
+
 -- the form of a call that the fields show: for a rate by its format, for a Done by whether it gives an
--- airtime
+-- airtime; a call of a class that does not exist has none
 abbrev pub form_of_fields : CallNumbers → CallForm → Option CallForm
 form_of_fields c form.Rate = form_of_format c.form
 form_of_fields c form.Done = Some (form_of_end (named_air c.air))
+form_of_fields c form.Pull = form_of_class form.Pull c.class
+form_of_fields c form.Rx = form_of_class form.Rx c.class
 form_of_fields c call = Some call
 
 -- the form that the fields show
@@ -148,6 +154,10 @@ without_frame (Enqueue station tid flow len) = None
 without_frame (Asked Reap) = None
 without_frame (Asked ask) = Some ask
 
+-- the call that the fields show
+unfoldable pub call_noted : CallNumbers → Option Note
+call_noted c = option_and_then (note_in c) (form_shown c)
+
 -- the call that the fields show, if it neither enqueues nor reaps a frame
 unfoldable pub asked : CallNumbers → Option Ask
-asked c = option_and_then without_frame (option_and_then (note_in c) (form_shown c))
+asked c = option_and_then without_frame (call_noted c)

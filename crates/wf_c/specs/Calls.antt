@@ -1,5 +1,5 @@
 -- Defines what the calls of a handle do to the path that it holds.
-use Rattle.std.specs.Prelude.{◌≡◌, ℕ, true, Option, Some, None}
+use Rattle.std.specs.Prelude.{◌≡◌, ◌≤◌, ℕ, true, Option, Some, None}
 use Rattle.wf_frame.specs.Answers.{reply_of}
 use Rattle.wf_frame.specs.Frames.{FrameValue}
 use Rattle.wf_frame.specs.declared.notes.Ask.{Ask}
@@ -29,6 +29,11 @@ abbrev pub addresses_held : Option Held → Addresses
 addresses_held None = made_up
 addresses_held (Some h) = h.path.addresses
 
+-- how many nodes the path that the handle holds has in reserve; none if it is empty
+abbrev pub reserve_held : Option Held → ℕ
+reserve_held None = 0
+reserve_held (Some h) = h.reserve
+
 -- the handle holds something before and after, and R relates the two
 abbrev pub Becomes : (Held → Held → Type 0) → Option Held → Option Held → Type 0
 Becomes R (Some h) (Some k) = R h k
@@ -40,6 +45,7 @@ Becomes R _ _ = ⊥
 --              the frames that it sends have one more attempt
 --   refused    a refused call changes nothing, except a pull that finds no ready station
 --   addresses  the addresses are unchanged
+--   reserve    no node of the reserve is taken
 --   shows      the struct shows the reply
 pub record IsCalled (h : Held) (ask : Ask) (k : Held) (shown : Reply) : Type 0 where
   pub meets : (w : World) (bodies : ℕ → FrameValue) → StandsFor h.path.half w bodies →
@@ -47,5 +53,6 @@ pub record IsCalled (h : Held) (ask : Ask) (k : Held) (shown : Reply) : Type 0 w
       (reply_of k.answer)
   pub refused : changes_nothing (reply_of k.answer) ≡ true → k.path ≡ h.path
   pub addresses : k.path.addresses ≡ h.path.addresses
+  pub reserve : h.reserve ≤ k.reserve
   pub path : IsPath k.path.half
   pub shows : shown ≡ numbers_of k.answer.brief

@@ -1,34 +1,15 @@
--- Defines what a tick, and a move to a time, leave of a path.
-use Rattle.std.specs.Prelude.{◌≡◌, ◌≤◌, ◌<◌, ◌+◌, ◌^◌, ℕ}
+-- Defines what a move of the clock to a time leaves of a path.
+use Rattle.std.specs.Prelude.{◌≡◌, ◌≤◌, ◌<◌, ◌^◌, ℕ}
 use Rattle.wf_frame.specs.Frames.{FrameValue}
 use Rattle.wf_frame.specs.declared.answers.Brief.TheVariants.{Now, Refused}
 use Rattle.wf_frame.specs.declared.notes.Refusal.TheVariants.{BadTick}
 use Rattle.wf_def_world.specs.World.{World}
+use Rattle.wf_send_half.specs.Clock.{at_time}
 use Rattle.wf_send_half_model.specs.Standing.{StandsFor}
-use Rattle.wf_path.specs.Paths.{IsPath, IsSmall}
+use Rattle.wf_path.specs.Paths.{IsPath}
 use Rattle.wf_c.specs.Numbers.{numbers_of}
 use Rattle.wf_c.specs.declared.held.Held.{Held}
 use Rattle.wf_c.specs.declared.reply.Reply.{Reply}
-
--- a world at another time
-abbrev pub at_time : World → ℕ → World
-at_time w clock = record w { clock = clock }
-
--- The effect of a tick that is not refused: h before, k after, and the caller's struct.
---
---   stands     it represents the worlds that it represented, at the later time
---   clock      its own clock is later by as much
---   small      its counts are small if the later time is
---   addresses  the addresses are unchanged
---   shows      the struct shows the time
-pub record IsTicked (h : Held) (by : ℕ) (k : Held) (shown : Reply) : Type 0 where
-  pub stands : (w : World) (bodies : ℕ → FrameValue) → StandsFor h.path.half w bodies →
-      StandsFor k.path.half (at_time w (w.clock + by)) bodies
-  pub clock : k.path.half.clock ≡ h.path.half.clock + by
-  pub small : h.path.half.clock + by < 2 ^ 62 → IsSmall h.path.half → IsSmall k.path.half
-  pub addresses : k.path.addresses ≡ h.path.addresses
-  pub path : IsPath k.path.half
-  pub shows : shown ≡ numbers_of (Now (h.path.half.clock + by))
 
 -- The effect of moving the clock to a time: h before, k after, and the caller's struct, which shows the
 -- answer of one tick to that time.
@@ -36,6 +17,7 @@ pub record IsMovedTo (h : Held) (now : ℕ) (k : Held) (shown : Reply) : Type 0 
   pub stands : (w : World) (bodies : ℕ → FrameValue) → StandsFor h.path.half w bodies →
       StandsFor k.path.half (at_time w now) bodies
   pub addresses : k.path.addresses ≡ h.path.addresses
+  pub reserve : h.reserve ≤ k.reserve
   pub path : IsPath k.path.half
   pub shows : shown ≡ numbers_of (Now now)
 

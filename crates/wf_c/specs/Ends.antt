@@ -1,5 +1,5 @@
 -- Defines the codes and structs of an open exchange, and what its end leaves of a path.
-use Rattle.std.specs.Prelude.{◌≡◌, ℕ, List, Bool, true, false, Option, Some, None}
+use Rattle.std.specs.Prelude.{◌≡◌, ◌≤◌, ℕ, List, Bool, true, false, Option, Some, None}
 use Rattle.wf_octets.specs.declared.block.decoding.BlockFault.TheVariants.{Length, Kind, NotCompressed, MultiTid, Fragment, NotWide}
 use Rattle.wf_frame.specs.Refusals.{refusal_number}
 use Rattle.wf_frame.specs.declared.notes.Refusal.TheVariants as refusal
@@ -32,6 +32,7 @@ abbrev pub write_code : Option PathFault → ℕ
 write_code None = 0
 write_code (Some fault.NoExchange) = refusal_number refusal.NoExchange
 write_code (Some fault.BadIndex) = refusal_number refusal.BadIndex
+write_code (Some fault.NoBody) = 45
 write_code (Some (fault.SmallBuffer need)) = 42
 
 -- the code of an end by octets, for a fault of the octets
@@ -66,8 +67,9 @@ needs (Some other) was n = n ≡ was
 needs None was n = Unit {0}
 
 -- The effect of the end of exchange e: h before, k after, and the caller's struct. `heard` is the BlockAck
--- that was heard, if any, and `air` the airtime that was given, if any.
+-- that was heard, if any, and `air` the airtime that was given, if any. No node of the reserve is taken.
 pub record IsExchangeEnded (h : Held) (e : ℕ) (heard : Option (ℕ × List ℕ)) (air : Option ℕ) (k : Held)
     (shown : Reply) : Type 0 where
   pub ended : IsEnded h.path e heard air k.path k.answer.brief
+  pub reserve : h.reserve ≤ k.reserve
   pub shows : shown ≡ numbers_of k.answer.brief

@@ -1,6 +1,7 @@
 -- Lists the modules of specs/ of wf_c.
 pub mod Addresses
 pub mod Bodies
+pub mod Bursts
 pub mod CallNumbers
 pub mod Calls
 pub mod CellAnswers

@@ -7,7 +7,7 @@ use Rattle.wf_c.specs.declared.settings.Settings.{Settings}
 
 -- the place of the first reserved number: it follows the settings
 abbrev pub first_reserved : ℕ
-first_reserved = 19
+first_reserved = 20
 
 -- the place of the first reserved number that is not 0, if any
 abbrev pub first_set : List ℕ → Option ℕ
@@ -40,6 +40,7 @@ config_of s = record {
   keep_order = s.keep_order;
   codel_reset = s.codel_reset;
   aql = s.aql;
+  pending = s.pending;
 }
 
 -- end settings

@@ -1,6 +1,7 @@
 -- Defines how the fields of a struct show an answer.
-use Rattle.std.specs.Prelude.{ℕ, ◌==◌, not, Bool, true, false, Option, Some, None, pos, if◌then◌else◌}
-use Rattle.wf_frame.specs.Classes.{class_number, fate_number}
+use Rattle.std.specs.Prelude.{ℕ, ◌==◌, not, Bool, true, false, Option, Some, None, pos, slice_get, if◌then◌else◌}
+use Rattle.wf_frame.specs.Classes.{all_classes, class_number, fate_number}
+use Rattle.wf_frame.specs.declared.classes.Class.{Class}
 use Rattle.wf_frame.specs.declared.answers.Brief.{Brief}
 use Rattle.wf_frame.specs.declared.answers.Brief.TheVariants.{Joined, Set, Now, Accepted, Send, Released, Ba, Done, Slept, Woken, Polled, Charged, Reaped, Refused}
 use Rattle.wf_frame.specs.declared.answers.Brief.TheVariants as brief
@@ -17,6 +18,14 @@ use Rattle.wf_c.specs.declared.reply.Reply.{Reply}
 abbrev pub flag_of : Bool → ℕ
 flag_of false = 0
 flag_of true = 1
+
+-- the class that a number names: 0 to 3 name one
+abbrev pub class_shown : ℕ → Option Class
+class_shown n = slice_get all_classes n
+
+-- the code of a number that names no class
+abbrev pub bad_class : ℕ
+bad_class = 47
 
 -- the list of a class that contains a station: 1 the new one, 2 the old one, 0 neither
 abbrev pub list_number : Option Side → ℕ

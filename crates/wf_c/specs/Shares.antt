@@ -1,10 +1,11 @@
 -- Defines how structs show counts and airtime, and the codes of the functions that read them.
-use Rattle.std.specs.Prelude.{◌≡◌, ℕ, nat_lt, Option, Some, None, if◌then◌else◌}
+use Rattle.std.specs.Prelude.{◌≡◌, ℕ, nat_lt, Bool, true, false, Option, Some, None, if◌then◌else◌}
 use Rattle.wf_frame.specs.declared.classes.Class.{Class}
 use Rattle.wf_frame.specs.Refusals.{refusal_number}
 use Rattle.wf_frame.specs.declared.notes.Refusal.TheVariants as refusal
 use Rattle.wf_def_world.specs.World.{World, is_live, share}
 use Rattle.wf_send_parts.specs.Tally.{Counts}
+use Rattle.wf_c.specs.Numbers.{bad_class}
 use Rattle.wf_c.specs.declared.readers.NoSession.{NoSession}
 use Rattle.wf_c.specs.declared.readers.NoSession.TheVariants.{BadTid, NoStation}
 use Rattle.wf_c.specs.declared.readers.Share.{Share}
@@ -28,6 +29,13 @@ abbrev pub session_code : Option NoSession → ℕ
 session_code None = 0
 session_code (Some BadTid) = bad_tid_code
 session_code (Some NoStation) = no_station_code
+
+-- the code of reading a station's airtime in a class: the class, if there is one with the caller's number,
+-- and whether the station is live
+abbrev pub share_code : Option Class → Bool → ℕ
+share_code None live = bad_class
+share_code (Some c) true = 0
+share_code (Some c) false = no_station_code
 
 -- the counts that the caller's struct shows
 abbrev pub counts_shown : Tally → Counts

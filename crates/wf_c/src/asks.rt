@@ -2,13 +2,13 @@
 //!
 //! Each writes its answer to the caller's `Reply`, and returns its refusal, or 0 if it was not refused.
 
-ghost use Rattle.std.specs.Prelude.{◌≡◌, true, is_some, pos, IfSome};
-ghost use Rattle.wf_frame.specs.Classes.{all_classes, class_among};
+ghost use Rattle.std.specs.Prelude.{◌≡◌, true, is_some, pos, IfSome, IfNone, OnSome};
 ghost use Rattle.wf_frame.specs.declared.notes.Ask.TheVariants.{Join, Leave, Rate, Tick, Pull, Sleep, Wake, Poll, Rx};
 ghost use Rattle.wf_frame.specs.declared.notes.AskedRate.TheVariants.{Ht, Vht, He};
 ghost use Rattle.wf_path.specs.Jobs.{as_ask};
+ghost use Rattle.wf_c.specs.Bodies.{IsUntouched};
 ghost use Rattle.wf_c.specs.Calls.{Becomes, HoldsSmall, IsCalled};
-ghost use Rattle.wf_c.specs.Numbers.{is_up};
+ghost use Rattle.wf_c.specs.Numbers.{bad_class, class_shown, is_up};
 ghost use Rattle.wf_c.specs.Pulled.{ShowsAggregate};
 
 use crate::pulled::Frames;
@@ -30,15 +30,19 @@ impl PathSlot {
     }
 }
 
-// The class of a number, 0 to 3. A greater number means the last class.
-pub(crate) fn class_of_number(number: u8) -> Class
-    ensures { result ≡ class_among all_classes number }
+/// The code of a class above 3.
+pub(crate) const BAD_CLASS: i32 = 47;
+
+// The class of a number. None if it is above 3.
+pub(crate) fn class_of_number(number: u8) -> Option<Class>
+    ensures { result ≡ class_shown number }
 {
     match number {
-        0 => Class::Bk,
-        1 => Class::Be,
-        2 => Class::Vi,
-        _ => Class::Vo,
+        0 => Some(Class::Bk),
+        1 => Some(Class::Be),
+        2 => Some(Class::Vi),
+        3 => Some(Class::Vo),
+        _ => None,
     }
 }
 
@@ -200,7 +204,8 @@ pub extern "C" fn wf_path_poll(path: &mut PathSlot, station: u16, reply: &mut Re
     path.ask(PathAsk::Poll { station }, reply)
 }
 
-/// Charges a station for `air` microseconds that it used to send in a class.
+/// Charges a station for `air` microseconds that it used to send in a class. Returns 47 if the class is above
+/// 3, and then nothing has changed.
 #[unsafe(no_mangle)]
 pub extern "C" fn wf_path_rx(
     path: &mut PathSlot,
@@ -211,20 +216,26 @@ pub extern "C" fn wf_path_rx(
 ) -> i32
     requires open { is_some path.old.value ≡ true }
     requires small { HoldsSmall path.old.value }
-    ensures called { Becomes (λ h k. IsCalled h
-        (Rx station (class_among all_classes class) air) k reply.new) path.old.value path.new.value }
-    ensures code { result ≡ pos reply.new.refusal }
+    ensures called { IfSome (class_shown class) (λ c. Becomes (λ h k. IsCalled h
+        (Rx station c air) k reply.new × (result ≡ pos reply.new.refusal)) path.old.value path.new.value) }
+    ensures refused { IfNone (class_shown class)
+        (IsUntouched path.old.value path.new.value reply.old reply.new result bad_class) }
 {
-    let ask = PathAsk::Rx {
-        station,
-        class: class_of_number(class),
-        air,
-    };
-    path.ask(ask, reply)
+    match class_of_number(class) {
+        Some(class) => path.ask(
+            PathAsk::Rx {
+                station,
+                class,
+                air,
+            },
+            reply,
+        ),
+        None => BAD_CLASS,
+    }
 }
 
 /// Opens the next exchange of a class. If it sends an aggregate, `frames` gets its frames; otherwise their
-/// count is 0.
+/// count is 0. Returns 47 if the class is above 3, and then nothing has changed.
 #[unsafe(no_mangle)]
 pub extern "C" fn wf_path_pull(
     path: &mut PathSlot,
@@ -234,12 +245,17 @@ pub extern "C" fn wf_path_pull(
 ) -> i32
     requires open { is_some path.old.value ≡ true }
     requires small { HoldsSmall path.old.value }
-    ensures called { Becomes (λ h k. IsCalled h
-        (Pull (class_among all_classes class)) k reply.new) path.old.value path.new.value }
-    ensures frames { IfSome path.new.value (λ k. ShowsAggregate frames.new k.answer.brief k.answer.pairs) }
-    ensures code { result ≡ pos reply.new.refusal }
+    ensures called { IfSome (class_shown class) (λ c. Becomes (λ h k. IsCalled h
+        (Pull c) k reply.new × (result ≡ pos reply.new.refusal)) path.old.value path.new.value) }
+    ensures frames { OnSome (class_shown class) (IfSome path.new.value
+        (λ k. ShowsAggregate frames.new k.answer.brief k.answer.pairs)) }
+    ensures refused { IfNone (class_shown class)
+        (IsUntouched path.old.value path.new.value reply.old reply.new result bad_class) }
+    ensures kept { IfNone (class_shown class) (frames.new ≡ frames.old) }
 {
-    let class = class_of_number(class);
+    let Some(class) = class_of_number(class) else {
+        return BAD_CLASS;
+    };
     let held = path.held();
     *reply = held.pull(class);
     frames.show(&held.answer);

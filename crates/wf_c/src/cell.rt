@@ -3,6 +3,7 @@
 
 pub(crate) mod answers;
 pub(crate) mod asks;
+pub(crate) mod burst;
 pub(crate) mod calls;
 pub(crate) mod frames;
 pub(crate) mod held;

@@ -9,10 +9,10 @@ ghost use Rattle.wf_send_half_model.specs.Standing.{StandsFor};
 ghost use Rattle.std.specs.Result.{result_err};
 ghost use Rattle.wf_path.specs.Answers.{block_ack_in};
 ghost use Rattle.wf_path.specs.Transmissions.{sent_of, id_sent, tag_sent, octets_sent, header_sent};
-ghost use Rattle.wf_path.specs.Writing.{write_fault, write_header_fault};
+ghost use Rattle.wf_path.specs.Writing.{mpdu_fault, write_header_fault};
 ghost use Rattle.wf_path.specs.Driver.{end_fault};
 ghost use Rattle.wf_path.specs.Paths.{IsSmall};
-ghost use Rattle.wf_c.specs.Calls.{Becomes, HoldsFor, HoldsSmall, addresses_held};
+ghost use Rattle.wf_c.specs.Calls.{Becomes, HoldsFor, HoldsSmall, addresses_held, reserve_held};
 ghost use Rattle.wf_c.specs.Ends.{IsExchangeEnded, end_code, id_code, needs, octets_code, sent_code, sent_shown, write_code};
 ghost use Rattle.wf_c.specs.Numbers.{named_air};
 
@@ -138,13 +138,15 @@ pub extern "C" fn wf_path_header(
         Ok(()) => 0,
         Err(PathFault::NoExchange) => refusal_code(Refusal::NoExchange),
         Err(PathFault::BadIndex) => refusal_code(Refusal::BadIndex),
+        Err(PathFault::NoBody) => NO_BODY,
         Err(PathFault::SmallBuffer { .. }) => SMALL_BUFFER,
     }
 }
 
 /// Writes the octets of one transmission, and their number to `size`. Returns 0; 12 if the exchange is not
-/// open; 9 if it has no transmission with that index; or 42 if `out` is too small. After an error `out` is
-/// unchanged; after 42 `size` is the number of octets that are needed, and after 12 and 9 it is unchanged.
+/// open; 9 if it has no transmission with that index; 45 if its frame is bare; or 42 if `out` is too small.
+/// After an error `out` is unchanged; after 42 `size` is the number of octets that are needed, and after the
+/// other errors it is unchanged.
 #[unsafe(no_mangle)]
 pub extern "C" fn wf_path_mpdu(
     path: &mut PathSlot,
@@ -155,7 +157,7 @@ pub extern "C" fn wf_path_mpdu(
 ) -> i32
     requires open { is_some path.old.value ≡ true }
     ensures code { (w : World) (bodies : ℕ → FrameValue) → HoldsFor path.old.value w bodies →
-        result ≡ pos (write_code (write_fault (addresses_held path.old.value) w bodies exchange index
+        result ≡ pos (write_code (mpdu_fault (addresses_held path.old.value) w bodies exchange index
         (length out.old))) }
     ensures octets { (w : World) (bodies : ℕ → FrameValue) → HoldsFor path.old.value w bodies →
         result ≡ pos 0 →
@@ -164,7 +166,7 @@ pub extern "C" fn wf_path_mpdu(
     ensures rest { result ≡ pos 0 → drop size.new out.new ≡ drop size.new out.old }
     ensures fault { (result ≡ pos 0) ⊎ (out.new ≡ out.old) }
     ensures need { (w : World) (bodies : ℕ → FrameValue) → HoldsFor path.old.value w bodies →
-        needs (write_fault (addresses_held path.old.value) w bodies exchange index (length out.old))
+        needs (mpdu_fault (addresses_held path.old.value) w bodies exchange index (length out.old))
         size.old size.new }
     ensures unchanged { path.new.value ≡ path.old.value }
 {
@@ -175,6 +177,7 @@ pub extern "C" fn wf_path_mpdu(
         }
         Err(PathFault::NoExchange) => refusal_code(Refusal::NoExchange),
         Err(PathFault::BadIndex) => refusal_code(Refusal::BadIndex),
+        Err(PathFault::NoBody) => NO_BODY,
         Err(PathFault::SmallBuffer { need }) => {
             *size = need;
             SMALL_BUFFER
@@ -185,6 +188,9 @@ pub extern "C" fn wf_path_mpdu(
 /// The code of a buffer that is too small.
 pub(crate) const SMALL_BUFFER: i32 = 42;
 
+/// The code of a transmission whose frame is bare.
+const NO_BODY: i32 = 45;
+
 // The airtime that a number gives; 0 gives none.
 pub(crate) fn named_air(air: u32) -> Option<u32>
     ensures { result ≡ named_air air }
@@ -194,7 +200,12 @@ pub(crate) fn named_air(air: u32) -> Option<u32>
 
 impl Held {
     // Ends an exchange by its BlockAck, or without one.
-    fn end(&mut self, exchange: u64, heard: Option<(Seq12, Bits256)>, air: Option<u32>) -> Reply
+    pub(crate) fn end(
+        &mut self,
+        exchange: u64,
+        heard: Option<(Seq12, Bits256)>,
+        air: Option<u32>,
+    ) -> Reply
         requires small { IsSmall self.old.path.half }
         ensures { IsExchangeEnded self.old exchange heard air self.new result }
     {
@@ -220,6 +231,7 @@ impl Held {
         ensures ended { IfOk result (λ shown. IsExchangeEnded self.old exchange
             (Some (block_ack_in octets.now)) air self.new shown) }
         ensures refused { is_bad_air self.old.path.half.config air ≡ true → self.new.path ≡ self.old.path }
+        ensures reserve { self.old.reserve ≤ self.new.reserve }
     {
         self.answer.brief = self.path.done_bytes(exchange, Some(octets), air)?;
         Ok(Reply::of(self.answer.brief))
@@ -310,6 +322,7 @@ pub extern "C" fn wf_path_done_octets(
         (block_ack_in octets.now)) (named_air air) k reply.new) path.old.value path.new.value) }
     ensures fault { (result ≡ pos 0) ⊎ Becomes (λ h k. k.path ≡ h.path) path.old.value path.new.value }
     ensures kept { (result ≡ pos 0) ⊎ (reply.new ≡ reply.old) }
+    ensures reserve { reserve_held path.old.value ≤ reserve_held path.new.value }
 {
     let air = named_air(air);
     let held = path.held();

@@ -2,8 +2,8 @@
 
 ghost use Rattle.std.specs.Prelude.{◌≡◌, ◌⊎◌, ◌≤◌, true, false, is_some, pos, take, drop, length, IfOk, IfErr};
 ghost use Rattle.wf_def_lists.specs.Lengths.{greatest_body};
-ghost use Rattle.wf_path.specs.Paths.{IsSmall};
-ghost use Rattle.wf_c.specs.Calls.{Becomes, HoldsSmall};
+ghost use Rattle.wf_path.specs.Paths.{IsSmall, RiseLittle};
+ghost use Rattle.wf_c.specs.Calls.{Becomes, HoldsSmall, reserve_held};
 ghost use Rattle.wf_c.specs.Bodies.{FitsCause, IsAbout, IsBadLength, IsBodyLength, IsGivenToC, IsReapedFromC, IsUntouched, ShowsBack, ShowsFrame, bad_length, frame_shown, is_small_buffer, small_buffer, source_named};
 ghost use Rattle.wf_c.specs.Making.{no_memory};
 
@@ -56,16 +56,14 @@ pub struct Packet<'a> {
     pub tid: u8,
 }
 
-impl<'a> Packet<'a> {
-    // The source address of its frame.
-    fn source(&self) -> [u8; 6]
-        ensures { result ≡ source_named self.now.source }
-    {
-        if self.source == [0; 6] {
-            source_address()
-        } else {
-            self.source
-        }
+// The source address of the frame of a packet with this source.
+pub(crate) fn named_source(source: [u8; 6]) -> [u8; 6]
+    ensures { result ≡ source_named source }
+{
+    if source == [0; 6] {
+        source_address()
+    } else {
+        source
     }
 }
 
@@ -83,7 +81,7 @@ pub(crate) fn frame_of(alloc: Global, station: u16, packet: &Packet) -> Result<P
     let Ok(mut frame) = Frame::new(station, packet.tid, packet.flow, octets) else {
         return Err(NoFrame::BadLength);
     };
-    frame.set_source(packet.source());
+    frame.set_source(named_source(packet.source));
     frame.set_tag(packet.tag);
     match Parcel::new(alloc, frame) {
         Ok(parcel) => Ok(parcel),
@@ -92,33 +90,37 @@ pub(crate) fn frame_of(alloc: Global, station: u16, packet: &Packet) -> Result<P
 }
 
 impl Held {
-    // Enqueues a frame, or frees it if it is refused.
-    fn give(&mut self, parcel: Parcel) -> Reply
+    // Enqueues a frame. If it is refused, its octets are freed, and the reserve may keep its node.
+    pub(crate) fn give(&mut self, parcel: Parcel) -> Reply
         requires small { IsSmall self.old.path.half }
-        ensures { IsGivenToC self.old parcel self.new result }
+        ensures given { IsGivenToC self.old parcel self.new result }
+        ensures reserve { self.old.reserve ≤ self.new.reserve }
+        ensures rises { RiseLittle self.old.path.half self.new.path.half }
     {
-        let _ = self.path.call(PathJob::Give(parcel), &mut self.answer);
+        let back = self.path.call(PathJob::Give(parcel), &mut self.answer);
+        self.reserve.keep_any(back);
         Reply::of(self.answer.brief)
     }
 
-    // Takes out the first finished frame.
+    // Takes out the first finished frame. Its octets are freed, and the reserve may keep its node.
     fn reap(&mut self, taken: &mut Taken, body: &mut [u8]) -> Reply
         requires small { IsSmall self.old.path.half }
         ensures { IsReapedFromC self.old self.new result taken.old body.old taken.new body.new }
     {
         let back = self.path.call(PathJob::Reap, &mut self.answer);
-        show_back(back, taken, body);
+        show_back(&back, taken, body);
+        self.reserve.keep_any(back);
         Reply::of(self.answer.brief)
     }
 }
 
-// Shows a frame that was reaped, if any, and frees it. Its body goes to the front of a buffer that has room;
-// the rest of the buffer is unchanged.
-pub(crate) fn show_back(back: Option<Parcel>, taken: &mut Taken, body: &mut [u8])
-    ensures { ShowsBack back taken.old body.old taken.new body.new }
+// Shows a frame that was reaped, if any. Its body goes to the front of a buffer that has room, unless it is
+// bare; the rest of the buffer is unchanged.
+pub(crate) fn show_back(back: &Option<Parcel>, taken: &mut Taken, body: &mut [u8])
+    ensures { ShowsBack back.now taken.old body.old taken.new body.new }
 {
     if let Some(parcel) = back {
-        taken.show(&parcel, body);
+        taken.show(parcel, body);
     }
 }
 
@@ -146,15 +148,20 @@ pub struct Taken {
     pub fate: u8,
     /// How often it was sent, at most 64.
     pub attempts: u8,
+    /// 1 if its octets stayed with its owner, else 0.
+    pub bare: u8,
 }
 
 impl Taken {
-    // Shows a frame, and its body in a buffer that has room.
+    // Shows a frame, and its body in a buffer that has room, unless it is bare.
     fn show(&mut self, parcel: &Parcel, body: &mut [u8])
         ensures { ShowsFrame parcel.now self.new body.old body.new }
     {
         let frame = parcel.frame();
         *self = Taken::of(frame);
+        if frame.is_bare() {
+            return;
+        }
         if usize::from(GREATEST_BODY) <= body.len() {
             copy_to_front(frame.body(), body);
         }
@@ -176,6 +183,7 @@ impl Taken {
             tid: frame.tid(),
             fate: frame.fate().number(),
             attempts: frame.attempts(),
+            bare: u8::from(frame.is_bare()),
         }
     }
 }
@@ -215,6 +223,7 @@ pub extern "C" fn wf_path_enqueue(
         IsUntouched path.old.value path.new.value reply.old reply.new result no_memory }
     ensures refused { IsBadLength (length packet.now.body.now) →
         IsUntouched path.old.value path.new.value reply.old reply.new result bad_length }
+    ensures reserve { reserve_held path.old.value ≤ reserve_held path.new.value }
 {
     match frame_of(alloc, station, packet) {
         Ok(parcel) => {
@@ -227,8 +236,8 @@ pub extern "C" fn wf_path_enqueue(
 }
 
 /// Takes out the first finished frame, and copies its body to the front of a buffer. A buffer of 0 octets
-/// gets no body. Returns the refusal, or 0; or 42 if the buffer has some room, but not for the longest body,
-/// and then nothing has changed.
+/// gets no body, and a bare frame changes no buffer. Returns the refusal, or 0; or 42 if the buffer has some
+/// room, but not for the longest body, and then nothing has changed.
 #[unsafe(no_mangle)]
 pub extern "C" fn wf_path_reap(
     path: &mut PathSlot,

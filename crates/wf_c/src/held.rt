@@ -11,15 +11,17 @@ ghost use Rattle.wf_path.specs.Paths.{IsSmall};
 ghost use Rattle.wf_c.specs.Calls.{IsCalled};
 
 use crate::reply::Reply;
+use crate::reserve::Reserve;
 use std::alloc::Global;
 use wf_frame::{Answer, Class, Config};
 use wf_path::{Path, PathAsk, PathJob};
 
-/// A path, and the buffer that each call writes its answer to.
+/// A path, the buffer that each call writes its answer to, and memory in reserve.
 #[derive(Drop)]
 pub struct Held {
     pub(crate) path: Path,
     pub(crate) answer: Answer,
+    pub(crate) reserve: Reserve,
 }
 
 impl Held {
@@ -30,6 +32,7 @@ impl Held {
             StandsFor made.value.path.half (opening config) bodies) }
         ensures small { IfSome result (λ made. IsSmall made.value.path.half) }
         ensures addresses { IfSome result (λ made. made.value.path.addresses ≡ made_up) }
+        ensures reserve { IfSome result (λ made. made.value.reserve ≡ 0) }
     {
         match Path::new(alloc, config) {
             Ok(path) => Held::boxed(alloc, path),
@@ -39,10 +42,15 @@ impl Held {
 
     // A path in its own block of memory.
     fn boxed(alloc: Global, path: Path) -> Option<Box<Held, Global>>
-        ensures { IfSome result (λ made. made.value.path ≡ path) }
+        ensures path { IfSome result (λ made. made.value.path ≡ path) }
+        ensures reserve { IfSome result (λ made. made.value.reserve ≡ 0) }
     {
-        let answer = Answer::new();
-        match Box::new(alloc, Held { path, answer }) {
+        let held = Held {
+            path,
+            answer: Answer::new(),
+            reserve: Reserve::new(alloc),
+        };
+        match Box::new(alloc, held) {
             Ok(boxed) => Some(boxed),
             Err(_) => None,
         }

@@ -11,6 +11,8 @@
 
 mod addresses;
 mod asks;
+mod bare;
+mod burst;
 mod cell;
 mod clock;
 mod crossing;
@@ -22,6 +24,7 @@ mod names;
 mod pulled;
 mod readers;
 mod reply;
+mod reserve;
 mod settings;
 mod slot;
 mod version;
@@ -31,10 +34,13 @@ pub use asks::{
     wf_path_join, wf_path_leave, wf_path_poll, wf_path_pull, wf_path_rate_he, wf_path_rate_ht,
     wf_path_rate_vht, wf_path_rx, wf_path_sleep, wf_path_tick, wf_path_wake,
 };
+pub use bare::{Bare, wf_path_enqueue_bare, wf_path_reserve};
+pub use burst::wf_path_burst;
 pub use cell::answers::{Block, PassedUp, wf_cell_block, wf_cell_frames, wf_cell_released};
 pub use cell::asks::wf_cell_ask;
+pub use cell::burst::wf_cell_burst;
 pub use cell::calls::CallNumbers;
-pub use cell::frames::{wf_cell_enqueue, wf_cell_reap};
+pub use cell::frames::{wf_cell_enqueue, wf_cell_enqueue_bare, wf_cell_reap};
 pub use cell::make::{wf_cell_free, wf_cell_make};
 pub use cell::readers::{wf_cell_entry, wf_cell_len, wf_cell_room};
 pub use cell::slot::CellSlot;
@@ -53,6 +59,6 @@ pub use readers::{
     wf_path_tim, wf_path_waiting,
 };
 pub use reply::Reply;
-pub use settings::{Settings, wf_settings_standard};
+pub use settings::{Settings, wf_settings_device, wf_settings_standard};
 pub use slot::PathSlot;
 pub use version::{Version, wf_version};

@@ -80,7 +80,7 @@ fn word_of_block(code: u32) -> &'static [u8]
     }
 }
 
-// The word for another code, 0 and 40 to 44.
+// The word for another code, 0 and 40 to 47.
 fn word_of_own(code: u32) -> &'static [u8]
     ensures word { result.now ≡ own_word code }
     ensures short { length result.now ≤ 15 }
@@ -92,6 +92,8 @@ fn word_of_own(code: u32) -> &'static [u8]
         42 => b"small-buffer",
         43 => b"bad-call",
         44 => b"bad-address",
+        45 => b"no-body",
+        47 => b"bad-class",
         _ => UNKNOWN,
     }
 }
@@ -159,7 +161,7 @@ fn word_of_fate(fate: u32) -> &'static [u8]
     }
 }
 
-/// Writes the word for a setting, by its place, 1 to 18; `?` for any other number.
+/// Writes the word for a setting, by its place, 1 to 19; `?` for any other number.
 #[unsafe(no_mangle)]
 pub extern "C" fn wf_setting_name(place: i32, name: &mut [u8; 16])
     ensures { name.new ≡ name_text (word_at setting_word_at place) }

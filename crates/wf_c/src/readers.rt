@@ -1,8 +1,7 @@
 //! Reading a path, without a call of the machine.
 
-ghost use Rattle.std.specs.Prelude.{◌≡◌, ◌<◌, ◌⊎◌, ℕ, true, is_none, is_some, pos, length, take, drop, IfOk, IfSome, if◌then◌else◌};
+ghost use Rattle.std.specs.Prelude.{◌≡◌, ◌<◌, ◌⊎◌, ℕ, true, is_none, is_some, pos, length, take, drop, IfOk, IfSome, IfNone};
 ghost use Rattle.std.specs.Result.{result_err};
-ghost use Rattle.wf_frame.specs.Classes.{all_classes, class_among};
 ghost use Rattle.wf_frame.specs.Frames.{FrameValue};
 ghost use Rattle.wf_frame.specs.declared.notes.Ask.TheVariants.{Pull};
 ghost use Rattle.wf_frame.specs.declared.notes.Note.TheVariants.{Asked};
@@ -15,10 +14,10 @@ ghost use Rattle.wf_send_half.specs.Half.{IsLive};
 ghost use Rattle.wf_send_half_model.specs.Standing.{StandsFor, counts_in};
 ghost use Rattle.wf_send_half.specs.Listed.{list_of};
 ghost use Rattle.wf_c.specs.Calls.{HoldsFor, HoldsSmall};
-ghost use Rattle.wf_c.specs.Numbers.{flag_of, list_number};
-ghost use Rattle.wf_c.specs.Shares.{ShowsShare, counts_shown, no_station_code, session_code, session_fault};
+ghost use Rattle.wf_c.specs.Numbers.{class_shown, flag_of, list_number};
+ghost use Rattle.wf_c.specs.Shares.{ShowsShare, counts_shown, session_code, session_fault, share_code};
 
-use crate::asks::class_of_number;
+use crate::asks::{BAD_CLASS, class_of_number};
 use crate::held::Held;
 use crate::reply::refusal_code;
 use crate::slot::PathSlot;
@@ -137,8 +136,8 @@ impl Held {
     }
 }
 
-/// Writes a live station's airtime in a class. Returns 0; or 11 if the station is not live, and then writes
-/// nothing.
+/// Writes a live station's airtime in a class. Returns 0; 47 if the class is above 3; or 11 if the station is
+/// not live. After an error it writes nothing.
 #[unsafe(no_mangle)]
 pub extern "C" fn wf_path_share(
     path: &mut PathSlot,
@@ -148,14 +147,17 @@ pub extern "C" fn wf_path_share(
 ) -> i32
     requires open { is_some path.old.value ≡ true }
     ensures code { (w : World) (bodies : ℕ → FrameValue) → HoldsFor path.old.value w bodies →
-        result ≡ pos (if is_live w station then 0 else no_station_code) }
+        result ≡ pos (share_code (class_shown class) (is_live w station)) }
     ensures shown { (w : World) (bodies : ℕ → FrameValue) → HoldsFor path.old.value w bodies →
         is_live w station ≡ true →
-        ShowsShare w station (class_among all_classes class) share.new }
+        IfSome (class_shown class) (λ c. ShowsShare w station c share.new) }
     ensures kept { (result ≡ pos 0) ⊎ (share.new ≡ share.old) }
     ensures unchanged { path.new.value ≡ path.old.value }
 {
-    match path.held().share(station, class_of_number(class)) {
+    let Some(class) = class_of_number(class) else {
+        return BAD_CLASS;
+    };
+    match path.held().share(station, class) {
         Some(shown) => {
             *share = shown;
             0
@@ -164,15 +166,19 @@ pub extern "C" fn wf_path_share(
     }
 }
 
-/// Returns 1 if a pull of a class would send now, or 0 if it would be refused.
+/// Returns 1 if a pull of a class would send now, or 0 if it would be refused, or if the class is above 3.
 #[unsafe(no_mangle)]
 pub extern "C" fn wf_path_can_pull(path: &mut PathSlot, class: u8) -> i32
     requires open { is_some path.old.value ≡ true }
     ensures world { (w : World) (bodies : ℕ → FrameValue) → HoldsFor path.old.value w bodies →
-        result ≡ pos (flag_of (is_none (refusal w (Asked (Pull (class_among all_classes class)))))) }
+        IfSome (class_shown class) (λ c. result ≡ pos (flag_of (is_none (refusal w (Asked (Pull c)))))) }
+    ensures no_class { IfNone (class_shown class) (result ≡ pos 0) }
     ensures unchanged { path.new.value ≡ path.old.value }
 {
-    number_of_flag(path.held().path.can_pull(class_of_number(class)))
+    match class_of_number(class) {
+        Some(class) => number_of_flag(path.held().path.can_pull(class)),
+        None => 0,
+    }
 }
 
 // The number of a flag: 1 if it is set, else 0.
@@ -183,15 +189,19 @@ fn number_of_flag(flag: bool) -> i32
 }
 
 /// Returns the list of a class that contains a station: 1 the new list, 2 the old list, or 0 neither, as for
-/// a station that is not live.
+/// a station that is not live, and for a class above 3.
 #[unsafe(no_mangle)]
 pub extern "C" fn wf_path_listed(path: &mut PathSlot, station: u16, class: u8) -> i32
     requires open { is_some path.old.value ≡ true }
     ensures world { (w : World) (bodies : ℕ → FrameValue) → HoldsFor path.old.value w bodies →
-        result ≡ pos (list_number (list_of (rotation w (class_among all_classes class)) station)) }
+        IfSome (class_shown class) (λ c. result ≡ pos (list_number (list_of (rotation w c) station))) }
+    ensures no_class { IfNone (class_shown class) (result ≡ pos 0) }
     ensures unchanged { path.new.value ≡ path.old.value }
 {
-    number_of_list(path.held().path.listed(station, class_of_number(class)))
+    match class_of_number(class) {
+        Some(class) => number_of_list(path.held().path.listed(station, class)),
+        None => 0,
+    }
 }
 
 // The number of a list of a class; 0 for none.

@@ -1,13 +1,13 @@
 //! The settings of a path, in a struct of the caller's.
 
 ghost use Rattle.std.specs.Prelude.{◌≡◌, ◌<◌, ◌==◌, not, position, replicate, IfSome};
-ghost use Rattle.wf_frame.specs.Settings.{standard};
+ghost use Rattle.wf_frame.specs.Settings.{standard, device};
 ghost use Rattle.wf_c.specs.Making.{bad_place, config_of, first_set};
 
 use wf_frame::Config;
 
 // The place of the first reserved number: it follows the settings.
-const FIRST_RESERVED: u8 = 19;
+const FIRST_RESERVED: u8 = 20;
 
 /// The settings of a path: those of `wf_frame::Config`, in its order, with the same units and ranges.
 #[repr(C)]
@@ -32,9 +32,10 @@ pub struct Settings {
     pub keep_order: u32,
     pub codel_reset: u32,
     pub aql: u32,
+    pub pending: u32,
     // end fields
     /// Room for later settings: each has to be 0.
-    pub reserved: [u32; 14],
+    pub reserved: [u32; 13],
 }
 
 impl Settings {
@@ -62,6 +63,7 @@ impl Settings {
             keep_order: self.keep_order,
             codel_reset: self.codel_reset,
             aql: self.aql,
+            pending: self.pending,
             // end config
         }
     }
@@ -90,21 +92,19 @@ impl Settings {
     // The index of the first reserved number that is not 0.
     fn first_set(&self) -> Option<usize>
         ensures index { result ≡ position (λ number. not (number == 0)) self.now.reserved }
-        ensures inside { IfSome result (λ i. i < 14) }
+        ensures inside { IfSome result (λ i. i < 13) }
     {
         self.reserved.iter().position(|number| *number != 0)
     }
 }
 
-/// Writes the standard settings, which a trace has unless it gives others.
-#[unsafe(no_mangle)]
-pub extern "C" fn wf_settings_standard(settings: &mut Settings)
-    ensures config { config_of settings.new ≡ standard }
-    ensures reserved { settings.new.reserved ≡ replicate 14 0 }
+// The settings as the caller's struct has them.
+fn shown(config: &Config) -> Settings
+    ensures config { config_of result ≡ config.now }
+    ensures reserved { result.reserved ≡ replicate 13 0 }
 {
-    let config = Config::standard();
-    *settings = Settings {
-        // begin standard: tools/tables writes these lines
+    Settings {
+        // begin shown: tools/tables writes these lines
         stations: config.stations,
         flows: config.flows,
         limit: config.limit,
@@ -123,7 +123,26 @@ pub extern "C" fn wf_settings_standard(settings: &mut Settings)
         keep_order: config.keep_order,
         codel_reset: config.codel_reset,
         aql: config.aql,
-        // end standard
-        reserved: [0; 14],
-    };
+        pending: config.pending,
+        // end shown
+        reserved: [0; 13],
+    }
+}
+
+/// Writes the standard settings, which a trace has unless it gives others.
+#[unsafe(no_mangle)]
+pub extern "C" fn wf_settings_standard(settings: &mut Settings)
+    ensures config { config_of settings.new ≡ standard }
+    ensures reserved { settings.new.reserved ≡ replicate 13 0 }
+{
+    *settings = shown(&Config::standard());
+}
+
+/// Writes the settings for devices (`Config::device`).
+#[unsafe(no_mangle)]
+pub extern "C" fn wf_settings_device(settings: &mut Settings)
+    ensures config { config_of settings.new ≡ device }
+    ensures reserved { settings.new.reserved ≡ replicate 13 0 }
+{
+    *settings = shown(&Config::device());
 }

@@ -93,7 +93,7 @@ fn written(path: &Path, exchange: u64, index: u16, octets: &mut [u8; GREATEST_MP
         exchange_in w exchange ≡ Some x →
         index < transmissions x.content → IsSentTo x.station x.tid index x.content (take result octets.new) }
 {
-    match path.mpdu(exchange, index, octets) {
+    match path.mpdu_with_zeros(exchange, index, octets) {
         Ok(len) => len,
         Err(_) => unreachable!(),
     }

@@ -13,6 +13,8 @@ use Rattle.wf_def_agreement.specs.Session.{Session}
 use Rattle.wf_def_world.specs.World.{World, Station, Exchange, session, receiver, is_live, exchange, with_station, without_exchange, opening}
 use Rattle.wf_def_world.specs.CanSend.{with_listings_of}
 use Rattle.wf_def_world.specs.Refusals.{refusal}
+use Rattle.wf_def_world.specs.Exchanges.{after_pick}
+use Rattle.wf_frame.specs.declared.classes.Class.{Class}
 use Rattle.wf_def_world.specs.Step.{after_tids_left, without_listings, leave_outcome, rate_outcome, tick_outcome, done_outcome, outcome_where_open, sleep_outcome, wake_outcome, poll_outcome, rx_outcome, reap_outcome, outcome_of, concerned_station, after_refusal, judged_outcome, step}
 use Rattle.wf_law_runs.proofs.Windows.Sides.{Side, Same, sides_of, then_same, same_on_station, same_on_share, same_listed, same_after_pick}
 use Rattle.wf_law_runs.proofs.Windows.Agreed.{IsLawful, lawful, same_left_tids, same_off_lists}
@@ -173,9 +175,14 @@ left_untold (Asked (Poll s)) w k = left_same w _ (same_on_station w s _ (λ x t.
 left_untold (Asked (Rx s c air)) w k = left_same w _ (same_on_share w s c _)
 left_untold (Asked Reap) w k = left_reaped w.finished w
 
+-- An idle pull leaves what receivers have, whether it changes the lists or not.
+left_idle : (b : Bool) (w : World) (c : Class) → IsLeft w (if b then w else after_pick w c)
+left_idle true w c = left_here w w refl refl
+left_idle false w c = left_same w _ (same_after_pick w c)
+
 pub left_refused : (note : Note) (r : Refusal) (w : World) → IsLeft w (after_refusal w note r)
 unfolding after_refusal
-left_refused (Asked (Pull c)) Idle w = left_same w _ (same_after_pick w c)
+left_refused (Asked (Pull c)) Idle w = left_idle (w.config.pending == 1) w c
 left_refused _ _ w = left_here w w refl refl
 
 pub refused_world : (w : World) (note : Note) (r : Refusal) → refusal w note ≡ Some r →

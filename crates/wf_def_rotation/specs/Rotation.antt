@@ -28,6 +28,14 @@ in_order r = r.old ++ r.new
 abbrev pub with_new_key : Rotation → ℕ → Rotation
 with_new_key r key = record r { new = r.new ++ key ∷ [] }
 
+-- Lists a key on the old list: appends it there.
+abbrev pub with_old_key : Rotation → ℕ → Rotation
+with_old_key r key = record r { old = r.old ++ key ∷ [] }
+
+-- Lists a key: on the new list if it is ready, otherwise on the old list.
+abbrev pub with_key_listed : Bool → Rotation → ℕ → Rotation
+with_key_listed ready r key = if ready then with_new_key r key else with_old_key r key
+
 -- Removes a key from both lists.
 abbrev pub without_key : Rotation → ℕ → Rotation
 without_key r key = record {

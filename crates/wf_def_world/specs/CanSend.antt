@@ -1,12 +1,12 @@
 -- Defines when a TID can send and when a station is ready in a class. A TID can send a BlockAckReq that
 -- is due; otherwise a number that waits in its transmit window, or a frame that can get a number there
 -- (IEEE 802.11-2012, 9.21.7.7).
-use Rattle.std.specs.Prelude.{ℕ, ◌==◌, nat_lt, Bool, true, false, not, ◌&&◌, ◌||◌, List, [], ◌∷◌, Option, Some, None, if◌then◌else◌, length}
+use Rattle.std.specs.Prelude.{ℕ, ◌==◌, nat_lt, pos, int_le, Bool, true, false, not, ◌&&◌, ◌||◌, List, [], ◌∷◌, Option, Some, None, if◌then◌else◌, length}
 use Rattle.std.specs.List.{list_any}
 use Rattle.wf_frame.specs.declared.classes.Class.{Class}
-use Rattle.wf_def_rotation.specs.Rotation.{Rotation, has_key, with_new_key}
+use Rattle.wf_def_rotation.specs.Rotation.{Rotation, has_key, with_key_listed}
 use Rattle.wf_def_agreement.specs.Session.{waiting_numbers, request_due, has_room}
-use Rattle.wf_def_world.specs.World.{World, Content, Frames, Request, station, session, is_live, rotation, owed, with_rotation}
+use Rattle.wf_def_world.specs.World.{World, Content, Frames, Request, station, session, is_live, rotation, standing, owed, with_rotation}
 use Rattle.wf_frame.specs.Classes.{lower_tid, upper_tid, same_class, all_classes}
 use Rattle.wf_def_world.specs.FlowQueues.{frames_queued}
 
@@ -57,11 +57,21 @@ may_receive w s c = (not (station w s).asleep || has_credit (station w s).credit
 abbrev pub is_ready : World → Class → ℕ → Bool
 is_ready w c s = is_live w s && (can_send_in w s c && may_receive w s c)
 
--- the station is put last on the new list of a class if it is ready there and not listed
+-- whether a station has nothing left to use in a class, with the setting `pending`
+abbrev pub is_debtor : World → Class → ℕ → Bool
+is_debtor w c s = (w.config.pending == 1) && (is_live w s && int_le (standing w s c) (pos 0))
+
+-- whether a station belongs on a list of a class: it is ready, or it has debts that age there
+abbrev pub is_to_list : World → Class → ℕ → Bool
+is_to_list w c s = is_ready w c s || is_debtor w c s
+
+-- the station is listed in a class if it belongs on a list there and is on none
 unfoldable pub with_listing_in : World → ℕ → Class → World
 with_listing_in w s c =
     let r : Rotation = rotation w c in
-    if is_ready w c s && not (has_key r s) then with_rotation w c (with_new_key r s) else w
+    if is_to_list w c s && not (has_key r s)
+    then with_rotation w c (with_key_listed (is_ready w c s) r s)
+    else w
 
 -- the same for each of these classes
 unfoldable pub with_listings_in : World → ℕ → List Class → World

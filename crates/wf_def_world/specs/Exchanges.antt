@@ -16,16 +16,16 @@ use Rattle.wf_def_codel.specs.Codel.{Item}
 use Rattle.wf_def_rotation.specs.Rotation.{in_order, need_of, Picked, pick}
 use Rattle.wf_def_agreement.specs.Session.{Session, State, slot, waiting_numbers, next_number, start_of, request_due, with_state, with_number_given, after_miss, is_failed}
 use Rattle.wf_def_agreement.specs.Receiver.{Receiver, with_arrived, with_start, Score, shows}
-use Rattle.wf_def_world.specs.World.{World, Station, Share, Mpdu, Content, Frames, Request, Exchange, station, session, share, quantum, rotation, frame, len_of, is_wide, on_station, on_session, on_share, with_rotation, with_frame_finished}
+use Rattle.wf_def_world.specs.World.{World, Station, Share, Mpdu, Content, Frames, Request, Exchange, station, session, share, standing, quantum, rotation, frame, len_of, is_wide, on_station, on_session, on_share, with_rotation, with_frame_finished}
 use Rattle.wf_frame.specs.Classes.{lower_tid, upper_tid}
 use Rattle.wf_def_world.specs.FlowQueues.{frames_queued, Taken, taken_for_tid}
 use Rattle.wf_def_world.specs.CanSend.{can_send, can_give, has_waiting, is_ready, is_request}
 
 -- ---- the station that is picked
 
--- the number of quanta that a station's deficit in a class needs to rise above 0
+-- the number of quanta that a station's standing in a class needs to rise above 0
 abbrev pub station_need : World → Class → ℕ → ℕ
-station_need w c s = need_of (quantum w s) (share w s c).deficit
+station_need w c s = need_of (quantum w s) (standing w s c)
 
 -- the pick among the stations of a class: algorithm 3, deficit round robin
 abbrev pub picked_station : World → Class → Picked

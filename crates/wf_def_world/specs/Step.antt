@@ -1,5 +1,5 @@
 -- Defines one call of the machine: the world that it leaves, and its reply.
-use Rattle.std.specs.Prelude.{ℕ, ◌+◌, ◌-◌, ◌*◌, ◌%◌, pos, ◌-ℤ◌, Bool, true, false, List, [], ◌∷◌, ◌++◌, Option, Some, None, if◌then◌else◌, length, find, unwrap_or}
+use Rattle.std.specs.Prelude.{ℕ, ◌+◌, ◌-◌, ◌*◌, ◌%◌, ◌==◌, pos, ◌-ℤ◌, Bool, true, false, List, [], ◌∷◌, ◌++◌, Option, Some, None, if◌then◌else◌, length, find, unwrap_or}
 use Rattle.wf_frame.specs.declared.classes.Class.{Class}
 use Rattle.wf_frame.specs.declared.classes.Class.TheVariants.{Bk, Be, Vi, Vo}
 use Rattle.wf_frame.specs.declared.classes.Cause.TheVariants.{Left}
@@ -250,8 +250,8 @@ abbrev pub station_of : Option Exchange → Option ℕ
 station_of None = None
 station_of (Some x) = Some x.station
 
--- the station that a call concerns, if any: it is listed after the call in each class in which it is
--- ready
+-- the station that a call concerns, if any: it is listed after the call in each class in which it belongs
+-- on a list
 abbrev pub concerned_station : World → Note → Option ℕ
 concerned_station w (Enqueue s t flow len) = Some s
 concerned_station w (Asked (Join s window start exponent weight)) = Some s
@@ -268,14 +268,14 @@ concerned_station w (Asked (Poll s)) = Some s
 concerned_station w (Asked (Rx s c air)) = Some s
 concerned_station w (Asked Reap) = None
 
--- The world after a refusal. Only Idle changes it: the pick found no ready station, gave the listed
--- ones their quanta, and emptied the lists of the class.
+-- The world after a refusal. Only Idle without the setting `pending` changes it: the pick found no ready
+-- station, gave the listed ones their quanta, and emptied the lists of the class.
 unfoldable pub after_refusal : World → Note → Refusal → World
-after_refusal w (Asked (Pull c)) Idle = after_pick w c
+after_refusal w (Asked (Pull c)) Idle = if w.config.pending == 1 then w else after_pick w c
 after_refusal w note _ = w
 
 -- the outcome of a call, refused or not. If it is not refused, the station that it concerns is listed
--- in each class in which it is ready.
+-- in each class in which it belongs on a list.
 unfoldable pub judged_outcome : World → Note → Option Refusal → Outcome
 judged_outcome w note (Some r) = record { world = after_refusal w note r; reply = Refused r }
 judged_outcome w note None =

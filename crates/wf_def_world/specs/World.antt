@@ -1,7 +1,7 @@
 -- Defines the state of the machine, and how to read and change it. Times, stations' deficits and airtime are
 -- in microseconds, lengths and queues' deficits in octets. Sequence numbers do not wrap here; on the air they
 -- are modulo 4096.
-use Rattle.std.specs.Prelude.{ℕ, ◌+◌, ◌*◌, ◌==◌, nat_lt, ℤ, pos, Bool, true, false, not, ◌&&◌, List, [], ◌∷◌, ◌++◌, Option, None, is_some, unwrap_or, option_map, if◌then◌else◌, length, map, filter, find, count_by}
+use Rattle.std.specs.Prelude.{ℕ, ◌+◌, ◌*◌, ◌==◌, nat_lt, ℤ, pos, ◌-ℤ◌, Bool, true, false, not, ◌&&◌, List, [], ◌∷◌, ◌++◌, Option, None, is_some, unwrap_or, option_map, if◌then◌else◌, length, map, filter, find, count_by}
 use Rattle.wf_frame.specs.declared.settings.Config.{Config}
 use Rattle.wf_frame.specs.declared.classes.Class.{Class}
 use Rattle.wf_frame.specs.Classes.{class_number, same_class}
@@ -232,6 +232,15 @@ owed s c (x ∷ xs) = (if (x.station == s) && same_class x.class c then x.charge
 abbrev pub owed_by_all : List Exchange → ℕ
 owed_by_all [] = 0
 owed_by_all (x ∷ xs) = x.charge + owed_by_all xs
+
+-- the airtime in flight that counts against a station's deficit in a class: none without the setting `pending`
+abbrev pub pending_air : World → ℕ → Class → ℕ
+pending_air w s c = if w.config.pending == 1 then owed s c w.opened else 0
+
+-- What a station may still use in a class, in microseconds: its deficit less the airtime in flight that
+-- counts. Linux 6.1 computes it in ieee80211_sta_deficit.
+abbrev pub standing : World → ℕ → Class → ℤ
+standing w s c = (share w s c).deficit -ℤ pos (pending_air w s c)
 
 -- the open exchange with number e, if there is one
 abbrev pub exchange : World → ℕ → Option Exchange

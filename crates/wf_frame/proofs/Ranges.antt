@@ -3,7 +3,7 @@
 use Rattle.std.proofs.Common.{◌≡◌, ◌∙◌, ◌↔◌, ℕ, zero, suc, ◌<◌, ◌≤◌, nat_le, Bool, true, false, cond, not, ◌&&◌, List, [], ◌∷◌, get_or, length, None, Some, find, refl, ap, lit<, arith}
 use Rattle.wf_frame.specs.declared.settings.Config.{Config}
 use Rattle.wf_frame.specs.declared.settings.Field.{Field}
-use Rattle.wf_frame.specs.declared.settings.Field.TheVariants.{Stations, Flows, Limit, Room, FlowQuantum, Quantum, Inflight, Attempts, Agg, Cap, Sleeping, Calls, Charge, Debt, AqlTotal, KeepOrder, CodelReset, Aql}
+use Rattle.wf_frame.specs.declared.settings.Field.TheVariants.{Stations, Flows, Limit, Room, FlowQuantum, Quantum, Inflight, Attempts, Agg, Cap, Sleeping, Calls, Charge, Debt, AqlTotal, KeepOrder, CodelReset, Aql, Pending}
 use Rattle.wf_frame.specs.Settings.{fields, lowest_of, greatest_of, value_of, with_value, is_in_range, first_out_of_range, IsInRange}
 
 -- if nothing is found, the first item does not pass and nothing is found after it
@@ -57,6 +57,7 @@ each_bounded c h AqlTotal = h.aql_total
 each_bounded c h KeepOrder = h.keep_order
 each_bounded c h CodelReset = h.codel_reset
 each_bounded c h Aql = h.aql
+each_bounded c h Pending = h.pending
 
 all_bounded : (c : Config) → ((field : Field) → IsBounded c field) → IsInRange c
 all_bounded c each = record {
@@ -78,6 +79,7 @@ all_bounded c each = record {
   keep_order = each KeepOrder;
   codel_reset = each CodelReset;
   aql = each Aql;
+  pending = each Pending;
 }
 
 -- if one setting is set to a value in its range, each setting is in its range
@@ -101,6 +103,7 @@ bounded_anew c AqlTotal AqlTotal value h b = b
 bounded_anew c KeepOrder KeepOrder value h b = b
 bounded_anew c CodelReset CodelReset value h b = b
 bounded_anew c Aql Aql value h b = b
+bounded_anew c Pending Pending value h b = b
 bounded_anew c field other value h b = each_bounded c h other
 
 -- end bounds
@@ -134,6 +137,7 @@ in_range c none =
       keep_order = bounds _ _ _ (holds 15 Stations (lit< tt));
       codel_reset = bounds _ _ _ (holds 16 Stations (lit< tt));
       aql = bounds _ _ _ (holds 17 Stations (lit< tt));
+      pending = bounds _ _ _ (holds 18 Stations (lit< tt));
     }
 
 -- end found

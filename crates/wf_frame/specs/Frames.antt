@@ -1,7 +1,9 @@
 -- Defines what contracts see of a frame.
-use Rattle.std.specs.Prelude.{ℕ, zero, suc, ◌+◌, ◌%◌, nat_lt, if◌then◌else◌, List, [], ◌∷◌, ◌++◌}
+use Rattle.std.specs.Prelude.{ℕ, zero, suc, ◌+◌, ◌%◌, nat_lt, Bool, true, false, if◌then◌else◌, List, [], ◌∷◌, ◌++◌, replicate}
 use Rattle.wf_frame.specs.declared.classes.Fate.{Fate}
 use Rattle.wf_frame.specs.declared.classes.Fate.TheVariants.{Held}
+use Rattle.wf_frame.specs.declared.frames.Body.{Body}
+use Rattle.wf_frame.specs.declared.frames.Body.TheVariants.{Octets, Length}
 
 pub record FrameValue : Type 0 where
   pub body : List ℕ
@@ -14,6 +16,17 @@ pub record FrameValue : Type 0 where
   pub tag : ℕ
   pub attempts : ℕ  -- how often it was sent
   pub fate : Fate
+  pub bare : Bool  -- whether only its owner has its octets; its body is then zeros
+
+-- the octets of a body: those of the frame, or zeros if the frame has only their number
+abbrev pub octets_of : Body → List ℕ
+octets_of (Octets v) = v.items
+octets_of (Length len) = replicate len 0
+
+-- whether a frame has only the number of its octets
+abbrev pub is_bare : Body → Bool
+is_bare (Octets v) = false
+is_bare (Length len) = true
 
 -- the octets of a source
 abbrev pub source_octets : ℕ
@@ -36,7 +49,12 @@ new_frame station tid flow body = record {
   tag = 0;
   attempts = 0;
   fate = Held;
+  bare = false;
 }
+
+-- a frame that is not accepted yet, and of whose body only the length is known
+abbrev pub bare_frame : ℕ → ℕ → ℕ → ℕ → FrameValue
+bare_frame station tid flow len = record (new_frame station tid flow (replicate len 0)) { bare = true }
 
 -- The greatest number of attempts that a frame counts. A frame is sent at most as often as the setting
 -- `attempts` allows, which is at most 64.

@@ -4,7 +4,7 @@ use Rattle.std.specs.Prelude.{ℕ, ◌==◌, ◌≤◌, nat_le, Bool, false, ◌
 use Rattle.std.specs.Str.{bytes_eq}
 use Rattle.wf_frame.specs.declared.settings.Config.{Config}
 use Rattle.wf_frame.specs.declared.settings.Field.{Field}
-use Rattle.wf_frame.specs.declared.settings.Field.TheVariants.{Stations, Flows, Limit, Room, FlowQuantum, Quantum, Inflight, Attempts, Agg, Cap, Sleeping, Calls, Charge, Debt, AqlTotal, KeepOrder, CodelReset, Aql}
+use Rattle.wf_frame.specs.declared.settings.Field.TheVariants.{Stations, Flows, Limit, Room, FlowQuantum, Quantum, Inflight, Attempts, Agg, Cap, Sleeping, Calls, Charge, Debt, AqlTotal, KeepOrder, CodelReset, Aql, Pending}
 
 -- a row: the number of a setting, its word, its least value and its greatest value
 pub record Row : Type 0 where
@@ -38,6 +38,7 @@ setting_row AqlTotal = row 15 (codes "aql_total") 0 262144
 setting_row KeepOrder = row 16 (codes "keep_order") 0 1
 setting_row CodelReset = row 17 (codes "codel_reset") 0 1
 setting_row Aql = row 18 (codes "aql") 0 262144
+setting_row Pending = row 19 (codes "pending") 0 1
 
 -- the standard settings: those of a head that sets none
 abbrev pub standard : Config
@@ -60,12 +61,26 @@ standard = record {
   keep_order = 0;
   codel_reset = 0;
   aql = 0;
+  pending = 0;
+}
+
+-- the settings for devices: the standard ones with these values
+abbrev pub device : Config
+device = record standard {
+  inflight = 4;
+  charge = 65535;
+  debt = 20000;
+  aql_total = 24000;
+  keep_order = 1;
+  codel_reset = 1;
+  aql = 12000;
+  pending = 1;
 }
 
 -- the settings, in the order in which they are checked
 abbrev pub fields : List Field
 fields = Stations ∷ Flows ∷ Limit ∷ Room ∷ FlowQuantum ∷ Quantum ∷ Inflight ∷ Attempts ∷ Agg ∷ Cap ∷ Sleeping
-    ∷ Calls ∷ Charge ∷ Debt ∷ AqlTotal ∷ KeepOrder ∷ CodelReset ∷ Aql ∷ []
+    ∷ Calls ∷ Charge ∷ Debt ∷ AqlTotal ∷ KeepOrder ∷ CodelReset ∷ Aql ∷ Pending ∷ []
 
 -- end rows
 
@@ -115,6 +130,7 @@ value_of c AqlTotal = c.aql_total
 value_of c KeepOrder = c.keep_order
 value_of c CodelReset = c.codel_reset
 value_of c Aql = c.aql
+value_of c Pending = c.pending
 
 -- the settings with one of them set to a value
 abbrev pub with_value : Config → Field → ℕ → Config
@@ -136,6 +152,7 @@ with_value c AqlTotal value = record c { aql_total = value }
 with_value c KeepOrder value = record c { keep_order = value }
 with_value c CodelReset value = record c { codel_reset = value }
 with_value c Aql value = record c { aql = value }
+with_value c Pending value = record c { pending = value }
 
 -- end values
 
@@ -180,5 +197,6 @@ pub record IsInRange (config : Config) : Type 0 where
   pub keep_order : (0 ≤ config.keep_order) × (config.keep_order ≤ 1)
   pub codel_reset : (0 ≤ config.codel_reset) × (config.codel_reset ≤ 1)
   pub aql : (0 ≤ config.aql) × (config.aql ≤ 262144)
+  pub pending : (0 ≤ config.pending) × (config.pending ≤ 1)
 
 -- end ranges

@@ -2,7 +2,7 @@
 
 ghost use Rattle.std.specs.Prelude.{◌≡◌, ◌<◌, ◌≤◌, ◌⊎◌, length, IfOk, IfErr};
 ghost use Rattle.wf_def_lists.specs.Lengths.{greatest_body};
-ghost use Rattle.wf_frame.specs.Frames.{made_up_source, source_octets, new_frame, sent_again, sample_body};
+ghost use Rattle.wf_frame.specs.Frames.{made_up_source, source_octets, octets_of, is_bare, new_frame, bare_frame, sent_again, sample_body};
 ghost use Rattle.wf_frame.specs.declared.classes.Fate.TheVariants.{Held};
 
 use crate::Fate;
@@ -25,10 +25,22 @@ pub fn source_address() -> [u8; 6]
     MADE_UP_SOURCE
 }
 
+/// The body of a frame.
+#[derive(Drop)]
+enum Body {
+    /// Its octets.
+    Octets(Vec<u8>),
+    /// The number of its octets, which the frame's owner has.
+    Length(u16),
+}
+
+/// The body of a frame of whose octets only the number is known.
+static ZEROS: [u8; 2304] = [0; 2304];
+
 /// A frame: its body of 1 to 2304 octets, its station, TID, flow and source, its owner's tag, and its fate.
 #[derive(Drop)]
 pub struct Frame {
-    body: Vec<u8>,
+    body: Body,
     id: u64,
     stamp: u64,
     station: u16,
@@ -43,12 +55,12 @@ pub struct Frame {
 impl Model for Frame {
     ghost use Rattle.std.specs.Prelude.{◌≡◌, ◌<◌, ◌≤◌, length};
     ghost use Rattle.wf_def_lists.specs.Lengths.{greatest_body};
-    ghost use Rattle.wf_frame.specs.Frames.{FrameValue, source_octets};
+    ghost use Rattle.wf_frame.specs.Frames.{FrameValue, octets_of, is_bare, source_octets};
 
     ghost Value = { FrameValue };
 
     ghost view = { λ f. record {
-      body = f.body.items;
+      body = octets_of f.body;
       id = f.id;
       stamp = f.stamp;
       station = f.station;
@@ -58,9 +70,10 @@ impl Model for Frame {
       tag = f.tag;
       attempts = f.attempts;
       fate = f.fate;
+      bare = is_bare f.body;
     } };
 
-    ghost invariant = { λ f. (0 < length f.body.items) × (length f.body.items ≤ greatest_body) ×
+    ghost invariant = { λ f. (0 < length (octets_of f.body)) × (length (octets_of f.body) ≤ greatest_body) ×
         (length f.source ≡ source_octets) };
 }
 
@@ -77,7 +90,25 @@ impl Frame {
         if body.is_empty() || usize::from(GREATEST_BODY) < body.len() {
             return Err(body);
         }
-        Ok(Frame {
+        Ok(Frame::with_body(station, tid, flow, Body::Octets(body)))
+    }
+
+    /// Returns a frame that is not accepted yet, as `new` does, but of whose body only the length is known,
+    /// 1 to 2304 octets: its owner has the octets. It takes no memory, and its body reads as zeros.
+    pub fn bare(station: u16, tid: u8, flow: u32, len: u16) -> Frame
+        requires within { (0 < len) × (len ≤ greatest_body) }
+        ensures { result ≡ bare_frame station tid flow len }
+    {
+        Frame::with_body(station, tid, flow, Body::Length(len))
+    }
+
+    // Returns a frame with this body that is not accepted yet.
+    fn with_body(station: u16, tid: u8, flow: u32, body: Body) -> Frame
+        requires some { 0 < length (octets_of body) }
+        requires most { length (octets_of body) ≤ greatest_body }
+        ensures { result ≡ record (new_frame station tid flow (octets_of body)) { bare = is_bare body } }
+    {
+        Frame {
             body,
             id: 0,
             stamp: 0,
@@ -88,7 +119,7 @@ impl Frame {
             tag: 0,
             attempts: 0,
             fate: Fate::Held,
-        })
+        }
     }
 
     /// Returns a new frame as a trace makes it: octet j of its body is `(flow + j) mod 256`. `len` must be
@@ -109,18 +140,7 @@ impl Frame {
             *octet = next;
             next = next.wrapping_add(1);
         }
-        Ok(Frame {
-            body,
-            id: 0,
-            stamp: 0,
-            station,
-            tid,
-            flow,
-            source: MADE_UP_SOURCE,
-            tag: 0,
-            attempts: 0,
-            fate: Fate::Held,
-        })
+        Ok(Frame::with_body(station, tid, flow, Body::Octets(body)))
     }
 
     /// Returns the id that the frame got when it was accepted.
@@ -181,14 +201,27 @@ impl Frame {
         ensures some { 0 < result }
         ensures most { result ≤ greatest_body }
     {
-        self.body.len() as u16
+        match &self.body {
+            Body::Octets(octets) => octets.len() as u16,
+            Body::Length(len) => *len,
+        }
     }
 
-    /// Returns its body.
+    /// Returns its body; zeros if it is bare.
     pub fn body(&self) -> &[u8]
         ensures { result.now ≡ self.now.body }
     {
-        self.body.as_slice()
+        match &self.body {
+            Body::Octets(octets) => octets.as_slice(),
+            Body::Length(len) => &ZEROS[..usize::from(*len)],
+        }
+    }
+
+    /// Returns whether only its owner has its octets (`bare`).
+    pub fn is_bare(&self) -> bool
+        ensures { result ≡ self.now.bare }
+    {
+        matches!(self.body, Body::Length(_))
     }
 
     /// Returns how often it was sent since it was accepted, whatever its fate: at most the setting

@@ -1,7 +1,7 @@
 //! The table of settings: the number of each, its word, and its least and its greatest value.
 
-ghost use Rattle.std.specs.Prelude.{◌≡◌, ◌↔◌, ◌≤◌, length};
-ghost use Rattle.wf_frame.specs.Settings.{standard, standard_of, fields, setting_number, setting_word, setting_named, setting_numbered, lowest_of, greatest_of, value_of, with_value, is_in_range, first_out_of_range, is_bad_air, IsInRange};
+ghost use Rattle.std.specs.Prelude.{◌≡◌, ◌↔◌, ◌≤◌, None, length};
+ghost use Rattle.wf_frame.specs.Settings.{standard, device, standard_of, fields, setting_number, setting_word, setting_named, setting_numbered, lowest_of, greatest_of, value_of, with_value, is_in_range, first_out_of_range, is_bad_air, IsInRange};
 
 /// The settings of a cell. `Field::least` and `Field::most` return the range of each, and `Config::check`
 /// returns the first that is out of its range.
@@ -46,6 +46,8 @@ pub struct Config {
     /// The limit on the computed airtime of a station's open exchanges of one class, in microseconds. 0 is
     /// no limit.
     pub aql: u32,
+    /// Whether a station's airtime in flight counts against its deficit at a pick: 1, or 0.
+    pub pending: u32,
     // end fields
 }
 
@@ -90,11 +92,13 @@ pub enum Field {
     CodelReset,
     /// Limit on the airtime in flight of one station in one class, in microseconds; 0 means no limit.
     Aql,
+    /// Whether the airtime in flight counts against a station when a pull picks one.
+    Pending,
     // end variants
 }
 
 // The settings, in the order in which they are checked.
-const FIELDS: [Field; 18] = [
+const FIELDS: [Field; 19] = [
     // begin list: tools/tables writes these lines
     Field::Stations,
     Field::Flows,
@@ -114,12 +118,13 @@ const FIELDS: [Field; 18] = [
     Field::KeepOrder,
     Field::CodelReset,
     Field::Aql,
+    Field::Pending,
     // end list
 ];
 
 impl Field {
     /// Returns the settings, in the order in which they are checked.
-    pub fn all() -> [Field; 18]
+    pub fn all() -> [Field; 19]
         ensures { result ≡ fields }
     {
         FIELDS
@@ -131,7 +136,7 @@ impl Field {
         ensures word { result.1.now ≡ setting_word self }
         ensures least { result.2 ≡ lowest_of self }
         ensures greatest { result.3 ≡ greatest_of self }
-        ensures numbered { (1 ≤ result.0) × (result.0 ≤ 18) }
+        ensures numbered { (1 ≤ result.0) × (result.0 ≤ 19) }
         ensures short { length result.1.now ≤ 12 }
     {
         match self {
@@ -154,14 +159,15 @@ impl Field {
             Field::KeepOrder => (16, b"keep_order", 0, 1),
             Field::CodelReset => (17, b"codel_reset", 0, 1),
             Field::Aql => (18, b"aql", 0, 262_144),
+            Field::Pending => (19, b"pending", 0, 1),
             // end rows
         }
     }
 
-    /// Returns the number of the setting in C: 1 to 18.
+    /// Returns the number of the setting in C: 1 to 19.
     pub fn number(self) -> u8
         ensures number { result ≡ setting_number self }
-        ensures range { (1 ≤ result) × (result ≤ 18) }
+        ensures range { (1 ≤ result) × (result ≤ 19) }
     {
         self.row().0
     }
@@ -239,6 +245,7 @@ impl Field {
             Field::KeepOrder => config.keep_order,
             Field::CodelReset => config.codel_reset,
             Field::Aql => config.aql,
+            Field::Pending => config.pending,
             // end value
         }
     }
@@ -267,6 +274,7 @@ impl Field {
             Field::KeepOrder => config.keep_order = value,
             Field::CodelReset => config.codel_reset = value,
             Field::Aql => config.aql = value,
+            Field::Pending => config.pending = value,
             // end set
         }
     }
@@ -297,7 +305,39 @@ impl Config {
             keep_order: 0,
             codel_reset: 0,
             aql: 0,
+            pending: 0,
             // end standard
+        }
+    }
+
+    /// Returns the settings for devices: several exchanges are in flight, what is in flight counts and is
+    /// limited, debts age, each flow keeps its order, and the end of an exchange may give its airtime.
+    pub fn device() -> Config
+        ensures settings { result ≡ device }
+        ensures in_range { first_out_of_range result ≡ None }
+    {
+        Config {
+            // begin device: tools/tables writes these lines
+            stations: 16,
+            flows: 1024,
+            limit: 8192,
+            room: 65_536,
+            flow_quantum: 300,
+            quantum: 300,
+            inflight: 4,
+            attempts: 10,
+            agg: 32,
+            cap: 4000,
+            sleeping: 64,
+            calls: 1_048_576,
+            charge: 65_535,
+            debt: 20_000,
+            aql_total: 24_000,
+            keep_order: 1,
+            codel_reset: 1,
+            aql: 12_000,
+            pending: 1,
+            // end device
         }
     }
 

@@ -1,5 +1,5 @@
--- Proves that the inferred indices rise, and are those of the numbers that a BlockAck shows. By induction
--- over the numbers of the exchange.
+-- Proves that the inferred indices rise, and are the indices of the numbers that a BlockAck shows. By
+-- induction over the numbers of the exchange.
 use Rattle.std.proofs.Common.{◌≡◌, ap, subst, sym, ◌∙◌, arith, ℕ, zero, suc, ◌+◌, ◌<◌, ◌≤◌, Bool, true, inl, inr, List, [], ◌∷◌, length}
 use Rattle.wf_def_lists.specs.Table.{at}
 use Rattle.wf_law_rules.proofs.Lemmas.Numbers.{on_if}
@@ -41,7 +41,7 @@ pub inferred_rise : (shown : ℕ → Bool) (c : Content) → AreIndices 0 (trans
 inferred_rise shown (Frames ms) = indices_rise shown 0 (length ms) ms (omega arith)
 inferred_rise shown (Request f) = (omega arith, omega arith, tt)
 
--- ---- they are those of the numbers that are shown: `ms` is the part of `all` from index i on
+-- ---- they are the indices of the numbers that are shown: `ms` is the part of `all` from index i on
 
 abbrev StandsFrom : ℕ → List Mpdu → List Mpdu → Type 0
 StandsFrom i ms all = (k : ℕ) → at no_mpdu all (i + k) ≡ at no_mpdu ms k

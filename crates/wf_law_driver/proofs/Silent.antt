@@ -16,6 +16,7 @@ use Rattle.wf_def_world.specs.Exchanges.{station_need, picked_station, after_pic
 use Rattle.wf_def_world.specs.Refusals.{refusal}
 use Rattle.wf_def_world.specs.Step.{join_outcome, leave_outcome, rate_outcome, tick_outcome, send_outcome, pull_outcome_for, pull_outcome, done_outcome, outcome_where_open, sleep_outcome, wake_outcome, poll_outcome, rx_outcome, reap_outcome, outcome_of, concerned_station, after_refusal, judged_outcome, step}
 use Rattle.wf_def_world.specs.Run.{Entry, world_after}
+use Rattle.wf_law_runs.proofs.Common.Refused.{after_idle}
 use Rattle.wf_law_runs.proofs.Windows.Sides.{Side, Same, sides_of, then_same, same_on_station, same_on_share, same_listed, same_after_pick, same_after_turn, same_spent}
 use Rattle.wf_law_runs.proofs.Windows.Opened.{Each, each_append, each_filter, eight, left_true, pick_ready, some_along}
 use Rattle.wf_law_runs.proofs.Windows.Agreed.{IsLawful, lawful, lawful_same, same_left_tids, same_off_lists}
@@ -147,7 +148,8 @@ silence_done (Asked Reap) w k i = silence_reaped w.finished w
 
 silence_refused : (note : Note) (r : Refusal) (w : World) → Silence w (after_refusal w note r)
 unfolding after_refusal
-silence_refused (Asked (Pull c)) Idle w = silence_same w _ (same_after_pick w c)
+silence_refused (Asked (Pull c)) Idle w = after_idle (Silence w) w c (silence w)
+    (silence_same w _ (same_after_pick w c))
 silence_refused _ _ w = silence w
 
 silence_answer : (r : Option Refusal) (w : World) (note : Note) → IsSilent note → IsLawful w →

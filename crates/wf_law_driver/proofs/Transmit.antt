@@ -1,6 +1,6 @@
 -- Proves that an Arrive and an Answer do not change what a transmit path keeps. They change receivers and
 -- marks, on which readiness does not depend, so no station is listed by them.
-use Rattle.std.proofs.Common.{◌≡◌, refl, ap, ap₂, sym, ◌∙◌, subst, arith, ℕ, suc, ◌+◌, ◌<◌, ◌==◌, nat_lt, Bool, true, false, not, ◌&&◌, ◌||◌, if◌then◌else◌, List, [], ◌∷◌, ◌++◌, length, map, find, sum_by, Option, Some, None, is_some, unwrap_or, option_map}
+use Rattle.std.proofs.Common.{◌≡◌, refl, ap, ap₂, sym, ◌∙◌, subst, arith, ℕ, suc, ◌+◌, ◌<◌, ◌==◌, nat_lt, Bool, true, false, not, ◌&&◌, ◌||◌, if◌then◌else◌, List, [], ◌∷◌, ◌++◌, length, map, find, sum_by, Option, Some, None, is_some, unwrap_or, option_map, ℤ, pos, ◌-ℤ◌, int_le}
 use Rattle.std.specs.List.{list_any}
 use Rattle.std.proofs.Math.Seq.{take-length}
 use Rattle.wf_frame.specs.declared.settings.Config.{Config}
@@ -12,12 +12,12 @@ use Rattle.wf_frame.specs.declared.notes.Refusal.{Refusal}
 use Rattle.wf_frame.specs.Classes.{all_classes, lower_tid, upper_tid, class_number, same_class}
 use Rattle.wf_frame.specs.Settings.{IsInRange}
 use Rattle.wf_def_lists.specs.Table.{at}
-use Rattle.wf_def_rotation.specs.Rotation.{Rotation, has_key, in_order, no_keys, with_new_key}
+use Rattle.wf_def_rotation.specs.Rotation.{Rotation, has_key, in_order, no_keys, with_key_listed}
 use Rattle.wf_def_agreement.specs.Session.{Session, request_due, has_room, waiting_numbers}
-use Rattle.wf_law_rules.proofs.Lemmas.Numbers.{on_bool, both, not_eq, eq_yes}
+use Rattle.wf_law_rules.proofs.Lemmas.Numbers.{on_bool, not_eq, eq_yes}
 use Rattle.wf_law_rules.proofs.Lemmas.Tables.{each_put}
-use Rattle.wf_def_world.specs.World.{World, Station, Tid, Queue, Exchange, no_tid, no_station, new_queue, session, tid_of, station, rotation, is_live, owed, exchange, with_station, on_station, on_tid, on_receiver, with_rotation, with_exchange, opening}
-use Rattle.wf_def_world.specs.CanSend.{is_request, request_open, can_send, can_send_in, has_credit, is_below_aql, may_receive, is_ready, with_listing_in, with_listings_in, with_listings_of}
+use Rattle.wf_def_world.specs.World.{World, Station, Tid, Queue, Exchange, no_tid, no_station, new_queue, session, tid_of, station, rotation, is_live, owed, exchange, with_station, on_station, on_tid, on_receiver, with_rotation, with_exchange, opening, standing, no_share}
+use Rattle.wf_def_world.specs.CanSend.{is_request, request_open, can_send, can_send_in, has_credit, is_below_aql, may_receive, is_ready, with_listing_in, with_listings_in, with_listings_of, is_to_list}
 use Rattle.wf_def_world.specs.Exchanges.{after_arrival}
 use Rattle.wf_def_world.specs.Refusals.{refusal}
 use Rattle.wf_def_world.specs.Step.{Outcome, arrive_outcome, answer_outcome, outcome_where_open, outcome_of, station_of, after_refusal, judged_outcome, step}
@@ -32,6 +32,9 @@ use Rattle.wf_law_driver.specs.Unheard.{unmarked}
 use Rattle.wf_law_driver.proofs.Opened.{with_replaced, found_number}
 use Rattle.wf_law_driver.proofs.Arrivals.{with_arrival, with_answer, answer_now}
 use Rattle.wf_law_driver.proofs.Ended.{windows_after}
+use Rattle.wf_law_runs.proofs.Deficits.KeptStep.{to_list_live}
+use Rattle.wf_law_runs.specs.Deficits.{IsAccounted}
+use Rattle.wf_def_world.specs.Stretches.{world_at}
 
 same_transmit : (w : World) → HasSameTransmit w w
 same_transmit w = record {
@@ -251,11 +254,24 @@ ready_same w u c s h =
     ∙ (ap (λ (b : Bool). is_live w s && ((can_send w s (lower_tid c) || b) && may_receive u s c)) upper
     ∙ ap (λ (b : Bool). is_live w s && (can_send_in w s c && b)) may))
 
+owed_same : (w u : World) (s : ℕ) (c : Class) → HasSameTransmit w u → owed s c u.opened ≡ owed s c w.opened
+owed_same w u s c h = owed_unmarked s c u.opened ∙ (ap (owed s c) h.opened ∙ sym (owed_unmarked s c w.opened))
+
+standing_same : (w u : World) (s : ℕ) (c : Class) → HasSameTransmit w u → standing u s c ≡ standing w s c
+standing_same w u s c h = ap₂ (λ (d : ℤ) (n : ℕ). d -ℤ pos n)
+    (reads_same (λ (x : Station). (at no_share x.shares (class_number c)).deficit) (λ x. refl) w u s h)
+    (ap₂ (λ (config : Config) (n : ℕ). if config.pending == 1 then n else 0) h.config (owed_same w u s c h))
+
+to_list_same : (w u : World) (c : Class) (s : ℕ) → HasSameTransmit w u → is_to_list u c s ≡ is_to_list w c s
+to_list_same w u c s h = ap₂ (λ (a b : Bool). a || b) (ready_same w u c s h)
+    (ap₂ (λ (config : Config) (b : Bool). (config.pending == 1) && b) h.config
+    (ap₂ (λ (b : Bool) (d : ℤ). b && int_le d (pos 0)) (live_same w u s h) (standing_same w u s c h)))
+
 -- ---- so no station is listed
 
--- each ready station is listed already
+-- each station that belongs on a list is on one already
 abbrev ListsReady : World → Type 0
-ListsReady w = (s : ℕ) (c : Class) → is_ready w c s ≡ true → has_key (rotation w c) s ≡ true
+ListsReady w = (s : ℕ) (c : Class) → is_to_list w c s ≡ true → has_key (rotation w c) s ≡ true
 
 unlisted : (a b : Bool) → (a ≡ true → b ≡ true) → (a && not b) ≡ false
 unlisted false b h = refl
@@ -263,8 +279,9 @@ unlisted true b h = ap not (h refl)
 
 listed_in : (w : World) (s : ℕ) (c : Class) → ListsReady w → with_listing_in w s c ≡ w
 unfolding with_listing_in
-listed_in w s c h = ap (λ (b : Bool). if b then with_rotation w c (with_new_key (rotation w c) s) else w)
-    (unlisted (is_ready w c s) (has_key (rotation w c) s) (h s c))
+listed_in w s c h = ap (λ (b : Bool). if b
+    then with_rotation w c (with_key_listed (is_ready w c s) (rotation w c) s) else w)
+    (unlisted (is_to_list w c s) (has_key (rotation w c) s) (h s c))
 
 listed_in_all : (cs : List Class) (w : World) (s : ℕ) → ListsReady w → with_listings_in w s cs ≡ w
 unfolding with_listings_in
@@ -281,7 +298,7 @@ lists_same : (w u : World) → HasSameTransmit w u → ListsReady w → ListsRea
 lists_same w u k h s c is =
     let same : rotation u c ≡ rotation w c = ap (λ (rs : List Rotation). at no_keys rs (class_number c))
     k.rotations in
-    ap (λ (r : Rotation). has_key r s) same ∙ h s c (sym (ready_same w u c s k) ∙ is)
+    ap (λ (r : Rotation). has_key r s) same ∙ h s c (sym (to_list_same w u c s k) ∙ is)
 
 then_listed : (o : Option ℕ) (w u : World) → ListsReady w → HasSameTransmit w u →
     HasSameTransmit w (with_listings_of u o)
@@ -326,7 +343,17 @@ lists_ready : (config : Config) (h : List Entry) → IsInRange config →
     ListsReady (world_after (opening config) h)
 lists_ready config h range = subst (λ (es : List Entry). ListsReady (world_after (opening config) es))
     (take-length h)
-    (λ s c is. (deficits config h range (length h) s c (both _ _ is).0).ready is)
+    (λ s c is. each (deficits config h range (length h) s c
+    (to_list_live (world_at config h (length h)) c s is))
+    (is_ready (world_at config h (length h)) c s) is refl)
+  where
+    each : {s : ℕ} {c : Class} → IsAccounted config (world_at config h (length h)) s c → (b : Bool) →
+        is_to_list (world_at config h (length h)) c s ≡ true →
+        is_ready (world_at config h (length h)) c s ≡ b →
+        has_key (rotation (world_at config h (length h)) c) s ≡ true
+    each a true is e = a.ready e
+    each {s} {c} a false is e = a.debtor
+        (rw e at is)
 
 -- an Arrive or an Answer
 abbrev Tells : Note → Type 0

@@ -1,6 +1,6 @@
 -- Defines the calls of the machine that are inferred from a BlockAck which a driver gives: just before the
 -- exchange's Done each of its numbers that the BlockAck shows arrived, no other did, and the receiver
--- answered (IEEE 802.11-2012, 9.21.7.7). The calls are those of `caller`, the exchange's number is e, and
+-- answered (IEEE 802.11-2012, 9.21.7.7). The calls belong to `caller`, the exchange's number is e, and
 -- `shown` says of each number, which does not wrap, whether the BlockAck shows it.
 use Rattle.std.specs.Prelude.{◌≡◌, ℕ, suc, nat_lt, Bool, true, false, ◌↔◌, List, [], ◌∷◌, ◌++◌, Option, None, Some, if◌then◌else◌, length, map}
 use Rattle.wf_frame.specs.declared.settings.Config.{Config}
@@ -80,7 +80,7 @@ AreAckedWhere w shown x =
     EachMpdu (λ m. ((slot (session w x.station x.tid) m.number).state ≡ State.Acked) ↔
     (shown m.number ≡ true)) (mpdus_of x.content)
 
--- What the inferred calls leave for x, an open exchange e of w: each of them is answered, and the answer
+-- The result of the inferred calls for x, an open exchange e of w: each of them is answered, and the answer
 -- that is kept then shows what the BlockAck shows. After the exchange's Done exactly the numbers shown are
 -- acknowledged, and no receiver has anything that its sender does not know of.
 pub record IsInferred (w : World) (caller e : ℕ) (shown : ℕ → Bool) (air : Option ℕ)

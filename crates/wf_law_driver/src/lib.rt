@@ -58,7 +58,7 @@ pub fn transmit_law()
         TransmitLaw config history }
 {}
 
-/// Whatever a driver does, in any order, there is a history of the machine that has its calls and, just
+/// For any calls of a driver, in any order, there is a history of the machine with these calls and, just
 /// before each Done, the calls that are inferred from its BlockAck. This history leaves the machine in an
 /// unheard world.
 pub fn driven_law()

@@ -12,6 +12,7 @@
 -- - Dequeues: statements that hold for each dequeue.
 -- - Stepped: the RFC's loop equals the closed form.
 -- - Roots: integer square roots.
+-- - CodelLaws: the laws of CoDel over several dequeues.
 pub mod Tables
 pub mod Sums
 pub mod Numbers
@@ -25,3 +26,4 @@ pub mod Drops
 pub mod Stepped
 pub mod Roots
 pub mod Dequeues
+pub mod CodelLaws

@@ -1,5 +1,6 @@
--- Proves that CoDel drops a frame only if its queue has stood for an interval. By induction on the looks:
--- first_above is the time of a look plus its interval, and since this look each look saw a standing queue.
+-- Proves that CoDel drops a frame only if its queue was a standing queue for an interval. By induction on the
+-- looks: first_above is the time of a look plus its interval, and since this look each look saw a standing
+-- queue.
 use Rattle.std.proofs.Common.{◌≡◌, ◌≢◌, ℕ, zero, suc, ◌+◌, ◌-◌, ◌≤◌, ◌<◌, ◌==◌, ◌∙◌, refl, ap, sym, subst, arith, inl, inr, ◌⊎◌, Bool, true, false, not, ◌||◌, List, [], ◌∷◌, ◌++◌, if◌then◌else◌, append_assoc, append-nil}
 use Rattle.std.specs.Prelude.{nat_lt, nat_le}
 use Rattle.wf_def_codel.specs.Codel.{Item, Params, Codel, Look, max_packet, octets, look_at, look, drops_dropping, drops_plain, drops, state_dropping, state_plain, state_after, dequeue, next_due}
@@ -16,7 +17,7 @@ record Stands (a : ℕ) (looks : List Dequeue) : Type 0 where
   standing : EachStanding (since ∷ after)
   time : a ≡ since.now + since.times.interval
 
--- What first_above says of the looks so far.
+-- The meaning of first_above: if it is set, each look since a certain look saw a standing queue.
 record Known (a : ℕ) (looks : List Dequeue) : Type 0 where
   known : a ≢ 0 → Stands a looks
 

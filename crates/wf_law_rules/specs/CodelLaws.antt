@@ -1,6 +1,6 @@
 -- Defines two laws of CoDel (RFC 8289) over several dequeues of one queue: frames are dropped only while all
--- frames wait too long (standing), and only so many in a time (rate). Times are in microseconds, lengths in
--- octets.
+-- frames wait too long (standing), and a limited number in a given time (rate). Times are in microseconds,
+-- lengths in octets.
 use Rattle.std.specs.Prelude.{◌≡◌, ℕ, zero, suc, ◌+◌, ◌-◌, ◌*◌, ◌/◌, ◌^◌, ◌<◌, ◌≤◌, true, false, List, [], ◌∷◌, ◌++◌, drop}
 use Rattle.wf_def_codel.specs.Codel.{Item, Params, Codel, max_packet, octets, step_of, first_count, drops, dequeue}
 
@@ -64,8 +64,8 @@ pub record HasStood (now : ℕ) (looks : List Dequeue) : Type 0 where
   pub standing : EachStanding (since ∷ after)
   pub interval : since.now + since.times.interval ≤ now
 
--- The law: if a dequeue drops its frame i, the queue has stood for an interval, up to the look at this
--- frame. c is a state in which no look saw a standing queue, as a new one.
+-- The law: if a dequeue drops its frame i, each look of at least an interval, up to the look at this frame,
+-- saw a standing queue. c is a state in which no look saw a standing queue, as a new one.
 abbrev pub StandingLaw : Type 0
 StandingLaw = (c : Codel) (visits : List Dequeue) (v : Dequeue) (i : ℕ) → c.first_above ≡ 0 →
     i < drops_by (codel_after_all c visits) v → HasStood v.now (looks_in c visits ++ first_looks v (suc i))

@@ -1,8 +1,8 @@
 //! Laws about the shared definitions (`wf_def_*`). CoDel's closed form equals the dequeue of RFC 8289. CoDel
-//! drops only from a queue that has stood for an interval, and only so many frames in a time. The pick in
-//! closed form has the result of the loop of "Ending the Anomaly". `root` is the integer square
-//! root. A pick depends only on the needs and the readiness of the listed keys, and not on the numbers of
-//! the keys.
+//! drops a frame only after its queue was a standing queue for an interval, and it drops a limited number of
+//! frames in a given time. The pick in closed form has the result of the loop of "Ending the Anomaly". `root`
+//! is the integer square root. A pick depends only on the needs and the readiness of the listed keys, and not
+//! on the numbers of the keys.
 //!
 //! Each function here states a law: it has no body, and its contract contains the statement. For example,
 //! `step_law` states that the step of CoDel's control law is the interval divided by the root of the count,
@@ -42,9 +42,9 @@ pub fn step_law()
         IsGreatestStep interval count (step_of interval count) }
 {}
 
-/// CoDel drops a frame only if its queue has stood for an interval: since a look at least an interval before
-/// the drop, each look saw a frame that had waited at least for the target, with more than 2304 octets behind
-/// it (specs/CodelLaws).
+/// CoDel drops a frame only if its queue was a standing queue for an interval: since a look at least an
+/// interval before the drop, each look saw a frame that had waited at least for the target, with more than
+/// 2304 octets after it (specs/CodelLaws).
 pub fn standing_law()
     ensures { StandingLaw }
 {}

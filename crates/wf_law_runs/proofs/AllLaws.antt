@@ -29,12 +29,15 @@ use Rattle.wf_law_runs.proofs.Ranges.Law.{range_law}
 use Rattle.wf_law_runs.proofs.Deficits.Numbers.{number_law}
 use Rattle.wf_law_runs.proofs.Deficits.InFlight.{in_flight_law}
 use Rattle.wf_law_runs.proofs.Deficits.Delay.{delay_law}
+use Rattle.wf_law_runs.proofs.Dequeues.Law.{codel_law}
 use Rattle.wf_law_runs.proofs.Windows.TwelveBits.{twelve_bit_law}
 use Rattle.wf_law_runs.proofs.Sums.Law.{sum_law}
 use Rattle.wf_law_runs.proofs.Sent.Law.{sent_law}
 use Rattle.wf_law_runs.proofs.Attempts.Law.{attempts_law}
 use Rattle.wf_law_runs.proofs.Tries.Law.{tries_law}
 use Rattle.wf_law_runs.proofs.Queues.Law.{queue_law, queue_deficit_law}
+use Rattle.wf_law_runs.proofs.Spent.Computed.{computed_law}
+use Rattle.wf_law_runs.proofs.Spent.Sent.{spent_law}
 
 pub laws : (config : Config) (history : List Entry) → IsInRange config → Laws config history
 laws config h range = record {
@@ -56,6 +59,8 @@ laws config h range = record {
   deficits = deficits config h range;
   quiet = quiet config h range;
   fairness = fairness config h range;
+  computed = computed_law config h;
+  spent = spent_law config h range;
   shares = share_law config h range;
   waiting = waiting_law config h range;
   sparse = sparse_law config h;
@@ -64,6 +69,7 @@ laws config h range = record {
   twelve_bits = twelve_bit_law config h;
   queues = queue_law config h range;
   queue_deficits = queue_deficit_law config h range;
+  codel = codel_law config h;
   ranges = range_law config h range;
   numbers = number_law config h range;
   in_flight = in_flight_law config h range;

@@ -6,8 +6,10 @@
 --   open exchanges), Bounds (bounds of a deficit) and LongestCharge. KeptStep: each call keeps the
 --   invariant.
 -- - Accounts: the exact value of a deficit.
--- - Mild, MildStep: only the station that a call concerns can become ready. Ready: so every ready station
---   is listed.
+-- - Mild, MildStep: only the station that a call concerns can become ready. Listing: a call lists this
+--   station on the list on which it belongs. Concerned: a call removes it from no list unless it leaves.
+--   Debtors: every station that is on no list has a positive standing. Ready: so every station that belongs
+--   on a list is listed.
 -- - Quiet: when a station's received airtime is 0.
 -- - Numbers: the greatest charges and deficits. InFlight: the limits on airtime in flight.
 --   Delay: the delay in the device.
@@ -22,6 +24,9 @@ pub mod Accounts
 pub mod Shares
 pub mod Mild
 pub mod MildStep
+pub mod Listing
+pub mod Concerned
+pub mod Debtors
 pub mod Ready
 pub mod Law
 pub mod Quiet

@@ -10,11 +10,13 @@
 --     place_law, room_law, tally_law              Tallies)
 --   kept_law                                    Kept (Law)
 --   queue_law, queue_deficit_law, limit_law     Queues (Law, Limit)
+--   codel_law                                   Dequeues (Law)
 --   range_law                                   Ranges (Law)
 --   deficit_law, quiet_law, number_law,         Deficits (Law, Quiet, Numbers, InFlight, Delay)
 --     in_flight_law, delay_law
 --   fairness_law                                Fairness (Law)
---   share_law, waiting_law, sparse_law          Shares (Law, Waits)
+--   share_law, waiting_law, sparse_law          Shares (Law, Waits), Spent (Law, Awaited)
+--   computed_law, spent_law                     Spent (Computed, Sent)
 --   sum_law                                     Sums (Law)
 --   sent_law                                    Sent (Law)
 --   attempts_law                                Attempts (Law)
@@ -25,17 +27,19 @@
 -- call, a lemma with the name of this part proves that the part keeps it. Further lemmas prove the same for
 -- each case of the call (.._done), the refusal (.._refused), the answer (.._answer), the step (.._step) and
 -- the run (.._run).
-mod Common
+pub mod Common
 pub mod Sessions
 pub mod Windows
 pub mod Releases
 pub mod Frames
 pub mod Kept
 pub mod Queues
+mod Dequeues
 pub mod Deficits
 pub mod Ranges
 mod Fairness
 mod Shares
+mod Spent
 pub mod Sums
 pub mod Sent
 pub mod Attempts

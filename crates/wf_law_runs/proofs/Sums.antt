@@ -1,5 +1,5 @@
 -- The proof of the law of sums. Counters: how far one call advances the clock and the number of exchanges.
--- Airtime: a station's sums are those of its calls. Law combines them.
+-- Airtime: a station's sums equal the sums of its calls. Law combines them.
 pub mod Counters
 pub mod Airtime
 pub mod Law

@@ -1,7 +1,9 @@
 -- Computed histories that satisfy the conditions of the laws, which shows that the laws are not empty.
 pub mod Airtime
+pub mod Codel
 pub mod InFlight
 pub mod Shares
+pub mod Spent
 pub mod Waiting
 pub mod Debtor
 pub mod Releases

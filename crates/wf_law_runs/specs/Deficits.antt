@@ -1,6 +1,6 @@
 -- Defines the laws of the deficits of stations: their value, their bounds, and airtime fairness ("Ending
 -- the Anomaly", USENIX ATC 2017, section 3.2).
-use Rattle.std.specs.Prelude.{◌≡◌, ℕ, ◌+◌, ◌-◌, ◌*◌, ◌≤◌, ◌==◌, max, pos, ◌-ℤ◌, ◌≤ℤ◌, ◌&&◌, List, [], ◌∷◌, IsTrue, if◌then◌else◌, is_none, take}
+use Rattle.std.specs.Prelude.{◌≡◌, ℕ, ◌+◌, ◌-◌, ◌*◌, ◌≤◌, ◌==◌, max, pos, ◌-ℤ◌, ◌≤ℤ◌, ◌&&◌, not, List, [], ◌∷◌, IsTrue, if◌then◌else◌, is_none, take}
 use Rattle.wf_frame.specs.declared.settings.Config.{Config}
 use Rattle.wf_frame.specs.declared.classes.Class.{Class}
 use Rattle.wf_frame.specs.declared.notes.Ask.TheVariants.{Join, Rx}
@@ -8,9 +8,9 @@ use Rattle.wf_frame.specs.declared.notes.Note.{Note}
 use Rattle.wf_frame.specs.declared.notes.Note.TheVariants.{Asked}
 use Rattle.wf_def_air.specs.Airtime.{longest_answer}
 use Rattle.wf_def_rotation.specs.Rotation.{has_key}
-use Rattle.wf_def_world.specs.World.{World, owed, station, share, rotation, is_live, opening}
+use Rattle.wf_def_world.specs.World.{World, owed, standing, station, share, rotation, is_live, opening}
 use Rattle.wf_frame.specs.Classes.{same_class}
-use Rattle.wf_def_world.specs.CanSend.{is_ready}
+use Rattle.wf_def_world.specs.CanSend.{is_ready, is_debtor}
 use Rattle.wf_def_world.specs.Refusals.{refusal}
 use Rattle.wf_def_world.specs.Step.{step}
 use Rattle.wf_def_world.specs.Run.{Entry}
@@ -29,24 +29,45 @@ longest_exchange config = max (longest_computed config) config.charge
 abbrev pub most_owed : Config → ℕ
 most_owed config = config.inflight * longest_exchange config
 
+-- Returns the airtime in flight that quanta may cover beyond one quantum of a station, in microseconds: with
+-- the setting `pending`, that of all open exchanges of the class but one.
+abbrev pub most_covered : Config → ℕ
+most_covered config = if config.pending == 1 then (config.inflight - 1) * longest_computed config else 0
+
+-- Returns the same, if a Done may give an airtime; 0 if none may.
+abbrev pub most_uncharged : Config → ℕ
+most_uncharged config =
+    if (config.pending == 1) && not (config.charge == 0) then (config.inflight - 1) * longest_computed config
+    else 0
+
 -- Returns a station's quantum in microseconds: the setting `quantum` times its weight.
 abbrev pub own_quantum : Config → World → ℕ → ℕ
 own_quantum config w s = config.quantum * (station w s).weight
 
 -- The deficit of a live station in a class, in microseconds. `exact`: it is the quantum of the join and the
 -- quanta of the visits since then, less the charged and the received airtime. `most`: it is at most one
--- quantum. `least`: it is at least 0 - (debt + most_owed), with the setting `debt`. `quiet`, `floor`:
--- without receive charges since the join, it is at least 1 - most_owed, also after the computed charges of
--- the station's own open exchanges are subtracted. `ready`: a ready station is listed.
+-- quantum and the airtime in flight that quanta may cover. `least`: it is at least 0 - (debt + most_owed),
+-- with the setting `debt`. `quiet`, `floor`: without receive charges since the join, it is at least 1 -
+-- most_owed, also after the computed charges of the station's own open exchanges are subtracted. `ready`: a
+-- ready station is listed. The standing, which with the setting `pending` is the deficit less the computed
+-- charges of the station's own open exchanges: `lowest`: it has the least bound of the deficit. `within`: if
+-- no Done gives an airtime, it is at most one quantum. `backed`: with `pending`, if no Done gives an airtime,
+-- and without receive charges, it is below 1 by less than one exchange. `debtor`: with `pending`, a station
+-- whose standing is not above 0 is listed.
 pub record IsAccounted (config : Config) (w : World) (s : ℕ) (c : Class) : Type 0 where
   pub exact : (share w s c).deficit ≡ pos (own_quantum config w s + own_quantum config w s *
       (share w s c).quanta) -ℤ pos ((share w s c).charged + (share w s c).received)
-  pub most : (share w s c).deficit ≤ℤ pos (own_quantum config w s)
+  pub most : (share w s c).deficit ≤ℤ pos (own_quantum config w s + most_covered config)
   pub least : (pos 0 -ℤ pos (config.debt + most_owed config)) ≤ℤ (share w s c).deficit
   pub quiet : IsQuiet w s c → (pos 1 -ℤ pos (most_owed config)) ≤ℤ
       ((share w s c).deficit -ℤ pos (owed s c w.opened))
   pub floor : IsQuiet w s c → (pos 1 -ℤ pos (most_owed config)) ≤ℤ (share w s c).deficit
   pub ready : IsTrue (is_ready w c s) → IsTrue (has_key (rotation w c) s)
+  pub lowest : (pos 0 -ℤ pos (config.debt + most_owed config)) ≤ℤ standing w s c
+  pub within : config.charge ≡ 0 → standing w s c ≤ℤ pos (own_quantum config w s)
+  pub backed : config.pending ≡ 1 → config.charge ≡ 0 → IsQuiet w s c →
+      (pos 1 -ℤ pos (longest_computed config)) ≤ℤ standing w s c
+  pub debtor : IsTrue (is_debtor w c s) → IsTrue (has_key (rotation w c) s)
 
 -- The law of deficits: `IsAccounted` holds after each entry, for each live station and class.
 abbrev pub DeficitLaw : Config → List Entry → Type 0
@@ -67,9 +88,10 @@ abbrev pub weight_at : Config → List Entry → ℕ → ℕ → ℕ
 weight_at config h m s = (station (world_at config h m) s).weight
 
 -- Returns the greatest difference of the charged airtimes of two stations with the weights g and h, in
--- microseconds, if each airtime is multiplied by the other's weight.
+-- microseconds, if each airtime is multiplied by the other's weight. With the setting `pending`, a Done that
+-- gives less than the computed airtime may leave a deficit above one quantum.
 abbrev pub fair_bound : Config → ℕ → ℕ → ℕ
-fair_bound config g h = 3 * config.quantum * g * h + (g + h) * most_owed config
+fair_bound config g h = 3 * config.quantum * g * h + (g + h) * (most_owed config + most_uncharged config)
 
 -- Two stations are served alike between the moments a and b: the numbers of their quanta differ by at most
 -- 1, and their charged airtimes, each times the other's weight, by at most the bound.

@@ -29,7 +29,7 @@ pub record KeepsNumbers (y z : Session) : Type 0 where
       (slot z n).state ≡ State.Failed
 
 -- Station s is live at each moment from a to b. So no Leave of it was answered Left between them, and its
--- sessions are those of one join.
+-- sessions belong to one join.
 pub record IsOneStay (config : Config) (history : List Entry) (s a b : ℕ) : Type 0 where
   pub order : a ≤ b
   pub live : (m : ℕ) → a ≤ m → m ≤ b → is_live (world_at config history m) s ≡ true

@@ -17,12 +17,13 @@ use Rattle.wf_law_runs.specs.Room.{RoomLaw, LimitLaw}
 use Rattle.wf_law_runs.specs.TwelveBits.{TwelveBitLaw}
 use Rattle.wf_law_runs.specs.Queues.{QueueLaw, QueueDeficitLaw}
 use Rattle.wf_law_runs.specs.Deficits.{DeficitLaw, QuietLaw, FairnessLaw}
-use Rattle.wf_law_runs.specs.Shares.{ShareLaw}
+use Rattle.wf_law_runs.specs.Shares.{ComputedLaw, ShareLaw, SpentLaw}
 use Rattle.wf_law_runs.specs.Waiting.{WaitingLaw, SparseLaw}
 use Rattle.wf_law_runs.specs.Ranges.{RangeLaw}
 use Rattle.wf_law_runs.specs.Numbers.{NumberLaw}
 use Rattle.wf_law_runs.specs.InFlight.{InFlightLaw}
 use Rattle.wf_law_runs.specs.Delay.{DelayLaw}
+use Rattle.wf_law_runs.specs.Dequeues.{CodelLaw}
 use Rattle.wf_law_runs.specs.Sums.{SumLaw}
 use Rattle.wf_law_runs.specs.Sent.{SentLaw}
 use Rattle.wf_law_runs.specs.Attempts.{AttemptsLaw}
@@ -63,6 +64,10 @@ pub record Laws (config : Config) (history : List Entry) : Type 0 where
   pub deficits : DeficitLaw config history
   pub quiet : QuietLaw config history
   pub fairness : FairnessLaw config history
+  -- If no Done gives an airtime, each charges the computed airtime, and a station spends the computed airtime
+  -- of the exchanges that are opened for it.
+  pub computed : ComputedLaw config history
+  pub spent : SpentLaw config history
   -- No station gets more for its weight than a backlogged one. Nobody starves. A station of the new list with
   -- airtime left is next.
   pub shares : ShareLaw config history
@@ -76,6 +81,9 @@ pub record Laws (config : Config) (history : List Entry) : Type 0 where
   pub twelve_bits : TwelveBitLaw config history
   pub queues : QueueLaw config history
   pub queue_deficits : QueueDeficitLaw config history
+  -- CoDel drops a frame only if each look of the last interval saw a standing queue, and only a limited
+  -- number of frames in a time.
+  pub codel : CodelLaw config history
   -- The laws that code with numbers of fixed width relies on.
   pub ranges : RangeLaw config history
   pub numbers : NumberLaw config history
@@ -83,10 +91,10 @@ pub record Laws (config : Config) (history : List Entry) : Type 0 where
   -- is in the device.
   pub in_flight : InFlightLaw config history
   pub delay : DelayLaw config history
-  -- The sums of airtime are those of the calls since the join, and the sums and counts are bounded by the
-  -- number of entries.
+  -- The sums of airtime equal the sums of the calls since the join, and the sums and counts are bounded by
+  -- the number of entries.
   pub sums : SumLaw config history
-  -- What an open exchange sends.
+  -- The frames that an open exchange sends.
   pub sent : SentLaw config history
   -- How often a number is sent without being acknowledged, and how often a frame is sent in the whole run.
   pub attempts : AttemptsLaw config history

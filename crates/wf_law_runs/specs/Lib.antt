@@ -25,4 +25,5 @@ pub mod Shares
 pub mod Waiting
 pub mod InFlight
 pub mod Delay
+pub mod Dequeues
 pub mod Tries

@@ -1,6 +1,6 @@
 -- Defines the law of the greatest numbers of a run, with bounds that hold for all settings in their ranges.
 -- Each bound is far within 32 bits with a sign.
-use Rattle.std.specs.Prelude.{ℕ, ◌+◌, ◌*◌, ◌≤◌, max, ℤ, pos, ◌+ℤ◌, ◌-ℤ◌, ◌≤ℤ◌, true, ◌≡◌, List}
+use Rattle.std.specs.Prelude.{ℕ, ◌+◌, ◌-◌, ◌*◌, ◌≤◌, max, ℤ, pos, ◌+ℤ◌, ◌-ℤ◌, ◌≤ℤ◌, true, ◌≡◌, List}
 use Rattle.wf_frame.specs.declared.settings.Config.{Config}
 use Rattle.wf_frame.specs.declared.settings.Field.TheVariants.{FlowQuantum, Quantum, Inflight, Cap, Charge}
 use Rattle.wf_frame.specs.declared.classes.Class.{Class}
@@ -8,7 +8,7 @@ use Rattle.wf_frame.specs.Settings.{greatest_of}
 use Rattle.wf_def_lists.specs.Lengths.{greatest_body}
 use Rattle.wf_def_air.specs.Airtime.{longest_answer}
 use Rattle.wf_def_lists.specs.Bounds.{greatest_weight, greatest_debt}
-use Rattle.wf_def_world.specs.World.{World, share, queue, is_live}
+use Rattle.wf_def_world.specs.World.{World, share, standing, queue, is_live}
 use Rattle.wf_def_world.specs.Refusals.{open_of_class}
 use Rattle.wf_def_world.specs.Run.{Entry}
 use Rattle.wf_def_world.specs.Stretches.{world_at}
@@ -33,9 +33,11 @@ greatest_owed = greatest_of Inflight * greatest_charge
 abbrev pub least_deficit : ℤ
 least_deficit = pos 0 -ℤ pos (greatest_debt + greatest_owed)
 
--- The greatest deficit of a station in a class, in microseconds: one quantum of the greatest weight.
+-- The greatest deficit of a station in a class, in microseconds: one quantum of the greatest weight, and the
+-- computed airtime of all open exchanges of the class but one, which quanta cover with the setting `pending`.
 abbrev pub greatest_deficit : ℤ
-greatest_deficit = pos (greatest_of Quantum * greatest_weight)
+greatest_deficit =
+    pos (greatest_of Quantum * greatest_weight + (greatest_of Inflight - 1) * greatest_computed)
 
 -- The numbers of a world of this history are in their ranges.
 pub record NumbersFit (history : List Entry) (w : World) : Type 0 where
@@ -46,6 +48,9 @@ pub record NumbersFit (history : List Entry) (w : World) : Type 0 where
   -- The deficit of a live station.
   pub deficits : (s : ℕ) (c : Class) → is_live w s ≡ true
       → (least_deficit ≤ℤ (share w s c).deficit) × ((share w s c).deficit ≤ℤ greatest_deficit)
+  -- The standing of a live station: its deficit, less its airtime in flight with the setting `pending`.
+  pub standings : (s : ℕ) (c : Class) → is_live w s ≡ true
+      → (least_deficit ≤ℤ standing w s c) × (standing w s c ≤ℤ greatest_deficit)
   -- If no frame is longer than the greatest body: the deficit of a listed queue is above 0 less the
   -- greatest body, and at most the greatest quantum.
   pub queue_deficits : AreAtMost greatest_body history → (s t q : ℕ) → QueueIsListed w s t q

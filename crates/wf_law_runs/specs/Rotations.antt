@@ -4,17 +4,21 @@ use Rattle.std.specs.Prelude.{◌≡◌, ◌↔◌, ℕ, ◌<◌, ◌≤◌, tru
 use Rattle.wf_frame.specs.declared.settings.Config.{Config}
 use Rattle.wf_frame.specs.declared.classes.Class.{Class}
 use Rattle.wf_frame.specs.declared.notes.Ask.TheVariants.{Pull}
+use Rattle.wf_frame.specs.declared.notes.Note.{Note}
 use Rattle.wf_frame.specs.declared.notes.Note.TheVariants.{Asked}
+use Rattle.wf_frame.specs.declared.notes.Refusal.{Refusal}
 use Rattle.wf_frame.specs.declared.notes.Refusal.TheVariants.{Idle}
 use Rattle.wf_def_lists.specs.Lists.{IsOnce}
 use Rattle.wf_def_rotation.specs.Loop.{MeetsVisit, visit}
 use Rattle.wf_def_rotation.specs.Rotation.{has_key, in_order}
-use Rattle.wf_def_world.specs.World.{World, share, queue, quantum, rotation, tid_of, is_live}
+use Rattle.wf_def_world.specs.World.{World, standing, queue, quantum, rotation, tid_of, is_live}
 use Rattle.wf_def_world.specs.FlowQueues.{has_frames}
 use Rattle.wf_def_world.specs.CanSend.{is_ready}
 use Rattle.wf_def_world.specs.Refusals.{refusal, open_of_class, is_at_aql_total}
+use Rattle.wf_def_world.specs.Step.{step}
 use Rattle.wf_def_world.specs.Run.{Entry}
 use Rattle.wf_def_world.specs.Stretches.{world_at}
+use Rattle.wf_law_runs.specs.Windows.{EachOpen}
 
 -- No station is ready in the class.
 abbrev pub NoneReady : World → Class → Type 0
@@ -26,11 +30,12 @@ abbrev pub MayOpen : World → Class → Type 0
 MayOpen w c = (open_of_class w c < w.config.inflight) × (is_at_aql_total w ≡ false)
 
 -- One turn of the paper's loop over the stations of a class: the pick has the same result before and after
--- the turn, or gives the station that wins in this turn.
+-- the turn, or gives the station that wins in this turn. The loop compares standings, which without the
+-- setting `pending` are the deficits.
 abbrev pub PicksStationByTurns : World → Class → Type 0
 PicksStationByTurns w c =
-    MeetsVisit (quantum w) (λ s. (share w s c).deficit) (is_ready w c) (rotation w c)
-    (visit (quantum w) (λ s. (share w s c).deficit) (is_ready w c) (rotation w c))
+    MeetsVisit (quantum w) (λ s. standing w s c) (is_ready w c) (rotation w c)
+    (visit (quantum w) (λ s. standing w s c) (is_ready w c) (rotation w c))
 
 -- The same for the queues of a TID.
 abbrev pub PicksQueueByTurns : World → ℕ → ℕ → Type 0
@@ -45,6 +50,11 @@ pub record KeepsRotations (w : World) : Type 0 where
   pub once : (c : Class) → IsOnce (in_order (rotation w c))
   -- A Pull is refused as Idle if and only if the class may open an exchange and no station is ready.
   pub idle : (c : Class) → (refusal w (Asked (Pull c)) ≡ Some Idle) ↔ (MayOpen w c × NoneReady w c)
+  -- With the setting `pending`, a call that is refused changes nothing.
+  pub refused : w.config.pending ≡ 1 → (note : Note) (r : Refusal) → refusal w note ≡ Some r →
+      (step w note).world ≡ w
+  -- The station of an open exchange is live.
+  pub served : EachOpen (λ x. is_live w x.station ≡ true) w.opened
   -- Each quantum is at least 1 microsecond or octet, as the law of one turn requires.
   pub quanta : (s : ℕ) → 1 ≤ quantum w s
   pub octets : 1 ≤ w.config.flow_quantum

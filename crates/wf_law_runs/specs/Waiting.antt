@@ -11,13 +11,13 @@ use Rattle.wf_frame.specs.declared.notes.ReplyNote.TheVariants.{Send}
 use Rattle.wf_frame.specs.Classes.{same_class}
 use Rattle.wf_def_lists.specs.Table.{has}
 use Rattle.wf_def_rotation.specs.Rotation.{keys_before}
-use Rattle.wf_def_world.specs.World.{World, rotation}
+use Rattle.wf_def_world.specs.World.{World, rotation, standing, opening}
 use Rattle.wf_def_world.specs.CanSend.{is_ready}
 use Rattle.wf_def_world.specs.Step.{step}
 use Rattle.wf_def_world.specs.Run.{Entry}
 use Rattle.wf_def_world.specs.Stretches.{world_at, charged_between, IsQuiet}
-use Rattle.wf_law_runs.specs.Deficits.{most_owed, got_between}
-use Rattle.wf_law_runs.specs.Shares.{received_between, deficit_then, quantum_then, overrun, StaysLive}
+use Rattle.wf_law_runs.specs.Deficits.{longest_computed, most_owed, got_between}
+use Rattle.wf_law_runs.specs.Shares.{received_between, deficit_then, quantum_then, overrun, StaysLive, spent_between, standing_then, AreWithin, error_of, excess}
 
 -- Whether a reply opens an exchange for a station.
 abbrev pub is_sent_to : ℕ → ReplyNote → Bool
@@ -53,13 +53,28 @@ below_one (negsuc n) = n + 2
 abbrev pub rounds_up : ℕ → ℕ → ℕ
 rounds_up m n = (m + (n - 1)) / n
 
+-- The bounds on what another station i spends from a to b, and on the quanta of a station s that is ready and
+-- sends nothing, if each Done charges within e of the computed airtime.
+pub record IsAwaited (config : Config) (h : List Entry) (s i : ℕ) (c : Class) (a b e : ℕ) : Type 0 where
+  -- The airtime that i spends is at most its quanta for the count of s, and the excess.
+  pub spent : spent_between config h i c a b ≤ℤ
+      pos (quantum_then config h b i * (got_between config h s c a b + 1) + excess config e)
+  -- The quanta of s cover its debt at a, the errors, and the airtime that it is charged for what it sends.
+  pub most : got_between config h s c a b ≤ rounds_up
+      (error_of config e + below_one (standing_then config h a s c) + received_between config h s c a b)
+      (quantum_then config h b s)
+  -- They cover one exchange and the errors if s was never charged for what it sent.
+  pub quiet : IsQuiet (world_at config h b) s c → got_between config h s c a b
+      ≤ rounds_up (longest_computed config + error_of config e) (quantum_then config h b s)
+
 -- The bounds on what another station i gets from a to b, while station s is ready and sends nothing, and on
 -- the quanta of s.
 pub record IsWait (config : Config) (h : List Entry) (s i : ℕ) (c : Class) (a b : ℕ) : Type 0 where
   -- i gets at most one quantum more than s
   pub quanta : got_between config h i c a b ≤ got_between config h s c a b + 1
-  -- the charges of i are at most its quanta for the count of s, and the overrun
-  pub charged : charged_between config h i c a b
+  -- Without the setting `pending`, the charges of i are at most its quanta for the count of s, and the
+  -- overrun.
+  pub charged : config.pending ≡ 0 → charged_between config h i c a b
       ≤ quantum_then config h b i * (got_between config h s c a b + 1) + overrun config
   -- The quanta of s are few. They cover what its open exchanges are charged, its debt at a, and the airtime
   -- that it is charged for what it sends meanwhile.
@@ -72,6 +87,10 @@ pub record IsWait (config : Config) (h : List Entry) (s i : ℕ) (c : Class) (a 
   -- They are fewer if s was never charged for what it sent: the deficit then covers the open exchanges.
   pub quiet : IsQuiet (world_at config h b) s c → got_between config h s c a b
       ≤ rounds_up (most_owed config) (quantum_then config h b s)
+  -- With the setting `pending`, fewer quanta are enough if each Done of the first b entries charges within e
+  -- of the computed airtime, and then what i spends is bounded.
+  pub waited : config.pending ≡ 1 → (e : ℕ) → AreWithin e (opening config) (take b h) →
+      IsAwaited config h s i c a b e
 
 -- Nobody starves: while a station waits, another gets a bounded number of quanta and is charged a bounded
 -- airtime.
@@ -79,10 +98,11 @@ abbrev pub WaitingLaw : Config → List Entry → Type 0
 WaitingLaw config h = (s i : ℕ) (c : Class) (a b : ℕ) → a ≤ b → s ≢ i → StaysReady config h s c a b →
     sends_between config h s c a b ≡ 0 → StaysLive config h i a b → IsWait config h s i c a b
 
--- If a ready station with a deficit above 0 is on the new list, a Pull that opens an exchange opens it for
--- this station, or for one that is before it on the new list.
+-- If a ready station with a positive standing is on the new list, a Pull that opens an exchange opens it for
+-- this station, or for one that is before it on the new list. Without the setting `pending` the standing is
+-- the deficit.
 abbrev pub SparseLaw : Config → List Entry → Type 0
 SparseLaw config h = (m s v : ℕ) (c : Class) → IsTrue (has (rotation (world_at config h m) c).new s) →
-    IsTrue (is_ready (world_at config h m) c s) → pos 1 ≤ℤ deficit_then config h m s c →
+    IsTrue (is_ready (world_at config h m) c s) → pos 1 ≤ℤ standing (world_at config h m) s c →
     IsTrue (is_sent_to v (step (world_at config h m) (Asked (Pull c))).reply) →
     (v ≡ s) ⊎ IsTrue (has (keys_before s (rotation (world_at config h m) c).new) v)

@@ -16,6 +16,7 @@ ghost use Rattle.wf_law_runs.specs.Answers.{AnswerLaw};
 ghost use Rattle.wf_law_runs.specs.Attempts.{AttemptsLaw};
 ghost use Rattle.wf_law_runs.specs.Deficits.{DeficitLaw, FairnessLaw, QuietLaw};
 ghost use Rattle.wf_law_runs.specs.Delay.{DelayLaw};
+ghost use Rattle.wf_law_runs.specs.Dequeues.{CodelLaw};
 ghost use Rattle.wf_law_runs.specs.Flows.{FlowQueueLaw, FlowReleaseLaw, FlowSendLaw};
 ghost use Rattle.wf_law_runs.specs.Delivery.{DeliveryLaw};
 ghost use Rattle.wf_law_runs.specs.Fates.{FateLaw};
@@ -30,7 +31,7 @@ ghost use Rattle.wf_law_runs.specs.Ranges.{RangeLaw};
 ghost use Rattle.wf_law_runs.specs.Releases.{OnceLaw, ReleaseLaw};
 ghost use Rattle.wf_law_runs.specs.Room.{LimitLaw, RoomLaw};
 ghost use Rattle.wf_law_runs.specs.Sent.{SentLaw};
-ghost use Rattle.wf_law_runs.specs.Shares.{ShareLaw};
+ghost use Rattle.wf_law_runs.specs.Shares.{ComputedLaw, ShareLaw, SpentLaw};
 ghost use Rattle.wf_law_runs.specs.Sums.{SumLaw};
 ghost use Rattle.wf_law_runs.specs.Rotations.{RotationLaw};
 ghost use Rattle.wf_law_runs.specs.Tallies.{TallyLaw};
@@ -136,8 +137,8 @@ pub fn range_law()
     ensures { (config : Config) → (history : List Entry) → IsInRange config → RangeLaw config history }
 {}
 
-/// After every entry, a station's deficit is its quanta less its charges, it stays between its bounds, and
-/// every ready station is listed (specs/Deficits).
+/// After every entry, a station's deficit is its quanta less its charges, the deficit and the standing stay
+/// between their bounds, and every station that is ready or has debts is listed (specs/Deficits).
 pub fn deficit_law()
     ensures { (config : Config) → (history : List Entry) → IsInRange config → DeficitLaw config history }
 {}
@@ -155,25 +156,40 @@ pub fn fairness_law()
 {}
 
 /// No station gets more airtime for its weight than one that stays on the class's old list, up to a constant.
+/// With the setting `pending`, this bounds the airtime that is spent: the charges, and the computed airtime
+/// of the open exchanges. If each Done charges the computed airtime, the constant does not depend on the
+/// setting `inflight` (specs/Shares).
 pub fn share_law()
     ensures { (config : Config) → (history : List Entry) → IsInRange config → ShareLaw config history }
 {}
 
+/// If the setting `charge` is 0, so that no Done gives an airtime, each Done charges the computed airtime
+/// (specs/Shares).
+pub fn computed_law()
+    ensures { (config : Config) → (history : List Entry) → ComputedLaw config history }
+{}
+
+/// If the setting `charge` is 0, what a station spends between two moments is the computed airtime of the
+/// exchanges that are opened for it between them (specs/Shares).
+pub fn spent_law()
+    ensures { (config : Config) → (history : List Entry) → IsInRange config → SpentLaw config history }
+{}
+
 /// While a station is ready and sends nothing, it gets few quanta, and no other station gets more than one
-/// quantum more.
+/// quantum more (specs/Waiting).
 pub fn waiting_law()
     ensures { (config : Config) → (history : List Entry) → IsInRange config → WaitingLaw config history }
 {}
 
-/// If a ready station with a deficit above 0 is on the new list, a Pull that sends, sends to this station or
-/// to one that is before it on the new list.
+/// If a ready station with a positive standing is on the new list, a Pull that sends, sends to this station
+/// or to one that is before it on the new list.
 pub fn sparse_law()
     ensures { (config : Config) → (history : List Entry) → SparseLaw config history }
 {}
 
 /// After every entry, each class lists only live stations, each at most once. A Pull is refused as Idle if
-/// and only if the class may open an exchange and no station is ready. Each pick of a station or a queue
-/// has the result of the paper's loop (specs/Rotations).
+/// and only if the class may open an exchange and no station is ready. With the setting `pending`, a refusal
+/// changes nothing. Each pick of a station or a queue has the result of the paper's loop (specs/Rotations).
 pub fn rotation_law()
     ensures { (config : Config) → (history : List Entry) → IsInRange config → RotationLaw config history }
 {}
@@ -197,9 +213,9 @@ pub fn queue_deficit_law()
 {}
 
 /// After every entry, the computed charge of an open exchange is 1 to 5456 microseconds: the greatest data
-/// time, 5400, SIFS and the longest BlockAck. A class has at most eight open exchanges. The deficits of live
-/// stations are between bounds that are far within 32 bits. If no frame is longer than the greatest body, the
-/// deficits of listed queues are too (specs/Numbers).
+/// time, 5400, SIFS and the longest BlockAck. A class has at most eight open exchanges. The deficits and
+/// standings of live stations are between bounds that are far within 32 bits. If no frame is longer than the
+/// greatest body, the deficits of listed queues are too (specs/Numbers).
 pub fn number_law()
     ensures { (config : Config) → (history : List Entry) → IsInRange config → NumberLaw config history }
 {}
@@ -241,6 +257,14 @@ pub fn tries_law()
 /// the setting `aql` by less than one exchange, if it is not 0 (specs/InFlight).
 pub fn in_flight_law()
     ensures { (config : Config) → (history : List Entry) → IsInRange config → InFlightLaw config history }
+{}
+
+/// In every run, CoDel's state of a queue is that after the dequeues of the queue since it was new or calmed.
+/// CoDel drops a frame only if each look of the last interval saw a standing queue, and only a limited number
+/// of frames in a time. Each frame that CoDel drops is dropped by a dequeue of the Pull with which it gets
+/// this fate (specs/Dequeues).
+pub fn codel_law()
+    ensures { (config : Config) → (history : List Entry) → CodelLaw config history }
 {}
 
 /// If exchanges end in the order of their numbers from the Pull of an exchange to its Done, and the setting

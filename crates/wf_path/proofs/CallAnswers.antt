@@ -1,21 +1,40 @@
 -- Proves the clauses of a call without a frame from those of the half: the answer is the half's reply as a
 -- brief, and the path differs from before only in its half.
-use Rattle.std.proofs.Common.{◌≡◌, ap, sym, ◌∙◌, subst, ℕ, true, List}
+use Rattle.std.proofs.Common.{◌≡◌, refl, ap, sym, ◌∙◌, subst, ℕ, true, List}
 use Rattle.wf_frame.specs.Answers.{reply_with}
 use Rattle.wf_frame.specs.Frames.{FrameValue}
 use Rattle.wf_frame.specs.declared.answers.Brief.{Brief}
 use Rattle.wf_frame.specs.declared.notes.Ask.{Ask}
 use Rattle.wf_frame.specs.declared.notes.Note.TheVariants.{Asked}
 use Rattle.wf_frame.specs.declared.notes.ReplyNote.{ReplyNote}
+use Rattle.wf_frame.specs.declared.notes.ReplyNote.TheVariants.{Joined, Left, Set, Now, Accepted, Send, Released, Ba, Done, Slept, Woken, Polled, Charged, Reaped, Refused}
 use Rattle.wf_send_half_model.specs.Half.{TransmitValue}
 use Rattle.wf_send_half_model.specs.Standing.{StandsFor, Meets}
 use Rattle.wf_path.specs.Addresses.{Addresses}
-use Rattle.wf_path.specs.Jobs.{bodies_after, changes_nothing}
+use Rattle.wf_path.specs.Jobs.{bodies_after, changes_nothing, is_refused}
 use Rattle.wf_path.specs.declared.job.Job.TheVariants.{Call}
 use Rattle.wf_path.specs.Paths.{PathValue, IsPath, RiseLittle, IsAnsweredBriefly}
 use Rattle.wf_send_half.proofs.Kept.{Leaves, same_bodies}
 use Rattle.wf_path.proofs.Rises.{rises_by}
 use Rattle.wf_path.proofs.Values.{half_is, addresses_are, with_half}
+
+-- a reply that says that its call changed nothing is a refusal
+pub refused_so : (reply : ReplyNote) → changes_nothing reply ≡ true → is_refused reply ≡ true
+refused_so (Refused r) is = refl
+refused_so Joined is = absurd (cc is)
+refused_so (Left dropped) is = absurd (cc is)
+refused_so Set is = absurd (cc is)
+refused_so (Now now) is = absurd (cc is)
+refused_so (Accepted id dropped) is = absurd (cc is)
+refused_so (Send exchange station tid air part more) is = absurd (cc is)
+refused_so (Released ids) is = absurd (cc is)
+refused_so (Ba start b0 b1 b2 b3 wide) is = absurd (cc is)
+refused_so (Done acked waiting failed) is = absurd (cc is)
+refused_so Slept is = absurd (cc is)
+refused_so Woken is = absurd (cc is)
+refused_so (Polled class) is = absurd (cc is)
+refused_so (Charged deficit) is = absurd (cc is)
+refused_so (Reaped id fate) is = absurd (cc is)
 
 -- x is the half of the path p, a are its addresses, and u is the half after the call
 module _ (x : TransmitValue) (h : IsPath x) (ask : Ask) (reply : ReplyNote) (u : TransmitValue)
@@ -24,7 +43,7 @@ module _ (x : TransmitValue) (h : IsPath x) (ask : Ask) (reply : ReplyNote) (u :
       ◌≡◌ {A = PathValue} (record { half = x; addresses = a }) p → (brief : Brief) →
       ((pairs : List (ℕ × ℕ)) (ids : List ℕ) → reply_with brief pairs ids ≡ reply) →
       ((bodies : ℕ → FrameValue) → bodies_after p.half (Call ask) reply bodies ≡ bodies) →
-      (changes_nothing reply ≡ true → u ≡ x) →
+      (is_refused reply ≡ true → u ≡ x) →
       IsAnsweredBriefly p ask (record { half = u; addresses = a }) brief
   answered_briefly a p same brief says sends stays pairs = record {
     meets = λ w bodies ids st.
@@ -33,7 +52,9 @@ module _ (x : TransmitValue) (h : IsPath x) (ask : Ask) (reply : ReplyNote) (u :
         (sym (sends bodies)) (meets w bodies (subst (λ (z : TransmitValue). StandsFor z w bodies)
         (sym (half_is same)) st)));
     refused = λ ids is. ap (λ (z : TransmitValue). with_half a z)
-        (stays (ap changes_nothing (sym (says pairs ids)) ∙ is)) ∙ same;
+        (stays (ap is_refused (sym (says pairs ids)) ∙ refused_so (reply_with brief pairs ids) is)) ∙ same;
+    pending = λ ids on is. ap (λ (z : TransmitValue). with_half a z)
+        (stays (ap is_refused (sym (says pairs ids)) ∙ is)) ∙ same;
     addresses = addresses_are same;
     path = unheard;
     rises = subst (λ (z : TransmitValue). RiseLittle z u) (half_is same) (rises_by x u h h.bodies

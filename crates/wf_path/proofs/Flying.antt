@@ -1,6 +1,6 @@
 -- Proves that the number of a data transmission flies in the window of its TID, and that its
 -- frame is the frame with its id. The end of its exchange could begin, so the facts of an ending hold.
-use Rattle.std.proofs.Common.{◌≡◌, refl, ap, sym, ◌∙◌, subst, ℕ, zero, suc, ◌<◌, ◌==◌, true, false, List, [], ◌∷◌, map, Option, Some, None, option_map, eq-eqb}
+use Rattle.std.proofs.Common.{◌≡◌, refl, ap, sym, ◌∙◌, subst, ℕ, zero, suc, ◌<◌, ◌==◌, Bool, true, false, List, [], ◌∷◌, map, Option, Some, None, option_map, eq-eqb}
 use Rattle.std.specs.Prelude.{find, option_and_then, slice_get}
 use Rattle.std.proofs.lemmas.Bool.{or_left, or_right}
 use Rattle.std.proofs.lemmas.Option.{slice_get-map}
@@ -28,7 +28,7 @@ use Rattle.wf_send_half.proofs.Dones.{IsKnown, known_of, none_open, low_tid as l
 use Rattle.wf_send_half.proofs.Ends.{IsData, sends as data_sent, begun}
 use Rattle.wf_octets.specs.HeaderLayout.{header_as_octets}
 use Rattle.wf_path.specs.Addresses.{Addresses}
-use Rattle.wf_path.specs.Transmissions.{transmission_id, transmission_tag, transmission_header, id_sent, tag_sent, header_of, header_sent}
+use Rattle.wf_path.specs.Transmissions.{transmission_id, transmission_tag, transmission_bare, transmission_header, id_sent, tag_sent, bare_sent, header_of, header_sent}
 use Rattle.wf_path.specs.Writing.{no_data_fault, write_header_fault}
 use Rattle.std.specs.Option.{option_map_or}
 use Rattle.wf_path.specs.declared.faults.PathFault.TheVariants.{NoExchange, BadIndex}
@@ -249,6 +249,17 @@ module _ (v : TransmitValue) (e : ℕ) (o : Open) (index seq : ℕ)
       ap Some own ∙ sym (ap (option_map (λ (z : Mpdu). (bodies z.id).tag)) k.flight.among)
       ∙ sym (ap (option_and_then (λ x. transmission_tag bodies x index)) k.known)
 
+  -- whether it is bare
+  pub bare_is : (w : World) (bodies : ℕ → FrameValue) (h : StandsFor v w bodies) (frame : FrameValue)
+      (bare : Bool) → ((x : Exchange) (m : Mpdu) → IsInFlight v o index w bodies x m → frame ≡ bodies m.id) →
+      bare ≡ frame.bare → Some bare ≡ bare_sent w bodies e index
+  bare_is w bodies h frame bare frame_is is_bare =
+      let k : IsFound v w bodies e o index = found_in w bodies h in
+      let own : bare ≡ (bodies k.mpdu.id).bare = is_bare ∙ ap (λ (f : FrameValue). f.bare)
+      (frame_is k.exchange_is k.mpdu k.flight) in
+      ap Some own ∙ sym (ap (option_map (λ (z : Mpdu). (bodies z.id).bare)) k.flight.among)
+      ∙ sym (ap (option_and_then (λ x. transmission_bare bodies x index)) k.known)
+
   -- its header exists
   module _ (w : World) (bodies : ℕ → FrameValue) (h : StandsFor v w bodies) where
     pub header_is : (a : Addresses) (header : Header) (head : List ℕ) →
@@ -293,6 +304,17 @@ module _ (v : TransmitValue) (w : World) (bodies : ℕ → FrameValue) (h : Stan
       sym (ap (option_map (λ (z : Mpdu). (bodies z.id).tag)) (none_at k.exchange_is.content index
       (subst (λ (z : Open). number_carried z.sending index ≡ None) k.same none)))
       ∙ sym (ap (option_and_then (λ x. transmission_tag bodies x index)) k.known)
+
+  pub no_bare : None ≡ find (λ x. x.number == e) v.opened → None ≡ bare_sent w bodies e index
+  no_bare is = sym (ap (option_and_then (λ x. transmission_bare bodies x index)) (none_open v w bodies h e is))
+
+  pub no_bared : (o : Open) → Some o ≡ find (λ x. x.number == e) v.opened →
+      number_carried o.sending index ≡ None → None ≡ bare_sent w bodies e index
+  no_bared o is none =
+      let k : IsKnown w e o = known_of v w bodies h e o is in
+      sym (ap (option_map (λ (z : Mpdu). (bodies z.id).bare)) (none_at k.exchange_is.content index
+      (subst (λ (z : Open). number_carried z.sending index ≡ None) k.same none)))
+      ∙ sym (ap (option_and_then (λ x. transmission_bare bodies x index)) k.known)
 
   pub no_header : None ≡ find (λ x. x.number == e) v.opened → Some NoExchange ≡ write_header_fault w e index
   no_header is = sym (ap

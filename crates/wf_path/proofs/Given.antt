@@ -17,7 +17,7 @@ use Rattle.wf_send_half_model.specs.Standing.{StandsFor, Meets}
 use Rattle.wf_send_half.specs.Enqueues.{enqueue_of, as_accepted}
 use Rattle.wf_send_half.specs.Replies.{reaped_reply}
 use Rattle.wf_path.specs.Addresses.{Addresses}
-use Rattle.wf_path.specs.Jobs.{note_of, bodies_after, frame_given_back, changes_nothing}
+use Rattle.wf_path.specs.Jobs.{note_of, bodies_after, frame_given_back, is_refused}
 use Rattle.wf_path.specs.Paths.{PathValue, IsPath, RiseLittle}
 use Rattle.wf_path.specs.declared.job.Job.{Job}
 use Rattle.wf_path.specs.declared.job.Job.TheVariants.{Give, Call}
@@ -105,11 +105,11 @@ module _ (x : TransmitValue) (h : IsPath x) (u : TransmitValue) (a : Addresses) 
         ∙ subst (λ (j : Job). frame_given_back bodies (Call Reap) (reply_with b pairs ids)
         ≡ frame_given_back bodies j (reply_with b pairs ids)) (sym is) refl
 
-    stays : (o : Option FrameValue) → IfNone o (u ≡ x) → changes_nothing (reaped_reply o) ≡ true → u ≡ x
+    stays : (o : Option FrameValue) → IfNone o (u ≡ x) → is_refused (reaped_reply o) ≡ true → u ≡ x
     stays None none e = none
     stays (Some f) none e = absurd (cc e)
 
-    pub reaped_refused : IfNone reaped (u ≡ x) → changes_nothing (reply_with b pairs ids) ≡ true →
+    pub reaped_refused : IfNone reaped (u ≡ x) → is_refused (reply_with b pairs ids) ≡ true →
         with_half a u ≡ p
     reaped_refused none e = ap (λ (z : TransmitValue). with_half a z)
-        (stays reaped none (ap changes_nothing (sym (says pairs ids)) ∙ e)) ∙ same
+        (stays reaped none (ap is_refused (sym (says pairs ids)) ∙ e)) ∙ same

@@ -10,6 +10,8 @@ use Rattle.wf_frame.specs.Classes.{all_classes}
 use Rattle.wf_def_lists.specs.Table.{upto}
 use Rattle.wf_def_world.specs.World.{World, Exchange, is_live, exchange, with_station}
 use Rattle.wf_def_world.specs.Refusals.{refusal}
+use Rattle.wf_frame.specs.declared.classes.Class.{Class}
+use Rattle.wf_def_world.specs.Exchanges.{after_pick}
 use Rattle.wf_def_world.specs.Step.{Outcome, join_outcome, after_tids_left, without_listings, leave_outcome, rate_outcome, tick_outcome, outcome_where_open, sleep_outcome, wake_outcome, poll_outcome, rx_outcome, reap_outcome, concerned_station, outcome_of, after_refusal, judged_outcome, step}
 use Rattle.wf_law_rules.proofs.Lemmas.Numbers.{on_bool, eq_yes, eq_no}
 use Rattle.wf_law_runs.specs.Sums.{since_join}
@@ -92,10 +94,16 @@ were_done (Asked Reap) w i = were_reaped (Asked Reap) w.finished w
 
 -- ---- the step
 
+-- An idle pull makes no station live, whether it changes the lists or not.
+were_idle : (b : Bool) (w : World) (c : Class) (s : ℕ) →
+    is_live (if b then w else after_pick w c) s ≡ true → is_live w s ≡ true
+were_idle true w c s live = live
+were_idle false w c s live = sym ((same_after_pick w c).live s) ∙ live
+
 were_refused : (note : Note) (r : Refusal) (w : World) (s : ℕ) →
     is_live (after_refusal w note r) s ≡ true → is_live w s ≡ true
 unfolding after_refusal
-were_refused (Asked (Pull c)) Idle w s live = sym ((same_after_pick w c).live s) ∙ live
+were_refused (Asked (Pull c)) Idle w s live = were_idle (w.config.pending == 1) w c s live
 were_refused _ _ w s live = live
 
 begun : (note : Note) (w : World) (s n : ℕ) → refusal w note ≡ None → is_join_of s note ≡ true →

@@ -1,4 +1,5 @@
 -- Lists the modules of proofs/ of wf_path. Other crates may use those that are `pub`.
+mod Advancing
 mod CallAnswers
 mod Counts
 mod Dones

@@ -1,5 +1,5 @@
 -- Proves the clauses of a pull from those of the half. By cases of the reply, which sends or refuses.
-use Rattle.std.proofs.Common.{◌≡◌, refl, ap, ap₂, sym, ◌∙◌, subst, ℕ, Bool, true, false, List, [], ◌∷◌, Some}
+use Rattle.std.proofs.Common.{◌≡◌, refl, ap, ap₂, sym, ◌∙◌, subst, ℕ, Bool, true, false, List, [], ◌∷◌, Some, None}
 use Rattle.std.specs.Prelude.{nat_le, count_by}
 use Rattle.wf_frame.specs.Answers.{reply_with}
 use Rattle.wf_frame.specs.Classes.{same_class}
@@ -22,7 +22,7 @@ use Rattle.wf_send_half_model.specs.Standing.{StandsFor, Meets}
 use Rattle.wf_send_half_model.proofs.Readers.{class_count_same, ahead_same}
 use Rattle.wf_path.specs.Addresses.{Addresses}
 use Rattle.wf_send_half.specs.Replies.{bodies_sent}
-use Rattle.wf_path.specs.Jobs.{changes_nothing}
+use Rattle.wf_path.specs.Jobs.{changes_nothing, is_refused}
 use Rattle.wf_path.specs.Paths.{PathValue, IsPath, RiseLittle, IsAnswered}
 use Rattle.wf_send_half.proofs.Kept.{Leaves}
 use Rattle.wf_send_half.proofs.Sends.{Says, Sends, Refuses, says}
@@ -106,6 +106,59 @@ closed_or_same v y w bodies after c b pairs ids h m full ahead is =
         is in
         cc z)
 
+-- an answer that is a refusal has a brief that is this refusal
+refused_only : (b : Brief) (pairs : List (ℕ × ℕ)) (ids : List ℕ) (r : Refusal) →
+    reply_with b pairs ids ≡ Refused r → b ≡ brief.Refused r
+refused_only brief.Joined pairs ids r is = absurd (cc is)
+refused_only (brief.Left dropped) pairs ids r is = absurd (cc is)
+refused_only brief.Set pairs ids r is = absurd (cc is)
+refused_only (brief.Now now) pairs ids r is = absurd (cc is)
+refused_only (brief.Accepted id dropped) pairs ids r is = absurd (cc is)
+refused_only (brief.Send exchange station tid air None more) pairs ids r is = absurd (cc is)
+refused_only (brief.Send exchange station tid air (Some start) more) pairs ids r is = absurd (cc is)
+refused_only brief.Released pairs ids r is = absurd (cc is)
+refused_only (brief.Ba start b0 b1 b2 b3 wide) pairs ids r is = absurd (cc is)
+refused_only (brief.Done acked waiting failed) pairs ids r is = absurd (cc is)
+refused_only brief.Slept pairs ids r is = absurd (cc is)
+refused_only brief.Woken pairs ids r is = absurd (cc is)
+refused_only (brief.Polled class) pairs ids r is = absurd (cc is)
+refused_only (brief.Charged deficit) pairs ids r is = absurd (cc is)
+refused_only (brief.Reaped id fate) pairs ids r is = absurd (cc is)
+refused_only (brief.Refused reason) pairs ids r is = ap brief.Refused (cc is)
+
+-- a pull that is refused neither as Full nor as Ahead is refused as Idle
+idle_then : (w : World) (c : Class) → nat_le w.config.inflight (open_of_class w c) ≡ false →
+    is_at_aql_total w ≡ false → is_refused (step w (Asked (Pull c))).reply ≡ true →
+    (step w (Asked (Pull c))).reply ≡ Refused Idle
+idle_then w c off behind is = from (says w c)
+  where
+    from : Says w c (step w (Asked (Pull c))).reply → (step w (Asked (Pull c))).reply ≡ Refused Idle
+    from (Sends sent) = absurd (let no : true ≡ false = sym is ∙ ap is_refused sent.is in cc no)
+    from (Refuses r h how) = how ∙ ap Refused (only_idle _ _ _ _ _ r off behind h)
+
+-- with the setting `pending`, a pull that is refused changes nothing
+kept_if_refused : (v y : TransmitValue) (w : World) (bodies after : ℕ → FrameValue) (c : Class) (b : Brief)
+    (pairs : List (ℕ × ℕ)) (ids : List ℕ) → StandsFor v w bodies →
+    Meets w after (Asked (Pull c)) y (reply_with b pairs ids) →
+    (nat_le v.config.inflight (count_by (λ x. same_class x.class c) v.opened) ≡ true → y ≡ v) →
+    (nat_le v.config.inflight (count_by (λ x. same_class x.class c) v.opened) ≡ false →
+    is_ahead_of v ≡ true → y ≡ v) → (b ≡ brief.Refused Idle → y ≡ v) →
+    is_refused (reply_with b pairs ids) ≡ true → y ≡ v
+kept_if_refused v y w bodies after c b pairs ids h m full ahead idle is =
+    from (nat_le v.config.inflight (count_by (λ x. same_class x.class c) v.opened)) refl (is_ahead_of v) refl
+  where
+    from : (a : Bool) → nat_le v.config.inflight (count_by (λ x. same_class x.class c) v.opened) ≡ a →
+        (d : Bool) → is_ahead_of v ≡ d → y ≡ v
+    from true e d k = full e
+    from false e true k = ahead e k
+    from false e false k =
+        let same : nat_le w.config.inflight (open_of_class w c) ≡ false =
+        ap₂ (λ (z : Config) (n : ℕ). nat_le z.inflight n) (sym h.parts.others.config)
+        (sym (class_count_same v w bodies c h.parts)) ∙ e in
+        let behind : is_at_aql_total w ≡ false = sym (ahead_same v w bodies h.parts) ∙ k in
+        idle (refused_only b pairs ids Idle
+        (m.reply ∙ idle_then w c same behind (ap is_refused (sym m.reply) ∙ is)))
+
 -- ---- a whole pull
 
 -- x is the half of the path p, a are its addresses, and u is the half after the pull
@@ -124,13 +177,18 @@ module _ (x : TransmitValue) (h : IsPath x) (c : Class) (b : Brief) (pairs : Lis
       (nat_le x.config.inflight (count_by (λ y. same_class y.class c) x.opened) ≡ true → u ≡ x) →
       (nat_le x.config.inflight (count_by (λ y. same_class y.class c) x.opened) ≡ false →
       is_ahead_of x ≡ true → u ≡ x) →
+      (x.config.pending ≡ 1 → b ≡ brief.Refused Idle → u ≡ x) →
       IsAnswered p (Pull c) (record { half = u; addresses = a }) b pairs
-  pull_answered a p same full ahead = record {
+  pull_answered a p same full ahead idle = record {
     meets = λ w bodies ids st. pull_met w bodies c u b pairs ids
         (meets w bodies (subst (λ (z : TransmitValue). StandsFor z w bodies) (sym (half_is same)) st));
     refused = λ ids is. ap (λ (z : TransmitValue). with_half a z)
         (closed_or_same x u h.world h.bodies _ c b pairs ids h.stands
         (pull_met h.world h.bodies c u b pairs ids met) full ahead is) ∙ same;
+    pending = λ ids on is. ap (λ (z : TransmitValue). with_half a z)
+        (kept_if_refused x u h.world h.bodies _ c b pairs ids h.stands
+        (pull_met h.world h.bodies c u b pairs ids met) full ahead
+        (idle (ap (λ (z : TransmitValue). z.config.pending) (half_is same) ∙ on)) is) ∙ same;
     addresses = addresses_are same;
     path = unheard;
     rises = subst (λ (z : TransmitValue). RiseLittle z u) (half_is same) (rises_by x u h

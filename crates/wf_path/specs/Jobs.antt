@@ -86,3 +86,8 @@ abbrev pub changes_nothing : ReplyNote → Bool
 changes_nothing (Refused Idle) = false
 changes_nothing (Refused reason) = true
 changes_nothing reply = false
+
+-- whether a reply is a refusal
+abbrev pub is_refused : ReplyNote → Bool
+is_refused (Refused reason) = true
+is_refused reply = false

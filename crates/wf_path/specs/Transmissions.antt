@@ -94,6 +94,10 @@ transmission_header a w bodies x index =
 abbrev pub transmission_tag : (ℕ → FrameValue) → Exchange → ℕ → Option ℕ
 transmission_tag bodies x index = option_map (λ m. (bodies m.id).tag) (slice_get (mpdus_of x.content) index)
 
+-- whether its frame is bare: only its owner has its octets; none if it is a BlockAckReq
+abbrev pub transmission_bare : (ℕ → FrameValue) → Exchange → ℕ → Option Bool
+transmission_bare bodies x index = option_map (λ m. (bodies m.id).bare) (slice_get (mpdus_of x.content) index)
+
 -- a summary of an exchange: its station, its TID, the number of transmissions, and whether it is a request
 abbrev pub sent_of : Exchange → Sent
 sent_of x = record {
@@ -117,3 +121,6 @@ header_sent a w bodies e index = option_and_then (λ x. transmission_header a w 
 
 abbrev pub tag_sent : World → (ℕ → FrameValue) → ℕ → ℕ → Option ℕ
 tag_sent w bodies e index = option_and_then (λ x. transmission_tag bodies x index) (exchange w e)
+
+abbrev pub bare_sent : World → (ℕ → FrameValue) → ℕ → ℕ → Option Bool
+bare_sent w bodies e index = option_and_then (λ x. transmission_bare bodies x index) (exchange w e)

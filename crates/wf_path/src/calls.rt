@@ -10,7 +10,7 @@ ghost use Rattle.wf_def_world.specs.Step.{step};
 ghost use Rattle.wf_law_driver.specs.Unheard.{IsUnheard};
 ghost use Rattle.wf_send_half.specs.Replies.{reaped_reply};
 ghost use Rattle.wf_send_half_model.specs.Standing.{StandsFor, Meets};
-ghost use Rattle.wf_path.specs.Jobs.{as_ask, job_of, note_of, bodies_after, frame_given_back, changes_nothing};
+ghost use Rattle.wf_path.specs.Jobs.{as_ask, job_of, note_of, bodies_after, frame_given_back, changes_nothing, is_refused};
 ghost use Rattle.wf_path.specs.Paths.{IsPath, IsSmall, RiseLittle, IsAnsweredBriefly};
 
 use crate::{Path, PathAsk, PathJob};
@@ -19,7 +19,8 @@ use wf_queue_parts::chain::Parcel;
 use wf_send_half::Admission;
 
 impl Path {
-    /// Makes a call, and writes its answer. Returns the frame exactly if it was refused, or reaped.
+    /// Makes a call, and writes its answer. Returns the frame exactly if it was refused, or reaped. A refused
+    /// call changes nothing, except a pull that is Idle without the setting `pending`.
     pub fn call(&mut self, job: PathJob, answer: &mut Answer) -> Option<Parcel>
         requires small { IsSmall self.old.half }
         ensures meets { (w : World) (bodies : ℕ → FrameValue) → StandsFor self.old.half w bodies →
@@ -28,6 +29,8 @@ impl Path {
         ensures parcel { (w : World) (bodies : ℕ → FrameValue) → StandsFor self.old.half w bodies →
             result ≡ frame_given_back bodies (job_of job) (reply_of answer.new) }
         ensures refused { changes_nothing (reply_of answer.new) ≡ true → self.new ≡ self.old }
+        ensures pending { self.old.half.config.pending ≡ 1 → is_refused (reply_of answer.new) ≡ true →
+            self.new ≡ self.old }
         ensures unheard { (w : World) (bodies : ℕ → FrameValue) → StandsFor self.old.half w bodies →
             IsUnheard w → IsUnheard (step w (note_of (job_of job))).world }
         ensures addresses { self.new.addresses ≡ self.old.addresses }

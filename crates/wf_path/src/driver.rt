@@ -7,7 +7,7 @@ ghost use Rattle.wf_send_half_model.specs.Standing.{StandsFor};
 ghost use Rattle.std.specs.Result.{result_err};
 ghost use Rattle.wf_path.specs.Answers.{block_ack_in};
 ghost use Rattle.wf_path.specs.Transmissions.{octets_sent, header_sent};
-ghost use Rattle.wf_path.specs.Writing.{write_fault, write_header_fault};
+ghost use Rattle.wf_path.specs.Writing.{write_fault, mpdu_fault, write_header_fault};
 ghost use Rattle.wf_path.specs.Driver.{IsEnded, end_fault};
 ghost use Rattle.wf_path.specs.Paths.{IsPath, IsSmall, RiseLittle};
 
@@ -94,8 +94,34 @@ impl Path {
     }
 
     /// Writes the octets of one transmission of an open exchange, a data frame or a BlockAckReq (8.3.2.1 and
-    /// 8.3.1.8), and returns their number. The rest of `out` is unchanged; after a fault all of it is.
+    /// 8.3.1.8), and returns their number. The rest of `out` is unchanged; after a fault all of it is. If the
+    /// transmission exists and its frame is bare, the fault is NoBody: call `header`, and send the body from
+    /// its owner's buffer.
     pub fn mpdu(&self, exchange: u64, index: u16, out: &mut [u8]) -> Result<usize, PathFault>
+        ensures fault { (w : World) (bodies : ℕ → FrameValue) → StandsFor self.now.half w bodies →
+            result_err result ≡ mpdu_fault self.now.addresses w bodies exchange index
+            (length out.old) }
+        ensures unchanged { OnErr result (out.new ≡ out.old) }
+        ensures octets { IfOk result (λ n. (w : World) (bodies : ℕ → FrameValue) →
+            StandsFor self.now.half w bodies →
+            octets_sent self.now.addresses w bodies exchange index ≡ Some (take n out.new)) }
+        ensures within { IfOk result (λ n. n ≤ length out.new) }
+        ensures rest { IfOk result (λ n. drop n out.new ≡ drop n out.old) }
+    {
+        match self.frame_is_bare(exchange, index) {
+            Some(true) => Err(PathFault::NoBody),
+            _ => self.mpdu_with_zeros(exchange, index, out),
+        }
+    }
+
+    /// Writes the octets of one transmission as `mpdu` does, but with zeros for the body of a bare frame, as
+    /// a capture or a receiver that is simulated has it.
+    pub fn mpdu_with_zeros(
+        &self,
+        exchange: u64,
+        index: u16,
+        out: &mut [u8],
+    ) -> Result<usize, PathFault>
         ensures fault { (w : World) (bodies : ℕ → FrameValue) → StandsFor self.now.half w bodies →
             result_err result ≡ write_fault self.now.addresses w bodies exchange index
             (length out.old) }

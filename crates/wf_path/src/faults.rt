@@ -50,6 +50,9 @@ pub enum PathFault {
     /// The exchange has no transmission of that index.
     #[error("no such transmission")]
     BadIndex,
+    /// The frame of the transmission is bare.
+    #[error("a frame without octets: write its `header`, and send the body from its owner's buffer")]
+    NoBody,
     /// The transmission is longer than the buffer.
     #[error("a transmission of {need} octets")]
     SmallBuffer {

@@ -16,6 +16,7 @@ mod addresses;
 mod answers;
 mod asks;
 mod calls;
+mod clock;
 mod driver;
 mod faults;
 mod flights;

@@ -1,14 +1,16 @@
 //! The path, and its readers.
 
-ghost use Rattle.std.specs.Prelude.{◌≡◌, ◌↔◌, ℕ, Some, Err, length, is_some, option_map, IfOk};
+ghost use Rattle.std.specs.Prelude.{◌≡◌, ◌↔◌, ℕ, pos, ◌+ℤ◌, Some, Err, length, is_some, option_map, IfOk};
 ghost use Rattle.wf_frame.specs.Frames.{FrameValue};
 ghost use Rattle.wf_frame.specs.Settings.{first_out_of_range};
 ghost use Rattle.wf_frame.specs.declared.settings.Field.{Field};
-ghost use Rattle.wf_def_world.specs.World.{World, opening, is_live, share};
+ghost use Rattle.wf_def_world.specs.World.{World, opening, is_live, share, owed};
 ghost use Rattle.wf_send_parts.specs.Tally.{counts_of};
 ghost use Rattle.wf_sched.specs.ClassRotas.{deficit};
+ghost use Rattle.wf_send_parts.specs.Exchanges.{airtime_to};
 ghost use Rattle.wf_send_parts.specs.Members.{member, charged_in, received_in};
 ghost use Rattle.wf_send_half.specs.Half.{IsLive};
+ghost use Rattle.wf_send_half_model.specs.Half.{pending_air_of};
 ghost use Rattle.wf_send_half_model.specs.Standing.{StandsFor, counts_in};
 ghost use Rattle.wf_path.specs.Addresses.{made_up};
 ghost use Rattle.wf_path.specs.Paths.{IsPath, HasCountsBelow, IsSmall};
@@ -129,7 +131,8 @@ impl Path {
     /// Returns the deficit of a live station in a class, in microseconds.
     pub fn deficit(&self, station: u16, class: Class) -> i64
         requires live { IsLive self.now.half station }
-        ensures value { result ≡ deficit self.now.half.sched class station }
+        ensures value { result ≡
+            deficit self.now.half.sched class station +ℤ pos (pending_air_of self.now.half station class) }
         ensures world { (w : World) (bodies : ℕ → FrameValue) → StandsFor self.now.half w bodies →
             result ≡ (share w station class).deficit }
     {
@@ -156,5 +159,15 @@ impl Path {
             result ≡ (share w station class).received }
     {
         self.half.received(station, class)
+    }
+
+    /// Returns the computed airtime of a live station's open exchanges in a class, in microseconds.
+    pub fn in_flight(&self, station: u16, class: Class) -> u32
+        requires live { IsLive self.now.half station }
+        ensures value { result ≡ airtime_to self.now.half.opened station class }
+        ensures world { (w : World) (bodies : ℕ → FrameValue) → StandsFor self.now.half w bodies →
+            result ≡ owed station class w.opened }
+    {
+        self.half.in_flight(station, class)
     }
 }

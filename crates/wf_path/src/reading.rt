@@ -4,7 +4,7 @@ ghost use Rattle.std.specs.Prelude.{◌≡◌, ℕ, option_map};
 ghost use Rattle.wf_frame.specs.Frames.{FrameValue};
 ghost use Rattle.wf_def_world.specs.World.{World, exchange as exchange_in};
 ghost use Rattle.wf_send_half_model.specs.Standing.{StandsFor};
-ghost use Rattle.wf_path.specs.Transmissions.{sent_of, id_sent, tag_sent};
+ghost use Rattle.wf_path.specs.Transmissions.{sent_of, id_sent, tag_sent, bare_sent};
 
 use crate::Path;
 use crate::flights::frame_of;
@@ -58,5 +58,16 @@ impl Path {
         let open = self.half.exchange(exchange)?;
         let seq = open.number_at(index)?;
         Some(frame_of(&self.half, open, index, seq).tag())
+    }
+
+    /// Returns whether the frame of a transmission is bare: only its owner has its octets. None exactly if
+    /// `frame_id` is None.
+    pub fn frame_is_bare(&self, exchange: u64, index: u16) -> Option<bool>
+        ensures { (w : World) (bodies : ℕ → FrameValue) → StandsFor self.now.half w bodies →
+            result ≡ bare_sent w bodies exchange index }
+    {
+        let open = self.half.exchange(exchange)?;
+        let seq = open.number_at(index)?;
+        Some(frame_of(&self.half, open, index, seq).is_bare())
     }
 }

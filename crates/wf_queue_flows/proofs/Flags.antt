@@ -1,9 +1,9 @@
 -- The flags say which queues have frames after a queue has changed; the longest queue is the one of the
 -- definition.
-use Rattle.std.proofs.Common.{◌≡◌, ℕ, ◌+◌, ◌<◌, true, false, not, eq-eqb, Option, Some, None, drop, take, List, [], ◌∷◌, ◌++◌, length, map, get_or, set, refl, sym, ap, ◌∙◌, inl, inr, arith, length-append}
+use Rattle.std.proofs.Common.{◌≡◌, ℕ, ◌+◌, ◌<◌, true, false, not, eq-eqb, Option, Some, None, drop, take, List, [], ◌∷◌, ◌++◌, length, map, get_or, set, refl, sym, ap, ◌∙◌, inl, inr, arith, length-append, length-set}
 use Rattle.std.specs.Prelude.{◌==◌, IfSome}
 use Rattle.std.proofs.Math.Path.{fun_ext}
-use Rattle.std.proofs.lemmas.List.{get_or-map, get_or_past, length-map, map-set, set-get_or, get_or-set_same, append-nil}
+use Rattle.std.proofs.lemmas.List.{get_or-map, get_or_past, length-map, map-set, set-get_or, get_or-set_same, get_or_read, append-nil}
 use Rattle.std.proofs.lemmas.List.Sums.{sum_by-cons}
 use Rattle.std.proofs.lemmas.Bool.{cases_lt, lt-ltb, ne_eqb}
 use Rattle.wf_frame.specs.Frames.{FrameValue}
@@ -40,6 +40,13 @@ flag_pushed xs f = lt-ltb 0 (length (xs ++ f ∷ [])) (omega (arith, length-appe
 pub flag_counted : (n : ℕ) (xs : List FrameValue) → n ≡ length xs → not (n == 0) ≡ is_some_frame xs
 flag_counted n [] e = rw (eq-eqb n 0 e) refl
 flag_counted n (f ∷ fs) e = rw (ne_eqb n 0 (λ z. omega arith), lt-ltb 0 (length (f ∷ fs)) (omega arith)) refl
+
+-- queue q keeps the frames `now`, and n of them are counted
+pub flag_left : (all : List (List FrameValue)) (q n : ℕ) (now seen : List FrameValue) → q < length all →
+    seen ≡ get_or (set all q now) q seen → n ≡ length seen → not (n == 0) ≡ is_some_frame now
+flag_left all q n now seen here read count = flag_counted n now (count ∙ ap length
+    (get_or_read (set all q now) q seen (omega (arith, here, length-set all q now)) read []
+    ∙ get_or-set_same all q now [] here))
 
 -- the frames of the queue that was changed
 pub changed_at : (b after : BacklogValue) (q : ℕ) (xs : List FrameValue) → q < length b.queues →

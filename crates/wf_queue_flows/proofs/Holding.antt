@@ -1,6 +1,6 @@
 -- A backlog keeps its invariant when one queue changes, and its tree of octets finds the longest queue.
 use Rattle.std.proofs.Common.{◌≡◌, ℕ, zero, suc, ◌+◌, ◌*◌, ◌-◌, ◌<◌, ◌≤◌, ◌^◌, Bool, true, false, Option, Some, None, List, [], ◌∷◌, ◌++◌, length, map, replicate, set, get_or, sum_by, refl, ap, sym, ◌∙◌, subst, arith, append_assoc, append-nil, length-set, length-append}
-use Rattle.std.specs.Prelude.{All, slice_index, ◌↔◌, IfNone, IfSome, IsNone}
+use Rattle.std.specs.Prelude.{All, slice_index, ◌↔◌, IfNone, IfSome, IsNone, MatchOption}
 use Rattle.std.proofs.lemmas.List.{get_or-map, get_or_read, map-set, set-set, set-get_or, length-replicate, length-map}
 use Rattle.std.proofs.lemmas.List.Sums.{sum_by-cons, sum_by-le, sum_by-set, get_or-le-sum_by}
 use Rattle.std.proofs.lemmas.List.Folds.{sum_by-replicate}
@@ -227,6 +227,12 @@ module _ (v : BacklogValue) (leaves : List ℕ) (ready : List Bool) (queued : �
       )
 
 -- ---- a queue loses its head, and a queue gains a frame
+
+pub head_taken : (o : Option FrameValue) (head : FrameValue) (before now : List FrameValue) →
+    o ≡ Some head → MatchOption o ((before ≡ []) × (now ≡ [])) (λ p. before ≡ p ∷ now) →
+    before ≡ head ∷ now
+head_taken o head before now is taken = subst (λ (p : Option FrameValue).
+    MatchOption p ((before ≡ []) × (now ≡ [])) (λ f. before ≡ f ∷ now)) is taken
 
 module _ (v : BacklogValue) (leaves : List ℕ) (ready : List Bool) (queued : ℕ)
     (kept : IsBacklogKept v leaves ready queued) (from x len : ℕ) (frames now : List FrameValue)

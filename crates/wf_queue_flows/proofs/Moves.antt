@@ -16,7 +16,7 @@ use Rattle.wf_rotation.specs.Lists.{lists_at, on_at, has_on, side_of}
 use Rattle.wf_rotation.specs.Rotas.{Rotas, deficit_at, quantum_at, IsUnlisted}
 use Rattle.wf_law_rules.proofs.Lemmas.Counts.{on_order-none, on-append}
 use Rattle.wf_queue_flows.specs.Backlog.{BacklogValue, frames_at, held_in_backlog, with_frames, backlog_when_listed, drops_at, given_at, backlog_after_take}
-use Rattle.wf_queue_flows.specs.Flows.{FlowsValue, tids, queues, is_listed, is_listed_by_another, with_listed_queue, frames_of_tid, frames_waiting}
+use Rattle.wf_queue_flows.specs.Flows.{FlowsValue, tids, queues, is_listed, is_listed_by_another, with_listed_queue, with_appended, frames_of_tid, frames_waiting}
 use Rattle.wf_queue_flows.specs.Kept.{AreListed, AreFlowsKept, CanList}
 use Rattle.wf_queue_flows.proofs.Owners.{listed_elsewhere, listed_nowhere_else, on-listed, listed-on}
 use Rattle.wf_queue_flows.proofs.Keeps.{kept_frames, kept_deficit, kept_fresh, depth_counted, count_few}
@@ -58,6 +58,13 @@ module _ (v now : FlowsValue) (counts : List ℕ) (same : v ≡ now) (ok : AreFl
       (ap (λ (b : BacklogValue). b.queues) pushed) (ap (λ (b : BacklogValue). b.room) pushed)
       (low_tid i low_i) (low_queue q low_q) (stands i q is)
       (omega (arith, read i x low_i read_x, length-append (frames_at v.backlog q) (f ∷ [])))
+
+  pub append_is : (q : ℕ) (f : FrameValue) (after : BacklogValue) →
+      after ≡ with_frames v.backlog q (frames_at v.backlog q ++ f ∷ []) →
+      record v { backlog = after } ≡ with_appended now q f
+  append_is q f after pushed =
+      ap (λ (b : BacklogValue). let w : FlowsValue = record v { backlog = b } in w) pushed
+      ∙ ap (λ (w : FlowsValue). with_appended w q f) same
 
   -- ---- take_from
 

@@ -1,8 +1,8 @@
 //! Numbered queues of parcels, each with a CoDel state, and the list of the finished parcels.
 
-ghost use Rattle.std.specs.Prelude.{◌≡◌, ◌+◌, ◌^◌, true, drop, slice_index, slice_set, ◌<◌, ◌≤◌, ◌↔◌, [], ◌∷◌, ◌++◌, Some, length, replicate, is_some, if◌then◌else◌, IfOk, IfNone, IfSome, IsNone, MatchOption};
+ghost use Rattle.std.specs.Prelude.{◌≡◌, ◌+◌, true, drop, slice_index, slice_set, ◌<◌, ◌≤◌, ◌↔◌, [], ◌∷◌, ◌++◌, Some, length, replicate, is_some, if◌then◌else◌, IfOk, IfNone, IfSome, IsNone, MatchOption};
 ghost use Rattle.wf_def_codel.specs.Codel.{new_codel};
-ghost use Rattle.wf_queue_flows.specs.Backlog.{is_some_frame, frames_at, in_queues, held_in_backlog, spare_of, first_id, frame_with_fate, with_frames, backlog_when_listed, after_head_drop, after_flush, IsLongest};
+ghost use Rattle.wf_queue_flows.specs.Backlog.{frames_at, in_queues, held_in_backlog, spare_of, first_id, frame_with_fate, with_frames, backlog_when_listed, after_head_drop, after_flush, IsLongest};
 ghost use Rattle.std.specs.List.{list_any};
 ghost use Rattle.wf_queue_flows.specs.Flows.{longest_queue, is_of_queue};
 
@@ -65,27 +65,6 @@ pub(crate) fn settle(mut parcel: Parcel, fate: Fate) -> Parcel
 {
     parcel.frame_mut().settle(fate);
     parcel
-}
-
-/// Takes the first parcel of a queue that has one, and sets whether it has more.
-fn take_head(queue: &mut Chain, ready: &mut bool) -> Parcel
-    requires { 0 < length queue.old }
-    ensures first { queue.old ≡ result ∷ queue.new }
-    ensures flag { ready.new ≡ is_some_frame queue.new }
-{
-    let parcel = queue.pop_front().unwrap();
-    *ready = queue.len() != 0;
-    parcel
-}
-
-/// Puts a parcel last in a queue, and sets that the queue has frames.
-fn put_last(queue: &mut Chain, ready: &mut bool, parcel: Parcel)
-    requires { length queue.old + 1 < 2 ^ 32 }
-    ensures last { queue.new ≡ queue.old ++ parcel ∷ [] }
-    ensures flag { ready.new ≡ true }
-{
-    queue.push_back(parcel);
-    *ready = true;
 }
 
 /// Returns the octets of queue `to` once those of queue `from`, which may be the same, are `left`.
@@ -163,7 +142,8 @@ impl Backlog {
     {
         let at = q as usize;
         let octets = self.octets.value(q) + u64::from(parcel.frame().len());
-        put_last(&mut self.queues[at], &mut self.ready[at], parcel);
+        self.queues[at].push_back(parcel);
+        self.ready[at] = true;
         self.octets.set(q, octets);
         self.queued += 1;
     }
@@ -177,11 +157,9 @@ impl Backlog {
         ensures spare { spare_of self.new ≡
             (if is_some result then spare_of self.old + 1 else spare_of self.old) }
     {
-        if self.count(q) == 0 {
-            return None;
-        }
         let at = q as usize;
-        let parcel = take_head(&mut self.queues[at], &mut self.ready[at]);
+        let parcel = self.queues[at].pop_front()?;
+        self.ready[at] = self.queues[at].len() != 0;
         let octets = self.octets.value(q) - u64::from(parcel.frame().len());
         self.octets.set(q, octets);
         self.queued -= 1;
@@ -202,11 +180,13 @@ impl Backlog {
         ensures held { held_in_backlog self.new ≡ held_in_backlog self.old + 1 }
     {
         let (source, target) = (from as usize, to as usize);
-        let head = take_head(&mut self.queues[source], &mut self.ready[source]);
+        let head = self.queues[source].pop_front().unwrap();
+        self.ready[source] = self.queues[source].len() != 0;
         let left = self.octets.value(from) - u64::from(head.frame().len());
         let before = octets_then(&self.octets, from, left, to);
         let more = before + u64::from(parcel.frame().len());
-        put_last(&mut self.queues[target], &mut self.ready[target], parcel);
+        self.queues[target].push_back(parcel);
+        self.ready[target] = true;
         self.octets.set_both(from, left, to, more);
         let id = head.frame().id();
         self.finish(settle(head, Fate::Dropped(Cause::Overlimit)));
@@ -281,14 +261,6 @@ impl Backlog {
         ensures { result ≡ length (frames_at self.now q) }
     {
         self.queues[q as usize].len()
-    }
-
-    /// Returns the number of frames in all queues.
-    pub fn total(&self) -> u32
-        ensures count { result ≡ in_queues self.now }
-        ensures room { held_in_backlog self.now ≤ self.now.room }
-    {
-        self.queued
     }
 
     /// Returns the queue with the most octets, the least number on a tie, or None if all queues are empty.

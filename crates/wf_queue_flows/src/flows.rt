@@ -5,7 +5,7 @@ ghost use Rattle.wf_frame.specs.Settings.{first_out_of_range};
 ghost use Rattle.wf_queue_flows.specs.CodelParams.{params_of};
 ghost use Rattle.wf_queue_flows.specs.Backlog.{frames_at, in_queues, held_in_backlog, first_id, after_head_drop, IsLongest};
 ghost use Rattle.wf_frame.specs.Classes.{tid_number};
-ghost use Rattle.wf_queue_flows.specs.Flows.{settings, tids, queues, is_listed, frames_of_tid, flows_at_limit, longest_queue, loses_next, dropped_for_limit, is_listed_by_another, goes_to_overflow, queue_for, after_limit, with_listed_queue, with_appended, after_put, taken_for_tid, after_purge, empty_flows, AreListedOnce, TakeGives};
+ghost use Rattle.wf_queue_flows.specs.Flows.{settings, tids, queues, is_listed, frames_of_tid, flows_at_limit, longest_queue, loses_next, dropped_for_limit, queue_for, after_limit, with_listed_queue, with_appended, after_put, taken_for_tid, after_purge, empty_flows, AreListedOnce, TakeGives};
 ghost use Rattle.wf_queue_flows.specs.Kept.{CanList, without_queue};
 
 use crate::backlog::{Backlog, Taken};
@@ -131,7 +131,7 @@ impl Flows {
         ensures total { result ≡ in_queues self.now.backlog }
         ensures listed { AreListedOnce self.now }
     {
-        self.waiting.total()
+        self.waiting.queued
     }
 
     /// Puts a frame into a queue of its station and TID (algorithm 1 of "Ending the Anomaly"). The queue
@@ -164,7 +164,8 @@ impl Flows {
         self.list_queue(list, q);
         match over {
             None => {
-                self.append(list, q, parcel);
+                self.waiting.push(q, parcel);
+                self.queued[list as usize] += 1;
                 None
             }
             Some(from) => Some(self.exchange(from, Listed { list, queue: q }, parcel)),
@@ -266,10 +267,11 @@ impl Flows {
         ensures only { IfSome result (λ from. (i : ℕ) → is_listed self.now i from.queue ≡ true →
             i ≡ from.list) }
     {
-        if self.waiting.total() < self.limit {
+        let waiting = &self.waiting;
+        if waiting.queued < self.limit {
             return None;
         }
-        let q = self.waiting.longest()?;
+        let q = waiting.longest()?;
         let (list, _) = self.rota.where_is(q)?;
         Some(Listed { list, queue: q })
     }
@@ -302,44 +304,10 @@ impl Flows {
         }
     }
 
-    // Returns whether another TID lists a queue. Constant time.
-    fn is_listed_elsewhere(&self, list: u32, q: u32) -> bool
-        requires list { list < tids self.now }
-        requires queue { q < queues self.now }
-        ensures { result ≡ is_listed_by_another self.now list q }
-    {
-        match self.rota.where_is(q) {
-            None => false,
-            Some(place) => place.0 != list,
-        }
-    }
-
-    // Returns whether a frame of flow queue `q` goes into the overflow queue of a TID: another TID lists
-    // `q` or, if flows keep their order, the overflow queue has a frame of it. The head of the queue
-    // `over`, which is to be dropped, does not count. The queues stay as they are.
-    fn goes_over(&mut self, list: u32, q: u32, over: Option<Listed>) -> bool
-        requires list { list < tids self.old }
-        requires queue { q < queues self.old }
-        requires roomy { IfNone over (flows_at_limit self.old ≡ false) }
-        requires full { IfSome over (λ _. flows_at_limit self.old ≡ true) }
-        requires longest { IfSome over (λ from. from.queue ≡ longest_queue self.old.backlog) }
-        ensures over { result ≡ goes_to_overflow (after_limit self.old) list q }
-        ensures free { result ≡ false → is_listed_by_another self.old list q ≡ false }
-        ensures same { self.new ≡ self.old }
-    {
-        if self.is_listed_elsewhere(list, q) {
-            return true;
-        }
-        if self.keep_order != 1 {
-            return false;
-        }
-        let (at, flows) = (self.flows + list, self.flows);
-        let lost = frames_lost(over, at);
-        self.waiting.holds_flow(at, lost, flows, q)
-    }
-
     // Returns the queue for a frame of a flow, once the head of the queue `over` is dropped: the shared
-    // queue, or the overflow queue of the TID. The queues stay as they are.
+    // queue, or the overflow queue of the TID if another TID lists the shared queue. If flows keep their
+    // order, it is also the overflow queue while that has a frame of the shared queue's flows. The queues
+    // stay as they are.
     fn queue_for(&mut self, list: u32, flow: u32, over: Option<Listed>) -> u32
         requires list { list < tids self.old }
         requires roomy { IfNone over (flows_at_limit self.old ≡ false) }
@@ -351,9 +319,17 @@ impl Flows {
         ensures same { self.new ≡ self.old }
     {
         let flows = self.flows;
-        let shared = flow % flows;
-        if self.goes_over(list, shared, over) {
-            return flows + list;
+        let (shared, own) = (flow % flows, flows + list);
+        if let Some((other, _)) = self.rota.where_is(shared) {
+            if other != list {
+                return own;
+            }
+        }
+        if self.keep_order == 1 {
+            let lost = frames_lost(over, own);
+            if self.waiting.holds_flow(own, lost, flows, shared) {
+                return own;
+            }
         }
         shared
     }
@@ -380,19 +356,6 @@ impl Flows {
             }
             Some(_) => {}
         }
-    }
-
-    // Puts a frame last in a queue that its TID lists.
-    fn append(&mut self, list: u32, q: u32, parcel: Parcel)
-        requires list { list < tids self.old }
-        requires queue { q < queues self.old }
-        requires listed { is_listed self.old list q ≡ true }
-        requires room { held_in_backlog self.old.backlog < self.old.backlog.room }
-        ensures appended { self.new ≡ with_appended self.old q parcel }
-        ensures held { held_in_backlog self.new.backlog ≡ held_in_backlog self.old.backlog + 1 }
-    {
-        self.waiting.push(q, parcel);
-        self.queued[list as usize] += 1;
     }
 
     // Drops the frames of a queue that a TID lists, and takes the queue off its rotation.

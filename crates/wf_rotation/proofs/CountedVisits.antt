@@ -8,7 +8,7 @@ use Rattle.wf_def_rotation.specs.Rotation.{Rotation, no_keys}
 use Rattle.wf_def_rotation.specs.Loop.{Visit, Empty, Wins, Again, Standing, onward, LoopEnds}
 use Rattle.wf_rotation.specs.Lists.{lists_at}
 use Rattle.wf_rotation.specs.Rotas.{Rotas, deficit_at, quantum_at, is_ready}
-use Rattle.wf_rotation.specs.Visits.{standing, first_visit, IsOnward, HasVisited, IsSamePick}
+use Rattle.wf_rotation.specs.Visits.{standing_at, first_visit, IsOnward, HasVisited, IsSamePick}
 use Rattle.wf_rotation.specs.Steps.{and_behind, visits_to_end, visits_within}
 
 -- the number of visits since the start, none of which ended the loop
@@ -32,7 +32,7 @@ none_within quantum ready s = refl
 
 by_first : (v : Rotas) (ready : List Bool) (list most : ℕ) → visits_within (suc most) v ready list
     ≡ and_behind (first_visit v ready list) (visits_to_end (quantum_at v.quanta) (is_ready ready)
-    (onward (standing v list) (first_visit v ready list)) most)
+    (onward (standing_at v list) (first_visit v ready list)) most)
 unfolding visits_to_end
 by_first v ready list most = refl
 
@@ -58,13 +58,13 @@ pub visits_after : (start : Rotas) (ready : List Bool) (list : ℕ) (u v : Rotas
     HasVisited u list (first_visit u ready list) v → IsOnward (first_visit u ready list) →
     AreVisits start ready list u visits → AreVisits start ready list v (visits + 1)
 visits_after start ready list u v visits low same visited goes were most =
-    let next : Standing = onward (standing u list) (first_visit u ready list) in
+    let next : Standing = onward (standing_at u list) (first_visit u ready list) in
     let here : lists_at v.lists list ≡ next.lists =
     ap (λ (all : List Rotation). lists_at all list) visited.lists
     ∙ get_or-set_same u.lists list next.lists no_keys (omega (arith, low, same.there)) in
     let there : visits_within most v ready list
     ≡ visits_to_end (quantum_at u.quanta) (is_ready ready) next most =
-    ap (λ (quanta : List ℕ). visits_to_end (quantum_at quanta) (is_ready ready) (standing v list) most)
+    ap (λ (quanta : List ℕ). visits_to_end (quantum_at quanta) (is_ready ready) (standing_at v list) most)
     visited.quanta
     ∙ ap (λ (r : Rotation). visits_to_end (quantum_at u.quanta) (is_ready ready)
     (record { lists = r; deficit = deficit_at v.deficits }) most) here
@@ -93,4 +93,5 @@ pub visits_left : (start : Rotas) (ready : List Bool) (list : ℕ) (u : Rotas) (
 visits_left start ready list u visits were =
     let count : visits ≡ visits + 0 = omega arith in
     ap (λ (n : ℕ). visits_within n start ready list) count ∙ were 0
-    ∙ ap (option_map (λ n. visits + n)) (none_within (quantum_at u.quanta) (is_ready ready) (standing u list))
+    ∙ ap (option_map (λ n. visits + n))
+    (none_within (quantum_at u.quanta) (is_ready ready) (standing_at u list))

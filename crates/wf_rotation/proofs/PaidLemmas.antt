@@ -13,7 +13,7 @@ use Rattle.wf_def_rotation.specs.Loop.{Visit, Wins, Again, Standing, visit_at, w
 use Rattle.wf_rotation.specs.Lists.{lists_at}
 use Rattle.wf_rotation.specs.Rotas.{Rotas, deficit_at, quantum_at, need_at, is_ready, picked_at}
 use Rattle.wf_rotation.specs.Steps.{most_visits}
-use Rattle.wf_rotation.specs.Visits.{standing, first_visit, IsOnward, HasVisited, IsSamePick}
+use Rattle.wf_rotation.specs.Visits.{standing_at, first_visit, IsOnward, HasVisited, IsSamePick}
 use Rattle.wf_law_rules.proofs.Lemmas.Counts.{on-cons_same, on-append, before_from}
 use Rattle.wf_law_rules.proofs.Lemmas.Rotations.{pick_is}
 
@@ -213,7 +213,7 @@ module _ (start : Rotas) (ready : List Bool) (list : ℕ) (u v : Rotas) (low : l
     (some : (key : ℕ) → 1 ≤ quantum_at u.quanta key)
     (same : IsSamePick start ready list u) (visited : HasVisited u list (first_visit u ready list) v) where
   abbrev at_u : Standing
-  at_u = standing u list
+  at_u = standing_at u list
 
   abbrev next : Standing
   next = onward at_u (first_visit u ready list)

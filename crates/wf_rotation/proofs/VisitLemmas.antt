@@ -11,7 +11,7 @@ use Rattle.wf_def_lists.specs.Lists.{on, IsOnce}
 use Rattle.wf_rotation.specs.Lists.{AllLists, AreDisjoint, lists_at, keys_at, first_of, keys_behind}
 use Rattle.wf_rotation.specs.Rotas.{Rotas, deficit_at, quantum_at, need_at, is_ready, picked_at}
 use Rattle.wf_rotation.specs.Pass.{passed_first, HasPicked}
-use Rattle.wf_rotation.specs.Visits.{standing, first_visit, HasVisited, key_paid, is_new, after_visit_of, IsSamePick}
+use Rattle.wf_rotation.specs.Visits.{standing_at, first_visit, HasVisited, key_paid, is_new, after_visit_of, IsSamePick}
 use Rattle.wf_rotation.specs.declared.side.Side.{Side}
 use Rattle.wf_rotation.specs.declared.side.Side.TheVariants.{New, Old}
 use Rattle.wf_law_rules.proofs.Lemmas.Counts.{on-cons_same, on-cons_other, on-hasnot, listed-some}
@@ -290,7 +290,7 @@ module _ (start : Rotas) (ready : List Bool) (list : ℕ) (u v : Rotas) (low : l
     (apart : AreDisjoint (record { lists = u.lists; keys = length u.deficits }))
     (same : IsSamePick start ready list u) (visited : HasVisited u list (first_visit u ready list) v) where
   abbrev at_u : Standing
-  at_u = standing u list
+  at_u = standing_at u list
 
   abbrev next : Standing
   next = onward at_u (first_visit u ready list)

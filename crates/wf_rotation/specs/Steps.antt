@@ -5,7 +5,7 @@ use Rattle.wf_def_rotation.specs.Rotation.{Rotation, Picked, in_order}
 use Rattle.wf_def_rotation.specs.Loop.{Visit, Empty, Wins, Again, Standing, visit_from, onward}
 use Rattle.wf_rotation.specs.Lists.{lists_at}
 use Rattle.wf_rotation.specs.Rotas.{Rotas, quantum_at, is_ready, picked_at}
-use Rattle.wf_rotation.specs.Visits.{standing}
+use Rattle.wf_rotation.specs.Visits.{standing_at}
 
 -- The most visits that the paper's loop (Loop of wf_def_rotation) makes in the pick of one of the rotations.
 -- Each visit but the last gives a quantum, or takes a key off new, or off the rotation.
@@ -32,4 +32,5 @@ visits_to_end quantum ready s (suc most) =
 -- the number of visits that the loop makes in the pick of one of the rotations, or None if that is more than
 -- `most`
 abbrev pub visits_within : ℕ → Rotas → List Bool → ℕ → Option ℕ
-visits_within most v ready list = visits_to_end (quantum_at v.quanta) (is_ready ready) (standing v list) most
+visits_within most v ready list =
+    visits_to_end (quantum_at v.quanta) (is_ready ready) (standing_at v list) most

@@ -12,12 +12,12 @@ use Rattle.wf_rotation.specs.declared.rota.VisitEnd.{VisitEnd}
 use Rattle.wf_rotation.specs.declared.rota.VisitEnd.TheVariants.{Done, GoesOn}
 
 -- the state of the loop at one of the rotations
-abbrev pub standing : Rotas → ℕ → Standing
-standing v list = record { lists = lists_at v.lists list; deficit = deficit_at v.deficits }
+abbrev pub standing_at : Rotas → ℕ → Standing
+standing_at v list = record { lists = lists_at v.lists list; deficit = deficit_at v.deficits }
 
 -- the visit that the loop makes there
 abbrev pub first_visit : Rotas → List Bool → ℕ → Visit
-first_visit v ready list = visit_from (quantum_at v.quanta) (is_ready ready) (standing v list)
+first_visit v ready list = visit_from (quantum_at v.quanta) (is_ready ready) (standing_at v list)
 
 -- the loop goes on after this visit
 abbrev pub IsOnward : Visit → Type 0
@@ -32,8 +32,8 @@ EndsAs t (Done winner) = LoopEnds t winner
 
 -- one of the rotations after this visit
 pub record HasVisited (start : Rotas) (list : ℕ) (t : Visit) (v : Rotas) : Type 0 where
-  pub lists : v.lists ≡ set start.lists list (onward (standing start list) t).lists
-  pub deficits : (key : ℕ) → deficit_at v.deficits key ≡ (onward (standing start list) t).deficit key
+  pub lists : v.lists ≡ set start.lists list (onward (standing_at start list) t).lists
+  pub deficits : (key : ℕ) → deficit_at v.deficits key ≡ (onward (standing_at start list) t).deficit key
   pub keys : length v.deficits ≡ length start.deficits
   pub quanta : v.quanta ≡ start.quanta
 

@@ -1,5 +1,5 @@
 ghost use Rattle.std.specs.Prelude.{◌≡◌, ℕ, ◌+◌, ◌-◌, ◌*◌, ◌^◌, ◌<◌, ◌≤◌, Bool, true, List, [], ◌∷◌, ◌++◌, length, map, replicate, slice_set, IfOk, IfSome, IfNone, MatchOption, Some, pos, negsuc, ◌+ℤ◌, ◌-ℤ◌, ◌≤ℤ◌};
-ghost use Rattle.wf_def_rotation.specs.Rotation.{no_keys, with_new_key, without_key, has_key, in_order};
+ghost use Rattle.wf_def_rotation.specs.Rotation.{no_keys, with_new_key, with_old_key, without_key, has_key, in_order};
 ghost use Rattle.wf_rotation.specs.Rotas.{Rotas, deficit_at, quantum_at, need_at, is_ready, IsUnlisted, picked_at};
 ghost use Rattle.wf_rotation.specs.Lists.{lists_at, keys_at, with_keys, has_on, first_of, AreDisjoint};
 ghost use Rattle.wf_rotation.specs.Steps.{most_visits, visits_within};
@@ -144,6 +144,23 @@ impl Rota {
         });
     }
 
+    /// Puts a key that is on no list last on the old list of a rotation, so that it is visited after all keys
+    /// that are listed. Constant time.
+    pub fn add_old(&mut self, list: u32, key: u32)
+        requires in_lists { list < length self.old.lists }
+        requires in_keys { key < length self.old.deficits }
+        requires unlisted { IsUnlisted self.old.lists key }
+        ensures { self.new ≡ record self.old {
+          lists = slice_set self.old.lists list (with_old_key (lists_at self.old.lists list) key);
+        } }
+    {
+        self.links.put_last(list, Side::Old, key);
+        self.homes[key as usize] = Some(Home {
+            list,
+            side: Side::Old,
+        });
+    }
+
     /// Sets the deficit of a key that is on no list to its quantum, and puts the key last on the new list of
     /// a rotation. Constant time.
     pub fn add_fresh(&mut self, list: u32, key: u32)
@@ -178,6 +195,17 @@ impl Rota {
         } }
     {
         self.deficits[key as usize] -= i64::from(amount);
+    }
+
+    /// Adds an amount to the deficit of a key. The deficit must stay below 2^32.
+    pub fn pay_back(&mut self, key: u32, amount: u32)
+        requires in_keys { key < length self.old.deficits }
+        requires high { (deficit_at self.old.deficits key +ℤ pos amount) ≤ℤ pos (2 ^ 32 - 1) }
+        ensures { self.new ≡ record self.old {
+          deficits = slice_set self.old.deficits key (deficit_at self.old.deficits key +ℤ pos amount);
+        } }
+    {
+        self.deficits[key as usize] += i64::from(amount);
     }
 
     /// Sets the deficit of a key to its quantum.

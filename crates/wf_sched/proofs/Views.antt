@@ -1,22 +1,19 @@
 -- The rotation of one class in the value that contracts see: a change of one class changes no other class.
 use Rattle.std.proofs.Common.{◌≡◌, refl, ap, sym, subst, ◌∙◌, ℕ, zero, suc, ◌*◌, ◌<◌, ◌≤◌, Bool, true, false, List, [], ◌∷◌, replicate, length, get_or, set, map, Option, None, Some, inl, inr, if◌then◌else◌, arith}
-use Rattle.std.specs.Prelude.{pos, ◌+ℤ◌, ◌-ℤ◌, All}
-use Rattle.std.specs.Option.{IfNone, IfSome, is_some}
+use Rattle.std.specs.Prelude.{ℤ, pos, ◌+ℤ◌, All}
+use Rattle.std.specs.Option.{IfNone, is_some}
 use Rattle.std.proofs.lemmas.Bool.{cases_eq}
 use Rattle.std.proofs.lemmas.List.{get_or-map, map-set, get_or-set_same, get_or-set_other, get_or_past, get_or_default, length-map, length-replicate}
 use Rattle.wf_frame.specs.declared.classes.Class.{Class}
 use Rattle.wf_frame.specs.declared.classes.Class.TheVariants.{Bk, Be, Vi, Vo}
 use Rattle.wf_frame.specs.Classes.{class_number}
-use Rattle.wf_def_rotation.specs.Rotation.{Rotation, no_keys, has_key, with_new_key, need_of, Picked, pick}
-use Rattle.wf_def_lists.specs.Table.{has}
+use Rattle.wf_def_rotation.specs.Rotation.{Rotation, no_keys, has_key, with_key_listed, need_of, Picked, pick}
 use Rattle.wf_rotation.specs.Rotas.{Rotas, deficit_at, quantum_at, picked_at, is_ready, need_at, IsUnlisted}
-use Rattle.wf_rotation.specs.Lists.{lists_at, keys_at, has_on}
+use Rattle.wf_rotation.specs.Lists.{lists_at}
 use Rattle.wf_rotation.specs.declared.side.Side.{Side}
-use Rattle.wf_rotation.specs.declared.side.Side.TheVariants.{New, Old}
 use Rattle.wf_sched.specs.ClassRotas.{ClassRota, SchedValue, no_class_rota, class_rota, class_rota_of, with_class_rota, with_deficit, deficit, with_listing, pick_of_class, IsAfterPick, IsNowhere, IsOfStations, AreRotasKept, IsSchedulerSized}
 use Rattle.wf_sched.proofs.Loops.{no_rota, IsDone, all_done, all_turned}
 use Rattle.wf_law_rules.specs.Renamed.{IsIdle}
-use Rattle.wf_law_rules.proofs.Lemmas.Numbers.{or_left, or_right}
 use Rattle.wf_law_rules.proofs.Lemmas.Picks.{none_idle}
 
 pub class_below : (class : Class) → class_number class < 4
@@ -57,37 +54,38 @@ module _ (rotas : List Rotas) (stations quantum : ℕ) (class : Class) (i : ℕ)
       (map-set class_rota_of rotas i r ∙ ap (λ (n : ℕ). set (map class_rota_of rotas) n (class_rota_of r)) at
       ∙ ap (set (map class_rota_of rotas) (class_number class)) e)
 
-  pub charged : (station air : ℕ) (r : Rotas) →
+  -- the deficit of a station becomes one that is reckoned from the present one
+  pub changed : (f : ℤ → ℤ) (station : ℕ) (r : Rotas) →
       r ≡ record {
         lists = (get_or rotas i d).lists;
         deficits =
-            set (get_or rotas i d).deficits station (get_or (get_or rotas i d).deficits station (pos 0) -ℤ pos air);
+            set (get_or rotas i d).deficits station (f (get_or (get_or rotas i d).deficits station (pos 0)));
         quanta = (get_or rotas i d).quanta;
       } →
       view_of (set rotas i r) stations quantum ≡ with_deficit (view_of rotas stations quantum) class station
-      (deficit (view_of rotas stations quantum) class station -ℤ pos air)
-  charged station air r e = view_set r _ (ap class_rota_of e
+      (f (deficit (view_of rotas stations quantum) class station))
+  changed f station r e = view_set r _ (ap class_rota_of e
       ∙ ap (λ (t : ClassRota). let u : ClassRota =
       record {
         rotation = t.rotation;
         deficits =
-            set t.deficits station (get_or t.deficits station (pos 0) -ℤ pos air);
+            set t.deficits station (f (get_or t.deficits station (pos 0)));
         quanta = t.quanta;
       } in u)
       (sym turns_are))
 
-  -- a station that is not listed is put on the list, and one that is stays
-  pub put_on : (station : ℕ) (r : Rotas) → length (get_or rotas i d).lists ≡ 1 →
+  -- a station that is not listed is put on a list
+  pub put_on : (ready : Bool) (station : ℕ) (r : Rotas) → length (get_or rotas i d).lists ≡ 1 →
       has_key (lists_at (get_or rotas i d).lists 0) station ≡ false →
       r ≡ record {
         lists = set (get_or rotas i d).lists 0
-            (with_new_key (lists_at (get_or rotas i d).lists 0) station);
+            (with_key_listed ready (lists_at (get_or rotas i d).lists 0) station);
         deficits = (get_or rotas i d).deficits;
         quanta = (get_or rotas i d).quanta;
       } →
       view_of (set rotas i r) stations quantum ≡ with_class_rota (view_of rotas stations quantum) class
-      (with_listing station (class_rota (view_of rotas stations quantum) class))
-  put_on station r one off e = view_set r _ (
+      (with_listing ready station (class_rota (view_of rotas stations quantum) class))
+  put_on ready station r one off e = view_set r _ (
       ap class_rota_of e
       ∙ ap (λ (x : Rotation). let t : ClassRota = record {
         rotation = x;
@@ -96,43 +94,25 @@ module _ (rotas : List Rotas) (stations quantum : ℕ) (class : Class) (i : ℕ)
         quanta = (get_or rotas i d).quanta;
       } in t)
       (get_or-set_same (get_or rotas i d).lists 0
-      (with_new_key (lists_at (get_or rotas i d).lists 0) station) no_keys (omega arith))
+      (with_key_listed ready (lists_at (get_or rotas i d).lists 0) station) no_keys (omega arith))
       ∙ sym (unlisted (has_key (lists_at (get_or rotas i d).lists 0) station) off)
-      ∙ ap (with_listing station) (sym turns_are))
+      ∙ ap (with_listing ready station) (sym turns_are))
     where
       unlisted : (b : Bool) → b ≡ false → (if b then class_rota_of (get_or rotas i d)
           else (let t : ClassRota = record {
             rotation =
-                with_new_key (lists_at (get_or rotas i d).lists 0) station;
+                with_key_listed ready (lists_at (get_or rotas i d).lists 0) station;
             deficits = (get_or rotas i d).deficits;
             quanta = (get_or rotas i d).quanta;
           } in t))
           ≡ record {
-            rotation = with_new_key (lists_at (get_or rotas i d).lists 0) station;
+            rotation = with_key_listed ready (lists_at (get_or rotas i d).lists 0) station;
             deficits =
                 (get_or rotas i d).deficits;
             quanta = (get_or rotas i d).quanta;
           }
       unlisted true h = absurd (cc h)
       unlisted false h = refl
-
-  pub stays_on : (station : ℕ) → has_key (lists_at (get_or rotas i d).lists 0) station ≡ true →
-      view_of (set rotas i (get_or rotas i d)) stations quantum
-      ≡ with_class_rota (view_of rotas stations quantum) class
-      (with_listing station (class_rota (view_of rotas stations quantum) class))
-  stays_on station here = view_set (get_or rotas i d) _
-      (sym (listed (has_key (lists_at (get_or rotas i d).lists 0) station) here)
-      ∙ ap (with_listing station) (sym turns_are))
-    where
-      listed : (b : Bool) → b ≡ true → (if b then class_rota_of (get_or rotas i d)
-          else (let t : ClassRota = record {
-            rotation =
-                with_new_key (lists_at (get_or rotas i d).lists 0) station;
-            deficits = (get_or rotas i d).deficits;
-            quanta = (get_or rotas i d).quanta;
-          } in t)) ≡ class_rota_of (get_or rotas i d)
-      listed true h = refl
-      listed false h = absurd (cc h)
 
   pub turned : (ready : List Bool) (r : Rotas) →
       IsAfterPick (class_rota_of (get_or rotas i d)) (picked_at (get_or rotas i d) ready 0)
@@ -183,19 +163,6 @@ pub none_unlisted : (r : Rotas) (key : ℕ) (o : Option (ℕ × Side)) → is_so
     IfNone o (IsUnlisted r.lists key) → has_key (lists_at r.lists 0) key ≡ false
 none_unlisted r key None none off = off 0
 none_unlisted r key (Some place) none off = absurd (cc none)
-
-on_side : (r : Rotas) (key : ℕ) (side : Side) → has (keys_at r.lists 0 side) key ≡ true →
-    has_key (lists_at r.lists 0) key ≡ true
-on_side r key New here = or_left (has (lists_at r.lists 0).new key) (has (lists_at r.lists 0).old key) here
-on_side r key Old here = or_right (has (lists_at r.lists 0).new key) (has (lists_at r.lists 0).old key) here
-
-pub some_listed : (r : Rotas) (key : ℕ) (o : Option (ℕ × Side)) → length r.lists ≡ 1 → is_some o ≡ true →
-    IfSome o (λ place. (place.0 < length r.lists) × (has_on r.lists place.0 place.1 key ≡ true)) →
-    has_key (lists_at r.lists 0) key ≡ true
-some_listed r key None one some here = absurd (cc some)
-some_listed r key (Some place) one some here =
-    let first : place.0 ≡ 0 = omega (arith, here.0) in
-    on_side r key place.1 (subst (λ (l : ℕ). has (keys_at r.lists l place.1) key ≡ true) first here.1)
 
 -- a key that is not on the one list is on none
 pub nowhere : (r : Rotas) (key : ℕ) → length r.lists ≡ 1 → has_key (lists_at r.lists 0) key ≡ false →

@@ -3,7 +3,7 @@
 use Rattle.std.specs.Prelude.{◌≡◌, ℕ, ◌*◌, ◌≤◌, Bool, false, List, [], length, replicate, get_or, set, All, ℤ, pos, ◌+ℤ◌, if◌then◌else◌}
 use Rattle.wf_frame.specs.declared.classes.Class.{Class}
 use Rattle.wf_frame.specs.Classes.{class_number}
-use Rattle.wf_def_rotation.specs.Rotation.{Rotation, no_keys, has_key, with_new_key, without_key, need_of, Picked, pick}
+use Rattle.wf_def_rotation.specs.Rotation.{Rotation, no_keys, has_key, with_key_listed, without_key, need_of, Picked, pick}
 use Rattle.wf_rotation.specs.Rotas.{Rotas, deficit_at, quantum_at, is_ready}
 use Rattle.wf_rotation.specs.Lists.{lists_at}
 
@@ -79,10 +79,10 @@ after_join station quantum t = record t {
 abbrev pub after_station_left : ℕ → ClassRota → ClassRota
 after_station_left station t = record t { rotation = without_key t.rotation station }
 
--- a station that is not listed goes last on the new list
-abbrev pub with_listing : ℕ → ClassRota → ClassRota
-with_listing station t = if has_key t.rotation station then t
-    else record t { rotation = with_new_key t.rotation station }
+-- a station that is not listed goes last on the new list if it is ready, otherwise last on the old list
+abbrev pub with_listing : Bool → ℕ → ClassRota → ClassRota
+with_listing ready station t = if has_key t.rotation station then t
+    else record t { rotation = with_key_listed ready t.rotation station }
 
 -- the pick of a class: a deficit of 0 or less needs some of the station's quanta
 abbrev pub need : SchedValue → Class → ℕ → ℕ

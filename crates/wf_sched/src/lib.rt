@@ -5,7 +5,7 @@
 //! ```text
 //! let mut sched = Sched::new(alloc, 2, 300)?;        // 2 stations, a quantum of 300 us
 //! sched.join(0, 1);                                  // station 0 joins with weight 1
-//! sched.list(0, Class::Be);                          // it has a frame
+//! sched.list(0, Class::Be, true);                    // it has a frame
 //! let station = sched.pick(Class::Be, ready);        // Some(0), if ready[0]
 //! sched.charge(0, Class::Be, 1200);                  // the exchange took 1,200 us
 //! ```

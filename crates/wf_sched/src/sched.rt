@@ -1,6 +1,6 @@
 //! The scheduler: a rotation of stations for each of the four access classes.
 
-ghost use Rattle.std.specs.Prelude.{◌≡◌, ◌↔◌, ◌*◌, ◌^◌, ◌<◌, ◌≤◌, ◌-◌, true, false, length, map, IfOk, IfNone, IfSome, IsErr, MatchResult, pos, negsuc, ◌-ℤ◌, ◌≤ℤ◌, ◌<ℤ◌};
+ghost use Rattle.std.specs.Prelude.{◌≡◌, ◌↔◌, ◌*◌, ◌^◌, ◌<◌, ◌≤◌, ◌-◌, true, false, length, map, IfOk, IfNone, IfSome, IsErr, MatchResult, pos, negsuc, ◌+ℤ◌, ◌-ℤ◌, ◌≤ℤ◌, ◌<ℤ◌};
 ghost use Rattle.wf_def_lists.specs.Bounds.{deepest_deficit};
 ghost use Rattle.wf_def_rotation.specs.Rotation.{has_key};
 ghost use Rattle.wf_def_lists.specs.Table.{has};
@@ -97,6 +97,16 @@ impl Sched {
         rota.charge(u32::from(station), air);
     }
 
+    /// Adds airtime that was charged before, in microseconds, to the station's deficit in a class.
+    pub fn pay_back(&mut self, station: u16, class: Class, air: u32)
+        requires known { station < self.old.stations }
+        requires high { (deficit self.old class station +ℤ pos air) ≤ℤ pos (2 ^ 32 - 1) }
+        ensures { self.new ≡ with_deficit self.old class station (deficit self.old class station +ℤ pos air) }
+    {
+        let rota = &mut self.rotas[class.number()];
+        rota.pay_back(u32::from(station), air);
+    }
+
     /// Subtracts the airtime of a frame that the station sent, in microseconds, from its deficit in a class,
     /// and returns the new deficit ("Ending the Anomaly", section 3.2: received airtime is charged too).
     /// Fails with `Debt` if the deficit would be below -`debt` microseconds; then nothing changes.
@@ -146,17 +156,22 @@ impl Sched {
         }
     }
 
-    /// Puts the station last on the new list of a class, unless it is on a list of the class already.
-    /// Constant time.
-    pub fn list(&mut self, station: u16, class: Class)
+    /// Puts the station on a list of a class, unless it is on one already: last on the new list if it is
+    /// ready, otherwise last on the old list, where its debts age. Constant time.
+    pub fn list(&mut self, station: u16, class: Class, is_ready: bool)
         requires { station < self.old.stations }
         ensures { self.new ≡
-            with_class_rota self.old class (with_listing station (class_rota self.old class)) }
+            with_class_rota self.old class (with_listing is_ready station (class_rota self.old class)) }
     {
         let key = u32::from(station);
         let rota = &mut self.rotas[class.number()];
-        if rota.where_is(key).is_none() {
+        if rota.where_is(key).is_some() {
+            return;
+        }
+        if is_ready {
             rota.add_new(0, key);
+        } else {
+            rota.add_old(0, key);
         }
     }
 

@@ -4,8 +4,8 @@ use Rattle.std.proofs.lemmas.List.{get_or-map, length-map, get_or-set_same, get_
 use Rattle.wf_frame.specs.declared.classes.Class.{Class}
 use Rattle.wf_frame.specs.Classes.{class_number}
 use Rattle.wf_law_runs.proofs.Deficits.Books.{cases_class}
-use Rattle.wf_rotation.specs.Rotas.{deficit_at}
-use Rattle.wf_sched.specs.ClassRotas.{ClassRota, SchedValue, no_class_rota, class_rota, deficit, with_class_rota, with_deficit, IsSchedulerSized}
+use Rattle.wf_rotation.specs.Rotas.{deficit_at, quantum_at}
+use Rattle.wf_sched.specs.ClassRotas.{ClassRota, SchedValue, no_class_rota, class_rota, deficit, quantum_of, with_class_rota, with_deficit, IsSchedulerSized}
 use Rattle.wf_sched.proofs.Views.{class_below, turns-with_same, turns-with_other}
 use Rattle.wf_sched_refines.specs.Standing.{everywhere}
 
@@ -50,6 +50,12 @@ pub deficit_station : (v : SchedValue) (c : Class) (s : ℕ) (n : ℤ) → IsSch
 deficit_station v c s n sized y other = each_with
     (λ d t. deficit_at t.deficits y ≡ deficit v d y) v c _ sized.four (λ d. refl)
     (get_or-set_other (class_rota v c).deficits s y n (pos 0) other)
+
+pub quantum_deficit : (v : SchedValue) (c : Class) (s : ℕ) (n : ℤ) → IsSchedulerSized v →
+    (y : ℕ) (d : Class) →
+    quantum_of (with_deficit v c s n) d y ≡ quantum_of v d y
+quantum_deficit v c s n sized y = each_with (λ d t. quantum_at t.quanta y ≡ quantum_of v d y) v c _ sized.four
+    (λ d. refl) refl
 
 -- ---- every class
 

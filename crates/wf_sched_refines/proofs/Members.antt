@@ -1,12 +1,13 @@
 -- Proves that scheduler and world still agree after a station joins or leaves: only its account and the lists
 -- change.
-use Rattle.std.proofs.Common.{◌≡◌, refl, ap, sym, ◌∙◌, subst, arith, ℕ, ◌*◌, ◌<◌, ◌≤◌, pos, Some, None, length-set}
+use Rattle.std.proofs.Common.{◌≡◌, refl, ap, sym, ◌∙◌, subst, arith, ℕ, ◌*◌, ◌<◌, ◌≤◌, ◌==◌, pos, ◌-ℤ◌, Bool, true, false, if◌then◌else◌, Some, None, length-set}
+use Rattle.std.proofs.lemmas.Int.{ints}
 use Rattle.std.proofs.lemmas.List.{get_or-set_same, get_or-set_other}
 use Rattle.wf_frame.specs.declared.classes.Class.{Class}
 use Rattle.wf_frame.specs.declared.classes.Class.TheVariants.{Bk, Be, Vi, Vo}
 use Rattle.wf_frame.specs.Classes.{all_classes}
 use Rattle.wf_def_rotation.specs.Rotation.{Rotation, in_order, without_key}
-use Rattle.wf_def_world.specs.World.{World, with_station, with_rotation, rotation as world_rotation}
+use Rattle.wf_def_world.specs.World.{World, owed, with_station, with_rotation, rotation as world_rotation}
 use Rattle.wf_def_world.specs.Step.{without_listings, leave_outcome, join_outcome as joined_world}
 use Rattle.wf_def_lists.specs.Lists.{on}
 use Rattle.wf_law_runs.proofs.Deficits.Books.{Books, books, with_account, books_with_station, books_with_rotation}
@@ -16,9 +17,13 @@ use Rattle.wf_sched.specs.ClassRotas.{ClassRota, SchedValue, class_rota, deficit
 use Rattle.wf_sched_refines.specs.Standing.{SchedulerStandsFor, everywhere}
 use Rattle.wf_sched_refines.proofs.Once.{without-on, without-on_self}
 use Rattle.wf_sched_refines.proofs.Changes.{turns_everywhere, sized_everywhere}
-use Rattle.wf_sched_refines.proofs.Stands.{Stands, to_books, with_books, IsOtherwise, stands_account, if_same}
+use Rattle.wf_sched_refines.proofs.Stands.{Stands, pending_of, pending_books, standing_of, to_books, with_books, IsOtherwise, stands_account, if_same}
 
 -- ---- a join
+
+-- nothing is taken off
+all_of : (q n : ℕ) → n ≡ 0 → pos q ≡ pos q -ℤ pos n
+all_of q n e = rw e (omega (arith, ints))
 
 module _ (v : SchedValue) (b : Books) (s q : ℕ) (h : Stands v b) where
   joined_otherwise : IsOtherwise s v (everywhere (after_join s q) v)
@@ -37,28 +42,36 @@ module _ (v : SchedValue) (b : Books) (s q : ℕ) (h : Stands v b) where
   }
 
   stands_joined : (weight : ℕ) → q ≡ b.config.quantum * weight → s < b.config.stations →
+      ((c : Class) → pending_of b s c ≡ 0) →
       Stands (everywhere (after_join s q) v) (with_account b s (Some (fresh_account b.config.quantum weight)))
-  stands_joined weight is low = stands_account v (everywhere (after_join s q) v) b s
+  stands_joined weight is low none = stands_account v (everywhere (after_join s q) v) b s
       (Some (fresh_account b.config.quantum weight)) h joined_otherwise (record {
         deficits = λ c. ap (λ (t : ClassRota). deficit_at t.deficits s)
             (turns_everywhere (after_join s q) v h.sized c)
             ∙ get_or-set_same (class_rota v c).deficits s (pos q) (pos 0)
-            (omega (arith, h.sized.deficits c, h.stations)) ∙ ap pos is;
+            (omega (arith, h.sized.deficits c, h.stations)) ∙ ap pos is
+            ∙ all_of (b.config.quantum * weight) (pending_of b s c) (none c);
         quanta = λ c. ap (λ (t : ClassRota). quantum_at t.quanta s)
             (turns_everywhere (after_join s q) v h.sized c)
-            ∙ get_or-set_same (class_rota v c).quanta s q 1 (omega (arith, h.sized.quanta c, h.stations)) ∙ is;
+            ∙ get_or-set_same (class_rota v c).quanta s q 1
+            (omega (arith, h.sized.quanta c, h.stations)) ∙ is;
         listed = λ c stands. refl;
         live = λ is. low;
       })
 
+none_pending : (b : Bool) (n : ℕ) → n ≡ 0 → (if b then n else 0) ≡ 0
+none_pending true n e = e
+none_pending false n e = refl
+
 pub join_stands : (v : SchedValue) (w : World) (s window start exponent weight : ℕ) → SchedulerStandsFor v w →
-    s < w.config.stations →
+    s < w.config.stations → ((c : Class) → owed s c w.opened ≡ 0) →
     SchedulerStandsFor (everywhere (after_join s (v.quantum * weight)) v)
     (joined_world w s window start exponent weight).world
-join_stands v w s window start exponent weight h low =
+join_stands v w s window start exponent weight h low none =
     with_books _ _ _ (books_joined w s window start exponent weight)
     (stands_joined v (books w) s (v.quantum * weight) (to_books v w h) weight
-    (ap (λ (q : ℕ). q * weight) h.quantum) low)
+    (ap (λ (q : ℕ). q * weight) h.quantum) low
+    (λ c. pending_books w s c ∙ none_pending (w.config.pending == 1) (owed s c w.opened) (none c)))
 
 -- ---- a leave
 
@@ -76,8 +89,8 @@ stands_off v b s h = record {
   quantum = h.quantum;
   rotations = λ c. ap (λ (t : ClassRota). t.rotation) (turns_everywhere (after_station_left s) v h.sized c)
       ∙ ap (λ (r : Rotation). without_key r s) (h.rotations c) ∙ sym (off_is b s c);
-  deficits = λ y c. if_same (λ a. deficit v c y ≡ (a.shares c).deficit)
-      (λ a. deficit (everywhere (after_station_left s) v) c y ≡ (a.shares c).deficit) (b.accounts y)
+  deficits = λ y c. if_same (λ a. deficit v c y ≡ standing_of b y c a)
+      (λ a. deficit (everywhere (after_station_left s) v) c y ≡ standing_of b y c a) (b.accounts y)
       (h.deficits y c)
       (λ a e. ap (λ (t : ClassRota). deficit_at t.deficits y)
       (turns_everywhere (after_station_left s) v h.sized c) ∙ e);

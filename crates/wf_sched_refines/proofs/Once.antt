@@ -3,7 +3,7 @@
 use Rattle.std.proofs.Common.{◌≡◌, refl, subst, arith, ℕ, ◌+◌, ◌<◌, ◌≤◌, Bool, true, false, ◌||◌, List, [], ◌∷◌, ◌++◌, not, ◌==◌, eq-eqb, inl, inr}
 use Rattle.std.proofs.lemmas.Bool.{cases_eq, or_parts, cases_Bool, not_from_true}
 use Rattle.wf_def_lists.specs.Table.{has}
-use Rattle.wf_def_rotation.specs.Rotation.{Rotation, has_key, in_order, with_new_key, without_key}
+use Rattle.wf_def_rotation.specs.Rotation.{Rotation, has_key, in_order, with_key_listed, without_key}
 use Rattle.wf_def_lists.specs.Lists.{IsOnce, on}
 use Rattle.wf_law_rules.proofs.Lemmas.Counts.{on-nil, on-cons_same, on-cons_other, on-append, on-filter_le, on-filter_out, has-on, hasnot-on, on-hasnot}
 
@@ -58,9 +58,9 @@ on-listed r y h = elim (cases_Bool (has_key r y)) [
   | inr off ↦ absurd (omega (arith, unlisted-on r y off))
 ]
 
-pub added-on_other : (r : Rotation) (s y : ℕ) → (s ≡ y → ⊥) →
-    on (in_order (with_new_key r s)) y ≡ on (in_order r) y
-added-on_other r s y other = omega (
+pub added-on_other : (ready : Bool) (r : Rotation) (s y : ℕ) → (s ≡ y → ⊥) →
+    on (in_order (with_key_listed ready r s)) y ≡ on (in_order r) y
+added-on_other true r s y other = omega (
   arith,
   on-append r.old (r.new ++ s ∷ []) y,
   on-append r.new (s ∷ []) y,
@@ -68,12 +68,29 @@ added-on_other r s y other = omega (
   on-cons_other s y [] other,
   on-nil y,
 )
+added-on_other false r s y other = omega (
+  arith,
+  on-append (r.old ++ s ∷ []) r.new y,
+  on-append r.old (s ∷ []) y,
+  in_order-on r y,
+  on-cons_other s y [] other,
+  on-nil y,
+)
 
-pub added-on_same : (r : Rotation) (s : ℕ) → on (in_order (with_new_key r s)) s ≡ on (in_order r) s + 1
-added-on_same r s = omega (
+pub added-on_same : (ready : Bool) (r : Rotation) (s : ℕ) →
+    on (in_order (with_key_listed ready r s)) s ≡ on (in_order r) s + 1
+added-on_same true r s = omega (
   arith,
   on-append r.old (r.new ++ s ∷ []) s,
   on-append r.new (s ∷ []) s,
+  in_order-on r s,
+  on-cons_same s [],
+  on-nil s,
+)
+added-on_same false r s = omega (
+  arith,
+  on-append (r.old ++ s ∷ []) r.new s,
+  on-append r.old (s ∷ []) s,
   in_order-on r s,
   on-cons_same s [],
   on-nil s,

@@ -1,5 +1,6 @@
 -- Proves that the pick of a class is the same in scheduler and world, and that they still agree after it.
-use Rattle.std.proofs.Common.{◌≡◌, refl, ap, ap₂, sym, ◌∙◌, subst, arith, ℕ, ◌*◌, ◌<◌, ◌≤◌, ℤ, pos, ◌+ℤ◌, Bool, true, List, length, is_some, inl, inr}
+use Rattle.std.proofs.Common.{◌≡◌, refl, ap, ap₂, sym, ◌∙◌, subst, arith, ℕ, ◌*◌, ◌<◌, ◌≤◌, ℤ, pos, ◌+ℤ◌, ◌-ℤ◌, Bool, true, List, length, is_some, inl, inr}
+use Rattle.std.proofs.lemmas.Int.{ints}
 use Rattle.wf_frame.specs.declared.classes.Class.{Class}
 use Rattle.wf_frame.specs.Classes.{class_number}
 use Rattle.wf_def_rotation.specs.Rotation.{Rotation, in_order, need_of, Picked, pick}
@@ -18,7 +19,7 @@ use Rattle.wf_sched.proofs.Views.{turns-with_same, turns-with_other}
 use Rattle.wf_sched_refines.specs.Standing.{SchedulerStandsFor, TellsReady}
 use Rattle.wf_sched_refines.proofs.Quanta.{gets_once}
 use Rattle.wf_sched_refines.proofs.Changes.{each_with, sized_with}
-use Rattle.wf_sched_refines.proofs.Stands.{Stands, to_books, with_books, if_map, if_both, some_map, each_other_class, rotations_with}
+use Rattle.wf_sched_refines.proofs.Stands.{Stands, pending_of, standing_of, to_books, with_books, if_map, if_both, some_map, each_other_class, rotations_with}
 
 -- a list that is right for each station is right for the listed ones
 pub tells_listed : (v : SchedValue) (w : World) (c : Class) (ready : List Bool) → SchedulerStandsFor v w →
@@ -38,6 +39,10 @@ pick_same v w c ready h tells = subst (λ (r : Rotation).
 
 -- ---- the deficits
 
+-- with a higher deficit the standing is as much higher
+rises : (d : ℤ) (n m : ℕ) → (d -ℤ pos n) +ℤ pos m ≡ (d +ℤ pos m) -ℤ pos n
+rises d n m = omega (arith, ints)
+
 module _ (v : SchedValue) (b : Books) (c : Class) (t : ClassRota) (p q : Picked) (h : Stands v b)
     (same : IsSame p q) (turned : IsAfterPick (class_rota v c) q t) where
   quanta_stay : (y : ℕ) (d : Class) → quantum_of (with_class_rota v c t) d y ≡ quantum_of v d y
@@ -45,30 +50,31 @@ module _ (v : SchedValue) (b : Books) (c : Class) (t : ClassRota) (p q : Picked)
       (ap (λ (ns : List ℕ). quantum_at ns y) turned.quanta)
 
   module _ (n y : ℕ) (is : n ≡ p.quanta y) (a : Account) (d : Class) where
-    paid_here : deficit v c y ≡ (a.shares c).deficit → quantum_of v c y ≡ b.config.quantum * a.weight →
-        deficit (with_class_rota v c t) c y ≡ ((paid b.config.quantum c n a).shares c).deficit
+    paid_here : deficit v c y ≡ standing_of b y c a → quantum_of v c y ≡ b.config.quantum * a.weight →
+        deficit (with_class_rota v c t) c y ≡ standing_of b y c (paid b.config.quantum c n a)
     paid_here e k =
         ap (λ (u : ClassRota). deficit_at u.deficits y) (turns-with_same v c t h.sized.four)
         ∙ turned.deficits y
         ∙ ap₂ (λ (x : ℤ) (m : ℕ). x +ℤ pos m) e (ap₂ (λ (m z : ℕ). m * z) (same.quanta y ∙ sym is) k)
-        ∙ ap (λ (x : Share). x.deficit) (sym (updc_same a.shares c
+        ∙ rises (a.shares c).deficit (pending_of b y c) (n * (b.config.quantum * a.weight))
+        ∙ ap (λ (x : Share). x.deficit -ℤ pos (pending_of b y c)) (sym (updc_same a.shares c
         (pay_share (b.config.quantum * a.weight) n (a.shares c))))
 
-    paid_there : (class_number d ≡ class_number c → ⊥) → deficit v d y ≡ (a.shares d).deficit →
-        deficit (with_class_rota v c t) d y ≡ ((paid b.config.quantum c n a).shares d).deficit
+    paid_there : (class_number d ≡ class_number c → ⊥) → deficit v d y ≡ standing_of b y d a →
+        deficit (with_class_rota v c t) d y ≡ standing_of b y d (paid b.config.quantum c n a)
     paid_there other e =
         ap (λ (u : ClassRota). deficit_at u.deficits y) (turns-with_other v c d t other) ∙ e
-        ∙ ap (λ (x : Share). x.deficit) (sym (updc_other a.shares c d
+        ∙ ap (λ (x : Share). x.deficit -ℤ pos (pending_of b y d)) (sym (updc_other a.shares c d
         (pay_share (b.config.quantum * a.weight) n (a.shares c)) other))
 
-    paid_each : (deficit v d y ≡ (a.shares d).deficit) × (quantum_of v d y ≡ b.config.quantum * a.weight) →
-        deficit (with_class_rota v c t) d y ≡ ((paid b.config.quantum c n a).shares d).deficit
+    paid_each : (deficit v d y ≡ standing_of b y d a) × (quantum_of v d y ≡ b.config.quantum * a.weight) →
+        deficit (with_class_rota v c t) d y ≡ standing_of b y d (paid b.config.quantum c n a)
     paid_each k = elim (cases_class d c) [
       | inl here ↦ subst (λ (z : Class). deficit (with_class_rota v c t) z y
-          ≡ ((paid b.config.quantum c n a).shares z).deficit) (sym here)
-          (subst (λ (z : Class). (deficit v z y ≡ (a.shares z).deficit) ×
+          ≡ standing_of b y z (paid b.config.quantum c n a)) (sym here)
+          (subst (λ (z : Class). (deficit v z y ≡ standing_of b y z a) ×
           (quantum_of v z y ≡ b.config.quantum * a.weight) →
-          deficit (with_class_rota v c t) c y ≡ ((paid b.config.quantum c n a).shares c).deficit)
+          deficit (with_class_rota v c t) c y ≡ standing_of b y c (paid b.config.quantum c n a))
           (sym here) (λ m. paid_here m.0 m.1) k)
       | inr other ↦ paid_there other k.0
     ]
@@ -82,13 +88,13 @@ module _ (v : SchedValue) (b : Books) (c : Class) (t : ClassRota) (p q : Picked)
     stations = h.stations;
     quantum = h.quantum;
     rotations = rotations_with v b c t p.lists h.sized.four h.rotations (turned.rotation ∙ same.lists);
-    deficits = λ y d. if_map (λ a. (deficit v d y ≡ (a.shares d).deficit) ×
+    deficits = λ y d. if_map (λ a. (deficit v d y ≡ standing_of b y d a) ×
         (quantum_of v d y ≡ b.config.quantum * a.weight))
-        (λ a. deficit (with_class_rota v c t) d y ≡ (a.shares d).deficit)
+        (λ a. deficit (with_class_rota v c t) d y ≡ standing_of b y d a)
         (paid b.config.quantum c (on (in_order (b.rotations c)) y * p.quanta y)) (b.accounts y)
-        (if_both (λ a. deficit v d y ≡ (a.shares d).deficit)
+        (if_both (λ a. deficit v d y ≡ standing_of b y d a)
         (λ a. quantum_of v d y ≡ b.config.quantum * a.weight)
-        (λ a. (deficit v d y ≡ (a.shares d).deficit) × (quantum_of v d y ≡ b.config.quantum * a.weight))
+        (λ a. (deficit v d y ≡ standing_of b y d a) × (quantum_of v d y ≡ b.config.quantum * a.weight))
         (b.accounts y) (h.deficits y d) (h.quanta y d) (λ a e k. (e, k)))
         (λ a _ k. paid_each _ y (once y) a d k);
     quanta = λ y d. if_map (λ a. quantum_of v d y ≡ b.config.quantum * a.weight)

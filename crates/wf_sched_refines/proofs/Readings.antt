@@ -6,7 +6,7 @@ use Rattle.wf_frame.specs.declared.settings.Config.{Config}
 use Rattle.wf_frame.specs.declared.classes.Class.{Class}
 use Rattle.wf_frame.specs.declared.classes.Class.TheVariants.{Bk, Be, Vi, Vo}
 use Rattle.wf_def_rotation.specs.Rotation.{Rotation, has_key}
-use Rattle.wf_def_world.specs.World.{World, opening as opening_world, share, rotation, is_live}
+use Rattle.wf_def_world.specs.World.{World, opening as opening_world, standing, rotation, is_live}
 use Rattle.wf_sched.specs.ClassRotas.{ClassRota, SchedValue, class_rota, new_scheduler, opening_rota, deficit, IsNowhere}
 use Rattle.wf_sched.specs.ClassRotas.{class_rotation as rotation_of}
 use Rattle.wf_sched_refines.specs.Standing.{SchedulerStandsFor}
@@ -41,7 +41,7 @@ opening_stands config = record {
 -- ---- a station
 
 pub deficit_same : (v : SchedValue) (w : World) (s : ℕ) (c : Class) → SchedulerStandsFor v w →
-    is_live w s ≡ true → deficit v c s ≡ (share w s c).deficit
+    is_live w s ≡ true → deficit v c s ≡ standing w s c
 deficit_same v w s c h is = h.deficits s c is
 
 pub lists_same : (v : SchedValue) (w : World) (s : ℕ) (c : Class) → SchedulerStandsFor v w →

@@ -1,25 +1,28 @@
 -- Proves that changes of other parts of a world do not affect the scheduler.
-use Rattle.std.proofs.Common.{◌≡◌, refl, ap, ap₂, sym, ◌∙◌, subst, ℕ, ◌*◌, ◌<◌, Bool, true, false, if◌then◌else◌, List, [], ◌∷◌, Option, Some, None, is_some, IfSome, option_map, inl, inr}
+use Rattle.std.proofs.Common.{◌≡◌, refl, ap, ap₂, sym, ◌∙◌, subst, ℕ, ◌*◌, ◌<◌, ◌==◌, ℤ, pos, ◌-ℤ◌, map, Bool, true, false, if◌then◌else◌, List, [], ◌∷◌, Option, Some, None, is_some, IfSome, option_map, inl, inr}
 use Rattle.wf_frame.specs.declared.classes.Class.{Class}
 use Rattle.wf_frame.specs.declared.classes.Fate.{Fate}
 use Rattle.wf_frame.specs.declared.notes.AskedRate.{AskedRate}
 use Rattle.wf_frame.specs.declared.notes.Note.{Note}
 use Rattle.wf_frame.specs.Classes.{class_number}
-use Rattle.wf_def_lists.specs.Table.{at, put}
+use Rattle.wf_def_lists.specs.Table.{at, put, with_member}
 use Rattle.wf_def_rotation.specs.Rotation.{Rotation, has_key, in_order}
 use Rattle.wf_def_agreement.specs.Session.{Session}
-use Rattle.wf_def_agreement.specs.Receiver.{Receiver}
-use Rattle.wf_def_world.specs.World.{World, Station, Share, Tid, Queue, Exchange, Mpdu, Content, Frames, Request, no_share, is_live, on_station, on_tid, on_session, on_receiver, with_queues, on_share, on_queue, with_fate, with_frame_finished, with_frames_finished, with_exchange, without_exchange}
+use Rattle.wf_def_agreement.specs.Receiver.{Receiver, score}
+use Rattle.wf_def_world.specs.World.{World, Station, Share, Tid, Queue, Exchange, Mpdu, Content, Frames, Request, no_share, is_live, receiver, exchange, on_station, with_station, on_tid, on_session, on_receiver, with_queues, on_share, on_queue, with_fate, with_frame_finished, with_frames_finished, with_exchange}
 use Rattle.wf_def_world.specs.FlowQueues.{taken_for_tid}
-use Rattle.wf_def_world.specs.Exchanges.{Prepared, after_tid_turn, without_credit, with_exchange_opened, prepared_exchange, aggregate_of, with_failed_finished, with_settled, with_all_settled, after_done}
-use Rattle.wf_def_world.specs.Step.{after_tids_left, with_frame, rate_outcome, tick_outcome, enqueue_outcome, arrive_outcome, answer_outcome, sleep_outcome, wake_outcome, poll_outcome, reap_outcome, send_outcome, pull_outcome_for}
+use Rattle.wf_def_world.specs.Exchanges.{after_arrival, after_tid_turn, without_credit, prepared_exchange, aggregate_of, with_failed_finished, with_settled, with_all_settled, after_done}
+use Rattle.wf_def_world.specs.Step.{after_tids_left, with_frame, rate_outcome, tick_outcome, enqueue_outcome, arrive_outcome, answer_outcome, sleep_outcome, wake_outcome, poll_outcome, reap_outcome}
 use Rattle.wf_def_lists.specs.Lists.{IsOnce}
 use Rattle.wf_law_rules.proofs.Lemmas.Tables.{at_put_same, at_put_other}
-use Rattle.wf_law_runs.proofs.Deficits.Books.{cases_class, account, Account, Books, books, with_account, books_with_station, books_on_queue, books_finish, books_finish_all}
-use Rattle.wf_law_runs.proofs.Deficits.BookSteps.{books_take, books_filled, books_prepared, books_sent, books_left_tids, books_enqueued, books_reaped}
+use Rattle.wf_law_runs.proofs.Deficits.Books.{cases_class, account, core, Account, Books, books, with_account, books_with_station, books_on_queue, books_finish, books_finish_all}
+use Rattle.wf_law_runs.proofs.Deficits.BookSteps.{books_take, books_filled, books_prepared, books_left_tids, books_enqueued, books_reaped}
+use Rattle.wf_law_runs.specs.Windows.{OpenRises}
+use Rattle.wf_law_runs.proofs.Deficits.Openings.{owed-core}
 use Rattle.wf_sched.specs.ClassRotas.{SchedValue, deficit, quantum_of}
-use Rattle.wf_sched_refines.specs.Standing.{HasSameRotas, KeepsRotas, LeavesRotas, share_in}
-use Rattle.wf_sched_refines.proofs.Stands.{Stands, to_books, of_books, with_books, stands_opened, stands_account, IsOtherwise}
+use Rattle.wf_sched_refines.specs.Standing.{HasSameRotas, HasSameAir, KeepsRotas, LeavesRotas, share_in}
+use Rattle.wf_sched_refines.proofs.Owed.{told, owed_told}
+use Rattle.wf_sched_refines.proofs.Stands.{Stands, pending_of, standing_of, to_books, of_books, with_books, stands_opened, stands_account, IsOtherwise}
 
 pub same_turns : (w u : World) → HasSameRotas w u → LeavesRotas w u
 same_turns w u k v h = record {
@@ -27,7 +30,7 @@ same_turns w u k v h = record {
   stations = h.stations ∙ sym (ap (λ c. c.stations) k.config);
   quantum = h.quantum ∙ sym (ap (λ c. c.quantum) k.config);
   rotations = λ c. h.rotations c ∙ sym (k.rotations c);
-  deficits = λ s c is. h.deficits s c (was s is) ∙ sym (k.deficits s c (was s is));
+  deficits = λ s c is. h.deficits s c (was s is) ∙ sym (k.standings s c (was s is));
   quanta = λ s c is. h.quanta s c (was s is) ∙ sym
       (ap₂ (λ (m n : ℕ). m * n) (ap (λ c. c.quantum) k.config) (k.weights s (was s is)));
   once = λ c. subst (λ (r : Rotation). IsOnce (in_order r)) (sym (k.rotations c)) (h.once c);
@@ -80,8 +83,9 @@ station_stands : (v : SchedValue) (b : Books) (s : ℕ) (f : Station → Station
     Stands v (with_account b s (option_map account (option_map f o)))
 station_stands v b s f o keeps is h = stands_account v v b s (option_map account (option_map f o)) h
     (nothing_else v b s h) (record {
-      deficits = λ c. mapped (λ a. deficit v c s ≡ (a.shares c).deficit) f o (λ x e. e ∙ sym (keeps.deficits x c))
-          (subst (λ (p : Option Account). IfSome p (λ a. deficit v c s ≡ (a.shares c).deficit)) is
+      deficits = λ c. mapped (λ a. deficit v c s ≡ standing_of b s c a) f o
+          (λ x e. e ∙ ap (λ (d : ℤ). d -ℤ pos (pending_of b s c)) (sym (keeps.deficits x c)))
+          (subst (λ (p : Option Account). IfSome p (λ a. deficit v c s ≡ standing_of b s c a)) is
           (h.deficits s c));
       quanta = λ c. mapped (λ a. quantum_of v c s ≡ b.config.quantum * a.weight) f o
           (λ x e. e ∙ ap (λ (n : ℕ). b.config.quantum * n) (sym (keeps.weight x)))
@@ -164,27 +168,21 @@ take_leaves w s t = leaves_same w _ (books_take w s t)
 
 -- ---- exchanges
 
-pub exchange_leaves : (w : World) (x : Exchange) → LeavesRotas w (with_exchange w x)
+-- an open exchange has news of its receiver
+pub exchange_leaves : (w : World) (x y : Exchange) (e : ℕ) → exchange w e ≡ Some x →
+    OpenRises 0 w.exchanges w.opened → HasSameAir x y → LeavesRotas w (with_exchange w y)
 unfolding with_exchange
-exchange_leaves w x v h = of_books v _ (stands_opened v (books w) _ _ (to_books v w h))
-
-pub without_leaves : (w : World) (e : ℕ) → LeavesRotas w (without_exchange w e)
-unfolding without_exchange
-without_leaves w e v h = of_books v _ (stands_opened v (books w) _ _ (to_books v w h))
-
-pub opening_leaves : (w : World) (x : Exchange) → LeavesRotas w (with_exchange_opened w x)
-unfolding with_exchange_opened
-opening_leaves w x v h = of_books v _ (stands_opened v (books w) _ _ (to_books v w h))
+exchange_leaves w x y e known rises same v h = of_books v _ (stands_opened v (books w)
+    (map core (told y w.opened)) w.exchanges
+    (λ s c. ap (λ (n : ℕ). if w.config.pending == 1 then n else 0)
+    (owed-core s c (told y w.opened) ∙ owed_told w.opened x y e s c 0 w.exchanges rises known same
+    ∙ sym (owed-core s c w.opened))) (to_books v w h))
 
 pub filled_leaves : (w : World) (s t : ℕ) → LeavesRotas w (aggregate_of w s t).world
 filled_leaves w s t = leaves_same w _ (books_filled w s t)
 
 pub prepared_leaves : (w : World) (s t : ℕ) → LeavesRotas w (prepared_exchange w s t).world
 prepared_leaves w s t = leaves_same w _ (books_prepared w s t)
-
-pub sent_leaves : (s t : ℕ) (c : Class) (p : Prepared) → LeavesRotas p.world (send_outcome s t c p).world
-sent_leaves s t c p v h = with_books v _ _ (books_sent s t c p)
-    (stands_opened v (books p.world) _ _ (to_books v p.world h))
 
 -- the numbers of an exchange that ends are settled
 slot_leaves : (w : World) (s t : ℕ) (m : Mpdu) → LeavesRotas w (with_failed_finished w s t m)
@@ -224,20 +222,22 @@ pub tick_leaves : (w : World) (by : ℕ) → LeavesRotas w (tick_outcome w by).w
 unfolding tick_outcome
 tick_leaves w by = leaves_same w _ refl
 
-pub pulled_leaves : (w : World) (c : Class) (winner : Option ℕ) →
-    LeavesRotas w (pull_outcome_for w c winner).world
-unfolding pull_outcome_for
-pulled_leaves w c None = λ v h. h
-pulled_leaves w c (Some s) = leaves_then w _ _ (turn_leaves w s c _)
-    (leaves_then _ _ _ (prepared_leaves _ s _) (sent_leaves s _ c _))
+pub arrived_leaves : (w : World) (x : Exchange) (e i : ℕ) → exchange w e ≡ Some x →
+    OpenRises 0 w.exchanges w.opened → LeavesRotas w (arrive_outcome w x i).world
+unfolding arrive_outcome on_receiver on_tid on_station with_station
+arrived_leaves w x e i known rises =
+    let u : World = on_receiver w x.station x.tid (after_arrival x.content i) in
+    let y : Exchange = record x { arrived = with_member i x.arrived } in
+    leaves_then w u (with_exchange u y) (receiver_leaves w x.station x.tid (after_arrival x.content i))
+    (exchange_leaves u x y e known rises
+    (record { number = refl; station = refl; class = refl; charge = refl }))
 
-pub arrived_leaves : (w : World) (x : Exchange) (i : ℕ) → LeavesRotas w (arrive_outcome w x i).world
-unfolding arrive_outcome
-arrived_leaves w x i = leaves_then w _ _ (receiver_leaves w _ _ _) (exchange_leaves _ _)
-
-pub answered_leaves : (w : World) (x : Exchange) → LeavesRotas w (answer_outcome w x).world
+pub answered_leaves : (w : World) (x : Exchange) (e : ℕ) → exchange w e ≡ Some x →
+    OpenRises 0 w.exchanges w.opened → LeavesRotas w (answer_outcome w x).world
 unfolding answer_outcome
-answered_leaves w x = exchange_leaves w _
+answered_leaves w x e known rises =
+    exchange_leaves w x (record x { answer = Some (score (receiver w x.station x.tid)) }) e known rises
+    (record { number = refl; station = refl; class = refl; charge = refl })
 
 pub slept_leaves : (w : World) (s : ℕ) → LeavesRotas w (sleep_outcome w s).world
 unfolding sleep_outcome

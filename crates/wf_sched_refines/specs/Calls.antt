@@ -1,5 +1,6 @@
 -- Defines how each call of the machine changes the station scheduler.
-use Rattle.std.specs.Prelude.{◌≡◌, ℕ, ◌*◌, Bool, List, Option, Some, None}
+use Rattle.std.specs.Prelude.{◌≡◌, ℕ, ◌*◌, ◌==◌, Bool, true, false, List, Option, Some, None}
+use Rattle.wf_frame.specs.declared.settings.Config.{Config}
 use Rattle.wf_frame.specs.declared.classes.Class.{Class}
 use Rattle.wf_frame.specs.declared.notes.Ask.TheVariants.{Join, Leave, Pull, Done, Rx}
 use Rattle.wf_frame.specs.declared.notes.Note.{Note}
@@ -8,10 +9,10 @@ use Rattle.wf_frame.specs.declared.notes.Refusal.{Refusal}
 use Rattle.wf_frame.specs.declared.notes.Refusal.TheVariants.{Idle}
 use Rattle.wf_frame.specs.Classes.{all_classes}
 use Rattle.wf_def_world.specs.World.{World, Exchange, exchange}
-use Rattle.wf_def_world.specs.CanSend.{is_ready}
+use Rattle.wf_def_world.specs.CanSend.{is_ready, is_to_list}
+use Rattle.wf_def_world.specs.Exchanges.{charge_of, picked_station, after_pick, sending_tid, after_tid_turn, prepared_exchange}
 use Rattle.wf_sched.specs.ClassRotas.{SchedValue, class_rota, with_class_rota, after_join, after_station_left, pick_of_class, IsAfterPick}
-use Rattle.wf_sched_refines.specs.Standing.{everywhere, with_deficit_charged, with_listed_where, TellsReady}
-use Rattle.wf_def_world.specs.Exchanges.{charge_of}
+use Rattle.wf_sched_refines.specs.Standing.{everywhere, with_deficit_charged, with_pending_charged, with_pending_paid_back, with_listed_where, TellsReady}
 
 -- u is v after a pick in the class, by a list that says which listed stations are ready
 pub record HasPickedInClass (w : World) (c : Class) (v u : SchedValue) : Type 0 where
@@ -20,27 +21,51 @@ pub record HasPickedInClass (w : World) (c : Class) (v u : SchedValue) : Type 0 
   pub turned : IsAfterPick (class_rota v c) (pick_of_class v c ready) (class_rota u c)
   pub others : u ≡ with_class_rota v c (class_rota u c)
 
--- v after the charge of an open exchange, if any, whose Done gives this airtime or none
-abbrev pub with_charge_of : SchedValue → Option ℕ → Option Exchange → SchedValue
-with_charge_of v air None = v
-with_charge_of v air (Some x) = with_deficit_charged v x.station x.class (charge_of air x)
+-- the computed airtime of the exchange that a station sends in a class
+abbrev pub charge_sent : World → Class → ℕ → ℕ
+charge_sent w c s = (prepared_exchange (after_tid_turn w s c (sending_tid w s c)) s
+    (sending_tid w s c)).charge
+
+-- v after the winner of a pick, if there is one, opens the exchange that it sends in the class
+abbrev pub with_winner_sent : World → Class → Option ℕ → SchedValue → SchedValue
+with_winner_sent w c None v = v
+with_winner_sent w c (Some s) v = with_pending_charged w.config v s c (charge_sent w c s)
+
+-- u is v after a pull: a pick in the class, after which the winner sends
+pub record HasPulled (w : World) (c : Class) (v u : SchedValue) : Type 0 where
+  pub picked : SchedValue
+  pub turned : HasPickedInClass w c v picked
+  pub sent : u ≡ with_winner_sent (after_pick w c) c (picked_station w c).winner picked
+
+-- v after an open exchange, if any, ends by a Done that gives this airtime or none: the airtime that was
+-- taken off for it is paid back, and it is charged
+abbrev pub with_charge_of : Config → SchedValue → Option ℕ → Option Exchange → SchedValue
+with_charge_of config v air None = v
+with_charge_of config v air (Some x) = with_deficit_charged
+    (with_pending_paid_back config v x.station x.class x.charge) x.station x.class (charge_of air x)
 
 -- u is v after a call that is not refused, before the station that it concerns is listed
 abbrev pub IsCallDone : World → Note → SchedValue → SchedValue → Type 0
 IsCallDone w (Asked (Join s window start exponent weight)) v u =
     u ≡ everywhere (after_join s (v.quantum * weight)) v
 IsCallDone w (Asked (Leave s)) v u = u ≡ everywhere (after_station_left s) v
-IsCallDone w (Asked (Pull c)) v u = HasPickedInClass w c v u
-IsCallDone w (Asked (Done e heard air)) v u = u ≡ with_charge_of v air (exchange w e)
+IsCallDone w (Asked (Pull c)) v u = HasPulled w c v u
+IsCallDone w (Asked (Done e heard air)) v u = u ≡ with_charge_of w.config v air (exchange w e)
 IsCallDone w (Asked (Rx s c air)) v u = u ≡ with_deficit_charged v s c air
 IsCallDone w _ v u = u ≡ v
 
--- u is v after a call that is refused: a pull that is refused as Idle has picked
+-- u is v after a pull that is refused as Idle: with the setting `pending` it is v,
+-- otherwise it is v after a pick
+abbrev pub IsIdlePull : (has_pending : Bool) → World → Class → SchedValue → SchedValue → Type 0
+IsIdlePull true w c v u = u ≡ v
+IsIdlePull false w c v u = HasPickedInClass w c v u
+
+-- u is v after a call that is refused: only a pull that is refused as Idle may change it
 abbrev pub IsRefused : World → Note → Refusal → SchedValue → SchedValue → Type 0
-IsRefused w (Asked (Pull c)) Idle v u = HasPickedInClass w c v u
+IsRefused w (Asked (Pull c)) Idle v u = IsIdlePull (w.config.pending == 1) w c v u
 IsRefused w note _ v u = u ≡ v
 
--- the station that a call concerns is listed in the classes in which it is ready
+-- the station that a call concerns is listed in the classes in which it belongs on a list
 abbrev pub with_concerned : World → Option ℕ → SchedValue → SchedValue
 with_concerned w None v = v
-with_concerned w (Some s) v = with_listed_where (λ c. is_ready w c s) s all_classes v
+with_concerned w (Some s) v = with_listed_where (λ c. is_to_list w c s) (λ c. is_ready w c s) s all_classes v

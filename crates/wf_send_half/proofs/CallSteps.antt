@@ -1,8 +1,9 @@
 -- Proves what the calls do to the half from what they do to its parts.
-use Rattle.std.proofs.Common.{◌≡◌, ap, sym, ◌∙◌, subst, ℕ, suc, arith, ◌+◌, ◌-◌, ◌*◌, ◌==◌, Bool, true, false, pos, ◌-ℤ◌, ℤ, List, [], ◌∷◌, length, Option, Some, None, is_some, set, if◌then◌else◌, inl, inr}
+use Rattle.std.proofs.Common.{◌≡◌, ap, ap₂, sym, ◌∙◌, subst, ℕ, suc, arith, ◌+◌, ◌-◌, ◌*◌, ◌==◌, Bool, true, false, pos, ◌+ℤ◌, ◌-ℤ◌, ℤ, List, [], ◌∷◌, length, Option, Some, None, is_some, set, if◌then◌else◌, inl, inr}
 use Rattle.std.specs.Prelude.{int_lt, ◌<ℤ◌}
 use Rattle.std.proofs.lemmas.Bool.{cases_Bool}
 use Rattle.std.proofs.lemmas.Bool.Decides.{nat_tests}
+use Rattle.std.proofs.lemmas.Int.{ints}
 use Rattle.wf_frame.specs.declared.settings.Config.{Config}
 use Rattle.wf_frame.specs.declared.classes.Class.{Class}
 use Rattle.wf_frame.specs.declared.notes.AskedRate.{AskedRate}
@@ -14,7 +15,7 @@ use Rattle.wf_frame.specs.Frames.{FrameValue}
 use Rattle.wf_def_air.specs.Airtime.{Rate}
 use Rattle.wf_def_lists.specs.Bounds.{deepest_deficit}
 use Rattle.wf_def_world.specs.Rates.{rate_asked}
-use Rattle.wf_def_world.specs.World.{World, is_live, share}
+use Rattle.wf_def_world.specs.World.{World, is_live, share, pending_air}
 use Rattle.wf_def_world.specs.Refusals.{refusal}
 use Rattle.wf_def_world.specs.Step.{class_to_send}
 use Rattle.wf_send_parts.specs.Tally.{counts_of}
@@ -22,17 +23,18 @@ use Rattle.wf_queue_flows.specs.Flows.{FlowsValue}
 use Rattle.wf_queue_flows_refines.specs.Standing.{ids, with_finished}
 use Rattle.wf_sched.specs.ClassRotas.{SchedValue, deficit, after_join}
 use Rattle.wf_sched_refines.specs.Standing.{everywhere, with_deficit_charged}
-use Rattle.wf_sched_refines.proofs.Readings.{deficit_same}
 use Rattle.wf_sched_refines.proofs.Charges.{debt_same}
 use Rattle.wf_send_parts.specs.Window.{WindowValue}
 use Rattle.wf_send_parts.specs.declared.stations.members.Member.{Member}
 use Rattle.wf_send_parts.specs.Members.{member, on_member, new_member, with_rate, with_receipt}
 use Rattle.wf_send_parts.specs.declared.stations.sleepers.Sleeper.{Sleeper}
 use Rattle.wf_send_parts.specs.Sleepers.{sleeper, with_sleeper, awake}
-use Rattle.wf_send_half_model.specs.Half.{TransmitValue}
+use Rattle.wf_send_half_model.specs.Half.{TransmitValue, pending_air_of}
 use Rattle.wf_send_half_model.specs.Standing.{StandsFor, Meets}
-use Rattle.wf_send_half_model.specs.Changes.{after_listing, AreReset}
-use Rattle.wf_send_half_model.proofs.Whole.{tick_meets, reap_meets, rate_meets, rx_meets, sleep_meets, wake_meets, poll_meets, join_meets}
+use Rattle.wf_send_half_model.specs.Changes.{after_listing, after_listing_in, AreReset}
+use Rattle.wf_send_half_model.proofs.Readers.{pending_same, deficit_same}
+use Rattle.wf_send_half_model.proofs.Receipts.{after_receipt, rx_meets}
+use Rattle.wf_send_half_model.proofs.Whole.{tick_meets, reap_meets, rate_meets, sleep_meets, wake_meets, poll_meets, join_meets}
 use Rattle.wf_send_half.specs.declared.half.Half.TheInside.{Inside}
 use Rattle.wf_send_half.proofs.Rows.{last_row, live_of, refused_call}
 use Rattle.wf_send_half.proofs.Worlds.{met_by}
@@ -118,19 +120,13 @@ module _ (v x : TransmitValue) (same : x ≡ v) (w : World) (bodies : ℕ → Fr
       }) s) (Polled k)) (sym is)
       (poll_meets x w bodies at_x s (sym done)))
 
-  -- the setting `debt` of the half is that of the world
-  to_x : (s : ℕ) (c : Class) (air : ℕ) → (deficit x.sched c s -ℤ pos air) <ℤ deepest_deficit w.config.debt →
-      (deficit x.sched c s -ℤ pos air) <ℤ deepest_deficit x.config.debt
-  to_x s c air = subst (λ (z : Config). (deficit x.sched c s -ℤ pos air) <ℤ deepest_deficit z.debt)
-      (sym at_x.parts.others.config)
-
-  to_w : (s : ℕ) (c : Class) (air : ℕ) → (deficit x.sched c s -ℤ pos air) <ℤ deepest_deficit x.config.debt →
-      (deficit x.sched c s -ℤ pos air) <ℤ deepest_deficit w.config.debt
-  to_w s c air = subst (λ (z : Config). (deficit x.sched c s -ℤ pos air) <ℤ deepest_deficit z.debt)
-      at_x.parts.others.config
+  -- the greatest debt of the scheduler is the setting `debt` and the airtime in flight that counts
+  debt_is : (s : ℕ) (c : Class) → x.config.debt + pending_air_of x s c ≡ w.config.debt + pending_air w s c
+  debt_is s c = ap₂ (λ (m n : ℕ). m + n) (ap (λ (z : Config). z.debt) at_x.parts.others.config)
+      (pending_same x w bodies s c at_x.parts)
 
   no_debt : (s : ℕ) (c : Class) (air : ℕ) → is_some (member v.members s) ≡ true →
-      ((deficit x.sched c s -ℤ pos air) <ℤ deepest_deficit w.config.debt → ⊥) →
+      ((deficit x.sched c s -ℤ pos air) <ℤ deepest_deficit (w.config.debt + pending_air w s c) → ⊥) →
       int_lt ((share w s c).deficit -ℤ pos air) (deepest_deficit w.config.debt) ≡ false
   no_debt s c air live above = elim (cases_Bool
       (int_lt ((share w s c).deficit -ℤ pos air) (deepest_deficit w.config.debt))) [
@@ -141,40 +137,40 @@ module _ (v x : TransmitValue) (same : x ≡ v) (w : World) (bodies : ℕ → Fr
 
   -- a receive charge that stays within the greatest debt
   pub rx_done : (s : ℕ) (c : Class) (air : ℕ) (left : ℤ) (turns : SchedValue)
-      (members : List (Option Member)) → left ≡ deficit x.sched c s -ℤ pos air →
+      (members : List (Option Member)) (y : TransmitValue) →
+      left ≡ (deficit x.sched c s -ℤ pos air) +ℤ pos (pending_air_of x s c) →
       turns ≡ with_deficit_charged x.sched s c air → members ≡ on_member x.members s (with_receipt c air) →
+      y ≡ after_listing_in (record x { sched = turns; members = members }) s c →
       is_some (member v.members s) ≡ true → refusal w (Asked (Rx s c air))
       ≡ (if int_lt ((share w s c).deficit -ℤ pos air) (deepest_deficit w.config.debt)
       then Some (Debt (share w s c).deficit) else None) →
-      ((deficit x.sched c s -ℤ pos air) <ℤ deepest_deficit x.config.debt → ⊥) →
-      Meets w bodies (Asked (Rx s c air)) (record x { sched = turns; members = members }) (Charged left)
-  rx_done s c air left turns members is e f live passed above =
-      met_by (record x {
-        sched = with_deficit_charged x.sched s c air;
-        members =
-            on_member x.members s (with_receipt c air);
-      })
-      (record x { sched = turns; members = members }) w bodies (Asked (Rx s c air)) (Charged left)
-      (ap (λ (z : SchedValue). record x { sched = z; members = members }) e
-      ∙ ap (λ (m : List (Option Member)). record
-      x { sched = with_deficit_charged x.sched s c air; members = m }) f)
+      ((deficit x.sched c s -ℤ pos air) <ℤ deepest_deficit (x.config.debt + pending_air_of x s c) → ⊥) →
+      Meets w bodies (Asked (Rx s c air)) y (Charged left)
+  rx_done s c air left turns members y is e f listed live passed above =
+      met_by (after_listing_in (after_receipt x s c air) s c) y w bodies (Asked (Rx s c air)) (Charged left)
+      (listed
+      ∙ ap (λ (z : SchedValue). after_listing_in (record x { sched = z; members = members }) s c) e
+      ∙ ap (λ (m : List (Option Member)). after_listing_in
+      (record x { sched = with_deficit_charged x.sched s c air; members = m }) s c) f)
       (subst (λ (d : ℤ). Meets w bodies (Asked (Rx s c air))
-      (record x {
-        sched = with_deficit_charged x.sched s c air;
-        members =
-            on_member x.members s (with_receipt c air);
-      }) (Charged d)) (sym is)
+      (after_listing_in (after_receipt x s c air) s c) (Charged d))
+      (swapped (deficit x.sched c s) (pending_air_of x s c) ∙ sym is)
       (rx_meets x w bodies at_x s c air (passed ∙ ap
       (λ (b : Bool). if b then Some (Debt (share w s c).deficit) else None)
-      (no_debt s c air live (λ is. above (to_x s c air is))))))
+      (no_debt s c air live (λ below. above (subst
+      (λ (n : ℕ). (deficit x.sched c s -ℤ pos air) <ℤ deepest_deficit n) (sym (debt_is s c)) below))))))
+    where
+      swapped : (d : ℤ) (n : ℕ) → (d +ℤ pos n) -ℤ pos air ≡ (d -ℤ pos air) +ℤ pos n
+      swapped d n = omega (arith, ints)
 
   -- a receive charge that would exceed the greatest debt
-  pub rx_refused : (s : ℕ) (c : Class) (air : ℕ) (d : ℤ) (turns : SchedValue) → d ≡ deficit x.sched c s →
+  pub rx_refused : (s : ℕ) (c : Class) (air : ℕ) (d : ℤ) (turns : SchedValue) →
+      d ≡ deficit x.sched c s +ℤ pos (pending_air_of x s c) →
       turns ≡ x.sched →
       is_some (member v.members s) ≡ true → refusal w (Asked (Rx s c air))
       ≡ (if int_lt ((share w s c).deficit -ℤ pos air) (deepest_deficit w.config.debt)
       then Some (Debt (share w s c).deficit) else None) →
-      (deficit x.sched c s -ℤ pos air) <ℤ deepest_deficit x.config.debt →
+      (deficit x.sched c s -ℤ pos air) <ℤ deepest_deficit (x.config.debt + pending_air_of x s c) →
       Meets w bodies (Asked (Rx s c air)) (record x { sched = turns }) (Refused (Debt d))
   rx_refused s c air d turns is e live passed below =
       let there : is_live w s ≡ true = live_of v w bodies h s live in
@@ -182,9 +178,10 @@ module _ (v x : TransmitValue) (same : x ≡ v) (w : World) (bodies : ℕ → Fr
       (ap (λ (z : SchedValue). record x { sched = z }) e)
       (refused_call x w bodies (Asked (Rx s c air)) (Debt d)
       (λ e. cc e, (λ e. cc e, (λ e. cc e, (λ e. cc e, tt)))) at_x
-      (ap (λ (z : ℤ). Some (Debt z)) (is ∙ deficit_same x.sched w s c at_x.parts.others.turns there)
+      (ap (λ (z : ℤ). Some (Debt z)) (is ∙ deficit_same x w bodies s c at_x.parts there)
       ∙ sym (passed ∙ ap (λ (b : Bool). if b then Some (Debt (share w s c).deficit) else None)
-      ((debt_same x.sched w s c air at_x.parts.others.turns there).0 (to_w s c air below)))))
+      ((debt_same x.sched w s c air at_x.parts.others.turns there).0 (subst
+      (λ (n : ℕ). (deficit x.sched c s -ℤ pos air) <ℤ deepest_deficit n) (debt_is s c) below)))))
 
   finished_is : w.finished ≡ ids x.flows.backlog.finished
   finished_is = at_x.parts.others.flows.finished

@@ -1,5 +1,5 @@
 -- Proves what a Done does to the half from what it does to its parts.
-use Rattle.std.proofs.Common.{◌≡◌, refl, ap, ap₂, sym, ◌∙◌, subst, arith, ℕ, ◌-◌, ◌^◌, ◌<◌, ◌≤◌, ◌==◌, pos, negsuc, ◌-ℤ◌, ◌≤ℤ◌, Bool, true, false, not, List, [], ◌∷◌, length, Option, Some, None, is_none, option_map, unwrap_or, if◌then◌else◌, is_some, ◌&&◌}
+use Rattle.std.proofs.Common.{◌≡◌, refl, ap, ap₂, sym, ◌∙◌, subst, arith, ℕ, ◌-◌, ◌^◌, ◌<◌, ◌≤◌, ◌==◌, pos, negsuc, ◌+ℤ◌, ◌-ℤ◌, ◌≤ℤ◌, Bool, true, false, not, List, [], ◌∷◌, length, Option, Some, None, is_none, option_map, unwrap_or, if◌then◌else◌, is_some, ◌&&◌}
 use Rattle.std.specs.Prelude.{find, filter, IfSome, IfNone}
 use Rattle.wf_frame.specs.declared.notes.Note.TheVariants.{Asked}
 use Rattle.wf_frame.specs.declared.notes.Ask.TheVariants.{Done}
@@ -24,13 +24,13 @@ use Rattle.wf_send_parts.specs.declared.exchanges.opened.Open.{Open}
 use Rattle.wf_send_parts.specs.declared.stations.members.Member.{Member}
 use Rattle.wf_send_parts.specs.Members.{member, charged_in, on_member, with_charge}
 use Rattle.wf_sched.specs.ClassRotas.{SchedValue, deficit}
-use Rattle.wf_sched_refines.specs.Standing.{SchedulerStandsFor as TurnsStandFor, with_deficit_charged as with_turns_charged}
-use Rattle.wf_sched_refines.proofs.Calls.{charge_fits}
+use Rattle.wf_sched_refines.specs.Standing.{SchedulerStandsFor as TurnsStandFor, with_deficit_charged as with_turns_charged, with_paid_back, with_pending_paid_back}
+use Rattle.wf_sched_refines.proofs.Calls.{charge_fits_later, pay_back_fits}
 use Rattle.wf_law_driver.proofs.Opened.{found_number, first_refuses}
 use Rattle.wf_send_half_model.specs.Half.{TransmitValue}
 use Rattle.wf_send_half_model.specs.Standing.{open_of, sending_of, numbers_on_air, Parts, StandsFor, Meets}
 use Rattle.wf_send_half_model.specs.Changes.{after_listing_in}
-use Rattle.wf_send_half_model.specs.Ending.{after_close}
+use Rattle.wf_send_half_model.specs.Ending.{after_close, without_pending_charge}
 use Rattle.wf_send_half_model.proofs.Dones.{done_meets, request_tid}
 use Rattle.wf_send_half_model.proofs.Endings.{found, open_live}
 use Rattle.wf_send_half_model.proofs.Meets.{refused_meets}
@@ -40,7 +40,7 @@ use Rattle.wf_send_half.specs.Bits.{is_shown, AreShown, NoneIsShown, GoesBy, IsC
 use Rattle.wf_send_half.specs.Half.{HasWorld}
 use Rattle.wf_send_half.specs.declared.finish.Ended.{Ended}
 use Rattle.wf_send_half.proofs.Ends.{begun}
-use Rattle.std.proofs.lemmas.Bool.{and_parts, leb-true, not-false}
+use Rattle.std.proofs.lemmas.Bool.{and_parts, eqb-true, leb-true, not-false}
 use Rattle.wf_law_driver.proofs.Ended.{bad_lost, bad_heard}
 
 -- ---- the exchange that is open
@@ -213,33 +213,76 @@ module _ (v : TransmitValue) (some : HasWorld v) (e : ℕ) (o : Open)
         r.in_range.charge.1,
       )) (omega (arith, ap (λ (k : Open). k.charge) it.same, few.1))
 
-  pub charge_low : (air : Option ℕ) (n : ℕ) → is_bad_air v.config air ≡ false → n ≡ unwrap_or air o.charge →
-      negsuc (2 ^ 62 - 1) ≤ℤ (deficit v.sched o.class o.station -ℤ pos n)
-  charge_low air n fine charge =
+  -- the airtime that was charged when it opened may be paid back
+  pub pay_back_low : (is_on : Bool) → is_on ≡ (v.config.pending == 1) → is_on ≡ true →
+      (deficit v.sched o.class o.station +ℤ pos o.charge) ≤ℤ pos (2 ^ 32 - 1)
+  pay_back_low is_on setting on =
       let r = some.stands.reached in
       let back = sym (now_is some.world r) in
-      charge_fits some.world.config r.history (length r.history) v.sched o.station o.class n r.in_range
+      let one : some.world.config.pending ≡ 1 =
+      sym (ap (λ (k : Config). k.pending) some.stands.parts.others.config)
+      ∙ eqb-true v.config.pending 1 (sym setting ∙ on) in
+      subst (λ (k : Open). (deficit v.sched k.class k.station +ℤ pos k.charge) ≤ℤ pos (2 ^ 32 - 1))
+      (sym it.same)
+      (pay_back_fits some.world.config r.history (length r.history) e v.sched it.exchange_is r.in_range
       (subst (TurnsStandFor v.sched) back some.stands.parts.others.turns)
+      (subst (λ (u : World). exchange u e ≡ Some it.exchange_is) back it.known) one
+      (subst (λ (u : World). is_live u it.exchange_is.station ≡ true) back
+      (open_live some.world r e it.exchange_is it.known)))
+
+  -- the turns after that
+  pub paid_is : (is_on : Bool) (paid : SchedValue) → is_on ≡ (v.config.pending == 1) →
+      paid ≡ (if is_on then with_paid_back v.sched o.station o.class o.charge else v.sched) →
+      paid ≡ without_pending_charge v o
+  paid_is is_on paid setting is = is
+      ∙ ap (λ (b : Bool). if b then with_paid_back v.sched o.station o.class o.charge else v.sched) setting
+
+  pub within_paid : (paid : SchedValue) → paid ≡ without_pending_charge v o → o.station < paid.stations
+  within_paid paid is = omega (
+    arith,
+    within_turns,
+    ap (λ (z : SchedValue). z.stations) is,
+    kept_stations (v.config.pending == 1),
+  )
+    where
+      kept_stations : (b : Bool) →
+          (if b then with_paid_back v.sched o.station o.class o.charge else v.sched).stations
+          ≡ v.sched.stations
+      kept_stations true = refl
+      kept_stations false = refl
+
+  pub charge_low : (air : Option ℕ) (n : ℕ) (paid : SchedValue) → is_bad_air v.config air ≡ false →
+      n ≡ unwrap_or air o.charge → paid ≡ without_pending_charge v o →
+      negsuc (2 ^ 62 - 1) ≤ℤ (deficit paid o.class o.station -ℤ pos n)
+  charge_low air n paid fine charge is =
+      let r = some.stands.reached in
+      let back = sym (now_is some.world r) in
+      subst (λ (z : SchedValue). negsuc (2 ^ 62 - 1) ≤ℤ (deficit z o.class o.station -ℤ pos n))
+      (ap (λ (k : Config). with_pending_paid_back k v.sched o.station o.class o.charge)
+      (sym some.stands.parts.others.config) ∙ sym is)
+      (charge_fits_later some.world.config r.history (length r.history) v.sched o.station o.class o.charge n
+      r.in_range (subst (TurnsStandFor v.sched) back some.stands.parts.others.turns)
       (subst (λ (u : World). is_live u o.station ≡ true) back station_live)
-      (omega (arith, charge, charge_few air fine))
+      (omega (arith, charge, charge_few air fine)))
 
   pub charge_small : IsChargeSmall v e → IfSome (member v.members o.station)
       (λ m. charged_in m o.class < 2 ^ 62)
   charge_small small = subst (λ (f : Option Open).
       IfSome f (λ x. IfSome (member v.members x.station) (λ m. charged_in m x.class < 2 ^ 62))) (sym is) small
 
-  pub closes : (air : Option ℕ) {n : ℕ} {opened : List Open} {turns : SchedValue}
+  pub closes : (air : Option ℕ) {n : ℕ} {opened : List Open} {paid turns : SchedValue}
       {members : List (Option Member)} → n ≡ unwrap_or air o.charge →
-      opened ≡ filter (λ x. not (x.number == e)) v.opened →
-      turns ≡ with_turns_charged v.sched o.station o.class n →
+      opened ≡ filter (λ x. not (x.number == e)) v.opened → paid ≡ without_pending_charge v o →
+      turns ≡ with_turns_charged paid o.station o.class n →
       members ≡ on_member v.members o.station (with_charge o.class n) →
       record v { opened = opened; sched = turns; members = members } ≡ after_close v o
       (unwrap_or air o.charge)
-  closes air {n} {opened} {turns} {members} charge a b c =
+  closes air {n} {opened} {paid} {turns} {members} charge a p b c =
       let number : e ≡ o.number = sym (ap (λ (k : Open). k.number) it.same
       ∙ found_number some.world e it.exchange_is it.known) in
       ap₂ (λ (z : List Open) (y : SchedValue). record v { opened = z; sched = y; members = members })
-      (a ∙ ap (λ (i : ℕ). filter (λ (x : Open). not (x.number == i)) v.opened) number) b
+      (a ∙ ap (λ (i : ℕ). filter (λ (x : Open). not (x.number == i)) v.opened) number)
+      (b ∙ ap (λ (z : SchedValue). with_turns_charged z o.station o.class n) p)
       ∙ ap (λ (m : List (Option Member)). record (after_close v o n) { members = m }) c
       ∙ ap (after_close v o) charge
 

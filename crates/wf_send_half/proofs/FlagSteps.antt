@@ -29,7 +29,7 @@ set_own r c s b P old new = elim (cases_lt (class_number c) (length r)) [
 ]
 
 -- the flags of another class
-set_elsewhere : (r : Flags) (c : Class) (s : ℕ) (b : Bool) (d : Class) →
+pub set_elsewhere : (r : Flags) (c : Class) (s : ℕ) (b : Bool) (d : Class) →
     (class_number d ≡ class_number c → ⊥) → flags_in (with_flag r c s b) d ≡ flags_in r d
 set_elsewhere r c s b d other = get_or-set_other r (class_number c) (class_number d) _ [] other
 

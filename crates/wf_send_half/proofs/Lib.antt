@@ -18,6 +18,10 @@ mod Flying
 mod Pulling
 mod Listed
 mod FlagSteps
+mod Listing
+mod FlagCounts
+mod Standings
+mod Idle
 mod Admissions
 mod Concerned
 mod Endings
@@ -25,3 +29,4 @@ mod ToSend
 mod Tracked
 pub mod Kept
 pub mod Sends
+pub mod Times

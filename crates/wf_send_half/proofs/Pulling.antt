@@ -1,7 +1,9 @@
 -- Proves the clauses of a pull: the station that is picked sends a request, or an aggregate.
-use Rattle.std.proofs.Common.{◌≡◌, refl, ap, sym, ◌∙◌, subst, arith, ℕ, ◌<◌, ◌≤◌, ◌==◌, Bool, true, false, not, ◌||◌, if◌then◌else◌, List, [], ◌∷◌, ◌++◌, length, Option, Some, None, IfSome, is_some, option_map, unwrap_or}
+use Rattle.std.proofs.Common.{◌≡◌, refl, ap, sym, ◌∙◌, subst, arith, ℕ, ◌-◌, ◌^◌, ◌<◌, ◌≤◌, ◌==◌, ℤ, pos, negsuc, ◌+ℤ◌, ◌-ℤ◌, ◌≤ℤ◌, ◌↔◌, Bool, true, false, not, ◌&&◌, ◌||◌, if◌then◌else◌, List, [], ◌∷◌, ◌++◌, length, Option, Some, None, IfSome, is_some, option_map, unwrap_or}
 use Rattle.std.specs.Prelude.{All, nat_le, count_by}
+use Rattle.std.proofs.lemmas.Bool.{and_parts}
 use Rattle.std.proofs.lemmas.Bool.Decides.{nat_tests}
+use Rattle.std.proofs.lemmas.Int.{ints}
 use Rattle.std.proofs.lemmas.List.Elements.{All-head, All-tail}
 use Rattle.wf_send_parts.specs.declared.exchanges.opened.Open.{Open}
 use Rattle.std.proofs.lemmas.List.{get_or-set_same}
@@ -25,15 +27,17 @@ use Rattle.wf_def_world.specs.World.{World, Station, no_station, is_live, statio
 use Rattle.wf_def_world.specs.CanSend.{can_give, can_send, has_waiting, request_open}
 use Rattle.wf_def_world.specs.Step.{step}
 use Rattle.wf_def_world.specs.Exchanges.{aggregate_of, picked_station, after_pick, sending_tid, after_tid_turn}
+use Rattle.wf_law_runs.specs.Rotations.{NoneReady}
 use Rattle.wf_law_runs.proofs.Deficits.Books.{books}
 use Rattle.wf_law_runs.proofs.Deficits.Kept.{IsKept}
 use Rattle.wf_law_runs.proofs.Deficits.KeptStep.{kept}
 use Rattle.wf_law_runs.proofs.Ranges.Law.{range_law}
 use Rattle.wf_law_runs.proofs.Sent.Lengths.{IsStocked, stocked}
 use Rattle.wf_law_runs.proofs.Sent.Some.{IsApt, apt, apt_picked, apt_turned, some_filled}
-use Rattle.wf_sched.specs.ClassRotas.{SchedValue, IsAfterPick, class_rota, with_class_rota, pick_of_class}
+use Rattle.wf_sched.specs.ClassRotas.{SchedValue, IsAfterPick, class_rota, with_class_rota, pick_of_class, deficit}
 use Rattle.wf_sched_refines.specs.Calls.{HasPickedInClass}
-use Rattle.wf_sched_refines.specs.Standing.{TellsReady}
+use Rattle.wf_sched_refines.specs.Standing.{SchedulerStandsFor as TurnsStandFor, TellsReady}
+use Rattle.wf_sched_refines.proofs.Calls.{charge_fits}
 use Rattle.wf_sched_refines.proofs.Picks.{pick_same}
 use Rattle.wf_send_parts.specs.declared.exchanges.opened.Sending.{Sending}
 use Rattle.wf_send_parts.specs.declared.exchanges.opened.Sending.TheVariants.{Data, Request as Starts_at}
@@ -47,11 +51,11 @@ use Rattle.wf_send_half_model.specs.Standing.{IsMember, AreBoth, IsReached, Part
 use Rattle.wf_send_half_model.specs.Changes.{after_listing_in}
 use Rattle.wf_send_half_model.specs.Filling.{IsTurned}
 use Rattle.wf_send_half_model.specs.Pulling.{sending_tid_of, after_turn, open_next, after_sending}
-use Rattle.wf_send_half_model.proofs.Asked.{turn_sends, full_refused, ahead_refused, idle_refused, not_refused}
+use Rattle.wf_send_half_model.proofs.Asked.{turn_sends, full_refused, ahead_refused, idle_refused, not_refused, none_ready_refused, some_ready_picked}
 use Rattle.wf_send_half_model.proofs.Meets.{refused_meets}
 use Rattle.wf_send_half_model.proofs.Openings.{opens_above, opens_small, opens_within}
-use Rattle.wf_send_half_model.proofs.Pulls.{pick_parts, idle_pull}
-use Rattle.wf_send_half_model.proofs.Reached.{by_law}
+use Rattle.wf_send_half_model.proofs.Pulls.{pick_parts, idle_pull, idle_pull_stays}
+use Rattle.wf_send_half_model.proofs.Reached.{by_law, now_is}
 use Rattle.wf_send_half_model.proofs.Readers.{can_send_same, live_same, ready_same}
 use Rattle.wf_send_half_model.proofs.Sends.{winner_live, turn_tid, turned, request_meets, data_meets}
 use Rattle.wf_send_parts.specs.Sent.{with_all_sent}
@@ -301,6 +305,16 @@ module _ {x v : TransmitValue} (same : x ≡ v) {w : World} {bodies : ℕ → Fr
       to_x.tells s (ap (λ (r : Rotation). has_key r s) (at_x.parts.others.turns.rotations c) ∙ listed)
       ∙ ready_same x w bodies c s at_x.parts
 
+  -- with the setting `pending`, a pull that finds no ready station changes nothing
+  pub pull_stays : (idle : Bool) → ((idle ≡ true) ↔ NoneReady w c) →
+      ((x.config.pending == 1) && idle) ≡ true →
+      Meets w bodies (Asked (Pull c)) v (Refuses Idle)
+  pull_stays idle means stops =
+      let both = and_parts (x.config.pending == 1) idle stops in
+      subst (λ (z : TransmitValue). Meets w bodies (Asked (Pull c)) z (Refuses Idle)) same
+      (idle_pull_stays x w bodies at_x c both.0
+      (none_ready_refused x w bodies c at_x.parts few behind (means.0 both.1)))
+
   winner_is : (picked_station w c).winner ≡ (pick_of_class x.sched c ready).winner
   winner_is = sym (pick_same x.sched w c ready at_x.parts.others.turns tells).winner
 
@@ -319,7 +333,51 @@ module _ {x v : TransmitValue} (same : x ≡ v) {w : World} {bodies : ℕ → Fr
       others = refl;
     }
 
-    pub picked_none : None ≡ (pick_of_class x.sched c ready).winner →
+    -- the deficit of the picked station is as in the world of a run, or more: a charge fits
+    pub pick_fits : {s : ℕ} → Some s ≡ (pick_of_class x.sched c ready).winner → (air : ℕ) →
+        air ≤ greatest_air → negsuc (2 ^ 62 - 1) ≤ℤ (deficit turns c s -ℤ pos air)
+    pick_fits {s} is air few_air =
+        let won : (picked_station w c).winner ≡ Some s = winner_is ∙ sym is in
+        let parts : Parts (record x { sched = turns }) (after_pick w c) bodies =
+        pick_parts x w bodies c turns has_picked at_x.parts in
+        let live : is_live w s ≡ true =
+        sym (live_same x w bodies s at_x.parts)
+        ∙ live_same (record x { sched = turns }) (after_pick w c) bodies s parts
+        ∙ winner_live x w bodies at_x c s won in
+        let r : IsReached w = at_x.reached in
+        let back = sym (now_is w r) in
+        let low : negsuc (2 ^ 62 - 1) ≤ℤ (deficit x.sched c s -ℤ pos air) =
+        charge_fits w.config r.history (length r.history) x.sched s c air r.in_range
+        (subst (TurnsStandFor x.sched) back at_x.parts.others.turns)
+        (subst (λ (u : World). is_live u s ≡ true) back live) (omega (arith, few_air)) in
+        rises (deficit x.sched c s) (deficit turns c s) _ air (after.deficits s) low
+      where
+        rises : (d e : ℤ) (n m : ℕ) → e ≡ d +ℤ pos n → negsuc (2 ^ 62 - 1) ≤ℤ (d -ℤ pos m) →
+            negsuc (2 ^ 62 - 1) ≤ℤ (e -ℤ pos m)
+        rises d e n m is low = omega (arith, ints)
+
+    -- No station is picked. With the setting `pending` this cannot be, as some station is ready.
+    pub picked_none : (idle : Bool) → ((idle ≡ true) ↔ NoneReady w c) →
+        ((x.config.pending == 1) && idle) ≡ false → None ≡ (pick_of_class x.sched c ready).winner →
         Meets w bodies (Asked (Pull c)) (record x { sched = turns }) (Refuses Idle)
-    picked_none is = idle_pull x w bodies at_x c turns
-        (idle_refused x w bodies c at_x.parts few behind (winner_is ∙ sym is)) has_picked
+    picked_none idle means goes is = by_setting (x.config.pending == 1) refl goes
+      where
+        none : (picked_station w c).winner ≡ None
+        none = winner_is ∙ sym is
+
+        by_setting : (b : Bool) → (x.config.pending == 1) ≡ b → (b && idle) ≡ false →
+            Meets w bodies (Asked (Pull c)) (record x { sched = turns }) (Refuses Idle)
+        by_setting false off k = idle_pull x w bodies at_x c turns off
+            (idle_refused x w bodies c at_x.parts few behind none) has_picked
+        by_setting true on k = absurd (some_ready_picked w c at_x.reached
+            (λ nobody. let no : true ≡ false = sym (means.1 nobody) ∙ k in cc no) none)
+
+    -- with the setting `pending`, a pull that is not refused before the pick has a station to pick
+    pub picked_some : (idle : Bool) → ((idle ≡ true) ↔ NoneReady w c) →
+        ((x.config.pending == 1) && idle) ≡ false → v.config.pending ≡ 1 →
+        None ≡ (pick_of_class x.sched c ready).winner → ⊥
+    picked_some idle means goes on is =
+        let on_x : x.config.pending ≡ 1 = subst (λ (z : TransmitValue). z.config.pending ≡ 1) (sym same) on in
+        let off : idle ≡ false = ap (λ (k : ℕ). (k == 1) && idle) (sym on_x) ∙ goes in
+        some_ready_picked w c at_x.reached
+        (λ nobody. let no : true ≡ false = sym (means.1 nobody) ∙ off in cc no) (winner_is ∙ sym is)

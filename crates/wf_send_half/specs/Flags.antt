@@ -1,5 +1,5 @@
 -- Defines the flags of a transmit half, which say in which classes each station is ready.
-use Rattle.std.specs.Prelude.{◌≡◌, ◌<◌, ℕ, Bool, false, List, [], length, map, replicate, get_or, slice_set}
+use Rattle.std.specs.Prelude.{◌≡◌, ◌<◌, ℕ, ◌^◌, Bool, false, List, [], length, count_by, map, replicate, get_or, slice_set}
 use Rattle.wf_frame.specs.declared.classes.Class.{Class}
 use Rattle.wf_frame.specs.declared.classes.Class.TheVariants.{Bk, Be, Vi, Vo}
 use Rattle.wf_frame.specs.Classes.{all_classes, class_number}
@@ -22,6 +22,17 @@ flags_in r c = get_or r (class_number c) []
 -- the flags with this one of station s in a class
 abbrev pub with_flag : Flags → Class → ℕ → Bool → Flags
 with_flag r c s ready = slice_set r (class_number c) (slice_set (flags_in r c) s ready)
+
+-- how many of these flags are up
+abbrev pub count_up : List Bool → ℕ
+count_up flags = count_by (λ up. up) flags
+
+-- the counts of the flags that are up, by class
+pub record AreCounts (r : Flags) (counts : List ℕ) : Type 0 where
+  pub classes : length r ≡ 4
+  pub four : length counts ≡ 4
+  pub few : (c : Class) → length (flags_in r c) < 2 ^ 32
+  pub right : (c : Class) → get_or counts (class_number c) 0 ≡ count_up (flags_in r c)
 
 -- each class has a flag for station s
 abbrev pub FlagsHaveRoom : Flags → ℕ → Type 0

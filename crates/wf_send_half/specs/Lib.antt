@@ -9,3 +9,4 @@ pub mod Counts
 pub mod Driven
 pub mod Listed
 pub mod Flags
+pub mod Clock

@@ -7,7 +7,7 @@ ghost use Rattle.wf_frame.specs.Frames.{FrameValue};
 ghost use Rattle.wf_frame.specs.declared.answers.Brief.TheVariants.{Refused as Refuses};
 ghost use Rattle.wf_frame.specs.declared.notes.Ask.TheVariants.{Join, Leave, Rate, Tick, Pull, Sleep, Wake, Poll, Rx, Reap};
 ghost use Rattle.wf_frame.specs.declared.notes.Note.TheVariants.{Asked};
-ghost use Rattle.wf_frame.specs.declared.notes.Refusal.TheVariants.{Full, Ahead};
+ghost use Rattle.wf_frame.specs.declared.notes.Refusal.TheVariants.{Full, Ahead, Idle};
 ghost use Rattle.wf_frame.specs.declared.notes.ReplyNote.TheVariants.{Joined, Left, Set, Now, Slept, Woken, Polled, Charged, Accepted, Refused};
 ghost use Rattle.wf_def_world.specs.World.{World};
 ghost use Rattle.wf_queue_flows_refines.specs.Frames.{with_body, IsBodySettled};
@@ -62,11 +62,13 @@ impl Transmit {
         })
     }
 
-    /// Opens the next exchange of a class. The station whose turn it is sends what is due on one of its TIDs:
-    /// a request, or an aggregate, whose frames are written to `pairs`, each by its id and its sequence
-    /// number; each counts that it is sent once more. Refused as Full if as many exchanges of the class are
-    /// open as the setting `inflight` allows, as Ahead if the computed airtime of all open exchanges has
-    /// reached the setting `aql_total` and this is not 0, or as Idle if no station is ready in the class.
+    /// Opens the next exchange of a class. The station whose turn it is sends on one of its TIDs a request
+    /// if one is due, else an aggregate. The aggregate's frames are written to `pairs`, each by its id and
+    /// its sequence number, and each of these frames counts one more send. Refused as Full if as many
+    /// exchanges of the class are open as the setting `inflight` allows, as Ahead if the computed airtime of
+    /// all open exchanges has reached the setting `aql_total` and this is not 0, or as Idle if no station is
+    /// ready in the class. A refused pull changes nothing with the setting `pending`; without it an idle one
+    /// may turn the lists.
     pub fn pull(&mut self, class: Class, pairs: &mut Pairs) -> Brief
         requires clock { self.old.clock < 2 ^ 62 }
         requires exchanges { self.old.exchanges < 2 ^ 62 }
@@ -81,9 +83,11 @@ impl Transmit {
             (count_by (λ x. same_class x.class class) self.old.opened) ≡ false →
             is_ahead_of self.old ≡ true →
             (result ≡ Refuses (Ahead (airtime_of self.old.opened))) × (self.new ≡ self.old) }
+        ensures idle { self.old.config.pending ≡ 1 → result ≡ Refuses Idle → self.new ≡ self.old }
         ensures unheard { HasUnheardWorld self.new }
     {
-        let pulled = self.half.pull(class, self.ready.of(class), pairs);
+        let is_idle = !self.ready.has_any(class);
+        let pulled = self.half.pull(class, self.ready.of(class), is_idle, pairs);
         if let Brief::Send { station, .. } = pulled.brief {
             self.ready.set(station, class, pulled.is_ready);
         }
@@ -238,7 +242,7 @@ impl Transmit {
 
     /// Charges a station for the airtime that it used in a class to send, 1 to 65,535 microseconds, and
     /// returns its deficit. Refused as BadStation, BadAir, NoStation, or as Debt if the deficit would fall
-    /// below -1,000,000.
+    /// further below 0 than the setting `debt`.
     pub fn rx(&mut self, station: u16, class: Class, air: u32) -> Result<i64, Refusal>
         requires small { IsReceiptSmall self.old station class }
         ensures meets { (w : World) (bodies : ℕ → FrameValue) → StandsFor self.old w bodies →

@@ -19,6 +19,7 @@ ghost use Rattle.wf_frame.specs.declared.notes.Note.TheVariants.{Asked};
 ghost use Rattle.wf_send_half.specs.Counts.{AreCounted, HasFate};
 
 use crate::half::Half;
+use crate::pending::pay_back_ended;
 use wf_frame::{Class, GREATEST_WINDOW, NARROW_WINDOW, Refusal};
 use wf_octets::bits::Bits256;
 use wf_octets::seq12::Seq12;
@@ -96,6 +97,14 @@ impl Half {
             return Err(Refusal::NoExchange);
         };
         let charge = air.unwrap_or(open.charge);
+        let is_on = self.config.pending == 1;
+        pay_back_ended(
+            &mut self.sched,
+            open.station,
+            open.class,
+            open.charge,
+            is_on,
+        );
         self.sched.charge(open.station, open.class, charge);
         self.members.charge(open.station, open.class, charge);
         let ended = self.settle(&open, &heard);

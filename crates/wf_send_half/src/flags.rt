@@ -15,19 +15,21 @@ use wf_frame::Class;
 pub(crate) struct Ready {
     /// By class, the least urgent first, then by station.
     flags: [Vec<bool>; 4],
+    /// By class, the number of flags that are up.
+    counts: [u32; 4],
 }
 
 impl Model for Ready {
     ghost use Rattle.std.specs.Prelude.{◌≡◌, Bool, length, map};
     ghost use Rattle.std.specs.declared.alloc.Global.{Global};
     ghost use Rattle.std.specs.declared.vec.Vec.{Vec};
-    ghost use Rattle.wf_send_half.specs.Flags.{Flags};
+    ghost use Rattle.wf_send_half.specs.Flags.{Flags, AreCounts};
 
     ghost Value = { Flags };
 
     ghost view = { λ r. map (λ (v : Vec Bool Global). v.items) r.flags };
 
-    ghost invariant = { λ r. length r.flags ≡ 4 };
+    ghost invariant = { λ r. AreCounts (map (λ (v : Vec Bool Global). v.items) r.flags) r.counts };
 }
 
 impl Ready {
@@ -43,6 +45,7 @@ impl Ready {
                 vec![in alloc; false; count]?,
                 vec![in alloc; false; count]?,
             ],
+            counts: [0; 4],
         })
     }
 
@@ -53,11 +56,11 @@ impl Ready {
         self.flags[class.number()].as_slice()
     }
 
-    // Returns whether some station is ready in a class.
+    // Returns whether some station is ready in a class. Constant time.
     pub(crate) fn has_any(&self, class: Class) -> bool
         ensures { result ≡ list_any (λ up. up) (flags_in self.now class) }
     {
-        self.of(class).iter().any(|up| *up)
+        self.counts[class.number()] > 0
     }
 
     // Sets the flag of a station in a class.
@@ -65,8 +68,17 @@ impl Ready {
         requires room { station < length (flags_in self.old class) }
         ensures { self.new ≡ with_flag self.old class station is_ready }
     {
-        let flags = &mut self.flags[class.number()];
-        flags[usize::from(station)] = is_ready;
+        let place = class.number();
+        let flag = &mut self.flags[place][usize::from(station)];
+        if *flag == is_ready {
+            return;
+        }
+        *flag = is_ready;
+        if is_ready {
+            self.counts[place] += 1;
+        } else {
+            self.counts[place] -= 1;
+        }
     }
 
     // Sets the flag of a station in a class as the half has it, unless it is `known`, which is set already.

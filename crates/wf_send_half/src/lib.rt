@@ -2,13 +2,14 @@
 //! stations, the sleepers and the open exchanges, and which stations are ready. It has a method for each call
 //! of the machine (`wf_def_world`) except those of receivers, and methods that read it.
 //!
-//! A refused call changes nothing, except a pull that is idle. Only `new` allocates memory. `Transmit` stores
-//! the flags and the parts, which are a `Half`: the methods of `Half` change the parts, and those of
-//! `Transmit` set the flags afterwards. `unheard` has the law of a half whose driver knows receivers by
-//! BlockAcks alone.
+//! A refused call changes nothing, except, without the setting `pending`, a pull that is idle. Only `new`
+//! allocates memory. `Transmit` stores the flags and the parts, which are a `Half`: the methods of `Half`
+//! change the parts, and those of `Transmit` set the flags afterwards. `unheard` has the law of a half whose
+//! driver knows receivers by BlockAcks alone.
 #![tactic(auto)]
 
 mod calls;
+mod clock;
 mod enqueue;
 mod fill;
 mod finish;
@@ -16,6 +17,7 @@ mod flags;
 mod frames;
 mod half;
 mod leave;
+mod pending;
 mod pull;
 mod readers;
 mod ready;

@@ -1,15 +1,17 @@
 //! The next exchange of a class.
 
-ghost use Rattle.std.specs.Prelude.{◌≡◌, ◌<◌, ◌^◌, ◌≤◌, ◌||◌, ℕ, List, [], All, true, false, nat_le, nat_lt, count_by, length};
+ghost use Rattle.std.specs.Prelude.{◌≡◌, ◌↔◌, ◌<◌, ◌^◌, ◌≤◌, ◌-◌, ◌==◌, ◌&&◌, ◌||◌, negsuc, pos, ◌-ℤ◌, ◌≤ℤ◌, ℕ, List, [], All, true, false, nat_le, nat_lt, count_by, length};
 ghost use Rattle.wf_frame.specs.Classes.{same_class, tid_number};
 ghost use Rattle.wf_frame.specs.Frames.{FrameValue};
 ghost use Rattle.wf_frame.specs.Answers.{reply_with};
 ghost use Rattle.wf_frame.specs.declared.answers.Brief.TheVariants.{Send, Refused};
 ghost use Rattle.wf_frame.specs.declared.notes.Ask.TheVariants.{Pull};
 ghost use Rattle.wf_frame.specs.declared.notes.Note.TheVariants.{Asked};
-ghost use Rattle.wf_frame.specs.declared.notes.Refusal.TheVariants.{Full, Ahead};
+ghost use Rattle.wf_frame.specs.declared.notes.Refusal.TheVariants.{Full, Ahead, Idle};
 ghost use Rattle.wf_queue_flows.specs.Flows.{frames_of_tid};
 ghost use Rattle.wf_def_lists.specs.Bounds.{greatest_air};
+ghost use Rattle.wf_law_runs.specs.Rotations.{NoneReady};
+ghost use Rattle.wf_sched.specs.ClassRotas.{deficit};
 ghost use Rattle.wf_send_parts.specs.Exchanges.{airtime_of};
 ghost use Rattle.wf_send_parts.specs.Windows.{window_of};
 ghost use Rattle.wf_def_world.specs.World.{World, Mpdu};
@@ -23,6 +25,7 @@ ghost use Rattle.wf_send_half.specs.Half.{HasWorld, IsLive};
 ghost use Rattle.wf_send_half.specs.Pulls.{IsSenderTold, TellsWhoIsReady, IsExponentSmall, IsSameButFrames, HasTakingOff, IsFlying, HasToPrepare, IsPreparedFor, start_sent};
 
 use crate::half::Half;
+use crate::pending::charge_opened;
 use wf_air::time::request_charge;
 use wf_frame::{Brief, Class, NARROW_WINDOW, Pairs, Refusal};
 use wf_send_parts::exchanges::{Numbers, Open, Sending};
@@ -46,10 +49,19 @@ pub(crate) struct Prepared {
 
 impl Half {
     // Opens the next exchange of a class (`Transmit::pull`). `ready` has an entry for each station; for a
-    // listed station the entry says whether it is ready in the class.
-    pub(crate) fn pull(&mut self, class: Class, ready: &[bool], pairs: &mut Pairs) -> Pulled
+    // listed station the entry says whether it is ready in the class. `is_idle` says that none is ready
+    // there.
+    pub(crate) fn pull(
+        &mut self,
+        class: Class,
+        ready: &[bool],
+        is_idle: bool,
+        pairs: &mut Pairs,
+    ) -> Pulled
         requires some { HasWorld self.old }
         requires told { TellsWhoIsReady self.old class ready.now }
+        requires idle { (w : World) (bodies : ℕ → FrameValue) → StandsFor self.old w bodies →
+            (is_idle ≡ true) ↔ NoneReady w class }
         requires clock { self.old.clock < 2 ^ 62 }
         requires exchanges { self.old.exchanges < 2 ^ 62 }
         ensures meets { (w : World) (bodies : ℕ → FrameValue) → StandsFor self.old w bodies →
@@ -64,6 +76,7 @@ impl Half {
             (count_by (λ x. same_class x.class class) self.old.opened) ≡ false →
             is_ahead_of self.old ≡ true →
             (result.brief ≡ Refused (Ahead (airtime_of self.old.opened))) × (self.new ≡ self.old) }
+        ensures idle { self.old.config.pending ≡ 1 → result.brief ≡ Refused Idle → self.new ≡ self.old }
     {
         let count = self.opened.of_class(class);
         if self.config.inflight <= count {
@@ -76,6 +89,12 @@ impl Half {
             let owed = self.opened.airtime();
             return Pulled {
                 brief: Brief::Refused(Refusal::Ahead { owed }),
+                is_ready: false,
+            };
+        }
+        if self.stays_idle(is_idle) {
+            return Pulled {
+                brief: Brief::Refused(Refusal::Idle),
                 is_ready: false,
             };
         }
@@ -92,7 +111,15 @@ impl Half {
         }
     }
 
-    // Opens an exchange, which spends the credit of its station.
+    // Returns whether a pull stops before it picks: with the setting `pending`, if no station is ready.
+    fn stays_idle(&self, is_idle: bool) -> bool
+        ensures { result ≡ ((self.now.config.pending == 1) && is_idle) }
+    {
+        self.config.pending == 1 && is_idle
+    }
+
+    // Opens an exchange, which spends the credit of its station. With the setting `pending` the station's
+    // standing falls by the charge.
     fn put_on_air(&mut self, station: u16, tid: u8, class: Class, prepared: Prepared) -> Pulled
         requires within { station < self.old.config.stations }
         requires small { self.old.exchanges < 2 ^ 62 }
@@ -100,6 +127,7 @@ impl Half {
         requires charge { prepared.charge ≤ greatest_air }
         requires above { All (λ x. x.number < self.old.exchanges) self.old.opened }
         requires request { prepared.request ≡ start_sent prepared.sending }
+        requires low { negsuc (2 ^ 62 - 1) ≤ℤ (deficit self.old.sched class station -ℤ pos prepared.charge) }
         ensures opened { self.new ≡ after_listing_in
             (after_sending self.old station tid class prepared.charge prepared.sending) station class }
         ensures brief { result.brief ≡ Send self.old.exchanges station tid prepared.charge
@@ -124,6 +152,8 @@ impl Half {
             more,
         });
         self.exchanges += 1;
+        let is_on = self.config.pending == 1;
+        charge_opened(&mut self.sched, station, class, charge, is_on);
         self.sleepers.spend(station);
         let is_ready = self.list_in(station, class);
         let brief = Brief::Send {
@@ -194,8 +224,8 @@ impl Half {
         }
     }
 
-    // Returns the TID that sends: the TID whose turn it is, if it can send, else the other. The next turn is
-    // that of the TID that does not send.
+    // Returns the TID that sends: the TID whose turn it is, if it can send, else the other. The next turn
+    // belongs to the TID that does not send.
     fn take_turn(&mut self, station: u16, class: Class) -> u8
         requires within { station < self.old.config.stations }
         requires live { IsLive self.old station }

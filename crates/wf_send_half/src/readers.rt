@@ -1,18 +1,20 @@
-//! What a transmit half reports without changing.
+//! Functions that report the state of a transmit half and do not change it.
 
-ghost use Rattle.std.specs.Prelude.{◌≡◌, ◌<◌, ◌==◌, ◌&&◌, ℕ, length, is_none, is_some, find, option_map, Some};
+ghost use Rattle.std.specs.Prelude.{◌≡◌, ◌<◌, ◌==◌, ◌&&◌, ℕ, pos, ◌+ℤ◌, length, is_none, is_some, find, option_map, Some};
 ghost use Rattle.wf_frame.specs.Classes.{tid_number};
 ghost use Rattle.wf_frame.specs.Frames.{FrameValue};
 ghost use Rattle.wf_frame.specs.declared.notes.Ask.TheVariants.{Pull};
 ghost use Rattle.wf_frame.specs.declared.notes.Note.TheVariants.{Asked};
 ghost use Rattle.wf_def_world.specs.Refusals.{refusal};
-ghost use Rattle.wf_def_world.specs.World.{World, is_live, share, rotation, inside};
+ghost use Rattle.wf_def_world.specs.World.{World, is_live, share, rotation, inside, owed};
 ghost use Rattle.wf_queue_flows.specs.Flows.{frames_of_tid};
 ghost use Rattle.wf_sched.specs.ClassRotas.{deficit};
+ghost use Rattle.wf_send_parts.specs.Exchanges.{airtime_to};
 ghost use Rattle.wf_send_parts.specs.Members.{member, charged_in, received_in};
 ghost use Rattle.wf_send_parts.specs.Sleepers.{sleeper};
 ghost use Rattle.wf_send_parts.specs.Tally.{counts_of};
 ghost use Rattle.wf_send_parts.specs.Windows.{window_of};
+ghost use Rattle.wf_send_half_model.specs.Half.{pending_air_of};
 ghost use Rattle.wf_send_half_model.specs.Pulling.{has_more_of};
 ghost use Rattle.wf_send_half_model.specs.Standing.{StandsFor, counts_in};
 ghost use Rattle.wf_send_half.specs.Half.{IsLive};
@@ -92,11 +94,13 @@ impl Transmit {
     /// Returns the deficit of a live station in a class, in microseconds.
     pub fn deficit(&self, station: u16, class: Class) -> i64
         requires live { IsLive self.now station }
-        ensures value { result ≡ deficit self.now.sched class station }
+        ensures value { result ≡
+            deficit self.now.sched class station +ℤ pos (pending_air_of self.now station class) }
         ensures world { (w : World) (bodies : ℕ → FrameValue) → StandsFor self.now w bodies →
             result ≡ (share w station class).deficit }
     {
-        self.half.sched.deficit(station, class)
+        let pending = self.half.pending_air(station, class);
+        self.half.standing(station, class) + i64::from(pending)
     }
 
     /// Returns the list of a class that a station is on, the new one or the old one. None if it is on
@@ -127,6 +131,16 @@ impl Transmit {
             result ≡ (share w station class).received }
     {
         self.half.members.member(station).received[class.number()]
+    }
+
+    /// Returns the computed airtime of a live station's open exchanges in a class, in microseconds.
+    pub fn in_flight(&self, station: u16, class: Class) -> u32
+        requires live { IsLive self.now station }
+        ensures value { result ≡ airtime_to self.now.opened station class }
+        ensures world { (w : World) (bodies : ℕ → FrameValue) → StandsFor self.now w bodies →
+            result ≡ owed station class w.opened }
+    {
+        self.half.in_flight(station, class)
     }
 
     /// Returns the open exchange with this number. None if it is not open.

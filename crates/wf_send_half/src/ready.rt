@@ -4,8 +4,10 @@ ghost use Rattle.std.specs.Prelude.{◌≡◌, ◌<◌, ℕ};
 ghost use Rattle.wf_frame.specs.Frames.{FrameValue};
 ghost use Rattle.wf_def_world.specs.World.{World};
 ghost use Rattle.wf_def_world.specs.CanSend.{is_ready, has_credit};
+ghost use Rattle.wf_sched.specs.ClassRotas.{deficit};
+ghost use Rattle.wf_send_parts.specs.Exchanges.{airtime_to};
 ghost use Rattle.wf_send_parts.specs.Sleepers.{sleeper};
-ghost use Rattle.wf_send_half_model.specs.Half.{can_send_of, is_below_aql_of, may_receive_of, is_ready_of};
+ghost use Rattle.wf_send_half_model.specs.Half.{can_send_of, is_below_aql_of, may_receive_of, is_ready_of, pending_air_of, is_debtor_of};
 ghost use Rattle.wf_send_half_model.specs.Standing.{StandsFor};
 ghost use Rattle.wf_send_half_model.specs.Changes.{after_listing, after_listing_in};
 ghost use Rattle.wf_send_half.specs.Half.{can_send_in_of};
@@ -82,7 +84,47 @@ impl Half {
         }
     }
 
-    // Lists a station in each class in which it is ready and unlisted.
+    // Returns the computed airtime of a station's open exchanges in a class, in microseconds.
+    pub(crate) fn in_flight(&self, station: u16, class: Class) -> u32
+        requires within { station < self.now.config.stations }
+        ensures { result ≡ airtime_to self.now.opened station class }
+    {
+        self.opened.airtime_to(station, class)
+    }
+
+    // Returns the airtime in flight that counts against a station's deficit in a class, in microseconds: none
+    // without the setting `pending`.
+    pub(crate) fn pending_air(&self, station: u16, class: Class) -> u32
+        requires within { station < self.now.config.stations }
+        ensures { result ≡ pending_air_of self.now station class }
+    {
+        if self.config.pending == 1 {
+            self.opened.airtime_to(station, class)
+        } else {
+            0
+        }
+    }
+
+    // Returns what a station may still use in a class, in microseconds: its deficit less the airtime in
+    // flight that counts.
+    pub(crate) fn standing(&self, station: u16, class: Class) -> i64
+        requires within { station < self.now.config.stations }
+        ensures { result ≡ deficit self.now.sched class station }
+    {
+        self.sched.deficit(station, class)
+    }
+
+    // Returns whether a station is live and has nothing left to use in a class, with the setting `pending`.
+    fn is_debtor(&self, station: u16, class: Class) -> bool
+        requires within { station < self.now.config.stations }
+        ensures { result ≡ is_debtor_of self.now class station }
+    {
+        self.config.pending == 1
+            && self.members.is_live(station)
+            && self.sched.deficit(station, class) <= 0
+    }
+
+    // Lists a station in each class in which it belongs on a list and is on none.
     pub(crate) fn list(&mut self, station: u16)
         requires within { station < self.old.config.stations }
         ensures { self.new ≡ after_listing self.old station }
@@ -93,16 +135,16 @@ impl Half {
         self.list_in(station, Class::Vo);
     }
 
-    // Lists a station in a class if it is ready in it and unlisted, and returns whether it is ready in it.
-    // This is enough after a call that makes it ready in no other class.
+    // Lists a station in a class if it belongs on a list there and is on none, and returns whether it is
+    // ready in the class. This is enough after a call that makes it ready, or a debtor, in no other class.
     pub(crate) fn list_in(&mut self, station: u16, class: Class) -> bool
         requires within { station < self.old.config.stations }
         ensures listed { self.new ≡ after_listing_in self.old station class }
         ensures ready { result ≡ is_ready_of self.new class station }
     {
         let is_ready = self.is_ready(station, class);
-        if is_ready {
-            self.sched.list(station, class);
+        if is_ready || self.is_debtor(station, class) {
+            self.sched.list(station, class, is_ready);
         }
         is_ready
     }

@@ -103,19 +103,26 @@ impl Half {
 
     // Charges a station for the airtime that it used to send (`Transmit::rx`).
     pub(crate) fn rx(&mut self, station: u16, class: Class, air: u32) -> Result<i64, Refusal>
+        requires some { HasWorld self.old }
         requires small { IsReceiptSmall self.old station class }
         ensures meets { (w : World) (bodies : ℕ → FrameValue) → StandsFor self.old w bodies →
             Meets w bodies (Asked (Rx station class air)) self.new (reply_of_result Charged result) }
         ensures refused { IfErr result (λ _. self.new ≡ self.old) }
     {
         self.check_rx(station, class, air)?;
-        match self.sched.rx(station, class, air, self.config.debt) {
-            Ok(deficit) => {
+        // The scheduler keeps the standing, which is the deficit less the pending airtime.
+        let pending = self.pending_air(station, class);
+        match self
+            .sched
+            .rx(station, class, air, self.config.debt + pending)
+        {
+            Ok(standing) => {
                 self.members.add_received(station, class, air);
-                Ok(deficit)
+                self.list_in(station, class);
+                Ok(standing + i64::from(pending))
             }
             Err(debt) => Err(Refusal::Debt {
-                deficit: debt.deficit,
+                deficit: debt.deficit + i64::from(pending),
             }),
         }
     }

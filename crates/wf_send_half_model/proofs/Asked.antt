@@ -13,10 +13,15 @@ use Rattle.wf_def_air.specs.Airtime.{Rate}
 use Rattle.wf_def_codel.specs.Codel.{Params}
 use Rattle.wf_def_codel.specs.Parameters.{params_at}
 use Rattle.wf_def_lists.specs.Table.{at}
-use Rattle.wf_def_world.specs.World.{World, Station, no_station, is_live, station, share, codel_params, owed_by_all}
-use Rattle.wf_def_world.specs.CanSend.{can_send, can_send_in}
-use Rattle.wf_def_world.specs.Exchanges.{most_frames, picked_station, after_pick, sending_tid}
+use Rattle.wf_def_world.specs.World.{World, Station, no_station, is_live, station, share, rotation, codel_params, owed_by_all}
+use Rattle.wf_def_world.specs.CanSend.{can_send, can_send_in, is_ready}
+use Rattle.wf_def_world.specs.Exchanges.{most_frames, station_need, picked_station, after_pick, sending_tid}
 use Rattle.wf_def_world.specs.Refusals.{open_of_class, is_at_aql_total, first_refusal, refusal}
+use Rattle.wf_def_rotation.specs.Rotation.{has_key}
+use Rattle.wf_law_rules.proofs.Lemmas.Counts.{listed-none}
+use Rattle.wf_law_rules.proofs.Lemmas.Rotations.{pick_none}
+use Rattle.wf_law_runs.specs.Rotations.{NoneReady}
+use Rattle.wf_law_runs.proofs.Windows.Opened.{pick_ready}
 use Rattle.wf_law_runs.proofs.Windows.Agreed.{sends, winner_ready}
 use Rattle.wf_air.specs.Sizes.{empty_size}
 use Rattle.wf_sched.specs.ClassRotas.{SchedValue}
@@ -29,12 +34,13 @@ use Rattle.wf_send_parts.specs.Exchanges.{airtime_of}
 use Rattle.wf_send_parts.specs.Members.{member}
 use Rattle.wf_send_parts.specs.Sleepers.{sleeper}
 use Rattle.wf_send_half_model.specs.Half.{TransmitValue, can_send_of, is_ahead_of}
-use Rattle.wf_send_half_model.specs.Standing.{IsMember, AreBoth, Parts, StandsFor}
+use Rattle.wf_send_half_model.specs.Standing.{IsMember, AreBoth, IsReached, Parts, StandsFor}
 use Rattle.wf_send_half_model.specs.Pulling.{sending_tid_of, is_wide_of}
 use Rattle.wf_send_half_model.specs.Filling.{room_for}
 use Rattle.wf_send_half_model.proofs.Pulls.{pick_parts, sending_same, sending_low, wide_same}
 use Rattle.wf_send_half_model.proofs.Readers.{can_send_same, class_count_same, airtime_same, ahead_same}
 use Rattle.wf_send_half_model.proofs.Sends.{from_winner, winner_live}
+use Rattle.wf_send_half_model.proofs.Whole.{listed_where_ready}
 
 -- ---- the station
 
@@ -185,3 +191,31 @@ module _ (v : TransmitValue) (w : World) (bodies : ℕ → FrameValue) (c : Clas
 
       pub not_refused : (s : ℕ) → (picked_station w c).winner ≡ Some s → refusal w (Asked (Pull c)) ≡ None
       not_refused s won = by_winner (Some s) won
+
+      idle_only : (o : Option ℕ) → (picked_station w c).winner ≡ o → refusal w (Asked (Pull c)) ≡ Some Idle →
+          o ≡ None
+      idle_only None is idle = refl
+      idle_only (Some s) is idle =
+          absurd (let e : None ≡ Some Idle = sym (by_winner (Some s) is) ∙ idle in cc e)
+
+      -- if no station is ready, the pull is refused as Idle
+      pub none_ready_refused : NoneReady w c → refusal w (Asked (Pull c)) ≡ Some Idle
+      none_ready_refused nobody_ready = idle_refused (unpicked (picked_station w c).winner
+          (pick_ready (station_need w c) (is_ready w c) (rotation w c)))
+        where
+          unpicked : (o : Option ℕ) → IfSome o (λ k. is_ready w c k ≡ true) → o ≡ None
+          unpicked None is = refl
+          unpicked (Some k) is = absurd (let e : true ≡ false = sym is ∙ nobody_ready k in cc e)
+
+-- in the world of a run, a station is picked if one is ready, since it is listed
+pub some_ready_picked : (w : World) (c : Class) → IsReached w → (NoneReady w c → ⊥) →
+    (picked_station w c).winner ≡ None → ⊥
+some_ready_picked w c r some none = some (λ s. not_ready s (is_ready w c s) refl)
+  where
+    not_ready : (s : ℕ) (b : Bool) → is_ready w c s ≡ b → is_ready w c s ≡ false
+    not_ready s false e = e
+    not_ready s true e =
+        let off : has_key (rotation w c) s ≡ false =
+        listed-none (rotation w c) s
+        (pick_none (station_need w c) (is_ready w c) (rotation w c) none s e) in
+        absurd (let no : true ≡ false = sym (listed_where_ready w r s c e) ∙ off in cc no)

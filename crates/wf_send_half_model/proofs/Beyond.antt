@@ -10,7 +10,7 @@ use Rattle.wf_frame.specs.declared.notes.Ask.TheVariants.{Done}
 use Rattle.wf_frame.specs.Classes.{lower_tid, upper_tid, class_number, class_of}
 use Rattle.wf_def_lists.specs.Table.{at, change}
 use Rattle.wf_def_agreement.specs.Session.{Session}
-use Rattle.wf_def_world.specs.World.{World, Station, Tid, Share, Exchange, Mpdu, Content, Frames, Request, no_tid, no_station, station, tid_of, is_live, exchange, with_station, on_station, on_tid, on_session, on_share, with_fate, with_frame_finished, without_exchange}
+use Rattle.wf_def_world.specs.World.{World, Station, Tid, Share, Exchange, Mpdu, Content, Frames, Request, no_tid, no_station, station, tid_of, is_live, owed, exchange, with_station, on_station, on_tid, on_session, on_share, with_fate, with_frame_finished, without_exchange}
 use Rattle.wf_def_world.specs.CanSend.{is_request, has_credit, may_receive, is_ready}
 use Rattle.wf_def_world.specs.Exchanges.{after_charge, with_failed_finished, with_settled, with_all_settled, after_done}
 use Rattle.wf_def_world.specs.Step.{outcome_of, outcome_where_open, station_of, done_outcome, step}
@@ -141,22 +141,32 @@ asks_filtered s j p (y ∷ ys) h = elim (cases_Bool (p y)) [
     not_this true b = refl
     not_this false b = refl
 
+-- an open exchange is charged to the class of its TID
+pub own_charge : (w : World) (e : ℕ) (x : Exchange) → HaveOwnClass w.opened → IsFound w e x →
+    class_of x.tid ≡ x.class
+own_charge w e x own found =
+    (every_find (λ y. class_of y.tid ≡ y.class) (λ y. y.number == e) w.opened x own found).1
+
 -- an exchange that ends was in flight only in the class of its TID
+pub owed_elsewhere : (w : World) (e : ℕ) (x : Exchange) → IsKept (books w) → HaveOwnClass w.opened →
+    IsFound w e x → (s : ℕ) (c : Class) → (class_of x.tid ≡ c → ⊥) →
+    owed s c (without_exchange w x.number).opened ≡ owed s c w.opened
+unfolding without_exchange
+owed_elsewhere w e x kept own found s c other =
+    owed_filter s c (λ y. not (y.number == x.number)) w.opened
+    (every_map (λ z. z.number ≡ x.number → core z ≡ core x)
+    (λ z. not (z.number == x.number) ≡ false → class_number z.class ≡ class_number c → ⊥)
+    (λ z k goes is. other (own_charge w e x own found ∙ same_number x.class c
+    (sym (ap (λ (y : Exchange). class_number y.class) (k (eqb-true _ _ (not-false _ goes)))) ∙ is)))
+    w.opened (only_this w e x kept found))
+
 without_elsewhere : (w : World) (e : ℕ) (x : Exchange) → IsKept (books w) → HaveOwnClass w.opened →
     IsFound w e x → (s : ℕ) (c : Class) → (class_of x.tid ≡ c → ⊥) →
     may_receive (without_exchange w x.number) s c ≡ may_receive w s c
 unfolding without_exchange
 without_elsewhere w e x kept own found s c other =
-    let mine : class_of x.tid ≡ x.class =
-    (every_find (λ y. class_of y.tid ≡ y.class) (λ y. y.number == e) w.opened x own found).1 in
     ap (λ (n : ℕ). (not (station w s).asleep || has_credit (station w s).credit c)
-    && ((w.config.aql == 0) || nat_lt n w.config.aql))
-    (owed_filter s c (λ y. not (y.number == x.number)) w.opened
-    (every_map (λ z. z.number ≡ x.number → core z ≡ core x)
-    (λ z. not (z.number == x.number) ≡ false → class_number z.class ≡ class_number c → ⊥)
-    (λ z k goes is. other (mine ∙ same_number x.class c
-    (sym (ap (λ (y : Exchange). class_number y.class) (k (eqb-true _ _ (not-false _ goes)))) ∙ is)))
-    w.opened (only_this w e x kept found)))
+    && ((w.config.aql == 0) || nat_lt n w.config.aql)) (owed_elsewhere w e x kept own found s c other)
 
 module _ (w : World) (e : ℕ) (x : Exchange) (heard : Bool) (air : Option ℕ) (kept : IsKept (books w))
     (own : HaveOwnClass w.opened) (found : IsFound w e x) where

@@ -11,7 +11,7 @@ use Rattle.wf_frame.specs.declared.notes.Refusal.TheVariants.{Idle}
 use Rattle.wf_frame.specs.Classes.{all_classes, class_number, class_of, lower_tid, upper_tid, same_class}
 use Rattle.wf_def_rotation.specs.Rotation.{has_key}
 use Rattle.wf_def_world.specs.World.{World, Exchange, share, rotation, owed, exchange, with_rotation, opening}
-use Rattle.wf_def_world.specs.CanSend.{can_send, is_ready, with_listing_in, with_listings_in, with_listings_of}
+use Rattle.wf_def_world.specs.CanSend.{can_send, is_to_list, with_listing_in, with_listings_in, with_listings_of}
 use Rattle.wf_def_world.specs.Exchanges.{Prepared, picked_station, after_pick, after_tid_turn, first_tid, other_tid, sending_tid, prepared_exchange, exchange_of}
 use Rattle.wf_def_world.specs.Refusals.{refusal}
 use Rattle.wf_def_world.specs.Step.{Outcome, outcome_of, after_refusal, judged_outcome, step, tick_outcome, pull_outcome_for, pull_outcome, outcome_where_open}
@@ -71,7 +71,7 @@ own_pulled w c i = own_pulled_by (picked_station w c).winner (after_pick w c) c 
 own_listed_in : (w : World) (s : ℕ) (c : Class) → Own (books w) → Own (books (with_listing_in w s c))
 unfolding with_listing_in with_rotation
 own_listed_in w s c i = on_if (λ (v : World). Own (books v))
-    (is_ready w c s && not (has_key (rotation w c) s)) _ w (λ _. i) (λ _. i)
+    (is_to_list w c s && not (has_key (rotation w c) s)) _ w (λ _. i) (λ _. i)
 
 own_listed_in_all : (cs : List Class) (w : World) (s : ℕ) → Own (books w) →
     Own (books (with_listings_in w s cs))
@@ -118,7 +118,9 @@ own_done (Asked Reap) w k i = own_is _ _ (books_reaped w.finished w) i
 
 own_refused : (note : Note) (r : Refusal) (w : World) → Own (books w) → Own (books (after_refusal w note r))
 unfolding after_refusal
-own_refused (Asked (Pull c)) Idle w i = own_after_pick w c i
+own_refused (Asked (Pull c)) Idle w i =
+    on_if (λ (v : World). Own (books v)) (w.config.pending == 1) w (after_pick w c) (λ _. i)
+    (λ _. own_after_pick w c i)
 own_refused _ _ w i = i
 
 own_answer : (r : Option Refusal) (w : World) (note : Note) → IsKept (books w) → Own (books w) →

@@ -1,18 +1,22 @@
 -- Proves that the parts represent the world in which an exchange is closed and its station is charged for it.
-use Rattle.std.proofs.Common.{◌≡◌, refl, ap, ◌∙◌, ℕ, ◌+◌, ◌<◌, ◌==◌, Bool, true, false, not, if◌then◌else◌, List, [], ◌∷◌, map, Option}
-use Rattle.std.specs.Prelude.{filter}
+use Rattle.std.proofs.Common.{◌≡◌, refl, ap, sym, ◌∙◌, subst, ℕ, ◌+◌, ◌<◌, ◌==◌, Bool, true, false, not, if◌then◌else◌, List, [], ◌∷◌, map, Option, Some, inl, inr, eq-eqb}
+use Rattle.std.specs.Prelude.{filter, find}
+use Rattle.std.proofs.lemmas.Bool.{cases_eq, ne_eqb}
+use Rattle.wf_frame.specs.declared.settings.Config.{Config}
 use Rattle.wf_frame.specs.declared.classes.Class.{Class}
 use Rattle.wf_frame.specs.Frames.{FrameValue}
-use Rattle.wf_def_world.specs.World.{World, Share, Exchange, on_share, without_exchange}
+use Rattle.wf_def_world.specs.World.{World, Share, Exchange, exchange, on_share, without_exchange}
 use Rattle.wf_def_world.specs.Exchanges.{after_charge, paid, charge_of}
 use Rattle.wf_law_runs.proofs.Deficits.Books.{updc, updc_idle}
-use Rattle.wf_sched_refines.specs.Standing.{with_deficit_charged as with_turns_charged, share_in}
+use Rattle.wf_law_runs.specs.Windows.{OpenRises}
+use Rattle.wf_sched_refines.specs.Standing.{SchedulerStandsFor as TurnsStandFor, with_deficit_charged as with_turns_charged, with_pending_paid_back, share_in}
 use Rattle.wf_sched_refines.proofs.Charges.{charge_stands}
-use Rattle.wf_sched_refines.proofs.Unchanged.{without_leaves}
+use Rattle.wf_sched_refines.proofs.Exchanges.{closed_stands}
 use Rattle.wf_send_parts.specs.declared.exchanges.opened.Open.{Open}
 use Rattle.wf_send_parts.specs.Members.{on_member, with_charge}
 use Rattle.wf_send_half_model.specs.Half.{TransmitValue}
 use Rattle.wf_send_half_model.specs.Standing.{open_of, Parts}
+use Rattle.wf_send_half_model.specs.Ending.{without_pending_charge}
 use Rattle.wf_send_half_model.specs.Views.{view_of, roster}
 use Rattle.wf_send_half_model.proofs.Views.{reshared, view_reshared}
 use Rattle.wf_send_half_model.proofs.Stands.{Pieces, to_pieces, of_pieces}
@@ -32,12 +36,39 @@ others_open (x ∷ xs) e = go (not (x.number == e)) (others_open xs e)
     go true h = ap (λ (t : List Open). open_of x ∷ t) h
     go false h = h
 
-pub close_parts : (v : TransmitValue) (w : World) (bodies : ℕ → FrameValue) (e : ℕ) → Parts v w bodies →
-    Parts (record v { opened = filter (λ y. not (y.number == e)) v.opened }) (without_exchange w e) bodies
+-- an exchange that is found by a number has it
+pub number_found : (xs : List Exchange) (e : ℕ) (x : Exchange) → find (λ y. y.number == e) xs ≡ Some x →
+    x.number ≡ e
+number_found [] e x found = absurd (cc found)
+number_found (y ∷ ys) e x found = elim (cases_eq y.number e) [
+  | inl here ↦
+      let first : (if y.number == e then Some y else find (λ (k : Exchange). k.number == e) ys) ≡ Some y =
+      ap (λ (b : Bool). if b then Some y else find (λ (k : Exchange). k.number == e) ys)
+      (eq-eqb y.number e here) in
+      let it : y ≡ x = cc (first, found) in
+      ap (λ (k : Exchange). k.number) (sym it) ∙ here
+  | inr other ↦ number_found ys e x (sym (ap (λ (b : Bool). if b then Some y
+      else find (λ (k : Exchange). k.number == e) ys) (ne_eqb y.number e other)) ∙ found)
+]
+
+pub found_again : (w : World) (e : ℕ) (x : Exchange) → exchange w e ≡ Some x → exchange w x.number ≡ Some x
+found_again w e x known = ap (exchange w) (number_found w.opened e x known) ∙ known
+
+-- the half with an exchange closed, before its station is charged
+abbrev pub after_closing : TransmitValue → Open → TransmitValue
+after_closing v x = record v {
+  opened = filter (λ y. not (y.number == x.number)) v.opened;
+  sched = without_pending_charge v x;
+}
+
+pub close_parts : (v : TransmitValue) (w : World) (bodies : ℕ → FrameValue) (x : Exchange) →
+    exchange w x.number ≡ Some x → OpenRises 0 w.exchanges w.opened → Parts v w bodies →
+    Parts (after_closing v (open_of x)) (without_exchange w x.number) bodies
 unfolding without_exchange
-close_parts v w bodies e h =
+close_parts v w bodies x known rises h =
     let p : Pieces v w bodies = to_pieces v w bodies h in
-    of_pieces (record v { opened = filter (λ y. not (y.number == e)) v.opened }) (without_exchange w e) bodies
+    let e : ℕ = x.number in
+    of_pieces (after_closing v (open_of x)) (without_exchange w e) bodies
     (record {
       config = p.config;
       clock = p.clock;
@@ -47,7 +78,9 @@ close_parts v w bodies e h =
       stations = p.stations;
       windows = p.windows;
       flows = p.flows;
-      turns = without_leaves w e v.sched p.turns;
+      turns = subst (λ (k : Config). TurnsStandFor
+          (with_pending_paid_back k v.sched x.station x.class x.charge) (without_exchange w e))
+          (sym p.config) (closed_stands v.sched w x e known rises p.turns);
       ledger = p.ledger;
       frames = p.frames;
     })

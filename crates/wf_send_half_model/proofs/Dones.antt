@@ -30,6 +30,8 @@ use Rattle.wf_send_half_model.proofs.Stands.{leaves_parts}
 use Rattle.wf_send_half_model.proofs.Meets.{listed_in_meets}
 use Rattle.wf_send_half_model.proofs.OneClass.{done_listed}
 use Rattle.wf_send_half_model.proofs.Moves.{session_parts}
+use Rattle.wf_send_half_model.proofs.Reached.{rises}
+use Rattle.wf_send_half_model.proofs.Closes.{found_again}
 use Rattle.wf_send_half_model.proofs.Endings.{closed_agreements, closed_parts, open_live, of_windows}
 
 -- ---- the world after it
@@ -104,8 +106,8 @@ module _ (v : TransmitValue) (w : World) (bodies : ℕ → FrameValue) (h : Stan
         ledger =
             ledger_session u x.station x.tid _;
       })
-      (session_leaves u x.station x.tid _) (closed_parts v w bodies x air
-      (h.parts.others.turns.live x.station live) h.parts))
+      (session_leaves u x.station x.tid _) (closed_parts v w bodies x air (found_again w e x known)
+      (rises w h.reached) (h.parts.others.turns.live x.station live) h.parts))
 
   pub heard_parts : (air : Option ℕ) (z : WindowValue) →
       WindowsHaveRoom (with_window v.windows x.station x.tid z) →
@@ -129,7 +131,8 @@ module _ (v : TransmitValue) (w : World) (bodies : ℕ → FrameValue) (h : Stan
       (ap (λ (k : Agreements). k.live x.station) a ∙ live) request_tid room
       (subst (λ (y : Session). WindowStandsFor z (record y { heard = max y.heard start }) bodies)
       (sym (ap (λ (k : Agreements). k.sessions x.station x.tid) a)) stands)
-      (closed_parts v w bodies x air (h.parts.others.turns.live x.station live) h.parts))
+      (closed_parts v w bodies x air (found_again w e x known) (rises w h.reached)
+      (h.parts.others.turns.live x.station live) h.parts))
 
 -- ---- the whole call
 

@@ -1,7 +1,7 @@
 -- Proves what holds when the end of an exchange begins: its station is live, and each of its frames is held
 -- at its number and nowhere else. From this follow the first stage for data, and the whole end of a request.
 use Rattle.std.proofs.Common.{◌≡◌, refl, ap, sym, ◌∙◌, subst, arith, ℕ, suc, ◌<◌, ◌≤◌, ◌==◌, ◌||◌, Bool, true, false, if◌then◌else◌, List, [], ◌∷◌, ◌++◌, map, length, take, get_or, Some, None, inl, inr, eq-eqb, Option}
-use Rattle.std.specs.Prelude.{find, filter, not, sum_by, ◌%◌}
+use Rattle.std.specs.Prelude.{find, sum_by, ◌%◌}
 use Rattle.std.proofs.lemmas.List.Sums.{sum_by-cons}
 use Rattle.std.proofs.lemmas.Bool.{cases_eq, cases_lt, ne_eqb}
 use Rattle.wf_frame.specs.declared.classes.Fate.TheVariants.{Held}
@@ -17,7 +17,7 @@ use Rattle.wf_def_world.specs.Exchanges.{mpdus_of, paid, after_charge, with_all_
 use Rattle.wf_law_runs.specs.Finished.{KeepsFinished, reaped_ids}
 use Rattle.wf_law_runs.specs.Places.{Queued, Numbered, IsNumbered, StandsOnce}
 use Rattle.wf_law_runs.specs.Sent.{IsSent, NumbersRise}
-use Rattle.wf_law_runs.specs.Windows.{EachMpdu, EachOpen, IsOpenRight, KeepsWindows}
+use Rattle.wf_law_runs.specs.Windows.{EachMpdu, EachOpen, OpenRises, IsOpenRight, KeepsWindows}
 use Rattle.wf_law_runs.proofs.Deficits.Books.{books, core}
 use Rattle.wf_law_runs.proofs.Deficits.Kept.{IsOpen}
 use Rattle.wf_law_runs.proofs.Deficits.KeptStep.{kept}
@@ -39,9 +39,9 @@ use Rattle.wf_send_half_model.specs.Standing.{open_of, Parts, IsReached, StandsF
 use Rattle.wf_send_half_model.specs.Ending.{after_close, ending_of, IsLoose, IsEnding}
 use Rattle.wf_send_half_model.specs.Views.{Agreements, agreements}
 use Rattle.wf_send_half_model.proofs.Views.{agreements_share}
-use Rattle.wf_send_half_model.proofs.Reached.{by_law, now_is}
+use Rattle.wf_send_half_model.proofs.Reached.{by_law, now_is, rises}
 use Rattle.wf_send_half_model.proofs.Enqueues.{places_kept}
-use Rattle.wf_send_half_model.proofs.Closes.{close_parts, charge_parts}
+use Rattle.wf_send_half_model.proofs.Closes.{found_again, after_closing, close_parts, charge_parts}
 
 -- ---- an exchange that is open
 
@@ -237,13 +237,14 @@ unfolding without_exchange
 closed_config w x = refl
 
 pub closed_parts : (v : TransmitValue) (w : World) (bodies : ℕ → FrameValue) (x : Exchange) (air : Option ℕ) →
-    x.station < w.config.stations → Parts v w bodies →
+    exchange w x.number ≡ Some x → OpenRises 0 w.exchanges w.opened → x.station < w.config.stations →
+    Parts v w bodies →
     Parts (after_close v (open_of x) (charge_of air x))
     (after_charge (without_exchange w x.number) x air) bodies
-closed_parts v w bodies x air low h =
-    charge_parts (record v { opened = filter (λ y. not (y.number == x.number)) v.opened })
+closed_parts v w bodies x air known rises low h =
+    charge_parts (after_closing v (open_of x))
     (without_exchange w x.number) bodies x air (subst (λ (c : Config). x.station < c.stations)
-    (sym (closed_config w x)) low) (close_parts v w bodies x.number h)
+    (sym (closed_config w x)) low) (close_parts v w bodies x known rises h)
 
 -- each transmission of an exchange of data
 module _ (v : TransmitValue) (w : World) (bodies : ℕ → FrameValue) (h : StandsFor v w bodies) (e : ℕ)
@@ -307,7 +308,7 @@ module _ (v : TransmitValue) (w : World) (bodies : ℕ → FrameValue) (h : Stan
       let fly : EachMpdu (λ k. (y.first ≤ k.number) × ((slot y k.number).state ≡ State.Flying x.number))
       (m ∷ ms) = subst (EachMpdu (λ k. (y.first ≤ k.number) ×
       ((slot y k.number).state ≡ State.Flying x.number))) is flown in
-      let rises : NumbersRise y.first (m ∷ ms) = subst (NumbersRise y.first) is of_sent.rising in
+      let rising : NumbersRise y.first (m ∷ ms) = subst (NumbersRise y.first) is of_sent.rising in
       let ending : Ending = ending_of w.config x.number acked in
       let flying : AreFlying y ending (map (λ k. k.number) (m ∷ ms)) = record {
         each = of_number (IsFlyingIn y ending) (m ∷ ms)
@@ -315,10 +316,11 @@ module _ (v : TransmitValue) (w : World) (bodies : ℕ → FrameValue) (h : Stan
             (λ k. (slot y k.number).attempts < w.config.attempts) (λ k. IsFlyingIn y ending k.number)
             (m ∷ ms) fly tried
             (λ k f t. record { from_first = f.0; flies = f.1; below = t }));
-        once = rise_once y.first (m ∷ ms) rises;
+        once = rise_once y.first (m ∷ ms) rising;
       } in
       record {
-        parts = closed_parts v w bodies x air (h.parts.others.turns.live x.station live) h.parts;
+        parts = closed_parts v w bodies x air (found_again w e x known) (rises w h.reached)
+            (h.parts.others.turns.live x.station live) h.parts;
         live = ap (λ (z : Agreements). z.live x.station) a ∙ live;
         tid = tid_below m each.0;
         flying = subst (λ (c : Config). AreFlying (session (closed air) x.station x.tid)
@@ -327,7 +329,7 @@ module _ (v : TransmitValue) (w : World) (bodies : ℕ → FrameValue) (h : Stan
         ids = subst (λ (z : Session). EachMpdu (λ k. (slot z k.number).id ≡ k.id) (m ∷ ms)) (sym same)
             (subst (EachMpdu (λ k. (slot y k.number).id ≡ k.id)) is of_sent.ids);
         loose = loose_each (m ∷ ms) each;
-        once = ids_once w h.reached x.station x.tid y.first (m ∷ ms) each rises;
+        once = ids_once w h.reached x.station x.tid y.first (m ∷ ms) each rising;
         leads = refl;
       }
     where

@@ -1,6 +1,6 @@
 -- Proves the end of a leave: the station's frames are counted, and the station has no member and is on no
 -- list.
-use Rattle.std.proofs.Common.{◌≡◌, refl, ap, sym, ◌∙◌, subst, arith, ℕ, ◌+◌, ◌-◌, ◌<◌, ◌≤◌, true, false, List, [], ◌∷◌, length, set, None}
+use Rattle.std.proofs.Common.{◌≡◌, refl, ap, sym, ◌∙◌, subst, arith, ℕ, ◌+◌, ◌-◌, ◌<◌, ◌≤◌, ◌==◌, true, false, List, [], ◌∷◌, length, set, None, inl, inr}
 use Rattle.std.proofs.lemmas.Bool.{and_parts}
 use Rattle.std.proofs.lemmas.List.{set-get_or}
 use Rattle.wf_frame.specs.Classes.{all_classes}
@@ -16,8 +16,9 @@ use Rattle.wf_def_rotation.specs.Rotation.{has_key}
 use Rattle.wf_def_agreement.specs.Session.{Session}
 use Rattle.wf_def_lists.specs.Table.{upto}
 use Rattle.wf_def_world.specs.World.{World, is_live, rotation, with_station}
-use Rattle.wf_def_world.specs.CanSend.{is_ready}
+use Rattle.wf_def_world.specs.CanSend.{is_ready, is_debtor, is_to_list}
 use Rattle.wf_def_world.specs.Step.{without_listings, after_tids_left, leave_outcome, outcome_of}
+use Rattle.wf_law_rules.proofs.Lemmas.Numbers.{either}
 use Rattle.wf_law_runs.specs.Tallies.{AddsUp}
 use Rattle.wf_law_runs.proofs.Deficits.Books.{upd, upd_same, upd_other}
 use Rattle.wf_law_runs.proofs.Frames.Tallies.{tally_law}
@@ -180,10 +181,14 @@ module _ (before v : TransmitValue) (w : World) (bodies : ℕ → FrameValue) (s
   off_everywhere = ap (λ (a : Agreements). a.live s) agreements_gone
       ∙ upd_same (agreements all_left).live s false
 
-  not_ready : (c : Class) → is_ready gone c s ≡ true → has_key (rotation gone c) s ≡ true
-  not_ready c ready =
-      let live : is_live gone s ≡ true = (and_parts (is_live gone s) _ ready).0 in
-      absurd (let e : false ≡ true = sym off_everywhere ∙ live in cc e)
+  live_if_wanted : (c : Class) → is_to_list gone c s ≡ true → is_live gone s ≡ true
+  live_if_wanted c wanted = elim (either (is_ready gone c s) (is_debtor gone c s) wanted) [
+    | inl ready ↦ (and_parts (is_live gone s) _ ready).0
+    | inr owes ↦ (and_parts (is_live gone s) _ (and_parts (gone.config.pending == 1) _ owes).1).0
+  ]
+
+  not_wanted : (c : Class) → is_to_list gone c s ≡ true → has_key (rotation gone c) s ≡ true
+  not_wanted c wanted = absurd (let e : false ≡ true = sym off_everywhere ∙ live_if_wanted c wanted in cc e)
 
   count_is : (leave_outcome w s).reply ≡ reply.Left dropped
   unfolding leave_outcome
@@ -200,5 +205,5 @@ module _ (before v : TransmitValue) (w : World) (bodies : ℕ → FrameValue) (s
       (subst (λ (x : ReplyNote). Meets w bodies (Asked (Leave s)) half x) count_is
       (idle_meets half w bodies (Asked (Leave s)) stood.reached tt tt left.so_far.allowed
       (subst (λ (u : World). Parts half u bodies) (sym outcome_gone) gone_parts) s refl
-      (subst (λ (u : World). (c : Class) → is_ready u c s ≡ true → has_key (rotation u c) s ≡ true)
-      (sym outcome_gone) not_ready)))
+      (subst (λ (u : World). (c : Class) → is_to_list u c s ≡ true → has_key (rotation u c) s ≡ true)
+      (sym outcome_gone) not_wanted)))

@@ -1,5 +1,5 @@
 -- Proves that the parts represent the world after a join: the station's member and sleeper, its eight
--- windows, and its deficits begin anew on both sides.
+-- windows, and its new deficits on both sides.
 use Rattle.std.proofs.Common.{◌≡◌, refl, ap, sym, ◌∙◌, subst, arith, ℕ, zero, suc, ◌*◌, ◌<◌, true, false, List, [], ◌∷◌, Some, None, set, replicate}
 use Rattle.wf_frame.specs.declared.classes.Class.{Class}
 use Rattle.wf_frame.specs.declared.classes.Class.TheVariants.{Bk, Be, Vi, Vo}
@@ -7,7 +7,7 @@ use Rattle.wf_frame.specs.Frames.{FrameValue}
 use Rattle.wf_def_air.specs.Airtime.{lowest_rate}
 use Rattle.wf_def_agreement.specs.Session.{Session, new_session}
 use Rattle.wf_def_lists.specs.Table.{at}
-use Rattle.wf_def_world.specs.World.{World, Station, Tid, no_tid, new_tid, new_share, is_live, with_station}
+use Rattle.wf_def_world.specs.World.{World, Station, Tid, no_tid, new_tid, new_share, is_live, owed, with_station}
 use Rattle.wf_def_world.specs.Step.{join_outcome}
 use Rattle.wf_law_runs.proofs.Deficits.Books.{upd, upd_same, upd_other}
 use Rattle.wf_sched.specs.ClassRotas.{after_join}
@@ -113,7 +113,7 @@ windows_reset before after bodies a s first size f h reset new = record {
 
 pub join_parts : (v : TransmitValue) (w : World) (bodies : ℕ → FrameValue) (after : List WindowValue)
     (s window start exponent weight : ℕ) → s < w.config.stations → is_live w s ≡ false →
-    AreReset v.windows after s start window → Parts v w bodies →
+    ((c : Class) → owed s c w.opened ≡ 0) → AreReset v.windows after s start window → Parts v w bodies →
     Parts (record v {
       sched = everywhere (after_join s (v.sched.quantum * weight)) v.sched;
       windows = after;
@@ -121,7 +121,7 @@ pub join_parts : (v : TransmitValue) (w : World) (bodies : ℕ → FrameValue) (
       sleepers = with_sleeper v.sleepers s awake;
     }) (join_outcome w s window start exponent weight).world bodies
 unfolding join_outcome with_station
-join_parts v w bodies after s window start exponent weight low off reset h =
+join_parts v w bodies after s window start exponent weight low off nothing reset h =
     let p : Pieces v w bodies = to_pieces v w bodies h in
     let x : Station = joining (w.config.quantum * weight) window start exponent weight in
     let r : with_view (roster w) s (Some (view_of x))
@@ -148,7 +148,7 @@ join_parts v w bodies after s window start exponent weight low off reset h =
           (session_in (Some x)) p.windows reset (new_sessions
           (w.config.quantum * weight) window start exponent weight));
       flows = stands_joined v.flows w s window start exponent weight off p.flows;
-      turns = join_stands v.sched w s window start exponent weight p.turns low;
+      turns = join_stands v.sched w s window start exponent weight p.turns low nothing;
       ledger = p.ledger;
       frames = p.frames;
     })

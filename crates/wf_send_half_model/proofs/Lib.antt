@@ -6,6 +6,7 @@ pub mod Beyond
 mod Calls
 mod ChargedClass
 mod Closes
+mod Debts
 pub mod Dones
 pub mod Dropping
 pub mod Ended
@@ -33,6 +34,7 @@ pub mod Pulled
 pub mod Pulls
 pub mod Reached
 pub mod Readers
+pub mod Receipts
 mod Rooms
 pub mod Sends
 pub mod Settles

@@ -10,7 +10,7 @@ use Rattle.wf_frame.specs.Frames.{FrameValue}
 use Rattle.wf_def_lists.specs.Lengths.{greatest_body}
 use Rattle.wf_def_rotation.specs.Rotation.{has_key}
 use Rattle.wf_def_world.specs.World.{World, rotation}
-use Rattle.wf_def_world.specs.CanSend.{is_ready, with_listings_of}
+use Rattle.wf_def_world.specs.CanSend.{is_to_list, with_listings_of}
 use Rattle.wf_def_world.specs.Refusals.{refusal}
 use Rattle.wf_def_world.specs.Step.{Outcome, outcome_of, concerned_station, after_refusal, step}
 use Rattle.wf_law_runs.specs.Queues.{HasLength, IsAtMost}
@@ -37,7 +37,7 @@ listed_none v u bodies h = h
 module _ (v : TransmitValue) (w : World) (bodies : ℕ → FrameValue) (note : Note) (r : IsReached w)
     (some : HasLength note) (most : IsAtMost greatest_body note) (done : refusal w note ≡ None)
     (h : Parts v (outcome_of w note).world bodies) where
-  -- the station that the call concerns is listed in each class in which it is ready
+  -- the station that the call concerns is listed in each class in which it belongs on a list
   pub listed_meets : (s : ℕ) → concerned_station w note ≡ Some s →
       Meets w bodies note (after_listing v s) (outcome_of w note).reply
   listed_meets s e = by_step (after_listing v s) w bodies note _ (step_done w note done)
@@ -45,7 +45,7 @@ module _ (v : TransmitValue) (w : World) (bodies : ℕ → FrameValue) (note : N
       (with_listings_of (outcome_of w note).world o) bodies) (sym e)
       (listing_parts v (outcome_of w note).world bodies s h)) (reached_step w note r some most)
 
-  -- the station is listed in one class; each other class in which it is ready lists it already
+  -- the station is listed in one class; each other class in which it belongs on a list lists it already
   pub listed_in_meets : (s : ℕ) (c : Class) → concerned_station w note ≡ Some s →
       IsListedBut (outcome_of w note).world s c →
       Meets w bodies note (after_listing_in v s c) (outcome_of w note).reply
@@ -59,9 +59,9 @@ module _ (v : TransmitValue) (w : World) (bodies : ℕ → FrameValue) (note : N
       (subst (λ (o : Option ℕ). Parts v (with_listings_of (outcome_of w note).world o) bodies) (sym e)
       (listed_none v (outcome_of w note).world bodies h)) (reached_step w note r some most)
 
-  -- the station is already listed in each class in which it is ready
+  -- the station is already listed in each class in which it belongs on a list
   pub idle_meets : (s : ℕ) → concerned_station w note ≡ Some s →
-      ((c : Class) → is_ready (outcome_of w note).world c s ≡ true →
+      ((c : Class) → is_to_list (outcome_of w note).world c s ≡ true →
       has_key (rotation (outcome_of w note).world c) s ≡ true) →
       Meets w bodies note v (outcome_of w note).reply
   idle_meets s e all = by_step v w bodies note _ (step_done w note done)

@@ -1,6 +1,7 @@
--- Proves that an enqueue, a pull and a Done need to list their station in one class only: that of the frame's
--- TID, the pull's, and that of the exchange's TID. Each other class in which it is ready lists it already.
-use Rattle.std.proofs.Common.{◌≡◌, ap, sym, ◌∙◌, ℕ, Bool, true, Option, Some, None}
+-- Proves that an enqueue, a pull, a Done and a receive charge need to list their station in one class only:
+-- that of the frame's TID, the pull's, that of the exchange's TID, and the charge's. Each other class in
+-- which it belongs on a list lists it already.
+use Rattle.std.proofs.Common.{◌≡◌, ap, sym, ◌∙◌, ℕ, Bool, true, Option, Some, None, inl, inr}
 use Rattle.wf_frame.specs.declared.classes.Class.{Class}
 use Rattle.wf_frame.specs.declared.notes.Note.TheVariants.{Enqueue, Asked}
 use Rattle.wf_frame.specs.declared.notes.Ask.TheVariants.{Pull}
@@ -8,10 +9,11 @@ use Rattle.wf_frame.specs.Classes.{class_of}
 use Rattle.wf_def_lists.specs.Lengths.{greatest_body}
 use Rattle.wf_def_rotation.specs.Rotation.{Rotation, has_key}
 use Rattle.wf_def_world.specs.World.{World, Exchange, rotation, exchange}
-use Rattle.wf_def_world.specs.CanSend.{is_ready}
+use Rattle.wf_def_world.specs.CanSend.{is_ready, is_debtor, is_to_list}
 use Rattle.wf_def_world.specs.Exchanges.{Prepared, picked_station, after_pick, sending_tid, after_tid_turn, prepared_exchange}
 use Rattle.wf_def_world.specs.Refusals.{refusal}
-use Rattle.wf_def_world.specs.Step.{outcome_of, enqueue_outcome, pull_outcome_for, pull_outcome, done_outcome}
+use Rattle.wf_def_world.specs.Step.{outcome_of, enqueue_outcome, pull_outcome_for, pull_outcome, done_outcome, rx_outcome}
+use Rattle.wf_law_rules.proofs.Lemmas.Numbers.{either}
 use Rattle.wf_law_runs.specs.Queues.{HasLength, IsAtMost}
 use Rattle.wf_law_runs.proofs.Deficits.Books.{Books, books, same_number, updc_other}
 use Rattle.wf_law_runs.proofs.Deficits.BookSteps.{books_after_turn, books_prepared, books_sent, books_ended, books_enqueued, books_after_pick}
@@ -23,13 +25,20 @@ use Rattle.wf_send_half_model.proofs.OwnClass.{own_less}
 use Rattle.wf_send_half_model.proofs.Pulled.{whole_pulled}
 use Rattle.wf_send_half_model.proofs.Beyond.{own_ended}
 use Rattle.wf_send_half_model.proofs.ChargedClass.{own_class}
-use Rattle.wf_send_half_model.proofs.Whole.{listed_where_ready}
+use Rattle.wf_send_half_model.proofs.Debts.{debtor_enqueued, debtor_pulled, debtor_ended, debtor_received}
+use Rattle.wf_send_half_model.proofs.Steady.{ready_received}
+use Rattle.wf_send_half_model.proofs.Whole.{listed_where_ready, listed_where_debtor, rx_lists}
 
--- a class whose list is unchanged and in which no station became ready lists each station that is ready there
+-- a class whose list is unchanged and in which the station became neither ready nor a debtor lists it, if it
+-- belongs on a list there
 still_listed : (w u : World) → IsReached w → (s : ℕ) (d : Class) → rotation u d ≡ rotation w d →
-    (is_ready u d s ≡ true → is_ready w d s ≡ true) → is_ready u d s ≡ true → has_key (rotation u d) s ≡ true
-still_listed w u r s d lists ready is =
-    ap (λ (z : Rotation). has_key z s) lists ∙ listed_where_ready w r s d (ready is)
+    (is_ready u d s ≡ true → is_ready w d s ≡ true) → is_debtor u d s ≡ is_debtor w d s →
+    is_to_list u d s ≡ true → has_key (rotation u d) s ≡ true
+still_listed w u r s d lists ready debts is = ap (λ (z : Rotation). has_key z s) lists
+    ∙ elim (either (is_ready u d s) (is_debtor u d s) is) [
+      | inl a ↦ listed_where_ready w r s d (ready a)
+      | inr b ↦ listed_where_debtor w r s d (sym debts ∙ b)
+    ]
 
 pub enqueue_listed : (w : World) (s t flow len : ℕ) → IsReached w → HasLength (Enqueue s t flow len) →
     IsAtMost greatest_body (Enqueue s t flow len) → refusal w (Enqueue s t flow len) ≡ None →
@@ -40,6 +49,7 @@ enqueue_listed w s t flow len r some most done d other =
     (ap (λ (b : Books). b.rotations d) (books_enqueued w s t flow len))
     (own_less w s t flow len (reached_step w (Enqueue s t flow len) r some most) done d
     (λ e. other (sym e)))
+    (debtor_enqueued w s t flow len d s)
 
 pull_lists : (w : World) (c d : Class) (s : ℕ) → (picked_station w c).winner ≡ Some s → (d ≡ c → ⊥) →
     rotation (outcome_of w (Asked (Pull c))).world d ≡ rotation w d
@@ -59,6 +69,7 @@ pub pull_listed : (w : World) (c : Class) (s : ℕ) → IsReached w → (picked_
 pull_listed w c s r won d other =
     still_listed w (outcome_of w (Asked (Pull c))).world r s d (pull_lists w c d s won other)
     (λ is. sym (whole_pulled w c s r won d (λ e. other (sym e))) ∙ is)
+    (debtor_pulled w c d s won other)
 
 pub done_listed : (w : World) (e : ℕ) (x : Exchange) (heard : Bool) (air : Option ℕ) → IsReached w →
     exchange w e ≡ Some x → IsListedBut (done_outcome w x heard air).world x.station (class_of x.tid)
@@ -67,3 +78,11 @@ done_listed w e x heard air r known d other =
     (ap (λ (b : Books). b.rotations d) (books_ended air w x heard))
     (λ is. sym (own_ended w e x heard air (orderly_reached w r).kept (own_class w r) known d
     (λ k. other (sym k))) ∙ is)
+    (debtor_ended w e x heard air (orderly_reached w r).kept (own_class w r) known d (λ k. other (sym k)))
+
+pub rx_listed : (w : World) (s : ℕ) (c : Class) (air : ℕ) → IsReached w →
+    IsListedBut (rx_outcome w s c air).world s c
+rx_listed w s c air r d other =
+    still_listed w (rx_outcome w s c air).world r s d (rx_lists w s c air d)
+    (λ is. sym (ready_received w s c air d) ∙ is)
+    (debtor_received w s c air d other)

@@ -21,7 +21,7 @@ use Rattle.wf_send_parts.specs.declared.exchanges.opened.Open.{Open}
 use Rattle.wf_send_half_model.specs.Half.{TransmitValue}
 use Rattle.wf_send_half_model.specs.Standing.{open_of, IsReached, StandsFor}
 use Rattle.wf_send_half_model.proofs.Reached.{by_law}
-use Rattle.wf_send_half_model.proofs.Whole.{rises}
+use Rattle.wf_send_half_model.proofs.Reached.{rises}
 use Rattle.wf_send_half_model.proofs.Readers.{class_count_same}
 
 all_below : (lo hi : ℕ) (xs : List Exchange) → OpenRises lo hi xs → All (λ o. o.number < hi) (map open_of xs)

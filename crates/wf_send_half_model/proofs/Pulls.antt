@@ -5,6 +5,7 @@ use Rattle.std.specs.Prelude.{nat_lt}
 use Rattle.std.proofs.lemmas.List.{map-append}
 use Rattle.std.specs.List.{list_any}
 use Rattle.wf_frame.specs.declared.classes.Class.{Class}
+use Rattle.wf_frame.specs.declared.settings.Config.{Config}
 use Rattle.wf_frame.specs.declared.notes.Note.TheVariants.{Asked}
 use Rattle.wf_frame.specs.declared.notes.Ask.TheVariants.{Pull}
 use Rattle.wf_frame.specs.declared.notes.Refusal.TheVariants.{Idle}
@@ -22,10 +23,11 @@ use Rattle.wf_def_world.specs.Refusals.{refusal}
 use Rattle.wf_def_world.specs.Step.{Outcome, after_refusal, send_outcome, step}
 use Rattle.wf_law_runs.proofs.Deficits.Books.{updc, updc_idle}
 use Rattle.wf_sched.specs.ClassRotas.{SchedValue}
-use Rattle.wf_sched_refines.specs.Standing.{share_in}
+use Rattle.wf_sched_refines.specs.Standing.{SchedulerStandsFor as TurnsStandFor, with_pending_charged, share_in}
 use Rattle.wf_sched_refines.specs.Calls.{HasPickedInClass}
+use Rattle.wf_sched_refines.proofs.Exchanges.{opened_stands}
 use Rattle.wf_sched_refines.proofs.Picks.{pick_stands}
-use Rattle.wf_sched_refines.proofs.Unchanged.{turn_leaves, opening_leaves, spent_leaves}
+use Rattle.wf_sched_refines.proofs.Unchanged.{turn_leaves, spent_leaves}
 use Rattle.wf_queue_flows_refines.proofs.Leaves.{share_alone, opened_alone, stands_same}
 use Rattle.wf_queue_flows.specs.Flows.{frames_of_tid}
 use Rattle.wf_send_parts.specs.Windows.{window_of}
@@ -36,7 +38,7 @@ use Rattle.wf_send_parts.specs.Members.{member, on_member, upper_in, with_upper}
 use Rattle.wf_send_parts.specs.Sleepers.{sleeper, with_sleeper}
 use Rattle.wf_send_half_model.specs.Half.{TransmitValue, can_send_of, some_wait}
 use Rattle.wf_send_half_model.specs.Standing.{IsMember, AreBoth, sending_of, open_of, Parts, StandsFor, Meets}
-use Rattle.wf_send_half_model.specs.Pulling.{has_upper_turn, sending_tid_of, after_turn, is_wide_of, has_more_of, open_next, after_opening, after_spending, after_sending}
+use Rattle.wf_send_half_model.specs.Pulling.{has_upper_turn, sending_tid_of, after_turn, is_wide_of, has_more_of, open_next, after_opening, after_pending_charge, after_spending, after_sending}
 use Rattle.wf_send_half_model.specs.Views.{view_of, roster, HasSameViews}
 use Rattle.wf_send_half_model.proofs.Views.{agreements_share, roster_share, ledger_share, reshared, view_reshared}
 use Rattle.wf_send_half_model.proofs.Stands.{Pieces, to_pieces, of_pieces, same_views}
@@ -84,29 +86,56 @@ pub pick_parts : (v : TransmitValue) (w : World) (bodies : ℕ → FrameValue) (
 pick_parts v w bodies c turns p h = same_views v w (after_pick w c) bodies turns (views_pick w c)
     (pick_stands v.sched turns w c p.ready h.others.turns p.tells p.turned p.others) h
 
-idle_picks : (w : World) (c : Class) → after_refusal w (Asked (Pull c)) Idle ≡ after_pick w c
+idle_picks : (w : World) (c : Class) → (w.config.pending == 1) ≡ false →
+    after_refusal w (Asked (Pull c)) Idle ≡ after_pick w c
 unfolding after_refusal
-idle_picks w c = refl
+idle_picks w c off = ap (λ (b : Bool). if b then w else after_pick w c) off
 
--- no station is ready: only the pick changes something
+idle_stays : (w : World) (c : Class) → (w.config.pending == 1) ≡ true →
+    after_refusal w (Asked (Pull c)) Idle ≡ w
+unfolding after_refusal
+idle_stays w c on = ap (λ (b : Bool). if b then w else after_pick w c) on
+
+same_setting : (v : TransmitValue) (w : World) (bodies : ℕ → FrameValue) → Parts v w bodies → (b : Bool) →
+    (v.config.pending == 1) ≡ b → (w.config.pending == 1) ≡ b
+same_setting v w bodies h b e = sym (ap (λ (x : Config). x.pending == 1) h.others.config) ∙ e
+
+-- no station is ready: without the setting `pending`, only the pick changes something
 pub idle_pull : (v : TransmitValue) (w : World) (bodies : ℕ → FrameValue) → StandsFor v w bodies →
-    (c : Class) (turns : SchedValue) → refusal w (Asked (Pull c)) ≡ Some Idle →
-    HasPickedInClass w c v.sched turns →
+    (c : Class) (turns : SchedValue) → (v.config.pending == 1) ≡ false →
+    refusal w (Asked (Pull c)) ≡ Some Idle → HasPickedInClass w c v.sched turns →
     Meets w bodies (Asked (Pull c)) (record v { sched = turns }) (Refused Idle)
-idle_pull v w bodies h c turns e p =
+idle_pull v w bodies h c turns off e p =
     let is : step w (Asked (Pull c)) ≡ record {
       world = after_refusal w (Asked (Pull c)) Idle;
       reply =
           Refused Idle;
     } = step_refused w (Asked (Pull c)) Idle e in
     let world : (step w (Asked (Pull c))).world ≡ after_pick w c =
-    ap (λ (o : Outcome). o.world) is ∙ idle_picks w c in
+    ap (λ (o : Outcome). o.world) is ∙ idle_picks w c (same_setting v w bodies h.parts false off) in
     record {
       stands = record {
         parts = subst (λ (u : World). Parts (record v { sched = turns }) u bodies) (sym world)
             (pick_parts v w bodies c turns p h.parts);
         reached = reached_step w (Asked (Pull c)) h.reached tt tt;
       };
+      reply = sym (ap (λ (o : Outcome). o.reply) is);
+    }
+
+-- with the setting, nothing changes
+pub idle_pull_stays : (v : TransmitValue) (w : World) (bodies : ℕ → FrameValue) → StandsFor v w bodies →
+    (c : Class) → (v.config.pending == 1) ≡ true → refusal w (Asked (Pull c)) ≡ Some Idle →
+    Meets w bodies (Asked (Pull c)) v (Refused Idle)
+idle_pull_stays v w bodies h c on e =
+    let is : step w (Asked (Pull c)) ≡ record {
+      world = after_refusal w (Asked (Pull c)) Idle;
+      reply =
+          Refused Idle;
+    } = step_refused w (Asked (Pull c)) Idle e in
+    let world : (step w (Asked (Pull c))).world ≡ w =
+    ap (λ (o : Outcome). o.world) is ∙ idle_stays w c (same_setting v w bodies h.parts true on) in
+    record {
+      stands = subst (λ (u : World). StandsFor v u bodies) (sym world) h;
       reply = sym (ap (λ (o : Outcome). o.reply) is);
     }
 
@@ -171,11 +200,12 @@ turn_parts v w bodies s c t low h =
 -- ---- the exchange opens
 
 pub open_parts : (v : TransmitValue) (w : World) (bodies : ℕ → FrameValue) (x : Exchange) → Parts v w bodies →
-    Parts (after_opening v (open_of x)) (with_exchange_opened w x) bodies
+    Parts (after_pending_charge (after_opening v (open_of x)) (open_of x)) (with_exchange_opened w x) bodies
 unfolding with_exchange_opened
 open_parts v w bodies x h =
     let p : Pieces v w bodies = to_pieces v w bodies h in
-    of_pieces (after_opening v (open_of x)) (with_exchange_opened w x) bodies (record {
+    of_pieces (after_pending_charge (after_opening v (open_of x)) (open_of x)) (with_exchange_opened w x)
+    bodies (record {
       config = p.config;
       clock = p.clock;
       exchanges = ap (λ (n : ℕ). n + 1) p.exchanges;
@@ -185,7 +215,9 @@ open_parts v w bodies x h =
       windows = p.windows;
       flows = stands_same v.flows w (with_exchange_opened w x)
           (opened_alone w (w.exchanges + 1) (w.opened ++ x ∷ [])) p.flows;
-      turns = opening_leaves w x v.sched p.turns;
+      turns = subst (λ (k : Config). TurnsStandFor
+          (with_pending_charged k v.sched x.station x.class x.charge) (with_exchange_opened w x))
+          (sym p.config) (opened_stands v.sched w x p.turns);
       ledger = p.ledger;
       frames = p.frames;
     })
@@ -248,9 +280,10 @@ module _ (v : TransmitValue) (bodies : ℕ → FrameValue) (s t : ℕ) (c : Clas
   unfolding send_outcome
   send_parts =
       let x : Exchange = exchange_of s t c p in
-      subst (λ (o : Open). Parts (after_spending (after_opening v o) s)
+      subst (λ (o : Open). Parts (after_spending (after_pending_charge (after_opening v o) o) s)
       (without_credit (with_exchange_opened p.world x) s) bodies) (sym open_same)
-      (spend_parts (after_opening v (open_of x)) (with_exchange_opened p.world x) bodies s (opened_low x)
+      (spend_parts (after_pending_charge (after_opening v (open_of x)) (open_of x))
+      (with_exchange_opened p.world x) bodies s (opened_low x)
       (open_parts v p.world bodies x h))
 
   pub send_reply : Send v.exchanges s t p.charge (part_of p.content)

@@ -1,5 +1,7 @@
 -- Proves that a step leads from the world of a run to another one, and that each law of all runs holds in it.
-use Rattle.std.proofs.Common.{◌≡◌, refl, ap, sym, ◌∙◌, subst, ℕ, List, [], ◌∷◌, ◌++◌, length, take, Some, None}
+use Rattle.std.proofs.Common.{◌≡◌, refl, ap, ap₂, sym, ◌∙◌, subst, ℕ, ◌+◌, Bool, true, false, ◌&&◌, if◌then◌else◌, List, [], ◌∷◌, ◌++◌, length, take, map, Some, None, is_some}
+use Rattle.std.proofs.lemmas.Bool.{ne_eqb}
+use Rattle.wf_frame.specs.declared.classes.Class.{Class}
 use Rattle.wf_frame.specs.declared.settings.Config.{Config}
 use Rattle.wf_frame.specs.declared.notes.Note.{Note}
 use Rattle.wf_frame.specs.declared.notes.Note.TheVariants.{Asked}
@@ -7,16 +9,25 @@ use Rattle.wf_frame.specs.declared.notes.Ask.TheVariants.{Pull}
 use Rattle.wf_frame.specs.declared.notes.Refusal.{Refusal}
 use Rattle.wf_frame.specs.declared.notes.Refusal.TheVariants.{Idle}
 use Rattle.wf_frame.specs.declared.notes.ReplyNote.TheVariants.{Refused}
+use Rattle.wf_frame.specs.Classes.{same_class}
 use Rattle.wf_frame.specs.Settings.{IsInRange}
 use Rattle.wf_def_lists.specs.Lengths.{greatest_body}
-use Rattle.wf_def_world.specs.World.{World, opening}
+use Rattle.wf_def_lists.specs.Table.{at}
+use Rattle.wf_def_world.specs.World.{World, Exchange, opening, is_live, owed}
 use Rattle.wf_def_world.specs.CanSend.{with_listings_of}
 use Rattle.wf_def_world.specs.Refusals.{refusal}
 use Rattle.wf_def_world.specs.Run.{Entry, by, world_after}
 use Rattle.wf_def_world.specs.Step.{outcome_of, concerned_station, after_refusal, judged_outcome, step}
 use Rattle.wf_def_world.specs.Stretches.{world_at}
 use Rattle.wf_law_runs.specs.Queues.{HasLength, IsAtMost, HaveLengths, AreAtMost}
+use Rattle.wf_law_runs.specs.Windows.{OpenRises}
+use Rattle.wf_law_runs.proofs.Deficits.Books.{Books, books, core}
 use Rattle.wf_law_runs.proofs.Deficits.Configs.{config_step}
+use Rattle.wf_law_runs.proofs.Deficits.Kept.{IsOpen}
+use Rattle.wf_law_runs.proofs.Deficits.KeptStep.{kept}
+use Rattle.wf_law_runs.proofs.Deficits.Openings.{Every}
+use Rattle.wf_law_runs.proofs.Windows.Law.{window_law}
+use Rattle.wf_sched_refines.proofs.Stands.{some_account}
 use Rattle.wf_send_half_model.specs.Standing.{IsReached}
 
 -- ---- one more entry
@@ -65,6 +76,32 @@ now_is w r = ap (world_after (opening w.config)) (take_all r.history) ∙ sym r.
 pub by_law : (P : World → Type 0) (w : World) (r : IsReached w) →
     ((m : ℕ) → P (world_at w.config r.history m)) → P w
 by_law P w r law = subst P (now_is w r) (law (length r.history))
+
+-- ---- the open exchanges
+
+pub rises : (w : World) → IsReached w → OpenRises 0 w.exchanges w.opened
+rises w r = by_law (λ u. OpenRises 0 u.exchanges u.opened) w r (λ m. (window_law w.config r.history m).rising)
+
+-- in books in which a station is not live, the exchanges of live stations owe no airtime of this station
+none_owed : (b : Books) (s : ℕ) (c : Class) → is_some (b.accounts s) ≡ false → (xs : List Exchange) →
+    Every (IsOpen b) (map core xs) → owed s c xs ≡ 0
+none_owed b s c off [] live = refl
+none_owed b s c off (x ∷ xs) live =
+    ap₂ (λ (y : Bool) (n : ℕ). (if y && same_class x.class c then x.charge else 0) + n)
+    (ne_eqb x.station s (λ e. away (ap (λ (n : ℕ). is_some (b.accounts n)) (sym e) ∙ live.0.live)))
+    (none_owed b s c off xs live.1)
+  where
+    away : is_some (b.accounts s) ≡ true → ⊥
+    away on = let e : false ≡ true = sym off ∙ on in cc e
+
+-- in the world of a run, a station that is not live owes none
+pub owes_nothing : (w : World) → IsReached w → (s : ℕ) (c : Class) → is_live w s ≡ false →
+    owed s c w.opened ≡ 0
+owes_nothing w r s c off = none_owed (books w) s c (some_account (at None w.stations s) ∙ off) w.opened
+    (subst OpensAreLive (sym r.after) (kept w.config r.history r.in_range).opens)
+  where
+    OpensAreLive : World → Type 0
+    OpensAreLive u = Every (IsOpen (books u)) (books u).opened
 
 -- ---- the parts of a step
 

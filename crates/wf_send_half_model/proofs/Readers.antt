@@ -1,8 +1,9 @@
 -- Proves that each query of a half returns the same as the query of its world, by the part that it reads.
-use Rattle.std.proofs.Common.{◌≡◌, refl, ap, ap₂, sym, ◌∙◌, arith, ℕ, ◌+◌, ◌==◌, ◌<◌, nat_lt, nat_le, Bool, true, false, not, ◌&&◌, ◌||◌, if◌then◌else◌, cond, List, [], ◌∷◌, map, Option, Some, None, is_some, option_map, inl, inr, zero, suc, unwrap_or}
-use Rattle.std.specs.Prelude.{count_by, find}
+use Rattle.std.proofs.Common.{◌≡◌, refl, ap, ap₂, sym, ◌∙◌, arith, ℕ, ◌+◌, ◌==◌, ◌<◌, nat_lt, nat_le, ℤ, pos, ◌+ℤ◌, ◌-ℤ◌, Bool, true, false, not, ◌&&◌, ◌||◌, if◌then◌else◌, cond, List, [], ◌∷◌, map, Option, Some, None, is_some, option_map, inl, inr, zero, suc, unwrap_or}
+use Rattle.std.specs.Prelude.{count_by, find, int_le}
 use Rattle.std.specs.List.{list_any}
 use Rattle.std.proofs.lemmas.Bool.{cases_Bool}
+use Rattle.std.proofs.lemmas.Int.{ints}
 use Rattle.std.proofs.lemmas.List.Sums.{sum_by-cons}
 use Rattle.wf_frame.specs.declared.classes.Class.{Class}
 use Rattle.wf_frame.specs.declared.classes.Class.TheVariants.{Bk, Be, Vi, Vo}
@@ -10,13 +11,14 @@ use Rattle.wf_frame.specs.Classes.{lower_tid, upper_tid, same_class, tid_number}
 use Rattle.wf_frame.specs.Frames.{FrameValue}
 use Rattle.wf_def_agreement.specs.Session.{request_due, has_room}
 use Rattle.wf_def_lists.specs.Table.{at, upto, count_from}
-use Rattle.wf_def_world.specs.World.{World, Station, Exchange, Content, Frames, Request, is_live, session, exchange, owed, owed_by_all}
+use Rattle.wf_def_world.specs.World.{World, Station, Exchange, Content, Frames, Request, is_live, session, share, exchange, owed, owed_by_all, pending_air, standing}
 use Rattle.wf_def_world.specs.FlowQueues.{frames_queued as world_queued}
-use Rattle.wf_def_world.specs.CanSend.{is_request as world_request, request_open, has_waiting, can_give, can_send, has_credit, can_send_in, is_below_aql, may_receive, is_ready}
+use Rattle.wf_def_world.specs.CanSend.{is_request as world_request, request_open, has_waiting, can_give, can_send, has_credit, can_send_in, is_below_aql, may_receive, is_ready, is_debtor, is_to_list}
 use Rattle.wf_def_world.specs.Refusals.{is_at_aql_total, open_of_station, open_of_class, can_send_any, queued_in_class}
 use Rattle.wf_def_world.specs.Step.{class_to_send}
 use Rattle.wf_queue_flows.specs.Flows.{frames_of_tid}
 use Rattle.wf_queue_flows_refines.proofs.Readers.{same_queued}
+use Rattle.wf_sched.specs.ClassRotas.{deficit}
 use Rattle.wf_send_parts.specs.Window.{WindowValue, WindowStandsFor as WindowStandsFor, can_take}
 use Rattle.wf_send_parts.proofs.Calls.{due_is, can_take_is}
 use Rattle.wf_send_parts.proofs.Counting.{some_waits}
@@ -25,7 +27,7 @@ use Rattle.wf_send_parts.specs.declared.exchanges.opened.Open.{Open}
 use Rattle.wf_send_parts.specs.Exchanges.{sending_is_request, asks, airtime_of, airtime_to}
 use Rattle.wf_send_parts.specs.declared.stations.members.Member.{Member}
 use Rattle.wf_send_parts.specs.Members.{member}
-use Rattle.wf_send_half_model.specs.Half.{TransmitValue, some_wait, can_send_of, is_below_aql_of, may_receive_of, is_ready_of, is_ahead_of}
+use Rattle.wf_send_half_model.specs.Half.{TransmitValue, some_wait, can_send_of, is_below_aql_of, may_receive_of, is_ready_of, pending_air_of, is_debtor_of, is_to_list_of, is_ahead_of}
 use Rattle.wf_send_half_model.specs.Standing.{sending_of, open_of, IsMember, AreBoth, Parts}
 
 -- ---- open exchanges
@@ -202,6 +204,42 @@ ready_same v w bodies c s h = elim (cases_Bool (is_live w s)) [
       (live_same v w bodies s h ∙ off)
       ∙ ap (λ (b : Bool). b && (can_send_in w s c && may_receive w s c)) (sym off)
 ]
+
+-- ---- who belongs on a list
+
+pub pending_same : (v : TransmitValue) (w : World) (bodies : ℕ → FrameValue) (s : ℕ) (c : Class) →
+    Parts v w bodies → pending_air_of v s c ≡ pending_air w s c
+pending_same v w bodies s c h = ap₂ (λ (n m : ℕ). if n == 1 then m else 0)
+    (ap (λ x. x.pending) h.others.config) (airtime_to_same v w bodies s c h)
+
+-- the scheduler keeps the standing, so the deficit is its value and the pending airtime
+pub deficit_same : (v : TransmitValue) (w : World) (bodies : ℕ → FrameValue) (s : ℕ) (c : Class) →
+    Parts v w bodies → is_live w s ≡ true →
+    deficit v.sched c s +ℤ pos (pending_air_of v s c) ≡ (share w s c).deficit
+deficit_same v w bodies s c h live =
+    ap₂ (λ (d : ℤ) (n : ℕ). d +ℤ pos n) (h.others.turns.deficits s c live) (pending_same v w bodies s c h)
+    ∙ back (share w s c).deficit (pending_air w s c)
+  where
+    back : (d : ℤ) (n : ℕ) → (d -ℤ pos n) +ℤ pos n ≡ d
+    back d n = omega (arith, ints)
+
+pub debtor_same : (v : TransmitValue) (w : World) (bodies : ℕ → FrameValue) (c : Class) (s : ℕ) →
+    Parts v w bodies → is_debtor_of v c s ≡ is_debtor w c s
+debtor_same v w bodies c s h = elim (cases_Bool (is_live w s)) [
+  | inl live ↦
+      ap₂ (λ (n : ℕ) (b : Bool). (n == 1) && b) (ap (λ x. x.pending) h.others.config)
+      (ap₂ (λ (a : Bool) (d : ℤ). a && int_le d (pos 0)) (live_same v w bodies s h)
+      (h.others.turns.deficits s c live))
+  | inr off ↦
+      ap₂ (λ (n : ℕ) (b : Bool). (n == 1) && (b && int_le (deficit v.sched c s) (pos 0)))
+      (ap (λ x. x.pending) h.others.config) (live_same v w bodies s h ∙ off)
+      ∙ ap (λ (b : Bool). (w.config.pending == 1) && (b && int_le (standing w s c) (pos 0))) (sym off)
+]
+
+pub to_list_same : (v : TransmitValue) (w : World) (bodies : ℕ → FrameValue) (c : Class) (s : ℕ) →
+    Parts v w bodies → is_to_list_of v c s ≡ is_to_list w c s
+to_list_same v w bodies c s h = ap₂ (λ (a b : Bool). a || b) (ready_same v w bodies c s h)
+    (debtor_same v w bodies c s h)
 
 -- ---- the tests of refusals and of a poll
 

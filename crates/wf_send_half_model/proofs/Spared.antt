@@ -408,7 +408,9 @@ ready_after_pick w d c s =
 after_refused : (note : Note) (r : Refusal) (w : World) (c : Class) (s : ℕ) →
     is_ready (after_refusal w note r) c s ≡ is_ready w c s
 unfolding after_refusal
-after_refused (Asked (Pull d)) Idle w c s = ready_after_pick w d c s
+after_refused (Asked (Pull d)) Idle w c s =
+    on_if (λ (v : World). is_ready v c s ≡ is_ready w c s) (w.config.pending == 1) w (after_pick w d)
+    (λ _. refl) (λ _. ready_after_pick w d c s)
 after_refused _ _ w c s = refl
 
 pub ready_refused : (w : World) (note : Note) (r : Refusal) → refusal w note ≡ Some r → (s : ℕ) (c : Class) →

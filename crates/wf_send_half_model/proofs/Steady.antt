@@ -184,6 +184,10 @@ unfolding reap_outcome
 ready_reap [] w c s = refl
 ready_reap (id ∷ ids) w c s = refl
 
+pub ready_received : (w : World) (i : ℕ) (d : Class) (air : ℕ) (c : Class) →
+    is_ready (rx_outcome w i d air).world c i ≡ is_ready w c i
+ready_received w i d air c = steady_ready w (rx_outcome w i d air).world (steady_received w i d air) c i
+
 steady_done : (note : Note) (w : World) → IsReached w → leaves_ready note ≡ true → (c : Class) (s : ℕ) →
     is_ready (outcome_of w note).world c s ≡ is_ready w c s
 unfolding outcome_of

@@ -17,6 +17,7 @@ use Rattle.wf_send_half_model.specs.Standing.{open_of, Parts}
 use Rattle.wf_send_half_model.specs.Views.{agreements, roster, ledger, HasSameViews}
 use Rattle.wf_send_half_model.proofs.Views.{agreements_receiver, roster_receiver, ledger_receiver}
 use Rattle.wf_send_half_model.proofs.Stands.{leaves_parts}
+use Rattle.wf_send_half_model.proofs.Closes.{number_found}
 use Rattle.wf_send_half_model.proofs.Listings.{views_then}
 
 -- ---- an open exchange is marked
@@ -97,20 +98,7 @@ receiver_opened w s t f = refl
 module _ (v : TransmitValue) (w : World) (bodies : ℕ → FrameValue) (e : ℕ) (x : Exchange)
     (known : exchange w e ≡ Some x) (rises : OpenRises 0 w.exchanges w.opened) (h : Parts v w bodies) where
   number_is : x.number ≡ e
-  number_is = go w.opened known
-    where
-      go : (xs : List Exchange) → find (λ y. y.number == e) xs ≡ Some x → x.number ≡ e
-      go [] found = absurd (cc found)
-      go (y ∷ ys) found = elim (cases_eq y.number e) [
-        | inl here ↦
-            let first : (if y.number == e then Some y else find (λ (k : Exchange). k.number == e) ys)
-            ≡ Some y = ap (λ (b : Bool). if b then Some y else find (λ (k : Exchange). k.number == e) ys)
-            (eq-eqb y.number e here) in
-            let it : y ≡ x = cc (first, found) in
-            ap (λ (k : Exchange). k.number) (sym it) ∙ here
-        | inr other ↦ go ys (sym (ap (λ (b : Bool). if b then Some y
-            else find (λ (k : Exchange). k.number == e) ys) (ne_eqb y.number e other)) ∙ found)
-      ]
+  number_is = number_found w.opened e x known
 
   arrived_views : (i : ℕ) → HasSameViews w (arrive_outcome w x i).world
   unfolding arrive_outcome
@@ -130,7 +118,8 @@ module _ (v : TransmitValue) (w : World) (bodies : ℕ → FrameValue) (e : ℕ)
 
   pub arrive_parts : (i : ℕ) → Parts v (arrive_outcome w x i).world bodies
   arrive_parts i = leaves_parts v w (arrive_outcome w x i).world bodies (arrived_views i)
-      (arrived_leaves w x i) h
+      (arrived_leaves w x e i known rises) h
 
   pub answer_parts : Parts v (answer_outcome w x).world bodies
-  answer_parts = leaves_parts v w (answer_outcome w x).world bodies answered_views (answered_leaves w x) h
+  answer_parts = leaves_parts v w (answer_outcome w x).world bodies answered_views
+      (answered_leaves w x e known rises) h

@@ -1,44 +1,42 @@
 -- Proves whole calls that move no frame, except that a reap takes one from the finished list: if the machine
 -- does not refuse them, the half with the call's changes represents the world after the step, and the reply
 -- is the step's.
-use Rattle.std.proofs.Common.{◌≡◌, refl, ap, sym, ◌∙◌, subst, arith, ℕ, ◌+◌, ◌-◌, ◌*◌, ◌<◌, pos, ◌-ℤ◌, Bool, true, false, not, ◌&&◌, ◌||◌, List, ◌∷◌, length, set, Option, Some, None, is_some, option_map}
-use Rattle.std.specs.Prelude.{nat_le}
+use Rattle.std.proofs.Common.{◌≡◌, refl, ap, sym, ◌∙◌, subst, arith, ℕ, ◌+◌, ◌-◌, ◌*◌, ◌<◌, ◌==◌, pos, Bool, true, false, ◌&&◌, ◌||◌, List, ◌∷◌, length, set, Option, Some, None, is_some, option_map, inl, inr}
+use Rattle.std.specs.Prelude.{nat_le, int_le}
 use Rattle.std.proofs.lemmas.Bool.{and_parts, leb-false}
 use Rattle.std.proofs.lemmas.List.{get_or-set_same}
 use Rattle.wf_frame.specs.declared.classes.Class.{Class}
 use Rattle.wf_frame.specs.declared.notes.AskedRate.{AskedRate}
 use Rattle.wf_frame.specs.declared.notes.Note.TheVariants.{Asked}
-use Rattle.wf_frame.specs.declared.notes.Ask.TheVariants.{Join, Rate, Tick, Arrive, Answer, Sleep, Wake, Poll, Rx, Reap}
+use Rattle.wf_frame.specs.declared.notes.Ask.TheVariants.{Join, Rate, Tick, Arrive, Answer, Sleep, Wake, Poll, Reap}
 use Rattle.wf_frame.specs.declared.notes.Refusal.{Refusal}
 use Rattle.wf_frame.specs.declared.notes.ReplyNote.{ReplyNote}
-use Rattle.wf_frame.specs.declared.notes.ReplyNote.TheVariants.{Joined, Set, Now, Slept, Woken, Polled, Charged, Reaped}
+use Rattle.wf_frame.specs.declared.notes.ReplyNote.TheVariants.{Joined, Set, Now, Slept, Woken, Polled, Reaped}
 use Rattle.wf_frame.specs.Classes.{lower_tid, upper_tid}
 use Rattle.wf_frame.specs.Frames.{FrameValue}
 use Rattle.wf_def_rotation.specs.Rotation.{Rotation, has_key}
 use Rattle.wf_def_world.specs.Rates.{rate_asked}
 use Rattle.wf_def_world.specs.World.{World, Exchange, rotation, is_live, exchange, on_station, on_tid, on_receiver, on_share, with_station, with_exchange}
-use Rattle.wf_def_world.specs.CanSend.{is_ready, with_listings_of}
+use Rattle.wf_def_world.specs.CanSend.{is_ready, is_debtor, is_to_list, with_listings_of}
 use Rattle.wf_def_world.specs.Refusals.{refusal, refusals}
 use Rattle.wf_def_world.specs.Step.{outcome_of, outcome_where_open, station_of, after_refusal, judged_outcome, step, arrive_outcome, answer_outcome, class_to_send, tick_outcome, rate_outcome, sleep_outcome, wake_outcome, poll_outcome, rx_outcome, join_outcome}
-use Rattle.wf_law_runs.specs.Windows.{OpenRises}
-use Rattle.wf_law_runs.proofs.Windows.Law.{window_law}
+use Rattle.wf_law_rules.proofs.Lemmas.Numbers.{either}
 use Rattle.wf_law_runs.proofs.Deficits.KeptStep.{NoRow, no_row}
 use Rattle.wf_law_runs.proofs.Deficits.Law.{deficits}
-use Rattle.wf_sched.specs.ClassRotas.{SchedValue, deficit, after_join}
-use Rattle.wf_sched_refines.specs.Standing.{everywhere, with_deficit_charged as with_turns_charged}
-use Rattle.wf_sched_refines.proofs.Charges.{receive_reply}
+use Rattle.wf_sched.specs.ClassRotas.{deficit, after_join}
+use Rattle.wf_sched_refines.specs.Standing.{everywhere}
 use Rattle.wf_queue_flows_refines.specs.Standing.{with_finished}
 use Rattle.wf_queue_flows_refines.proofs.Ends.{reply_reaped}
 use Rattle.wf_send_parts.specs.Window.{WindowValue}
 use Rattle.wf_send_parts.specs.declared.stations.members.Member.{Member}
-use Rattle.wf_send_parts.specs.Members.{member, on_member, new_member, with_rate, with_receipt}
+use Rattle.wf_send_parts.specs.Members.{member, on_member, new_member, with_rate}
 use Rattle.wf_send_parts.specs.Sleepers.{sleeper, with_sleeper, awake}
-use Rattle.wf_send_half_model.specs.Half.{TransmitValue, can_send_of, may_receive_of, is_ready_of}
+use Rattle.wf_send_half_model.specs.Half.{TransmitValue, can_send_of, may_receive_of, is_to_list_of}
 use Rattle.wf_send_half_model.specs.Standing.{Parts, IsReached, StandsFor, Meets}
 use Rattle.wf_send_half_model.specs.Changes.{after_listing, AreReset}
-use Rattle.wf_send_half_model.proofs.Reached.{by_law, reached_step}
-use Rattle.wf_send_half_model.proofs.Readers.{ready_same}
-use Rattle.wf_send_half_model.proofs.Calls.{tick_parts, rate_parts, sleep_parts, wake_parts, poll_parts, rx_parts, reap_parts}
+use Rattle.wf_send_half_model.proofs.Reached.{by_law, reached_step, rises, owes_nothing}
+use Rattle.wf_send_half_model.proofs.Readers.{to_list_same}
+use Rattle.wf_send_half_model.proofs.Calls.{tick_parts, rate_parts, sleep_parts, wake_parts, poll_parts, reap_parts}
 use Rattle.wf_send_half_model.proofs.Joins.{join_parts}
 use Rattle.wf_send_half_model.proofs.Meets.{listed_none, listed_meets, unlisted_meets, idle_meets}
 use Rattle.wf_send_half_model.proofs.Listings.{nobody_new}
@@ -54,15 +52,31 @@ listed_where_ready w r s c ready =
     (λ m live is. (deficits w.config r.history r.in_range m s c live).ready is)
     (and_parts (is_live w s) _ ready).0 ready
 
--- two worlds with the same lists, with a half for each that finds the same stations ready
+-- in the world of a run, each station is listed in each class in which it is a debtor
+pub listed_where_debtor : (w : World) → IsReached w → (s : ℕ) (c : Class) → is_debtor w c s ≡ true →
+    has_key (rotation w c) s ≡ true
+listed_where_debtor w r s c owes =
+    by_law (λ u. is_live u s ≡ true → is_debtor u c s ≡ true → has_key (rotation u c) s ≡ true) w r
+    (λ m live is. (deficits w.config r.history r.in_range m s c live).debtor is)
+    (and_parts (is_live w s) _ (and_parts (w.config.pending == 1) _ owes).1).0 owes
+
+-- the station is listed in each class in which it belongs on a list
+pub listed_where_wanted : (w : World) → IsReached w → (s : ℕ) (c : Class) → is_to_list w c s ≡ true →
+    has_key (rotation w c) s ≡ true
+listed_where_wanted w r s c wanted = elim (either (is_ready w c s) (is_debtor w c s) wanted) [
+  | inl ready ↦ listed_where_ready w r s c ready
+  | inr owes ↦ listed_where_debtor w r s c owes
+]
+
+-- two worlds with the same lists, with a half for each that finds that the same stations belong on a list
 same_listed : (v x : TransmitValue) (w u : World) (bodies : ℕ → FrameValue) (s : ℕ) → IsReached w →
-    Parts v w bodies → Parts x u bodies → ((c : Class) → is_ready_of x c s ≡ is_ready_of v c s) →
+    Parts v w bodies → Parts x u bodies → ((c : Class) → is_to_list_of x c s ≡ is_to_list_of v c s) →
     ((c : Class) → rotation u c ≡ rotation w c) →
-    (c : Class) → is_ready u c s ≡ true → has_key (rotation u c) s ≡ true
-same_listed v x w u bodies s r h k ready lists c is =
+    (c : Class) → is_to_list u c s ≡ true → has_key (rotation u c) s ≡ true
+same_listed v x w u bodies s r h k wanted lists c is =
     ap (λ (z : Rotation). has_key z s) (lists c)
-    ∙ listed_where_ready w r s c (sym (ready_same v w bodies c s h) ∙ sym (ready c)
-    ∙ ready_same x u bodies c s k ∙ is)
+    ∙ listed_where_wanted w r s c (sym (to_list_same v w bodies c s h) ∙ sym (wanted c)
+    ∙ to_list_same x u bodies c s k ∙ is)
 
 kept_live : (f : Member → Member) (m : Option Member) → is_some (option_map f m) ≡ is_some m
 kept_live f None = refl
@@ -74,12 +88,11 @@ member_kept : (members : List (Option Member)) (s : ℕ) (f : Member → Member)
 member_kept members s f low = ap is_some (get_or-set_same members s
     (option_map f (member members s)) None low) ∙ kept_live f (member members s)
 
-same_ready : (v : TransmitValue) (s : ℕ) (f : Member → Member) (turns : SchedValue) → s < length v.members →
-    (c : Class) → is_ready_of (record v { sched = turns; members = on_member v.members s f }) c s
-    ≡ is_ready_of v c s
-same_ready v s f turns low c = ap (λ (b : Bool). b
-    && ((can_send_of v s (lower_tid c) || can_send_of v s (upper_tid c))
-    && may_receive_of v s c))
+same_wanted : (v : TransmitValue) (s : ℕ) (f : Member → Member) → s < length v.members → (c : Class) →
+    is_to_list_of (record v { members = on_member v.members s f }) c s ≡ is_to_list_of v c s
+same_wanted v s f low c = ap (λ (b : Bool).
+    (b && ((can_send_of v s (lower_tid c) || can_send_of v s (upper_tid c)) && may_receive_of v s c))
+    || ((v.config.pending == 1) && (b && int_le (deficit v.sched c s) (pos 0))))
     (member_kept v.members s f low)
 
 rate_lists : (w : World) (s : ℕ) (rate : AskedRate) (c : Class) →
@@ -87,7 +100,7 @@ rate_lists : (w : World) (s : ℕ) (rate : AskedRate) (c : Class) →
 unfolding rate_outcome on_station with_station
 rate_lists w s rate c = refl
 
-rx_lists : (w : World) (s : ℕ) (d : Class) (air : ℕ) (c : Class) →
+pub rx_lists : (w : World) (s : ℕ) (d : Class) (air : ℕ) (c : Class) →
     rotation (rx_outcome w s d air).world c ≡ rotation w c
 unfolding rx_outcome on_share on_station with_station
 rx_lists w s d air c = refl
@@ -98,7 +111,7 @@ rate_reply w s rate = refl
 
 -- ---- the calls
 
-below : (w : World) (s : ℕ) → nat_le w.config.stations s ≡ false → s < w.config.stations
+pub below : (w : World) (s : ℕ) → nat_le w.config.stations s ≡ false → s < w.config.stations
 below w s e = leb-false _ _ e
 
 module _ (v : TransmitValue) (w : World) (bodies : ℕ → FrameValue) (h : StandsFor v w bodies) where
@@ -146,44 +159,7 @@ module _ (v : TransmitValue) (w : World) (bodies : ℕ → FrameValue) (h : Stan
           (rate_reply w s rate)
           (idle_meets x w bodies (Asked (Rate s rate)) h.reached tt tt done k s refl
           (same_listed v x w (rate_outcome w s rate).world bodies s h.reached h.parts k
-          (same_ready v s (with_rate (rate_asked rate)) v.sched
-          (sized s low)) (rate_lists w s rate)))
-
-  pub rx_meets : (s : ℕ) (c : Class) (air : ℕ) → refusal w (Asked (Rx s c air)) ≡ None →
-      Meets w bodies (Asked (Rx s c air)) (record v {
-        sched = with_turns_charged v.sched s c air;
-        members =
-            on_member v.members s (with_receipt c air);
-      }) (Charged (deficit v.sched c s -ℤ pos air))
-  unfolding outcome_of
-  rx_meets s c air done =
-      let rows : NoRow (refusals w (Asked (Rx s c air))) = no_row (refusals w (Asked (Rx s c air))) done in
-      charged (below w s rows.0) (live_of (is_live w s) rows.1.1.0)
-    where
-      live_of : (b : Bool) → not b ≡ false → b ≡ true
-      live_of true e = refl
-      live_of false e = absurd (cc e)
-
-      charged : s < w.config.stations → is_live w s ≡ true →
-          Meets w bodies (Asked (Rx s c air)) (record
-          v {
-            sched = with_turns_charged v.sched s c air;
-            members =
-                on_member v.members s (with_receipt c air);
-          }) (Charged (deficit v.sched c s -ℤ pos air))
-      charged low live =
-          let x : TransmitValue = record v {
-            sched = with_turns_charged v.sched s c air;
-            members =
-                on_member v.members s (with_receipt c air);
-          } in
-          let k : Parts x (rx_outcome w s c air).world bodies = rx_parts v w bodies s low h.parts c air in
-          subst (λ (z : ReplyNote). Meets w bodies (Asked (Rx s c air)) x z)
-          (receive_reply v.sched w s c air h.parts.others.turns live)
-          (idle_meets x w bodies (Asked (Rx s c air)) h.reached tt tt done k s refl
-          (same_listed v x w (rx_outcome w s c air).world bodies s h.reached h.parts k
-          (same_ready v s (with_receipt c air) (with_turns_charged v.sched s c air) (sized s low))
-          (rx_lists w s c air)))
+          (same_wanted v s (with_rate (rate_asked rate)) (sized s low)) (rate_lists w s rate)))
 
   pub sleep_meets : (s : ℕ) → refusal w (Asked (Sleep s)) ≡ None →
       Meets w bodies (Asked (Sleep s)) (after_listing
@@ -245,12 +221,10 @@ module _ (v : TransmitValue) (w : World) (bodies : ℕ → FrameValue) (h : Stan
         sleepers = with_sleeper v.sleepers s awake;
       }) w bodies (Asked (Join s window start exponent weight)) h.reached tt tt done
       (join_parts v w bodies windows s window start exponent weight
-      (below w s rows.0) rows.1.1.1.1.1.0 reset h.parts) s refl
+      (below w s rows.0) rows.1.1.1.1.1.0 (λ c. owes_nothing w h.reached s c rows.1.1.1.1.1.0) reset h.parts)
+      s refl
 
 -- ---- Arrive and Answer
-
-pub rises : (w : World) → IsReached w → OpenRises 0 w.exchanges w.opened
-rises w r = by_law (λ u. OpenRises 0 u.exchanges u.opened) w r (λ m. (window_law w.config r.history m).rising)
 
 arrive_lists : (w : World) (x : Exchange) (i : ℕ) (c : Class) →
     rotation (arrive_outcome w x i).world c ≡ rotation w c

@@ -10,17 +10,19 @@ use Rattle.wf_sched_refines.specs.Standing.{with_listed, with_listed_where}
 use Rattle.wf_send_parts.specs.Window.{WindowValue, WindowStandsFor}
 use Rattle.wf_send_parts.specs.Windows.{WindowsHaveRoom, window_of}
 use Rattle.wf_send_half_model.specs.Counting.{with_overlimit}
-use Rattle.wf_send_half_model.specs.Half.{TransmitValue, is_ready_of}
+use Rattle.wf_send_half_model.specs.Half.{TransmitValue, is_ready_of, is_to_list_of}
 
--- a station is listed in each class in which it is ready
+-- a station is listed in each class in which it belongs on a list
 abbrev pub after_listing : TransmitValue → ℕ → TransmitValue
-after_listing v s =
-    record v { sched = with_listed_where (λ c. is_ready_of v c s) s all_classes v.sched }
+after_listing v s = record v {
+  sched = with_listed_where (λ c. is_to_list_of v c s) (λ c. is_ready_of v c s) s all_classes v.sched;
+}
 
--- a station is listed in class c, if it is ready there
+-- a station is listed in class c, if it belongs on a list there
 abbrev pub after_listing_in : TransmitValue → ℕ → Class → TransmitValue
-after_listing_in v s c =
-    record v { sched = if is_ready_of v c s then with_listed v.sched s c else v.sched }
+after_listing_in v s c = record v {
+  sched = if is_to_list_of v c s then with_listed (is_ready_of v c s) v.sched s c else v.sched;
+}
 
 -- the eight windows of station s begin new sessions at number `first`; the other windows are unchanged
 pub record AreReset (before after : List WindowValue) (s first size : ℕ) : Type 0 where

@@ -10,7 +10,8 @@ use Rattle.wf_def_world.specs.Exchanges.{with_all_settled}
 use Rattle.wf_law_runs.specs.Windows.{EachMpdu}
 use Rattle.wf_send_parts.specs.Tally.{settled_as}
 use Rattle.wf_queue_flows_refines.specs.Standing.{times_held, with_finished}
-use Rattle.wf_sched_refines.specs.Standing.{with_deficit_charged as with_turns_charged}
+use Rattle.wf_sched_refines.specs.Standing.{with_deficit_charged as with_turns_charged, with_pending_paid_back}
+use Rattle.wf_sched.specs.ClassRotas.{SchedValue}
 use Rattle.wf_send_parts.specs.declared.exchanges.opened.Open.{Open}
 use Rattle.wf_send_parts.specs.Members.{on_member, with_charge}
 use Rattle.wf_send_parts.specs.declared.window.window.Settled.{Settled}
@@ -19,12 +20,16 @@ use Rattle.wf_send_parts.specs.Ending.{Ending, AreFlying}
 use Rattle.wf_send_half_model.specs.Half.{TransmitValue}
 use Rattle.wf_send_half_model.specs.Standing.{Parts}
 
+-- the scheduler without the pending charge of an exchange, if the setting `pending` says so
+abbrev pub without_pending_charge : TransmitValue → Open → SchedValue
+without_pending_charge v x = with_pending_paid_back v.config v.sched x.station x.class x.charge
+
 -- exchange x is no longer open, and its station is charged `charge` microseconds for it
 abbrev pub after_close : TransmitValue → Open → ℕ → TransmitValue
 after_close v x charge =
     record v {
       opened = filter (λ y. not (y.number == x.number)) v.opened;
-      sched = with_turns_charged v.sched x.station x.class charge;
+      sched = with_turns_charged (without_pending_charge v x) x.station x.class charge;
       members = on_member v.members x.station (with_charge x.class charge);
     }
 

@@ -1,6 +1,6 @@
 -- Defines what a transmit half of an access point keeps, as its callers see it; what stations received is no
 -- part of it. Times, deficits and airtime are in microseconds.
-use Rattle.std.specs.Prelude.{ℕ, ◌*◌, ◌==◌, nat_lt, nat_le, Bool, not, ◌&&◌, ◌||◌, List, [], ◌∷◌, ◌++◌, Option, Some, None, is_some, option_map, if◌then◌else◌, map, find, replicate}
+use Rattle.std.specs.Prelude.{ℕ, ◌*◌, ◌==◌, nat_lt, nat_le, pos, int_le, Bool, not, ◌&&◌, ◌||◌, List, [], ◌∷◌, ◌++◌, Option, Some, None, is_some, option_map, if◌then◌else◌, map, find, replicate}
 use Rattle.std.specs.List.{list_any}
 use Rattle.wf_frame.specs.declared.settings.Config.{Config}
 use Rattle.wf_frame.specs.declared.classes.Class.{Class}
@@ -8,7 +8,7 @@ use Rattle.wf_frame.specs.Classes.{lower_tid, upper_tid, tid_number}
 use Rattle.wf_frame.specs.Frames.{FrameValue}
 use Rattle.wf_def_world.specs.CanSend.{has_credit}
 use Rattle.wf_queue_flows.specs.Flows.{FlowsValue, empty_flows, frames_of_tid}
-use Rattle.wf_sched.specs.ClassRotas.{SchedValue, new_scheduler as empty_sched}
+use Rattle.wf_sched.specs.ClassRotas.{SchedValue, deficit, new_scheduler as empty_sched}
 use Rattle.wf_send_parts.specs.declared.window.place.Place.{Place}
 use Rattle.wf_send_parts.specs.declared.window.place.Place.TheVariants.{Waiting as Waits, Flying as Flies}
 use Rattle.wf_send_parts.specs.Window.{WindowValue, waits, can_take}
@@ -81,6 +81,21 @@ abbrev pub is_ready_of : TransmitValue → Class → ℕ → Bool
 is_ready_of v c s =
     is_some (member v.members s)
     && ((can_send_of v s (lower_tid c) || can_send_of v s (upper_tid c)) && may_receive_of v s c)
+
+-- the airtime in flight that counts against a station's deficit in a class: none without the setting
+-- `pending`
+abbrev pub pending_air_of : TransmitValue → ℕ → Class → ℕ
+pending_air_of v s c = if v.config.pending == 1 then airtime_to v.opened s c else 0
+
+-- whether a station is live and has nothing left to use in a class, with the setting `pending`: the scheduler
+-- keeps the standing
+abbrev pub is_debtor_of : TransmitValue → Class → ℕ → Bool
+is_debtor_of v c s = (v.config.pending == 1)
+    && (is_some (member v.members s) && int_le (deficit v.sched c s) (pos 0))
+
+-- whether a station belongs on a list of a class: it is ready there, or a debtor
+abbrev pub is_to_list_of : TransmitValue → Class → ℕ → Bool
+is_to_list_of v c s = is_ready_of v c s || is_debtor_of v c s
 
 -- whether the airtime in flight in all classes has reached the setting `aql_total`, which is no limit if it
 -- is 0

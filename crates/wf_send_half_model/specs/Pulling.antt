@@ -12,6 +12,7 @@ use Rattle.wf_send_parts.specs.declared.exchanges.opened.Sending.{Sending}
 use Rattle.wf_send_parts.specs.Exchanges.{sending_is_request}
 use Rattle.wf_send_parts.specs.Members.{member, on_member, upper_in, with_upper}
 use Rattle.wf_send_parts.specs.Sleepers.{sleeper, with_sleeper}
+use Rattle.wf_sched_refines.specs.Standing.{with_pending_charged}
 use Rattle.wf_send_half_model.specs.Half.{TransmitValue, some_wait, can_send_of}
 
 -- ---- whose turn it is
@@ -64,6 +65,12 @@ open_next v s t c charge sending = record {
 abbrev pub after_opening : TransmitValue → Open → TransmitValue
 after_opening v x = record v { exchanges = v.exchanges + 1; opened = v.opened ++ x ∷ [] }
 
+-- the half with this exchange charged to its station's standing, if the setting `pending` says so
+abbrev pub after_pending_charge : TransmitValue → Open → TransmitValue
+after_pending_charge v x = record v {
+  sched = with_pending_charged v.config v.sched x.station x.class x.charge;
+}
+
 -- the half with the station's credit spent, if it had one
 abbrev pub after_spending : TransmitValue → ℕ → TransmitValue
 after_spending v s = record v {
@@ -71,6 +78,9 @@ after_spending v s = record v {
       (record (sleeper v.sleepers s) { credit = None });
 }
 
--- the prepared exchange is sent: it opens, and a credit is spent
+-- the prepared exchange is sent: it opens, counts against its station's standing with the setting `pending`,
+-- and spends a credit
 abbrev pub after_sending : TransmitValue → ℕ → ℕ → Class → ℕ → Sending → TransmitValue
-after_sending v s t c charge sending = after_spending (after_opening v (open_next v s t c charge sending)) s
+after_sending v s t c charge sending =
+    let x : Open = open_next v s t c charge sending in
+    after_spending (after_pending_charge (after_opening v x) x) s

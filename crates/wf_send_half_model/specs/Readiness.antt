@@ -7,7 +7,7 @@ use Rattle.wf_frame.specs.declared.notes.Note.TheVariants.{Enqueue, Asked}
 use Rattle.wf_frame.specs.Classes.{lower_tid, upper_tid}
 use Rattle.wf_def_rotation.specs.Rotation.{has_key}
 use Rattle.wf_def_world.specs.World.{World, rotation}
-use Rattle.wf_def_world.specs.CanSend.{is_ready}
+use Rattle.wf_def_world.specs.CanSend.{is_to_list}
 use Rattle.wf_queue_flows_refines.specs.Frames.{loses_next_in}
 
 -- whether the call, if it is not refused, drops a frame of station s in class c for the limit
@@ -27,6 +27,6 @@ leaves_ready (Asked (Rx station class air)) = true
 leaves_ready (Asked Reap) = true
 leaves_ready _ = false
 
--- each class in which a station is ready lists it, except perhaps class c
+-- each class in which a station belongs on a list lists it, except perhaps class c
 abbrev pub IsListedBut : World → ℕ → Class → Type 0
-IsListedBut w s c = (d : Class) → (d ≡ c → ⊥) → is_ready w d s ≡ true → has_key (rotation w d) s ≡ true
+IsListedBut w s c = (d : Class) → (d ≡ c → ⊥) → is_to_list w d s ≡ true → has_key (rotation w d) s ≡ true

@@ -11,7 +11,7 @@
 //! half has: those that were accepted and are not reaped, each with its body.
 #![tactic(auto)]
 
-ghost use Rattle.std.specs.Prelude.{◌≡◌, ◌<◌, ◌≤◌, ℕ, suc, ◌+◌, ◌-◌, ◌*◌, ◌==◌, ◌||◌, ◌++◌, pos, ◌-ℤ◌, Bool, true, false, List, [], ◌∷◌, Some, None, is_some, option_map, map, find, count_by, set, length, max, unwrap_or, ◌%◌, ◌&&◌, nat_lt, nat_le, if◌then◌else◌, All, Option};
+ghost use Rattle.std.specs.Prelude.{◌≡◌, ◌<◌, ◌≤◌, ℕ, suc, ◌+◌, ◌-◌, ◌*◌, ◌==◌, ◌||◌, ◌++◌, pos, ◌+ℤ◌, ◌-ℤ◌, Bool, true, false, List, [], ◌∷◌, Some, None, is_some, option_map, map, find, count_by, set, length, max, unwrap_or, ◌%◌, ◌&&◌, nat_lt, nat_le, if◌then◌else◌, All, Option};
 ghost use Rattle.std.specs.List.{list_any};
 ghost use Rattle.wf_frame.specs.Classes.{lower_tid, upper_tid, same_class, class_of, tid_number};
 ghost use Rattle.wf_frame.specs.Frames.{FrameValue, source_octets};
@@ -43,13 +43,14 @@ ghost use Rattle.wf_def_lists.specs.Table.{has, upto};
 ghost use Rattle.wf_def_rotation.specs.Rotation.{Rotation, has_key};
 ghost use Rattle.wf_def_agreement.specs.Session.{Session, State, slot, start_of, next_number, request_due, with_state, is_acknowledged, is_waiting, is_failed, with_number_given};
 ghost use Rattle.wf_def_world.specs.Rates.{rate_asked};
-ghost use Rattle.wf_def_world.specs.World.{World, Station, Tid, Share, Queue, Exchange, Mpdu, frame, accepted_count, is_held, codel_params, with_frame_finished, with_frames_finished, Frames, Request, opening, without_exchange, is_live, session, rotation, exchange, owed_by_all, on_station, on_tid, on_session, on_receiver, on_share, on_queue, with_queues, with_rotation, is_wide};
+ghost use Rattle.wf_def_world.specs.World.{World, Station, Tid, Share, Queue, Exchange, Mpdu, frame, accepted_count, is_held, codel_params, with_frame_finished, with_frames_finished, Frames, Request, opening, without_exchange, is_live, session, share, rotation, exchange, owed_by_all, pending_air, on_station, on_tid, on_session, on_receiver, on_share, on_queue, with_queues, with_rotation, is_wide};
 ghost use Rattle.wf_def_world.specs.FlowQueues.{frames_queued as world_queued, after_limit, dropped_for_limit as dropped_for_limit_in};
-ghost use Rattle.wf_def_world.specs.CanSend.{request_open, has_waiting, can_send, can_send_in, is_ready, with_listings_of};
+ghost use Rattle.wf_def_world.specs.CanSend.{request_open, has_waiting, can_send, can_send_in, is_ready, is_debtor, is_to_list, with_listings_of};
 ghost use Rattle.wf_def_world.specs.Exchanges.{Aggregate, Prepared, picked_station, sending_tid, after_pick, after_tid_turn, aggregate_of, prepared_data, mpdus_of, is_acked, charge_of, after_charge, with_settled, with_all_settled, count_in, part_of, lens_of, mpdu_of, aggregate_charge};
 ghost use Rattle.wf_def_world.specs.Refusals.{refusal, is_at_aql_total, open_of_station, open_of_class, queued_in_class, can_send_any};
-ghost use Rattle.wf_def_world.specs.Step.{outcome_of, concerned_station, class_to_send, step, done_outcome, send_outcome};
+ghost use Rattle.wf_def_world.specs.Step.{outcome_of, concerned_station, class_to_send, step, done_outcome, rx_outcome, send_outcome};
 ghost use Rattle.wf_law_runs.specs.Queues.{HasLength, IsAtMost};
+ghost use Rattle.wf_law_runs.specs.Rotations.{NoneReady};
 ghost use Rattle.wf_send_parts.specs.Tally.{held_in, settled_as, many_settled_as};
 ghost use Rattle.wf_law_runs.specs.Places.{IsNumbered, KeepsPlaces};
 ghost use Rattle.wf_law_runs.specs.Windows.{EachMpdu, IsPending};
@@ -72,7 +73,7 @@ ghost use Rattle.wf_send_parts.specs.Windows.{WindowsHaveRoom, window_of, with_w
 ghost use Rattle.wf_send_parts.specs.Exchanges.{asks, airtime_of};
 ghost use Rattle.wf_send_parts.specs.Members.{member, on_member, new_member, with_rate, with_receipt};
 ghost use Rattle.wf_send_parts.specs.Sleepers.{sleeper, with_sleeper, awake};
-ghost use Rattle.wf_send_half_model.specs.Half.{TransmitValue, opening_half, some_wait, can_send_of, is_ready_of, is_ahead_of};
+ghost use Rattle.wf_send_half_model.specs.Half.{TransmitValue, opening_half, some_wait, can_send_of, is_ready_of, pending_air_of, is_to_list_of, is_ahead_of};
 ghost use Rattle.wf_send_half_model.specs.Standing.{open_of, counts_in, HasWindows, Parts, IsReached, StandsFor, Meets, sending_of, numbers_on_air};
 ghost use Rattle.wf_send_half_model.specs.Changes.{after_listing, after_listing_in, AreReset, after_enqueue};
 ghost use Rattle.wf_send_half_model.specs.Counting.{with_overlimit};
@@ -139,7 +140,8 @@ pub fn what_a_change_leaves()
 {}
 
 /// A query of a half returns the same as that query of the world: who is live, who can send and is ready,
-/// which frames are queued or wait, and which exchanges are open.
+/// which frames are queued or wait, which exchanges are open, and which of their airtime counts against a
+/// station's deficit. The scheduler keeps the deficit less this airtime.
 pub fn the_readers_agree()
     ensures live { (v : TransmitValue) (w : World) (bodies : ℕ → FrameValue) (s : ℕ) → Parts v w bodies →
         is_some (member v.members s) ≡ is_live w s }
@@ -160,6 +162,13 @@ pub fn the_readers_agree()
         (can_send_of v s (lower_tid c) || can_send_of v s (upper_tid c)) ≡ can_send_in w s c }
     ensures ready { (v : TransmitValue) (w : World) (bodies : ℕ → FrameValue) (c : Class) (s : ℕ) →
         Parts v w bodies → is_ready_of v c s ≡ is_ready w c s }
+    ensures to_list { (v : TransmitValue) (w : World) (bodies : ℕ → FrameValue) (c : Class) (s : ℕ) →
+        Parts v w bodies → is_to_list_of v c s ≡ is_to_list w c s }
+    ensures pending { (v : TransmitValue) (w : World) (bodies : ℕ → FrameValue) (s : ℕ) (c : Class) →
+        Parts v w bodies → pending_air_of v s c ≡ pending_air w s c }
+    ensures deficit { (v : TransmitValue) (w : World) (bodies : ℕ → FrameValue) (s : ℕ) (c : Class) →
+        Parts v w bodies → is_live w s ≡ true →
+        deficit v.sched c s +ℤ pos (pending_air_of v s c) ≡ (share w s c).deficit }
     ensures asks { (v : TransmitValue) (w : World) (bodies : ℕ → FrameValue) (s t : ℕ) → Parts v w bodies →
         asks v.opened s t ≡ request_open w s t }
     ensures exchange { (v : TransmitValue) (w : World) (bodies : ℕ → FrameValue) (e : ℕ) → Parts v w bodies →
@@ -196,9 +205,10 @@ pub fn a_refusal()
 {}
 
 /// The end of a call that is not refused. If the parts represent the world that the call makes, the half
-/// lists the station that the call concerns in each class in which it is ready, and then represents the world
-/// after the step. It lists no station if the call concerns none, or if the station is listed already in each
-/// class in which it is ready. In the world of a run, every ready station is listed.
+/// lists the station that the call concerns in each class in which it belongs on a list, and then represents
+/// the world after the step. It lists no station if the call concerns none, or if the station is listed
+/// already in each class in which it belongs on a list. In the world of a run, every ready station is listed,
+/// and every debtor.
 pub fn the_end_of_a_call()
     ensures listed { (v : TransmitValue) (w : World) (bodies : ℕ → FrameValue) (s : ℕ) → Parts v w bodies →
         Parts (after_listing v s) (with_listings_of w (Some s)) bodies }
@@ -219,17 +229,19 @@ pub fn the_end_of_a_call()
         IsAtMost greatest_body note →
         refusal w note ≡ None → Parts v (outcome_of w note).world bodies → (s : ℕ) →
         concerned_station w note ≡ Some s →
-        ((c : Class) → is_ready (outcome_of w note).world c s ≡ true →
+        ((c : Class) → is_to_list (outcome_of w note).world c s ≡ true →
         has_key (rotation (outcome_of w note).world c) s ≡ true) →
         Meets w bodies note v (outcome_of w note).reply }
     ensures ready { (w : World) → IsReached w → (s : ℕ) (c : Class) → is_ready w c s ≡ true →
         has_key (rotation w c) s ≡ true }
+    ensures debtor { (w : World) → IsReached w → (s : ℕ) (c : Class) → is_debtor w c s ≡ true →
+        has_key (rotation w c) s ≡ true }
 {}
 
-/// It is enough to list a station in one class if each other class in which it is ready lists it already.
-/// This holds after an enqueue, a pull and a Done, for the class of the frame's TID, the pull's class, and
-/// the class of the exchange's TID: in no other class does the call make the station ready or take it off the
-/// lists.
+/// It is enough to list a station in one class if each other class in which it belongs on a list lists it
+/// already. This holds after an enqueue, a pull, a Done and a receive charge, for the class of the frame's
+/// TID, the pull's class, the class of the exchange's TID, and the charge's class: in no other class does the
+/// call make the station ready or a debtor, or take it off the lists.
 pub fn one_class_is_enough()
     ensures listing { (v : TransmitValue) (w : World) (bodies : ℕ → FrameValue) (s : ℕ) (c : Class) →
         Parts v w bodies → IsListedBut w s c → after_listing v s ≡ after_listing_in v s c }
@@ -241,12 +253,14 @@ pub fn one_class_is_enough()
     ensures done { (w : World) (e : ℕ) (x : Exchange) (heard : Bool) (air : Option ℕ) → IsReached w →
         exchange w e ≡ Some x →
         IsListedBut (done_outcome w x heard air).world x.station (class_of x.tid) }
+    ensures receipt { (w : World) (s : ℕ) (c : Class) (air : ℕ) → IsReached w →
+        IsListedBut (rx_outcome w s c air).world s c }
 {}
 
 /// The calls that move no frame, and reap, which takes one off the finished list. If the machine does not
 /// refuse the call, the half with these changes represents the world after the step, and the reply is the
-/// step's. Tick and Reap concern no station. A rate and a receive charge do not change who is ready, so they
-/// list no station.
+/// step's. Tick and Reap concern no station. A rate does not change who belongs on a list, so it lists no
+/// station. A receive charge may make its station a debtor in its class.
 pub fn a_call_that_moves_no_frame()
     ensures tick { (v : TransmitValue) (w : World) (bodies : ℕ → FrameValue) → StandsFor v w bodies →
         (by : ℕ) → refusal w (Asked (Tick by)) ≡ None →
@@ -264,11 +278,11 @@ pub fn a_call_that_moves_no_frame()
     ensures rx { (v : TransmitValue) (w : World) (bodies : ℕ → FrameValue) → StandsFor v w bodies →
         (s : ℕ) (c : Class) (air : ℕ) →
         refusal w (Asked (Rx s c air)) ≡ None →
-        Meets w bodies (Asked (Rx s c air)) (record v {
+        Meets w bodies (Asked (Rx s c air)) (after_listing_in (record v {
           sched = with_deficit_charged v.sched s c air;
           members = on_member v.members s (with_receipt c air);
-        })
-        (Charged (deficit v.sched c s -ℤ pos air)) }
+        }) s c)
+        (Charged ((deficit v.sched c s +ℤ pos (pending_air_of v s c)) -ℤ pos air)) }
     ensures sleep { (v : TransmitValue) (w : World) (bodies : ℕ → FrameValue) → StandsFor v w bodies →
         (s : ℕ) → refusal w (Asked (Sleep s)) ≡ None →
         Meets w bodies (Asked (Sleep s)) (after_listing
@@ -290,7 +304,7 @@ pub fn a_call_that_moves_no_frame()
         (Polled (class_to_send w s)) }
 {}
 
-/// A station joins. In each class it gets its quantum of airtime, and on each TID a window that begins anew.
+/// A station joins. In each class it gets its quantum of airtime, and on each TID a new window.
 pub fn a_join()
     ensures { (v : TransmitValue) (w : World) (bodies : ℕ → FrameValue) → StandsFor v w bodies →
         (windows : List WindowValue) (s window start exponent weight : ℕ) →
@@ -393,8 +407,8 @@ pub fn an_exchange_of_a_request_ends()
 {}
 
 /// A whole Done. If the parts represent the world that it makes, the station of the exchange is listed in the
-/// class of its TID, if it is ready there. That station is live. The reply counts the numbers of the exchange
-/// by their states.
+/// class of its TID, if it belongs on a list there. That station is live. The reply counts the numbers of the
+/// exchange by their states.
 pub fn a_done()
     ensures live { (w : World) → IsReached w → (e : ℕ) (x : Exchange) → exchange w e ≡ Some x →
         is_live w x.station ≡ true }
@@ -503,18 +517,22 @@ pub fn a_leave()
         Meets w bodies (Asked (Leave s)) (after_leave v s dropped) (Left dropped) }
 {}
 
-/// A pull that finds no ready station is refused, but its pick has changed the class's lists and the
-/// deficits.
+/// A pull that finds no ready station is refused. Without the setting `pending`, its pick has changed the
+/// class's lists and the deficits. With the setting, nothing changes.
 pub fn a_pull_that_finds_nobody()
-    ensures { (v : TransmitValue) (w : World) (bodies : ℕ → FrameValue) → StandsFor v w bodies →
-        (c : Class) (turns : SchedValue) →
+    ensures picks { (v : TransmitValue) (w : World) (bodies : ℕ → FrameValue) → StandsFor v w bodies →
+        (c : Class) (turns : SchedValue) → (v.config.pending == 1) ≡ false →
         refusal w (Asked (Pull c)) ≡ Some Idle → HasPickedInClass w c v.sched turns →
         Meets w bodies (Asked (Pull c)) (record v { sched = turns }) (Refused Idle) }
+    ensures stays { (v : TransmitValue) (w : World) (bodies : ℕ → FrameValue) → StandsFor v w bodies →
+        (c : Class) → (v.config.pending == 1) ≡ true → refusal w (Asked (Pull c)) ≡ Some Idle →
+        Meets w bodies (Asked (Pull c)) v (Refused Idle) }
 {}
 
 /// Decides from the half whether a pull is refused: with `full` if the class has as many open exchanges as
-/// are allowed, otherwise with `ahead` if the airtime in flight has reached its limit, otherwise with
-/// `idle` if no station is picked, otherwise not.
+/// are allowed, otherwise with `ahead` if the airtime in flight has reached its limit, otherwise with `idle`
+/// if no station is picked, otherwise not. In the world of a run, a station is picked exactly if one is
+/// ready.
 pub fn a_pull_is_refused()
     ensures full { (v : TransmitValue) (w : World) (bodies : ℕ → FrameValue) (c : Class) → Parts v w bodies →
         nat_le v.config.inflight (count_by (λ x. same_class x.class c) v.opened) ≡ true →
@@ -533,6 +551,13 @@ pub fn a_pull_is_refused()
         is_ahead_of v ≡ false → (s : ℕ) →
         (picked_station w c).winner ≡ Some s →
         refusal w (Asked (Pull c)) ≡ None }
+    ensures none_ready { (v : TransmitValue) (w : World) (bodies : ℕ → FrameValue) (c : Class) →
+        Parts v w bodies →
+        nat_le v.config.inflight (count_by (λ x. same_class x.class c) v.opened) ≡ false →
+        is_ahead_of v ≡ false → NoneReady w c →
+        refusal w (Asked (Pull c)) ≡ Some Idle }
+    ensures some_ready { (w : World) (c : Class) → IsReached w → (NoneReady w c → ⊥) →
+        (picked_station w c).winner ≡ None → ⊥ }
 {}
 
 /// In the world of a run another exchange may be opened. All open exchanges have lower numbers, and each

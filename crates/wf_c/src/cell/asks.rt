@@ -5,13 +5,11 @@ ghost use Rattle.wf_path.specs.declared.job.Job.TheVariants.{Call};
 ghost use Rattle.wf_c.specs.CallNumbers.{asked};
 ghost use Rattle.wf_c.specs.CellCalls.{IsAsked, IsStepped, TurnsInto};
 
+use crate::burst::BAD_CALL;
 use crate::cell::calls::CallNumbers;
 use crate::cell::slot::CellSlot;
 use crate::reply::Reply;
 use wf_frame::Ask;
-
-/// The code of numbers that show no call, or one that enqueues or reaps a frame.
-const BAD_CALL: i32 = 43;
 
 impl CellSlot {
     // Makes a call that has no frame.

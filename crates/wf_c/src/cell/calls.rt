@@ -1,15 +1,15 @@
 //! A call of a cell, as numbers in a struct of the caller's.
 
 ghost use Rattle.std.specs.Prelude.{◌≡◌, length, map};
+ghost use Rattle.wf_frame.specs.Classes.{all_classes, class_among};
 ghost use Rattle.wf_frame.specs.Calls.{arguments_of, form_number, form_of_end, note_form};
-ghost use Rattle.wf_c.specs.CallNumbers.{asked, blank_call, form_shown, format_number, format_shown, note_in, numbers_of_call, form_of_format, value_in, with_argument, with_arguments, without_frame};
+ghost use Rattle.wf_c.specs.CallNumbers.{asked, blank_call, form_shown, format_number, format_shown, note_in, call_noted, numbers_of_call, form_of_class, form_of_format, value_in, with_argument, with_arguments, without_frame};
 ghost use Rattle.wf_c.specs.Numbers.{named_air as air_named};
 
-use crate::asks::class_of_number;
 use crate::exchanges::named_air;
 use crate::reply::number_of_class;
 use arrayvec::ArrayVec;
-use wf_frame::{Argument, Ask, CallForm, Note, RateFormat, Value};
+use wf_frame::{Argument, Ask, CallForm, Class, Note, RateFormat, Value};
 
 /// A call. `kind` says which call it is, and which other fields have a meaning; in an entry all others are 0.
 #[repr(C)]
@@ -39,7 +39,7 @@ pub struct CallNumbers {
     pub kind: u8,
     /// The TID of a frame.
     pub tid: u8,
-    /// The class of a pull, or of airtime that a station used: 0 to 3; a greater number means 3.
+    /// The class of a pull, or of airtime that a station used: 0 to 3.
     pub class: u8,
     /// The A-MPDU length exponent of a join.
     pub exponent: u8,
@@ -127,6 +127,25 @@ fn form_of_end(air: u32) -> CallForm
     }
 }
 
+// The form of a call that has a class, by the number of the class. None if the number is above 3.
+fn form_of_class(form: CallForm, class: u8) -> Option<CallForm>
+    ensures { result ≡ form_of_class form class }
+{
+    if 3 < class { None } else { Some(form) }
+}
+
+// The class that a field shows; a number above 3 shows the last one.
+fn class_of_field(number: u8) -> Class
+    ensures { result ≡ class_among all_classes number }
+{
+    match number {
+        0 => Class::Bk,
+        1 => Class::Be,
+        2 => Class::Vi,
+        _ => Class::Vo,
+    }
+}
+
 impl CallNumbers {
     // The value of an argument that the fields show.
     fn value(&self, argument: Argument) -> Value
@@ -148,7 +167,7 @@ impl CallNumbers {
             Argument::Tid => Value::Octet(self.tid),
             Argument::Flow => Value::Long(self.flow),
             Argument::Length => Value::Short(self.length),
-            Argument::Class => Value::Class(class_of_number(self.class)),
+            Argument::Class => Value::Class(class_of_field(self.class)),
             Argument::Exchange => Value::Exchange(self.exchange),
             Argument::Index => Value::Short(self.index),
             Argument::Heard => Value::Heard(self.heard != 0),
@@ -193,6 +212,8 @@ impl CallNumbers {
         match CallForm::numbered(self.kind)? {
             CallForm::Rate => form_of_rate(self.form),
             CallForm::Done => Some(form_of_end(self.air)),
+            CallForm::Pull => form_of_class(CallForm::Pull, self.class),
+            CallForm::Rx => form_of_class(CallForm::Rx, self.class),
             call => Some(call),
         }
     }
@@ -215,13 +236,21 @@ impl CallNumbers {
         Note::of_values(form, self.values(form).as_slice())
     }
 
+    // The call that the fields show.
+    #[tactic(auto, unfolding(crate::specs::CallNumbers::call_noted))]
+    pub(crate) fn call_noted(&self) -> Option<Note>
+        ensures { result ≡ call_noted self.now }
+    {
+        let form = self.form()?;
+        self.note(form)
+    }
+
     // The call that the fields show, if it neither enqueues nor reaps a frame.
     #[tactic(auto, unfolding(crate::specs::CallNumbers::asked))]
     pub(crate) fn asked(&self) -> Option<Ask>
         ensures { result ≡ asked self.now }
     {
-        let form = self.form()?;
-        without_frame(self.note(form)?)
+        without_frame(self.call_noted()?)
     }
 
     // The fields of a call: its arguments, and its number in the table of calls.

@@ -2,10 +2,11 @@
 
 ghost use Rattle.std.specs.Prelude.{◌≡◌, ◌⊎◌, true, false, is_some, pos, length};
 ghost use Rattle.wf_path.specs.declared.job.Job.TheVariants.{Give};
-ghost use Rattle.wf_c.specs.Bodies.{IsBadLength, IsBodyLength, IsUntouched, bad_length, frame_shown, is_small_buffer, small_buffer};
+ghost use Rattle.wf_c.specs.Bodies.{IsBadLength, IsBodyLength, IsUntouched, bad_length, bare_shown, frame_shown, is_small_buffer, small_buffer};
 ghost use Rattle.wf_c.specs.CellCalls.{IsStepped, IsTakenBack, TurnsInto};
 ghost use Rattle.wf_c.specs.Making.{no_memory};
 
+use crate::bare::Bare;
 use crate::cell::held::HeldCell;
 use crate::cell::slot::CellSlot;
 use crate::exchanges::SMALL_BUFFER;
@@ -19,7 +20,7 @@ use wf_queue_parts::chain::Parcel;
 
 impl HeldCell {
     // Enqueues a frame, or frees it if it is refused.
-    fn give(&mut self, caller: u32, parcel: Parcel) -> Reply
+    pub(crate) fn give(&mut self, caller: u32, parcel: Parcel) -> Reply
         ensures { IsStepped self.old caller (Give parcel) self.new result }
     {
         let _ = self.cell.step(caller, Job::Give(parcel), &mut self.answer);
@@ -34,7 +35,7 @@ impl HeldCell {
         let back = self
             .cell
             .step(caller, Job::Call(Ask::Reap), &mut self.answer);
-        show_back(back, taken, body);
+        show_back(&back, taken, body);
         Reply::of(self.answer.brief)
     }
 }
@@ -68,9 +69,41 @@ pub extern "C" fn wf_cell_enqueue(
     }
 }
 
+/// Accepts a packet for a station as a frame, without its octets. Returns 0; 41 if the length is 0 or above
+/// 2304; 40 if there is no memory for the frame; or the refusal of the call. After 40 and 41 nothing has
+/// changed.
+#[unsafe(no_mangle)]
+pub extern "C" fn wf_cell_enqueue_bare(
+    alloc: Global,
+    cell: &mut CellSlot,
+    caller: u32,
+    station: u16,
+    packet: &Bare,
+    reply: &mut Reply,
+) -> i32
+    requires open { is_some cell.old.value ≡ true }
+    ensures given { IsBodyLength packet.now.length → TurnsInto (λ h k. IsStepped h caller
+        (Give (bare_shown station packet.now)) k reply.new ×
+        (result ≡ pos reply.new.refusal)) cell.old.value cell.new.value ⊎
+        IsUntouched cell.old.value cell.new.value reply.old reply.new result no_memory }
+    ensures refused { IsBadLength packet.now.length →
+        IsUntouched cell.old.value cell.new.value reply.old reply.new result bad_length }
+{
+    let Some(frame) = packet.frame(station) else {
+        return BAD_LENGTH;
+    };
+    match Parcel::new(alloc, frame) {
+        Ok(parcel) => {
+            *reply = cell.held().give(caller, parcel);
+            i32::from(reply.refusal)
+        }
+        Err(_) => NO_MEMORY,
+    }
+}
+
 /// Takes out the first finished frame, and copies its body to the front of a buffer. A buffer of 0 octets
-/// gets no body. Returns the refusal, or 0; or 42 if the buffer has some room, but not for the longest body,
-/// and then nothing has changed.
+/// gets no body, and a bare frame changes no buffer. Returns the refusal, or 0; or 42 if the buffer has some
+/// room, but not for the longest body, and then nothing has changed.
 #[unsafe(no_mangle)]
 pub extern "C" fn wf_cell_reap(
     cell: &mut CellSlot,

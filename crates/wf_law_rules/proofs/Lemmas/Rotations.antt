@@ -1,11 +1,11 @@
 -- Proves what a pick does to the lists of a rotation and to the order of the old list. By cases of the
 -- winner: none, in round 0, or in a later round.
-use Rattle.std.proofs.Common.{◌≡◌, refl, ap, sym, ◌∙◌, subst, arith, ℕ, zero, suc, ◌+◌, ◌*◌, ◌<◌, ◌≤◌, min, max, Bool, true, false, if◌then◌else◌, cond, not, ◌&&◌, ◌||◌, ◌==◌, nat_le, List, [], ◌∷◌, ◌++◌, filter, eq-eqb, inl, inr, Option, Some, None, find}
+use Rattle.std.proofs.Common.{◌≡◌, refl, ap, sym, ◌∙◌, subst, arith, ℕ, zero, suc, ◌+◌, ◌*◌, ◌<◌, ◌≤◌, min, max, Bool, true, false, if◌then◌else◌, cond, not, ◌&&◌, ◌||◌, ◌==◌, nat_le, List, [], ◌∷◌, ◌++◌, filter, eq-eqb, inl, inr, Option, ◌⊎◌, Some, None, find}
 use Rattle.std.proofs.lemmas.Bool.{cases_Bool, cases_eq, eqb-true, eqb-false, ne_eqb, and_parts, leb-true, leb-false, not_from_true, not_from_false}
 use Rattle.wf_def_lists.specs.Table.{has}
 use Rattle.wf_def_rotation.specs.Rotation.{Rotation, has_key, in_order, round, first_of_two, first_least, keys_before, keys_from, old_visits, all_visits, is_out, Picked, none_ready, picked_now, picked_later, pick_from, pick}
 use Rattle.wf_def_lists.specs.Lists.{on}
-use Rattle.wf_law_rules.proofs.Lemmas.Counts.{ahead, on-nil, on-cons, on-cons_same, on-cons_other, on-append, ahead-append, ahead-none, on-filter, on-filter_out, on-filter_le, ahead-filter, has-on, hasnot-on, on-has, on-hasnot, before_from, on-before_self, on-split}
+use Rattle.wf_law_rules.proofs.Lemmas.Counts.{ahead, on-nil, on-cons, on-cons_same, on-cons_other, on-append, ahead-append, ahead-none, on-filter, on-filter_out, on-filter_le, ahead-filter, has-on, hasnot-on, on-has, on-hasnot, before_from, on-before_self, on-split, listed-some}
 
 -- ---- the first ready key with the least round
 
@@ -468,3 +468,46 @@ pick_none need ready r = pick_is (λ p. p.winner ≡ None → (y : ℕ) → read
     (λ none _. none)
     (λ u _ _ _ e. absurd (cc e))
     (λ u _ e. absurd (cc e))
+
+min_least : (m n : ℕ) → n ≤ m → min m n ≡ n
+min_least m n h = omega arith
+
+leaves_later : (need : ℕ → ℕ) (ready : ℕ → Bool) (r : Rotation) (v k y : ℕ) → 0 < on (in_order r) y →
+    (0 < on (in_order (picked_later need ready r v k).lists) y)
+    ⊎ ((picked_later need ready r v k).quanta y ≡ need y)
+leaves_later need ready r v k y listed = elim (cases_Bool (is_out need ready r v k y)) [
+  | inr stays ↦ inl (omega (
+    arith,
+    later-on need ready r v k y,
+    on-filter (λ z. not (is_out need ready r v k z)) (keys_from v (in_order r) ++ keys_before v (in_order r))
+        y (not_from_false _ stays),
+    visited-on r v y,
+  ))
+  | inl out ↦
+      let visits : max 1 (round need r y) ≤ old_visits r v k y =
+      leb-true _ _ (and_parts (not (ready y)) _ out).1 in
+      let enough : need y ≤ all_visits r v k y = go (has r.new y) refl (omega arith) in
+      inr (elim (cases_Bool (y == v)) [
+        | inl won ↦ rw won refl
+        | inr other ↦ rw (other, listed-some r y listed) (min_least (all_visits r v k y) (need y) enough)
+      ])
+]
+  where
+    go : (b : Bool) → has r.new y ≡ b → round need r y ≤ old_visits r v k y → need y ≤ all_visits r v k y
+    go true e h =
+        let h' : need y ≤ old_visits r v k y =
+        subst (λ (b : Bool). (if b then need y else 1 + need y) ≤ old_visits r v k y) e h in
+        omega arith
+    go false e h =
+        let h' : 1 + need y ≤ old_visits r v k y =
+        subst (λ (b : Bool). (if b then need y else 1 + need y) ≤ old_visits r v k y) e h in
+        omega arith
+
+-- A key that a pick removes from the lists gets the quanta that it needs.
+pub pick_leaves : (need : ℕ → ℕ) (ready : ℕ → Bool) (r : Rotation) (y : ℕ) → 0 < on (in_order r) y →
+    (0 < on (in_order (pick need ready r).lists) y) ⊎ ((pick need ready r).quanta y ≡ need y)
+pick_leaves need ready r y listed =
+    pick_is (λ p. (0 < on (in_order p.lists) y) ⊎ (p.quanta y ≡ need y)) need ready r
+    (λ _. inr (rw (listed-some r y listed) refl))
+    (λ v _ _ _. inl (omega (arith, now-on need r v y)))
+    (λ v _. leaves_later need ready r v (round need r v) y listed)

@@ -24,6 +24,7 @@ use Rattle.wf_def_world.specs.Stretches.{world_at}
 use Rattle.wf_law_runs.specs.Attempts.{IsTried, AttemptsLaw}
 use Rattle.wf_law_rules.proofs.Lemmas.Numbers.{on_if, le_yes, le_no}
 use Rattle.wf_law_rules.proofs.Lemmas.Tables.{each_put}
+use Rattle.wf_law_runs.proofs.Common.Refused.{after_idle}
 use Rattle.wf_law_runs.proofs.Sessions.Flights.{AllIn, Rises, all_in_later}
 use Rattle.wf_law_runs.proofs.Deficits.Configs.{config_step}
 use Rattle.wf_law_runs.proofs.Windows.Opened.{eight}
@@ -347,7 +348,8 @@ tried_done (Asked Reap) limit w some same_limit i h = tried_reaped w.finished li
 tried_refused : (note : Note) (r : Refusal) (limit : ℕ) (w : World) → Tried limit w →
     Tried limit (after_refusal w note r)
 unfolding after_refusal
-tried_refused (Asked (Pull c)) Idle limit w h = tried_same limit w _ (same_after_pick w c) h
+tried_refused (Asked (Pull c)) Idle limit w h = after_idle (Tried limit) w c h
+    (tried_same limit w _ (same_after_pick w c) h)
 tried_refused _ _ limit w h = h
 
 tried_answer : (r : Option Refusal) (limit : ℕ) (w : World) (note : Note) → 1 ≤ limit →

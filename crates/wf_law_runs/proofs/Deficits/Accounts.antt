@@ -23,6 +23,7 @@ use Rattle.wf_def_world.specs.CanSend.{with_listing_in, with_listings_in, with_l
 use Rattle.wf_def_world.specs.Exchanges.{Aggregate, Prepared, with_station_paid, with_stations_paid, after_pick, after_tid_turn, with_fresh, aggregate_of, with_number, without_credit, prepared_data, prepared_exchange, with_exchange_opened, after_charge, with_failed_finished, with_settled, with_all_settled, after_done, charge_of}
 use Rattle.wf_def_world.specs.Step.{Outcome, join_outcome, after_tid_left, after_tids_left, without_listings, leave_outcome, rate_outcome, tick_outcome, with_frame, enqueue_outcome, send_outcome, pull_outcome_for, pull_outcome, arrive_outcome, answer_outcome, done_outcome, outcome_where_open, sleep_outcome, wake_outcome, poll_outcome, rx_outcome, reap_outcome, outcome_of, after_refusal, judged_outcome, step}
 use Rattle.wf_def_world.specs.Run.{Entry, world_after}
+use Rattle.wf_law_runs.proofs.Common.Refused.{after_idle}
 use Rattle.wf_law_runs.proofs.Deficits.Balance.{IsBalanced, IsFairStation, IsFair}
 use Rattle.wf_law_rules.proofs.Lemmas.Tables.{each_put}
 
@@ -372,7 +373,7 @@ fair_done (Asked Reap) w h = fair_reaped _ w h
 
 fair_refused : (note : Note) (r : Refusal) (w : World) → IsFair w → IsFair (after_refusal w note r)
 unfolding after_refusal
-fair_refused (Asked (Pull c)) Idle w h = fair_after_pick w c h
+fair_refused (Asked (Pull c)) Idle w h = after_idle IsFair w c h (fair_after_pick w c h)
 fair_refused _ _ w h = h
 
 fair_answer : (r : Option Refusal) (w : World) (note : Note) → IsFair w →

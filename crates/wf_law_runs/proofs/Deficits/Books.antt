@@ -27,6 +27,14 @@ each_upd P f k v h p i = elim (cases_eq i k) [
   | inr other ↦ rw (ne_eqb i k other) (h i)
 ]
 
+-- The same, if the other values are known.
+pub others_upd : {X : Type 0} (P : ℕ → X → Type 0) (f : ℕ → X) (k : ℕ) (v : X) →
+    ((i : ℕ) → (i ≡ k → ⊥) → P i (f i)) → P k v → (i : ℕ) → P i (upd f k v i)
+others_upd P f k v h p i = elim (cases_eq i k) [
+  | inl e ↦ rw (eq-eqb i k e) (subst (λ (n : ℕ). P n v) (sym e) p)
+  | inr other ↦ rw (ne_eqb i k other) (h i other)
+]
+
 pub upd_same : {X : Type 0} (f : ℕ → X) (k : ℕ) (v : X) → upd f k v k ≡ v
 upd_same f k v = rw (eq-eqb k k refl) refl
 
@@ -87,6 +95,15 @@ pub each_updc : {X : Type 0} (P : Class → X → Type 0) (f : Class → X) (c :
 each_updc P f c v h p d = elim (cases_class d c) [
   | inl e ↦ subst (λ (z : Class). P z (updc f c v z)) (sym e) (rw (updc_same f c v) p)
   | inr other ↦ rw (updc_other f c d v other) (h d)
+]
+
+-- The same, if the other values are known.
+pub others_updc : {X : Type 0} (P : Class → X → Type 0) (f : Class → X) (c : Class) (v : X) →
+    ((d : Class) → (class_number d ≡ class_number c → ⊥) → P d (f d)) → P c v → (d : Class) →
+    P d (updc f c v d)
+others_updc P f c v h p d = elim (cases_class d c) [
+  | inl e ↦ subst (λ (z : Class). P z (updc f c v z)) (sym e) (rw (updc_same f c v) p)
+  | inr other ↦ rw (updc_other f c d v other) (h d other)
 ]
 
 pub updc_idle : {X : Type 0} (f : Class → X) (c : Class) (v : X) → v ≡ f c → updc f c v ≡ f

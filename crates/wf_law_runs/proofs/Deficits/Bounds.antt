@@ -1,20 +1,28 @@
 -- Proves that a deficit stays in its bounds when quanta are given, when an exchange is charged, and when
 -- received airtime is charged.
-use Rattle.std.proofs.Common.{◌≡◌, arith, ℕ, zero, suc, ◌+◌, ◌*◌, ◌/◌, ◌%◌, ◌<◌, ◌≤◌, ℤ, pos, negsuc, ◌+ℤ◌, ◌-ℤ◌, ◌≤ℤ◌}
+use Rattle.std.proofs.Common.{◌≡◌, arith, ℕ, zero, suc, ◌+◌, ◌*◌, ◌/◌, ◌%◌, ◌<◌, ◌≤◌, ℤ, pos, negsuc, ◌+ℤ◌, ◌-ℤ◌, ◌≤ℤ◌, ◌==◌, if◌then◌else◌}
 use Rattle.std.proofs.lemmas.Int.{ints}
 use Rattle.std.proofs.lemmas.Nat.{div-add-mod', mod_below}
 use Rattle.wf_frame.specs.declared.settings.Config.{Config}
 use Rattle.wf_def_rotation.specs.Rotation.{need_of}
 use Rattle.wf_def_lists.specs.Bounds.{deepest_deficit}
 use Rattle.wf_def_world.specs.World.{Share}
-use Rattle.wf_law_runs.specs.Deficits.{most_owed}
+use Rattle.wf_law_runs.specs.Deficits.{longest_computed, most_owed, most_covered}
 use Rattle.wf_law_runs.proofs.Deficits.BookSteps.{pay_share, charge_share, receive_share, fresh_share}
 
--- The bounds of a deficit. m is the greatest charge of the station's open exchanges.
-pub record IsBounded (config : Config) (m weight : ℕ) (x : Share) : Type 0 where
-  pub most : x.deficit ≤ℤ pos (config.quantum * weight)
+-- Returns how much of a station's airtime in flight counts against its deficit.
+abbrev pub counted : Config → ℕ → ℕ
+counted config airtime = if config.pending == 1 then airtime else 0
+
+-- The bounds of a deficit. m is the greatest charge of the station's open exchanges, and n is how much of
+-- their computed charge counts against the deficit.
+pub record IsBounded (config : Config) (m n weight : ℕ) (x : Share) : Type 0 where
+  pub most : x.deficit ≤ℤ pos (config.quantum * weight + most_covered config)
   pub least : pos m ≤ℤ (x.deficit +ℤ pos (config.debt + most_owed config))
   pub quiet : x.received ≡ 0 → pos (1 + m) ≤ℤ (x.deficit +ℤ pos (most_owed config))
+  pub within : config.charge ≡ 0 → (x.deficit -ℤ pos n) ≤ℤ pos (config.quantum * weight)
+  pub backed : config.pending ≡ 1 → config.charge ≡ 0 → x.received ≡ 0 →
+      pos 1 ≤ℤ ((x.deficit -ℤ pos n) +ℤ pos (longest_computed config))
 
 -- ---- giving quanta
 
@@ -48,60 +56,99 @@ paid_least q (pos zero) some = omega (arith, ints)
 paid_least q (pos (suc d)) some = omega (arith, ints)
 paid_least q (negsuc d) some = omega (arith, ints, grant_least q d some)
 
-pub bounded_pay : (config : Config) (m weight n : ℕ) (x : Share) →
-    n ≤ need_of (config.quantum * weight) x.deficit → IsBounded config m weight x →
-    IsBounded config m weight (pay_share (config.quantum * weight) n x)
-bounded_pay config m weight n x h b = record {
-  most = paid_most (config.quantum * weight) n x.deficit b.most h;
+-- At least one quantum that is needed raises a deficit to at most one quantum.
+pub paid_some : (q n : ℕ) (d : ℤ) → 1 ≤ n → n ≤ need_of q d → (d +ℤ pos (n * q)) ≤ℤ pos q
+paid_some q n (pos zero) one k = paid_most q n (pos zero) (omega (arith, ints)) k
+paid_some q n (pos (suc d)) one k = absurd (omega arith)
+paid_some q n (negsuc d) one k = paid_most q n (negsuc d) (omega (arith, ints)) k
+
+-- The same for a deficit against which n is counted.
+paid_over : (q k n v : ℕ) (d : ℤ) → d ≤ℤ pos (q + v) → n ≤ v → k ≤ need_of q (d -ℤ pos n) →
+    (d +ℤ pos (k * q)) ≤ℤ pos (q + v)
+paid_over q zero n v d h l m = omega (arith, ints)
+paid_over q (suc k) n v d h l m = over (suc k * q) (paid_some q (suc k) (d -ℤ pos n) (omega arith) m)
+  where
+    over : (g : ℕ) → ((d -ℤ pos n) +ℤ pos g) ≤ℤ pos q → (d +ℤ pos g) ≤ℤ pos (q + v)
+    over g z = omega (arith, ints)
+
+pub bounded_pay : (config : Config) (m n weight k : ℕ) (x : Share) →
+    k ≤ need_of (config.quantum * weight) (x.deficit -ℤ pos n) → n ≤ most_covered config →
+    IsBounded config m n weight x → IsBounded config m n weight (pay_share (config.quantum * weight) k x)
+bounded_pay config m n weight k x h covered b = record {
+  most = paid_over (config.quantum * weight) k n (most_covered config) x.deficit b.most covered h;
   least = omega (arith, ints, b.least);
   quiet = λ r. omega (arith, ints, b.quiet r);
+  within = λ e. move (k * (config.quantum * weight)) (config.quantum * weight)
+      (paid_most (config.quantum * weight) k (x.deficit -ℤ pos n) (b.within e) h);
+  backed = λ p e r. more (k * (config.quantum * weight)) (b.backed p e r);
 }
+  where
+    move : (g u : ℕ) → ((x.deficit -ℤ pos n) +ℤ pos g) ≤ℤ pos u → ((x.deficit +ℤ pos g) -ℤ pos n) ≤ℤ pos u
+    move g u z = omega (arith, ints)
+
+    more : (g : ℕ) → pos 1 ≤ℤ ((x.deficit -ℤ pos n) +ℤ pos (longest_computed config)) →
+        pos 1 ≤ℤ (((x.deficit +ℤ pos g) -ℤ pos n) +ℤ pos (longest_computed config))
+    more g z = omega (arith, ints)
 
 -- ---- charging
 
--- An exchange opens only if the deficit is above 0.
-pub bounded_open : (config : Config) (m weight : ℕ) (x : Share) → pos 1 ≤ℤ x.deficit → m ≤ most_owed config →
-    x.deficit ≤ℤ pos (config.quantum * weight) → IsBounded config m weight x
-bounded_open config m weight x h k b = record {
-  most = b;
+-- An exchange opens only if the deficit is above the airtime that is counted against it. This airtime grows
+-- from n to k, by at most one exchange.
+pub bounded_open : (config : Config) (l m n k weight : ℕ) (x : Share) → pos 1 ≤ℤ (x.deficit -ℤ pos n) →
+    m ≤ most_owed config → n ≤ k → k ≤ n + longest_computed config → IsBounded config l n weight x →
+    IsBounded config m k weight x
+bounded_open config l m n k weight x h most more one b = record {
+  most = b.most;
   least = omega (arith, ints);
   quiet = λ r. omega (arith, ints);
+  within = λ e. omega (arith, ints, b.within e);
+  backed = λ p e r. omega (arith, ints);
 }
 
 -- The bounds hold for a smaller charge of open exchanges too.
-pub bounded_less : (config : Config) (m k weight : ℕ) (x : Share) → k ≤ m → IsBounded config m weight x →
-    IsBounded config k weight x
-bounded_less config m k weight x h b = record {
+pub bounded_less : (config : Config) (m k n weight : ℕ) (x : Share) → k ≤ m → IsBounded config m n weight x →
+    IsBounded config k n weight x
+bounded_less config m k n weight x h b = record {
   most = b.most;
   least = omega (arith, ints, b.least);
   quiet = λ r. omega (arith, ints, b.quiet r);
+  within = b.within;
+  backed = b.backed;
 }
 
--- An exchange ends: a charge n that was a part of m is made.
-pub bounded_charge : (config : Config) (m k n weight : ℕ) (x : Share) → k + n ≤ m →
-    IsBounded config m weight x → IsBounded config k weight (charge_share n x)
-bounded_charge config m k n weight x h b = record {
+-- An exchange ends: a charge that was a part of m is made. The airtime that is counted falls from n to j. If
+-- no Done gives an airtime, it falls by the charge.
+pub bounded_charge : (config : Config) (m k n j charge weight : ℕ) (x : Share) → k + charge ≤ m →
+    (config.charge ≡ 0 → n ≤ j + charge) → (config.pending ≡ 1 → config.charge ≡ 0 → j + charge ≤ n) →
+    IsBounded config m n weight x → IsBounded config k j weight (charge_share charge x)
+bounded_charge config m k n j charge weight x h over under b = record {
   most = omega (arith, ints, b.most);
   least = omega (arith, ints, b.least);
   quiet = λ r. omega (arith, ints, b.quiet r);
+  within = λ e. omega (arith, ints, b.within e, over e);
+  backed = λ p e r. omega (arith, ints, b.backed p e r, under p e);
 }
 
 -- A receive charge brings the deficit at most the setting `debt` below 0.
-pub bounded_receive : (config : Config) (m n weight : ℕ) (x : Share) → m ≤ most_owed config → 0 < n →
-    deepest_deficit config.debt ≤ℤ (x.deficit -ℤ pos n) → IsBounded config m weight x →
-    IsBounded config m weight (receive_share n x)
-bounded_receive config m n weight x h some debt b = record {
+pub bounded_receive : (config : Config) (m n air weight : ℕ) (x : Share) → m ≤ most_owed config → 0 < air →
+    deepest_deficit config.debt ≤ℤ (x.deficit -ℤ pos air) → IsBounded config m n weight x →
+    IsBounded config m n weight (receive_share air x)
+bounded_receive config m n air weight x h some debt b = record {
   most = omega (arith, ints, b.most);
   least = omega (arith, ints);
   quiet = λ r. absurd (omega arith);
+  within = λ e. omega (arith, ints, b.within e);
+  backed = λ p e r. absurd (omega arith);
 }
 
-pub bounded_fresh : (config : Config) (m weight : ℕ) → 0 < config.quantum → 0 < weight →
-    m ≤ most_owed config → IsBounded config m weight (fresh_share (config.quantum * weight))
-bounded_fresh config m weight some w h =
+pub bounded_fresh : (config : Config) (m n weight : ℕ) → 0 < config.quantum → 0 < weight →
+    m ≤ most_owed config → n ≡ 0 → IsBounded config m n weight (fresh_share (config.quantum * weight))
+bounded_fresh config m n weight some w h none =
     let one : 1 ≤ config.quantum * weight = grind arith in
     record {
       most = omega (arith, ints);
       least = omega (arith, ints);
       quiet = λ r. omega (arith, ints);
+      within = λ e. omega (arith, ints);
+      backed = λ p e r. omega (arith, ints);
     }

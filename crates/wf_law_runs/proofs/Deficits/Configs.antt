@@ -6,30 +6,31 @@ use Rattle.wf_frame.specs.declared.notes.Note.{Note}
 use Rattle.wf_frame.specs.declared.notes.Note.TheVariants.{Enqueue, Asked}
 use Rattle.wf_frame.specs.declared.notes.Refusal.{Refusal}
 use Rattle.wf_frame.specs.declared.notes.Refusal.TheVariants.{Idle}
-use Rattle.wf_def_rotation.specs.Rotation.{with_new_key}
-use Rattle.wf_def_world.specs.World.{World, Exchange, rotation, exchange, with_rotation, with_exchange, on_receiver, on_tid, on_station, with_station}
+use Rattle.wf_def_rotation.specs.Rotation.{Rotation}
+use Rattle.wf_def_world.specs.World.{World, Exchange, exchange, with_rotation, with_exchange, on_receiver, on_tid, on_station, with_station}
 use Rattle.wf_frame.specs.Classes.{all_classes}
 use Rattle.wf_def_world.specs.CanSend.{with_listing_in, with_listings_in, with_listings_of}
 use Rattle.wf_def_world.specs.Exchanges.{Prepared, after_pick, after_tid_turn, prepared_exchange, sending_tid}
 use Rattle.wf_def_world.specs.Refusals.{refusal}
 use Rattle.wf_def_world.specs.Step.{Outcome, tick_outcome, outcome_where_open, pull_outcome_for, pull_outcome, arrive_outcome, answer_outcome, outcome_of, after_refusal, judged_outcome, step}
 use Rattle.wf_def_world.specs.Run.{Entry, world_after}
+use Rattle.wf_law_runs.proofs.Common.Refused.{after_idle}
 use Rattle.wf_law_runs.proofs.Deficits.Books.{Books, books}
 use Rattle.wf_law_runs.proofs.Deficits.BookSteps.{books_after_turn, books_prepared, books_sent, books_ended, books_gone, books_enqueued, books_received, books_reaped, books_slept, books_woken, books_credited, books_with_rate, books_joined, books_after_pick}
 
 same : (w v : World) (b : Books) → books v ≡ b → b.config ≡ w.config → v.config ≡ w.config
 same w v b e h = ap (λ (z : Books). z.config) e ∙ h
 
-listed_if : (w : World) (s : ℕ) (c : Class) (b : Bool) →
-    (if b then with_rotation w c (with_new_key (rotation w c) s) else w).config ≡ w.config
+listed_if : (w : World) (c : Class) (r : Rotation) (b : Bool) →
+    (if b then with_rotation w c r else w).config ≡ w.config
 unfolding with_rotation
-listed_if w s c true = refl
-listed_if w s c false = refl
+listed_if w c r true = refl
+listed_if w c r false = refl
 
 config_listed_in_all : (cs : List Class) (w : World) (s : ℕ) → (with_listings_in w s cs).config ≡ w.config
 unfolding with_listings_in with_listing_in
 config_listed_in_all [] w s = refl
-config_listed_in_all (c ∷ cs) w s = config_listed_in_all cs _ s ∙ listed_if w s c _
+config_listed_in_all (c ∷ cs) w s = config_listed_in_all cs _ s ∙ listed_if w c _ _
 
 config_listed : (o : Option ℕ) (w : World) → (with_listings_of w o).config ≡ w.config
 unfolding with_listings_of
@@ -67,7 +68,7 @@ config_answered : (w : World) (x : Exchange) → (answer_outcome w x).world.conf
 unfolding answer_outcome with_exchange
 config_answered w x = refl
 
-config_done : (note : Note) (w : World) → (outcome_of w note).world.config ≡ w.config
+pub config_done : (note : Note) (w : World) → (outcome_of w note).world.config ≡ w.config
 unfolding outcome_of tick_outcome
 config_done (Enqueue s t flow len) w = ap (λ (z : Books). z.config) (books_enqueued w s t flow len)
 config_done (Asked (Join s window start exponent weight)) w =
@@ -89,7 +90,8 @@ config_done (Asked Reap) w = ap (λ (z : Books). z.config) (books_reaped w.finis
 
 config_refused : (note : Note) (r : Refusal) (w : World) → (after_refusal w note r).config ≡ w.config
 unfolding after_refusal
-config_refused (Asked (Pull c)) Idle w = config_after_pick w c
+config_refused (Asked (Pull c)) Idle w = after_idle (λ v. v.config ≡ w.config) w c refl
+    (config_after_pick w c)
 config_refused _ _ w = refl
 
 config_answer : (r : Option Refusal) (w : World) (note : Note) →

@@ -18,6 +18,7 @@ use Rattle.wf_def_world.specs.Run.{Entry, world_after}
 use Rattle.wf_def_world.specs.Stretches.{world_at}
 use Rattle.wf_law_rules.proofs.Lemmas.Numbers.{on_if, yes_le, not_eq, either, or_left, or_right}
 use Rattle.wf_law_runs.specs.Delay.{HasOpen, computed_of, airtime_ended_by, airtime_ended, EndsFirst, EndInOrder, DelayLaw}
+use Rattle.wf_law_runs.proofs.Common.Refused.{after_idle}
 use Rattle.wf_law_runs.proofs.Deficits.Books.{core, Books, books}
 use Rattle.wf_law_runs.proofs.Deficits.BookSteps.{books_after_turn, books_prepared, books_sent, with_opened, books_ended, books_gone, books_enqueued, books_received, books_reaped, books_slept, books_woken, books_credited, books_with_rate, books_joined, books_after_pick}
 use Rattle.wf_law_runs.proofs.Deficits.Kept.{IsKept}
@@ -248,7 +249,8 @@ passes_done n (Asked Reap) w r k b = passes_books _ n w (books w) _ (books_reape
 passes_refused : (Q : Type 0) (n : ℕ) (note : Note) (r : Refusal) (w : World) →
     Passes Q n 0 (books w) (books (after_refusal w note r))
 unfolding after_refusal
-passes_refused Q n (Asked (Pull c)) Idle w = passes_books Q n w _ _ (books_after_pick w c) refl refl
+passes_refused Q n (Asked (Pull c)) Idle w = after_idle (λ v. Passes Q n 0 (books w) (books v)) w c
+    (passes_same Q n (books w) (books w) refl refl) (passes_books Q n w _ _ (books_after_pick w c) refl refl)
 passes_refused Q n _ _ w = passes_same Q n (books w) (books w) refl refl
 
 refused_ends : (note : Note) (r : Refusal) (w : World) → refusal w note ≡ Some r → airtime_ended_by w note ≡ 0

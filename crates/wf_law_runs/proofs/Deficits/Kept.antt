@@ -1,23 +1,24 @@
 -- Defines an invariant of the books about each class's lists, the open exchanges and the bounds of the
 -- deficits. Proves that each kind of change keeps it.
-use Rattle.std.proofs.Common.{◌≡◌, ◌≢◌, refl, ap, sym, ◌∙◌, subst, arith, ℕ, zero, suc, ◌+◌, ◌*◌, ◌<◌, ◌≤◌, pos, ◌≤ℤ◌, Bool, true, false, if◌then◌else◌, List, [], ◌∷◌, ◌++◌, Option, Some, None, is_some, IfSome, option_map, not, ◌&&◌, find, ◌==◌, eq-eqb, inl, inr}
+use Rattle.std.proofs.Common.{◌≡◌, ◌≢◌, refl, ap, sym, ◌∙◌, subst, arith, ℕ, zero, suc, ◌+◌, ◌*◌, ◌<◌, ◌≤◌, ℤ, pos, ◌+ℤ◌, ◌-ℤ◌, ◌≤ℤ◌, Bool, true, false, if◌then◌else◌, List, [], ◌∷◌, ◌++◌, Option, Some, None, is_some, IfSome, option_map, not, ◌&&◌, find, ◌==◌, eq-eqb, inl, inr}
+use Rattle.std.proofs.lemmas.Int.{ints}
 use Rattle.std.proofs.lemmas.Bool.{cases_eq, eqb-true, or_parts, and_parts, not_from_true}
 use Rattle.wf_frame.specs.declared.settings.Config.{Config}
 use Rattle.wf_frame.specs.declared.classes.Class.{Class}
 use Rattle.wf_frame.specs.declared.classes.Class.TheVariants.{Bk, Be, Vi, Vo}
 use Rattle.wf_def_lists.specs.Table.{has}
-use Rattle.wf_def_rotation.specs.Rotation.{Rotation, without_key, with_new_key, has_key, in_order, Picked, need_of}
+use Rattle.wf_def_rotation.specs.Rotation.{Rotation, without_key, with_new_key, with_key_listed, has_key, in_order, Picked, need_of}
 use Rattle.wf_def_air.specs.Airtime.{IsRate}
 use Rattle.wf_def_world.specs.World.{Exchange, owed, owed_by_all}
 use Rattle.wf_frame.specs.Classes.{class_number, same_class}
 use Rattle.wf_frame.specs.Settings.{IsInRange}
-use Rattle.wf_law_runs.specs.Deficits.{longest_computed, longest_exchange, most_owed}
+use Rattle.wf_law_runs.specs.Deficits.{longest_computed, longest_exchange, most_owed, most_covered}
 use Rattle.wf_def_lists.specs.Lists.{on}
 use Rattle.wf_law_rules.proofs.Lemmas.Counts.{on-nil, on-cons_same, on-cons_other, on-append, on-filter_le, on-filter_out, hasnot-on}
-use Rattle.wf_law_runs.proofs.Deficits.Books.{each_upd, upd_other, each_updc, updc_same, cases_class, same_number, Account, core, Books, with_account, with_lists, on_part}
+use Rattle.wf_law_runs.proofs.Deficits.Books.{each_upd, others_upd, upd_other, each_updc, others_updc, updc_same, cases_class, same_number, Account, core, Books, with_account, with_lists, on_part}
 use Rattle.wf_law_runs.proofs.Deficits.BookSteps.{with_opened, without, charge_share, with_charge, off, all_off, fresh_account, pay_share, paid, all_paid, after}
-use Rattle.wf_law_runs.proofs.Deficits.Openings.{Every, every_map, every_append, every_filter, Rising, rising_append, rising_filter, many, many-more, many-other, many-filter, part_of, reserved, reserved-append, reserved-filter, reserved-ended, reserved_most, owed-filter, owed-append, owed_all-filter, owed_all-append}
-use Rattle.wf_law_runs.proofs.Deficits.Bounds.{IsBounded, paid_least, bounded_pay, bounded_open, bounded_less, bounded_charge, bounded_fresh}
+use Rattle.wf_law_runs.proofs.Deficits.Openings.{Every, every_map, every_append, every_filter, Rising, rising_append, rising_filter, many, many-more, many-other, many-filter, part_of, reserved, reserved-append, reserved-filter, reserved-ended, reserved_most, owed-filter, owed-append, owed_of, owed-ended, owed-none, owed_all-filter, owed_all-append}
+use Rattle.wf_law_runs.proofs.Deficits.Bounds.{counted, IsBounded, paid_least, bounded_pay, bounded_open, bounded_less, bounded_charge, bounded_fresh}
 
 -- The invariant of an open exchange.
 pub record IsOpen (b : Books) (x : Exchange) : Type 0 where
@@ -30,11 +31,17 @@ pub record IsOpen (b : Books) (x : Exchange) : Type 0 where
 abbrev pub at_stake : Config → ℕ → Class → List Exchange → ℕ
 at_stake config s c opened = reserved (longest_exchange config) s c opened
 
+-- Returns how much of the computed charge of a station's open exchanges in a class counts against its
+-- deficit.
+abbrev pub counted_in : Config → ℕ → Class → List Exchange → ℕ
+counted_in config s c opened = counted config (owed s c opened)
+
 -- The invariant of a live station's account.
 pub record IsGood (config : Config) (opened : List Exchange) (s : ℕ) (a : Account) : Type 0 where
   pub weight : 0 < a.weight
   pub rate : IsRate a.rate
-  pub bounds : (c : Class) → IsBounded config (at_stake config s c opened) a.weight (a.shares c)
+  pub bounds : (c : Class) → IsBounded config (at_stake config s c opened) (counted_in config s c opened)
+      a.weight (a.shares c)
 
 -- The open exchanges exceed each limit on airtime in flight by less than one exchange.
 pub record IsWithin (config : Config) (opened : List Exchange) : Type 0 where
@@ -126,38 +133,49 @@ added-on r s y = omega (
   on-append r.old r.new y,
 )
 
-pub kept_add : (b : Books) (c : Class) (s : ℕ) → IsKept b → has_key (b.rotations c) s ≡ false →
-    is_some (b.accounts s) ≡ true → IsKept (with_lists b c (with_new_key (b.rotations c) s))
-kept_add b c s i off_lists is = record {
+-- A key that is listed is added to the keys on both lists, on whichever list it is.
+pub listed-on : (ready : Bool) (r : Rotation) (s y : ℕ) → on (in_order (with_key_listed ready r s)) y
+    ≡ on (in_order r) y + on (s ∷ []) y
+listed-on true r s y = added-on r s y
+listed-on false r s y = omega (
+  arith,
+  on-append (r.old ++ s ∷ []) r.new y,
+  on-append r.old (s ∷ []) y,
+  on-append r.old r.new y,
+)
+
+pub kept_add : (b : Books) (c : Class) (s : ℕ) (ready : Bool) → IsKept b → has_key (b.rotations c) s ≡ false →
+    is_some (b.accounts s) ≡ true → IsKept (with_lists b c (with_key_listed ready (b.rotations c) s))
+kept_add b c s ready i off_lists is = record {
   range = i.range;
   once = each_updc (λ d z. (y : ℕ) → on (in_order z) y ≤ 1) b.rotations c
-      (with_new_key (b.rotations c) s) i.once (λ y. elim (cases_eq s y) [
+      (with_key_listed ready (b.rotations c) s) i.once (λ y. elim (cases_eq s y) [
         | inl e ↦
             let none : on (in_order (b.rotations c)) y ≡ 0 =
             subst (λ (z : ℕ). on (in_order (b.rotations c)) z ≡ 0) e
             (unlisted-on (b.rotations c) s off_lists) in
             let one : on (s ∷ []) y ≡ 1 = subst (λ (z : ℕ). on (s ∷ []) z ≡ 1) e
             (omega (arith, on-cons_same s [], on-nil s)) in
-            omega (arith, added-on (b.rotations c) s y)
+            omega (arith, listed-on ready (b.rotations c) s y)
         | inr other ↦ omega (
           arith,
-          added-on (b.rotations c) s y,
+          listed-on ready (b.rotations c) s y,
           on-cons_other s y [] other,
           on-nil y,
           i.once c y,
         )
       ]);
   live = each_updc (λ d z. (y : ℕ) → 0 < on (in_order z) y → is_some (b.accounts y) ≡ true) b.rotations c
-      (with_new_key (b.rotations c) s) i.live (λ y stands. elim (cases_eq s y) [
+      (with_key_listed ready (b.rotations c) s) i.live (λ y stands. elim (cases_eq s y) [
         | inl e ↦ subst (λ (z : ℕ). is_some (b.accounts z) ≡ true) e is
         | inr other ↦ i.live c y (omega (
           arith,
-          added-on (b.rotations c) s y,
+          listed-on ready (b.rotations c) s y,
           on-cons_other s y [] other,
           on-nil y,
         ))
       ]);
-  opens = every_map (IsOpen b) (IsOpen (with_lists b c (with_new_key (b.rotations c) s)))
+  opens = every_map (IsOpen b) (IsOpen (with_lists b c (with_key_listed ready (b.rotations c) s)))
       (λ x o. record { live = o.live; below = o.below; charge = o.charge; some = o.some }) b.opened i.opens;
   rising = i.rising;
   few = i.few;
@@ -175,9 +193,22 @@ pub at_stake_most : (b : Books) → IsKept b → (s : ℕ) (c : Class) →
 at_stake_most b i s c = times_most (many c b.opened) b.config.inflight (longest_exchange b.config)
     (at_stake b.config s c b.opened) (i.few c) (reserved_most (longest_exchange b.config) s c b.opened)
 
-pub kept_fresh : (b : Books) (s weight : ℕ) → IsKept b → 0 < weight →
+counted_none : (config : Config) (n : ℕ) → n ≡ 0 → counted config n ≡ 0
+counted_none config n e = go (config.pending == 1)
+  where
+    go : (t : Bool) → (if t then n else 0) ≡ 0
+    go true = e
+    go false = refl
+
+-- The station of an open exchange is live.
+dead_owes : (b : Books) (s : ℕ) (c : Class) → IsKept b → is_some (b.accounts s) ≡ false →
+    owed s c b.opened ≡ 0
+dead_owes b s c i dead = owed-none s c b.opened (every_map (IsOpen b) (λ x. x.station ≡ s → ⊥)
+    (λ x o e. absurd (cc (ap (λ (n : ℕ). is_some (b.accounts n)) e, o.live, dead))) b.opened i.opens)
+
+pub kept_fresh : (b : Books) (s weight : ℕ) → IsKept b → 0 < weight → is_some (b.accounts s) ≡ false →
     IsKept (with_account b s (Some (fresh_account b.config.quantum weight)))
-kept_fresh b s weight i some = record {
+kept_fresh b s weight i some dead = record {
   range = i.range;
   once = i.once;
   live = λ c y stands. more y (i.live c y stands);
@@ -192,9 +223,9 @@ kept_fresh b s weight i some = record {
         weight = some;
         rate = refl;
         bounds =
-            λ c. bounded_fresh b.config (at_stake b.config s c b.opened) weight
-            (omega (arith, i.range.quantum.0)) some
-            (at_stake_most b i s c);
+            λ c. bounded_fresh b.config (at_stake b.config s c b.opened) (counted_in b.config s c b.opened)
+            weight (omega (arith, i.range.quantum.0)) some (at_stake_most b i s c)
+            (counted_none b.config _ (dead_owes b s c i dead));
       });
 }
   where
@@ -298,7 +329,9 @@ within_opened b x i fit behind below = record {
 pub kept_opened : (b : Books) (x : Exchange) → IsKept b → is_some (b.accounts x.station) ≡ true →
     x.number ≡ b.exchanges → x.charge ≤ longest_computed b.config → 1 ≤ x.charge →
     many x.class b.opened < b.config.inflight → IsWithin b.config (b.opened ++ core x ∷ [])
-    → IfSome (b.accounts x.station) (λ a. pos 1 ≤ℤ (a.shares x.class).deficit) → IsKept (with_opened b x)
+    → IfSome (b.accounts x.station) (λ a. pos 1 ≤ℤ
+    ((a.shares x.class).deficit -ℤ pos (counted_in b.config x.station x.class b.opened)))
+    → IsKept (with_opened b x)
 kept_opened b x i is number charge some room within above = record {
   range = i.range;
   once = i.once;
@@ -344,33 +377,53 @@ kept_opened b x i is number charge some room within above = record {
         (at_stake b.config s c (b.opened ++ core x ∷ [])) (few c)
         (reserved_most (longest_exchange b.config) s c (b.opened ++ core x ∷ []))
 
+    -- The station's standing is above 0.
+    Above : ℕ → Class → Option Account → Type 0
+    Above s c o = IfSome o (λ z. pos 1 ≤ℤ ((z.shares c).deficit -ℤ pos (counted_in b.config s c b.opened)))
+
+    grows : (t : Bool) (m n k l : ℕ) → k ≡ m + n → n ≤ l →
+        ((if t then m else 0) ≤ (if t then k else 0)) × ((if t then k else 0) ≤ (if t then m else 0) + l)
+    grows true m n k l e h = (omega arith, omega arith)
+    grows false m n k l e h = (omega arith, omega arith)
+
     bound : (s : ℕ) (a : Account) → b.accounts s ≡ Some a → IsGood b.config b.opened s a → (c : Class) →
-        IsBounded b.config (at_stake b.config s c (b.opened ++ core x ∷ [])) a.weight (a.shares c)
+        IsBounded b.config (at_stake b.config s c (b.opened ++ core x ∷ []))
+        (counted_in b.config s c (b.opened ++ core x ∷ [])) a.weight (a.shares c)
     bound s a e good c = go ((x.station == s) && same_class x.class c) refl
       where
         go : (t : Bool) → ((x.station == s) && same_class x.class c) ≡ t →
-            IsBounded b.config (at_stake b.config s c (b.opened ++ core x ∷ [])) a.weight (a.shares c)
+            IsBounded b.config (at_stake b.config s c (b.opened ++ core x ∷ []))
+            (counted_in b.config s c (b.opened ++ core x ∷ [])) a.weight (a.shares c)
         go true t =
             let both : ((x.station == s) ≡ true) × (same_class x.class c ≡ true) = and_parts _ _ t in
-            let here : IfSome (b.accounts s) (λ z. pos 1 ≤ℤ (z.shares x.class).deficit) =
-            subst (λ (n : ℕ). IfSome (b.accounts n) (λ z. pos 1 ≤ℤ (z.shares x.class).deficit))
-            (eqb-true _ _ both.0) above in
-            let there : IfSome (b.accounts s) (λ z. pos 1 ≤ℤ (z.shares c).deficit) =
-            subst (λ (d : Class). IfSome (b.accounts s) (λ z. pos 1 ≤ℤ (z.shares d).deficit))
-            (same_number _ _ (eqb-true _ _ both.1)) here in
-            let known : IfSome (Some a) (λ z. pos 1 ≤ℤ (z.shares c).deficit) =
-            subst (λ (o : Option Account). IfSome o (λ z. pos 1 ≤ℤ (z.shares c).deficit)) e there in
-            bounded_open b.config _ a.weight (a.shares c) known (total s c) (good.bounds c).most
+            let here : Above s x.class (b.accounts s) =
+            subst (λ (n : ℕ). Above n x.class (b.accounts n)) (eqb-true _ _ both.0) above in
+            let there : Above s c (b.accounts s) =
+            subst (λ (d : Class). Above s d (b.accounts s)) (same_number _ _ (eqb-true _ _ both.1)) here in
+            let known : Above s c (Some a) = subst (Above s c) e there in
+            let more = grows (b.config.pending == 1) (owed s c b.opened) x.charge _
+            (longest_computed b.config)
+            (owed-append s c b.opened (core x)
+            ∙ ap (λ (z : Bool). owed s c b.opened + (if z then x.charge else 0)) t) charge in
+            bounded_open b.config (at_stake b.config s c b.opened) _ (counted_in b.config s c b.opened) _
+            a.weight (a.shares c) known (total s c) more.0 more.1 (good.bounds c)
         go false t =
             let none : part_of (longest_exchange b.config) s c (core x) ≡ 0 = rw t refl in
-            bounded_less b.config (at_stake b.config s c b.opened) _ a.weight (a.shares c)
-            (omega (arith, reserved-append (longest_exchange b.config) s c b.opened (core x))) (good.bounds c)
+            let same : owed s c (b.opened ++ core x ∷ []) ≡ owed s c b.opened =
+            owed-append s c b.opened (core x)
+            ∙ (ap (λ (z : Bool). owed s c b.opened + (if z then x.charge else 0)) t ∙ omega arith) in
+            subst (λ (n : ℕ). IsBounded b.config (at_stake b.config s c (b.opened ++ core x ∷ []))
+            (counted b.config n) a.weight (a.shares c)) (sym same)
+            (bounded_less b.config (at_stake b.config s c b.opened) _ _ a.weight (a.shares c)
+            (omega (arith, reserved-append (longest_exchange b.config) s c b.opened (core x)))
+            (good.bounds c))
 
--- An exchange ends, and its charge, which is at most the longest, is subtracted from the deficit.
+-- An exchange ends, and its charge, which is at most the longest, is subtracted from the deficit. If no Done
+-- gives an airtime, it is the computed charge.
 pub kept_ended : (b : Books) (x : Exchange) (e n : ℕ) → IsKept b →
     find (λ z. z.number == e) b.opened ≡ Some x → n ≤ longest_exchange b.config →
-    IsKept (with_charge (without b e) x.station x.class n)
-kept_ended b x e n i found within = record {
+    (b.config.charge ≡ 0 → n ≡ x.charge) → IsKept (with_charge (without b e) x.station x.class n)
+kept_ended b x e n i found within exact = record {
   range = i.range;
   once = i.once;
   live = λ c y stands. same_live y ∙ i.live c y stands;
@@ -397,24 +450,29 @@ kept_ended b x e n i found within = record {
       i.within.station limited s c,
     );
   };
-  goods = each_upd (λ y o. IfSome o (IsGood b.config (without b e).opened y)) b.accounts x.station _
-      (λ s. if_same (IsGood b.config b.opened s) (IsGood b.config (without b e).opened s) (b.accounts s)
+  goods = others_upd (λ y o. IfSome o (IsGood b.config (without b e).opened y)) b.accounts x.station _
+      (λ s other. if_same (IsGood b.config b.opened s) (IsGood b.config (without b e).opened s) (b.accounts s)
       (i.goods s) (λ a _ good. record {
         weight = good.weight;
         rate = good.rate;
-        bounds = λ c. less s c a (good.bounds c);
+        bounds = λ c. less s c a (away s c (λ z. absurd (other (sym z)))) (good.bounds c);
       }))
       (if_map (IsGood b.config b.opened x.station) (IsGood b.config (without b e).opened x.station)
       (on_part x.class (charge_share n)) (b.accounts x.station) (i.goods x.station)
       (λ a _ good. record {
         weight = good.weight;
         rate = good.rate;
-        bounds = each_updc (λ c z. IsBounded b.config
-            (at_stake b.config x.station c (without b e).opened) a.weight z)
+        bounds = others_updc (λ c z. IsBounded b.config
+            (at_stake b.config x.station c (without b e).opened)
+            (counted_in b.config x.station c (without b e).opened) a.weight z)
             a.shares x.class (charge_share n (a.shares x.class))
-            (λ c. less x.station c a (good.bounds c))
-            (bounded_charge b.config (at_stake b.config x.station x.class b.opened) _ n a.weight
-            (a.shares x.class) own (good.bounds x.class));
+            (λ c other. less x.station c a (away x.station c (λ _. λ z. other (sym z))) (good.bounds c))
+            (bounded_charge b.config (at_stake b.config x.station x.class b.opened) _
+            (counted_in b.config x.station x.class b.opened) _ n a.weight (a.shares x.class) own
+            (λ z. (falls (b.config.pending == 1) (owed x.station x.class b.opened) _ x.charge n all
+            (exact z)).0)
+            (λ p z. falling (owed x.station x.class b.opened) _ x.charge n all (exact z) p)
+            (good.bounds x.class));
       }));
 }
   where
@@ -424,12 +482,47 @@ kept_ended b x e n i found within = record {
         (option_map (on_part x.class (charge_share n)) (b.accounts x.station)) (λ y. refl)
         (some_map (on_part x.class (charge_share n)) (b.accounts x.station))
 
-    less : (s : ℕ) (c : Class) (a : Account) →
-        IsBounded b.config (at_stake b.config s c b.opened) a.weight (a.shares c) →
-        IsBounded b.config (at_stake b.config s c (without b e).opened) a.weight (a.shares c)
-    less s c a h = bounded_less b.config (at_stake b.config s c b.opened)
-        (at_stake b.config s c (without b e).opened) a.weight (a.shares c)
-        (reserved-filter (longest_exchange b.config) s c (λ y. not (y.number == e)) b.opened) h
+    -- The airtime in flight in another class or of another station does not change.
+    away : (s : ℕ) (c : Class) → (x.station ≡ s → class_number x.class ≡ class_number c → ⊥) →
+        owed s c (without b e).opened ≡ owed s c b.opened
+    away s c other = go ((x.station == s) && same_class x.class c) refl
+      where
+        go : (t : Bool) → ((x.station == s) && same_class x.class c) ≡ t →
+            owed s c (without b e).opened ≡ owed s c b.opened
+        go true t = absurd (let both : ((x.station == s) ≡ true) × (same_class x.class c ≡ true) =
+            and_parts _ _ t in other (eqb-true _ _ both.0) (eqb-true _ _ both.1))
+        go false t =
+            let none : owed_of s c x ≡ 0 = rw t refl in
+            omega (arith, owed-ended 0 s c b.opened x e i.rising found)
+
+    less : (s : ℕ) (c : Class) (a : Account) → owed s c (without b e).opened ≡ owed s c b.opened →
+        IsBounded b.config (at_stake b.config s c b.opened) (counted_in b.config s c b.opened) a.weight
+        (a.shares c) → IsBounded b.config (at_stake b.config s c (without b e).opened)
+        (counted_in b.config s c (without b e).opened) a.weight (a.shares c)
+    less s c a same h = subst (λ (m : ℕ). IsBounded b.config (at_stake b.config s c (without b e).opened)
+        (counted b.config m) a.weight (a.shares c)) (sym same)
+        (bounded_less b.config (at_stake b.config s c b.opened) (at_stake b.config s c (without b e).opened)
+        (counted_in b.config s c b.opened) a.weight (a.shares c)
+        (reserved-filter (longest_exchange b.config) s c (λ y. not (y.number == e)) b.opened) h)
+
+    -- The airtime in flight of the station in the class falls by the computed charge.
+    all : owed x.station x.class (without b e).opened + x.charge ≡ owed x.station x.class b.opened
+    all =
+        let own : owed_of x.station x.class x ≡ x.charge =
+        rw (eq-eqb x.station x.station refl, eq-eqb (class_number x.class) (class_number x.class) refl)
+        refl in
+        omega (arith, owed-ended 0 x.station x.class b.opened x e i.rising found)
+
+    falls : (t : Bool) (m k charge n : ℕ) → k + charge ≡ m → n ≡ charge →
+        ((if t then m else 0) ≤ (if t then k else 0) + n) × (t ≡ true → (if t then k else 0) + n
+        ≤ (if t then m else 0))
+    falls true m k charge n h z = (omega arith, λ _. omega arith)
+    falls false m k charge n h z = (omega arith, λ k. absurd (cc k))
+
+    falling : (m k charge n : ℕ) → k + charge ≡ m → n ≡ charge → b.config.pending ≡ 1 →
+        counted b.config k + n ≤ counted b.config m
+    falling m k charge n h z p = (falls (b.config.pending == 1) m k charge n h z).1
+        (eq-eqb b.config.pending 1 p)
 
     own : at_stake b.config x.station x.class (without b e).opened + n
         ≤ at_stake b.config x.station x.class b.opened
@@ -441,10 +534,17 @@ kept_ended b x e n i found within = record {
 
 -- ---- a pick
 
+-- Returns the standing of an account in a class: its deficit less the airtime that is counted against it.
+abbrev pub standing_of : Books → ℕ → Class → Account → ℤ
+standing_of b y c a = (a.shares c).deficit -ℤ pos (counted_in b.config y c b.opened)
+
+-- Returns the quanta that an account needs in a class.
+abbrev pub need_in : Books → ℕ → Class → Account → ℕ
+need_in b y c a = need_of (b.config.quantum * a.weight) (standing_of b y c a)
+
 pub record IsPick (b : Books) (c : Class) (p : Picked) : Type 0 where
   pub lists : (y : ℕ) → on (in_order p.lists) y ≤ on (in_order (b.rotations c)) y
-  pub needed : (y : ℕ) → IfSome (b.accounts y) (λ a. p.quanta y
-      ≤ need_of (b.config.quantum * a.weight) (a.shares c).deficit)
+  pub needed : (y : ℕ) → IfSome (b.accounts y) (λ a. p.quanta y ≤ need_in b y c a)
 
 if_both : (P Q R : Account → Type 0) (o : Option Account) → IfSome o P → IfSome o Q →
     ((a : Account) → P a → Q a → R a) → IfSome o R
@@ -456,8 +556,10 @@ once_times zero n k h e = omega arith
 once_times (suc zero) n k h e = omega arith
 once_times (suc (suc m)) n k h e = absurd (omega arith)
 
-pub kept_after : (b : Books) (c : Class) (p : Picked) → IsKept b → IsPick b c p → IsKept (after b c p)
-kept_after b c p i k = kept_lists (all_paid b c p.quanta (in_order (b.rotations c))) c p.lists all k.lists
+pub kept_after : (b : Books) (c : Class) (p : Picked) → IsKept b → IsPick b c p →
+    ((y : ℕ) → counted_in b.config y c b.opened ≤ most_covered b.config) → IsKept (after b c p)
+kept_after b c p i k covered =
+    kept_lists (all_paid b c p.quanta (in_order (b.rotations c))) c p.lists all k.lists
   where
     ss : List ℕ
     ss = in_order (b.rotations c)
@@ -487,32 +589,28 @@ kept_after b c p i k = kept_lists (all_paid b c p.quanta (in_order (b.rotations 
           (λ a e good. record {
             weight = good.weight;
             rate = good.rate;
-            bounds = each_updc (λ d z. IsBounded b.config (at_stake b.config s d b.opened) a.weight z)
+            bounds = each_updc (λ d z. IsBounded b.config (at_stake b.config s d b.opened)
+                (counted_in b.config s d b.opened) a.weight z)
                 a.shares c _ good.bounds
-                (let need : p.quanta s ≤ need_of (b.config.quantum * a.weight) (a.shares c).deficit =
-                subst (λ (o : Option Account). IfSome o (λ a. p.quanta s
-                ≤ need_of (b.config.quantum * a.weight) (a.shares c).deficit)) e (k.needed s) in
-                bounded_pay b.config (at_stake b.config s c b.opened) a.weight
-                (on (in_order (b.rotations c)) s * p.quanta s) (a.shares c)
-                (once_times _ _ _ (i.once c s) need) (good.bounds c));
+                (let need : p.quanta s ≤ need_in b s c a =
+                subst (λ (o : Option Account). IfSome o (λ a. p.quanta s ≤ need_in b s c a)) e (k.needed s) in
+                bounded_pay b.config (at_stake b.config s c b.opened) (counted_in b.config s c b.opened)
+                a.weight (on (in_order (b.rotations c)) s * p.quanta s) (a.shares c)
+                (once_times _ _ _ (i.once c s) need) (covered s) (good.bounds c));
           });
     }
 
--- The winner's deficit is above 0 after the pick.
+-- A station that gets the quanta that it needs has a positive standing after the pick.
 pub above_after : (b : Books) (c : Class) (p : Picked) (v : ℕ) → IsKept b →
-    0 < on (in_order (b.rotations c)) v → IfSome (b.accounts v)
-    (λ a. p.quanta v ≡ need_of (b.config.quantum * a.weight) (a.shares c).deficit) →
-    IfSome ((after b c p).accounts v) (λ a. pos 1 ≤ℤ (a.shares c).deficit)
-above_after b c p v i stands given = if_map (λ a.
-    (p.quanta v ≡ need_of (b.config.quantum * a.weight) (a.shares c).deficit) × (0 < a.weight))
-    (λ a. pos 1 ≤ℤ (a.shares c).deficit) _ (b.accounts v)
-    (if_both (λ a. p.quanta v ≡ need_of (b.config.quantum * a.weight) (a.shares c).deficit)
-    (IsGood b.config b.opened v) (λ a. (p.quanta v
-    ≡ need_of (b.config.quantum * a.weight) (a.shares c).deficit) × (0 < a.weight)) (b.accounts v) given
+    0 < on (in_order (b.rotations c)) v → IfSome (b.accounts v) (λ a. p.quanta v ≡ need_in b v c a) →
+    IfSome ((after b c p).accounts v) (λ a. pos 1 ≤ℤ standing_of b v c a)
+above_after b c p v i stands given = if_map (λ a. (p.quanta v ≡ need_in b v c a) × (0 < a.weight))
+    (λ a. pos 1 ≤ℤ standing_of b v c a) _ (b.accounts v)
+    (if_both (λ a. p.quanta v ≡ need_in b v c a)
+    (IsGood b.config b.opened v) (λ a. (p.quanta v ≡ need_in b v c a) × (0 < a.weight)) (b.accounts v) given
     (i.goods v) (λ a e good. (e, good.weight)))
     (λ a e h.
-    let one : on (in_order (b.rotations c)) v * p.quanta v
-    ≡ need_of (b.config.quantum * a.weight) (a.shares c).deficit =
+    let one : on (in_order (b.rotations c)) v * p.quanta v ≡ need_in b v c a =
     all_once _ _ _ (i.once c v) stands h.0 in
     let some : 0 < b.config.quantum * a.weight = product _ _ (omega (arith, i.range.quantum.0)) h.1 in
     rw (
@@ -520,8 +618,12 @@ above_after b c p v i stands given = if_map (λ a.
           (on (in_order (b.rotations c)) v * p.quanta v) (a.shares c)),
       one,
     )
-    (paid_least (b.config.quantum * a.weight) (a.shares c).deficit some))
+    (moved (a.shares c).deficit (counted_in b.config v c b.opened) _
+    (paid_least (b.config.quantum * a.weight) (standing_of b v c a) some)))
   where
+    moved : (d : ℤ) (n g : ℕ) → pos 1 ≤ℤ ((d -ℤ pos n) +ℤ pos g) → pos 1 ≤ℤ ((d +ℤ pos g) -ℤ pos n)
+    moved d n g h = omega (arith, ints)
+
     all_once : (m n k : ℕ) → m ≤ 1 → 0 < m → n ≡ k → m * n ≡ k
     all_once m n k h some e = let one : m ≡ 1 = omega arith in rw (one, e) (omega arith)
 

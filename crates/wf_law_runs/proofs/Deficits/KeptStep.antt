@@ -1,5 +1,5 @@
 -- Proves that each call keeps the invariant of the books, by cases of the call.
-use Rattle.std.proofs.Common.{◌≡◌, ◌≢◌, refl, ap, sym, ◌∙◌, subst, arith, ℕ, ◌+◌, ◌*◌, ◌<◌, ◌≤◌, ℤ, pos, ◌-ℤ◌, ◌≤ℤ◌, Bool, true, false, if◌then◌else◌, cond, List, [], ◌∷◌, Option, Some, None, is_some, IfSome, unwrap_or, option_map, not, ◌&&◌, ◌||◌, map, find, nat_lt, int_lt, zero-add, ◌==◌, count_by, nat_le}
+use Rattle.std.proofs.Common.{◌≡◌, ◌≢◌, refl, ap, sym, ◌∙◌, subst, arith, ℕ, ◌+◌, ◌-◌, ◌*◌, ◌<◌, ◌≤◌, ℤ, pos, ◌-ℤ◌, ◌≤ℤ◌, Bool, true, false, if◌then◌else◌, cond, List, [], ◌∷◌, Option, Some, None, is_some, IfSome, unwrap_or, option_map, not, ◌&&◌, ◌||◌, map, find, nat_lt, int_lt, zero-add, ◌==◌, count_by, nat_le}
 use Rattle.std.proofs.lemmas.Int.{ints}
 use Rattle.std.proofs.lemmas.Bool.{eqb-true, eqb-false, and_parts, not-true, not-false, leb-true}
 use Rattle.std.proofs.lemmas.Bool.Decides.{nat_tests}
@@ -13,27 +13,28 @@ use Rattle.wf_frame.specs.declared.notes.Note.TheVariants.{Enqueue, Asked}
 use Rattle.wf_frame.specs.declared.notes.Refusal.{Refusal}
 use Rattle.wf_frame.specs.declared.notes.Refusal.TheVariants.{Idle}
 use Rattle.wf_def_lists.specs.Table.{at}
-use Rattle.wf_def_rotation.specs.Rotation.{with_new_key, has_key, need_of}
+use Rattle.wf_def_rotation.specs.Rotation.{with_key_listed, has_key, need_of}
 use Rattle.wf_def_lists.specs.Bounds.{greatest_air, deepest_deficit}
 use Rattle.wf_def_air.specs.Airtime.{IsRate}
-use Rattle.wf_def_world.specs.World.{World, Station, Exchange, no_share, no_station, station, share, rotation, is_live, exchange, owed, owed_by_all, with_exchange, with_rotation, on_receiver, on_tid, on_station, with_station, opening}
+use Rattle.wf_def_world.specs.World.{World, Station, Exchange, no_share, no_station, station, share, rotation, is_live, exchange, owed, owed_by_all, with_exchange, with_rotation, on_receiver, on_tid, on_station, with_station, opening, standing}
 use Rattle.wf_law_rules.proofs.Lemmas.Numbers.{le_no}
 use Rattle.wf_frame.specs.Classes.{class_number, all_classes}
-use Rattle.wf_def_world.specs.CanSend.{has_credit, can_send_in, is_below_aql, may_receive, is_ready, with_listing_in, with_listings_in, with_listings_of}
+use Rattle.wf_def_world.specs.CanSend.{has_credit, can_send_in, is_below_aql, may_receive, is_ready, is_to_list, with_listing_in, with_listings_in, with_listings_of}
 use Rattle.wf_def_world.specs.Exchanges.{Prepared, station_need, picked_station, after_pick, after_tid_turn, prepared_exchange, exchange_of, after_arrival, sending_tid, charge_of}
 use Rattle.wf_def_world.specs.Refusals.{first_refusal, refusals, refusal, open_of_class, is_at_aql_total, is_within}
 use Rattle.wf_def_world.specs.Step.{Outcome, tick_outcome, send_outcome, pull_outcome_for, pull_outcome, arrive_outcome, answer_outcome, outcome_where_open, rx_outcome, outcome_of, after_refusal, judged_outcome, step}
 use Rattle.wf_def_world.specs.Run.{Entry, world_after}
 use Rattle.wf_frame.specs.Settings.{IsInRange, is_bad_air}
-use Rattle.wf_law_runs.specs.Deficits.{longest_computed, longest_exchange}
+use Rattle.wf_law_runs.specs.Deficits.{longest_computed, longest_exchange, most_covered}
 use Rattle.wf_def_lists.specs.Lists.{on}
 use Rattle.wf_law_rules.proofs.Lemmas.Counts.{on-nil}
 use Rattle.wf_law_rules.proofs.Lemmas.Rotations.{pick_on, pick_need, IsWinner, pick_winner}
+use Rattle.wf_law_runs.proofs.Common.Refused.{if_idle}
 use Rattle.wf_law_runs.proofs.Deficits.Books.{Account, account, core, Books, books, on_part, each_updc, books_with_rotation, books_on_receiver}
 use Rattle.wf_law_runs.proofs.Deficits.BookSteps.{books_after_turn, books_prepared, books_sent, books_ended, books_gone, books_enqueued, receive_share, books_received, books_reaped, books_slept, books_woken, books_credited, rated, books_with_rate, books_joined, books_after_pick}
-use Rattle.wf_law_runs.proofs.Deficits.Openings.{Every, every_map, every_find, only_one, many, many-count, many-core, owed-core, owed_all-core}
-use Rattle.wf_law_runs.proofs.Deficits.Bounds.{IsBounded, bounded_receive}
-use Rattle.wf_law_runs.proofs.Deficits.Kept.{IsOpen, at_stake, IsGood, IsKept, some_map, if_same, kept_on, kept_add, at_stake_most, kept_fresh, kept_gone, within_opened, kept_opened, kept_ended, IsPick, kept_after, above_after}
+use Rattle.wf_law_runs.proofs.Deficits.Openings.{Every, every_map, every_find, only_one, many, many-count, many-core, owed-core, owed_all-core, owed_most}
+use Rattle.wf_law_runs.proofs.Deficits.Bounds.{counted, IsBounded, bounded_receive}
+use Rattle.wf_law_runs.proofs.Deficits.Kept.{IsOpen, at_stake, counted_in, IsGood, IsKept, standing_of, need_in, some_map, if_same, kept_on, kept_add, at_stake_most, kept_fresh, kept_gone, within_opened, kept_opened, kept_ended, IsPick, kept_after, above_after}
 use Rattle.wf_law_runs.proofs.Deficits.LongestCharge.{charge_most, charge_some}
 
 -- ---- a call that is not refused
@@ -61,19 +62,29 @@ live_account (Some x) = refl
 
 -- ---- listing
 
+live_either : (live sends pending owes : Bool) → (live && sends) || (pending && (live && owes)) ≡ true →
+    live ≡ true
+live_either true sends pending owes h = refl
+live_either false sends true owes h = absurd (cc h)
+live_either false sends false owes h = absurd (cc h)
+
+-- Only a live station belongs on a list.
+pub to_list_live : (w : World) (c : Class) (s : ℕ) → is_to_list w c s ≡ true → is_live w s ≡ true
+to_list_live w c s h = live_either (is_live w s) _ (w.config.pending == 1) _ h
+
 listed_if : (w : World) (s : ℕ) (c : Class) (b : Bool) →
-    (is_ready w c s && not (has_key (rotation w c) s)) ≡ b → IsKept (books w) →
-    IsKept (books (if b then with_rotation w c (with_new_key (rotation w c) s) else w))
+    (is_to_list w c s && not (has_key (rotation w c) s)) ≡ b → IsKept (books w) →
+    IsKept (books (if b then with_rotation w c (with_key_listed (is_ready w c s) (rotation w c) s) else w))
 listed_if w s c true e i =
     let parts = and_parts _ _ e in
-    let live : is_live w s ≡ true = (and_parts _ _ parts.0).0 in
-    is _ _ (books_with_rotation w c _) (kept_add (books w) c s i (not-true _ parts.1)
+    let live : is_live w s ≡ true = to_list_live w c s parts.0 in
+    is _ _ (books_with_rotation w c _) (kept_add (books w) c s (is_ready w c s) i (not-true _ parts.1)
     (live_account (at None w.stations s) ∙ live))
 listed_if w s c false e i = i
 
 kept_listed_in : (w : World) (s : ℕ) (c : Class) → IsKept (books w) → IsKept (books (with_listing_in w s c))
 unfolding with_listing_in
-kept_listed_in w s c i = listed_if w s c (is_ready w c s && not (has_key (rotation w c) s)) refl i
+kept_listed_in w s c i = listed_if w s c (is_to_list w c s && not (has_key (rotation w c) s)) refl i
 
 kept_listed_in_all : (cs : List Class) (w : World) (s : ℕ) → IsKept (books w) →
     IsKept (books (with_listings_in w s cs))
@@ -89,16 +100,31 @@ kept_listed (Some s) w i = kept_listed_in_all all_classes w s i
 -- ---- pulls
 
 pub need_is : (w : World) (c : Class) (s : ℕ) →
-    IfSome ((books w).accounts s) (λ a. station_need w c s
-    ≡ need_of (w.config.quantum * a.weight) (a.shares c).deficit)
+    IfSome ((books w).accounts s) (λ a. station_need w c s ≡ need_in (books w) s c a)
 need_is w c s = go (at None w.stations s) refl
   where
     go : (o : Option Station) → at None w.stations s ≡ o →
-        IfSome (option_map account o) (λ a. station_need w c s
-        ≡ need_of (w.config.quantum * a.weight) (a.shares c).deficit)
+        IfSome (option_map account o) (λ a. station_need w c s ≡ need_in (books w) s c a)
     go None e = tt
     go (Some x) e = ap (λ (o : Option Station). need_of (w.config.quantum * (unwrap_or o no_station).weight)
-        (at no_share (unwrap_or o no_station).shares (class_number c)).deficit) e
+        ((at no_share (unwrap_or o no_station).shares (class_number c)).deficit
+        -ℤ pos (counted w.config (owed s c w.opened)))) e
+        ∙ ap (λ (n : ℕ). need_of (w.config.quantum * x.weight)
+        ((at no_share x.shares (class_number c)).deficit -ℤ pos (counted w.config n)))
+        (sym (owed-core s c w.opened))
+
+-- The standing of a station in the books.
+pub standing_is : (w : World) (c : Class) (s : ℕ) →
+    IfSome ((books w).accounts s) (λ a. standing w s c ≡ standing_of (books w) s c a)
+standing_is w c s = go (at None w.stations s) refl
+  where
+    go : (o : Option Station) → at None w.stations s ≡ o →
+        IfSome (option_map account o) (λ a. standing w s c ≡ standing_of (books w) s c a)
+    go None e = tt
+    go (Some x) e = ap (λ (o : Option Station). (at no_share (unwrap_or o no_station).shares
+        (class_number c)).deficit -ℤ pos (counted w.config (owed s c w.opened))) e
+        ∙ ap (λ (n : ℕ). (at no_share x.shares (class_number c)).deficit -ℤ pos (counted w.config n))
+        (sym (owed-core s c w.opened))
 
 pub is_pick : (w : World) (c : Class) → IsPick (books w) c (picked_station w c)
 is_pick w c = record {
@@ -108,9 +134,42 @@ is_pick w c = record {
       (pick_need (station_need w c) (is_ready w c) (rotation w c) s));
 }
 
-kept_after_pick : (w : World) (c : Class) → IsKept (books w) → IsKept (books (after_pick w c))
-kept_after_pick w c i = is _ _ (books_after_pick w c)
-    (kept_after (books w) c (picked_station w c) i (is_pick w c))
+-- The airtime that is counted against each station in the class is at most the airtime that quanta may cover.
+Covered : World → Class → Type 0
+Covered w c = (y : ℕ) → counted_in w.config y c (map core w.opened) ≤ most_covered w.config
+
+kept_after_pick : (w : World) (c : Class) → Covered w c → IsKept (books w) → IsKept (books (after_pick w c))
+unfolding Covered
+kept_after_pick w c covered i = is _ _ (books_after_pick w c)
+    (kept_after (books w) c (picked_station w c) i (is_pick w c) covered)
+
+few_times : (m n l k : ℕ) → m < n → k ≤ m * l → k ≤ (n - 1) * l
+few_times m n l k h e = times (n - 1) (omega arith)
+  where
+    times : (p : ℕ) → m ≤ p → k ≤ p * l
+    times p less = grind arith
+
+-- If the class may open an exchange, all its open exchanges but one are covered.
+covered_room : (w : World) (c : Class) → IsKept (books w) → many c (map core w.opened) < w.config.inflight →
+    Covered w c
+unfolding Covered
+covered_room w c i room y = go (w.config.pending == 1)
+    (few_times (many c (map core w.opened)) w.config.inflight
+    (longest_computed w.config) (owed y c (map core w.opened)) room
+    (owed_most (longest_computed w.config) y c (map core w.opened)
+    (every_map (IsOpen (books w)) (λ x. x.charge ≤ longest_computed w.config) (λ x o. o.charge)
+    (map core w.opened) i.opens)))
+  where
+    go : (t : Bool) → owed y c (map core w.opened) ≤ (w.config.inflight - 1) * longest_computed w.config →
+        (if t then owed y c (map core w.opened) else 0)
+        ≤ (if t then (w.config.inflight - 1) * longest_computed w.config else 0)
+    go true h = h
+    go false h = omega arith
+
+-- Without the setting `pending` nothing is counted.
+covered_off : (w : World) (c : Class) → (w.config.pending == 1) ≡ false → Covered w c
+unfolding Covered
+covered_off w c off y = rw off (omega arith)
 
 -- The station may open an exchange of the class.
 record MaySend (c : Class) (s : ℕ) (b : Books) : Type 0 where
@@ -118,7 +177,7 @@ record MaySend (c : Class) (s : ℕ) (b : Books) : Type 0 where
   room : many c b.opened < b.config.inflight
   behind : 1 ≤ b.config.aql_total → owed_by_all b.opened < b.config.aql_total
   below : 1 ≤ b.config.aql → owed s c b.opened < b.config.aql
-  above : IfSome (b.accounts s) (λ a. pos 1 ≤ℤ (a.shares c).deficit)
+  above : IfSome (b.accounts s) (λ a. pos 1 ≤ℤ standing_of b s c a)
 
 room_left : (w : World) (c : Class) → IsKept (books w) →
     (nat_le w.config.inflight (open_of_class w c)) ≡ false → many c (map core w.opened) < w.config.inflight
@@ -168,7 +227,7 @@ may_send w c s i h off won =
           (if_same _ _ ((books w).accounts s) (need_is w c s) (λ a _ e. winner.given ∙ e));
     })
 
--- The rate of a station is in the standard's tables, also if there is no such station.
+-- The rate of a station is in the standard's tables, also if the station does not exist.
 rate_kept : (v : World) (s : ℕ) → IsKept (books v) → IsRate (station v s).rate
 rate_kept v s i = go (at None v.stations s) (i.goods s)
   where
@@ -205,8 +264,8 @@ kept_pulled_by (Some s) v c i m =
 kept_pulled : (w : World) (c : Class) → (nat_le w.config.inflight (open_of_class w c)) ≡ false →
     is_at_aql_total w ≡ false → IsKept (books w) → IsKept (books (pull_outcome w c).world)
 unfolding pull_outcome
-kept_pulled w c h off i = kept_pulled_by (picked_station w c).winner (after_pick w c) c (kept_after_pick w
-    c i)
+kept_pulled w c h off i = kept_pulled_by (picked_station w c).winner (after_pick w c) c
+    (kept_after_pick w c (covered_room w c i (room_left w c i h)) i)
     (λ s won. may_send w c s i h off won)
 
 -- ---- exchanges
@@ -298,6 +357,14 @@ charge_within w e x (Some n) i found fine = omega (
   le-max_right (longest_computed w.config) w.config.charge,
 )
 
+-- If no Done gives an airtime, the charge of an ended exchange is what its pull computed.
+pub charge_exact : (config : Config) (x : Exchange) (air : Option ℕ) → is_bad_air config air ≡ false →
+    config.charge ≡ 0 → charge_of air x ≡ x.charge
+charge_exact config x None fine none = refl
+charge_exact config x (Some n) fine none =
+    let parts = and_parts (nat_le 1 n) (nat_le n config.charge) (not-false _ fine) in
+    absurd (omega (arith, leb-true 1 n parts.0, leb-true n config.charge parts.1))
+
 -- ---- the step
 
 kept_open : (w : World) (e : ℕ) (o : Option Exchange) (f : Exchange → Outcome) → exchange w e ≡ o →
@@ -318,10 +385,12 @@ kept_received w s c air h k i = is _ _ (books_received w s c air)
     (kept_on (books w) s (on_part c (receive_share air)) i (λ a e good. record {
       weight = good.weight;
       rate = good.rate;
-      bounds = each_updc (λ d z. IsBounded w.config (at_stake w.config s d (books w).opened) a.weight z)
+      bounds = each_updc (λ d z. IsBounded w.config (at_stake w.config s d (books w).opened)
+          (counted_in w.config s d (books w).opened) a.weight z)
           a.shares c
           (receive_share air (a.shares c)) good.bounds
-          (bounded_receive w.config (at_stake w.config s c (books w).opened) air a.weight (a.shares c)
+          (bounded_receive w.config (at_stake w.config s c (books w).opened)
+          (counted_in w.config s c (books w).opened) air a.weight (a.shares c)
           (at_stake_most (books w) i s c) (leb-true _ _ (and_parts _ _ (not-false _ h)).0) (known a e)
           (good.bounds c));
     }))
@@ -357,13 +426,14 @@ none_open (x ∷ xs) s h =
     (subst (λ (n : ℕ). nat_lt 0 n ≡ false) (sum_by-cons
     (λ (y : Exchange). if y.station == s then 1 else 0) x xs) h) (none_open xs s)
 
-kept_done : (note : Note) (w : World) → NoRow (refusals w note) → IsKept (books w) →
+pub kept_done : (note : Note) (w : World) → NoRow (refusals w note) → IsKept (books w) →
     IsKept (books (outcome_of w note).world)
 unfolding outcome_of tick_outcome
 kept_done (Enqueue s t flow len) w e i = is _ _ (books_enqueued w s t flow len) i
 kept_done (Asked (Join s window start exponent weight)) w e i =
     is _ _ (books_joined w s window start exponent weight)
-    (kept_fresh (books w) s weight i (leb-true _ _ (and_parts _ _ (not-false _ e.1.1.1.1.0)).0))
+    (kept_fresh (books w) s weight i (leb-true _ _ (and_parts _ _ (not-false _ e.1.1.1.1.0)).0)
+    (live_account (at None w.stations s) ∙ e.1.1.1.1.1.0))
 kept_done (Asked (Leave s)) w e i = is _ _ (books_gone w s)
     (kept_gone (books w) s i (none_open w.opened s e.1.1.0))
 kept_done (Asked (Rate s rate)) w e i =
@@ -378,7 +448,8 @@ kept_done (Asked (Answer e)) w _ i = kept_open w e (exchange w e) _ refl i
     (λ x f. is _ _ (books_answered w e x i f) i)
 kept_done (Asked (Done e heard air)) w r i = kept_open w e (exchange w e) _ refl i
     (λ x f. is _ _ (books_ended air w x heard) (kept_ended (books w) (core x) x.number (charge_of air x) i
-    (at_number w e x f) (charge_within w e x air i f r.1.1.0)))
+    (at_number w e x f) (charge_within w e x air i f r.1.1.0)
+    (charge_exact w.config x air r.1.1.0)))
 kept_done (Asked (Sleep s)) w e i = is _ _ (books_slept w s) i
 kept_done (Asked (Wake s)) w e i = is _ _ (books_woken w s) i
 kept_done (Asked (Poll s)) w e i = is _ _ (books_credited w s) i
@@ -388,7 +459,8 @@ kept_done (Asked Reap) w e i = is _ _ (books_reaped w.finished w) i
 kept_refused : (note : Note) (r : Refusal) (w : World) → IsKept (books w) →
     IsKept (books (after_refusal w note r))
 unfolding after_refusal
-kept_refused (Asked (Pull c)) Idle w i = kept_after_pick w c i
+kept_refused (Asked (Pull c)) Idle w i = if_idle (λ v. IsKept (books v)) w c i
+    (λ off. kept_after_pick w c (covered_off w c off) i)
 kept_refused _ _ w i = i
 
 kept_answer : (r : Option Refusal) (w : World) (note : Note) → refusal w note ≡ r → IsKept (books w) →

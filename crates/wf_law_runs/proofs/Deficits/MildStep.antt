@@ -480,7 +480,12 @@ unfolding on_queue
 mild_added w s t q f o = mild_with_queues (record w { queues = change new_queue w.queues q f }) s t
     (with_new_key (tid_of w s t).queues q) (λ p k. elim (cases_eq q p) [
       | inl e ↦ inr (subst (λ (z : ℕ). Owned w.config s t z) e o)
-      | inr other ↦ inl (omega (arith, added-on (tid_of w s t).queues q p, on-cons_other q p [] other, on-nil p))
+      | inr other ↦ inl (omega (
+        arith,
+        added-on (tid_of w s t).queues q p,
+        on-cons_other q p [] other,
+        on-nil p,
+      ))
     ])
 
 mild_listed_queue : (w : World) (s t q : ℕ) → Owned w.config s t q → IsMild s w (with_listed_queue w s t q)

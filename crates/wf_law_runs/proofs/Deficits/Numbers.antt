@@ -1,6 +1,6 @@
 -- Proves the greatest charges and deficits, for all settings in their ranges, from the bounds of the
 -- deficits.
-use Rattle.std.proofs.Common.{sym, subst, arith, ℕ, ◌*◌, ◌≤◌, List, [], ◌∷◌, map, take}
+use Rattle.std.proofs.Common.{sym, subst, arith, ℕ, ◌*◌, ◌≤◌, List, [], ◌∷◌, map, take, ◌-◌, Bool, true, false, if◌then◌else◌, ◌==◌}
 use Rattle.std.proofs.lemmas.Int.{ints}
 use Rattle.std.proofs.Math.Nat.{mul-le-mul_left, mul-le-mul_right, le-max_left, le-max_right, max-le}
 use Rattle.wf_frame.specs.declared.settings.Config.{Config}
@@ -12,7 +12,7 @@ use Rattle.wf_def_world.specs.World.{World, Exchange, opening}
 use Rattle.wf_def_world.specs.Run.{Entry}
 use Rattle.wf_def_world.specs.Stretches.{world_at}
 use Rattle.wf_law_runs.specs.Windows.{EachOpen}
-use Rattle.wf_law_runs.specs.Deficits.{IsAccounted, longest_computed, longest_exchange, most_owed}
+use Rattle.wf_law_runs.specs.Deficits.{IsAccounted, longest_computed, longest_exchange, most_owed, most_covered}
 use Rattle.wf_law_runs.specs.Numbers.{greatest_computed, greatest_charge, greatest_owed, NumberLaw}
 use Rattle.wf_law_runs.specs.Ranges.{KeepsRanges}
 use Rattle.wf_law_runs.proofs.Deficits.Books.{Books, core, books}
@@ -43,6 +43,20 @@ longest_within config range = max-le
     (omega (arith, range.cap.1, le-max_left greatest_computed (greatest_of Charge)))
     (omega (arith, range.charge.1, le-max_right greatest_computed (greatest_of Charge)))
 
+-- The airtime in flight that quanta may cover.
+covered_within : (config : Config) → IsInRange config →
+    most_covered config ≤ (greatest_of Inflight - 1) * greatest_computed
+covered_within config range = go (config.pending == 1)
+    (times (config.inflight - 1) (longest_computed config) (greatest_of Inflight - 1) greatest_computed
+    (omega (arith, range.inflight.1)) (omega (arith, range.cap.1)))
+  where
+    go : (t : Bool) → (config.inflight - 1) * longest_computed config
+        ≤ (greatest_of Inflight - 1) * greatest_computed →
+        (if t then (config.inflight - 1) * longest_computed config else 0)
+        ≤ (greatest_of Inflight - 1) * greatest_computed
+    go true h = h
+    go false h = omega arith
+
 pub number_law : (config : Config) (h : List Entry) → IsInRange config → NumberLaw config h
 number_law config h range m =
     let w : World = world_at config h m in
@@ -51,6 +65,8 @@ number_law config h range m =
     let owed : most_owed config ≤ greatest_owed =
     times config.inflight (longest_exchange config)
     (greatest_of Inflight) greatest_charge range.inflight.1 (longest_within config range) in
+    let covered : most_covered config ≤ (greatest_of Inflight - 1) * greatest_computed =
+    covered_within config range in
     record {
       charges = computed_within (books w) w.opened (subst
           (λ (c : Config). longest_computed c ≤ greatest_computed)
@@ -60,7 +76,12 @@ number_law config h range m =
           let d : IsAccounted config w s c = deficits config h range m s c live in
           let quantum = times config.quantum _ (greatest_of Quantum) greatest_weight range.quantum.1
           (r.stations s live).weight.1 in
-          (omega (arith, ints, d.least, owed, range.debt.1), omega (arith, ints, d.most, quantum));
+          (omega (arith, ints, d.least, owed, range.debt.1), omega (arith, ints, d.most, quantum, covered));
+      standings = λ s c live.
+          let d : IsAccounted config w s c = deficits config h range m s c live in
+          let quantum = times config.quantum _ (greatest_of Quantum) greatest_weight range.quantum.1
+          (r.stations s live).weight.1 in
+          (omega (arith, ints, d.lowest, owed, range.debt.1), omega (arith, ints, d.most, quantum, covered));
       queue_deficits = λ short s t q listed.
           let d = queue_deficit_law config h range greatest_body short m s t q listed in
           (d.1, omega (arith, ints, d.0, range.flow_quantum.1));

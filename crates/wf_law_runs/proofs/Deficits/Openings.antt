@@ -178,6 +178,76 @@ owed-others_append s c (y ∷ ys) x other =
     ap (λ (n : ℕ). (if (y.station == s) && same_class y.class c then y.charge else 0) + n)
     (owed-others_append s c ys x other)
 
+-- No exchange has a number that is below all numbers.
+filter_none : (n : ℕ) (xs : List Exchange) → Every (λ x. suc n ≤ x.number) xs →
+    filter (λ z. not (z.number == n)) xs ≡ xs
+filter_none n [] e = refl
+filter_none n (x ∷ xs) e =
+    let other : (x.number == n) ≡ false = ne_eqb x.number n (λ is. absurd (let l = e.0 in omega arith)) in
+    rw (other, filter_none n xs e.1) refl
+
+-- Returns what f gives for an exchange, if it is an exchange of the station in the class; otherwise 0.
+abbrev pub part : (Exchange → ℕ) → ℕ → Class → Exchange → ℕ
+part f s c x = if (x.station == s) && same_class x.class c then f x else 0
+
+-- Returns the sum of f over a station's open exchanges in a class.
+abbrev pub total : (Exchange → ℕ) → ℕ → Class → List Exchange → ℕ
+total f s c [] = 0
+total f s c (x ∷ xs) = part f s c x + total f s c xs
+
+pub total-append : (f : Exchange → ℕ) (s : ℕ) (c : Class) (xs : List Exchange) (x : Exchange) →
+    total f s c (xs ++ x ∷ []) ≡ total f s c xs + part f s c x
+total-append f s c [] x = omega arith
+total-append f s c (y ∷ ys) x = omega (arith, total-append f s c ys x)
+
+ended_total_step : (f : Exchange → ℕ) (s : ℕ) (c : Class) (xs : List Exchange) (x y : Exchange) (e : ℕ) →
+    Every (λ z. suc y.number ≤ z.number) xs → (find (λ z. z.number == e) xs ≡ Some x →
+    total f s c (filter (λ z. not (z.number == e)) xs) + part f s c x ≡ total f s c xs) → (b : Bool) →
+    (y.number == e) ≡ b → cond b (Some y) (find (λ z. z.number == e) xs) ≡ Some x →
+    total f s c (cond (not b) (y ∷ filter (λ z. not (z.number == e)) xs)
+    (filter (λ z. not (z.number == e)) xs)) + part f s c x ≡ part f s c y + total f s c xs
+ended_total_step f s c xs x y e h below true t k =
+    let same : part f s c y ≡ part f s c x = ap (part f s c) (same_some y x k) in
+    let all : total f s c (filter (λ z. not (z.number == e)) xs) ≡ total f s c xs =
+    ap (total f s c) (subst (λ (n : ℕ). filter (λ z. not (z.number == n)) xs ≡ xs) (eqb-true _ _ t)
+    (filter_none y.number xs h)) in
+    omega arith
+ended_total_step f s c xs x y e h below false t k = omega (arith, below k)
+
+-- The sum falls by the part of an exchange that ends.
+pub total-ended : (f : Exchange → ℕ) (lo s : ℕ) (c : Class) (xs : List Exchange) (x : Exchange) (e : ℕ) →
+    Rising lo xs → find (λ z. z.number == e) xs ≡ Some x →
+    total f s c (filter (λ z. not (z.number == e)) xs) + part f s c x ≡ total f s c xs
+total-ended f lo s c [] x e r k = absurd (cc k)
+total-ended f lo s c (y ∷ ys) x e r k = ended_total_step f s c ys x y e (above (suc y.number) ys r.1)
+    (total-ended f (suc y.number) s c ys x e r.1) (y.number == e) refl k
+
+pub owed-total : (s : ℕ) (c : Class) (xs : List Exchange) → owed s c xs ≡ total (λ x. x.charge) s c xs
+owed-total s c [] = refl
+owed-total s c (x ∷ xs) = ap (λ (n : ℕ). part (λ x. x.charge) s c x + n) (owed-total s c xs)
+
+-- Returns what an exchange adds to the airtime in flight of a station in a class.
+abbrev pub owed_of : ℕ → Class → Exchange → ℕ
+owed_of s c x = part (λ x. x.charge) s c x
+
+-- The airtime in flight of a station falls by what an exchange that ends added to it.
+pub owed-ended : (lo s : ℕ) (c : Class) (xs : List Exchange) (x : Exchange) (e : ℕ) → Rising lo xs →
+    find (λ z. z.number == e) xs ≡ Some x →
+    owed s c (filter (λ z. not (z.number == e)) xs) + owed_of s c x ≡ owed s c xs
+owed-ended lo s c xs x e r k = omega (
+  arith,
+  total-ended (λ x. x.charge) lo s c xs x e r k,
+  owed-total s c xs,
+  owed-total s c (filter (λ z. not (z.number == e)) xs),
+)
+
+-- If no exchange is to a station, it has no airtime in flight.
+pub owed-none : (s : ℕ) (c : Class) (xs : List Exchange) → Every (λ x. x.station ≡ s → ⊥) xs → owed s c xs ≡ 0
+owed-none s c [] h = refl
+owed-none s c (x ∷ xs) h =
+    let none : (x.station == s) ≡ false = ne_eqb x.station s h.0 in
+    rw none (omega (arith, owed-none s c xs h.1))
+
 -- If only exchanges to other stations are removed, the airtime in flight of a station does not change.
 pub owed-others_filter : (s : ℕ) (c : Class) (p : Exchange → Bool) (xs : List Exchange) →
     Every (λ x. p x ≡ false → x.station ≡ s → ⊥) xs → owed s c (filter p xs) ≡ owed s c xs
@@ -284,3 +354,52 @@ owed_reserved l s c (x ∷ xs) e = omega (
   owed_one ((x.station == s) && same_class x.class c) l x.charge e.0,
   owed_reserved l s c xs e.1,
 )
+
+-- The airtime in flight of a station is at most that of the exchanges of the class.
+pub owed_most : (l s : ℕ) (c : Class) (xs : List Exchange) → Every (λ x. x.charge ≤ l) xs →
+    owed s c xs ≤ many c xs * l
+owed_most l s c xs e = omega (arith, owed_reserved l s c xs e, reserved_most l s c xs)
+
+-- ---- sums over a station's exchanges
+
+pub total-none : (f : Exchange → ℕ) (s : ℕ) (c : Class) (xs : List Exchange) →
+    Every (λ x. x.station ≡ s → ⊥) xs → total f s c xs ≡ 0
+total-none f s c [] h = refl
+total-none f s c (x ∷ xs) h =
+    let none : (x.station == s) ≡ false = ne_eqb x.station s h.0 in
+    rw none (omega (arith, total-none f s c xs h.1))
+
+more_part : (b : Bool) (m n : ℕ) → m ≤ n → (if b then m else 0) ≤ (if b then n else 0)
+more_part true m n h = h
+more_part false m n h = omega arith
+
+pub total_less : (f g : Exchange → ℕ) (s : ℕ) (c : Class) (xs : List Exchange) →
+    ((x : Exchange) → f x ≤ g x) →
+    total f s c xs ≤ total g s c xs
+total_less f g s c [] h = omega arith
+total_less f g s c (x ∷ xs) h = omega (
+  arith,
+  more_part ((x.station == s) && same_class x.class c) (f x) (g x) (h x),
+  total_less f g s c xs h,
+)
+
+part_sum : (b : Bool) (m n : ℕ) → (if b then m + n else 0) ≡ (if b then m else 0) + (if b then n else 0)
+part_sum true m n = refl
+part_sum false m n = omega arith
+
+pub total-sum : (f g : Exchange → ℕ) (s : ℕ) (c : Class) (xs : List Exchange) →
+    total (λ x. f x + g x) s c xs ≡ total f s c xs + total g s c xs
+total-sum f g s c [] = omega arith
+total-sum f g s c (x ∷ xs) = omega (
+  arith,
+  part_sum ((x.station == s) && same_class x.class c) (f x) (g x),
+  total-sum f g s c xs,
+)
+
+-- A station's exchanges in a class are exchanges of the class.
+pub total_most : (l s : ℕ) (c : Class) (xs : List Exchange) → total (λ _. l) s c xs ≤ many c xs * l
+total_most l s c xs = omega (arith, same xs, reserved_most l s c xs)
+  where
+    same : (xs : List Exchange) → total (λ _. l) s c xs ≡ reserved l s c xs
+    same [] = refl
+    same (x ∷ xs) = ap (λ (n : ℕ). part_of l s c x + n) (same xs)

@@ -15,17 +15,20 @@ use Rattle.wf_def_world.specs.World.{World, Station, Share, Exchange, no_share, 
 use Rattle.wf_frame.specs.Classes.{class_number, same_class}
 use Rattle.wf_def_world.specs.Exchanges.{picked_station, charge_of}
 use Rattle.wf_def_world.specs.Refusals.{refusals, refusal}
-use Rattle.wf_def_world.specs.Step.{Outcome, tick_outcome, outcome_where_open, outcome_of, after_refusal, judged_outcome, step}
+use Rattle.wf_def_world.specs.Step.{Outcome, tick_outcome, outcome_where_open, outcome_of, after_refusal, judged_outcome, step, concerned_station, pull_outcome}
 use Rattle.wf_def_world.specs.Run.{Entry, world_after}
 use Rattle.wf_def_world.specs.Stretches.{world_at}
 use Rattle.wf_frame.specs.Settings.{IsInRange}
 use Rattle.wf_law_runs.specs.Deficits.{receive_charges_by, receive_charges_in, QuietLaw}
 use Rattle.wf_def_lists.specs.Lists.{on}
+use Rattle.wf_law_runs.proofs.Common.Refused.{after_idle}
 use Rattle.wf_law_runs.proofs.Deficits.Books.{Account, account, Books, books, with_account, on_part, upd_same, upd_other, each_upd, updc_same, updc_other, each_updc, cases_class}
 use Rattle.wf_law_runs.proofs.Deficits.BookSteps.{books_ended, books_gone, all_off, books_enqueued, receive_share, books_received, books_reaped, books_slept, books_woken, books_credited, rated, books_with_rate, fresh_account, books_joined, charge_share, pay_share, after, books_after_pick}
 use Rattle.wf_law_runs.proofs.Deficits.Kept.{IsKept, if_map}
 use Rattle.wf_law_runs.proofs.Deficits.KeptStep.{NoRow, no_row, IsFound, books_arrived, books_answered, kept_step, kept_opening}
-use Rattle.wf_law_runs.proofs.Fairness.OldOrder.{IsCalm, calm_listed, calm_pulled}
+use Rattle.wf_law_runs.proofs.Fairness.OldOrder.{calm_pulled}
+use Rattle.wf_law_runs.proofs.Deficits.Listing.{longer_listed}
+use Rattle.wf_def_world.specs.CanSend.{with_listings_of}
 
 -- n is the number of receive charges since the join, and r the received airtime.
 record IsSame (n r : ℕ) : Type 0 where
@@ -49,9 +52,9 @@ heard_on c n s i b g h = each_upd (λ y o. IsHeard c n (b.accounts y) → IsHear
     (option_map g (b.accounts i)) (λ y k. k) (heard_map c n g (b.accounts i) h) s
 
 -- The accounts do not change.
-heard_calm : (c : Class) (n s : ℕ) (b a : Books) → IsCalm b a → IsHeard c n (b.accounts s) →
+heard_calm : (c : Class) (n s : ℕ) (b a : Books) → a.accounts ≡ b.accounts → IsHeard c n (b.accounts s) →
     IsHeard c n (a.accounts s)
-heard_calm c n s b a e k = subst (λ (f : ℕ → Option Account). IsHeard c n (f s)) (sym e.accounts) k
+heard_calm c n s b a e k = subst (λ (f : ℕ → Option Account). IsHeard c n (f s)) (sym e) k
 
 at_part : (c d : Class) (f : Share → Share) (a : Account) → ((x : Share) → (f x).received ≡ x.received) →
     ((on_part d f a).shares c).received ≡ (a.shares c).received
@@ -165,7 +168,8 @@ heard_done (Asked (Rate i rate)) w c n s r k h =
     heard_books c n s _ _ (books_with_rate w i rate)
     (heard_on c n s i (books w) (rated rate) (λ a. refl) h)
 heard_done (Asked (Tick by)) w c n s r k h = h
-heard_done (Asked (Pull d)) w c n s r k h = heard_calm c n s _ _ (calm_pulled w d) (heard_after c n s w d h)
+heard_done (Asked (Pull d)) w c n s r k h = heard_calm c n s (after (books w) d (picked_station w d))
+    (books (pull_outcome w d).world) (calm_pulled w d).accounts (heard_after c n s w d h)
 heard_done (Asked (Arrive e j)) w c n s r k h =
     heard_open w e (exchange w e) _ c n s refl h (λ x f. heard_books c n s _ _ (books_arrived w e j x k f) h)
 heard_done (Asked (Answer e)) w c n s r k h =
@@ -186,8 +190,8 @@ heard_done (Asked Reap) w c n s r k h = heard_books c n s _ _ (books_reaped w.fi
 heard_refused : (note : Note) (r : Refusal) (w : World) (c : Class) (n s : ℕ) →
     IsHeard c n ((books w).accounts s) → IsHeard c n ((books (after_refusal w note r)).accounts s)
 unfolding after_refusal
-heard_refused (Asked (Pull d)) Idle w c n s h =
-    heard_books c n s _ _ (books_after_pick w d) (heard_after c n s w d h)
+heard_refused (Asked (Pull d)) Idle w c n s h = after_idle (λ v. IsHeard c n ((books v).accounts s)) w d h
+    (heard_books c n s _ _ (books_after_pick w d) (heard_after c n s w d h))
 heard_refused _ _ w c n s h = h
 
 heard_count : (c : Class) (m n : ℕ) (o : Option Account) → m ≡ n → IsHeard c n o → IsHeard c m o
@@ -200,7 +204,9 @@ unfolding judged_outcome
 heard_answer (Some r) w note c n s e k h = heard_count c _ n _ (counted_refused note r w s c n e)
     (heard_refused note r w c n s h)
 heard_answer None w note c n s e k h = heard_count c _ (counted s c note n) _ (counted_done note w s c n e)
-    (heard_calm c (counted s c note n) s _ _ (calm_listed _ (outcome_of w note).world)
+    (heard_calm c (counted s c note n) s (books (outcome_of w note).world)
+    (books (with_listings_of (outcome_of w note).world (concerned_station w note)))
+    (longer_listed (concerned_station w note) (outcome_of w note).world).accounts
     (heard_done note w c n s (no_row (refusals w note) e) k h))
 
 heard_step : (w : World) (note : Note) (c : Class) (n s : ℕ) → IsKept (books w) →

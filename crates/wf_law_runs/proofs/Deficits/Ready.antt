@@ -1,34 +1,39 @@
 -- Proves that every ready station is listed, in every world of a run: a call lists the station that it
 -- concerns, and no other station becomes ready.
-use Rattle.std.proofs.Common.{◌≡◌, refl, ap, sym, ◌∙◌, subst, arith, ℕ, suc, ◌<◌, ◌≤◌, Bool, true, false, if◌then◌else◌, List, [], ◌∷◌, Option, Some, None, not, ◌&&◌, ◌||◌, ◌==◌, inl, inr, ◌⊎◌}
-use Rattle.std.proofs.lemmas.Bool.{cases_eq, ne_eqb, not_from_false, not-false}
+use Rattle.std.proofs.Common.{◌≡◌, refl, ap, sym, ◌∙◌, subst, arith, ℕ, suc, ◌<◌, Bool, true, false, List, [], ◌∷◌, Option, Some, None, ◌&&◌, ◌||◌, ◌==◌, inl, inr, ℤ, pos, ◌-ℤ◌, ◌≤ℤ◌, int_le, is_some, IfSome, eq-eqb}
+use Rattle.std.proofs.lemmas.Bool.{cases_eq, cases_Bool, and_parts, or_parts, eqb-true}
 use Rattle.wf_frame.specs.declared.settings.Config.{Config}
 use Rattle.wf_frame.specs.declared.classes.Class.{Class}
-use Rattle.wf_frame.specs.declared.classes.Class.TheVariants.{Bk, Be, Vi, Vo}
 use Rattle.wf_frame.specs.declared.notes.Ask.TheVariants.{Join, Leave, Rate, Tick, Pull, Arrive, Answer, Done, Sleep, Wake, Poll, Rx, Reap}
 use Rattle.wf_frame.specs.declared.notes.Note.{Note}
 use Rattle.wf_frame.specs.declared.notes.Note.TheVariants.{Enqueue, Asked}
 use Rattle.wf_frame.specs.declared.notes.Refusal.{Refusal}
 use Rattle.wf_frame.specs.declared.notes.Refusal.TheVariants.{Idle}
-use Rattle.wf_def_lists.specs.Table.{has}
-use Rattle.wf_def_rotation.specs.Rotation.{Rotation, has_key, in_order, with_new_key, without_key}
-use Rattle.wf_def_world.specs.World.{World, Exchange, rotation, exchange, with_rotation, opening}
+use Rattle.wf_def_lists.specs.Table.{at}
+use Rattle.wf_def_rotation.specs.Rotation.{Rotation, in_order}
+use Rattle.wf_def_world.specs.World.{World, Exchange, rotation, exchange, opening, standing, is_live}
 use Rattle.wf_frame.specs.Classes.{all_classes}
-use Rattle.wf_def_world.specs.CanSend.{is_ready, with_listing_in, with_listings_in, with_listings_of}
-use Rattle.wf_def_world.specs.Exchanges.{Prepared, station_need, picked_station, after_pick, after_tid_turn, prepared_exchange, sending_tid}
+use Rattle.wf_def_world.specs.CanSend.{is_ready, with_listing_in, with_listings_in, with_listings_of, is_to_list, is_debtor}
+use Rattle.wf_def_world.specs.Exchanges.{station_need, picked_station, after_pick}
 use Rattle.wf_def_world.specs.Refusals.{refusals, refusal}
-use Rattle.wf_def_world.specs.Step.{Outcome, tick_outcome, pull_outcome_for, pull_outcome, outcome_where_open, outcome_of, concerned_station, after_refusal, judged_outcome, step}
+use Rattle.wf_def_world.specs.Step.{Outcome, tick_outcome, pull_outcome, outcome_where_open, outcome_of, concerned_station, after_refusal, judged_outcome, step}
 use Rattle.wf_def_world.specs.Run.{Entry, world_after}
 use Rattle.wf_frame.specs.Settings.{IsInRange}
 use Rattle.wf_def_lists.specs.Lists.{on}
-use Rattle.wf_law_rules.proofs.Lemmas.Counts.{on-nil, on-cons_same, on-append, on-filter, has-on}
+use Rattle.wf_law_rules.proofs.Lemmas.Counts.{on-nil}
 use Rattle.wf_law_rules.proofs.Lemmas.Rotations.{pick_keeps}
-use Rattle.wf_law_runs.proofs.Deficits.Books.{Books, books, with_account, updc, updc_same, each_updc, books_with_rotation}
-use Rattle.wf_law_runs.proofs.Deficits.BookSteps.{books_after_turn, books_prepared, books_sent, books_ended, books_gone, all_off, books_enqueued, books_received, books_reaped, books_slept, books_woken, books_credited, books_with_rate, books_joined, after, books_after_pick}
-use Rattle.wf_law_runs.proofs.Deficits.Kept.{IsKept, added-on}
-use Rattle.wf_law_runs.proofs.Deficits.KeptStep.{NoRow, no_row, IsFound, books_arrived, books_answered, kept_step, kept}
+use Rattle.wf_law_runs.proofs.Common.Refused.{after_idle, if_idle}
+use Rattle.wf_law_runs.proofs.Deficits.Books.{Books, books, with_account, each_updc, Account}
+use Rattle.wf_law_runs.proofs.Deficits.BookSteps.{books_ended, books_gone, all_off, books_enqueued, books_received, books_reaped, books_slept, books_woken, books_credited, books_with_rate, books_joined, after, books_after_pick}
+use Rattle.wf_law_runs.proofs.Deficits.Kept.{IsKept, counted_in, standing_of, if_same}
+use Rattle.wf_law_runs.proofs.Deficits.KeptStep.{NoRow, no_row, IsFound, books_arrived, books_answered, kept_step, kept, live_account, standing_is}
 use Rattle.wf_law_runs.proofs.Deficits.Mild.{IsMild, mild_here, mild_then, mild_if, mild_with_rotation, ready_less}
 use Rattle.wf_law_runs.proofs.Deficits.MildStep.{IsOwning, owning_mild, mild_after_pick, mild_done}
+use Rattle.wf_law_runs.proofs.Deficits.Concerned.{rotations_pulled}
+use Rattle.wf_law_runs.proofs.Deficits.Debtors.{all_off-on, HasCredit, IsBacked, backs_done}
+use Rattle.wf_law_runs.proofs.Deficits.Listing.{IsLonger, longer_listed, gets_listed}
+use Rattle.wf_law_runs.proofs.Deficits.Configs.{config_done, config_step}
+use Rattle.std.proofs.lemmas.Int.{ints}
 
 pub record IsListed (w : World) : Type 0 where
   pub all : (y : ℕ) (c : Class) → is_ready w c y ≡ true → 0 < on (in_order (rotation w c)) y
@@ -57,17 +62,6 @@ keeps_after s w d = record {
       pick_keeps (station_need w d) (is_ready w d) (rotation w d) y is in omega arith) c is k;
 }
 
-rotations_pulled_by : (o : Option ℕ) (v : World) (d : Class) →
-    (books (pull_outcome_for v d o).world).rotations ≡ (books v).rotations
-unfolding pull_outcome_for
-rotations_pulled_by None v d = refl
-rotations_pulled_by (Some s) v d =
-    let t : ℕ = sending_tid v s d in
-    let p : Prepared = prepared_exchange (after_tid_turn v s d t) s t in
-    let e : books p.world ≡ books v = books_prepared (after_tid_turn v s d t) s t
-    ∙ books_after_turn v s d t in
-    ap (λ (b : Books). b.rotations) (books_sent s t d p) ∙ ap (λ (b : Books). b.rotations) e
-
 keeps_rotations : (s : ℕ) (w : World) (a b : Books) → a.rotations ≡ b.rotations → Keeps s w b → Keeps s w a
 keeps_rotations s w a b e k = record {
   keeps =
@@ -76,28 +70,8 @@ keeps_rotations s w a b e k = record {
 }
 
 keeps_pulled : (s : ℕ) (w : World) (d : Class) → Keeps s w (books (pull_outcome w d).world)
-unfolding pull_outcome
-keeps_pulled s w d = keeps_rotations s w _ (after (books w) d (picked_station w d))
-    (rotations_pulled_by (picked_station w d).winner (after_pick w d) d
-    ∙ ap (λ (b : Books). b.rotations) (books_after_pick w d)) (keeps_after s w d)
-
-without-on : (r : Rotation) (s y : ℕ) → (y ≡ s → ⊥) → on (in_order (without_key r s)) y ≡ on (in_order r) y
-without-on r s y other =
-    let stays : not (y == s) ≡ true = not_from_false _ (ne_eqb y s other) in
-    omega (
-      arith,
-      on-append (without_key r s).old (without_key r s).new y,
-      on-append r.old r.new y,
-      on-filter (λ z. not (z == s)) r.old y stays,
-      on-filter (λ z. not (z == s)) r.new y stays,
-    )
-
-all_off-on : (b : Books) (s y : ℕ) (c : Class) → (y ≡ s → ⊥) →
-    on (in_order ((all_off b s).rotations c)) y ≡ on (in_order (b.rotations c)) y
-all_off-on b s y Bk other = without-on (b.rotations Bk) s y other
-all_off-on b s y Be other = without-on (b.rotations Be) s y other
-all_off-on b s y Vi other = without-on (b.rotations Vi) s y other
-all_off-on b s y Vo other = without-on (b.rotations Vo) s y other
+keeps_pulled s w d = keeps_rotations s w _ (after (books w) d (picked_station w d)) (rotations_pulled w d)
+    (keeps_after s w d)
 
 keeps_off : (s : ℕ) (w : World) → Keeps s w (with_account (all_off (books w) s) s None)
 keeps_off s w = record {
@@ -144,108 +118,8 @@ keeps_done (Asked (Rx i c air)) w s k h = keeps_same s w _
 keeps_done (Asked Reap) w s k h = keeps_same s w _
     (ap (λ (b : Books). b.rotations) (books_reaped w.finished w))
 
--- ---- listing
-
--- World v follows from w by listing keys: no readiness changes, and no list loses a station.
-record IsLonger (w v : World) : Type 0 where
-  ready : (y : ℕ) (c : Class) → is_ready v c y ≡ is_ready w c y
-  more : (y : ℕ) (c : Class) → on (in_order (rotation w c)) y ≤ on (in_order (rotation v c)) y
-
-longer_here : (w : World) → IsLonger w w
-longer_here w = record { ready = λ y c. refl; more = λ y c. omega arith }
-
-longer_then : (w u v : World) → IsLonger w u → IsLonger u v → IsLonger w v
-longer_then w u v h k = record {
-  ready = λ y c. k.ready y c ∙ h.ready y c;
-  more = λ y c. let a = h.more y c in
-      let b = k.more y c in omega (arith, h.more y c, k.more y c);
-}
-
-ready_with_rotation : (w : World) (d : Class) (r : Rotation) (y : ℕ) (c : Class) →
-    is_ready (with_rotation w d r) c y ≡ is_ready w c y
-unfolding with_rotation
-ready_with_rotation w d r y c = refl
-
-rotation_with : (w : World) (d : Class) (r : Rotation) (c : Class) →
-    rotation (with_rotation w d r) c ≡ updc (books w).rotations d r c
-rotation_with w d r c = ap (λ (b : Books). b.rotations c) (books_with_rotation w d r)
-
-longer_if : (w : World) (s : ℕ) (d : Class) (b : Bool) →
-    IsLonger w (if b then with_rotation w d (with_new_key (rotation w d) s) else w)
-longer_if w s d false = longer_here w
-longer_if w s d true = record {
-  ready = ready_with_rotation w d _;
-  more = λ y c. subst (λ (r : Rotation). on (in_order (rotation w c)) y ≤ on (in_order r) y)
-      (sym (rotation_with w d (with_new_key (rotation w d) s) c))
-      (each_updc (λ c r. on (in_order (rotation w c)) y ≤ on (in_order r) y) (books w).rotations d
-      (with_new_key (rotation w d) s) (λ c. omega arith) (omega (arith, added-on (rotation w d) s y)) c);
-}
-
-longer_in : (w : World) (s : ℕ) (d : Class) → IsLonger w (with_listing_in w s d)
-unfolding with_listing_in
-longer_in w s d = longer_if w s d _
-
-longer_in_all : (cs : List Class) (w : World) (s : ℕ) → IsLonger w (with_listings_in w s cs)
-unfolding with_listings_in
-longer_in_all [] w s = longer_here w
-longer_in_all (d ∷ cs) w s = longer_then _ _ _ (longer_in w s d) (longer_in_all cs _ s)
-
-longer_listed : (o : Option ℕ) (w : World) → IsLonger w (with_listings_of w o)
-unfolding with_listings_of
-longer_listed None w = longer_here w
-longer_listed (Some s) w = longer_in_all all_classes w s
-
-pub on-lists : (r : Rotation) (y : ℕ) → has_key r y ≡ true → 0 < on (in_order r) y
-on-lists r y h = go (has r.new y) (has r.old y) refl refl h
-  where
-    go : (a b : Bool) → has r.new y ≡ a → has r.old y ≡ b → a || b ≡ true → 0 < on (in_order r) y
-    go true b e f k = omega (arith, on-append r.old r.new y, has-on r.new y e)
-    go false true e f k = omega (arith, on-append r.old r.new y, has-on r.old y f)
-    go false false e f k = absurd (cc k)
-
-gets_if : (w : World) (s : ℕ) (d : Class) (b : Bool) →
-    (is_ready w d s && not (has_key (rotation w d) s)) ≡ b → is_ready w d s ≡ true →
-    0 < on (in_order (rotation (if b then with_rotation w d (with_new_key (rotation w d) s) else w) d)) s
-gets_if w s d true e is = subst (λ (r : Rotation). 0 < on (in_order r) s)
-    (sym (rotation_with w d (with_new_key (rotation w d) s) d
-    ∙ updc_same (books w).rotations d (with_new_key (rotation w d) s)))
-    (omega (arith, added-on (rotation w d) s s, on-cons_same s []))
-gets_if w s d false e is =
-    let there : not (has_key (rotation w d) s) ≡ false = rw is at e in
-    on-lists (rotation w d) s (not-false _ there)
-
-gets_in : (w : World) (s : ℕ) (d : Class) → is_ready w d s ≡ true →
-    0 < on (in_order (rotation (with_listing_in w s d) d)) s
-unfolding with_listing_in
-gets_in w s d is = gets_if w s d _ refl is
-
-OneOf : Class → List Class → Type 0
-OneOf d [] = ⊥
-OneOf d (c ∷ cs) = (c ≡ d) ⊎ OneOf d cs
-
-one_of_all : (d : Class) → OneOf d all_classes
-unfolding OneOf
-one_of_all Bk = inl refl
-one_of_all Be = inr (inl refl)
-one_of_all Vi = inr (inr (inl refl))
-one_of_all Vo = inr (inr (inr (inl refl)))
-
-gets_in_all : (cs : List Class) (w : World) (s : ℕ) (d : Class) → OneOf d cs → is_ready w d s ≡ true →
-    0 < on (in_order (rotation (with_listings_in w s cs) d)) s
-unfolding with_listings_in OneOf
-gets_in_all [] w s d m is = absurd m
-gets_in_all (c ∷ cs) w s d (inl e) is =
-    let here : 0 < on (in_order (rotation (with_listing_in w s c) d)) s =
-    subst (λ (z : Class). 0 < on (in_order (rotation (with_listing_in w s z) d)) s) (sym e)
-    (gets_in w s d is) in
-    omega (arith, here, (longer_in_all cs (with_listing_in w s c) s).more s d)
-gets_in_all (c ∷ cs) w s d (inr m) is = gets_in_all cs (with_listing_in w s c) s d m
-    ((longer_in w s c).ready s d ∙ is)
-
-gets_listed : (s : ℕ) (w : World) (d : Class) → is_ready w d s ≡ true →
-    0 < on (in_order (rotation (with_listings_of w (Some s)) d)) s
-unfolding with_listings_of
-gets_listed s w d is = gets_in_all all_classes w s d (one_of_all d) is
+ready_to_list : (w : World) (c : Class) (s : ℕ) → is_ready w c s ≡ true → is_to_list w c s ≡ true
+ready_to_list w c s h = ap (λ (b : Bool). b || is_debtor w c s) h
 
 -- ---- the step
 
@@ -265,6 +139,7 @@ pub record IsOrderly (w : World) : Type 0 where
   pub kept : IsKept (books w)
   pub owning : IsOwning w
   pub listed : IsListed w
+  pub backed : w.config.pending ≡ 1 → (y : ℕ) (c : Class) → IsBacked (books w) y c
 
 -- Returns the station that a call concerns, or 0 if it concerns none.
 apart_from : (o : Option ℕ) → ℕ
@@ -303,10 +178,10 @@ listed_after (Some s) w note e r i = record {
   all = λ y c is. elim (cases_eq y s) [
     | inl same ↦ subst (λ (z : ℕ). 0 < on (in_order
         (rotation (with_listings_of (outcome_of w note).world (Some s)) c)) z) (sym same)
-        (gets_listed s (outcome_of w note).world c (sym
+        (gets_listed s (outcome_of w note).world c (ready_to_list (outcome_of w note).world c s (sym
         ((longer_listed (Some s) (outcome_of w note).world).ready s c)
         ∙ subst (λ (z : ℕ). is_ready (with_listings_of (outcome_of w note).world (Some s)) c z ≡ true)
-        same is))
+        same is)))
     | inr other ↦
         let l : IsLonger (outcome_of w note).world (with_listings_of (outcome_of w note).world (Some s)) =
         longer_listed (Some s) (outcome_of w note).world in
@@ -327,13 +202,113 @@ listed_idle w d i = record {
 
 listed_refused : (note : Note) (r : Refusal) (w : World) → IsListed w → IsListed (after_refusal w note r)
 unfolding after_refusal
-listed_refused (Asked (Pull c)) Idle w i = listed_idle w c i
+listed_refused (Asked (Pull c)) Idle w i = after_idle IsListed w c i (listed_idle w c i)
 listed_refused _ _ w i = i
 
 owning_refused : (note : Note) (r : Refusal) (w : World) → IsOwning w → IsOwning (after_refusal w note r)
 unfolding after_refusal
-owning_refused (Asked (Pull c)) Idle w i = owning_mild 0 w _ (mild_after_pick 0 w c) i
+owning_refused (Asked (Pull c)) Idle w i = after_idle IsOwning w c i
+    (owning_mild 0 w _ (mild_after_pick 0 w c) i)
 owning_refused _ _ w i = i
+
+-- ---- standings
+
+some_only : (P : Type 0) (o : Option Account) → is_some o ≡ true → IfSome o (λ _. P) → P
+some_only P None is h = absurd (cc is)
+some_only P (Some a) is h = h
+
+if_known : (P : Account → Type 0) (o : Option Account) → (is_some o ≡ true → IfSome o P) → IfSome o P
+if_known P None h = tt
+if_known P (Some a) h = h refl
+
+above_zero : (d : ℤ) → int_le d (pos 0) ≡ false → pos 1 ≤ℤ d
+above_zero d h = omega (arith, ints)
+
+not_above : (d : ℤ) → int_le d (pos 0) ≡ true → pos 1 ≤ℤ d → ⊥
+not_above d h k = omega (arith, ints)
+
+owes_not : (counts live owes : Bool) → counts ≡ true → live ≡ true → counts && (live && owes) ≡ false →
+    owes ≡ false
+owes_not true true owes h k e = e
+owes_not true false owes h k e = absurd (cc k)
+owes_not false live owes h k e = absurd (cc h)
+
+-- With the setting `pending`, a station that belongs on no list of a class has a positive standing there.
+off_credit : (w : World) (s : ℕ) (c : Class) → w.config.pending ≡ 1 → is_to_list w c s ≡ false →
+    HasCredit (books w) s c
+off_credit w s c counting off = if_known (λ a. pos 1 ≤ℤ standing_of (books w) s c a) ((books w).accounts s)
+    (λ is.
+    let live : is_live w s ≡ true = sym (live_account (at None w.stations s)) ∙ is in
+    let debts : is_debtor w c s ≡ false = (or_parts (is_ready w c s) (is_debtor w c s) off).1 in
+    let none : int_le (standing w s c) (pos 0) ≡ false =
+    owes_not (w.config.pending == 1) (is_live w s) (int_le (standing w s c) (pos 0))
+    (eq-eqb w.config.pending 1 counting) live debts in
+    if_same (λ a. standing w s c ≡ standing_of (books w) s c a) (λ a. pos 1 ≤ℤ standing_of (books w) s c a)
+    ((books w).accounts s) (standing_is w c s)
+    (λ a _ e. subst (λ (z : ℤ). pos 1 ≤ℤ z) e (above_zero (standing w s c) none)))
+
+-- A station whose standing is not above 0 is on a list of the class.
+pub debtor_listed : (w : World) (s : ℕ) (c : Class) → IsOrderly w → is_debtor w c s ≡ true →
+    0 < on (in_order (rotation w c)) s
+debtor_listed w s c i is =
+    let parts = and_parts (w.config.pending == 1) _ is in
+    let both = and_parts (is_live w s) _ parts.1 in
+    elim (i.backed (eqb-true w.config.pending 1 parts.0) s c) [
+      | inl listed ↦ listed
+      | inr credit ↦ absurd (not_above (standing w s c) both.1 (some_only (pos 1 ≤ℤ standing w s c)
+          ((books w).accounts s) (live_account (at None w.stations s) ∙ both.0)
+          (if_same (λ a. standing w s c ≡ standing_of (books w) s c a) (λ _. pos 1 ≤ℤ standing w s c)
+          ((books w).accounts s) (standing_is w c s)
+          (λ a at e. subst (λ (z : ℤ). pos 1 ≤ℤ z) (sym e)
+          (subst (λ (o : Option Account). IfSome o (λ a. pos 1 ≤ℤ standing_of (books w) s c a)) at credit)))))
+    ]
+
+backed_longer : (w v : World) (y : ℕ) (c : Class) → IsLonger w v → IsBacked (books w) y c →
+    IsBacked (books v) y c
+backed_longer w v y c l (inl h) = inl (omega (arith, h, l.more y c))
+backed_longer w v y c l (inr h) = inr (subst (λ (o : Option Account). IfSome o
+    (λ a. pos 1 ≤ℤ standing_of (books v) y c a))
+    (sym (ap (λ (f : ℕ → Option Account). f y) l.accounts))
+    (subst (λ (xs : List Exchange). IfSome ((books w).accounts y)
+    (λ a. pos 1 ≤ℤ ((a.shares c).deficit -ℤ pos (counted_in v.config y c xs)))) (sym l.opened)
+    (subst (λ (z : Config). IfSome ((books w).accounts y)
+    (λ a. pos 1 ≤ℤ ((a.shares c).deficit -ℤ pos (counted_in z y c (books w).opened)))) (sym l.config) h)))
+
+backed_after : (o : Option ℕ) (w : World) (note : Note) → concerned_station w note ≡ o → IsOrderly w →
+    (outcome_of w note).world.config.pending ≡ 1 → w.config.pending ≡ 1 → (y : ℕ) (c : Class) →
+    IsBacked (books (with_listings_of (outcome_of w note).world o)) y c
+backed_after None w note e i now was y c =
+    backed_longer (outcome_of w note).world _ y c (longer_listed None (outcome_of w note).world)
+    ((backs_done note w (suc y) i.kept (λ z k. absurd (cc (e, k)))).backs y c (own_differs y)
+    (i.backed was y c))
+backed_after (Some s) w note e i now was y c = elim (cases_eq y s) [
+  | inl same ↦ subst (λ (z : ℕ). IsBacked (books (with_listings_of (outcome_of w note).world (Some s))) z c)
+      (sym same) (elim (cases_Bool (is_to_list (outcome_of w note).world c s)) [
+        | inl is ↦ inl (gets_listed s (outcome_of w note).world c is)
+        | inr off ↦ backed_longer (outcome_of w note).world _ s c
+            (longer_listed (Some s) (outcome_of w note).world)
+            (inr (off_credit (outcome_of w note).world s c now off))
+      ])
+  | inr other ↦ backed_longer (outcome_of w note).world _ y c
+      (longer_listed (Some s) (outcome_of w note).world)
+      ((backs_done note w s i.kept (λ z k. cc (e, k))).backs y c other (i.backed was y c))
+]
+
+backed_refused : (note : Note) (r : Refusal) (w : World) → w.config.pending ≡ 1 →
+    ((y : ℕ) (c : Class) → IsBacked (books w) y c) → (y : ℕ) (c : Class) →
+    IsBacked (books (after_refusal w note r)) y c
+unfolding after_refusal
+backed_refused (Asked (Pull d)) Idle w counting h =
+    if_idle (λ v. (y : ℕ) (c : Class) → IsBacked (books v) y c) w d h
+    (λ off. absurd (cc (eq-eqb w.config.pending 1 counting, off)))
+backed_refused _ _ w counting h = h
+
+backed_answer : (r : Option Refusal) (w : World) (note : Note) → IsOrderly w → w.config.pending ≡ 1 →
+    (y : ℕ) (c : Class) → IsBacked (books (judged_outcome w note r).world) y c
+unfolding judged_outcome
+backed_answer (Some r) w note i counting = backed_refused note r w counting (i.backed counting)
+backed_answer None w note i counting = backed_after (concerned_station w note) w note refl i
+    (ap (λ (z : Config). z.pending) (config_done note w) ∙ counting) counting
 
 listed_answer : (r : Option Refusal) (w : World) (note : Note) → refusal w note ≡ r → IsOrderly w →
     IsListed (judged_outcome w note r).world
@@ -359,6 +334,8 @@ orderly_step w note i = record {
   owning =
       owning_answer (refusal w note) w note refl i;
   listed = listed_answer (refusal w note) w note refl i;
+  backed = λ counting. backed_answer (refusal w note) w note i
+      (sym (ap (λ (z : Config). z.pending) (config_step w note)) ∙ counting);
 }
 
 pub orderly_run : (h : List Entry) (w : World) → IsOrderly w → IsOrderly (world_after w h)
@@ -377,4 +354,5 @@ orderly config h range = orderly_run h (opening config) (record {
     owned = λ s t q k. absurd (let none : on [] q ≡ 0 = on-nil q in omega arith);
   };
   listed = record { all = λ y c is. absurd (cc is) };
+  backed = λ _ y c. inr tt;
 })

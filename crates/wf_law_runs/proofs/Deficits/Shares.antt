@@ -1,5 +1,5 @@
 -- Proves the deficit of a live station in a class, in every world of a run, from Accounts and Kept.
-use Rattle.std.proofs.Common.{◌≡◌, refl, sym, subst, arith, ℕ, ◌+◌, ◌*◌, ◌≤◌, pos, ◌-ℤ◌, ◌≤ℤ◌, true, List, Option, Some, None, is_some, IfSome, unwrap_or, option_map, map}
+use Rattle.std.proofs.Common.{◌≡◌, refl, sym, subst, arith, ℕ, ◌+◌, ◌*◌, ◌≤◌, ℤ, pos, ◌-ℤ◌, ◌≤ℤ◌, ◌==◌, if◌then◌else◌, Bool, true, false, List, Option, Some, None, is_some, IfSome, unwrap_or, option_map, map}
 use Rattle.std.proofs.lemmas.Int.{ints}
 use Rattle.std.proofs.Math.Nat.{le-max_left}
 use Rattle.wf_frame.specs.declared.settings.Config.{Config}
@@ -9,32 +9,51 @@ use Rattle.wf_def_world.specs.World.{owed, World, Station, Share, no_share, no_s
 use Rattle.wf_frame.specs.Classes.{class_number}
 use Rattle.wf_def_world.specs.Run.{Entry, world_after}
 use Rattle.wf_frame.specs.Settings.{IsInRange}
-use Rattle.wf_law_runs.specs.Deficits.{longest_computed, longest_exchange, most_owed}
+use Rattle.wf_law_runs.specs.Deficits.{longest_computed, longest_exchange, most_owed, most_covered}
 use Rattle.wf_law_runs.proofs.Deficits.Balance.{IsBalanced, IsFairStation, IsFair}
 use Rattle.wf_law_runs.proofs.Deficits.Accounts.{accounts, below_four}
 use Rattle.wf_law_runs.proofs.Deficits.Books.{plain, account, core, books}
 use Rattle.wf_law_runs.proofs.Deficits.Openings.{every_map, owed-core, owed_reserved}
-use Rattle.wf_law_runs.proofs.Deficits.Bounds.{IsBounded}
+use Rattle.wf_law_runs.proofs.Deficits.Bounds.{counted, IsBounded}
 use Rattle.wf_law_runs.proofs.Deficits.Kept.{IsOpen, at_stake, IsGood, IsKept}
 use Rattle.wf_law_runs.proofs.Deficits.KeptStep.{kept}
+
+-- Returns the standing of a share: its deficit less the part of m that counts. m is the computed charge of
+-- the station's open exchanges.
+abbrev pub stands_at : Config → ℕ → Share → ℤ
+stands_at config m x = x.deficit -ℤ pos (counted config m)
 
 -- The share of a station of this weight. m is the computed charge of its open exchanges.
 pub record IsMoney (config : Config) (m weight : ℕ) (x : Share) : Type 0 where
   pub exact : x.deficit ≡ pos (config.quantum * weight + config.quantum * weight * x.quanta) -ℤ pos
       (x.charged + x.received)
-  pub most : x.deficit ≤ℤ pos (config.quantum * weight)
+  pub most : x.deficit ≤ℤ pos (config.quantum * weight + most_covered config)
   pub least : (pos 0 -ℤ pos (config.debt + most_owed config)) ≤ℤ x.deficit
   pub quiet : x.received ≡ 0 → (pos 1 -ℤ pos (most_owed config)) ≤ℤ (x.deficit -ℤ pos m)
   pub floor : x.received ≡ 0 → (pos 1 -ℤ pos (most_owed config)) ≤ℤ x.deficit
+  pub lowest : (pos 0 -ℤ pos (config.debt + most_owed config)) ≤ℤ stands_at config m x
+  pub within : config.charge ≡ 0 → stands_at config m x ≤ℤ pos (config.quantum * weight)
+  pub backed : config.pending ≡ 1 → config.charge ≡ 0 → x.received ≡ 0 →
+      (pos 1 -ℤ pos (longest_computed config)) ≤ℤ stands_at config m x
+
+counted_most : (config : Config) (n : ℕ) → counted config n ≤ n
+counted_most config n = go (config.pending == 1)
+  where
+    go : (t : Bool) → (if t then n else 0) ≤ n
+    go true = omega arith
+    go false = omega arith
 
 money_of : (config : Config) (m k weight : ℕ) (x : Share) → k ≤ m → IsBalanced (config.quantum * weight) x →
-    IsBounded config m weight (plain x) → IsMoney config k weight x
+    IsBounded config m (counted config k) weight (plain x) → IsMoney config k weight x
 money_of config m k weight x e h b = record {
   exact = h.deficit;
   most = b.most;
   least = omega (arith, ints, b.least);
   quiet = λ r. omega (arith, ints, b.quiet r);
   floor = λ r. omega (arith, ints, b.quiet r);
+  lowest = omega (arith, ints, b.least, counted_most config k);
+  within = b.within;
+  backed = λ p e r. omega (arith, ints, b.backed p e r);
 }
 
 pub money : (w : World) (s : ℕ) (c : Class) → IsFair w → IsKept (books w) → is_live w s ≡ true →
@@ -60,7 +79,9 @@ money w s c f k live = go (at None w.stations s) refl live (f.each s) (k.goods s
         subst (λ (o : Option Station). IsMoney w.config (owed s c w.opened) (unwrap_or o no_station).weight
         (at no_share (unwrap_or o no_station).shares (class_number c))) (sym e)
         (money_of w.config (at_stake w.config s c (map core w.opened)) (owed s c w.opened) x.weight
-        (at no_share x.shares (class_number c)) computed (h (class_number c) (below_four c)) (g.bounds c))
+        (at no_share x.shares (class_number c)) computed (h (class_number c) (below_four c))
+        (subst (λ (n : ℕ). IsBounded w.config (at_stake w.config s c (map core w.opened)) (counted w.config n)
+        x.weight (plain (at no_share x.shares (class_number c)))) (owed-core s c w.opened) (g.bounds c)))
 
 pub money_after : (config : Config) (h : List Entry) (s : ℕ) (c : Class) → IsInRange config →
     is_live (world_after (opening config) h) s ≡ true

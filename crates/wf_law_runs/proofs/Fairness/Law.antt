@@ -1,7 +1,7 @@
 -- Proves that two stations that stay on one class's old list are charged alike. The quanta differ by at
 -- most 1 because the order of the stations changes with each quantum, and deficits are between bounds, so
 -- the charges follow the quanta.
-use Rattle.std.proofs.Common.{◌≡◌, refl, ap, sym, ◌∙◌, subst, arith, ℕ, zero, suc, ◌+◌, ◌*◌, ◌-◌, ◌<◌, ◌≤◌, ℤ, pos, ◌-ℤ◌, ◌≤ℤ◌, true, List, [], ◌∷◌, length, take, drop, if◌then◌else◌, ◌==◌, Option, Some, None, unwrap_or, option_map}
+use Rattle.std.proofs.Common.{◌≡◌, refl, ap, sym, ◌∙◌, subst, arith, ℕ, zero, suc, ◌+◌, ◌*◌, ◌-◌, ◌<◌, ◌≤◌, ℤ, pos, ◌-ℤ◌, ◌≤ℤ◌, true, List, [], ◌∷◌, length, take, drop, if◌then◌else◌, ◌==◌, Option, Some, None, unwrap_or, option_map, Bool, false, ◌&&◌, not}
 use Rattle.std.proofs.lemmas.Int.{ints}
 use Rattle.wf_frame.specs.declared.settings.Config.{Config}
 use Rattle.wf_frame.specs.declared.classes.Class.{Class}
@@ -11,7 +11,7 @@ use Rattle.wf_def_world.specs.Step.{step}
 use Rattle.wf_def_world.specs.Run.{Entry, world_after}
 use Rattle.wf_def_world.specs.Stretches.{world_at, charges, charged_between, IsStretch, IsQuiet}
 use Rattle.wf_frame.specs.Settings.{IsInRange}
-use Rattle.wf_law_runs.specs.Deficits.{most_owed, got_between, IsNear, weight_at, IsFairStretch, FairnessLaw}
+use Rattle.wf_law_runs.specs.Deficits.{most_owed, got_between, IsNear, weight_at, IsFairStretch, FairnessLaw, longest_computed, longest_exchange, most_covered, most_uncharged}
 use Rattle.wf_def_lists.specs.Lists.{on}
 use Rattle.wf_law_rules.proofs.Lemmas.Counts.{ahead, has-on, on-append}
 use Rattle.wf_law_runs.proofs.Deficits.Books.{Account, account, Books, books}
@@ -20,6 +20,8 @@ use Rattle.wf_law_runs.proofs.Deficits.KeptStep.{kept, kept_step, live_account}
 use Rattle.wf_law_runs.proofs.Fairness.OldOrder.{acc, IsGrown, IsTurn, Both, turn_step}
 use Rattle.wf_law_runs.proofs.Deficits.Configs.{config_run}
 use Rattle.wf_law_runs.proofs.Deficits.Shares.{IsMoney, money_after}
+use Rattle.std.proofs.lemmas.Bool.{eqb-true}
+use Rattle.std.proofs.Math.Nat.{le-max_left}
 
 -- ---- a part of a history
 
@@ -134,28 +136,69 @@ stretch_turn config h i j c a d range s =
 
 -- ---- the bound
 
+times_most : (k m n : ℕ) → m ≤ n → k * m ≤ k * n
+times_most k m n h = grind arith
+
 -- The quanta and the charges of a station with this quantum in the meantime.
 record IsSpan (q l got charged : ℕ) : Type 0 where
   up : charged ≤ q * got + q + l
   down : q * got ≤ charged + q + l
 
-span_number : (q qa n ca C l : ℕ) (x y : ℤ) → x ≡ pos (q + q * qa) -ℤ pos ca →
-    y ≡ pos (q + q * (qa + n)) -ℤ pos (ca + C) → (pos 1 -ℤ pos l) ≤ℤ x → x ≤ℤ pos q → (pos 1 -ℤ pos l) ≤ℤ y →
-    y ≤ℤ pos q → IsSpan q l n C
-span_number q qa n ca C l x y e f lo hi lo' hi' =
+span_number : (q qa n ca C l m : ℕ) (x y : ℤ) → x ≡ pos (q + q * qa) -ℤ pos ca →
+    y ≡ pos (q + q * (qa + n)) -ℤ pos (ca + C) → (pos 1 -ℤ pos l) ≤ℤ x → x ≤ℤ pos (q + m) →
+    (pos 1 -ℤ pos l) ≤ℤ y → y ≤ℤ pos (q + m) → IsSpan q (l + m) n C
+span_number q qa n ca C l m x y e f lo hi lo' hi' =
     record { up = omega (arith, ints); down = omega (arith, ints) }
 
-span_of : (config : Config) (m k g C : ℕ) (x y : Share) → IsMoney config m g x → IsMoney config k g y →
+span_most : (q l m n C : ℕ) → l ≤ m → IsSpan q l n C → IsSpan q m n C
+span_most q l m n C h s = record { up = omega (arith, s.up); down = omega (arith, s.down) }
+
+-- Returns 1 less the least deficit of a station without receive charges.
+abbrev lowest_quiet : Config → ℕ
+lowest_quiet config =
+    if (config.pending == 1) && (config.charge == 0) then longest_computed config else most_owed config
+
+quiet_low : (config : Config) (m g : ℕ) (x : Share) → IsMoney config m g x → x.received ≡ 0 →
+    (pos 1 -ℤ pos (lowest_quiet config)) ≤ℤ x.deficit
+quiet_low config m g x a r = go (config.pending == 1) (config.charge == 0) refl refl
+  where
+    go : (t v : Bool) → (config.pending == 1) ≡ t → (config.charge == 0) ≡ v →
+        (pos 1 -ℤ pos (if t && v then longest_computed config else most_owed config)) ≤ℤ x.deficit
+    go true true e f = omega (arith, ints, a.backed (eqb-true _ _ e) (eqb-true _ _ f) r)
+    go true false e f = a.floor r
+    go false v e f = a.floor r
+
+-- The deficits of a quiet station are in a range of one quantum and this.
+range_most : (config : Config) → 1 ≤ config.inflight →
+    lowest_quiet config + most_covered config ≤ most_owed config + most_uncharged config
+range_most config some = go (config.pending == 1) (config.charge == 0) config.inflight
+    (longest_computed config)
+    (longest_exchange config) some (le-max_left (longest_computed config) config.charge)
+  where
+    go : (t v : Bool) (k l m : ℕ) → 1 ≤ k → l ≤ m → (if t && v then l else k * m) +
+        (if t then (k - 1) * l else 0) ≤ k * m + (if t && not v then (k - 1) * l else 0)
+    go true true (suc k) l m one h =
+        let e : suc k - 1 ≡ k = omega arith in
+        let less : suc k * l ≤ suc k * m = times_most (suc k) l m h in
+        rw e (omega arith)
+    go true true zero l m one h = absurd (omega arith)
+    go true false k l m one h = omega arith
+    go false v k l m one h = omega arith
+
+span_of : (config : Config) (m k g C : ℕ) (x y : Share) → 1 ≤ config.inflight →
+    IsMoney config m g x → IsMoney config k g y →
     x.quanta ≤ y.quanta → y.charged ≡ x.charged + C → x.received ≤ y.received → y.received ≡ 0
-    → IsSpan (config.quantum * g) (most_owed config) (y.quanta - x.quanta) C
-span_of config m k g C x y a b more charge r quiet =
-    span_number (config.quantum * g) x.quanta (y.quanta - x.quanta) x.charged C
-    (most_owed config) x.deficit y.deficit
+    → IsSpan (config.quantum * g) (most_owed config + most_uncharged config) (y.quanta - x.quanta) C
+span_of config m k g C x y some a b more charge r quiet =
+    span_most (config.quantum * g) (lowest_quiet config + most_covered config) _ (y.quanta - x.quanta) C
+    (range_most config some)
+    (span_number (config.quantum * g) x.quanta (y.quanta - x.quanta) x.charged C
+    (lowest_quiet config) (most_covered config) x.deficit y.deficit
     (a.exact ∙ ap (λ (n : ℕ). pos (config.quantum * g + config.quantum * g * x.quanta) -ℤ pos n) none_x)
     (b.exact ∙ (ap (λ (n : ℕ). pos (config.quantum * g + config.quantum * g * n) -ℤ pos
     (y.charged + y.received)) grows ∙ ap (λ (n : ℕ).
     pos (config.quantum * g + config.quantum * g * (x.quanta + (y.quanta - x.quanta))) -ℤ pos n) none_y))
-    (less x.deficit m (a.quiet quiet_x)) a.most (less y.deficit k (b.quiet quiet)) b.most
+    (quiet_low config m g x a quiet_x) a.most (quiet_low config k g y b quiet) b.most)
   where
     quiet_x : x.received ≡ 0
     quiet_x = omega arith
@@ -168,10 +211,6 @@ span_of config m k g C x y a b more charge r quiet =
 
     grows : y.quanta ≡ x.quanta + (y.quanta - x.quanta)
     grows = omega arith
-
-    less : (d : ℤ) (n : ℕ) → (pos 1 -ℤ pos (most_owed config)) ≤ℤ (d -ℤ pos n) →
-        (pos 1 -ℤ pos (most_owed config)) ≤ℤ d
-    less d n h = omega (arith, ints)
 
 times_le : (a b c : ℕ) → a ≤ b → a * c ≤ b * c
 times_le a b c h = grind arith
@@ -225,7 +264,7 @@ on_old_live config h m s c range stands =
           (rotation (world_at config h m) c).new s,
     ))
 
-config_at : (config : Config) (h : List Entry) (m : ℕ) → (world_at config h m).config ≡ config
+pub config_at : (config : Config) (h : List Entry) (m : ℕ) → (world_at config h m).config ≡ config
 config_at config h m = config_run (take m h) (opening config)
 
 -- The share of a station at a moment.
@@ -242,7 +281,8 @@ span_at : (config : Config) (h : List Entry) (a b s C : ℕ) (c : Class) → IsI
     is_live (world_at config h a) s ≡ true → is_live (world_at config h b) s ≡ true
     → IsGrown c C (account (station (world_at config h a) s)) (account (station (world_at config h b) s)) →
     IsQuiet (world_at config h b) s c
-    → IsSpan (config.quantum * weight_at config h b s) (most_owed config) (got_between config h s c a b) C
+    → IsSpan (config.quantum * weight_at config h b s) (most_owed config + most_uncharged config)
+    (got_between config h s c a b) C
 span_at config h a b s C c range live_a live_b g quiet =
     let at_a : IsMoney config (owed s c (world_at config h a).opened) (weight_at config h b s)
     (share (world_at config h a) s c) =
@@ -250,7 +290,8 @@ span_at config h a b s C c range live_a live_b g quiet =
     (share (world_at config h a) s c)) (sym g.weight) (share_at config h a s c range live_a) in
     span_of config (owed s c (world_at config h a).opened) (owed s c (world_at config h b).opened)
     (weight_at config h b s) C (share (world_at config h a) s c) (share (world_at config h b) s c)
-    at_a (share_at config h b s c range live_b) g.quanta g.charged g.received quiet
+    (omega (arith, range.inflight.0)) at_a (share_at config h b s c range live_b) g.quanta g.charged
+    g.received quiet
 
 quanta_near : (qi qj qi' qj' n n' : ℕ) → qi' + qj + n ≡ qj' + qi + n' → qi ≤ qi' → qj ≤ qj' → n ≤ 1 → n' ≤ 1 →
     IsNear 1 (qi' - qi) (qj' - qj)
@@ -265,13 +306,13 @@ fair_stretch config h i j c a b range s quiet_i quiet_j t =
       quanta = near;
       charged = (
         near_charges config.quantum (weight_at config h b i) (weight_at config h b j)
-            (most_owed config) _ _ _ _ span_i span_j near.0,
+            (most_owed config + most_uncharged config) _ _ _ _ span_i span_j near.0,
         (let turned : charged_between config h j c a b * weight_at config h b i
             ≤ charged_between config h i c a b * weight_at config h b j +
             (3 * config.quantum * weight_at config h b j * weight_at config h b i +
-            (weight_at config h b j + weight_at config h b i) * most_owed config) =
+            (weight_at config h b j + weight_at config h b i) * (most_owed config + most_uncharged config)) =
             near_charges config.quantum (weight_at config h b j) (weight_at config h b i)
-            (most_owed config) _ _ _ _ span_j span_i near.1 in
+            (most_owed config + most_uncharged config) _ _ _ _ span_j span_i near.1 in
             omega arith),
       );
     }
@@ -292,13 +333,13 @@ fair_stretch config h i j c a b range s quiet_i quiet_j t =
     grown_j = grown_share (world_at config h a) (world_at config h b) j c
         (charged_between config h j c a b) t.second
 
-    span_i : IsSpan (config.quantum * weight_at config h b i) (most_owed config)
+    span_i : IsSpan (config.quantum * weight_at config h b i) (most_owed config + most_uncharged config)
         (got_between config h i c a b) (charged_between config h i c a b)
     span_i = span_at config h a b i (charged_between config h i c a b) c range
         (on_old_live config h a i c range both_a.first)
         (on_old_live config h b i c range both_b.first) grown_i quiet_i
 
-    span_j : IsSpan (config.quantum * weight_at config h b j) (most_owed config)
+    span_j : IsSpan (config.quantum * weight_at config h b j) (most_owed config + most_uncharged config)
         (got_between config h j c a b) (charged_between config h j c a b)
     span_j = span_at config h a b j (charged_between config h j c a b) c range
         (on_old_live config h a j c range both_a.second)

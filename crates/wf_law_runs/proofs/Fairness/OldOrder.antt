@@ -10,22 +10,25 @@ use Rattle.wf_frame.specs.declared.notes.Note.TheVariants.{Enqueue, Asked}
 use Rattle.wf_frame.specs.declared.notes.Refusal.{Refusal}
 use Rattle.wf_frame.specs.declared.notes.Refusal.TheVariants.{Idle}
 use Rattle.wf_def_lists.specs.Table.{at}
-use Rattle.wf_def_rotation.specs.Rotation.{Rotation, with_new_key, in_order, Picked}
-use Rattle.wf_def_world.specs.World.{World, Share, Exchange, no_station, rotation, is_live, exchange, with_rotation}
-use Rattle.wf_frame.specs.Classes.{class_number, same_class, all_classes}
-use Rattle.wf_def_world.specs.CanSend.{is_ready, with_listing_in, with_listings_in, with_listings_of}
+use Rattle.wf_def_rotation.specs.Rotation.{Rotation, in_order, Picked, with_key_listed}
+use Rattle.wf_def_world.specs.World.{World, Share, Exchange, no_station, rotation, is_live, exchange}
+use Rattle.wf_frame.specs.Classes.{class_number, same_class}
+use Rattle.wf_def_world.specs.CanSend.{is_ready, with_listings_of}
 use Rattle.wf_def_world.specs.Exchanges.{Prepared, station_need, picked_station, after_pick, after_tid_turn, prepared_exchange, exchange_of, sending_tid, charge_of}
 use Rattle.wf_def_world.specs.Refusals.{refusals, refusal}
-use Rattle.wf_def_world.specs.Step.{Outcome, join_outcome, tick_outcome, rate_outcome, pull_outcome_for, pull_outcome, done_outcome, outcome_where_open, rx_outcome, outcome_of, after_refusal, judged_outcome, step}
+use Rattle.wf_def_world.specs.Step.{Outcome, join_outcome, tick_outcome, rate_outcome, pull_outcome_for, pull_outcome, done_outcome, outcome_where_open, rx_outcome, outcome_of, after_refusal, judged_outcome, step, concerned_station}
 use Rattle.wf_def_world.specs.Stretches.{charge_to, charge_by}
 use Rattle.wf_def_lists.specs.Lists.{on}
-use Rattle.wf_law_rules.proofs.Lemmas.Counts.{ahead, on-append, ahead-filter, on-filter_out}
+use Rattle.wf_law_rules.proofs.Lemmas.Counts.{ahead, on-append, ahead-filter, on-filter_out, on-nil, on-cons_other, ahead-append, ahead-none}
 use Rattle.wf_law_rules.proofs.Lemmas.Rotations.{stay}
-use Rattle.wf_law_runs.proofs.Deficits.Books.{Account, account, core, Books, books, with_account, on_part, upd_same, upd_other, each_upd, updc_same, updc_other, each_updc, cases_class, books_with_rotation}
+use Rattle.wf_law_runs.proofs.Common.Refused.{after_idle}
+use Rattle.wf_law_runs.proofs.Deficits.Books.{Account, account, core, Books, books, with_account, on_part, upd_same, upd_other, each_upd, updc_same, updc_other, each_updc, cases_class}
 use Rattle.wf_law_runs.proofs.Deficits.BookSteps.{books_after_turn, books_prepared, books_sent, with_opened, charge_share, with_charge, books_ended, books_gone, all_off, books_enqueued, receive_share, books_received, books_reaped, books_slept, books_woken, books_credited, rated, books_with_rate, fresh_account, books_joined, pay_share, paid, after, books_after_pick}
 use Rattle.wf_law_runs.proofs.Deficits.Openings.{every_find}
 use Rattle.wf_law_runs.proofs.Deficits.Kept.{IsOpen, IsKept}
 use Rattle.wf_law_runs.proofs.Deficits.KeptStep.{NoRow, no_row, live_account, IsFound, at_number, books_arrived, books_answered}
+use Rattle.wf_law_runs.proofs.Deficits.Concerned.{old_before}
+use Rattle.wf_law_runs.proofs.Deficits.Listing.{longer_listed, Adds, AddedOf, added_listed}
 
 abbrev pub acc : Books → ℕ → Account
 acc b s = unwrap_or (b.accounts s) (account no_station)
@@ -97,7 +100,7 @@ turn_other c i j s b o at_i at_j =
       second = subst (IsGrown c 0 (acc b j)) (sym e_j) (grown_same c _);
     }
 
-map_or : (P : Account → Account → Type 0) (g : Account → Account) (o : Option Account) →
+pub map_or : (P : Account → Account → Type 0) (g : Account → Account) (o : Option Account) →
     ((a : Account) → o ≡ Some a → P a (g a)) → (o ≡ None → P (account no_station) (account no_station)) →
     P (unwrap_or o (account no_station)) (unwrap_or (option_map g o) (account no_station))
 map_or P g None h k = k refl
@@ -132,47 +135,56 @@ both_calm c i j b b' k h = record {
       subst (λ (t : List ℕ). 0 < on t j) (k.old c) h.second;
 }
 
-turn_calm : (c : Class) (i j m n : ℕ) (a b b' : Books) → IsCalm b b' → IsTurn c i j m n a b →
+turn_lists : (c : Class) (i j m n : ℕ) (a b b' : Books) → b'.accounts ≡ b.accounts →
+    ahead j i (b'.rotations c).old ≡ ahead j i (b.rotations c).old → IsTurn c i j m n a b →
     IsTurn c i j m n a b'
-turn_calm c i j m n a b b' k t =
+turn_lists c i j m n a b b' same o t =
     let e : (s : ℕ) → acc b' s ≡ acc b s = λ s. ap
-    (λ (f : ℕ → Option Account). unwrap_or (f s) (account no_station)) k.accounts in
-    let o : ahead j i (b'.rotations c).old ≡ ahead j i (b.rotations c).old = ap (ahead j i) (k.old c) in
+    (λ (f : ℕ → Option Account). unwrap_or (f s) (account no_station)) same in
     record {
       order = rw (e i, e j, o) t.order;
       first = subst (IsGrown c m (acc a i)) (sym (e i)) t.first;
       second = subst (IsGrown c n (acc a j)) (sym (e j)) t.second;
     }
 
+turn_calm : (c : Class) (i j m n : ℕ) (a b b' : Books) → IsCalm b b' → IsTurn c i j m n a b →
+    IsTurn c i j m n a b'
+turn_calm c i j m n a b b' k t = turn_lists c i j m n a b b' k.accounts (ap (ahead j i) (k.old c)) t
+
 calm_here : (b : Books) → IsCalm b b
 calm_here b = record { accounts = refl; old = λ c. refl }
 
-calm_then : (a b c : Books) → IsCalm a b → IsCalm b c → IsCalm a c
-calm_then a b c h k = record { accounts = k.accounts ∙ h.accounts; old = λ d. k.old d ∙ h.old d }
+-- The listing of a station does not change the order of two others on the old list.
+ahead_added : (w : World) (s : ℕ) (c : Class) (i j : ℕ) (r : Rotation) → 0 < on (rotation w c).old i →
+    Adds w s c r → ahead j i r.old ≡ ahead j i (rotation w c).old
+ahead_added w s c i j r stands a = ap (λ (z : Rotation). ahead j i z.old) a.now ∙ go (is_ready w c s)
+  where
+    away : on (s ∷ []) i ≡ 0
+    away = elim (cases_eq s i) [
+      | inl e ↦ absurd (let none : on (in_order (rotation w c)) i ≡ 0 =
+          subst (λ (z : ℕ). on (in_order (rotation w c)) z ≡ 0) e a.off in
+          omega (arith, on-append (rotation w c).old (rotation w c).new i))
+      | inr other ↦ omega (arith, on-cons_other s i [] other, on-nil i)
+    ]
 
-calm_listed_if : (w : World) (s : ℕ) (c : Class) (b : Bool) →
-    IsCalm (books w) (books (if b then with_rotation w c (with_new_key (rotation w c) s) else w))
-calm_listed_if w s c false = calm_here (books w)
-calm_listed_if w s c true = subst (IsCalm (books w)) (sym (books_with_rotation w c _)) (record {
-  accounts = refl;
-  old = each_updc (λ d r. r.old ≡ ((books w).rotations d).old) (books w).rotations c
-      (with_new_key (rotation w c) s) (λ d. refl) refl;
-})
+    go : (t : Bool) → ahead j i (with_key_listed t (rotation w c) s).old ≡ ahead j i (rotation w c).old
+    go true = refl
+    go false =
+        let none : on (rotation w c).old j * on (s ∷ []) i ≡ 0 =
+        ap (λ (n : ℕ). on (rotation w c).old j * n) away ∙ omega arith in
+        omega (arith, ahead-append j i (rotation w c).old (s ∷ []), ahead-none j i (s ∷ []) away)
 
-calm_listed_in : (w : World) (s : ℕ) (c : Class) → IsCalm (books w) (books (with_listing_in w s c))
-unfolding with_listing_in
-calm_listed_in w s c = calm_listed_if w s c _
+ahead_listed : (o : Option ℕ) (w : World) (c : Class) (i j : ℕ) (r : Rotation) → AddedOf o w c r →
+    0 < on (rotation w c).old i → ahead j i r.old ≡ ahead j i (rotation w c).old
+ahead_listed None w c i j r e stands = ap (λ (z : Rotation). ahead j i z.old) e
+ahead_listed (Some s) w c i j r (inl e) stands = ap (λ (z : Rotation). ahead j i z.old) e
+ahead_listed (Some s) w c i j r (inr a) stands = ahead_added w s c i j r stands a
 
-calm_listed_in_all : (cs : List Class) (w : World) (s : ℕ) →
-    IsCalm (books w) (books (with_listings_in w s cs))
-unfolding with_listings_in
-calm_listed_in_all [] w s = calm_here (books w)
-calm_listed_in_all (c ∷ cs) w s = calm_then _ _ _ (calm_listed_in w s c) (calm_listed_in_all cs _ s)
-
-pub calm_listed : (o : Option ℕ) (w : World) → IsCalm (books w) (books (with_listings_of w o))
-unfolding with_listings_of
-calm_listed None w = calm_here (books w)
-calm_listed (Some s) w = calm_listed_in_all all_classes w s
+turn_listed : (o : Option ℕ) (w : World) (c : Class) (i j m n : ℕ) (a : Books) → Both c i j (books w) →
+    IsTurn c i j m n a (books w) → IsTurn c i j m n a (books (with_listings_of w o))
+turn_listed o w c i j m n a h t = turn_lists c i j m n a (books w) (books (with_listings_of w o))
+    (longer_listed o w).accounts
+    (ahead_listed o w c i j (rotation (with_listings_of w o) c) (added_listed o w c) h.first) t
 
 -- ---- a pick
 
@@ -372,7 +384,7 @@ grown_charge c d n a = elim (cases_class d c) [
       }
 ]
 
-quanta_charge : (c d : Class) (n : ℕ) (a : Account) →
+pub quanta_charge : (c d : Class) (n : ℕ) (a : Account) →
     ((on_part d (charge_share n) a).shares c).quanta ≡ (a.shares c).quanta
 quanta_charge c d n a = each_updc (λ e x. x.quanta ≡ (a.shares e).quanta) a.shares d
     (charge_share n (a.shares d)) (λ e. refl) refl c
@@ -388,7 +400,7 @@ grown_receive c d n a = record {
       (λ e. omega arith) (omega arith) c;
 }
 
-quanta_receive : (c d : Class) (n : ℕ) (a : Account) →
+pub quanta_receive : (c d : Class) (n : ℕ) (a : Account) →
     ((on_part d (receive_share n) a).shares c).quanta ≡ (a.shares c).quanta
 quanta_receive c d n a = each_updc (λ e x. x.quanta ≡ (a.shares e).quanta) a.shares d
     (receive_share n (a.shares d)) (λ e. refl) refl c
@@ -500,8 +512,10 @@ turn_refused : (note : Note) (r : Refusal) (w : World) (c : Class) (i j : ℕ) �
     IsTurn c i j 0 0 (books w) (books (after_refusal w note r))
 unfolding after_refusal
 turn_refused (Asked (Pull d)) Idle w c i j k h h' =
-    subst (λ (b : Books). Both c i j b → IsTurn c i j 0 0 (books w) b) (sym (books_after_pick w d))
-    (turn_after w d c i j k h) h'
+    after_idle (λ v. Both c i j (books v) → IsTurn c i j 0 0 (books w) (books v)) w d
+    (λ _. turn_here c i j (books w))
+    (subst (λ (b : Books). Both c i j b → IsTurn c i j 0 0 (books w) b) (sym (books_after_pick w d))
+    (turn_after w d c i j k h)) h'
 turn_refused _ _ w c i j k h h' = turn_here c i j (books w)
 
 turn_charges : (c : Class) (i j m n m' n' : ℕ) (b b' : Books) → m' ≡ m → n' ≡ n → IsTurn c i j m n b b' →
@@ -517,11 +531,17 @@ unfolding judged_outcome
 turn_answer (Some r) w note c i j e k h h' = turn_charges c i j 0 0 _ _ _ _ (owing_refused note r w i c e)
     (owing_refused note r w j c e) (turn_refused note r w c i j k h h')
 turn_answer None w note c i j e k h h' =
+    let still : Both c i j (books (outcome_of w note).world) = record {
+      first = old_before note w c i k (listed i h.first) h'.first;
+      second = old_before note w c j k (listed j h.second) h'.second;
+    } in
     turn_charges c i j (owing w i c note) (owing w j c note) _ _ _ _ (owing_done note w i c e)
     (owing_done note w j c e)
-    (turn_calm c i j _ _ (books w) _ _ (calm_listed _ (outcome_of w note).world)
-    (turn_done note w c i j (no_row (refusals w note) e) k h
-    (both_calm c i j _ _ (calm_listed _ (outcome_of w note).world) h')))
+    (turn_listed (concerned_station w note) (outcome_of w note).world c i j _ _ (books w) still
+    (turn_done note w c i j (no_row (refusals w note) e) k h still))
+  where
+    listed : (y : ℕ) → 0 < on (rotation w c).old y → 0 < on (in_order (rotation w c)) y
+    listed y stands = omega (arith, stands, on-append (rotation w c).old (rotation w c).new y)
 
 pub turn_step : (w : World) (note : Note) (c : Class) (i j : ℕ) → IsKept (books w) → Both c i j (books w) →
     Both c i j (books (step w note).world) → IsTurn c i j (charge_by w i c note) (charge_by w j c note)

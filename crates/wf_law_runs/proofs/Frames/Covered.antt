@@ -102,7 +102,8 @@ queue_hand w q k f c = elim (cases_eq q c.place) [
   | inr other ↦ inl (record {
     place = c.place;
     there =
-        ap (λ (y : Queue). carries y.items k) (at_put_other new_queue w.queues q c.place (f (queue w q)) other)
+        ap (λ (y : Queue). carries y.items k)
+        (at_put_other new_queue w.queues q c.place (f (queue w q)) other)
         ∙ c.there;
   })
 ]

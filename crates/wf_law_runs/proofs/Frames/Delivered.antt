@@ -19,6 +19,7 @@ use Rattle.wf_frame.specs.declared.notes.Refusal.TheVariants.{Idle}
 use Rattle.wf_def_world.specs.Refusals.{open_of_station, refusals, refusal}
 use Rattle.wf_def_world.specs.Step.{Outcome, join_outcome, after_tid_left, after_tids_left, without_listings, leave_outcome, rate_outcome, tick_outcome, with_frame, enqueue_outcome, send_outcome, pull_outcome_for, pull_outcome, arrive_outcome, answer_outcome, done_outcome, outcome_where_open, sleep_outcome, wake_outcome, poll_outcome, rx_outcome, reap_outcome, outcome_of, after_refusal, judged_outcome, step, concerned_station}
 use Rattle.wf_law_rules.proofs.Lemmas.Tables.{at_put_other}
+use Rattle.wf_law_runs.proofs.Common.Refused.{after_idle}
 use Rattle.wf_law_runs.proofs.Sessions.Flights.{Rises}
 use Rattle.wf_law_rules.proofs.Lemmas.Numbers.{on_if, yes_eq, or_left, or_right}
 use Rattle.wf_law_runs.proofs.Windows.Sides.{Side, side_of, sides_of, Same, each_side_on, on_opened, then_same, same_on_station, same_on_share, same_finish, same_listed, same_after_pick, same_after_turn, same_spent, same_within_limit, same_put_in, same_take, same_charged}
@@ -35,7 +36,7 @@ use Rattle.wf_law_runs.proofs.Frames.Fewer.{IsAcked, Less, less, then_less, if_l
 use Rattle.wf_law_runs.proofs.Windows.Settling.{all_acked, without_same, without_live}
 use Rattle.wf_law_runs.proofs.Releases.Placed.{slot_new_id}
 
--- ---- the ids in an exchange are those of its numbers
+-- ---- the ids in an exchange are the ids of its numbers
 
 abbrev pub Labelled : Session → List Mpdu → Type 0
 Labelled y [] = Unit {0}
@@ -838,11 +839,12 @@ delivered_refused : (note : Note) (r : Refusal) (w : World) → IsLawful w → I
     IsDelivered note w (after_refusal w note r)
 unfolding after_refusal
 delivered_refused (Asked (Pull c)) Idle w i a =
-    record {
+    after_idle (IsDelivered (Asked (Pull c)) w) w c (record { labelled = a; acks = λ id e. inl e })
+    (record {
       labelled = labelled_same w _ i (same_after_pick w c) a;
       acks =
           acks_less (Asked (Pull c)) w _ (less_after_pick None_of w c);
-    }
+    })
 delivered_refused _ _ w i a = record { labelled = a; acks = λ id e. inl e }
 
 then_listed : (note : Note) (w u v : World) → Same u v → Less None_of u v → IsLawful u →

@@ -26,6 +26,7 @@ use Rattle.wf_def_world.specs.Step.{Outcome, join_outcome, after_tid_left, after
 use Rattle.wf_def_world.specs.Run.{Entry, world_after}
 use Rattle.std.proofs.lemmas.List.{length-append}
 use Rattle.std.proofs.lemmas.List.Sums.{sum_by-append}
+use Rattle.wf_law_runs.proofs.Common.Refused.{after_idle}
 use Rattle.wf_law_runs.proofs.Windows.Opened.{NoRow, no_row, each_find, some_along, pick_ready, left_true, eight}
 use Rattle.wf_law_rules.proofs.Lemmas.Sums.{sum_put_within, length_put}
 use Rattle.wf_law_runs.proofs.Frames.Untouched.{Untouched, untouched, then_untouched, untouched_on_session, untouched_on_queue, untouched_pay_queues, untouched_with_queues, untouched_spent, untouched_after_turn, untouched_after_pick, untouched_without, untouched_charged, untouched_put_in, untouched_off_lists, untouched_with_station, untouched_on_station, untouched_on_receiver, untouched_listed}
@@ -1273,7 +1274,8 @@ ordered_once : (xs : List Item) (lo : ℕ) → Ordered lo xs → IsOnce (ids_in 
 ordered_once [] lo o = tt
 ordered_once (x ∷ xs) lo o = (
   ids_carried xs x.id
-      ∙ on_bool (carries xs x.id) (λ e. absurd (omega (arith, carries_from xs (suc x.id) x.id o.1 e))) (λ e. e),
+      ∙ on_bool (carries xs x.id) (λ e. absurd (omega (arith, carries_from xs (suc x.id) x.id o.1 e)))
+      (λ e. e),
   ordered_once xs (suc x.id) o.1,
 )
 
@@ -1612,8 +1614,9 @@ fates_refused : (note : Note) (r : Refusal) (w : World) → Fresh w → Kept_fat
 unfolding after_refusal
 fates_refused (Asked (Pull c)) Idle w h =
     let u : Untouched w (after_pick w c) = untouched_after_pick w c in
-    of_stays w _ (fresh_calm w _ (less_after_pick Any w c)
-    (session_same w _ (same_after_pick w c)) u.frames h) (stays_same w _ u)
+    after_idle (Kept_fates 0 0 w) w c (fates_here w h)
+    (of_stays w _ (fresh_calm w _ (less_after_pick Any w c)
+    (session_same w _ (same_after_pick w c)) u.frames h) (stays_same w _ u))
 fates_refused _ _ w h = fates_here w h
 
 fates_listed : (n r : ℕ) (w u v : World) → Less Any u v → Same u v → Untouched u v → Kept_fates n r w u →

@@ -28,6 +28,7 @@ use Rattle.wf_law_runs.specs.Releases.{named_by, named_from}
 use Rattle.wf_law_runs.specs.Queues.{EachItem, IsFor, AreAtMost, IsAtMost}
 use Rattle.wf_law_runs.specs.Places.{Place, Queued, Numbered, IsNumbered, StandsAt, StandsOnce, KeepsPlaces, PlaceLaw}
 use Rattle.wf_law_rules.proofs.Lemmas.Numbers.{on_bool, on_if, eq_yes, eq_no, either}
+use Rattle.wf_law_runs.proofs.Common.Refused.{after_idle}
 use Rattle.wf_law_runs.proofs.Windows.Sides.{Side, side_of, sides_of, Same, then_same, same_on_station, same_listed, same_after_pick}
 use Rattle.wf_law_runs.proofs.Windows.Opened.{Each, eight, none_open, NoRow, no_row}
 use Rattle.wf_law_runs.proofs.Windows.Agreed.{session_same, same_left_tids, same_off_lists}
@@ -307,8 +308,9 @@ stood_done (Asked Reap) l most w k r f h i = stood_reaped w.finished w i
 
 stood_refused : (note : Note) (r : Refusal) (w : World) → Stood w → Stood (after_refusal w note r)
 unfolding after_refusal
-stood_refused (Asked (Pull c)) Idle w i = stood_calm w (after_pick w c) (same_after_pick w c)
-    (untouched_after_pick w c).frames (all_queues_after_pick w c) i
+stood_refused (Asked (Pull c)) Idle w i = after_idle Stood w c i
+    (stood_calm w (after_pick w c) (same_after_pick w c) (untouched_after_pick w c).frames
+    (all_queues_after_pick w c) i)
 stood_refused _ _ w i = i
 
 stood_answer : (r : Option Refusal) (l : List ℕ) (most : ℕ) (w : World) (note : Note) (k : Steady l w) →

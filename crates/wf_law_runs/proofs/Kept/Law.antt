@@ -17,6 +17,7 @@ use Rattle.wf_def_world.specs.Run.{Entry, world_after}
 use Rattle.wf_def_world.specs.Stretches.{world_at}
 use Rattle.wf_law_rules.proofs.Lemmas.Numbers.{on_bool, eq_yes, eq_no}
 use Rattle.wf_law_runs.specs.Kept.{is_leave_of, KeepsNumbers, IsOneStay, KeepsByCall, KeptLaw}
+use Rattle.wf_law_runs.proofs.Common.Refused.{after_idle}
 use Rattle.wf_law_runs.proofs.Common.Moments.{take_parts}
 use Rattle.wf_law_runs.proofs.Windows.Sides.{Side, Same, then_same, same_listed, same_after_pick, same_on_station, same_on_share}
 use Rattle.wf_law_runs.proofs.Windows.Opened.{NoRow, no_row}
@@ -130,7 +131,8 @@ stays_done (Asked Reap) w i r = stays_last _ w _ (last_reaped w.finished w)
 
 last_refused : (note : Note) (r : Refusal) (w : World) → Last w (after_refusal w note r)
 unfolding after_refusal
-last_refused (Asked (Pull c)) Idle w = last_same w _ (same_after_pick w c)
+last_refused (Asked (Pull c)) Idle w = after_idle (Last w) w c (last_here w)
+    (last_same w _ (same_after_pick w c))
 last_refused _ _ w = last_here w
 
 stays_answer : (r : Option Refusal) (w : World) (note : Note) → refusal w note ≡ r → IsLawful w →

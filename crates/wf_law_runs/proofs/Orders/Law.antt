@@ -29,7 +29,7 @@ use Rattle.wf_law_runs.proofs.Orders.Lines.{Lane, lane_of, Agrees, AreLined, InL
 use Rattle.wf_law_runs.proofs.Frames.Fewer.{carries}
 use Rattle.wf_law_runs.proofs.Orders.Puts.{line_enqueued}
 
--- What a call needs of the world before it.
+-- The conditions that a call needs of the world before it.
 record IsGood (flows : ℕ) (w : World) : Type 0 where
   most : ℕ
   shelved : IsShelved most (shelves w)

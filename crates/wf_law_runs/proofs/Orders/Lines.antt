@@ -29,7 +29,7 @@ pub record Lane : Type 0 where
   pub tid : ℕ
   pub queue : ℕ
 
--- The lane of the frame that a call brings, if there are so many flow queues.
+-- The lane of the frame that a call brings, for this number of flow queues.
 abbrev pub lane_of : ℕ → Note → Lane
 lane_of flows (Enqueue s t flow len) = record { station = s; tid = t; queue = flow % flows }
 lane_of flows (Asked ask) = record { station = 0; tid = 0; queue = 0 }
@@ -38,7 +38,7 @@ lane_of flows (Asked ask) = record { station = 0; tid = 0; queue = 0 }
 abbrev pub Before : (ℕ → Lane) → ℕ → ℕ → Type 0
 Before lane a b = lane a ≡ lane b → a < b
 
--- The lane of an accepted frame is that of its call.
+-- The lane of an accepted frame equals the lane of its call.
 abbrev pub Agrees : ℕ → (ℕ → Lane) → World → ℕ → Type 0
 Agrees flows lane w k = lane k ≡ lane_of flows (frame w k).note
 

@@ -64,7 +64,7 @@ note_appended : (u : World) (q : ℕ) (x : Item) (k : ℕ) →
 unfolding with_appended on_queue
 note_appended u q x k = refl
 
--- the queue for a frame is below the number of flow queues only if it is that of its flow
+-- the queue for a frame is below the number of flow queues only if it is the queue of its flow
 shared_if : (b : Bool) (over shared flows : ℕ) → flows ≤ over → (if b then over else shared) < flows →
     (if b then over else shared) ≡ shared
 shared_if true over shared flows past low = absurd (omega (arith, past, low))
@@ -82,7 +82,7 @@ same_lane x y a b c =
     ∙ ap (λ (n : ℕ). let z : Lane = record { station = y.station; tid = n; queue = x.queue } in z) b
     ∙ ap (λ (n : ℕ). let z : Lane = record { station = y.station; tid = y.tid; queue = n } in z) c
 
--- The station and the TID of a lane are those of the call.
+-- The station and the TID of a lane equal the station and the TID of the call.
 lane_for : (flows : ℕ) (note : Note) (s t : ℕ) → IsFor s t note → ((lane_of flows note).station ≡ s) ×
     ((lane_of flows note).tid ≡ t) × ((lane_of flows note).queue ≡ (flow_of note % flows))
 lane_for flows (Enqueue i j flow len) s t h = (h.0, h.1, refl)

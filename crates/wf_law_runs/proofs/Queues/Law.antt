@@ -1,4 +1,5 @@
 -- Proves the laws of the queues and of their deficits, in every world of a run. By induction on the run.
+use Rattle.wf_law_runs.proofs.Common.Refused.{after_idle}
 use Rattle.wf_law_runs.proofs.Releases.Placed.{Placing, placed_at_first}
 use Rattle.wf_law_runs.proofs.Releases.Once.{placed, placed_step}
 use Rattle.wf_law_rules.proofs.Lemmas.Counts.{has-on, on-nil, on-cons_same, on-cons}
@@ -69,7 +70,8 @@ shelved_done (Asked Reap) l most w r short p i = subst (IsShelved most) (sym (sh
 shelved_refused : (note : Note) (r : Refusal) (most : ℕ) (w : World) → IsShelved most (shelves w) →
     IsShelved most (shelves (after_refusal w note r))
 unfolding after_refusal
-shelved_refused (Asked (Pull c)) Idle most w i = subst (IsShelved most) (sym (shelves_after_pick w c)) i
+shelved_refused (Asked (Pull c)) Idle most w i = after_idle (λ v. IsShelved most (shelves v)) w c i
+    (subst (IsShelved most) (sym (shelves_after_pick w c)) i)
 shelved_refused _ _ most w i = i
 
 shelved_answer : (r : Option Refusal) (l : List ℕ) (most : ℕ) (w : World) (note : Note) → refusal w note ≡ r →

@@ -26,6 +26,7 @@ use Rattle.wf_law_rules.proofs.Lemmas.Numbers.{on_if}
 use Rattle.wf_law_rules.proofs.Lemmas.Tables.{each_put}
 use Rattle.wf_law_rules.proofs.Lemmas.Sums.{sum_put, sum_below}
 use Rattle.wf_law_rules.proofs.Lemmas.Numbers.{le_yes, le_no}
+use Rattle.wf_law_runs.proofs.Common.Refused.{after_idle}
 use Rattle.wf_law_runs.proofs.Deficits.Configs.{config_step}
 use Rattle.wf_law_runs.proofs.Frames.Fewer.{HasOctets, Less, less, less_plain, less_on_station, less_on_share, less_after_pick, less_listed, less_within_limit}
 use Rattle.wf_law_runs.proofs.Frames.Delivered.{less_joined, less_gone, less_pulled, less_arrived, less_answered, less_reaped, less_ended}
@@ -193,7 +194,8 @@ small_done (Asked ask) n w some one i = small_less n Any w _ (less_asked ask w)
 small_refused : (note : Note) (r : Refusal) (n : ℕ) (w : World) → IsSmall n w →
     IsSmall n (after_refusal w note r)
 unfolding after_refusal
-small_refused (Asked (Pull c)) Idle n w i = small_less n Any w _ (less_after_pick Any w c) i
+small_refused (Asked (Pull c)) Idle n w i = after_idle (IsSmall n) w c i
+    (small_less n Any w _ (less_after_pick Any w c) i)
 small_refused _ _ n w i = i
 
 small_answer : (r : Option Refusal) (n : ℕ) (w : World) (note : Note) → 0 < n → HasLength note →

@@ -26,6 +26,7 @@ use Rattle.wf_def_world.specs.Step.{Outcome, join_outcome, after_tid_left, after
 use Rattle.wf_def_world.specs.Run.{Entry, world_after}
 use Rattle.wf_law_rules.proofs.Lemmas.Numbers.{both, le_yes, lt_no}
 use Rattle.wf_law_rules.proofs.Lemmas.Tables.{each_put}
+use Rattle.wf_law_runs.proofs.Common.Refused.{after_idle}
 use Rattle.wf_law_runs.proofs.Windows.Opened.{NoRow, no_row}
 
 -- The values of a station except its shares and TIDs.
@@ -328,7 +329,7 @@ kept_done (Asked Reap) w e h = kept_reaped w.finished w h
 
 kept_refused : (note : Note) (r : Refusal) (w : World) → Traits w → Traits (after_refusal w note r)
 unfolding after_refusal
-kept_refused (Asked (Pull c)) Idle w h = kept_after_pick w c h
+kept_refused (Asked (Pull c)) Idle w h = after_idle Traits w c h (kept_after_pick w c h)
 kept_refused _ _ w h = h
 
 kept_listed_in_all : (cs : List Class) (w : World) (s : ℕ) → Traits w → Traits (with_listings_in w s cs)

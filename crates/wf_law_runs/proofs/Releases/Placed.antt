@@ -259,7 +259,7 @@ filter_has p (x ∷ xs) n h = on_if (λ (ys : List ℕ). has ys n ≡ true → (
     ])
     (λ _ e. let q = filter_has p xs n e in (or_right (x == n) (has xs n) q.0, q.1)) h
 
--- What a receiver releases when it becomes q.
+-- The frames that a receiver releases when it becomes q.
 pub record Grows (y : Session) (r q : Receiver) : Type 0 where
   pub rising : Climbs 0 q.arrived
   pub within : (n : ℕ) → has q.arrived n ≡ true → (y.first ≤ n) × (n < next_number y)
@@ -308,7 +308,8 @@ passes_more l w v s t q h apart own g p =
           (ap (has (l ++ ids_of y ns)) (sym e) ∙ d)) [
             | inl old ↦ inl (b.passed old)
             | inr new ↦ (
-                let k : IsIdOf y ns (slot (session w i j) n).id = has_ids ns y (slot (session w i j) n).id new in
+                let k : IsIdOf y ns (slot (session w i j) n).id =
+                has_ids ns y (slot (session w i j) n).id new in
                 let there : p.home (slot y k.number).id ≡ Numbered s t k.number =
                 (label k.number k.among).place in
                 let is_i : i ≡ s = cc (there, b.place, ap p.home k.id) in
@@ -447,7 +448,8 @@ ordered_append : (xs : List Item) (x : Item) (lo : ℕ) → Ordered lo xs → lo
     ((k : ℕ) → carries xs k ≡ true → k < x.id) → Ordered lo (xs ++ x ∷ [])
 ordered_append [] x lo o h f = (h, tt)
 ordered_append (y ∷ xs) x lo o h f =
-    let first_old : y.id < x.id = f y.id (or_left (y.id == y.id) (carries xs y.id) (yes_eq y.id y.id refl)) in (
+    let first_old : y.id < x.id = f y.id (or_left (y.id == y.id) (carries xs y.id)
+    (yes_eq y.id y.id refl)) in (
       o.0,
       ordered_append xs x (suc y.id) o.1 (omega arith)
           (λ k e. f k (or_right (y.id == k) (carries xs k) e)),

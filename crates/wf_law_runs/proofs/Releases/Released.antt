@@ -20,6 +20,7 @@ use Rattle.wf_def_world.specs.Step.{Outcome, join_outcome, after_tids_left, with
 use Rattle.wf_def_world.specs.Run.{Entry, world_after}
 use Rattle.wf_law_rules.proofs.Lemmas.Tables.{at_put_same, at_put_other}
 use Rattle.wf_law_rules.proofs.Lemmas.Numbers.{Climbs, on_bool, on_if, lt_yes, lt_no, eq_yes, eq_no, yes_eq, either, both, and_true, or_left, or_right, has_old, climbs_with, greatest_least, greatest_has, greatest_within}
+use Rattle.wf_law_runs.proofs.Common.Refused.{after_idle}
 use Rattle.wf_law_runs.proofs.Windows.Sides.{Side, side_of, side, sides_of, Same, each_side_on, side_on, on_live, same, then_same, same_on_station, same_on_share, same_listed, same_after_pick}
 use Rattle.wf_law_runs.proofs.Windows.Agreement.{unsettled_ge, IsAgreed, released_arrived}
 use Rattle.wf_law_runs.proofs.Windows.Opened.{each_find, FlyIn, eight, NoRow, no_row}
@@ -370,7 +371,8 @@ passed_done (Asked Reap) w i s t l e h = passed_quiet w (Asked Reap)
 
 pub refused_kept : (note : Note) (r : Refusal) (w : World) → Kept w (after_refusal w note r)
 unfolding after_refusal
-refused_kept (Asked (Pull c)) Idle w = kept_same w _ (same_after_pick w c)
+refused_kept (Asked (Pull c)) Idle w = after_idle (Kept w) w c (kept_same w w (same w))
+    (kept_same w _ (same_after_pick w c))
 refused_kept _ _ w = kept_same w w (same w)
 
 passed_answer : (r : Option Refusal) (w : World) (i : IsLawful w) (note : Note) (s t : ℕ) (l : List ℕ) →

@@ -20,6 +20,7 @@ use Rattle.wf_frame.specs.declared.notes.Refusal.{Refusal}
 use Rattle.wf_frame.specs.declared.notes.Refusal.TheVariants.{Idle}
 use Rattle.wf_def_world.specs.Refusals.{refusals, refusal}
 use Rattle.wf_def_world.specs.Step.{Outcome, join_outcome, leave_outcome, rate_outcome, tick_outcome, enqueue_outcome, send_outcome, pull_outcome_for, pull_outcome, arrive_outcome, answer_outcome, done_outcome, outcome_where_open, sleep_outcome, wake_outcome, poll_outcome, rx_outcome, reap_outcome, outcome_of, after_refusal, judged_outcome, step, concerned_station}
+use Rattle.wf_law_runs.proofs.Common.Refused.{after_idle}
 use Rattle.wf_law_runs.proofs.Sessions.Starts.{length-change}
 use Rattle.wf_law_runs.proofs.Sessions.Flights.{flown}
 use Rattle.wf_law_runs.proofs.Windows.Sides.{side_of, side, sides_of, Same, then_same, same_on_station, same_on_share, same_finish, same_listed, same_after_pick, same_after_turn, same_spent, same_take, same_charged}
@@ -316,8 +317,8 @@ module _ (P : List ℕ → World → Type 0) (Good : World → Type 0)
   through_refused : (note : Note) (r : Refusal) (l : List ℕ) (w : World) → P l w →
       P l (after_refusal w note r)
   unfolding after_refusal
-  through_refused (Asked (Pull c)) Idle l w p = through_same l w _ (same_after_pick w c)
-      (less_after_pick Any w c) p
+  through_refused (Asked (Pull c)) Idle l w p = after_idle (P l) w c p
+      (through_same l w _ (same_after_pick w c) (less_after_pick Any w c) p)
   through_refused _ _ l w p = p
 
   through_answer : (r : Option Refusal) (l : List ℕ) (w : World) (i : IsLawful w) (note : Note) → Good w →

@@ -1,6 +1,6 @@
 -- Proves the law of rotations, in every world of a run: the lists of stations, when a Pull is Idle, and
 -- each pick.
-use Rattle.std.proofs.Common.{◌≡◌, refl, arith, ℕ, ◌*◌, ◌<◌, ◌≤◌, nat_le, Bool, true, false, if◌then◌else◌, List, [], ◌∷◌, Option, Some, None, is_some, is_none, IfSome, unwrap_or, option_map, take, ◌↔◌}
+use Rattle.std.proofs.Common.{◌≡◌, refl, arith, ℕ, ◌*◌, ◌<◌, ◌≤◌, nat_le, Bool, true, false, if◌then◌else◌, List, [], ◌∷◌, Option, Some, None, is_some, is_none, IfSome, unwrap_or, option_map, take, ◌↔◌, ap, sym, ◌∙◌, map, eq-eqb}
 use Rattle.wf_frame.specs.declared.settings.Config.{Config}
 use Rattle.wf_frame.specs.Settings.{IsInRange}
 use Rattle.wf_frame.specs.declared.classes.Class.{Class}
@@ -8,11 +8,11 @@ use Rattle.wf_frame.specs.declared.notes.Refusal.{Refusal}
 use Rattle.wf_frame.specs.declared.notes.Refusal.TheVariants.{Full, Ahead, Idle}
 use Rattle.wf_def_lists.specs.Table.{at}
 use Rattle.wf_def_rotation.specs.Rotation.{in_order}
-use Rattle.wf_def_world.specs.World.{World, Station, owed_by_all, no_station, share, quantum, queue, rotation, tid_of, is_live}
+use Rattle.wf_def_world.specs.World.{World, Station, owed_by_all, no_station, quantum, queue, rotation, tid_of, is_live, Exchange, standing}
 use Rattle.wf_def_world.specs.FlowQueues.{has_frames}
 use Rattle.wf_def_world.specs.CanSend.{is_ready}
 use Rattle.wf_def_world.specs.Exchanges.{station_need, picked_station}
-use Rattle.wf_def_world.specs.Refusals.{first_refusal, open_of_class, is_at_aql_total}
+use Rattle.wf_def_world.specs.Refusals.{first_refusal, open_of_class, is_at_aql_total, refusal}
 use Rattle.wf_def_world.specs.Run.{Entry}
 use Rattle.wf_def_world.specs.Stretches.{world_at}
 use Rattle.wf_law_runs.specs.Rotations.{NoneReady, MayOpen, KeepsRotations, RotationLaw}
@@ -20,10 +20,19 @@ use Rattle.wf_law_runs.specs.Queues.{KeepsQueues}
 use Rattle.wf_law_rules.proofs.Lemmas.Numbers.{on_bool}
 use Rattle.wf_law_rules.proofs.Lemmas.Rotations.{IsWinner, pick_winner, pick_none}
 use Rattle.wf_law_rules.proofs.Lemmas.Visits.{visit_law}
-use Rattle.wf_law_runs.proofs.Deficits.Books.{account, books}
-use Rattle.wf_law_runs.proofs.Deficits.Kept.{IsGood, IsKept}
-use Rattle.wf_law_runs.proofs.Deficits.Ready.{IsOrderly, IsListed, on-lists, orderly}
+use Rattle.wf_law_runs.proofs.Deficits.Books.{account, books, core}
+use Rattle.wf_law_runs.proofs.Deficits.Kept.{IsGood, IsKept, IsOpen}
+use Rattle.wf_law_runs.proofs.Deficits.Ready.{IsOrderly, IsListed, orderly}
 use Rattle.wf_law_runs.proofs.Queues.Law.{once_list, queue_law}
+use Rattle.wf_law_runs.proofs.Deficits.Listing.{on-lists}
+use Rattle.wf_law_runs.proofs.Common.Refused.{if_idle}
+use Rattle.wf_law_runs.proofs.Deficits.KeptStep.{live_account}
+use Rattle.wf_law_runs.proofs.Deficits.Openings.{Every}
+use Rattle.wf_law_runs.specs.Windows.{EachOpen}
+use Rattle.wf_def_world.specs.Step.{step, judged_outcome, after_refusal}
+use Rattle.wf_frame.specs.declared.notes.Note.{Note}
+use Rattle.wf_frame.specs.declared.notes.Note.TheVariants.{Asked}
+use Rattle.wf_frame.specs.declared.notes.Ask.TheVariants.{Pull}
 
 -- ---- the winner of a pick
 
@@ -126,6 +135,29 @@ quantum_some : (w : World) (s : ℕ) → IsKept (books w) → 1 ≤ quantum w s
 quantum_some w s k = product w.config.quantum (unwrap_or (at None w.stations s) no_station).weight
     (omega (arith, k.range.quantum.0)) (weight_some w s k)
 
+-- ---- a refusal, and the stations of exchanges
+
+-- With the setting `pending`, a call that is refused changes nothing.
+refused_world : (note : Note) (r : Refusal) (w : World) → w.config.pending ≡ 1 → after_refusal w note r ≡ w
+unfolding after_refusal
+refused_world (Asked (Pull c)) Idle w counting = if_idle (λ v. v ≡ w) w c refl
+    (λ off. absurd (cc (eq-eqb w.config.pending 1 counting, off)))
+refused_world _ _ w counting = refl
+
+refused_step : (note : Note) (r : Refusal) (w : World) → w.config.pending ≡ 1 → refusal w note ≡ Some r →
+    (step w note).world ≡ w
+unfolding step judged_outcome
+refused_step note r w counting e = ap (λ (o : Option Refusal). (judged_outcome w note o).world) e
+    ∙ refused_world note r w counting
+
+some_live : (w : World) (s : ℕ) → is_some ((books w).accounts s) ≡ true → is_live w s ≡ true
+some_live w s h = sym (live_account (at None w.stations s)) ∙ h
+
+served_all : (w : World) (xs : List Exchange) → Every (IsOpen (books w)) (map core xs) →
+    EachOpen (λ x. is_live w x.station ≡ true) xs
+served_all w [] h = tt
+served_all w (x ∷ xs) h = (some_live w x.station h.0.live, served_all w xs h.1)
+
 -- ---- the law
 
 keeps_rotations : (w : World) → IsOrderly w → KeepsQueues w → KeepsRotations w
@@ -138,18 +170,13 @@ keeps_rotations w i q =
       idle = λ c. idle_pull w c i.listed;
       quanta = λ s. quantum_some w s k;
       octets = octets;
-      stations = λ c. visit_law (quantum w) (λ s. (share w s c).deficit) (is_ready w c) (rotation w c)
+      refused = λ counting note r e. refused_step note r w counting e;
+      served = served_all w w.opened k.opens;
+      stations = λ c. visit_law (quantum w) (λ s. standing w s c) (is_ready w c) (rotation w c)
           (λ s. quantum_some w s k) (once_list (in_order (rotation w c)) (k.once c));
       queues = λ s t. visit_law (λ y. w.config.flow_quantum) (λ y. (queue w y).deficit) (has_frames w)
           (tid_of w s t).queues (λ y. octets) (q.once s t);
     }
-  where
-    some_live : (w : World) (s : ℕ) → is_some ((books w).accounts s) ≡ true → is_live w s ≡ true
-    some_live w s = go (at None w.stations s)
-      where
-        go : (o : Option Station) → is_some (option_map account o) ≡ true → is_some o ≡ true
-        go None e = e
-        go (Some x) e = refl
 
 pub rotation_law : (config : Config) (h : List Entry) → IsInRange config → RotationLaw config h
 rotation_law config h range m = keeps_rotations (world_at config h m) (orderly config (take m h) range)

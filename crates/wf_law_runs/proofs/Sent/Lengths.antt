@@ -31,6 +31,7 @@ use Rattle.wf_law_runs.specs.Queues.{EachItem, IsAtMost, AreAtMost}
 use Rattle.wf_law_rules.proofs.Lemmas.Dequeues.{each_dequeue}
 use Rattle.wf_law_rules.proofs.Lemmas.Numbers.{on_if, or_left, or_right, yes_eq}
 use Rattle.wf_law_rules.proofs.Lemmas.Tables.{each_put}
+use Rattle.wf_law_runs.proofs.Common.Refused.{after_idle}
 use Rattle.wf_law_runs.proofs.Deficits.Books.{upd, upd_same, upd_other, each_upd}
 use Rattle.wf_law_runs.proofs.Frames.Delivered.{Labelled, prepared_right, opened_on_receiver, opened_ended, filtered}
 use Rattle.wf_law_runs.specs.Releases.{named_by}
@@ -673,8 +674,8 @@ stocked_done most (Asked Reap) l w e a k i = stocked_reaped most w.finished w i
 stocked_refused : (most : ℕ) (note : Note) (r : Refusal) (w : World) → IsStocked most w →
     IsStocked most (after_refusal w note r)
 unfolding after_refusal
-stocked_refused most (Asked (Pull c)) Idle w i =
-    stocked_same most w (after_pick w c) (shelves_after_pick w c) (same_after_pick w c).opened i
+stocked_refused most (Asked (Pull c)) Idle w i = after_idle (IsStocked most) w c i
+    (stocked_same most w (after_pick w c) (shelves_after_pick w c) (same_after_pick w c).opened i)
 stocked_refused most _ _ w i = i
 
 stocked_answer : (most : ℕ) (r : Option Refusal) (l : List ℕ) (w : World) (note : Note) → refusal w note ≡ r →

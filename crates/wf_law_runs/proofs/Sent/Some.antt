@@ -30,6 +30,7 @@ use Rattle.wf_law_runs.specs.Releases.{named_by}
 use Rattle.wf_law_runs.specs.Sent.{HasSome}
 use Rattle.wf_law_rules.proofs.Lemmas.Numbers.{lt_yes, both}
 use Rattle.wf_law_rules.proofs.Lemmas.Tables.{each_put}
+use Rattle.wf_law_runs.proofs.Common.Refused.{after_idle}
 use Rattle.wf_law_runs.proofs.Deficits.Books.{Books, account, books}
 use Rattle.wf_law_runs.proofs.Deficits.BookSteps.{books_after_pick, books_after_turn}
 use Rattle.wf_law_runs.proofs.Deficits.Kept.{IsGood, IsKept}
@@ -377,7 +378,8 @@ some_done (Asked Reap) w l a h = some_reaped w.finished w h
 
 some_refused : (note : Note) (r : Refusal) (w : World) → AllSome w → AllSome (after_refusal w note r)
 unfolding after_refusal
-some_refused (Asked (Pull c)) Idle w h = some_opened w (after_pick w c) (same_after_pick w c).opened h
+some_refused (Asked (Pull c)) Idle w h = after_idle AllSome w c h
+    (some_opened w (after_pick w c) (same_after_pick w c).opened h)
 some_refused _ _ w h = h
 
 some_answer : (r : Option Refusal) (w : World) (note : Note) → IsLawful w → IsApt w → AllSome w →

@@ -1,54 +1,23 @@
 -- Proves the share law: up to a constant, a station that stays on a class's old list gets as much airtime for
 -- its weight as any other station.
-use Rattle.std.proofs.Common.{◌≡◌, ap, sym, ◌∙◌, subst, arith, ℕ, suc, ◌+◌, ◌-◌, ◌*◌, ◌≤◌, ℤ, pos, negsuc, ◌+ℤ◌, ◌-ℤ◌, ◌*ℤ◌, ◌≤ℤ◌, Bool, true, List, map, take, drop}
+use Rattle.std.proofs.Common.{◌≡◌, ap, sym, ◌∙◌, subst, arith, ℕ, suc, ◌+◌, ◌-◌, ◌*◌, ◌≤◌, ℤ, pos, negsuc, ◌+ℤ◌, ◌-ℤ◌, ◌*ℤ◌, ◌≤ℤ◌, true, List, map, take}
 use Rattle.std.proofs.lemmas.Int.{ints}
 use Rattle.wf_frame.specs.declared.settings.Config.{Config}
 use Rattle.wf_frame.specs.declared.classes.Class.{Class}
 use Rattle.wf_frame.specs.Settings.{IsInRange}
 use Rattle.wf_def_world.specs.World.{owed, share, rotation, is_live, opening}
-use Rattle.wf_def_world.specs.Run.{Entry, world_after}
+use Rattle.wf_def_world.specs.Run.{Entry}
 use Rattle.wf_def_world.specs.Stretches.{world_at, charged_between}
 use Rattle.wf_law_runs.specs.Deficits.{most_owed, got_between, weight_at}
-use Rattle.wf_law_runs.specs.Shares.{received_between, used_between, deficit_then, quantum_then, overrun, IsShared, ShareLaw}
+use Rattle.wf_law_runs.specs.Shares.{received_between, used_between, deficit_then, quantum_then, overrun, IsShared, ShareLaw, AreWithin, IsSpent}
 use Rattle.wf_law_rules.proofs.Lemmas.Counts.{has-on}
 use Rattle.wf_law_runs.proofs.Deficits.Books.{core}
-use Rattle.wf_law_runs.proofs.Deficits.Accounts.{accounts}
-use Rattle.wf_law_runs.proofs.Deficits.Configs.{config_run}
 use Rattle.wf_law_runs.proofs.Deficits.Kept.{at_stake}
-use Rattle.wf_law_runs.proofs.Deficits.KeptStep.{kept}
 use Rattle.wf_law_runs.proofs.Deficits.Shares.{IsMoney}
-use Rattle.wf_law_runs.proofs.Fairness.Law.{run_split}
 use Rattle.wf_law_runs.proofs.Shares.Picks.{Once, lead_most}
-use Rattle.wf_law_runs.proofs.Shares.Stretch.{Fits, marks_live, IsHeld, IsGround, ground_money, held_run}
-
--- ---- the moments of a run
-
-pub ground_at : (config : Config) (h : List Entry) (m : ℕ) → IsInRange config →
-    IsGround config (world_at config h m)
-ground_at config h m range = record {
-  same = config_run (take m h) (opening config);
-  kept = kept config (take m h) range;
-  fair = accounts config (take m h);
-}
-
--- the world some entries after a moment
-pub after_moment : (config : Config) (h : List Entry) (a d : ℕ) →
-    world_at config h (a + d) ≡ world_after (world_at config h a) (take d (drop a h))
-after_moment config h a d = run_split a d h (opening config)
-
--- what two stations get between two moments
-pub held_between : (config : Config) (h : List Entry) (t : Bool) (c : Class) (s i a b : ℕ) →
-    IsInRange config → a ≤ b → (s ≡ i → ⊥) → ((m : ℕ) → a ≤ m → m ≤ b → Fits t c s i (world_at config h m)) →
-    IsHeld config c s i (charged_between config h i c a b) (charged_between config h s c a b)
-    (received_between config h s c a b) (world_at config h a) (world_at config h b)
-held_between config h t c s i a b range order differs fits =
-    let e : a + (b - a) ≡ b = omega arith in
-    subst (IsHeld config c s i (charged_between config h i c a b) (charged_between config h s c a b)
-    (received_between config h s c a b) (world_at config h a))
-    (sym (after_moment config h a (b - a)) ∙ ap (world_at config h) e)
-    (held_run config t c s i (world_at config h a) (drop a h) differs (ground_at config h a range) (b - a)
-    (λ d l. subst (Fits t c s i) (after_moment config h a d)
-    (fits (a + d) (omega arith) (omega arith))))
+use Rattle.wf_law_runs.proofs.Shares.Stretch.{Fits, marks_live, IsHeld, ground_money, most_off}
+use Rattle.wf_law_runs.proofs.Shares.Moments.{ground_at, held_between}
+use Rattle.wf_law_runs.proofs.Spent.Law.{spent_bounds}
 
 -- ---- the bound
 
@@ -84,27 +53,29 @@ weigh q g h n used charged v d most spent =
         (pos a +ℤ z) ≤ℤ pos m
     joined z a b x y k m l h e f = omega (arith, ints)
 
-spent_number : (u q qa n ch chb rc rcb p r : ℕ) (d db : ℤ) → d ≡ pos (u + u * qa) -ℤ pos (ch + rc) →
+covered_number : (u q qa n ch chb rc rcb p r : ℕ) (d db : ℤ) → d ≡ pos (u + u * qa) -ℤ pos (ch + rc) →
     db ≡ pos (u + u * q) -ℤ pos (chb + rcb) → db ≤ℤ pos u → q ≡ qa + n → chb ≡ ch + p → rcb ≡ rc + r →
     (pos (u * n) +ℤ d) ≤ℤ pos (p + r + u)
-spent_number u q qa n ch chb rc rcb p r d db e f most is_q is_ch is_rc =
+covered_number u q qa n ch chb rc rcb p r d db e f most is_q is_ch is_rc =
     let whole : u * q ≡ u * qa + u * n = ap (λ (z : ℕ). u * z) is_q ∙ omega arith in
     omega (arith, ints)
 
 -- the airtime that s used covers its quanta, except at most one
-pub spent_between : (config : Config) (h : List Entry) (s i : ℕ) (c : Class) (a b : ℕ) → IsInRange config →
+covered_between : (config : Config) (h : List Entry) (s i : ℕ) (c : Class) (a b : ℕ) → config.pending ≡ 0 →
+    IsInRange config →
     is_live (world_at config h a) s ≡ true → is_live (world_at config h b) s ≡ true →
     IsHeld config c s i (charged_between config h i c a b) (charged_between config h s c a b)
     (received_between config h s c a b) (world_at config h a) (world_at config h b) →
     (pos (quantum_then config h b s * got_between config h s c a b) +ℤ deficit_then config h a s c) ≤ℤ
     pos (used_between config h s c a b + quantum_then config h b s)
-spent_between config h s i c a b range live_a live_b k =
-    spent_number (quantum_then config h b s) (share (world_at config h b) s c).quanta
+covered_between config h s i c a b off range live_a live_b k =
+    covered_number (quantum_then config h b s) (share (world_at config h b) s c).quanta
     (share (world_at config h a) s c).quanta (got_between config h s c a b)
     (share (world_at config h a) s c).charged (share (world_at config h b) s c).charged
     (share (world_at config h a) s c).received (share (world_at config h b) s c).received
     (charged_between config h s c a b) (received_between config h s c a b)
-    (deficit_then config h a s c) (deficit_then config h b s c) money_w.exact money_b.exact money_b.most
+    (deficit_then config h a s c) (deficit_then config h b s c) money_w.exact money_b.exact
+    (most_off config (quantum_then config h b s) (deficit_then config h b s c) off money_b.most)
     (let more = k.own_quanta in omega (arith, more)) k.own_charged k.own_received
   where
     money_b : IsMoney config (owed s c (world_at config h b).opened) (weight_at config h b s)
@@ -121,15 +92,17 @@ pub shared : (config : Config) (h : List Entry) (s i : ℕ) (c : Class) (a b : �
     (s ≡ i → ⊥) → is_live (world_at config h a) s ≡ true → is_live (world_at config h b) s ≡ true →
     IsHeld config c s i (charged_between config h i c a b) (charged_between config h s c a b)
     (received_between config h s c a b) (world_at config h a) (world_at config h b) →
+    (config.pending ≡ 1 → (e : ℕ) → AreWithin e (opening config) (take b h) → IsSpent config h s i c a b e) →
     IsShared config h s i c a b
-shared config h s i c a b range differs live_a live_b k = record {
+shared config h s i c a b range differs live_a live_b k spends = record {
   quanta = near _ _ _ _ _ _ k.order (lead_most s i (rotation (world_at config h b) c) once) k.own_quanta
       k.other_quanta;
   charged = charged;
-  weighted = weigh config.quantum (weight_at config h b s) (weight_at config h b i)
+  weighted = λ off. weigh config.quantum (weight_at config h b s) (weight_at config h b i)
       (got_between config h s c a b) (used_between config h s c a b) (charged_between config h i c a b)
-      (overrun config) (deficit_then config h a s c) charged
-      (spent_between config h s i c a b range live_a live_b k);
+      (overrun config) (deficit_then config h a s c) (charged off)
+      (covered_between config h s i c a b off range live_a live_b k);
+  spending = spends;
 }
   where
     once : Once (rotation (world_at config h b) c)
@@ -142,19 +115,20 @@ shared config h s i c a b range differs live_a live_b k = record {
     within : (ch chb n res u m : ℕ) → chb ≡ ch + n → chb + res + 1 ≤ ch + u + m → n ≤ u + (m - 1)
     within ch chb n res u m e l = omega arith
 
-    charged : charged_between config h i c a b
+    charged : config.pending ≡ 0 → charged_between config h i c a b
         ≤ quantum_then config h b i * (got_between config h s c a b + 1) + overrun config
-    charged = subst (λ (g : ℕ). charged_between config h i c a b
+    charged off = subst (λ (g : ℕ). charged_between config h i c a b
         ≤ config.quantum * g * (got_between config h s c a b + 1) + overrun config) (sym k.other_weight)
         (within (share (world_at config h a) i c).charged (share (world_at config h b) i c).charged
         (charged_between config h i c a b) (at_stake config i c (map core (world_at config h b).opened))
         (config.quantum * weight_at config h a i * (got_between config h s c a b + 1)) (most_owed config)
-        k.other_charged k.held)
+        k.other_charged (k.held off))
 
 pub share_law : (config : Config) (h : List Entry) → IsInRange config → ShareLaw config h
 share_law config h range s i c a b order differs old live =
     shared config h s i c a b range differs (at_s a (omega arith) order) (at_s b order (omega arith))
     (held_between config h true c s i a b range order differs fits)
+    (λ counting e near. spent_bounds config h true c s i a b e range order differs fits counting near)
   where
     fits : (m : ℕ) → a ≤ m → m ≤ b → Fits true c s i (world_at config h m)
     fits m l r = record { marks = has-on _ _ (old m l r); live = live m l r }

@@ -3,7 +3,7 @@ use Rattle.std.proofs.Common.{◌≡◌, refl, ap, sym, ◌∙◌, subst, arith,
 use Rattle.std.proofs.lemmas.Bool.{cases_Bool, cases_eq, cases_lt, eqb-true, eqb-false, ne_eqb, and_parts, leb-true, leb-false, not_from_false}
 use Rattle.wf_def_lists.specs.Table.{has}
 use Rattle.wf_def_lists.specs.Lists.{on}
-use Rattle.wf_def_rotation.specs.Rotation.{Rotation, has_key, in_order, with_new_key, without_key, round, first_least, keys_before, keys_from, old_visits, all_visits, is_out, Picked, none_ready, picked_now, pick_from, pick}
+use Rattle.wf_def_rotation.specs.Rotation.{Rotation, has_key, in_order, with_new_key, with_old_key, with_key_listed, without_key, round, first_least, keys_before, keys_from, old_visits, all_visits, is_out, Picked, none_ready, picked_now, pick_from, pick}
 use Rattle.wf_law_rules.proofs.Lemmas.Counts.{ahead, on-nil, on-cons, on-cons_same, on-cons_other, on-append, ahead-append, ahead-none, on-filter, on-filter_out, ahead-filter, has-on, hasnot-on, listed-none, listed-some, before_from, on-before_self, on-split}
 use Rattle.wf_law_rules.proofs.Lemmas.Rotations.{IsLater, later, once_old, old_visits-bit, not_out, bits, is_later, least-empty, find-none, find-some}
 
@@ -103,7 +103,11 @@ lead_most s i r once = go (on r.old s) (on r.old i) (on r.new s) (ahead s i r.ol
         let h' : a ≤ (suc 0) * n = subst (λ (z : ℕ). a ≤ (suc z) * n) z h in omega arith
 
 -- adding another key to the new list does not change the lead
-pub lead_added : (s i k : ℕ) (r : Rotation) → (k ≡ s → ⊥) → lead s i (with_new_key r k) ≡ lead s i r
+lead_old : (s i k : ℕ) (r : Rotation) → lead s i r ≤ lead s i (with_old_key r k)
+unfolding lead
+lead_old s i k r = omega (arith, ahead-append s i r.old (k ∷ []))
+
+lead_added : (s i k : ℕ) (r : Rotation) → (k ≡ s → ⊥) → lead s i (with_new_key r k) ≡ lead s i r
 unfolding lead
 lead_added s i k r other =
     let none : on (k ∷ []) s ≡ 0 = on-cons_other k s [] other ∙ on-nil s in
@@ -112,6 +116,12 @@ lead_added s i k r other =
     let before : ahead i s (r.new ++ k ∷ []) ≡ ahead i s r.new =
     omega (arith, ahead-append i s r.new (k ∷ []), ahead-none i s (k ∷ []) none) in
     rw (there, before) refl
+
+-- listing another key, on whichever list, does not lower the lead
+pub lead_listed : (ready : Bool) (s i k : ℕ) (r : Rotation) → (k ≡ s → ⊥) →
+    lead s i r ≤ lead s i (with_key_listed ready r k)
+lead_listed true s i k r other = omega (arith, lead_added s i k r other)
+lead_listed false s i k r other = lead_old s i k r
 
 -- removing another key does not change the lead
 pub lead_off : (s i k : ℕ) (r : Rotation) → (s ≡ k → ⊥) → (i ≡ k → ⊥) →

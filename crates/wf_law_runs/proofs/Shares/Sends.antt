@@ -1,6 +1,6 @@
 -- Proves which station a Pull sends to, and how much the open exchanges of a station may be charged after
 -- a call.
-use Rattle.std.proofs.Common.{◌≡◌, refl, ap, sym, ◌∙◌, subst, arith, ℕ, zero, suc, ◌+◌, ◌<◌, ◌≤◌, ℤ, pos, negsuc, ◌≤ℤ◌, Bool, true, false, if◌then◌else◌, cond, List, [], ◌∷◌, Option, Some, None, not, ◌&&◌, ◌==◌, find, map, filter, eq-eqb, inl, inr, ◌⊎◌}
+use Rattle.std.proofs.Common.{◌≡◌, refl, ap, sym, ◌∙◌, subst, arith, ℕ, zero, suc, ◌+◌, ◌<◌, ◌≤◌, ℤ, pos, negsuc, ◌≤ℤ◌, Bool, true, false, if◌then◌else◌, cond, List, [], ◌∷◌, Option, Some, None, not, ◌&&◌, ◌==◌, find, map, filter, eq-eqb, inl, inr, ◌⊎◌, ◌++◌}
 use Rattle.std.proofs.lemmas.Bool.{cases_eq, eqb-true, ne_eqb}
 use Rattle.wf_frame.specs.declared.classes.Class.{Class}
 use Rattle.wf_frame.specs.declared.notes.Ask.TheVariants.{Join, Leave, Rate, Tick, Pull, Arrive, Answer, Done, Sleep, Wake, Poll, Rx, Reap}
@@ -8,11 +8,11 @@ use Rattle.wf_frame.specs.declared.notes.Note.{Note}
 use Rattle.wf_frame.specs.declared.notes.Note.TheVariants.{Enqueue, Asked}
 use Rattle.wf_frame.specs.declared.notes.Refusal.{Refusal}
 use Rattle.wf_frame.specs.declared.notes.Refusal.TheVariants.{Idle}
-use Rattle.wf_frame.specs.Classes.{same_class, all_classes}
+use Rattle.wf_frame.specs.Classes.{same_class}
 use Rattle.wf_def_lists.specs.Lists.{on}
 use Rattle.wf_def_rotation.specs.Rotation.{Rotation, need_of, keys_before, pick_from, pick}
-use Rattle.wf_def_world.specs.World.{World, Exchange, exchange, with_rotation}
-use Rattle.wf_def_world.specs.CanSend.{with_listing_in, with_listings_in, with_listings_of}
+use Rattle.wf_def_world.specs.World.{World, Exchange, exchange}
+use Rattle.wf_def_world.specs.CanSend.{with_listings_of}
 use Rattle.wf_def_world.specs.Exchanges.{picked_station, after_pick, charge_of}
 use Rattle.wf_def_world.specs.Refusals.{refusals, refusal}
 use Rattle.wf_def_world.specs.Step.{Outcome, concerned_station, tick_outcome, send_outcome, pull_outcome_for, pull_outcome, outcome_where_open, outcome_of, after_refusal, judged_outcome, step}
@@ -22,7 +22,8 @@ use Rattle.wf_law_runs.specs.Deficits.{longest_exchange}
 use Rattle.wf_law_runs.specs.Waiting.{is_sent_to, sends_by, sends}
 use Rattle.wf_law_rules.proofs.Lemmas.Counts.{on-cons, on-cons_same, on-cons_other}
 use Rattle.wf_law_rules.proofs.Lemmas.Rotations.{find-none}
-use Rattle.wf_law_runs.proofs.Deficits.Books.{core, Books, books, books_with_rotation}
+use Rattle.wf_law_runs.proofs.Common.Refused.{after_idle}
+use Rattle.wf_law_runs.proofs.Deficits.Books.{core, Books, books}
 use Rattle.wf_law_runs.proofs.Deficits.BookSteps.{with_opened, books_ended, books_gone, books_enqueued, books_received, books_reaped, books_slept, books_woken, books_credited, books_with_rate, books_joined, books_after_pick}
 use Rattle.wf_law_runs.proofs.Deficits.Openings.{reserved, reserved-append, reserved-ended}
 use Rattle.wf_law_runs.proofs.Deficits.Kept.{IsKept}
@@ -30,6 +31,7 @@ use Rattle.wf_law_runs.proofs.Deficits.KeptStep.{no_row, IsFound, at_number, boo
 use Rattle.wf_law_runs.proofs.Deficits.Configs.{config_step}
 use Rattle.wf_law_runs.proofs.Fairness.OldOrder.{owing, owing_done, owing_refused}
 use Rattle.wf_law_runs.proofs.Shares.Turns.{pulled_by, charge_most}
+use Rattle.wf_law_runs.proofs.Deficits.Listing.{longer_listed}
 
 -- ---- the reply of a Pull
 
@@ -117,25 +119,8 @@ picked_first need ready r s v stands is none won = go (find (λ y. ready y && (n
 
 -- ---- the airtime that open exchanges may be charged
 
-opened_if : (b : Bool) (w : World) (k : ℕ) (d : Class) (r : Rotation) →
-    (books (if b then with_rotation w d r else w)).opened ≡ (books w).opened
-opened_if true w k d r = ap (λ (b : Books). b.opened) (books_with_rotation w d r)
-opened_if false w k d r = refl
-
-opened_in : (w : World) (k : ℕ) (d : Class) → (books (with_listing_in w k d)).opened ≡ (books w).opened
-unfolding with_listing_in
-opened_in w k d = opened_if _ w k d _
-
-opened_in_all : (ds : List Class) (w : World) (k : ℕ) →
-    (books (with_listings_in w k ds)).opened ≡ (books w).opened
-unfolding with_listings_in
-opened_in_all [] w k = refl
-opened_in_all (d ∷ ds) w k = opened_in_all ds _ k ∙ opened_in w k d
-
 opened_listed : (o : Option ℕ) (w : World) → (books (with_listings_of w o)).opened ≡ (books w).opened
-unfolding with_listings_of
-opened_listed None w = refl
-opened_listed (Some k) w = opened_in_all all_classes w k
+opened_listed o w = (longer_listed o w).opened
 
 -- after a call that charges n to s, the open exchanges of s may be charged less than before, by at least n
 pub record Less (l : ℕ) (c : Class) (s n : ℕ) (b b' : Books) : Type 0 where
@@ -232,7 +217,9 @@ less_refused : (note : Note) (r : Refusal) (w : World) (c : Class) (s : ℕ) →
     Less (longest_exchange w.config) c s 0 (books w) (books (after_refusal w note r))
 unfolding after_refusal
 less_refused (Asked (Pull d)) Idle w c s =
-    less_same _ c s (books w) _ (ap (λ (b : Books). b.opened) (books_after_pick w d))
+    after_idle (λ v. Less (longest_exchange w.config) c s 0 (books w) (books v)) w d
+    (less_same _ c s (books w) (books w) refl)
+    (less_same _ c s (books w) _ (ap (λ (b : Books). b.opened) (books_after_pick w d)))
 less_refused _ _ w c s = less_same _ c s (books w) (books w) refl
 
 less_answer : (r : Option Refusal) (w : World) (note : Note) (c : Class) (s : ℕ) → refusal w note ≡ r →
@@ -259,6 +246,12 @@ pub less_step : (w : World) (note : Note) (c : Class) (s : ℕ) → IsKept (book
     Less (longest_exchange w.config) c s (charge_by w s c note) (books w) (books (step w note).world)
 unfolding step
 less_step w note c s kept unsent = less_answer (refusal w note) w note c s refl kept unsent
+
+pub sends_append : (es : List Entry) (w : World) (s : ℕ) (c : Class) (e : Entry) →
+    sends w s c (es ++ e ∷ []) ≡ sends w s c es + sends_by (world_after w es) s c e.1
+unfolding world_after
+sends_append [] w s c e = omega arith
+sends_append (x ∷ es) w s c e = omega (arith, sends_append es (step w x.1).world s c e)
 
 -- entries that open no exchange of a station
 pub less_run : (es : List Entry) (l : ℕ) (w : World) (c : Class) (s : ℕ) → IsKept (books w) →

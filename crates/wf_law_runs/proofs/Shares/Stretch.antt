@@ -19,7 +19,7 @@ use Rattle.wf_def_world.specs.Refusals.{refusals, refusal}
 use Rattle.wf_def_world.specs.Step.{step}
 use Rattle.wf_def_world.specs.Run.{Entry, world_after}
 use Rattle.wf_def_world.specs.Stretches.{charge_by, charges}
-use Rattle.wf_law_runs.specs.Deficits.{longest_exchange, most_owed}
+use Rattle.wf_law_runs.specs.Deficits.{longest_exchange, most_owed, most_covered}
 use Rattle.wf_law_runs.specs.Sums.{since_join, air_by}
 use Rattle.wf_law_runs.specs.Shares.{receipts}
 use Rattle.wf_law_rules.proofs.Lemmas.Counts.{on-append}
@@ -103,7 +103,7 @@ pub marks_live : (t : Bool) (c : Class) (s : ℕ) (w : World) → IsKept (books 
     is_live w s ≡ true
 marks_live t c s w k h = sym (live_account (at None w.stations s)) ∙ k.live c s (marks_listed t c s w h)
 
-stays_step : (t : Bool) (c : Class) (s i : ℕ) (w v : World) → IsKept (books w) → IsKept (books v) →
+pub stays_step : (t : Bool) (c : Class) (s i : ℕ) (w v : World) → IsKept (books w) → IsKept (books v) →
     Fits t c s i w → Fits t c s i v → Stays c s i w (books v)
 stays_step t c s i w v k j h h' = record {
   place = marks_place t c s w v h.marks h'.marks;
@@ -127,7 +127,7 @@ pub record IsHeld (config : Config) (c : Class) (s i n p q : ℕ) (w v : World) 
   pub other_quanta : (share w i c).quanta ≤ (share v i c).quanta
   pub other_charged : (share v i c).charged ≡ (share w i c).charged + n
   pub other_received : (share w i c).received ≤ (share v i c).received
-  pub held : (share v i c).charged + at_stake config i c (map core v.opened) + 1
+  pub held : config.pending ≡ 0 → (share v i c).charged + at_stake config i c (map core v.opened) + 1
       ≤ (share w i c).charged + config.quantum * (station w i).weight *
       ((share v s c).quanta - (share w s c).quanta + 1) + most_owed config
 
@@ -152,7 +152,7 @@ held_first config c s i w same k live = record {
   other_quanta = omega arith;
   other_charged = omega arith;
   other_received = omega arith;
-  held = go (config.quantum * (station w i).weight) some stake;
+  held = λ _. go (config.quantum * (station w i).weight) some stake;
 }
   where
     stake : at_stake config i c (map core w.opened) ≤ most_owed config
@@ -195,6 +195,13 @@ money_above u q d ch rc e h = omega (arith, ints)
 money_below : (u q : ℕ) (d : ℤ) (ch rc : ℕ) → d ≡ pos (u + u * q) -ℤ pos (ch + rc) → d ≤ℤ pos u →
     u * q ≤ ch + rc
 money_below u q d ch rc e h = omega (arith, ints)
+
+-- without the setting `pending`, a deficit is at most one quantum
+pub most_off : (config : Config) (u : ℕ) (d : ℤ) → config.pending ≡ 0 → d ≤ℤ pos (u + most_covered config) →
+    d ≤ℤ pos u
+most_off config u d off h =
+    let none : most_covered config ≡ 0 = rw off refl in
+    omega (arith, ints)
 
 -- the worlds in which a stretch may begin, and those that follow
 pub record IsGround (config : Config) (w : World) : Type 0 where
@@ -253,12 +260,12 @@ held_step config t c s i n p q w v note differs g gv start h h' k = record {
   other_quanta = omega (arith, k.other_quanta, m_other.quanta);
   other_charged = omega (arith, k.other_charged, sum_i.charged);
   other_received = omega (arith, k.other_received, sum_i.received);
-  held = elim m.spends [
+  held = λ off. elim m.spends [
     | inl less ↦ held_less (config.quantum * (station w i).weight) (share v i c).charged
         (at_stake config i c (map core v.opened)) (share (step v note).world i c).charged
         (at_stake config i c (map core (step v note).world.opened)) (share w i c).charged
         (share v s c).quanta (share (step v note).world s c).quanta (share w s c).quanta (most_owed config)
-        (rw (at_i, at_i') at (subst (Spent c i v (step v note).world) gv.same less)) k.held m_own.quanta
+        (rw (at_i, at_i') at (subst (Spent c i v (step v note).world) gv.same less)) (k.held off) m_own.quanta
     | inr won ↦ held_won (config.quantum * (station w i).weight)
         ((share (step v note).world i c).quanta - (share w i c).quanta) (share w i c).quanta
         ((share (step v note).world s c).quanta - (share w s c).quanta)
@@ -267,9 +274,9 @@ held_step config t c s i n p q w v note differs g gv start h h' k = record {
         (at_stake config i c (map core (step v note).world.opened)) (most_owed config)
         (subst (λ (q : ℕ). (share (step v note).world i c).charged +
         (share (step v note).world i c).received + 1 ≤ config.quantum * (station w i).weight +
-        config.quantum * (station w i).weight * q) grows (above won.1)) below
+        config.quantum * (station w i).weight * q) grows (above won.1)) (below off)
         (omega (arith, k.other_received, sum_i.received))
-        (omega (arith, order, won.0, k.own_quanta, m_own.quanta)) stake
+        (omega (arith, k.order, ahead won.0, k.own_quanta, m_own.quanta)) stake
   ];
 }
   where
@@ -297,6 +304,13 @@ held_step config t c s i n p q w v note differs g gv start h h' k = record {
         ≤ (share (step v note).world s c).quanta + (share v i c).quanta +
         lead s i (rotation (step v note).world c)
     m_order = rw (at_i, at_i', acc_is v s, acc_is (step v note).world s) at m.order
+
+    ahead : ((acc (books (step v note).world) i).shares c).quanta + ((acc (books v) s).shares c).quanta +
+        lead s i (rotation v c)
+        ≤ ((acc (books (step v note).world) s).shares c).quanta + ((acc (books v) i).shares c).quanta →
+        (share (step v note).world i c).quanta + (share v s c).quanta + lead s i (rotation v c)
+        ≤ (share (step v note).world s c).quanta + (share v i c).quanta
+    ahead h = rw (at_i, at_i', acc_is v s, acc_is (step v note).world s) at h
 
     order : (share (step v note).world i c).quanta + (share w s c).quanta + lead s i (rotation w c)
         ≤ (share (step v note).world s c).quanta + (share w i c).quanta +
@@ -334,33 +348,34 @@ held_step config t c s i n p q w v note differs g gv start h h' k = record {
         ≤ config.quantum * x + config.quantum * x * (share (step v note).world i c).quanta) weight
         (money_above _ _ (share (step v note).world i c).deficit _ _ now.exact (rw at_i' at one))
 
-    below : config.quantum * (station w i).weight * (share w i c).quanta
+    below : config.pending ≡ 0 → config.quantum * (station w i).weight * (share w i c).quanta
         ≤ (share w i c).charged + (share w i c).received
-    below = let was = ground_money config w i c g start in money_below _ _ (share w i c).deficit _ _ was.exact
-        was.most
+    below off = let was = ground_money config w i c g start in
+        money_below _ _ (share w i c).deficit _ _ was.exact
+        (most_off config (config.quantum * (station w i).weight) (share w i c).deficit off was.most)
 
 -- ---- entry by entry
 
-next_case : (xs : List Entry) (d : ℕ) (P : List Entry → Type 0) → P (take d xs) →
+pub next_case : (xs : List Entry) (d : ℕ) (P : List Entry → Type 0) → P (take d xs) →
     ((e : Entry) → P (take d xs ++ e ∷ [])) → P (take (suc d) xs)
 next_case [] zero P h k = h
 next_case [] (suc d) P h k = h
 next_case (x ∷ xs) zero P h k = k x
 next_case (x ∷ xs) (suc d) P h k = next_case xs d (λ (l : List Entry). P (x ∷ l)) h k
 
-world_append : (es : List Entry) (w : World) (e : Entry) →
+pub world_append : (es : List Entry) (w : World) (e : Entry) →
     world_after w (es ++ e ∷ []) ≡ (step (world_after w es) e.1).world
 unfolding world_after
 world_append [] w e = refl
 world_append (x ∷ es) w e = world_append es _ e
 
-charges_append : (es : List Entry) (w : World) (s : ℕ) (c : Class) (e : Entry) →
+pub charges_append : (es : List Entry) (w : World) (s : ℕ) (c : Class) (e : Entry) →
     charges w s c (es ++ e ∷ []) ≡ charges w s c es + charge_by (world_after w es) s c e.1
 unfolding world_after
 charges_append [] w s c e = omega arith
 charges_append (x ∷ es) w s c e = omega (arith, charges_append es (step w x.1).world s c e)
 
-receipts_append : (es : List Entry) (w : World) (s : ℕ) (c : Class) (e : Entry) →
+pub receipts_append : (es : List Entry) (w : World) (s : ℕ) (c : Class) (e : Entry) →
     receipts w s c (es ++ e ∷ []) ≡ receipts w s c es + air_by (world_after w es) s c e.1
 unfolding world_after
 receipts_append [] w s c e = omega arith

@@ -1,6 +1,6 @@
 -- Proves how a call changes the quanta and charges of two stations of a class, one of which keeps its place
 -- in the rotation. By cases of the call.
-use Rattle.std.proofs.Common.{◌≡◌, refl, ap, sym, ◌∙◌, subst, arith, ℕ, zero, suc, ◌+◌, ◌*◌, ◌<◌, ◌≤◌, pos, ◌≤ℤ◌, Bool, true, false, if◌then◌else◌, List, [], ◌∷◌, ◌++◌, Option, Some, None, is_some, IfSome, unwrap_or, not, ◌&&◌, ◌==◌, inl, inr, ◌⊎◌}
+use Rattle.std.proofs.Common.{◌≡◌, refl, ap, sym, ◌∙◌, subst, arith, ℕ, zero, suc, ◌+◌, ◌*◌, ◌<◌, ◌≤◌, pos, ◌≤ℤ◌, Bool, true, false, if◌then◌else◌, List, [], ◌∷◌, Option, Some, None, is_some, IfSome, unwrap_or, not, ◌&&◌, ◌==◌, inl, inr, ◌⊎◌, ℤ, ◌-ℤ◌}
 use Rattle.std.proofs.lemmas.Bool.{cases_eq, ne_eqb, and_parts, not-true, not_from_false}
 use Rattle.wf_frame.specs.declared.classes.Class.{Class}
 use Rattle.wf_frame.specs.declared.classes.Class.TheVariants.{Bk, Be, Vi, Vo}
@@ -12,23 +12,27 @@ use Rattle.wf_frame.specs.declared.notes.Refusal.TheVariants.{Idle}
 use Rattle.wf_frame.specs.Classes.{class_number, same_class, all_classes}
 use Rattle.wf_def_lists.specs.Table.{at}
 use Rattle.wf_def_lists.specs.Lists.{on}
-use Rattle.wf_def_rotation.specs.Rotation.{Rotation, has_key, in_order, with_new_key, without_key, Picked}
+use Rattle.wf_def_rotation.specs.Rotation.{Rotation, has_key, in_order, without_key, Picked, with_key_listed}
 use Rattle.wf_def_world.specs.World.{World, Exchange, no_station, rotation, is_live, exchange, with_rotation}
-use Rattle.wf_def_world.specs.CanSend.{is_ready, with_listing_in, with_listings_in, with_listings_of}
+use Rattle.wf_def_world.specs.CanSend.{is_ready, with_listing_in, with_listings_in, with_listings_of, is_to_list}
 use Rattle.wf_def_world.specs.Exchanges.{Prepared, station_need, picked_station, after_pick, after_tid_turn, prepared_exchange, exchange_of, sending_tid, charge_of}
 use Rattle.wf_def_world.specs.Refusals.{refusals, refusal}
-use Rattle.wf_def_world.specs.Step.{Outcome, tick_outcome, pull_outcome_for, pull_outcome, done_outcome, outcome_where_open, join_outcome, outcome_of, after_refusal, judged_outcome, step}
+use Rattle.wf_def_world.specs.Step.{Outcome, tick_outcome, pull_outcome_for, pull_outcome, done_outcome, outcome_where_open, join_outcome, outcome_of, after_refusal, judged_outcome, step, concerned_station}
 use Rattle.wf_def_world.specs.Stretches.{charge_to}
 use Rattle.wf_law_runs.specs.Deficits.{longest_exchange}
 use Rattle.wf_law_rules.proofs.Lemmas.Counts.{ahead, on-append, on-filter, listed-some}
 use Rattle.wf_law_rules.proofs.Lemmas.Rotations.{IsWinner, pick_keeps, pick_winner}
+use Rattle.wf_law_runs.proofs.Common.Refused.{after_idle}
 use Rattle.wf_law_runs.proofs.Deficits.Books.{Account, account, core, Books, books, with_account, with_lists, upd_same, updc, updc_same, updc_other, cases_class, books_with_rotation}
 use Rattle.wf_law_runs.proofs.Deficits.BookSteps.{books_after_turn, books_prepared, books_sent, with_opened, books_ended, books_gone, all_off, books_enqueued, books_received, books_reaped, books_slept, books_woken, books_credited, books_with_rate, fresh_account, books_joined, after, books_after_pick}
 use Rattle.wf_law_runs.proofs.Deficits.Openings.{reserved, reserved-append, reserved-ended, part_of}
-use Rattle.wf_law_runs.proofs.Deficits.Kept.{IsKept, if_same, above_after}
+use Rattle.wf_law_runs.proofs.Deficits.Kept.{IsKept, if_same, above_after, listed-on, counted_in, standing_of}
 use Rattle.wf_law_runs.proofs.Deficits.KeptStep.{NoRow, no_row, live_account, need_is, IsFound, at_number, books_arrived, books_answered, charge_within}
-use Rattle.wf_law_runs.proofs.Fairness.OldOrder.{acc, IsGrown, IsTurn, IsCalm, calm_listed, calm_pulled, turn_here, turn_other, turn_received, turn_rated, turn_ended, turn_class_other, grown_option, paid_quanta}
-use Rattle.wf_law_runs.proofs.Shares.Picks.{lead, lead_added, lead_off, Stands, pick_lead, win_lead}
+use Rattle.wf_law_runs.proofs.Fairness.OldOrder.{acc, IsGrown, IsTurn, IsCalm, calm_pulled, turn_here, turn_other, turn_received, turn_rated, turn_ended, turn_class_other, grown_option, paid_quanta}
+use Rattle.wf_law_runs.proofs.Shares.Picks.{lead, lead_off, Stands, pick_lead, win_lead, lead_listed}
+use Rattle.std.proofs.lemmas.Int.{ints}
+use Rattle.wf_law_runs.proofs.Deficits.Concerned.{old_before}
+use Rattle.wf_law_runs.proofs.Deficits.Listing.{longer_listed}
 
 -- ---- a move
 
@@ -41,10 +45,11 @@ pub record Goes (c : Class) (a a' : Account) : Type 0 where
 abbrev pub bound_to : ℕ → Class → ℕ → Books → ℕ
 bound_to l c i b = ((acc b i).shares c).charged + reserved l i c b.opened
 
--- this sum is at most as before, or i has just opened an exchange and is not ahead of s
+-- this sum is at most as before, or i has just opened an exchange and gets no quantum before s does
 abbrev pub Spends : ℕ → Class → ℕ → ℕ → Books → Books → Type 0
 Spends l c s i b b' = (bound_to l c i b' ≤ bound_to l c i b)
-    ⊎ ((lead s i (b'.rotations c) ≡ 0) × (pos 1 ≤ℤ ((acc b' i).shares c).deficit))
+    ⊎ ((((acc b' i).shares c).quanta + ((acc b s).shares c).quanta + lead s i (b.rotations c)
+    ≤ ((acc b' s).shares c).quanta + ((acc b i).shares c).quanta) × (pos 1 ≤ℤ ((acc b' i).shares c).deficit))
 
 pub record IsMove (l : ℕ) (c : Class) (s i : ℕ) (b b' : Books) : Type 0 where
   pub listed : 0 < on (in_order (b'.rotations c)) s
@@ -74,7 +79,7 @@ move_turn l c s i m n b b' listed same less t = record {
 
 -- only the lists change
 move_lists : (l : ℕ) (c : Class) (s i : ℕ) (b b' b'' : Books) → b''.accounts ≡ b'.accounts →
-    b''.opened ≡ b'.opened → lead s i (b''.rotations c) ≡ lead s i (b'.rotations c) →
+    b''.opened ≡ b'.opened → lead s i (b'.rotations c) ≤ lead s i (b''.rotations c) →
     0 < on (in_order (b''.rotations c)) s → IsMove l c s i b b' → IsMove l c s i b b''
 move_lists l c s i b b' b'' e f g listed k =
     let at_s : acc b'' s ≡ acc b' s =
@@ -83,35 +88,43 @@ move_lists l c s i b b' b'' e f g listed k =
     ap (λ (h : ℕ → Option Account). unwrap_or (h i) (account no_station)) e in
     record {
       listed = listed;
-      order = rw (at_s, at_i, g) k.order;
+      order = rw (at_s, at_i) (omega (arith, k.order, g));
       own = subst (Goes c (acc b s)) (sym at_s) k.own;
       other = subst (Goes c (acc b i)) (sym at_i) k.other;
       spends = elim k.spends [
         | inl h ↦ inl (rw (at_i, f) h)
-        | inr h ↦ inr (g ∙ h.0, rw at_i h.1)
+        | inr h ↦ inr (rw (at_s, at_i) h.0, rw at_i h.1)
       ];
     }
 
 -- ---- listing
 
 move_listed_if : (l : ℕ) (c : Class) (s i : ℕ) (b : Books) (w : World) (k : ℕ) (d : Class) (t : Bool) →
-    (is_ready w d k && not (has_key (rotation w d) k)) ≡ t → IsMove l c s i b (books w) →
-    IsMove l c s i b (books (if t then with_rotation w d (with_new_key (rotation w d) k) else w))
+    (is_to_list w d k && not (has_key (rotation w d) k)) ≡ t → IsMove l c s i b (books w) →
+    IsMove l c s i b (books (if t then with_rotation w d (with_key_listed (is_ready w d k) (rotation w d) k)
+    else w))
 move_listed_if l c s i b w k d false e h = h
 move_listed_if l c s i b w k d true e h = subst (IsMove l c s i b)
-    (sym (books_with_rotation w d (with_new_key (rotation w d) k))) (elim (cases_class c d) [
+    (sym (books_with_rotation w d (with_key_listed (is_ready w d k) (rotation w d) k)))
+    (elim (cases_class c d) [
       | inl same ↦ here same
       | inr other ↦ move_lists l c s i b (books w) _ refl refl
-          (ap (lead s i) (updc_other (books w).rotations d c (with_new_key (rotation w d) k) other))
+          (omega (
+            arith,
+            ap (lead s i) (updc_other (books w).rotations d c
+                (with_key_listed (is_ready w d k) (rotation w d) k) other),
+          ))
           (subst (λ (r : Rotation). 0 < on (in_order r) s)
-          (sym (updc_other (books w).rotations d c (with_new_key (rotation w d) k) other)) h.listed) h
+          (sym (updc_other (books w).rotations d c (with_key_listed (is_ready w d k) (rotation w d) k) other))
+          h.listed) h
     ])
   where
     unlisted : has_key (rotation w d) k ≡ false
     unlisted = not-true (has_key (rotation w d) k)
-        (and_parts (is_ready w d k) (not (has_key (rotation w d) k)) e).1
+        (and_parts (is_to_list w d k) (not (has_key (rotation w d) k)) e).1
 
-    here : c ≡ d → IsMove l c s i b (with_lists (books w) d (with_new_key (rotation w d) k))
+    here : c ≡ d →
+        IsMove l c s i b (with_lists (books w) d (with_key_listed (is_ready w d k) (rotation w d) k))
     here same =
         let away : (k ≡ s → ⊥) = λ z. cc (
           unlisted,
@@ -119,21 +132,15 @@ move_listed_if l c s i b w k d true e h = subst (IsMove l c s i b)
               (subst (λ (y : ℕ). has_key (rotation w c) y ≡ true) (sym z)
               (listed-some (rotation w c) s h.listed)),
         ) in
-        let now : (with_lists (books w) d (with_new_key (rotation w d) k)).rotations c
-        ≡ with_new_key (rotation w c) k =
-        subst (λ (d : Class). updc (books w).rotations d (with_new_key (rotation w d) k) c
-        ≡ with_new_key (rotation w c) k) same
-        (updc_same (books w).rotations c (with_new_key (rotation w c) k)) in
+        let now : (with_lists (books w) d (with_key_listed (is_ready w d k) (rotation w d) k)).rotations c
+        ≡ with_key_listed (is_ready w c k) (rotation w c) k =
+        subst (λ (d : Class). updc (books w).rotations d (with_key_listed (is_ready w d k) (rotation w d) k) c
+        ≡ with_key_listed (is_ready w c k) (rotation w c) k) same
+        (updc_same (books w).rotations c (with_key_listed (is_ready w c k) (rotation w c) k)) in
         move_lists l c s i b (books w) _ refl refl
-        (ap (lead s i) now ∙ lead_added s i k (rotation w c) away)
+        (omega (arith, ap (lead s i) now, lead_listed (is_ready w c k) s i k (rotation w c) away))
         (subst (λ (r : Rotation). 0 < on (in_order r) s) (sym now)
-        (omega (
-          arith,
-          h.listed,
-          on-append (rotation w c).old ((rotation w c).new ++ k ∷ []) s,
-          on-append (rotation w c).new (k ∷ []) s,
-          on-append (rotation w c).old (rotation w c).new s,
-        )))
+        (omega (arith, h.listed, listed-on (is_ready w c k) (rotation w c) k s)))
         h
 
 move_listed_in : (l : ℕ) (c : Class) (s i : ℕ) (b : Books) (w : World) (k : ℕ) (d : Class) →
@@ -182,6 +189,28 @@ stays_calm c s i w b b' k h = record {
   before = h.before;
   other = subst (λ (f : ℕ → Option Account). is_some (f i) ≡ true) k.accounts h.other;
 }
+
+-- the same before the call lists the station that it concerns
+stays_before : (note : Note) (w : World) (c : Class) (s i : ℕ) → IsKept (books w) →
+    Stays c s i w (books (with_listings_of (outcome_of w note).world (concerned_station w note))) →
+    Stays c s i w (books (outcome_of w note).world)
+stays_before note w c s i kept h = record {
+  place = elim h.place [
+    | inl z ↦ inl (
+      z.0,
+      old_before note w c s kept
+          (omega (arith, z.0, on-append (rotation w c).old (rotation w c).new s)) z.1,
+    )
+    | inr z ↦ inr z
+  ];
+  own = subst (λ (f : ℕ → Option Account). is_some (f s) ≡ true) same h.own;
+  before = h.before;
+  other = subst (λ (f : ℕ → Option Account). is_some (f i) ≡ true) same h.other;
+}
+  where
+    same : (books (with_listings_of (outcome_of w note).world (concerned_station w note))).accounts
+        ≡ (books (outcome_of w note).world).accounts
+    same = (longer_listed (concerned_station w note) (outcome_of w note).world).accounts
 
 -- ---- a pick
 
@@ -286,7 +315,7 @@ move_opened l c s i b b' x first above h = record {
   order = h.order;
   own = h.own;
   other = h.other;
-  spends = inr (first, above);
+  spends = inr (omega (arith, h.order, first), above);
 }
 
 if_acc : (P : Account → Type 0) (o : Option Account) → is_some o ≡ true → IfSome o P →
@@ -325,6 +354,9 @@ move_pulled l w d c s i k differs h = pulled_by (IsMove l c s i (books w)) (pick
     picks : IsMove l c s i (books w) (after (books w) d (picked_station w d))
     picks = move_after l w d c s i k differs (stays_calm c s i w _ _ (calm_pulled w d) h)
 
+    more : (v : ℤ) (n : ℕ) → pos 1 ≤ℤ (v -ℤ pos n) → pos 1 ≤ℤ v
+    more v n h = omega (arith, ints)
+
     -- i wins in the class
     wins : (x : Exchange) → (picked_station w c).winner ≡ Some i → d ≡ c →
         IsMove l c s i (books w) (with_opened (after (books w) d (picked_station w d)) x)
@@ -339,8 +371,11 @@ move_pulled l w d c s i k differs h = pulled_by (IsMove l c s i (books w)) (pick
         let above : pos 1 ≤ℤ ((acc (after (books w) c (picked_station w c)) i).shares c).deficit =
         if_acc (λ a. pos 1 ≤ℤ (a.shares c).deficit)
         ((after (books w) c (picked_station w c)).accounts i) stays.other
+        (if_same (λ a. pos 1 ≤ℤ standing_of (books w) i c a) (λ a. pos 1 ≤ℤ (a.shares c).deficit)
+        ((after (books w) c (picked_station w c)).accounts i)
         (above_after (books w) c (picked_station w c) i k winner.listed
-        (if_same _ _ ((books w).accounts i) (need_is w c i) (λ a _ e. winner.given ∙ e))) in
+        (if_same _ _ ((books w).accounts i) (need_is w c i) (λ a _ e. winner.given ∙ e)))
+        (λ a _ h. more (a.shares c).deficit (counted_in w.config i c (books w).opened) h)) in
         subst (λ (z : Class). IsMove l c s i (books w)
         (with_opened (after (books w) z (picked_station w z)) x)) (sym e)
         (move_opened l c s i (books w) (after (books w) c (picked_station w c)) x
@@ -413,7 +448,11 @@ move_gone : (l : ℕ) (w : World) (k : ℕ) (c : Class) (s i : ℕ) →
     Stays c s i w (with_account (all_off (books w) k) k None) →
     IsMove l c s i (books w) (with_account (all_off (books w) k) k None)
 move_gone l w k c s i h = move_lists l c s i (books w) (with_account (books w) k None) _ refl refl
-    (ap (lead s i) (all_off_is (books w) k c) ∙ lead_off s i k (rotation w c) (away s h.own) (away i h.other))
+    (omega (
+      arith,
+      ap (lead s i) (all_off_is (books w) k c),
+      lead_off s i k (rotation w c) (away s h.own) (away i h.other),
+    ))
     (subst (λ (r : Rotation). 0 < on (in_order r) s) (sym (all_off_is (books w) k c))
     (omega (arith, listed, stays_on (rotation w c) k s (away s h.own))))
     (move_turn l c s i 0 0 (books w) _ listed refl (omega arith)
@@ -524,8 +563,11 @@ move_refused : (note : Note) (r : Refusal) (w : World) (c : Class) (s i : ℕ) �
     IsMove (longest_exchange w.config) c s i (books w) (books (after_refusal w note r))
 unfolding after_refusal
 move_refused (Asked (Pull d)) Idle w c s i kept differs h =
-    subst (λ (b : Books). Stays c s i w b → IsMove (longest_exchange w.config) c s i (books w) b)
-    (sym (books_after_pick w d)) (move_after _ w d c s i kept differs) h
+    after_idle (λ v. Stays c s i w (books v) →
+    IsMove (longest_exchange w.config) c s i (books w) (books v)) w d
+    (λ stays. move_same _ c s i _ _ (stays_listed c s i w _ stays) refl)
+    (subst (λ (b : Books). Stays c s i w b → IsMove (longest_exchange w.config) c s i (books w) b)
+    (sym (books_after_pick w d)) (move_after _ w d c s i kept differs)) h
 move_refused _ _ w c s i kept differs h = move_same _ c s i _ _ (stays_listed c s i w _ h) refl
 
 move_answer : (r : Option Refusal) (w : World) (note : Note) (c : Class) (s i : ℕ) → refusal w note ≡ r →
@@ -535,8 +577,7 @@ unfolding judged_outcome
 move_answer (Some r) w note c s i e kept differs h = move_refused note r w c s i kept differs h
 move_answer None w note c s i e kept differs h =
     move_listed _ _ c s i (books w) (outcome_of w note).world
-    (move_done note w c s i (no_row (refusals w note) e) kept differs
-    (stays_calm c s i w _ _ (calm_listed _ (outcome_of w note).world) h))
+    (move_done note w c s i (no_row (refusals w note) e) kept differs (stays_before note w c s i kept h))
 
 pub move_step : (w : World) (note : Note) (c : Class) (s i : ℕ) → IsKept (books w) → (s ≡ i → ⊥) →
     Stays c s i w (books (step w note).world) →

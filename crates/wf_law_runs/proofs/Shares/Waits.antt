@@ -1,30 +1,34 @@
 -- Proves the waiting law and the sparse law: no station starves, and a ready station on the new list with
 -- airtime left is next.
-use Rattle.std.proofs.Common.{◌≡◌, ap, subst, arith, ℕ, zero, suc, ◌+◌, ◌-◌, ◌*◌, ◌/◌, ◌%◌, ◌<◌, ◌≤◌, ℤ, pos, negsuc, ◌+ℤ◌, ◌≤ℤ◌, true, false, List, take, drop, map, Option, Some, None, is_some, IfSome, unwrap_or, option_map, inl, inr}
+use Rattle.std.proofs.Common.{◌≡◌, subst, arith, ℕ, ◌+◌, ◌-◌, ◌*◌, ◌<◌, ◌≤◌, ℤ, pos, ◌+ℤ◌, ◌≤ℤ◌, true, false, List, take, drop, map, Option, Some, None, is_some, IfSome, unwrap_or, option_map, inl, inr}
 use Rattle.std.proofs.lemmas.Int.{ints}
-use Rattle.std.proofs.lemmas.Bool.{cases_lt}
-use Rattle.std.proofs.lemmas.Nat.{div-add-mod', mod_below}
 use Rattle.wf_frame.specs.declared.settings.Config.{Config}
 use Rattle.wf_frame.specs.declared.classes.Class.{Class}
 use Rattle.wf_frame.specs.Settings.{IsInRange}
 use Rattle.wf_frame.specs.Classes.{class_number}
 use Rattle.wf_def_lists.specs.Table.{at}
 use Rattle.wf_def_rotation.specs.Rotation.{keys_before}
-use Rattle.wf_def_world.specs.World.{World, Station, no_share, no_station, share, rotation, quantum, is_live}
+use Rattle.wf_def_world.specs.World.{World, Station, no_share, no_station, share, rotation, quantum, is_live, standing}
 use Rattle.wf_def_world.specs.CanSend.{is_ready}
 use Rattle.wf_def_world.specs.Exchanges.{station_need}
-use Rattle.wf_def_world.specs.Run.{Entry, world_after}
+use Rattle.wf_def_world.specs.Run.{Entry}
 use Rattle.wf_def_world.specs.Stretches.{world_at, charged_between}
-use Rattle.wf_law_runs.specs.Deficits.{longest_exchange, most_owed, got_between}
+use Rattle.wf_law_runs.specs.Deficits.{most_owed, got_between}
 use Rattle.wf_law_runs.specs.Shares.{received_between, deficit_then, quantum_then, IsShared}
-use Rattle.wf_law_runs.specs.Waiting.{below_one, rounds_up, WaitingLaw, SparseLaw}
+use Rattle.wf_law_runs.specs.Waiting.{below_one, WaitingLaw, SparseLaw}
 use Rattle.wf_law_rules.proofs.Lemmas.Counts.{has-on, on-has}
 use Rattle.wf_law_runs.proofs.Deficits.Books.{account, core, books}
 use Rattle.wf_law_runs.proofs.Deficits.Kept.{IsGood, at_stake, at_stake_most}
 use Rattle.wf_law_runs.proofs.Deficits.Ready.{orderly}
-use Rattle.wf_law_runs.proofs.Shares.Stretch.{Fits, marks_live, IsHeld, IsGround, quantum_positive, times_le}
-use Rattle.wf_law_runs.proofs.Shares.Law.{ground_at, held_between, shared, spent_between}
-use Rattle.wf_law_runs.proofs.Shares.Sends.{Less, less_run, sent_winner, picked_first, need_none}
+use Rattle.wf_law_runs.proofs.Shares.Stretch.{Fits, marks_live, IsHeld, IsGround, quantum_positive}
+use Rattle.wf_law_runs.proofs.Shares.Law.{shared}
+use Rattle.wf_law_runs.proofs.Shares.Moments.{ground_at, after_moment, held_between}
+use Rattle.wf_law_runs.proofs.Shares.Rounds.{rounds_most, below_is, Covers, none_most}
+use Rattle.wf_law_runs.proofs.Spent.Law.{spent_bounds}
+use Rattle.wf_law_runs.proofs.Spent.Awaited.{awaited}
+use Rattle.wf_law_runs.proofs.Shares.Grants.{IsGranted, granted_run, stake_run}
+use Rattle.wf_law_runs.proofs.Shares.Sends.{sent_winner, picked_first, need_none}
+use Rattle.wf_law_runs.proofs.Shares.Covers.{covers_later}
 
 -- ---- the sparse law
 
@@ -32,42 +36,27 @@ pub sparse_law : (config : Config) (h : List Entry) → SparseLaw config h
 sparse_law config h m s v c new is above sent =
     let w : World = world_at config h m in
     elim (picked_first (station_need w c) (is_ready w c) (rotation w c) s v (has-on _ _ new) is
-    (need_none (quantum w s) (share w s c).deficit above) (sent_winner w c v sent)) [
+    (need_none (quantum w s) (standing w s c) above) (sent_winner w c v sent)) [
       | inl e ↦ inl e
       | inr front ↦ inr (on-has (keys_before s (rotation w c).new) v front)
     ]
 
 -- ---- the waiting law
 
--- a number of whole parts is at most the quotient, rounded up
-rounds_most : (n m u : ℕ) → 0 < u → u * n + 1 ≤ m + u → n ≤ rounds_up m u
-rounds_most n m u some h =
-    let whole : (m + (u - 1)) / u * u + (m + (u - 1)) % u ≡ m + (u - 1) = div-add-mod' (m + (u - 1)) u in
-    let less : (m + (u - 1)) % u < u = mod_below (m + (u - 1)) u some in
-    least u n ((m + (u - 1)) / u) (omega arith)
-  where
-    least : (u n k : ℕ) → u * n < k * u + u → n ≤ k
-    least u n k h = elim (cases_lt k n) [
-      | inl more ↦ absurd (let m : u * suc k ≤ u * n = times_le u (suc k) n more in omega arith)
-      | inr most ↦ omega arith
-    ]
-
-below_is : (d : ℤ) → pos 1 ≤ℤ (d +ℤ pos (below_one d))
-below_is (pos zero) = omega (arith, ints)
-below_is (pos (suc n)) = omega (arith, ints)
-below_is (negsuc n) = omega (arith, ints)
-
-waited_number : (u n p r m : ℕ) (d : ℤ) → (pos (u * n) +ℤ d) ≤ℤ pos (p + r + u) → p ≤ m →
+waited_number : (u n r k m : ℕ) (d : ℤ) → 0 < u → Covers u n r k d → k ≤ m →
     u * n + 1 ≤ m + below_one d + r + u
-waited_number u n p r m d h l = omega (arith, ints, below_is d)
+waited_number u n r k m d some (inl e) l = none_most u n (m + below_one d + r) e some
+waited_number u n r k m d some (inr h) l = omega (arith, ints, below_is d)
 
-quiet_number : (u n p k m : ℕ) (d : ℤ) → (pos (u * n) +ℤ d) ≤ℤ pos (p + 0 + u) → p ≤ k →
-    pos (1 + k) ≤ℤ (d +ℤ pos m) → u * n + 1 ≤ m + u
-quiet_number u n p k m d h l b = omega (arith, ints)
+quiet_number : (u n r k m : ℕ) (d : ℤ) → 0 < u → Covers u n r k d → r ≡ 0 → pos (1 + k) ≤ℤ (d +ℤ pos m) →
+    u * n + 1 ≤ m + u
+quiet_number u n r k m d some (inl e) z b = none_most u n m e some
+quiet_number u n r k m d some (inr h) z b = omega (arith, ints)
 
-debtor_number : (u n p r k m debt : ℕ) (d : ℤ) → (pos (u * n) +ℤ d) ≤ℤ pos (p + r + u) → p ≤ k →
-    pos k ≤ℤ (d +ℤ pos (debt + m)) → u * n + 1 ≤ m + debt + 1 + r + u
-debtor_number u n p r k m debt d h l b = omega (arith, ints)
+debtor_number : (u n r k m debt : ℕ) (d : ℤ) → 0 < u → Covers u n r k d → pos k ≤ℤ (d +ℤ pos (debt + m)) →
+    u * n + 1 ≤ m + debt + 1 + r + u
+debtor_number u n r k m debt d some (inl e) b = none_most u n (m + debt + 1 + r) e some
+debtor_number u n r k m debt d some (inr h) b = omega (arith, ints)
 
 -- apart from its open exchanges a station owes at most the setting `debt`
 debtor_stake : (config : Config) (w : World) (s : ℕ) (c : Class) → IsGround config w → is_live w s ≡ true →
@@ -105,17 +94,18 @@ quiet_stake config w s c g live none =
 
 pub waiting_law : (config : Config) (h : List Entry) → IsInRange config → WaitingLaw config h
 waiting_law config h range s i c a b order differs ready unsent live = record {
+  waited = λ counting e near. awaited config h false c s i a b e range order differs fits counting near unsent
+      (granted.spending counting e near);
   quanta = granted.quanta;
   charged = granted.charged;
   most = rounds_most (got_between config h s c a b) _ (quantum_then config h b s) some
       (waited_number (quantum_then config h b s) (got_between config h s c a b)
-      (charged_between config h s c a b) (received_between config h s c a b) (most_owed config)
-      (deficit_then config h a s c) spent (omega (arith, used, stake)));
+      (received_between config h s c a b) (at_stake config s c (map core (world_at config h a).opened))
+      (most_owed config) (deficit_then config h a s c) some covers stake);
   debtor = rounds_most (got_between config h s c a b) _ (quantum_then config h b s) some
       (debtor_number (quantum_then config h b s) (got_between config h s c a b)
-      (charged_between config h s c a b) (received_between config h s c a b)
-      (at_stake config s c (map core (world_at config h a).opened)) (most_owed config) config.debt
-      (deficit_then config h a s c) spent used
+      (received_between config h s c a b) (at_stake config s c (map core (world_at config h a).opened))
+      (most_owed config) config.debt (deficit_then config h a s c) some covers
       (debtor_stake config (world_at config h a) s c start (at_s a (omega arith) order)));
   quiet = λ none.
       let no_more : received_between config h s c a b ≡ 0 = omega (arith, between.own_received, none) in
@@ -123,12 +113,9 @@ waiting_law config h range s i c a b order differs ready unsent live = record {
       omega (arith, between.own_received, none) in
       rounds_most (got_between config h s c a b) (most_owed config) (quantum_then config h b s) some
       (quiet_number (quantum_then config h b s) (got_between config h s c a b)
-      (charged_between config h s c a b) (at_stake config s c (map core (world_at config h a).opened))
-      (most_owed config) (deficit_then config h a s c)
-      (subst (λ (r : ℕ). (pos (quantum_then config h b s * got_between config h s c a b) +ℤ
-      deficit_then config h a s c) ≤ℤ pos (charged_between config h s c a b + r + quantum_then config h b s))
-      no_more spent)
-      used (quiet_stake config (world_at config h a) s c start (at_s a (omega arith) order) before));
+      (received_between config h s c a b) (at_stake config s c (map core (world_at config h a).opened))
+      (most_owed config) (deficit_then config h a s c) some covers no_more
+      (quiet_stake config (world_at config h a) s c start (at_s a (omega arith) order) before));
 }
   where
     start : IsGround config (world_at config h a)
@@ -151,24 +138,25 @@ waiting_law config h range s i c a b order differs ready unsent live = record {
     granted : IsShared config h s i c a b
     granted = shared config h s i c a b range differs (at_s a (omega arith) order)
         (at_s b order (omega arith)) between
+        (λ counting e near. spent_bounds config h false c s i a b e range order differs fits counting near)
 
-    spent : (pos (quantum_then config h b s * got_between config h s c a b) +ℤ deficit_then config h a s c) ≤ℤ
-        pos (charged_between config h s c a b + received_between config h s c a b + quantum_then config h b s)
-    spent = spent_between config h s i c a b range (at_s a (omega arith) order) (at_s b order (omega arith))
-        between
+    got : IsGranted config (at_stake config s c (map core (world_at config h a).opened)) c s
+        (world_at config h a)
+        (take (b - a) (drop a h))
+    got = granted_run config false c s i (at_stake config s c (map core (world_at config h a).opened))
+        (world_at config h a) differs start (drop a h) (b - a)
+        (λ d l. subst (Fits false c s i) (after_moment config h a d)
+        (fits (a + d) (omega arith) (omega arith)))
+        (stake_run config (world_at config h a) s c (drop a h) (b - a) start unsent)
+
+    covers : Covers (quantum_then config h b s) (got_between config h s c a b)
+        (received_between config h s c a b)
+        (at_stake config s c (map core (world_at config h a).opened)) (deficit_then config h a s c)
+    covers = covers_later config h s c a b _ order between.own_weight got
 
     stake : at_stake config s c (map core (world_at config h a).opened) ≤ most_owed config
     stake = subst (λ (z : Config). at_stake z s c (map core (world_at config h a).opened) ≤ most_owed z)
         start.same (at_stake_most (books (world_at config h a)) start.kept s c)
-
-    used : charged_between config h s c a b ≤ at_stake config s c (map core (world_at config h a).opened)
-    used =
-        let less : Less (longest_exchange config) c s (charged_between config h s c a b)
-        (books (world_at config h a))
-        (books (world_after (world_at config h a) (take (b - a) (drop a h)))) =
-        less_run (take (b - a) (drop a h)) (longest_exchange config) (world_at config h a) c s start.kept
-        (ap longest_exchange start.same) unsent in
-        omega (arith, less.most)
 
     some : 0 < quantum_then config h b s
     some = quantum_positive config (world_at config h b) s (ground_at config h b range)

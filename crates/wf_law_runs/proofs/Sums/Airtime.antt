@@ -14,16 +14,19 @@ use Rattle.wf_def_world.specs.World.{World, Station, Share, Exchange, no_share, 
 use Rattle.wf_frame.specs.Classes.{class_number, same_class}
 use Rattle.wf_def_world.specs.Exchanges.{picked_station, charge_of}
 use Rattle.wf_def_world.specs.Refusals.{refusal}
-use Rattle.wf_def_world.specs.Step.{Outcome, tick_outcome, done_outcome, rx_outcome, outcome_where_open, outcome_of, after_refusal, judged_outcome, step}
+use Rattle.wf_def_world.specs.Step.{Outcome, tick_outcome, done_outcome, rx_outcome, outcome_where_open, outcome_of, after_refusal, judged_outcome, step, concerned_station, pull_outcome}
 use Rattle.wf_def_world.specs.Run.{Entry, world_after}
 use Rattle.wf_def_world.specs.Stretches.{charge_to, charge_by}
 use Rattle.wf_frame.specs.Settings.{IsInRange}
 use Rattle.wf_law_runs.specs.Sums.{since_join, air_by, charged_over, received_over}
+use Rattle.wf_law_runs.proofs.Common.Refused.{after_idle}
 use Rattle.wf_law_runs.proofs.Deficits.Books.{Account, account, Books, books, with_account, on_part, upd_same, upd_other, each_upd, updc_same, updc_other, each_updc, cases_class}
 use Rattle.wf_law_runs.proofs.Deficits.BookSteps.{books_ended, books_gone, all_off, books_enqueued, receive_share, books_received, books_reaped, books_slept, books_woken, books_credited, rated, books_with_rate, fresh_account, books_joined, charge_share, pay_share, after, books_after_pick}
 use Rattle.wf_law_runs.proofs.Deficits.Kept.{IsKept, if_map}
 use Rattle.wf_law_runs.proofs.Deficits.KeptStep.{IsFound, books_arrived, books_answered, kept_step, kept_opening}
-use Rattle.wf_law_runs.proofs.Fairness.OldOrder.{IsCalm, calm_listed, calm_pulled, owing, owing_done, owing_refused}
+use Rattle.wf_law_runs.proofs.Fairness.OldOrder.{calm_pulled, owing, owing_done, owing_refused}
+use Rattle.wf_law_runs.proofs.Deficits.Listing.{longer_listed}
+use Rattle.wf_def_world.specs.CanSend.{with_listings_of}
 
 -- The share has the charged airtime p and the received airtime q.
 pub record Adds (p q : ℕ) (x : Share) : Type 0 where
@@ -43,9 +46,9 @@ sum_books : (c : Class) (p q s : ℕ) (a b : Books) → a ≡ b → HasSum c p q
     HasSum c p q (a.accounts s)
 sum_books c p q s a b e k = subst (λ (z : Books). HasSum c p q (z.accounts s)) (sym e) k
 
-sum_calm : (c : Class) (p q s : ℕ) (b a : Books) → IsCalm b a → HasSum c p q (b.accounts s) →
+sum_calm : (c : Class) (p q s : ℕ) (b a : Books) → a.accounts ≡ b.accounts → HasSum c p q (b.accounts s) →
     HasSum c p q (a.accounts s)
-sum_calm c p q s b a e k = subst (λ (f : ℕ → Option Account). HasSum c p q (f s)) (sym e.accounts) k
+sum_calm c p q s b a e k = subst (λ (f : ℕ → Option Account). HasSum c p q (f s)) (sym e) k
 
 -- An account changes by a function that adds to no sum.
 sum_on : (c : Class) (p q s i : ℕ) (b : Books) (g : Account → Account) →
@@ -208,7 +211,8 @@ sum_done (Asked (Rate i rate)) w c p q s k h =
     (sum_on c p q s i (books w) (rated rate) (λ a z. z) h))
 sum_done (Asked (Tick by)) w c p q s k h = still c p q _ h
 sum_done (Asked (Pull d)) w c p q s k h = still c p q _
-    (sum_calm c p q s _ _ (calm_pulled w d) (sum_after c p q s w d h))
+    (sum_calm c p q s (after (books w) d (picked_station w d)) (books (pull_outcome w d).world)
+    (calm_pulled w d).accounts (sum_after c p q s w d h))
 sum_done (Asked (Arrive e j)) w c p q s k h =
     sum_open w e (exchange w e) _ c p q s (λ _. 0) refl refl h
     (λ x f. still c p q _ (sum_books c p q s _ _ (books_arrived w e j x k f) h))
@@ -227,7 +231,8 @@ sum_refused : (note : Note) (r : Refusal) (w : World) (c : Class) (p q s : ℕ) 
     HasSum c p q ((books w).accounts s) → HasSum c p q ((books (after_refusal w note r)).accounts s)
 unfolding after_refusal
 sum_refused (Asked (Pull d)) Idle w c p q s h =
-    sum_books c p q s _ _ (books_after_pick w d) (sum_after c p q s w d h)
+    after_idle (λ v. HasSum c p q ((books v).accounts s)) w d h
+    (sum_books c p q s _ _ (books_after_pick w d) (sum_after c p q s w d h))
 sum_refused _ _ w c p q s h = h
 
 sum_answer : (r : Option Refusal) (w : World) (note : Note) (c : Class) (p q s : ℕ) → refusal w note ≡ r →
@@ -243,7 +248,10 @@ sum_answer None w note c p q s e k h =
     sum_is c (begun s note p + owing w s c note) (begun s note q + sending s c note) _ _ _
     (omega (arith, begun_done note w s p e, owing_done note w s c e))
     (omega (arith, begun_done note w s q e, sending_done note w s c e))
-    (sum_calm c _ _ s _ _ (calm_listed _ (outcome_of w note).world) (sum_done note w c p q s k h))
+    (sum_calm c _ _ s (books (outcome_of w note).world)
+    (books (with_listings_of (outcome_of w note).world (concerned_station w note)))
+    (longer_listed (concerned_station w note) (outcome_of w note).world).accounts
+    (sum_done note w c p q s k h))
 
 pub sum_step : (w : World) (note : Note) (c : Class) (p q s : ℕ) → IsKept (books w) →
     HasSum c p q ((books w).accounts s)

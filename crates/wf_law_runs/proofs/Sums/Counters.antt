@@ -21,6 +21,7 @@ use Rattle.wf_def_world.specs.Refusals.{refusals, refusal}
 use Rattle.wf_def_world.specs.Step.{Outcome, join_outcome, after_tid_left, after_tids_left, without_listings, leave_outcome, rate_outcome, tick_outcome, with_frame, enqueue_outcome, send_outcome, pull_outcome_for, pull_outcome, arrive_outcome, answer_outcome, done_outcome, outcome_where_open, sleep_outcome, wake_outcome, poll_outcome, rx_outcome, reap_outcome, concerned_station, outcome_of, after_refusal, judged_outcome, step}
 use Rattle.wf_def_world.specs.World.{World, Station, Share, Tid, Exchange, Mpdu, Content, Frames, Request, session, queue, rotation, exchange, with_station, on_station, on_tid, on_session, on_receiver, with_queues, on_share, on_queue, with_rotation, with_fate, with_frame_finished, with_frames_finished, with_exchange, without_exchange}
 use Rattle.wf_law_rules.proofs.Lemmas.Numbers.{lt_no}
+use Rattle.wf_law_runs.proofs.Common.Refused.{after_idle}
 use Rattle.wf_law_runs.proofs.Windows.Opened.{NoRow, no_row}
 
 -- a and b are bounds of the clock and of the number of exchanges.
@@ -268,7 +269,7 @@ kept_done a b (Asked Reap) w e h = more a b _ _ (kept_reaped a b w.finished w h)
 kept_refused : (a b : ℕ) (note : Note) (r : Refusal) (w : World) → Counts a b w →
     Counts a b (after_refusal w note r)
 unfolding after_refusal
-kept_refused a b (Asked (Pull c)) Idle w h = kept_after_pick a b w c h
+kept_refused a b (Asked (Pull c)) Idle w h = after_idle (Counts a b) w c h (kept_after_pick a b w c h)
 kept_refused a b _ _ w h = h
 
 kept_answer : (a b : ℕ) (r : Option Refusal) (w : World) (note : Note) → refusal w note ≡ r → Counts a b w →

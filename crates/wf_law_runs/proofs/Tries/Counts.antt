@@ -23,6 +23,7 @@ use Rattle.wf_def_world.specs.Run.{Entry, world_after}
 use Rattle.wf_law_runs.specs.Tries.{count_of, count_in_part, tries_by, tries, IsCounted}
 use Rattle.wf_law_rules.proofs.Lemmas.Numbers.{on_bool, on_if, eq_yes, eq_no, yes_eq, not_eq, both, and_true}
 use Rattle.wf_law_rules.proofs.Lemmas.Tables.{each_put}
+use Rattle.wf_law_runs.proofs.Common.Refused.{after_idle}
 use Rattle.wf_law_runs.proofs.Sessions.Starts.{at_change_same, at_change_other, length-change}
 use Rattle.wf_law_runs.proofs.Sessions.Flights.{AllIn, Rises, rises_weaken, all_in_later}
 use Rattle.wf_law_runs.proofs.Windows.Opened.{eight}
@@ -700,8 +701,8 @@ counts_done (Asked Reap) l n w i p c = counts_plain n (reap_outcome w w.finished
 counts_refused : (note : Note) (r : Refusal) (n : ℕ → ℕ) (w : World) → Counts n w →
     Counts n (after_refusal w note r)
 unfolding after_refusal
-counts_refused (Asked (Pull c)) Idle n w k = counts_same n w _ (same_after_pick w c) (less_after_pick Any w
-    c) k
+counts_refused (Asked (Pull c)) Idle n w k = after_idle (Counts n) w c k
+    (counts_same n w _ (same_after_pick w c) (less_after_pick Any w c) k)
 counts_refused _ _ n w k = k
 
 counts_answer : (r : Option Refusal) (l : List ℕ) (n : ℕ → ℕ) (w : World) (note : Note) (i : IsLawful w) →

@@ -27,6 +27,7 @@ use Rattle.wf_law_rules.proofs.Lemmas.Tables.{each_put, at_put_same, at_put_othe
 use Rattle.wf_law_rules.proofs.Lemmas.Joined.{not_more}
 use Rattle.wf_law_runs.specs.Tries.{requests_heard_by, requests_heard, asks_in}
 use Rattle.wf_law_runs.specs.Releases.{named_by}
+use Rattle.wf_law_runs.proofs.Common.Refused.{after_idle}
 use Rattle.wf_law_runs.proofs.Windows.Sides.{Side, Same, same, each_side_on, same_finish, same_listed, same_after_pick, same_charged}
 use Rattle.wf_law_runs.proofs.Windows.Agreement.{within_length, IsUntold, IsAsked, IfRequest, slot_same}
 use Rattle.wf_law_runs.proofs.Windows.Agreed.{live_without, session_same, IsLawful, IsEnding, ending_settled, ending_of, session_on_session}
@@ -488,7 +489,8 @@ after_call note r l w h k s f d =
 
 still_refused : (note : Note) (r : Refusal) (w : World) → Still w (after_refusal w note r)
 unfolding after_refusal
-still_refused (Asked (Pull c)) Idle w = still_same w _ (same_after_pick w c)
+still_refused (Asked (Pull c)) Idle w = after_idle (Still w) w c (still_same w w (same w))
+    (still_same w _ (same_after_pick w c))
 still_refused _ _ w = still_same w w (same w)
 
 after_answer : (o : Option Refusal) (r l : List ℕ) (w : World) (note : Note) → refusal w note ≡ o →

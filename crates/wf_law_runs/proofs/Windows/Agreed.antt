@@ -23,6 +23,7 @@ use Rattle.wf_def_world.specs.Step.{Outcome, join_outcome, after_tid_left, after
 use Rattle.wf_def_world.specs.Run.{Entry, world_after}
 use Rattle.std.specs.List.{list_any}
 use Rattle.wf_law_rules.proofs.Lemmas.Tables.{each_put, at_put_other}
+use Rattle.wf_law_runs.proofs.Common.Refused.{after_idle}
 use Rattle.wf_law_runs.proofs.Sessions.Starts.{start_ge, length-change}
 use Rattle.wf_law_runs.proofs.Sessions.Flights.{AllIn, Rises, rises_weaken, all_in_later, IsFlown, flown, IsChosen, chosen_fitting, chosen_waiting, chosen_give, chosen_fresh}
 use Rattle.wf_law_rules.proofs.Lemmas.Numbers.{on_bool, on_if, eq_yes, eq_no, yes_eq, either, both, and_true, has_new}
@@ -1054,7 +1055,7 @@ lawful_done (Asked Reap) w e i = lawful_reaped w.finished w i
 
 pub lawful_refused : (note : Note) (r : Refusal) (w : World) → IsLawful w → IsLawful (after_refusal w note r)
 unfolding after_refusal
-lawful_refused (Asked (Pull c)) Idle w i = lawful_same w _ (same_after_pick w c) i
+lawful_refused (Asked (Pull c)) Idle w i = after_idle IsLawful w c i (lawful_same w _ (same_after_pick w c) i)
 lawful_refused _ _ w i = i
 
 pub lawful_answer : (r : Option Refusal) (w : World) (note : Note) → refusal w note ≡ r → IsLawful w →

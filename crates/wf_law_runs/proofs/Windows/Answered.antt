@@ -20,6 +20,7 @@ use Rattle.wf_def_world.specs.Refusals.{open_of_station, refusals, refusal}
 use Rattle.wf_def_world.specs.Step.{Outcome, join_outcome, leave_outcome, rate_outcome, tick_outcome, send_outcome, pull_outcome_for, pull_outcome, arrive_outcome, answer_outcome, done_outcome, outcome_where_open, sleep_outcome, wake_outcome, poll_outcome, rx_outcome, reap_outcome, concerned_station, outcome_of, after_refusal, judged_outcome, step}
 use Rattle.wf_def_world.specs.Run.{Entry, world_after}
 use Rattle.wf_law_rules.proofs.Lemmas.Numbers.{has_new, has_old, greatest_least, greatest_has, score_past, le_no}
+use Rattle.wf_law_runs.proofs.Common.Refused.{after_idle}
 use Rattle.wf_law_runs.proofs.Sessions.Starts.{start_le}
 use Rattle.wf_law_runs.proofs.Sessions.Flights.{AllIn, Rises}
 use Rattle.wf_law_runs.proofs.Windows.Sides.{Side, side, Same, each_side_on, then_same, same_listed, same_after_pick, same_after_turn, same_spent, same_on_station, same_on_share}
@@ -338,7 +339,7 @@ marked_done (Asked Reap) w i r h = marked_reaped w.finished w h
 
 marked_refused : (note : Note) (r : Refusal) (w : World) → Marked w → Marked (after_refusal w note r)
 unfolding after_refusal
-marked_refused (Asked (Pull c)) Idle w h = marked_same w _ (same_after_pick w c) h
+marked_refused (Asked (Pull c)) Idle w h = after_idle Marked w c h (marked_same w _ (same_after_pick w c) h)
 marked_refused _ _ w h = h
 
 marked_answer : (r : Option Refusal) (w : World) (note : Note) → refusal w note ≡ r → IsLawful w → Marked w →

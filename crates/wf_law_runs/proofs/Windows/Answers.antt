@@ -19,6 +19,7 @@ use Rattle.wf_def_world.specs.Refusals.{refusals, refusal}
 use Rattle.wf_def_world.specs.Step.{Outcome, join_outcome, leave_outcome, rate_outcome, tick_outcome, send_outcome, pull_outcome_for, pull_outcome, arrive_outcome, answer_outcome, done_outcome, outcome_where_open, sleep_outcome, wake_outcome, poll_outcome, rx_outcome, reap_outcome, outcome_of, after_refusal, judged_outcome, step, concerned_station}
 use Rattle.wf_def_world.specs.Run.{Entry, world_after, by}
 use Rattle.wf_law_rules.proofs.Lemmas.Numbers.{eq_yes, eq_no}
+use Rattle.wf_law_runs.proofs.Common.Refused.{after_idle}
 use Rattle.wf_law_runs.proofs.Windows.Sides.{side_of, Same, on_exchanges, then_same, same_on_station, same_on_share, same_listed, same_after_pick, same_after_turn, same_spent}
 use Rattle.wf_law_runs.proofs.Windows.Agreement.{answer_right, AllRight}
 use Rattle.wf_law_runs.proofs.Windows.Opened.{Each, each_both, each_append, each_find, some_along, pick_ready, left_true, NoRow, no_row}
@@ -197,7 +198,8 @@ module _ (e : ℕ) (b : Score) (s t : ℕ) (c : Content) where
   standing_refused : (note : Note) (r : Refusal) (w : World) → IsStanding e b s t c w →
       IsStanding e b s t c (after_refusal w note r)
   unfolding after_refusal
-  standing_refused (Asked (Pull d)) Idle w h = standing_same w _ (same_after_pick w d) h
+  standing_refused (Asked (Pull d)) Idle w h = after_idle (IsStanding e b s t c) w d h
+      (standing_same w _ (same_after_pick w d) h)
   standing_refused _ _ w h = h
 
   standing_answer : (r : Option Refusal) (w : World) (note : Note) → refusal w note ≡ r → IsLawful w →

@@ -22,6 +22,7 @@ use Rattle.wf_def_world.specs.Step.{Outcome, join_outcome, leave_outcome, rate_o
 use Rattle.wf_def_world.specs.Run.{Entry, world_after}
 use Rattle.std.proofs.lemmas.List.Sums.{sum_by-cons}
 use Rattle.wf_law_rules.proofs.Lemmas.Tables.{each_put}
+use Rattle.wf_law_runs.proofs.Common.Refused.{after_idle}
 use Rattle.wf_law_runs.proofs.Sessions.Flights.{Rises, flown, next-give}
 use Rattle.wf_law_rules.proofs.Lemmas.Numbers.{on_bool, on_if, lt_yes, lt_no, eq_yes, eq_no, either, or_left, or_right}
 use Rattle.wf_law_runs.proofs.Windows.Sides.{side_of, sides_of, Same, each_side_on, on_exchanges, same, then_same, same_on_station, same_on_share, same_finish, same_listed, same_after_pick, same_after_turn, same_spent, same_take, same_charged}
@@ -323,7 +324,7 @@ fly_or (m ∷ ms) y e n f lo hi b r l h =
       | inr among ↦ inr (among.0, or_right (m.number == n) _ among.1)
     ]
 
--- The numbers on the air after the preparation were on the air before, or are those of the exchange.
+-- The numbers on the air after the preparation were on the air before, or belong to the exchange.
 record IsSent (s t : ℕ) (w : World) (p : Prepared) : Type 0 where
   flew : (i j n e : ℕ) → (session p.world i j).first ≤ n →
       (slot (session p.world i j) n).state ≡ State.Flying e
@@ -655,7 +656,7 @@ flown_done (Asked Reap) w i k = flown_reaped w.finished w k
 
 flown_refused : (note : Note) (r : Refusal) (w : World) → IsFlown_by w → IsFlown_by (after_refusal w note r)
 unfolding after_refusal
-flown_refused (Asked (Pull c)) Idle w k = flown_same w _ (same_after_pick w c) k
+flown_refused (Asked (Pull c)) Idle w k = after_idle IsFlown_by w c k (flown_same w _ (same_after_pick w c) k)
 flown_refused _ _ w k = k
 
 flown_answer : (r : Option Refusal) (w : World) (note : Note) → IsLawful w → IsFlown_by w →

@@ -13,6 +13,7 @@ use Rattle.wf_frame.specs.declared.notes.Refusal.{Refusal}
 use Rattle.wf_frame.specs.declared.notes.Refusal.TheVariants.{Idle}
 use Rattle.wf_def_world.specs.Refusals.{refusal}
 use Rattle.wf_def_world.specs.Step.{send_outcome, pull_outcome_for, pull_outcome, outcome_of, after_refusal, judged_outcome, step}
+use Rattle.wf_law_runs.proofs.Common.Refused.{after_idle}
 use Rattle.wf_law_runs.proofs.Windows.Sides.{Same, each_side_on, same, same_listed, same_after_pick, same_after_turn, same_spent, same_take}
 use Rattle.wf_law_runs.proofs.Windows.Opened.{some_along, pick_ready, left_true, can_give-room}
 use Rattle.wf_law_runs.proofs.Windows.Agreed.{IsLawful, IsReady, ready_start, ready_filled, ready_same, longer_number, session_same, lawful_same}
@@ -128,7 +129,8 @@ holds_pulled w c i =
 
 holds_refused : (r : Refusal) (w : World) (c : Class) → Holds w (after_refusal w (Asked (Pull c)) r)
 unfolding after_refusal
-holds_refused Idle w c = holds_same w _ (same_after_pick w c)
+holds_refused Idle w c = after_idle (Holds w) w c (holds_same w w (same w))
+    (holds_same w _ (same_after_pick w c))
 holds_refused _ w c = holds_same w w (same w)
 
 holds_answer : (o : Option Refusal) (w : World) (c : Class) → IsLawful w →

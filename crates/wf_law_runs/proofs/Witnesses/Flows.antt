@@ -50,7 +50,8 @@ sent_overtaken : first_sends config history 1 0 7 ≡ 1 ∷ 4 ∷ 2 ∷ 5 ∷ 3 
 unfolding the_machine sent_from
 sent_overtaken = refl
 
--- The frames are sent again after the exchange was not heard. Each is listed where it was sent first.
+-- The frames are sent again after the exchange was not heard. Each is listed at the exchange that sent it
+-- first.
 abbrev again : List Entry
 again = history ++ map (by 0) (Asked (Done 1 false None) ∷ Asked (Pull Be) ∷ [])
 

@@ -44,7 +44,7 @@ history = map (by 0) (
     Asked (Pull Be) ∷
     Asked (Done 5 false (Some 4000)) ∷
     Asked (Done 6 false (Some 4000)) ∷
-    -- the twenty-first moment: it leaves, and begins anew
+    -- the twenty-first moment: it leaves, and begins again
     Asked (Leave 2) ∷
     Asked (Join 2 64 0 3 1) ∷
     Enqueue 2 0 3 100 ∷

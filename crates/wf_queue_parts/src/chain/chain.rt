@@ -5,6 +5,7 @@ ghost use Rattle.std.specs.Prelude.{◌≡◌, ◌+◌, ◌^◌, ◌<◌, [], �
 use crate::chain::parcel::Parcel;
 use crate::chain::run::Run;
 use std::marker::Model;
+use std::mem::replace;
 
 /// A list of parcels, fewer than 2^32. A push and a pop move the parcel's node, and allocate nothing. A chain
 /// that is dropped frees each of its nodes.
@@ -50,9 +51,7 @@ impl Chain {
         ensures { self.new ≡ self.old ++ parcel ∷ [] }
     {
         let one = Run::of(parcel.into_owned());
-        let before = Run::take(&mut self.run);
-        let after = Run::join(self.len == 0, before, one);
-        Run::put(&mut self.run, after);
+        Run::append(&mut self.run, self.len == 0, one);
         self.len += 1;
     }
 
@@ -63,11 +62,7 @@ impl Chain {
         if self.len == 0 {
             return None;
         }
-        let run = Run::take(&mut self.run);
-        let second = run.second();
-        let alloc = run.first().alloc;
-        let (first, rest) = run.split_first(second, alloc);
-        Run::put(&mut self.run, rest);
+        let first = Run::pop(&mut self.run);
         self.len -= 1;
         Some(Parcel::of(first))
     }
@@ -81,10 +76,8 @@ impl Chain {
         if other.len == 0 {
             return;
         }
-        let more = Run::take(&mut other.run);
-        let before = Run::take(&mut self.run);
-        let after = Run::join(self.len == 0, before, more);
-        Run::put(&mut self.run, after);
+        let more = replace(&mut other.run, Run::new());
+        Run::append(&mut self.run, self.len == 0, more);
         self.len += other.len;
         other.len = 0;
     }

@@ -1,12 +1,10 @@
 //! A node: a frame, and a pointer to the next node.
 
-ghost use Rattle.std.specs.Prelude.{◌≡◌};
-
 use std::alloc::Global;
 use std::marker::Send;
 use wf_frame::Frame;
 
-// `next` means nothing in the last node.
+// `next` means nothing in the last node, and `alloc` is the allocator of the node's block.
 #[derive(Drop)]
 pub(crate) struct Node {
     pub(crate) next: *mut Node,
@@ -16,16 +14,3 @@ pub(crate) struct Node {
 
 // `next` owns nothing.
 unsafe impl Send for Node {}
-
-impl Node {
-    // Creates a last node. It stores the allocator of its block.
-    pub(crate) fn new(alloc: Global, frame: Frame) -> Node
-        ensures { result.frame ≡ frame }
-    {
-        Node {
-            next: std::ptr::null_mut(),
-            alloc,
-            frame,
-        }
-    }
-}

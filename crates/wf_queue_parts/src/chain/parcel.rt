@@ -29,7 +29,12 @@ impl Parcel {
     pub fn new(alloc: Global, frame: Frame) -> Result<Parcel, (AllocError, Frame)>
         ensures { MatchResult result (λ p. p ≡ frame) (λ e. e.1 ≡ frame) }
     {
-        match Box::new(alloc, Node::new(alloc, frame)) {
+        let node = Node {
+            next: std::ptr::null_mut(),
+            alloc,
+            frame,
+        };
+        match Box::new(alloc, node) {
             Ok(boxed) => Ok(Parcel {
                 owned: Unboxed::of(boxed),
             }),

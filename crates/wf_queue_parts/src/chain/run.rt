@@ -84,32 +84,32 @@ impl Run {
         (Unboxed { at: head, alloc }, Run { head: second, tail })
     }
 
-    // Returns the nodes of `run`, followed by those of `next`. `empty` says whether `run` has no node.
-    pub(crate) fn join(empty: bool, run: Run, next: Run) -> Run
-        requires { (empty ≡ (length run.nodes == 0)) × (0 < length next.nodes) }
-        ensures { IsJoined run.nodes next.nodes result.nodes }
+    // Puts the nodes of `next` after those of `run`. `empty` says whether `run` has no node.
+    pub(crate) fn append(run: &mut Run, empty: bool, next: Run)
+        requires { (empty ≡ (length run.old.nodes == 0)) × (0 < length next.nodes) }
+        ensures { IsJoined run.old.nodes next.nodes run.new.nodes }
     {
-        if empty {
-            run.end();
-            return next;
-        }
-        run.link(next)
+        let before = replace(run, Run::new());
+        let after = if empty {
+            before.end();
+            next
+        } else {
+            before.link(next)
+        };
+        replace(run, after).end();
     }
 
-    // Takes the nodes out of `run` and returns them.
-    pub(crate) fn take(run: &mut Run) -> Run
-        ensures taken { result ≡ run.old }
-        ensures left { run.new.nodes ≡ [] }
+    // Takes the first node off and returns it.
+    pub(crate) fn pop(run: &mut Run) -> OwnedNode
+        requires { 0 < length run.old.nodes }
+        ensures { run.old.nodes ≡ (result.at, result.value) ∷ run.new.nodes }
     {
-        replace(run, Run::new())
-    }
-
-    // Puts nodes into `run`, which has none.
-    pub(crate) fn put(run: &mut Run, next: Run)
-        requires { run.old.nodes ≡ [] }
-        ensures { run.new ≡ next }
-    {
-        replace(run, next).end();
+        let whole = replace(run, Run::new());
+        let second = whole.second();
+        let alloc = whole.first().alloc;
+        let (first, rest) = whole.split_first(second, alloc);
+        replace(run, rest).end();
+        first
     }
 
     // Ends a run without nodes.

@@ -32,7 +32,7 @@ pub(crate) fn transmission(
     ensures octets { octets_sent made_up (world_behind cell.now) (samples (world_behind cell.now)) exchange
         index ≡ Some (take result octets.new) }
 {
-    match cell.path().mpdu(exchange, index, octets) {
+    match cell.path().mpdu_with_zeros(exchange, index, octets) {
         Ok(len) => len,
         Err(_) => unreachable!(),
     }

@@ -1,5 +1,6 @@
--- Each clause is a law of Unchanged.
-use Rattle.wf_sched_refines.proofs.Unchanged.{enqueued_leaves, rate_leaves, tick_leaves, pulled_leaves, arrived_leaves, answered_leaves, slept_leaves, woken_leaves, credited_leaves, reaped_leaves}
+-- Each clause is a law of Unchanged or Exchanges.
+use Rattle.wf_sched_refines.proofs.Unchanged.{enqueued_leaves, rate_leaves, tick_leaves, arrived_leaves, answered_leaves, slept_leaves, woken_leaves, credited_leaves, reaped_leaves}
+use Rattle.wf_sched_refines.proofs.Exchanges.{winner_stands}
 use Rattle.wf_sched_refines.proofs.a_call_that_leaves_the_turns.Goals as goal
 
 pub returns-clause-enqueued : goal.returns-clause-enqueued
@@ -12,7 +13,7 @@ pub returns-clause-ticked : goal.returns-clause-ticked
 returns-clause-ticked c = tick_leaves
 
 pub returns-clause-pulled : goal.returns-clause-pulled
-returns-clause-pulled c = pulled_leaves
+returns-clause-pulled c = winner_stands
 
 pub returns-clause-arrived : goal.returns-clause-arrived
 returns-clause-arrived c = arrived_leaves

@@ -1,5 +1,6 @@
--- Proves the law `a_call_that_moves_no_frame` by the lemmas of Whole.
-use Rattle.wf_send_half_model.proofs.Whole.{tick_meets, reap_meets, rate_meets, rx_meets, sleep_meets, wake_meets, poll_meets}
+-- Proves the law `a_call_that_moves_no_frame` by the lemmas of Whole and Receipts.
+use Rattle.wf_send_half_model.proofs.Receipts.{rx_meets}
+use Rattle.wf_send_half_model.proofs.Whole.{tick_meets, reap_meets, rate_meets, sleep_meets, wake_meets, poll_meets}
 use Rattle.wf_send_half_model.proofs.a_call_that_moves_no_frame.Goals as goal
 
 pub returns-clause-tick : goal.returns-clause-tick

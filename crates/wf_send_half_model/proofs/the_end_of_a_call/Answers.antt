@@ -2,7 +2,7 @@
 use Rattle.wf_send_half_model.proofs.Listings.{listing_parts}
 use Rattle.wf_send_half_model.proofs.Reached.{reached_step}
 use Rattle.wf_send_half_model.proofs.Meets.{listed_meets, unlisted_meets, idle_meets}
-use Rattle.wf_send_half_model.proofs.Whole.{listed_where_ready}
+use Rattle.wf_send_half_model.proofs.Whole.{listed_where_ready, listed_where_debtor}
 use Rattle.wf_send_half_model.proofs.the_end_of_a_call.Goals as goal
 
 pub returns-clause-listed : goal.returns-clause-listed
@@ -22,3 +22,6 @@ returns-clause-nobody_new c = idle_meets
 
 pub returns-clause-ready : goal.returns-clause-ready
 returns-clause-ready c = listed_where_ready
+
+pub returns-clause-debtor : goal.returns-clause-debtor
+returns-clause-debtor c = listed_where_debtor

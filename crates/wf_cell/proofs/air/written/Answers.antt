@@ -27,4 +27,5 @@ returns-clause-says c = λ w bodies x stands known few.
     (tid_now w stands.reached c.args.exchange x known) few
     (λ m among. has_source c.args.path.now.half w bodies stands c.args.exchange x known c.args.index m among)
     (subst (λ (a : Addresses). octets_sent a w bodies c.args.exchange c.args.index
-    ≡ Some (take c.in-Ok.len c.mpdu.new.out)) c.requires.made_up (c.in-Ok.ensures.octets w bodies stands))
+    ≡ Some (take c.in-Ok.len c.mpdu_with_zeros.new.out)) c.requires.made_up
+    (c.in-Ok.ensures.octets w bodies stands))

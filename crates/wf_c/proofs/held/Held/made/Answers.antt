@@ -10,5 +10,5 @@ use Rattle.wf_c.proofs.held.Held.made.Goals as goal
 pub returns-in-Ok-clause-stands : goal.returns-in-Ok-clause-stands
 returns-in-Ok-clause-stands c =
     true_of_boxed (λ b. b.value.path) (λ (p : PathValue). (bodies : ℕ → FrameValue) →
-    StandsFor p.half (opening c.args.config) bodies) c.in-Ok.path c.boxed.result c.boxed.ensures
+    StandsFor p.half (opening c.args.config) bodies) c.in-Ok.path c.boxed.result c.boxed.ensures.path
     c.in-Ok.ensures.stands

@@ -11,6 +11,7 @@ returns c = record {
     meets = c.call-back.ensures.meets;
     refused = c.call-back.ensures.refused;
     addresses = c.call-back.ensures.addresses;
+    reserve = c.keep_any.ensures.kept;
     path = c.call-back.ensures.path;
     shows = c.of.ensures;
   };

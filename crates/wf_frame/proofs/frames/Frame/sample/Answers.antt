@@ -2,7 +2,7 @@
 use Rattle.std.proofs.Common.{◌≡◌, ◌∙◌, ap, sym, refl, ℕ, arith}
 use Rattle.std.proofs.lemmas.List.{take_all, with_items_is}
 use Rattle.std.specs.Vec.{with_items}
-use Rattle.wf_frame.specs.Frames.{sample_body}
+use Rattle.wf_frame.specs.Frames.{new_frame, sample_body}
 use Rattle.wf_frame.proofs.Sampling.{next_octet, one_more}
 use Rattle.wf_frame.proofs.frames.Frame.sample.Goals as goal
 
@@ -35,4 +35,4 @@ returns c =
     (omega (arith, c.loop-octet-test.false, c.loop-octet.auto.octet-items)))
     ∙ c.loop-octet.invariant.1
     ∙ ap (λ (k : ℕ). sample_body c.args.flow k) ended in
-    rw filled refl
+    c.with_body.ensures ∙ ap (new_frame c.args.station c.args.tid c.args.flow) filled

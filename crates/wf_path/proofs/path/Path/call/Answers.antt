@@ -5,6 +5,7 @@ use Rattle.wf_path.specs.declared.job.Job.TheVariants.{Give, Call}
 use Rattle.wf_frame.specs.declared.notes.Ask.TheVariants.{Pull, Reap}
 use Rattle.wf_path.specs.Jobs.{as_ask, job_of}
 use Rattle.wf_path.specs.Paths.{IsAnswered, RiseLittle}
+use Rattle.wf_path.proofs.CallAnswers.{refused_so}
 use Rattle.wf_path.proofs.Given.{accepted_rises, reaped_meets, reaped_rises, reaped_back, reaped_refused}
 use Rattle.wf_path.proofs.Pulls.{pull_answered}
 use Rattle.wf_path.proofs.Jobs.{none_back, asked_meets, unheard_after}
@@ -23,6 +24,7 @@ returns-in-Call c =
           (answered.meets w bodies c.args.answer.now.ids h);
       parcel = λ w bodies h. none_back bodies c.args.job c.in-Call.ask c.in-Call.is _;
       refused = answered.refused c.args.answer.now.ids;
+      pending = answered.pending c.args.answer.now.ids;
       unheard = unheard_after c.args.self.now.half c.args.job;
       addresses = answered.addresses;
       path = answered.path;
@@ -40,7 +42,7 @@ returns-in-Pull c =
     c.pull-answer.new.self c.pull-answer.ensures.meets c.pull-answer.ensures.unheard
     c.self-in-Pull.inside.addresses c.args.self.now
     c.self-in-Pull.view_is (λ e. (c.pull-answer.ensures.full e).1)
-    (λ few e. (c.pull-answer.ensures.ahead few e).1) in
+    (λ few e. (c.pull-answer.ensures.ahead few e).1) c.pull-answer.ensures.idle in
     record {
       meets = λ w bodies h. asked_meets c.args.self.now.half c.pull-answer.new.self c.args.job
           (Pull c.in-Pull.class) is c.pull-answer.result c.pull-answer.new.pairs c.args.answer.now.ids
@@ -48,6 +50,7 @@ returns-in-Pull c =
           (answered.meets w bodies c.args.answer.now.ids h);
       parcel = λ w bodies h. search rules;
       refused = answered.refused c.args.answer.now.ids;
+      pending = answered.pending c.args.answer.now.ids;
       unheard = unheard_after c.args.self.now.half c.args.job;
       addresses = answered.addresses;
       path = answered.path;
@@ -57,6 +60,13 @@ returns-in-Pull c =
 pub returns-in-Reap : goal.returns-in-Reap
 returns-in-Reap c =
     let is : job_of c.args.job ≡ Call Reap = ap job_of c.in-Reap.is in
+    let nothing_left = reaped_refused c.self-in-Reap.inside.half c.self-in-Reap.invariant
+    c.reap-reaped.new.self
+    c.self-in-Reap.inside.addresses c.args.self.now c.self-in-Reap.view_is (job_of c.args.job) is
+    c.reap-reaped.result
+    c.reaped_brief-answer.result c.reaped_brief-answer.ensures c.reap-reaped.ensures.meets
+    c.args.answer.now.pairs
+    c.args.answer.now.ids c.reap-reaped.ensures.refused in
     record {
       meets = reaped_meets c.self-in-Reap.inside.half c.self-in-Reap.invariant
           c.reap-reaped.new.self c.self-in-Reap.inside.addresses
@@ -71,13 +81,8 @@ returns-in-Reap c =
           c.reaped_brief-answer.result c.reaped_brief-answer.ensures c.reap-reaped.ensures.meets
           c.args.answer.now.pairs
           c.args.answer.now.ids c.reap-reaped.ensures.parcel;
-      refused = reaped_refused c.self-in-Reap.inside.half c.self-in-Reap.invariant
-          c.reap-reaped.new.self
-          c.self-in-Reap.inside.addresses c.args.self.now c.self-in-Reap.view_is (job_of c.args.job) is
-          c.reap-reaped.result
-          c.reaped_brief-answer.result c.reaped_brief-answer.ensures c.reap-reaped.ensures.meets
-          c.args.answer.now.pairs
-          c.args.answer.now.ids c.reap-reaped.ensures.refused;
+      refused = λ is. nothing_left (refused_so _ is);
+      pending = λ on is. nothing_left is;
       unheard = unheard_after c.args.self.now.half c.args.job;
       addresses = addresses_are c.self-in-Reap.view_is;
       path = c.reap-reaped.ensures.unheard;

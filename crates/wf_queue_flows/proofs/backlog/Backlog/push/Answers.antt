@@ -1,5 +1,5 @@
 -- One frame more in a queue keeps the invariant: its octets are added to the leaf of the queue.
-use Rattle.std.proofs.Common.{◌<◌, length, sym, ap, subst, arith}
+use Rattle.std.proofs.Common.{◌<◌, true, length, refl, sym, ap, subst, arith}
 use Rattle.wf_frame.specs.Frames.{FrameValue}
 use Rattle.wf_queue_flows.specs.Backlog.{BacklogValue, held_in_backlog}
 use Rattle.wf_queue_flows.proofs.Holding.{push_fits, kept_pushed}
@@ -21,8 +21,8 @@ invariant_of-self c =
     let room = subst (λ (v : BacklogValue). held_in_backlog v < v.room) (sym c.self.view_is)
     c.requires.room in
     kept_pushed _ _ _ _ c.self.invariant c.args.q c.value.result c.from.result c.index_mut.result.now
-    c.put_last.new.queue c.args.parcel c.set.new.self c.put_last.new.ready here c.value.ensures
-    c.index_mut.ensures.value c.put_last.ensures.last c.put_last.ensures.flag
+    c.push_back.new.self c.args.parcel c.set.new.self true here c.value.ensures
+    c.index_mut.ensures.value c.push_back.ensures refl
     (omega (
       arith,
       c.from.ensures,

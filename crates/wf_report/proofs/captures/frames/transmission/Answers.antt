@@ -31,9 +31,9 @@ returns-clause-some c =
     let w : World = world_behind c.args.cell.now in
     let some = some_octets w s.bodies c.args.exchange c.args.index _
     (subst (λ (a : Addresses). octets_sent a w s.bodies c.args.exchange c.args.index
-    ≡ Some (take c.in-Ok.len c.mpdu.new.out)) c.path.ensures.addresses
+    ≡ Some (take c.in-Ok.len c.mpdu_with_zeros.new.out)) c.path.ensures.addresses
     (c.in-Ok.ensures.octets w s.bodies (rw (c.path.ensures.value) s.stands))) in
-    omega (arith, some, length-take c.in-Ok.len c.mpdu.new.out)
+    omega (arith, some, length-take c.in-Ok.len c.mpdu_with_zeros.new.out)
 
 pub returns-clause-octets : goal.returns-clause-octets
 returns-clause-octets c =
@@ -41,5 +41,5 @@ returns-clause-octets c =
     let w : World = world_behind c.args.cell.now in
     sym (octets_same c.args.cell.now.half w s.bodies s.stands s.samples c.args.exchange c.args.index)
     ∙ subst (λ (a : Addresses). octets_sent a w s.bodies c.args.exchange c.args.index
-    ≡ Some (take c.in-Ok.len c.mpdu.new.out)) c.path.ensures.addresses
+    ≡ Some (take c.in-Ok.len c.mpdu_with_zeros.new.out)) c.path.ensures.addresses
     (c.in-Ok.ensures.octets w s.bodies (rw (c.path.ensures.value) s.stands))

@@ -1,9 +1,9 @@
 -- The rotation of one class changes, and the other classes are unchanged.
 use Rattle.std.proofs.Common.{◌≡◌, ◌∙◌, ap, subst, ℕ, set, get_or, pos}
-use Rattle.std.specs.Prelude.{◌-ℤ◌}
+use Rattle.std.specs.Prelude.{ℤ, ◌-ℤ◌}
 use Rattle.wf_rotation.specs.Rotas.{Rotas}
 use Rattle.wf_sched.specs.ClassRotas.{SchedValue, with_deficit, deficit}
-use Rattle.wf_sched.proofs.Views.{view_of, charged}
+use Rattle.wf_sched.proofs.Views.{view_of, changed}
 use Rattle.wf_sched.proofs.sched.Sched.charge.Goals as goal
 
 pub returns : goal.returns
@@ -13,9 +13,9 @@ returns c =
     view_of (set c.self.inside.rotas c.number.result c.charge.new.self) c.self.inside.stations
     c.self.inside.quantum ≡ with_deficit v c.args.class c.args.station
     (deficit v c.args.class c.args.station -ℤ pos c.args.air) in
-    subst P c.self.view_is (charged c.self.inside.rotas c.self.inside.stations c.self.inside.quantum
+    subst P c.self.view_is (changed c.self.inside.rotas c.self.inside.stations c.self.inside.quantum
     c.args.class c.number.result c.index-self-number.result c.self.invariant.four c.number.ensures.place
-    c.args.station c.args.air c.charge.new.self
+    (λ (d : ℤ). d -ℤ pos c.args.air) c.args.station c.charge.new.self
     (c.charge.ensures ∙ ap (λ (k : ℕ). let r : Rotas =
     record {
       lists = here.lists;

@@ -1,5 +1,6 @@
 -- Proves what `Half::done` promises: to take the exchange out, charge its station and settle its numbers is
--- the world's Done. By cases: a bad airtime, no such exchange, and then which numbers the BlockAck shows.
+-- the world's Done. By cases: a bad airtime, a number that no exchange has, and then which numbers the
+-- BlockAck shows.
 use Rattle.std.proofs.Common.{◌≡◌, refl, sym, ap, ◌∙◌, subst, arith, Option, Some, true, false, List, ℕ, ◌==◌, is_none}
 use Rattle.std.specs.Prelude.{find, IfSome}
 use Rattle.wf_frame.specs.declared.settings.Config.{Config}
@@ -15,7 +16,7 @@ use Rattle.wf_send_half.specs.Bits.{IsChargeSmall, end_refusal, GoesBy, count_sh
 use Rattle.wf_send_half.specs.Half.{HasWorld}
 use Rattle.wf_send_half.proofs.CallSteps.{view_of}
 use Rattle.wf_send_half.proofs.Worlds.{met_by}
-use Rattle.wf_send_half.proofs.Dones.{refused_done, ends_unknown, ends_well, bad_of, fine_then, bad_meets_lost, bad_meets_heard, within_turns, within_members, charge_low, charge_small, closes, closed_now, unopened, where_none, where_some, within_config, open_low, goes_lost, goes_shown, goes_unshown, done_met}
+use Rattle.wf_send_half.proofs.Dones.{refused_done, ends_unknown, ends_well, bad_of, fine_then, bad_meets_lost, bad_meets_heard, within_turns, within_members, pay_back_low, paid_is, within_paid, charge_low, charge_small, closes, closed_now, unopened, where_none, where_some, within_config, open_low, goes_lost, goes_shown, goes_unshown, done_met}
 use Rattle.wf_send_half.proofs.half.Half.done.Goals as goal
 
 pub returns-then-has_bad_air-clause-lost : goal.returns-then-has_bad_air-clause-lost
@@ -73,18 +74,34 @@ returns-in_default-clause-none_shown c w bodies x h known data_is none =
     (c.in_default.ensures.taken ∙ ap (λ (z : TransmitValue).
     find (λ (k : Open). k.number == c.args.exchange) z.opened) c.self.view_is))
 
-pub charge-requires-clause-known : goal.charge-requires-clause-known
-charge-requires-clause-known c = within_turns (view_of c.self.inside)
+pub pay_back_ended-requires-clause-known : goal.pay_back_ended-requires-clause-known
+pay_back_ended-requires-clause-known c = within_turns (view_of c.self.inside)
     (subst HasWorld (sym c.self.view_is) c.requires.some) c.args.exchange c.in-Some.open
     c.in-Some.ensures.taken
+
+pub pay_back_ended-requires-clause-high : goal.pay_back_ended-requires-clause-high
+pay_back_ended-requires-clause-high c on = pay_back_low (view_of c.self.inside)
+    (subst HasWorld (sym c.self.view_is) c.requires.some) c.args.exchange c.in-Some.open
+    c.in-Some.ensures.taken _ refl on
+
+pub charge-requires-clause-known : goal.charge-requires-clause-known
+charge-requires-clause-known c = within_paid (view_of c.self.inside)
+    (subst HasWorld (sym c.self.view_is) c.requires.some) c.args.exchange c.in-Some.open
+    c.in-Some.ensures.taken c.pay_back_ended.new.sched
+    (paid_is (view_of c.self.inside) (subst HasWorld (sym c.self.view_is) c.requires.some)
+    c.args.exchange c.in-Some.open c.in-Some.ensures.taken _ c.pay_back_ended.new.sched refl
+    c.pay_back_ended.ensures)
 
 pub charge-requires-clause-low : goal.charge-requires-clause-low
 charge-requires-clause-low c = charge_low (view_of c.self.inside)
     (subst HasWorld (sym c.self.view_is) c.requires.some) c.args.exchange c.in-Some.open
-    c.in-Some.ensures.taken c.args.air c.unwrap_or-charge.result
+    c.in-Some.ensures.taken c.args.air c.unwrap_or-charge.result c.pay_back_ended.new.sched
     (fine_then c.args.self.now (view_of c.self.inside) c.args.exchange c.args.air c.in-Some.open
     c.has_bad_air.result c.self.view_is c.has_bad_air.ensures c.if-has_bad_air.false c.in-Some.ensures.taken)
     c.unwrap_or-charge.ensures
+    (paid_is (view_of c.self.inside) (subst HasWorld (sym c.self.view_is) c.requires.some)
+    c.args.exchange c.in-Some.open c.in-Some.ensures.taken _ c.pay_back_ended.new.sched refl
+    c.pay_back_ended.ensures)
 
 pub charge-requires-2-clause-within : goal.charge-requires-2-clause-within
 charge-requires-2-clause-within c = within_members (view_of c.self.inside)
@@ -103,7 +120,11 @@ settle-ended-requires c = record {
       c.args.exchange c.in-Some.open c.in-Some.ensures.taken c.args.air _
       (closes (view_of c.self.inside) (subst HasWorld (sym c.self.view_is) c.requires.some) c.args.exchange
       c.in-Some.open c.in-Some.ensures.taken c.args.air c.unwrap_or-charge.ensures
-      c.in-Some.ensures.rest c.charge.ensures c.charge-2.ensures);
+      c.in-Some.ensures.rest
+      (paid_is (view_of c.self.inside) (subst HasWorld (sym c.self.view_is) c.requires.some)
+      c.args.exchange c.in-Some.open c.in-Some.ensures.taken _ c.pay_back_ended.new.sched refl
+      c.pay_back_ended.ensures)
+      c.charge.ensures c.charge-2.ensures);
 }
 
 pub of_tid-class-requires : goal.of_tid-class-requires
@@ -129,6 +150,9 @@ returns-clause-lost c = where_none _ c.args.heard (λ none w bodies h. done_met 
     c.has_bad_air.result c.self.view_is c.has_bad_air.ensures c.if-has_bad_air.false c.in-Some.ensures.taken)
     (closes (view_of c.self.inside) (subst HasWorld (sym c.self.view_is) c.requires.some) c.args.exchange
     c.in-Some.open c.in-Some.ensures.taken c.args.air c.unwrap_or-charge.ensures c.in-Some.ensures.rest
+    (paid_is (view_of c.self.inside) (subst HasWorld (sym c.self.view_is) c.requires.some)
+    c.args.exchange c.in-Some.open c.in-Some.ensures.taken _ c.pay_back_ended.new.sched refl
+    c.pay_back_ended.ensures)
     c.charge.ensures c.charge-2.ensures) c.settle-ended.ensures.settled c.settle-ended.ensures.reply
     c.of_tid-class.ensures c.list_in-is_ready.ensures.listed h false
     (λ k there. subst (λ (o : Option (ℕ × List ℕ)). GoesBy w k o false) (sym none) (goes_lost w k))
@@ -141,6 +165,9 @@ returns-clause-shown c = where_some _ c.args.heard (λ score is w bodies x b h k
     c.has_bad_air.result c.self.view_is c.has_bad_air.ensures c.if-has_bad_air.false c.in-Some.ensures.taken)
     (closes (view_of c.self.inside) (subst HasWorld (sym c.self.view_is) c.requires.some) c.args.exchange
     c.in-Some.open c.in-Some.ensures.taken c.args.air c.unwrap_or-charge.ensures c.in-Some.ensures.rest
+    (paid_is (view_of c.self.inside) (subst HasWorld (sym c.self.view_is) c.requires.some)
+    c.args.exchange c.in-Some.open c.in-Some.ensures.taken _ c.pay_back_ended.new.sched refl
+    c.pay_back_ended.ensures)
     c.charge.ensures c.charge-2.ensures) c.settle-ended.ensures.settled c.settle-ended.ensures.reply
     c.of_tid-class.ensures c.list_in-is_ready.ensures.listed h true
     (λ k there. subst (λ (o : Option (ℕ × List ℕ)). GoesBy w k o true) (sym is)
@@ -156,6 +183,9 @@ returns-clause-none_shown c w bodies x h known data_is none =
     c.has_bad_air.result c.self.view_is c.has_bad_air.ensures c.if-has_bad_air.false c.in-Some.ensures.taken)
     (closes (view_of c.self.inside) (subst HasWorld (sym c.self.view_is) c.requires.some) c.args.exchange
     c.in-Some.open c.in-Some.ensures.taken c.args.air c.unwrap_or-charge.ensures c.in-Some.ensures.rest
+    (paid_is (view_of c.self.inside) (subst HasWorld (sym c.self.view_is) c.requires.some)
+    c.args.exchange c.in-Some.open c.in-Some.ensures.taken _ c.pay_back_ended.new.sched refl
+    c.pay_back_ended.ensures)
     c.charge.ensures c.charge-2.ensures) c.settle-ended.ensures.settled c.settle-ended.ensures.reply
     c.of_tid-class.ensures c.list_in-is_ready.ensures.listed h false
     (λ k there. subst (λ (z : Exchange). GoesBy w z c.args.heard false)

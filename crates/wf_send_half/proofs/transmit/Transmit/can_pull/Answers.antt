@@ -1,5 +1,5 @@
--- Proves what `Transmit::can_pull` promises: the flags are those of the ready stations, so a Pull is refused
--- exactly if no flag of its class is set or as many exchanges are open as may be.
+-- Proves what `Transmit::can_pull` promises: each flag says whether its station is ready, so a Pull is
+-- refused exactly if no flag of its class is set or as many exchanges are open as may be.
 use Rattle.std.proofs.Common.{sym, subst, ap, ◌∙◌, Bool, ◌&&◌}
 use Rattle.std.specs.List.{list_any}
 use Rattle.wf_send_half_model.specs.Half.{TransmitValue}

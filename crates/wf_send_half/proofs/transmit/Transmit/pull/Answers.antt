@@ -4,11 +4,12 @@ use Rattle.std.proofs.Common.{◌≡◌, ◌∙◌, ap, sym, subst, true, false}
 use Rattle.std.specs.Prelude.{nat_le, count_by}
 use Rattle.wf_frame.specs.Classes.{same_class}
 use Rattle.wf_frame.specs.declared.answers.Brief.TheVariants.{Refused as Refuses}
-use Rattle.wf_frame.specs.declared.notes.Refusal.TheVariants.{Full, Ahead}
+use Rattle.wf_frame.specs.declared.notes.Refusal.TheVariants.{Full, Ahead, Idle}
 use Rattle.wf_send_half_model.specs.Half.{TransmitValue, is_ahead_of}
 use Rattle.wf_send_half_model.specs.Standing.{StandsFor}
 use Rattle.wf_send_parts.specs.Exchanges.{airtime_of}
 use Rattle.wf_send_half.specs.Flags.{with_flag}
+use Rattle.wf_send_half.proofs.Idle.{idle_means}
 use Rattle.wf_send_half.proofs.Sends.{pulled_unheard, sender_room, tracked_sender, tracked_idle}
 use Rattle.wf_send_half.proofs.transmit.Transmit.pull.Goals as goal
 
@@ -53,6 +54,14 @@ returns-in_default c = record {
       (count_by (λ x. same_class x.class c.args.class) v.opened) ≡ false → is_ahead_of v ≡ true →
       (c.pull-pulled.result.brief ≡ Refuses (Ahead (airtime_of v.opened))) × (c.pull-pulled.new.self ≡ v))
       c.self.view_is c.pull-pulled.ensures.ahead;
+  idle = subst (λ (v : TransmitValue). v.config.pending ≡ 1 → c.pull-pulled.result.brief ≡ Refuses Idle →
+      c.pull-pulled.new.self ≡ v) c.self.view_is c.pull-pulled.ensures.idle;
   unheard = pulled_unheard c.self.inside.half c.self.inside.ready c.self.invariant c.args.class
       c.pull-pulled.result.brief c.pull-pulled.new.pairs c.pull-pulled.new.self c.pull-pulled.ensures.meets;
 }
+
+-- no flag of the class is up exactly if no station is ready there
+pub pull-pulled-requires-clause-idle : goal.pull-pulled-requires-clause-idle
+pull-pulled-requires-clause-idle c w bodies h =
+    idle_means c.self.inside.half c.self.inside.ready c.self.invariant.flags c.args.class w bodies h
+    c.has_any-is_idle.result c.has_any-is_idle.ensures

@@ -1,0 +1,4 @@
+-- The law of CoDel in whole runs.
+pub mod States
+pub mod Drops
+pub mod Law

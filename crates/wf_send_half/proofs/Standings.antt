@@ -1,0 +1,144 @@
+-- Proves that deficits and the airtime in flight that counts against them are small, in the worlds of a run.
+use Rattle.std.proofs.Common.{◌≡◌, ap, ap₂, sym, ◌∙◌, subst, arith, ℕ, ◌<◌, ◌≤◌, ◌^◌, ℤ, pos, negsuc, ◌+ℤ◌, ◌-ℤ◌, ◌≤ℤ◌, true, w64, SFits}
+use Rattle.std.proofs.lemmas.Int.{ints, to_z-of_z}
+use mir.Val.{to_z, of_z}
+use Rattle.wf_frame.specs.declared.classes.Class.{Class}
+use Rattle.wf_frame.specs.Frames.{FrameValue}
+use Rattle.wf_def_world.specs.World.{World, is_live, share, standing, pending_air}
+use Rattle.wf_law_runs.specs.Numbers.{least_deficit, greatest_deficit}
+use Rattle.wf_law_runs.proofs.Deficits.Numbers.{number_law}
+use Rattle.wf_sched.specs.ClassRotas.{deficit}
+use Rattle.wf_send_half_model.specs.Half.{TransmitValue, pending_air_of}
+use Rattle.wf_send_half_model.specs.Standing.{StandsFor, IsReached}
+use Rattle.wf_send_half_model.proofs.Reached.{by_law}
+use Rattle.wf_send_half_model.proofs.Readers.{pending_same, deficit_same}
+use Rattle.wf_send_half.specs.Half.{HasWorld, HasUnheardWorld, IsLive}
+use Rattle.wf_send_half.proofs.Rows.{live_of}
+
+deficit_within : (w : World) → IsReached w → (s : ℕ) (c : Class) → is_live w s ≡ true →
+    (least_deficit ≤ℤ (share w s c).deficit) × ((share w s c).deficit ≤ℤ greatest_deficit)
+deficit_within w r s c live =
+    by_law (λ u. is_live u s ≡ true →
+    (least_deficit ≤ℤ (share u s c).deficit) × ((share u s c).deficit ≤ℤ greatest_deficit)) w r
+    (λ m is. (number_law w.config r.history r.in_range m).deficits s c is) live
+
+standing_within : (w : World) → IsReached w → (s : ℕ) (c : Class) → is_live w s ≡ true →
+    (least_deficit ≤ℤ standing w s c) × (standing w s c ≤ℤ greatest_deficit)
+standing_within w r s c live =
+    by_law (λ u. is_live u s ≡ true →
+    (least_deficit ≤ℤ standing u s c) × (standing u s c ≤ℤ greatest_deficit)) w r
+    (λ m is. (number_law w.config r.history r.in_range m).standings s c is) live
+
+-- an airtime between a standing and its deficit is small, as both are
+between : (d : ℤ) (n : ℕ) → least_deficit ≤ℤ (d -ℤ pos n) → d ≤ℤ greatest_deficit → n ≤ 2 ^ 31
+between d n low high = omega (arith, ints)
+
+module _ (v : TransmitValue) (w : World) (bodies : ℕ → FrameValue) (h : StandsFor v w bodies) (s : ℕ)
+    (c : Class) (live : is_live w s ≡ true) where
+  pub pending_few : pending_air_of v s c ≤ 2 ^ 31
+  pending_few = subst (λ (n : ℕ). n ≤ 2 ^ 31) (sym (pending_same v w bodies s c h.parts))
+      (between (share w s c).deficit (pending_air w s c) (standing_within w h.reached s c live).0
+      (deficit_within w h.reached s c live).1)
+
+  -- what the scheduler keeps
+  pub standing_low : negsuc (2 ^ 31) ≤ℤ deficit v.sched c s
+  standing_low = subst (λ (d : ℤ). negsuc (2 ^ 31) ≤ℤ d) (sym (h.parts.others.turns.deficits s c live))
+      (let k = (standing_within w h.reached s c live).0 in omega (arith, ints, k))
+
+  pub standing_high : deficit v.sched c s ≤ℤ pos (2 ^ 31)
+  standing_high = subst (λ (d : ℤ). d ≤ℤ pos (2 ^ 31)) (sym (h.parts.others.turns.deficits s c live))
+      (let k = (standing_within w h.reached s c live).1 in omega (arith, ints, k))
+
+-- ---- sums of 64 bits
+
+small_fits : (z : ℤ) → negsuc (2 ^ 34) ≤ℤ z → z ≤ℤ pos (2 ^ 34) → SFits w64 z
+small_fits (pos n) low high = record { sfits = omega (arith, ints, high) }
+small_fits (negsuc n) low high = record { sfits = omega (arith, ints, low) }
+
+-- a small number and an airtime are added without loss
+module _ (d e : ℤ) (n : ℕ) (low : negsuc (2 ^ 33) ≤ℤ d) (high : d ≤ℤ pos (2 ^ 33)) (few : n ≤ 2 ^ 31)
+    (is : e ≡ pos n) where
+  abbrev added : ℤ
+  added = to_z w64 (of_z w64 d) +ℤ to_z w64 (of_z w64 e)
+
+  added_is : added ≡ d +ℤ pos n
+  added_is = ap₂ (λ (a b : ℤ). a +ℤ b) (to_z-of_z w64 d
+      (small_fits d (omega (arith, ints)) (omega (arith, ints))))
+      (to_z-of_z w64 e (subst (SFits w64) (sym is) (small_fits (pos n) (omega (arith, ints))
+      (omega (arith, ints)))) ∙ is)
+
+  added_fits : SFits w64 added
+  added_fits = subst (SFits w64) (sym added_is)
+      (small_fits (d +ℤ pos n) (omega (arith, ints)) (omega (arith, ints)))
+
+  added_plain : to_z w64 (of_z w64 added) ≡ d +ℤ pos n
+  added_plain = to_z-of_z w64 added added_fits ∙ added_is
+
+-- ---- the half in some world of a run
+
+-- v is the half, and x the value of its fields
+module _ (x v : TransmitValue) (same : x ≡ v) (some : HasWorld v) (s : ℕ) (c : Class) (live : IsLive v s)
+    (p : ℕ)
+    (p_is : p ≡ pending_air_of v s c) where
+  there : is_live some.world s ≡ true
+  there = live_of v some.world some.bodies some.stands s live
+
+  pub few_pending : p ≤ 2 ^ 31
+  few_pending = omega (arith, p_is, pending_few v some.world some.bodies some.stands s c there)
+
+  pub own_pending : p ≡ pending_air_of x s c
+  own_pending = p_is ∙ sym (ap (λ (z : TransmitValue). pending_air_of z s c) same)
+
+  module _ (d : ℤ) (air : ℕ) (few_air : air < 2 ^ 32) (d_is : d ≡ deficit x.sched c s -ℤ pos air) where
+    low : negsuc (2 ^ 31) ≤ℤ deficit x.sched c s
+    low = subst (λ (z : TransmitValue). negsuc (2 ^ 31) ≤ℤ deficit z.sched c s) (sym same)
+        (standing_low v some.world some.bodies some.stands s c there)
+
+    high : deficit x.sched c s ≤ℤ pos (2 ^ 31)
+    high = subst (λ (z : TransmitValue). deficit z.sched c s ≤ℤ pos (2 ^ 31)) (sym same)
+        (standing_high v some.world some.bodies some.stands s c there)
+
+    left_low : negsuc (2 ^ 33) ≤ℤ d
+    left_low = omega (arith, ints, low, d_is)
+
+    left_high : d ≤ℤ pos (2 ^ 33)
+    left_high = omega (arith, ints, high, d_is)
+
+    module _ (e : ℤ) (e_is : e ≡ pos p) where
+      pub left_fits : SFits w64 (to_z w64 (of_z w64 d) +ℤ to_z w64 (of_z w64 e))
+      left_fits = added_fits d e p left_low left_high few_pending e_is
+
+      pub left_plain : to_z w64 (of_z w64 (to_z w64 (of_z w64 d) +ℤ to_z w64 (of_z w64 e))) ≡ d +ℤ pos p
+      left_plain = added_plain d e p left_low left_high few_pending e_is
+
+-- ---- the deficit that a half reports
+
+module _ (v u : TransmitValue) (same : v ≡ u) (some : HasUnheardWorld v) (s : ℕ) (c : Class)
+    (live : IsLive u s)
+    (d e : ℤ) (p : ℕ) (d_is : d ≡ deficit v.sched c s) (p_is : p ≡ pending_air_of v s c)
+    (e_is : e ≡ pos p) where
+  lives : is_live some.world s ≡ true
+  lives = live_of v some.world some.bodies some.stands s
+      (subst (λ (z : TransmitValue). IsLive z s) (sym same) live)
+
+  least : negsuc (2 ^ 33) ≤ℤ d
+  least = omega (arith, ints, d_is, standing_low v some.world some.bodies some.stands s c lives)
+
+  most : d ≤ℤ pos (2 ^ 33)
+  most = omega (arith, ints, d_is, standing_high v some.world some.bodies some.stands s c lives)
+
+  few : p ≤ 2 ^ 31
+  few = omega (arith, p_is, pending_few v some.world some.bodies some.stands s c lives)
+
+  pub read_fits : SFits w64 (to_z w64 (of_z w64 d) +ℤ to_z w64 (of_z w64 e))
+  read_fits = added_fits d e p least most few e_is
+
+  pub read_is : to_z w64 (of_z w64 (to_z w64 (of_z w64 d) +ℤ to_z w64 (of_z w64 e)))
+      ≡ deficit u.sched c s +ℤ pos (pending_air_of u s c)
+  read_is = added_plain d e p least most few e_is
+      ∙ ap₂ (λ (a : ℤ) (n : ℕ). a +ℤ pos n) d_is p_is
+      ∙ ap (λ (z : TransmitValue). deficit z.sched c s +ℤ pos (pending_air_of z s c)) same
+
+  pub read_world : (w : World) (bodies : ℕ → FrameValue) → StandsFor u w bodies →
+      to_z w64 (of_z w64 (to_z w64 (of_z w64 d) +ℤ to_z w64 (of_z w64 e))) ≡ (share w s c).deficit
+  read_world w bodies h = read_is ∙ deficit_same u w bodies s c h.parts (live_of u w bodies h s live)
