@@ -44,12 +44,13 @@ from ._base import WfError as WfError
 
 @dataclass(frozen=True)
 class Row:
-    """A setting: its name, its range, its standard value and its sentence."""
+    """A setting: its name, its range, its standard value, its value in the settings for devices, and its sentence."""
 
     name: str
     least: int
     most: int
     standard: int
+    device: int
     about: str
 
 
@@ -114,7 +115,13 @@ def settings_class(rows: Sequence[Row]) -> Iterator[str]:
     for row in rows:
         yield from ("", f"    {row.name}: int = {row.standard}")
         yield from doc(f"{row.about} [{row.least}..{row.most}]")
-    yield from ("", "", "# The range of each setting, in the order of their places.")
+    yield from ("", "    @classmethod", "    def device(cls, **others: int) -> Settings:")
+    yield from doc("Returns the settings for devices, with others in their place", " " * 8)
+    yield "        return cls(**{**DEVICE, **others})"
+    yield from ("", "", "# The settings for devices that are not standard.", "DEVICE: dict[str, int] = {")
+    yield from (f'    "{row.name}": {row.device},' for row in rows if row.device != row.standard)
+    yield "}"
+    yield from ("", "# The range of each setting, in the order of their places.")
     yield "RANGES: dict[str, tuple[int, int]] = {"
     yield from (f'    "{row.name}": ({row.least}, {row.most}),' for row in rows)
     yield "}"

@@ -82,12 +82,15 @@ def each_setting(columns: int, form: Callable[[Setting], str]) -> Callable[[Tabl
 
 
 def setting_rows(tables: Tables) -> Lines:
-    """The definitions of the table, of the standard settings, and of their list."""
+    """The definitions of the table, of the standard settings, of those for devices, and of their list."""
     yield from ("", "-- the table", "abbrev pub setting_row : Field → Row")
     for one in tables.settings:
         yield f'setting_row {one.variant} = row {one.number} (codes "{one.name}") {one.least} {one.most}'
     yield from ("", "-- the standard settings: those of a head that sets none", "abbrev pub standard : Config", "standard = record {")
     yield from (f"  {one.name} = {one.standard};" for one in tables.settings)
+    yield from ("}", "", "-- the settings for devices: the standard ones with these values", "abbrev pub device : Config")
+    yield "device = record standard {"
+    yield from (f"  {one.name} = {one.device};" for one in tables.settings if one.device != one.standard)
     yield from ("}", "", "-- the settings, in the order in which they are checked", "abbrev pub fields : List Field")
     yield from items([one.variant for one in tables.settings], "fields =")
     yield ""
@@ -270,6 +273,7 @@ FILES: Mapping[Path, Mapping[str, Region]] = {
         "value": each_setting(12, lambda one: f"Field::{one.variant} => config.{one.name},"),
         "set": each_setting(12, lambda one: f"Field::{one.variant} => config.{one.name} = value,"),
         "standard": each_setting(12, lambda one: f"{one.name}: {spelled(one.standard)},"),
+        "device": each_setting(12, lambda one: f"{one.name}: {spelled(one.device)},"),
     },
     FRAME / "specs/Settings.antt": {"rows": setting_rows, "values": setting_values, "ranges": setting_ranges},
     FRAME / "proofs/Ranges.antt": {"bounds": setting_bounds, "found": settings_found},
@@ -279,7 +283,7 @@ FILES: Mapping[Path, Mapping[str, Region]] = {
     LIBRARY / "src/settings.rt": {
         "fields": each_setting(4, lambda one: f"pub {one.name}: u32,"),
         "config": each_setting(12, lambda one: f"{one.name}: self.{one.name},"),
-        "standard": each_setting(8, lambda one: f"{one.name}: config.{one.name},"),
+        "shown": each_setting(8, lambda one: f"{one.name}: config.{one.name},"),
     },
     LIBRARY / "specs/Making.antt": {"settings": config_of},
     LIBRARY / "src/reply.rt": {"refusals": reply_arms},

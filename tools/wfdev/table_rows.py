@@ -36,7 +36,8 @@ class Fault(Exception):
 
 @dataclass(frozen=True)
 class Setting:
-    """A setting: its word, its number, its range, its standard value, its sentence, and the comment of its field of `Config`."""
+    """A setting: its word, its number, its range, its standard value, its sentence, the comment of its field of `Config`, and its value
+    in the settings for devices."""
 
     name: str
     number: int
@@ -45,6 +46,7 @@ class Setting:
     standard: int
     about: str
     field: str
+    device: int
 
     @property
     def variant(self) -> str:
@@ -163,13 +165,16 @@ def listed(path: Path, known: set[str]) -> Iterator[tuple[str, dict[str, Any]]]:
 
 def read_settings(path: Path) -> Iterator[Setting]:
     """The rows of the settings."""
-    for word, row in listed(path, set(SETTING_KEYS)):
+    for word, row in listed(path, {*SETTING_KEYS, "device"}):
         number, ends, standard, about, field = cells(word, row, SETTING_KEYS)
         if [type(end) for end in ends] != [int, int] or not 0 <= ends[0] <= standard <= ends[1] <= GREATEST:
             raise Fault(f"{path.name}: the row {word} has not a range of two numbers that its standard value is in")
+        device = row.get("device", standard)
+        if type(device) is not int or not ends[0] <= device <= ends[1]:
+            raise Fault(f"{path.name}: the row {word} has a value for devices that is not in its range")
         if number >= PLACES:
             raise Fault(f"{path.name}: struct wf_settings has {PLACES} places, of which the last is reserved")
-        yield Setting(word, number, ends[0], ends[1], standard, about, field)
+        yield Setting(word, number, ends[0], ends[1], standard, about, field, device)
 
 
 def read_refusals(path: Path) -> Iterator[Refusal]:

@@ -145,7 +145,7 @@ def replies(text: str, tables: Tables) -> str:
 
 def setting_rows(tables: Tables) -> list[python_tables.Row]:
     """The settings as sim/ and python/ have them."""
-    return [python_tables.Row(one.name, one.least, one.most, one.standard, one.note) for one in tables.settings]
+    return [python_tables.Row(one.name, one.least, one.most, one.standard, one.device, one.note) for one in tables.settings]
 
 
 def sim_file(tables: Tables) -> str:

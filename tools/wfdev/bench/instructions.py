@@ -8,6 +8,7 @@ Counts are differences of two runs, so the start and the end of a run cost nothi
 The run needs valgrind, and takes some minutes.
 """
 import io
+import json
 import os
 import re
 import subprocess
@@ -24,6 +25,7 @@ from wfdev.repo import paths, programs
 SCRIPT = Script("instructions", paths.BENCH)
 OUT = paths.BENCH_OUT
 PAGE = paths.DOCS / "PERFORMANCE.md"
+SETTINGS = paths.TOP / "sim" / "settings.json"
 HEADING = "## Figures\n"
 JOIN = "join {} 64 100 3"
 CLASS_TIDS = {"bk": 1, "be": 0, "vi": 5, "vo": 6}
@@ -136,18 +138,31 @@ def joined(count: int) -> list[str]:
     return [*joins, *(f"rate {station} 7 20 long" for station in range(count))]
 
 
+def device_head(more: str = "") -> str:
+    """Returns the head of a trace with the settings for devices, and others."""
+    named = (f"{row['name']}={row['device']}" for row in json.loads(SETTINGS.read_text(encoding="utf-8")) if row["device"] != row["standard"])
+    return " ".join(["cell", *named, *filter(None, [more])])
+
+
+def frame_cost(report: Report, head: str, count: int, frames: int) -> float:
+    """Returns the instructions of the five calls of a frame, while this many stations are listed all the time."""
+    before = [head, *joined(count), *(f"enq {place % count} 0 {place % count} 200" for place in range(frames))]
+    return report.each(before, [line for number in range(frames // 2) for line in exchange(number)], frames // 2)
+
+
 def stations(report: Report) -> None:
     """The same load, with few stations and with many. Each is listed all the time."""
     frames, counts = 4096, [16, 32, 64, 128, 256]
     report.say(f"\n### Stations\n\n{frames:,} frames wait, and half of them go out one by one, with five calls each.\n")
-    report.head("Stations", "the five calls of a frame", "each station more")
+    report.head("Stations", "the five calls of a frame", "each station more", "with the settings for devices")
     first = 0.0
     for count in counts:
-        before = [f"cell stations={count} agg=1", *joined(count)]
-        before += [f"enq {place % count} 0 {place % count} 200" for place in range(frames)]
-        cost = report.each(before, [line for number in range(frames // 2) for line in exchange(number)], frames // 2)
+        settings = f"stations={count} agg=1"
+        cost = frame_cost(report, f"cell {settings}", count, frames)
+        device = frame_cost(report, device_head(settings), count, frames)
         first = first or cost
-        report.row(count, whole(cost), "" if count == counts[0] else whole((cost - first) / (count - counts[0])))
+        more = "" if count == counts[0] else whole((cost - first) / (count - counts[0]))
+        report.row(count, whole(cost), more, whole(device))
 
 
 def memory(report: Report) -> None:
@@ -222,7 +237,38 @@ def functions(report: Report) -> None:
         report.row(f"`{re.sub(r'::<#.*', '', name)}`", f"{share} %")
 
 
-PARTS: list[Callable[[Report], None]] = [soaks, stations, calls, memory, ticks, functions]
+def lived(report: Report) -> list[str]:
+    """Returns the calls of a run of `live`, and of its summary nothing."""
+    lines = report.run(["live", "1", "8", "2000"]).text.splitlines()
+    return lines[1 : lines.index("end")]
+
+
+def both(report: Report, before: Sequence[str], more: Sequence[str], count: int) -> tuple[float, float]:
+    """Returns the instructions of each of `count` calls with the standard settings and with those for devices."""
+    one, other = (report.each([head, *before], more, count) for head in ("cell", device_head()))
+    return one, other
+
+
+def devices(report: Report) -> None:
+    """The cost of the settings for devices, next to the standard ones."""
+    report.say("\n### The settings for devices\n")
+    report.say("The lines of a history are those of `wf live 1 8 2000`; with other settings some of its answers are others.\n")
+    report.head("Call", "standard", "devices", "ratio")
+    fill = [f"enq {place % 16} 0 {place} 1000" for place in range(2000)]
+    wide = [line for _ in range(32) for line in (f"enq {station} 0 {station} 100" for station in range(16))]
+    pulls = [line for number in range(16) for line in ("pull be", f"done {number} lost")]
+    history = lived(report)
+    rows = [
+        ("Enqueue, of 1000 octets", both(report, joined(16), fill, len(fill))),
+        ("The five calls of a frame", (frame_cost(report, "cell agg=1", 16, 4096), frame_cost(report, device_head("agg=1"), 16, 4096))),
+        ("Pull of 32 frames, and a done that hears nothing", both(report, [*joined(16), *wide], pulls, 16)),
+        ("A line of a history", both(report, [], history, len(history))),
+    ]
+    for name, (standard, device) in rows:
+        report.row(name, whole(standard), whole(device), f"{device / standard:.3f}")
+
+
+PARTS: list[Callable[[Report], None]] = [soaks, stations, calls, devices, memory, ticks, functions]
 
 
 def measure(program: programs.Program) -> str:

@@ -33,7 +33,7 @@ Edges = Mapping[str, Set[str]]
 
 @dataclass(frozen=True)
 class Walk:
-    """A line that is walked, as it is given first and once more, the lines before it, and the path's function that it reaches."""
+    """A line that is walked, as it is given first and again, the lines before it, and the path's function that it reaches."""
 
     name: str
     before: list[str]

@@ -43,6 +43,8 @@ def zero(kind: str, known: Structs) -> str:
         return f"{kind}::empty(rt.alloc())"
     if kind.startswith("&"):
         return "&[]"
+    if entries := re.fullmatch(r"\[(\w+); 1\]", kind):
+        return f"[{zero(entries[1], known)}]"
     if kind in known:
         return f"{kind} {{ " + ", ".join(f"{name}: {zero(of, known)}" for name, of in known[kind][1]) + " }"
     return re.sub(r"\[\w+; (\d+)\]", r"[0; \1]", kind) if kind.startswith("[") else "0"
@@ -60,8 +62,10 @@ class _Caller:
     def argument(self, kind: str, ends: list[str]) -> str:
         """Returns the argument of a type; a reference goes to a value that the body declares before."""
         bare = re.sub(r"^&(?:mut )?", "", kind).replace("[u8]", BUFFER)
-        if bare in self.known:
-            self.uses.add(f"{self.known[bare][0]}::{bare}")
+        bare = re.sub(r"^\[(\w+)\]$", r"[\1; 1]", bare)
+        struct = re.sub(r"^\[(\w+); 1\]$", r"\1", bare)
+        if struct in self.known:
+            self.uses.add(f"{self.known[struct][0]}::{struct}")
         if kind == bare:
             return zero(kind, self.known)
         self.count += 1

@@ -6,7 +6,7 @@ far as they are there and know the standard.
 The library is the proved one that `./wf lib` left if it is as new as the sources, else the unproved one, which is built if
 necessary. The programs are built without a warning: plainly, with the address and undefined-behaviour sanitizers, which also see
 that all memory is freed, and, if they have threads, with the thread sanitizer. c-library.d has the program that calls the readers
-on handles in memory that cannot be written. The replay is by the program that `./wf which` names, and left out if there is none.
+on handles in memory that cannot be written, and the one that compares frames with and without octets, and bursts with single calls. The replay is by the program that `./wf which` names, and left out if there is none.
 """
 import re
 import shutil
@@ -26,6 +26,8 @@ SOURCES = paths.EXAMPLES / "c"
 COMPILER = ["cc", "-std=c99", "-Wall", "-Wextra", "-Wconversion", "-pedantic", "-Werror", "-O1", "-pthread"]
 SANITIZED = ("-g", "-fsanitize=address,undefined", "-fno-sanitize-recover=all")
 THREADS = ("-g", "-fsanitize=thread")
+# bare.c decides whether there is memory
+WRAPPED = ("-Wl,--wrap=malloc",)
 WARNINGS = ["-Wall", "-Wextra", "-pedantic", "-Wshadow", "-Wconversion", "-Wundef", "-Werror"]
 # A standard may have an older name in an older compiler.
 C_STANDARDS = [("c89",), ("c99",), ("c11",), ("c17",), ("c23", "c2x")]
@@ -126,6 +128,8 @@ def run_programs(bench: Bench) -> None:
         run([str(bench.build(SOURCES / f"{name}.c", SANITIZED, "-sanitized"))])
     run([str(bench.build(SOURCES / "wake.c", THREADS, "-threads"))])
     print(run([str(bench.build(SCRIPT.folder / "readers.c", ["-D_DEFAULT_SOURCE"]))]), end="")
+    print(run([str(bench.build(SCRIPT.folder / "bare.c", WRAPPED))]), end="")
+    run([str(bench.build(SCRIPT.folder / "bare.c", (*SANITIZED, *WRAPPED), "-sanitized")), "20000", "2"])
     seed = 0
     for one in COMPARISONS:
         for more, kind in (((), ""), (SANITIZED, "-sanitized")):

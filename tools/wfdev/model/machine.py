@@ -179,11 +179,22 @@ class Machine:
         own = [one for one in self.exchanges.values() if one.station == station]
         return sum(one.charge for one in own if CLASS_OF[one.tid] is access)
 
+    def pending(self, station: int, access: Class) -> int:
+        """Returns the airtime in flight that counts against the deficit of a station in a class."""
+        return self.in_flight(station, access) if self.settings.pending else 0
+
+    def is_debtor(self, station: int, access: Class) -> bool:
+        """Returns whether a station has nothing left to use in a class, with the setting `pending`."""
+        if not self.settings.pending or station not in self.stations:
+            return False
+        return self.rotations[access].deficits[station] <= self.pending(station, access)
+
     def list_ready(self, station: int) -> None:
-        """Lists the station that a call concerned in each class in which it is ready and unlisted."""
+        """Lists the station that a call concerned in each class in which it is unlisted and is ready or a debtor."""
         for access, rotation in self.rotations.items():
-            if self.is_ready(station, access) and not rotation.lists(station):
-                rotation.add(station)
+            is_ready = self.is_ready(station, access)
+            if not rotation.lists(station) and (is_ready or self.is_debtor(station, access)):
+                rotation.add(station, old=not is_ready)
 
     # Pull.
 
@@ -194,7 +205,7 @@ class Machine:
         refuse("full", count >= self.settings.inflight, count)
         owed = sum(exchange.charge for exchange in self.exchanges.values())
         refuse("ahead", 0 < self.settings.aql_total <= owed, owed)
-        winner = self.rotations[one].pick(self.quantum, lambda station: self.is_ready(station, one))
+        winner = self.picked(one)
         if winner is None:
             raise Refused("idle")
         held = self.stations[winner]
@@ -204,6 +215,18 @@ class Machine:
             tid, other = other, tid
         held.turns[one] = other
         return self.send(held, tid)
+
+    def picked(self, access: Class) -> int | None:
+        """Returns the station that is picked in a class, if any. With `pending`, nothing changes if none is ready."""
+        rotation = self.rotations[access]
+        is_any_ready = any(self.is_ready(station, access) for station in rotation.keys())
+        if self.settings.pending and not is_any_ready:
+            return None
+        return rotation.pick(
+            self.quantum,
+            lambda station: self.is_ready(station, access),
+            lambda station: self.pending(station, access),
+        )
 
     def send(self, held: Station, tid: int) -> Answer:
         """Makes the exchange of a TID that can send."""

@@ -19,9 +19,9 @@ class Rotation:
         """Returns the listed keys."""
         return self.new + self.old
 
-    def add(self, key: int) -> None:
-        """Puts a key last on the new list."""
-        self.new.append(key)
+    def add(self, key: int, *, old: bool = False) -> None:
+        """Puts a key last on the new or the old list."""
+        (self.old if old else self.new).append(key)
 
     def remove(self, key: int) -> None:
         """Takes a key off the lists, if it is listed."""
@@ -29,12 +29,14 @@ class Rotation:
             if key in keys:
                 keys.remove(key)
 
-    def pick(self, quantum: Callable[[int], int], is_ready: Callable[[int], bool]) -> int | None:
-        """Returns the winner, which keeps its place, or None if both lists are empty."""
+    def pick(
+        self, quantum: Callable[[int], int], is_ready: Callable[[int], bool], pending: Callable[[int], int] = lambda _: 0
+    ) -> int | None:
+        """Returns the winner, which keeps its place, or None if both lists are empty. Each pending airtime is taken off a deficit."""
         while self.new or self.old:
             visited = self.new or self.old
             key = visited[0]
-            if self.deficits[key] <= 0:
+            if self.deficits[key] - pending(key) <= 0:
                 self.deficits[key] += quantum(key)
                 self.old.append(visited.pop(0))
             elif is_ready(key):

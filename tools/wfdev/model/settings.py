@@ -31,6 +31,7 @@ class Settings:
     keep_order: int = setting(0, 0, 1)
     codel_reset: int = setting(0, 0, 1)
     aql: int = setting(0, 0, 262_144)
+    pending: int = setting(0, 0, 1)
     # end settings
 
 

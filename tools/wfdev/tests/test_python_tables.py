@@ -6,7 +6,7 @@ from wfdev.header import Member
 from wfdev.repo import paths
 
 TEXT = paths.read(paths.HEADER)
-ROWS = [python_tables.Row("stations", 1, 256, 16, "station numbers")]
+ROWS = [python_tables.Row("stations", 1, 256, 16, 16, "station numbers")]
 MORE = """struct wf_pair {
   struct wf_share both[2]; /* the old one
                             * and the new one */

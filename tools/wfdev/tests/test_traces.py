@@ -4,6 +4,7 @@ import re
 import unittest
 import xml.etree.ElementTree
 
+from wfdev.model import text
 from wfdev.repo import paths
 from wfdev.traces import calls, captures, explain, lines, replies, rules, runs, shown, timeline
 from wfdev.traces.ledger import Ledger
@@ -11,15 +12,19 @@ from wfdev.traces.ledger import Ledger
 EXAMPLES = sorted(path.stem for path in paths.EXAMPLES.glob("*.trace"))
 
 
-def events(name: str, size: int = 1000) -> list[runs.Event]:
-    """Returns the events of an example, read in blocks of this size."""
+def events_of(octets: bytes, written: bytes, size: int = 1000) -> list[runs.Event]:
+    """Returns the events of a trace and its output, read in blocks of this size."""
     pairs, cutter, trace = runs.Pairs(), lines.Cutter(), lines.Trace()
-    octets = (paths.EXAMPLES / f"{name}.trace").read_bytes()
     for at in range(0, len(octets), size):
         pairs.add([trace.line(line) for line in cutter.cut(octets[at : at + size])])
     pairs.add([trace.line(line) for line in cutter.rest()])
-    written = (paths.EXAMPLES / f"{name}.out").read_bytes().splitlines()
-    return [event for line in written for event in pairs.events(line)]
+    return [event for line in written.splitlines() for event in pairs.events(line)]
+
+
+def events(name: str, size: int = 1000) -> list[runs.Event]:
+    """Returns the events of an example, read in blocks of this size."""
+    octets = (paths.EXAMPLES / f"{name}.trace").read_bytes()
+    return events_of(octets, (paths.EXAMPLES / f"{name}.out").read_bytes(), size)
 
 
 def booked(name: str) -> Ledger:
@@ -37,6 +42,12 @@ def explained(name: str) -> str:
     """Returns the explanation of an example."""
     how = explain.Explain()
     return how.shown(events(name)) + how.ended()
+
+
+def explained_row(name: str) -> str:
+    """Returns the explanation of a worked row, with the answers of the model, in one line."""
+    octets = (paths.CHECKS / "worked.d" / f"{name}.in").read_bytes()
+    return " ".join(explain.Explain().shown(events_of(octets, text.replay(octets)[0].encode())).split())
 
 
 class Lines(unittest.TestCase):
@@ -206,6 +217,17 @@ class Explained(unittest.TestCase):
     def test_a_pull_says_what_else_could_be_picked(self) -> None:
         told = " ".join(explained("two-rates").split())
         self.assertIn("Station 0 also holds 2 frames of the class, and 1976 us were charged to it", told)
+
+    def test_with_pending_a_pull_says_what_is_in_flight(self) -> None:
+        told = explained_row("pending-standing-of-1")
+        self.assertIn("Station 0 had 0 us in flight.", told)
+        self.assertIn("Station 0 had 256 us in flight.", told)
+        self.assertIn("Station 1 also holds 1 frame of the class, 0 us were charged to it, and 0 us are in flight.", told)
+        self.assertNotIn("The scheduler picks the first ready station with a deficit above 0.", told)
+
+    def test_with_pending_an_idle_pull_changes_nothing(self) -> None:
+        self.assertIn("1 of them in open exchanges. Nothing has changed.", explained_row("pending-idle-changes-no-deficit"))
+        self.assertIn(explain.AFTER_IDLE, explained_row("aql-idle-forgives-a-debt"))
 
     def test_a_refusal_has_its_rule_with_its_numbers(self) -> None:
         told = " ".join(explained("leaving-station").split())

@@ -159,7 +159,8 @@ def refused(call: Call, reply: Reply, book: Ledger) -> str:
         class_ = call.word("class_")
         known = [said for one in book.stations.values() if (said := why_not_ready(one, class_, book))]
         why = some(known) or f"No live station holds a frame of class {class_}."
-        return f"Refused: No station of the class is ready. {why} {AFTER_IDLE}"
+        after = "Nothing has changed." if book.settings["pending"] else AFTER_IDLE
+        return f"Refused: No station of the class is ready. {why} {after}"
     rule = rules.rule(reply.refusal, number, book.settings)
     if reply.refusal == "nothing":
         rule = NOTHING.get(call.kind, rule)
@@ -210,7 +211,7 @@ def said_of_send(_: Call, reply: Reply, book: Ledger, exchange: Exchange | None)
     known = (other(one, exchange.class_, book) for one in book.stations.values() if one is not station)
     others = some([said for said in known if said])
     return " ".join(
-        filter(None, [to, contents(exchange, book), why_picked(station, exchange.class_, book), others])
+        filter(None, [to, contents(exchange, book), why_picked(station, exchange, book), others])
     )
 
 
@@ -229,10 +230,17 @@ def contents(exchange: Exchange, book: Ledger) -> str:
     return text + (" The station has more to be sent." if exchange.more else "")
 
 
-def why_picked(station: Station, class_: str, book: Ledger) -> str:
+def why_picked(station: Station, exchange: Exchange, book: Ledger) -> str:
     """Says with which deficit the scheduler picked a station."""
+    class_ = exchange.class_
     quantum, used, quanta = book.quantum(station), station.used.get(class_, 0), station.quanta[class_]
     credit = "It sleeps, so this spends its credit. " if station.is_asleep else ""
+    if book.settings["pending"]:
+        return (
+            f"{credit}The scheduler picks the first ready station whose deficit is greater than its airtime in "
+            f"flight in the class. Station {station.number} had "
+            f"{book.in_flight(station.number, class_, exchange.number)} us in flight."
+        )
     parts = [f"{quantum} at the join", f"less {used} charged" if used else ""]
     parts += [f"plus {count(quanta, 'quantum')} of {quantum}".replace("quantums", "quanta") if quanta else ""]
     return (
@@ -249,6 +257,12 @@ def other(station: Station, class_: str, book: Ledger) -> str:
         return ""
     if station.is_asleep and station.credit != class_:
         return f"Station {station.number} sleeps and has no credit, so it was not ready."
+    if book.settings["pending"]:
+        return (
+            f"Station {station.number} also holds {count(held, 'frame')} of the class, "
+            f"{station.used.get(class_, 0)} us were charged to it, and "
+            f"{book.in_flight(station.number, class_)} us are in flight."
+        )
     left = book.quantum(station) - station.used.get(class_, 0)
     due = book.deficit_when_picked(station, class_)
     return (

@@ -21,6 +21,7 @@ STANDARD = {
     "sleeping": 64,
     "calls": 1048576,
     "charge": 0,
+    "pending": 0,
 }
 CLASSES = ("be", "bk", "bk", "be", "vi", "vi", "vo", "vo")
 NUMBERS = 4096
@@ -111,7 +112,7 @@ class Ledger:
 
         It begins with one quantum, charges only lower it, and a quantum is added only to one that is 0 or
         less. So it never exceeds a quantum, and the pick has the only number from 1 to a quantum that differs
-        from it by whole quanta. """
+        from it by whole quanta. With `pending` none of this holds. """
         quantum = self.quantum(station)
         return (-station.used.get(class_, 0) - 1) % quantum + 1
 
@@ -133,6 +134,12 @@ class Ledger:
     def exchanges_of(self, station: int) -> list[Exchange]:
         """Returns a station's open exchanges."""
         return [one for one in self.open.values() if one.station == station]
+
+    def in_flight(self, station: int, class_: str, before: int | None = None) -> int:
+        """Returns the computed airtime of a station's open exchanges of a class; with `before`, of those with
+        a lower number. """
+        own = [one for one in self.exchanges_of(station) if one.class_ == class_]
+        return sum(one.air for one in own if before is None or one.number < before)
 
     def take(self, call: Call, reply: Reply) -> Exchange | None:
         """Notes a call and its answer. Returns the exchange that the call began or ended, or that it

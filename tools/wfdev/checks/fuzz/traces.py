@@ -27,10 +27,11 @@ LIKELY = {
     "charge": (1, 3000, 65_535),
     "debt": (0, 1, 300, 20_000, 65_535),
     "aql": (1, 80, 2000, 4000),
+    "pending": (1,),
 }
 # How often a setting is in a head, if not three times in ten. With little room most calls do nothing.
-CHANCE = {"stations": 0.6, "room": 0.06, "limit": 0.25, "calls": 0.0}
-WAITING = {"stations": 0.6, "room": 0.0, "limit": 0.0, "calls": 0.0, "agg": 0.8}
+CHANCE = {"stations": 0.6, "room": 0.06, "limit": 0.25, "calls": 0.0, "pending": 0.6}
+WAITING = {"stations": 0.6, "room": 0.0, "limit": 0.0, "calls": 0.0, "agg": 0.8, "pending": 0.6}
 WINDOWS = (1, 2, 3, 8, 63, 64, 65, 100, 255, 256)
 BAD_WINDOWS = (0, 257, 65_535)
 STARTS = (0, 1, 100, 4000, 4090, 4094, 4095)
