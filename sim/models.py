@@ -11,7 +11,7 @@ from .baselines.fq_mac import FqMac
 from .baselines.one_list import OneList
 from .fields import Fault, shown
 from .scenario import MACHINE, MODEL_SETTINGS
-from .settings import PRESETS, settings
+from .settings import presets, settings
 
 MODELS: dict[str, type[Driver]] = {"fifo": Fifo, "fq_codel": FqCodel, "fq_mac": FqMac, "one_list": OneList}
 NAMES = (*MODELS, MACHINE)
@@ -32,7 +32,7 @@ class Choice:
     @property
     def settings(self) -> dict[str, int]:
         """All settings that replace the scenario's."""
-        return {**PRESETS.get(self.preset, {}), **self.own}
+        return {**presets().get(self.preset, {}), **self.own}
 
     @property
     def is_machine(self) -> bool:
@@ -51,7 +51,7 @@ def choose(text: str) -> Choice:
     if name not in NAMES:
         raise Fault(f"unknown path {shown(name)}: expected one of {', '.join(NAMES)}")
     choice = Choice(name)
-    if words and words[0] in PRESETS:
+    if words and words[0] in presets():
         choice.preset = words.pop(0)
         if not choice.is_machine:
             raise Fault(f"{shown(text)}: {choice.preset} has settings of the machine: expected it after {MACHINE} alone")
@@ -67,7 +67,7 @@ def setting_of(text: str, word: str) -> tuple[str, int]:
     """The setting of a word in a choice, and its value."""
     key, _, value = word.partition("=")
     if key not in bounds():
-        raise Fault(f"{shown(text)}: unknown setting {shown(key)}: expected one of {', '.join([*bounds(), *PRESETS])}")
+        raise Fault(f"{shown(text)}: unknown setting {shown(key)}: expected one of {', '.join([*bounds(), *presets()])}")
     low, high = bounds()[key]
     if not (value.isascii() and value.isdecimal() and len(value) <= 10) or not low <= int(value) <= high:
         raise Fault(f"{key} = {shown(value)}: expected a whole number from {low} to {high}")

@@ -7,17 +7,6 @@ from dataclasses import dataclass
 from pathlib import Path
 
 SOURCE = Path(__file__).resolve().parent / "settings.json"
-# Settings that belong together, by the name that `--compare airtime:NAME` gives them. docs/SIM.md says what each is for.
-PRESETS: dict[str, dict[str, int]] = {
-    "device": {
-        "inflight": 4,
-        "charge": 65_535,
-        "debt": 20_000,
-        "aql_total": 24_000,
-        "keep_order": 1,
-        "codel_reset": 1,
-    },
-}
 
 
 @dataclass(frozen=True)
@@ -28,11 +17,12 @@ class Setting:
     least: int
     greatest: int
     standard: int
+    device: int
 
 
 def parse(source: str) -> dict[str, Setting]:
     """The settings of a list in JSON, by name."""
-    found = [Setting(one["name"], one["least"], one["most"], one["standard"]) for one in json.loads(source)]
+    found = [Setting(one["name"], one["least"], one["most"], one["standard"], one["device"]) for one in json.loads(source)]
     return {one.name: one for one in found}
 
 
@@ -40,3 +30,9 @@ def parse(source: str) -> dict[str, Setting]:
 def settings() -> dict[str, Setting]:
     """All settings by name."""
     return parse(SOURCE.read_text(encoding="utf-8"))
+
+
+@functools.cache
+def presets() -> dict[str, dict[str, int]]:
+    """Settings that belong together, by the name that `--compare airtime:NAME` gives them. docs/TRACE.md says what each is for."""
+    return {"device": {one.name: one.device for one in settings().values() if one.device != one.standard}}

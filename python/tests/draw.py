@@ -5,13 +5,17 @@ import random
 from collections.abc import Callable
 from typing import Any
 
-from wfpath import RANGES, AccessClass, Cell, Exchange, Path, Rate, Refused, trace
+from wfpath import RANGES, AccessClass, CallKind, Cell, Exchange, Fate, Path, Rate, Refused, errors, trace
+from wfpath import _tables as tables
+from wfpath._library import error
+from wfpath._tables import Kind
+from wfpath.raw import Call
 
 STATIONS, CHARGE, TICK = 6, 5000, 10_000_000
 SETTINGS = {"stations": STATIONS, "flows": 32, "limit": 40, "room": 400, "attempts": 4, "sleeping": 8}
 SETTINGS["charge"] = CHARGE
 # Rules that are off in the standard settings, for every second seed, as far as the library has them.
-RULES = {"aql_total": 1500, "debt": 20000, "keep_order": 1, "codel_reset": 1, "aql": 1200}
+RULES = {"aql_total": 1500, "debt": 20000, "keep_order": 1, "codel_reset": 1, "aql": 1200, "pending": 1}
 WORDS = {"join": "joined", "set_rate": "set", "sleep": "slept", "wake": "woken"}
 
 
@@ -36,6 +40,22 @@ def answer_of(name: str, value: Any) -> str:
     if name == "arrive":
         return " ".join(["released", *map(str, value)])
     return str(value)
+
+
+def reply_line(reply: tables.ReplyStruct) -> str:
+    """Returns the line of the answer to a call of a burst."""
+    said = {
+        Kind.LEFT: f"left {reply.count}",
+        Kind.NOW: f"now {reply.now}",
+        Kind.ACCEPTED: f"accepted {reply.id}" + (f" dropped {reply.dropped}" if reply.has_dropped else ""),
+        Kind.POLLED: f"polled {AccessClass(reply.class_ % 4).word}",
+        Kind.CHARGED: f"charged {reply.deficit}",
+        Kind.REAPED: f"reaped {reply.id} {Fate(reply.fate).word}",
+    }
+    kind = Kind(reply.kind)
+    if kind == Kind.REFUSED:
+        return str(getattr(error(reply.refusal, reply), "line"))
+    return said.get(kind, kind.word)
 
 
 class Draw:
@@ -92,16 +112,43 @@ class Draw:
         flow, length = self.below(20), 1 + self.below(200 if self.below(4) else 2304)
         body = bytes((flow + place) % 256 for place in range(length)) if length < 50 else length
         tag = station << 48 | tid << 40 | flow << 16 | length
-        self.call(f"enq {station} {tid} {flow} {length}", "enqueue", station, body, tid, flow, tag)
+        line = f"enq {station} {tid} {flow} {length}"
+        if self.below(3) == 0:
+            self.call(line, "enqueue_bare", station, length, tid, flow, tag)
+        else:
+            self.call(line, "enqueue", station, body, tid, flow, tag)
 
     def reap(self) -> None:
         """A reap, and a look at the frame."""
         has_body = self.below(2) == 1
         frame = self.call("reap", "reap", has_body)
         if frame is not None:
-            assert frame.tag == frame.station << 48 | frame.tid << 40 | frame.flow << 16 | frame.length
-            assert frame.body is None or len(frame.body) == frame.length
-            assert not has_body or frame.length >= 50 or frame.body[0] == frame.flow
+            assert frame.tag in (0, frame.station << 48 | frame.tid << 40 | frame.flow << 16 | frame.length)
+            assert frame.body is None or (has_body and len(frame.body) == frame.length)
+            assert frame.body is None or frame.length >= 50 or frame.body[0] == frame.flow
+
+    def burst(self, most: int) -> None:
+        """A burst of at most so many calls. Its frames have the tag 0."""
+        drawn = [self.drawn(self.station()) for _ in range(1 + self.below(most))]
+        made = self.handle.burst([call for call, _ in drawn])
+        assert made.error is None and len(made.replies) == len(drawn)
+        self.lines += [line for _, line in drawn]
+        self.answers += map(reply_line, made.replies)
+
+    def drawn(self, station: int) -> tuple[Call, str]:
+        """A call of a burst, and its line."""
+        kind = self.random.choice((CallKind.ENQUEUE, CallKind.REAP, CallKind.TICK, CallKind.RX, CallKind.POLL))
+        call, class_ = Call(kind), AccessClass(self.below(4))
+        made = call.struct
+        made.station, made.tid, made.flow, made.length = station, self.below(9), self.below(20), 1 + self.below(300)
+        made.by, made.air, made.class_ = self.below(2000), self.below(2000), class_
+        lines = {
+            CallKind.ENQUEUE: f"enq {station} {made.tid} {made.flow} {made.length}",
+            CallKind.TICK: f"tick {made.by}",
+            CallKind.RX: f"rx {station} {class_.word} {made.air}",
+            CallKind.POLL: f"poll {station}",
+        }
+        return call, lines.get(kind, "reap")
 
     def other(self, station: int) -> None:
         """One of the other calls."""
@@ -146,8 +193,10 @@ class PathDraw(Draw):
     def step(self) -> None:
         """A call."""
         which = self.below(100)
-        if which < 70:
+        if which < 66:
             self.common(which)
+        elif which < 70:
+            self.burst(9)
         elif which < 85:
             self.pull()
         elif self.open:
@@ -166,9 +215,12 @@ class PathDraw(Draw):
         assert sent == (exchange.station, exchange.transmissions, exchange.tid, exchange.request)
         for index, number in enumerate(exchange.ids):
             assert self.handle.frame_id(exchange.number, index) == number
-            octets = self.handle.mpdu(exchange.number, index)
-            assert self.handle.header(exchange.number, index) == octets[:26]
-            assert self.handle.frame_tag(exchange.number, index) % 2**16 == len(octets) - 26
+            header, tag = self.handle.header(exchange.number, index), self.handle.frame_tag(exchange.number, index)
+            try:
+                octets = self.handle.mpdu(exchange.number, index)
+            except errors.NoBody:
+                continue
+            assert header == octets[:26] and tag % 2**16 == len(octets) - 26
 
     def finish(self, exchange: Exchange) -> None:
         """Lets transmissions arrive, and ends the exchange."""
@@ -224,15 +276,17 @@ class CellDraw(Draw):
         super().__init__(seed, Cell(calls=calls, **settings_of(seed)))
         self.open: list[int] = []
         self.opened = 0
-        for _ in range(calls):
-            self.step()
+        while len(self.answers) < calls:
+            self.step(calls - len(self.answers))
         self.lines.append("end")
 
-    def step(self) -> None:
-        """A call."""
+    def step(self, most: int) -> None:
+        """A call, or a burst of at most so many."""
         which = self.below(200)
-        if which < 70:
+        if which < 66:
             self.common(which)
+        elif which < 70:
+            self.burst(min(most, 9))
         elif which < 100:
             class_ = AccessClass(self.below(4))
             exchange = self.call(f"pull {class_.word}", "pull", class_)

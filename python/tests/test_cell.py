@@ -1,4 +1,4 @@
-"""What the class Cell does, and how it fails."""
+"""Tests of the class Cell: its calls and its faults."""
 from __future__ import annotations
 
 import unittest

@@ -1,4 +1,4 @@
-"""What the class Path does, and how it fails."""
+"""Tests of the class Path: its calls and its faults."""
 from __future__ import annotations
 
 import copy
@@ -12,6 +12,7 @@ from wfpath import (
     RANGES,
     AccessClass,
     BlockError,
+    CallKind,
     Fate,
     Path,
     Rate,
@@ -22,10 +23,11 @@ from wfpath import (
 )
 from wfpath import _tables as tables
 from wfpath._handle import C
+from wfpath.raw import Call
 
 BE = AccessClass.BE
 # The package has these from the tables, or calls them when a handle is made, closed or loaded.
-NOT_CALLED = {"wf_code_name", "wf_kind_name", "wf_fate_name", "wf_setting_name", "wf_settings_standard"}
+NOT_CALLED = {"wf_code_name", "wf_kind_name", "wf_fate_name", "wf_setting_name", "wf_settings_standard", "wf_settings_device"}
 NOT_CALLED |= {"wf_version", "wf_path_make", "wf_path_free", "wf_cell_make", "wf_cell_free"}
 
 
@@ -67,6 +69,33 @@ class Calls(unittest.TestCase):
         for length in (0, GREATEST_BODY + 1, 2**40):
             with self.assertRaises(errors.BadLength):
                 self.path.enqueue(1, length)
+
+    def test_a_frame_without_octets_has_a_header_and_no_body(self) -> None:
+        path = self.path
+        path.join(0)
+        path.reserve(2)
+        self.assertEqual(path.enqueue_bare(0, 1500, flow=3, tag=9), (0, None))
+        path.pull(BE)
+        with self.assertRaises(errors.NoBody):
+            path.mpdu(0, 0)
+        self.assertEqual((len(path.header(0, 0)), path.frame_tag(0, 0)), (26, 9))
+        path.done_bits(0, 0, 1)
+        frame = path.reap(body=True)
+        self.assertEqual((frame.tag, frame.length, frame.body, frame.fate), (9, 1500, None, Fate.ACKED))
+        for length in (0, GREATEST_BODY + 1):
+            with self.assertRaises(errors.BadLength):
+                path.enqueue_bare(0, length)
+        with self.assertRaises(ValueError):
+            path.enqueue_bare(0, 2**16)
+
+    def test_a_burst_stops_at_the_first_that_is_no_call(self) -> None:
+        calls = [Call(kind) for kind in (CallKind.JOIN, CallKind.LEAVE, CallKind.ARRIVE, CallKind.TICK)]
+        calls[0].struct.window, calls[0].struct.weight, calls[1].struct.station = 64, 1, 1
+        made = self.path.burst(calls)
+        self.assertEqual([reply.refusal for reply in made.replies], [0, errors.NoStation.code])
+        self.assertIsInstance(made.error, errors.BadCall)
+        self.assertTrue(self.path.live(0))
+        self.assertEqual(self.path.burst([]), ([], None))
 
     def test_a_refusal_is_an_exception_of_its_class(self) -> None:
         self.path.join(0)
@@ -162,6 +191,9 @@ class Handles(unittest.TestCase):
         C.wf_settings_standard(struct)
         for name in RANGES:
             self.assertEqual(getattr(standard, name), getattr(struct, name), name)
+        C.wf_settings_device(struct)
+        for name in tables.RANGES:
+            self.assertEqual(getattr(Settings.device(), name), getattr(struct, name), name)
         for place, (name, (least, most)) in enumerate(RANGES.items(), 1):
             for value in (least - 1, most + 1, 2**40):
                 with self.assertRaisesRegex(errors.BadSetting, name) as caught:

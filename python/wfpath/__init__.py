@@ -27,7 +27,7 @@ from ._tables import (
     Form,
     Settings,
 )
-from .answers import Accepted, Block, Done, Exchange, Reaped, Sent, Share, Tally
+from .answers import Accepted, Block, Burst, Done, Exchange, Reaped, Sent, Share, Tally
 from .cell import Cell
 from .errors import BlockError, Refused, WfError
 from .path import Path
@@ -42,6 +42,7 @@ __all__ = [
     "AccessClass",
     "Block",
     "BlockError",
+    "Burst",
     "CallKind",
     "Cell",
     "Done",

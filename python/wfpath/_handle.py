@@ -4,14 +4,16 @@ from __future__ import annotations
 
 import ctypes
 import struct
+from collections.abc import Sequence
 from dataclasses import replace
 from typing import TYPE_CHECKING, Any, NoReturn, TypeVar, Union
 
 from . import _tables as tables
 from ._base import WfError
 from ._library import LIBRARY, error, make_error, out_of_range, settings_struct
-from .answers import FATES, Accepted, Exchange, Reaped
+from .answers import FATES, Accepted, Burst, Exchange, Reaped
 from .errors import ERRORS
+from .raw import Call
 
 Body = Union[bytes, int]
 Self = TypeVar("Self", bound="Handle")
@@ -27,6 +29,7 @@ NO_SOURCE = bytes(6)
 # The fields of a packet after its body.
 PACKET = struct.Struct("@" + tables.PacketStruct.LAYOUT[2:])
 PACKET_AT = tables.PacketStruct.length.offset  # type: ignore[attr-defined]
+BARE = struct.Struct(tables.BareStruct.LAYOUT)
 TAKEN = struct.Struct(tables.TakenStruct.LAYOUT)
 
 
@@ -52,10 +55,12 @@ class Handle:
         self._reply = tables.ReplyStruct()
         self._frames = tables.FramesStruct()
         self._packet = tables.PacketStruct()
+        self._bare = tables.BareStruct()
         self._taken = tables.TakenStruct()
         self._reply_at = ctypes.byref(self._reply)
         self._frames_at = ctypes.byref(self._frames)
         self._packet_at = ctypes.byref(self._packet)
+        self._bare_at = ctypes.byref(self._bare)
         self._taken_at = ctypes.byref(self._taken)
         self._ids = view(self._frames.ids, "Q")
         self._numbers = view(self._frames.numbers, "H")
@@ -112,6 +117,24 @@ class Handle:
         except struct.error:
             raise out_of_range(length=(length, 64), tag=(tag, 64), flow=(flow, 32), tid=(tid, 8)) from None
 
+    def _fill_bare(self, length: int, tid: int, flow: int, tag: int, source: bytes) -> None:
+        """Writes the packet of an enqueue without octets."""
+        if source is not NO_SOURCE and len(source) != 6:
+            raise ValueError(f"source = {source!r}: expected 6 octets")
+        try:
+            BARE.pack_into(self._bare, 0, tag, flow, length, source, tid)
+        except struct.error:
+            raise out_of_range(tag=(tag, 64), flow=(flow, 32), length=(length, 16), tid=(tid, 8)) from None
+
+    def _made(self, function: Any, who: tuple[int, ...], calls: Sequence[Call]) -> Burst:
+        """Makes the calls of a burst."""
+        count = len(calls)
+        given = (tables.CallStruct * count)(*(call.struct for call in calls))
+        replies = (tables.ReplyStruct * count)()
+        made = ctypes.c_size_t()
+        code = function(self._at, *who, given, count, replies, count, ctypes.byref(made))
+        return Burst(list(replies[: made.value]), error(code) if code else None)
+
     def _accepted(self) -> Accepted:
         """Returns the answer to an enqueue."""
         reply = self._reply
@@ -128,8 +151,8 @@ class Handle:
     def _reaped(self, has_body: bool) -> Reaped:
         """Returns the answer to a reap."""
         found = TAKEN.unpack_from(self._taken)
-        number, stamp, tag, flow, station, length, source, tid, fate, attempts = found
-        body = bytes(self._octets_view[:length]) if has_body else None
+        number, stamp, tag, flow, station, length, source, tid, fate, attempts, bare = found
+        body = bytes(self._octets_view[:length]) if has_body and not bare else None
         return Reaped(number, stamp, tag, flow, station, length, source, tid, FATES[fate], attempts, body)
 
 

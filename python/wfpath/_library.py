@@ -78,7 +78,7 @@ def prepared(library: ctypes.PyDLL, path: str) -> ctypes.PyDLL:
 
 
 def unchecked(path: str) -> ctypes.PyDLL:
-    """Opens the library once more, for calls without checks and conversions of arguments, which take half of
+    """Opens the library again, for calls without checks and conversions of arguments, which take half of
     a call's time.
 
     Its functions may only be given `byref` objects, instances of ctypes, None, and numbers below 2^31 for

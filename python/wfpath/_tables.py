@@ -166,6 +166,26 @@ class Settings:
     [0..262144].
     """
 
+    pending: int = 0
+    """Whether the airtime in flight counts against a station when a pull picks one [0..1]."""
+
+    @classmethod
+    def device(cls, **others: int) -> Settings:
+        """Returns the settings for devices, with others in their place."""
+        return cls(**{**DEVICE, **others})
+
+
+# The settings for devices that are not standard.
+DEVICE: dict[str, int] = {
+    "inflight": 4,
+    "charge": 65535,
+    "debt": 20000,
+    "aql_total": 24000,
+    "keep_order": 1,
+    "codel_reset": 1,
+    "aql": 12000,
+    "pending": 1,
+}
 
 # The range of each setting, in the order of their places.
 RANGES: dict[str, tuple[int, int]] = {
@@ -187,6 +207,7 @@ RANGES: dict[str, tuple[int, int]] = {
     "keep_order": (0, 1),
     "codel_reset": (0, 1),
     "aql": (0, 262144),
+    "pending": (0, 1),
 }
 
 
@@ -222,9 +243,10 @@ class SettingsStruct(ctypes.Structure):
     keep_order: int
     codel_reset: int
     aql: int
+    pending: int
     reserved: ctypes.Array[ctypes.c_uint32]
 
-    LAYOUT = "@IIIIIIIIIIIIIIIIII14I"
+    LAYOUT = "@IIIIIIIIIIIIIIIIIII13I"
     _fields_ = [
         ("stations", ctypes.c_uint32),
         ("flows", ctypes.c_uint32),
@@ -244,7 +266,8 @@ class SettingsStruct(ctypes.Structure):
         ("keep_order", ctypes.c_uint32),
         ("codel_reset", ctypes.c_uint32),
         ("aql", ctypes.c_uint32),
-        ("reserved", ctypes.c_uint32 * 14),
+        ("pending", ctypes.c_uint32),
+        ("reserved", ctypes.c_uint32 * 13),
     ]
 
 
@@ -350,6 +373,25 @@ class PacketStruct(ctypes.Structure):
     ]
 
 
+class BareStruct(ctypes.Structure):
+    """struct wf_bare; LAYOUT is its format for the module struct."""
+
+    tag: int
+    flow: int
+    length: int
+    source: ctypes.Array[ctypes.c_uint8]
+    tid: int
+
+    LAYOUT = "@QIH6sB"
+    _fields_ = [
+        ("tag", ctypes.c_uint64),
+        ("flow", ctypes.c_uint32),
+        ("length", ctypes.c_uint16),
+        ("source", ctypes.c_uint8 * 6),
+        ("tid", ctypes.c_uint8),
+    ]
+
+
 class TakenStruct(ctypes.Structure):
     """struct wf_taken; LAYOUT is its format for the module struct."""
 
@@ -363,8 +405,9 @@ class TakenStruct(ctypes.Structure):
     tid: int
     fate: int
     attempts: int
+    bare: int
 
-    LAYOUT = "@QQQIHH6sBBB"
+    LAYOUT = "@QQQIHH6sBBBB"
     _fields_ = [
         ("id", ctypes.c_uint64),
         ("stamp", ctypes.c_uint64),
@@ -376,6 +419,7 @@ class TakenStruct(ctypes.Structure):
         ("tid", ctypes.c_uint8),
         ("fate", ctypes.c_uint8),
         ("attempts", ctypes.c_uint8),
+        ("bare", ctypes.c_uint8),
     ]
 
 
@@ -528,6 +572,7 @@ FUNCTIONS: dict[str, tuple[Any, tuple[Any, ...]]] = {
     "wf_fate_name": (None, (ctypes.c_int32, ctypes.c_void_p,)),
     "wf_setting_name": (None, (ctypes.c_int32, ctypes.c_void_p,)),
     "wf_settings_standard": (None, (ctypes.POINTER(SettingsStruct),)),
+    "wf_settings_device": (None, (ctypes.POINTER(SettingsStruct),)),
     "wf_path_make": (ctypes.c_int32, (ctypes.POINTER(PathStruct), ctypes.POINTER(SettingsStruct),)),
     "wf_path_free": (None, (ctypes.POINTER(PathStruct),)),
     "wf_path_set_base": (ctypes.c_int32, (ctypes.POINTER(PathStruct), ctypes.c_char_p,)),
@@ -648,6 +693,16 @@ FUNCTIONS: dict[str, tuple[Any, tuple[Any, ...]]] = {
             ctypes.POINTER(ReplyStruct),
         ),
     ),
+    "wf_path_reserve": (ctypes.c_int32, (ctypes.POINTER(PathStruct), ctypes.c_uint32,)),
+    "wf_path_enqueue_bare": (
+        ctypes.c_int32,
+        (
+            ctypes.POINTER(PathStruct),
+            ctypes.c_uint16,
+            ctypes.POINTER(BareStruct),
+            ctypes.POINTER(ReplyStruct),
+        ),
+    ),
     "wf_path_pull": (
         ctypes.c_int32,
         (
@@ -665,6 +720,17 @@ FUNCTIONS: dict[str, tuple[Any, tuple[Any, ...]]] = {
             ctypes.POINTER(TakenStruct),
             ctypes.c_void_p,
             ctypes.c_size_t,
+        ),
+    ),
+    "wf_path_burst": (
+        ctypes.c_int32,
+        (
+            ctypes.POINTER(PathStruct),
+            ctypes.POINTER(CallStruct),
+            ctypes.c_size_t,
+            ctypes.POINTER(ReplyStruct),
+            ctypes.c_size_t,
+            ctypes.POINTER(ctypes.c_size_t),
         ),
     ),
     "wf_path_sent": (
@@ -801,6 +867,16 @@ FUNCTIONS: dict[str, tuple[Any, tuple[Any, ...]]] = {
             ctypes.POINTER(ReplyStruct),
         ),
     ),
+    "wf_cell_enqueue_bare": (
+        ctypes.c_int32,
+        (
+            ctypes.POINTER(CellStruct),
+            ctypes.c_uint32,
+            ctypes.c_uint16,
+            ctypes.POINTER(BareStruct),
+            ctypes.POINTER(ReplyStruct),
+        ),
+    ),
     "wf_cell_reap": (
         ctypes.c_int32,
         (
@@ -810,6 +886,18 @@ FUNCTIONS: dict[str, tuple[Any, tuple[Any, ...]]] = {
             ctypes.POINTER(TakenStruct),
             ctypes.c_void_p,
             ctypes.c_size_t,
+        ),
+    ),
+    "wf_cell_burst": (
+        ctypes.c_int32,
+        (
+            ctypes.POINTER(CellStruct),
+            ctypes.c_uint32,
+            ctypes.POINTER(CallStruct),
+            ctypes.c_size_t,
+            ctypes.POINTER(ReplyStruct),
+            ctypes.c_size_t,
+            ctypes.POINTER(ctypes.c_size_t),
         ),
     ),
     "wf_cell_frames": (None, (ctypes.POINTER(CellStruct), ctypes.POINTER(FramesStruct),)),

@@ -3,7 +3,8 @@ from __future__ import annotations
 
 from typing import NamedTuple
 
-from ._tables import AccessClass, Fate
+from ._base import WfError
+from ._tables import AccessClass, Fate, ReplyStruct
 
 CLASSES = tuple(AccessClass)
 FATES = tuple(Fate)
@@ -18,6 +19,14 @@ class Accepted(NamedTuple):
 
     def __str__(self) -> str:
         return f"accepted {self.id}" if self.dropped is None else f"accepted {self.id} dropped {self.dropped}"
+
+
+class Burst(NamedTuple):
+    """The answers to the calls of a burst that were made, as the structs of include/wf.h, and why the next call
+    was not made, if there is one."""
+
+    replies: list[ReplyStruct]
+    error: WfError | None
 
 
 class Exchange(NamedTuple):
@@ -64,7 +73,7 @@ class Done(NamedTuple):
 class Reaped(NamedTuple):
     """A finished frame. `stamp` is the clock when it was accepted, `attempts` how often it was sent.
 
-    `body` has its octets if they were asked for.
+    `body` has its octets if they were asked for, and if the path has them.
     """
 
     id: int
@@ -96,7 +105,7 @@ class Block(NamedTuple):
 
 
 class Sent(NamedTuple):
-    """What an open exchange sends, and to which station."""
+    """The content of an open exchange, and its station."""
 
     station: int
     transmissions: int

@@ -2,14 +2,14 @@
 from __future__ import annotations
 
 import ctypes
-from collections.abc import Iterator
+from collections.abc import Iterator, Sequence
 
 from . import _tables as tables
 from . import trace
 from ._handle import BODY_ROOM, NO_ROOM, NO_SOURCE, QUICK, WAITS, Body, C, Handle, view
 from ._library import out_of_range
 from ._tables import AccessClass, CallKind, CallStruct, Form, Settings
-from .answers import CLASSES, Accepted, Block, Done, Exchange, Reaped
+from .answers import CLASSES, Accepted, Block, Burst, Done, Exchange, Reaped
 from .errors import Nothing
 from .rates import Rate
 from .raw import Call
@@ -132,6 +132,24 @@ class Cell(Handle):
         if code:
             raise self._error(code)
         return self._accepted()
+
+    def enqueue_bare(
+        self, station: int, length: int, tid: int = 0, flow: int = 0, tag: int = 0, source: bytes = NO_SOURCE
+    ) -> Accepted:
+        """Accepts a packet for a station as a frame without octets, which are zeros to the station.
+
+        The other arguments are as for `enqueue`.
+        """
+        if station >> 16:
+            raise out_of_range(station=(station, 16))
+        self._fill_bare(length, tid, flow, tag, source)
+        self._must(C.wf_cell_enqueue_bare(self._at, self._caller, station, self._bare_at, self._reply_at))
+        return self._accepted()
+
+    def burst(self, calls: Sequence[Call]) -> Burst:
+        """Makes calls in order, up to the first that is not made. An enqueue is one of `enqueue_bare` with the
+        tag 0, and a reap frees its frame."""
+        return self._made(C.wf_cell_burst, (self._caller,), calls)
 
     def pull(self, class_: int) -> Exchange:
         """Opens the next exchange of a class. Raises Idle, Full or the like if there is none."""

@@ -280,11 +280,11 @@ class SmallBuffer(WfError):
 
 
 class BadCall(WfError):
-    """No call, a call that enqueues or reaps, or a rate of no format."""
+    """No call, a rate of no format, a class above 3, or a call that the function does not make."""
 
     code = 43
     word = "bad-call"
-    about = "no call, a call that enqueues or reaps, or a rate of no format"
+    about = "no call, a rate of no format, a class above 3, or a call that the function does not make"
 
 
 class BadAddress(WfError):
@@ -293,6 +293,26 @@ class BadAddress(WfError):
     code = 44
     word = "bad-address"
     about = "the address is a group address: the lowest bit of its first octet is set"
+
+
+class NoBody(WfError):
+    """The frame has no octets: write its header (wf_path_header), and send the body from its owner's buffer.
+    """
+
+    code = 45
+    word = "no-body"
+    about = (
+        "the frame has no octets: write its header (wf_path_header), and send the body from its owner's "
+        "buffer"
+    )
+
+
+class BadClass(WfError):
+    """The class is above 3."""
+
+    code = 47
+    word = "bad-class"
+    about = "the class is above 3"
 
 
 class BlockLength(BlockError):
@@ -394,6 +414,8 @@ ERRORS: dict[int, type[WfError]] = {
     42: SmallBuffer,
     43: BadCall,
     44: BadAddress,
+    45: NoBody,
+    47: BadClass,
     51: BlockLength,
     52: BlockKind,
     53: BlockBasic,

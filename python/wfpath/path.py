@@ -3,16 +3,19 @@ from __future__ import annotations
 
 import ctypes
 import struct
+from collections.abc import Sequence
 
 from . import _tables as tables
 from ._handle import BODY_ROOM, NO_ROOM, NO_SOURCE, QUICK, WAITS, Body, C, Handle, address_octets
 from ._library import out_of_range
 from ._tables import AccessClass, Form, Settings
-from .answers import CLASSES, Accepted, Done, Exchange, Reaped, Sent, Share, Tally
+from .answers import CLASSES, Accepted, Burst, Done, Exchange, Reaped, Sent, Share, Tally
 from .errors import Nothing
 from .rates import Rate
+from .raw import Call
 
 _enqueue = QUICK.wf_path_enqueue
+_enqueue_bare = QUICK.wf_path_enqueue_bare
 _pull = QUICK.wf_path_pull
 _reap = QUICK.wf_path_reap
 _can_pull = QUICK.wf_path_can_pull
@@ -121,6 +124,34 @@ class Path(Handle):
         if code:
             raise self._error(code)
         return self._accepted()
+
+    def enqueue_bare(
+        self, station: int, length: int, tid: int = 0, flow: int = 0, tag: int = 0, source: bytes = NO_SOURCE
+    ) -> Accepted:
+        """Accepts a packet for a station as a frame without octets: its owner keeps the `length` octets, and
+        sends them after `header`. `mpdu` raises NoBody for it.
+
+        The other arguments are as for `enqueue`.
+        """
+        if station >> 16:
+            raise out_of_range(station=(station, 16))
+        self._fill_bare(length, tid, flow, tag, source)
+        code = _enqueue_bare(self._at, station, self._bare_at, self._reply_at)
+        if code:
+            raise self._error(code)
+        return self._accepted()
+
+    def reserve(self, frames: int) -> None:
+        """Takes memory for this number of frames without octets. The next calls of `enqueue_bare`, as many,
+        take none."""
+        if frames >> 32:
+            raise out_of_range(frames=(frames, 32))
+        self._must(C.wf_path_reserve(self._at, frames))
+
+    def burst(self, calls: Sequence[Call]) -> Burst:
+        """Makes calls in order, up to the first that is not made. An enqueue is one of `enqueue_bare` with the
+        tag 0, a reap frees its frame, and a done is `done_lost`."""
+        return self._made(C.wf_path_burst, (), calls)
 
     def pull(self, class_: int) -> Exchange:
         """Opens the next exchange of a class, which the driver then sends. Raises Idle, Full or the like if

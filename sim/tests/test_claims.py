@@ -1,11 +1,15 @@
 """The statements of docs/SIM.md about the scenarios that come with the bench, on shorter runs."""
 from __future__ import annotations
 
+import math
 import unittest
+from collections.abc import Sequence
 
 from sim.baselines.fifo import Fifo
-from sim.frames import Path
-from sim.models import MODELS
+from sim.bench import Bench
+from sim.frames import Frame, Path
+from sim.measure import Result
+from sim.models import MODELS, choose
 from sim.program import TOP
 from sim.reading import read
 from sim.scenario import Scenario
@@ -38,6 +42,23 @@ def path_of(chosen: Scenario) -> Path | None:
     """A model to run a scenario over, or None if it needs the machine."""
     first = next((name for name in chosen.compare if name in MODELS), None)
     return MODELS[first](chosen) if first else None
+
+
+def over_each(name: str, seconds: float, warmup: float = 0) -> list[tuple[Bench, Result]]:
+    """The runs of a scenario over each of its paths, all of which are the machine."""
+    chosen = shortened(name, seconds, warmup)
+    own = [chosen.with_settings(choose(path).settings) for path in chosen.compare]
+    return [run(one, machine(one)) for one in own]
+
+
+def overtaken(frames: Sequence[Frame]) -> int:
+    """How many frames of a flow are released after a later one."""
+    count, first = 0, math.inf
+    for one in reversed(frames):
+        if one.released is not None:
+            count += one.released > first
+            first = min(first, one.released)
+    return count
 
 
 class Claims(unittest.TestCase):
@@ -81,6 +102,22 @@ class Claims(unittest.TestCase):
         chosen = shortened("thirty", 3, 1)
         _, result = run(chosen, machine(chosen))
         self.assertLess(result.flows[-1].percentile(50), 20_000)
+
+    def test_pending_shortens_delays(self) -> None:
+        (_, without), (_, pending) = over_each("pending", 6, 2)
+        self.assertGreater(without.flows[-1].percentile(95), 2 * pending.flows[-1].percentile(95))
+
+    def test_a_debt_is_a_wait(self) -> None:
+        """The first frame for the station that sent waits for the four others, which receive as much airtime."""
+        firsts = [bench.frames[-1][0] for bench, _ in over_each("debt", 5.5)]
+        times = [(one.released or 0) - one.came for one in firsts]
+        self.assertAlmostEqual(times[0], 3_900_000, delta=200_000)
+        self.assertAlmostEqual(times[1], 80_000, delta=40_000)
+
+    def test_keep_order_keeps_a_flow_in_order(self) -> None:
+        counts = [overtaken(bench.frames[-1]) for bench, _ in over_each("order", 0.3)]
+        self.assertGreater(counts[0], 10)
+        self.assertEqual(counts[1], 0)
 
     def test_weights(self) -> None:
         chosen = shortened("weights", 3, 1)

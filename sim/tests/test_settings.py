@@ -6,13 +6,13 @@ import unittest
 
 from sim.models import bounds, choose
 from sim.program import TOP
-from sim.settings import PRESETS, parse, settings
+from sim.settings import parse, presets, settings
 
 from .support import ONE_STATION, scenario
 
 SOURCE = """[
-    {"name": "flow_quantum", "least": 64, "most": 65535, "standard": 300, "about": "octets per flow visit"},
-    {"name": "calls", "least": 1, "most": 4294967295, "standard": 1048576, "about": "calls of a history"}
+    {"name": "flow_quantum", "least": 64, "most": 65535, "standard": 300, "device": 300, "about": "octets per flow visit"},
+    {"name": "calls", "least": 1, "most": 4294967295, "standard": 1048576, "device": 1048576, "about": "calls of a history"}
 ]"""
 
 
@@ -37,14 +37,17 @@ class Settings(unittest.TestCase):
 
 class Presets(unittest.TestCase):
     def test_each_value_is_in_its_range(self) -> None:
-        for name, preset in PRESETS.items():
+        for name, preset in presets().items():
             for key, value in preset.items():
                 self.assertTrue(settings()[key].least <= value <= settings()[key].greatest, (name, key))
 
     def test_the_page_has_each_setting(self) -> None:
-        page = (TOP / "docs" / "SIM.md").read_text(encoding="utf-8")
-        for key, value in PRESETS["device"].items():
-            self.assertTrue(f"\n| `{key}` | {value} |" in page, key)
+        page = (TOP / "docs" / "TRACE.md").read_text(encoding="utf-8")
+        words = [f"{key}={value}" for key, value in presets()["device"].items()]
+        heads = [set(line.split()) for line in page.splitlines() if line.startswith("cell ")]
+        self.assertTrue({"cell", *words} in heads)
+        for word in words:
+            self.assertIn(f"\n- `{word}`: ", page)
 
     def test_a_preset_replaces_settings_and_is_replaced(self) -> None:
         one = scenario(ONE_STATION + "[machine]\ndebt = 5\nlimit = 9\n")
