@@ -1,14 +1,13 @@
 /*
- * A driver that gathers, for bench/c-calls: of each frame it takes the header alone and the tag, ends exchanges by bits with an
- * airtime of its own, moves the clock to a time, and takes frames back without their bodies. Each transmission arrives.
+ * A driver that gathers, for bench/c-calls: its frames have no octets, and their memory is in reserve. It takes the header and the tag
+ * of each frame, ends exchanges by bits with a measured airtime, moves the clock to a time, and takes frames back. Each transmission
+ * arrives.
  */
 #include <stdint.h>
 
 #include "wf.h"
 
-enum { STATIONS = 3, PACKETS = 32, ROUNDS = 1000, AIR = 2000 };
-
-static const uint8_t BODY[1500] = {0xaa, 0xaa, 0x03};
+enum { STATIONS = 3, PACKETS = 32, ROUNDS = 1000, AIR = 2000, LENGTH = 1500 };
 
 struct driver {
   struct wf_path path;
@@ -24,6 +23,7 @@ static int open_driver(struct driver *driver) {
   settings.stations = STATIONS;
   settings.charge = AIR;
   if (wf_path_make(&driver->path, &settings)) return 0;
+  if (wf_path_reserve(&driver->path, STATIONS * PACKETS)) return 0;
   for (station = 0; station < STATIONS; station++) {
     if (wf_path_join(&driver->path, station, 64, 0, 3, 1, &driver->reply)) return 0;
     if (wf_path_rate_vht(&driver->path, station, (uint8_t)(4 * station), 80, 0, 1, &driver->reply)) return 0;
@@ -31,18 +31,17 @@ static int open_driver(struct driver *driver) {
   return 1;
 }
 
-/* Packets come for each station, each with a tag of its own. */
+/* Packets come for each station, each with its own tag. */
 static int hand_in(struct driver *driver) {
-  struct wf_packet packet = {0};
+  struct wf_bare packet = {0};
   uint16_t station;
   int i;
-  packet.body = BODY;
-  packet.length = sizeof BODY;
+  packet.length = LENGTH;
   for (station = 0; station < STATIONS; station++) {
     packet.flow = station;
     for (i = 0; i < PACKETS; i++) {
       packet.tag = driver->tags++;
-      if (wf_path_enqueue(&driver->path, station, &packet, &driver->reply)) return 0;
+      if (wf_path_enqueue_bare(&driver->path, station, &packet, &driver->reply)) return 0;
     }
   }
   return 1;
@@ -65,7 +64,7 @@ static int gather(struct driver *driver, uint64_t exchange, uint8_t bits[32]) {
   return 1;
 }
 
-/* One exchange, and what an upper queue asks behind it. */
+/* One exchange, and what an upper queue asks after it. */
 static int exchange_once(struct driver *driver) {
   uint8_t bits[32] = {0};
   struct wf_taken taken = {0};
