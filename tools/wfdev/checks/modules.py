@@ -19,6 +19,8 @@ from wfdev.harness.script import Script
 from wfdev.repo import crates, generated, paths
 
 SCRIPT = Script("modules")
+# Modules that are public before another crate imports them.
+EARLY = {("wf_send_half", "Times")}
 
 
 @dataclass(frozen=True)
@@ -87,7 +89,7 @@ def faults(top: Path, found: Sequence[Module]) -> Iterator[str]:
     for module in found:
         if not module.about:
             yield f"{module.crate}, proofs/{module.name}: add a comment at its head that says what it has"
-        if (module.crate, module.name) not in used:
+        if (module.crate, module.name) not in used | EARLY:
             yield f"{module.crate}, proofs/{module.name}: no other crate uses it, so it need not be public"
     page = generated.MODULES
     if page.read(top) != page.text(body(found)):
