@@ -7,8 +7,8 @@ use Rattle.std.proofs.lemmas.Bool.Decides.{nat_tests}
 use Rattle.std.proofs.lemmas.Nat.{div_below, mod_below, le-div, mul-le}
 use Rattle.std.proofs.Math.Nat.{div-zero, div-mul-le_self, mul-le-mul_left}
 use Rattle.wf_def_lists.specs.Table.{ceil_div, has}
-use Rattle.wf_def_lists.specs.Lengths.{greatest_body}
-use Rattle.wf_def_lists.specs.Bounds.{greatest_mcs}
+use Rattle.wf_def_lists.specs.Lengths.{greatest_protected}
+use Rattle.wf_def_lists.specs.Bounds.{greatest_mcs, greatest_ampdu}
 use Rattle.wf_def_air.specs.Airtime.{Rate, Ht, Vht, He, is_rate, are_streams, is_wide_width, greatest_vht_mcs, greatest_he_mcs, streams, modulation, bits_of_twelve, carriers_of_312, carriers_of_78, bits, symbol_tenths, kbps, vht_encoders, encoder_bits, encoders, symbols, training_fields, training_tenths, whole_symbols, payload_tenths, data_time}
 use Rattle.wf_def_air.specs.Fit.{subframe_octets}
 
@@ -242,13 +242,34 @@ few_encoders (Ht mcs mhz short) h = omega arith
 few_encoders (Vht mcs mhz short n) h = few_vht_encoders mcs mhz n _ (vht_bits mcs mhz short n h)
 few_encoders (He mcs mhz guard n) h = omega arith
 
+-- The octets take at most `most` symbols if that many symbols of `least` bits hold them, and a symbol has at
+-- least so many.
+few_symbols_of : (r : Rate) (octets most least : ℕ) → IsInRange r → 0 < least → least ≤ bits r →
+    8 * octets + 106 ≤ most * least → symbols r octets ≤ most
+few_symbols_of r octets most least h some enough k =
+    let tails : encoders r ≤ 15 = few_encoders r h in
+    ceil_most (8 * octets + (16 + 6 * encoders r)) (bits r) most least some enough (omega (arith, tails, k))
+
 -- The octets take at most `most` symbols if that many symbols of 26 bits hold them.
 pub few_symbols : (r : Rate) (octets most : ℕ) → IsInRange r → 8 * octets + 106 ≤ most * 26 →
     symbols r octets ≤ most
-few_symbols r octets most h k =
-    let tails : encoders r ≤ 15 = few_encoders r h in
-    ceil_most (8 * octets + (16 + 6 * encoders r)) (bits r) most 26 (omega arith) (bits_between r h).0
-    (omega (arith, tails, k))
+few_symbols r octets most h k = few_symbols_of r octets most 26 h (omega arith) (bits_between r h).0 k
+
+-- The same for HT, which has one encoder.
+few_ht_symbols : (mcs mhz : ℕ) (short : Bool) (octets most : ℕ) → IsInRange (Ht mcs mhz short) →
+    8 * octets + 22 ≤ most * 26 → symbols (Ht mcs mhz short) octets ≤ most
+few_ht_symbols mcs mhz short octets most h k =
+    ceil_most (8 * octets + (16 + 6 * 1)) (bits (Ht mcs mhz short)) most 26 (omega arith)
+    (bits_between (Ht mcs mhz short) h).0 (omega (arith, k))
+
+-- Two or more streams of VHT have at least 52 bits in a symbol.
+two_streams : (mcs mhz : ℕ) (short : Bool) (n : ℕ) → IsInRange (Vht mcs mhz short n) → 2 ≤ n →
+    52 ≤ bits (Vht mcs mhz short n)
+two_streams mcs mhz short n h more =
+    let low : 52 * 2 * 6 ≤ carriers_of_312 mhz * n * slice_index bits_of_twelve mcs =
+    mul-le (52 * 2) 6 (carriers_of_312 mhz * n) _ (mul-le 52 2 (carriers_of_312 mhz) n (some_carriers mhz).0 more)
+    (twelve_between mcs h.coded).0 in
+    omega (arith, low)
 
 -- The same for HE, which has one encoder and at least 117 bits in a symbol.
 few_he_symbols : (mcs mhz guard n octets most : ℕ) → IsInRange (He mcs mhz guard n) →
@@ -306,18 +327,62 @@ time_most (He mcs mhz guard n) octets most he_most longest h k l m n' =
     h.trained fields in
     omega (arith, payload, training, n')
 
--- A single frame takes at most 3000 microseconds, the least limit that the settings allow for an aggregate.
-pub single_time : (r : Rate) (octets : ℕ) → is_rate r ≡ true → octets ≤ subframe_octets greatest_body →
-    data_time r octets ≤ 3000
-single_time r octets h k =
-    time_most r octets 724 161 3000 (rate_in_range r h) (omega (arith, k)) (omega (arith, k)) (omega arith)
-    (omega arith)
+-- The time of a single frame of VHT with n streams: one stream has one training field, and more streams have
+-- twice the bits in a symbol.
+single_vht : (mcs mhz : ℕ) (short : Bool) (n octets : ℕ) → IsInRange (Vht mcs mhz short n) →
+    octets ≤ subframe_octets greatest_protected → data_time (Vht mcs mhz short n) octets ≤ 3000
+single_vht mcs mhz short zero octets h k = absurd (omega (arith, h.streamed.0))
+single_vht mcs mhz short (suc zero) octets h k =
+    let few : symbols (Vht mcs mhz short 1) octets ≤ 734 =
+    few_symbols (Vht mcs mhz short 1) octets 734 h (omega (arith, k)) in
+    let payload : payload_tenths (Vht mcs mhz short 1) octets ≤ 40 * 734 =
+    payload_most short (symbols (Vht mcs mhz short 1) octets) 734 few in
+    omega (arith, payload)
+single_vht mcs mhz short (suc (suc n)) octets h k =
+    let streams : ℕ = suc (suc n) in
+    let few : symbols (Vht mcs mhz short streams) octets ≤ 367 =
+    few_symbols_of (Vht mcs mhz short streams) octets 367 52 h (omega arith)
+    (two_streams mcs mhz short streams h (omega arith)) (omega (arith, k)) in
+    let payload : payload_tenths (Vht mcs mhz short streams) octets ≤ 40 * 367 =
+    payload_most short (symbols (Vht mcs mhz short streams) octets) 367 few in
+    let fields : slice_index training_fields (streams - 1) ≤ 8 = few_in_preamble streams h.streamed in
+    omega (arith, payload, fields)
 
--- The longest aggregate takes at most 1,300,000 microseconds.
-pub longest_time : (r : Rate) (octets : ℕ) → is_rate r ≡ true → octets ≤ 1048575 →
-    data_time r octets ≤ 1300000
+-- The time of a single frame of HE.
+single_he : (mcs mhz guard n octets : ℕ) → IsInRange (He mcs mhz guard n) →
+    octets ≤ subframe_octets greatest_protected → data_time (He mcs mhz guard n) octets ≤ 3000
+single_he mcs mhz guard n octets h k =
+    let few : symbols (He mcs mhz guard n) octets ≤ 163 =
+    few_he_symbols mcs mhz guard n octets 163 h (omega (arith, k)) in
+    let payload : payload_tenths (He mcs mhz guard n) octets ≤ 160 * 163 =
+    mul-le (symbol_tenths (He mcs mhz guard n)) (symbols (He mcs mhz guard n) octets) 160 163 h.guarded few in
+    let fields : slice_index training_fields (n - 1) ≤ 8 = few_in_preamble n h.streamed in
+    let training : training_tenths (He mcs mhz guard n) * slice_index training_fields (n - 1) ≤ 160 * 8 =
+    mul-le (training_tenths (He mcs mhz guard n)) (slice_index training_fields (n - 1)) 160 8
+    h.trained fields in
+    omega (arith, payload, training)
+
+-- A single frame, with its encryption, takes at most 3000 microseconds.
+pub single_time : (r : Rate) (octets : ℕ) → is_rate r ≡ true → octets ≤ subframe_octets greatest_protected →
+    data_time r octets ≤ 3000
+single_time (Ht mcs mhz short) octets h k =
+    let is = rate_in_range (Ht mcs mhz short) h in
+    let few : symbols (Ht mcs mhz short) octets ≤ 731 =
+    few_ht_symbols mcs mhz short octets 731 is (omega (arith, k)) in
+    let payload : payload_tenths (Ht mcs mhz short) octets ≤ 40 * 731 =
+    payload_most short (symbols (Ht mcs mhz short) octets) 731 few in
+    let fields = few_in_preamble (1 + mcs / 8) is.streamed in
+    omega (arith, payload, fields)
+single_time (Vht mcs mhz short n) octets h k =
+    single_vht mcs mhz short n octets (rate_in_range (Vht mcs mhz short n) h) k
+single_time (He mcs mhz guard n) octets h k = single_he mcs mhz guard n octets
+    (rate_in_range (He mcs mhz guard n) h) k
+
+-- The longest aggregate takes at most 8,100,000 microseconds.
+pub longest_time : (r : Rate) (octets : ℕ) → is_rate r ≡ true → octets ≤ greatest_ampdu →
+    data_time r octets ≤ 8100000
 longest_time r octets h k =
-    time_most r octets 322643 71699 1300000 (rate_in_range r h) (omega (arith, k)) (omega (arith, k))
+    time_most r octets 2000200 444490 8100000 (rate_in_range r h) (omega (arith, k)) (omega (arith, k))
     (omega arith) (omega arith)
 
 -- More octets never take less time.

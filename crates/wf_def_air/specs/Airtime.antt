@@ -1,7 +1,7 @@
 -- Defines which rates there are, how long a transmission takes, and the charge of an exchange, at 5 GHz.
 -- Data is sent with HT, mixed format (IEEE 802.11-2012, clause 20), with VHT to one station (802.11-2016,
 -- clause 21) or with HE to one station (802.11ax-2021, clause 27). Control frames are sent with OFDM
--- (802.11-2012, 18.4.3) at 24 Mbit/s. Times are in whole microseconds, or in tenths of a microsecond if the
+-- (802.11-2012, 18.4.3) at 6, 12 or 24 Mbit/s. Times are in whole microseconds, or in tenths of a microsecond if the
 -- name says so.
 use Rattle.std.specs.Prelude.{◌≡◌, ℕ, ◌+◌, ◌-◌, ◌*◌, ◌/◌, ◌%◌, ◌==◌, nat_le, Bool, true, false, not, ◌&&◌, ◌||◌, List, [], ◌∷◌, if◌then◌else◌, slice_index}
 use Rattle.wf_def_lists.specs.Table.{ceil_div, has}
@@ -210,15 +210,38 @@ control_preamble_time = 20
 abbrev pub control_symbol_time : ℕ
 control_symbol_time = 4
 
--- The data bits in an OFDM symbol at 24 Mbit/s (18.3.2.3).
-abbrev pub control_bits : ℕ
-control_bits = 96
+-- The mandatory rates of OFDM in Mbit/s: the lowest, the one between, and the highest (18.4.3).
+abbrev pub slow_mbps : ℕ
+slow_mbps = 6
 
--- Returns the time of a control frame of this many octets, in microseconds. The last symbol counts whole
--- (18.4.3).
-abbrev pub control_time : ℕ → ℕ
-control_time octets = control_preamble_time + control_symbol_time * ceil_div
-    (8 * octets + service_and_tail_bits) control_bits
+abbrev pub middle_mbps : ℕ
+middle_mbps = 12
+
+abbrev pub fast_mbps : ℕ
+fast_mbps = 24
+
+-- Returns the rate in Mbit/s at which control frames go to and from a station with this rate of data. If the
+-- setting `answers` is 1 it is the highest mandatory rate that is not above that of the data, as for a response
+-- (9.7.6.5.2), otherwise the highest one.
+abbrev pub control_mbps : ℕ → Rate → ℕ
+control_mbps answers r =
+    if answers == 0 then fast_mbps
+    else (if nat_le (1000 * fast_mbps) (kbps r) then fast_mbps
+    else (if nat_le (1000 * middle_mbps) (kbps r) then middle_mbps else slow_mbps))
+
+-- Returns the lowest rate of control frames in Mbit/s, by the setting `answers`.
+abbrev pub slowest_control : ℕ → ℕ
+slowest_control answers = if answers == 0 then fast_mbps else slow_mbps
+
+-- Returns the data bits in an OFDM symbol at a rate in Mbit/s: a symbol takes 4 microseconds (18.3.2.3).
+abbrev pub control_bits : ℕ → ℕ
+control_bits mbps = control_symbol_time * mbps
+
+-- Returns the time of a control frame of this many octets at a rate in Mbit/s, in microseconds. The last symbol
+-- counts whole (18.4.3).
+abbrev pub control_time : ℕ → ℕ → ℕ
+control_time mbps octets = control_preamble_time + control_symbol_time * ceil_div
+    (8 * octets + service_and_tail_bits) (control_bits mbps)
 
 -- The length of a frame check sequence in octets (8.2.4.8).
 abbrev pub check_octets : ℕ
@@ -229,17 +252,17 @@ abbrev pub request_octets : ℕ
 request_octets = 20
 
 -- Returns the length of a BlockAck in octets, without its check sequence: with a bitmap of 8 octets
--- (8.3.1.9), or of 32 octets for a wide session, which is this project's own.
+-- (8.3.1.9), or of 32 octets for a wide session (802.11ax-2021, 9.3.1.8.2).
 abbrev pub block_ack_octets : Bool → ℕ
 block_ack_octets wide = if wide then 52 else 28
 
--- The time of a BlockAckReq in microseconds.
-abbrev pub request_time : ℕ
-request_time = control_time (request_octets + check_octets)
+-- Returns the time of a BlockAckReq at a rate in Mbit/s, in microseconds.
+abbrev pub request_time : ℕ → ℕ
+request_time mbps = control_time mbps (request_octets + check_octets)
 
--- Returns the time of a BlockAck in microseconds.
-abbrev pub answer_time : Bool → ℕ
-answer_time wide = control_time (block_ack_octets wide + check_octets)
+-- Returns the time of a BlockAck at a rate in Mbit/s, in microseconds.
+abbrev pub answer_time : ℕ → Bool → ℕ
+answer_time mbps wide = control_time mbps (block_ack_octets wide + check_octets)
 
 -- ---- charges
 
@@ -247,16 +270,18 @@ answer_time wide = control_time (block_ack_octets wide + check_octets)
 abbrev pub sifs : ℕ
 sifs = 16
 
--- The pause and the longest BlockAck, in microseconds. No exchange is charged more than this in addition to
--- its data or request.
-abbrev pub longest_answer : ℕ
-longest_answer = sifs + answer_time true
+-- Returns the time of the pause and the longest BlockAck in microseconds, by the setting `answers`. No exchange
+-- is charged more than this in addition to its data or request.
+abbrev pub longest_answer : ℕ → ℕ
+longest_answer answers = sifs + answer_time (slowest_control answers) true
 
--- Returns the charge of a data exchange in microseconds: its data, the pause and the BlockAck.
-abbrev pub data_charge : Rate → ℕ → Bool → ℕ
-data_charge r octets wide = data_time r octets + sifs + answer_time wide
-
--- Returns the charge of an exchange of a BlockAckReq in microseconds: the request, the pause and the
+-- Returns the charge of a data exchange in microseconds, by the setting `answers`: its data, the pause and the
 -- BlockAck.
-abbrev pub request_charge : Bool → ℕ
-request_charge wide = request_time + sifs + answer_time wide
+abbrev pub data_charge : ℕ → Rate → ℕ → Bool → ℕ
+data_charge answers r octets wide = data_time r octets + sifs + answer_time (control_mbps answers r) wide
+
+-- Returns the charge of an exchange of a BlockAckReq to a station with this rate of data in microseconds, by
+-- the setting `answers`: the request, the pause and the BlockAck.
+abbrev pub request_charge : ℕ → Rate → Bool → ℕ
+request_charge answers r wide =
+    request_time (control_mbps answers r) + sifs + answer_time (control_mbps answers r) wide

@@ -1,6 +1,6 @@
 -- Defines which frames fit one aggregate (A-MPDU): IEEE 802.11-2012, 8.6.1 (format and padding of
 -- subframes) and 9.12.2 (length limit).
-use Rattle.std.specs.Prelude.{ℕ, ◌+◌, ◌*◌, ◌-◌, ◌^◌, nat_le, Bool, ◌&&◌, List, [], ◌∷◌, length}
+use Rattle.std.specs.Prelude.{ℕ, ◌+◌, ◌*◌, ◌-◌, ◌^◌, nat_le, max, Bool, ◌&&◌, List, [], ◌∷◌, Option, unwrap_or, if◌then◌else◌, length}
 use Rattle.wf_def_lists.specs.Table.{ceil_div}
 use Rattle.wf_def_air.specs.Airtime.{Rate, Ht, Vht, He, check_octets, data_time}
 
@@ -43,13 +43,28 @@ least_exponent (Vht mcs mhz short n) = 17
 least_exponent (He mcs mhz guard n) = 17
 
 -- Returns the greatest length of an aggregate in octets, at a rate and for a receiver's exponent.
-abbrev pub most_octets : Rate → ℕ → ℕ
-most_octets rate exponent = 2 ^ (least_exponent rate + exponent) - 1
+abbrev pub octets_of_exponent : Rate → ℕ → ℕ
+octets_of_exponent rate exponent = 2 ^ (least_exponent rate + exponent) - 1
 
--- Returns whether frames with bodies of these lengths fit one aggregate: there are at most `most` of them,
--- the aggregate is not too long for the receiver, and its data takes at most `cap` microseconds.
+-- Returns the greatest length of an aggregate in octets, at a rate, for a receiver's exponent and for the
+-- greatest length that was stated for its aggregates of VHT and HE, if one was.
+abbrev pub most_octets : Rate → ℕ → Option ℕ → ℕ
+most_octets (Ht mcs mhz short) exponent stated = octets_of_exponent (Ht mcs mhz short) exponent
+most_octets rate exponent stated = unwrap_or stated (octets_of_exponent rate exponent)
+
+-- The data time that a frame alone may take whatever the limit of the aggregate is, in microseconds: at every
+-- rate the greatest body fits it.
+abbrev pub longest_alone : ℕ
+longest_alone = 3000
+
+-- Returns the greatest data time of frames with these lengths in microseconds, if that of an aggregate is `cap`.
+abbrev pub time_allowed : ℕ → List ℕ → ℕ
+time_allowed cap lens = if nat_le (length lens) 1 then max cap longest_alone else cap
+
+-- Returns whether frames with bodies of these lengths, with their encryption, fit one aggregate: there are at
+-- most `most` of them, the aggregate has at most `octets`, and its data takes at most `cap` microseconds.
 abbrev pub fits : Rate → ℕ → ℕ → ℕ → List ℕ → Bool
-fits rate exponent most cap lens =
+fits rate octets most cap lens =
     nat_le (length lens) most
-    && (nat_le (aggregate_octets lens) (most_octets rate exponent)
-    && nat_le (data_time rate (aggregate_octets lens)) cap)
+    && (nat_le (aggregate_octets lens) octets
+    && nat_le (data_time rate (aggregate_octets lens)) (time_allowed cap lens))

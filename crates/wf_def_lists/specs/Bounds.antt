@@ -2,8 +2,8 @@
 -- given).
 use Rattle.std.specs.Prelude.{ℕ, ℤ, pos, ◌-ℤ◌}
 
--- The greatest window of a station's agreements, in numbers. It is this project's own: a wide session's
--- BlockAck has a bit for each number.
+-- The greatest window of a station's agreements, in numbers: a BlockAck's bitmap of 32 octets has a bit for
+-- each number (802.11ax-2021, 9.3.1.8.2).
 abbrev pub greatest_window : ℕ
 greatest_window = 256
 
@@ -19,6 +19,15 @@ greatest_start = 4095
 -- The greatest maximum A-MPDU length exponent (8.4.2.58.3).
 abbrev pub greatest_exponent : ℕ
 greatest_exponent = 3
+
+-- The least and the greatest number of octets that `ampdu` may state for a station: one subframe of the
+-- greatest body with its encryption fits the least (this project's own), and the greatest is that of a
+-- receiver of HE (IEEE 802.11ax-2021, 26.6.1).
+abbrev pub least_ampdu : ℕ
+least_ampdu = 4096
+
+abbrev pub greatest_ampdu : ℕ
+greatest_ampdu = 6500631
 
 -- The greatest weight of a station, in quanta.
 abbrev pub greatest_weight : ℕ

@@ -2,14 +2,15 @@
 -- longest prefix that fits. The reason is that a prefix of what fits fits too. Proofs of other crates
 -- use this module.
 use Rattle.std.proofs.Common.{◌≡◌, refl, sym, ap, ◌∙◌, subst, arith, ℕ, zero, suc, ◌+◌, ◌-◌, ◌<◌, ◌≤◌, Bool, true, false, if◌then◌else◌, List, [], ◌∷◌, ◌++◌, append_assoc, take, map, length, inl, inr, ◌⊎◌}
-use Rattle.std.specs.Prelude.{nat_le}
+use Rattle.std.specs.Prelude.{nat_le, max}
 use Rattle.std.proofs.lemmas.Bool.{cases_Bool, cases_lt, and_parts, and_from, le-leb, leb-true}
 use Rattle.std.proofs.lemmas.List.{length-append}
 use Rattle.std.proofs.Math.Seq.{take-append_seam, take-append-add}
 use Rattle.std.proofs.lemmas.List.{map-append}
+use Rattle.std.proofs.Math.Nat.{le-max_left}
 use Rattle.wf_def_lists.specs.Table.{greatest_upto, longest_front}
 use Rattle.wf_def_air.specs.Airtime.{Rate, data_time}
-use Rattle.wf_def_air.specs.Fit.{most_octets, aggregate_octets, fits}
+use Rattle.wf_def_air.specs.Fit.{most_octets, aggregate_octets, longest_alone, time_allowed, fits}
 use Rattle.wf_def_air.proofs.Times.{time_less}
 use Rattle.wf_def_world.specs.World.{World, Mpdu, station}
 use Rattle.wf_def_world.specs.Exchanges.{most_frames, fits_in, longest_fitting}
@@ -108,31 +109,61 @@ octets_front (x ∷ []) [] = omega arith
 octets_front (x ∷ []) (y ∷ ys) = omega arith
 octets_front (x ∷ z ∷ xs) ys = omega (arith, octets_front (z ∷ xs) ys)
 
-pub fits_closed : (r : Rate) (x most cap : ℕ) (xs ys : List ℕ) → fits r x most cap (xs ++ ys) ≡ true →
-    fits r x most cap xs ≡ true
-fits_closed r x most cap xs ys h =
+-- an aggregate may take at least `cap`, and at most what a frame alone may take
+allowed_least : (cap : ℕ) (b : Bool) → cap ≤ (if b then max cap longest_alone else cap)
+allowed_least cap true = le-max_left cap longest_alone
+allowed_least cap false = omega arith
+
+allowed_most : (cap : ℕ) (b : Bool) → (if b then max cap longest_alone else cap) ≤ max cap longest_alone
+allowed_most cap true = omega arith
+allowed_most cap false = le-max_left cap longest_alone
+
+-- what a prefix may take is at least what the whole list may take
+allowed_front : (cap : ℕ) (xs ys : List ℕ) → time_allowed cap (xs ++ ys) ≤ time_allowed cap xs
+allowed_front cap xs ys = elim (cases_Bool (nat_le (length xs) 1)) [
+  | inl few ↦ subst (λ (b : Bool). time_allowed cap (xs ++ ys) ≤ (if b then max cap longest_alone else cap))
+      (sym few) (allowed_most cap (nat_le (length (xs ++ ys)) 1))
+  | inr more ↦ elim (cases_Bool (nat_le (length (xs ++ ys)) 1)) [
+    | inl few ↦
+        let fewer : nat_le (length xs) 1 ≡ true = le-leb (length xs) 1
+        (omega (arith, leb-true (length (xs ++ ys)) 1 few, length-append xs ys)) in
+        absurd (cc (fewer, more))
+    | inr still ↦ subst (λ (b : Bool). (if b then max cap longest_alone else cap) ≤ time_allowed cap xs)
+        (sym still) (allowed_least cap (nat_le (length xs) 1))
+  ]
+]
+
+pub fits_closed : (r : Rate) (octets most cap : ℕ) (xs ys : List ℕ) →
+    fits r octets most cap (xs ++ ys) ≡ true → fits r octets most cap xs ≡ true
+fits_closed r octets most cap xs ys h =
     let few = and_parts (nat_le (length (xs ++ ys)) most) _ h in
-    let rest = and_parts (nat_le (aggregate_octets (xs ++ ys)) (most_octets r x)) _ few.1 in
-    let octets : aggregate_octets xs ≤ aggregate_octets (xs ++ ys) = octets_front xs ys in
+    let rest = and_parts (nat_le (aggregate_octets (xs ++ ys)) octets) _ few.1 in
+    let fewer : aggregate_octets xs ≤ aggregate_octets (xs ++ ys) = octets_front xs ys in
     and_from (nat_le (length xs) most) _ (le-leb (length xs) most
     (omega (arith, leb-true (length (xs ++ ys)) most few.0, length-append xs ys)))
-    (and_from (nat_le (aggregate_octets xs) (most_octets r x)) _
-    (le-leb (aggregate_octets xs) (most_octets r x)
-    (omega (arith, leb-true (aggregate_octets (xs ++ ys)) (most_octets r x) rest.0, octets)))
-    (le-leb (data_time r (aggregate_octets xs)) cap
+    (and_from (nat_le (aggregate_octets xs) octets) _
+    (le-leb (aggregate_octets xs) octets
+    (omega (arith, leb-true (aggregate_octets (xs ++ ys)) octets rest.0, fewer)))
+    (le-leb (data_time r (aggregate_octets xs)) (time_allowed cap xs)
     (omega (
       arith,
-      leb-true (data_time r (aggregate_octets (xs ++ ys))) cap rest.1,
-      time_less r (aggregate_octets xs) (aggregate_octets (xs ++ ys)) octets,
+      leb-true (data_time r (aggregate_octets (xs ++ ys))) (time_allowed cap (xs ++ ys)) rest.1,
+      allowed_front cap xs ys,
+      time_less r (aggregate_octets xs) (aggregate_octets (xs ++ ys)) fewer,
     ))))
+
+-- the greatest length of an aggregate to a station, in octets
+abbrev octets_to : World → ℕ → ℕ
+octets_to w s = most_octets (station w s).rate (station w s).exponent (station w s).ampdu
 
 pub fits_in_closed : (w : World) (s : ℕ) → IsClosed (fits_in w s)
 unfolding IsClosed
 fits_in_closed w s xs ys h =
-    fits_closed (station w s).rate (station w s).exponent (most_frames w s) w.config.cap (map (λ m. m.len) xs)
-    (map (λ m. m.len) ys)
-    (ap (fits (station w s).rate (station w s).exponent (most_frames w s) w.config.cap)
-    (sym (map-append (λ (m : Mpdu). m.len) xs ys)) ∙ h)
+    let longer : Mpdu → ℕ = λ m. m.len + w.config.overhead in
+    fits_closed (station w s).rate (octets_to w s) (most_frames w s) w.bounds.air (map longer xs)
+    (map longer ys)
+    (ap (fits (station w s).rate (octets_to w s) (most_frames w s) w.bounds.air)
+    (sym (map-append longer xs ys)) ∙ h)
 
 -- ---- the prefix of the waiting numbers that is sent, extended one number at a time
 

@@ -19,6 +19,7 @@ use Rattle.wf_def_world.specs.Run.{Entry, by, replies}
 use Rattle.wf_def_world.specs.Text.{text_of}
 use Rattle.wf_def_world.specs.Computed.{the_machine}
 use Rattle.wf_def_world.proofs.Rehearsals.{times}
+use Rattle.wf_frame.specs.Calls.{no_limits}
 
 -- ---- who sends, and what
 
@@ -30,7 +31,7 @@ tids_of_a_class_take_turns_calls = map (by 0) (
     Enqueue 0 0 1 100 ∷
     Enqueue 0 3 2 100 ∷
     Enqueue 0 3 2 100 ∷
-    times 4 (Asked (Pull Be)) ++
+    times 4 (Asked (Pull Be no_limits)) ++
     [])
 
 pub tids_of_a_class_take_turns : drop 5 (replies
@@ -49,10 +50,10 @@ turn_goes_to_the_tid_that_did_not_send_calls = map (by 0) (
     Asked (Join 0 64 0 3 1) ∷
     Enqueue 0 3 2 100 ∷
     Enqueue 0 3 2 100 ∷
-    Asked (Pull Be) ∷
+    Asked (Pull Be no_limits) ∷
     Enqueue 0 0 1 100 ∷
-    Asked (Pull Be) ∷
-    Asked (Pull Be) ∷
+    Asked (Pull Be no_limits) ∷
+    Asked (Pull Be no_limits) ∷
     [])
 
 pub turn_goes_to_the_tid_that_did_not_send : replies
@@ -73,7 +74,7 @@ queues_of_a_tid_share_by_octets_calls = map (by 0) (
     Asked (Join 0 64 0 3 1) ∷
     times 4 (Enqueue 0 0 1 200) ++
     times 6 (Enqueue 0 0 2 100) ++
-    Asked (Pull Be) ∷
+    Asked (Pull Be no_limits) ∷
     [])
 
 pub queues_of_a_tid_share_by_octets : drop 11
@@ -88,10 +89,10 @@ abbrev pub fresh_queue_goes_first_calls : List Entry
 fresh_queue_goes_first_calls = map (by 0) (
     Asked (Join 0 64 0 3 1) ∷
     times 5 (Enqueue 0 0 1 100) ++
-    times 4 (Asked (Pull Be)) ++
+    times 4 (Asked (Pull Be no_limits)) ++
     Enqueue 0 0 2 100 ∷
-    Asked (Pull Be) ∷
-    Asked (Pull Be) ∷
+    Asked (Pull Be no_limits) ∷
+    Asked (Pull Be no_limits) ∷
     [])
 
 pub fresh_queue_goes_first : drop 6 (replies (opening (record standard { agg = 1; inflight = 8 }))
@@ -210,8 +211,8 @@ abbrev pub first_fault_of_an_exchange_calls : List Entry
 first_fault_of_an_exchange_calls = map (by 0) (
     Asked (Join 0 64 0 3 1) ∷
     Enqueue 0 0 7 100 ∷
-    Asked (Pull Be) ∷
-    Asked (Pull Be) ∷
+    Asked (Pull Be no_limits) ∷
+    Asked (Pull Be no_limits) ∷
     Asked (Arrive 0 0) ∷
     Asked (Answer 0) ∷
     Asked (Arrive 0 1) ∷
@@ -239,7 +240,7 @@ abbrev pub first_fault_of_a_named_airtime_calls : List Entry
 first_fault_of_a_named_airtime_calls = map (by 0) (
     Asked (Join 0 64 0 3 1) ∷
     Enqueue 0 0 7 100 ∷
-    Asked (Pull Be) ∷
+    Asked (Pull Be no_limits) ∷
     Asked (Done 1 true (Some 1)) ∷
     Asked (Done 0 true (Some 1)) ∷
     Asked (Done 0 false (Some 1)) ∷
@@ -330,9 +331,9 @@ exponent_zero_of_two_formats_calls = map (by 0) (
     times 12 (Enqueue 0 0 7 1500) ++
     Asked (Rate 0 (Vht 7 20 false 1)) ∷
     Asked (Rate 0 (Ht 7 20 false)) ∷
-    Asked (Pull Be) ∷
+    Asked (Pull Be no_limits) ∷
     Asked (Rate 0 (Vht 7 20 false 1)) ∷
-    Asked (Pull Be) ∷
+    Asked (Pull Be no_limits) ∷
     [])
 
 pub exponent_zero_of_two_formats : drop 15 (replies (opening standard) exponent_zero_of_two_formats_calls) ≡
@@ -421,7 +422,7 @@ abbrev pub sleeper_with_a_frame_in_flight_calls : List Entry
 sleeper_with_a_frame_in_flight_calls = map (by 0) (
     Asked (Join 0 64 0 3 1) ∷
     Enqueue 0 0 7 100 ∷
-    Asked (Pull Be) ∷
+    Asked (Pull Be no_limits) ∷
     Asked (Sleep 0) ∷
     [])
 
@@ -446,13 +447,13 @@ sleeper_with_a_frame_back_in_its_window_calls = map (by 0) (
     Asked (Join 0 64 0 3 1) ∷
     Enqueue 0 0 7 100 ∷
     Enqueue 0 0 7 100 ∷
-    Asked (Pull Be) ∷
-    Asked (Pull Be) ∷
+    Asked (Pull Be no_limits) ∷
+    Asked (Pull Be no_limits) ∷
     Asked (Done 0 false None) ∷
     Asked (Done 1 false None) ∷
     Asked (Sleep 0) ∷
     Asked (Poll 0) ∷
-    Asked (Pull Be) ∷
+    Asked (Pull Be no_limits) ∷
     [])
 
 pub sleeper_with_a_frame_back_in_its_window : text_of

@@ -7,6 +7,7 @@ use Rattle.wf_frame.specs.declared.notes.Ask.TheVariants.{Pull, Arrive, Answer, 
 use Rattle.wf_frame.specs.declared.notes.Note.{Note}
 use Rattle.wf_frame.specs.declared.notes.Note.TheVariants.{Asked}
 use Rattle.wf_def_lists.specs.Table.{upto}
+use Rattle.wf_frame.specs.Calls.{no_limits}
 
 -- n equal calls
 abbrev pub times : ℕ → Note → List Note
@@ -15,7 +16,7 @@ times (suc n) note = note ∷ times n note
 
 -- exchange e of a class, from its pull to its end: all n transmissions arrive, and the answer is heard
 abbrev pub served : Class → ℕ → ℕ → List Note
-served c e n = Asked (Pull c) ∷ [] ++ map (λ i. Asked (Arrive e i)) (upto n) ++ Asked (Answer e)
+served c e n = Asked (Pull c no_limits) ∷ [] ++ map (λ i. Asked (Arrive e i)) (upto n) ++ Asked (Answer e)
     ∷ Asked (Done e true None) ∷ []
 
 -- for each number below n a line with this word and the number

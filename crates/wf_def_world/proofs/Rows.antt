@@ -17,6 +17,7 @@ use Rattle.wf_def_world.specs.World.{opening}
 use Rattle.wf_def_world.specs.Run.{Entry, by, replies}
 use Rattle.wf_def_world.specs.Computed.{the_machine}
 use Rattle.wf_def_world.proofs.Rehearsals.{times}
+use Rattle.wf_frame.specs.Calls.{no_limits}
 
 -- two frames in one aggregate at a fast rate
 abbrev pub fast_rate_two_frames_calls : List Entry
@@ -25,7 +26,7 @@ fast_rate_two_frames_calls = map (by 0) (
     Asked (Rate 0 (Ht 7 20 false)) ∷
     Enqueue 0 0 7 1500 ∷
     Enqueue 0 0 7 1500 ∷
-    Asked (Pull Be) ∷
+    Asked (Pull Be no_limits) ∷
     [])
 
 pub fast_rate_two_frames : drop 4 (replies (opening standard) fast_rate_two_frames_calls) ≡
@@ -39,7 +40,7 @@ vht_rate_one_frame_calls = map (by 0) (
     Asked (Join 0 64 100 3 1) ∷
     Asked (Rate 0 (Vht 9 80 true 2)) ∷
     Enqueue 0 0 7 1500 ∷
-    Asked (Pull Be) ∷
+    Asked (Pull Be no_limits) ∷
     [])
 
 pub vht_rate_one_frame : replies (opening standard) vht_rate_one_frame_calls ≡
@@ -56,7 +57,7 @@ he_rate_one_frame_calls = map (by 0) (
     Asked (Join 0 64 100 3 1) ∷
     Asked (Rate 0 (He 11 80 800 2)) ∷
     Enqueue 0 0 7 1500 ∷
-    Asked (Pull Be) ∷
+    Asked (Pull Be no_limits) ∷
     [])
 
 pub he_rate_one_frame : replies (opening standard) he_rate_one_frame_calls ≡
@@ -94,11 +95,11 @@ abbrev pub lost_ack_resends_calls : List Entry
 lost_ack_resends_calls = map (by 0) (
     Asked (Join 0 64 100 3 1) ∷
     Enqueue 0 0 7 1500 ∷
-    Asked (Pull Be) ∷
+    Asked (Pull Be no_limits) ∷
     Asked (Arrive 0 0) ∷
     Asked (Answer 0) ∷
     Asked (Done 0 false None) ∷
-    Asked (Pull Be) ∷
+    Asked (Pull Be no_limits) ∷
     Asked (Arrive 1 0) ∷
     Asked (Answer 1) ∷
     Asked (Done 1 true None) ∷
@@ -124,7 +125,7 @@ sequence_wraps_past_4095_calls = map (by 0) (
     Asked (Join 0 64 4095 3 1) ∷
     Enqueue 0 0 7 1500 ∷
     Enqueue 0 0 7 1500 ∷
-    Asked (Pull Be) ∷
+    Asked (Pull Be no_limits) ∷
     Asked (Arrive 0 0) ∷
     Asked (Arrive 0 1) ∷
     Asked (Answer 0) ∷
@@ -146,7 +147,7 @@ second_of_two_arrives_calls = map (by 0) (
     Asked (Join 0 64 100 3 1) ∷
     Enqueue 0 0 7 1500 ∷
     Enqueue 0 0 7 1500 ∷
-    Asked (Pull Be) ∷
+    Asked (Pull Be no_limits) ∷
     Asked (Arrive 0 1) ∷
     Asked (Answer 0) ∷
     Asked (Done 0 true None) ∷
@@ -166,12 +167,12 @@ failed_frame_then_request_calls = map (by 0) (
     Asked (Join 0 64 100 3 1) ∷
     Enqueue 0 0 7 1500 ∷
     Enqueue 0 0 7 1500 ∷
-    Asked (Pull Be) ∷
+    Asked (Pull Be no_limits) ∷
     Asked (Arrive 0 1) ∷
     Asked (Answer 0) ∷
     Asked (Done 0 true None) ∷
-    Asked (Pull Be) ∷
-    Asked (Pull Be) ∷
+    Asked (Pull Be no_limits) ∷
+    Asked (Pull Be no_limits) ∷
     Asked (Arrive 1 0) ∷
     Asked (Answer 1) ∷
     Asked (Done 1 true None) ∷
@@ -197,22 +198,22 @@ request_lost_three_times_calls = map (by 0) (
     Asked (Join 0 64 100 3 1) ∷
     Enqueue 0 0 7 1500 ∷
     Enqueue 0 0 7 1500 ∷
-    Asked (Pull Be) ∷
+    Asked (Pull Be no_limits) ∷
     Asked (Arrive 0 1) ∷
     Asked (Answer 0) ∷
     Asked (Done 0 true None) ∷
     Enqueue 0 0 7 1500 ∷
-    Asked (Pull Be) ∷
+    Asked (Pull Be no_limits) ∷
     Asked (Done 1 false None) ∷
-    Asked (Pull Be) ∷
+    Asked (Pull Be no_limits) ∷
     Asked (Done 2 false None) ∷
-    Asked (Pull Be) ∷
+    Asked (Pull Be no_limits) ∷
     Asked (Done 3 false None) ∷
-    Asked (Pull Be) ∷
+    Asked (Pull Be no_limits) ∷
     Asked (Arrive 4 0) ∷
     Asked (Answer 4) ∷
     Asked (Done 4 true None) ∷
-    Asked (Pull Be) ∷
+    Asked (Pull Be no_limits) ∷
     [])
 
 pub request_lost_three_times : drop 7 (replies
@@ -237,7 +238,7 @@ abbrev pub dropped_for_retries_though_released_calls : List Entry
 dropped_for_retries_though_released_calls = map (by 0) (
     Asked (Join 0 64 100 3 1) ∷
     Enqueue 0 0 7 1500 ∷
-    Asked (Pull Be) ∷
+    Asked (Pull Be no_limits) ∷
     Asked (Arrive 0 0) ∷
     Asked (Answer 0) ∷
     Asked (Done 0 false None) ∷
@@ -259,13 +260,13 @@ request_moves_receiver_calls = map (by 0) (
     Asked (Join 0 64 100 3 1) ∷
     Enqueue 0 0 7 1500 ∷
     Enqueue 0 0 7 1500 ∷
-    Asked (Pull Be) ∷
-    Asked (Pull Be) ∷
+    Asked (Pull Be no_limits) ∷
+    Asked (Pull Be no_limits) ∷
     Asked (Arrive 1 0) ∷
     Asked (Answer 1) ∷
     Asked (Done 1 true None) ∷
     Asked (Done 0 false None) ∷
-    Asked (Pull Be) ∷
+    Asked (Pull Be no_limits) ∷
     Asked (Arrive 2 0) ∷
     Asked (Answer 2) ∷
     Asked (Done 2 true None) ∷
@@ -286,8 +287,8 @@ two_windows_out_of_order_calls = map (by 0) (
     Asked (Join 0 64 100 3 1) ∷
     Enqueue 0 0 7 1500 ∷
     Enqueue 0 0 7 1500 ∷
-    Asked (Pull Be) ∷
-    Asked (Pull Be) ∷
+    Asked (Pull Be no_limits) ∷
+    Asked (Pull Be no_limits) ∷
     Asked (Arrive 1 0) ∷
     Asked (Answer 1) ∷
     Asked (Done 1 true None) ∷
@@ -313,8 +314,8 @@ airtime_cap_ends_aggregate_calls = map (by 0) (
     Asked (Join 0 64 100 3 1) ∷
     Asked (Rate 0 (Ht 7 20 false)) ∷
     times 21 (Enqueue 0 0 7 1500) ++
-    Asked (Pull Be) ∷
-    Asked (Pull Be) ∷
+    Asked (Pull Be no_limits) ∷
+    Asked (Pull Be no_limits) ∷
     [])
 
 pub airtime_cap_ends_aggregate : drop 23 (replies (opening standard) airtime_cap_ends_aggregate_calls) ≡
@@ -331,8 +332,8 @@ exponent_zero_ends_aggregate_calls = map (by 0) (
     Asked (Join 0 64 0 0 1) ∷
     Asked (Rate 0 (Ht 7 20 false)) ∷
     times 6 (Enqueue 0 0 7 1500) ++
-    Asked (Pull Be) ∷
-    Asked (Pull Be) ∷
+    Asked (Pull Be no_limits) ∷
+    Asked (Pull Be no_limits) ∷
     [])
 
 pub exponent_zero_ends_aggregate : drop 8 (replies (opening standard) exponent_zero_ends_aggregate_calls) ≡
@@ -346,7 +347,7 @@ abbrev pub two_open_exchanges_are_full_calls : List Entry
 two_open_exchanges_are_full_calls = map (by 0) (
     Asked (Join 0 64 100 3 1) ∷
     times 3 (Enqueue 0 0 7 1500) ++
-    times 3 (Asked (Pull Be)) ++
+    times 3 (Asked (Pull Be no_limits)) ++
     [])
 
 pub two_open_exchanges_are_full : drop 4 (replies
@@ -362,9 +363,9 @@ abbrev pub window_of_two_stalls_calls : List Entry
 window_of_two_stalls_calls = map (by 0) (
     Asked (Join 0 2 100 3 1) ∷
     times 3 (Enqueue 0 0 7 1500) ++
-    times 3 (Asked (Pull Be)) ++
+    times 3 (Asked (Pull Be no_limits)) ++
     Asked (Done 0 false None) ∷
-    Asked (Pull Be) ∷
+    Asked (Pull Be no_limits) ∷
     [])
 
 pub window_of_two_stalls : drop 6 (replies (opening (record standard { agg = 1; inflight = 4 }))
@@ -419,8 +420,8 @@ collision_goes_to_overflow_queue_calls = map (by 0) (
     Asked (Join 0 64 0 3 1) ∷
     Enqueue 0 0 5 100 ∷
     Enqueue 0 3 5 100 ∷
-    Asked (Pull Be) ∷
-    Asked (Pull Be) ∷
+    Asked (Pull Be no_limits) ∷
+    Asked (Pull Be no_limits) ∷
     [])
 
 pub collision_goes_to_overflow_queue : drop 3
@@ -437,13 +438,13 @@ codel_drops_two_calls = map (by 0) (
     Asked (Rate 0 (Ht 7 20 false)) ∷
     times 10 (Enqueue 0 0 7 1500) ++
     Asked (Tick 30000) ∷
-    Asked (Pull Be) ∷
+    Asked (Pull Be no_limits) ∷
     Asked (Tick 50000) ∷
-    Asked (Pull Be) ∷
+    Asked (Pull Be no_limits) ∷
     Asked (Tick 50000) ∷
-    Asked (Pull Be) ∷
+    Asked (Pull Be no_limits) ∷
     Asked (Tick 100000) ∷
-    Asked (Pull Be) ∷
+    Asked (Pull Be no_limits) ∷
     times 3 (Asked Reap) ++
     [])
 
@@ -471,15 +472,15 @@ dropping_state_is_inherited_calls = map (by 0) (
     times 3 (Enqueue 0 0 0 1) ++
     times 2 (Enqueue 0 0 0 1500) ++
     Asked (Tick 50000) ∷
-    Asked (Pull Be) ∷
+    Asked (Pull Be no_limits) ∷
     Asked (Tick 300000) ∷
-    Asked (Pull Be) ∷
+    Asked (Pull Be no_limits) ∷
     times 5 (Enqueue 0 0 1 300) ++
-    times 3 (Asked (Pull Be)) ++
+    times 3 (Asked (Pull Be no_limits)) ++
     Asked (Tick 249000) ∷
     times 3 (Enqueue 1 6 0 1500) ++
     Asked (Tick 51000) ∷
-    Asked (Pull Vo) ∷
+    Asked (Pull Vo no_limits) ∷
     [])
 
 -- its first frame is dropped after 51,000 microseconds
@@ -522,9 +523,9 @@ codel_left_is_after_the_pop_calls = map (by 0) (
     Asked (Rate 0 (Ht 7 20 false)) ∷
     times 3 (Enqueue 0 0 7 1500) ++
     Asked (Tick 30000) ∷
-    Asked (Pull Be) ∷
+    Asked (Pull Be no_limits) ∷
     Asked (Tick 100000) ∷
-    Asked (Pull Be) ∷
+    Asked (Pull Be no_limits) ∷
     [])
 
 pub codel_left_is_after_the_pop : replies (opening (record standard { agg = 1 }))
@@ -548,12 +549,12 @@ sleeper_polls_calls = map (by 0) (
     Asked (Sleep 0) ∷
     Enqueue 0 0 7 100 ∷
     Enqueue 0 0 7 100 ∷
-    Asked (Pull Be) ∷
+    Asked (Pull Be no_limits) ∷
     Asked (Poll 0) ∷
     Asked (Poll 0) ∷
-    Asked (Pull Be) ∷
+    Asked (Pull Be no_limits) ∷
     Asked (Poll 0) ∷
-    Asked (Pull Be) ∷
+    Asked (Pull Be no_limits) ∷
     Asked (Poll 0) ∷
     [])
 
@@ -580,7 +581,7 @@ sleeper_second_frame_stays_queued_calls = map (by 0) (
     Enqueue 0 0 7 100 ∷
     Asked (Sleep 0) ∷
     Asked (Poll 0) ∷
-    Asked (Pull Be) ∷
+    Asked (Pull Be no_limits) ∷
     Enqueue 0 0 7 100 ∷
     [])
 
@@ -649,8 +650,8 @@ debt_of_zero_calls = map (by 0) (
     Asked (Rx 0 Be 44) ∷
     Enqueue 0 0 7 100 ∷
     Enqueue 0 0 7 100 ∷
-    Asked (Pull Be) ∷
-    Asked (Pull Be) ∷
+    Asked (Pull Be no_limits) ∷
+    Asked (Pull Be no_limits) ∷
     Asked (Done 0 false None) ∷
     Asked (Done 1 false None) ∷
     Asked (Rx 0 Be 1) ∷
@@ -675,7 +676,7 @@ leave_with_open_exchange_calls = map (by 0) (
     Asked (Join 0 64 0 3 1) ∷
     Enqueue 0 0 7 100 ∷
     Enqueue 0 0 7 100 ∷
-    Asked (Pull Be) ∷
+    Asked (Pull Be no_limits) ∷
     Asked (Leave 0) ∷
     Asked (Done 0 false None) ∷
     Asked (Leave 0) ∷
@@ -701,7 +702,7 @@ leave_order_across_the_wrap_calls = map (by 0) (
     Asked (Join 0 64 4095 3 1) ∷
     Enqueue 0 0 7 1500 ∷
     Enqueue 0 0 7 1500 ∷
-    Asked (Pull Be) ∷
+    Asked (Pull Be no_limits) ∷
     Asked (Done 0 false None) ∷
     Asked (Leave 0) ∷
     Asked Reap ∷
@@ -729,7 +730,7 @@ leave_order_by_tid_then_window_then_queue_calls = map (by 0) (
     Enqueue 0 0 3 100 ∷
     Enqueue 0 0 2 100 ∷
     Enqueue 0 5 0 100 ∷
-    Asked (Pull Be) ∷
+    Asked (Pull Be no_limits) ∷
     Asked (Done 0 false None) ∷
     Asked (Leave 0) ∷
     times 4 (Asked Reap) ++
@@ -757,7 +758,7 @@ abbrev pub exchange_refusals_calls : List Entry
 exchange_refusals_calls = map (by 0) (
     Asked (Join 0 64 100 3 1) ∷
     Enqueue 0 0 7 1500 ∷
-    Asked (Pull Be) ∷
+    Asked (Pull Be no_limits) ∷
     Asked (Arrive 0 1) ∷
     Asked (Answer 0) ∷
     Asked (Arrive 0 0) ∷
@@ -790,7 +791,7 @@ room_of_one_calls = map (by 0) (
     Asked (Join 0 64 100 3 1) ∷
     Enqueue 0 0 7 1500 ∷
     Enqueue 0 0 7 1500 ∷
-    Asked (Pull Be) ∷
+    Asked (Pull Be no_limits) ∷
     Asked (Arrive 0 0) ∷
     Asked (Answer 0) ∷
     Asked (Done 0 true None) ∷
@@ -877,7 +878,7 @@ abbrev pub named_airtime_is_charged_calls : List Entry
 named_airtime_is_charged_calls = map (by 0) (
     Asked (Join 0 64 0 3 1) ∷
     Enqueue 0 0 7 100 ∷
-    Asked (Pull Be) ∷
+    Asked (Pull Be no_limits) ∷
     Asked (Done 0 false (Some 0)) ∷
     Asked (Done 0 false (Some 5001)) ∷
     Asked (Rx 0 Be 1) ∷

@@ -11,6 +11,7 @@ use Rattle.wf_def_world.specs.Run.{Entry, by}
 use Rattle.wf_def_world.specs.Text.{text_of}
 use Rattle.wf_def_world.specs.Computed.{the_machine}
 use Rattle.wf_def_world.proofs.Rehearsals.{times, served, each_line}
+use Rattle.wf_frame.specs.Calls.{no_limits}
 
 -- no calls
 abbrev pub empty_history_calls : List Entry
@@ -58,11 +59,11 @@ failed_frame_then_request_calls = map (by 0) (
     Asked (Join 0 64 100 3 1) ∷
     Enqueue 0 0 7 1500 ∷
     Enqueue 0 0 7 1500 ∷
-    Asked (Pull Be) ∷
+    Asked (Pull Be no_limits) ∷
     Asked (Arrive 0 1) ∷
     Asked (Answer 0) ∷
     Asked (Done 0 true None) ∷
-    Asked (Pull Be) ∷
+    Asked (Pull Be no_limits) ∷
     served Be 1 1 ++
     [])
 

@@ -48,10 +48,11 @@ can_send_in w s c = can_send w s (lower_tid c) || can_send w s (upper_tid c)
 abbrev pub is_below_aql : World → ℕ → Class → Bool
 is_below_aql w s c = (w.config.aql == 0) || nat_lt (owed s c w.opened) w.config.aql
 
--- whether a station may receive in a class: it is awake, or has a credit for the class, and its airtime in
--- flight is below the limit
+-- whether a station may receive in a class: it is not stopped, it is awake or has a credit for the class, and
+-- its airtime in flight is below the limit
 abbrev pub may_receive : World → ℕ → Class → Bool
-may_receive w s c = (not (station w s).asleep || has_credit (station w s).credit c) && is_below_aql w s c
+may_receive w s c = not (station w s).stopped
+    && ((not (station w s).asleep || has_credit (station w s).credit c) && is_below_aql w s c)
 
 -- whether a station is ready in a class, so that a pull of the class may pick it
 abbrev pub is_ready : World → Class → ℕ → Bool

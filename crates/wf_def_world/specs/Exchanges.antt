@@ -2,21 +2,24 @@
 -- the Anomaly" (USENIX ATC 2017), section 3.2, combined with aggregation and block acknowledgement
 -- (IEEE 802.11-2012, 9.12 and 9.21.7). Deficits, quanta and charges are in microseconds of airtime,
 -- lengths in octets.
-use Rattle.std.specs.Prelude.{ℕ, zero, suc, ◌+◌, ◌-◌, ◌*◌, ◌%◌, ◌==◌, max, nat_lt, pos, ◌+ℤ◌, ◌-ℤ◌, Bool, false, not, ◌&&◌, ◌||◌, List, [], ◌∷◌, ◌++◌, Option, Some, None, if◌then◌else◌, length, map, count_by, unwrap_or}
+use Rattle.std.specs.Prelude.{ℕ, zero, suc, ◌+◌, ◌-◌, ◌*◌, ◌%◌, ◌==◌, min, max, nat_lt, pos, ◌+ℤ◌, ◌-ℤ◌, Bool, false, not, ◌&&◌, ◌||◌, List, [], ◌∷◌, ◌++◌, Option, Some, None, if◌then◌else◌, length, map, count_by, unwrap_or}
 use Rattle.std.specs.List.{list_any}
 use Rattle.wf_frame.specs.declared.classes.Class.{Class}
+use Rattle.wf_frame.specs.declared.classes.Class.TheVariants.{Vi, Vo}
 use Rattle.wf_frame.specs.declared.classes.Cause.TheVariants.{Retries}
 use Rattle.wf_frame.specs.declared.classes.Fate.TheVariants.{Acked, Dropped}
+use Rattle.wf_frame.specs.declared.settings.Config.{Config}
+use Rattle.wf_frame.specs.declared.notes.Limits.{Limits}
 use Rattle.wf_frame.specs.declared.notes.Part.{Part}
 use Rattle.wf_frame.specs.declared.notes.Part.TheVariants.{Mpdus, Request as Starts_at}
 use Rattle.wf_def_lists.specs.Table.{upto, at, longest_front}
 use Rattle.wf_def_air.specs.Airtime.{data_charge, request_charge}
-use Rattle.wf_def_air.specs.Fit.{aggregate_octets, fits}
+use Rattle.wf_def_air.specs.Fit.{aggregate_octets, most_octets, fits}
 use Rattle.wf_def_codel.specs.Codel.{Item}
 use Rattle.wf_def_rotation.specs.Rotation.{in_order, need_of, Picked, pick}
 use Rattle.wf_def_agreement.specs.Session.{Session, State, slot, waiting_numbers, next_number, start_of, request_due, with_state, with_number_given, after_miss, is_failed}
 use Rattle.wf_def_agreement.specs.Receiver.{Receiver, with_arrived, with_start, Score, shows}
-use Rattle.wf_def_world.specs.World.{World, Station, Share, Mpdu, Content, Frames, Request, Exchange, station, session, share, standing, quantum, rotation, frame, len_of, is_wide, on_station, on_session, on_share, with_rotation, with_frame_finished}
+use Rattle.wf_def_world.specs.World.{World, Bounds, Station, Share, Mpdu, Content, Frames, Request, Exchange, station, session, share, standing, quantum, rotation, frame, len_of, is_wide, on_station, on_session, on_share, with_rotation, with_frame_finished}
 use Rattle.wf_frame.specs.Classes.{lower_tid, upper_tid}
 use Rattle.wf_def_world.specs.FlowQueues.{frames_queued, Taken, taken_for_tid}
 use Rattle.wf_def_world.specs.CanSend.{can_send, can_give, has_waiting, is_ready, is_request}
@@ -66,21 +69,41 @@ sending_tid w s c = if can_send w s (first_tid w s c) then first_tid w s c else 
 unfoldable pub after_tid_turn : World → ℕ → Class → ℕ → World
 after_tid_turn w s c t = on_share w s c (λ x. record x { upper = t == lower_tid c })
 
--- the most frames of an aggregate: the setting `agg`, but one for a sleeping station, which asks for
+-- the greatest data time of an aggregate of a class, in microseconds: its own setting, if that is not 0,
+-- otherwise the setting `cap`
+abbrev pub cap_of : Config → Class → ℕ
+cap_of config Vi = if config.cap_vi == 0 then config.cap else config.cap_vi
+cap_of config Vo = if config.cap_vo == 0 then config.cap else config.cap_vo
+cap_of config c = config.cap
+
+-- the lesser of a number and of a limit, if there is one
+abbrev pub limited : Option ℕ → ℕ → ℕ
+limited None n = n
+limited (Some limit) n = min limit n
+
+-- the bounds of a pull of a class with these limits: it may send one frame whatever they are
+abbrev pub bounds_of : Config → Class → Limits → Bounds
+bounds_of config c limits = record {
+  frames = max 1 (limited limits.frames config.agg);
+  air = limited limits.air (cap_of config c);
+}
+
+-- the most frames of an aggregate: those of the pull's bounds, but one for a sleeping station, which asks for
 -- one by a poll
 abbrev pub most_frames : World → ℕ → ℕ
-most_frames w s = if (station w s).asleep then 1 else w.config.agg
+most_frames w s = if (station w s).asleep then 1 else w.bounds.frames
 
--- the lengths of the bodies of an aggregate
-abbrev pub lens_of : List Mpdu → List ℕ
-lens_of mpdus = map (λ m. m.len) mpdus
+-- the lengths of the bodies of an aggregate, each with its octets of encryption
+abbrev pub lens_of : ℕ → List Mpdu → List ℕ
+lens_of overhead mpdus = map (λ m. m.len + overhead) mpdus
 
--- whether an aggregate to a station fits: the most frames, the longest A-MPDU of its rate and exponent,
--- and the setting `cap` on data time
+-- whether an aggregate to a station fits: the most frames, the longest A-MPDU of its rate, and the data time of
+-- the pull's bounds
 abbrev pub fits_in : World → ℕ → List Mpdu → Bool
 fits_in w s mpdus =
     let x : Station = station w s in
-    fits x.rate x.exponent (most_frames w s) w.config.cap (lens_of mpdus)
+    fits x.rate (most_octets x.rate x.exponent x.ampdu) (most_frames w s) w.bounds.air
+    (lens_of w.config.overhead mpdus)
 
 -- number n of a TID, with the frame that it carries
 abbrev pub mpdu_of : World → ℕ → ℕ → ℕ → Mpdu
@@ -147,7 +170,8 @@ pub record Prepared : Type 0 where
 -- the charge of an aggregate, in microseconds
 abbrev pub aggregate_charge : ℕ → ℕ → Aggregate → ℕ
 aggregate_charge s t f =
-    data_charge (station f.world s).rate (aggregate_octets (lens_of f.mpdus)) (is_wide f.world s t)
+    data_charge f.world.config.answers (station f.world s).rate
+    (aggregate_octets (lens_of f.world.config.overhead f.mpdus)) (is_wide f.world s t)
 
 -- an aggregate, with its numbers flying
 unfoldable pub prepared_data : ℕ → ℕ → Aggregate → Prepared
@@ -163,7 +187,7 @@ abbrev pub prepared_request : World → ℕ → ℕ → Prepared
 prepared_request w s t = record {
   world = w;
   content = Request (start_of (session w s t));
-  charge = request_charge (is_wide w s t);
+  charge = request_charge w.config.answers (station w s).rate (is_wide w s t);
 }
 
 -- the exchange that a TID sends: a BlockAckReq if one is due, otherwise an aggregate

@@ -1,23 +1,23 @@
 -- Defines when a call is refused. Each call has rows, each with a test and a refusal; the first row
 -- whose test holds refuses the call.
-use Rattle.std.specs.Prelude.{ℕ, ◌+◌, ◌==◌, nat_lt, nat_le, pos, ◌-ℤ◌, int_lt, Bool, false, not, ◌&&◌, List, [], ◌∷◌, Option, Some, None, is_some, is_none, if◌then◌else◌, length, count_by}
+use Rattle.std.specs.Prelude.{ℕ, ◌+◌, ◌==◌, nat_lt, nat_le, pos, ◌-ℤ◌, int_lt, Bool, false, not, ◌&&◌, ◌||◌, List, [], ◌∷◌, Option, Some, None, is_some, is_none, if◌then◌else◌, length, count_by}
 use Rattle.std.specs.List.{list_any}
 use Rattle.wf_frame.specs.Settings.{is_bad_air}
 use Rattle.wf_frame.specs.declared.classes.Class.{Class}
 use Rattle.wf_frame.specs.declared.notes.Ask.{Ask}
-use Rattle.wf_frame.specs.declared.notes.Ask.TheVariants.{Join, Leave, Rate, Tick, Pull, Arrive, Answer, Done, Sleep, Wake, Poll, Rx, Reap}
+use Rattle.wf_frame.specs.declared.notes.Ask.TheVariants.{Join, Leave, Rate, Tick, Pull, Arrive, Answer, Done, Sleep, Wake, Poll, Rx, Reap, Ampdu, Stop, Start}
 use Rattle.wf_frame.specs.declared.notes.Note.{Note}
 use Rattle.wf_frame.specs.declared.notes.Note.TheVariants.{Enqueue, Asked}
 use Rattle.wf_frame.specs.declared.notes.Refusal.{Refusal}
-use Rattle.wf_frame.specs.declared.notes.Refusal.TheVariants.{BadStation, BadWindow, BadStart, BadExponent, BadRate, BadTick, BadTid, BadAir, BadIndex, Live, NoStation, NoExchange, NoAnswer, Open, Room, Sleeping, Full, Idle, Answered, Arrived, Nothing, Asleep, Awake, Polled, Debt, BadWeight, Ahead}
+use Rattle.wf_frame.specs.declared.notes.Refusal.TheVariants.{BadStation, BadWindow, BadStart, BadExponent, BadRate, BadTick, BadTid, BadAir, BadIndex, Live, NoStation, NoExchange, NoAnswer, Open, Room, Sleeping, Full, Idle, Answered, Arrived, Nothing, Asleep, Awake, Polled, Debt, BadWeight, Ahead, BadAmpdu, Stopped, Started}
 use Rattle.wf_def_lists.specs.Table.{has, upto}
-use Rattle.wf_def_lists.specs.Bounds.{greatest_window, greatest_start, greatest_exponent, greatest_weight, greatest_tid, greatest_tick, greatest_air, deepest_deficit}
+use Rattle.wf_def_lists.specs.Bounds.{greatest_window, greatest_start, greatest_exponent, greatest_weight, greatest_tid, greatest_tick, greatest_air, least_ampdu, greatest_ampdu, deepest_deficit}
 use Rattle.wf_def_air.specs.Airtime.{is_rate}
 use Rattle.wf_def_world.specs.Rates.{rate_asked}
 use Rattle.wf_def_world.specs.World.{World, Exchange, station, is_live, inside, share, exchange, owed_by_all}
 use Rattle.wf_frame.specs.Classes.{same_class, lower_tid, upper_tid, class_of}
 use Rattle.wf_def_world.specs.FlowQueues.{frames_queued}
-use Rattle.wf_def_world.specs.CanSend.{can_send}
+use Rattle.wf_def_world.specs.CanSend.{can_send, can_send_in}
 use Rattle.wf_def_world.specs.Exchanges.{picked_station, transmissions}
 
 -- the refusal of the first row whose test holds
@@ -58,6 +58,15 @@ is_at_aql_total w = nat_lt 0 w.config.aql_total && nat_le w.config.aql_total (ow
 abbrev pub can_send_any : World → ℕ → Bool
 can_send_any w s = list_any (can_send w s) (upto (1 + greatest_tid))
 
+-- whether a credit blocks a poll: with the setting `credits`, only one in whose class the station can send
+abbrev pub is_live_credit : World → ℕ → Option Class → Bool
+is_live_credit w s None = false
+is_live_credit w s (Some c) = (w.config.credits == 0) || can_send_in w s c
+
+-- whether a station has a credit that blocks a poll
+abbrev pub has_live_credit : World → ℕ → Bool
+has_live_credit w s = is_live_credit w s (station w s).credit
+
 -- whether the exchange is open and passes a test
 abbrev pub exchange_has : Option Exchange → (Exchange → Bool) → Bool
 exchange_has None p = false
@@ -77,7 +86,7 @@ refusals_of w (Rate s rate) = (
     (is_bad_station w s, BadStation) ∷ (not (is_rate (rate_asked rate)), BadRate)
     ∷ (not (is_live w s), NoStation) ∷ [])
 refusals_of w (Tick by) = ((nat_lt greatest_tick by, BadTick) ∷ [])
-refusals_of w (Pull c) = (
+refusals_of w (Pull c limits) = (
     (nat_le w.config.inflight (open_of_class w c), Full (open_of_class w c)) ∷
     (is_at_aql_total w, Ahead (owed_by_all w.opened)) ∷
     (is_none (picked_station w c).winner, Idle) ∷ [])
@@ -103,7 +112,7 @@ refusals_of w (Wake s) = (
 refusals_of w (Poll s) = (
     (is_bad_station w s, BadStation) ∷ (not (is_live w s), NoStation) ∷
     (not (station w s).asleep, Awake) ∷
-    (is_some (station w s).credit, Polled) ∷ (not (can_send_any w s), Nothing) ∷ [])
+    (has_live_credit w s, Polled) ∷ (not (can_send_any w s), Nothing) ∷ [])
 refusals_of w (Rx s c air) = (
     (is_bad_station w s, BadStation) ∷ (not (is_within 1 greatest_air air), BadAir)
     ∷ (not (is_live w s), NoStation) ∷ (
@@ -111,6 +120,15 @@ refusals_of w (Rx s c air) = (
       Debt (share w s c).deficit,
     ) ∷ [])
 refusals_of w Reap = ((length w.finished == 0, Nothing) ∷ [])
+refusals_of w (Ampdu s octets) = (
+    (is_bad_station w s, BadStation) ∷ (not (is_within least_ampdu greatest_ampdu octets), BadAmpdu)
+    ∷ (not (is_live w s), NoStation) ∷ [])
+refusals_of w (Stop s) = (
+    (is_bad_station w s, BadStation) ∷ (not (is_live w s), NoStation) ∷
+    ((station w s).stopped, Stopped) ∷ [])
+refusals_of w (Start s) = (
+    (is_bad_station w s, BadStation) ∷ (not (is_live w s), NoStation) ∷
+    (not (station w s).stopped, Started) ∷ [])
 
 -- the rows of a call, in order
 abbrev pub refusals : World → Note → List (Bool × Refusal)

@@ -4,7 +4,8 @@ use Rattle.wf_frame.specs.declared.classes.Class.{Class}
 use Rattle.wf_frame.specs.declared.classes.Class.TheVariants.{Bk, Be, Vi, Vo}
 use Rattle.wf_frame.specs.declared.classes.Cause.TheVariants.{Left}
 use Rattle.wf_frame.specs.declared.classes.Fate.TheVariants.{Held, Dropped}
-use Rattle.wf_frame.specs.declared.notes.Ask.TheVariants.{Join, Leave, Rate, Tick, Pull, Arrive, Answer, Done, Sleep, Wake, Poll, Rx, Reap}
+use Rattle.wf_frame.specs.declared.notes.Ask.TheVariants.{Join, Leave, Rate, Tick, Pull, Arrive, Answer, Done, Sleep, Wake, Poll, Rx, Reap, Ampdu, Stop, Start}
+use Rattle.wf_frame.specs.declared.notes.Limits.{Limits}
 use Rattle.wf_frame.specs.declared.notes.AskedRate.{AskedRate}
 use Rattle.wf_frame.specs.declared.notes.Note.{Note}
 use Rattle.wf_frame.specs.declared.notes.Note.TheVariants.{Enqueue, Asked}
@@ -20,11 +21,11 @@ use Rattle.wf_def_rotation.specs.Rotation.{in_order, without_key, no_keys}
 use Rattle.wf_def_agreement.specs.Session.{Slot, State, is_acknowledged, is_waiting, is_failed}
 use Rattle.wf_def_agreement.specs.Receiver.{Receiver, Score, score, bitmap_word, released_between}
 use Rattle.wf_def_world.specs.Rates.{rate_asked}
-use Rattle.wf_def_world.specs.World.{World, Exchange, new_share, new_tid, session, receiver, share, tid_of, rotation, frame, accepted_count, is_wide, exchange, with_station, on_station, on_share, on_receiver, with_rotation, with_queues, with_exchange, without_exchange, with_frames_finished}
+use Rattle.wf_def_world.specs.World.{World, Exchange, new_share, new_tid, session, receiver, share, tid_of, rotation, frame, accepted_count, is_wide, exchange, with_bounds, with_station, on_station, on_share, on_receiver, with_rotation, with_queues, with_exchange, without_exchange, with_frames_finished}
 use Rattle.wf_frame.specs.Classes.{all_classes}
 use Rattle.wf_def_world.specs.FlowQueues.{dropped_for_limit, after_limit, queue_for, after_put_in, after_queues_left}
 use Rattle.wf_def_world.specs.CanSend.{can_send_in, with_listings_of}
-use Rattle.wf_def_world.specs.Exchanges.{picked_station, after_pick, sending_tid, after_tid_turn, Prepared, prepared_exchange, exchange_of, with_exchange_opened, without_credit, part_of, after_arrival, ids_of, after_charge, after_done, count_in}
+use Rattle.wf_def_world.specs.Exchanges.{picked_station, after_pick, bounds_of, sending_tid, after_tid_turn, Prepared, prepared_exchange, exchange_of, with_exchange_opened, without_credit, part_of, after_arrival, ids_of, after_charge, after_done, count_in}
 use Rattle.wf_def_world.specs.Refusals.{refusal}
 
 -- the outcome of a call: the world after it, and its reply
@@ -51,6 +52,8 @@ join_outcome w s window start exponent weight =
         weight = weight;
         rate = lowest_rate;
         exponent = exponent;
+        ampdu = None;
+        stopped = false;
         asleep = false;
         credit = None;
         shares = share ∷ share ∷ share ∷ share ∷ [];
@@ -103,6 +106,21 @@ rate_outcome w s rate =
       reply = Set;
     }
 
+-- Ampdu: aggregates of VHT and HE to the station have at most this many octets from now on
+abbrev pub ampdu_outcome : World → ℕ → ℕ → Outcome
+ampdu_outcome w s octets =
+    record { world = on_station w s (λ x. record x { ampdu = Some octets }); reply = Set }
+
+-- Stop: no pull picks the station from now on
+abbrev pub stop_outcome : World → ℕ → Outcome
+stop_outcome w s =
+    record { world = on_station w s (λ x. record x { stopped = true }); reply = reply.Stopped }
+
+-- Start: pulls may pick the station again
+abbrev pub start_outcome : World → ℕ → Outcome
+start_outcome w s =
+    record { world = on_station w s (λ x. record x { stopped = false }); reply = reply.Started }
+
 -- Tick: the clock moves forward by this number of microseconds
 unfoldable pub tick_outcome : World → ℕ → Outcome
 tick_outcome w by = record { world = record w { clock = w.clock + by }; reply = Now (w.clock + by) }
@@ -144,9 +162,10 @@ pull_outcome_for w c (Some s) =
     let t : ℕ = sending_tid w s c in
     send_outcome s t c (prepared_exchange (after_tid_turn w s c t) s t)
 
--- Pull: a station of the class is picked, and sends
-unfoldable pub pull_outcome : World → Class → Outcome
-pull_outcome w c = pull_outcome_for (after_pick w c) c (picked_station w c).winner
+-- Pull: a station of the class is picked, and sends within these limits
+unfoldable pub pull_outcome : World → Class → Limits → Outcome
+pull_outcome w c limits =
+    pull_outcome_for (with_bounds (after_pick w c) (bounds_of w.config c limits)) c (picked_station w c).winner
 
 -- ---- exchanges
 
@@ -234,7 +253,7 @@ outcome_of w (Asked (Join s window start exponent weight)) =
 outcome_of w (Asked (Leave s)) = leave_outcome w s
 outcome_of w (Asked (Rate s rate)) = rate_outcome w s rate
 outcome_of w (Asked (Tick by)) = tick_outcome w by
-outcome_of w (Asked (Pull c)) = pull_outcome w c
+outcome_of w (Asked (Pull c limits)) = pull_outcome w c limits
 outcome_of w (Asked (Arrive e i)) = outcome_where_open w (exchange w e) (λ x. arrive_outcome w x i)
 outcome_of w (Asked (Answer e)) = outcome_where_open w (exchange w e) (λ x. answer_outcome w x)
 outcome_of w (Asked (Done e heard air)) = outcome_where_open w (exchange w e)
@@ -244,6 +263,9 @@ outcome_of w (Asked (Wake s)) = wake_outcome w s
 outcome_of w (Asked (Poll s)) = poll_outcome w s
 outcome_of w (Asked (Rx s c air)) = rx_outcome w s c air
 outcome_of w (Asked Reap) = reap_outcome w w.finished
+outcome_of w (Asked (Ampdu s octets)) = ampdu_outcome w s octets
+outcome_of w (Asked (Stop s)) = stop_outcome w s
+outcome_of w (Asked (Start s)) = start_outcome w s
 
 -- the station of an exchange, if the exchange is open
 abbrev pub station_of : Option Exchange → Option ℕ
@@ -258,7 +280,7 @@ concerned_station w (Asked (Join s window start exponent weight)) = Some s
 concerned_station w (Asked (Leave s)) = Some s
 concerned_station w (Asked (Rate s rate)) = Some s
 concerned_station w (Asked (Tick by)) = None
-concerned_station w (Asked (Pull c)) = (picked_station w c).winner
+concerned_station w (Asked (Pull c limits)) = (picked_station w c).winner
 concerned_station w (Asked (Arrive e i)) = station_of (exchange w e)
 concerned_station w (Asked (Answer e)) = station_of (exchange w e)
 concerned_station w (Asked (Done e heard air)) = station_of (exchange w e)
@@ -267,11 +289,14 @@ concerned_station w (Asked (Wake s)) = Some s
 concerned_station w (Asked (Poll s)) = Some s
 concerned_station w (Asked (Rx s c air)) = Some s
 concerned_station w (Asked Reap) = None
+concerned_station w (Asked (Ampdu s octets)) = Some s
+concerned_station w (Asked (Stop s)) = Some s
+concerned_station w (Asked (Start s)) = Some s
 
 -- The world after a refusal. Only Idle without the setting `pending` changes it: the pick found no ready
 -- station, gave the listed ones their quanta, and emptied the lists of the class.
 unfoldable pub after_refusal : World → Note → Refusal → World
-after_refusal w (Asked (Pull c)) Idle = if w.config.pending == 1 then w else after_pick w c
+after_refusal w (Asked (Pull c limits)) Idle = if w.config.pending == 1 then w else after_pick w c
 after_refusal w note _ = w
 
 -- the outcome of a call, refused or not. If it is not refused, the station that it concerns is listed

@@ -12,7 +12,7 @@ use Rattle.wf_frame.specs.declared.notes.Part.{Part}
 use Rattle.wf_frame.specs.declared.notes.Part.TheVariants.{Mpdus, Request}
 use Rattle.wf_frame.specs.declared.notes.Refusal.{Refusal}
 use Rattle.wf_frame.specs.declared.notes.ReplyNote.{ReplyNote}
-use Rattle.wf_frame.specs.declared.notes.ReplyNote.TheVariants.{Joined, Set, Now, Accepted, Send, Released, Ba, Done, Slept, Woken, Polled, Charged, Reaped, Refused}
+use Rattle.wf_frame.specs.declared.notes.ReplyNote.TheVariants.{Joined, Set, Now, Accepted, Send, Released, Ba, Done, Slept, Woken, Polled, Charged, Reaped, Stopped, Started, Refused}
 use Rattle.wf_frame.specs.declared.notes.ReplyNote.TheVariants as reply
 use Rattle.wf_frame.specs.declared.settings.Config.{Config}
 use Rattle.wf_def_tim.specs.Tim.{tim_element}
@@ -74,6 +74,8 @@ reply_words Woken = codes "woken" ∷ []
 reply_words (Polled class) = codes "polled" ∷ class_word class ∷ []
 reply_words (Charged deficit) = codes "charged" ∷ signed_decimal deficit ∷ []
 reply_words (Reaped id fate) = codes "reaped" ∷ decimal id ∷ fate_word fate ∷ []
+reply_words Stopped = codes "stopped" ∷ []
+reply_words Started = codes "started" ∷ []
 reply_words (Refused refusal) = codes "refused" ∷ refusal_words refusal
 
 -- the answer line of a reply

@@ -52,6 +52,8 @@ pub record Station : Type 0 where
   pub weight : ℕ
   pub rate : Rate
   pub exponent : ℕ  -- the maximum A-MPDU length exponent (IEEE 802.11-2012, 8.4.2.58.3)
+  pub ampdu : Option ℕ  -- the most octets of its aggregates of VHT and HE, if that was stated
+  pub stopped : Bool  -- whether no pull picks it
   pub asleep : Bool
   pub credit : Option Class  -- the class in which a sleeping station may receive one exchange
   pub shares : List Share  -- by class number
@@ -71,6 +73,8 @@ no_station = record {
   weight = 1;
   rate = lowest_rate;
   exponent = 0;
+  ampdu = None;
+  stopped = false;
   asleep = false;
   credit = None;
   shares = [];
@@ -120,6 +124,16 @@ pub record Frame : Type 0 where
 abbrev pub no_frame : Frame
 no_frame = record { note = Asked Reap; fate = Held }
 
+-- how much the exchange of a pull may send: the most frames, and the greatest data time of an aggregate in
+-- microseconds
+pub record Bounds : Type 0 where
+  pub frames : ℕ
+  pub air : ℕ
+
+-- the bounds before the first pull
+abbrev pub no_bounds : Bounds
+no_bounds = record { frames = 0; air = 0 }
+
 -- the state of the machine
 pub record World : Type 0 where
   pub config : Config
@@ -131,6 +145,7 @@ pub record World : Type 0 where
   pub opened : List Exchange  -- the open exchanges, in the order of their numbers
   pub frames : List Frame  -- by id
   pub finished : List ℕ  -- the ids of frames with a fate that are not reaped, in the order of their fates
+  pub bounds : Bounds  -- those of the latest pull
 
 -- the world before the first call
 abbrev pub opening : Config → World
@@ -144,6 +159,7 @@ opening config = record {
   opened = [];
   frames = [];
   finished = [];
+  bounds = no_bounds;
 }
 
 -- ---- reading a world
@@ -247,6 +263,10 @@ abbrev pub exchange : World → ℕ → Option Exchange
 exchange w e = find (λ x. x.number == e) w.opened
 
 -- ---- changing a world
+
+-- the world in which the latest pull has these bounds
+abbrev pub with_bounds : World → Bounds → World
+with_bounds w b = record w { bounds = b }
 
 -- the world in which station s is x
 unfoldable pub with_station : World → ℕ → Option Station → World

@@ -3,7 +3,7 @@
 use Rattle.std.proofs.Common.{◌≡◌, ◌∙◌, ◌↔◌, ℕ, zero, suc, ◌<◌, ◌≤◌, nat_le, Bool, true, false, cond, not, ◌&&◌, List, [], ◌∷◌, get_or, length, None, Some, find, refl, ap, lit<, arith}
 use Rattle.wf_frame.specs.declared.settings.Config.{Config}
 use Rattle.wf_frame.specs.declared.settings.Field.{Field}
-use Rattle.wf_frame.specs.declared.settings.Field.TheVariants.{Stations, Flows, Limit, Room, FlowQuantum, Quantum, Inflight, Attempts, Agg, Cap, Sleeping, Calls, Charge, Debt, AqlTotal, KeepOrder, CodelReset, Aql, Pending}
+use Rattle.wf_frame.specs.declared.settings.Field.TheVariants.{Stations, Flows, Limit, Room, FlowQuantum, Quantum, Inflight, Attempts, Agg, Cap, Sleeping, Calls, Charge, Debt, AqlTotal, KeepOrder, CodelReset, Aql, Pending, Overhead, CapVi, CapVo, Answers, Credits}
 use Rattle.wf_frame.specs.Settings.{fields, lowest_of, greatest_of, value_of, with_value, is_in_range, first_out_of_range, IsInRange}
 
 -- if nothing is found, the first item does not pass and nothing is found after it
@@ -58,6 +58,11 @@ each_bounded c h KeepOrder = h.keep_order
 each_bounded c h CodelReset = h.codel_reset
 each_bounded c h Aql = h.aql
 each_bounded c h Pending = h.pending
+each_bounded c h Overhead = h.overhead
+each_bounded c h CapVi = h.cap_vi
+each_bounded c h CapVo = h.cap_vo
+each_bounded c h Answers = h.answers
+each_bounded c h Credits = h.credits
 
 all_bounded : (c : Config) → ((field : Field) → IsBounded c field) → IsInRange c
 all_bounded c each = record {
@@ -80,6 +85,11 @@ all_bounded c each = record {
   codel_reset = each CodelReset;
   aql = each Aql;
   pending = each Pending;
+  overhead = each Overhead;
+  cap_vi = each CapVi;
+  cap_vo = each CapVo;
+  answers = each Answers;
+  credits = each Credits;
 }
 
 -- if one setting is set to a value in its range, each setting is in its range
@@ -104,6 +114,11 @@ bounded_anew c KeepOrder KeepOrder value h b = b
 bounded_anew c CodelReset CodelReset value h b = b
 bounded_anew c Aql Aql value h b = b
 bounded_anew c Pending Pending value h b = b
+bounded_anew c Overhead Overhead value h b = b
+bounded_anew c CapVi CapVi value h b = b
+bounded_anew c CapVo CapVo value h b = b
+bounded_anew c Answers Answers value h b = b
+bounded_anew c Credits Credits value h b = b
 bounded_anew c field other value h b = each_bounded c h other
 
 -- end bounds
@@ -138,6 +153,11 @@ in_range c none =
       codel_reset = bounds _ _ _ (holds 16 Stations (lit< tt));
       aql = bounds _ _ _ (holds 17 Stations (lit< tt));
       pending = bounds _ _ _ (holds 18 Stations (lit< tt));
+      overhead = bounds _ _ _ (holds 19 Stations (lit< tt));
+      cap_vi = bounds _ _ _ (holds 20 Stations (lit< tt));
+      cap_vo = bounds _ _ _ (holds 21 Stations (lit< tt));
+      answers = bounds _ _ _ (holds 22 Stations (lit< tt));
+      credits = bounds _ _ _ (holds 23 Stations (lit< tt));
     }
 
 -- end found

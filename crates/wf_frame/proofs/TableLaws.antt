@@ -1,7 +1,8 @@
 -- Proves that the form of a call and the values of its arguments make the same call again, by cases of the
 -- call, and that values in range make a frame of a length in range.
-use Rattle.std.proofs.Common.{◌≡◌, ◌≤◌, List, [], ◌∷◌, refl}
-use Rattle.std.specs.Prelude.{Option, Some, None, option_map}
+use Rattle.std.proofs.Common.{ℕ, ◌≡◌, ◌≤◌, List, [], ◌∷◌, refl}
+use Rattle.std.specs.Prelude.{◌++◌, Option, Some, None, option_map}
+use Rattle.wf_frame.specs.declared.classes.Class.{Class}
 use Rattle.wf_def_lists.specs.Lengths.{greatest_body}
 use Rattle.wf_frame.specs.declared.calls.CallForm.{CallForm}
 use Rattle.wf_frame.specs.declared.calls.CallForm.TheVariants as form
@@ -10,15 +11,25 @@ use Rattle.wf_frame.specs.declared.calls.Value.TheVariants as value
 use Rattle.wf_frame.specs.declared.notes.Note.{Note}
 use Rattle.wf_frame.specs.declared.notes.Note.TheVariants.{Enqueue, Asked}
 use Rattle.wf_frame.specs.declared.notes.Ask.{Ask}
-use Rattle.wf_frame.specs.declared.notes.Ask.TheVariants.{Rate, Done}
+use Rattle.wf_frame.specs.declared.notes.Ask.TheVariants.{Rate, Pull, Done}
 use Rattle.wf_frame.specs.declared.notes.AskedRate.TheVariants.{Ht}
-use Rattle.wf_frame.specs.Calls.{args_of, ask_of, note_form, note_values, note_made, enqueued, AreOfKinds}
+use Rattle.wf_frame.specs.Calls.{args_of, form_of_limits, values_of_frames, values_of_air, limits, ask_of, note_form, note_values, note_made, enqueued, AreOfKinds}
+
+-- the same for a Pull with these limits
+pull_made_again : (class : Class) (frames air : Option ℕ) →
+    note_made (form_of_limits frames air) (value.Class class ∷ (values_of_frames frames ++ values_of_air air))
+    ≡ Some (Asked (Pull class (limits frames air)))
+pull_made_again class None None = refl
+pull_made_again class (Some frames) None = refl
+pull_made_again class None (Some air) = refl
+pull_made_again class (Some frames) (Some air) = refl
 
 -- the first lines separate rates by their formats, and Done calls with an airtime from those without; the
 -- last line is for each other call
 pub made_again : (note : Note) → note_made (note_form note) (note_values note) ≡ Some note
 made_again (Asked (Rate station (Ht mcs mhz short))) = refl
 made_again (Asked (Done exchange heard None)) = refl
+made_again (Asked (Pull class limits)) = pull_made_again class limits.frames limits.air
 made_again note = refl
 
 -- ---- the frame that values make

@@ -31,6 +31,8 @@ reply_with brief.Woken pairs ids = reply.Woken
 reply_with (brief.Polled class) pairs ids = reply.Polled class
 reply_with (brief.Charged deficit) pairs ids = reply.Charged deficit
 reply_with (brief.Reaped id fate) pairs ids = reply.Reaped id fate
+reply_with brief.Stopped pairs ids = reply.Stopped
+reply_with brief.Started pairs ids = reply.Started
 reply_with (brief.Refused refusal) pairs ids = reply.Refused refusal
 
 -- the reply of an answer: its brief, with the list that the brief refers to

@@ -1,6 +1,6 @@
 -- Defines the table of calls: for each form of a call's line its number, its word and its arguments.
 -- Defines also the values of the arguments of each call, and their ranges.
-use Rattle.std.specs.Prelude.{ℕ, ◌==◌, ◌<◌, ◌≤◌, ◌^◌, List, [], ◌∷◌, map, codes, Option, Some, None, find, option_map}
+use Rattle.std.specs.Prelude.{ℕ, ◌==◌, ◌<◌, ◌≤◌, ◌^◌, List, [], ◌∷◌, ◌++◌, map, codes, Option, Some, None, find, option_map}
 use Rattle.std.specs.Str.{bytes_eq}
 use Rattle.wf_frame.specs.declared.calls.CallForm.{CallForm}
 use Rattle.wf_frame.specs.declared.calls.CallForm.TheVariants as form
@@ -15,7 +15,8 @@ use Rattle.wf_frame.specs.declared.calls.Value.TheVariants as value
 use Rattle.wf_frame.specs.declared.notes.Note.{Note}
 use Rattle.wf_frame.specs.declared.notes.Note.TheVariants.{Enqueue, Asked}
 use Rattle.wf_frame.specs.declared.notes.Ask.{Ask}
-use Rattle.wf_frame.specs.declared.notes.Ask.TheVariants.{Join, Leave, Rate, Tick, Pull, Arrive, Answer, Done, Sleep, Wake, Poll, Rx, Reap}
+use Rattle.wf_frame.specs.declared.notes.Ask.TheVariants.{Join, Leave, Rate, Tick, Pull, Arrive, Answer, Done, Sleep, Wake, Poll, Rx, Reap, Ampdu, Stop, Start}
+use Rattle.wf_frame.specs.declared.notes.Limits.{Limits}
 use Rattle.wf_frame.specs.declared.notes.AskedRate.{AskedRate}
 use Rattle.wf_frame.specs.declared.notes.AskedRate.TheVariants.{Ht, Vht, He}
 use Rattle.wf_def_lists.specs.Lengths.{greatest_body}
@@ -42,6 +43,9 @@ form_row form.RateHe = row 2 (codes "rate") (codes "rate S he MCS MHZ GUARD N")
 form_row form.Tick = row 3 (codes "tick") (codes "tick MICROSECONDS")
 form_row form.Enqueue = row 4 (codes "enq") (codes "enq S TID FLOW LENGTH")
 form_row form.Pull = row 5 (codes "pull") (codes "pull CLASS")
+form_row form.PullFrames = row 5 (codes "pull") (codes "pull CLASS frames N")
+form_row form.PullAir = row 5 (codes "pull") (codes "pull CLASS air MICROSECONDS")
+form_row form.PullLimited = row 5 (codes "pull") (codes "pull CLASS frames N air MICROSECONDS")
 form_row form.Arrive = row 6 (codes "arrive") (codes "arrive EXCHANGE INDEX")
 form_row form.Answer = row 7 (codes "answer") (codes "answer EXCHANGE")
 form_row form.Done = row 8 (codes "done") (codes "done EXCHANGE HEARD")
@@ -51,6 +55,9 @@ form_row form.Wake = row 10 (codes "wake") (codes "wake S")
 form_row form.Poll = row 11 (codes "poll") (codes "poll S")
 form_row form.Rx = row 12 (codes "rx") (codes "rx S CLASS MICROSECONDS")
 form_row form.Reap = row 13 (codes "reap") (codes "reap")
+form_row form.Ampdu = row 14 (codes "ampdu") (codes "ampdu S OCTETS")
+form_row form.Stop = row 15 (codes "stop") (codes "stop S")
+form_row form.Start = row 16 (codes "start") (codes "start S")
 
 -- the number of a form's call
 abbrev pub form_number : CallForm → ℕ
@@ -78,6 +85,10 @@ arguments_of form.RateHe =
 arguments_of form.Tick = argument.By ∷ []
 arguments_of form.Enqueue = argument.Station ∷ argument.Tid ∷ argument.Flow ∷ argument.Length ∷ []
 arguments_of form.Pull = argument.Class ∷ []
+arguments_of form.PullFrames = argument.Class ∷ argument.Framed ∷ argument.Frames ∷ []
+arguments_of form.PullAir = argument.Class ∷ argument.Measured ∷ argument.Allowed ∷ []
+arguments_of form.PullLimited =
+    argument.Class ∷ argument.Framed ∷ argument.Frames ∷ argument.Measured ∷ argument.Allowed ∷ []
 arguments_of form.Arrive = argument.Exchange ∷ argument.Index ∷ []
 arguments_of form.Answer = argument.Exchange ∷ []
 arguments_of form.Done = argument.Exchange ∷ argument.Heard ∷ []
@@ -87,6 +98,13 @@ arguments_of form.Wake = argument.Station ∷ []
 arguments_of form.Poll = argument.Station ∷ []
 arguments_of form.Rx = argument.Station ∷ argument.Class ∷ argument.Air ∷ []
 arguments_of form.Reap = []
+arguments_of form.Ampdu = argument.Station ∷ argument.Octets ∷ []
+arguments_of form.Stop = argument.Station ∷ []
+arguments_of form.Start = argument.Station ∷ []
+
+-- the greatest number of frames that a line gives to a pull as its limit
+abbrev pub greatest_frames : ℕ
+greatest_frames = 65535
 
 -- the kind of an argument
 abbrev pub argument_kind : Argument → Arg
@@ -111,6 +129,10 @@ argument_kind argument.Index = kind.Short
 argument_kind argument.Heard = kind.Heard
 argument_kind argument.Measured = kind.Air
 argument_kind argument.Air = kind.Long
+argument_kind argument.Framed = kind.Frames
+argument_kind argument.Frames = kind.Number 1 greatest_frames
+argument_kind argument.Allowed = kind.Number 1 4294967295
+argument_kind argument.Octets = kind.Long
 
 -- the kinds of a form's arguments, in order
 abbrev pub args_of : CallForm → List Arg
@@ -129,14 +151,15 @@ default_of _ = None
 abbrev pub forms : List CallForm
 forms =
     form.Join ∷ form.Leave ∷ form.Rate ∷ form.RateVht ∷ form.RateHe ∷ form.Tick ∷ form.Enqueue ∷ form.Pull
-    ∷ form.Arrive ∷ form.Answer ∷ form.Done ∷ form.DoneAir ∷ form.Sleep ∷ form.Wake ∷ form.Poll ∷ form.Rx
-    ∷ form.Reap ∷ []
+    ∷ form.PullFrames ∷ form.PullAir ∷ form.PullLimited ∷ form.Arrive ∷ form.Answer ∷ form.Done ∷ form.DoneAir
+    ∷ form.Sleep ∷ form.Wake ∷ form.Poll ∷ form.Rx ∷ form.Reap ∷ form.Ampdu ∷ form.Stop ∷ form.Start ∷ []
 
 -- all calls, in their first forms
 abbrev pub calls : List CallForm
 calls =
     form.Join ∷ form.Leave ∷ form.Rate ∷ form.Tick ∷ form.Enqueue ∷ form.Pull ∷ form.Arrive ∷ form.Answer
-    ∷ form.Done ∷ form.Sleep ∷ form.Wake ∷ form.Poll ∷ form.Rx ∷ form.Reap ∷ []
+    ∷ form.Done ∷ form.Sleep ∷ form.Wake ∷ form.Poll ∷ form.Rx ∷ form.Reap ∷ form.Ampdu ∷ form.Stop
+    ∷ form.Start ∷ []
 
 -- the first form of the call with this word
 abbrev pub call_named : List ℕ → Option CallForm
@@ -163,6 +186,13 @@ form_of_rate (Ht mcs mhz short) = form.Rate
 form_of_rate (Vht mcs mhz short streams) = form.RateVht
 form_of_rate (He mcs mhz guard streams) = form.RateHe
 
+-- the form of the line of a Pull, by the limits that it gives
+abbrev pub form_of_limits : Option ℕ → Option ℕ → CallForm
+form_of_limits None None = form.Pull
+form_of_limits (Some frames) None = form.PullFrames
+form_of_limits None (Some air) = form.PullAir
+form_of_limits (Some frames) (Some air) = form.PullLimited
+
 -- the form of the line of a Done
 abbrev pub form_of_end : Option ℕ → CallForm
 form_of_end None = form.Done
@@ -175,7 +205,7 @@ note_form (Asked (Join station window start exponent weight)) = form.Join
 note_form (Asked (Leave station)) = form.Leave
 note_form (Asked (Rate station rate)) = form_of_rate rate
 note_form (Asked (Tick by)) = form.Tick
-note_form (Asked (Pull class)) = form.Pull
+note_form (Asked (Pull class limits)) = form_of_limits limits.frames limits.air
 note_form (Asked (Arrive exchange index)) = form.Arrive
 note_form (Asked (Answer exchange)) = form.Answer
 note_form (Asked (Done exchange heard air)) = form_of_end air
@@ -184,6 +214,9 @@ note_form (Asked (Wake station)) = form.Wake
 note_form (Asked (Poll station)) = form.Poll
 note_form (Asked (Rx station class air)) = form.Rx
 note_form (Asked Reap) = form.Reap
+note_form (Asked (Ampdu station octets)) = form.Ampdu
+note_form (Asked (Stop station)) = form.Stop
+note_form (Asked (Start station)) = form.Start
 
 -- the values of a rate's arguments after the station
 abbrev pub values_of_rate : AskedRate → List Value
@@ -193,10 +226,15 @@ values_of_rate (Vht mcs mhz short streams) =
 values_of_rate (He mcs mhz guard streams) =
     value.Format format.He ∷ value.Octet mcs ∷ value.Octet mhz ∷ value.Short guard ∷ value.Octet streams ∷ []
 
--- the values of the airtime of a Done, if it gives one
+-- the values of an airtime, if there is one: that of a Done, or the limit of a Pull
 abbrev pub values_of_air : Option ℕ → List Value
 values_of_air None = []
 values_of_air (Some air) = value.Air ∷ value.Long air ∷ []
+
+-- the values of the limit on frames of a Pull, if it gives one
+abbrev pub values_of_frames : Option ℕ → List Value
+values_of_frames None = []
+values_of_frames (Some frames) = value.Frames ∷ value.Long frames ∷ []
 
 -- the values of a call's arguments, in order
 abbrev pub note_values : Note → List Value
@@ -208,7 +246,8 @@ note_values (Asked (Join station window start exponent weight)) =
 note_values (Asked (Leave station)) = value.Short station ∷ []
 note_values (Asked (Rate station rate)) = value.Short station ∷ values_of_rate rate
 note_values (Asked (Tick by)) = value.Long by ∷ []
-note_values (Asked (Pull class)) = value.Class class ∷ []
+note_values (Asked (Pull class limits)) =
+    value.Class class ∷ (values_of_frames limits.frames ++ values_of_air limits.air)
 note_values (Asked (Arrive exchange index)) = value.Exchange exchange ∷ value.Short index ∷ []
 note_values (Asked (Answer exchange)) = value.Exchange exchange ∷ []
 note_values (Asked (Done exchange heard air)) =
@@ -218,12 +257,23 @@ note_values (Asked (Wake station)) = value.Short station ∷ []
 note_values (Asked (Poll station)) = value.Short station ∷ []
 note_values (Asked (Rx station class air)) = value.Short station ∷ value.Class class ∷ value.Long air ∷ []
 note_values (Asked Reap) = []
+note_values (Asked (Ampdu station octets)) = value.Short station ∷ value.Long octets ∷ []
+note_values (Asked (Stop station)) = value.Short station ∷ []
+note_values (Asked (Start station)) = value.Short station ∷ []
 
 -- the Enqueue call with these values; None if they are no values of its arguments
 abbrev pub enqueued : List Value → Option Note
 enqueued (value.Short station ∷ value.Octet tid ∷ value.Long flow ∷ value.Short len ∷ []) =
     Some (Enqueue station tid flow len)
 enqueued _ = None
+
+-- the limits of a Pull
+abbrev pub limits : Option ℕ → Option ℕ → Limits
+limits frames air = record { frames = frames; air = air }
+
+-- the limits of a Pull that gives none
+abbrev pub no_limits : Limits
+no_limits = limits None None
 
 -- the call without a frame that has this form and these values
 abbrev pub ask_of : CallForm → List Value → Option Ask
@@ -237,7 +287,13 @@ ask_of form.RateVht (value.Short station ∷ value.Format format.Vht ∷ value.O
 ask_of form.RateHe (value.Short station ∷ value.Format format.He ∷ value.Octet mcs ∷ value.Octet mhz
     ∷ value.Short guard ∷ value.Octet streams ∷ []) = Some (Rate station (He mcs mhz guard streams))
 ask_of form.Tick (value.Long by ∷ []) = Some (Tick by)
-ask_of form.Pull (value.Class class ∷ []) = Some (Pull class)
+ask_of form.Pull (value.Class class ∷ []) = Some (Pull class (limits None None))
+ask_of form.PullFrames (value.Class class ∷ value.Frames ∷ value.Long frames ∷ []) =
+    Some (Pull class (limits (Some frames) None))
+ask_of form.PullAir (value.Class class ∷ value.Air ∷ value.Long air ∷ []) =
+    Some (Pull class (limits None (Some air)))
+ask_of form.PullLimited (value.Class class ∷ value.Frames ∷ value.Long frames ∷ value.Air ∷ value.Long air
+    ∷ []) = Some (Pull class (limits (Some frames) (Some air)))
 ask_of form.Arrive (value.Exchange exchange ∷ value.Short index ∷ []) = Some (Arrive exchange index)
 ask_of form.Answer (value.Exchange exchange ∷ []) = Some (Answer exchange)
 ask_of form.Done (value.Exchange exchange ∷ value.Heard heard ∷ []) = Some (Done exchange heard None)
@@ -248,6 +304,9 @@ ask_of form.Wake (value.Short station ∷ []) = Some (Wake station)
 ask_of form.Poll (value.Short station ∷ []) = Some (Poll station)
 ask_of form.Rx (value.Short station ∷ value.Class class ∷ value.Long air ∷ []) = Some (Rx station class air)
 ask_of form.Reap [] = Some Reap
+ask_of form.Ampdu (value.Short station ∷ value.Long octets ∷ []) = Some (Ampdu station octets)
+ask_of form.Stop (value.Short station ∷ []) = Some (Stop station)
+ask_of form.Start (value.Short station ∷ []) = Some (Start station)
 ask_of _ _ = None
 
 -- the call of a form with these values; None if they are no values of its arguments
@@ -270,6 +329,7 @@ IsOfKind kind.Format (value.Format f) = Unit {0}
 IsOfKind kind.Guard (value.Guard short) = Unit {0}
 IsOfKind kind.Heard (value.Heard heard) = Unit {0}
 IsOfKind kind.Air value.Air = Unit {0}
+IsOfKind kind.Frames value.Frames = Unit {0}
 IsOfKind kind.End (value.End recipient) = Unit {0}
 IsOfKind (kind.Number low high) (value.Long n) = (low ≤ n) × (n ≤ high)
 IsOfKind _ _ = ⊥
@@ -280,11 +340,14 @@ AreOfKinds [] [] = Unit {0}
 AreOfKinds (arg ∷ args) (v ∷ values) = IsOfKind arg v × AreOfKinds args values
 AreOfKinds _ _ = ⊥
 
--- the line has room for the value of an argument: an exchange number has at most 32 bits, and a length is 1
--- to 2304 octets. The types of Rust bound all other values.
+-- the line has room for the value of an argument: an exchange number has at most 32 bits, a length is 1 to
+-- 2304 octets, and a limit of a Pull is at least 1, a limit on frames at most 65,535. The types of Rust bound
+-- all other values.
 abbrev pub FitsLine : Argument → Value → Type 0
 FitsLine argument.Exchange (value.Exchange n) = n < 2 ^ 32
 FitsLine argument.Length (value.Short n) = (1 ≤ n) × (n ≤ greatest_body)
+FitsLine argument.Frames (value.Long n) = (1 ≤ n) × (n ≤ greatest_frames)
+FitsLine argument.Allowed (value.Long n) = 1 ≤ n
 FitsLine _ _ = Unit {0}
 
 -- the same for each argument

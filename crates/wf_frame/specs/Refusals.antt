@@ -2,7 +2,7 @@
 -- of them.
 use Rattle.std.specs.Prelude.{ℕ, ℤ, pos, ◌==◌, Option, Some, None, List, [], ◌∷◌, codes, find}
 use Rattle.wf_frame.specs.declared.notes.Refusal.{Refusal}
-use Rattle.wf_frame.specs.declared.notes.Refusal.TheVariants.{BadStation, BadWindow, BadStart, BadExponent, BadRate, BadTick, BadTid, BadAir, BadIndex, Live, NoStation, NoExchange, NoAnswer, Open, Room, Sleeping, Full, Idle, Answered, Arrived, Nothing, Asleep, Awake, Polled, Debt, HistoryFull, BadWeight, Ahead}
+use Rattle.wf_frame.specs.declared.notes.Refusal.TheVariants.{BadStation, BadWindow, BadStart, BadExponent, BadRate, BadTick, BadTid, BadAir, BadIndex, Live, NoStation, NoExchange, NoAnswer, Open, Room, Sleeping, Full, Idle, Answered, Arrived, Nothing, Asleep, Awake, Polled, Debt, HistoryFull, BadWeight, Ahead, BadAmpdu, Stopped, Started}
 
 -- begin rows: tools/tables writes these lines
 
@@ -36,6 +36,9 @@ refusal_row (Debt deficit) = (25, codes "debt")
 refusal_row HistoryFull = (26, codes "history-full")
 refusal_row BadWeight = (27, codes "bad-weight")
 refusal_row (Ahead owed) = (28, codes "ahead")
+refusal_row BadAmpdu = (29, codes "bad-ampdu")
+refusal_row Stopped = (30, codes "stopped")
+refusal_row Started = (31, codes "started")
 
 -- end rows
 
@@ -65,7 +68,8 @@ abbrev pub refusal_list : List Refusal
 refusal_list =
     BadStation ∷ BadWindow ∷ BadStart ∷ BadExponent ∷ BadRate ∷ BadTick ∷ BadTid ∷ BadAir ∷ BadIndex ∷ Live
     ∷ NoStation ∷ NoExchange ∷ NoAnswer ∷ Open 0 ∷ Room 0 ∷ Sleeping 0 ∷ Full 0 ∷ Idle ∷ Answered ∷ Arrived
-    ∷ Nothing ∷ Asleep ∷ Awake ∷ Polled ∷ Debt (pos 0) ∷ HistoryFull ∷ BadWeight ∷ Ahead 0 ∷ []
+    ∷ Nothing ∷ Asleep ∷ Awake ∷ Polled ∷ Debt (pos 0) ∷ HistoryFull ∷ BadWeight ∷ Ahead 0 ∷ BadAmpdu
+    ∷ Stopped ∷ Started ∷ []
 
 -- end numbers
 

@@ -4,7 +4,7 @@ use Rattle.std.specs.Prelude.{ℕ, ◌==◌, ◌≤◌, nat_le, Bool, false, ◌
 use Rattle.std.specs.Str.{bytes_eq}
 use Rattle.wf_frame.specs.declared.settings.Config.{Config}
 use Rattle.wf_frame.specs.declared.settings.Field.{Field}
-use Rattle.wf_frame.specs.declared.settings.Field.TheVariants.{Stations, Flows, Limit, Room, FlowQuantum, Quantum, Inflight, Attempts, Agg, Cap, Sleeping, Calls, Charge, Debt, AqlTotal, KeepOrder, CodelReset, Aql, Pending}
+use Rattle.wf_frame.specs.declared.settings.Field.TheVariants.{Stations, Flows, Limit, Room, FlowQuantum, Quantum, Inflight, Attempts, Agg, Cap, Sleeping, Calls, Charge, Debt, AqlTotal, KeepOrder, CodelReset, Aql, Pending, Overhead, CapVi, CapVo, Answers, Credits}
 
 -- a row: the number of a setting, its word, its least value and its greatest value
 pub record Row : Type 0 where
@@ -39,6 +39,11 @@ setting_row KeepOrder = row 16 (codes "keep_order") 0 1
 setting_row CodelReset = row 17 (codes "codel_reset") 0 1
 setting_row Aql = row 18 (codes "aql") 0 262144
 setting_row Pending = row 19 (codes "pending") 0 1
+setting_row Overhead = row 20 (codes "overhead") 0 32
+setting_row CapVi = row 21 (codes "cap_vi") 0 5400
+setting_row CapVo = row 22 (codes "cap_vo") 0 5400
+setting_row Answers = row 23 (codes "answers") 0 1
+setting_row Credits = row 24 (codes "credits") 0 1
 
 -- the standard settings: those of a head that sets none
 abbrev pub standard : Config
@@ -62,6 +67,11 @@ standard = record {
   codel_reset = 0;
   aql = 0;
   pending = 0;
+  overhead = 0;
+  cap_vi = 0;
+  cap_vo = 0;
+  answers = 0;
+  credits = 0;
 }
 
 -- the settings for devices: the standard ones with these values
@@ -75,12 +85,14 @@ device = record standard {
   codel_reset = 1;
   aql = 12000;
   pending = 1;
+  credits = 1;
 }
 
 -- the settings, in the order in which they are checked
 abbrev pub fields : List Field
 fields = Stations ∷ Flows ∷ Limit ∷ Room ∷ FlowQuantum ∷ Quantum ∷ Inflight ∷ Attempts ∷ Agg ∷ Cap ∷ Sleeping
-    ∷ Calls ∷ Charge ∷ Debt ∷ AqlTotal ∷ KeepOrder ∷ CodelReset ∷ Aql ∷ Pending ∷ []
+    ∷ Calls ∷ Charge ∷ Debt ∷ AqlTotal ∷ KeepOrder ∷ CodelReset ∷ Aql ∷ Pending ∷ Overhead ∷ CapVi ∷ CapVo
+    ∷ Answers ∷ Credits ∷ []
 
 -- end rows
 
@@ -131,6 +143,11 @@ value_of c KeepOrder = c.keep_order
 value_of c CodelReset = c.codel_reset
 value_of c Aql = c.aql
 value_of c Pending = c.pending
+value_of c Overhead = c.overhead
+value_of c CapVi = c.cap_vi
+value_of c CapVo = c.cap_vo
+value_of c Answers = c.answers
+value_of c Credits = c.credits
 
 -- the settings with one of them set to a value
 abbrev pub with_value : Config → Field → ℕ → Config
@@ -153,6 +170,11 @@ with_value c KeepOrder value = record c { keep_order = value }
 with_value c CodelReset value = record c { codel_reset = value }
 with_value c Aql value = record c { aql = value }
 with_value c Pending value = record c { pending = value }
+with_value c Overhead value = record c { overhead = value }
+with_value c CapVi value = record c { cap_vi = value }
+with_value c CapVo value = record c { cap_vo = value }
+with_value c Answers value = record c { answers = value }
+with_value c Credits value = record c { credits = value }
 
 -- end values
 
@@ -198,5 +220,10 @@ pub record IsInRange (config : Config) : Type 0 where
   pub codel_reset : (0 ≤ config.codel_reset) × (config.codel_reset ≤ 1)
   pub aql : (0 ≤ config.aql) × (config.aql ≤ 262144)
   pub pending : (0 ≤ config.pending) × (config.pending ≤ 1)
+  pub overhead : (0 ≤ config.overhead) × (config.overhead ≤ 32)
+  pub cap_vi : (0 ≤ config.cap_vi) × (config.cap_vi ≤ 5400)
+  pub cap_vo : (0 ≤ config.cap_vo) × (config.cap_vo ≤ 5400)
+  pub answers : (0 ≤ config.answers) × (config.answers ≤ 1)
+  pub credits : (0 ≤ config.credits) × (config.credits ≤ 1)
 
 -- end ranges

@@ -18,7 +18,7 @@ pub enum Brief {
     Left {
         dropped: u32,
     },
-    /// The rate is set.
+    /// The rate or the greatest aggregate is set.
     Set,
     /// The clock after the tick, in microseconds.
     Now {
@@ -75,6 +75,10 @@ pub enum Brief {
         id: u64,
         fate: Fate,
     },
+    /// The station is stopped.
+    Stopped,
+    /// The station is started.
+    Started,
     /// The call was refused.
     Refused(Refusal),
 }

@@ -1,8 +1,8 @@
 //! The bounds of the arguments of calls, and of counts. Section numbers are those of IEEE 802.11-2012. The
 //! bounds of settings are `Field::least` and `Field::most`.
 
-/// The greatest window of an agreement, in numbers. It is this project's own: the BlockAck of a wide
-/// session has a bit for each number.
+/// The greatest window of an agreement, in numbers: the BlockAck's bitmap of 32 octets has a bit for each
+/// number (IEEE 802.11ax-2021, 9.3.1.8.2).
 pub const GREATEST_WINDOW: u16 = 256;
 
 /// The greatest window of a session that is not wide, in numbers: the BlockAck's bitmap of 8 octets has a
@@ -14,6 +14,13 @@ pub const GREATEST_START: u16 = 4095;
 
 /// The greatest maximum A-MPDU length exponent (8.4.2.58.3).
 pub const GREATEST_EXPONENT: u8 = 3;
+
+/// The least and the greatest number of octets that `ampdu` may state for a station. One subframe of the
+/// greatest body with its encryption fits the least, which is this project's own; the greatest is that of a
+/// receiver of HE (IEEE 802.11ax-2021, 26.6.1).
+pub const LEAST_AMPDU: u32 = 4_096;
+
+pub const GREATEST_AMPDU: u32 = 6_500_631;
 
 /// The greatest weight of a station, in quanta.
 pub const GREATEST_WEIGHT: u8 = 16;

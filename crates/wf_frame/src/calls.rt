@@ -6,8 +6,11 @@ ghost use Rattle.wf_frame.specs.Calls.{form_number, call_word, form_line, forms,
 
 use crate::Class;
 
-/// A form of a call's line. A rate has three forms, one for each format, and the end of an exchange has
-/// two; each other call has one. The comment of each variant is its sentence in the table of docs/TRACE.md.
+/// The greatest number of frames that a line gives to a pull as its limit.
+const GREATEST_FRAMES: u32 = 65_535;
+
+/// A form of a call's line. A rate has three forms, one for each format, a pull has four, by the limits that
+/// it gives, and the end of an exchange has two; each other call has one. The comment of each variant is its sentence in the table of docs/TRACE.md.
 /// Names in capitals are those of the line.
 #[derive(Clone, Copy)]
 pub enum CallForm {
@@ -28,6 +31,12 @@ pub enum CallForm {
     Enqueue,
     /// The driver asks for the next exchange of a class.
     Pull,
+    /// The same, with at most N frames.
+    PullFrames,
+    /// The same, with data of at most this airtime.
+    PullAir,
+    /// The same, with both limits.
+    PullLimited,
     /// One transmission of an exchange reached its station; INDEX counts from 0.
     Arrive,
     /// The station answers an exchange with a BlockAck.
@@ -46,6 +55,12 @@ pub enum CallForm {
     Rx,
     /// The caller takes the next finished frame.
     Reap,
+    /// A station takes VHT and HE aggregates of at most OCTETS until it leaves.
+    Ampdu,
+    /// No pull picks the station from now on.
+    Stop,
+    /// Pulls may pick the station again.
+    Start,
 }
 
 /// The format of a rate, if its line has a word for it. A rate of HT has none.
@@ -96,10 +111,18 @@ pub enum Argument {
     Index,
     /// Whether the answer to an exchange was heard.
     Heard,
-    /// The word before the airtime that the end of an exchange gives.
+    /// The word before the airtime that the end of an exchange gives, or that a pull allows.
     Measured,
     /// An airtime, in microseconds.
     Air,
+    /// The word before the number of frames that a pull allows.
+    Framed,
+    /// The most frames that a pull allows.
+    Frames,
+    /// The most microseconds that a pull allows for the data of an exchange.
+    Allowed,
+    /// The most octets of an aggregate.
+    Octets,
 }
 
 /// The kind of an argument: which values it may have.
@@ -127,6 +150,8 @@ pub enum Arg {
     Heard,
     /// `air`.
     Air,
+    /// `frames`.
+    Frames,
     /// A number from low to high.
     Number { low: u32, high: u32 },
     /// `a` or `b`: an end of an agreement, the originator or the recipient.
@@ -149,6 +174,8 @@ pub enum Value {
     Heard(bool),
     /// The word before an airtime.
     Air,
+    /// The word before a number of frames.
+    Frames,
     /// Whether the end is the recipient.
     End(bool),
 }
@@ -165,7 +192,7 @@ impl Default for Value {
     }
 }
 
-const CALLS: [CallForm; 14] = [
+const CALLS: [CallForm; 17] = [
     CallForm::Join,
     CallForm::Leave,
     CallForm::Rate,
@@ -180,9 +207,12 @@ const CALLS: [CallForm; 14] = [
     CallForm::Poll,
     CallForm::Rx,
     CallForm::Reap,
+    CallForm::Ampdu,
+    CallForm::Stop,
+    CallForm::Start,
 ];
 
-const FORMS: [CallForm; 17] = [
+const FORMS: [CallForm; 23] = [
     CallForm::Join,
     CallForm::Leave,
     CallForm::Rate,
@@ -191,6 +221,9 @@ const FORMS: [CallForm; 17] = [
     CallForm::Tick,
     CallForm::Enqueue,
     CallForm::Pull,
+    CallForm::PullFrames,
+    CallForm::PullAir,
+    CallForm::PullLimited,
     CallForm::Arrive,
     CallForm::Answer,
     CallForm::Done,
@@ -200,6 +233,9 @@ const FORMS: [CallForm; 17] = [
     CallForm::Poll,
     CallForm::Rx,
     CallForm::Reap,
+    CallForm::Ampdu,
+    CallForm::Stop,
+    CallForm::Start,
 ];
 
 impl RateFormat {
@@ -232,7 +268,7 @@ impl CallForm {
         ensures number { result.0 ≡ form_number self }
         ensures word { result.1.now ≡ call_word self }
         ensures line { result.2.now ≡ form_line self }
-        ensures range { result.0 < 14 }
+        ensures range { result.0 < 17 }
         ensures short { length result.1.now ≤ 6 }
     {
         match self {
@@ -244,6 +280,9 @@ impl CallForm {
             CallForm::Tick => (3, b"tick", b"tick MICROSECONDS"),
             CallForm::Enqueue => (4, b"enq", b"enq S TID FLOW LENGTH"),
             CallForm::Pull => (5, b"pull", b"pull CLASS"),
+            CallForm::PullFrames => (5, b"pull", b"pull CLASS frames N"),
+            CallForm::PullAir => (5, b"pull", b"pull CLASS air MICROSECONDS"),
+            CallForm::PullLimited => (5, b"pull", b"pull CLASS frames N air MICROSECONDS"),
             CallForm::Arrive => (6, b"arrive", b"arrive EXCHANGE INDEX"),
             CallForm::Answer => (7, b"answer", b"answer EXCHANGE"),
             CallForm::Done => (8, b"done", b"done EXCHANGE HEARD"),
@@ -253,20 +292,23 @@ impl CallForm {
             CallForm::Poll => (11, b"poll", b"poll S"),
             CallForm::Rx => (12, b"rx", b"rx S CLASS MICROSECONDS"),
             CallForm::Reap => (13, b"reap", b"reap"),
+            CallForm::Ampdu => (14, b"ampdu", b"ampdu S OCTETS"),
+            CallForm::Stop => (15, b"stop", b"stop S"),
+            CallForm::Start => (16, b"start", b"start S"),
         }
     }
 
     /// Returns all forms, in the order of the help.
-    pub fn all() -> [CallForm; 17]
+    pub fn all() -> [CallForm; 23]
         ensures { result ≡ forms }
     {
         FORMS
     }
 
-    /// Returns the number of its call in C: 0 to 13.
+    /// Returns the number of its call in C: 0 to 16.
     pub fn number(self) -> u8
         ensures number { result ≡ form_number self }
-        ensures range { result < 14 }
+        ensures range { result < 17 }
     {
         self.row().0
     }
@@ -322,6 +364,15 @@ impl CallForm {
                 Argument::Length,
             ],
             CallForm::Pull => &[Argument::Class],
+            CallForm::PullFrames => &[Argument::Class, Argument::Framed, Argument::Frames],
+            CallForm::PullAir => &[Argument::Class, Argument::Measured, Argument::Allowed],
+            CallForm::PullLimited => &[
+                Argument::Class,
+                Argument::Framed,
+                Argument::Frames,
+                Argument::Measured,
+                Argument::Allowed,
+            ],
             CallForm::Arrive => &[Argument::Exchange, Argument::Index],
             CallForm::Answer => &[Argument::Exchange],
             CallForm::Done => &[Argument::Exchange, Argument::Heard],
@@ -331,11 +382,15 @@ impl CallForm {
                 Argument::Measured,
                 Argument::Air,
             ],
-            CallForm::Leave | CallForm::Sleep | CallForm::Wake | CallForm::Poll => {
-                &[Argument::Station]
-            }
+            CallForm::Leave
+            | CallForm::Sleep
+            | CallForm::Wake
+            | CallForm::Poll
+            | CallForm::Stop
+            | CallForm::Start => &[Argument::Station],
             CallForm::Rx => &[Argument::Station, Argument::Class, Argument::Air],
             CallForm::Reap => &[],
+            CallForm::Ampdu => &[Argument::Station, Argument::Octets],
         }
     }
 
@@ -388,7 +443,7 @@ impl Argument {
             | Argument::Mhz
             | Argument::Streams
             | Argument::Tid => Arg::Octet,
-            Argument::By | Argument::Flow | Argument::Air => Arg::Long,
+            Argument::By | Argument::Flow | Argument::Air | Argument::Octets => Arg::Long,
             Argument::Exchange => Arg::Exchange,
             Argument::Weight => Arg::Weight,
             Argument::Length => Arg::Length,
@@ -397,6 +452,15 @@ impl Argument {
             Argument::Guard => Arg::Guard,
             Argument::Heard => Arg::Heard,
             Argument::Measured => Arg::Air,
+            Argument::Framed => Arg::Frames,
+            Argument::Frames => Arg::Number {
+                low: 1,
+                high: GREATEST_FRAMES,
+            },
+            Argument::Allowed => Arg::Number {
+                low: 1,
+                high: u32::MAX,
+            },
         }
     }
 }

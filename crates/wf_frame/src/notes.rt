@@ -32,7 +32,24 @@ pub enum AskedRate {
     },
 }
 
-/// A call that brings no frame: one of thirteen. An argument outside its given range is refused.
+/// The limits of a pull, which a driver gives for what its device can take now. An aggregate has at most
+/// `frames` frames, and its data take at most `air` microseconds; `None` limits nothing. One frame, and a
+/// BlockAckReq, go whatever the limits are.
+#[derive(Clone, Copy, Debug, PartialEq, Eq)]
+pub struct Limits {
+    pub frames: Option<u32>,
+    pub air: Option<u32>,
+}
+
+impl Limits {
+    /// Limits that limit nothing.
+    pub const NONE: Limits = Limits {
+        frames: None,
+        air: None,
+    };
+}
+
+/// A call that brings no frame: one of sixteen. An argument outside its given range is refused.
 #[derive(Clone, Copy, Debug, PartialEq, Eq)]
 pub enum Ask {
     /// A station joins, with its window size in frames (1 to 256), first sequence number (0 to 4095),
@@ -57,9 +74,10 @@ pub enum Ask {
     Tick {
         by: u32,
     },
-    /// The driver asks for the next exchange of a class.
+    /// The driver asks for the next exchange of a class, within these limits.
     Pull {
         class: Class,
+        limits: Limits,
     },
     /// A transmission of an open exchange reached its station. `index` counts the transmissions from 0.
     Arrive {
@@ -97,6 +115,20 @@ pub enum Ask {
     },
     /// The caller takes the next finished frame.
     Reap,
+    /// A station takes aggregates of at most this many octets at a rate of VHT or HE until it leaves: 4,096 to
+    /// 6,500,631 (IEEE 802.11ax-2021, 26.6.1). Until then its exponent bounds them, at a rate of HT always.
+    Ampdu {
+        station: u16,
+        octets: u32,
+    },
+    /// No pull picks the station until it is started.
+    Stop {
+        station: u16,
+    },
+    /// Pulls may pick the station again.
+    Start {
+        station: u16,
+    },
 }
 
 /// A call as numbers.
@@ -187,6 +219,12 @@ pub enum Refusal {
     BadWeight,
     /// `owed` microseconds of computed airtime are in flight in all classes: `aql_total` or more.
     Ahead { owed: u32 },
+    /// The greatest aggregate is not 4,096 to 6,500,631 octets.
+    BadAmpdu,
+    /// The station is stopped already.
+    Stopped,
+    /// The station is not stopped.
+    Started,
     // end refusals
 }
 
@@ -200,7 +238,7 @@ pub enum ReplyNote {
     Left {
         dropped: u32,
     },
-    /// The rate is set.
+    /// The rate or the greatest aggregate is set.
     Set,
     /// The clock after the tick, in microseconds.
     Now {
@@ -258,6 +296,10 @@ pub enum ReplyNote {
         id: u64,
         fate: Fate,
     },
+    /// The station is stopped.
+    Stopped,
+    /// The station is started.
+    Started,
     /// The call was refused.
     Refused(Refusal),
 }

@@ -6,7 +6,7 @@ ghost use Rattle.wf_frame.specs.Refusals.{refusal_number, refusal_word, number_t
 use crate::Refusal;
 
 // The refusals by their numbers. A number that follows the word is 0.
-const REFUSALS: [Refusal; 28] = [
+const REFUSALS: [Refusal; 31] = [
     // begin list: tools/tables writes these lines
     Refusal::BadStation,
     Refusal::BadWindow,
@@ -36,6 +36,9 @@ const REFUSALS: [Refusal; 28] = [
     Refusal::HistoryFull,
     Refusal::BadWeight,
     Refusal::Ahead { owed: 0 },
+    Refusal::BadAmpdu,
+    Refusal::Stopped,
+    Refusal::Started,
     // end list
 ];
 
@@ -44,7 +47,7 @@ impl Refusal {
     fn row(self) -> (u8, &'static [u8])
         ensures number { result.0 ≡ refusal_number self }
         ensures word { result.1.now ≡ refusal_word self }
-        ensures range { (0 < result.0) × (result.0 ≤ 28) }
+        ensures range { (0 < result.0) × (result.0 ≤ 31) }
         ensures short { length result.1.now ≤ 12 }
     {
         match self {
@@ -77,14 +80,17 @@ impl Refusal {
             Refusal::HistoryFull => (26, b"history-full"),
             Refusal::BadWeight => (27, b"bad-weight"),
             Refusal::Ahead { .. } => (28, b"ahead"),
+            Refusal::BadAmpdu => (29, b"bad-ampdu"),
+            Refusal::Stopped => (30, b"stopped"),
+            Refusal::Started => (31, b"started"),
             // end rows
         }
     }
 
-    /// Returns the number of the refusal in C: 1 to 28.
+    /// Returns the number of the refusal in C: 1 to 31.
     pub fn number(self) -> u8
         ensures number { result ≡ refusal_number self }
-        ensures range { (0 < result) × (result ≤ 28) }
+        ensures range { (0 < result) × (result ≤ 31) }
     {
         self.row().0
     }

@@ -48,6 +48,18 @@ pub struct Config {
     pub aql: u32,
     /// Whether a station's airtime in flight counts against its deficit at a pick: 1, or 0.
     pub pending: u32,
+    /// The octets of encryption that each MPDU has in addition to its header, body and check sequence.
+    pub overhead: u32,
+    /// The longest data time of one aggregate of class Vi, in microseconds. 0 is that of `cap`.
+    pub cap_vi: u32,
+    /// The longest data time of one aggregate of class Vo, in microseconds. 0 is that of `cap`.
+    pub cap_vo: u32,
+    /// Whether BlockAcks and BlockAckReqs go at 6, 12 or 24 Mbit/s by the rate of the data: 1, or 0, always
+    /// at 24.
+    pub answers: u32,
+    /// Whether a credit blocks the next poll only while the station can send in the credit's class: 1, or
+    /// 0, always.
+    pub credits: u32,
     // end fields
 }
 
@@ -94,11 +106,22 @@ pub enum Field {
     Aql,
     /// Whether the airtime in flight counts against a station when a pull picks one.
     Pending,
+    /// Octets of encryption that each MPDU has in addition to its header, body and check sequence.
+    Overhead,
+    /// Data time of one aggregate of `vi`, microseconds; 0 means `cap`.
+    CapVi,
+    /// Data time of one aggregate of `vo`, microseconds; 0 means `cap`.
+    CapVo,
+    /// Whether BlockAcks and BlockAckReqs go at 6, 12 or 24 Mbit/s by the rate of the data; with 0 always
+    /// at 24.
+    Answers,
+    /// Whether a credit blocks the next poll only while the station can send in the credit's class.
+    Credits,
     // end variants
 }
 
 // The settings, in the order in which they are checked.
-const FIELDS: [Field; 19] = [
+const FIELDS: [Field; 24] = [
     // begin list: tools/tables writes these lines
     Field::Stations,
     Field::Flows,
@@ -119,12 +142,17 @@ const FIELDS: [Field; 19] = [
     Field::CodelReset,
     Field::Aql,
     Field::Pending,
+    Field::Overhead,
+    Field::CapVi,
+    Field::CapVo,
+    Field::Answers,
+    Field::Credits,
     // end list
 ];
 
 impl Field {
     /// Returns the settings, in the order in which they are checked.
-    pub fn all() -> [Field; 19]
+    pub fn all() -> [Field; 24]
         ensures { result ≡ fields }
     {
         FIELDS
@@ -136,7 +164,7 @@ impl Field {
         ensures word { result.1.now ≡ setting_word self }
         ensures least { result.2 ≡ lowest_of self }
         ensures greatest { result.3 ≡ greatest_of self }
-        ensures numbered { (1 ≤ result.0) × (result.0 ≤ 19) }
+        ensures numbered { (1 ≤ result.0) × (result.0 ≤ 24) }
         ensures short { length result.1.now ≤ 12 }
     {
         match self {
@@ -160,14 +188,19 @@ impl Field {
             Field::CodelReset => (17, b"codel_reset", 0, 1),
             Field::Aql => (18, b"aql", 0, 262_144),
             Field::Pending => (19, b"pending", 0, 1),
+            Field::Overhead => (20, b"overhead", 0, 32),
+            Field::CapVi => (21, b"cap_vi", 0, 5400),
+            Field::CapVo => (22, b"cap_vo", 0, 5400),
+            Field::Answers => (23, b"answers", 0, 1),
+            Field::Credits => (24, b"credits", 0, 1),
             // end rows
         }
     }
 
-    /// Returns the number of the setting in C: 1 to 19.
+    /// Returns the number of the setting in C: 1 to 24.
     pub fn number(self) -> u8
         ensures number { result ≡ setting_number self }
-        ensures range { (1 ≤ result) × (result ≤ 19) }
+        ensures range { (1 ≤ result) × (result ≤ 24) }
     {
         self.row().0
     }
@@ -246,6 +279,11 @@ impl Field {
             Field::CodelReset => config.codel_reset,
             Field::Aql => config.aql,
             Field::Pending => config.pending,
+            Field::Overhead => config.overhead,
+            Field::CapVi => config.cap_vi,
+            Field::CapVo => config.cap_vo,
+            Field::Answers => config.answers,
+            Field::Credits => config.credits,
             // end value
         }
     }
@@ -275,6 +313,11 @@ impl Field {
             Field::CodelReset => config.codel_reset = value,
             Field::Aql => config.aql = value,
             Field::Pending => config.pending = value,
+            Field::Overhead => config.overhead = value,
+            Field::CapVi => config.cap_vi = value,
+            Field::CapVo => config.cap_vo = value,
+            Field::Answers => config.answers = value,
+            Field::Credits => config.credits = value,
             // end set
         }
     }
@@ -306,6 +349,11 @@ impl Config {
             codel_reset: 0,
             aql: 0,
             pending: 0,
+            overhead: 0,
+            cap_vi: 0,
+            cap_vo: 0,
+            answers: 0,
+            credits: 0,
             // end standard
         }
     }
@@ -337,6 +385,11 @@ impl Config {
             codel_reset: 1,
             aql: 12_000,
             pending: 1,
+            overhead: 0,
+            cap_vi: 0,
+            cap_vo: 0,
+            answers: 0,
+            credits: 1,
             // end device
         }
     }

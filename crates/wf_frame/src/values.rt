@@ -2,11 +2,12 @@
 
 ghost use Rattle.std.specs.Prelude.{◌≡◌, ◌≤◌, length, Some};
 ghost use Rattle.wf_frame.specs.declared.notes.Note.TheVariants.{Asked};
-ghost use Rattle.wf_frame.specs.declared.notes.Ask.TheVariants.{Rate, Done};
-ghost use Rattle.wf_frame.specs.Calls.{note_form, form_of_rate, note_values, note_made, IsPrintable, NumbersAreInRange};
+ghost use Rattle.wf_frame.specs.declared.notes.Ask.TheVariants.{Rate, Pull, Done};
+ghost use Rattle.wf_frame.specs.Calls.{note_form, form_of_rate, form_of_limits, limits, note_values, note_made, IsPrintable, NumbersAreInRange};
 
+use crate::Class;
 use crate::calls::{CallForm, RateFormat, Value};
-use crate::notes::{Ask, AskedRate, Note};
+use crate::notes::{Ask, AskedRate, Limits, Note};
 use arrayvec::ArrayVec;
 
 impl Note {
@@ -69,7 +70,10 @@ impl Note {
             (CallForm::RateVht, _) => vht(values),
             (CallForm::RateHe, _) => he(values),
             (CallForm::Tick, [Value::Long(by)]) => asked(Ask::Tick { by: *by }),
-            (CallForm::Pull, [Value::Class(class)]) => asked(Ask::Pull { class: *class }),
+            (CallForm::Pull, _) => pull(values),
+            (CallForm::PullFrames, _) => pull_frames(values),
+            (CallForm::PullAir, _) => pull_air(values),
+            (CallForm::PullLimited, _) => pull_limited(values),
             (CallForm::Arrive, _) => arrive(values),
             (CallForm::Answer, [Value::Exchange(exchange)]) => asked(Ask::Answer {
                 exchange: *exchange,
@@ -81,6 +85,12 @@ impl Note {
             (CallForm::Poll, [Value::Short(station)]) => asked(Ask::Poll { station: *station }),
             (CallForm::Rx, _) => rx(values),
             (CallForm::Reap, []) => asked(Ask::Reap),
+            (CallForm::Ampdu, [Value::Short(station), Value::Long(octets)]) => asked(Ask::Ampdu {
+                station: *station,
+                octets: *octets,
+            }),
+            (CallForm::Stop, [Value::Short(station)]) => asked(Ask::Stop { station: *station }),
+            (CallForm::Start, [Value::Short(station)]) => asked(Ask::Start { station: *station }),
             _ => None,
         }
     }
@@ -96,7 +106,7 @@ impl Ask {
             Ask::Leave { .. } => CallForm::Leave,
             Ask::Rate { rate, .. } => rate.form(),
             Ask::Tick { .. } => CallForm::Tick,
-            Ask::Pull { .. } => CallForm::Pull,
+            Ask::Pull { limits, .. } => limits.form(),
             Ask::Arrive { .. } => CallForm::Arrive,
             Ask::Answer { .. } => CallForm::Answer,
             Ask::Done { air: None, .. } => CallForm::Done,
@@ -106,6 +116,9 @@ impl Ask {
             Ask::Poll { .. } => CallForm::Poll,
             Ask::Rx { .. } => CallForm::Rx,
             Ask::Reap => CallForm::Reap,
+            Ask::Ampdu { .. } => CallForm::Ampdu,
+            Ask::Stop { .. } => CallForm::Stop,
+            Ask::Start { .. } => CallForm::Start,
         }
     }
 
@@ -131,10 +144,12 @@ impl Ask {
             Ask::Leave { station }
             | Ask::Sleep { station }
             | Ask::Wake { station }
-            | Ask::Poll { station } => listed(&[Value::Short(station)]),
+            | Ask::Poll { station }
+            | Ask::Stop { station }
+            | Ask::Start { station } => listed(&[Value::Short(station)]),
             Ask::Rate { station, rate } => rate.values(station),
             Ask::Tick { by } => listed(&[Value::Long(by)]),
-            Ask::Pull { class } => listed(&[Value::Class(class)]),
+            Ask::Pull { class, limits } => limits.values(class),
             Ask::Arrive { exchange, index } => {
                 listed(&[Value::Exchange(exchange), Value::Short(index)])
             }
@@ -150,6 +165,9 @@ impl Ask {
                 air,
             } => listed(&[Value::Short(station), Value::Class(class), Value::Long(air)]),
             Ask::Reap => listed(&[]),
+            Ask::Ampdu { station, octets } => {
+                listed(&[Value::Short(station), Value::Long(octets)])
+            }
         }
     }
 }
@@ -209,6 +227,40 @@ impl AskedRate {
     }
 }
 
+impl Limits {
+    // The form of the line of a pull.
+    fn form(self) -> CallForm
+        ensures { result ≡ form_of_limits self.frames self.air }
+    {
+        match (self.frames, self.air) {
+            (None, None) => CallForm::Pull,
+            (Some(_), None) => CallForm::PullFrames,
+            (None, Some(_)) => CallForm::PullAir,
+            (Some(_), Some(_)) => CallForm::PullLimited,
+        }
+    }
+
+    // The values of the arguments of a pull of this class.
+    fn values(self, class: Class) -> ArrayVec<Value, 6>
+        ensures values { result.items ≡ note_values (Asked (Pull class self)) }
+        ensures range { IsPrintable (Asked (Pull class self)) → NumbersAreInRange (Asked (Pull class self)) }
+    {
+        let class = Value::Class(class);
+        match (self.frames, self.air) {
+            (None, None) => listed(&[class]),
+            (Some(frames), None) => listed(&[class, Value::Frames, Value::Long(frames)]),
+            (None, Some(air)) => listed(&[class, Value::Air, Value::Long(air)]),
+            (Some(frames), Some(air)) => listed(&[
+                class,
+                Value::Frames,
+                Value::Long(frames),
+                Value::Air,
+                Value::Long(air),
+            ]),
+        }
+    }
+}
+
 // A list of these values.
 fn listed(values: &[Value]) -> ArrayVec<Value, 6>
     requires { length values.now ≤ 6 }
@@ -248,6 +300,16 @@ fn rated(station: u16, rate: AskedRate) -> Note
     ensures { result ≡ Asked (Rate station rate) }
 {
     Note::Asked(Ask::Rate { station, rate })
+}
+
+// A Pull call.
+fn pulled(class: Class, frames: Option<u32>, air: Option<u32>) -> Note
+    ensures { result ≡ Asked (Pull class (limits frames air)) }
+{
+    Note::Asked(Ask::Pull {
+        class,
+        limits: Limits { frames, air },
+    })
 }
 
 // A Done call.
@@ -357,6 +419,53 @@ fn he(values: &[Value]) -> Option<Note>
             streams: *streams,
         },
     ))
+}
+
+// The Pull call with these values, which include no limit.
+fn pull(values: &[Value]) -> Option<Note>
+    ensures { result ≡ note_made CallForm.Pull values.now }
+{
+    let [Value::Class(class)] = values else {
+        return None;
+    };
+    Some(pulled(*class, None, None))
+}
+
+// The Pull call with these values, which include a limit on frames.
+fn pull_frames(values: &[Value]) -> Option<Note>
+    ensures { result ≡ note_made CallForm.PullFrames values.now }
+{
+    let [Value::Class(class), Value::Frames, Value::Long(frames)] = values else {
+        return None;
+    };
+    Some(pulled(*class, Some(*frames), None))
+}
+
+// The Pull call with these values, which include a limit on the data's airtime.
+fn pull_air(values: &[Value]) -> Option<Note>
+    ensures { result ≡ note_made CallForm.PullAir values.now }
+{
+    let [Value::Class(class), Value::Air, Value::Long(air)] = values else {
+        return None;
+    };
+    Some(pulled(*class, None, Some(*air)))
+}
+
+// The Pull call with these values, which include both limits.
+fn pull_limited(values: &[Value]) -> Option<Note>
+    ensures { result ≡ note_made CallForm.PullLimited values.now }
+{
+    let [
+        Value::Class(class),
+        Value::Frames,
+        Value::Long(frames),
+        Value::Air,
+        Value::Long(air),
+    ] = values
+    else {
+        return None;
+    };
+    Some(pulled(*class, Some(*frames), Some(*air)))
 }
 
 // The Arrive call with these values.
