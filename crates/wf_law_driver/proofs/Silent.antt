@@ -2,7 +2,8 @@
 use Rattle.std.proofs.Common.{◌≡◌, refl, ap, sym, ◌∙◌, subst, ℕ, ◌==◌, Bool, true, false, not, List, [], ◌∷◌, Option, Some, None, IfSome}
 use Rattle.wf_frame.specs.declared.settings.Config.{Config}
 use Rattle.wf_frame.specs.declared.classes.Class.{Class}
-use Rattle.wf_frame.specs.declared.notes.Ask.TheVariants.{Join, Leave, Rate, Tick, Pull, Arrive, Answer, Done, Sleep, Wake, Poll, Rx, Reap}
+use Rattle.wf_frame.specs.declared.notes.Ask.TheVariants.{Join, Leave, Rate, Tick, Pull, Arrive, Answer, Done, Sleep, Wake, Poll, Rx, Reap, Ampdu, Stop, Start}
+use Rattle.wf_frame.specs.declared.notes.Limits.{Limits}
 use Rattle.wf_frame.specs.declared.notes.Note.{Note}
 use Rattle.wf_frame.specs.declared.notes.Note.TheVariants.{Enqueue, Asked}
 use Rattle.wf_frame.specs.declared.notes.Refusal.{Refusal}
@@ -12,12 +13,13 @@ use Rattle.wf_def_lists.specs.Table.{has, upto}
 use Rattle.wf_law_rules.proofs.Lemmas.Tables.{each_put}
 use Rattle.wf_def_world.specs.World.{World, Station, Exchange, new_tid, session, receiver, rotation, is_live, exchange, with_station, without_exchange, opening}
 use Rattle.wf_def_world.specs.CanSend.{is_ready}
-use Rattle.wf_def_world.specs.Exchanges.{station_need, picked_station, after_pick, after_tid_turn, sending_tid, Prepared, exchange_of, with_exchange_opened}
+use Rattle.wf_def_world.specs.Exchanges.{station_need, picked_station, after_tid_turn, sending_tid, Prepared, exchange_of, with_exchange_opened}
 use Rattle.wf_def_world.specs.Refusals.{refusal}
 use Rattle.wf_def_world.specs.Step.{join_outcome, leave_outcome, rate_outcome, tick_outcome, send_outcome, pull_outcome_for, pull_outcome, done_outcome, outcome_where_open, sleep_outcome, wake_outcome, poll_outcome, rx_outcome, reap_outcome, outcome_of, concerned_station, after_refusal, judged_outcome, step}
 use Rattle.wf_def_world.specs.Run.{Entry, world_after}
+use Rattle.wf_law_runs.proofs.Common.Picked.{picked_world}
 use Rattle.wf_law_runs.proofs.Common.Refused.{after_idle}
-use Rattle.wf_law_runs.proofs.Windows.Sides.{Side, Same, sides_of, then_same, same_on_station, same_on_share, same_listed, same_after_pick, same_after_turn, same_spent}
+use Rattle.wf_law_runs.proofs.Windows.Sides.{Side, Same, sides_of, then_same, same_on_station, same_on_share, same_listed, same_after_pick, same_picked, same_after_turn, same_spent}
 use Rattle.wf_law_runs.proofs.Windows.Opened.{Each, each_append, each_filter, eight, left_true, pick_ready, some_along}
 use Rattle.wf_law_runs.proofs.Windows.Agreed.{IsLawful, lawful, lawful_same, same_left_tids, same_off_lists}
 use Rattle.wf_law_runs.proofs.Frames.Delivered.{prepared_right, opened_ended, same_enqueued}
@@ -96,13 +98,13 @@ marks_pulled_by (Some s) w c live i m =
     marks_sent s _ c v _ (prepared_right v s _ (lawful_same _ _ k i) (k.live s ∙ live)).opened
     (subst (Each IsUnmarked) (sym k.opened) m)
 
-marks_pulled : (w : World) (c : Class) → IsLawful w → Each IsUnmarked w.opened →
-    Each IsUnmarked (pull_outcome w c).world.opened
+marks_pulled : (w : World) (c : Class) (l : Limits) → IsLawful w → Each IsUnmarked w.opened →
+    Each IsUnmarked (pull_outcome w c l).world.opened
 unfolding pull_outcome
-marks_pulled w c i m =
-    let k : Same w (after_pick w c) = same_after_pick w c in
-    marks_pulled_by (picked_station w c).winner (after_pick w c) c
-    (some_along (λ s. is_ready w c s ≡ true) (λ s. is_live (after_pick w c) s ≡ true)
+marks_pulled w c l i m =
+    let k : Same w (picked_world w c l) = same_picked w c l in
+    marks_pulled_by (picked_station w c).winner (picked_world w c l) c
+    (some_along (λ s. is_ready w c s ≡ true) (λ s. is_live (picked_world w c l) s ≡ true)
     (picked_station w c).winner (λ s h. k.live s ∙ left_true (is_live w s) _ h)
     (pick_ready (station_need w c) (is_ready w c) (rotation w c)))
     (lawful_same _ _ k i) (subst (Each IsUnmarked) (sym k.opened) m)
@@ -135,12 +137,15 @@ silence_done (Asked (Join s window start exponent weight)) w k i =
 silence_done (Asked (Leave s)) w k i = silence_gone w s
 silence_done (Asked (Rate s rate)) w k i = silence_same w _ (same_on_station w s _ (λ x t. refl))
 silence_done (Asked (Tick by)) w k i = record { arrived = λ i j n h. h; marks = λ h. h }
-silence_done (Asked (Pull c)) w k i = silence_kept w _ (keep_pulled w c) (marks_pulled w c i)
+silence_done (Asked (Pull c l)) w k i = silence_kept w _ (keep_pulled w c l) (marks_pulled w c l i)
 silence_done (Asked (Arrive e n)) w k i = absurd k
 silence_done (Asked (Answer e)) w k i = absurd k
 silence_done (Asked (Done e true air)) w k i = absurd k
 silence_done (Asked (Done e false air)) w k i = silence_ended (exchange w e) w false air
 silence_done (Asked (Sleep s)) w k i = silence_same w _ (same_on_station w s _ (λ x t. refl))
+silence_done (Asked (Ampdu s octets)) w k i = silence_same w _ (same_on_station w s _ (λ x t. refl))
+silence_done (Asked (Stop s)) w k i = silence_same w _ (same_on_station w s _ (λ x t. refl))
+silence_done (Asked (Start s)) w k i = silence_same w _ (same_on_station w s _ (λ x t. refl))
 silence_done (Asked (Wake s)) w k i = silence_same w _ (same_on_station w s _ (λ x t. refl))
 silence_done (Asked (Poll s)) w k i = silence_same w _ (same_on_station w s _ (λ x t. refl))
 silence_done (Asked (Rx s c air)) w k i = silence_same w _ (same_on_share w s c _)
@@ -148,7 +153,7 @@ silence_done (Asked Reap) w k i = silence_reaped w.finished w
 
 silence_refused : (note : Note) (r : Refusal) (w : World) → Silence w (after_refusal w note r)
 unfolding after_refusal
-silence_refused (Asked (Pull c)) Idle w = after_idle (Silence w) w c (silence w)
+silence_refused (Asked (Pull c l)) Idle w = after_idle (Silence w) w c (silence w)
     (silence_same w _ (same_after_pick w c))
 silence_refused _ _ w = silence w
 

@@ -49,6 +49,7 @@ same_transmit w = record {
   opened = refl;
   frames = refl;
   finished = refl;
+  bounds = refl;
 }
 
 then_transmit : (u v w : World) → HasSameTransmit u v → HasSameTransmit v w → HasSameTransmit u w
@@ -64,6 +65,7 @@ then_transmit u v w h k = record {
   opened = k.opened ∙ h.opened;
   frames = k.frames ∙ h.frames;
   finished = k.finished ∙ h.finished;
+  bounds = k.bounds ∙ h.bounds;
 }
 
 -- ---- one exchange is replaced by another that differs only in its marks
@@ -139,6 +141,7 @@ on_tid_transmit w s t f h k = record {
   opened = refl;
   frames = refl;
   finished = refl;
+  bounds = refl;
 }
 
 with_exchange_transmit : (w : World) (e : ℕ) (x z : Exchange) → OpenRises 0 w.exchanges w.opened →
@@ -156,6 +159,7 @@ with_exchange_transmit w e x z r found n same = record {
   opened = replaced_same 0 w.exchanges e w.opened x z r found n same;
   frames = refl;
   finished = refl;
+  bounds = refl;
 }
 
 arrived_transmit : (w : World) (e : ℕ) (x : Exchange) (k : ℕ) → OpenRises 0 w.exchanges w.opened →
@@ -237,8 +241,10 @@ below_aql_same w u s c h =
 may_receive_same : (w u : World) (s : ℕ) (c : Class) → HasSameTransmit w u →
     may_receive u s c ≡ may_receive w s c
 may_receive_same w u s c h = ap₂ (λ (a b : Bool). a && b)
+    (reads_same (λ (x : Station). not x.stopped) (λ x. refl) w u s h)
+    (ap₂ (λ (a b : Bool). a && b)
     (reads_same (λ (x : Station). not x.asleep || has_credit x.credit c) (λ x. refl) w u s h)
-    (below_aql_same w u s c h)
+    (below_aql_same w u s c h))
 
 ready_same : (w u : World) (c : Class) (s : ℕ) → HasSameTransmit w u → is_ready u c s ≡ is_ready w c s
 ready_same w u c s h =

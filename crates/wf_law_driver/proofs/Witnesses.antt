@@ -11,6 +11,7 @@ use Rattle.wf_def_world.specs.World.{World, Frame, opening}
 use Rattle.wf_def_world.specs.Run.{Entry, by, world_after}
 use Rattle.wf_def_world.specs.Computed.{the_machine}
 use Rattle.wf_law_driver.specs.Driven.{Deed, Call, Heard, history_of}
+use Rattle.wf_frame.specs.Calls.{no_limits}
 
 abbrev deeds : List (ℕ × Deed)
 deeds = map (λ d. (0, d)) (
@@ -18,11 +19,11 @@ deeds = map (λ d. (0, d)) (
     Call (Enqueue 0 3 7 100) ∷
     Call (Enqueue 0 3 8 200) ∷
     Call (Enqueue 0 3 9 300) ∷
-    Call (Asked (Pull Be)) ∷
+    Call (Asked (Pull Be no_limits)) ∷
     Heard 0 (λ n. n == 4095) None ∷
-    Call (Asked (Pull Be)) ∷
+    Call (Asked (Pull Be no_limits)) ∷
     Heard 1 (λ n. false) None ∷
-    Call (Asked (Pull Be)) ∷
+    Call (Asked (Pull Be no_limits)) ∷
     Heard 2 (λ n. true) None ∷ [])
 
 abbrev history : List Entry
@@ -31,13 +32,13 @@ history = map (by 0) (
     Enqueue 0 3 7 100 ∷
     Enqueue 0 3 8 200 ∷
     Enqueue 0 3 9 300 ∷
-    Asked (Pull Be) ∷
+    Asked (Pull Be no_limits) ∷
     Asked (Arrive 0 1) ∷
     Asked (Answer 0) ∷
     Asked (Done 0 true None) ∷
-    Asked (Pull Be) ∷
+    Asked (Pull Be no_limits) ∷
     Asked (Done 1 false None) ∷
-    Asked (Pull Be) ∷
+    Asked (Pull Be no_limits) ∷
     Asked (Arrive 2 0) ∷
     Asked (Arrive 2 1) ∷
     Asked (Answer 2) ∷

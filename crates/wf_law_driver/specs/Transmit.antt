@@ -29,6 +29,7 @@ pub record HasSameTransmit (w u : World) : Type 0 where
   pub opened : map unmarked u.opened ≡ map unmarked w.opened
   pub frames : u.frames ≡ w.frames
   pub finished : u.finished ≡ w.finished
+  pub bounds : u.bounds ≡ w.bounds
 
 -- an Arrive, an Answer, and all inferred calls together do not change what a transmit path keeps
 pub record KeepsTransmit (w : World) : Type 0 where

@@ -6,7 +6,10 @@ use Rattle.wf_frame.specs.declared.classes.Class.{Class}
 use Rattle.wf_frame.specs.declared.notes.Ask.TheVariants.{Join, Rx}
 use Rattle.wf_frame.specs.declared.notes.Note.{Note}
 use Rattle.wf_frame.specs.declared.notes.Note.TheVariants.{Asked}
+use Rattle.wf_frame.specs.declared.classes.Class.TheVariants.{Be, Vi, Vo}
 use Rattle.wf_def_air.specs.Airtime.{longest_answer}
+use Rattle.wf_def_air.specs.Fit.{longest_alone}
+use Rattle.wf_def_world.specs.Exchanges.{cap_of}
 use Rattle.wf_def_rotation.specs.Rotation.{has_key}
 use Rattle.wf_def_world.specs.World.{World, owed, standing, station, share, rotation, is_live, opening}
 use Rattle.wf_frame.specs.Classes.{same_class}
@@ -16,29 +19,34 @@ use Rattle.wf_def_world.specs.Step.{step}
 use Rattle.wf_def_world.specs.Run.{Entry}
 use Rattle.wf_def_world.specs.Stretches.{world_at, charged_between, IsStretch, IsQuiet}
 
--- Returns the greatest computed charge of an exchange, in microseconds: the greatest time of its data, the
--- pause and the longest BlockAck.
-abbrev pub longest_computed : Config → ℕ
-longest_computed config = config.cap + longest_answer
+-- Returns the greatest computed charge of an exchange of a class, in microseconds: the greatest time of its
+-- data, which a single frame may take in any class, the pause and the longest BlockAck.
+abbrev pub longest_computed : Config → Class → ℕ
+longest_computed config c = max (cap_of config c) longest_alone + longest_answer config.answers
 
--- Returns the greatest charge of an exchange, in microseconds, computed or given by its Done.
-abbrev pub longest_exchange : Config → ℕ
-longest_exchange config = max (longest_computed config) config.charge
+-- Returns the greatest computed charge of an exchange of any class, in microseconds.
+abbrev pub longest_of_all : Config → ℕ
+longest_of_all config =
+    max (longest_computed config Be) (max (longest_computed config Vi) (longest_computed config Vo))
+
+-- Returns the greatest charge of an exchange of a class, in microseconds, computed or given by its Done.
+abbrev pub longest_exchange : Config → Class → ℕ
+longest_exchange config c = max (longest_computed config c) config.charge
 
 -- Returns the greatest charge of all open exchanges of a class together, in microseconds.
-abbrev pub most_owed : Config → ℕ
-most_owed config = config.inflight * longest_exchange config
+abbrev pub most_owed : Config → Class → ℕ
+most_owed config c = config.inflight * longest_exchange config c
 
 -- Returns the airtime in flight that quanta may cover beyond one quantum of a station, in microseconds: with
 -- the setting `pending`, that of all open exchanges of the class but one.
-abbrev pub most_covered : Config → ℕ
-most_covered config = if config.pending == 1 then (config.inflight - 1) * longest_computed config else 0
+abbrev pub most_covered : Config → Class → ℕ
+most_covered config c = if config.pending == 1 then (config.inflight - 1) * longest_computed config c else 0
 
 -- Returns the same, if a Done may give an airtime; 0 if none may.
-abbrev pub most_uncharged : Config → ℕ
-most_uncharged config =
-    if (config.pending == 1) && not (config.charge == 0) then (config.inflight - 1) * longest_computed config
-    else 0
+abbrev pub most_uncharged : Config → Class → ℕ
+most_uncharged config c =
+    if (config.pending == 1) && not (config.charge == 0)
+    then (config.inflight - 1) * longest_computed config c else 0
 
 -- Returns a station's quantum in microseconds: the setting `quantum` times its weight.
 abbrev pub own_quantum : Config → World → ℕ → ℕ
@@ -57,16 +65,16 @@ own_quantum config w s = config.quantum * (station w s).weight
 pub record IsAccounted (config : Config) (w : World) (s : ℕ) (c : Class) : Type 0 where
   pub exact : (share w s c).deficit ≡ pos (own_quantum config w s + own_quantum config w s *
       (share w s c).quanta) -ℤ pos ((share w s c).charged + (share w s c).received)
-  pub most : (share w s c).deficit ≤ℤ pos (own_quantum config w s + most_covered config)
-  pub least : (pos 0 -ℤ pos (config.debt + most_owed config)) ≤ℤ (share w s c).deficit
-  pub quiet : IsQuiet w s c → (pos 1 -ℤ pos (most_owed config)) ≤ℤ
+  pub most : (share w s c).deficit ≤ℤ pos (own_quantum config w s + most_covered config c)
+  pub least : (pos 0 -ℤ pos (config.debt + most_owed config c)) ≤ℤ (share w s c).deficit
+  pub quiet : IsQuiet w s c → (pos 1 -ℤ pos (most_owed config c)) ≤ℤ
       ((share w s c).deficit -ℤ pos (owed s c w.opened))
-  pub floor : IsQuiet w s c → (pos 1 -ℤ pos (most_owed config)) ≤ℤ (share w s c).deficit
+  pub floor : IsQuiet w s c → (pos 1 -ℤ pos (most_owed config c)) ≤ℤ (share w s c).deficit
   pub ready : IsTrue (is_ready w c s) → IsTrue (has_key (rotation w c) s)
-  pub lowest : (pos 0 -ℤ pos (config.debt + most_owed config)) ≤ℤ standing w s c
+  pub lowest : (pos 0 -ℤ pos (config.debt + most_owed config c)) ≤ℤ standing w s c
   pub within : config.charge ≡ 0 → standing w s c ≤ℤ pos (own_quantum config w s)
   pub backed : config.pending ≡ 1 → config.charge ≡ 0 → IsQuiet w s c →
-      (pos 1 -ℤ pos (longest_computed config)) ≤ℤ standing w s c
+      (pos 1 -ℤ pos (longest_computed config c)) ≤ℤ standing w s c
   pub debtor : IsTrue (is_debtor w c s) → IsTrue (has_key (rotation w c) s)
 
 -- The law of deficits: `IsAccounted` holds after each entry, for each live station and class.
@@ -90,14 +98,15 @@ weight_at config h m s = (station (world_at config h m) s).weight
 -- Returns the greatest difference of the charged airtimes of two stations with the weights g and h, in
 -- microseconds, if each airtime is multiplied by the other's weight. With the setting `pending`, a Done that
 -- gives less than the computed airtime may leave a deficit above one quantum.
-abbrev pub fair_bound : Config → ℕ → ℕ → ℕ
-fair_bound config g h = 3 * config.quantum * g * h + (g + h) * (most_owed config + most_uncharged config)
+abbrev pub fair_bound : Config → Class → ℕ → ℕ → ℕ
+fair_bound config c g h =
+    3 * config.quantum * g * h + (g + h) * (most_owed config c + most_uncharged config c)
 
 -- Two stations are served alike between the moments a and b: the numbers of their quanta differ by at most
 -- 1, and their charged airtimes, each times the other's weight, by at most the bound.
 pub record IsFairStretch (config : Config) (h : List Entry) (i j : ℕ) (c : Class) (a b : ℕ) : Type 0 where
   pub quanta : IsNear 1 (got_between config h i c a b) (got_between config h j c a b)
-  pub charged : IsNear (fair_bound config (weight_at config h b i) (weight_at config h b j))
+  pub charged : IsNear (fair_bound config c (weight_at config h b i) (weight_at config h b j))
       (charged_between config h i c a b * weight_at config h b j)
       (charged_between config h j c a b * weight_at config h b i)
 

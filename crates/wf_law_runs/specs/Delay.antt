@@ -11,7 +11,7 @@ use Rattle.wf_def_world.specs.Refusals.{refusal}
 use Rattle.wf_def_world.specs.Step.{step}
 use Rattle.wf_def_world.specs.Run.{Entry}
 use Rattle.wf_def_world.specs.Stretches.{world_at}
-use Rattle.wf_law_runs.specs.Deficits.{longest_computed}
+use Rattle.wf_law_runs.specs.Deficits.{longest_of_all}
 
 -- Exchange n is open.
 abbrev pub HasOpen : World → ℕ → Type 0
@@ -62,4 +62,4 @@ abbrev pub DelayLaw : Config → List Entry → Type 0
 DelayLaw config h = 1 ≤ config.aql_total → (n a b : ℕ) → IsInDevice config h n a b →
     EndInOrder (world_at config h a) (entries_between h a (suc b)) →
     airtime_ended (world_at config h a) (entries_between h a (suc b))
-    < config.aql_total + longest_computed config
+    < config.aql_total + longest_of_all config

@@ -12,16 +12,17 @@ use Rattle.wf_frame.specs.declared.classes.Class.{Class}
 use Rattle.wf_frame.specs.declared.classes.Cause.TheVariants.{Codel as By_codel}
 use Rattle.wf_frame.specs.declared.classes.Fate.TheVariants.{Dropped}
 use Rattle.wf_frame.specs.declared.notes.Ask.TheVariants.{Leave, Pull}
+use Rattle.wf_frame.specs.declared.notes.Limits.{Limits}
 use Rattle.wf_frame.specs.declared.notes.Note.{Note}
 use Rattle.wf_frame.specs.declared.notes.Note.TheVariants.{Enqueue, Asked}
 use Rattle.wf_def_lists.specs.Table.{upto}
 use Rattle.wf_def_codel.specs.Codel.{Codel, new_codel, Item}
 use Rattle.wf_def_rotation.specs.Rotation.{has_key}
 use Rattle.wf_def_agreement.specs.Session.{request_due}
-use Rattle.wf_def_world.specs.World.{World, Mpdu, opening, session, tid_of, queue, codel_params, frame}
+use Rattle.wf_def_world.specs.World.{World, Mpdu, opening, with_bounds, session, tid_of, queue, codel_params, frame}
 use Rattle.wf_def_world.specs.FlowQueues.{after_limit, queue_for, calmed, Taken, picked_queue, taken_for_tid}
 use Rattle.wf_def_world.specs.CanSend.{can_give}
-use Rattle.wf_def_world.specs.Exchanges.{most_frames, fits_in, waiting_mpdus, longest_fitting, fresh_mpdus, with_number, picked_station, after_pick, sending_tid, after_tid_turn}
+use Rattle.wf_def_world.specs.Exchanges.{most_frames, fits_in, waiting_mpdus, longest_fitting, fresh_mpdus, with_number, picked_station, after_pick, bounds_of, sending_tid, after_tid_turn}
 use Rattle.wf_def_world.specs.Refusals.{refusal}
 use Rattle.wf_def_world.specs.Step.{step}
 use Rattle.wf_def_world.specs.Run.{Entry, world_after}
@@ -75,14 +76,16 @@ dequeues_of_winner w c None q = []
 dequeues_of_winner w c (Some s) q =
     dequeues_of_exchange (after_tid_turn w s c (sending_tid w s c)) s (sending_tid w s c) q
 
--- Returns the dequeues of queue q by a Pull of a class that is not refused.
-abbrev pub dequeues_of_pull : World → Class → ℕ → List Dequeue
-dequeues_of_pull w c q = dequeues_of_winner (after_pick w c) c (picked_station w c).winner q
+-- Returns the dequeues of queue q by a Pull of a class with these limits that is not refused.
+abbrev pub dequeues_of_pull : World → Class → Limits → ℕ → List Dequeue
+dequeues_of_pull w c limits q =
+    let picked : World = with_bounds (after_pick w c) (bounds_of w.config c limits) in
+    dequeues_of_winner picked c (picked_station w c).winner q
 
 -- Returns the dequeues of queue q by a call.
 abbrev pub dequeues_by : World → ℕ → Note → List Dequeue
-dequeues_by w q (Asked (Pull c)) =
-    if is_none (refusal w (Asked (Pull c))) then dequeues_of_pull w c q else []
+dequeues_by w q (Asked (Pull c l)) =
+    if is_none (refusal w (Asked (Pull c l))) then dequeues_of_pull w c l q else []
 dequeues_by w q _ = []
 
 -- ---- the dequeues of a queue by the calls of a history
@@ -114,7 +117,7 @@ abbrev pub visits_done : World → ℕ → Note → Visits → Visits
 visits_done w q (Enqueue s t flow len) x =
     if (w.config.codel_reset == 1) && becomes_listed (after_limit w) s t flow q then calmed_visits x else x
 visits_done w q (Asked (Leave s)) x = if lists_queue w s q then no_visits else x
-visits_done w q (Asked (Pull c)) x = record x { dequeues = x.dequeues ++ dequeues_of_pull w c q }
+visits_done w q (Asked (Pull c l)) x = record x { dequeues = x.dequeues ++ dequeues_of_pull w c l q }
 visits_done w q _ x = x
 
 -- Returns the visits of queue q after a call.

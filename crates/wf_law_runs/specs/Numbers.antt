@@ -2,7 +2,7 @@
 -- Each bound is far within 32 bits with a sign.
 use Rattle.std.specs.Prelude.{ℕ, ◌+◌, ◌-◌, ◌*◌, ◌≤◌, max, ℤ, pos, ◌+ℤ◌, ◌-ℤ◌, ◌≤ℤ◌, true, ◌≡◌, List}
 use Rattle.wf_frame.specs.declared.settings.Config.{Config}
-use Rattle.wf_frame.specs.declared.settings.Field.TheVariants.{FlowQuantum, Quantum, Inflight, Cap, Charge}
+use Rattle.wf_frame.specs.declared.settings.Field.TheVariants.{FlowQuantum, Quantum, Inflight, Cap, Charge, Answers}
 use Rattle.wf_frame.specs.declared.classes.Class.{Class}
 use Rattle.wf_frame.specs.Settings.{greatest_of}
 use Rattle.wf_def_lists.specs.Lengths.{greatest_body}
@@ -18,7 +18,7 @@ use Rattle.wf_law_runs.specs.Windows.{EachOpen}
 -- The greatest computed charge of an exchange, in microseconds: the greatest time of its data, the pause
 -- and the longest BlockAck.
 abbrev pub greatest_computed : ℕ
-greatest_computed = greatest_of Cap + longest_answer
+greatest_computed = greatest_of Cap + longest_answer (greatest_of Answers)
 
 -- The greatest charge of an exchange, in microseconds, computed or given by its Done.
 abbrev pub greatest_charge : ℕ

@@ -3,7 +3,7 @@ use Rattle.std.specs.Prelude.{◌≡◌, ℕ, ◌<◌, ◌≤◌, true, List, If
 use Rattle.wf_frame.specs.declared.settings.Config.{Config}
 use Rattle.wf_def_air.specs.Airtime.{IsRate}
 use Rattle.wf_def_codel.specs.Codel.{Codel, greatest_count}
-use Rattle.wf_def_lists.specs.Bounds.{greatest_window, greatest_exponent, greatest_weight}
+use Rattle.wf_def_lists.specs.Bounds.{greatest_window, greatest_exponent, greatest_weight, least_ampdu, greatest_ampdu}
 use Rattle.wf_def_world.specs.World.{World, station, session, receiver, queue, is_live}
 use Rattle.wf_def_world.specs.Run.{Entry}
 use Rattle.wf_def_world.specs.Stretches.{world_at}
@@ -14,6 +14,8 @@ pub record IsStation (config : Config) (w : World) (s : ℕ) : Type 0 where
   pub weight : (1 ≤ (station w s).weight) × ((station w s).weight ≤ greatest_weight)
   pub exponent : (station w s).exponent ≤ greatest_exponent
   pub rate : IsRate (station w s).rate
+  -- A stated length of its aggregates is one that a call may state.
+  pub ampdu : IfSome (station w s).ampdu (λ n. (least_ampdu ≤ n) × (n ≤ greatest_ampdu))
   -- Only a sleeping station has a credit.
   pub credit : IfSome (station w s).credit (λ _. (station w s).asleep ≡ true)
   -- Both sides of each TID's agreement have its window.

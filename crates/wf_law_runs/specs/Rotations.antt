@@ -4,6 +4,7 @@ use Rattle.std.specs.Prelude.{◌≡◌, ◌↔◌, ℕ, ◌<◌, ◌≤◌, tru
 use Rattle.wf_frame.specs.declared.settings.Config.{Config}
 use Rattle.wf_frame.specs.declared.classes.Class.{Class}
 use Rattle.wf_frame.specs.declared.notes.Ask.TheVariants.{Pull}
+use Rattle.wf_frame.specs.declared.notes.Limits.{Limits}
 use Rattle.wf_frame.specs.declared.notes.Note.{Note}
 use Rattle.wf_frame.specs.declared.notes.Note.TheVariants.{Asked}
 use Rattle.wf_frame.specs.declared.notes.Refusal.{Refusal}
@@ -49,7 +50,8 @@ pub record KeepsRotations (w : World) : Type 0 where
   pub live : (c : Class) (s : ℕ) → has_key (rotation w c) s ≡ true → is_live w s ≡ true
   pub once : (c : Class) → IsOnce (in_order (rotation w c))
   -- A Pull is refused as Idle if and only if the class may open an exchange and no station is ready.
-  pub idle : (c : Class) → (refusal w (Asked (Pull c)) ≡ Some Idle) ↔ (MayOpen w c × NoneReady w c)
+  pub idle : (c : Class) (l : Limits) →
+      (refusal w (Asked (Pull c l)) ≡ Some Idle) ↔ (MayOpen w c × NoneReady w c)
   -- With the setting `pending`, a call that is refused changes nothing.
   pub refused : w.config.pending ≡ 1 → (note : Note) (r : Refusal) → refusal w note ≡ Some r →
       (step w note).world ≡ w

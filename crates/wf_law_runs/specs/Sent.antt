@@ -35,8 +35,8 @@ HasSome x = is_request x.content ≡ false → 1 ≤ length (mpdus_of x.content)
 pub record KeepsSent (config : Config) (history : List Entry) (w : World) : Type 0 where
   pub opened : EachOpen (IsSent w) w.opened
   -- This holds if the settings are in their ranges and no frame is longer than the greatest body, because
-  -- then each frame fits alone: at every rate it takes at most 3000 microseconds, the least value of the
-  -- setting `cap`.
+  -- then each frame fits alone: a station takes at least the longest, and at every rate it takes at most
+  -- 3000 microseconds, which a single frame may take.
   pub some : IsInRange config → AreAtMost greatest_body history → EachOpen HasSome w.opened
 
 -- The law: `KeepsSent` holds after each entry of a history.

@@ -44,8 +44,8 @@ quantum_then config h m s = config.quantum * weight_at config h m s
 
 -- The most that a station's open exchanges can be charged beyond its quanta. The station had a deficit of at
 -- least 1 when it opened the last of them.
-abbrev pub overrun : Config → ℕ
-overrun config = most_owed config - 1
+abbrev pub overrun : Config → Class → ℕ
+overrun config c = most_owed config c - 1
 
 -- A station is on the class's old list at every moment from a to b.
 abbrev pub StaysOld : Config → List Entry → ℕ → Class → ℕ → ℕ → Type 0
@@ -91,8 +91,8 @@ airtime_sent_to s reply = 0
 
 -- The computed airtime of the exchange of a class that a call opens for a station; 0 if it opens none.
 abbrev pub airtime_sent_by : World → ℕ → Class → Note → ℕ
-airtime_sent_by w s c (Asked (Pull d)) =
-    if same_class d c then airtime_sent_to s (step w (Asked (Pull d))).reply else 0
+airtime_sent_by w s c (Asked (Pull d l)) =
+    if same_class d c then airtime_sent_to s (step w (Asked (Pull d l))).reply else 0
 airtime_sent_by w s c _ = 0
 
 -- The computed airtime of the exchanges of a class that a history opens for a station.
@@ -111,14 +111,14 @@ error_of config e = config.inflight * e
 
 -- The most that a station spends beyond its quanta: one exchange and the errors. Its standing was at least 1
 -- when it opened the last exchange.
-abbrev pub excess : Config → ℕ → ℕ
-excess config e = longest_computed config + 2 * error_of config e - 1
+abbrev pub excess : Config → Class → ℕ → ℕ
+excess config c e = longest_computed config c + 2 * error_of config e - 1
 
 -- The bounds on what another station i spends from a to b, while station s is backlogged.
 pub record IsSpent (config : Config) (h : List Entry) (s i : ℕ) (c : Class) (a b e : ℕ) : Type 0 where
   -- The airtime that i spends is at most its quanta for the count of s, and the excess.
   pub spent : spent_between config h i c a b ≤ℤ
-      pos (quantum_then config h b i * (got_between config h s c a b + 1) + excess config e)
+      pos (quantum_then config h b i * (got_between config h s c a b + 1) + excess config c e)
   -- Multiplied by the other station's weight, what i spends is at most what s spends and is charged for what
   -- it sends, plus a constant: two quanta, the excess and the errors, less the standing that s had at a.
   pub weighted : ((pos (weight_at config h b s) *ℤ spent_between config h i c a b) +ℤ
@@ -126,13 +126,13 @@ pub record IsSpent (config : Config) (h : List Entry) (s i : ℕ) (c : Class) (a
       ((pos (weight_at config h b i) *ℤ
       (spent_between config h s c a b +ℤ pos (received_between config h s c a b))) +ℤ
       pos (2 * config.quantum * weight_at config h b s * weight_at config h b i +
-      weight_at config h b s * excess config e + weight_at config h b i * error_of config e))
+      weight_at config h b s * excess config c e + weight_at config h b i * error_of config e))
   -- If s was never charged for what it sent, the constant does not depend on its standing.
   pub even : IsQuiet (world_at config h b) s c →
       (pos (weight_at config h b s) *ℤ spent_between config h i c a b) ≤ℤ
       ((pos (weight_at config h b i) *ℤ spent_between config h s c a b) +ℤ
       pos (2 * config.quantum * weight_at config h b s * weight_at config h b i +
-      (weight_at config h b s + weight_at config h b i) * excess config e))
+      (weight_at config h b s + weight_at config h b i) * excess config c e))
 
 -- The bounds on what another station i gets from a to b, while station s is backlogged.
 pub record IsShared (config : Config) (h : List Entry) (s i : ℕ) (c : Class) (a b : ℕ) : Type 0 where
@@ -141,14 +141,14 @@ pub record IsShared (config : Config) (h : List Entry) (s i : ℕ) (c : Class) (
   -- Without the setting `pending`, the charges of i are at most its quanta for the count of s, and the
   -- overrun.
   pub charged : config.pending ≡ 0 → charged_between config h i c a b
-      ≤ quantum_then config h b i * (got_between config h s c a b + 1) + overrun config
+      ≤ quantum_then config h b i * (got_between config h s c a b + 1) + overrun config c
   -- Without `pending`, multiplied by the other station's weight, the charges of i are at most the airtime
   -- that s uses, plus a constant: two quanta and the overrun, less the deficit that s had at a.
   pub weighted : config.pending ≡ 0 → (pos (charged_between config h i c a b * weight_at config h b s) +ℤ
       pos (weight_at config h b i) *ℤ deficit_then config h a s c) ≤ℤ
       pos (used_between config h s c a b * weight_at config h b i +
       2 * config.quantum * weight_at config h b s * weight_at config h b i +
-      weight_at config h b s * overrun config)
+      weight_at config h b s * overrun config c)
   -- With the setting `pending`, if each Done of the first b entries charges within e of the computed airtime,
   -- what i spends is bounded.
   pub spending : config.pending ≡ 1 → (e : ℕ) → AreWithin e (opening config) (take b h) →

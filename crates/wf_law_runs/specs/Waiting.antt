@@ -4,6 +4,7 @@ use Rattle.std.specs.Prelude.{◌≡◌, ◌≢◌, ◌⊎◌, ℕ, zero, suc, �
 use Rattle.wf_frame.specs.declared.settings.Config.{Config}
 use Rattle.wf_frame.specs.declared.classes.Class.{Class}
 use Rattle.wf_frame.specs.declared.notes.Ask.TheVariants.{Pull}
+use Rattle.wf_frame.specs.declared.notes.Limits.{Limits}
 use Rattle.wf_frame.specs.declared.notes.Note.{Note}
 use Rattle.wf_frame.specs.declared.notes.Note.TheVariants.{Asked}
 use Rattle.wf_frame.specs.declared.notes.ReplyNote.{ReplyNote}
@@ -26,8 +27,8 @@ is_sent_to s reply = false
 
 -- How many exchanges of a class a call opens for a station: 1 or 0.
 abbrev pub sends_by : World → ℕ → Class → Note → ℕ
-sends_by w s c (Asked (Pull d)) =
-    if same_class d c && is_sent_to s (step w (Asked (Pull d))).reply then 1 else 0
+sends_by w s c (Asked (Pull d l)) =
+    if same_class d c && is_sent_to s (step w (Asked (Pull d l))).reply then 1 else 0
 sends_by w s c _ = 0
 
 -- How many exchanges of a class a history opens for a station.
@@ -58,14 +59,14 @@ rounds_up m n = (m + (n - 1)) / n
 pub record IsAwaited (config : Config) (h : List Entry) (s i : ℕ) (c : Class) (a b e : ℕ) : Type 0 where
   -- The airtime that i spends is at most its quanta for the count of s, and the excess.
   pub spent : spent_between config h i c a b ≤ℤ
-      pos (quantum_then config h b i * (got_between config h s c a b + 1) + excess config e)
+      pos (quantum_then config h b i * (got_between config h s c a b + 1) + excess config c e)
   -- The quanta of s cover its debt at a, the errors, and the airtime that it is charged for what it sends.
   pub most : got_between config h s c a b ≤ rounds_up
       (error_of config e + below_one (standing_then config h a s c) + received_between config h s c a b)
       (quantum_then config h b s)
   -- They cover one exchange and the errors if s was never charged for what it sent.
   pub quiet : IsQuiet (world_at config h b) s c → got_between config h s c a b
-      ≤ rounds_up (longest_computed config + error_of config e) (quantum_then config h b s)
+      ≤ rounds_up (longest_computed config c + error_of config e) (quantum_then config h b s)
 
 -- The bounds on what another station i gets from a to b, while station s is ready and sends nothing, and on
 -- the quanta of s.
@@ -75,18 +76,18 @@ pub record IsWait (config : Config) (h : List Entry) (s i : ℕ) (c : Class) (a 
   -- Without the setting `pending`, the charges of i are at most its quanta for the count of s, and the
   -- overrun.
   pub charged : config.pending ≡ 0 → charged_between config h i c a b
-      ≤ quantum_then config h b i * (got_between config h s c a b + 1) + overrun config
+      ≤ quantum_then config h b i * (got_between config h s c a b + 1) + overrun config c
   -- The quanta of s are few. They cover what its open exchanges are charged, its debt at a, and the airtime
   -- that it is charged for what it sends meanwhile.
   pub most : got_between config h s c a b ≤ rounds_up
-      (most_owed config + below_one (deficit_then config h a s c) + received_between config h s c a b)
+      (most_owed config c + below_one (deficit_then config h a s c) + received_between config h s c a b)
       (quantum_then config h b s)
   -- This bound does not depend on that deficit: apart from its open exchanges, s owes at most `debt`.
   pub debtor : got_between config h s c a b ≤ rounds_up
-      (most_owed config + config.debt + 1 + received_between config h s c a b) (quantum_then config h b s)
+      (most_owed config c + config.debt + 1 + received_between config h s c a b) (quantum_then config h b s)
   -- They are fewer if s was never charged for what it sent: the deficit then covers the open exchanges.
   pub quiet : IsQuiet (world_at config h b) s c → got_between config h s c a b
-      ≤ rounds_up (most_owed config) (quantum_then config h b s)
+      ≤ rounds_up (most_owed config c) (quantum_then config h b s)
   -- With the setting `pending`, fewer quanta are enough if each Done of the first b entries charges within e
   -- of the computed airtime, and then what i spends is bounded.
   pub waited : config.pending ≡ 1 → (e : ℕ) → AreWithin e (opening config) (take b h) →
@@ -102,7 +103,8 @@ WaitingLaw config h = (s i : ℕ) (c : Class) (a b : ℕ) → a ≤ b → s ≢ 
 -- this station, or for one that is before it on the new list. Without the setting `pending` the standing is
 -- the deficit.
 abbrev pub SparseLaw : Config → List Entry → Type 0
-SparseLaw config h = (m s v : ℕ) (c : Class) → IsTrue (has (rotation (world_at config h m) c).new s) →
+SparseLaw config h = (m s v : ℕ) (c : Class) (l : Limits) →
+    IsTrue (has (rotation (world_at config h m) c).new s) →
     IsTrue (is_ready (world_at config h m) c s) → pos 1 ≤ℤ standing (world_at config h m) s c →
-    IsTrue (is_sent_to v (step (world_at config h m) (Asked (Pull c))).reply) →
+    IsTrue (is_sent_to v (step (world_at config h m) (Asked (Pull c l))).reply) →
     (v ≡ s) ⊎ IsTrue (has (keys_before s (rotation (world_at config h m) c).new) v)

@@ -10,6 +10,7 @@ use Rattle.std.specs.Prelude.{◌≡◌, ℕ, suc, ◌==◌, ◌&&◌, Bool, map
 use Rattle.wf_frame.specs.declared.settings.Config.{Config}
 use Rattle.wf_frame.specs.declared.notes.Ask.TheVariants.{Pull, Done}
 use Rattle.wf_frame.specs.declared.notes.Note.TheVariants.{Asked}
+use Rattle.wf_frame.specs.declared.notes.Limits.{Limits}
 use Rattle.wf_frame.specs.declared.classes.Class.{Class}
 use Rattle.wf_def_lists.specs.Table.{has}
 use Rattle.wf_def_agreement.specs.Session.{Session, State, slot, start_of, next_number, request_due}
@@ -127,8 +128,8 @@ pub record KeepsWindows (w : World) : Type 0 where
   pub sole : (s t : ℕ) → AtMostOne (λ x. (x.station == s) && ((x.tid == t) && is_request x.content)) w.opened
   pub settles : (e : ℕ) → IfSome (exchange w e) (Settles w e)
   -- No number is assigned while a request is due.
-  pub waits : (c : Class) (s t : ℕ) → request_due (session w s t) ≡ true →
-      next_number (session (step w (Asked (Pull c))).world s t) ≡ next_number (session w s t)
+  pub waits : (c : Class) (l : Limits) (s t : ℕ) → request_due (session w s t) ≡ true →
+      next_number (session (step w (Asked (Pull c l))).world s t) ≡ next_number (session w s t)
 
 -- The law: `KeepsWindows` holds after each entry of a history.
 abbrev pub WindowLaw : Config → List Entry → Type 0

@@ -130,9 +130,9 @@ pub fn limit_law()
     ensures { (config : Config) → (history : List Entry) → IsInRange config → LimitLaw config history }
 {}
 
-/// After every entry, the values of a live station are in their ranges: its number, weight, rate, exponent
-/// and windows. Only a sleeping station has a credit. CoDel's count is at least 1 while it drops, and
-/// CoDel's counts fit 32 bits (specs/Ranges).
+/// After every entry, the values of a live station are in their ranges: its number, weight, rate, exponent,
+/// stated length of aggregates and windows. Only a sleeping station has a credit. CoDel's count is at least
+/// 1 while it drops, and CoDel's counts fit 32 bits (specs/Ranges).
 pub fn range_law()
     ensures { (config : Config) → (history : List Entry) → IsInRange config → RangeLaw config history }
 {}

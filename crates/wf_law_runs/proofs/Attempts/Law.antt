@@ -3,7 +3,8 @@
 use Rattle.std.proofs.Common.{◌≡◌, refl, ap, sym, ◌∙◌, subst, arith, ℕ, zero, suc, ◌+◌, ◌-◌, ◌<◌, ◌≤◌, nat_le, Bool, true, false, if◌then◌else◌, not, ◌==◌, List, [], ◌∷◌, ◌++◌, length, take, Option, Some, None, IfSome}
 use Rattle.wf_frame.specs.declared.settings.Config.{Config}
 use Rattle.wf_frame.specs.declared.classes.Class.{Class}
-use Rattle.wf_frame.specs.declared.notes.Ask.TheVariants.{Join, Leave, Rate, Tick, Pull, Arrive, Answer, Done, Sleep, Wake, Poll, Rx, Reap}
+use Rattle.wf_frame.specs.declared.notes.Ask.TheVariants.{Join, Leave, Rate, Tick, Pull, Arrive, Answer, Done, Sleep, Wake, Poll, Rx, Reap, Ampdu, Stop, Start}
+use Rattle.wf_frame.specs.declared.notes.Limits.{Limits}
 use Rattle.wf_frame.specs.declared.notes.Note.{Note}
 use Rattle.wf_frame.specs.declared.notes.Note.TheVariants.{Enqueue, Asked}
 use Rattle.wf_frame.specs.declared.notes.Refusal.{Refusal}
@@ -16,7 +17,7 @@ use Rattle.wf_def_agreement.specs.Session.{Session, Slot, State, no_slot, slot, 
 use Rattle.wf_def_world.specs.World.{World, Station, Exchange, Mpdu, Content, Frames, Request, new_tid, session, is_live, exchange, with_station, on_station, on_tid, on_session, on_receiver, on_share, with_exchange, without_exchange, with_fate, with_frame_finished, opening}
 use Rattle.wf_def_world.specs.FlowQueues.{taken_for_tid}
 use Rattle.wf_def_world.specs.CanSend.{can_send_in, can_give}
-use Rattle.wf_def_world.specs.Exchanges.{Aggregate, Prepared, most_frames, is_acked, picked_station, sending_tid, waiting_mpdus, longest_fitting, with_number, with_fresh, aggregate_of, with_flying, prepared_data, prepared_exchange, with_exchange_opened, after_pick, after_tid_turn, after_arrival, after_charge, with_failed_finished, with_settled, with_all_settled, with_heard_start, after_done}
+use Rattle.wf_def_world.specs.Exchanges.{Aggregate, Prepared, most_frames, is_acked, picked_station, sending_tid, waiting_mpdus, longest_fitting, with_number, with_fresh, aggregate_of, with_flying, prepared_data, prepared_exchange, with_exchange_opened, after_tid_turn, after_arrival, after_charge, with_failed_finished, with_settled, with_all_settled, with_heard_start, after_done}
 use Rattle.wf_def_world.specs.Refusals.{refusal}
 use Rattle.wf_def_world.specs.Step.{Outcome, tick_outcome, rate_outcome, sleep_outcome, wake_outcome, poll_outcome, rx_outcome, join_outcome, leave_outcome, send_outcome, pull_outcome_for, pull_outcome, arrive_outcome, answer_outcome, done_outcome, outcome_where_open, reap_outcome, outcome_of, concerned_station, after_refusal, judged_outcome, step}
 use Rattle.wf_def_world.specs.Run.{Entry, world_after}
@@ -25,10 +26,11 @@ use Rattle.wf_law_runs.specs.Attempts.{IsTried, AttemptsLaw}
 use Rattle.wf_law_rules.proofs.Lemmas.Numbers.{on_if, le_yes, le_no}
 use Rattle.wf_law_rules.proofs.Lemmas.Tables.{each_put}
 use Rattle.wf_law_runs.proofs.Common.Refused.{after_idle}
+use Rattle.wf_law_runs.proofs.Common.Picked.{picked_world}
 use Rattle.wf_law_runs.proofs.Sessions.Flights.{AllIn, Rises, all_in_later}
 use Rattle.wf_law_runs.proofs.Deficits.Configs.{config_step}
 use Rattle.wf_law_runs.proofs.Windows.Opened.{eight}
-use Rattle.wf_law_runs.proofs.Windows.Sides.{Same, sides_of, then_same, each_side_on, same_on_station, same_on_share, same_finish, same_listed, same_after_pick, same_after_turn, same_spent, same_take, same_charged}
+use Rattle.wf_law_runs.proofs.Windows.Sides.{Same, sides_of, then_same, each_side_on, same_on_station, same_on_share, same_finish, same_listed, same_after_pick, same_after_turn, same_spent, same_take, same_charged, same_picked}
 use Rattle.wf_law_runs.proofs.Windows.Agreed.{IsLawful, IsReady, IsEnding, IsFound, found, ready_filled, ending_settled, ending_of, lawful_same, lawful_step, lawful_at_first, session_same, winner_ready, same_left_tids, same_off_lists}
 use Rattle.wf_law_runs.proofs.Frames.Delivered.{same_enqueued}
 
@@ -185,12 +187,12 @@ tried_pulled_by (Some s) limit w c ready some i h =
     tried_sent limit s _ c _ (tried_prepared limit _ s _ some (lawful_same _ _ k i) (k.live s ∙ ready.0)
     (tried_same limit _ _ k h))
 
-tried_pulled : (limit : ℕ) (w : World) (c : Class) → 1 ≤ limit → IsLawful w → Tried limit w →
-    Tried limit (pull_outcome w c).world
+tried_pulled : (limit : ℕ) (w : World) (c : Class) (l : Limits) → 1 ≤ limit → IsLawful w → Tried limit w →
+    Tried limit (pull_outcome w c l).world
 unfolding pull_outcome
-tried_pulled limit w c some i h =
-    let k : Same w (after_pick w c) = same_after_pick w c in
-    tried_pulled_by (picked_station w c).winner limit (after_pick w c) c (winner_ready w c) some
+tried_pulled limit w c l some i h =
+    let k : Same w (picked_world w c l) = same_picked w c l in
+    tried_pulled_by (picked_station w c).winner limit (picked_world w c l) c (winner_ready w c l) some
     (lawful_same _ _ k i) (tried_same limit _ _ k h)
 
 -- ---- the end of an exchange
@@ -328,7 +330,7 @@ tried_done (Asked (Leave s)) limit w some same_limit i h = tried_gone limit w s 
 tried_done (Asked (Rate s rate)) limit w some same_limit i h =
     tried_same limit w _ (same_on_station w s _ (λ x t. refl)) h
 tried_done (Asked (Tick by)) limit w some same_limit i h = h
-tried_done (Asked (Pull c)) limit w some same_limit i h = tried_pulled limit w c some i h
+tried_done (Asked (Pull c l)) limit w some same_limit i h = tried_pulled limit w c l some i h
 tried_done (Asked (Arrive e n)) limit w some same_limit i h =
     tried_open (IsFound w i) (exchange w e) limit w _ (found w i e) (λ x _. tried_arrived limit w x n h) h
 tried_done (Asked (Answer e)) limit w some same_limit i h =
@@ -337,6 +339,12 @@ tried_done (Asked (Done e heard air)) limit w some same_limit i h =
     tried_open (IsFound w i) (exchange w e) limit w _ (found w i e)
     (λ x f. tried_ended air limit w i x heard same_limit f h) h
 tried_done (Asked (Sleep s)) limit w some same_limit i h =
+    tried_same limit w _ (same_on_station w s _ (λ x t. refl)) h
+tried_done (Asked (Ampdu s octets)) limit w some same_limit i h =
+    tried_same limit w _ (same_on_station w s _ (λ x t. refl)) h
+tried_done (Asked (Stop s)) limit w some same_limit i h =
+    tried_same limit w _ (same_on_station w s _ (λ x t. refl)) h
+tried_done (Asked (Start s)) limit w some same_limit i h =
     tried_same limit w _ (same_on_station w s _ (λ x t. refl)) h
 tried_done (Asked (Wake s)) limit w some same_limit i h =
     tried_same limit w _ (same_on_station w s _ (λ x t. refl)) h
@@ -348,7 +356,7 @@ tried_done (Asked Reap) limit w some same_limit i h = tried_reaped w.finished li
 tried_refused : (note : Note) (r : Refusal) (limit : ℕ) (w : World) → Tried limit w →
     Tried limit (after_refusal w note r)
 unfolding after_refusal
-tried_refused (Asked (Pull c)) Idle limit w h = after_idle (Tried limit) w c h
+tried_refused (Asked (Pull c l)) Idle limit w h = after_idle (Tried limit) w c h
     (tried_same limit w _ (same_after_pick w c) h)
 tried_refused _ _ limit w h = h
 

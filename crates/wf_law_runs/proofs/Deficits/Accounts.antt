@@ -6,7 +6,8 @@ use Rattle.wf_frame.specs.declared.settings.Config.{Config}
 use Rattle.wf_frame.specs.declared.classes.Class.{Class}
 use Rattle.wf_frame.specs.declared.classes.Class.TheVariants.{Bk, Be, Vi, Vo}
 use Rattle.wf_frame.specs.declared.classes.Fate.{Fate}
-use Rattle.wf_frame.specs.declared.notes.Ask.TheVariants.{Join, Leave, Rate, Tick, Pull, Arrive, Answer, Done, Sleep, Wake, Poll, Rx, Reap}
+use Rattle.wf_frame.specs.declared.notes.Ask.TheVariants.{Join, Leave, Rate, Tick, Pull, Arrive, Answer, Done, Sleep, Wake, Poll, Rx, Reap, Ampdu, Stop, Start}
+use Rattle.wf_frame.specs.declared.notes.Limits.{Limits}
 use Rattle.wf_frame.specs.declared.notes.Note.{Note}
 use Rattle.wf_frame.specs.declared.notes.Note.TheVariants.{Enqueue, Asked}
 use Rattle.wf_frame.specs.declared.notes.Refusal.{Refusal}
@@ -259,9 +260,9 @@ unfolding pull_outcome_for
 fair_pulled_by None w c h = h
 fair_pulled_by (Some s) w c h = fair_sent s _ c _ (fair_prepared _ s _ (fair_after_turn w s c _ h))
 
-fair_pulled : (w : World) (c : Class) → IsFair w → IsFair (pull_outcome w c).world
+fair_pulled : (w : World) (c : Class) (l : Limits) → IsFair w → IsFair (pull_outcome w c l).world
 unfolding pull_outcome
-fair_pulled w c h = fair_pulled_by _ _ c (fair_after_pick w c h)
+fair_pulled w c l h = fair_pulled_by _ _ c (record { each = (fair_after_pick w c h).each })
 
 -- ---- exchanges
 
@@ -361,11 +362,14 @@ fair_done (Asked (Join s window start exponent weight)) w h = fair_joined w s wi
 fair_done (Asked (Leave s)) w h = fair_gone w s h
 fair_done (Asked (Rate s rate)) w h = fair_on_station w s _ h (λ q x k. k)
 fair_done (Asked (Tick by)) w h = record { each = h.each }
-fair_done (Asked (Pull c)) w h = fair_pulled w c h
+fair_done (Asked (Pull c l)) w h = fair_pulled w c l h
 fair_done (Asked (Arrive e i)) w h = fair_on_open _ w _ h (λ x. fair_arrived w x i h)
 fair_done (Asked (Answer e)) w h = fair_on_open _ w _ h (λ x. fair_answered w x h)
 fair_done (Asked (Done e heard air)) w h = fair_on_open _ w _ h (λ x. fair_ended air w x heard h)
 fair_done (Asked (Sleep s)) w h = fair_on_station w s _ h (λ q x k. k)
+fair_done (Asked (Ampdu s octets)) w h = fair_on_station w s _ h (λ q x k. k)
+fair_done (Asked (Stop s)) w h = fair_on_station w s _ h (λ q x k. k)
+fair_done (Asked (Start s)) w h = fair_on_station w s _ h (λ q x k. k)
 fair_done (Asked (Wake s)) w h = fair_on_station w s _ h (λ q x k. k)
 fair_done (Asked (Poll s)) w h = fair_on_station w s _ h (λ q x k. k)
 fair_done (Asked (Rx s c air)) w h = fair_received w s c air h
@@ -373,7 +377,7 @@ fair_done (Asked Reap) w h = fair_reaped _ w h
 
 fair_refused : (note : Note) (r : Refusal) (w : World) → IsFair w → IsFair (after_refusal w note r)
 unfolding after_refusal
-fair_refused (Asked (Pull c)) Idle w h = after_idle IsFair w c h (fair_after_pick w c h)
+fair_refused (Asked (Pull c l)) Idle w h = after_idle IsFair w c h (fair_after_pick w c h)
 fair_refused _ _ w h = h
 
 fair_answer : (r : Option Refusal) (w : World) (note : Note) → IsFair w →

@@ -15,7 +15,7 @@ use Rattle.wf_frame.specs.Classes.{class_number}
 use Rattle.wf_frame.specs.declared.notes.AskedRate.{AskedRate}
 use Rattle.wf_def_world.specs.FlowQueues.{without_head, after_limit, with_listed_queue, with_appended, after_put_in, with_queues_paid, taken_by_codel, taken_from_picked, taken_for_tid, after_queue_left, after_queues_left}
 use Rattle.wf_def_world.specs.Exchanges.{Aggregate, Prepared, with_station_paid, with_stations_paid, after_pick, after_tid_turn, with_fresh, aggregate_of, with_number, without_credit, prepared_data, prepared_exchange, with_exchange_opened, after_charge, with_failed_finished, with_settled, with_all_settled, after_done, exchange_of, picked_station, charge_of}
-use Rattle.wf_def_world.specs.Step.{join_outcome, after_tid_left, after_tids_left, without_listings, leave_outcome, rate_outcome, with_frame, enqueue_outcome, send_outcome, done_outcome, sleep_outcome, wake_outcome, poll_outcome, rx_outcome, reap_outcome}
+use Rattle.wf_def_world.specs.Step.{join_outcome, after_tid_left, after_tids_left, without_listings, leave_outcome, rate_outcome, with_frame, enqueue_outcome, send_outcome, done_outcome, sleep_outcome, wake_outcome, poll_outcome, rx_outcome, reap_outcome, ampdu_outcome, stop_outcome, start_outcome}
 use Rattle.wf_law_runs.proofs.Deficits.Books.{upd, updc, Account, plain, account, core, Books, books, with_account, with_lists, on_part, books_with_station, books_with_rotation, books_on_station, books_hidden, books_on_session, books_with_queues, books_on_share, books_on_queue, books_finish, books_finish_all, books_if, updc_idle, upd_idle, upd_same, upd_other, updc_same}
 use Rattle.wf_def_lists.specs.Lists.{on}
 use Rattle.wf_law_rules.proofs.Lemmas.Counts.{on-nil, on-cons_same, on-cons_other}
@@ -226,6 +226,15 @@ books_reaped (id ∷ ids) w = refl
 pub books_slept : (w : World) (s : ℕ) → books (sleep_outcome w s).world ≡ books w
 unfolding sleep_outcome
 books_slept w s = books_hidden w s _ (λ x. refl)
+
+pub books_stated : (w : World) (s octets : ℕ) → books (ampdu_outcome w s octets).world ≡ books w
+books_stated w s octets = books_hidden w s _ (λ x. refl)
+
+pub books_stopped : (w : World) (s : ℕ) → books (stop_outcome w s).world ≡ books w
+books_stopped w s = books_hidden w s _ (λ x. refl)
+
+pub books_started : (w : World) (s : ℕ) → books (start_outcome w s).world ≡ books w
+books_started w s = books_hidden w s _ (λ x. refl)
 
 pub books_woken : (w : World) (s : ℕ) → books (wake_outcome w s).world ≡ books w
 unfolding wake_outcome

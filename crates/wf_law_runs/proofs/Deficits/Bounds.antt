@@ -4,6 +4,7 @@ use Rattle.std.proofs.Common.{◌≡◌, arith, ℕ, zero, suc, ◌+◌, ◌*◌
 use Rattle.std.proofs.lemmas.Int.{ints}
 use Rattle.std.proofs.lemmas.Nat.{div-add-mod', mod_below}
 use Rattle.wf_frame.specs.declared.settings.Config.{Config}
+use Rattle.wf_frame.specs.declared.classes.Class.{Class}
 use Rattle.wf_def_rotation.specs.Rotation.{need_of}
 use Rattle.wf_def_lists.specs.Bounds.{deepest_deficit}
 use Rattle.wf_def_world.specs.World.{Share}
@@ -16,13 +17,13 @@ counted config airtime = if config.pending == 1 then airtime else 0
 
 -- The bounds of a deficit. m is the greatest charge of the station's open exchanges, and n is how much of
 -- their computed charge counts against the deficit.
-pub record IsBounded (config : Config) (m n weight : ℕ) (x : Share) : Type 0 where
-  pub most : x.deficit ≤ℤ pos (config.quantum * weight + most_covered config)
-  pub least : pos m ≤ℤ (x.deficit +ℤ pos (config.debt + most_owed config))
-  pub quiet : x.received ≡ 0 → pos (1 + m) ≤ℤ (x.deficit +ℤ pos (most_owed config))
+pub record IsBounded (config : Config) (c : Class) (m n weight : ℕ) (x : Share) : Type 0 where
+  pub most : x.deficit ≤ℤ pos (config.quantum * weight + most_covered config c)
+  pub least : pos m ≤ℤ (x.deficit +ℤ pos (config.debt + most_owed config c))
+  pub quiet : x.received ≡ 0 → pos (1 + m) ≤ℤ (x.deficit +ℤ pos (most_owed config c))
   pub within : config.charge ≡ 0 → (x.deficit -ℤ pos n) ≤ℤ pos (config.quantum * weight)
   pub backed : config.pending ≡ 1 → config.charge ≡ 0 → x.received ≡ 0 →
-      pos 1 ≤ℤ ((x.deficit -ℤ pos n) +ℤ pos (longest_computed config))
+      pos 1 ≤ℤ ((x.deficit -ℤ pos n) +ℤ pos (longest_computed config c))
 
 -- ---- giving quanta
 
@@ -71,11 +72,11 @@ paid_over q (suc k) n v d h l m = over (suc k * q) (paid_some q (suc k) (d -ℤ 
     over : (g : ℕ) → ((d -ℤ pos n) +ℤ pos g) ≤ℤ pos q → (d +ℤ pos g) ≤ℤ pos (q + v)
     over g z = omega (arith, ints)
 
-pub bounded_pay : (config : Config) (m n weight k : ℕ) (x : Share) →
-    k ≤ need_of (config.quantum * weight) (x.deficit -ℤ pos n) → n ≤ most_covered config →
-    IsBounded config m n weight x → IsBounded config m n weight (pay_share (config.quantum * weight) k x)
-bounded_pay config m n weight k x h covered b = record {
-  most = paid_over (config.quantum * weight) k n (most_covered config) x.deficit b.most covered h;
+pub bounded_pay : (config : Config) (c : Class) (m n weight k : ℕ) (x : Share) →
+    k ≤ need_of (config.quantum * weight) (x.deficit -ℤ pos n) → n ≤ most_covered config c →
+    IsBounded config c m n weight x → IsBounded config c m n weight (pay_share (config.quantum * weight) k x)
+bounded_pay config c m n weight k x h covered b = record {
+  most = paid_over (config.quantum * weight) k n (most_covered config c) x.deficit b.most covered h;
   least = omega (arith, ints, b.least);
   quiet = λ r. omega (arith, ints, b.quiet r);
   within = λ e. move (k * (config.quantum * weight)) (config.quantum * weight)
@@ -86,18 +87,18 @@ bounded_pay config m n weight k x h covered b = record {
     move : (g u : ℕ) → ((x.deficit -ℤ pos n) +ℤ pos g) ≤ℤ pos u → ((x.deficit +ℤ pos g) -ℤ pos n) ≤ℤ pos u
     move g u z = omega (arith, ints)
 
-    more : (g : ℕ) → pos 1 ≤ℤ ((x.deficit -ℤ pos n) +ℤ pos (longest_computed config)) →
-        pos 1 ≤ℤ (((x.deficit +ℤ pos g) -ℤ pos n) +ℤ pos (longest_computed config))
+    more : (g : ℕ) → pos 1 ≤ℤ ((x.deficit -ℤ pos n) +ℤ pos (longest_computed config c)) →
+        pos 1 ≤ℤ (((x.deficit +ℤ pos g) -ℤ pos n) +ℤ pos (longest_computed config c))
     more g z = omega (arith, ints)
 
 -- ---- charging
 
 -- An exchange opens only if the deficit is above the airtime that is counted against it. This airtime grows
 -- from n to k, by at most one exchange.
-pub bounded_open : (config : Config) (l m n k weight : ℕ) (x : Share) → pos 1 ≤ℤ (x.deficit -ℤ pos n) →
-    m ≤ most_owed config → n ≤ k → k ≤ n + longest_computed config → IsBounded config l n weight x →
-    IsBounded config m k weight x
-bounded_open config l m n k weight x h most more one b = record {
+pub bounded_open : (config : Config) (c : Class) (l m n k weight : ℕ) (x : Share) →
+    pos 1 ≤ℤ (x.deficit -ℤ pos n) → m ≤ most_owed config c → n ≤ k → k ≤ n + longest_computed config c →
+    IsBounded config c l n weight x → IsBounded config c m k weight x
+bounded_open config c l m n k weight x h most more one b = record {
   most = b.most;
   least = omega (arith, ints);
   quiet = λ r. omega (arith, ints);
@@ -106,9 +107,9 @@ bounded_open config l m n k weight x h most more one b = record {
 }
 
 -- The bounds hold for a smaller charge of open exchanges too.
-pub bounded_less : (config : Config) (m k n weight : ℕ) (x : Share) → k ≤ m → IsBounded config m n weight x →
-    IsBounded config k n weight x
-bounded_less config m k n weight x h b = record {
+pub bounded_less : (config : Config) (c : Class) (m k n weight : ℕ) (x : Share) → k ≤ m →
+    IsBounded config c m n weight x → IsBounded config c k n weight x
+bounded_less config c m k n weight x h b = record {
   most = b.most;
   least = omega (arith, ints, b.least);
   quiet = λ r. omega (arith, ints, b.quiet r);
@@ -118,10 +119,10 @@ bounded_less config m k n weight x h b = record {
 
 -- An exchange ends: a charge that was a part of m is made. The airtime that is counted falls from n to j. If
 -- no Done gives an airtime, it falls by the charge.
-pub bounded_charge : (config : Config) (m k n j charge weight : ℕ) (x : Share) → k + charge ≤ m →
+pub bounded_charge : (config : Config) (c : Class) (m k n j charge weight : ℕ) (x : Share) → k + charge ≤ m →
     (config.charge ≡ 0 → n ≤ j + charge) → (config.pending ≡ 1 → config.charge ≡ 0 → j + charge ≤ n) →
-    IsBounded config m n weight x → IsBounded config k j weight (charge_share charge x)
-bounded_charge config m k n j charge weight x h over under b = record {
+    IsBounded config c m n weight x → IsBounded config c k j weight (charge_share charge x)
+bounded_charge config c m k n j charge weight x h over under b = record {
   most = omega (arith, ints, b.most);
   least = omega (arith, ints, b.least);
   quiet = λ r. omega (arith, ints, b.quiet r);
@@ -130,10 +131,10 @@ bounded_charge config m k n j charge weight x h over under b = record {
 }
 
 -- A receive charge brings the deficit at most the setting `debt` below 0.
-pub bounded_receive : (config : Config) (m n air weight : ℕ) (x : Share) → m ≤ most_owed config → 0 < air →
-    deepest_deficit config.debt ≤ℤ (x.deficit -ℤ pos air) → IsBounded config m n weight x →
-    IsBounded config m n weight (receive_share air x)
-bounded_receive config m n air weight x h some debt b = record {
+pub bounded_receive : (config : Config) (c : Class) (m n air weight : ℕ) (x : Share) →
+    m ≤ most_owed config c → 0 < air → deepest_deficit config.debt ≤ℤ (x.deficit -ℤ pos air) → IsBounded config c m n weight x →
+    IsBounded config c m n weight (receive_share air x)
+bounded_receive config c m n air weight x h some debt b = record {
   most = omega (arith, ints, b.most);
   least = omega (arith, ints);
   quiet = λ r. absurd (omega arith);
@@ -141,9 +142,9 @@ bounded_receive config m n air weight x h some debt b = record {
   backed = λ p e r. absurd (omega arith);
 }
 
-pub bounded_fresh : (config : Config) (m n weight : ℕ) → 0 < config.quantum → 0 < weight →
-    m ≤ most_owed config → n ≡ 0 → IsBounded config m n weight (fresh_share (config.quantum * weight))
-bounded_fresh config m n weight some w h none =
+pub bounded_fresh : (config : Config) (c : Class) (m n weight : ℕ) → 0 < config.quantum → 0 < weight →
+    m ≤ most_owed config c → n ≡ 0 → IsBounded config c m n weight (fresh_share (config.quantum * weight))
+bounded_fresh config c m n weight some w h none =
     let one : 1 ≤ config.quantum * weight = grind arith in
     record {
       most = omega (arith, ints);

@@ -3,7 +3,8 @@
 use Rattle.std.proofs.Common.{◌≡◌, refl, ap, sym, ◌∙◌, subst, arith, ℕ, ◌<◌, Bool, true, false, [], ◌∷◌, Option, Some, None, is_some, inl, inr, ◌⊎◌}
 use Rattle.std.proofs.lemmas.Bool.{cases_eq}
 use Rattle.wf_frame.specs.declared.classes.Class.{Class}
-use Rattle.wf_frame.specs.declared.notes.Ask.TheVariants.{Join, Leave, Rate, Tick, Pull, Arrive, Answer, Done, Sleep, Wake, Poll, Rx, Reap}
+use Rattle.wf_frame.specs.declared.notes.Ask.TheVariants.{Join, Leave, Rate, Tick, Pull, Arrive, Answer, Done, Sleep, Wake, Poll, Rx, Reap, Ampdu, Stop, Start}
+use Rattle.wf_frame.specs.declared.notes.Limits.{Limits}
 use Rattle.wf_frame.specs.declared.notes.Note.{Note}
 use Rattle.wf_frame.specs.declared.notes.Note.TheVariants.{Enqueue, Asked}
 use Rattle.wf_def_lists.specs.Table.{at}
@@ -11,12 +12,13 @@ use Rattle.wf_def_lists.specs.Lists.{on}
 use Rattle.wf_def_rotation.specs.Rotation.{Rotation, in_order, with_key_listed}
 use Rattle.wf_def_world.specs.World.{World, Exchange, rotation, is_live, exchange}
 use Rattle.wf_def_world.specs.CanSend.{is_ready, with_listings_of}
-use Rattle.wf_def_world.specs.Exchanges.{Prepared, station_need, picked_station, after_pick, after_tid_turn, prepared_exchange, sending_tid}
+use Rattle.wf_def_world.specs.Exchanges.{Prepared, station_need, picked_station, after_tid_turn, prepared_exchange, sending_tid}
 use Rattle.wf_def_world.specs.Step.{Outcome, tick_outcome, pull_outcome_for, pull_outcome, outcome_where_open, outcome_of, concerned_station}
 use Rattle.wf_law_rules.proofs.Lemmas.Counts.{on-nil, on-cons_other, on-append}
 use Rattle.wf_law_rules.proofs.Lemmas.Rotations.{pick_keeps, pick_winner}
+use Rattle.wf_law_runs.proofs.Common.Limits.{with_limits}
 use Rattle.wf_law_runs.proofs.Deficits.Books.{Books, books, with_account, upd_same, each_updc}
-use Rattle.wf_law_runs.proofs.Deficits.BookSteps.{books_after_turn, books_prepared, books_sent, books_ended, books_gone, all_off, books_enqueued, books_received, books_reaped, books_slept, books_woken, books_credited, books_with_rate, books_joined, after, books_after_pick}
+use Rattle.wf_law_runs.proofs.Deficits.BookSteps.{books_after_turn, books_prepared, books_sent, books_ended, books_gone, all_off, books_enqueued, books_received, books_reaped, books_slept, books_woken, books_credited, books_with_rate, books_joined, after, books_after_pick, books_stated, books_stopped, books_started}
 use Rattle.wf_law_runs.proofs.Deficits.Kept.{IsKept}
 use Rattle.wf_law_runs.proofs.Deficits.KeptStep.{to_list_live, live_account, IsFound, books_arrived, books_answered}
 use Rattle.wf_law_runs.proofs.Deficits.Listing.{Adds, AddedOf, added_listed}
@@ -41,17 +43,17 @@ rotations_pulled_by (Some s) v d =
     ∙ books_after_turn v s d t in
     ap (λ (b : Books). b.rotations) (books_sent s t d p) ∙ ap (λ (b : Books). b.rotations) e
 
-pub rotations_pulled : (w : World) (d : Class) → (books (pull_outcome w d).world).rotations
+pub rotations_pulled : (w : World) (d : Class) (l : Limits) → (books (pull_outcome w d l).world).rotations
     ≡ (after (books w) d (picked_station w d)).rotations
 unfolding pull_outcome
-rotations_pulled w d = rotations_pulled_by (picked_station w d).winner (after_pick w d) d
+rotations_pulled w d l = rotations_pulled_by (picked_station w d).winner (with_limits w d l) d
     ∙ ap (λ (b : Books). b.rotations) (books_after_pick w d)
 
-own_pulled : (w : World) (d c : Class) (s : ℕ) → (picked_station w d).winner ≡ Some s →
-    Own c s w (books (pull_outcome w d).world)
+own_pulled : (w : World) (d c : Class) (l : Limits) (s : ℕ) → (picked_station w d).winner ≡ Some s →
+    Own c s w (books (pull_outcome w d l).world)
 unfolding Own
-own_pulled w d c s won k = inl (subst (λ (f : Class → Rotation). 0 < on (in_order (f c)) s)
-    (sym (rotations_pulled w d))
+own_pulled w d c l s won k = inl (subst (λ (f : Class → Rotation). 0 < on (in_order (f c)) s)
+    (sym (rotations_pulled w d l))
     (each_updc (λ c r. 0 < on (in_order (rotation w c)) s → 0 < on (in_order r) s) (books w).rotations d
     (picked_station w d).lists (λ c k. k) stays c k))
   where
@@ -91,7 +93,7 @@ own_done (Asked (Leave i)) w s c k h = own_books c s w _ _ (books_gone w i) (own
 own_done (Asked (Rate i rate)) w s c k h =
     own_same c s w _ (ap (λ (b : Books). b.rotations) (books_with_rate w i rate))
 own_done (Asked (Tick by)) w s c k h = own_same c s w _ refl
-own_done (Asked (Pull d)) w s c k h = own_pulled w d c s h
+own_done (Asked (Pull d l)) w s c k h = own_pulled w d c l s h
 own_done (Asked (Arrive e j)) w s c k h = own_open (exchange w e) w e s c _ refl
     (λ x f. ap (λ (b : Books). b.rotations) (books_arrived w e j x k f))
 own_done (Asked (Answer e)) w s c k h = own_open (exchange w e) w e s c _ refl
@@ -99,6 +101,9 @@ own_done (Asked (Answer e)) w s c k h = own_open (exchange w e) w e s c _ refl
 own_done (Asked (Done e heard air)) w s c k h = own_open (exchange w e) w e s c _ refl
     (λ x f. ap (λ (b : Books). b.rotations) (books_ended air w x heard))
 own_done (Asked (Sleep i)) w s c k h = own_same c s w _ (ap (λ (b : Books). b.rotations) (books_slept w i))
+own_done (Asked (Ampdu i octets)) w s c k h = own_same c s w _ (ap (λ (b : Books). b.rotations) (books_stated w i octets))
+own_done (Asked (Stop i)) w s c k h = own_same c s w _ (ap (λ (b : Books). b.rotations) (books_stopped w i))
+own_done (Asked (Start i)) w s c k h = own_same c s w _ (ap (λ (b : Books). b.rotations) (books_started w i))
 own_done (Asked (Wake i)) w s c k h = own_same c s w _ (ap (λ (b : Books). b.rotations) (books_woken w i))
 own_done (Asked (Poll i)) w s c k h = own_same c s w _ (ap (λ (b : Books). b.rotations) (books_credited w i))
 own_done (Asked (Rx i d air)) w s c k h = own_same c s w _

@@ -1,7 +1,8 @@
 -- Proves that no call changes the settings.
 use Rattle.std.proofs.Common.{◌≡◌, refl, ap, ◌∙◌, ℕ, Bool, true, false, if◌then◌else◌, List, [], ◌∷◌, Option, Some, None}
 use Rattle.wf_frame.specs.declared.classes.Class.{Class}
-use Rattle.wf_frame.specs.declared.notes.Ask.TheVariants.{Join, Leave, Rate, Tick, Pull, Arrive, Answer, Done, Sleep, Wake, Poll, Rx, Reap}
+use Rattle.wf_frame.specs.declared.notes.Ask.TheVariants.{Join, Leave, Rate, Tick, Pull, Arrive, Answer, Done, Sleep, Wake, Poll, Rx, Reap, Ampdu, Stop, Start}
+use Rattle.wf_frame.specs.declared.notes.Limits.{Limits}
 use Rattle.wf_frame.specs.declared.notes.Note.{Note}
 use Rattle.wf_frame.specs.declared.notes.Note.TheVariants.{Enqueue, Asked}
 use Rattle.wf_frame.specs.declared.notes.Refusal.{Refusal}
@@ -16,7 +17,7 @@ use Rattle.wf_def_world.specs.Step.{Outcome, tick_outcome, outcome_where_open, p
 use Rattle.wf_def_world.specs.Run.{Entry, world_after}
 use Rattle.wf_law_runs.proofs.Common.Refused.{after_idle}
 use Rattle.wf_law_runs.proofs.Deficits.Books.{Books, books}
-use Rattle.wf_law_runs.proofs.Deficits.BookSteps.{books_after_turn, books_prepared, books_sent, books_ended, books_gone, books_enqueued, books_received, books_reaped, books_slept, books_woken, books_credited, books_with_rate, books_joined, books_after_pick}
+use Rattle.wf_law_runs.proofs.Deficits.BookSteps.{books_after_turn, books_prepared, books_sent, books_ended, books_gone, books_enqueued, books_received, books_reaped, books_slept, books_woken, books_credited, books_with_rate, books_joined, books_after_pick, books_stated, books_stopped, books_started}
 
 same : (w v : World) (b : Books) → books v ≡ b → b.config ≡ w.config → v.config ≡ w.config
 same w v b e h = ap (λ (z : Books). z.config) e ∙ h
@@ -50,9 +51,9 @@ config_pulled_by (Some s) v c =
     ∙ books_after_turn v s c t in
     ap (λ (z : Books). z.config) (books_sent s t c p) ∙ ap (λ (z : Books). z.config) e
 
-config_pulled : (w : World) (c : Class) → (pull_outcome w c).world.config ≡ w.config
+config_pulled : (w : World) (c : Class) (l : Limits) → (pull_outcome w c l).world.config ≡ w.config
 unfolding pull_outcome
-config_pulled w c = config_pulled_by _ _ c ∙ config_after_pick w c
+config_pulled w c l = config_pulled_by _ _ c ∙ config_after_pick w c
 
 config_open : (o : Option Exchange) (w : World) (f : Exchange → Outcome) →
     ((x : Exchange) → (f x).world.config ≡ w.config) → (outcome_where_open w o f).world.config ≡ w.config
@@ -77,12 +78,15 @@ config_done (Asked (Leave s)) w = ap (λ (z : Books). z.config) (books_gone w s)
 config_done (Asked (Rate s rate)) w =
     ap (λ (z : Books). z.config) (books_with_rate w s rate)
 config_done (Asked (Tick by)) w = refl
-config_done (Asked (Pull c)) w = config_pulled w c
+config_done (Asked (Pull c l)) w = config_pulled w c l
 config_done (Asked (Arrive e j)) w = config_open (exchange w e) w _ (λ x. config_arrived w x j)
 config_done (Asked (Answer e)) w = config_open (exchange w e) w _ (λ x. config_answered w x)
 config_done (Asked (Done e heard air)) w = config_open (exchange w e) w _
     (λ x. ap (λ (z : Books). z.config) (books_ended air w x heard))
 config_done (Asked (Sleep s)) w = ap (λ (z : Books). z.config) (books_slept w s)
+config_done (Asked (Ampdu s octets)) w = ap (λ (z : Books). z.config) (books_stated w s octets)
+config_done (Asked (Stop s)) w = ap (λ (z : Books). z.config) (books_stopped w s)
+config_done (Asked (Start s)) w = ap (λ (z : Books). z.config) (books_started w s)
 config_done (Asked (Wake s)) w = ap (λ (z : Books). z.config) (books_woken w s)
 config_done (Asked (Poll s)) w = ap (λ (z : Books). z.config) (books_credited w s)
 config_done (Asked (Rx s c air)) w = ap (λ (z : Books). z.config) (books_received w s c air)
@@ -90,7 +94,7 @@ config_done (Asked Reap) w = ap (λ (z : Books). z.config) (books_reaped w.finis
 
 config_refused : (note : Note) (r : Refusal) (w : World) → (after_refusal w note r).config ≡ w.config
 unfolding after_refusal
-config_refused (Asked (Pull c)) Idle w = after_idle (λ v. v.config ≡ w.config) w c refl
+config_refused (Asked (Pull c l)) Idle w = after_idle (λ v. v.config ≡ w.config) w c refl
     (config_after_pick w c)
 config_refused _ _ w = refl
 

@@ -4,7 +4,8 @@ use Rattle.std.proofs.Common.{◌≡◌, refl, ap, sym, ◌∙◌, subst, arith,
 use Rattle.std.proofs.lemmas.Int.{ints}
 use Rattle.wf_frame.specs.declared.settings.Config.{Config}
 use Rattle.wf_frame.specs.declared.classes.Class.{Class}
-use Rattle.wf_frame.specs.declared.notes.Ask.TheVariants.{Join, Leave, Rate, Tick, Pull, Arrive, Answer, Done, Sleep, Wake, Poll, Rx, Reap}
+use Rattle.wf_frame.specs.declared.notes.Ask.TheVariants.{Join, Leave, Rate, Tick, Pull, Arrive, Answer, Done, Sleep, Wake, Poll, Rx, Reap, Ampdu, Stop, Start}
+use Rattle.wf_frame.specs.declared.notes.Limits.{Limits}
 use Rattle.wf_frame.specs.declared.notes.Note.{Note}
 use Rattle.wf_frame.specs.declared.notes.Note.TheVariants.{Enqueue, Asked}
 use Rattle.wf_frame.specs.Classes.{class_number}
@@ -12,11 +13,12 @@ use Rattle.wf_def_lists.specs.Lists.{on}
 use Rattle.wf_def_rotation.specs.Rotation.{Rotation, in_order, without_key}
 use Rattle.wf_def_world.specs.World.{World, Exchange, rotation, exchange, owed}
 use Rattle.wf_def_world.specs.CanSend.{is_ready}
-use Rattle.wf_def_world.specs.Exchanges.{Prepared, station_need, picked_station, after_pick, after_tid_turn, prepared_exchange, exchange_of, sending_tid}
+use Rattle.wf_def_world.specs.Exchanges.{Prepared, station_need, picked_station, after_tid_turn, prepared_exchange, exchange_of, sending_tid}
 use Rattle.wf_def_world.specs.Step.{Outcome, tick_outcome, pull_outcome_for, pull_outcome, outcome_where_open, outcome_of, concerned_station, station_of, done_outcome}
 use Rattle.wf_law_rules.proofs.Lemmas.Rotations.{pick_leaves}
+use Rattle.wf_law_runs.proofs.Common.Limits.{with_limits}
 use Rattle.wf_law_runs.proofs.Deficits.Books.{Account, Books, books, core, with_account, upd_other, updc_same, updc_other, cases_class}
-use Rattle.wf_law_runs.proofs.Deficits.BookSteps.{books_after_turn, books_prepared, books_sent, with_opened, without, books_ended, books_gone, all_off, books_enqueued, books_received, books_reaped, books_slept, books_woken, books_credited, books_with_rate, books_joined, paid, after, books_after_pick, pay_share}
+use Rattle.wf_law_runs.proofs.Deficits.BookSteps.{books_after_turn, books_prepared, books_sent, with_opened, without, books_ended, books_gone, all_off, books_enqueued, books_received, books_reaped, books_slept, books_woken, books_credited, books_with_rate, books_joined, paid, after, books_after_pick, pay_share, books_stated, books_stopped, books_started}
 use Rattle.wf_law_runs.proofs.Deficits.Openings.{every_map, only_one, owed-others_append, owed-others_filter}
 use Rattle.wf_law_runs.proofs.Deficits.Kept.{IsKept, counted_in, standing_of, need_in, if_map, if_same, above_after}
 use Rattle.wf_law_runs.proofs.Deficits.KeptStep.{need_is, IsFound, at_number, books_arrived, books_answered}
@@ -176,13 +178,13 @@ backs_pulled_by (Some k) s v d h =
     (backs_then s _ _ _ (backs_opened s (books p.world) (exchange_of k t d p) (h k refl))
     (backs_same s _ _ (books_sent k t d p)))
 
-backs_pulled : (s : ℕ) (w : World) (d : Class) → IsKept (books w) →
+backs_pulled : (s : ℕ) (w : World) (d : Class) (l : Limits) → IsKept (books w) →
     ((y : ℕ) → (picked_station w d).winner ≡ Some y → y ≡ s) →
-    Backs s (books w) (books (pull_outcome w d).world)
+    Backs s (books w) (books (pull_outcome w d l).world)
 unfolding pull_outcome
-backs_pulled s w d i h = backs_then s _ _ _ (backs_after s w d i)
+backs_pulled s w d l i h = backs_then s _ _ _ (backs_after s w d i)
     (backs_then s _ _ _ (backs_same s _ _ (books_after_pick w d))
-    (backs_pulled_by (picked_station w d).winner s (after_pick w d) d h))
+    (backs_pulled_by (picked_station w d).winner s (with_limits w d l) d h))
 
 -- ---- the calls
 
@@ -218,7 +220,7 @@ backs_done (Asked (Leave i)) w s k h = backs_named i s _ _ h
 backs_done (Asked (Rate i rate)) w s k h = backs_named i s _ _ h
     (backs_then i _ _ _ (backs_account i (books w) _) (backs_same i _ _ (books_with_rate w i rate)))
 backs_done (Asked (Tick by)) w s k h = backs_same s _ _ refl
-backs_done (Asked (Pull d)) w s k h = backs_pulled s w d k h
+backs_done (Asked (Pull d l)) w s k h = backs_pulled s w d l k h
 backs_done (Asked (Arrive e j)) w s k h = backs_open (exchange w e) w e s _ refl h
     (λ x f. backs_same x.station _ _ (books_arrived w e j x k f))
 backs_done (Asked (Answer e)) w s k h = backs_open (exchange w e) w e s _ refl h
@@ -226,6 +228,9 @@ backs_done (Asked (Answer e)) w s k h = backs_open (exchange w e) w e s _ refl h
 backs_done (Asked (Done e heard air)) w s k h = backs_open (exchange w e) w e s _ refl h
     (λ x f. backs_ended air w e x heard k f)
 backs_done (Asked (Sleep i)) w s k h = backs_same s _ _ (books_slept w i)
+backs_done (Asked (Ampdu i octets)) w s k h = backs_same s _ _ (books_stated w i octets)
+backs_done (Asked (Stop i)) w s k h = backs_same s _ _ (books_stopped w i)
+backs_done (Asked (Start i)) w s k h = backs_same s _ _ (books_started w i)
 backs_done (Asked (Wake i)) w s k h = backs_same s _ _ (books_woken w i)
 backs_done (Asked (Poll i)) w s k h = backs_same s _ _ (books_credited w i)
 backs_done (Asked (Rx i c air)) w s k h = backs_named i s _ _ h

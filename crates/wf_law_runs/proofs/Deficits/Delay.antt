@@ -3,7 +3,8 @@
 use Rattle.std.proofs.Common.{◌≡◌, refl, ap, sym, ◌∙◌, subst, arith, ℕ, zero, suc, ◌+◌, ◌-◌, ◌<◌, ◌≤◌, Bool, true, false, if◌then◌else◌, cond, not, ◌||◌, List, [], ◌∷◌, ◌++◌, Option, Some, None, is_some, is_none, map, filter, find, take, drop, nat_le, ◌==◌, inl, inr}
 use Rattle.wf_frame.specs.declared.settings.Config.{Config}
 use Rattle.wf_frame.specs.declared.classes.Class.{Class}
-use Rattle.wf_frame.specs.declared.notes.Ask.TheVariants.{Join, Leave, Rate, Tick, Pull, Arrive, Answer, Done, Sleep, Wake, Poll, Rx, Reap}
+use Rattle.wf_frame.specs.declared.notes.Ask.TheVariants.{Join, Leave, Rate, Tick, Pull, Arrive, Answer, Done, Sleep, Wake, Poll, Rx, Reap, Ampdu, Stop, Start}
+use Rattle.wf_frame.specs.declared.notes.Limits.{Limits}
 use Rattle.wf_frame.specs.declared.notes.Note.{Note}
 use Rattle.wf_frame.specs.declared.notes.Note.TheVariants.{Enqueue, Asked}
 use Rattle.wf_frame.specs.declared.notes.Refusal.{Refusal}
@@ -19,8 +20,9 @@ use Rattle.wf_def_world.specs.Stretches.{world_at}
 use Rattle.wf_law_rules.proofs.Lemmas.Numbers.{on_if, yes_le, not_eq, either, or_left, or_right}
 use Rattle.wf_law_runs.specs.Delay.{HasOpen, computed_of, airtime_ended_by, airtime_ended, EndsFirst, EndInOrder, DelayLaw}
 use Rattle.wf_law_runs.proofs.Common.Refused.{after_idle}
+use Rattle.wf_law_runs.proofs.Common.Limits.{with_limits}
 use Rattle.wf_law_runs.proofs.Deficits.Books.{core, Books, books}
-use Rattle.wf_law_runs.proofs.Deficits.BookSteps.{books_after_turn, books_prepared, books_sent, with_opened, books_ended, books_gone, books_enqueued, books_received, books_reaped, books_slept, books_woken, books_credited, books_with_rate, books_joined, books_after_pick}
+use Rattle.wf_law_runs.proofs.Deficits.BookSteps.{books_after_turn, books_prepared, books_sent, with_opened, books_ended, books_gone, books_enqueued, books_received, books_reaped, books_slept, books_woken, books_credited, books_with_rate, books_joined, books_after_pick, books_stated, books_stopped, books_started}
 use Rattle.wf_law_runs.proofs.Deficits.Kept.{IsKept}
 use Rattle.wf_law_runs.proofs.Deficits.KeptStep.{IsFound, found_number, at_number, books_arrived, books_answered, kept_step, kept}
 use Rattle.wf_law_runs.proofs.Deficits.InFlight.{in_flight_law}
@@ -184,16 +186,16 @@ passes_pulled_by (Some s) Q n v c below =
     (subst (λ (b : Books). Passes Q n 0 b (with_opened (books p.world) (exchange_of s t c p))) e
     (passes_opened Q n (books p.world) (exchange_of s t c p) later refl))
 
-passes_pulled : (Q : Type 0) (n : ℕ) (w : World) (c : Class) → n < w.exchanges →
-    Passes Q n 0 (books w) (books (pull_outcome w c).world)
+passes_pulled : (Q : Type 0) (n : ℕ) (w : World) (c : Class) (l : Limits) → n < w.exchanges →
+    Passes Q n 0 (books w) (books (pull_outcome w c l).world)
 unfolding pull_outcome
-passes_pulled Q n w c below =
+passes_pulled Q n w c l below =
     let e : books (after_pick w c) ≡ _ = books_after_pick w c in
     let later : n < (after_pick w c).exchanges =
     subst (λ (k : ℕ). n < k) (sym (ap (λ (b : Books). b.exchanges) e)) below in
     let p : Passes Q n 0 (books (after_pick w c))
-    (books (pull_outcome_for (after_pick w c) c (picked_station w c).winner).world) =
-    passes_pulled_by (picked_station w c).winner Q n (after_pick w c) c later in
+    (books (pull_outcome_for (with_limits w c l) c (picked_station w c).winner).world) =
+    passes_pulled_by (picked_station w c).winner Q n (with_limits w c l) c later in
     let opened : (books (after_pick w c)).opened ≡ (books w).opened = ap (λ (b : Books). b.opened) e in
     let made : (books (after_pick w c)).exchanges ≡ (books w).exchanges =
     ap (λ (b : Books). b.exchanges) e in record {
@@ -226,7 +228,7 @@ passes_done n (Asked (Join s window start exponent weight)) w r k b = passes_boo
 passes_done n (Asked (Leave s)) w r k b = passes_books _ n w _ _ (books_gone w s) refl refl
 passes_done n (Asked (Rate s rate)) w r k b = passes_books _ n w _ _ (books_with_rate w s rate) refl refl
 passes_done n (Asked (Tick by)) w r k b = passes_same _ n (books w) _ refl refl
-passes_done n (Asked (Pull c)) w r k b = passes_pulled _ n w c b
+passes_done n (Asked (Pull c l)) w r k b = passes_pulled _ n w c l b
 passes_done n (Asked (Arrive e j)) w r k b = passes_open _ n w e (exchange w e) _ (λ _. 0) refl refl
     (λ x found. passes_books _ n w (books w) _ (books_arrived w e j x k found) refl refl)
 passes_done n (Asked (Answer e)) w r k b = passes_open _ n w e (exchange w e) _ (λ _. 0) refl refl
@@ -241,6 +243,9 @@ passes_done n (Asked (Done e heard air)) w r k b =
     (ap (λ (z : Books). z.opened) (books_ended air w x heard))
     (ap (λ (z : Books). z.exchanges) (books_ended air w x heard))))
 passes_done n (Asked (Sleep s)) w r k b = passes_books _ n w (books w) _ (books_slept w s) refl refl
+passes_done n (Asked (Ampdu s octets)) w r k b = passes_books _ n w (books w) _ (books_stated w s octets) refl refl
+passes_done n (Asked (Stop s)) w r k b = passes_books _ n w (books w) _ (books_stopped w s) refl refl
+passes_done n (Asked (Start s)) w r k b = passes_books _ n w (books w) _ (books_started w s) refl refl
 passes_done n (Asked (Wake s)) w r k b = passes_books _ n w (books w) _ (books_woken w s) refl refl
 passes_done n (Asked (Poll s)) w r k b = passes_books _ n w (books w) _ (books_credited w s) refl refl
 passes_done n (Asked (Rx s c air)) w r k b = passes_books _ n w _ _ (books_received w s c air) refl refl
@@ -249,7 +254,7 @@ passes_done n (Asked Reap) w r k b = passes_books _ n w (books w) _ (books_reape
 passes_refused : (Q : Type 0) (n : ℕ) (note : Note) (r : Refusal) (w : World) →
     Passes Q n 0 (books w) (books (after_refusal w note r))
 unfolding after_refusal
-passes_refused Q n (Asked (Pull c)) Idle w = after_idle (λ v. Passes Q n 0 (books w) (books v)) w c
+passes_refused Q n (Asked (Pull c l)) Idle w = after_idle (λ v. Passes Q n 0 (books w) (books v)) w c
     (passes_same Q n (books w) (books w) refl refl) (passes_books Q n w _ _ (books_after_pick w c) refl refl)
 passes_refused Q n _ _ w = passes_same Q n (books w) (books w) refl refl
 

@@ -1,7 +1,8 @@
 -- Defines an invariant of the books about each class's lists, the open exchanges and the bounds of the
 -- deficits. Proves that each kind of change keeps it.
-use Rattle.std.proofs.Common.{◌≡◌, ◌≢◌, refl, ap, sym, ◌∙◌, subst, arith, ℕ, zero, suc, ◌+◌, ◌*◌, ◌<◌, ◌≤◌, ℤ, pos, ◌+ℤ◌, ◌-ℤ◌, ◌≤ℤ◌, Bool, true, false, if◌then◌else◌, List, [], ◌∷◌, ◌++◌, Option, Some, None, is_some, IfSome, option_map, not, ◌&&◌, find, ◌==◌, eq-eqb, inl, inr}
+use Rattle.std.proofs.Common.{◌≡◌, ◌≢◌, refl, ap, sym, ◌∙◌, subst, arith, ℕ, zero, suc, ◌+◌, ◌*◌, ◌<◌, ◌≤◌, max, ℤ, pos, ◌+ℤ◌, ◌-ℤ◌, ◌≤ℤ◌, Bool, true, false, if◌then◌else◌, List, [], ◌∷◌, ◌++◌, Option, Some, None, is_some, IfSome, option_map, not, ◌&&◌, find, ◌==◌, eq-eqb, inl, inr}
 use Rattle.std.proofs.lemmas.Int.{ints}
+use Rattle.std.proofs.Math.Nat.{le-max_left, le-max_right}
 use Rattle.std.proofs.lemmas.Bool.{cases_eq, eqb-true, or_parts, and_parts, not_from_true}
 use Rattle.wf_frame.specs.declared.settings.Config.{Config}
 use Rattle.wf_frame.specs.declared.classes.Class.{Class}
@@ -12,7 +13,7 @@ use Rattle.wf_def_air.specs.Airtime.{IsRate}
 use Rattle.wf_def_world.specs.World.{Exchange, owed, owed_by_all}
 use Rattle.wf_frame.specs.Classes.{class_number, same_class}
 use Rattle.wf_frame.specs.Settings.{IsInRange}
-use Rattle.wf_law_runs.specs.Deficits.{longest_computed, longest_exchange, most_owed, most_covered}
+use Rattle.wf_law_runs.specs.Deficits.{longest_computed, longest_of_all, longest_exchange, most_owed, most_covered}
 use Rattle.wf_def_lists.specs.Lists.{on}
 use Rattle.wf_law_rules.proofs.Lemmas.Counts.{on-nil, on-cons_same, on-cons_other, on-append, on-filter_le, on-filter_out, hasnot-on}
 use Rattle.wf_law_runs.proofs.Deficits.Books.{each_upd, others_upd, upd_other, each_updc, others_updc, updc_same, cases_class, same_number, Account, core, Books, with_account, with_lists, on_part}
@@ -24,12 +25,12 @@ use Rattle.wf_law_runs.proofs.Deficits.Bounds.{counted, IsBounded, paid_least, b
 pub record IsOpen (b : Books) (x : Exchange) : Type 0 where
   pub live : is_some (b.accounts x.station) ≡ true
   pub below : x.number < b.exchanges
-  pub charge : x.charge ≤ longest_computed b.config
+  pub charge : x.charge ≤ longest_computed b.config x.class
   pub some : 1 ≤ x.charge
 
 -- Returns the greatest charge of a station's open exchanges in a class.
 abbrev pub at_stake : Config → ℕ → Class → List Exchange → ℕ
-at_stake config s c opened = reserved (longest_exchange config) s c opened
+at_stake config s c opened = reserved (longest_exchange config c) s c opened
 
 -- Returns how much of the computed charge of a station's open exchanges in a class counts against its
 -- deficit.
@@ -40,13 +41,14 @@ counted_in config s c opened = counted config (owed s c opened)
 pub record IsGood (config : Config) (opened : List Exchange) (s : ℕ) (a : Account) : Type 0 where
   pub weight : 0 < a.weight
   pub rate : IsRate a.rate
-  pub bounds : (c : Class) → IsBounded config (at_stake config s c opened) (counted_in config s c opened)
+  pub bounds : (c : Class) → IsBounded config c (at_stake config s c opened) (counted_in config s c opened)
       a.weight (a.shares c)
 
 -- The open exchanges exceed each limit on airtime in flight by less than one exchange.
 pub record IsWithin (config : Config) (opened : List Exchange) : Type 0 where
-  pub total : 1 ≤ config.aql_total → owed_by_all opened < config.aql_total + longest_computed config
-  pub station : 1 ≤ config.aql → (s : ℕ) (c : Class) → owed s c opened < config.aql + longest_computed config
+  pub total : 1 ≤ config.aql_total → owed_by_all opened < config.aql_total + longest_of_all config
+  pub station : 1 ≤ config.aql → (s : ℕ) (c : Class) →
+      owed s c opened < config.aql + longest_computed config c
 
 pub record IsKept (b : Books) : Type 0 where
   pub range : IsInRange b.config
@@ -189,9 +191,9 @@ times_most : (m n l k : ℕ) → m ≤ n → k ≤ m * l → k ≤ n * l
 times_most m n l k h e = grind arith
 
 pub at_stake_most : (b : Books) → IsKept b → (s : ℕ) (c : Class) →
-    at_stake b.config s c b.opened ≤ most_owed b.config
-at_stake_most b i s c = times_most (many c b.opened) b.config.inflight (longest_exchange b.config)
-    (at_stake b.config s c b.opened) (i.few c) (reserved_most (longest_exchange b.config) s c b.opened)
+    at_stake b.config s c b.opened ≤ most_owed b.config c
+at_stake_most b i s c = times_most (many c b.opened) b.config.inflight (longest_exchange b.config c)
+    (at_stake b.config s c b.opened) (i.few c) (reserved_most (longest_exchange b.config c) s c b.opened)
 
 counted_none : (config : Config) (n : ℕ) → n ≡ 0 → counted config n ≡ 0
 counted_none config n e = go (config.pending == 1)
@@ -223,7 +225,7 @@ kept_fresh b s weight i some dead = record {
         weight = some;
         rate = refl;
         bounds =
-            λ c. bounded_fresh b.config (at_stake b.config s c b.opened) (counted_in b.config s c b.opened)
+            λ c. bounded_fresh b.config c (at_stake b.config s c b.opened) (counted_in b.config s c b.opened)
             weight (omega (arith, i.range.quantum.0)) some (at_stake_most b i s c)
             (counted_none b.config _ (dead_owes b s c i dead));
       });
@@ -298,19 +300,44 @@ kept_gone b s i away = record {
 
 -- ---- exchanges
 
+-- The greatest computed charge of a class is at most that of any class.
+pub among_all : (config : Config) (c : Class) → longest_computed config c ≤ longest_of_all config
+among_all config c = go c
+  where
+    later : ℕ
+    later = max (longest_computed config Vi) (longest_computed config Vo)
+
+    first : longest_computed config Be ≤ longest_of_all config
+    first = le-max_left (longest_computed config Be) later
+
+    rest : later ≤ longest_of_all config
+    rest = le-max_right (longest_computed config Be) later
+
+    go : (c : Class) → longest_computed config c ≤ longest_of_all config
+    go Bk = first
+    go Be = first
+    go Vi = omega (arith, le-max_left (longest_computed config Vi) (longest_computed config Vo), rest)
+    go Vo = omega (arith, le-max_right (longest_computed config Vi) (longest_computed config Vo), rest)
+
 -- One exchange more keeps the limits, if what it adds to was below them.
-pub within_opened : (b : Books) (x : Exchange) → IsKept b → x.charge ≤ longest_computed b.config →
+pub within_opened : (b : Books) (x : Exchange) → IsKept b → x.charge ≤ longest_computed b.config x.class →
     (1 ≤ b.config.aql_total → owed_by_all b.opened < b.config.aql_total) →
     (1 ≤ b.config.aql → owed x.station x.class b.opened < b.config.aql) →
     IsWithin b.config (b.opened ++ core x ∷ [])
 within_opened b x i fit behind below = record {
-  total = λ limited. omega (arith, behind limited, owed_all-append b.opened (core x), fit);
+  total = λ limited. omega (
+    arith,
+    behind limited,
+    owed_all-append b.opened (core x),
+    fit,
+    among_all b.config x.class,
+  );
   station = λ limited s c. each limited s c ((x.station == s) && same_class x.class c) refl;
 }
   where
     each : 1 ≤ b.config.aql → (s : ℕ) (c : Class) (t : Bool) →
         ((x.station == s) && same_class x.class c) ≡ t →
-        owed s c (b.opened ++ core x ∷ []) < b.config.aql + longest_computed b.config
+        owed s c (b.opened ++ core x ∷ []) < b.config.aql + longest_computed b.config c
     each limited s c true t =
         let both : ((x.station == s) ≡ true) × (same_class x.class c ≡ true) = and_parts _ _ t in
         let here : owed s c b.opened < b.config.aql =
@@ -319,7 +346,10 @@ within_opened b x i fit behind below = record {
         let more : owed s c (b.opened ++ core x ∷ []) ≡ owed s c b.opened + x.charge =
         owed-append s c b.opened (core x)
         ∙ ap (λ (z : Bool). owed s c b.opened + (if z then x.charge else 0)) t in
-        omega (arith, here, more, fit)
+        let own : x.charge ≤ longest_computed b.config c =
+        subst (λ (d : Class). x.charge ≤ longest_computed b.config d)
+        (same_number _ _ (eqb-true _ _ both.1)) fit in
+        omega (arith, here, more, own)
     each limited s c false t =
         let same : owed s c (b.opened ++ core x ∷ []) ≡ owed s c b.opened + 0 =
         owed-append s c b.opened (core x)
@@ -327,7 +357,7 @@ within_opened b x i fit behind below = record {
         omega (arith, same, i.within.station limited s c)
 
 pub kept_opened : (b : Books) (x : Exchange) → IsKept b → is_some (b.accounts x.station) ≡ true →
-    x.number ≡ b.exchanges → x.charge ≤ longest_computed b.config → 1 ≤ x.charge →
+    x.number ≡ b.exchanges → x.charge ≤ longest_computed b.config x.class → 1 ≤ x.charge →
     many x.class b.opened < b.config.inflight → IsWithin b.config (b.opened ++ core x ∷ [])
     → IfSome (b.accounts x.station) (λ a. pos 1 ≤ℤ
     ((a.shares x.class).deficit -ℤ pos (counted_in b.config x.station x.class b.opened)))
@@ -372,10 +402,10 @@ kept_opened b x i is number charge some room within above = record {
       | inr other ↦ omega (arith, many-other c b.opened (core x) other, i.few c)
     ]
 
-    total : (s : ℕ) (c : Class) → at_stake b.config s c (b.opened ++ core x ∷ []) ≤ most_owed b.config
-    total s c = times_most (many c (b.opened ++ core x ∷ [])) b.config.inflight (longest_exchange b.config)
+    total : (s : ℕ) (c : Class) → at_stake b.config s c (b.opened ++ core x ∷ []) ≤ most_owed b.config c
+    total s c = times_most (many c (b.opened ++ core x ∷ [])) b.config.inflight (longest_exchange b.config c)
         (at_stake b.config s c (b.opened ++ core x ∷ [])) (few c)
-        (reserved_most (longest_exchange b.config) s c (b.opened ++ core x ∷ []))
+        (reserved_most (longest_exchange b.config c) s c (b.opened ++ core x ∷ []))
 
     -- The station's standing is above 0.
     Above : ℕ → Class → Option Account → Type 0
@@ -387,12 +417,12 @@ kept_opened b x i is number charge some room within above = record {
     grows false m n k l e h = (omega arith, omega arith)
 
     bound : (s : ℕ) (a : Account) → b.accounts s ≡ Some a → IsGood b.config b.opened s a → (c : Class) →
-        IsBounded b.config (at_stake b.config s c (b.opened ++ core x ∷ []))
+        IsBounded b.config c (at_stake b.config s c (b.opened ++ core x ∷ []))
         (counted_in b.config s c (b.opened ++ core x ∷ [])) a.weight (a.shares c)
     bound s a e good c = go ((x.station == s) && same_class x.class c) refl
       where
         go : (t : Bool) → ((x.station == s) && same_class x.class c) ≡ t →
-            IsBounded b.config (at_stake b.config s c (b.opened ++ core x ∷ []))
+            IsBounded b.config c (at_stake b.config s c (b.opened ++ core x ∷ []))
             (counted_in b.config s c (b.opened ++ core x ∷ [])) a.weight (a.shares c)
         go true t =
             let both : ((x.station == s) ≡ true) × (same_class x.class c ≡ true) = and_parts _ _ t in
@@ -401,27 +431,30 @@ kept_opened b x i is number charge some room within above = record {
             let there : Above s c (b.accounts s) =
             subst (λ (d : Class). Above s d (b.accounts s)) (same_number _ _ (eqb-true _ _ both.1)) here in
             let known : Above s c (Some a) = subst (Above s c) e there in
+            let own : x.charge ≤ longest_computed b.config c =
+            subst (λ (d : Class). x.charge ≤ longest_computed b.config d)
+            (same_number _ _ (eqb-true _ _ both.1)) charge in
             let more = grows (b.config.pending == 1) (owed s c b.opened) x.charge _
-            (longest_computed b.config)
+            (longest_computed b.config c)
             (owed-append s c b.opened (core x)
-            ∙ ap (λ (z : Bool). owed s c b.opened + (if z then x.charge else 0)) t) charge in
-            bounded_open b.config (at_stake b.config s c b.opened) _ (counted_in b.config s c b.opened) _
+            ∙ ap (λ (z : Bool). owed s c b.opened + (if z then x.charge else 0)) t) own in
+            bounded_open b.config c (at_stake b.config s c b.opened) _ (counted_in b.config s c b.opened) _
             a.weight (a.shares c) known (total s c) more.0 more.1 (good.bounds c)
         go false t =
-            let none : part_of (longest_exchange b.config) s c (core x) ≡ 0 = rw t refl in
+            let none : part_of (longest_exchange b.config c) s c (core x) ≡ 0 = rw t refl in
             let same : owed s c (b.opened ++ core x ∷ []) ≡ owed s c b.opened =
             owed-append s c b.opened (core x)
             ∙ (ap (λ (z : Bool). owed s c b.opened + (if z then x.charge else 0)) t ∙ omega arith) in
-            subst (λ (n : ℕ). IsBounded b.config (at_stake b.config s c (b.opened ++ core x ∷ []))
+            subst (λ (n : ℕ). IsBounded b.config c (at_stake b.config s c (b.opened ++ core x ∷ []))
             (counted b.config n) a.weight (a.shares c)) (sym same)
-            (bounded_less b.config (at_stake b.config s c b.opened) _ _ a.weight (a.shares c)
-            (omega (arith, reserved-append (longest_exchange b.config) s c b.opened (core x)))
+            (bounded_less b.config c (at_stake b.config s c b.opened) _ _ a.weight (a.shares c)
+            (omega (arith, reserved-append (longest_exchange b.config c) s c b.opened (core x)))
             (good.bounds c))
 
 -- An exchange ends, and its charge, which is at most the longest, is subtracted from the deficit. If no Done
 -- gives an airtime, it is the computed charge.
 pub kept_ended : (b : Books) (x : Exchange) (e n : ℕ) → IsKept b →
-    find (λ z. z.number == e) b.opened ≡ Some x → n ≤ longest_exchange b.config →
+    find (λ z. z.number == e) b.opened ≡ Some x → n ≤ longest_exchange b.config x.class →
     (b.config.charge ≡ 0 → n ≡ x.charge) → IsKept (with_charge (without b e) x.station x.class n)
 kept_ended b x e n i found within exact = record {
   range = i.range;
@@ -462,12 +495,12 @@ kept_ended b x e n i found within exact = record {
       (λ a _ good. record {
         weight = good.weight;
         rate = good.rate;
-        bounds = others_updc (λ c z. IsBounded b.config
+        bounds = others_updc (λ c z. IsBounded b.config c
             (at_stake b.config x.station c (without b e).opened)
             (counted_in b.config x.station c (without b e).opened) a.weight z)
             a.shares x.class (charge_share n (a.shares x.class))
             (λ c other. less x.station c a (away x.station c (λ _. λ z. other (sym z))) (good.bounds c))
-            (bounded_charge b.config (at_stake b.config x.station x.class b.opened) _
+            (bounded_charge b.config x.class (at_stake b.config x.station x.class b.opened) _
             (counted_in b.config x.station x.class b.opened) _ n a.weight (a.shares x.class) own
             (λ z. (falls (b.config.pending == 1) (owed x.station x.class b.opened) _ x.charge n all
             (exact z)).0)
@@ -496,14 +529,14 @@ kept_ended b x e n i found within exact = record {
             omega (arith, owed-ended 0 s c b.opened x e i.rising found)
 
     less : (s : ℕ) (c : Class) (a : Account) → owed s c (without b e).opened ≡ owed s c b.opened →
-        IsBounded b.config (at_stake b.config s c b.opened) (counted_in b.config s c b.opened) a.weight
-        (a.shares c) → IsBounded b.config (at_stake b.config s c (without b e).opened)
+        IsBounded b.config c (at_stake b.config s c b.opened) (counted_in b.config s c b.opened) a.weight
+        (a.shares c) → IsBounded b.config c (at_stake b.config s c (without b e).opened)
         (counted_in b.config s c (without b e).opened) a.weight (a.shares c)
-    less s c a same h = subst (λ (m : ℕ). IsBounded b.config (at_stake b.config s c (without b e).opened)
+    less s c a same h = subst (λ (m : ℕ). IsBounded b.config c (at_stake b.config s c (without b e).opened)
         (counted b.config m) a.weight (a.shares c)) (sym same)
-        (bounded_less b.config (at_stake b.config s c b.opened) (at_stake b.config s c (without b e).opened)
+        (bounded_less b.config c (at_stake b.config s c b.opened) (at_stake b.config s c (without b e).opened)
         (counted_in b.config s c b.opened) a.weight (a.shares c)
-        (reserved-filter (longest_exchange b.config) s c (λ y. not (y.number == e)) b.opened) h)
+        (reserved-filter (longest_exchange b.config c) s c (λ y. not (y.number == e)) b.opened) h)
 
     -- The airtime in flight of the station in the class falls by the computed charge.
     all : owed x.station x.class (without b e).opened + x.charge ≡ owed x.station x.class b.opened
@@ -527,10 +560,11 @@ kept_ended b x e n i found within exact = record {
     own : at_stake b.config x.station x.class (without b e).opened + n
         ≤ at_stake b.config x.station x.class b.opened
     own =
-        let all : part_of (longest_exchange b.config) x.station x.class x ≡ longest_exchange b.config =
+        let all : part_of (longest_exchange b.config x.class) x.station x.class x
+        ≡ longest_exchange b.config x.class =
         rw (eq-eqb x.station x.station refl, eq-eqb (class_number x.class) (class_number x.class) refl)
         refl in
-        omega (arith, reserved-ended (longest_exchange b.config) x.station x.class b.opened x e found)
+        omega (arith, reserved-ended (longest_exchange b.config x.class) x.station x.class b.opened x e found)
 
 -- ---- a pick
 
@@ -557,7 +591,7 @@ once_times (suc zero) n k h e = omega arith
 once_times (suc (suc m)) n k h e = absurd (omega arith)
 
 pub kept_after : (b : Books) (c : Class) (p : Picked) → IsKept b → IsPick b c p →
-    ((y : ℕ) → counted_in b.config y c b.opened ≤ most_covered b.config) → IsKept (after b c p)
+    ((y : ℕ) → counted_in b.config y c b.opened ≤ most_covered b.config c) → IsKept (after b c p)
 kept_after b c p i k covered =
     kept_lists (all_paid b c p.quanta (in_order (b.rotations c))) c p.lists all k.lists
   where
@@ -589,12 +623,12 @@ kept_after b c p i k covered =
           (λ a e good. record {
             weight = good.weight;
             rate = good.rate;
-            bounds = each_updc (λ d z. IsBounded b.config (at_stake b.config s d b.opened)
+            bounds = each_updc (λ d z. IsBounded b.config d (at_stake b.config s d b.opened)
                 (counted_in b.config s d b.opened) a.weight z)
                 a.shares c _ good.bounds
                 (let need : p.quanta s ≤ need_in b s c a =
                 subst (λ (o : Option Account). IfSome o (λ a. p.quanta s ≤ need_in b s c a)) e (k.needed s) in
-                bounded_pay b.config (at_stake b.config s c b.opened) (counted_in b.config s c b.opened)
+                bounded_pay b.config c (at_stake b.config s c b.opened) (counted_in b.config s c b.opened)
                 a.weight (on (in_order (b.rotations c)) s * p.quanta s) (a.shares c)
                 (once_times _ _ _ (i.once c s) need) (covered s) (good.bounds c));
           });

@@ -4,10 +4,11 @@ use Rattle.std.proofs.lemmas.Int.{ints}
 use Rattle.std.proofs.lemmas.Bool.{eqb-true, eqb-false, and_parts, not-true, not-false, leb-true}
 use Rattle.std.proofs.lemmas.Bool.Decides.{nat_tests}
 use Rattle.std.proofs.lemmas.List.Sums.{sum_by-cons}
-use Rattle.std.proofs.Math.Nat.{le-max_left, le-max_right}
+use Rattle.std.proofs.Math.Nat.{le-max_left, le-max_right, min-le_right}
 use Rattle.wf_frame.specs.declared.settings.Config.{Config}
 use Rattle.wf_frame.specs.declared.classes.Class.{Class}
-use Rattle.wf_frame.specs.declared.notes.Ask.TheVariants.{Join, Leave, Rate, Tick, Pull, Arrive, Answer, Done, Sleep, Wake, Poll, Rx, Reap}
+use Rattle.wf_frame.specs.declared.notes.Ask.TheVariants.{Join, Leave, Rate, Tick, Pull, Arrive, Answer, Done, Sleep, Wake, Poll, Rx, Reap, Ampdu, Stop, Start}
+use Rattle.wf_frame.specs.declared.notes.Limits.{Limits}
 use Rattle.wf_frame.specs.declared.notes.Note.{Note}
 use Rattle.wf_frame.specs.declared.notes.Note.TheVariants.{Enqueue, Asked}
 use Rattle.wf_frame.specs.declared.notes.Refusal.{Refusal}
@@ -16,11 +17,11 @@ use Rattle.wf_def_lists.specs.Table.{at}
 use Rattle.wf_def_rotation.specs.Rotation.{with_key_listed, has_key, need_of}
 use Rattle.wf_def_lists.specs.Bounds.{greatest_air, deepest_deficit}
 use Rattle.wf_def_air.specs.Airtime.{IsRate}
-use Rattle.wf_def_world.specs.World.{World, Station, Exchange, no_share, no_station, station, share, rotation, is_live, exchange, owed, owed_by_all, with_exchange, with_rotation, on_receiver, on_tid, on_station, with_station, opening, standing}
+use Rattle.wf_def_world.specs.World.{World, Station, Exchange, no_share, no_station, station, share, rotation, is_live, exchange, owed, owed_by_all, with_exchange, with_rotation, on_receiver, on_tid, on_station, with_station, on_share, opening, standing}
 use Rattle.wf_law_rules.proofs.Lemmas.Numbers.{le_no}
 use Rattle.wf_frame.specs.Classes.{class_number, all_classes}
 use Rattle.wf_def_world.specs.CanSend.{has_credit, can_send_in, is_below_aql, may_receive, is_ready, is_to_list, with_listing_in, with_listings_in, with_listings_of}
-use Rattle.wf_def_world.specs.Exchanges.{Prepared, station_need, picked_station, after_pick, after_tid_turn, prepared_exchange, exchange_of, after_arrival, sending_tid, charge_of}
+use Rattle.wf_def_world.specs.Exchanges.{Prepared, cap_of, limited, station_need, picked_station, after_pick, after_tid_turn, prepared_exchange, exchange_of, after_arrival, sending_tid, charge_of}
 use Rattle.wf_def_world.specs.Refusals.{first_refusal, refusals, refusal, open_of_class, is_at_aql_total, is_within}
 use Rattle.wf_def_world.specs.Step.{Outcome, tick_outcome, send_outcome, pull_outcome_for, pull_outcome, arrive_outcome, answer_outcome, outcome_where_open, rx_outcome, outcome_of, after_refusal, judged_outcome, step}
 use Rattle.wf_def_world.specs.Run.{Entry, world_after}
@@ -30,8 +31,9 @@ use Rattle.wf_def_lists.specs.Lists.{on}
 use Rattle.wf_law_rules.proofs.Lemmas.Counts.{on-nil}
 use Rattle.wf_law_rules.proofs.Lemmas.Rotations.{pick_on, pick_need, IsWinner, pick_winner}
 use Rattle.wf_law_runs.proofs.Common.Refused.{if_idle}
+use Rattle.wf_law_runs.proofs.Common.Limits.{with_limits}
 use Rattle.wf_law_runs.proofs.Deficits.Books.{Account, account, core, Books, books, on_part, each_updc, books_with_rotation, books_on_receiver}
-use Rattle.wf_law_runs.proofs.Deficits.BookSteps.{books_after_turn, books_prepared, books_sent, books_ended, books_gone, books_enqueued, receive_share, books_received, books_reaped, books_slept, books_woken, books_credited, rated, books_with_rate, books_joined, books_after_pick}
+use Rattle.wf_law_runs.proofs.Deficits.BookSteps.{books_after_turn, books_prepared, books_sent, books_ended, books_gone, books_enqueued, receive_share, books_received, books_reaped, books_slept, books_woken, books_credited, rated, books_with_rate, books_joined, books_after_pick, books_stated, books_stopped, books_started}
 use Rattle.wf_law_runs.proofs.Deficits.Openings.{Every, every_map, every_find, only_one, many, many-count, many-core, owed-core, owed_all-core, owed_most}
 use Rattle.wf_law_runs.proofs.Deficits.Bounds.{counted, IsBounded, bounded_receive}
 use Rattle.wf_law_runs.proofs.Deficits.Kept.{IsOpen, at_stake, counted_in, IsGood, IsKept, standing_of, need_in, some_map, if_same, kept_on, kept_add, at_stake_most, kept_fresh, kept_gone, within_opened, kept_opened, kept_ended, IsPick, kept_after, above_after}
@@ -136,7 +138,7 @@ is_pick w c = record {
 
 -- The airtime that is counted against each station in the class is at most the airtime that quanta may cover.
 Covered : World → Class → Type 0
-Covered w c = (y : ℕ) → counted_in w.config y c (map core w.opened) ≤ most_covered w.config
+Covered w c = (y : ℕ) → counted_in w.config y c (map core w.opened) ≤ most_covered w.config c
 
 kept_after_pick : (w : World) (c : Class) → Covered w c → IsKept (books w) → IsKept (books (after_pick w c))
 unfolding Covered
@@ -155,14 +157,15 @@ covered_room : (w : World) (c : Class) → IsKept (books w) → many c (map core
 unfolding Covered
 covered_room w c i room y = go (w.config.pending == 1)
     (few_times (many c (map core w.opened)) w.config.inflight
-    (longest_computed w.config) (owed y c (map core w.opened)) room
-    (owed_most (longest_computed w.config) y c (map core w.opened)
-    (every_map (IsOpen (books w)) (λ x. x.charge ≤ longest_computed w.config) (λ x o. o.charge)
+    (longest_computed w.config c) (owed y c (map core w.opened)) room
+    (owed_most (longest_computed w.config c) y c (map core w.opened)
+    (every_map (IsOpen (books w)) (λ x. x.class ≡ c → x.charge ≤ longest_computed w.config c)
+    (λ x o e. subst (λ (d : Class). x.charge ≤ longest_computed w.config d) e o.charge)
     (map core w.opened) i.opens)))
   where
-    go : (t : Bool) → owed y c (map core w.opened) ≤ (w.config.inflight - 1) * longest_computed w.config →
+    go : (t : Bool) → owed y c (map core w.opened) ≤ (w.config.inflight - 1) * longest_computed w.config c →
         (if t then owed y c (map core w.opened) else 0)
-        ≤ (if t then (w.config.inflight - 1) * longest_computed w.config else 0)
+        ≤ (if t then (w.config.inflight - 1) * longest_computed w.config c else 0)
     go true h = h
     go false h = omega arith
 
@@ -208,7 +211,8 @@ below_still w c s is limited =
     let sends : (can_send_in w s c && may_receive w s c) ≡ true = (and_parts (is_live w s) _ is).1 in
     let may : may_receive w s c ≡ true = (and_parts (can_send_in w s c) _ sends).1 in
     let below : is_below_aql w s c ≡ true =
-    (and_parts (not (station w s).asleep || has_credit (station w s).credit c) _ may).1 in
+    (and_parts (not (station w s).asleep || has_credit (station w s).credit c) _
+    (and_parts (not (station w s).stopped) _ may).1).1 in
     omega (arith, owed-core s c w.opened, below_limit w.config.aql (owed s c w.opened) below limited)
 
 may_send : (w : World) (c : Class) (s : ℕ) → IsKept (books w) →
@@ -236,36 +240,58 @@ rate_kept v s i = go (at None v.stations s) (i.goods s)
     go None g = refl
     go (Some x) g = g.rate
 
-kept_sent : (v : World) (c : Class) (s t : ℕ) → IsKept (books v) → MaySend c s (books v) →
+-- A pull may fill an aggregate for no more than the greatest time of its class.
+Bounded : World → Class → Type 0
+Bounded v c = v.bounds.air ≤ cap_of v.config c
+
+kept_sent : (v : World) (c : Class) (s t : ℕ) → IsKept (books v) → Bounded v c → MaySend c s (books v) →
     IsKept (books (send_outcome s t c (prepared_exchange v s t)).world)
-kept_sent v c s t i m =
+unfolding Bounded
+kept_sent v c s t i short m =
     let p : Prepared = prepared_exchange v s t in
     let e : books p.world ≡ books v = books_prepared v s t in
     let k : IsKept (books p.world) = subst IsKept (sym e) i in
     let n : MaySend c s (books p.world) = subst (MaySend c s) (sym e) m in
-    let cap : longest_computed p.world.config ≡ longest_computed v.config =
-    ap (λ (b : Books). longest_computed b.config) e in
-    let fit : p.charge ≤ longest_computed p.world.config =
-    subst (λ (l : ℕ). p.charge ≤ l) (sym cap) (charge_most v s t (i.range.cap.0) (rate_kept v s i)) in
+    let cap : longest_computed p.world.config c ≡ longest_computed v.config c =
+    ap (λ (b : Books). longest_computed b.config c) e in
+    let fit : p.charge ≤ longest_computed p.world.config c =
+    subst (λ (l : ℕ). p.charge ≤ l) (sym cap) (charge_most v s t c (rate_kept v s i) short) in
     is _ _ (books_sent s t c p) (kept_opened (books p.world) (exchange_of s t c p) k n.live refl fit
     (charge_some v s t) n.room (within_opened (books p.world) (exchange_of s t c p) k fit n.behind n.below)
     n.above)
 
-kept_pulled_by : (o : Option ℕ) (v : World) (c : Class) → IsKept (books v) →
+bounded_turn : (v : World) (c : Class) (s t : ℕ) → Bounded v c → Bounded (after_tid_turn v s c t) c
+unfolding Bounded after_tid_turn on_share on_station with_station
+bounded_turn v c s t h = h
+
+kept_pulled_by : (o : Option ℕ) (v : World) (c : Class) → IsKept (books v) → Bounded v c →
     ((s : ℕ) → o ≡ Some s → MaySend c s (books v)) → IsKept (books (pull_outcome_for v c o).world)
-unfolding pull_outcome_for
-kept_pulled_by None v c i m = i
-kept_pulled_by (Some s) v c i m =
+unfolding pull_outcome_for Bounded
+kept_pulled_by None v c i short m = i
+kept_pulled_by (Some s) v c i short m =
     let e : books (after_tid_turn v s c (sending_tid v s c)) ≡ books v =
     books_after_turn v s c (sending_tid v s c) in
     kept_sent (after_tid_turn v s c (sending_tid v s c)) c s (sending_tid v s c) (subst IsKept (sym e) i)
-    (subst (MaySend c s) (sym e) (m s refl))
+    (bounded_turn v c s (sending_tid v s c) short) (subst (MaySend c s) (sym e) (m s refl))
 
-kept_pulled : (w : World) (c : Class) → (nat_le w.config.inflight (open_of_class w c)) ≡ false →
-    is_at_aql_total w ≡ false → IsKept (books w) → IsKept (books (pull_outcome w c).world)
+-- A limit of a pull allows no more than the setting.
+limited_less : (o : Option ℕ) (n : ℕ) → limited o n ≤ n
+limited_less None n = omega arith
+limited_less (Some limit) n = min-le_right limit n
+
+bounded_pick : (w : World) (c : Class) (l : Limits) → Bounded (with_limits w c l) c
+unfolding Bounded
+bounded_pick w c l =
+    let same : (after_pick w c).config ≡ w.config = ap (λ (b : Books). b.config) (books_after_pick w c) in
+    subst (λ (z : Config). limited l.air (cap_of w.config c) ≤ cap_of z c) (sym same)
+    (limited_less l.air (cap_of w.config c))
+
+kept_pulled : (w : World) (c : Class) (l : Limits) → (nat_le w.config.inflight (open_of_class w c)) ≡ false →
+    is_at_aql_total w ≡ false → IsKept (books w) → IsKept (books (pull_outcome w c l).world)
 unfolding pull_outcome
-kept_pulled w c h off i = kept_pulled_by (picked_station w c).winner (after_pick w c) c
-    (kept_after_pick w c (covered_room w c i (room_left w c i h)) i)
+kept_pulled w c l h off i = kept_pulled_by (picked_station w c).winner
+    (with_limits w c l) c
+    (kept_after_pick w c (covered_room w c i (room_left w c i h)) i) (bounded_pick w c l)
     (λ s won. may_send w c s i h off won)
 
 -- ---- exchanges
@@ -345,16 +371,16 @@ books_answered w e x i found = books_with_exchange w _ (only_this w e x i found)
 
 -- The charge of an ended exchange is at most the longest, computed or given by its Done.
 pub charge_within : (w : World) (e : ℕ) (x : Exchange) (air : Option ℕ) → IsKept (books w) → IsFound w e x →
-    is_bad_air w.config air ≡ false → charge_of air x ≤ longest_exchange w.config
+    is_bad_air w.config air ≡ false → charge_of air x ≤ longest_exchange w.config x.class
 charge_within w e x None i found fine =
-    let computed : x.charge ≤ longest_computed w.config =
+    let computed : x.charge ≤ longest_computed w.config x.class =
     (every_find (IsOpen (books w)) (λ z. z.number == x.number) (map core w.opened) (core x) i.opens
     (at_number w e x found)).1.charge in
-    omega (arith, computed, le-max_left (longest_computed w.config) w.config.charge)
+    omega (arith, computed, le-max_left (longest_computed w.config x.class) w.config.charge)
 charge_within w e x (Some n) i found fine = omega (
   arith,
   leb-true n w.config.charge (and_parts _ _ (not-false _ fine)).1,
-  le-max_right (longest_computed w.config) w.config.charge,
+  le-max_right (longest_computed w.config x.class) w.config.charge,
 )
 
 -- If no Done gives an airtime, the charge of an ended exchange is what its pull computed.
@@ -385,11 +411,11 @@ kept_received w s c air h k i = is _ _ (books_received w s c air)
     (kept_on (books w) s (on_part c (receive_share air)) i (λ a e good. record {
       weight = good.weight;
       rate = good.rate;
-      bounds = each_updc (λ d z. IsBounded w.config (at_stake w.config s d (books w).opened)
+      bounds = each_updc (λ d z. IsBounded w.config d (at_stake w.config s d (books w).opened)
           (counted_in w.config s d (books w).opened) a.weight z)
           a.shares c
           (receive_share air (a.shares c)) good.bounds
-          (bounded_receive w.config (at_stake w.config s c (books w).opened)
+          (bounded_receive w.config c (at_stake w.config s c (books w).opened)
           (counted_in w.config s c (books w).opened) air a.weight (a.shares c)
           (at_stake_most (books w) i s c) (leb-true _ _ (and_parts _ _ (not-false _ h)).0) (known a e)
           (good.bounds c));
@@ -441,7 +467,7 @@ kept_done (Asked (Rate s rate)) w e i =
     (kept_on (books w) s (rated rate) i
     (λ a _ good. record { weight = good.weight; rate = not-false _ e.1.0; bounds = good.bounds }))
 kept_done (Asked (Tick by)) w e i = i
-kept_done (Asked (Pull c)) w e i = kept_pulled w c e.0 e.1.0 i
+kept_done (Asked (Pull c l)) w e i = kept_pulled w c l e.0 e.1.0 i
 kept_done (Asked (Arrive e j)) w _ i = kept_open w e (exchange w e) _ refl i
     (λ x f. is _ _ (books_arrived w e j x i f) i)
 kept_done (Asked (Answer e)) w _ i = kept_open w e (exchange w e) _ refl i
@@ -451,6 +477,9 @@ kept_done (Asked (Done e heard air)) w r i = kept_open w e (exchange w e) _ refl
     (at_number w e x f) (charge_within w e x air i f r.1.1.0)
     (charge_exact w.config x air r.1.1.0)))
 kept_done (Asked (Sleep s)) w e i = is _ _ (books_slept w s) i
+kept_done (Asked (Ampdu s octets)) w e i = is _ _ (books_stated w s octets) i
+kept_done (Asked (Stop s)) w e i = is _ _ (books_stopped w s) i
+kept_done (Asked (Start s)) w e i = is _ _ (books_started w s) i
 kept_done (Asked (Wake s)) w e i = is _ _ (books_woken w s) i
 kept_done (Asked (Poll s)) w e i = is _ _ (books_credited w s) i
 kept_done (Asked (Rx s c air)) w e i = kept_received w s c air e.1.0 e.1.1.1.0 i
@@ -459,7 +488,7 @@ kept_done (Asked Reap) w e i = is _ _ (books_reaped w.finished w) i
 kept_refused : (note : Note) (r : Refusal) (w : World) → IsKept (books w) →
     IsKept (books (after_refusal w note r))
 unfolding after_refusal
-kept_refused (Asked (Pull c)) Idle w i = if_idle (λ v. IsKept (books v)) w c i
+kept_refused (Asked (Pull c l)) Idle w i = if_idle (λ v. IsKept (books v)) w c i
     (λ off. kept_after_pick w c (covered_off w c off) i)
 kept_refused _ _ w i = i
 

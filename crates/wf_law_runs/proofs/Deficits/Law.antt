@@ -14,7 +14,7 @@ use Rattle.wf_law_runs.proofs.Deficits.Bounds.{counted}
 
 pub deficits : (config : Config) (h : List Entry) → IsInRange config → DeficitLaw config h
 deficits config h range m s c live =
-    let money : IsMoney config (owed s c (world_at config h m).opened) (weight_at config h m s)
+    let money : IsMoney config c (owed s c (world_at config h m).opened) (weight_at config h m s)
     (share (world_at config h m) s c) = share_at config h m s c range live in
     let same : (world_at config h m).config ≡ config = config_at config h m in
     let order : IsOrderly (world_at config h m) = orderly config (take m h) range in
@@ -25,13 +25,13 @@ deficits config h range m s c live =
       quiet = money.quiet;
       floor = money.floor;
       ready = λ is. lists-on (rotation (world_at config h m) c) s (order.listed.all s c is);
-      lowest = subst (λ (z : Config). (pos 0 -ℤ pos (config.debt + most_owed config)) ≤ℤ
+      lowest = subst (λ (z : Config). (pos 0 -ℤ pos (config.debt + most_owed config c)) ≤ℤ
           ((share (world_at config h m) s c).deficit
           -ℤ pos (counted z (owed s c (world_at config h m).opened)))) (sym same) money.lowest;
       within = λ e. subst (λ (z : Config). ((share (world_at config h m) s c).deficit
           -ℤ pos (counted z (owed s c (world_at config h m).opened))) ≤ℤ
           pos (own_quantum config (world_at config h m) s)) (sym same) (money.within e);
-      backed = λ p e r. subst (λ (z : Config). (pos 1 -ℤ pos (longest_computed config)) ≤ℤ
+      backed = λ p e r. subst (λ (z : Config). (pos 1 -ℤ pos (longest_computed config c)) ≤ℤ
           ((share (world_at config h m) s c).deficit
           -ℤ pos (counted z (owed s c (world_at config h m).opened)))) (sym same) (money.backed p e r);
       debtor = λ is. lists-on (rotation (world_at config h m) c) s

@@ -10,7 +10,7 @@ use Rattle.wf_frame.specs.declared.classes.Fate.{Fate}
 use Rattle.wf_def_lists.specs.Table.{at, change}
 use Rattle.wf_def_rotation.specs.Rotation.{Rotation, in_order}
 use Rattle.wf_def_agreement.specs.Session.{waiting_numbers, request_due, has_room}
-use Rattle.wf_def_world.specs.World.{World, Station, Share, Tid, Queue, no_tid, no_station, new_queue, station, tid_of, queue, is_live, owed, with_station, on_station, on_tid, on_share, on_queue, with_rotation, with_fate, with_frame_finished, with_frames_finished}
+use Rattle.wf_def_world.specs.World.{World, Bounds, Station, Share, Tid, Queue, no_tid, no_station, new_queue, station, tid_of, queue, is_live, owed, with_bounds, with_station, on_station, on_tid, on_share, on_queue, with_rotation, with_fate, with_frame_finished, with_frames_finished}
 use Rattle.wf_frame.specs.Classes.{lower_tid, upper_tid}
 use Rattle.wf_def_world.specs.FlowQueues.{frames_queued}
 use Rattle.wf_def_world.specs.CanSend.{request_open, can_send, has_credit, can_send_in, is_below_aql, may_receive, is_ready}
@@ -138,8 +138,10 @@ below_same s w v m y c other = ap₂ (λ (config : Config) (n : ℕ). (config.aq
 may_receive_same : (s : ℕ) (w v : World) → IsMild s w v → (y : ℕ) (c : Class) → (y ≡ s → ⊥) →
     may_receive v y c ≡ may_receive w y c
 may_receive_same s w v m y c other = ap₂ (λ (a b : Bool). a && b)
+    (reads (λ x. not x.stopped) (λ x. refl) s w v m y other)
+    (ap₂ (λ (a b : Bool). a && b)
     (reads (λ x. not x.asleep || has_credit x.credit c) (λ x. refl) s w v m y other)
-    (below_same s w v m y c other)
+    (below_same s w v m y c other))
 
 -- No other station becomes ready.
 pub ready_less : (s : ℕ) (w v : World) → IsMild s w v → (y : ℕ) (c : Class) → (y ≡ s → ⊥) →
@@ -161,6 +163,19 @@ ready_less s w v m y c other h =
 
 pub mild_here : (s : ℕ) (w : World) → IsMild s w w
 mild_here s w = record {
+  config = refl;
+  stations = λ y _. refl;
+  requests = λ y t _. refl;
+  airtime = λ y c _. refl;
+  lengths =
+      λ y t q _ _ _. omega arith;
+  keys = λ y t q k. inl k;
+  live = λ y k. inl k;
+}
+
+-- No station reads the bounds of the latest pull.
+pub mild_bounds : (s : ℕ) (w : World) (b : Bounds) → IsMild s w (with_bounds w b)
+mild_bounds s w b = record {
   config = refl;
   stations = λ y _. refl;
   requests = λ y t _. refl;

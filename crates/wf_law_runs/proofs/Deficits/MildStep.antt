@@ -6,7 +6,8 @@ use Rattle.std.proofs.lemmas.Nat.{mod_below}
 use Rattle.std.proofs.lemmas.List.Folds.{list_any-append}
 use Rattle.wf_frame.specs.declared.settings.Config.{Config}
 use Rattle.wf_frame.specs.declared.classes.Class.{Class}
-use Rattle.wf_frame.specs.declared.notes.Ask.TheVariants.{Join, Leave, Rate, Tick, Pull, Arrive, Answer, Done, Sleep, Wake, Poll, Rx, Reap}
+use Rattle.wf_frame.specs.declared.notes.Ask.TheVariants.{Join, Leave, Rate, Tick, Pull, Arrive, Answer, Done, Sleep, Wake, Poll, Rx, Reap, Ampdu, Stop, Start}
+use Rattle.wf_frame.specs.declared.notes.Limits.{Limits}
 use Rattle.wf_frame.specs.declared.notes.Note.{Note}
 use Rattle.wf_frame.specs.declared.notes.Note.TheVariants.{Enqueue, Asked}
 use Rattle.wf_def_lists.specs.Table.{at, put, change, upto, count_from, has}
@@ -24,11 +25,12 @@ use Rattle.wf_law_rules.proofs.Lemmas.Tables.{at_put_other}
 use Rattle.wf_def_lists.specs.Lists.{on}
 use Rattle.wf_law_rules.proofs.Lemmas.Counts.{on-nil, on-cons_same, on-cons_other, on-append, on-filter, hasnot-on}
 use Rattle.wf_law_rules.proofs.Lemmas.Rotations.{pick_on}
+use Rattle.wf_law_runs.proofs.Common.Limits.{with_limits}
 use Rattle.wf_law_runs.proofs.Deficits.Books.{core, books}
 use Rattle.wf_law_runs.proofs.Deficits.Openings.{Every, every_map, owed-core, owed-others_append, owed-others_filter}
 use Rattle.wf_law_runs.proofs.Deficits.Kept.{IsKept, added-on}
 use Rattle.wf_law_runs.proofs.Deficits.KeptStep.{NoRow, IsFound, only_this, replaced}
-use Rattle.wf_law_runs.proofs.Deficits.Mild.{sends, Lists, Owned, IsMild, mild_here, mild_then, mild_if, mild_on_tid, mild_on_station, mild_on_share, mild_with_station, mild_on_queue, mild_with_rotation, mild_finish, mild_finish_all}
+use Rattle.wf_law_runs.proofs.Deficits.Mild.{sends, Lists, Owned, IsMild, mild_here, mild_bounds, mild_then, mild_if, mild_on_tid, mild_on_station, mild_on_share, mild_with_station, mild_on_queue, mild_with_rotation, mild_finish, mild_finish_all}
 use Rattle.wf_law_rules.proofs.Lemmas.Dequeues.{dequeue_less}
 
 -- ---- sessions, receivers and lists of queues
@@ -254,11 +256,11 @@ mild_pulled_by (Some i) s v c h =
     (mild_then i v _ _ (mild_then i v _ _ (mild_after_turn i v i c t) (mild_prepared _ i t))
     (mild_sent i t c _))
 
-mild_pulled : (s : ℕ) (w : World) (c : Class) → ((y : ℕ) → (picked_station w c).winner ≡ Some y → y ≡ s) →
-    IsMild s w (pull_outcome w c).world
+mild_pulled : (s : ℕ) (w : World) (c : Class) (l : Limits) →
+    ((y : ℕ) → (picked_station w c).winner ≡ Some y → y ≡ s) → IsMild s w (pull_outcome w c l).world
 unfolding pull_outcome
-mild_pulled s w c h = mild_then s w _ _ (mild_after_pick s w c)
-    (mild_pulled_by (picked_station w c).winner s (after_pick w c) c h)
+mild_pulled s w c l h = mild_then s w _ _ (mild_then s w _ _ (mild_after_pick s w c) (mild_bounds s _ _))
+    (mild_pulled_by (picked_station w c).winner s (with_limits w c l) c h)
 
 same_opened : (w : World) (x : Exchange) (j : ℕ) →
     Every (λ y. y.number ≡ x.number → core y ≡ core x) w.opened →
@@ -568,7 +570,7 @@ mild_done (Asked (Join i window start exponent weight)) w s r k o h =
 mild_done (Asked (Leave i)) w s r k o h = named i s w _ h (mild_gone w i)
 mild_done (Asked (Rate i rate)) w s r k o h = named i s w _ h (mild_on_station w i _ (λ x. refl))
 mild_done (Asked (Tick by)) w s r k o h = mild_plain s w _ refl refl refl refl
-mild_done (Asked (Pull c)) w s r k o h = mild_pulled s w c h
+mild_done (Asked (Pull c l)) w s r k o h = mild_pulled s w c l h
 mild_done (Asked (Arrive e j)) w s r k o h = mild_open (exchange w e) w e s _ refl h
     (λ x f. mild_arrived w e j x k f)
 mild_done (Asked (Answer e)) w s r k o h = mild_open (exchange w e) w e s _ refl h
@@ -576,6 +578,9 @@ mild_done (Asked (Answer e)) w s r k o h = mild_open (exchange w e) w e s _ refl
 mild_done (Asked (Done e heard air)) w s r k o h =
     mild_open (exchange w e) w e s _ refl h (λ x f. mild_ended air w e x heard k f)
 mild_done (Asked (Sleep i)) w s r k o h = named i s w _ h (mild_on_station w i _ (λ x. refl))
+mild_done (Asked (Ampdu i octets)) w s r k o h = named i s w _ h (mild_on_station w i _ (λ x. refl))
+mild_done (Asked (Stop i)) w s r k o h = named i s w _ h (mild_on_station w i _ (λ x. refl))
+mild_done (Asked (Start i)) w s r k o h = named i s w _ h (mild_on_station w i _ (λ x. refl))
 mild_done (Asked (Wake i)) w s r k o h = named i s w _ h (mild_on_station w i _ (λ x. refl))
 mild_done (Asked (Poll i)) w s r k o h = named i s w _ h (mild_on_station w i _ (λ x. refl))
 mild_done (Asked (Rx i c air)) w s r k o h = mild_on_share s w i c _

@@ -1,13 +1,18 @@
 -- Proves the greatest charges and deficits, for all settings in their ranges, from the bounds of the
 -- deficits.
-use Rattle.std.proofs.Common.{sym, subst, arith, ℕ, ◌*◌, ◌≤◌, List, [], ◌∷◌, map, take, ◌-◌, Bool, true, false, if◌then◌else◌, ◌==◌}
+use Rattle.std.proofs.Common.{sym, subst, arith, ℕ, ◌+◌, ◌*◌, ◌≤◌, max, List, [], ◌∷◌, map, take, ◌-◌, Bool, true, false, if◌then◌else◌, ◌==◌}
 use Rattle.std.proofs.lemmas.Int.{ints}
 use Rattle.std.proofs.Math.Nat.{mul-le-mul_left, mul-le-mul_right, le-max_left, le-max_right, max-le}
 use Rattle.wf_frame.specs.declared.settings.Config.{Config}
-use Rattle.wf_frame.specs.declared.settings.Field.TheVariants.{Inflight, Quantum, Charge}
+use Rattle.wf_frame.specs.declared.settings.Field.TheVariants.{Inflight, Quantum, Cap, Charge, Answers}
+use Rattle.wf_frame.specs.declared.classes.Class.{Class}
+use Rattle.wf_frame.specs.declared.classes.Class.TheVariants.{Bk, Be, Vi, Vo}
 use Rattle.wf_frame.specs.Settings.{greatest_of, IsInRange}
 use Rattle.wf_def_lists.specs.Lengths.{greatest_body}
 use Rattle.wf_def_lists.specs.Bounds.{greatest_weight}
+use Rattle.wf_def_air.specs.Airtime.{slow_mbps, fast_mbps, sifs, answer_time, longest_answer}
+use Rattle.wf_def_air.specs.Fit.{longest_alone}
+use Rattle.wf_def_world.specs.Exchanges.{cap_of}
 use Rattle.wf_def_world.specs.World.{World, Exchange, opening}
 use Rattle.wf_def_world.specs.Run.{Entry}
 use Rattle.wf_def_world.specs.Stretches.{world_at}
@@ -32,27 +37,61 @@ times a b m n h k = let left : a * b ≤ m * b = mul-le-mul_right b h in
     le_trans x y z h k = omega (arith, h, k)
 
 -- The computed charges of the open exchanges.
-computed_within : (b : Books) (xs : List Exchange) → longest_computed b.config ≤ greatest_computed →
+computed_within : (b : Books) (xs : List Exchange) →
+    ((c : Class) → longest_computed b.config c ≤ greatest_computed) →
     Every (IsOpen b) (map core xs) → EachOpen (λ x. (1 ≤ x.charge) × (x.charge ≤ greatest_computed)) xs
 computed_within b [] h e = tt
-computed_within b (x ∷ xs) h e = ((e.0.some, omega (arith, e.0.charge, h)), computed_within b xs h e.1)
+computed_within b (x ∷ xs) h e =
+    ((e.0.some, omega (arith, e.0.charge, h x.class)), computed_within b xs h e.1)
+
+-- The greatest data time of an aggregate of a class.
+cap_within : (config : Config) (c : Class) → IsInRange config → cap_of config c ≤ greatest_of Cap
+cap_within config c range = go c
+  where
+    own : (b : Bool) (n : ℕ) → n ≤ greatest_of Cap → (if b then config.cap else n) ≤ greatest_of Cap
+    own true n h = range.cap.1
+    own false n h = h
+
+    go : (c : Class) → cap_of config c ≤ greatest_of Cap
+    go Bk = range.cap.1
+    go Be = range.cap.1
+    go Vi = own (config.cap_vi == 0) config.cap_vi range.cap_vi.1
+    go Vo = own (config.cap_vo == 0) config.cap_vo range.cap_vo.1
+
+-- The longest answer.
+answer_within : (answers : ℕ) → longest_answer answers ≤ longest_answer (greatest_of Answers)
+answer_within answers = go (answers == 0)
+  where
+    go : (b : Bool) → sifs + answer_time (if b then fast_mbps else slow_mbps) true
+        ≤ longest_answer (greatest_of Answers)
+    go true = omega arith
+    go false = omega arith
+
+-- The greatest computed charge of a class.
+class_within : (config : Config) (c : Class) → IsInRange config →
+    longest_computed config c ≤ greatest_computed
+class_within config c range =
+    let alone : max (cap_of config c) longest_alone ≤ greatest_of Cap =
+    max-le (cap_within config c range) (omega arith) in
+    omega (arith, alone, answer_within config.answers)
 
 -- The longest charge of settings in their ranges.
-pub longest_within : (config : Config) → IsInRange config → longest_exchange config ≤ greatest_charge
-longest_within config range = max-le
-    (omega (arith, range.cap.1, le-max_left greatest_computed (greatest_of Charge)))
+pub longest_within : (config : Config) (c : Class) → IsInRange config →
+    longest_exchange config c ≤ greatest_charge
+longest_within config c range = max-le
+    (omega (arith, class_within config c range, le-max_left greatest_computed (greatest_of Charge)))
     (omega (arith, range.charge.1, le-max_right greatest_computed (greatest_of Charge)))
 
 -- The airtime in flight that quanta may cover.
-covered_within : (config : Config) → IsInRange config →
-    most_covered config ≤ (greatest_of Inflight - 1) * greatest_computed
-covered_within config range = go (config.pending == 1)
-    (times (config.inflight - 1) (longest_computed config) (greatest_of Inflight - 1) greatest_computed
-    (omega (arith, range.inflight.1)) (omega (arith, range.cap.1)))
+covered_within : (config : Config) (c : Class) → IsInRange config →
+    most_covered config c ≤ (greatest_of Inflight - 1) * greatest_computed
+covered_within config c range = go (config.pending == 1)
+    (times (config.inflight - 1) (longest_computed config c) (greatest_of Inflight - 1) greatest_computed
+    (omega (arith, range.inflight.1)) (class_within config c range))
   where
-    go : (t : Bool) → (config.inflight - 1) * longest_computed config
+    go : (t : Bool) → (config.inflight - 1) * longest_computed config c
         ≤ (greatest_of Inflight - 1) * greatest_computed →
-        (if t then (config.inflight - 1) * longest_computed config else 0)
+        (if t then (config.inflight - 1) * longest_computed config c else 0)
         ≤ (greatest_of Inflight - 1) * greatest_computed
     go true h = h
     go false h = omega arith
@@ -62,26 +101,30 @@ number_law config h range m =
     let w : World = world_at config h m in
     let k : IsKept (books w) = kept config (take m h) range in
     let r : KeepsRanges config w = range_law config h range m in
-    let owed : most_owed config ≤ greatest_owed =
-    times config.inflight (longest_exchange config)
-    (greatest_of Inflight) greatest_charge range.inflight.1 (longest_within config range) in
-    let covered : most_covered config ≤ (greatest_of Inflight - 1) * greatest_computed =
-    covered_within config range in
+    let owed : (c : Class) → most_owed config c ≤ greatest_owed =
+    λ c. times config.inflight (longest_exchange config c)
+    (greatest_of Inflight) greatest_charge range.inflight.1 (longest_within config c range) in
+    let covered : (c : Class) → most_covered config c ≤ (greatest_of Inflight - 1) * greatest_computed =
+    λ c. covered_within config c range in
     record {
       charges = computed_within (books w) w.opened (subst
-          (λ (c : Config). longest_computed c ≤ greatest_computed)
-          (sym (config_run (take m h) (opening config))) (omega (arith, range.cap.1))) k.opens;
+          (λ (z : Config). (c : Class) → longest_computed z c ≤ greatest_computed)
+          (sym (config_run (take m h) (opening config))) (λ c. class_within config c range)) k.opens;
       opened = λ c. omega (arith, k.few c, k.range.inflight.1, many-count c w.opened, many-core c w.opened);
       deficits = λ s c live.
           let d : IsAccounted config w s c = deficits config h range m s c live in
           let quantum = times config.quantum _ (greatest_of Quantum) greatest_weight range.quantum.1
-          (r.stations s live).weight.1 in
-          (omega (arith, ints, d.least, owed, range.debt.1), omega (arith, ints, d.most, quantum, covered));
+          (r.stations s live).weight.1 in (
+            omega (arith, ints, d.least, owed c, range.debt.1),
+            omega (arith, ints, d.most, quantum, covered c),
+          );
       standings = λ s c live.
           let d : IsAccounted config w s c = deficits config h range m s c live in
           let quantum = times config.quantum _ (greatest_of Quantum) greatest_weight range.quantum.1
-          (r.stations s live).weight.1 in
-          (omega (arith, ints, d.lowest, owed, range.debt.1), omega (arith, ints, d.most, quantum, covered));
+          (r.stations s live).weight.1 in (
+            omega (arith, ints, d.lowest, owed c, range.debt.1),
+            omega (arith, ints, d.most, quantum, covered c),
+          );
       queue_deficits = λ short s t q listed.
           let d = queue_deficit_law config h range greatest_body short m s t q listed in
           (d.1, omega (arith, ints, d.0, range.flow_quantum.1));

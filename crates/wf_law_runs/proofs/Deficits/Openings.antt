@@ -6,7 +6,7 @@ use Rattle.std.proofs.lemmas.List.Sums.{sum_by-cons}
 use Rattle.wf_frame.specs.declared.classes.Class.{Class}
 use Rattle.wf_def_world.specs.World.{Exchange, owed, owed_by_all}
 use Rattle.wf_frame.specs.Classes.{class_number, same_class}
-use Rattle.wf_law_runs.proofs.Deficits.Books.{core}
+use Rattle.wf_law_runs.proofs.Deficits.Books.{core, same_number}
 
 abbrev pub Every : (Exchange → Type 0) → List Exchange → Type 0
 Every P [] = Unit {0}
@@ -341,22 +341,25 @@ reserved_most l s c (x ∷ xs) = both (part_of l s c x) (if same_class x.class c
     both : (a b m n : ℕ) → a ≤ b * l → m ≤ n * l → a + m ≤ (b + n) * l
     both a b m n h k = omega arith
 
-owed_one : (b : Bool) (l n : ℕ) → n ≤ l → (if b then n else 0) ≤ (if b then l else 0)
-owed_one true l n h = h
-owed_one false l n h = omega arith
+owed_one : (a b : Bool) (l n : ℕ) → (b ≡ true → n ≤ l) →
+    (if a && b then n else 0) ≤ (if a && b then l else 0)
+owed_one true true l n h = h refl
+owed_one true false l n h = omega arith
+owed_one false b l n h = omega arith
 
--- The computed charges are at most the greatest charges.
-pub owed_reserved : (l s : ℕ) (c : Class) (xs : List Exchange) → Every (λ x. x.charge ≤ l) xs →
+-- The computed charges are at most the greatest charges, if those of the class are.
+pub owed_reserved : (l s : ℕ) (c : Class) (xs : List Exchange) → Every (λ x. x.class ≡ c → x.charge ≤ l) xs →
     owed s c xs ≤ reserved l s c xs
 owed_reserved l s c [] e = omega arith
 owed_reserved l s c (x ∷ xs) e = omega (
   arith,
-  owed_one ((x.station == s) && same_class x.class c) l x.charge e.0,
+  owed_one (x.station == s) (same_class x.class c) l x.charge
+      (λ t. e.0 (same_number x.class c (eqb-true _ _ t))),
   owed_reserved l s c xs e.1,
 )
 
 -- The airtime in flight of a station is at most that of the exchanges of the class.
-pub owed_most : (l s : ℕ) (c : Class) (xs : List Exchange) → Every (λ x. x.charge ≤ l) xs →
+pub owed_most : (l s : ℕ) (c : Class) (xs : List Exchange) → Every (λ x. x.class ≡ c → x.charge ≤ l) xs →
     owed s c xs ≤ many c xs * l
 owed_most l s c xs e = omega (arith, owed_reserved l s c xs e, reserved_most l s c xs)
 

@@ -4,7 +4,7 @@ use Rattle.std.proofs.Common.{◌≡◌, refl, ap, sym, ◌∙◌, subst, arith,
 use Rattle.std.proofs.lemmas.Bool.{cases_eq, ne_eqb, and_parts, not-false, leb-true}
 use Rattle.wf_frame.specs.declared.settings.Config.{Config}
 use Rattle.wf_frame.specs.declared.classes.Class.{Class}
-use Rattle.wf_frame.specs.declared.notes.Ask.TheVariants.{Join, Leave, Rate, Tick, Pull, Arrive, Answer, Done, Sleep, Wake, Poll, Rx, Reap}
+use Rattle.wf_frame.specs.declared.notes.Ask.TheVariants.{Join, Leave, Rate, Tick, Pull, Arrive, Answer, Done, Sleep, Wake, Poll, Rx, Reap, Ampdu, Stop, Start}
 use Rattle.wf_frame.specs.declared.notes.Note.{Note}
 use Rattle.wf_frame.specs.declared.notes.Note.TheVariants.{Enqueue, Asked}
 use Rattle.wf_frame.specs.declared.notes.Refusal.{Refusal}
@@ -23,7 +23,7 @@ use Rattle.wf_law_runs.specs.Deficits.{receive_charges_by, receive_charges_in, Q
 use Rattle.wf_def_lists.specs.Lists.{on}
 use Rattle.wf_law_runs.proofs.Common.Refused.{after_idle}
 use Rattle.wf_law_runs.proofs.Deficits.Books.{Account, account, Books, books, with_account, on_part, upd_same, upd_other, each_upd, updc_same, updc_other, each_updc, cases_class}
-use Rattle.wf_law_runs.proofs.Deficits.BookSteps.{books_ended, books_gone, all_off, books_enqueued, receive_share, books_received, books_reaped, books_slept, books_woken, books_credited, rated, books_with_rate, fresh_account, books_joined, charge_share, pay_share, after, books_after_pick}
+use Rattle.wf_law_runs.proofs.Deficits.BookSteps.{books_ended, books_gone, all_off, books_enqueued, receive_share, books_received, books_reaped, books_slept, books_woken, books_credited, rated, books_with_rate, fresh_account, books_joined, charge_share, pay_share, after, books_after_pick, books_stated, books_stopped, books_started}
 use Rattle.wf_law_runs.proofs.Deficits.Kept.{IsKept, if_map}
 use Rattle.wf_law_runs.proofs.Deficits.KeptStep.{NoRow, no_row, IsFound, books_arrived, books_answered, kept_step, kept_opening}
 use Rattle.wf_law_runs.proofs.Fairness.OldOrder.{calm_pulled}
@@ -168,8 +168,8 @@ heard_done (Asked (Rate i rate)) w c n s r k h =
     heard_books c n s _ _ (books_with_rate w i rate)
     (heard_on c n s i (books w) (rated rate) (λ a. refl) h)
 heard_done (Asked (Tick by)) w c n s r k h = h
-heard_done (Asked (Pull d)) w c n s r k h = heard_calm c n s (after (books w) d (picked_station w d))
-    (books (pull_outcome w d).world) (calm_pulled w d).accounts (heard_after c n s w d h)
+heard_done (Asked (Pull d l)) w c n s r k h = heard_calm c n s (after (books w) d (picked_station w d))
+    (books (pull_outcome w d l).world) (calm_pulled w d l).accounts (heard_after c n s w d h)
 heard_done (Asked (Arrive e j)) w c n s r k h =
     heard_open w e (exchange w e) _ c n s refl h (λ x f. heard_books c n s _ _ (books_arrived w e j x k f) h)
 heard_done (Asked (Answer e)) w c n s r k h =
@@ -180,6 +180,9 @@ heard_done (Asked (Done e heard air)) w c n s r k h =
     (heard_on c n s x.station (books w) (on_part x.class (charge_share (charge_of air x)))
     (λ a. at_part c x.class (charge_share (charge_of air x)) a (λ y. refl)) h))
 heard_done (Asked (Sleep i)) w c n s r k h = heard_books c n s _ _ (books_slept w i) h
+heard_done (Asked (Ampdu i octets)) w c n s r k h = heard_books c n s _ _ (books_stated w i octets) h
+heard_done (Asked (Stop i)) w c n s r k h = heard_books c n s _ _ (books_stopped w i) h
+heard_done (Asked (Start i)) w c n s r k h = heard_books c n s _ _ (books_started w i) h
 heard_done (Asked (Wake i)) w c n s r k h = heard_books c n s _ _ (books_woken w i) h
 heard_done (Asked (Poll i)) w c n s r k h = heard_books c n s _ _ (books_credited w i) h
 heard_done (Asked (Rx i d air)) w c n s r k h =
@@ -190,7 +193,7 @@ heard_done (Asked Reap) w c n s r k h = heard_books c n s _ _ (books_reaped w.fi
 heard_refused : (note : Note) (r : Refusal) (w : World) (c : Class) (n s : ℕ) →
     IsHeard c n ((books w).accounts s) → IsHeard c n ((books (after_refusal w note r)).accounts s)
 unfolding after_refusal
-heard_refused (Asked (Pull d)) Idle w c n s h = after_idle (λ v. IsHeard c n ((books v).accounts s)) w d h
+heard_refused (Asked (Pull d l)) Idle w c n s h = after_idle (λ v. IsHeard c n ((books v).accounts s)) w d h
     (heard_books c n s _ _ (books_after_pick w d) (heard_after c n s w d h))
 heard_refused _ _ w c n s h = h
 

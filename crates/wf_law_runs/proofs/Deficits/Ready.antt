@@ -4,7 +4,8 @@ use Rattle.std.proofs.Common.{◌≡◌, refl, ap, sym, ◌∙◌, subst, arith,
 use Rattle.std.proofs.lemmas.Bool.{cases_eq, cases_Bool, and_parts, or_parts, eqb-true}
 use Rattle.wf_frame.specs.declared.settings.Config.{Config}
 use Rattle.wf_frame.specs.declared.classes.Class.{Class}
-use Rattle.wf_frame.specs.declared.notes.Ask.TheVariants.{Join, Leave, Rate, Tick, Pull, Arrive, Answer, Done, Sleep, Wake, Poll, Rx, Reap}
+use Rattle.wf_frame.specs.declared.notes.Ask.TheVariants.{Join, Leave, Rate, Tick, Pull, Arrive, Answer, Done, Sleep, Wake, Poll, Rx, Reap, Ampdu, Stop, Start}
+use Rattle.wf_frame.specs.declared.notes.Limits.{Limits}
 use Rattle.wf_frame.specs.declared.notes.Note.{Note}
 use Rattle.wf_frame.specs.declared.notes.Note.TheVariants.{Enqueue, Asked}
 use Rattle.wf_frame.specs.declared.notes.Refusal.{Refusal}
@@ -24,7 +25,7 @@ use Rattle.wf_law_rules.proofs.Lemmas.Counts.{on-nil}
 use Rattle.wf_law_rules.proofs.Lemmas.Rotations.{pick_keeps}
 use Rattle.wf_law_runs.proofs.Common.Refused.{after_idle, if_idle}
 use Rattle.wf_law_runs.proofs.Deficits.Books.{Books, books, with_account, each_updc, Account}
-use Rattle.wf_law_runs.proofs.Deficits.BookSteps.{books_ended, books_gone, all_off, books_enqueued, books_received, books_reaped, books_slept, books_woken, books_credited, books_with_rate, books_joined, after, books_after_pick}
+use Rattle.wf_law_runs.proofs.Deficits.BookSteps.{books_ended, books_gone, all_off, books_enqueued, books_received, books_reaped, books_slept, books_woken, books_credited, books_with_rate, books_joined, after, books_after_pick, books_stated, books_stopped, books_started}
 use Rattle.wf_law_runs.proofs.Deficits.Kept.{IsKept, counted_in, standing_of, if_same}
 use Rattle.wf_law_runs.proofs.Deficits.KeptStep.{NoRow, no_row, IsFound, books_arrived, books_answered, kept_step, kept, live_account, standing_is}
 use Rattle.wf_law_runs.proofs.Deficits.Mild.{IsMild, mild_here, mild_then, mild_if, mild_with_rotation, ready_less}
@@ -69,8 +70,8 @@ keeps_rotations s w a b e k = record {
       (k.keeps y c other is l);
 }
 
-keeps_pulled : (s : ℕ) (w : World) (d : Class) → Keeps s w (books (pull_outcome w d).world)
-keeps_pulled s w d = keeps_rotations s w _ (after (books w) d (picked_station w d)) (rotations_pulled w d)
+keeps_pulled : (s : ℕ) (w : World) (d : Class) (l : Limits) → Keeps s w (books (pull_outcome w d l).world)
+keeps_pulled s w d l = keeps_rotations s w _ (after (books w) d (picked_station w d)) (rotations_pulled w d l)
     (keeps_after s w d)
 
 keeps_off : (s : ℕ) (w : World) → Keeps s w (with_account (all_off (books w) s) s None)
@@ -103,7 +104,7 @@ keeps_done (Asked (Leave i)) w s k h = keeps_named i s w _ h
 keeps_done (Asked (Rate i rate)) w s k h =
     keeps_same s w _ (ap (λ (b : Books). b.rotations) (books_with_rate w i rate))
 keeps_done (Asked (Tick by)) w s k h = keeps_same s w _ refl
-keeps_done (Asked (Pull c)) w s k h = keeps_pulled s w c
+keeps_done (Asked (Pull c l)) w s k h = keeps_pulled s w c l
 keeps_done (Asked (Arrive e j)) w s k h = keeps_open (exchange w e) w e s _ refl
     (λ x f. ap (λ (b : Books). b.rotations) (books_arrived w e j x k f))
 keeps_done (Asked (Answer e)) w s k h = keeps_open (exchange w e) w e s _ refl
@@ -111,6 +112,9 @@ keeps_done (Asked (Answer e)) w s k h = keeps_open (exchange w e) w e s _ refl
 keeps_done (Asked (Done e heard air)) w s k h = keeps_open (exchange w e) w e s _ refl
     (λ x f. ap (λ (b : Books). b.rotations) (books_ended air w x heard))
 keeps_done (Asked (Sleep i)) w s k h = keeps_same s w _ (ap (λ (b : Books). b.rotations) (books_slept w i))
+keeps_done (Asked (Ampdu i octets)) w s k h = keeps_same s w _ (ap (λ (b : Books). b.rotations) (books_stated w i octets))
+keeps_done (Asked (Stop i)) w s k h = keeps_same s w _ (ap (λ (b : Books). b.rotations) (books_stopped w i))
+keeps_done (Asked (Start i)) w s k h = keeps_same s w _ (ap (λ (b : Books). b.rotations) (books_started w i))
 keeps_done (Asked (Wake i)) w s k h = keeps_same s w _ (ap (λ (b : Books). b.rotations) (books_woken w i))
 keeps_done (Asked (Poll i)) w s k h = keeps_same s w _ (ap (λ (b : Books). b.rotations) (books_credited w i))
 keeps_done (Asked (Rx i c air)) w s k h = keeps_same s w _
@@ -202,12 +206,12 @@ listed_idle w d i = record {
 
 listed_refused : (note : Note) (r : Refusal) (w : World) → IsListed w → IsListed (after_refusal w note r)
 unfolding after_refusal
-listed_refused (Asked (Pull c)) Idle w i = after_idle IsListed w c i (listed_idle w c i)
+listed_refused (Asked (Pull c l)) Idle w i = after_idle IsListed w c i (listed_idle w c i)
 listed_refused _ _ w i = i
 
 owning_refused : (note : Note) (r : Refusal) (w : World) → IsOwning w → IsOwning (after_refusal w note r)
 unfolding after_refusal
-owning_refused (Asked (Pull c)) Idle w i = after_idle IsOwning w c i
+owning_refused (Asked (Pull c l)) Idle w i = after_idle IsOwning w c i
     (owning_mild 0 w _ (mild_after_pick 0 w c) i)
 owning_refused _ _ w i = i
 
@@ -298,7 +302,7 @@ backed_refused : (note : Note) (r : Refusal) (w : World) → w.config.pending �
     ((y : ℕ) (c : Class) → IsBacked (books w) y c) → (y : ℕ) (c : Class) →
     IsBacked (books (after_refusal w note r)) y c
 unfolding after_refusal
-backed_refused (Asked (Pull d)) Idle w counting h =
+backed_refused (Asked (Pull d l)) Idle w counting h =
     if_idle (λ v. (y : ℕ) (c : Class) → IsBacked (books v) y c) w d h
     (λ off. absurd (cc (eq-eqb w.config.pending 1 counting, off)))
 backed_refused _ _ w counting h = h

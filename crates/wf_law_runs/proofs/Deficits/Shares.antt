@@ -24,17 +24,17 @@ abbrev pub stands_at : Config → ℕ → Share → ℤ
 stands_at config m x = x.deficit -ℤ pos (counted config m)
 
 -- The share of a station of this weight. m is the computed charge of its open exchanges.
-pub record IsMoney (config : Config) (m weight : ℕ) (x : Share) : Type 0 where
+pub record IsMoney (config : Config) (c : Class) (m weight : ℕ) (x : Share) : Type 0 where
   pub exact : x.deficit ≡ pos (config.quantum * weight + config.quantum * weight * x.quanta) -ℤ pos
       (x.charged + x.received)
-  pub most : x.deficit ≤ℤ pos (config.quantum * weight + most_covered config)
-  pub least : (pos 0 -ℤ pos (config.debt + most_owed config)) ≤ℤ x.deficit
-  pub quiet : x.received ≡ 0 → (pos 1 -ℤ pos (most_owed config)) ≤ℤ (x.deficit -ℤ pos m)
-  pub floor : x.received ≡ 0 → (pos 1 -ℤ pos (most_owed config)) ≤ℤ x.deficit
-  pub lowest : (pos 0 -ℤ pos (config.debt + most_owed config)) ≤ℤ stands_at config m x
+  pub most : x.deficit ≤ℤ pos (config.quantum * weight + most_covered config c)
+  pub least : (pos 0 -ℤ pos (config.debt + most_owed config c)) ≤ℤ x.deficit
+  pub quiet : x.received ≡ 0 → (pos 1 -ℤ pos (most_owed config c)) ≤ℤ (x.deficit -ℤ pos m)
+  pub floor : x.received ≡ 0 → (pos 1 -ℤ pos (most_owed config c)) ≤ℤ x.deficit
+  pub lowest : (pos 0 -ℤ pos (config.debt + most_owed config c)) ≤ℤ stands_at config m x
   pub within : config.charge ≡ 0 → stands_at config m x ≤ℤ pos (config.quantum * weight)
   pub backed : config.pending ≡ 1 → config.charge ≡ 0 → x.received ≡ 0 →
-      (pos 1 -ℤ pos (longest_computed config)) ≤ℤ stands_at config m x
+      (pos 1 -ℤ pos (longest_computed config c)) ≤ℤ stands_at config m x
 
 counted_most : (config : Config) (n : ℕ) → counted config n ≤ n
 counted_most config n = go (config.pending == 1)
@@ -43,9 +43,9 @@ counted_most config n = go (config.pending == 1)
     go true = omega arith
     go false = omega arith
 
-money_of : (config : Config) (m k weight : ℕ) (x : Share) → k ≤ m → IsBalanced (config.quantum * weight) x →
-    IsBounded config m (counted config k) weight (plain x) → IsMoney config k weight x
-money_of config m k weight x e h b = record {
+money_of : (config : Config) (c : Class) (m k weight : ℕ) (x : Share) → k ≤ m →
+    IsBalanced (config.quantum * weight) x → IsBounded config c m (counted config k) weight (plain x) → IsMoney config c k weight x
+money_of config c m k weight x e h b = record {
   exact = h.deficit;
   most = b.most;
   least = omega (arith, ints, b.least);
@@ -57,35 +57,36 @@ money_of config m k weight x e h b = record {
 }
 
 pub money : (w : World) (s : ℕ) (c : Class) → IsFair w → IsKept (books w) → is_live w s ≡ true →
-    IsMoney w.config (owed s c w.opened) (station w s).weight (share w s c)
+    IsMoney w.config c (owed s c w.opened) (station w s).weight (share w s c)
 money w s c f k live = go (at None w.stations s) refl live (f.each s) (k.goods s)
   where
     -- The computed charges of the open exchanges are at most their greatest charges.
     computed : owed s c w.opened ≤ at_stake w.config s c (map core w.opened)
     computed =
         let within : owed s c (map core w.opened) ≤ at_stake w.config s c (map core w.opened) =
-        owed_reserved (longest_exchange w.config) s c (map core w.opened)
-        (every_map (IsOpen (books w)) (λ x. x.charge ≤ longest_exchange w.config)
-        (λ x o. omega (arith, o.charge, le-max_left (longest_computed w.config) w.config.charge))
+        owed_reserved (longest_exchange w.config c) s c (map core w.opened)
+        (every_map (IsOpen (books w)) (λ x. x.class ≡ c → x.charge ≤ longest_exchange w.config c)
+        (λ x o e. subst (λ (d : Class). x.charge ≤ longest_exchange w.config d) e
+        (omega (arith, o.charge, le-max_left (longest_computed w.config x.class) w.config.charge)))
         (map core w.opened) k.opens) in
         omega (arith, within, owed-core s c w.opened)
 
     go : (o : Option Station) → at None w.stations s ≡ o → is_some o ≡ true →
         IfSome o (IsFairStation w.config.quantum) →
         IfSome (option_map account o) (IsGood w.config (map core w.opened) s) →
-        IsMoney w.config (owed s c w.opened) (station w s).weight (share w s c)
+        IsMoney w.config c (owed s c w.opened) (station w s).weight (share w s c)
     go None e is h g = absurd (cc is)
     go (Some x) e is h g =
-        subst (λ (o : Option Station). IsMoney w.config (owed s c w.opened) (unwrap_or o no_station).weight
+        subst (λ (o : Option Station). IsMoney w.config c (owed s c w.opened) (unwrap_or o no_station).weight
         (at no_share (unwrap_or o no_station).shares (class_number c))) (sym e)
-        (money_of w.config (at_stake w.config s c (map core w.opened)) (owed s c w.opened) x.weight
+        (money_of w.config c (at_stake w.config s c (map core w.opened)) (owed s c w.opened) x.weight
         (at no_share x.shares (class_number c)) computed (h (class_number c) (below_four c))
-        (subst (λ (n : ℕ). IsBounded w.config (at_stake w.config s c (map core w.opened)) (counted w.config n)
-        x.weight (plain (at no_share x.shares (class_number c)))) (owed-core s c w.opened) (g.bounds c)))
+        (subst (λ (n : ℕ). IsBounded w.config c (at_stake w.config s c (map core w.opened))
+        (counted w.config n) x.weight (plain (at no_share x.shares (class_number c)))) (owed-core s c w.opened) (g.bounds c)))
 
 pub money_after : (config : Config) (h : List Entry) (s : ℕ) (c : Class) → IsInRange config →
     is_live (world_after (opening config) h) s ≡ true
-    → IsMoney (world_after (opening config) h).config (owed s c (world_after (opening config) h).opened)
+    → IsMoney (world_after (opening config) h).config c (owed s c (world_after (opening config) h).opened)
     (station (world_after (opening config) h) s).weight (share (world_after (opening config) h) s c)
 money_after config h s c range live = money (world_after (opening config) h) s c (accounts config h)
     (kept config h range) live

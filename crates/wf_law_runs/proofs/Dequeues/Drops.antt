@@ -6,7 +6,8 @@ use Rattle.wf_frame.specs.declared.classes.Class.{Class}
 use Rattle.wf_frame.specs.declared.classes.Cause.TheVariants.{Codel as By_codel, Left, Overlimit, Retries}
 use Rattle.wf_frame.specs.declared.classes.Fate.{Fate}
 use Rattle.wf_frame.specs.declared.classes.Fate.TheVariants.{Held, Acked, Dropped}
-use Rattle.wf_frame.specs.declared.notes.Ask.TheVariants.{Join, Leave, Rate, Tick, Pull, Arrive, Answer, Done, Sleep, Wake, Poll, Rx, Reap}
+use Rattle.wf_frame.specs.declared.notes.Ask.TheVariants.{Join, Leave, Rate, Tick, Pull, Arrive, Answer, Done, Sleep, Wake, Poll, Rx, Reap, Ampdu, Stop, Start}
+use Rattle.wf_frame.specs.declared.notes.Limits.{Limits}
 use Rattle.wf_frame.specs.declared.notes.Note.{Note}
 use Rattle.wf_frame.specs.declared.notes.Note.TheVariants.{Enqueue, Asked}
 use Rattle.wf_frame.specs.declared.notes.Refusal.{Refusal}
@@ -19,16 +20,17 @@ use Rattle.wf_def_agreement.specs.Session.{State, request_due, with_state, after
 use Rattle.wf_def_world.specs.World.{World, Mpdu, Exchange, Content, Frames, Request, Frame, no_frame, frame, session, tid_of, queue, exchange, codel_params, on_session, on_receiver, on_station, on_share, with_station, with_queues, on_queue, with_fate, with_frame_finished, with_frames_finished, with_exchange, without_exchange}
 use Rattle.wf_def_world.specs.FlowQueues.{Taken, without_head, after_limit, is_at_limit, longest_queue, queue_for, after_put_in, after_dequeue, taken_by_codel, taken_from_picked, picked_queue, taken_for_tid, after_queue_left, after_queues_left}
 use Rattle.wf_def_world.specs.CanSend.{can_give, with_listings_of}
-use Rattle.wf_def_world.specs.Exchanges.{Aggregate, Prepared, most_frames, fits_in, waiting_mpdus, longest_fitting, fresh_mpdus, with_number, with_fresh, aggregate_of, prepared_data, prepared_request, prepared_exchange, with_flying, after_arrival, with_exchange_opened, without_credit, picked_station, after_pick, sending_tid, after_tid_turn, after_charge, is_acked, with_failed_finished, with_settled, with_all_settled, after_done}
+use Rattle.wf_def_world.specs.Exchanges.{Aggregate, Prepared, most_frames, fits_in, waiting_mpdus, longest_fitting, fresh_mpdus, with_number, with_fresh, aggregate_of, prepared_data, prepared_request, prepared_exchange, with_flying, after_arrival, with_exchange_opened, without_credit, picked_station, sending_tid, after_tid_turn, after_charge, is_acked, with_failed_finished, with_settled, with_all_settled, after_done}
 use Rattle.wf_def_world.specs.Refusals.{refusal}
 use Rattle.wf_def_world.specs.Step.{Outcome, in_rising_order, waiting_ids, after_tid_left, after_tids_left, without_listings, leave_outcome, join_outcome, with_frame, enqueue_outcome, next_item, send_outcome, pull_outcome_for, pull_outcome, tick_outcome, rate_outcome, arrive_outcome, answer_outcome, done_outcome, outcome_where_open, sleep_outcome, wake_outcome, poll_outcome, rx_outcome, reap_outcome, outcome_of, after_refusal, judged_outcome, step, concerned_station}
 use Rattle.wf_law_rules.specs.CodelLaws.{Dequeue, codel_after_all, drops_by}
 use Rattle.wf_law_rules.proofs.Lemmas.Numbers.{eq_yes, yes_eq, either, or_left, or_right}
 use Rattle.wf_law_runs.specs.Dequeues.{dequeue_for, if_picked, dequeue_of_take, dequeues_of_fresh, dequeues_of_aggregate, dequeues_of_exchange, dequeues_of_winner, dequeues_of_pull, dequeues_by}
 use Rattle.wf_law_runs.proofs.Common.Refused.{after_idle}
+use Rattle.wf_law_runs.proofs.Common.Picked.{picked_world}
 use Rattle.wf_law_runs.proofs.Deficits.Books.{upd, upd_same, upd_other, put_upd}
-use Rattle.wf_law_runs.proofs.Queues.Shelves.{Shelves, shelves, shelves_finish_all, shelves_after_pick, shelves_after_turn}
-use Rattle.wf_law_runs.proofs.Frames.Untouched.{Untouched, untouched, then_untouched, untouched_on_session, untouched_on_station, untouched_on_receiver, untouched_on_queue, untouched_with_station, untouched_with_queues, untouched_pay_queues, untouched_after_turn, untouched_after_pick, untouched_without, untouched_charged, untouched_put_in, untouched_off_lists, untouched_listed}
+use Rattle.wf_law_runs.proofs.Queues.Shelves.{Shelves, shelves, shelves_finish_all, shelves_after_turn, shelves_picked}
+use Rattle.wf_law_runs.proofs.Frames.Untouched.{Untouched, untouched, then_untouched, untouched_on_session, untouched_on_station, untouched_on_receiver, untouched_on_queue, untouched_with_station, untouched_with_queues, untouched_pay_queues, untouched_after_turn, untouched_after_pick, untouched_without, untouched_charged, untouched_put_in, untouched_off_lists, untouched_listed, untouched_picked}
 use Rattle.wf_law_runs.proofs.Dequeues.States.{codel_same, codel_append, codel_take, world_to_take, same_to_take, shelves_numbered}
 
 -- CoDel dropped the frame with this id.
@@ -377,13 +379,13 @@ drops_won (Some s) w c =
     (then_drops (DroppedIn v ds) v p.world (send_outcome s t c p).world (drops_prepared v s t)
     (no_drops (DroppedIn v ds) p.world (send_outcome s t c p).world (untouched_sent s t c p)))
 
-drops_pulled : (w : World) (c : Class) →
-    Drops (DroppedIn w (λ q. dequeues_of_pull w c q)) w (pull_outcome w c).world
+drops_pulled : (w : World) (c : Class) (l : Limits) →
+    Drops (DroppedIn w (λ q. dequeues_of_pull w c l q)) w (pull_outcome w c l).world
 unfolding pull_outcome
-drops_pulled w c =
-    drops_before w (after_pick w c) (pull_outcome w c).world (λ q. dequeues_of_pull w c q)
-    (shelves_after_pick w c) (untouched_after_pick w c)
-    (drops_won (picked_station w c).winner (after_pick w c) c)
+drops_pulled w c l =
+    drops_before w (picked_world w c l) (pull_outcome w c l).world (λ q. dequeues_of_pull w c l q)
+    (shelves_picked w c l) (untouched_picked w c l)
+    (drops_won (picked_station w c).winner (picked_world w c l) c)
 
 -- ---- the other calls: CoDel drops no frame
 
@@ -538,10 +540,11 @@ drops_done (Asked (Join s window start exponent weight)) w r = no_drops _ w _ (u
 drops_done (Asked (Leave s)) w r = none_wider _ w _ (none_gone w s)
 drops_done (Asked (Rate s to)) w r = no_drops _ w _ (untouched_on_station w s _)
 drops_done (Asked (Tick by)) w r = record { drops = λ k e. inl e }
-drops_done (Asked (Pull c)) w r =
-    wider (DroppedIn w (λ q. dequeues_of_pull w c q)) (DroppedBy w (Asked (Pull c))) w _
-    (λ k x. drops_as _ _ _ _ _ _ k (λ q. ap (λ (b : Bool). if b then dequeues_of_pull w c q else []) (sym r))
-    (λ q. refl) refl x) (drops_pulled w c)
+drops_done (Asked (Pull c l)) w r =
+    wider (DroppedIn w (λ q. dequeues_of_pull w c l q)) (DroppedBy w (Asked (Pull c l))) w _
+    (λ k x. drops_as _ _ _ _ _ _ k
+    (λ q. ap (λ (b : Bool). if b then dequeues_of_pull w c l q else []) (sym r))
+    (λ q. refl) refl x) (drops_pulled w c l)
 drops_done (Asked (Arrive e n)) w r = none_wider _ w _ (none_open (exchange w e) w _
     (λ x. no_drops None_of w _ (untouched_arrived w x n)))
 drops_done (Asked (Answer e)) w r = none_wider _ w _ (none_open (exchange w e) w _
@@ -549,6 +552,9 @@ drops_done (Asked (Answer e)) w r = none_wider _ w _ (none_open (exchange w e) w
 drops_done (Asked (Done e heard air)) w r = none_wider _ w _ (none_open (exchange w e) w _
     (λ x. none_ended w x heard air))
 drops_done (Asked (Sleep s)) w r = no_drops _ w _ (untouched_on_station w s _)
+drops_done (Asked (Ampdu s octets)) w r = no_drops _ w _ (untouched_on_station w s _)
+drops_done (Asked (Stop s)) w r = no_drops _ w _ (untouched_on_station w s _)
+drops_done (Asked (Start s)) w r = no_drops _ w _ (untouched_on_station w s _)
 drops_done (Asked (Wake s)) w r = no_drops _ w _ (untouched_on_station w s _)
 drops_done (Asked (Poll s)) w r = no_drops _ w _ (untouched_on_station w s _)
 drops_done (Asked (Rx s c air)) w r = no_drops _ w _ (untouched_on_station w s _)
@@ -556,7 +562,7 @@ drops_done (Asked Reap) w r = none_wider _ w _ (none_reaped w.finished w)
 
 untouched_refused : (note : Note) (r : Refusal) (w : World) → Untouched w (after_refusal w note r)
 unfolding after_refusal
-untouched_refused (Asked (Pull c)) Idle w =
+untouched_refused (Asked (Pull c l)) Idle w =
     after_idle (Untouched w) w c (untouched w) (untouched_after_pick w c)
 untouched_refused _ _ w = untouched w
 

@@ -8,7 +8,8 @@ use Rattle.wf_frame.specs.declared.classes.Class.{Class}
 use Rattle.wf_frame.specs.declared.classes.Cause.TheVariants.{Codel as By_codel, Left, Overlimit}
 use Rattle.wf_frame.specs.declared.classes.Fate.{Fate}
 use Rattle.wf_frame.specs.declared.classes.Fate.TheVariants.{Dropped}
-use Rattle.wf_frame.specs.declared.notes.Ask.TheVariants.{Join, Leave, Rate, Tick, Pull, Arrive, Answer, Done, Sleep, Wake, Poll, Rx, Reap}
+use Rattle.wf_frame.specs.declared.notes.Ask.TheVariants.{Join, Leave, Rate, Tick, Pull, Arrive, Answer, Done, Sleep, Wake, Poll, Rx, Reap, Ampdu, Stop, Start}
+use Rattle.wf_frame.specs.declared.notes.Limits.{Limits}
 use Rattle.wf_frame.specs.declared.notes.Note.{Note}
 use Rattle.wf_frame.specs.declared.notes.Note.TheVariants.{Enqueue, Asked}
 use Rattle.wf_frame.specs.declared.notes.Refusal.{Refusal}
@@ -22,7 +23,7 @@ use Rattle.wf_def_agreement.specs.Session.{request_due}
 use Rattle.wf_def_world.specs.World.{World, Station, Tid, Queue, Mpdu, no_tid, no_station, session, tid_of, queue, exchange, codel_params, with_station, on_station, on_tid, with_queues, on_queue, with_fate, with_frame_finished, with_frames_finished}
 use Rattle.wf_def_world.specs.FlowQueues.{Taken, calmed, without_head, after_limit, is_at_limit, longest_queue, queue_for, when_listed, with_listed_queue, with_appended, after_put_in, with_queues_paid, after_dequeue, taken_by_codel, taken_from_picked, picked_queue, taken_for_tid, after_queue_left, after_queues_left}
 use Rattle.wf_def_world.specs.CanSend.{can_give}
-use Rattle.wf_def_world.specs.Exchanges.{Aggregate, Prepared, most_frames, fits_in, waiting_mpdus, longest_fitting, fresh_mpdus, with_number, with_fresh, aggregate_of, prepared_data, prepared_exchange, picked_station, after_pick, sending_tid, after_tid_turn}
+use Rattle.wf_def_world.specs.Exchanges.{Aggregate, Prepared, most_frames, fits_in, waiting_mpdus, longest_fitting, fresh_mpdus, with_number, with_fresh, aggregate_of, prepared_data, prepared_exchange, picked_station, sending_tid, after_tid_turn}
 use Rattle.wf_def_world.specs.Refusals.{refusal}
 use Rattle.wf_def_world.specs.Step.{in_rising_order, waiting_ids, after_tid_left, after_tids_left, without_listings, leave_outcome, join_outcome, with_frame, enqueue_outcome, next_item, pull_outcome_for, pull_outcome, tick_outcome, rate_outcome, sleep_outcome, wake_outcome, poll_outcome, rx_outcome, outcome_of, after_refusal, judged_outcome, step, concerned_station}
 use Rattle.wf_law_rules.specs.CodelLaws.{Dequeue, codel_after_all}
@@ -30,8 +31,9 @@ use Rattle.wf_law_rules.proofs.Lemmas.Numbers.{on_if, eq_yes, eq_no, has_with}
 use Rattle.wf_law_rules.proofs.Lemmas.Tables.{at_put_same, at_put_other}
 use Rattle.wf_law_runs.specs.Dequeues.{dequeue_for, if_picked, dequeue_of_take, dequeues_of_fresh, dequeues_of_aggregate, dequeues_of_exchange, dequeues_of_winner, dequeues_of_pull, Visits, no_visits, calmed_visits, lists_queue, becomes_listed, visits_done, visits_after}
 use Rattle.wf_law_runs.proofs.Common.Refused.{after_idle}
+use Rattle.wf_law_runs.proofs.Common.Picked.{picked_world}
 use Rattle.wf_law_runs.proofs.Deficits.Books.{upd, upd_same, upd_other, each_upd}
-use Rattle.wf_law_runs.proofs.Queues.Shelves.{Shelves, shelves, shelves_with_station, shelves_hidden, shelves_on_session, shelves_on_share, shelves_on_queue, shelves_finish, shelves_finish_all, shelves_pay_queues, shelves_after_pick, shelves_after_turn, shelves_sent, shelves_ended, shelves_arrived, shelves_answered, shelves_reaped, shelves_off_lists, shelves_listed, shelves_open}
+use Rattle.wf_law_runs.proofs.Queues.Shelves.{Shelves, shelves, shelves_with_station, shelves_hidden, shelves_on_session, shelves_on_share, shelves_on_queue, shelves_finish, shelves_finish_all, shelves_pay_queues, shelves_after_pick, shelves_after_turn, shelves_sent, shelves_ended, shelves_arrived, shelves_answered, shelves_reaped, shelves_off_lists, shelves_listed, shelves_open, shelves_picked}
 
 -- The state after two lists of dequeues.
 pub codel_append : (xs ys : List Dequeue) (c : Codel) →
@@ -218,12 +220,12 @@ codel_won (Some s) w c q =
     ∙ (codel_prepared v s t q ∙ ap (λ (x : Codel). codel_after_all x (dequeues_of_exchange v s t q))
     (codel_same q (shelves_after_turn w s c t)))
 
-codel_pulled : (w : World) (c : Class) (q : ℕ) → (queue (pull_outcome w c).world q).codel
-    ≡ codel_after_all (queue w q).codel (dequeues_of_pull w c q)
+codel_pulled : (w : World) (c : Class) (l : Limits) (q : ℕ) → (queue (pull_outcome w c l).world q).codel
+    ≡ codel_after_all (queue w q).codel (dequeues_of_pull w c l q)
 unfolding pull_outcome
-codel_pulled w c q = codel_won (picked_station w c).winner (after_pick w c) c q
-    ∙ ap (λ (x : Codel). codel_after_all x (dequeues_of_pull w c q))
-    (codel_same q (shelves_after_pick w c))
+codel_pulled w c l q = codel_won (picked_station w c).winner (picked_world w c l) c q
+    ∙ ap (λ (x : Codel). codel_after_all x (dequeues_of_pull w c l q))
+    (codel_same q (shelves_picked w c l))
 
 -- ---- a Leave
 
@@ -497,9 +499,9 @@ codel_done (Asked (Leave s)) w q x h = codel_gone w s q
     ∙ sym (state_if (lists_queue w s q) no_visits x))
 codel_done (Asked (Rate s rate)) w q x h = codel_same q (shelves_hidden w s _ (λ x. refl)) ∙ h
 codel_done (Asked (Tick by)) w q x h = h
-codel_done (Asked (Pull c)) w q x h = codel_pulled w c q
-    ∙ (ap (λ (y : Codel). codel_after_all y (dequeues_of_pull w c q)) h
-    ∙ sym (codel_append x.dequeues (dequeues_of_pull w c q) x.start))
+codel_done (Asked (Pull c l)) w q x h = codel_pulled w c l q
+    ∙ (ap (λ (y : Codel). codel_after_all y (dequeues_of_pull w c l q)) h
+    ∙ sym (codel_append x.dequeues (dequeues_of_pull w c l q) x.start))
 codel_done (Asked (Arrive e n)) w q x h =
     codel_same q (shelves_open (exchange w e) w _ (λ y. shelves_arrived w y n)) ∙ h
 codel_done (Asked (Answer e)) w q x h =
@@ -507,6 +509,9 @@ codel_done (Asked (Answer e)) w q x h =
 codel_done (Asked (Done e heard air)) w q x h =
     codel_same q (shelves_open (exchange w e) w _ (λ y. shelves_ended air w y heard)) ∙ h
 codel_done (Asked (Sleep s)) w q x h = codel_same q (shelves_hidden w s _ (λ x. refl)) ∙ h
+codel_done (Asked (Ampdu s octets)) w q x h = codel_same q (shelves_hidden w s _ (λ x. refl)) ∙ h
+codel_done (Asked (Stop s)) w q x h = codel_same q (shelves_hidden w s _ (λ x. refl)) ∙ h
+codel_done (Asked (Start s)) w q x h = codel_same q (shelves_hidden w s _ (λ x. refl)) ∙ h
 codel_done (Asked (Wake s)) w q x h = codel_same q (shelves_hidden w s _ (λ x. refl)) ∙ h
 codel_done (Asked (Poll s)) w q x h = codel_same q (shelves_hidden w s _ (λ x. refl)) ∙ h
 codel_done (Asked (Rx s c air)) w q x h = codel_same q (shelves_on_share w s c _) ∙ h
@@ -515,7 +520,7 @@ codel_done (Asked Reap) w q x h = codel_same q (shelves_reaped w.finished w) ∙
 codel_refused : (note : Note) (r : Refusal) (w : World) (q : ℕ) →
     (queue (after_refusal w note r) q).codel ≡ (queue w q).codel
 unfolding after_refusal
-codel_refused (Asked (Pull c)) Idle w q =
+codel_refused (Asked (Pull c l)) Idle w q =
     after_idle (λ v. (queue v q).codel ≡ (queue w q).codel) w c refl (codel_same q (shelves_after_pick w c))
 codel_refused _ _ w q = refl
 

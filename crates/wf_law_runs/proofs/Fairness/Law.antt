@@ -154,26 +154,26 @@ span_most : (q l m n C : ℕ) → l ≤ m → IsSpan q l n C → IsSpan q m n C
 span_most q l m n C h s = record { up = omega (arith, s.up); down = omega (arith, s.down) }
 
 -- Returns 1 less the least deficit of a station without receive charges.
-abbrev lowest_quiet : Config → ℕ
-lowest_quiet config =
-    if (config.pending == 1) && (config.charge == 0) then longest_computed config else most_owed config
+abbrev lowest_quiet : Config → Class → ℕ
+lowest_quiet config c =
+    if (config.pending == 1) && (config.charge == 0) then longest_computed config c else most_owed config c
 
-quiet_low : (config : Config) (m g : ℕ) (x : Share) → IsMoney config m g x → x.received ≡ 0 →
-    (pos 1 -ℤ pos (lowest_quiet config)) ≤ℤ x.deficit
-quiet_low config m g x a r = go (config.pending == 1) (config.charge == 0) refl refl
+quiet_low : (config : Config) (c : Class) (m g : ℕ) (x : Share) → IsMoney config c m g x → x.received ≡ 0 →
+    (pos 1 -ℤ pos (lowest_quiet config c)) ≤ℤ x.deficit
+quiet_low config c m g x a r = go (config.pending == 1) (config.charge == 0) refl refl
   where
     go : (t v : Bool) → (config.pending == 1) ≡ t → (config.charge == 0) ≡ v →
-        (pos 1 -ℤ pos (if t && v then longest_computed config else most_owed config)) ≤ℤ x.deficit
+        (pos 1 -ℤ pos (if t && v then longest_computed config c else most_owed config c)) ≤ℤ x.deficit
     go true true e f = omega (arith, ints, a.backed (eqb-true _ _ e) (eqb-true _ _ f) r)
     go true false e f = a.floor r
     go false v e f = a.floor r
 
 -- The deficits of a quiet station are in a range of one quantum and this.
-range_most : (config : Config) → 1 ≤ config.inflight →
-    lowest_quiet config + most_covered config ≤ most_owed config + most_uncharged config
-range_most config some = go (config.pending == 1) (config.charge == 0) config.inflight
-    (longest_computed config)
-    (longest_exchange config) some (le-max_left (longest_computed config) config.charge)
+range_most : (config : Config) (c : Class) → 1 ≤ config.inflight →
+    lowest_quiet config c + most_covered config c ≤ most_owed config c + most_uncharged config c
+range_most config c some = go (config.pending == 1) (config.charge == 0) config.inflight
+    (longest_computed config c)
+    (longest_exchange config c) some (le-max_left (longest_computed config c) config.charge)
   where
     go : (t v : Bool) (k l m : ℕ) → 1 ≤ k → l ≤ m → (if t && v then l else k * m) +
         (if t then (k - 1) * l else 0) ≤ k * m + (if t && not v then (k - 1) * l else 0)
@@ -185,20 +185,20 @@ range_most config some = go (config.pending == 1) (config.charge == 0) config.in
     go true false k l m one h = omega arith
     go false v k l m one h = omega arith
 
-span_of : (config : Config) (m k g C : ℕ) (x y : Share) → 1 ≤ config.inflight →
-    IsMoney config m g x → IsMoney config k g y →
+span_of : (config : Config) (c : Class) (m k g C : ℕ) (x y : Share) → 1 ≤ config.inflight →
+    IsMoney config c m g x → IsMoney config c k g y →
     x.quanta ≤ y.quanta → y.charged ≡ x.charged + C → x.received ≤ y.received → y.received ≡ 0
-    → IsSpan (config.quantum * g) (most_owed config + most_uncharged config) (y.quanta - x.quanta) C
-span_of config m k g C x y some a b more charge r quiet =
-    span_most (config.quantum * g) (lowest_quiet config + most_covered config) _ (y.quanta - x.quanta) C
-    (range_most config some)
+    → IsSpan (config.quantum * g) (most_owed config c + most_uncharged config c) (y.quanta - x.quanta) C
+span_of config c m k g C x y some a b more charge r quiet =
+    span_most (config.quantum * g) (lowest_quiet config c + most_covered config c) _ (y.quanta - x.quanta) C
+    (range_most config c some)
     (span_number (config.quantum * g) x.quanta (y.quanta - x.quanta) x.charged C
-    (lowest_quiet config) (most_covered config) x.deficit y.deficit
+    (lowest_quiet config c) (most_covered config c) x.deficit y.deficit
     (a.exact ∙ ap (λ (n : ℕ). pos (config.quantum * g + config.quantum * g * x.quanta) -ℤ pos n) none_x)
     (b.exact ∙ (ap (λ (n : ℕ). pos (config.quantum * g + config.quantum * g * n) -ℤ pos
     (y.charged + y.received)) grows ∙ ap (λ (n : ℕ).
     pos (config.quantum * g + config.quantum * g * (x.quanta + (y.quanta - x.quanta))) -ℤ pos n) none_y))
-    (quiet_low config m g x a quiet_x) a.most (quiet_low config k g y b quiet) b.most)
+    (quiet_low config c m g x a quiet_x) a.most (quiet_low config c k g y b quiet) b.most)
   where
     quiet_x : x.received ≡ 0
     quiet_x = omega arith
@@ -269,10 +269,10 @@ config_at config h m = config_run (take m h) (opening config)
 
 -- The share of a station at a moment.
 pub share_at : (config : Config) (h : List Entry) (m s : ℕ) (c : Class) → IsInRange config →
-    is_live (world_at config h m) s ≡ true → IsMoney config (owed s c (world_at config h m).opened)
+    is_live (world_at config h m) s ≡ true → IsMoney config c (owed s c (world_at config h m).opened)
     (weight_at config h m s) (share (world_at config h m) s c)
 share_at config h m s c range live =
-    subst (λ (k : Config). IsMoney k (owed s c (world_at config h m).opened) (weight_at config h m s)
+    subst (λ (k : Config). IsMoney k c (owed s c (world_at config h m).opened) (weight_at config h m s)
     (share (world_at config h m) s c)) (config_at config h m)
     (money_after config (take m h) s c range live)
 
@@ -281,14 +281,14 @@ span_at : (config : Config) (h : List Entry) (a b s C : ℕ) (c : Class) → IsI
     is_live (world_at config h a) s ≡ true → is_live (world_at config h b) s ≡ true
     → IsGrown c C (account (station (world_at config h a) s)) (account (station (world_at config h b) s)) →
     IsQuiet (world_at config h b) s c
-    → IsSpan (config.quantum * weight_at config h b s) (most_owed config + most_uncharged config)
+    → IsSpan (config.quantum * weight_at config h b s) (most_owed config c + most_uncharged config c)
     (got_between config h s c a b) C
 span_at config h a b s C c range live_a live_b g quiet =
-    let at_a : IsMoney config (owed s c (world_at config h a).opened) (weight_at config h b s)
+    let at_a : IsMoney config c (owed s c (world_at config h a).opened) (weight_at config h b s)
     (share (world_at config h a) s c) =
-    subst (λ (n : ℕ). IsMoney config (owed s c (world_at config h a).opened) n
+    subst (λ (n : ℕ). IsMoney config c (owed s c (world_at config h a).opened) n
     (share (world_at config h a) s c)) (sym g.weight) (share_at config h a s c range live_a) in
-    span_of config (owed s c (world_at config h a).opened) (owed s c (world_at config h b).opened)
+    span_of config c (owed s c (world_at config h a).opened) (owed s c (world_at config h b).opened)
     (weight_at config h b s) C (share (world_at config h a) s c) (share (world_at config h b) s c)
     (omega (arith, range.inflight.0)) at_a (share_at config h b s c range live_b) g.quanta g.charged
     g.received quiet
@@ -306,13 +306,14 @@ fair_stretch config h i j c a b range s quiet_i quiet_j t =
       quanta = near;
       charged = (
         near_charges config.quantum (weight_at config h b i) (weight_at config h b j)
-            (most_owed config + most_uncharged config) _ _ _ _ span_i span_j near.0,
+            (most_owed config c + most_uncharged config c) _ _ _ _ span_i span_j near.0,
         (let turned : charged_between config h j c a b * weight_at config h b i
             ≤ charged_between config h i c a b * weight_at config h b j +
             (3 * config.quantum * weight_at config h b j * weight_at config h b i +
-            (weight_at config h b j + weight_at config h b i) * (most_owed config + most_uncharged config)) =
+            (weight_at config h b j + weight_at config h b i) *
+            (most_owed config c + most_uncharged config c)) =
             near_charges config.quantum (weight_at config h b j) (weight_at config h b i)
-            (most_owed config + most_uncharged config) _ _ _ _ span_j span_i near.1 in
+            (most_owed config c + most_uncharged config c) _ _ _ _ span_j span_i near.1 in
             omega arith),
       );
     }
@@ -333,13 +334,13 @@ fair_stretch config h i j c a b range s quiet_i quiet_j t =
     grown_j = grown_share (world_at config h a) (world_at config h b) j c
         (charged_between config h j c a b) t.second
 
-    span_i : IsSpan (config.quantum * weight_at config h b i) (most_owed config + most_uncharged config)
+    span_i : IsSpan (config.quantum * weight_at config h b i) (most_owed config c + most_uncharged config c)
         (got_between config h i c a b) (charged_between config h i c a b)
     span_i = span_at config h a b i (charged_between config h i c a b) c range
         (on_old_live config h a i c range both_a.first)
         (on_old_live config h b i c range both_b.first) grown_i quiet_i
 
-    span_j : IsSpan (config.quantum * weight_at config h b j) (most_owed config + most_uncharged config)
+    span_j : IsSpan (config.quantum * weight_at config h b j) (most_owed config c + most_uncharged config c)
         (got_between config h j c a b) (charged_between config h j c a b)
     span_j = span_at config h a b j (charged_between config h j c a b) c range
         (on_old_live config h a j c range both_a.second)

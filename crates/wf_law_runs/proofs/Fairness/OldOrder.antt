@@ -3,8 +3,9 @@ use Rattle.std.proofs.Common.{◌≡◌, refl, ap, sym, ◌∙◌, subst, arith,
 use Rattle.std.proofs.lemmas.Bool.{cases_eq, ne_eqb, not_from_true, not_from_false}
 use Rattle.wf_frame.specs.declared.classes.Class.{Class}
 use Rattle.wf_frame.specs.declared.classes.Class.TheVariants.{Bk, Be, Vi, Vo}
-use Rattle.wf_frame.specs.declared.notes.Ask.TheVariants.{Join, Leave, Rate, Tick, Pull, Arrive, Answer, Done, Sleep, Wake, Poll, Rx, Reap}
+use Rattle.wf_frame.specs.declared.notes.Ask.TheVariants.{Join, Leave, Rate, Tick, Pull, Arrive, Answer, Done, Sleep, Wake, Poll, Rx, Reap, Ampdu, Stop, Start}
 use Rattle.wf_frame.specs.declared.notes.AskedRate.{AskedRate}
+use Rattle.wf_frame.specs.declared.notes.Limits.{Limits}
 use Rattle.wf_frame.specs.declared.notes.Note.{Note}
 use Rattle.wf_frame.specs.declared.notes.Note.TheVariants.{Enqueue, Asked}
 use Rattle.wf_frame.specs.declared.notes.Refusal.{Refusal}
@@ -14,7 +15,7 @@ use Rattle.wf_def_rotation.specs.Rotation.{Rotation, in_order, Picked, with_key_
 use Rattle.wf_def_world.specs.World.{World, Share, Exchange, no_station, rotation, is_live, exchange}
 use Rattle.wf_frame.specs.Classes.{class_number, same_class}
 use Rattle.wf_def_world.specs.CanSend.{is_ready, with_listings_of}
-use Rattle.wf_def_world.specs.Exchanges.{Prepared, station_need, picked_station, after_pick, after_tid_turn, prepared_exchange, exchange_of, sending_tid, charge_of}
+use Rattle.wf_def_world.specs.Exchanges.{Prepared, station_need, picked_station, after_tid_turn, prepared_exchange, exchange_of, sending_tid, charge_of}
 use Rattle.wf_def_world.specs.Refusals.{refusals, refusal}
 use Rattle.wf_def_world.specs.Step.{Outcome, join_outcome, tick_outcome, rate_outcome, pull_outcome_for, pull_outcome, done_outcome, outcome_where_open, rx_outcome, outcome_of, after_refusal, judged_outcome, step, concerned_station}
 use Rattle.wf_def_world.specs.Stretches.{charge_to, charge_by}
@@ -22,8 +23,9 @@ use Rattle.wf_def_lists.specs.Lists.{on}
 use Rattle.wf_law_rules.proofs.Lemmas.Counts.{ahead, on-append, ahead-filter, on-filter_out, on-nil, on-cons_other, ahead-append, ahead-none}
 use Rattle.wf_law_rules.proofs.Lemmas.Rotations.{stay}
 use Rattle.wf_law_runs.proofs.Common.Refused.{after_idle}
+use Rattle.wf_law_runs.proofs.Common.Limits.{with_limits}
 use Rattle.wf_law_runs.proofs.Deficits.Books.{Account, account, core, Books, books, with_account, on_part, upd_same, upd_other, each_upd, updc_same, updc_other, each_updc, cases_class}
-use Rattle.wf_law_runs.proofs.Deficits.BookSteps.{books_after_turn, books_prepared, books_sent, with_opened, charge_share, with_charge, books_ended, books_gone, all_off, books_enqueued, receive_share, books_received, books_reaped, books_slept, books_woken, books_credited, rated, books_with_rate, fresh_account, books_joined, pay_share, paid, after, books_after_pick}
+use Rattle.wf_law_runs.proofs.Deficits.BookSteps.{books_after_turn, books_prepared, books_sent, with_opened, charge_share, with_charge, books_ended, books_gone, all_off, books_enqueued, receive_share, books_received, books_reaped, books_slept, books_woken, books_credited, rated, books_with_rate, fresh_account, books_joined, pay_share, paid, after, books_after_pick, books_stated, books_stopped, books_started}
 use Rattle.wf_law_runs.proofs.Deficits.Openings.{every_find}
 use Rattle.wf_law_runs.proofs.Deficits.Kept.{IsOpen, IsKept}
 use Rattle.wf_law_runs.proofs.Deficits.KeptStep.{NoRow, no_row, live_account, IsFound, at_number, books_arrived, books_answered}
@@ -296,18 +298,19 @@ calm_pulled_by (Some s) v d =
     (subst (λ (b : Books). IsCalm b (with_opened (books p.world) (exchange_of s t d p))) e
     (calm_opened (books p.world) (exchange_of s t d p)))
 
-pub calm_pulled : (w : World) (d : Class) → IsCalm (after (books w) d (picked_station w d))
-    (books (pull_outcome w d).world)
+pub calm_pulled : (w : World) (d : Class) (l : Limits) → IsCalm (after (books w) d (picked_station w d))
+    (books (pull_outcome w d l).world)
 unfolding pull_outcome
-calm_pulled w d = subst (λ (b : Books). IsCalm b
-    (books (pull_outcome_for (after_pick w d) d (picked_station w d).winner).world)) (books_after_pick w d)
-    (calm_pulled_by (picked_station w d).winner (after_pick w d) d)
+calm_pulled w d l = subst (λ (b : Books). IsCalm b
+    (books (pull_outcome_for (with_limits w d l) d (picked_station w d).winner).world)) (books_after_pick w d)
+    (calm_pulled_by (picked_station w d).winner (with_limits w d l) d)
 
-turn_pulled : (w : World) (d c : Class) (i j : ℕ) → IsKept (books w) → Both c i j (books w) →
-    Both c i j (books (pull_outcome w d).world) → IsTurn c i j 0 0 (books w) (books (pull_outcome w d).world)
-turn_pulled w d c i j k h h' =
-    turn_calm c i j 0 0 (books w) _ _ (calm_pulled w d)
-    (turn_after w d c i j k h (both_calm c i j _ _ (calm_pulled w d) h'))
+turn_pulled : (w : World) (d c : Class) (l : Limits) (i j : ℕ) → IsKept (books w) → Both c i j (books w) →
+    Both c i j (books (pull_outcome w d l).world) →
+    IsTurn c i j 0 0 (books w) (books (pull_outcome w d l).world)
+turn_pulled w d c l i j k h h' =
+    turn_calm c i j 0 0 (books w) _ _ (calm_pulled w d l)
+    (turn_after w d c i j k h (both_calm c i j _ _ (calm_pulled w d l) h'))
 
 -- ---- a join and a leave
 
@@ -491,7 +494,7 @@ turn_done (Asked (Leave s)) w c i j r k h h' =
     (turn_off (books w) s c i j) h'
 turn_done (Asked (Rate s rate)) w c i j r k h h' = turn_rated w s rate c i j
 turn_done (Asked (Tick by)) w c i j r k h h' = turn_here c i j (books w)
-turn_done (Asked (Pull d)) w c i j r k h h' = turn_pulled w d c i j k h h'
+turn_done (Asked (Pull d l)) w c i j r k h h' = turn_pulled w d c l i j k h h'
 turn_done (Asked (Arrive e n)) w c i j r k h h' =
     turn_open w e (exchange w e) _ c i j (λ _ _. 0) (λ _. refl) refl
     (λ x f. turn_same c i j _ _ (books_arrived w e n x k f))
@@ -502,6 +505,9 @@ turn_done (Asked (Done e heard air)) w c i j r k h h' =
     turn_open w e (exchange w e) _ c i j (λ y o. charge_to y c air o) (λ _. refl) refl
     (λ x f. turn_ended air w e x heard c i j k f)
 turn_done (Asked (Sleep s)) w c i j r k h h' = turn_same c i j _ _ (books_slept w s)
+turn_done (Asked (Ampdu s octets)) w c i j r k h h' = turn_same c i j _ _ (books_stated w s octets)
+turn_done (Asked (Stop s)) w c i j r k h h' = turn_same c i j _ _ (books_stopped w s)
+turn_done (Asked (Start s)) w c i j r k h h' = turn_same c i j _ _ (books_started w s)
 turn_done (Asked (Wake s)) w c i j r k h h' = turn_same c i j _ _ (books_woken w s)
 turn_done (Asked (Poll s)) w c i j r k h h' = turn_same c i j _ _ (books_credited w s)
 turn_done (Asked (Rx s d air)) w c i j r k h h' = turn_received w s d air c i j
@@ -511,7 +517,7 @@ turn_refused : (note : Note) (r : Refusal) (w : World) (c : Class) (i j : ℕ) �
     Both c i j (books w) → Both c i j (books (after_refusal w note r)) →
     IsTurn c i j 0 0 (books w) (books (after_refusal w note r))
 unfolding after_refusal
-turn_refused (Asked (Pull d)) Idle w c i j k h h' =
+turn_refused (Asked (Pull d l)) Idle w c i j k h h' =
     after_idle (λ v. Both c i j (books v) → IsTurn c i j 0 0 (books w) (books v)) w d
     (λ _. turn_here c i j (books w))
     (subst (λ (b : Books). Both c i j b → IsTurn c i j 0 0 (books w) b) (sym (books_after_pick w d))

@@ -3,6 +3,7 @@
 use Rattle.std.proofs.Common.{pos, ◌-ℤ◌, ◌≡◌, ◌≢◌, refl, ap, sym, ◌∙◌, subst, arith, ℕ, zero, suc, ◌<◌, ◌≤◌, ◌-◌, ◌+◌, Bool, true, false, if◌then◌else◌, ◌==◌, ◌||◌, ◌⊎◌, inl, inr, List, [], ◌∷◌, ◌++◌, map, length, Option, Some, None, IfSome}
 use Rattle.wf_frame.specs.declared.classes.Cause.{Cause}
 use Rattle.wf_frame.specs.declared.classes.Class.{Class}
+use Rattle.wf_frame.specs.declared.notes.Limits.{Limits}
 use Rattle.wf_def_rotation.specs.Rotation.{Rotation, in_order}
 use Rattle.wf_def_agreement.specs.Session.{request_due, Session, Slot, State, slot, on_slot, is_settled, next_number, with_number_given}
 use Rattle.wf_def_world.specs.World.{Mpdu, Exchange, tid_of, is_live, rotation, codel_params, with_queues, on_share, with_rotation, on_tid, on_station, with_station, World, Queue, Frame, no_frame, new_queue, queue, session, frame, accepted_count, on_queue, on_session, with_fate, with_frame_finished, with_frames_finished}
@@ -12,13 +13,13 @@ use Rattle.wf_def_world.specs.Exchanges.{Aggregate, Prepared, with_number, with_
 use Rattle.wf_def_world.specs.Step.{send_outcome, pull_outcome_for, pull_outcome}
 use Rattle.wf_law_runs.proofs.Sessions.Flights.{Rises, next-give}
 use Rattle.wf_law_runs.proofs.Windows.Agreement.{slot_give, slot_new, slot_same, slot_other}
-use Rattle.wf_law_runs.proofs.Windows.Sides.{Same, then_same, same_take, same_pay_queues, same_with_queues, same_spent, same_after_turn, same_after_pick, same_finish_all, each_side_on}
+use Rattle.wf_law_runs.proofs.Windows.Sides.{Same, then_same, same_take, same_pay_queues, same_with_queues, same_spent, same_after_turn, same_finish_all, each_side_on, same_picked}
 use Rattle.wf_law_runs.proofs.Windows.Opened.{some_along, left_true, pick_ready}
 use Rattle.wf_law_runs.proofs.Windows.Agreed.{IsLawful, IsReady, ready_filled, lawful_same, session_same, session_on_session}
 use Rattle.wf_law_runs.proofs.Releases.Placed.{Placing, Any, placed_less, slot_new_id}
-use Rattle.wf_law_runs.proofs.Frames.Fewer.{Less, then_less, less_pay_queues, less_with_queues, less_after_turn, less_after_pick, queues_dropped, carries, queue_on}
+use Rattle.wf_law_runs.proofs.Frames.Fewer.{Less, then_less, less_pay_queues, less_with_queues, less_after_turn, queues_dropped, carries, queue_on, less_picked}
 use Rattle.wf_law_runs.proofs.Frames.Fates.{Fresh, Safe, safe_calm, safe_numbered, dropped_dequeue, given_dequeued-is, IsHeld, InQueue, InHand, Carries, ids_in, ids_carried, IsGivenId, at_slot_same, session_on_queue}
-use Rattle.wf_law_runs.proofs.Frames.Untouched.{untouched_on_queue, untouched_with_queues, untouched_pay_queues, untouched_on_session, untouched_spent, untouched_after_turn, untouched_after_pick}
+use Rattle.wf_law_runs.proofs.Frames.Untouched.{untouched_on_queue, untouched_with_queues, untouched_pay_queues, untouched_on_session, untouched_spent, untouched_after_turn, untouched_picked}
 use Rattle.wf_law_runs.proofs.Queues.Shelves.{Shelves, shelves_pay_queues}
 use Rattle.wf_law_runs.proofs.Queues.ShelvedStep.{live_number}
 use Rattle.wf_law_runs.proofs.Releases.Kept.{KeptSession, kept_on_slot}
@@ -32,6 +33,7 @@ use Rattle.wf_law_rules.proofs.Lemmas.Tables.{at_put_same, at_put_other}
 use Rattle.wf_law_rules.proofs.Lemmas.Numbers.{on_bool, not_eq, eq_yes, eq_no, either, or_left, or_right, yes_eq}
 use Rattle.wf_law_rules.proofs.Lemmas.Dequeues.{each_dequeue}
 use Rattle.wf_law_rules.proofs.Lemmas.Sums.{length_put}
+use Rattle.wf_law_runs.proofs.Common.Picked.{picked_world}
 
 -- P holds for each held frame.
 pub record Covers (P : ℕ → Type 0) (w : World) : Type 0 where
@@ -445,16 +447,17 @@ covers_pulled_by (Some s) l w c live a p f k =
     (same_v.live s ∙ live) b.placing b.fresh (covers_calm w v (λ q k h. queues_after_turn w s c t q k h)
     (session_same w v same_v) (untouched_after_turn w s c t).frames k))
 
-pub covers_pulled : (l : List ℕ) (w : World) (c : Class) → IsLawful w → Placing l w → Fresh w → Full w →
-    Full (pull_outcome w c).world
+pub covers_pulled : (l : List ℕ) (w : World) (c : Class) (limits : Limits) → IsLawful w → Placing l w →
+    Fresh w → Full w → Full (pull_outcome w c limits).world
 unfolding pull_outcome
-covers_pulled l w c a p f k =
-    let v : World = after_pick w c in
-    let same_v : Same w v = same_after_pick w c in
-    let b : Safe l w v = safe_calm l w v (less_after_pick Any w c) same_v (untouched_after_pick w c) p f in
+covers_pulled l w c limits a p f k =
+    let v : World = picked_world w c limits in
+    let same_v : Same w v = same_picked w c limits in
+    let b : Safe l w v =
+    safe_calm l w v (less_picked Any w c limits) same_v (untouched_picked w c limits) p f in
     covers_pulled_by (picked_station w c).winner l v c
     (some_along (λ s. is_ready w c s ≡ true) (λ s. is_live v s ≡ true) (picked_station w c).winner
     (λ s h. same_v.live s ∙ left_true (is_live w s) _ h)
     (pick_ready (station_need w c) (is_ready w c) (rotation w c)))
     (lawful_same _ _ same_v a) b.placing b.fresh (covers_calm w v (λ q k h. queues_after_pick w c q k h)
-    (session_same w v same_v) (untouched_after_pick w c).frames k)
+    (session_same w v same_v) (untouched_picked w c limits).frames k)

@@ -10,8 +10,9 @@ use Rattle.wf_def_world.specs.World.{receiver, World, Station, Exchange, Mpdu, C
 use Rattle.wf_frame.specs.Classes.{all_classes}
 use Rattle.wf_def_world.specs.FlowQueues.{after_limit, with_appended, after_put_in, taken_for_tid}
 use Rattle.wf_def_world.specs.CanSend.{is_ready, can_give}
-use Rattle.wf_def_world.specs.Exchanges.{is_acked, station_need, most_frames, picked_station, after_arrival, exchange_of, sending_tid, Prepared, mpdus_of, after_pick, after_tid_turn, with_fresh, aggregate_of, with_number, fresh_mpdus, with_flying, waiting_mpdus, longest_fitting, without_credit, prepared_data, prepared_exchange, with_exchange_opened, after_charge, with_failed_finished, with_settled, with_all_settled, after_done, fits_in, mpdu_of, Aggregate}
-use Rattle.wf_frame.specs.declared.notes.Ask.TheVariants.{Join, Leave, Rate, Tick, Pull, Arrive, Answer, Done, Sleep, Wake, Poll, Rx, Reap}
+use Rattle.wf_def_world.specs.Exchanges.{is_acked, station_need, most_frames, picked_station, after_arrival, exchange_of, sending_tid, Prepared, mpdus_of, after_tid_turn, with_fresh, aggregate_of, with_number, fresh_mpdus, with_flying, waiting_mpdus, longest_fitting, without_credit, prepared_data, prepared_exchange, with_exchange_opened, after_charge, with_failed_finished, with_settled, with_all_settled, after_done, fits_in, mpdu_of, Aggregate}
+use Rattle.wf_frame.specs.declared.notes.Ask.TheVariants.{Join, Leave, Rate, Tick, Pull, Arrive, Answer, Done, Sleep, Wake, Poll, Rx, Reap, Ampdu, Stop, Start}
+use Rattle.wf_frame.specs.declared.notes.Limits.{Limits}
 use Rattle.wf_frame.specs.declared.notes.Note.{Note}
 use Rattle.wf_frame.specs.declared.notes.Note.TheVariants.{Enqueue, Asked}
 use Rattle.wf_frame.specs.declared.notes.Refusal.{Refusal}
@@ -22,7 +23,7 @@ use Rattle.wf_law_rules.proofs.Lemmas.Tables.{at_put_other}
 use Rattle.wf_law_runs.proofs.Common.Refused.{after_idle}
 use Rattle.wf_law_runs.proofs.Sessions.Flights.{Rises}
 use Rattle.wf_law_rules.proofs.Lemmas.Numbers.{on_if, yes_eq, or_left, or_right}
-use Rattle.wf_law_runs.proofs.Windows.Sides.{Side, side_of, sides_of, Same, each_side_on, on_opened, then_same, same_on_station, same_on_share, same_finish, same_listed, same_after_pick, same_after_turn, same_spent, same_within_limit, same_put_in, same_take, same_charged}
+use Rattle.wf_law_runs.proofs.Windows.Sides.{Side, side_of, sides_of, Same, each_side_on, on_opened, then_same, same_on_station, same_on_share, same_finish, same_listed, same_after_pick, same_after_turn, same_spent, same_within_limit, same_put_in, same_take, same_charged, same_picked}
 use Rattle.wf_law_runs.proofs.Windows.Opened.{Each, each_map, each_both, each_append, each_filter, each_find, FlyIn, some_along, pick_ready, left_true, can_give-room, none_open, NoRow, no_row}
 use Rattle.std.proofs.Common.{drop, take as take_front}
 use Rattle.std.proofs.lemmas.List.{take-append-drop}
@@ -30,9 +31,10 @@ use Rattle.wf_def_lists.specs.Table.{greatest_upto}
 use Rattle.wf_frame.specs.declared.classes.Fate.TheVariants.{Acked, Held}
 use Rattle.wf_law_runs.specs.Windows.{EachMpdu}
 use Rattle.wf_law_runs.specs.Delivery.{ids_sent, EndsHeard}
+use Rattle.wf_law_runs.proofs.Common.Picked.{picked_world}
 use Rattle.wf_law_runs.proofs.Releases.Kept.{KeptSession, kept_give, kept_fly, Kept, kept_same, keep_ended, keep_prepared}
 use Rattle.wf_law_runs.proofs.Windows.Agreed.{IsLawful, IsOpenIn, IsReady, AllBacked, ready_start, ready_filled, ready_same, longer_number, lawful_same, lawful_done, backed_by, session_same, session_on_session, opened_on_session, exchanges_on_session, same_left_tids, same_off_lists, each_map_if}
-use Rattle.wf_law_runs.proofs.Frames.Fewer.{IsAcked, Less, less, then_less, if_less, less_plain, less_on_station, less_on_session, less_on_receiver, less_with_queues, less_on_share, less_with_rotation, less_finish, less_drop_all, less_listed, less_after_pick, less_after_turn, less_spent, less_within_limit, less_listed_queue, less_purge_queues, less_charged, less_take}
+use Rattle.wf_law_runs.proofs.Frames.Fewer.{IsAcked, Less, less, then_less, if_less, less_plain, less_on_station, less_on_session, less_on_receiver, less_with_queues, less_on_share, less_with_rotation, less_finish, less_drop_all, less_listed, less_after_pick, less_after_turn, less_spent, less_within_limit, less_listed_queue, less_purge_queues, less_charged, less_take, less_picked}
 use Rattle.wf_law_runs.proofs.Windows.Settling.{all_acked, without_same, without_live}
 use Rattle.wf_law_runs.proofs.Releases.Placed.{slot_new_id}
 
@@ -244,12 +246,13 @@ labelled_pulled_by (Some s) w c live i a =
     (prepared_right v s _ (lawful_same _ _ k i) (k.live s ∙ live)) (keep_prepared v s _)
     (labelled_same w v i k a)
 
-labelled_pulled : (w : World) (c : Class) → IsLawful w → IsLabelled w → IsLabelled (pull_outcome w c).world
+labelled_pulled : (w : World) (c : Class) (l : Limits) → IsLawful w → IsLabelled w →
+    IsLabelled (pull_outcome w c l).world
 unfolding pull_outcome
-labelled_pulled w c i a =
-    let k : Same w (after_pick w c) = same_after_pick w c in
-    labelled_pulled_by (picked_station w c).winner (after_pick w c) c
-    (some_along (λ s. is_ready w c s ≡ true) (λ s. is_live (after_pick w c) s ≡ true)
+labelled_pulled w c l i a =
+    let k : Same w (picked_world w c l) = same_picked w c l in
+    labelled_pulled_by (picked_station w c).winner (picked_world w c l) c
+    (some_along (λ s. is_ready w c s ≡ true) (λ s. is_live (picked_world w c l) s ≡ true)
     (picked_station w c).winner (λ s h. k.live s ∙ left_true (is_live w s) _ h)
     (pick_ready (station_need w c) (is_ready w c) (rotation w c))) (lawful_same _ _ k i)
     (labelled_same w _ i k a)
@@ -594,10 +597,10 @@ less_pulled_by None P w c = less P w
 less_pulled_by (Some s) P w c = less_sent P w s _ c _
     (then_less P w _ _ (less_after_turn P w s c _) (less_prepared P _ s _))
 
-pub less_pulled : (P : ℕ → Type 0) (w : World) (c : Class) → Less P w (pull_outcome w c).world
+pub less_pulled : (P : ℕ → Type 0) (w : World) (c : Class) (l : Limits) → Less P w (pull_outcome w c l).world
 unfolding pull_outcome
-less_pulled P w c = then_less P w _ _ (less_after_pick P w c)
-    (less_pulled_by (picked_station w c).winner P (after_pick w c) c)
+less_pulled P w c l = then_less P w _ _ (less_picked P w c l)
+    (less_pulled_by (picked_station w c).winner P (picked_world w c l) c)
 
 less_left_tids : (ts : List ℕ) (P : ℕ → Type 0) (w : World) (s : ℕ) → Less P w (after_tids_left w s ts)
 unfolding after_tids_left after_tid_left
@@ -802,10 +805,10 @@ delivered_done (Asked (Leave s)) w i a e = record {
 }
 delivered_done (Asked (Rate s rate)) w i a e = delivered_station _ w s _ (λ x t. refl) i a
 delivered_done (Asked (Tick by)) w i a e = delivered_plain _ w _ refl refl refl (λ id h. h) i a
-delivered_done (Asked (Pull c)) w i a e = record {
-  labelled = labelled_pulled w c i a;
+delivered_done (Asked (Pull c l)) w i a e = record {
+  labelled = labelled_pulled w c l i a;
   acks =
-      acks_less (Asked (Pull c)) w _ (less_pulled None_of w c);
+      acks_less (Asked (Pull c l)) w _ (less_pulled None_of w c l);
 }
 delivered_done (Asked (Arrive x n)) w i a e =
     delivered_open _ (IsRead w) (exchange w x) w _ (read w i a x) a
@@ -825,6 +828,9 @@ delivered_done (Asked (Done x heard air)) w i a e =
     (with_itself (exchange w x) (IsRead w) (read w i a x)) a
     (λ y r. delivered_ended air w y x heard r.0 r.1 i a)
 delivered_done (Asked (Sleep s)) w i a e = delivered_station _ w s _ (λ x t. refl) i a
+delivered_done (Asked (Ampdu s octets)) w i a e = delivered_station _ w s _ (λ x t. refl) i a
+delivered_done (Asked (Stop s)) w i a e = delivered_station _ w s _ (λ x t. refl) i a
+delivered_done (Asked (Start s)) w i a e = delivered_station _ w s _ (λ x t. refl) i a
 delivered_done (Asked (Wake s)) w i a e = delivered_station _ w s _ (λ x t. refl) i a
 delivered_done (Asked (Poll s)) w i a e = delivered_station _ w s _ (λ x t. refl) i a
 delivered_done (Asked (Rx s c air)) w i a e =
@@ -838,12 +844,12 @@ delivered_done (Asked Reap) w i a e = delivered_reaped _ w.finished w i a
 delivered_refused : (note : Note) (r : Refusal) (w : World) → IsLawful w → IsLabelled w →
     IsDelivered note w (after_refusal w note r)
 unfolding after_refusal
-delivered_refused (Asked (Pull c)) Idle w i a =
-    after_idle (IsDelivered (Asked (Pull c)) w) w c (record { labelled = a; acks = λ id e. inl e })
+delivered_refused (Asked (Pull c l)) Idle w i a =
+    after_idle (IsDelivered (Asked (Pull c l)) w) w c (record { labelled = a; acks = λ id e. inl e })
     (record {
       labelled = labelled_same w _ i (same_after_pick w c) a;
       acks =
-          acks_less (Asked (Pull c)) w _ (less_after_pick None_of w c);
+          acks_less (Asked (Pull c l)) w _ (less_after_pick None_of w c);
     })
 delivered_refused _ _ w i a = record { labelled = a; acks = λ id e. inl e }
 

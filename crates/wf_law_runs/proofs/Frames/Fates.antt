@@ -16,7 +16,8 @@ use Rattle.wf_frame.specs.Classes.{all_classes}
 use Rattle.wf_def_world.specs.FlowQueues.{without_head, after_limit, with_appended, after_put_in, with_queues_paid, taken_by_codel, taken_from_picked, taken_for_tid, after_queue_left, after_queues_left, len_given, picked_queue, queue_for, longest_queue, is_at_limit}
 use Rattle.wf_def_world.specs.CanSend.{is_ready, with_listings_of, can_give}
 use Rattle.wf_def_world.specs.Exchanges.{is_acked, station_need, most_frames, picked_station, after_arrival, exchange_of, sending_tid, with_heard_start, Prepared, mpdus_of, after_pick, after_tid_turn, with_fresh, aggregate_of, with_number, with_flying, waiting_mpdus, longest_fitting, without_credit, prepared_data, prepared_exchange, with_exchange_opened, after_charge, with_failed_finished, with_settled, with_all_settled, after_done, ids_of, Aggregate}
-use Rattle.wf_frame.specs.declared.notes.Ask.TheVariants.{Join, Leave, Rate, Tick, Pull, Arrive, Answer, Done, Sleep, Wake, Poll, Rx, Reap}
+use Rattle.wf_frame.specs.declared.notes.Ask.TheVariants.{Join, Leave, Rate, Tick, Pull, Arrive, Answer, Done, Sleep, Wake, Poll, Rx, Reap, Ampdu, Stop, Start}
+use Rattle.wf_frame.specs.declared.notes.Limits.{Limits}
 use Rattle.wf_frame.specs.declared.notes.Note.{Note}
 use Rattle.wf_frame.specs.declared.notes.Note.TheVariants.{Enqueue, Asked}
 use Rattle.wf_frame.specs.declared.notes.Refusal.{Refusal}
@@ -29,12 +30,12 @@ use Rattle.std.proofs.lemmas.List.Sums.{sum_by-append}
 use Rattle.wf_law_runs.proofs.Common.Refused.{after_idle}
 use Rattle.wf_law_runs.proofs.Windows.Opened.{NoRow, no_row, each_find, some_along, pick_ready, left_true, eight}
 use Rattle.wf_law_rules.proofs.Lemmas.Sums.{sum_put_within, length_put}
-use Rattle.wf_law_runs.proofs.Frames.Untouched.{Untouched, untouched, then_untouched, untouched_on_session, untouched_on_queue, untouched_pay_queues, untouched_with_queues, untouched_spent, untouched_after_turn, untouched_after_pick, untouched_without, untouched_charged, untouched_put_in, untouched_off_lists, untouched_with_station, untouched_on_station, untouched_on_receiver, untouched_listed}
+use Rattle.wf_law_runs.proofs.Frames.Untouched.{Untouched, untouched, then_untouched, untouched_on_session, untouched_on_queue, untouched_pay_queues, untouched_with_queues, untouched_spent, untouched_after_turn, untouched_after_pick, untouched_without, untouched_charged, untouched_put_in, untouched_off_lists, untouched_with_station, untouched_on_station, untouched_on_receiver, untouched_listed, untouched_picked}
 use Rattle.wf_law_rules.proofs.Lemmas.Tables.{each_put, at_put_same, at_put_other}
 use Rattle.wf_law_rules.proofs.Lemmas.Joined.{once_append, has_either, has_first, has_second}
 use Rattle.wf_law_runs.proofs.Sessions.Flights.{AllIn, Rises, all_in_later, next-give}
 use Rattle.wf_law_rules.proofs.Lemmas.Numbers.{Climbs, climbs_from, on_bool, on_if, lt_yes, lt_no, eq_yes, eq_no, yes_eq, not_eq, either, or_left, or_right, climbs_at}
-use Rattle.wf_law_runs.proofs.Windows.Sides.{Side, side_of, sides_of, Same, each_side_on, then_same, same_on_station, same_with_queues, same_on_queue, same_finish, same_finish_all, same_listed, same_after_pick, same_after_turn, same_spent, same_put_in, same_pay_queues, same_take, same_charged}
+use Rattle.wf_law_runs.proofs.Windows.Sides.{Side, side_of, sides_of, Same, each_side_on, then_same, same_on_station, same_with_queues, same_on_queue, same_finish, same_finish_all, same_listed, same_after_pick, same_after_turn, same_spent, same_put_in, same_pay_queues, same_take, same_charged, same_picked}
 use Rattle.wf_law_runs.proofs.Windows.Agreement.{slot_give, slot_other, slot_same, next-on_slot}
 use Rattle.wf_frame.specs.declared.classes.Fate.TheVariants.{Held, Dropped}
 use Rattle.wf_frame.specs.declared.classes.Cause.TheVariants.{Codel as By_codel, Left, Overlimit}
@@ -44,8 +45,9 @@ use Rattle.wf_law_runs.proofs.Windows.Settling.{without_same}
 use Rattle.wf_law_runs.proofs.Releases.Released.{side_with_station, side_own_station}
 use Rattle.wf_def_lists.specs.Lists.{IsOnce}
 use Rattle.wf_law_runs.specs.Releases.{named_by, named_from}
+use Rattle.wf_law_runs.proofs.Common.Picked.{picked_world}
 use Rattle.wf_law_runs.proofs.Windows.Agreed.{IsLawful, IsReady, IsEnding, IsFound, found, ready_filled, ending_settled, ending_of, lawful_same, lawful_step, lawful_at_first, session_same, session_on_session, same_off_lists}
-use Rattle.wf_law_runs.proofs.Frames.Fewer.{Ordered, carries, carries_from, Fewer, Less, then_less, less_plain, less_on_station, less_on_session, less_on_queue, less_with_queues, less_pay_queues, less_after_pick, less_after_turn, less_spent, less_listed, less_charged, fewer_tail, less_drop_all, less_purge_queues, less_finish, less_take, given_take, less_dequeued, queue_on, queues_dropped, right_dequeue}
+use Rattle.wf_law_runs.proofs.Frames.Fewer.{Ordered, carries, carries_from, Fewer, Less, then_less, less_plain, less_on_station, less_on_session, less_on_queue, less_with_queues, less_pay_queues, less_after_pick, less_after_turn, less_spent, less_listed, less_charged, fewer_tail, less_drop_all, less_purge_queues, less_finish, less_take, given_take, less_dequeued, queue_on, queues_dropped, right_dequeue, less_picked}
 use Rattle.wf_law_runs.proofs.Releases.Placed.{Queued, Numbered, Placing, Any, placed_less, placed_session, next-heard, queue_appended, less_put_in, less_with_frame, side_with_frame, less_with_station, less_off_lists, once_ids, has_ids, IsIdOf, placed_at_first, slot_new_id}
 use Rattle.wf_law_runs.proofs.Releases.Once.{placed_number, placed_frames, placed_without, placed_gone, placed_joined, placed_step}
 
@@ -737,13 +739,13 @@ safe_pulled_by (Some s) l w c live i p f =
     safe_sent l w s _ c _ (then_safe l w v _ a.stays
     (safe_prepared l v s _ (lawful_same _ _ k i) (k.live s ∙ live) a.placing a.fresh))
 
-safe_pulled : (l : List ℕ) (w : World) (c : Class) → IsLawful w → Placing l w → Fresh w →
-    Safe l w (pull_outcome w c).world
+safe_pulled : (l : List ℕ) (w : World) (c : Class) (limits : Limits) → IsLawful w → Placing l w → Fresh w →
+    Safe l w (pull_outcome w c limits).world
 unfolding pull_outcome
-safe_pulled l w c i p f =
-    let v : World = after_pick w c in
-    let k : Same w v = same_after_pick w c in
-    let a : Safe l w v = safe_calm l w v (less_after_pick Any w c) k (untouched_after_pick w c) p f in
+safe_pulled l w c limits i p f =
+    let v : World = picked_world w c limits in
+    let k : Same w v = same_picked w c limits in
+    let a : Safe l w v = safe_calm l w v (less_picked Any w c limits) k (untouched_picked w c limits) p f in
     then_safe l w v _ a.stays (safe_pulled_by (picked_station w c).winner l v c
     (some_along (λ s. is_ready w c s ≡ true) (λ s. is_live v s ≡ true) (picked_station w c).winner
     (λ s h. k.live s ∙ left_true (is_live w s) _ h)
@@ -1596,7 +1598,7 @@ fates_done (Asked (Leave s)) l w i e a p h = of_safe l w _ (safe_gone l w s p h)
 fates_done (Asked (Rate s rate)) l w i e a p h = fates_station w s _ (λ x t. refl) h
 fates_done (Asked (Tick by)) l w i e a p h = fates_plain w _ refl (record { frames = refl; finished = refl })
     (λ s t. refl) h
-fates_done (Asked (Pull c)) l w i e a p h = of_safe l w _ (safe_pulled l w c i p h)
+fates_done (Asked (Pull c limits)) l w i e a p h = of_safe l w _ (safe_pulled l w c limits i p h)
 fates_done (Asked (Arrive x n)) l w i e a p h =
     fates_open (IsFoundNamed w i) (exchange w x) w _ (found_named w i a x) h (λ y f. fates_arrived w y n h)
 fates_done (Asked (Answer x)) l w i e a p h =
@@ -1605,6 +1607,9 @@ fates_done (Asked (Done x heard air)) l w i e a p h =
     fates_open (IsFoundNamed w i) (exchange w x) w _ (found_named w i a x) h
     (λ y f. of_safe l w _ (safe_ended air l w i y heard f.found_one f.labels p h))
 fates_done (Asked (Sleep s)) l w i e a p h = fates_station w s _ (λ x t. refl) h
+fates_done (Asked (Ampdu s octets)) l w i e a p h = fates_station w s _ (λ x t. refl) h
+fates_done (Asked (Stop s)) l w i e a p h = fates_station w s _ (λ x t. refl) h
+fates_done (Asked (Start s)) l w i e a p h = fates_station w s _ (λ x t. refl) h
 fates_done (Asked (Wake s)) l w i e a p h = fates_station w s _ (λ x t. refl) h
 fates_done (Asked (Poll s)) l w i e a p h = fates_station w s _ (λ x t. refl) h
 fates_done (Asked (Rx s c air)) l w i e a p h = fates_share w s c _ h
@@ -1612,7 +1617,7 @@ fates_done (Asked Reap) l w i e a p h = fates_reaped w.finished w refl e.0 h
 
 fates_refused : (note : Note) (r : Refusal) (w : World) → Fresh w → Kept_fates 0 0 w (after_refusal w note r)
 unfolding after_refusal
-fates_refused (Asked (Pull c)) Idle w h =
+fates_refused (Asked (Pull c l)) Idle w h =
     let u : Untouched w (after_pick w c) = untouched_after_pick w c in
     after_idle (Kept_fates 0 0 w) w c (fates_here w h)
     (of_stays w _ (fresh_calm w _ (less_after_pick Any w c)

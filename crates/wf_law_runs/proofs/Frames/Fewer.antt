@@ -2,6 +2,7 @@
 -- and acknowledge only some frames. Proves that the parts of a call that do not enqueue are such changes.
 use Rattle.std.proofs.Common.{◌≡◌, refl, ap, sym, ◌∙◌, subst, arith, ℕ, zero, suc, ◌≤◌, ◌<◌, Bool, true, false, if◌then◌else◌, ◌==◌, ◌||◌, ◌⊎◌, inl, inr, List, [], ◌∷◌, length, map, Option, Some, None, IfSome}
 use Rattle.wf_frame.specs.declared.classes.Class.{Class}
+use Rattle.wf_frame.specs.declared.notes.Limits.{Limits}
 use Rattle.wf_frame.specs.declared.classes.Fate.{Fate}
 use Rattle.wf_def_lists.specs.Table.{at, put}
 use Rattle.wf_def_codel.specs.Codel.{Item, Params, Codel, Dequeued, dequeue}
@@ -17,6 +18,7 @@ use Rattle.wf_def_world.specs.Exchanges.{with_station_paid, with_stations_paid, 
 use Rattle.wf_law_runs.specs.Queues.{EachItem}
 use Rattle.wf_law_rules.proofs.Lemmas.Tables.{each_put, at_put_same}
 use Rattle.wf_law_rules.proofs.Lemmas.Numbers.{on_bool, eq_yes, yes_eq, either, or_left, or_right}
+use Rattle.wf_law_runs.proofs.Common.Picked.{picked_world}
 use Rattle.wf_frame.specs.declared.classes.Fate.TheVariants.{Acked}
 
 -- ---- the frames of a queue
@@ -257,6 +259,11 @@ less_pay_stations P (s ∷ ss) w c quanta = then_less P _ _ _ (less_on_share P w
 pub less_after_pick : (P : ℕ → Type 0) (w : World) (c : Class) → Less P w (after_pick w c)
 unfolding after_pick
 less_after_pick P w c = then_less P _ _ _ (less_pay_stations P _ w c _) (less_with_rotation P _ c _)
+
+pub less_picked : (P : ℕ → Type 0) (w : World) (c : Class) (l : Limits) → Less P w (picked_world w c l)
+less_picked P w c l =
+    let k : Less P w (after_pick w c) = less_after_pick P w c in
+    record { queues = k.queues; accepted = k.accepted; fates = k.fates; notes = k.notes }
 
 pub less_after_turn : (P : ℕ → Type 0) (w : World) (s : ℕ) (c : Class) (t : ℕ) →
     Less P w (after_tid_turn w s c t)

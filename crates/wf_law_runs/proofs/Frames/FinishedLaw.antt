@@ -2,7 +2,7 @@
 use Rattle.std.proofs.Common.{◌≡◌, refl, ap, sym, ◌∙◌, subst, ℕ, ◌==◌, false, if◌then◌else◌, ◌⊎◌, inl, inr, List, [], ◌∷◌, ◌++◌, length, append_assoc, append-nil, Option, Some, None, is_none, take}
 use Rattle.wf_frame.specs.declared.settings.Config.{Config}
 use Rattle.wf_frame.specs.declared.classes.Class.{Class}
-use Rattle.wf_frame.specs.declared.notes.Ask.TheVariants.{Join, Leave, Rate, Tick, Pull, Arrive, Answer, Done, Sleep, Wake, Poll, Rx, Reap}
+use Rattle.wf_frame.specs.declared.notes.Ask.TheVariants.{Join, Leave, Rate, Tick, Pull, Arrive, Answer, Done, Sleep, Wake, Poll, Rx, Reap, Ampdu, Stop, Start}
 use Rattle.wf_frame.specs.declared.notes.Note.{Note}
 use Rattle.wf_frame.specs.declared.notes.Note.TheVariants.{Enqueue, Asked}
 use Rattle.wf_frame.specs.declared.notes.Refusal.{Refusal}
@@ -10,11 +10,12 @@ use Rattle.wf_def_lists.specs.Lists.{IsOnce}
 use Rattle.wf_def_lists.specs.Table.{has}
 use Rattle.wf_def_world.specs.World.{World, Exchange, exchange, opening}
 use Rattle.wf_def_world.specs.CanSend.{with_listings_of}
-use Rattle.wf_def_world.specs.Exchanges.{picked_station, after_pick}
+use Rattle.wf_def_world.specs.Exchanges.{picked_station}
 use Rattle.wf_def_world.specs.Refusals.{refusals, refusal}
 use Rattle.wf_def_world.specs.Step.{Outcome, join_outcome, leave_outcome, rate_outcome, tick_outcome, enqueue_outcome, send_outcome, pull_outcome_for, pull_outcome, arrive_outcome, answer_outcome, done_outcome, outcome_where_open, sleep_outcome, wake_outcome, poll_outcome, rx_outcome, reap_outcome, outcome_of, judged_outcome, step}
 use Rattle.wf_def_world.specs.Run.{Entry, world_after}
 use Rattle.wf_law_runs.specs.Finished.{reaped_id, reaped_ids, FinishedLaw}
+use Rattle.wf_law_runs.proofs.Common.Picked.{picked_world}
 use Rattle.wf_law_runs.proofs.Windows.Opened.{NoRow, no_row}
 use Rattle.wf_law_runs.proofs.Frames.Fates.{IsFinishedRight, Steady, steady_step, steady_first, right_step, fetched}
 
@@ -44,9 +45,9 @@ reaps (Asked (Join s window start exponent weight)) w = inl (record { reply = re
 reaps (Asked (Leave s)) w = inl (record { reply = refl; call = refl })
 reaps (Asked (Rate s rate)) w = inl (record { reply = refl; call = refl })
 reaps (Asked (Tick by)) w = inl (record { reply = refl; call = refl })
-reaps (Asked (Pull c)) w = inl (record {
+reaps (Asked (Pull c l)) w = inl (record {
   reply =
-      reaped_pulled_by (picked_station w c).winner (after_pick w c) c;
+      reaped_pulled_by (picked_station w c).winner (picked_world w c l) c;
   call = refl;
 })
 reaps (Asked (Arrive e n)) w = inl (record {
@@ -61,6 +62,9 @@ reaps (Asked (Done e heard air)) w = inl (record {
       refl;
 })
 reaps (Asked (Sleep s)) w = inl (record { reply = refl; call = refl })
+reaps (Asked (Ampdu s octets)) w = inl (record { reply = refl; call = refl })
+reaps (Asked (Stop s)) w = inl (record { reply = refl; call = refl })
+reaps (Asked (Start s)) w = inl (record { reply = refl; call = refl })
 reaps (Asked (Wake s)) w = inl (record { reply = refl; call = refl })
 reaps (Asked (Poll s)) w = inl (record { reply = refl; call = refl })
 reaps (Asked (Rx s c air)) w = inl (record { reply = refl; call = refl })

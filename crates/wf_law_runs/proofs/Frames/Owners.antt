@@ -1,5 +1,6 @@
 -- Proves that each frame at a number was enqueued for the number's TID. By cases of the call.
 use Rattle.wf_frame.specs.declared.classes.Class.{Class}
+use Rattle.wf_frame.specs.declared.notes.Limits.{Limits}
 use Rattle.wf_frame.specs.declared.classes.Fate.{Fate}
 use Rattle.std.proofs.Common.{nat_lt, ◌+◌, ◌++◌, ◌≡◌, refl, ap, sym, ◌∙◌, subst, arith, ℕ, zero, suc, ◌<◌, ◌≤◌, ◌-◌, Bool, true, false, if◌then◌else◌, ◌==◌, List, [], ◌∷◌, length, Option, Some, None, IfSome}
 use Rattle.wf_def_lists.specs.Table.{at}
@@ -9,23 +10,24 @@ use Rattle.wf_def_agreement.specs.Session.{Slot, State, slot, is_settled, next_n
 use Rattle.wf_def_world.specs.World.{Frame, no_frame, Mpdu, Exchange, Content, Frames, Request, queue, tid_of, is_live, rotation, on_queue, with_queues, on_tid, on_station, with_station, with_frame_finished, without_exchange, World, session, frame, on_session}
 use Rattle.wf_def_world.specs.FlowQueues.{queue_need, has_frames, with_queues_paid, taken_by_codel, taken_from_picked, picked_queue, taken_for_tid}
 use Rattle.wf_def_world.specs.CanSend.{is_ready}
-use Rattle.wf_def_world.specs.Exchanges.{Aggregate, Prepared, with_number, with_fresh, aggregate_of, longest_fitting, waiting_mpdus, most_frames, with_flying, prepared_data, prepared_exchange, sending_tid, after_tid_turn, after_pick, picked_station, station_need, with_exchange_opened, without_credit, exchange_of, is_acked, with_heard_start, after_charge, with_settled, with_failed_finished, with_all_settled, after_done}
+use Rattle.wf_def_world.specs.Exchanges.{Aggregate, Prepared, with_number, with_fresh, aggregate_of, longest_fitting, waiting_mpdus, most_frames, with_flying, prepared_data, prepared_exchange, sending_tid, after_tid_turn, picked_station, station_need, with_exchange_opened, without_credit, exchange_of, is_acked, with_heard_start, after_charge, with_settled, with_failed_finished, with_all_settled, after_done}
 use Rattle.wf_def_world.specs.Step.{send_outcome, pull_outcome_for, pull_outcome, done_outcome}
 use Rattle.wf_law_runs.specs.Queues.{EachItem, IsFor}
 use Rattle.wf_law_rules.proofs.Lemmas.Numbers.{on_bool, lt_yes, lt_no}
 use Rattle.wf_law_rules.proofs.Lemmas.Dequeues.{each_dequeue}
 use Rattle.wf_law_rules.proofs.Lemmas.Rotations.{IsWinner, pick_winner}
+use Rattle.wf_law_runs.proofs.Common.Picked.{picked_world}
 use Rattle.wf_law_runs.proofs.Sessions.Flights.{flown, next-give}
 use Rattle.wf_law_runs.proofs.Windows.Agreement.{slot_give, next-on_slot}
-use Rattle.wf_law_runs.proofs.Windows.Sides.{Same, same_take, same_spent, same_after_turn, same_after_pick, same_finish, same_charged, each_side_on}
+use Rattle.wf_law_runs.proofs.Windows.Sides.{Same, same_take, same_spent, same_after_turn, same_finish, same_charged, each_side_on, same_picked}
 use Rattle.wf_law_runs.proofs.Windows.Opened.{some_along, left_true, pick_ready}
 use Rattle.wf_law_runs.proofs.Windows.Agreed.{IsLawful, IsReady, IsEnding, IsFound, ready_filled, ending_settled, ending_of, lawful_same, session_same}
 use Rattle.wf_law_runs.proofs.Windows.Settling.{without_same}
 use Rattle.wf_law_runs.proofs.Releases.Kept.{KeptSession, kept_fly, kept_on_slot, kept_heard}
 use Rattle.wf_law_runs.proofs.Releases.Placed.{slot_new_id, next-heard}
 use Rattle.wf_law_runs.proofs.Frames.Fates.{Bears}
-use Rattle.wf_law_runs.proofs.Frames.Untouched.{untouched_with_queues, untouched_pay_queues, untouched_on_session, untouched_spent, untouched_after_turn, untouched_after_pick}
-use Rattle.wf_law_runs.proofs.Queues.Shelves.{Shelves, shelves, shelves_pay_queues, shelves_finish_all, shelves_after_turn, shelves_after_pick, shelves_ended}
+use Rattle.wf_law_runs.proofs.Frames.Untouched.{untouched_with_queues, untouched_pay_queues, untouched_on_session, untouched_spent, untouched_after_turn, untouched_picked}
+use Rattle.wf_law_runs.proofs.Queues.Shelves.{Shelves, shelves, shelves_pay_queues, shelves_finish_all, shelves_after_turn, shelves_ended, shelves_picked}
 use Rattle.wf_law_runs.proofs.Queues.Shelved.{IsOf, IsShelved, each_item}
 use Rattle.wf_law_runs.proofs.Queues.ShelvedStep.{shelves_number, live_number, shelved_take}
 use Rattle.wf_frame.specs.declared.notes.Note.{Note}
@@ -271,18 +273,18 @@ owned_pulled_by (Some s) most w c live a i o =
     (subst (IsShelved most) (sym (shelves_after_turn w s c t)) i)
     (owned_calm w v k (untouched_after_turn w s c t).frames o))
 
-pub owned_pulled : (most : ℕ) (w : World) (c : Class) → IsLawful w → IsShelved most (shelves w) → IsOwned w →
-    IsOwned (pull_outcome w c).world
+pub owned_pulled : (most : ℕ) (w : World) (c : Class) (l : Limits) → IsLawful w →
+    IsShelved most (shelves w) → IsOwned w → IsOwned (pull_outcome w c l).world
 unfolding pull_outcome
-owned_pulled most w c a i o =
-    let v : World = after_pick w c in
-    let k : Same w v = same_after_pick w c in
+owned_pulled most w c l a i o =
+    let v : World = picked_world w c l in
+    let k : Same w v = same_picked w c l in
     owned_pulled_by (picked_station w c).winner most v c
     (some_along (λ s. is_ready w c s ≡ true) (λ s. is_live v s ≡ true) (picked_station w c).winner
     (λ s h. k.live s ∙ left_true (is_live w s) _ h)
     (pick_ready (station_need w c) (is_ready w c) (rotation w c)))
-    (lawful_same _ _ k a) (subst (IsShelved most) (sym (shelves_after_pick w c)) i)
-    (owned_calm w v k (untouched_after_pick w c).frames o)
+    (lawful_same _ _ k a) (subst (IsShelved most) (sym (shelves_picked w c l)) i)
+    (owned_calm w v k (untouched_picked w c l).frames o)
 
 -- ---- the end of an exchange
 

@@ -5,7 +5,7 @@ use Rattle.wf_frame.specs.Settings.{IsInRange}
 use Rattle.wf_frame.specs.declared.classes.Class.{Class}
 use Rattle.wf_frame.specs.declared.classes.Cause.TheVariants.{Overlimit, Left}
 use Rattle.wf_frame.specs.declared.classes.Fate.TheVariants.{Dropped}
-use Rattle.wf_frame.specs.declared.notes.Ask.TheVariants.{Join, Leave, Rate, Tick, Pull, Arrive, Answer, Done, Sleep, Wake, Poll, Rx, Reap}
+use Rattle.wf_frame.specs.declared.notes.Ask.TheVariants.{Join, Leave, Rate, Tick, Pull, Arrive, Answer, Done, Sleep, Wake, Poll, Rx, Reap, Ampdu, Stop, Start}
 use Rattle.wf_frame.specs.declared.notes.Note.{Note}
 use Rattle.wf_frame.specs.declared.notes.Note.TheVariants.{Enqueue, Asked}
 use Rattle.wf_frame.specs.declared.notes.Refusal.{Refusal}
@@ -281,11 +281,11 @@ stood_done (Asked (Leave s)) l most w k r f h i =
     }
 stood_done (Asked (Rate s rate)) l most w k r f h i = stood_station w s _ (λ x t. refl) i
 stood_done (Asked (Tick by)) l most w k r f h i = stood_plain w _ refl refl refl i
-stood_done (Asked (Pull c)) l most w k r f h i =
+stood_done (Asked (Pull c limits)) l most w k r f h i =
     record {
-      owned = owned_pulled most w c k.lawful h i.owned;
+      owned = owned_pulled most w c limits k.lawful h i.owned;
       full =
-          covers_pulled l w c k.lawful k.placing k.fresh i.full;
+          covers_pulled l w c limits k.lawful k.placing k.fresh i.full;
     }
 stood_done (Asked (Arrive x n)) l most w k r f h i =
     stood_open (IsFoundNamed w k.lawful) (exchange w x) w _ (found_named w k.lawful k.labelled x) i
@@ -301,6 +301,9 @@ stood_done (Asked (Done x heard air)) l most w k r f h i =
           covers_ended air l w k.lawful y heard g.found_one g.labels k.placing i.full;
     })
 stood_done (Asked (Sleep s)) l most w k r f h i = stood_station w s _ (λ x t. refl) i
+stood_done (Asked (Ampdu s octets)) l most w k r f h i = stood_station w s _ (λ x t. refl) i
+stood_done (Asked (Stop s)) l most w k r f h i = stood_station w s _ (λ x t. refl) i
+stood_done (Asked (Start s)) l most w k r f h i = stood_station w s _ (λ x t. refl) i
 stood_done (Asked (Wake s)) l most w k r f h i = stood_station w s _ (λ x t. refl) i
 stood_done (Asked (Poll s)) l most w k r f h i = stood_station w s _ (λ x t. refl) i
 stood_done (Asked (Rx s c air)) l most w k r f h i = stood_share w s c _ i
@@ -308,7 +311,7 @@ stood_done (Asked Reap) l most w k r f h i = stood_reaped w.finished w i
 
 stood_refused : (note : Note) (r : Refusal) (w : World) → Stood w → Stood (after_refusal w note r)
 unfolding after_refusal
-stood_refused (Asked (Pull c)) Idle w i = after_idle Stood w c i
+stood_refused (Asked (Pull c l)) Idle w i = after_idle Stood w c i
     (stood_calm w (after_pick w c) (same_after_pick w c) (untouched_after_pick w c).frames
     (all_queues_after_pick w c) i)
 stood_refused _ _ w i = i

@@ -2,7 +2,7 @@
 use Rattle.std.proofs.Common.{◌≡◌, refl, sym, subst, arith, ℕ, ◌+◌, ◌≤◌, Bool, true, false, if◌then◌else◌, List, [], ◌∷◌, take, is_none, Option, Some, None}
 use Rattle.wf_frame.specs.declared.settings.Config.{Config}
 use Rattle.wf_frame.specs.Settings.{IsInRange}
-use Rattle.wf_frame.specs.declared.notes.Ask.TheVariants.{Join, Leave, Rate, Tick, Pull, Arrive, Answer, Done, Sleep, Wake, Poll, Rx, Reap}
+use Rattle.wf_frame.specs.declared.notes.Ask.TheVariants.{Join, Leave, Rate, Tick, Pull, Arrive, Answer, Done, Sleep, Wake, Poll, Rx, Reap, Ampdu, Stop, Start}
 use Rattle.wf_frame.specs.declared.notes.Note.{Note}
 use Rattle.wf_frame.specs.declared.notes.Note.TheVariants.{Enqueue, Asked}
 use Rattle.wf_frame.specs.declared.notes.Refusal.{Refusal}
@@ -46,11 +46,14 @@ reaped_is (Asked (Join s window start exponent weight)) w = nothing_if _
 reaped_is (Asked (Leave s)) w = nothing_if _
 reaped_is (Asked (Rate s rate)) w = nothing_if _
 reaped_is (Asked (Tick by)) w = nothing_if _
-reaped_is (Asked (Pull c)) w = nothing_if _
+reaped_is (Asked (Pull c l)) w = nothing_if _
 reaped_is (Asked (Arrive e i)) w = nothing_if _
 reaped_is (Asked (Answer e)) w = nothing_if _
 reaped_is (Asked (Done e heard air)) w = nothing_if _
 reaped_is (Asked (Sleep s)) w = nothing_if _
+reaped_is (Asked (Ampdu s octets)) w = nothing_if _
+reaped_is (Asked (Stop s)) w = nothing_if _
+reaped_is (Asked (Start s)) w = nothing_if _
 reaped_is (Asked (Wake s)) w = nothing_if _
 reaped_is (Asked (Poll s)) w = nothing_if _
 reaped_is (Asked (Rx s c air)) w = nothing_if _

@@ -1,6 +1,7 @@
 -- Proves which changes of a world affect neither the accepted frames nor the finished list.
 use Rattle.std.proofs.Common.{◌≡◌, refl, ◌∙◌, ℕ, Bool, true, false, if◌then◌else◌, List, [], ◌∷◌, Option, Some, None}
 use Rattle.wf_frame.specs.declared.classes.Class.{Class}
+use Rattle.wf_frame.specs.declared.notes.Limits.{Limits}
 use Rattle.wf_frame.specs.Classes.{all_classes}
 use Rattle.wf_def_codel.specs.Codel.{Item}
 use Rattle.wf_def_rotation.specs.Rotation.{Rotation, in_order}
@@ -11,6 +12,7 @@ use Rattle.wf_def_world.specs.FlowQueues.{with_listed_queue, with_appended, afte
 use Rattle.wf_def_world.specs.CanSend.{with_listing_in, with_listings_in, with_listings_of}
 use Rattle.wf_def_world.specs.Exchanges.{with_station_paid, with_stations_paid, after_pick, after_tid_turn, without_credit, after_charge}
 use Rattle.wf_def_world.specs.Step.{without_listings}
+use Rattle.wf_law_runs.proofs.Common.Picked.{picked_world}
 
 pub record Untouched (w v : World) : Type 0 where
   pub frames : v.frames ≡ w.frames
@@ -79,6 +81,11 @@ pub untouched_after_pick : (w : World) (c : Class) → Untouched w (after_pick w
 unfolding after_pick
 untouched_after_pick w c = then_untouched w _ _ (untouched_pay_stations (in_order (rotation w c)) w c _)
     (untouched_with_rotation _ c _)
+
+pub untouched_picked : (w : World) (c : Class) (l : Limits) → Untouched w (picked_world w c l)
+untouched_picked w c l =
+    let k : Untouched w (after_pick w c) = untouched_after_pick w c in
+    record { frames = k.frames; finished = k.finished }
 
 pub untouched_off_lists : (cs : List Class) (w : World) (s : ℕ) → Untouched w (without_listings w s cs)
 unfolding without_listings

@@ -2,6 +2,7 @@
 use Rattle.std.proofs.Common.{◌≡◌, refl, ap, sym, ◌∙◌, subst, arith, ℕ, suc, ◌<◌, ◌≤◌, Bool, true, false, List, [], ◌∷◌, Option}
 use Rattle.wf_frame.specs.declared.classes.Cause.TheVariants.{Retries}
 use Rattle.wf_frame.specs.declared.classes.Class.{Class}
+use Rattle.wf_frame.specs.declared.notes.Limits.{Limits}
 use Rattle.wf_frame.specs.declared.classes.Fate.TheVariants.{Dropped}
 use Rattle.wf_def_agreement.specs.Session.{Session, Slot, State, with_state, is_settled, is_failed, slot_after_miss, slot, on_slot, with_number_given, after_miss, next_number}
 use Rattle.wf_def_world.specs.World.{World, Exchange, Mpdu, Content, Frames, Request, session, is_live, on_session, on_receiver, with_exchange, without_exchange, with_frame_finished}
@@ -112,7 +113,7 @@ last_opening : (w : World) (x : Exchange) → Last w (with_exchange_opened w x)
 unfolding with_exchange_opened
 last_opening w x = record { sessions = λ i j. lasts_refl (session w i j); live = λ i. refl }
 
-pub last_pulled : (w : World) (c : Class) → IsLawful w → Last w (pull_outcome w c).world
+pub last_pulled : (w : World) (c : Class) (l : Limits) → IsLawful w → Last w (pull_outcome w c l).world
 last_pulled = along_pull Last last_same then_last last_given last_flown last_opening
 
 -- ---- exchanges

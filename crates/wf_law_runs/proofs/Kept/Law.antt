@@ -2,7 +2,7 @@
 -- call and induction on the run.
 use Rattle.std.proofs.Common.{◌≡◌, ◌≢◌, refl, ap, sym, ◌∙◌, subst, arith, ℕ, zero, suc, ◌+◌, ◌-◌, ◌≤◌, true, false, ◌==◌, List, [], ◌∷◌, Option, Some, None, IfSome, take, drop}
 use Rattle.wf_frame.specs.declared.settings.Config.{Config}
-use Rattle.wf_frame.specs.declared.notes.Ask.TheVariants.{Join, Leave, Rate, Tick, Pull, Arrive, Answer, Done, Sleep, Wake, Poll, Rx, Reap}
+use Rattle.wf_frame.specs.declared.notes.Ask.TheVariants.{Join, Leave, Rate, Tick, Pull, Arrive, Answer, Done, Sleep, Wake, Poll, Rx, Reap, Ampdu, Stop, Start}
 use Rattle.wf_frame.specs.declared.notes.Note.{Note}
 use Rattle.wf_frame.specs.declared.notes.Note.TheVariants.{Enqueue, Asked}
 use Rattle.wf_frame.specs.declared.notes.Refusal.{Refusal}
@@ -116,7 +116,7 @@ stays_done (Asked (Leave s)) w i r = stays_leave w s
 stays_done (Asked (Rate s rate)) w i r = stays_same _ w _ (same_on_station w s _ (λ x t. refl))
 stays_done (Asked (Tick by)) w i r = stays_last _ w _
     (record { sessions = λ s t. lasts_refl (session w s t); live = λ s. refl })
-stays_done (Asked (Pull c)) w i r = stays_last _ w _ (last_pulled w c i)
+stays_done (Asked (Pull c l)) w i r = stays_last _ w _ (last_pulled w c l i)
 stays_done (Asked (Arrive e n)) w i r = stays_last _ w _
     (last_open (IsFound w i) (exchange w e) w _ (found w i e) (λ x f. last_arrived w x n))
 stays_done (Asked (Answer e)) w i r = stays_last _ w _
@@ -124,6 +124,9 @@ stays_done (Asked (Answer e)) w i r = stays_last _ w _
 stays_done (Asked (Done e heard air)) w i r = stays_last _ w _
     (last_open (IsFound w i) (exchange w e) w _ (found w i e) (λ x f. last_ended air w i x heard f))
 stays_done (Asked (Sleep s)) w i r = stays_same _ w _ (same_on_station w s _ (λ x t. refl))
+stays_done (Asked (Ampdu s octets)) w i r = stays_same _ w _ (same_on_station w s _ (λ x t. refl))
+stays_done (Asked (Stop s)) w i r = stays_same _ w _ (same_on_station w s _ (λ x t. refl))
+stays_done (Asked (Start s)) w i r = stays_same _ w _ (same_on_station w s _ (λ x t. refl))
 stays_done (Asked (Wake s)) w i r = stays_same _ w _ (same_on_station w s _ (λ x t. refl))
 stays_done (Asked (Poll s)) w i r = stays_same _ w _ (same_on_station w s _ (λ x t. refl))
 stays_done (Asked (Rx s c air)) w i r = stays_same _ w _ (same_on_share w s c _)
@@ -131,7 +134,7 @@ stays_done (Asked Reap) w i r = stays_last _ w _ (last_reaped w.finished w)
 
 last_refused : (note : Note) (r : Refusal) (w : World) → Last w (after_refusal w note r)
 unfolding after_refusal
-last_refused (Asked (Pull c)) Idle w = after_idle (Last w) w c (last_here w)
+last_refused (Asked (Pull c l)) Idle w = after_idle (Last w) w c (last_here w)
     (last_same w _ (same_after_pick w c))
 last_refused _ _ w = last_here w
 

@@ -2,15 +2,17 @@
 -- and exchanges, a number is given, numbers that wait are sent, and an exchange is opened.
 use Rattle.std.proofs.Common.{◌≡◌, ◌∙◌, ℕ, zero, suc, ◌-◌, true, not, ◌==◌, List, ◌++◌, length, Option, Some, None, IfSome}
 use Rattle.wf_frame.specs.declared.classes.Class.{Class}
+use Rattle.wf_frame.specs.declared.notes.Limits.{Limits}
 use Rattle.wf_def_codel.specs.Codel.{Item}
 use Rattle.wf_def_agreement.specs.Session.{request_due, with_number_given}
 use Rattle.wf_def_world.specs.World.{World, Exchange, Mpdu, session, rotation, is_live, on_session}
 use Rattle.wf_def_world.specs.FlowQueues.{taken_for_tid}
 use Rattle.wf_def_world.specs.CanSend.{is_ready, can_give}
-use Rattle.wf_def_world.specs.Exchanges.{exchange_of, station_need, most_frames, picked_station, sending_tid, fits_in, Aggregate, Prepared, after_pick, after_tid_turn, with_fresh, aggregate_of, with_number, fresh_mpdus, with_flying, waiting_mpdus, longest_fitting, prepared_request, prepared_data, prepared_exchange, with_exchange_opened}
+use Rattle.wf_def_world.specs.Exchanges.{exchange_of, station_need, most_frames, picked_station, sending_tid, fits_in, Aggregate, Prepared, after_tid_turn, with_fresh, aggregate_of, with_number, fresh_mpdus, with_flying, waiting_mpdus, longest_fitting, prepared_request, prepared_data, prepared_exchange, with_exchange_opened}
 use Rattle.wf_def_world.specs.Step.{send_outcome, pull_outcome_for, pull_outcome}
 use Rattle.wf_law_rules.proofs.Lemmas.Numbers.{on_if}
-use Rattle.wf_law_runs.proofs.Windows.Sides.{Same, same, same_after_pick, same_after_turn, same_spent, same_take}
+use Rattle.wf_law_runs.proofs.Common.Picked.{picked_world}
+use Rattle.wf_law_runs.proofs.Windows.Sides.{Same, same, same_after_turn, same_spent, same_take, same_picked}
 use Rattle.wf_law_runs.proofs.Windows.Opened.{some_along, pick_ready, left_true}
 use Rattle.wf_law_runs.proofs.Windows.Agreed.{IsLawful, IsReady, ready_filled, lawful_same}
 
@@ -77,12 +79,12 @@ module _ (R : World → World → Type 0)
       along_sent w s _ c _ (chain w _ _ (here w _ k)
       (along_prepared _ s _ (lawful_same _ _ k i) (k.live s ∙ live)))
 
-  pub along_pull : (w : World) (c : Class) → IsLawful w → R w (pull_outcome w c).world
+  pub along_pull : (w : World) (c : Class) (l : Limits) → IsLawful w → R w (pull_outcome w c l).world
   unfolding pull_outcome
-  along_pull w c i =
-      let k : Same w (after_pick w c) = same_after_pick w c in
-      chain w (after_pick w c) _ (here w _ k)
-      (along_pulled_by (picked_station w c).winner (after_pick w c) c
-      (some_along (λ s. is_ready w c s ≡ true) (λ s. is_live (after_pick w c) s ≡ true)
+  along_pull w c l i =
+      let k : Same w (picked_world w c l) = same_picked w c l in
+      chain w (picked_world w c l) _ (here w _ k)
+      (along_pulled_by (picked_station w c).winner (picked_world w c l) c
+      (some_along (λ s. is_ready w c s ≡ true) (λ s. is_live (picked_world w c l) s ≡ true)
       (picked_station w c).winner (λ s h. k.live s ∙ left_true (is_live w s) _ h)
       (pick_ready (station_need w c) (is_ready w c) (rotation w c))) (lawful_same _ _ k i))

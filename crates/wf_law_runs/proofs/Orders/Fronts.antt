@@ -3,6 +3,7 @@
 use Rattle.std.proofs.Common.{◌≡◌, refl, ap, sym, ◌∙◌, subst, arith, ℕ, zero, suc, ◌+◌, ◌-◌, ◌<◌, ◌≤◌, nat_lt, append-nil, Bool, true, false, not, ◌==◌, ◌⊎◌, inl, inr, List, [], ◌∷◌, ◌++◌, length, map, take, Option, Some, None, IfSome}
 use Rattle.wf_frame.specs.declared.classes.Class.{Class}
 use Rattle.wf_frame.specs.declared.notes.Ask.TheVariants.{Pull}
+use Rattle.wf_frame.specs.declared.notes.Limits.{Limits}
 use Rattle.wf_frame.specs.declared.notes.Note.{Note}
 use Rattle.wf_frame.specs.declared.notes.Note.TheVariants.{Asked}
 use Rattle.wf_frame.specs.declared.notes.Refusal.{Refusal}
@@ -12,14 +13,15 @@ use Rattle.wf_def_agreement.specs.Session.{Session, Slot, State, no_slot, slot, 
 use Rattle.wf_def_world.specs.World.{World, Exchange, Mpdu, Content, Frames, session, rotation, is_live}
 use Rattle.wf_def_world.specs.FlowQueues.{taken_for_tid}
 use Rattle.wf_def_world.specs.CanSend.{is_ready, can_give}
-use Rattle.wf_def_world.specs.Exchanges.{Aggregate, Prepared, mpdu_of, mpdus_of, station_need, most_frames, picked_station, sending_tid, fits_in, after_pick, after_tid_turn, with_fresh, aggregate_of, with_number, fresh_mpdus, with_flying, waiting_mpdus, longest_fitting, prepared_request, prepared_data, prepared_exchange, exchange_of, with_exchange_opened}
+use Rattle.wf_def_world.specs.Exchanges.{Aggregate, Prepared, mpdu_of, mpdus_of, station_need, most_frames, picked_station, sending_tid, fits_in, after_tid_turn, with_fresh, aggregate_of, with_number, fresh_mpdus, with_flying, waiting_mpdus, longest_fitting, prepared_request, prepared_data, prepared_exchange, exchange_of, with_exchange_opened}
 use Rattle.wf_def_world.specs.Refusals.{refusal}
 use Rattle.wf_def_world.specs.Step.{Outcome, send_outcome, pull_outcome_for, pull_outcome, outcome_of, concerned_station, judged_outcome, step}
 use Rattle.wf_law_rules.proofs.Lemmas.Numbers.{on_bool, on_if, lt_yes, lt_no, eq_yes, yes_eq, either, or_left, or_right}
 use Rattle.wf_law_rules.proofs.Lemmas.Tables.{each_put}
 use Rattle.wf_law_runs.specs.Windows.{SomeOpen}
+use Rattle.wf_law_runs.proofs.Common.Picked.{picked_world}
 use Rattle.wf_law_runs.proofs.Sessions.Flights.{AllIn, Rises, flown, next-give, chosen_waiting}
-use Rattle.wf_law_runs.proofs.Windows.Sides.{Side, Same, same_listed, same_after_pick, same_after_turn, same_spent, same_take}
+use Rattle.wf_law_runs.proofs.Windows.Sides.{Side, Same, same_listed, same_after_turn, same_spent, same_take, same_picked}
 use Rattle.wf_law_runs.proofs.Windows.Agreement.{within_length, slot_give}
 use Rattle.wf_law_runs.proofs.Windows.Opened.{some_along, pick_ready, left_true}
 use Rattle.wf_law_runs.proofs.Windows.Agreed.{IsLawful, IsReady, ready_filled, lawful_same, session_same, session_on_session, live_on_session}
@@ -295,23 +297,23 @@ first_pulled_by (Some s) w c live i =
     let k : Same w (after_tid_turn w s c (sending_tid w s c)) = same_after_turn w s c (sending_tid w s c) in
     inr (first_sent s _ c _ (above_prepared _ s _ (lawful_same _ _ k i) (k.live s ∙ live)))
 
-first_pulled : (w : World) (c : Class) → IsLawful w → NoneOrFirst (pull_outcome w c)
+first_pulled : (w : World) (c : Class) (l : Limits) → IsLawful w → NoneOrFirst (pull_outcome w c l)
 unfolding pull_outcome
-first_pulled w c i =
-    let k : Same w (after_pick w c) = same_after_pick w c in
-    first_pulled_by (picked_station w c).winner (after_pick w c) c
-    (some_along (λ s. is_ready w c s ≡ true) (λ s. is_live (after_pick w c) s ≡ true)
+first_pulled w c l i =
+    let k : Same w (picked_world w c l) = same_picked w c l in
+    first_pulled_by (picked_station w c).winner (picked_world w c l) c
+    (some_along (λ s. is_ready w c s ≡ true) (λ s. is_live (picked_world w c l) s ≡ true)
     (picked_station w c).winner (λ s h. k.live s ∙ left_true (is_live w s) _ h)
     (pick_ready (station_need w c) (is_ready w c) (rotation w c))) (lawful_same _ _ k i)
 
-first_judged : (o : Option Refusal) (w : World) (c : Class) → IsLawful w →
-    NoneOrFirst (judged_outcome w (Asked (Pull c)) o)
+first_judged : (o : Option Refusal) (w : World) (c : Class) (l : Limits) → IsLawful w →
+    NoneOrFirst (judged_outcome w (Asked (Pull c l)) o)
 unfolding judged_outcome outcome_of
-first_judged (Some r) w c i = inl (record { tries = λ k. refl; frames = refl; exchanges = refl })
-first_judged None w c i = elim (first_pulled w c i) [
+first_judged (Some r) w c l i = inl (record { tries = λ k. refl; frames = refl; exchanges = refl })
+first_judged None w c l i = elim (first_pulled w c l i) [
   | inl h ↦ inl h
   | inr h ↦
-      let k = same_listed (concerned_station w (Asked (Pull c))) (pull_outcome w c).world in
+      let k = same_listed (concerned_station w (Asked (Pull c l))) (pull_outcome w c l).world in
       let x : Exchange = h.opens.exchange in
       inr (record {
         opens = record {
@@ -324,12 +326,12 @@ first_judged None w c i = elim (first_pulled w c i) [
       })
 ]
 
-first_pull : (w : World) (c : Class) → IsLawful w → NoneOrFirst (step w (Asked (Pull c)))
+first_pull : (w : World) (c : Class) (l : Limits) → IsLawful w → NoneOrFirst (step w (Asked (Pull c l)))
 unfolding step
-first_pull w c i = first_judged (refusal w (Asked (Pull c))) w c i
+first_pull w c l i = first_judged (refusal w (Asked (Pull c l))) w c l i
 
 pub first_step : (w : World) (note : Note) → IsLawful w → NoneOrFirst (step w note)
 first_step w note i = elim (none_step w note) [
-  | inl p ↦ subst (λ (n : Note). NoneOrFirst (step w n)) (sym p.1) (first_pull w p.0 i)
+  | inl p ↦ subst (λ (n : Note). NoneOrFirst (step w n)) (sym p.2) (first_pull w p.0 p.1 i)
   | inr h ↦ inl h
 ]

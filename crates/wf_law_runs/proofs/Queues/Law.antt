@@ -7,7 +7,7 @@ use Rattle.std.proofs.Common.{◌≡◌, refl, sym, subst, arith, ℕ, zero, suc
 use Rattle.std.proofs.lemmas.Bool.{leb-false, ltb-false}
 use Rattle.wf_frame.specs.declared.settings.Config.{Config}
 use Rattle.wf_frame.specs.Settings.{IsInRange}
-use Rattle.wf_frame.specs.declared.notes.Ask.TheVariants.{Join, Leave, Rate, Tick, Pull, Arrive, Answer, Done, Sleep, Wake, Poll, Rx, Reap}
+use Rattle.wf_frame.specs.declared.notes.Ask.TheVariants.{Join, Leave, Rate, Tick, Pull, Arrive, Answer, Done, Sleep, Wake, Poll, Rx, Reap, Ampdu, Stop, Start}
 use Rattle.wf_frame.specs.declared.notes.Note.{Note}
 use Rattle.wf_frame.specs.declared.notes.Note.TheVariants.{Enqueue, Asked}
 use Rattle.wf_frame.specs.declared.notes.Refusal.{Refusal}
@@ -50,7 +50,7 @@ shelved_done (Asked (Leave s)) l most w r short p i = shelved_gone most w s (not
 shelved_done (Asked (Rate s rate)) l most w r small p i =
     subst (IsShelved most) (sym (shelves_hidden w s _ (λ x. refl))) i
 shelved_done (Asked (Tick by)) l most w r short p i = later most (shelves w) by i
-shelved_done (Asked (Pull c)) l most w r short p i = shelved_pulled most w c i
+shelved_done (Asked (Pull c limits)) l most w r short p i = shelved_pulled most w c limits i
 shelved_done (Asked (Arrive x n)) l most w r short p i =
     subst (IsShelved most) (sym (shelves_open (exchange w x) w _ (λ y. shelves_arrived w y n))) i
 shelved_done (Asked (Answer x)) l most w r short p i =
@@ -58,6 +58,12 @@ shelved_done (Asked (Answer x)) l most w r short p i =
 shelved_done (Asked (Done x heard air)) l most w r short p i =
     subst (IsShelved most) (sym (shelves_open (exchange w x) w _ (λ y. shelves_ended air w y heard))) i
 shelved_done (Asked (Sleep s)) l most w r short p i =
+    subst (IsShelved most) (sym (shelves_hidden w s _ (λ x. refl))) i
+shelved_done (Asked (Ampdu s octets)) l most w r short p i =
+    subst (IsShelved most) (sym (shelves_hidden w s _ (λ x. refl))) i
+shelved_done (Asked (Stop s)) l most w r short p i =
+    subst (IsShelved most) (sym (shelves_hidden w s _ (λ x. refl))) i
+shelved_done (Asked (Start s)) l most w r short p i =
     subst (IsShelved most) (sym (shelves_hidden w s _ (λ x. refl))) i
 shelved_done (Asked (Wake s)) l most w r short p i =
     subst (IsShelved most) (sym (shelves_hidden w s _ (λ x. refl))) i
@@ -70,7 +76,7 @@ shelved_done (Asked Reap) l most w r short p i = subst (IsShelved most) (sym (sh
 shelved_refused : (note : Note) (r : Refusal) (most : ℕ) (w : World) → IsShelved most (shelves w) →
     IsShelved most (shelves (after_refusal w note r))
 unfolding after_refusal
-shelved_refused (Asked (Pull c)) Idle most w i = after_idle (λ v. IsShelved most (shelves v)) w c i
+shelved_refused (Asked (Pull c l)) Idle most w i = after_idle (λ v. IsShelved most (shelves v)) w c i
     (subst (IsShelved most) (sym (shelves_after_pick w c)) i)
 shelved_refused _ _ most w i = i
 

@@ -7,7 +7,7 @@ use Rattle.std.specs.Prelude.{sum_by}
 use Rattle.wf_frame.specs.declared.settings.Config.{Config}
 use Rattle.wf_frame.specs.Settings.{IsInRange}
 use Rattle.wf_frame.specs.declared.notes.Ask.{Ask}
-use Rattle.wf_frame.specs.declared.notes.Ask.TheVariants.{Join, Leave, Rate, Tick, Pull, Arrive, Answer, Done, Sleep, Wake, Poll, Rx, Reap}
+use Rattle.wf_frame.specs.declared.notes.Ask.TheVariants.{Join, Leave, Rate, Tick, Pull, Arrive, Answer, Done, Sleep, Wake, Poll, Rx, Reap, Ampdu, Stop, Start}
 use Rattle.wf_frame.specs.declared.notes.Note.{Note}
 use Rattle.wf_frame.specs.declared.notes.Note.TheVariants.{Enqueue, Asked}
 use Rattle.wf_frame.specs.declared.notes.Refusal.{Refusal}
@@ -173,12 +173,15 @@ less_asked (Join s window start exponent weight) w = less_joined Any w s window 
 less_asked (Leave s) w = less_gone Any w s
 less_asked (Rate s rate) w = less_on_station Any w s _
 less_asked (Tick by) w = less_plain Any w _ refl refl
-less_asked (Pull c) w = less_pulled Any w c
+less_asked (Pull c l) w = less_pulled Any w c l
 less_asked (Arrive e n) w = less_open (exchange w e) w _ (λ x. less_arrived Any w x n)
 less_asked (Answer e) w = less_open (exchange w e) w _ (λ x. less_answered Any w x)
 less_asked (Done e heard air) w = less_open (exchange w e) w _
     (λ x. less_any _ w _ (less_ended air w x heard))
 less_asked (Sleep s) w = less_on_station Any w s _
+less_asked (Ampdu s octets) w = less_on_station Any w s _
+less_asked (Stop s) w = less_on_station Any w s _
+less_asked (Start s) w = less_on_station Any w s _
 less_asked (Wake s) w = less_on_station Any w s _
 less_asked (Poll s) w = less_on_station Any w s _
 less_asked (Rx s c air) w = less_on_share Any w s c _
@@ -194,7 +197,7 @@ small_done (Asked ask) n w some one i = small_less n Any w _ (less_asked ask w)
 small_refused : (note : Note) (r : Refusal) (n : ℕ) (w : World) → IsSmall n w →
     IsSmall n (after_refusal w note r)
 unfolding after_refusal
-small_refused (Asked (Pull c)) Idle n w i = after_idle (IsSmall n) w c i
+small_refused (Asked (Pull c l)) Idle n w i = after_idle (IsSmall n) w c i
     (small_less n Any w _ (less_after_pick Any w c) i)
 small_refused _ _ n w i = i
 

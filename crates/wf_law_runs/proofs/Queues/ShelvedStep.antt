@@ -7,17 +7,18 @@ use Rattle.wf_def_rotation.specs.Rotation.{no_keys, Rotation, has_key, in_order,
 use Rattle.wf_law_rules.proofs.Lemmas.Counts.{on-has, on-nil, on-cons_same, on-cons_other, on-append, on-filter, has-on}
 use Rattle.std.proofs.Common.{map, nat_lt, ◌-◌, ◌≡◌, refl, ap, sym, ◌∙◌, subst, arith, ℕ, zero, suc, ◌*◌, ◌%◌, ◌<◌, ◌≤◌, ℤ, pos, ◌+ℤ◌, ◌-ℤ◌, ◌≤ℤ◌, Bool, true, false, not, ◌&&◌, ◌||◌, ◌==◌, if◌then◌else◌, List, [], ◌∷◌, ◌++◌, length, Option, Some, None, IfSome, inl, inr, ◌⊎◌}
 use Rattle.wf_def_codel.specs.Codel.{new_codel, Item, Dequeued, dequeue}
-use Rattle.wf_law_runs.proofs.Windows.Sides.{Same, same_take, on_live, same_after_turn, same_after_pick, same_within_limit}
+use Rattle.wf_law_runs.proofs.Windows.Sides.{Same, same_take, on_live, same_after_turn, same_within_limit, same_picked}
 use Rattle.wf_frame.specs.declared.classes.Cause.TheVariants.{Left, Overlimit}
 use Rattle.wf_def_world.specs.World.{on_session, with_frames_finished, Mpdu, new_tid, session, rotation, World, Queue, no_frame, queue, tid_of, is_live, accepted_count, live_stations, codel_params, on_queue, with_queues, with_frame_finished, with_fate, on_tid, on_station, with_station}
 use Rattle.wf_def_world.specs.FlowQueues.{after_queues_left, after_queue_left, longest_queue, without_head, after_limit, is_listed_elsewhere, goes_over, overflow_queue, queue_for, when_listed, with_listed_queue, with_appended, after_put_in, queue_need, has_frames, with_queues_paid, len_given, taken_by_codel, taken_from_picked, picked_queue, taken_for_tid, is_at_limit}
-use Rattle.wf_law_runs.proofs.Queues.Shelves.{spot, shelves_with_station, shelves_on_session, shelves_sent, shelves_after_turn, shelves_after_pick, shelves_off_lists, Spot, Shelves, shelves, with_listed, with_queue, with_note, all_paid, shelves_with_queues, shelves_on_queue, shelves_finish, shelves_finish_all, shelves_pay_queues, shelves_with_frame}
+use Rattle.wf_law_runs.proofs.Queues.Shelves.{spot, shelves_with_station, shelves_on_session, shelves_sent, shelves_after_turn, shelves_off_lists, Spot, Shelves, shelves, with_listed, with_queue, with_note, all_paid, shelves_with_queues, shelves_on_queue, shelves_finish, shelves_finish_all, shelves_pay_queues, shelves_with_frame, shelves_picked}
 use Rattle.wf_law_rules.proofs.Lemmas.Numbers.{on_bool, lt_yes, lt_no, has_with, has_old, on_if, yes_lt, yes_eq, or_left, or_right, either, eq_yes}
 use Rattle.wf_frame.specs.declared.classes.Class.{Class}
+use Rattle.wf_frame.specs.declared.notes.Limits.{Limits}
 use Rattle.wf_def_agreement.specs.Session.{request_due}
 use Rattle.wf_frame.specs.Classes.{all_classes}
 use Rattle.wf_def_world.specs.CanSend.{is_ready}
-use Rattle.wf_def_world.specs.Exchanges.{Prepared, with_number, with_fresh, aggregate_of, longest_fitting, waiting_mpdus, most_frames, prepared_data, prepared_exchange, sending_tid, after_tid_turn, after_pick, picked_station, station_need, Aggregate}
+use Rattle.wf_def_world.specs.Exchanges.{Prepared, with_number, with_fresh, aggregate_of, longest_fitting, waiting_mpdus, most_frames, prepared_data, prepared_exchange, sending_tid, after_tid_turn, picked_station, station_need, Aggregate}
 use Rattle.wf_def_world.specs.Step.{pull_outcome_for, pull_outcome, waiting_ids, in_rising_order, after_tid_left, after_tids_left, without_listings, leave_outcome, join_outcome, enqueue_outcome}
 use Rattle.wf_law_runs.proofs.Windows.Opened.{eight, some_along, left_true, pick_ready}
 use Rattle.wf_law_runs.proofs.Deficits.Books.{each_upd, upd, upd_same, upd_other}
@@ -35,6 +36,7 @@ use Rattle.wf_def_lists.specs.Lists.{on}
 use Rattle.wf_law_runs.proofs.Frames.Fewer.{carries, queue_on, less_within_limit}
 use Rattle.wf_law_runs.proofs.Releases.Placed.{Placing, Any}
 use Rattle.wf_law_rules.proofs.Lemmas.Rotations.{pick_on, pick_keeps, pick_need, IsWinner, pick_winner}
+use Rattle.wf_law_runs.proofs.Common.Picked.{picked_world}
 use Rattle.wf_law_runs.proofs.Deficits.Bounds.{paid_least}
 use Rattle.wf_law_runs.proofs.Deficits.Kept.{added-on, unlisted-on}
 use Rattle.wf_law_runs.proofs.Deficits.MildStep.{lists-on, on_upto}
@@ -543,16 +545,16 @@ shelved_pulled_by (Some s) most w c live i =
     (shelved_prepared most (after_tid_turn w s c t) s t ((same_after_turn w s c t).live s ∙ live)
     (subst (IsShelved most) (sym (shelves_after_turn w s c t)) i))
 
-pub shelved_pulled : (most : ℕ) (w : World) (c : Class) → IsShelved most (shelves w) →
-    IsShelved most (shelves (pull_outcome w c).world)
+pub shelved_pulled : (most : ℕ) (w : World) (c : Class) (l : Limits) → IsShelved most (shelves w) →
+    IsShelved most (shelves (pull_outcome w c l).world)
 unfolding pull_outcome
-shelved_pulled most w c i =
-    let k : Same w (after_pick w c) = same_after_pick w c in
-    shelved_pulled_by (picked_station w c).winner most (after_pick w c) c
-    (some_along (λ s. is_ready w c s ≡ true) (λ s. is_live (after_pick w c) s ≡ true)
+shelved_pulled most w c l i =
+    let k : Same w (picked_world w c l) = same_picked w c l in
+    shelved_pulled_by (picked_station w c).winner most (picked_world w c l) c
+    (some_along (λ s. is_ready w c s ≡ true) (λ s. is_live (picked_world w c l) s ≡ true)
     (picked_station w c).winner (λ s h. k.live s ∙ left_true (is_live w s) _ h)
     (pick_ready (station_need w c) (is_ready w c) (rotation w c)))
-    (subst (IsShelved most) (sym (shelves_after_pick w c)) i)
+    (subst (IsShelved most) (sym (shelves_picked w c l)) i)
 
 -- ---- a station leaves
 

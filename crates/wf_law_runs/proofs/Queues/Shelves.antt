@@ -6,6 +6,7 @@ use Rattle.std.proofs.lemmas.Int.{ints}
 use Rattle.std.proofs.lemmas.Bool.{cases_eq}
 use Rattle.wf_frame.specs.declared.settings.Config.{Config}
 use Rattle.wf_frame.specs.declared.classes.Class.{Class}
+use Rattle.wf_frame.specs.declared.notes.Limits.{Limits}
 use Rattle.wf_frame.specs.declared.classes.Fate.{Fate}
 use Rattle.wf_frame.specs.declared.notes.Note.{Note}
 use Rattle.wf_def_lists.specs.Table.{at, put, change}
@@ -20,6 +21,7 @@ use Rattle.wf_def_world.specs.Exchanges.{with_station_paid, with_stations_paid, 
 use Rattle.wf_def_world.specs.Step.{Outcome, with_frame, send_outcome, arrive_outcome, answer_outcome, done_outcome, outcome_where_open, reap_outcome, without_listings}
 use Rattle.wf_def_lists.specs.Lists.{on}
 use Rattle.wf_law_rules.proofs.Lemmas.Counts.{on-nil, on-cons_same, on-cons_other}
+use Rattle.wf_law_runs.proofs.Common.Picked.{picked_world}
 use Rattle.wf_law_runs.proofs.Deficits.Books.{upd, upd_same, upd_other, upd_idle, put_upd}
 
 -- Whether a station is live, and how often each of its TIDs lists each queue.
@@ -242,6 +244,9 @@ shelves_pay_stations (s ∷ ss) w c quanta = shelves_pay_stations ss _ c quanta 
 pub shelves_after_pick : (w : World) (c : Class) → shelves (after_pick w c) ≡ shelves w
 unfolding after_pick with_rotation
 shelves_after_pick w c = shelves_pay_stations _ w c _
+
+pub shelves_picked : (w : World) (c : Class) (l : Limits) → shelves (picked_world w c l) ≡ shelves w
+shelves_picked w c l = shelves_after_pick w c
 
 pub shelves_after_turn : (w : World) (s : ℕ) (c : Class) (t : ℕ) →
     shelves (after_tid_turn w s c t) ≡ shelves w

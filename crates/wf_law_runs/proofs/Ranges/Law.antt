@@ -36,6 +36,7 @@ range_law config h range m =
             weight = x.weight;
             exponent = x.exponent;
             rate = x.rate;
+            ampdu = x.ampdu;
             credit = x.credit;
             window = λ t below. (k.some s t live below, k.size s t);
             both = λ t. (a.agreed s t).size;

@@ -1,11 +1,12 @@
--- Proves that the weight, rate, exponent, sleep and credit of each live station stay in their ranges, in
--- every world of a run. By cases of the call.
+-- Proves that the weight, rate, exponent, stated length of aggregates, sleep and credit of each live station
+-- stay in their ranges, in every world of a run. By cases of the call.
 use Rattle.std.proofs.Common.{◌≡◌, refl, sym, ◌∙◌, ap, ℕ, zero, suc, ◌-◌, ◌≤◌, ◌==◌, not, nat_le, nat_lt, Bool, true, false, if◌then◌else◌, List, [], ◌∷◌, length, Option, Some, None, option_map, unwrap_or, IfSome}
 use Rattle.std.proofs.lemmas.Bool.{not-false}
 use Rattle.wf_frame.specs.declared.settings.Config.{Config}
 use Rattle.wf_frame.specs.declared.classes.Class.{Class}
 use Rattle.wf_frame.specs.declared.classes.Fate.{Fate}
-use Rattle.wf_frame.specs.declared.notes.Ask.TheVariants.{Join, Leave, Rate, Tick, Pull, Arrive, Answer, Done, Sleep, Wake, Poll, Rx, Reap}
+use Rattle.wf_frame.specs.declared.notes.Ask.TheVariants.{Join, Leave, Rate, Tick, Pull, Arrive, Answer, Done, Sleep, Wake, Poll, Rx, Reap, Ampdu, Stop, Start}
+use Rattle.wf_frame.specs.declared.notes.Limits.{Limits}
 use Rattle.wf_frame.specs.declared.notes.Note.{Note}
 use Rattle.wf_frame.specs.declared.notes.Note.TheVariants.{Enqueue, Asked}
 use Rattle.wf_frame.specs.declared.notes.Refusal.{Refusal}
@@ -16,45 +17,53 @@ use Rattle.wf_def_air.specs.Airtime.{Rate as Airtime_rate, IsRate}
 use Rattle.wf_def_codel.specs.Codel.{Item}
 use Rattle.wf_def_rotation.specs.Rotation.{in_order}
 use Rattle.wf_def_agreement.specs.Session.{Session, request_due}
-use Rattle.wf_def_lists.specs.Bounds.{greatest_exponent, greatest_weight}
+use Rattle.wf_def_lists.specs.Bounds.{greatest_exponent, greatest_weight, least_ampdu, greatest_ampdu}
 use Rattle.wf_def_world.specs.World.{World, Station, Share, Tid, Exchange, Mpdu, Content, Frames, Request, no_station, station, session, queue, rotation, exchange, with_station, on_station, on_tid, on_session, on_receiver, with_queues, on_share, on_queue, with_rotation, with_fate, with_frame_finished, with_frames_finished, with_exchange, without_exchange, opening}
 use Rattle.wf_def_world.specs.FlowQueues.{is_at_limit, without_head, after_limit, longest_queue, with_listed_queue, with_appended, after_put_in, with_queues_paid, taken_by_codel, taken_from_picked, taken_for_tid, after_queue_left, after_queues_left}
 use Rattle.wf_def_world.specs.CanSend.{with_listing_in, with_listings_in, with_listings_of, can_give}
 use Rattle.wf_def_world.specs.Exchanges.{picked_station, most_frames, waiting_mpdus, longest_fitting, Aggregate, Prepared, with_station_paid, with_stations_paid, after_pick, after_tid_turn, with_number, with_fresh, aggregate_of, prepared_data, prepared_exchange, without_credit, with_exchange_opened, after_charge, with_failed_finished, with_settled, with_all_settled, after_done}
 use Rattle.wf_def_world.specs.Refusals.{refusals, refusal, is_within}
-use Rattle.wf_def_world.specs.Step.{Outcome, join_outcome, after_tid_left, after_tids_left, without_listings, leave_outcome, rate_outcome, tick_outcome, with_frame, enqueue_outcome, send_outcome, pull_outcome_for, pull_outcome, arrive_outcome, answer_outcome, done_outcome, outcome_where_open, sleep_outcome, wake_outcome, poll_outcome, rx_outcome, reap_outcome, concerned_station, outcome_of, after_refusal, judged_outcome, step}
+use Rattle.wf_def_world.specs.Step.{Outcome, join_outcome, after_tid_left, after_tids_left, without_listings, leave_outcome, rate_outcome, ampdu_outcome, tick_outcome, with_frame, enqueue_outcome, send_outcome, pull_outcome_for, pull_outcome, arrive_outcome, answer_outcome, done_outcome, outcome_where_open, sleep_outcome, wake_outcome, poll_outcome, rx_outcome, reap_outcome, concerned_station, outcome_of, after_refusal, judged_outcome, step}
 use Rattle.wf_def_world.specs.Run.{Entry, world_after}
 use Rattle.wf_law_rules.proofs.Lemmas.Numbers.{both, le_yes, lt_no}
 use Rattle.wf_law_rules.proofs.Lemmas.Tables.{each_put}
 use Rattle.wf_law_runs.proofs.Common.Refused.{after_idle}
+use Rattle.wf_law_runs.proofs.Common.Picked.{picked_world}
 use Rattle.wf_law_runs.proofs.Windows.Opened.{NoRow, no_row}
 
 -- The values of a station except its shares and TIDs.
-record Trait : Type 0 where
-  weight : ℕ
-  rate : Airtime_rate
-  exponent : ℕ
-  asleep : Bool
-  credit : Option Class
+pub record Trait : Type 0 where
+  pub weight : ℕ
+  pub rate : Airtime_rate
+  pub exponent : ℕ
+  pub ampdu : Option ℕ
+  pub asleep : Bool
+  pub credit : Option Class
 
-abbrev trait : Station → Trait
+abbrev pub trait : Station → Trait
 trait x = record {
   weight = x.weight;
   rate = x.rate;
   exponent = x.exponent;
+  ampdu = x.ampdu;
   asleep = x.asleep;
   credit =
       x.credit;
 }
 
-record IsTrait (z : Trait) : Type 0 where
-  weight : (1 ≤ z.weight) × (z.weight ≤ 16)
-  rate : IsRate z.rate
-  exponent : z.exponent ≤ 3
-  credit : IfSome z.credit (λ _. z.asleep ≡ true)
+-- A stated length of aggregates is in its range.
+abbrev pub IsStated : ℕ → Type 0
+IsStated n = (least_ampdu ≤ n) × (n ≤ greatest_ampdu)
+
+pub record IsTrait (z : Trait) : Type 0 where
+  pub weight : (1 ≤ z.weight) × (z.weight ≤ 16)
+  pub rate : IsRate z.rate
+  pub exponent : z.exponent ≤ 3
+  pub ampdu : IfSome z.ampdu IsStated
+  pub credit : IfSome z.credit (λ _. z.asleep ≡ true)
 
 -- The values of each live station are in their ranges.
-abbrev Traits : World → Type 0
+abbrev pub Traits : World → Type 0
 Traits w = (s : ℕ) → IfSome (at None w.stations s) (λ x. IsTrait (trait x))
 
 -- ---- stations
@@ -192,7 +201,13 @@ kept_prepared w s t h = prepared_if (request_due (session w s t)) _ _ h
 
 -- A credit is spent.
 no_credit : (z : Trait) → IsTrait z → IsTrait (record z { credit = None })
-no_credit z k = record { weight = k.weight; rate = k.rate; exponent = k.exponent; credit = tt }
+no_credit z k = record {
+  weight = k.weight;
+  rate = k.rate;
+  exponent = k.exponent;
+  ampdu = k.ampdu;
+  credit = tt;
+}
 
 kept_sent : (s t : ℕ) (c : Class) (p : Prepared) → Traits p.world → Traits (send_outcome s t c p).world
 unfolding send_outcome without_credit with_exchange_opened
@@ -203,9 +218,10 @@ unfolding pull_outcome_for after_tid_turn
 kept_pulled_by None w c h = h
 kept_pulled_by (Some s) w c h = kept_sent s _ c _ (kept_prepared _ s _ (kept_share w s c _ h))
 
-kept_pulled : (w : World) (c : Class) → Traits w → Traits (pull_outcome w c).world
+kept_pulled : (w : World) (c : Class) (l : Limits) → Traits w → Traits (pull_outcome w c l).world
 unfolding pull_outcome
-kept_pulled w c h = kept_pulled_by (picked_station w c).winner (after_pick w c) c (kept_after_pick w c h)
+kept_pulled w c l h = kept_pulled_by (picked_station w c).winner (picked_world w c l) c
+    (kept_after_pick w c h)
 
 -- ---- exchanges
 
@@ -278,6 +294,7 @@ kept_joined w s window start exponent weight short some h =
       weight = (le_yes 1 weight range.0, le_yes weight 16 range.1);
       rate = refl;
       exponent = lt_no 3 exponent short;
+      ampdu = tt;
       credit = tt;
     }) h
 
@@ -291,7 +308,25 @@ unfolding poll_outcome
 kept_credited w s sleeps h = set_station w s _ (λ x e k.
     let asleep : x.asleep ≡ true = ap (λ (o : Option Station). (unwrap_or o no_station).asleep) (sym e)
     ∙ not-false _ sleeps in
-    record { weight = k.weight; rate = k.rate; exponent = k.exponent; credit = asleep }) h
+    record {
+      weight = k.weight;
+      rate = k.rate;
+      exponent = k.exponent;
+      ampdu = k.ampdu;
+      credit = asleep;
+    }) h
+
+kept_stated : (w : World) (s octets : ℕ) → not (is_within least_ampdu greatest_ampdu octets) ≡ false →
+    Traits w → Traits (ampdu_outcome w s octets).world
+kept_stated w s octets within h =
+    let range = both (nat_le least_ampdu octets) (nat_le octets greatest_ampdu) (not-false _ within) in
+    set_station w s _ (λ x e k. record {
+      weight = k.weight;
+      rate = k.rate;
+      exponent = k.exponent;
+      ampdu = (le_yes least_ampdu octets range.0, le_yes octets greatest_ampdu range.1);
+      credit = k.credit;
+    }) h
 
 -- ---- the step
 
@@ -306,10 +341,11 @@ kept_done (Asked (Rate s rate)) w e h =
       weight = k.weight;
       rate = not-false _ e.1.0;
       exponent = k.exponent;
+      ampdu = k.ampdu;
       credit = k.credit;
     }) h
 kept_done (Asked (Tick by)) w e h = h
-kept_done (Asked (Pull c)) w e h = kept_pulled w c h
+kept_done (Asked (Pull c l)) w e h = kept_pulled w c l h
 kept_done (Asked (Arrive x n)) w e h = kept_open (exchange w x) w _ (λ y. kept_arrived w y n h) h
 kept_done (Asked (Answer x)) w e h = kept_open (exchange w x) w _ (λ y. kept_answered w y h) h
 kept_done (Asked (Done x heard air)) w e h = kept_open (exchange w x) w _ (λ y. kept_ended air w y heard h) h
@@ -318,18 +354,28 @@ kept_done (Asked (Sleep s)) w e h = set_station w s _
       weight = k.weight;
       rate = k.rate;
       exponent = k.exponent;
+      ampdu = k.ampdu;
       credit =
           any_credit x.credit;
     }) h
 kept_done (Asked (Wake s)) w e h = set_station w s _
-    (λ x _ k. record { weight = k.weight; rate = k.rate; exponent = k.exponent; credit = tt }) h
+    (λ x _ k. record {
+      weight = k.weight;
+      rate = k.rate;
+      exponent = k.exponent;
+      ampdu = k.ampdu;
+      credit = tt;
+    }) h
 kept_done (Asked (Poll s)) w e h = kept_credited w s e.1.1.0 h
 kept_done (Asked (Rx s c air)) w e h = kept_share w s c _ h
 kept_done (Asked Reap) w e h = kept_reaped w.finished w h
+kept_done (Asked (Ampdu s octets)) w e h = kept_stated w s octets e.1.0 h
+kept_done (Asked (Stop s)) w e h = set_station w s _ (λ x _ k. k) h
+kept_done (Asked (Start s)) w e h = set_station w s _ (λ x _ k. k) h
 
 kept_refused : (note : Note) (r : Refusal) (w : World) → Traits w → Traits (after_refusal w note r)
 unfolding after_refusal
-kept_refused (Asked (Pull c)) Idle w h = after_idle Traits w c h (kept_after_pick w c h)
+kept_refused (Asked (Pull c l)) Idle w h = after_idle Traits w c h (kept_after_pick w c h)
 kept_refused _ _ w h = h
 
 kept_listed_in_all : (cs : List Class) (w : World) (s : ℕ) → Traits w → Traits (with_listings_in w s cs)
@@ -349,27 +395,47 @@ kept_answer (Some r) w note e h = kept_refused note r w h
 kept_answer None w note e h = kept_listed (concerned_station w note) (outcome_of w note).world
     (kept_done note w (no_row (refusals w note) e) h)
 
-kept_step : (w : World) (note : Note) → Traits w → Traits (step w note).world
+pub traits_step : (w : World) (note : Note) → Traits w → Traits (step w note).world
 unfolding step
-kept_step w note h = kept_answer (refusal w note) w note refl h
+traits_step w note h = kept_answer (refusal w note) w note refl h
 
 kept_run : (h : List Entry) (w : World) → Traits w → Traits (world_after w h)
 unfolding world_after
 kept_run [] w k = k
-kept_run (e ∷ es) w k = kept_run es _ (kept_step w e.1 k)
+kept_run (e ∷ es) w k = kept_run es _ (traits_step w e.1 k)
+
+pub traits : (config : Config) (h : List Entry) → Traits (world_after (opening config) h)
+traits config h = kept_run h (opening config) (λ s. tt)
 
 -- The values of a live station are in their ranges.
 pub record HasTraits (x : Station) : Type 0 where
   pub weight : (1 ≤ x.weight) × (x.weight ≤ 16)
   pub rate : IsRate x.rate
   pub exponent : x.exponent ≤ 3
+  pub ampdu : IfSome x.ampdu IsStated
   pub credit : IfSome x.credit (λ _. x.asleep ≡ true)
 
 pub has_traits : (config : Config) (h : List Entry) (s : ℕ) →
     IfSome (at None (world_after (opening config) h).stations s) HasTraits
 has_traits config h s = go (at None (world_after (opening config) h).stations s)
-    (kept_run h (opening config) (λ s. tt) s)
+    (traits config h s)
   where
     go : (o : Option Station) → IfSome o (λ x. IsTrait (trait x)) → IfSome o HasTraits
     go None k = tt
-    go (Some x) k = record { weight = k.weight; rate = k.rate; exponent = k.exponent; credit = k.credit }
+    go (Some x) k = record {
+      weight = k.weight;
+      rate = k.rate;
+      exponent = k.exponent;
+      ampdu = k.ampdu;
+      credit = k.credit;
+    }
+
+-- The rate of a station exists, and the longest aggregate that was stated for it takes one frame.
+pub few_station : (o : Option Station) → IfSome o (λ x. IsTrait (trait x)) →
+    IsRate (unwrap_or o no_station).rate × IfSome (unwrap_or o no_station).ampdu (λ n. least_ampdu ≤ n)
+few_station None k = (refl, tt)
+few_station (Some x) k = (k.rate, go x.ampdu k.ampdu)
+  where
+    go : (o : Option ℕ) → IfSome o IsStated → IfSome o (λ n. least_ampdu ≤ n)
+    go None h = tt
+    go (Some n) h = h.0

@@ -1,17 +1,19 @@
 -- Proves which changes of a world keep the receivers and the ids of the assigned numbers.
 use Rattle.std.proofs.Common.{◌≡◌, refl, ap, sym, ◌∙◌, subst, arith, ℕ, zero, suc, ◌-◌, ◌<◌, ◌≤◌, Bool, true, false, if◌then◌else◌, not, ◌==◌, List, [], ◌∷◌, length, Option, Some, None, is_some}
 use Rattle.wf_frame.specs.declared.classes.Class.{Class}
+use Rattle.wf_frame.specs.declared.notes.Limits.{Limits}
 use Rattle.wf_def_lists.specs.Table.{at, put}
 use Rattle.wf_def_codel.specs.Codel.{Item}
 use Rattle.wf_def_agreement.specs.Session.{request_due, with_state, Session, Slot, State, is_failed, slot_after_miss, slot, on_slot, with_number_given, after_miss, next_number, no_slot}
 use Rattle.wf_def_world.specs.World.{receiver, World, Station, Exchange, Mpdu, Content, Frames, Request, session, is_live, on_session, with_exchange, without_exchange}
 use Rattle.wf_def_world.specs.FlowQueues.{taken_for_tid}
 use Rattle.wf_def_world.specs.CanSend.{can_give}
-use Rattle.wf_def_world.specs.Exchanges.{most_frames, picked_station, sending_tid, with_heard_start, Aggregate, Prepared, after_pick, with_fresh, aggregate_of, with_number, with_flying, waiting_mpdus, longest_fitting, prepared_data, prepared_exchange, with_exchange_opened, with_failed_finished, with_settled, with_all_settled, after_done}
+use Rattle.wf_def_world.specs.Exchanges.{most_frames, picked_station, sending_tid, with_heard_start, Aggregate, Prepared, with_fresh, aggregate_of, with_number, with_flying, waiting_mpdus, longest_fitting, prepared_data, prepared_exchange, with_exchange_opened, with_failed_finished, with_settled, with_all_settled, after_done}
 use Rattle.wf_def_world.specs.Step.{with_frame, enqueue_outcome, send_outcome, pull_outcome_for, pull_outcome, answer_outcome, done_outcome, reap_outcome}
 use Rattle.wf_law_rules.proofs.Lemmas.Tables.{each_put}
+use Rattle.wf_law_runs.proofs.Common.Picked.{picked_world}
 use Rattle.wf_law_runs.proofs.Sessions.Flights.{next-give}
-use Rattle.wf_law_runs.proofs.Windows.Sides.{Side, sides_of, Same, each_side_on, on_live, same, then_same, same_finish, same_after_pick, same_after_turn, same_spent, same_within_limit, same_put_in, same_take, same_charged}
+use Rattle.wf_law_runs.proofs.Windows.Sides.{Side, sides_of, Same, each_side_on, on_live, same, then_same, same_finish, same_after_turn, same_spent, same_within_limit, same_put_in, same_take, same_charged, same_picked}
 use Rattle.wf_law_runs.proofs.Windows.Agreement.{slot_give}
 
 -- The session's assigned numbers keep their ids.
@@ -170,10 +172,10 @@ keep_pulled_by None w c = kept_here w
 keep_pulled_by (Some s) w c = keep_sent w s _ c _
     (then_keep w _ _ (kept_same w _ (same_after_turn w s c (sending_tid w s c))) (keep_prepared _ s _))
 
-pub keep_pulled : (w : World) (c : Class) → Kept w (pull_outcome w c).world
+pub keep_pulled : (w : World) (c : Class) (l : Limits) → Kept w (pull_outcome w c l).world
 unfolding pull_outcome
-keep_pulled w c = then_keep w (after_pick w c) _ (kept_same w _ (same_after_pick w c))
-    (keep_pulled_by (picked_station w c).winner (after_pick w c) c)
+keep_pulled w c l = then_keep w (picked_world w c l) _ (kept_same w _ (same_picked w c l))
+    (keep_pulled_by (picked_station w c).winner (picked_world w c l) c)
 
 pub keep_settled : (b : Bool) (w : World) (s t : ℕ) (m : Mpdu) → Kept w (with_settled w s t b m)
 unfolding with_settled with_failed_finished

@@ -9,8 +9,8 @@ use Rattle.wf_def_agreement.specs.Receiver.{Receiver, with_arrived, with_start, 
 use Rattle.wf_def_agreement.specs.Session.{Session, Slot, slot, with_number_given, next_number, no_slot}
 use Rattle.wf_def_world.specs.World.{receiver, World, Station, Tid, Frame, no_frame, Exchange, Content, Frames, Request, new_tid, session, exchange, with_station, on_tid, on_session, on_receiver, on_queue, with_exchange, opening, new_queue, queue, accepted_count}
 use Rattle.wf_def_world.specs.FlowQueues.{after_limit, with_appended, after_put_in, queue_for}
-use Rattle.wf_def_world.specs.Exchanges.{transmissions, no_mpdu, picked_station, after_arrival, with_heard_start, mpdus_of, after_pick, ids_of}
-use Rattle.wf_frame.specs.declared.notes.Ask.TheVariants.{Join, Leave, Rate, Tick, Pull, Arrive, Answer, Done, Sleep, Wake, Poll, Rx, Reap}
+use Rattle.wf_def_world.specs.Exchanges.{transmissions, no_mpdu, picked_station, after_arrival, with_heard_start, mpdus_of, ids_of}
+use Rattle.wf_frame.specs.declared.notes.Ask.TheVariants.{Join, Leave, Rate, Tick, Pull, Arrive, Answer, Done, Sleep, Wake, Poll, Rx, Reap, Ampdu, Stop, Start}
 use Rattle.wf_frame.specs.declared.notes.Note.{Note}
 use Rattle.wf_frame.specs.declared.notes.Note.TheVariants.{Enqueue, Asked}
 use Rattle.wf_def_world.specs.Step.{Outcome, join_outcome, after_tid_left, after_tids_left, without_listings, leave_outcome, rate_outcome, tick_outcome, with_frame, enqueue_outcome, send_outcome, pull_outcome_for, pull_outcome, answer_outcome, done_outcome, outcome_where_open, sleep_outcome, wake_outcome, poll_outcome, rx_outcome, reap_outcome, outcome_of}
@@ -26,6 +26,7 @@ use Rattle.wf_frame.specs.declared.classes.Fate.TheVariants.{Held}
 use Rattle.wf_law_runs.proofs.Releases.Passing.{release_rises}
 use Rattle.wf_def_lists.specs.Lists.{IsOnce}
 use Rattle.wf_law_runs.specs.Releases.{named_by}
+use Rattle.wf_law_runs.proofs.Common.Picked.{picked_world}
 use Rattle.wf_law_runs.proofs.Releases.Kept.{KeptSession}
 use Rattle.wf_law_runs.proofs.Windows.Agreed.{IsLawful, IsOpenIn, rises_at}
 use Rattle.wf_law_runs.proofs.Releases.Released.{side_with_station, side_own_station}
@@ -620,11 +621,14 @@ named_done (Asked (Join s window start exponent weight)) w = inl refl
 named_done (Asked (Leave s)) w = inl refl
 named_done (Asked (Rate s rate)) w = inl refl
 named_done (Asked (Tick by)) w = inl refl
-named_done (Asked (Pull c)) w = inl (named_pulled_by (picked_station w c).winner (after_pick w c) c)
+named_done (Asked (Pull c l)) w = inl (named_pulled_by (picked_station w c).winner (picked_world w c l) c)
 named_done (Asked (Arrive e n)) w = inr (e, n, refl)
 named_done (Asked (Answer e)) w = inl (named_open (exchange w e) w _ (λ x. refl))
 named_done (Asked (Done e heard air)) w = inl (named_open (exchange w e) w _ (λ x. refl))
 named_done (Asked (Sleep s)) w = inl refl
+named_done (Asked (Ampdu s octets)) w = inl refl
+named_done (Asked (Stop s)) w = inl refl
+named_done (Asked (Start s)) w = inl refl
 named_done (Asked (Wake s)) w = inl refl
 named_done (Asked (Poll s)) w = inl refl
 named_done (Asked (Rx s c air)) w = inl refl

@@ -9,14 +9,14 @@ use Rattle.wf_def_world.specs.World.{receiver, World, Station, Exchange, Content
 use Rattle.wf_frame.specs.Classes.{all_classes}
 use Rattle.wf_def_world.specs.CanSend.{with_listings_of}
 use Rattle.wf_def_world.specs.Exchanges.{transmissions, no_mpdu, after_arrival, mpdus_of, ids_of}
-use Rattle.wf_frame.specs.declared.notes.Ask.TheVariants.{Join, Leave, Rate, Tick, Pull, Arrive, Answer, Done, Sleep, Wake, Poll, Rx, Reap}
+use Rattle.wf_frame.specs.declared.notes.Ask.TheVariants.{Join, Leave, Rate, Tick, Pull, Arrive, Answer, Done, Sleep, Wake, Poll, Rx, Reap, Ampdu, Stop, Start}
 use Rattle.wf_frame.specs.declared.notes.AskedRate.{AskedRate}
 use Rattle.wf_frame.specs.declared.notes.Note.{Note}
 use Rattle.wf_frame.specs.declared.notes.Note.TheVariants.{Enqueue, Asked}
 use Rattle.wf_frame.specs.declared.notes.Refusal.{Refusal}
 use Rattle.wf_frame.specs.declared.notes.Refusal.TheVariants.{Idle}
 use Rattle.wf_def_world.specs.Refusals.{refusals, refusal}
-use Rattle.wf_def_world.specs.Step.{Outcome, join_outcome, after_tids_left, without_listings, leave_outcome, rate_outcome, tick_outcome, enqueue_outcome, pull_outcome, arrive_outcome, answer_outcome, done_outcome, outcome_where_open, sleep_outcome, wake_outcome, poll_outcome, rx_outcome, reap_outcome, outcome_of, after_refusal, judged_outcome, step, concerned_station}
+use Rattle.wf_def_world.specs.Step.{Outcome, join_outcome, after_tids_left, without_listings, leave_outcome, rate_outcome, tick_outcome, enqueue_outcome, pull_outcome, arrive_outcome, answer_outcome, done_outcome, outcome_where_open, sleep_outcome, wake_outcome, poll_outcome, rx_outcome, reap_outcome, outcome_of, after_refusal, judged_outcome, step, concerned_station, ampdu_outcome, stop_outcome, start_outcome}
 use Rattle.wf_def_world.specs.Run.{Entry, world_after}
 use Rattle.wf_law_rules.proofs.Lemmas.Tables.{at_put_same, at_put_other}
 use Rattle.wf_law_rules.proofs.Lemmas.Numbers.{Climbs, on_bool, on_if, lt_yes, lt_no, eq_yes, eq_no, yes_eq, either, both, and_true, or_left, or_right, has_old, climbs_with, greatest_least, greatest_has, greatest_within}
@@ -238,6 +238,8 @@ passed_joined w i window start exponent weight s t l h =
       weight = weight;
       rate = lowest_rate;
       exponent = exponent;
+      ampdu = None;
+      stopped = false;
       asleep = false;
       credit = None;
       shares = new_share (w.config.quantum * weight) ∷ new_share (w.config.quantum * weight)
@@ -304,6 +306,15 @@ pub keep_slept : (w : World) (a : ℕ) → Kept w (sleep_outcome w a).world
 unfolding sleep_outcome
 keep_slept w a = keep_station w a _ (λ x t. refl)
 
+pub keep_stated : (w : World) (a octets : ℕ) → Kept w (ampdu_outcome w a octets).world
+keep_stated w a octets = keep_station w a _ (λ x t. refl)
+
+pub keep_stopped : (w : World) (a : ℕ) → Kept w (stop_outcome w a).world
+keep_stopped w a = keep_station w a _ (λ x t. refl)
+
+pub keep_started : (w : World) (a : ℕ) → Kept w (start_outcome w a).world
+keep_started w a = keep_station w a _ (λ x t. refl)
+
 pub keep_woken : (w : World) (a : ℕ) → Kept w (wake_outcome w a).world
 unfolding wake_outcome
 keep_woken w a = keep_station w a _ (λ x t. refl)
@@ -342,8 +353,8 @@ passed_done (Asked (Rate a rate)) w i s t l e h =
 passed_done (Asked (Tick by)) w i s t l e h =
     passed_quiet w (Asked (Tick by)) (tick_outcome w by) s t l refl refl
     (passed_kept w _ s t l i (keep_tick w by) h)
-passed_done (Asked (Pull c)) w i s t l e h = passed_quiet w (Asked (Pull c))
-    (pull_outcome w c) s t l refl refl (passed_kept w _ s t l i (keep_pulled w c) h)
+passed_done (Asked (Pull c limits)) w i s t l e h = passed_quiet w (Asked (Pull c limits))
+    (pull_outcome w c limits) s t l refl refl (passed_kept w _ s t l i (keep_pulled w c limits) h)
 passed_done (Asked (Arrive x n)) w i s t l r h =
     passed_arrive (exchange w x) w i x n s t l refl (opened_in w i x)
     (if_on (exchange w x) (λ y. nat_le (transmissions y.content) n) r.1.0) h
@@ -357,6 +368,15 @@ passed_done (Asked (Done x heard air)) w i s t l e h =
 passed_done (Asked (Sleep a)) w i s t l e h =
     passed_quiet w (Asked (Sleep a)) (sleep_outcome w a) s t l refl refl
     (passed_kept w _ s t l i (keep_slept w a) h)
+passed_done (Asked (Ampdu a octets)) w i s t l e h =
+    passed_quiet w (Asked (Ampdu a octets)) (ampdu_outcome w a octets) s t l refl refl
+    (passed_kept w _ s t l i (keep_stated w a octets) h)
+passed_done (Asked (Stop a)) w i s t l e h =
+    passed_quiet w (Asked (Stop a)) (stop_outcome w a) s t l refl refl
+    (passed_kept w _ s t l i (keep_stopped w a) h)
+passed_done (Asked (Start a)) w i s t l e h =
+    passed_quiet w (Asked (Start a)) (start_outcome w a) s t l refl refl
+    (passed_kept w _ s t l i (keep_started w a) h)
 passed_done (Asked (Wake a)) w i s t l e h = passed_quiet w (Asked (Wake a))
     (wake_outcome w a) s t l refl refl (passed_kept w _ s t l i (keep_woken w a) h)
 passed_done (Asked (Poll a)) w i s t l e h = passed_quiet w (Asked (Poll a))
@@ -371,7 +391,7 @@ passed_done (Asked Reap) w i s t l e h = passed_quiet w (Asked Reap)
 
 pub refused_kept : (note : Note) (r : Refusal) (w : World) → Kept w (after_refusal w note r)
 unfolding after_refusal
-refused_kept (Asked (Pull c)) Idle w = after_idle (Kept w) w c (kept_same w w (same w))
+refused_kept (Asked (Pull c l)) Idle w = after_idle (Kept w) w c (kept_same w w (same w))
     (kept_same w _ (same_after_pick w c))
 refused_kept _ _ w = kept_same w w (same w)
 

@@ -12,8 +12,9 @@ use Rattle.wf_def_world.specs.World.{receiver, World, Station, Exchange, Mpdu, C
 use Rattle.wf_frame.specs.Classes.{all_classes}
 use Rattle.wf_def_world.specs.FlowQueues.{taken_for_tid}
 use Rattle.wf_def_world.specs.CanSend.{is_ready, can_give}
-use Rattle.wf_def_world.specs.Exchanges.{is_acked, transmissions, station_need, most_frames, picked_station, after_arrival, sending_tid, with_heard_start, Prepared, after_pick, after_tid_turn, with_fresh, aggregate_of, with_number, with_flying, waiting_mpdus, longest_fitting, prepared_data, prepared_exchange, with_exchange_opened, after_charge, with_failed_finished, with_settled, with_all_settled, after_done, ids_of, Aggregate}
-use Rattle.wf_frame.specs.declared.notes.Ask.TheVariants.{Join, Leave, Rate, Tick, Pull, Arrive, Answer, Done, Sleep, Wake, Poll, Rx, Reap}
+use Rattle.wf_def_world.specs.Exchanges.{is_acked, transmissions, station_need, most_frames, picked_station, after_arrival, sending_tid, with_heard_start, Prepared, after_tid_turn, with_fresh, aggregate_of, with_number, with_flying, waiting_mpdus, longest_fitting, prepared_data, prepared_exchange, with_exchange_opened, after_charge, with_failed_finished, with_settled, with_all_settled, after_done, ids_of, Aggregate}
+use Rattle.wf_frame.specs.declared.notes.Ask.TheVariants.{Join, Leave, Rate, Tick, Pull, Arrive, Answer, Done, Sleep, Wake, Poll, Rx, Reap, Ampdu, Stop, Start}
+use Rattle.wf_frame.specs.declared.notes.Limits.{Limits}
 use Rattle.wf_frame.specs.declared.notes.Note.{Note}
 use Rattle.wf_frame.specs.declared.notes.Note.TheVariants.{Enqueue, Asked}
 use Rattle.wf_frame.specs.declared.notes.Refusal.{Refusal}
@@ -23,14 +24,15 @@ use Rattle.wf_def_world.specs.Step.{Outcome, join_outcome, leave_outcome, rate_o
 use Rattle.wf_law_runs.proofs.Common.Refused.{after_idle}
 use Rattle.wf_law_runs.proofs.Sessions.Starts.{length-change}
 use Rattle.wf_law_runs.proofs.Sessions.Flights.{flown}
-use Rattle.wf_law_runs.proofs.Windows.Sides.{side_of, side, sides_of, Same, then_same, same_on_station, same_on_share, same_finish, same_listed, same_after_pick, same_after_turn, same_spent, same_take, same_charged}
+use Rattle.wf_law_runs.proofs.Windows.Sides.{side_of, side, sides_of, Same, then_same, same_on_station, same_on_share, same_finish, same_listed, same_after_pick, same_after_turn, same_spent, same_take, same_charged, same_picked}
 use Rattle.wf_law_runs.proofs.Windows.Opened.{some_along, pick_ready, left_true, eight, NoRow, no_row}
 use Rattle.wf_frame.specs.declared.notes.ReplyNote.TheVariants.{Released, Refused}
 use Rattle.wf_law_runs.specs.Releases.{named_by}
+use Rattle.wf_law_runs.proofs.Common.Picked.{picked_world}
 use Rattle.wf_law_runs.proofs.Releases.Kept.{KeptSession, kept_on_slot, kept_fly, kept_heard}
 use Rattle.wf_law_runs.proofs.Windows.Agreed.{IsLawful, IsOpenIn, IsReady, IsEnding, IsFound, found, ready_filled, ending_settled, ending_of, lawful_same, same_left_tids, same_off_lists, if_on}
 use Rattle.wf_law_runs.proofs.Releases.Released.{side_taken, side_untaken, opened_in}
-use Rattle.wf_law_runs.proofs.Frames.Fewer.{Less, then_less, less_plain, less_on_station, less_on_share, less_finish, less_listed, less_after_pick, less_after_turn, less_spent, less_charged, less_take, IsTaken, given_take}
+use Rattle.wf_law_runs.proofs.Frames.Fewer.{Less, then_less, less_plain, less_on_station, less_on_share, less_finish, less_listed, less_after_pick, less_after_turn, less_spent, less_charged, less_take, IsTaken, given_take, less_picked}
 use Rattle.wf_law_runs.proofs.Releases.Placed.{Any, next-heard, Grows, grows_after, less_taken, IsBare, new_bare, less_left_tids, less_off_lists, any_some, named_done}
 
 module _ (P : List ℕ → World → Type 0) (Good : World → Type 0)
@@ -125,16 +127,16 @@ module _ (P : List ℕ → World → Type 0) (Good : World → Type 0)
       through_sent l s _ c _ (through_prepared l _ s _ (lawful_same _ _ k i) (k.live s ∙ live)
       (through_same l w _ k (less_after_turn Any w s c _) p))
 
-  through_pulled : (l : List ℕ) (w : World) (c : Class) → IsLawful w → P l w →
-      P l (pull_outcome w c).world
+  through_pulled : (l : List ℕ) (w : World) (c : Class) (limits : Limits) → IsLawful w → P l w →
+      P l (pull_outcome w c limits).world
   unfolding pull_outcome
-  through_pulled l w c i p =
-      let k : Same w (after_pick w c) = same_after_pick w c in
-      through_pulled_by (picked_station w c).winner l (after_pick w c) c
-      (some_along (λ s. is_ready w c s ≡ true) (λ s. is_live (after_pick w c) s ≡ true)
+  through_pulled l w c limits i p =
+      let k : Same w (picked_world w c limits) = same_picked w c limits in
+      through_pulled_by (picked_station w c).winner l (picked_world w c limits) c
+      (some_along (λ s. is_ready w c s ≡ true) (λ s. is_live (picked_world w c limits) s ≡ true)
       (picked_station w c).winner (λ s h. k.live s ∙ left_true (is_live w s) _ h)
       (pick_ready (station_need w c) (is_ready w c) (rotation w c))) (lawful_same _ _ k i)
-      (through_same l w _ k (less_after_pick Any w c) p)
+      (through_same l w _ k (less_picked Any w c limits) p)
 
   -- ---- the end of an exchange
 
@@ -278,7 +280,7 @@ module _ (P : List ℕ → World → Type 0) (Good : World → Type 0)
   through_call (Asked (Leave s)) l w i g e p r = through_gone l w s p
   through_call (Asked (Rate s rate)) l w i g e p r = through_on_station l w s _ (λ x t. refl) p
   through_call (Asked (Tick by)) l w i g e p r = plain l w _ (less_plain Any w _ refl refl) (λ s t. refl) p
-  through_call (Asked (Pull c)) l w i g e p r = through_pulled l w c i p
+  through_call (Asked (Pull c limits)) l w i g e p r = through_pulled l w c limits i p
   through_call (Asked (Arrive x n)) l w i g e p r =
       subst (λ (k : List ℕ). P k (outcome_where_open w (exchange w x) (λ y. arrive_outcome w y n)).world)
       (ap (λ (ids : List ℕ). l ++ ids) r ∙ append-nil l)
@@ -291,6 +293,9 @@ module _ (P : List ℕ → World → Type 0) (Good : World → Type 0)
       through_open (IsFound w i) (λ _. Unit {0}) (exchange w x) l w _ (found w i x)
       (λ y f. through_ended air l w i y heard f p) p
   through_call (Asked (Sleep s)) l w i g e p r = through_on_station l w s _ (λ x t. refl) p
+  through_call (Asked (Ampdu s octets)) l w i g e p r = through_on_station l w s _ (λ x t. refl) p
+  through_call (Asked (Stop s)) l w i g e p r = through_on_station l w s _ (λ x t. refl) p
+  through_call (Asked (Start s)) l w i g e p r = through_on_station l w s _ (λ x t. refl) p
   through_call (Asked (Wake s)) l w i g e p r = through_on_station l w s _ (λ x t. refl) p
   through_call (Asked (Poll s)) l w i g e p r = through_on_station l w s _ (λ x t. refl) p
   through_call (Asked (Rx s c air)) l w i g e p r =
@@ -317,7 +322,7 @@ module _ (P : List ℕ → World → Type 0) (Good : World → Type 0)
   through_refused : (note : Note) (r : Refusal) (l : List ℕ) (w : World) → P l w →
       P l (after_refusal w note r)
   unfolding after_refusal
-  through_refused (Asked (Pull c)) Idle l w p = after_idle (P l) w c p
+  through_refused (Asked (Pull c limits)) Idle l w p = after_idle (P l) w c p
       (through_same l w _ (same_after_pick w c) (less_after_pick Any w c) p)
   through_refused _ _ l w p = p
 

@@ -140,7 +140,7 @@ quantum_some w s k = product w.config.quantum (unwrap_or (at None w.stations s) 
 -- With the setting `pending`, a call that is refused changes nothing.
 refused_world : (note : Note) (r : Refusal) (w : World) → w.config.pending ≡ 1 → after_refusal w note r ≡ w
 unfolding after_refusal
-refused_world (Asked (Pull c)) Idle w counting = if_idle (λ v. v ≡ w) w c refl
+refused_world (Asked (Pull c l)) Idle w counting = if_idle (λ v. v ≡ w) w c refl
     (λ off. absurd (cc (eq-eqb w.config.pending 1 counting, off)))
 refused_world _ _ w counting = refl
 
@@ -167,7 +167,7 @@ keeps_rotations w i q =
     record {
       live = λ c s listed. some_live w s (k.live c s (on-lists (rotation w c) s listed));
       once = λ c. once_list (in_order (rotation w c)) (k.once c);
-      idle = λ c. idle_pull w c i.listed;
+      idle = λ c l. idle_pull w c i.listed;
       quanta = λ s. quantum_some w s k;
       octets = octets;
       refused = λ counting note r e. refused_step note r w counting e;

@@ -7,7 +7,8 @@ use Rattle.wf_frame.specs.declared.settings.Config.{Config}
 use Rattle.wf_frame.specs.declared.classes.Class.{Class}
 use Rattle.wf_frame.specs.declared.classes.Fate.TheVariants.{Dropped}
 use Rattle.wf_frame.specs.declared.classes.Cause.TheVariants.{Left, Overlimit}
-use Rattle.wf_frame.specs.declared.notes.Ask.TheVariants.{Join, Leave, Rate, Tick, Pull, Arrive, Answer, Done, Sleep, Wake, Poll, Rx, Reap}
+use Rattle.wf_frame.specs.declared.notes.Ask.TheVariants.{Join, Leave, Rate, Tick, Pull, Arrive, Answer, Done, Sleep, Wake, Poll, Rx, Reap, Ampdu, Stop, Start}
+use Rattle.wf_frame.specs.declared.notes.Limits.{Limits}
 use Rattle.wf_frame.specs.declared.notes.Note.{Note}
 use Rattle.wf_frame.specs.declared.notes.Note.TheVariants.{Enqueue, Asked}
 use Rattle.wf_frame.specs.declared.notes.Refusal.{Refusal}
@@ -35,17 +36,18 @@ use Rattle.wf_law_runs.proofs.Common.Refused.{after_idle}
 use Rattle.wf_law_runs.proofs.Deficits.Books.{upd, upd_same, upd_other, each_upd}
 use Rattle.wf_law_runs.proofs.Frames.Delivered.{Labelled, prepared_right, opened_on_receiver, opened_ended, filtered}
 use Rattle.wf_law_runs.specs.Releases.{named_by}
+use Rattle.wf_law_runs.proofs.Common.Picked.{picked_world}
 use Rattle.wf_law_runs.proofs.Frames.Fates.{Steady, steady_step, steady_first}
 use Rattle.wf_law_runs.proofs.Frames.Fewer.{carries, less_within_limit}
 use Rattle.wf_law_runs.proofs.Frames.Untouched.{untouched_put_in}
 use Rattle.wf_law_runs.proofs.Queues.Shelved.{each_append as items_append}
 use Rattle.wf_law_runs.proofs.Queues.ShelvedStep.{live_number, shelves_number, accepted_limit, accepted_put}
-use Rattle.wf_law_runs.proofs.Queues.Shelves.{Shelves, spot, with_note, shelves, shelves_with_station, shelves_hidden, shelves_on_session, shelves_on_receiver, shelves_on_share, shelves_with_queues, shelves_on_queue, shelves_finish, shelves_finish_all, shelves_with_frame, shelves_pay_queues, shelves_after_pick, shelves_after_turn, shelves_sent, shelves_ended, shelves_off_lists, shelves_listed}
+use Rattle.wf_law_runs.proofs.Queues.Shelves.{Shelves, spot, with_note, shelves, shelves_with_station, shelves_hidden, shelves_on_session, shelves_on_receiver, shelves_on_share, shelves_with_queues, shelves_on_queue, shelves_finish, shelves_finish_all, shelves_with_frame, shelves_pay_queues, shelves_after_pick, shelves_after_turn, shelves_sent, shelves_ended, shelves_off_lists, shelves_listed, shelves_picked}
 use Rattle.wf_law_runs.proofs.Releases.Placed.{Any}
 use Rattle.wf_law_runs.proofs.Sessions.Flights.{Rises}
 use Rattle.wf_law_runs.proofs.Windows.Agreed.{IsLawful, IsOpenIn, each_map_if, lawful_same, winner_ready, same_left_tids, same_off_lists}
 use Rattle.wf_law_runs.proofs.Windows.Opened.{Each, each_both, each_append, each_find, NoRow, no_row}
-use Rattle.wf_law_runs.proofs.Windows.Sides.{Same, side_of, then_same, same_on_station, same_on_share, same_with_queues, same_finish_all, same_listed, same_after_pick, same_after_turn, same_spent, same_within_limit, same_put_in, same_pay_queues, same_purge_queues, same_take}
+use Rattle.wf_law_runs.proofs.Windows.Sides.{Same, side_of, then_same, same_on_station, same_on_share, same_with_queues, same_finish_all, same_listed, same_after_pick, same_after_turn, same_spent, same_within_limit, same_put_in, same_pay_queues, same_purge_queues, same_take, same_picked}
 
 -- The frame has the length of its Enqueue. notes are the calls by id.
 abbrev pub IsMeasured : (ℕ → Note) → Item → Type 0
@@ -339,14 +341,14 @@ stocked_pulled_by most (Some s) w c ready l i =
     stocked_sent most s t c v (prepared_exchange v s t)
     (prepared_right v s t (lawful_same w v k l) live).opened (readied v s t live stocked.measured) stocked
 
-stocked_pulled : (most : ℕ) (w : World) (c : Class) → IsLawful w → IsStocked most w →
-    IsStocked most (pull_outcome w c).world
+stocked_pulled : (most : ℕ) (w : World) (c : Class) (limits : Limits) → IsLawful w → IsStocked most w →
+    IsStocked most (pull_outcome w c limits).world
 unfolding pull_outcome
-stocked_pulled most w c l i =
-    let k : Same w (after_pick w c) = same_after_pick w c in
-    stocked_pulled_by most (picked_station w c).winner (after_pick w c) c (winner_ready w c)
-    (lawful_same w (after_pick w c) k l) (stocked_same most w (after_pick w c)
-    (shelves_after_pick w c) k.opened i)
+stocked_pulled most w c limits l i =
+    let k : Same w (picked_world w c limits) = same_picked w c limits in
+    stocked_pulled_by most (picked_station w c).winner (picked_world w c limits) c (winner_ready w c limits)
+    (lawful_same w (picked_world w c limits) k l) (stocked_same most w (picked_world w c limits)
+    (shelves_picked w c limits) k.opened i)
 
 -- ---- a station leaves
 
@@ -655,7 +657,7 @@ stocked_done most (Asked (Rate s rate)) l w e a k i =
     stocked_on_station most w s _ (λ x. refl) (λ x t. refl) i
 stocked_done most (Asked (Tick by)) l w e a k i =
     record { short = i.short; measured = i.measured; lens = i.lens }
-stocked_done most (Asked (Pull c)) l w e a k i = stocked_pulled most w c k.lawful i
+stocked_done most (Asked (Pull c limits)) l w e a k i = stocked_pulled most w c limits k.lawful i
 stocked_done most (Asked (Arrive x n)) l w e a k i =
     stocked_open most (λ y. AreMeasured (shelves w).notes (mpdus_of y.content)) (exchange w x) w _
     (measured_open most w x i) (λ y b. stocked_arrived most w y n b i) i
@@ -666,6 +668,10 @@ stocked_done most (Asked (Done x heard air)) l w e a k i =
     stocked_open most (λ y. AreMeasured (shelves w).notes (mpdus_of y.content)) (exchange w x) w _
     (measured_open most w x i) (λ y _. stocked_ended air most w y heard i) i
 stocked_done most (Asked (Sleep s)) l w e a k i = stocked_on_station most w s _ (λ x. refl) (λ x t. refl) i
+stocked_done most (Asked (Ampdu s octets)) l w e a k i =
+    stocked_on_station most w s _ (λ x. refl) (λ x t. refl) i
+stocked_done most (Asked (Stop s)) l w e a k i = stocked_on_station most w s _ (λ x. refl) (λ x t. refl) i
+stocked_done most (Asked (Start s)) l w e a k i = stocked_on_station most w s _ (λ x. refl) (λ x t. refl) i
 stocked_done most (Asked (Wake s)) l w e a k i = stocked_on_station most w s _ (λ x. refl) (λ x t. refl) i
 stocked_done most (Asked (Poll s)) l w e a k i = stocked_on_station most w s _ (λ x. refl) (λ x t. refl) i
 stocked_done most (Asked (Rx s c air)) l w e a k i = stocked_on_share most w s c _ i
@@ -674,7 +680,7 @@ stocked_done most (Asked Reap) l w e a k i = stocked_reaped most w.finished w i
 stocked_refused : (most : ℕ) (note : Note) (r : Refusal) (w : World) → IsStocked most w →
     IsStocked most (after_refusal w note r)
 unfolding after_refusal
-stocked_refused most (Asked (Pull c)) Idle w i = after_idle (IsStocked most) w c i
+stocked_refused most (Asked (Pull c l)) Idle w i = after_idle (IsStocked most) w c i
     (stocked_same most w (after_pick w c) (shelves_after_pick w c) (same_after_pick w c).opened i)
 stocked_refused most _ _ w i = i
 

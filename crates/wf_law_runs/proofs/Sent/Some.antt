@@ -4,7 +4,8 @@ use Rattle.std.proofs.Common.{◌≡◌, refl, ap, sym, ◌∙◌, subst, arith,
 use Rattle.std.proofs.lemmas.List.{length-append}
 use Rattle.wf_frame.specs.declared.settings.Config.{Config}
 use Rattle.wf_frame.specs.declared.classes.Class.{Class}
-use Rattle.wf_frame.specs.declared.notes.Ask.TheVariants.{Join, Leave, Rate, Tick, Pull, Arrive, Answer, Done, Sleep, Wake, Poll, Rx, Reap}
+use Rattle.wf_frame.specs.declared.notes.Ask.TheVariants.{Join, Leave, Rate, Tick, Pull, Arrive, Answer, Done, Sleep, Wake, Poll, Rx, Reap, Ampdu, Stop, Start}
+use Rattle.wf_frame.specs.declared.notes.Limits.{Limits}
 use Rattle.wf_frame.specs.declared.notes.Note.{Note}
 use Rattle.wf_frame.specs.declared.notes.Note.TheVariants.{Enqueue, Asked}
 use Rattle.wf_frame.specs.declared.notes.Refusal.{Refusal}
@@ -14,14 +15,14 @@ use Rattle.wf_frame.specs.Settings.{IsInRange}
 use Rattle.wf_def_lists.specs.Table.{at, put, with_member, greatest_upto}
 use Rattle.wf_def_air.specs.Airtime.{IsRate}
 use Rattle.wf_def_codel.specs.Codel.{Item}
-use Rattle.wf_def_lists.specs.Lengths.{greatest_body}
+use Rattle.wf_def_lists.specs.Lengths.{greatest_body, greatest_overhead}
 use Rattle.wf_def_agreement.specs.Receiver.{score}
-use Rattle.wf_def_rotation.specs.Rotation.{Rotation, in_order}
+use Rattle.wf_def_rotation.specs.Rotation.{in_order}
 use Rattle.wf_def_agreement.specs.Session.{request_due, waiting_numbers, next_number, has_room}
-use Rattle.wf_def_world.specs.World.{World, Station, Share, Exchange, Mpdu, no_station, no_share, len_of, station, session, receiver, share, rotation, is_live, exchange, with_station, on_station, on_share, with_rotation, with_exchange, opening}
+use Rattle.wf_def_world.specs.World.{World, Station, Share, Exchange, Mpdu, no_station, no_share, len_of, station, session, receiver, share, rotation, is_live, exchange, with_station, on_station, on_share, with_rotation, with_exchange, opening, Bounds}
 use Rattle.wf_def_world.specs.FlowQueues.{Taken, frames_queued, taken_for_tid}
 use Rattle.wf_def_world.specs.CanSend.{is_request, request_open, has_waiting, can_give, can_send, can_send_in, with_listings_of}
-use Rattle.wf_def_world.specs.Exchanges.{Aggregate, Prepared, mpdus_of, mpdu_of, most_frames, fits_in, picked_station, sending_tid, waiting_mpdus, longest_fitting, fresh_mpdus, with_number, with_fresh, aggregate_of, prepared_data, prepared_exchange, exchange_of, with_station_paid, with_stations_paid, after_pick, after_tid_turn, after_arrival}
+use Rattle.wf_def_world.specs.Exchanges.{Aggregate, Prepared, mpdus_of, mpdu_of, most_frames, fits_in, picked_station, sending_tid, waiting_mpdus, longest_fitting, fresh_mpdus, with_number, with_fresh, aggregate_of, prepared_data, prepared_exchange, exchange_of, with_station_paid, with_stations_paid, after_pick, after_tid_turn, after_arrival, limited}
 use Rattle.wf_def_world.specs.Refusals.{refusal}
 use Rattle.wf_def_world.specs.Step.{Outcome, tick_outcome, rate_outcome, sleep_outcome, wake_outcome, poll_outcome, rx_outcome, join_outcome, leave_outcome, enqueue_outcome, pull_outcome_for, pull_outcome, arrive_outcome, answer_outcome, done_outcome, outcome_where_open, reap_outcome, outcome_of, concerned_station, after_refusal, judged_outcome, step}
 use Rattle.wf_def_world.specs.Run.{Entry, world_after}
@@ -31,42 +32,53 @@ use Rattle.wf_law_runs.specs.Sent.{HasSome}
 use Rattle.wf_law_rules.proofs.Lemmas.Numbers.{lt_yes, both}
 use Rattle.wf_law_rules.proofs.Lemmas.Tables.{each_put}
 use Rattle.wf_law_runs.proofs.Common.Refused.{after_idle}
-use Rattle.wf_law_runs.proofs.Deficits.Books.{Books, account, books}
-use Rattle.wf_law_runs.proofs.Deficits.BookSteps.{books_after_pick, books_after_turn}
-use Rattle.wf_law_runs.proofs.Deficits.Kept.{IsGood, IsKept}
+use Rattle.wf_law_runs.proofs.Common.Picked.{picked_world}
+use Rattle.wf_law_runs.proofs.Deficits.Books.{books}
+use Rattle.wf_law_runs.proofs.Deficits.Kept.{IsKept}
 use Rattle.wf_law_runs.proofs.Deficits.KeptStep.{kept_step, kept_opening}
 use Rattle.wf_law_runs.proofs.Frames.Delivered.{prepared_right, opened_on_receiver, opened_ended, filtered, same_enqueued}
 use Rattle.wf_law_runs.proofs.Frames.Fates.{Steady, steady_step, steady_first}
-use Rattle.wf_law_runs.proofs.Queues.Shelves.{Shelves, shelves, shelves_after_pick, shelves_after_turn}
-use Rattle.wf_law_runs.proofs.Sent.Alone.{fits_alone}
+use Rattle.wf_law_runs.proofs.Queues.Shelves.{Shelves, shelves, shelves_after_turn, shelves_picked}
+use Rattle.wf_law_runs.proofs.Sent.Alone.{fits_alone, some_most}
 use Rattle.wf_law_runs.proofs.Sent.Given.{some_take}
 use Rattle.wf_law_runs.proofs.Sent.Lengths.{IsMeasured, AreMeasured, AllMeasured, IsStocked, given_take, measured_waiting, opened_sent, opened_station, opened_gone, stocked_step, stocked_first}
 use Rattle.wf_law_runs.proofs.Windows.Agreed.{IsLawful, Unmoved, unmoved_on_share, each_map_if, lawful_same, can_send_same, sends, winner_ready}
 use Rattle.wf_law_runs.proofs.Windows.Opened.{Each, each_append, each_find}
-use Rattle.wf_law_runs.proofs.Windows.Sides.{Same, same_on_station, same_on_share, same_listed, same_after_pick, same_after_turn}
+use Rattle.wf_law_runs.proofs.Windows.Sides.{Same, same_on_station, same_on_share, same_listed, same_after_pick, same_after_turn, same_picked}
+use Rattle.wf_law_runs.proofs.Ranges.Traits.{Traits, traits_step, few_station}
+use Rattle.wf_def_lists.specs.Bounds.{least_ampdu}
+use Rattle.std.proofs.Math.Nat.{le-max_left}
 
 -- ---- the settings, the rates and the lengths
 
--- The conditions under which each frame fits alone.
-pub record IsApt (w : World) : Type 0 where
-  pub agg : 1 ≤ w.config.agg
-  pub cap : 3000 ≤ w.config.cap
-  pub rates : (s : ℕ) → IsRate (station w s).rate
+-- The rate of a station exists, and the longest aggregate that was stated for it takes one frame.
+abbrev pub IsFew : Station → Type 0
+IsFew x = IsRate x.rate × IfSome x.ampdu (λ n. least_ampdu ≤ n)
+
+abbrev pub AreFew : World → Type 0
+AreFew w = (s : ℕ) → IsFew (station w s)
+
+-- The conditions under which each frame fits alone. They hold in every world of a run.
+pub record IsFit (w : World) : Type 0 where
+  pub overhead : w.config.overhead ≤ greatest_overhead
+  pub stations : AreFew w
   pub short : (k : ℕ) → len_of ((shelves w).notes k) ≤ greatest_body
   pub measured : AllMeasured (shelves w).notes (shelves w)
 
-AreFew : World → Type 0
-AreFew w = (s : ℕ) → IsRate (station w s).rate
+-- The conditions under which a pull sends a frame: each fits alone, and the bounds of the pull allow one.
+pub record IsApt (w : World) : Type 0 where
+  pub fit : IsFit w
+  pub frames : 1 ≤ w.bounds.frames
 
 few_on_share : (w : World) (s : ℕ) (c : Class) (f : Share → Share) → AreFew w → AreFew (on_share w s c f)
-unfolding AreFew on_share on_station with_station
-few_on_share w s c f h = each_put (λ _ o. IsRate (unwrap_or o no_station).rate) None w.stations s
+unfolding on_share on_station with_station
+few_on_share w s c f h = each_put (λ _ o. IsFew (unwrap_or o no_station)) None w.stations s
     _ h (go (at None w.stations s) (h s))
   where
-    go : (o : Option Station) → IsRate (unwrap_or o no_station).rate →
-        IsRate (unwrap_or (option_map (λ (x : Station). record
+    go : (o : Option Station) → IsFew (unwrap_or o no_station) →
+        IsFew (unwrap_or (option_map (λ (x : Station). record
         x { shares = put no_share x.shares (class_number c) (f (at no_share x.shares (class_number c))) }) o)
-        no_station).rate
+        no_station)
     go None k = k
     go (Some x) k = k
 
@@ -76,41 +88,39 @@ unfolding with_stations_paid with_station_paid
 few_paid [] w c quanta h = h
 few_paid (s ∷ ss) w c quanta h = few_paid ss _ c quanta (few_on_share w s c _ h)
 
-few_with_rotation : (w : World) (c : Class) (r : Rotation) → AreFew w → AreFew (with_rotation w c r)
-unfolding AreFew with_rotation
-few_with_rotation w c r h = h
-
-few_picked : (w : World) (c : Class) → AreFew w → AreFew (after_pick w c)
-unfolding after_pick
-few_picked w c h = few_with_rotation _ c _ (few_paid (in_order (rotation w c)) w c
-    (picked_station w c).quanta h)
+few_picked : (w : World) (c : Class) (l : Limits) → AreFew w → AreFew (picked_world w c l)
+unfolding after_pick with_rotation
+few_picked w c l h = few_paid (in_order (rotation w c)) w c (picked_station w c).quanta h
 
 few_turned : (w : World) (s : ℕ) (c : Class) (t : ℕ) → AreFew w → AreFew (after_tid_turn w s c t)
 unfolding after_tid_turn
 few_turned w s c t h = few_on_share w s c _ h
 
-apt_by : (w v : World) → v.config ≡ w.config → shelves v ≡ shelves w → AreFew v → IsApt w → IsApt v
-unfolding AreFew
-apt_by w v e is few h = record {
-  agg = subst (λ (c : Config). 1 ≤ c.agg) (sym e) h.agg;
-  cap = subst (λ (c : Config). 3000 ≤ c.cap) (sym e) h.cap;
-  rates = few;
+fit_by : (w v : World) → v.config ≡ w.config → shelves v ≡ shelves w → AreFew v → IsFit w → IsFit v
+fit_by w v e is few h = record {
+  overhead = subst (λ (c : Config). c.overhead ≤ greatest_overhead) (sym e) h.overhead;
+  stations = few;
   short = subst (λ (b : Shelves). (k : ℕ) → len_of (b.notes k) ≤ greatest_body) (sym is) h.short;
   measured = subst (λ (b : Shelves). AllMeasured b.notes b) (sym is) h.measured;
 }
 
-apt_few : (w : World) → IsApt w → AreFew w
-unfolding AreFew
-apt_few w h = h.rates
+pub apt_picked : (w : World) (c : Class) (l : Limits) → IsFit w → IsApt (picked_world w c l)
+apt_picked w c l h = record {
+  fit = fit_by w (picked_world w c l) (ap (λ (b : Shelves). b.config) (shelves_picked w c l))
+      (shelves_picked w c l) (few_picked w c l h.stations) h;
+  frames = le-max_left 1 (limited l.frames w.config.agg);
+}
 
-pub apt_picked : (w : World) (c : Class) → IsApt w → IsApt (after_pick w c)
-apt_picked w c h = apt_by w (after_pick w c) (ap (λ (b : Books). b.config) (books_after_pick w c))
-    (shelves_after_pick w c) (few_picked w c (apt_few w h)) h
+bounds_turned : (w : World) (s : ℕ) (c : Class) (t : ℕ) → (after_tid_turn w s c t).bounds ≡ w.bounds
+unfolding after_tid_turn on_share on_station with_station
+bounds_turned w s c t = refl
 
 pub apt_turned : (w : World) (s : ℕ) (c : Class) (t : ℕ) → IsApt w → IsApt (after_tid_turn w s c t)
-apt_turned w s c t h = apt_by w (after_tid_turn w s c t)
-    (ap (λ (b : Books). b.config) (books_after_turn w s c t)) (shelves_after_turn w s c t)
-    (few_turned w s c t (apt_few w h)) h
+apt_turned w s c t h = record {
+  fit = fit_by w (after_tid_turn w s c t) (ap (λ (b : Shelves). b.config) (shelves_after_turn w s c t))
+      (shelves_after_turn w s c t) (few_turned w s c t h.fit.stations) h.fit;
+  frames = subst (λ (b : Bounds). 1 ≤ b.frames) (sym (bounds_turned w s c t)) h.frames;
+}
 
 -- ---- an aggregate
 
@@ -139,8 +149,8 @@ fits_given : (o : Option Item) (w : World) (s t : ℕ) → IsApt w → is_some o
     → (fits_in w s (fresh_mpdus w s t o) ≡ true) × (1 ≤ length (fresh_mpdus w s t o))
 fits_given None w s t a some h = absurd (cc (some))
 fits_given (Some x) w s t a some h = (
-  fits_alone w s (record { number = next_number (session w s t); id = x.id; len = x.len }) a.agg a.cap
-      (a.rates s) (omega (arith, h, a.short x.id)),
+  fits_alone w s (record { number = next_number (session w s t); id = x.id; len = x.len }) a.frames
+      a.fit.overhead (a.fit.stations s).0 (a.fit.stations s).1 (omega (arith, h, a.fit.short x.id)),
   omega arith,
 )
 
@@ -159,7 +169,7 @@ some_fresh (suc n) w s t more live gives a =
     let numbered : World = with_number taken.world s t taken.item in
     let given : (fits_in w s first ≡ true) × (1 ≤ length first) =
     fits_given taken.item w s t a (some_take w s t live queued)
-    (given_take (shelves w).notes w s t live a.measured) in
+    (given_take (shelves w).notes w s t live a.fit.measured) in
     some_if (not (can_give w s t)) _ _ (λ none. absurd (cc (gives, none)))
     (λ _. some_if (fits_in w s first) (with_fresh n numbered s t first)
     (record { world = numbered; mpdus = [] }) (λ _. some_longer n numbered s t first given.1)
@@ -210,11 +220,7 @@ some_filled w s t live may a = go (waiting_mpdus w s t) refl (measured_waiting w
     fresh (x ∷ xs) n e more gives = absurd (cc e)
 
     more : 1 ≤ most_frames w s
-    more = some_most (station w s).asleep
-      where
-        some_most : (b : Bool) → 1 ≤ (if b then 1 else w.config.agg)
-        some_most true = omega arith
-        some_most false = a.agg
+    more = some_most w s a.frames
 
     all : List Mpdu
     all = waiting_mpdus w s t
@@ -236,8 +242,8 @@ some_filled w s t live may a = go (waiting_mpdus w s t) refl (measured_waiting w
         (λ differ. absurd (cc (as_long, differ)))
     go (m ∷ ms) e lens =
         let first : AreMeasured (shelves w).notes (m ∷ ms) = subst (AreMeasured (shelves w).notes) e lens in
-        let alone : fits_in w s (m ∷ []) ≡ true = fits_alone w s m a.agg a.cap (a.rates s)
-        (omega (arith, first.0, a.short m.id)) in
+        let alone : fits_in w s (m ∷ []) ≡ true = fits_alone w s m a.frames a.fit.overhead
+        (a.fit.stations s).0 (a.fit.stations s).1 (omega (arith, first.0, a.fit.short m.id)) in
         let some : 1 ≤ length chosen = subst (λ (xs : List Mpdu). 1 ≤ length (longest_fitting w s xs)) (sym e)
         (some_fitting w s m ms alone) in
         some_if (length chosen == length all) (with_fresh (most_frames w s - length chosen) w s t chosen)
@@ -298,12 +304,14 @@ some_pulled_by (Some s) w c ready l a h =
     (subst (Each HasSome) (sym ((prepared_right v s t (lawful_same w v k l) live).opened ∙ k.opened)) h)
     (some_prepared v s t live may (apt_turned w s c t a)))
 
-some_pulled : (w : World) (c : Class) → IsLawful w → IsApt w → AllSome w → AllSome (pull_outcome w c).world
+some_pulled : (w : World) (c : Class) (limits : Limits) → IsLawful w → IsFit w → AllSome w →
+    AllSome (pull_outcome w c limits).world
 unfolding pull_outcome
-some_pulled w c l a h =
-    let k : Same w (after_pick w c) = same_after_pick w c in
-    some_pulled_by (picked_station w c).winner (after_pick w c) c (winner_ready w c)
-    (lawful_same w (after_pick w c) k l) (apt_picked w c a) (some_opened w (after_pick w c) k.opened h)
+some_pulled w c limits l a h =
+    let k : Same w (picked_world w c limits) = same_picked w c limits in
+    some_pulled_by (picked_station w c).winner (picked_world w c limits) c (winner_ready w c limits)
+    (lawful_same w (picked_world w c limits) k l) (apt_picked w c limits a)
+    (some_opened w (picked_world w c limits) k.opened h)
 
 -- ---- the other calls
 
@@ -352,7 +360,7 @@ some_joined w s window start exponent weight h = subst (Each HasSome) (sym (open
 
 -- ---- the step
 
-some_done : (note : Note) (w : World) → IsLawful w → IsApt w → AllSome w → AllSome (outcome_of w note).world
+some_done : (note : Note) (w : World) → IsLawful w → IsFit w → AllSome w → AllSome (outcome_of w note).world
 unfolding outcome_of tick_outcome rate_outcome sleep_outcome wake_outcome poll_outcome rx_outcome
 some_done (Enqueue s t flow len) w l a h = some_opened w (enqueue_outcome w s t flow len).world
     (same_enqueued w s t flow len).opened h
@@ -362,7 +370,7 @@ some_done (Asked (Leave s)) w l a h = some_opened w (leave_outcome w s).world (o
 some_done (Asked (Rate s rate)) w l a h =
     subst (Each HasSome) (sym (same_on_station w s _ (λ x t. refl)).opened) h
 some_done (Asked (Tick by)) w l a h = h
-some_done (Asked (Pull c)) w l a h = some_pulled w c l a h
+some_done (Asked (Pull c limits)) w l a h = some_pulled w c limits l a h
 some_done (Asked (Arrive x n)) w l a h = some_open (exchange w x) w _ (found_some w x h)
     (λ y k. some_arrived w y n k h) h
 some_done (Asked (Answer x)) w l a h = some_open (exchange w x) w _ (found_some w x h)
@@ -371,6 +379,12 @@ some_done (Asked (Done x heard air)) w l a h = some_open (exchange w x) w _ (fou
     (λ y k. some_ended air w y heard h) h
 some_done (Asked (Sleep s)) w l a h = subst (Each HasSome)
     (sym (same_on_station w s _ (λ x t. refl)).opened) h
+some_done (Asked (Ampdu s octets)) w l a h = subst (Each HasSome)
+    (sym (same_on_station w s _ (λ x t. refl)).opened) h
+some_done (Asked (Stop s)) w l a h = subst (Each HasSome)
+    (sym (same_on_station w s _ (λ x t. refl)).opened) h
+some_done (Asked (Start s)) w l a h = subst (Each HasSome)
+    (sym (same_on_station w s _ (λ x t. refl)).opened) h
 some_done (Asked (Wake s)) w l a h = subst (Each HasSome) (sym (same_on_station w s _ (λ x t. refl)).opened) h
 some_done (Asked (Poll s)) w l a h = subst (Each HasSome) (sym (same_on_station w s _ (λ x t. refl)).opened) h
 some_done (Asked (Rx s c air)) w l a h = subst (Each HasSome) (sym (same_on_share w s c _).opened) h
@@ -378,11 +392,11 @@ some_done (Asked Reap) w l a h = some_reaped w.finished w h
 
 some_refused : (note : Note) (r : Refusal) (w : World) → AllSome w → AllSome (after_refusal w note r)
 unfolding after_refusal
-some_refused (Asked (Pull c)) Idle w h = after_idle AllSome w c h
+some_refused (Asked (Pull c l)) Idle w h = after_idle AllSome w c h
     (some_opened w (after_pick w c) (same_after_pick w c).opened h)
 some_refused _ _ w h = h
 
-some_answer : (r : Option Refusal) (w : World) (note : Note) → IsLawful w → IsApt w → AllSome w →
+some_answer : (r : Option Refusal) (w : World) (note : Note) → IsLawful w → IsFit w → AllSome w →
     AllSome (judged_outcome w note r).world
 unfolding judged_outcome
 some_answer (Some r) w note l a h = some_refused note r w h
@@ -391,40 +405,34 @@ some_answer None w note l a h =
     (concerned_station w note)) (same_listed (concerned_station w note) (outcome_of w note).world).opened
     (some_done note w l a h)
 
-pub some_step : (w : World) (note : Note) → IsLawful w → IsApt w → AllSome w → AllSome (step w note).world
+pub some_step : (w : World) (note : Note) → IsLawful w → IsFit w → AllSome w → AllSome (step w note).world
 unfolding step
 some_step w note l a h = some_answer (refusal w note) w note l a h
 
 -- ---- the run
 
-pub apt : (w : World) → IsKept (books w) → IsStocked greatest_body w → IsApt w
-apt w k i = record {
-  agg = omega (arith, k.range.agg.0);
-  cap = omega (arith, k.range.cap.0);
-  rates = few;
+pub fit : (w : World) → IsKept (books w) → IsStocked greatest_body w → Traits w → IsFit w
+fit w k i h = record {
+  overhead = k.range.overhead.1;
+  stations = few;
   short = i.short;
   measured = i.measured;
 }
   where
-    few : (s : ℕ) → IsRate (station w s).rate
-    few s = go (at None w.stations s) (k.goods s)
-      where
-        go : (o : Option Station) → IfSome (option_map account o) (IsGood w.config (books w).opened s) →
-            IsRate (unwrap_or o no_station).rate
-        go None h = refl
-        go (Some x) h = h.rate
+    few : AreFew w
+    few s = few_station (at None w.stations s) (h s)
 
 some_run : (h : List Entry) (l : List ℕ) (w : World) → AreAtMost greatest_body h → IsKept (books w) →
-    Steady l w → IsStocked greatest_body w
+    Steady l w → IsStocked greatest_body w → Traits w
     → AllSome w → AllSome (world_after w h)
 unfolding world_after
-some_run [] l w short k y i a = a
-some_run (e ∷ es) l w short k y i a =
+some_run [] l w short k y i z a = a
+some_run (e ∷ es) l w short k y i z a =
     some_run es (l ++ named_by (step w e.1).reply) (step w e.1).world short.1 (kept_step w e.1 k)
-    (steady_step l w e.1 y) (stocked_step greatest_body l w e.1 short.0 y i)
-    (some_step w e.1 y.lawful (apt w k i) a)
+    (steady_step l w e.1 y) (stocked_step greatest_body l w e.1 short.0 y i) (traits_step w e.1 z)
+    (some_step w e.1 y.lawful (fit w k i z) a)
 
 pub some_sent : (config : Config) (h : List Entry) → IsInRange config → AreAtMost greatest_body h →
     Each HasSome (world_after (opening config) h).opened
 some_sent config h range short = some_run h [] (opening config) short (kept_opening config range)
-    (steady_first config) (stocked_first greatest_body config) tt
+    (steady_first config) (stocked_first greatest_body config) (λ s. tt) tt

@@ -5,7 +5,8 @@ use Rattle.std.proofs.Common.{◌≡◌, refl, ap, sym, ◌∙◌, subst, arith,
 use Rattle.std.proofs.lemmas.Int.{ints}
 use Rattle.wf_frame.specs.declared.settings.Config.{Config}
 use Rattle.wf_frame.specs.declared.classes.Class.{Class}
-use Rattle.wf_frame.specs.declared.notes.Ask.TheVariants.{Join, Leave, Rate, Tick, Pull, Arrive, Answer, Done, Sleep, Wake, Poll, Rx, Reap}
+use Rattle.wf_frame.specs.declared.notes.Ask.TheVariants.{Join, Leave, Rate, Tick, Pull, Arrive, Answer, Done, Sleep, Wake, Poll, Rx, Reap, Ampdu, Stop, Start}
+use Rattle.wf_frame.specs.declared.notes.Limits.{Limits}
 use Rattle.wf_frame.specs.declared.notes.Note.{Note}
 use Rattle.wf_frame.specs.declared.notes.Note.TheVariants.{Enqueue, Asked}
 use Rattle.wf_frame.specs.declared.notes.Refusal.{Refusal}
@@ -23,8 +24,9 @@ use Rattle.wf_law_runs.specs.Deficits.{longest_exchange, longest_computed}
 use Rattle.wf_law_runs.specs.Shares.{receipts}
 use Rattle.wf_law_runs.specs.Waiting.{sends}
 use Rattle.wf_law_runs.proofs.Common.Refused.{after_idle}
+use Rattle.wf_law_runs.proofs.Common.Limits.{with_limits}
 use Rattle.wf_law_runs.proofs.Deficits.Books.{Account, account, core, Books, books, with_account, on_part, upd_same, upd_other, each_upd, updc_same, updc_other, cases_class}
-use Rattle.wf_law_runs.proofs.Deficits.BookSteps.{with_opened, charge_share, with_charge, receive_share, rated, pay_share, paid, after, books_ended, books_gone, all_off, books_enqueued, books_received, books_reaped, books_slept, books_woken, books_credited, books_with_rate, books_joined, books_after_pick}
+use Rattle.wf_law_runs.proofs.Deficits.BookSteps.{with_opened, charge_share, with_charge, receive_share, rated, pay_share, paid, after, books_ended, books_gone, all_off, books_enqueued, books_received, books_reaped, books_slept, books_woken, books_credited, books_with_rate, books_joined, books_after_pick, books_stated, books_stopped, books_started}
 use Rattle.wf_law_runs.proofs.Deficits.Bounds.{counted, paid_some}
 use Rattle.wf_law_runs.proofs.Deficits.Kept.{IsKept, counted_in, need_in, at_stake, IsOpen}
 use Rattle.wf_law_runs.proofs.Deficits.KeptStep.{NoRow, no_row, live_account, is_pick, IsFound, books_arrived, books_answered}
@@ -145,10 +147,10 @@ grants_after w d c s i = elim (cases_class c d) [
   }
 ]
 
-grants_pulled : (w : World) (d c : Class) (s : ℕ) → IsKept (books w) →
-    Grants c s (books w) (books (pull_outcome w d).world)
+grants_pulled : (w : World) (d c : Class) (l : Limits) (s : ℕ) → IsKept (books w) →
+    Grants c s (books w) (books (pull_outcome w d l).world)
 unfolding pull_outcome
-grants_pulled w d c s i = pulled_by (Grants c s (books w)) (picked_station w d).winner (after_pick w d) d
+grants_pulled w d c l s i = pulled_by (Grants c s (books w)) (picked_station w d).winner (with_limits w d l) d
     (λ _. picks)
     (λ k x _ _ _. grants_kept c s (books w) (books (after_pick w d)) (with_opened (books (after_pick w d)) x)
     refl picks)
@@ -192,7 +194,7 @@ grants_done (Asked (Rate i rate)) w c s r k live still =
     grants_books c s (books w) _ _ (books_with_rate w i rate)
     (grants_on c s i (books w) (rated rate) (λ a. refl))
 grants_done (Asked (Tick by)) w c s r k live still = grants_same c s _ _ refl
-grants_done (Asked (Pull d)) w c s r k live still = grants_pulled w d c s k
+grants_done (Asked (Pull d l)) w c s r k live still = grants_pulled w d c l s k
 grants_done (Asked (Arrive e j)) w c s r k live still = grants_open (exchange w e) w e c s _ refl
     (λ x f. grants_same c s _ _ (books_arrived w e j x k f))
 grants_done (Asked (Answer e)) w c s r k live still = grants_open (exchange w e) w e c s _ refl
@@ -203,6 +205,9 @@ grants_done (Asked (Done e heard air)) w c s r k live still = grants_open (excha
     (grants_on c s x.station (books w) (on_part x.class (charge_share (charge_of air x)))
     (quanta_charge c x.class (charge_of air x)))))
 grants_done (Asked (Sleep i)) w c s r k live still = grants_same c s _ _ (books_slept w i)
+grants_done (Asked (Ampdu i octets)) w c s r k live still = grants_same c s _ _ (books_stated w i octets)
+grants_done (Asked (Stop i)) w c s r k live still = grants_same c s _ _ (books_stopped w i)
+grants_done (Asked (Start i)) w c s r k live still = grants_same c s _ _ (books_started w i)
 grants_done (Asked (Wake i)) w c s r k live still = grants_same c s _ _ (books_woken w i)
 grants_done (Asked (Poll i)) w c s r k live still = grants_same c s _ _ (books_credited w i)
 grants_done (Asked (Rx i d air)) w c s r k live still =
@@ -213,7 +218,7 @@ grants_done (Asked Reap) w c s r k live still = grants_same c s _ _ (books_reape
 grants_refused : (note : Note) (r : Refusal) (w : World) (c : Class) (s : ℕ) → IsKept (books w) →
     Grants c s (books w) (books (after_refusal w note r))
 unfolding after_refusal
-grants_refused (Asked (Pull d)) Idle w c s k = after_idle (λ v. Grants c s (books w) (books v)) w d
+grants_refused (Asked (Pull d l)) Idle w c s k = after_idle (λ v. Grants c s (books w) (books v)) w d
     (grants_same c s _ _ refl)
     (grants_books c s (books w) _ _ (books_after_pick w d) (grants_after w d c s k))
 grants_refused _ _ w c s k = grants_same c s _ _ refl
@@ -247,9 +252,10 @@ owed_at_stake config w s c g = subst (λ (z : Config). owed s c w.opened ≤ at_
     g.same (omega (arith, owed-core s c w.opened, within))
   where
     within : owed s c (map core w.opened) ≤ at_stake w.config s c (map core w.opened)
-    within = owed_reserved (longest_exchange w.config) s c (map core w.opened)
-        (every_map (IsOpen (books w)) (λ x. x.charge ≤ longest_exchange w.config)
-        (λ x o. omega (arith, o.charge, le-max_left (longest_computed w.config) w.config.charge))
+    within = owed_reserved (longest_exchange w.config c) s c (map core w.opened)
+        (every_map (IsOpen (books w)) (λ x. x.class ≡ c → x.charge ≤ longest_exchange w.config c)
+        (λ x o e. subst (λ (d : Class). x.charge ≤ longest_exchange w.config d) e
+        (omega (arith, o.charge, le-max_left (longest_computed w.config x.class) w.config.charge)))
         (map core w.opened) g.kept.opens)
 
 -- Over the entries es, s gets no quantum in the class, or its quanta and its deficit at first are at most one
@@ -351,12 +357,12 @@ module _ (config : Config) (t : Bool) (c : Class) (s i m : ℕ) (w : World) (apa
           pos (z.quantum * (station (world_after w es) s).weight +
           owed s c (map core (world_after w es).opened))) at_now.same h'))
 
-      was : IsMoney config (owed s c w.opened) (station w s).weight (share w s c)
+      was : IsMoney config c (owed s c w.opened) (station w s).weight (share w s c)
       was = ground_money config w s c ground (marks_live t c s w ground.kept first.marks)
 
-      is : IsMoney config (owed s c (world_after w (es ++ e ∷ [])).opened) (station w s).weight
+      is : IsMoney config c (owed s c (world_after w (es ++ e ∷ [])).opened) (station w s).weight
           (share (world_after w (es ++ e ∷ [])) s c)
-      is = subst (λ (g : ℕ). IsMoney config (owed s c (world_after w (es ++ e ∷ [])).opened) g
+      is = subst (λ (g : ℕ). IsMoney config c (owed s c (world_after w (es ++ e ∷ [])).opened) g
           (share (world_after w (es ++ e ∷ [])) s c)) held'.own_weight
           (ground_money config (world_after w (es ++ e ∷ [])) s c
           (ground_run config (es ++ e ∷ []) w ground) live')
@@ -407,9 +413,9 @@ pub stake_run : (config : Config) (w : World) (s : ℕ) (c : Class) (xs : List E
     sends w s c (take n xs) ≡ 0 → (d : ℕ) → d ≤ n → charges w s c (take d xs) +
     owed s c (world_after w (take d xs)).opened ≤ at_stake config s c (map core w.opened)
 stake_run config w s c xs n g none d l =
-    let less : Less (longest_exchange config) c s (charges w s c (take d xs)) (books w)
-    (books (world_after w (take d xs))) = less_run (take d xs) (longest_exchange config) w c s g.kept
-    (ap longest_exchange g.same) (unsent_front d n xs w s c l none) in
+    let less : Less (longest_exchange config c) c s (charges w s c (take d xs)) (books w)
+    (books (world_after w (take d xs))) = less_run (take d xs) (longest_exchange config c) w c s g.kept
+    (ap (λ (z : Config). longest_exchange z c) g.same) (unsent_front d n xs w s c l none) in
     omega (
       arith,
       less.most,

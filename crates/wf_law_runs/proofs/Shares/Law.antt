@@ -75,16 +75,16 @@ covered_between config h s i c a b off range live_a live_b k =
     (share (world_at config h a) s c).received (share (world_at config h b) s c).received
     (charged_between config h s c a b) (received_between config h s c a b)
     (deficit_then config h a s c) (deficit_then config h b s c) money_w.exact money_b.exact
-    (most_off config (quantum_then config h b s) (deficit_then config h b s c) off money_b.most)
+    (most_off config c (quantum_then config h b s) (deficit_then config h b s c) off money_b.most)
     (let more = k.own_quanta in omega (arith, more)) k.own_charged k.own_received
   where
-    money_b : IsMoney config (owed s c (world_at config h b).opened) (weight_at config h b s)
+    money_b : IsMoney config c (owed s c (world_at config h b).opened) (weight_at config h b s)
         (share (world_at config h b) s c)
     money_b = ground_money config (world_at config h b) s c (ground_at config h b range) live_b
 
-    money_w : IsMoney config (owed s c (world_at config h a).opened) (weight_at config h b s)
+    money_w : IsMoney config c (owed s c (world_at config h a).opened) (weight_at config h b s)
         (share (world_at config h a) s c)
-    money_w = subst (λ (g : ℕ). IsMoney config (owed s c (world_at config h a).opened) g
+    money_w = subst (λ (g : ℕ). IsMoney config c (owed s c (world_at config h a).opened) g
         (share (world_at config h a) s c)) (sym k.own_weight)
         (ground_money config (world_at config h a) s c (ground_at config h a range) live_a)
 
@@ -100,7 +100,7 @@ shared config h s i c a b range differs live_a live_b k spends = record {
   charged = charged;
   weighted = λ off. weigh config.quantum (weight_at config h b s) (weight_at config h b i)
       (got_between config h s c a b) (used_between config h s c a b) (charged_between config h i c a b)
-      (overrun config) (deficit_then config h a s c) (charged off)
+      (overrun config c) (deficit_then config h a s c) (charged off)
       (covered_between config h s i c a b off range live_a live_b k);
   spending = spends;
 }
@@ -116,12 +116,12 @@ shared config h s i c a b range differs live_a live_b k spends = record {
     within ch chb n res u m e l = omega arith
 
     charged : config.pending ≡ 0 → charged_between config h i c a b
-        ≤ quantum_then config h b i * (got_between config h s c a b + 1) + overrun config
+        ≤ quantum_then config h b i * (got_between config h s c a b + 1) + overrun config c
     charged off = subst (λ (g : ℕ). charged_between config h i c a b
-        ≤ config.quantum * g * (got_between config h s c a b + 1) + overrun config) (sym k.other_weight)
+        ≤ config.quantum * g * (got_between config h s c a b + 1) + overrun config c) (sym k.other_weight)
         (within (share (world_at config h a) i c).charged (share (world_at config h b) i c).charged
         (charged_between config h i c a b) (at_stake config i c (map core (world_at config h b).opened))
-        (config.quantum * weight_at config h a i * (got_between config h s c a b + 1)) (most_owed config)
+        (config.quantum * weight_at config h a i * (got_between config h s c a b + 1)) (most_owed config c)
         k.other_charged (k.held off))
 
 pub share_law : (config : Config) (h : List Entry) → IsInRange config → ShareLaw config h

@@ -2,8 +2,10 @@
 -- a call.
 use Rattle.std.proofs.Common.{◌≡◌, refl, ap, sym, ◌∙◌, subst, arith, ℕ, zero, suc, ◌+◌, ◌<◌, ◌≤◌, ℤ, pos, negsuc, ◌≤ℤ◌, Bool, true, false, if◌then◌else◌, cond, List, [], ◌∷◌, Option, Some, None, not, ◌&&◌, ◌==◌, find, map, filter, eq-eqb, inl, inr, ◌⊎◌, ◌++◌}
 use Rattle.std.proofs.lemmas.Bool.{cases_eq, eqb-true, ne_eqb}
+use Rattle.wf_frame.specs.declared.settings.Config.{Config}
 use Rattle.wf_frame.specs.declared.classes.Class.{Class}
-use Rattle.wf_frame.specs.declared.notes.Ask.TheVariants.{Join, Leave, Rate, Tick, Pull, Arrive, Answer, Done, Sleep, Wake, Poll, Rx, Reap}
+use Rattle.wf_frame.specs.declared.notes.Ask.TheVariants.{Join, Leave, Rate, Tick, Pull, Arrive, Answer, Done, Sleep, Wake, Poll, Rx, Reap, Ampdu, Stop, Start}
+use Rattle.wf_frame.specs.declared.notes.Limits.{Limits}
 use Rattle.wf_frame.specs.declared.notes.Note.{Note}
 use Rattle.wf_frame.specs.declared.notes.Note.TheVariants.{Enqueue, Asked}
 use Rattle.wf_frame.specs.declared.notes.Refusal.{Refusal}
@@ -23,8 +25,9 @@ use Rattle.wf_law_runs.specs.Waiting.{is_sent_to, sends_by, sends}
 use Rattle.wf_law_rules.proofs.Lemmas.Counts.{on-cons, on-cons_same, on-cons_other}
 use Rattle.wf_law_rules.proofs.Lemmas.Rotations.{find-none}
 use Rattle.wf_law_runs.proofs.Common.Refused.{after_idle}
+use Rattle.wf_law_runs.proofs.Common.Limits.{with_limits}
 use Rattle.wf_law_runs.proofs.Deficits.Books.{core, Books, books}
-use Rattle.wf_law_runs.proofs.Deficits.BookSteps.{with_opened, books_ended, books_gone, books_enqueued, books_received, books_reaped, books_slept, books_woken, books_credited, books_with_rate, books_joined, books_after_pick}
+use Rattle.wf_law_runs.proofs.Deficits.BookSteps.{with_opened, books_ended, books_gone, books_enqueued, books_received, books_reaped, books_slept, books_woken, books_credited, books_with_rate, books_joined, books_after_pick, books_stated, books_stopped, books_started}
 use Rattle.wf_law_runs.proofs.Deficits.Openings.{reserved, reserved-append, reserved-ended}
 use Rattle.wf_law_runs.proofs.Deficits.Kept.{IsKept}
 use Rattle.wf_law_runs.proofs.Deficits.KeptStep.{no_row, IsFound, at_number, books_arrived, books_answered, charge_within, kept_step}
@@ -41,17 +44,17 @@ unfolding pull_outcome_for send_outcome
 sent_by None w d v h = absurd (cc h)
 sent_by (Some k) w d v h = ap (λ (n : ℕ). Some n) (eqb-true _ _ h)
 
-sent_answer : (r : Option Refusal) (w : World) (d : Class) (v : ℕ) →
-    is_sent_to v (judged_outcome w (Asked (Pull d)) r).reply ≡ true → (picked_station w d).winner ≡ Some v
+sent_answer : (r : Option Refusal) (w : World) (d : Class) (l : Limits) (v : ℕ) →
+    is_sent_to v (judged_outcome w (Asked (Pull d l)) r).reply ≡ true → (picked_station w d).winner ≡ Some v
 unfolding judged_outcome outcome_of pull_outcome
-sent_answer (Some r) w d v h = absurd (cc h)
-sent_answer None w d v h = sent_by (picked_station w d).winner (after_pick w d) d v h
+sent_answer (Some r) w d l v h = absurd (cc h)
+sent_answer None w d l v h = sent_by (picked_station w d).winner (with_limits w d l) d v h
 
 -- a Pull sends only to the station that is picked
-pub sent_winner : (w : World) (d : Class) (v : ℕ) → is_sent_to v (step w (Asked (Pull d))).reply ≡ true →
-    (picked_station w d).winner ≡ Some v
+pub sent_winner : (w : World) (d : Class) (l : Limits) (v : ℕ) →
+    is_sent_to v (step w (Asked (Pull d l))).reply ≡ true → (picked_station w d).winner ≡ Some v
 unfolding step
-sent_winner w d v h = sent_answer (refusal w (Asked (Pull d))) w d v h
+sent_winner w d l v h = sent_answer (refusal w (Asked (Pull d l))) w d l v h
 
 wins_sent : (o : Option ℕ) (w : World) (d : Class) (v : ℕ) → o ≡ Some v →
     is_sent_to v (pull_outcome_for w d o).reply ≡ true
@@ -60,13 +63,13 @@ wins_sent None w d v e = absurd (cc e)
 wins_sent (Some k) w d v e = let same : k ≡ v = cc in eq-eqb k v same
 
 -- a Pull that is not refused sends to the station that is picked
-pub winner_sent : (w : World) (d : Class) (v : ℕ) → refusal w (Asked (Pull d)) ≡ None →
-    (picked_station w d).winner ≡ Some v → is_sent_to v (step w (Asked (Pull d))).reply ≡ true
+pub winner_sent : (w : World) (d : Class) (l : Limits) (v : ℕ) → refusal w (Asked (Pull d l)) ≡ None →
+    (picked_station w d).winner ≡ Some v → is_sent_to v (step w (Asked (Pull d l))).reply ≡ true
 unfolding step judged_outcome outcome_of pull_outcome
-winner_sent w d v fine won = go (refusal w (Asked (Pull d))) fine
+winner_sent w d l v fine won = go (refusal w (Asked (Pull d l))) fine
   where
-    go : (o : Option Refusal) → o ≡ None → is_sent_to v (judged_outcome w (Asked (Pull d)) o).reply ≡ true
-    go None e = wins_sent (picked_station w d).winner (after_pick w d) d v won
+    go : (o : Option Refusal) → o ≡ None → is_sent_to v (judged_outcome w (Asked (Pull d l)) o).reply ≡ true
+    go None e = wins_sent (picked_station w d).winner (with_limits w d l) d v won
     go (Some r) e = absurd (cc e)
 
 -- ---- the first of the new list
@@ -138,23 +141,24 @@ less_open l w e None f c s m none k h = record { most = rw none (omega arith) }
 less_open l w e (Some x) f c s m none k h = h x k
 
 less_ended : (w : World) (e : ℕ) (x : Exchange) (heard : Bool) (air : Option ℕ) (c : Class) (s : ℕ) →
-    IsFound w e x → charge_of air x ≤ longest_exchange w.config → (b : Books) →
+    IsFound w e x → charge_of air x ≤ longest_exchange w.config x.class → (b : Books) →
     b.opened ≡ filter (λ y. not (y.number == x.number)) (map core w.opened) →
-    Less (longest_exchange w.config) c s (charge_to s c air (Some x)) (books w) b
+    Less (longest_exchange w.config c) c s (charge_to s c air (Some x)) (books w) b
 less_ended w e x heard air c s found most b same = record {
   most = rw same (omega (
     arith,
-    charge_most air x s (longest_exchange w.config) c most,
-    reserved-ended (longest_exchange w.config) s c (map core w.opened) (core x) x.number
+    charge_most w.config air x s c most,
+    reserved-ended (longest_exchange w.config c) s c (map core w.opened) (core x) x.number
         (at_number w e x found),
   ));
 }
 
-less_pulled : (l : ℕ) (w : World) (d c : Class) (s : ℕ) → refusal w (Asked (Pull d)) ≡ None →
-    sends_by w s c (Asked (Pull d)) ≡ 0 → Less l c s 0 (books w) (books (pull_outcome w d).world)
+less_pulled : (l : ℕ) (w : World) (d c : Class) (limits : Limits) (s : ℕ) →
+    refusal w (Asked (Pull d limits)) ≡ None → sends_by w s c (Asked (Pull d limits)) ≡ 0 →
+    Less l c s 0 (books w) (books (pull_outcome w d limits).world)
 unfolding pull_outcome
-less_pulled l w d c s fine unsent = pulled_by (λ (b : Books). Less l c s 0 (books w) b)
-    (picked_station w d).winner (after_pick w d) d (λ _. less_same l c s (books w) _ same) opens
+less_pulled l w d c limits s fine unsent = pulled_by (λ (b : Books). Less l c s 0 (books w) b)
+    (picked_station w d).winner (with_limits w d limits) d (λ _. less_same l c s (books w) _ same) opens
   where
     same : (books (after_pick w d)).opened ≡ (books w).opened
     same = ap (λ (b : Books). b.opened) (books_after_pick w d)
@@ -173,15 +177,15 @@ less_pulled l w d c s fine unsent = pulled_by (λ (b : Books). Less l c s 0 (boo
       }
       | inr both ↦ absurd (
           let is : k ≡ s = sym own ∙ eqb-true _ _ both.0 in
-          let sent : is_sent_to s (step w (Asked (Pull d))).reply ≡ true =
-          winner_sent w d s fine (won ∙ ap (λ (n : ℕ). Some n) is) in
+          let sent : is_sent_to s (step w (Asked (Pull d limits))).reply ≡ true =
+          winner_sent w d limits s fine (won ∙ ap (λ (n : ℕ). Some n) is) in
           let in_class : same_class d c ≡ true = subst (λ (z : Class). same_class z c ≡ true) of both.1 in
-          let one : sends_by w s c (Asked (Pull d)) ≡ 1 = rw (in_class, sent) refl in omega arith)
+          let one : sends_by w s c (Asked (Pull d limits)) ≡ 1 = rw (in_class, sent) refl in omega arith)
     ]
 
 less_done : (note : Note) (w : World) (c : Class) (s : ℕ) → refusal w note ≡ None → IsKept (books w) →
     sends_by w s c note ≡ 0 →
-    Less (longest_exchange w.config) c s (owing w s c note) (books w) (books (outcome_of w note).world)
+    Less (longest_exchange w.config c) c s (owing w s c note) (books w) (books (outcome_of w note).world)
 unfolding outcome_of tick_outcome
 less_done (Enqueue k t flow len) w c s r kept unsent =
     less_same _ c s (books w) _ (ap (λ (b : Books). b.opened) (books_enqueued w k t flow len))
@@ -192,7 +196,7 @@ less_done (Asked (Leave k)) w c s r kept unsent =
 less_done (Asked (Rate k rate)) w c s r kept unsent =
     less_same _ c s (books w) _ (ap (λ (b : Books). b.opened) (books_with_rate w k rate))
 less_done (Asked (Tick by)) w c s r kept unsent = less_same _ c s (books w) (books w) refl
-less_done (Asked (Pull d)) w c s r kept unsent = less_pulled _ w d c s r unsent
+less_done (Asked (Pull d l)) w c s r kept unsent = less_pulled _ w d c l s r unsent
 less_done (Asked (Arrive e n)) w c s r kept unsent = less_open _ w e (exchange w e) _ c s (λ _. 0) refl refl
     (λ x f. less_same _ c s (books w) _ (ap (λ (b : Books). b.opened) (books_arrived w e n x kept f)))
 less_done (Asked (Answer e)) w c s r kept unsent = less_open _ w e (exchange w e) _ c s (λ _. 0) refl refl
@@ -204,6 +208,12 @@ less_done (Asked (Done e heard air)) w c s r kept unsent =
     (ap (λ (b : Books). b.opened) (books_ended air w x heard)))
 less_done (Asked (Sleep k)) w c s r kept unsent =
     less_same _ c s (books w) _ (ap (λ (b : Books). b.opened) (books_slept w k))
+less_done (Asked (Ampdu k octets)) w c s r kept unsent =
+    less_same _ c s (books w) _ (ap (λ (b : Books). b.opened) (books_stated w k octets))
+less_done (Asked (Stop k)) w c s r kept unsent =
+    less_same _ c s (books w) _ (ap (λ (b : Books). b.opened) (books_stopped w k))
+less_done (Asked (Start k)) w c s r kept unsent =
+    less_same _ c s (books w) _ (ap (λ (b : Books). b.opened) (books_started w k))
 less_done (Asked (Wake k)) w c s r kept unsent =
     less_same _ c s (books w) _ (ap (λ (b : Books). b.opened) (books_woken w k))
 less_done (Asked (Poll k)) w c s r kept unsent =
@@ -214,36 +224,36 @@ less_done (Asked Reap) w c s r kept unsent =
     less_same _ c s (books w) _ (ap (λ (b : Books). b.opened) (books_reaped w.finished w))
 
 less_refused : (note : Note) (r : Refusal) (w : World) (c : Class) (s : ℕ) →
-    Less (longest_exchange w.config) c s 0 (books w) (books (after_refusal w note r))
+    Less (longest_exchange w.config c) c s 0 (books w) (books (after_refusal w note r))
 unfolding after_refusal
-less_refused (Asked (Pull d)) Idle w c s =
-    after_idle (λ v. Less (longest_exchange w.config) c s 0 (books w) (books v)) w d
+less_refused (Asked (Pull d l)) Idle w c s =
+    after_idle (λ v. Less (longest_exchange w.config c) c s 0 (books w) (books v)) w d
     (less_same _ c s (books w) (books w) refl)
     (less_same _ c s (books w) _ (ap (λ (b : Books). b.opened) (books_after_pick w d)))
 less_refused _ _ w c s = less_same _ c s (books w) (books w) refl
 
 less_answer : (r : Option Refusal) (w : World) (note : Note) (c : Class) (s : ℕ) → refusal w note ≡ r →
     IsKept (books w) → sends_by w s c note ≡ 0 →
-    Less (longest_exchange w.config) c s (charge_by w s c note) (books w)
+    Less (longest_exchange w.config c) c s (charge_by w s c note) (books w)
     (books (judged_outcome w note r).world)
 unfolding judged_outcome
-less_answer (Some r) w note c s e kept unsent = subst (λ (n : ℕ). Less (longest_exchange w.config) c s n
+less_answer (Some r) w note c s e kept unsent = subst (λ (n : ℕ). Less (longest_exchange w.config c) c s n
     (books w) (books (after_refusal w note r))) (sym (owing_refused note r w s c e))
     (less_refused note r w c s)
 less_answer None w note c s e kept unsent =
-    let done : Less (longest_exchange w.config) c s (owing w s c note) (books w)
+    let done : Less (longest_exchange w.config c) c s (owing w s c note) (books w)
     (books (outcome_of w note).world) = less_done note w c s e kept unsent in
-    let same : reserved (longest_exchange w.config) s c
+    let same : reserved (longest_exchange w.config c) s c
     (books (with_listings_of (outcome_of w note).world (concerned_station w note))).opened
-    ≡ reserved (longest_exchange w.config) s c (books (outcome_of w note).world).opened =
-    ap (reserved (longest_exchange w.config) s c)
+    ≡ reserved (longest_exchange w.config c) s c (books (outcome_of w note).world).opened =
+    ap (reserved (longest_exchange w.config c) s c)
     (opened_listed (concerned_station w note) (outcome_of w note).world) in
     record { most = omega (arith, owing_done note w s c e, same, done.most) }
 
 -- a call that opens no exchange of a station
 pub less_step : (w : World) (note : Note) (c : Class) (s : ℕ) → IsKept (books w) →
     sends_by w s c note ≡ 0 →
-    Less (longest_exchange w.config) c s (charge_by w s c note) (books w) (books (step w note).world)
+    Less (longest_exchange w.config c) c s (charge_by w s c note) (books w) (books (step w note).world)
 unfolding step
 less_step w note c s kept unsent = less_answer (refusal w note) w note c s refl kept unsent
 
@@ -255,7 +265,7 @@ sends_append (x ∷ es) w s c e = omega (arith, sends_append es (step w x.1).wor
 
 -- entries that open no exchange of a station
 pub less_run : (es : List Entry) (l : ℕ) (w : World) (c : Class) (s : ℕ) → IsKept (books w) →
-    longest_exchange w.config ≡ l → sends w s c es ≡ 0 →
+    longest_exchange w.config c ≡ l → sends w s c es ≡ 0 →
     Less l c s (charges w s c es) (books w) (books (world_after w es))
 unfolding world_after
 less_run [] l w c s kept same unsent = record { most = omega arith }
@@ -266,5 +276,5 @@ less_run (e ∷ es) l w c s kept same unsent =
     let rest : Less l c s (charges (step w e.1).world s c es) (books (step w e.1).world)
     (books (world_after (step w e.1).world es)) =
     less_run es l (step w e.1).world c s (kept_step w e.1 kept)
-    (ap longest_exchange (config_step w e.1) ∙ same) (omega arith) in
+    (ap (λ (z : Config). longest_exchange z c) (config_step w e.1) ∙ same) (omega arith) in
     record { most = omega (arith, now.most, rest.most) }

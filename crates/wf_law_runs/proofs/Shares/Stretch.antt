@@ -129,7 +129,7 @@ pub record IsHeld (config : Config) (c : Class) (s i n p q : ℕ) (w v : World) 
   pub other_received : (share w i c).received ≤ (share v i c).received
   pub held : config.pending ≡ 0 → (share v i c).charged + at_stake config i c (map core v.opened) + 1
       ≤ (share w i c).charged + config.quantum * (station w i).weight *
-      ((share v s c).quanta - (share w s c).quanta + 1) + most_owed config
+      ((share v s c).quanta - (share w s c).quanta + 1) + most_owed config c
 
 positive : (m n : ℕ) → 0 < m → 0 < n → 1 ≤ m * n
 positive m n h k = grind arith
@@ -155,8 +155,8 @@ held_first config c s i w same k live = record {
   held = λ _. go (config.quantum * (station w i).weight) some stake;
 }
   where
-    stake : at_stake config i c (map core w.opened) ≤ most_owed config
-    stake = subst (λ (z : Config). at_stake z i c (map core w.opened) ≤ most_owed z) same
+    stake : at_stake config i c (map core w.opened) ≤ most_owed config c
+    stake = subst (λ (z : Config). at_stake z i c (map core w.opened) ≤ most_owed z c) same
         (at_stake_most (books w) k i c)
 
     wide : 0 < config.quantum
@@ -165,9 +165,9 @@ held_first config c s i w same k live = record {
     some : 1 ≤ config.quantum * (station w i).weight
     some = positive _ _ wide (if_weight w.config i w (at None w.stations i) live (k.goods i))
 
-    go : (u : ℕ) → 1 ≤ u → at_stake config i c (map core w.opened) ≤ most_owed config →
+    go : (u : ℕ) → 1 ≤ u → at_stake config i c (map core w.opened) ≤ most_owed config c →
         (share w i c).charged + at_stake config i c (map core w.opened) + 1
-        ≤ (share w i c).charged + u * ((share w s c).quanta - (share w s c).quanta + 1) + most_owed config
+        ≤ (share w i c).charged + u * ((share w s c).quanta - (share w s c).quanta + 1) + most_owed config c
     go u one h =
         let e : (share w s c).quanta - (share w s c).quanta + 1 ≡ 1 = omega arith in
         rw e (omega arith)
@@ -197,10 +197,10 @@ money_below : (u q : ℕ) (d : ℤ) (ch rc : ℕ) → d ≡ pos (u + u * q) -ℤ
 money_below u q d ch rc e h = omega (arith, ints)
 
 -- without the setting `pending`, a deficit is at most one quantum
-pub most_off : (config : Config) (u : ℕ) (d : ℤ) → config.pending ≡ 0 → d ≤ℤ pos (u + most_covered config) →
-    d ≤ℤ pos u
-most_off config u d off h =
-    let none : most_covered config ≡ 0 = rw off refl in
+pub most_off : (config : Config) (c : Class) (u : ℕ) (d : ℤ) → config.pending ≡ 0 →
+    d ≤ℤ pos (u + most_covered config c) → d ≤ℤ pos u
+most_off config c u d off h =
+    let none : most_covered config c ≡ 0 = rw off refl in
     omega (arith, ints)
 
 -- the worlds in which a stretch may begin, and those that follow
@@ -226,8 +226,8 @@ ground_run config es w g = record {
 }
 
 pub ground_money : (config : Config) (w : World) (s : ℕ) (c : Class) → IsGround config w →
-    is_live w s ≡ true → IsMoney config (owed s c w.opened) (station w s).weight (share w s c)
-ground_money config w s c g live = subst (λ (z : Config). IsMoney z (owed s c w.opened) (station w s).weight
+    is_live w s ≡ true → IsMoney config c (owed s c w.opened) (station w s).weight (share w s c)
+ground_money config w s c g live = subst (λ (z : Config). IsMoney z c (owed s c w.opened) (station w s).weight
     (share w s c)) g.same (money w s c g.fair g.kept live)
 
 -- a live station's quantum is above 0
@@ -264,14 +264,14 @@ held_step config t c s i n p q w v note differs g gv start h h' k = record {
     | inl less ↦ held_less (config.quantum * (station w i).weight) (share v i c).charged
         (at_stake config i c (map core v.opened)) (share (step v note).world i c).charged
         (at_stake config i c (map core (step v note).world.opened)) (share w i c).charged
-        (share v s c).quanta (share (step v note).world s c).quanta (share w s c).quanta (most_owed config)
+        (share v s c).quanta (share (step v note).world s c).quanta (share w s c).quanta (most_owed config c)
         (rw (at_i, at_i') at (subst (Spent c i v (step v note).world) gv.same less)) (k.held off) m_own.quanta
     | inr won ↦ held_won (config.quantum * (station w i).weight)
         ((share (step v note).world i c).quanta - (share w i c).quanta) (share w i c).quanta
         ((share (step v note).world s c).quanta - (share w s c).quanta)
         (share (step v note).world i c).charged (share (step v note).world i c).received
         (share w i c).charged (share w i c).received
-        (at_stake config i c (map core (step v note).world.opened)) (most_owed config)
+        (at_stake config i c (map core (step v note).world.opened)) (most_owed config c)
         (subst (λ (q : ℕ). (share (step v note).world i c).charged +
         (share (step v note).world i c).received + 1 ≤ config.quantum * (station w i).weight +
         config.quantum * (station w i).weight * q) grows (above won.1)) (below off)
@@ -283,7 +283,7 @@ held_step config t c s i n p q w v note differs g gv start h h' k = record {
     g' : IsGround config (step v note).world
     g' = ground_step config v note gv
 
-    m : IsMove (longest_exchange v.config) c s i (books v) (books (step v note).world)
+    m : IsMove (longest_exchange v.config c) c s i (books v) (books (step v note).world)
     m = move_step v note c s i gv.kept differs (stays_step t c s i v (step v note).world gv.kept g'.kept h h')
 
     at_i : acc (books v) i ≡ account (station v i)
@@ -330,8 +330,9 @@ held_step config t c s i n p q w v note differs g gv start h h' k = record {
         ((share v i c).received + air_by v i c note) (share (step v note).world i c)
     sum_i = added_step v note i c gv.kept h.live h'.live
 
-    stake : at_stake config i c (map core (step v note).world.opened) ≤ most_owed config
-    stake = subst (λ (z : Config). at_stake z i c (map core (step v note).world.opened) ≤ most_owed z) g'.same
+    stake : at_stake config i c (map core (step v note).world.opened) ≤ most_owed config c
+    stake =
+        subst (λ (z : Config). at_stake z i c (map core (step v note).world.opened) ≤ most_owed z c) g'.same
         (at_stake_most (books (step v note).world) g'.kept i c)
 
     weight : (station (step v note).world i).weight ≡ (station w i).weight
@@ -352,7 +353,7 @@ held_step config t c s i n p q w v note differs g gv start h h' k = record {
         ≤ (share w i c).charged + (share w i c).received
     below off = let was = ground_money config w i c g start in
         money_below _ _ (share w i c).deficit _ _ was.exact
-        (most_off config (config.quantum * (station w i).weight) (share w i c).deficit off was.most)
+        (most_off config c (config.quantum * (station w i).weight) (share w i c).deficit off was.most)
 
 -- ---- entry by entry
 

@@ -1,10 +1,12 @@
 -- Proves how a call changes the quanta and charges of two stations of a class, one of which keeps its place
 -- in the rotation. By cases of the call.
 use Rattle.std.proofs.Common.{◌≡◌, refl, ap, sym, ◌∙◌, subst, arith, ℕ, zero, suc, ◌+◌, ◌*◌, ◌<◌, ◌≤◌, pos, ◌≤ℤ◌, Bool, true, false, if◌then◌else◌, List, [], ◌∷◌, Option, Some, None, is_some, IfSome, unwrap_or, not, ◌&&◌, ◌==◌, inl, inr, ◌⊎◌, ℤ, ◌-ℤ◌}
-use Rattle.std.proofs.lemmas.Bool.{cases_eq, ne_eqb, and_parts, not-true, not_from_false}
+use Rattle.std.proofs.lemmas.Bool.{cases_eq, ne_eqb, eqb-true, and_parts, not-true, not_from_false}
+use Rattle.wf_frame.specs.declared.settings.Config.{Config}
 use Rattle.wf_frame.specs.declared.classes.Class.{Class}
 use Rattle.wf_frame.specs.declared.classes.Class.TheVariants.{Bk, Be, Vi, Vo}
-use Rattle.wf_frame.specs.declared.notes.Ask.TheVariants.{Join, Leave, Rate, Tick, Pull, Arrive, Answer, Done, Sleep, Wake, Poll, Rx, Reap}
+use Rattle.wf_frame.specs.declared.notes.Ask.TheVariants.{Join, Leave, Rate, Tick, Pull, Arrive, Answer, Done, Sleep, Wake, Poll, Rx, Reap, Ampdu, Stop, Start}
+use Rattle.wf_frame.specs.declared.notes.Limits.{Limits}
 use Rattle.wf_frame.specs.declared.notes.Note.{Note}
 use Rattle.wf_frame.specs.declared.notes.Note.TheVariants.{Enqueue, Asked}
 use Rattle.wf_frame.specs.declared.notes.Refusal.{Refusal}
@@ -15,7 +17,7 @@ use Rattle.wf_def_lists.specs.Lists.{on}
 use Rattle.wf_def_rotation.specs.Rotation.{Rotation, has_key, in_order, without_key, Picked, with_key_listed}
 use Rattle.wf_def_world.specs.World.{World, Exchange, no_station, rotation, is_live, exchange, with_rotation}
 use Rattle.wf_def_world.specs.CanSend.{is_ready, with_listing_in, with_listings_in, with_listings_of, is_to_list}
-use Rattle.wf_def_world.specs.Exchanges.{Prepared, station_need, picked_station, after_pick, after_tid_turn, prepared_exchange, exchange_of, sending_tid, charge_of}
+use Rattle.wf_def_world.specs.Exchanges.{Prepared, station_need, picked_station, after_tid_turn, prepared_exchange, exchange_of, sending_tid, charge_of}
 use Rattle.wf_def_world.specs.Refusals.{refusals, refusal}
 use Rattle.wf_def_world.specs.Step.{Outcome, tick_outcome, pull_outcome_for, pull_outcome, done_outcome, outcome_where_open, join_outcome, outcome_of, after_refusal, judged_outcome, step, concerned_station}
 use Rattle.wf_def_world.specs.Stretches.{charge_to}
@@ -23,8 +25,9 @@ use Rattle.wf_law_runs.specs.Deficits.{longest_exchange}
 use Rattle.wf_law_rules.proofs.Lemmas.Counts.{ahead, on-append, on-filter, listed-some}
 use Rattle.wf_law_rules.proofs.Lemmas.Rotations.{IsWinner, pick_keeps, pick_winner}
 use Rattle.wf_law_runs.proofs.Common.Refused.{after_idle}
-use Rattle.wf_law_runs.proofs.Deficits.Books.{Account, account, core, Books, books, with_account, with_lists, upd_same, updc, updc_same, updc_other, cases_class, books_with_rotation}
-use Rattle.wf_law_runs.proofs.Deficits.BookSteps.{books_after_turn, books_prepared, books_sent, with_opened, books_ended, books_gone, all_off, books_enqueued, books_received, books_reaped, books_slept, books_woken, books_credited, books_with_rate, fresh_account, books_joined, after, books_after_pick}
+use Rattle.wf_law_runs.proofs.Common.Limits.{with_limits}
+use Rattle.wf_law_runs.proofs.Deficits.Books.{Account, account, core, Books, books, with_account, with_lists, upd_same, updc, updc_same, updc_other, cases_class, same_number, books_with_rotation}
+use Rattle.wf_law_runs.proofs.Deficits.BookSteps.{books_after_turn, books_prepared, books_sent, with_opened, books_ended, books_gone, all_off, books_enqueued, books_received, books_reaped, books_slept, books_woken, books_credited, books_with_rate, fresh_account, books_joined, after, books_after_pick, books_stated, books_stopped, books_started}
 use Rattle.wf_law_runs.proofs.Deficits.Openings.{reserved, reserved-append, reserved-ended, part_of}
 use Rattle.wf_law_runs.proofs.Deficits.Kept.{IsKept, if_same, above_after, listed-on, counted_in, standing_of}
 use Rattle.wf_law_runs.proofs.Deficits.KeptStep.{NoRow, no_row, live_account, need_is, IsFound, at_number, books_arrived, books_answered, charge_within}
@@ -338,12 +341,12 @@ pulled_by P (Some k) v d none some =
     (subst (λ (b : Books). P (with_opened b (exchange_of k t d p))) (sym e)
     (some k (exchange_of k t d p) refl refl refl))
 
-move_pulled : (l : ℕ) (w : World) (d c : Class) (s i : ℕ) → IsKept (books w) → (s ≡ i → ⊥) →
-    Stays c s i w (books (pull_outcome w d).world) →
-    IsMove l c s i (books w) (books (pull_outcome w d).world)
+move_pulled : (l : ℕ) (w : World) (d c : Class) (limits : Limits) (s i : ℕ) → IsKept (books w) → (s ≡ i → ⊥) →
+    Stays c s i w (books (pull_outcome w d limits).world) →
+    IsMove l c s i (books w) (books (pull_outcome w d limits).world)
 unfolding pull_outcome
-move_pulled l w d c s i k differs h = pulled_by (IsMove l c s i (books w)) (picked_station w d).winner
-    (after_pick w d) d
+move_pulled l w d c limits s i k differs h = pulled_by (IsMove l c s i (books w)) (picked_station w d).winner
+    (with_limits w d limits) d
     (λ _. subst (IsMove l c s i (books w)) (sym (books_after_pick w d)) picks)
     (λ v x won own of. subst (λ (b : Books). IsMove l c s i (books w) (with_opened b x))
     (sym (books_after_pick w d)) (opens v x won own of))
@@ -352,7 +355,7 @@ move_pulled l w d c s i k differs h = pulled_by (IsMove l c s i (books w)) (pick
     ends = after (books w) d (picked_station w d)
 
     picks : IsMove l c s i (books w) (after (books w) d (picked_station w d))
-    picks = move_after l w d c s i k differs (stays_calm c s i w _ _ (calm_pulled w d) h)
+    picks = move_after l w d c s i k differs (stays_calm c s i w _ _ (calm_pulled w d limits) h)
 
     more : (v : ℤ) (n : ℕ) → pos 1 ≤ℤ (v -ℤ pos n) → pos 1 ≤ℤ v
     more v n h = omega (arith, ints)
@@ -365,7 +368,7 @@ move_pulled l w d c s i k differs h = pulled_by (IsMove l c s i (books w)) (pick
         pick_winner (station_need w c) (is_ready w c) (rotation w c) i won in
         let stays : Stays c s i w (after (books w) c (picked_station w c)) =
         subst (λ (z : Class). Stays c s i w (after (books w) z (picked_station w z))) e
-        (stays_calm c s i w _ _ (calm_pulled w d) h) in
+        (stays_calm c s i w _ _ (calm_pulled w d limits) h) in
         let first : lead s i (picked_station w c).lists ≡ 0 =
         win_lead (station_need w c) (is_ready w c) (rotation w c) s i (k.once c) differs won in
         let above : pos 1 ≤ℤ ((acc (after (books w) c (picked_station w c)) i).shares c).deficit =
@@ -470,27 +473,32 @@ move_gone l w k c s i h = move_lists l c s i (books w) (with_account (books w) k
 
 -- ---- an exchange ends
 
-pub charge_most : (air : Option ℕ) (x : Exchange) (i l : ℕ) (c : Class) → charge_of air x ≤ l →
-    charge_to i c air (Some x) ≤ part_of l i c x
-charge_most air x i l c h = go ((x.station == i) && same_class x.class c)
+-- what an exchange of a class is charged is at most the longest charge of the class
+pub charge_most : (config : Config) (air : Option ℕ) (x : Exchange) (i : ℕ) (c : Class) →
+    charge_of air x ≤ longest_exchange config x.class →
+    charge_to i c air (Some x) ≤ part_of (longest_exchange config c) i c x
+charge_most config air x i c h = go (x.station == i) (same_class x.class c) refl
   where
-    go : (b : Bool) → (if b then charge_of air x else 0) ≤ (if b then l else 0)
-    go true = h
-    go false = omega arith
+    go : (a b : Bool) → same_class x.class c ≡ b →
+        (if a && b then charge_of air x else 0) ≤ (if a && b then longest_exchange config c else 0)
+    go true true e = subst (λ (d : Class). charge_of air x ≤ longest_exchange config d)
+        (same_number x.class c (eqb-true _ _ e)) h
+    go true false e = omega arith
+    go false b e = omega arith
 
 move_ended : (air : Option ℕ) (w : World) (e : ℕ) (x : Exchange) (heard : Bool) (c : Class) (s i : ℕ) →
-    IsKept (books w) → IsFound w e x → charge_of air x ≤ longest_exchange w.config →
+    IsKept (books w) → IsFound w e x → charge_of air x ≤ longest_exchange w.config x.class →
     0 < on (in_order (rotation w c)) s →
-    IsMove (longest_exchange w.config) c s i (books w) (books (done_outcome w x heard air).world)
+    IsMove (longest_exchange w.config c) c s i (books w) (books (done_outcome w x heard air).world)
 move_ended air w e x heard c s i k found most listed =
-    move_turn (longest_exchange w.config) c s i _ _ (books w) _ listed
+    move_turn (longest_exchange w.config c) c s i _ _ (books w) _ listed
     (ap (λ (b : Books). b.rotations c) (books_ended air w x heard))
-    (subst (λ (b : Books). charge_to i c air (Some x) + reserved (longest_exchange w.config) i c b.opened
-    ≤ reserved (longest_exchange w.config) i c (books w).opened) (sym (books_ended air w x heard))
+    (subst (λ (b : Books). charge_to i c air (Some x) + reserved (longest_exchange w.config c) i c b.opened
+    ≤ reserved (longest_exchange w.config c) i c (books w).opened) (sym (books_ended air w x heard))
     (omega (
       arith,
-      charge_most air x i (longest_exchange w.config) c most,
-      reserved-ended (longest_exchange w.config) i c (books w).opened (core x) x.number
+      charge_most w.config air x i c most,
+      reserved-ended (longest_exchange w.config c) i c (books w).opened (core x) x.number
           (at_number w e x found),
     )))
     (turn_ended air w e x heard c i s k found)
@@ -513,25 +521,25 @@ move_same l c s i b b' listed e = subst (IsMove l c s i b) (sym e)
 
 move_done : (note : Note) (w : World) (c : Class) (s i : ℕ) → NoRow (refusals w note) → IsKept (books w) →
     (s ≡ i → ⊥) → Stays c s i w (books (outcome_of w note).world) →
-    IsMove (longest_exchange w.config) c s i (books w) (books (outcome_of w note).world)
+    IsMove (longest_exchange w.config c) c s i (books w) (books (outcome_of w note).world)
 unfolding outcome_of tick_outcome
 move_done (Enqueue k t flow len) w c s i r kept differs h =
     move_same _ c s i _ _ (stays_listed c s i w _ h) (books_enqueued w k t flow len)
 move_done (Asked (Join k window start exponent weight)) w c s i r kept differs h =
     move_joined _ w k window start exponent weight c s i r.1.1.1.1.1.0 kept h
 move_done (Asked (Leave k)) w c s i r kept differs h =
-    subst (λ (b : Books). Stays c s i w b → IsMove (longest_exchange w.config) c s i (books w) b)
+    subst (λ (b : Books). Stays c s i w b → IsMove (longest_exchange w.config c) c s i (books w) b)
     (sym (books_gone w k)) (move_gone _ w k c s i) h
 move_done (Asked (Rate k rate)) w c s i r kept differs h =
     move_turn _ c s i 0 0 (books w) _ (stays_listed c s i w _ h)
     (ap (λ (b : Books). b.rotations c) (books_with_rate w k rate))
-    (subst (λ (b : Books). 0 + reserved (longest_exchange w.config) i c b.opened
-    ≤ reserved (longest_exchange w.config) i c (books w).opened) (sym (books_with_rate w k rate))
+    (subst (λ (b : Books). 0 + reserved (longest_exchange w.config c) i c b.opened
+    ≤ reserved (longest_exchange w.config c) i c (books w).opened) (sym (books_with_rate w k rate))
     (omega arith))
     (turn_rated w k rate c i s)
 move_done (Asked (Tick by)) w c s i r kept differs h =
     move_same _ c s i _ _ (stays_listed c s i w _ h) refl
-move_done (Asked (Pull d)) w c s i r kept differs h = move_pulled _ w d c s i kept differs h
+move_done (Asked (Pull d l)) w c s i r kept differs h = move_pulled _ w d c l s i kept differs h
 move_done (Asked (Arrive e n)) w c s i r kept differs h =
     move_open _ w e (exchange w e) _ c s i (stays_listed c s i w _ h) refl
     (λ x f. move_same _ c s i _ _ (stays_listed c s i w _ h) (books_arrived w e n x kept f))
@@ -544,6 +552,12 @@ move_done (Asked (Done e heard air)) w c s i r kept differs h =
     (stays_listed c s i w _ h))
 move_done (Asked (Sleep k)) w c s i r kept differs h =
     move_same _ c s i _ _ (stays_listed c s i w _ h) (books_slept w k)
+move_done (Asked (Ampdu k octets)) w c s i r kept differs h =
+    move_same _ c s i _ _ (stays_listed c s i w _ h) (books_stated w k octets)
+move_done (Asked (Stop k)) w c s i r kept differs h =
+    move_same _ c s i _ _ (stays_listed c s i w _ h) (books_stopped w k)
+move_done (Asked (Start k)) w c s i r kept differs h =
+    move_same _ c s i _ _ (stays_listed c s i w _ h) (books_started w k)
 move_done (Asked (Wake k)) w c s i r kept differs h =
     move_same _ c s i _ _ (stays_listed c s i w _ h) (books_woken w k)
 move_done (Asked (Poll k)) w c s i r kept differs h =
@@ -551,8 +565,8 @@ move_done (Asked (Poll k)) w c s i r kept differs h =
 move_done (Asked (Rx k d air)) w c s i r kept differs h =
     move_turn _ c s i 0 0 (books w) _ (stays_listed c s i w _ h)
     (ap (λ (b : Books). b.rotations c) (books_received w k d air))
-    (subst (λ (b : Books). 0 + reserved (longest_exchange w.config) i c b.opened
-    ≤ reserved (longest_exchange w.config) i c (books w).opened) (sym (books_received w k d air))
+    (subst (λ (b : Books). 0 + reserved (longest_exchange w.config c) i c b.opened
+    ≤ reserved (longest_exchange w.config c) i c (books w).opened) (sym (books_received w k d air))
     (omega arith))
     (turn_received w k d air c i s)
 move_done (Asked Reap) w c s i r kept differs h =
@@ -560,19 +574,19 @@ move_done (Asked Reap) w c s i r kept differs h =
 
 move_refused : (note : Note) (r : Refusal) (w : World) (c : Class) (s i : ℕ) → IsKept (books w) →
     (s ≡ i → ⊥) → Stays c s i w (books (after_refusal w note r)) →
-    IsMove (longest_exchange w.config) c s i (books w) (books (after_refusal w note r))
+    IsMove (longest_exchange w.config c) c s i (books w) (books (after_refusal w note r))
 unfolding after_refusal
-move_refused (Asked (Pull d)) Idle w c s i kept differs h =
+move_refused (Asked (Pull d l)) Idle w c s i kept differs h =
     after_idle (λ v. Stays c s i w (books v) →
-    IsMove (longest_exchange w.config) c s i (books w) (books v)) w d
+    IsMove (longest_exchange w.config c) c s i (books w) (books v)) w d
     (λ stays. move_same _ c s i _ _ (stays_listed c s i w _ stays) refl)
-    (subst (λ (b : Books). Stays c s i w b → IsMove (longest_exchange w.config) c s i (books w) b)
+    (subst (λ (b : Books). Stays c s i w b → IsMove (longest_exchange w.config c) c s i (books w) b)
     (sym (books_after_pick w d)) (move_after _ w d c s i kept differs)) h
 move_refused _ _ w c s i kept differs h = move_same _ c s i _ _ (stays_listed c s i w _ h) refl
 
 move_answer : (r : Option Refusal) (w : World) (note : Note) (c : Class) (s i : ℕ) → refusal w note ≡ r →
     IsKept (books w) → (s ≡ i → ⊥) → Stays c s i w (books (judged_outcome w note r).world) →
-    IsMove (longest_exchange w.config) c s i (books w) (books (judged_outcome w note r).world)
+    IsMove (longest_exchange w.config c) c s i (books w) (books (judged_outcome w note r).world)
 unfolding judged_outcome
 move_answer (Some r) w note c s i e kept differs h = move_refused note r w c s i kept differs h
 move_answer None w note c s i e kept differs h =
@@ -581,6 +595,6 @@ move_answer None w note c s i e kept differs h =
 
 pub move_step : (w : World) (note : Note) (c : Class) (s i : ℕ) → IsKept (books w) → (s ≡ i → ⊥) →
     Stays c s i w (books (step w note).world) →
-    IsMove (longest_exchange w.config) c s i (books w) (books (step w note).world)
+    IsMove (longest_exchange w.config c) c s i (books w) (books (step w note).world)
 unfolding step
 move_step w note c s i kept differs h = move_answer (refusal w note) w note c s i refl kept differs h

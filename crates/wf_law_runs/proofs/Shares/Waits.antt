@@ -33,10 +33,10 @@ use Rattle.wf_law_runs.proofs.Shares.Covers.{covers_later}
 -- ---- the sparse law
 
 pub sparse_law : (config : Config) (h : List Entry) → SparseLaw config h
-sparse_law config h m s v c new is above sent =
+sparse_law config h m s v c l new is above sent =
     let w : World = world_at config h m in
     elim (picked_first (station_need w c) (is_ready w c) (rotation w c) s v (has-on _ _ new) is
-    (need_none (quantum w s) (standing w s c) above) (sent_winner w c v sent)) [
+    (need_none (quantum w s) (standing w s c) above) (sent_winner w c l v sent)) [
       | inl e ↦ inl e
       | inr front ↦ inr (on-has (keys_before s (rotation w c).new) v front)
     ]
@@ -61,34 +61,34 @@ debtor_number u n r k m debt d some (inr h) b = omega (arith, ints)
 -- apart from its open exchanges a station owes at most the setting `debt`
 debtor_stake : (config : Config) (w : World) (s : ℕ) (c : Class) → IsGround config w → is_live w s ≡ true →
     pos (at_stake config s c (map core w.opened)) ≤ℤ
-    ((share w s c).deficit +ℤ pos (config.debt + most_owed config))
+    ((share w s c).deficit +ℤ pos (config.debt + most_owed config c))
 debtor_stake config w s c g live =
     subst (λ (z : Config). pos (at_stake z s c (map core w.opened)) ≤ℤ
-    ((share w s c).deficit +ℤ pos (z.debt + most_owed z))) g.same
+    ((share w s c).deficit +ℤ pos (z.debt + most_owed z c))) g.same
     (go (at None w.stations s) live (g.kept.goods s))
   where
     go : (o : Option Station) → is_some o ≡ true →
         IfSome (option_map account o) (IsGood w.config (map core w.opened) s) →
         pos (at_stake w.config s c (map core w.opened)) ≤ℤ
         ((at no_share (unwrap_or o no_station).shares (class_number c)).deficit
-        +ℤ pos (w.config.debt + most_owed w.config))
+        +ℤ pos (w.config.debt + most_owed w.config c))
     go None is h = absurd (cc is)
     go (Some x) is h = (h.bounds c).least
 
 -- if a station was never charged for sending, its deficit covers its open exchanges
 quiet_stake : (config : Config) (w : World) (s : ℕ) (c : Class) → IsGround config w → is_live w s ≡ true →
     (share w s c).received ≡ 0 →
-    pos (1 + at_stake config s c (map core w.opened)) ≤ℤ ((share w s c).deficit +ℤ pos (most_owed config))
+    pos (1 + at_stake config s c (map core w.opened)) ≤ℤ ((share w s c).deficit +ℤ pos (most_owed config c))
 quiet_stake config w s c g live none =
     subst (λ (z : Config). pos (1 + at_stake z s c (map core w.opened)) ≤ℤ
-    ((share w s c).deficit +ℤ pos (most_owed z))) g.same
+    ((share w s c).deficit +ℤ pos (most_owed z c))) g.same
     (go (at None w.stations s) live none (g.kept.goods s))
   where
     go : (o : Option Station) → is_some o ≡ true →
         (at no_share (unwrap_or o no_station).shares (class_number c)).received ≡ 0 →
         IfSome (option_map account o) (IsGood w.config (map core w.opened) s) →
         pos (1 + at_stake w.config s c (map core w.opened)) ≤ℤ
-        ((at no_share (unwrap_or o no_station).shares (class_number c)).deficit +ℤ pos (most_owed w.config))
+        ((at no_share (unwrap_or o no_station).shares (class_number c)).deficit +ℤ pos (most_owed w.config c))
     go None is e h = absurd (cc is)
     go (Some x) is e h = (h.bounds c).quiet e
 
@@ -101,20 +101,20 @@ waiting_law config h range s i c a b order differs ready unsent live = record {
   most = rounds_most (got_between config h s c a b) _ (quantum_then config h b s) some
       (waited_number (quantum_then config h b s) (got_between config h s c a b)
       (received_between config h s c a b) (at_stake config s c (map core (world_at config h a).opened))
-      (most_owed config) (deficit_then config h a s c) some covers stake);
+      (most_owed config c) (deficit_then config h a s c) some covers stake);
   debtor = rounds_most (got_between config h s c a b) _ (quantum_then config h b s) some
       (debtor_number (quantum_then config h b s) (got_between config h s c a b)
       (received_between config h s c a b) (at_stake config s c (map core (world_at config h a).opened))
-      (most_owed config) config.debt (deficit_then config h a s c) some covers
+      (most_owed config c) config.debt (deficit_then config h a s c) some covers
       (debtor_stake config (world_at config h a) s c start (at_s a (omega arith) order)));
   quiet = λ none.
       let no_more : received_between config h s c a b ≡ 0 = omega (arith, between.own_received, none) in
       let before : (share (world_at config h a) s c).received ≡ 0 =
       omega (arith, between.own_received, none) in
-      rounds_most (got_between config h s c a b) (most_owed config) (quantum_then config h b s) some
+      rounds_most (got_between config h s c a b) (most_owed config c) (quantum_then config h b s) some
       (quiet_number (quantum_then config h b s) (got_between config h s c a b)
       (received_between config h s c a b) (at_stake config s c (map core (world_at config h a).opened))
-      (most_owed config) (deficit_then config h a s c) some covers no_more
+      (most_owed config c) (deficit_then config h a s c) some covers no_more
       (quiet_stake config (world_at config h a) s c start (at_s a (omega arith) order) before));
 }
   where
@@ -154,8 +154,8 @@ waiting_law config h range s i c a b order differs ready unsent live = record {
         (at_stake config s c (map core (world_at config h a).opened)) (deficit_then config h a s c)
     covers = covers_later config h s c a b _ order between.own_weight got
 
-    stake : at_stake config s c (map core (world_at config h a).opened) ≤ most_owed config
-    stake = subst (λ (z : Config). at_stake z s c (map core (world_at config h a).opened) ≤ most_owed z)
+    stake : at_stake config s c (map core (world_at config h a).opened) ≤ most_owed config c
+    stake = subst (λ (z : Config). at_stake z s c (map core (world_at config h a).opened) ≤ most_owed z c)
         start.same (at_stake_most (books (world_at config h a)) start.kept s c)
 
     some : 0 < quantum_then config h b s

@@ -50,7 +50,7 @@ awaited config h t c s i a b e range order differs fits counting near unsent spe
       (quiet_number (quantum_then config h b s) (got_between config h s c a b)
       (received_between config h s c a b)
       (owed s c (world_at config h a).opened) (errors e s c (world_at config h a)) (error_of config e)
-      (longest_computed config) (deficit_then config h a s c) some covers
+      (longest_computed config c) (deficit_then config h a s c) some covers
       (omega (arith, held.own_received, none)) (poised_a.floor (omega (arith, held.own_received, none))));
 }
   where

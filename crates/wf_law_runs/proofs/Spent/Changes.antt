@@ -3,8 +3,9 @@
 use Rattle.std.proofs.Common.{◌≡◌, refl, sym, ◌∙◌, subst, ℕ, ◌<◌, Bool, false, Option, Some, None, is_some, IfSome, option_map, ◌==◌, find, eq-eqb}
 use Rattle.std.proofs.lemmas.Bool.{and_parts, not-false, leb-true}
 use Rattle.wf_frame.specs.declared.classes.Class.{Class}
-use Rattle.wf_frame.specs.declared.notes.Ask.TheVariants.{Join, Leave, Rate, Tick, Pull, Arrive, Answer, Done, Sleep, Wake, Poll, Rx, Reap}
+use Rattle.wf_frame.specs.declared.notes.Ask.TheVariants.{Join, Leave, Rate, Tick, Pull, Arrive, Answer, Done, Sleep, Wake, Poll, Rx, Reap, Ampdu, Stop, Start}
 use Rattle.wf_frame.specs.declared.notes.AskedRate.{AskedRate}
+use Rattle.wf_frame.specs.declared.notes.Limits.{Limits}
 use Rattle.wf_frame.specs.declared.notes.Note.{Note}
 use Rattle.wf_frame.specs.declared.notes.Note.TheVariants.{Enqueue, Asked}
 use Rattle.wf_frame.specs.declared.notes.Refusal.{Refusal}
@@ -12,14 +13,15 @@ use Rattle.wf_frame.specs.declared.notes.Refusal.TheVariants.{Idle}
 use Rattle.wf_def_lists.specs.Table.{at}
 use Rattle.wf_def_world.specs.World.{World, Exchange, exchange}
 use Rattle.wf_def_world.specs.CanSend.{with_listings_of}
-use Rattle.wf_def_world.specs.Exchanges.{picked_station, after_pick, charge_of}
+use Rattle.wf_def_world.specs.Exchanges.{picked_station, charge_of}
 use Rattle.wf_def_world.specs.Refusals.{refusals, refusal}
 use Rattle.wf_def_world.specs.Step.{Outcome, tick_outcome, pull_outcome, done_outcome, outcome_where_open, outcome_of, concerned_station, after_refusal, judged_outcome, step}
 use Rattle.wf_law_runs.specs.Deficits.{IsNear}
 use Rattle.wf_law_runs.specs.Shares.{ChargesWithin}
 use Rattle.wf_law_runs.proofs.Common.Refused.{if_idle}
+use Rattle.wf_law_runs.proofs.Common.Limits.{with_limits}
 use Rattle.wf_law_runs.proofs.Deficits.Books.{core, Books, books, with_account, on_part}
-use Rattle.wf_law_runs.proofs.Deficits.BookSteps.{with_opened, with_charge, without, receive_share, rated, after, books_ended, books_gone, all_off, books_enqueued, books_received, books_reaped, books_slept, books_woken, books_credited, books_with_rate, fresh_account, books_joined, books_after_pick}
+use Rattle.wf_law_runs.proofs.Deficits.BookSteps.{with_opened, with_charge, without, receive_share, rated, after, books_ended, books_gone, all_off, books_enqueued, books_received, books_reaped, books_slept, books_woken, books_credited, books_with_rate, fresh_account, books_joined, books_after_pick, books_stated, books_stopped, books_started}
 use Rattle.wf_law_runs.proofs.Deficits.Kept.{IsKept}
 use Rattle.wf_law_runs.proofs.Deficits.KeptStep.{NoRow, no_row, live_account, IsFound, at_number, books_arrived, books_answered, kept_done}
 use Rattle.wf_law_runs.proofs.Deficits.Listing.{IsLonger, longer_listed}
@@ -63,9 +65,10 @@ module _ (err : ℕ) (w : World) (P : Books → Type 0) (kept : IsKept (books w)
   changes_ended e heard air (Some x) k near = changed _ _ (books_ended air w x heard)
       (p.ended (core x) (charge_of air x) (at_number w e x k) near)
 
-  changes_pulled : (d : Class) → IsKept (books (pull_outcome w d).world) → P (books (pull_outcome w d).world)
+  changes_pulled : (d : Class) (l : Limits) → IsKept (books (pull_outcome w d l).world) →
+      P (books (pull_outcome w d l).world)
   unfolding pull_outcome
-  changes_pulled d = pulled_by (λ b. IsKept b → P b) (picked_station w d).winner (after_pick w d) d
+  changes_pulled d l = pulled_by (λ b. IsKept b → P b) (picked_station w d).winner (with_limits w d l) d
       (λ _ _. changed _ _ (books_after_pick w d) (p.picked d))
       (λ k x won own of. subst (λ (b : Books). IsKept (with_opened b x) → P (with_opened b x))
       (sym (books_after_pick w d)) (p.sent d k x won own of))
@@ -81,7 +84,7 @@ module _ (err : ℕ) (w : World) (P : Books → Type 0) (kept : IsKept (books w)
   changes_done (Asked (Leave i)) fine r near k = changed _ _ (books_gone w i) (p.gone i)
   changes_done (Asked (Rate i rate)) fine r near k = changed _ _ (books_with_rate w i rate) (p.rates i rate)
   changes_done (Asked (Tick by)) fine r near k = p.same
-  changes_done (Asked (Pull d)) fine r near k = changes_pulled d k
+  changes_done (Asked (Pull d l)) fine r near k = changes_pulled d l k
   changes_done (Asked (Arrive e j)) fine r near k = changes_open (exchange w e) e _ refl
       (λ x f. changed _ _ (books_arrived w e j x kept f) p.same)
   changes_done (Asked (Answer e)) fine r near k = changes_open (exchange w e) e _ refl
@@ -89,6 +92,9 @@ module _ (err : ℕ) (w : World) (P : Books → Type 0) (kept : IsKept (books w)
   changes_done (Asked (Done e heard air)) fine r near k =
       changes_ended e heard air (exchange w e) refl (near fine)
   changes_done (Asked (Sleep i)) fine r near k = changed _ _ (books_slept w i) p.same
+  changes_done (Asked (Ampdu i octets)) fine r near k = changed _ _ (books_stated w i octets) p.same
+  changes_done (Asked (Stop i)) fine r near k = changed _ _ (books_stopped w i) p.same
+  changes_done (Asked (Start i)) fine r near k = changed _ _ (books_started w i) p.same
   changes_done (Asked (Wake i)) fine r near k = changed _ _ (books_woken w i) p.same
   changes_done (Asked (Poll i)) fine r near k = changed _ _ (books_credited w i) p.same
   changes_done (Asked (Rx i d air)) fine r near k = changed _ _ (books_received w i d air)
@@ -97,7 +103,7 @@ module _ (err : ℕ) (w : World) (P : Books → Type 0) (kept : IsKept (books w)
 
   changes_refused : (note : Note) (r : Refusal) → w.config.pending ≡ 1 → P (books (after_refusal w note r))
   unfolding after_refusal
-  changes_refused (Asked (Pull d)) Idle counting = if_idle (λ v. P (books v)) w d p.same
+  changes_refused (Asked (Pull d l)) Idle counting = if_idle (λ v. P (books v)) w d p.same
       (λ off. absurd (cc (eq-eqb w.config.pending 1 counting, off)))
   changes_refused _ _ counting = p.same
 

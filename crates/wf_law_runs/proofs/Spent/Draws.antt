@@ -33,7 +33,7 @@ draw err i c b = ((acc b i).shares c).charged + total (λ x. x.charge + err) i c
 -- A station's standing is above 0 less one exchange, and less the errors of charges that are not made yet.
 abbrev pub Floor : ℕ → ℕ → Class → Books → Type 0
 Floor err i c b = pos (1 + total (λ x. x.charge) i c b.opened + total (λ _. err) i c b.opened) ≤ℤ
-    (((acc b i).shares c).deficit +ℤ pos (longest_computed b.config + error_of b.config err))
+    (((acc b i).shares c).deficit +ℤ pos (longest_computed b.config c + error_of b.config err))
 
 -- From b to b' the draw does not rise, or an exchange opens.
 pub record Draws (err l i : ℕ) (c : Class) (b b' : Books) : Type 0 where
@@ -88,16 +88,16 @@ module _ (err : ℕ) (w : World) (kept : IsKept (books w)) (counting : w.config.
     (live : is_some ((books w).accounts i) ≡ true) where
   -- If station i is live in b, its draw changed as Draws says.
   abbrev Goal : Books → Type 0
-  Goal b = is_some (b.accounts i) ≡ true → Draws err (longest_exchange w.config) i c (books w) b
+  Goal b = is_some (b.accounts i) ≡ true → Draws err (longest_exchange w.config c) i c (books w) b
 
   draws_joined : (k weight : ℕ) → is_some ((books w).accounts k) ≡ false → 0 < weight →
       Goal (with_account (books w) k (Some (fresh_account w.config.quantum weight)))
-  draws_joined k weight dead some still = draws_acc err (longest_exchange w.config) i c (books w) _
+  draws_joined k weight dead some still = draws_acc err (longest_exchange w.config c) i c (books w) _
       (ap (λ (a : Account). (a.shares c).charged) (other_acc i k (books w) _
       (λ e. cc (dead, subst (λ (z : ℕ). is_some ((books w).accounts z) ≡ true) e live)))) refl
 
   draws_gone : (k : ℕ) → Goal (with_account (all_off (books w) k) k None)
-  draws_gone k still = draws_acc err (longest_exchange w.config) i c (books w) _
+  draws_gone k still = draws_acc err (longest_exchange w.config c) i c (books w) _
       (ap (λ (a : Account). (a.shares c).charged) (other_acc i k (all_off (books w) k) None other)) refl
     where
       other : i ≡ k → ⊥
@@ -109,12 +109,12 @@ module _ (err : ℕ) (w : World) (kept : IsKept (books w)) (counting : w.config.
 
   draws_rates : (k : ℕ) (rate : AskedRate) →
       Goal (with_account (books w) k (option_map (rated rate) ((books w).accounts k)))
-  draws_rates k rate still = draws_acc err (longest_exchange w.config) i c (books w) _
+  draws_rates k rate still = draws_acc err (longest_exchange w.config c) i c (books w) _
       (charged_on c i k (books w) (rated rate) (λ a. refl)) refl
 
   draws_heard : (k : ℕ) (d : Class) (air : ℕ) → 0 < air →
       Goal (with_account (books w) k (option_map (on_part d (receive_share air)) ((books w).accounts k)))
-  draws_heard k d air some still = draws_acc err (longest_exchange w.config) i c (books w) _
+  draws_heard k d air some still = draws_acc err (longest_exchange w.config c) i c (books w) _
       (charged_on c i k (books w) (on_part d (receive_share air))
       (λ a. each_updc (λ z x. x.charged ≡ (a.shares z).charged) a.shares d (receive_share air (a.shares d))
       (λ z. refl) refl c)) refl
@@ -136,7 +136,7 @@ module _ (err : ℕ) (w : World) (kept : IsKept (books w)) (counting : w.config.
       omega (arith, g.charged)
 
   draws_picked : (d : Class) → Goal (after (books w) d (picked_station w d))
-  draws_picked d still = draws_acc err (longest_exchange w.config) i c (books w) _ (charged_picked d) refl
+  draws_picked d still = draws_acc err (longest_exchange w.config c) i c (books w) _ (charged_picked d) refl
 
   known : (o : Option Account) → is_some o ≡ true → o ≡ Some (unwrap_or o (account no_station))
   known None e = absurd (cc e)
@@ -151,13 +151,12 @@ module _ (err : ℕ) (w : World) (kept : IsKept (books w)) (counting : w.config.
       Goal (with_opened (after (books w) d (picked_station w d)) x)
   draws_sent d k x won own of opens still = go ((x.station == i) && same_class x.class c) refl
     where
-      fits : (1 ≤ x.charge) × (x.charge ≤ longest_computed w.config)
-      fits = fits_sent err w kept counting poised d k x won own of opens
-
       go : (t : Bool) → ((x.station == i) && same_class x.class c) ≡ t →
-          Draws err (longest_exchange w.config) i c (books w)
+          Draws err (longest_exchange w.config c) i c (books w)
           (with_opened (after (books w) d (picked_station w d)) x)
       go true t =
+          let fits : (1 ≤ x.charge) × (x.charge ≤ longest_computed w.config c) =
+          fits_sent err w kept counting poised d k x won own of opens i c t in
           let charge : total (λ x. x.charge) i c ((books w).opened ++ core x ∷ [])
           ≡ total (λ x. x.charge) i c (books w).opened + x.charge =
           total-append (λ x. x.charge) i c (books w).opened (core x)
@@ -166,7 +165,7 @@ module _ (err : ℕ) (w : World) (kept : IsKept (books w)) (counting : w.config.
           ≡ total (λ _. err) i c (books w).opened + err =
           total-append (λ _. err) i c (books w).opened (core x)
           ∙ ap (λ (z : Bool). total (λ _. err) i c (books w).opened + (if z then err else 0)) t in
-          let more : part_of (longest_exchange w.config) i c (core x) ≡ longest_exchange w.config =
+          let more : part_of (longest_exchange w.config c) i c (core x) ≡ longest_exchange w.config c =
           rw t refl in
           record {
             draws = inr (
@@ -174,13 +173,13 @@ module _ (err : ℕ) (w : World) (kept : IsKept (books w)) (counting : w.config.
                 arith,
                 charged_picked d,
                 more,
-                reserved-append (longest_exchange w.config) i c (books w).opened (core x),
+                reserved-append (longest_exchange w.config c) i c (books w).opened (core x),
                 fits.0,
                 fits.1,
-                le-max_left (longest_computed w.config) w.config.charge,
+                le-max_left (longest_computed w.config c) w.config.charge,
               ),
               rw (charge, errs) (floor_number (total (λ x. x.charge) i c (books w).opened)
-                  (total (λ _. err) i c (books w).opened) x.charge (longest_computed w.config)
+                  (total (λ _. err) i c (books w).opened) x.charge (longest_computed w.config c)
                   (error_of w.config err) _
                   (above_sent err w kept counting poised d k x won own of opens i c t _
                   (known ((after (books w) d (picked_station w d)).accounts i) still)) fits.1
@@ -201,7 +200,7 @@ module _ (err : ℕ) (w : World) (kept : IsKept (books w)) (counting : w.config.
   draws_lists : (b b' : Books) → b'.config ≡ b.config → b'.accounts ≡ b.accounts → b'.opened ≡ b.opened →
       Goal b → Goal b'
   draws_lists b b' config accounts opened h still =
-      let d : Draws err (longest_exchange w.config) i c (books w) b =
+      let d : Draws err (longest_exchange w.config c) i c (books w) b =
       h (subst (λ (f : ℕ → Option Account). is_some (f i) ≡ true) accounts still) in
       let at_i : acc b' i ≡ acc b i =
       ap (λ (f : ℕ → Option Account). unwrap_or (f i) (account no_station)) accounts in
@@ -214,7 +213,7 @@ module _ (err : ℕ) (w : World) (kept : IsKept (books w)) (counting : w.config.
 
   draws_changes : Changes err w Goal
   draws_changes = record {
-    same = λ still. draws_acc err (longest_exchange w.config) i c (books w) (books w) refl refl;
+    same = λ still. draws_acc err (longest_exchange w.config c) i c (books w) (books w) refl refl;
     joined = draws_joined;
     gone = draws_gone;
     rates = draws_rates;
@@ -226,6 +225,6 @@ module _ (err : ℕ) (w : World) (kept : IsKept (books w)) (counting : w.config.
   }
 
   pub draws_step : (note : Note) → ChargesWithin err w note → is_live (step w note).world i ≡ true →
-      Draws err (longest_exchange w.config) i c (books w) (books (step w note).world)
+      Draws err (longest_exchange w.config c) i c (books w) (books (step w note).world)
   draws_step note near still = changes_step err w Goal kept draws_changes note counting near
       (live_account (at None (step w note).world.stations i) ∙ still)

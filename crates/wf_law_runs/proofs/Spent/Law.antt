@@ -116,7 +116,7 @@ spent_bounds config h t c s i a b e range order differs fits counting near = rec
   spent = spent;
   weighted = weighted;
   even = λ quiet. even_spent config.quantum (weight_at config h b s) (weight_at config h b i)
-      (longest_computed config) (error_of config e) (received_between config h s c a b)
+      (longest_computed config c) (error_of config e) (received_between config h s c a b)
       (spent_between config h i c a b) (spent_between config h s c a b) (standing_then config h a s c)
       (omega arith) (omega (arith, held.own_received, quiet)) (above quiet) weighted;
 }
@@ -153,33 +153,33 @@ spent_bounds config h t c s i a b e range order differs fits counting near = rec
     drawn_b : draw e i c (books (world_at config h b)) + 1
         ≤ (share (world_at config h a) i c).charged + owed i c (world_at config h a).opened +
         config.quantum * weight_at config h b i * (got_between config h s c a b + 1) +
-        (longest_computed config + 2 * error_of config e)
+        (longest_computed config c + 2 * error_of config e)
     drawn_b = subst (λ (g : ℕ). draw e i c (books (world_at config h b)) + 1
         ≤ (share (world_at config h a) i c).charged + owed i c (world_at config h a).opened +
         config.quantum * g * (got_between config h s c a b + 1) +
-        (longest_computed config + 2 * error_of config e)) (sym held.other_weight)
+        (longest_computed config c + 2 * error_of config e)) (sym held.other_weight)
         (subst (λ (v : World). draw e i c (books v) + 1
         ≤ (share (world_at config h a) i c).charged + owed i c (world_at config h a).opened +
         config.quantum * weight_at config h a i * ((share v s c).quanta -
-        (share (world_at config h a) s c).quanta + 1) + (longest_computed config + 2 * error_of config e))
+        (share (world_at config h a) s c).quanta + 1) + (longest_computed config c + 2 * error_of config e))
         (sym (later_is config h a b order)) drawn)
 
     spent : spent_between config h i c a b ≤ℤ
-        pos (quantum_then config h b i * (got_between config h s c a b + 1) + excess config e)
+        pos (quantum_then config h b i * (got_between config h s c a b + 1) + excess config c e)
     spent = spent_number (charged_between config h i c a b) (owed i c (world_at config h b).opened)
         (owed i c (world_at config h a).opened) (share (world_at config h a) i c).charged
         (share (world_at config h b) i c).charged (errors e i c (world_at config h b))
         (quantum_then config h b i * (got_between config h s c a b + 1))
-        (longest_computed config + 2 * error_of config e) (draw e i c (books (world_at config h b)))
+        (longest_computed config c + 2 * error_of config e) (draw e i c (books (world_at config h b)))
         (draw_is e (world_at config h b) i c) held.other_charged drawn_b
 
-    money_a : IsMoney config (owed s c (world_at config h a).opened) (weight_at config h b s)
+    money_a : IsMoney config c (owed s c (world_at config h a).opened) (weight_at config h b s)
         (share (world_at config h a) s c)
-    money_a = subst (λ (g : ℕ). IsMoney config (owed s c (world_at config h a).opened) g
+    money_a = subst (λ (g : ℕ). IsMoney config c (owed s c (world_at config h a).opened) g
         (share (world_at config h a) s c)) (sym held.own_weight)
         (ground_money config (world_at config h a) s c start live_a)
 
-    money_b : IsMoney config (owed s c (world_at config h b).opened) (weight_at config h b s)
+    money_b : IsMoney config c (owed s c (world_at config h b).opened) (weight_at config h b s)
         (share (world_at config h b) s c)
     money_b = ground_money config (world_at config h b) s c end live_b
 
@@ -214,22 +214,22 @@ spent_bounds config h t c s i a b e range order differs fits counting near = rec
         ((pos (weight_at config h b i) *ℤ
         (spent_between config h s c a b +ℤ pos (received_between config h s c a b))) +ℤ
         pos (2 * config.quantum * weight_at config h b s * weight_at config h b i +
-        weight_at config h b s * excess config e + weight_at config h b i * error_of config e))
+        weight_at config h b s * excess config c e + weight_at config h b i * error_of config e))
     weighted = weigh_spent config.quantum (weight_at config h b s) (weight_at config h b i)
-        (got_between config h s c a b) (excess config e) (error_of config e)
+        (got_between config h s c a b) (excess config c e) (error_of config e)
         (received_between config h s c a b)
         (spent_between config h i c a b) (spent_between config h s c a b)
         (standing_then config h a s c) spent covers
 
     above : IsQuiet (world_at config h b) s c →
-        pos 1 ≤ℤ (standing_then config h a s c +ℤ pos (longest_computed config + error_of config e))
+        pos 1 ≤ℤ (standing_then config h a s c +ℤ pos (longest_computed config c + error_of config e))
     above quiet =
         let start_s : Poised config e s c (world_at config h a) =
         poised_station config e s c (world_at config h a) start
         (poised_at config h a e range counting parts.0) live_a in
         let before : (share (world_at config h a) s c).received ≡ 0 =
         omega (arith, held.own_received, quiet) in
-        subst (λ (z : ℤ). pos 1 ≤ℤ (z +ℤ pos (longest_computed config + error_of config e))) (sym stands)
+        subst (λ (z : ℤ). pos 1 ≤ℤ (z +ℤ pos (longest_computed config c + error_of config e))) (sym stands)
         (least _ _ _ _ (start_s.floor before))
       where
         least : (d : ℤ) (o k n : ℕ) → pos (1 + o + k) ≤ℤ (d +ℤ pos n) → pos 1 ≤ℤ ((d -ℤ pos o) +ℤ pos n)

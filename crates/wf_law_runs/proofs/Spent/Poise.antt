@@ -34,13 +34,13 @@ gives_back err x = min err x.charge
 
 -- The share of a station of this weight. o is the computed airtime of its open exchanges, m is the airtime
 -- that their charges may return, and k is the airtime that they may take beyond the computed airtime.
-pub record IsPoised (config : Config) (err o m k weight : ℕ) (x : Share) : Type 0 where
+pub record IsPoised (config : Config) (c : Class) (err o m k weight : ℕ) (x : Share) : Type 0 where
   pub most : (x.deficit +ℤ pos m) ≤ℤ pos (o + config.quantum * weight + error_of config err)
   pub floor : x.received ≡ 0 →
-      pos (1 + o + k) ≤ℤ (x.deficit +ℤ pos (longest_computed config + error_of config err))
+      pos (1 + o + k) ≤ℤ (x.deficit +ℤ pos (longest_computed config c + error_of config err))
 
 unfoldable pub HasPoise : ℕ → Config → List Exchange → ℕ → Account → Type 0
-HasPoise err config opened y a = (c : Class) → IsPoised config err (total (λ x. x.charge) y c opened)
+HasPoise err config opened y a = (c : Class) → IsPoised config c err (total (λ x. x.charge) y c opened)
     (total (gives_back err) y c opened) (total (λ _. err) y c opened) a.weight (a.shares c)
 
 pub record ArePoised (err : ℕ) (b : Books) : Type 0 where
@@ -48,17 +48,17 @@ pub record ArePoised (err : ℕ) (b : Books) : Type 0 where
 
 -- ---- one share
 
-poised_pay : (config : Config) (err o m k weight n : ℕ) (x : Share) →
+poised_pay : (config : Config) (c : Class) (err o m k weight n : ℕ) (x : Share) →
     n ≤ need_of (config.quantum * weight) (x.deficit -ℤ pos o) → m ≤ error_of config err →
-    IsPoised config err o m k weight x →
-    IsPoised config err o m k weight (pay_share (config.quantum * weight) n x)
-poised_pay config err o m k weight n x need less p = record {
+    IsPoised config c err o m k weight x →
+    IsPoised config c err o m k weight (pay_share (config.quantum * weight) n x)
+poised_pay config c err o m k weight n x need less p = record {
   most = go n need;
   floor = λ r. more (n * (config.quantum * weight)) (p.floor r);
 }
   where
-    more : (g : ℕ) → pos (1 + o + k) ≤ℤ (x.deficit +ℤ pos (longest_computed config + error_of config err)) →
-        pos (1 + o + k) ≤ℤ ((x.deficit +ℤ pos g) +ℤ pos (longest_computed config + error_of config err))
+    more : (g : ℕ) → pos (1 + o + k) ≤ℤ (x.deficit +ℤ pos (longest_computed config c + error_of config err)) →
+        pos (1 + o + k) ≤ℤ ((x.deficit +ℤ pos g) +ℤ pos (longest_computed config c + error_of config err))
     more g h = omega (arith, ints)
 
     over : (g u r : ℕ) → m ≤ r → ((x.deficit -ℤ pos o) +ℤ pos g) ≤ℤ pos u →
@@ -73,10 +73,10 @@ poised_pay config err o m k weight n x need less p = record {
         (error_of config err) less
         (paid_some (config.quantum * weight) (suc n) (x.deficit -ℤ pos o) (omega arith) h)
 
-poised_open : (config : Config) (err o m k charge weight : ℕ) (x : Share) → pos 1 ≤ℤ (x.deficit -ℤ pos o) →
-    charge ≤ longest_computed config → k + err ≤ error_of config err → IsPoised config err o m k weight x →
-    IsPoised config err (o + charge) (m + min err charge) (k + err) weight x
-poised_open config err o m k charge weight x above fits few p = record {
+poised_open : (config : Config) (c : Class) (err o m k charge weight : ℕ) (x : Share) →
+    pos 1 ≤ℤ (x.deficit -ℤ pos o) → charge ≤ longest_computed config c → k + err ≤ error_of config err →
+    IsPoised config c err o m k weight x → IsPoised config c err (o + charge) (m + min err charge) (k + err) weight x
+poised_open config c err o m k charge weight x above fits few p = record {
   most = omega (arith, ints, p.most, least);
   floor = λ r. omega (arith, ints);
 }
@@ -84,10 +84,10 @@ poised_open config err o m k charge weight x above fits few p = record {
     least : min err charge ≤ charge
     least = omega arith
 
-poised_end : (config : Config) (err o m k charge n weight : ℕ) (x : Share) → IsNear err n charge →
-    IsPoised config err (o + charge) (m + min err charge) (k + err) weight x →
-    IsPoised config err o m k weight (charge_share n x)
-poised_end config err o m k charge n weight x near p = record {
+poised_end : (config : Config) (c : Class) (err o m k charge n weight : ℕ) (x : Share) → IsNear err n charge →
+    IsPoised config c err (o + charge) (m + min err charge) (k + err) weight x →
+    IsPoised config c err o m k weight (charge_share n x)
+poised_end config c err o m k charge n weight x near p = record {
   most = omega (arith, ints, p.most, back);
   floor = λ r. omega (arith, ints, p.floor r, near.0);
 }
@@ -95,16 +95,16 @@ poised_end config err o m k charge n weight x near p = record {
     back : charge ≤ n + min err charge
     back = omega (arith, near.1)
 
-poised_receive : (config : Config) (err o m k air weight : ℕ) (x : Share) → 0 < air →
-    IsPoised config err o m k weight x → IsPoised config err o m k weight (receive_share air x)
-poised_receive config err o m k air weight x some p = record {
+poised_receive : (config : Config) (c : Class) (err o m k air weight : ℕ) (x : Share) → 0 < air →
+    IsPoised config c err o m k weight x → IsPoised config c err o m k weight (receive_share air x)
+poised_receive config c err o m k air weight x some p = record {
   most = omega (arith, ints, p.most);
   floor = λ r. absurd (omega arith);
 }
 
-poised_fresh : (config : Config) (err o m k weight : ℕ) → 0 < config.quantum → 0 < weight → o ≡ 0 → m ≡ 0 →
-    k ≡ 0 → IsPoised config err o m k weight (fresh_share (config.quantum * weight))
-poised_fresh config err o m k weight some w e f g =
+poised_fresh : (config : Config) (c : Class) (err o m k weight : ℕ) → 0 < config.quantum → 0 < weight →
+    o ≡ 0 → m ≡ 0 → k ≡ 0 → IsPoised config c err o m k weight (fresh_share (config.quantum * weight))
+poised_fresh config c err o m k weight some w e f g =
     let one : 1 ≤ config.quantum * weight = grind arith in
     record { most = omega (arith, ints); floor = λ r. omega (arith, ints) }
 
@@ -122,7 +122,7 @@ module _ (err : ℕ) (w : World) (kept : IsKept (books w)) (counting : w.config.
   unfolding HasPoise
   poised_joined i weight dead some = record {
     each = each_upd (λ y o. IfSome o (HasPoise err w.config (books w).opened y)) (books w).accounts i _ h.each
-        (λ c. poised_fresh w.config err _ _ _ weight (omega (arith, kept.range.quantum.0)) some
+        (λ c. poised_fresh w.config c err _ _ _ weight (omega (arith, kept.range.quantum.0)) some
         (total-none (λ x. x.charge) i c (books w).opened (away i dead))
         (total-none (gives_back err) i c (books w).opened (away i dead))
         (total-none (λ _. err) i c (books w).opened (away i dead)));
@@ -144,11 +144,11 @@ module _ (err : ℕ) (w : World) (kept : IsKept (books w)) (counting : w.config.
       (option_map (on_part d (receive_share air)) ((books w).accounts i)))
   unfolding HasPoise
   poised_heard i d air some = poised_on i (on_part d (receive_share air)) (λ a z.
-      each_updc (λ c x. IsPoised w.config err (total (λ x. x.charge) i c (books w).opened)
+      each_updc (λ c x. IsPoised w.config c err (total (λ x. x.charge) i c (books w).opened)
       (total (gives_back err) i c (books w).opened) (total (λ _. err) i c (books w).opened) a.weight x)
       a.shares d
       (receive_share air (a.shares d)) z
-      (poised_receive w.config err _ _ _ air a.weight (a.shares d) some (z d)))
+      (poised_receive w.config d err _ _ _ air a.weight (a.shares d) some (z d)))
 
   falls : (f : Exchange → ℕ) (x : Exchange) (s : ℕ) (c : Class) →
       find (λ z. z.number == x.number) (books w).opened ≡ Some x →
@@ -159,9 +159,9 @@ module _ (err : ℕ) (w : World) (kept : IsKept (books w)) (counting : w.config.
   poised_apart : (x : Exchange) (s : ℕ) (c : Class) (weight : ℕ) (y : Share) →
       find (λ z. z.number == x.number) (books w).opened ≡ Some x →
       (x.station ≡ s → class_number x.class ≡ class_number c → ⊥) →
-      IsPoised w.config err (total (λ x. x.charge) s c (books w).opened)
+      IsPoised w.config c err (total (λ x. x.charge) s c (books w).opened)
       (total (gives_back err) s c (books w).opened) (total (λ _. err) s c (books w).opened) weight y →
-      IsPoised w.config err (total (λ x. x.charge) s c (without (books w) x.number).opened)
+      IsPoised w.config c err (total (λ x. x.charge) s c (without (books w) x.number).opened)
       (total (gives_back err) s c (without (books w) x.number).opened)
       (total (λ _. err) s c (without (books w) x.number).opened) weight y
   poised_apart x s c weight y found other p =
@@ -199,13 +199,13 @@ module _ (err : ℕ) (w : World) (kept : IsKept (books w)) (counting : w.config.
         (if_map (HasPoise err w.config (books w).opened x.station)
         (HasPoise err w.config (without (books w) x.number).opened x.station)
         (on_part x.class (charge_share n)) ((books w).accounts x.station) (h.each x.station)
-        (λ a _ z. others_updc (λ c y. IsPoised w.config err
+        (λ a _ z. others_updc (λ c y. IsPoised w.config c err
         (total (λ x. x.charge) x.station c (without (books w) x.number).opened)
         (total (gives_back err) x.station c (without (books w) x.number).opened)
         (total (λ _. err) x.station c (without (books w) x.number).opened) a.weight y) a.shares x.class
         (charge_share n (a.shares x.class))
         (λ c other. poised_apart x x.station c a.weight (a.shares c) found (λ _ e. other (sym e)) (z c))
-        (poised_end w.config err _ _ _ x.charge n a.weight (a.shares x.class) near
+        (poised_end w.config x.class err _ _ _ x.charge n a.weight (a.shares x.class) near
         (rw (whole (λ x. x.charge), whole (gives_back err), whole (λ _. err)) (z x.class)))));
   }
     where
@@ -249,11 +249,11 @@ module _ (err : ℕ) (w : World) (kept : IsKept (books w)) (counting : w.config.
         ((books w).accounts y) (both (HasPoise err w.config (books w).opened y)
         (λ a. (picked_station w d).quanta y ≤ need_in (books w) y d a) ((books w).accounts y) (h.each y)
         ((is_pick w d).needed y))
-        (λ a _ z. each_updc (λ c x. IsPoised w.config err (total (λ x. x.charge) y c (books w).opened)
+        (λ a _ z. each_updc (λ c x. IsPoised w.config c err (total (λ x. x.charge) y c (books w).opened)
         (total (gives_back err) y c (books w).opened) (total (λ _. err) y c (books w).opened) a.weight x)
         a.shares d
         _ z.0
-        (poised_pay w.config err _ _ _ a.weight _ (a.shares d)
+        (poised_pay w.config d err _ _ _ a.weight _ (a.shares d)
         (subst (λ (n : ℕ). on (in_order (rotation w d)) y * (picked_station w d).quanta y
         ≤ need_of (w.config.quantum * a.weight) ((a.shares d).deficit -ℤ pos n)) (counts y d)
         (once_most _ _ _ (kept.once d y) z.1)) (few_errors y d) (z.0 d)));
@@ -301,8 +301,14 @@ module _ (err : ℕ) (w : World) (kept : IsKept (books w)) (counting : w.config.
     last [] e = e.0
     last (y ∷ ys) e = last ys e.1
 
-    pub fits_sent : (1 ≤ x.charge) × (x.charge ≤ longest_computed w.config)
-    fits_sent = let o = last (books w).opened opens.opens in (o.some, o.charge)
+    -- The exchange takes at most the longest of its class.
+    pub fits_sent : (y : ℕ) (c : Class) → ((x.station == y) && same_class x.class c) ≡ true →
+        (1 ≤ x.charge) × (x.charge ≤ longest_computed w.config c)
+    fits_sent y c t =
+        let o = last (books w).opened opens.opens in
+        let is_c : x.class ≡ c =
+        same_number _ _ (eqb-true _ _ (and_parts (x.station == y) (same_class x.class c) t).1) in
+        (o.some, subst (λ (l : Class). x.charge ≤ longest_computed w.config l) is_c o.charge)
 
     grows : (f : Exchange → ℕ) (y : ℕ) (c : Class) → ((x.station == y) && same_class x.class c) ≡ true →
         total f y c ((books w).opened ++ core x ∷ []) ≡ total f y c (books w).opened + f (core x)
@@ -329,18 +335,18 @@ module _ (err : ℕ) (w : World) (kept : IsKept (books w)) (counting : w.config.
       where
         go : (y : ℕ) (a : Account) → (after (books w) d (picked_station w d)).accounts y ≡ Some a →
             (c : Class) →
-            IsPoised w.config err (total (λ x. x.charge) y c (books w).opened)
+            IsPoised w.config c err (total (λ x. x.charge) y c (books w).opened)
             (total (gives_back err) y c (books w).opened) (total (λ _. err) y c (books w).opened) a.weight
             (a.shares c) → (t : Bool) → ((x.station == y) && same_class x.class c) ≡ t →
-            IsPoised w.config err (total (λ x. x.charge) y c ((books w).opened ++ core x ∷ []))
+            IsPoised w.config c err (total (λ x. x.charge) y c ((books w).opened ++ core x ∷ []))
             (total (gives_back err) y c ((books w).opened ++ core x ∷ []))
             (total (λ _. err) y c ((books w).opened ++ core x ∷ [])) a.weight (a.shares c)
         go y a e c z true t = rw (
           grows (λ x. x.charge) y c t,
           grows (gives_back err) y c t,
           grows (λ _. err) y c t,
-        ) (poised_open w.config err _ _ _ x.charge a.weight (a.shares c) (above_sent y c t a e) fits_sent.1
-            (few_sent y c t) z)
+        ) (poised_open w.config c err _ _ _ x.charge a.weight (a.shares c) (above_sent y c t a e)
+            (fits_sent y c t).1 (few_sent y c t) z)
         go y a e c z false t =
             let o : total (λ x. x.charge) y c ((books w).opened ++ core x ∷ [])
             ≡ total (λ x. x.charge) y c (books w).opened = same (λ x. x.charge) in

@@ -4,7 +4,8 @@ use Rattle.std.proofs.Common.{◌≡◌, refl, ap, ◌∙◌, arith, ℕ, ◌+�
 use Rattle.std.proofs.lemmas.Int.{ints}
 use Rattle.wf_frame.specs.declared.settings.Config.{Config}
 use Rattle.wf_frame.specs.declared.classes.Class.{Class}
-use Rattle.wf_frame.specs.declared.notes.Ask.TheVariants.{Join, Leave, Rate, Tick, Pull, Arrive, Answer, Done, Sleep, Wake, Poll, Rx, Reap}
+use Rattle.wf_frame.specs.declared.notes.Ask.TheVariants.{Join, Leave, Rate, Tick, Pull, Arrive, Answer, Done, Sleep, Wake, Poll, Rx, Reap, Ampdu, Stop, Start}
+use Rattle.wf_frame.specs.declared.notes.Limits.{Limits}
 use Rattle.wf_frame.specs.declared.notes.Note.{Note}
 use Rattle.wf_frame.specs.declared.notes.Note.TheVariants.{Enqueue, Asked}
 use Rattle.wf_frame.specs.declared.notes.Refusal.{Refusal}
@@ -12,15 +13,16 @@ use Rattle.wf_frame.specs.declared.notes.Refusal.TheVariants.{Idle}
 use Rattle.wf_frame.specs.Classes.{same_class}
 use Rattle.wf_frame.specs.Settings.{IsInRange}
 use Rattle.wf_def_world.specs.World.{World, Exchange, owed, exchange, opening}
-use Rattle.wf_def_world.specs.Exchanges.{Prepared, picked_station, after_pick, after_tid_turn, prepared_exchange, exchange_of, sending_tid, charge_of}
+use Rattle.wf_def_world.specs.Exchanges.{Prepared, picked_station, after_tid_turn, prepared_exchange, exchange_of, sending_tid, charge_of}
 use Rattle.wf_def_world.specs.Refusals.{refusals, refusal}
 use Rattle.wf_def_world.specs.Step.{Outcome, tick_outcome, send_outcome, pull_outcome_for, pull_outcome, done_outcome, outcome_where_open, outcome_of, concerned_station, after_refusal, judged_outcome, step}
 use Rattle.wf_def_world.specs.Run.{Entry, world_after}
 use Rattle.wf_def_world.specs.Stretches.{world_at, charge_to, charge_by, charges, charged_between}
 use Rattle.wf_law_runs.specs.Shares.{airtime_sent_to, airtime_sent_by, airtime_sent, SpentLaw}
 use Rattle.wf_law_runs.proofs.Common.Refused.{after_idle}
+use Rattle.wf_law_runs.proofs.Common.Limits.{with_limits}
 use Rattle.wf_law_runs.proofs.Deficits.Books.{core, Books, books}
-use Rattle.wf_law_runs.proofs.Deficits.BookSteps.{books_after_turn, books_prepared, books_sent, books_ended, books_gone, books_enqueued, books_received, books_reaped, books_slept, books_woken, books_credited, books_with_rate, books_joined, books_after_pick}
+use Rattle.wf_law_runs.proofs.Deficits.BookSteps.{books_after_turn, books_prepared, books_sent, books_ended, books_gone, books_enqueued, books_received, books_reaped, books_slept, books_woken, books_credited, books_with_rate, books_joined, books_after_pick, books_stated, books_stopped, books_started}
 use Rattle.wf_law_runs.proofs.Deficits.Openings.{owed-append, owed-core, owed-ended}
 use Rattle.wf_law_runs.proofs.Deficits.Kept.{IsKept}
 use Rattle.wf_law_runs.proofs.Deficits.KeptStep.{no_row, IsFound, at_number, books_arrived, books_answered, charge_exact, kept, kept_step}
@@ -40,7 +42,7 @@ paid_same s c b b' e = record { paid = omega (arith, ap (owed s c) e) }
 
 -- Returns the computed airtime of the exchange that a call opens, if it is not refused.
 abbrev given_by : World → ℕ → Class → Note → ℕ
-given_by w s c (Asked (Pull d)) = if same_class d c then airtime_sent_to s (pull_outcome w d).reply else 0
+given_by w s c (Asked (Pull d l)) = if same_class d c then airtime_sent_to s (pull_outcome w d l).reply else 0
 given_by w s c _ = 0
 
 either_order : (a b : Bool) (n : ℕ) → (if a && b then n else 0) ≡ (if b then (if a then n else 0) else 0)
@@ -73,13 +75,13 @@ paid_by (Some k) v d c s =
     ∙ (ap (λ (b : Books). owed s c b.opened + (if (k == s) && same_class d c then p.charge else 0)) e
     ∙ ap (λ (n : ℕ). owed s c (books v).opened + n) (either_order (k == s) (same_class d c) p.charge)))
 
-paid_pulled : (w : World) (d c : Class) (s : ℕ) →
-    IsPaid s 0 (given_by w s c (Asked (Pull d))) c (books w) (books (pull_outcome w d).world)
+paid_pulled : (w : World) (d c : Class) (l : Limits) (s : ℕ) →
+    IsPaid s 0 (given_by w s c (Asked (Pull d l))) c (books w) (books (pull_outcome w d l).world)
 unfolding pull_outcome
-paid_pulled w d c s = record {
+paid_pulled w d c l s = record {
   paid = omega (
     arith,
-    paid_by (picked_station w d).winner (after_pick w d) d c s,
+    paid_by (picked_station w d).winner (with_limits w d l) d c s,
     ap (λ (b : Books). owed s c b.opened) (books_after_pick w d),
   );
 }
@@ -122,7 +124,7 @@ paid_done (Asked (Leave i)) w s c fine kept none =
 paid_done (Asked (Rate i rate)) w s c fine kept none =
     paid_same s c (books w) _ (ap (λ (b : Books). b.opened) (books_with_rate w i rate))
 paid_done (Asked (Tick by)) w s c fine kept none = paid_same s c (books w) (books w) refl
-paid_done (Asked (Pull d)) w s c fine kept none = paid_pulled w d c s
+paid_done (Asked (Pull d l)) w s c fine kept none = paid_pulled w d c l s
 paid_done (Asked (Arrive e j)) w s c fine kept none = paid_open (exchange w e) w e s c _ refl
     (λ x f. ap (λ (b : Books). b.opened) (books_arrived w e j x kept f))
 paid_done (Asked (Answer e)) w s c fine kept none = paid_open (exchange w e) w e s c _ refl
@@ -132,6 +134,12 @@ paid_done (Asked (Done e heard air)) w s c fine kept none =
     (λ x. charge_exact w.config x air (no_row (refusals w (Asked (Done e heard air))) fine).1.1.0 none)
 paid_done (Asked (Sleep i)) w s c fine kept none =
     paid_same s c (books w) _ (ap (λ (b : Books). b.opened) (books_slept w i))
+paid_done (Asked (Ampdu i octets)) w s c fine kept none =
+    paid_same s c (books w) _ (ap (λ (b : Books). b.opened) (books_stated w i octets))
+paid_done (Asked (Stop i)) w s c fine kept none =
+    paid_same s c (books w) _ (ap (λ (b : Books). b.opened) (books_stopped w i))
+paid_done (Asked (Start i)) w s c fine kept none =
+    paid_same s c (books w) _ (ap (λ (b : Books). b.opened) (books_started w i))
 paid_done (Asked (Wake i)) w s c fine kept none =
     paid_same s c (books w) _ (ap (λ (b : Books). b.opened) (books_woken w i))
 paid_done (Asked (Poll i)) w s c fine kept none =
@@ -144,7 +152,7 @@ paid_done (Asked Reap) w s c fine kept none =
 paid_refused : (note : Note) (r : Refusal) (w : World) (s : ℕ) (c : Class) →
     IsPaid s 0 0 c (books w) (books (after_refusal w note r))
 unfolding after_refusal
-paid_refused (Asked (Pull d)) Idle w s c = after_idle (λ v. IsPaid s 0 0 c (books w) (books v)) w d
+paid_refused (Asked (Pull d l)) Idle w s c = after_idle (λ v. IsPaid s 0 0 c (books w) (books v)) w d
     (paid_same s c (books w) (books w) refl)
     (paid_same s c (books w) _ (ap (λ (b : Books). b.opened) (books_after_pick w d)))
 paid_refused _ _ w s c = paid_same s c (books w) (books w) refl
@@ -152,15 +160,15 @@ paid_refused _ _ w s c = paid_same s c (books w) (books w) refl
 given_done : (note : Note) (w : World) (s : ℕ) (c : Class) → refusal w note ≡ None →
     airtime_sent_by w s c note ≡ given_by w s c note
 unfolding step judged_outcome outcome_of
-given_done (Asked (Pull d)) w s c fine = ap (λ (o : Option Refusal). if same_class d c
-    then airtime_sent_to s (judged_outcome w (Asked (Pull d)) o).reply else 0) fine
+given_done (Asked (Pull d l)) w s c fine = ap (λ (o : Option Refusal). if same_class d c
+    then airtime_sent_to s (judged_outcome w (Asked (Pull d l)) o).reply else 0) fine
 given_done _ w s c fine = refl
 
 given_refused : (note : Note) (r : Refusal) (w : World) (s : ℕ) (c : Class) → refusal w note ≡ Some r →
     airtime_sent_by w s c note ≡ 0
 unfolding step judged_outcome
-given_refused (Asked (Pull d)) r w s c e = ap (λ (o : Option Refusal). if same_class d c
-    then airtime_sent_to s (judged_outcome w (Asked (Pull d)) o).reply else 0) e
+given_refused (Asked (Pull d l)) r w s c e = ap (λ (o : Option Refusal). if same_class d c
+    then airtime_sent_to s (judged_outcome w (Asked (Pull d l)) o).reply else 0) e
     ∙ nothing_sent (same_class d c)
 given_refused _ r w s c e = refl
 

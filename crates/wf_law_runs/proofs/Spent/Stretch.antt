@@ -70,7 +70,7 @@ pub record Poised (config : Config) (err s : ℕ) (c : Class) (w : World) : Type
   pub most : (share w s c).deficit ≤ℤ
       pos (owed s c w.opened + config.quantum * (station w s).weight + error_of config err)
   pub floor : (share w s c).received ≡ 0 → pos (1 + owed s c w.opened + errors err s c w) ≤ℤ
-      ((share w s c).deficit +ℤ pos (longest_computed config + error_of config err))
+      ((share w s c).deficit +ℤ pos (longest_computed config c + error_of config err))
 
 pub poised_station : (config : Config) (err s : ℕ) (c : Class) (w : World) → IsGround config w →
     ArePoised err (books w) → is_live w s ≡ true → Poised config err s c w
@@ -86,10 +86,10 @@ poised_station config err s c w g h live = subst (λ (z : Config). Poised z err 
         Poised w.config err s c w
     go None e is k = absurd (cc is)
     go (Some x) e is k =
-        let p : IsPoised w.config err (total (λ x. x.charge) s c (map core w.opened))
+        let p : IsPoised w.config c err (total (λ x. x.charge) s c (map core w.opened))
         (total (gives_back err) s c (map core w.opened)) (errors err s c w) (station w s).weight
         (record (share w s c) { upper = false }) =
-        subst (λ (o : Option Station). IsPoised w.config err (total (λ x. x.charge) s c (map core w.opened))
+        subst (λ (o : Option Station). IsPoised w.config c err (total (λ x. x.charge) s c (map core w.opened))
         (total (gives_back err) s c (map core w.opened)) (errors err s c w)
         (account (unwrap_or o no_station)).weight ((account (unwrap_or o no_station)).shares c)) (sym e)
         (k c) in
@@ -98,7 +98,7 @@ poised_station config err s c w g h live = subst (λ (z : Config). Poised z err 
               pos (n + w.config.quantum * (station w s).weight + error_of w.config err)) (owed_is w s c)
               (less _ _ _ p.most);
           floor = λ r. subst (λ (n : ℕ). pos (1 + n + errors err s c w) ≤ℤ
-              ((share w s c).deficit +ℤ pos (longest_computed w.config + error_of w.config err)))
+              ((share w s c).deficit +ℤ pos (longest_computed w.config c + error_of w.config err)))
               (owed_is w s c) (p.floor r);
         }
 
@@ -130,7 +130,7 @@ abbrev pub IsDrawn : Config → ℕ → Class → ℕ → ℕ → World → List
 IsDrawn config err c s i w es = draw err i c (books (world_after w es)) + 1
     ≤ (share w i c).charged + owed i c w.opened + config.quantum * (station w i).weight *
     ((share (world_after w es) s c).quanta - (share w s c).quanta + 1) +
-    (longest_computed config + 2 * error_of config err)
+    (longest_computed config c + 2 * error_of config err)
 
 drawn_first : (u ch o k n r g : ℕ) → 1 ≤ u → k ≤ r → g ≡ 0 →
     ch + (o + k) + 1 ≤ ch + o + u * (g + 1) + (n + 2 * r)
@@ -171,7 +171,7 @@ module _ (config : Config) (t : Bool) (c : Class) (s i err : ℕ) (w : World) (a
   drawn_more es e first now next held held' near before = elim draws.draws [
     | inl less ↦ drawn_less (config.quantum * (station w i).weight) (draw err i c (books v)) _
         (share w i c).charged
-        (owed i c w.opened) (longest_computed config + 2 * error_of config err) (share v s c).quanta
+        (owed i c w.opened) (longest_computed config c + 2 * error_of config err) (share v s c).quanta
         (share (world_after w (es ++ e ∷ [])) s c).quanta (share w s c).quanta
         (subst (λ (u : World). draw err i c (books u) ≤ draw err i c (books v)) (sym after_e) less) before
         (subst (λ (u : World). (share v s c).quanta ≤ (share u s c).quanta) (sym after_e)
@@ -179,7 +179,7 @@ module _ (config : Config) (t : Bool) (c : Class) (s i err : ℕ) (w : World) (a
     | inr more ↦ subst (λ (u : World). draw err i c (books u) + 1 ≤
         (share w i c).charged + owed i c w.opened +
         config.quantum * (station w i).weight * ((share u s c).quanta - (share w s c).quanta + 1) +
-        (longest_computed config + 2 * error_of config err)) (sym after_e) (won more.0 more.1)
+        (longest_computed config c + 2 * error_of config err)) (sym after_e) (won more.0 more.1)
   ]
     where
       v : World
@@ -200,11 +200,11 @@ module _ (config : Config) (t : Bool) (c : Class) (s i err : ℕ) (w : World) (a
       parts : AreWithin err w es × AreWithin err v (e ∷ [])
       parts = within_append err es (e ∷ []) w near
 
-      draws : Draws err (longest_exchange v.config) i c (books v) (books (step v e.1).world)
+      draws : Draws err (longest_exchange v.config c) i c (books v) (books (step v e.1).world)
       draws = draws_step err v gv.kept (counts v gv) (poise_at es parts.0) i c
           (live_account (at None v.stations i) ∙ now.live) e.1 parts.1.0 next'.live
 
-      moved : IsMove (longest_exchange v.config) c s i (books v) (books (step v e.1).world)
+      moved : IsMove (longest_exchange v.config c) c s i (books v) (books (step v e.1).world)
       moved = move_step v e.1 c s i gv.kept apart
           (stays_step t c s i v (step v e.1).world gv.kept g'.kept now next')
 
@@ -216,18 +216,18 @@ module _ (config : Config) (t : Bool) (c : Class) (s i err : ℕ) (w : World) (a
       start : Poised config err i c w
       start = poised_station config err i c w ground poised first.live
 
-      was : IsMoney config (owed i c w.opened) (station w i).weight (share w i c)
+      was : IsMoney config c (owed i c w.opened) (station w i).weight (share w i c)
       was = ground_money config w i c ground first.live
 
-      is : IsMoney config (owed i c (step v e.1).world.opened) (station w i).weight
+      is : IsMoney config c (owed i c (step v e.1).world.opened) (station w i).weight
           (share (step v e.1).world i c)
-      is = subst (λ (g : ℕ). IsMoney config (owed i c (step v e.1).world.opened) g
+      is = subst (λ (g : ℕ). IsMoney config c (owed i c (step v e.1).world.opened) g
           (share (step v e.1).world i c)) held_next.other_weight
           (ground_money config (step v e.1).world i c g' next'.live)
 
       -- i gets no quantum before s does.
-      near_quanta : bound_to (longest_exchange v.config) c i (books v)
-          < bound_to (longest_exchange v.config) c i (books (step v e.1).world) →
+      near_quanta : bound_to (longest_exchange v.config c) c i (books v)
+          < bound_to (longest_exchange v.config c) c i (books (step v e.1).world) →
           (share (step v e.1).world i c).quanta - (share w i c).quanta
           ≤ (share (step v e.1).world s c).quanta - (share w s c).quanta
       near_quanta rises = elim moved.spends [
@@ -245,16 +245,16 @@ module _ (config : Config) (t : Bool) (c : Class) (s i err : ℕ) (w : World) (a
         )
       ]
 
-      won : bound_to (longest_exchange v.config) c i (books v)
-          < bound_to (longest_exchange v.config) c i (books (step v e.1).world) →
+      won : bound_to (longest_exchange v.config c) c i (books v)
+          < bound_to (longest_exchange v.config c) c i (books (step v e.1).world) →
           Floor err i c (books (step v e.1).world) → draw err i c (books (step v e.1).world) + 1
           ≤ (share w i c).charged + owed i c w.opened + config.quantum * (station w i).weight *
           ((share (step v e.1).world s c).quanta - (share w s c).quanta + 1) +
-          (longest_computed config + 2 * error_of config err)
+          (longest_computed config c + 2 * error_of config err)
       won rises floor = drawn_won (config.quantum * (station w i).weight) (share w i c).quanta
           (share (step v e.1).world i c).quanta (share w i c).charged (share (step v e.1).world i c).charged
           (share w i c).received (share (step v e.1).world i c).received (owed i c w.opened)
-          (owed i c (step v e.1).world.opened) (errors err i c (step v e.1).world) (longest_computed config)
+          (owed i c (step v e.1).world.opened) (errors err i c (step v e.1).world) (longest_computed config c)
           (error_of config err) ((share (step v e.1).world s c).quanta - (share w s c).quanta)
           (draw err i c (books (step v e.1).world)) (share w i c).deficit
           (share (step v e.1).world i c).deficit
@@ -262,23 +262,24 @@ module _ (config : Config) (t : Bool) (c : Class) (s i err : ℕ) (w : World) (a
           (near_quanta rises) (draw_is err (step v e.1).world i c)
         where
           floor' : pos (1 + owed i c (step v e.1).world.opened + errors err i c (step v e.1).world) ≤ℤ
-              ((share (step v e.1).world i c).deficit +ℤ pos (longest_computed config + error_of config err))
+              ((share (step v e.1).world i c).deficit +ℤ
+              pos (longest_computed config c + error_of config err))
           floor' = subst (λ (z : Config). pos (1 + owed i c (step v e.1).world.opened +
               errors err i c (step v e.1).world) ≤ℤ ((share (step v e.1).world i c).deficit +ℤ
-              pos (longest_computed z + error_of z err))) g'.same
+              pos (longest_computed z c + error_of z err))) g'.same
               (subst (λ (d : ℤ). pos (1 + owed i c (step v e.1).world.opened +
-              errors err i c (step v e.1).world) ≤ℤ (d +ℤ pos (longest_computed (step v e.1).world.config +
+              errors err i c (step v e.1).world) ≤ℤ (d +ℤ pos (longest_computed (step v e.1).world.config c +
               error_of (step v e.1).world.config err))) (deficit_is (step v e.1).world i c)
               (subst (λ (n : ℕ). pos (1 + n + errors err i c (step v e.1).world) ≤ℤ
               (((acc (books (step v e.1).world) i).shares c).deficit +ℤ
-              pos (longest_computed (step v e.1).world.config + error_of (step v e.1).world.config err)))
+              pos (longest_computed (step v e.1).world.config c + error_of (step v e.1).world.config err)))
               (owed_is (step v e.1).world i c) floor))
 
   pub drawn_run : (xs : List Entry) (n : ℕ) → ((d : ℕ) → d ≤ n → Fits t c s i (world_after w (take d xs))) →
       AreWithin err w (take n xs) → IsDrawn config err c s i w (take n xs)
   unfolding world_after
   drawn_run xs zero fits near = rw (draw_is err w i c) (drawn_first (config.quantum * (station w i).weight)
-      (share w i c).charged (owed i c w.opened) (errors err i c w) (longest_computed config)
+      (share w i c).charged (owed i c w.opened) (errors err i c w) (longest_computed config c)
       (error_of config err)
       ((share w s c).quanta - (share w s c).quanta)
       (quantum_positive config w i ground (fits 0 (omega arith)).live)
@@ -334,11 +335,11 @@ module _ (config : Config) (t : Bool) (c : Class) (s i err : ℕ) (w : World) (a
       live = marks_live t c s (step v e.1).world (ground_step config v e.1 gv).kept
           (subst (Fits t c s i) after_e next).marks
 
-      draws : Draws err (longest_exchange v.config) s c (books v) (books (step v e.1).world)
+      draws : Draws err (longest_exchange v.config c) s c (books v) (books (step v e.1).world)
       draws = draws_step err v gv.kept (counts v gv) (poise_at es parts.0) s c
           (live_account (at None v.stations s) ∙ marks_live t c s v gv.kept now.marks) e.1 parts.1.0 live
 
-      less : Less (longest_exchange v.config) c s (charge_by v s c e.1) (books v) (books (step v e.1).world)
+      less : Less (longest_exchange v.config c) c s (charge_by v s c e.1) (books v) (books (step v e.1).world)
       less = less_step v e.1 c s gv.kept (omega (arith, none, sends_append es w s c e))
 
       charged_next : (share (step v e.1).world s c).charged

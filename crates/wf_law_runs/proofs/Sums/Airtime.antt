@@ -4,7 +4,7 @@ use Rattle.std.proofs.Common.{◌≡◌, refl, ap, sym, ◌∙◌, subst, arith,
 use Rattle.std.proofs.lemmas.Bool.{cases_eq, ne_eqb}
 use Rattle.wf_frame.specs.declared.settings.Config.{Config}
 use Rattle.wf_frame.specs.declared.classes.Class.{Class}
-use Rattle.wf_frame.specs.declared.notes.Ask.TheVariants.{Join, Leave, Rate, Tick, Pull, Arrive, Answer, Done, Sleep, Wake, Poll, Rx, Reap}
+use Rattle.wf_frame.specs.declared.notes.Ask.TheVariants.{Join, Leave, Rate, Tick, Pull, Arrive, Answer, Done, Sleep, Wake, Poll, Rx, Reap, Ampdu, Stop, Start}
 use Rattle.wf_frame.specs.declared.notes.Note.{Note}
 use Rattle.wf_frame.specs.declared.notes.Note.TheVariants.{Enqueue, Asked}
 use Rattle.wf_frame.specs.declared.notes.Refusal.{Refusal}
@@ -21,7 +21,7 @@ use Rattle.wf_frame.specs.Settings.{IsInRange}
 use Rattle.wf_law_runs.specs.Sums.{since_join, air_by, charged_over, received_over}
 use Rattle.wf_law_runs.proofs.Common.Refused.{after_idle}
 use Rattle.wf_law_runs.proofs.Deficits.Books.{Account, account, Books, books, with_account, on_part, upd_same, upd_other, each_upd, updc_same, updc_other, each_updc, cases_class}
-use Rattle.wf_law_runs.proofs.Deficits.BookSteps.{books_ended, books_gone, all_off, books_enqueued, receive_share, books_received, books_reaped, books_slept, books_woken, books_credited, rated, books_with_rate, fresh_account, books_joined, charge_share, pay_share, after, books_after_pick}
+use Rattle.wf_law_runs.proofs.Deficits.BookSteps.{books_ended, books_gone, all_off, books_enqueued, receive_share, books_received, books_reaped, books_slept, books_woken, books_credited, rated, books_with_rate, fresh_account, books_joined, charge_share, pay_share, after, books_after_pick, books_stated, books_stopped, books_started}
 use Rattle.wf_law_runs.proofs.Deficits.Kept.{IsKept, if_map}
 use Rattle.wf_law_runs.proofs.Deficits.KeptStep.{IsFound, books_arrived, books_answered, kept_step, kept_opening}
 use Rattle.wf_law_runs.proofs.Fairness.OldOrder.{calm_pulled, owing, owing_done, owing_refused}
@@ -210,9 +210,9 @@ sum_done (Asked (Rate i rate)) w c p q s k h =
     still c p q _ (sum_books c p q s _ _ (books_with_rate w i rate)
     (sum_on c p q s i (books w) (rated rate) (λ a z. z) h))
 sum_done (Asked (Tick by)) w c p q s k h = still c p q _ h
-sum_done (Asked (Pull d)) w c p q s k h = still c p q _
-    (sum_calm c p q s (after (books w) d (picked_station w d)) (books (pull_outcome w d).world)
-    (calm_pulled w d).accounts (sum_after c p q s w d h))
+sum_done (Asked (Pull d l)) w c p q s k h = still c p q _
+    (sum_calm c p q s (after (books w) d (picked_station w d)) (books (pull_outcome w d l).world)
+    (calm_pulled w d l).accounts (sum_after c p q s w d h))
 sum_done (Asked (Arrive e j)) w c p q s k h =
     sum_open w e (exchange w e) _ c p q s (λ _. 0) refl refl h
     (λ x f. still c p q _ (sum_books c p q s _ _ (books_arrived w e j x k f) h))
@@ -222,6 +222,9 @@ sum_done (Asked (Done e heard air)) w c p q s k h =
     sum_open w e (exchange w e) _ c p q s (λ o. charge_to s c air o) refl refl h
     (λ x f. sum_ended air w x heard c p q s h)
 sum_done (Asked (Sleep i)) w c p q s k h = still c p q _ (sum_books c p q s _ _ (books_slept w i) h)
+sum_done (Asked (Ampdu i octets)) w c p q s k h = still c p q _ (sum_books c p q s _ _ (books_stated w i octets) h)
+sum_done (Asked (Stop i)) w c p q s k h = still c p q _ (sum_books c p q s _ _ (books_stopped w i) h)
+sum_done (Asked (Start i)) w c p q s k h = still c p q _ (sum_books c p q s _ _ (books_started w i) h)
 sum_done (Asked (Wake i)) w c p q s k h = still c p q _ (sum_books c p q s _ _ (books_woken w i) h)
 sum_done (Asked (Poll i)) w c p q s k h = still c p q _ (sum_books c p q s _ _ (books_credited w i) h)
 sum_done (Asked (Rx i d air)) w c p q s k h = sum_received w i d air c p q s h
@@ -230,7 +233,7 @@ sum_done (Asked Reap) w c p q s k h = still c p q _ (sum_books c p q s _ _ (book
 sum_refused : (note : Note) (r : Refusal) (w : World) (c : Class) (p q s : ℕ) →
     HasSum c p q ((books w).accounts s) → HasSum c p q ((books (after_refusal w note r)).accounts s)
 unfolding after_refusal
-sum_refused (Asked (Pull d)) Idle w c p q s h =
+sum_refused (Asked (Pull d l)) Idle w c p q s h =
     after_idle (λ v. HasSum c p q ((books v).accounts s)) w d h
     (sum_books c p q s _ _ (books_after_pick w d) (sum_after c p q s w d h))
 sum_refused _ _ w c p q s h = h

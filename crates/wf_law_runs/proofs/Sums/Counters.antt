@@ -3,7 +3,8 @@
 use Rattle.std.proofs.Common.{◌≡◌, refl, arith, ℕ, zero, suc, ◌+◌, ◌-◌, ◌≤◌, ◌==◌, not, nat_lt, Bool, true, false, if◌then◌else◌, List, [], ◌∷◌, length, Option, Some, None}
 use Rattle.wf_frame.specs.declared.classes.Class.{Class}
 use Rattle.wf_frame.specs.declared.classes.Fate.{Fate}
-use Rattle.wf_frame.specs.declared.notes.Ask.TheVariants.{Join, Leave, Rate, Tick, Pull, Arrive, Answer, Done, Sleep, Wake, Poll, Rx, Reap}
+use Rattle.wf_frame.specs.declared.notes.Ask.TheVariants.{Join, Leave, Rate, Tick, Pull, Arrive, Answer, Done, Sleep, Wake, Poll, Rx, Reap, Ampdu, Stop, Start}
+use Rattle.wf_frame.specs.declared.notes.Limits.{Limits}
 use Rattle.wf_frame.specs.declared.notes.Note.{Note}
 use Rattle.wf_frame.specs.declared.notes.Note.TheVariants.{Enqueue, Asked}
 use Rattle.wf_frame.specs.declared.notes.Refusal.{Refusal}
@@ -22,6 +23,7 @@ use Rattle.wf_def_world.specs.Step.{Outcome, join_outcome, after_tid_left, after
 use Rattle.wf_def_world.specs.World.{World, Station, Share, Tid, Exchange, Mpdu, Content, Frames, Request, session, queue, rotation, exchange, with_station, on_station, on_tid, on_session, on_receiver, with_queues, on_share, on_queue, with_rotation, with_fate, with_frame_finished, with_frames_finished, with_exchange, without_exchange}
 use Rattle.wf_law_rules.proofs.Lemmas.Numbers.{lt_no}
 use Rattle.wf_law_runs.proofs.Common.Refused.{after_idle}
+use Rattle.wf_law_runs.proofs.Common.Limits.{with_limits}
 use Rattle.wf_law_runs.proofs.Windows.Opened.{NoRow, no_row}
 
 -- a and b are bounds of the clock and of the number of exchanges.
@@ -232,12 +234,12 @@ unfolding pull_outcome_for after_tid_turn
 kept_pulled_by a b None w c h = (h.0, omega (arith, h.1))
 kept_pulled_by a b (Some s) w c h = kept_sent a b s _ c _ (kept_prepared a b _ s _ (kept_share a b w s c _ h))
 
-kept_pulled : (a b : ℕ) (w : World) (c : Class) → Counts a b w →
-    Counts (a + greatest_tick) (b + 1) (pull_outcome w c).world
+kept_pulled : (a b : ℕ) (w : World) (c : Class) (l : Limits) → Counts a b w →
+    Counts (a + greatest_tick) (b + 1) (pull_outcome w c l).world
 unfolding pull_outcome
-kept_pulled a b w c h =
-    let k : Counts a (b + 1) (pull_outcome_for (after_pick w c) c (picked_station w c).winner).world =
-    kept_pulled_by a b (picked_station w c).winner (after_pick w c) c (kept_after_pick a b w c h) in
+kept_pulled a b w c l h =
+    let k : Counts a (b + 1) (pull_outcome_for (with_limits w c l) c (picked_station w c).winner).world =
+    kept_pulled_by a b (picked_station w c).winner (with_limits w c l) c (kept_after_pick a b w c h) in
     (omega (arith, k.0), k.1)
 
 ticked : (a b by : ℕ) (w : World) → nat_lt greatest_tick by ≡ false → Counts a b w →
@@ -253,7 +255,7 @@ kept_done a b (Asked (Join s window start exponent weight)) w e h = more a b _ _
 kept_done a b (Asked (Leave s)) w e h = more a b _ _ (kept_gone a b w s h)
 kept_done a b (Asked (Rate s rate)) w e h = more a b _ _ (set_station a b w s _ h)
 kept_done a b (Asked (Tick by)) w e h = ticked a b by w e.0 h
-kept_done a b (Asked (Pull c)) w e h = kept_pulled a b w c h
+kept_done a b (Asked (Pull c l)) w e h = kept_pulled a b w c l h
 kept_done a b (Asked (Arrive x n)) w e h = more a b _ _
     (kept_open a b (exchange w x) w _ (λ y. kept_arrived a b w y n h) h)
 kept_done a b (Asked (Answer x)) w e h = more a b _ _
@@ -261,6 +263,9 @@ kept_done a b (Asked (Answer x)) w e h = more a b _ _
 kept_done a b (Asked (Done x heard air)) w e h = more a b _ _
     (kept_open a b (exchange w x) w _ (λ y. kept_ended a b air w y heard h) h)
 kept_done a b (Asked (Sleep s)) w e h = more a b _ _ (set_station a b w s _ h)
+kept_done a b (Asked (Ampdu s octets)) w e h = more a b _ _ (set_station a b w s _ h)
+kept_done a b (Asked (Stop s)) w e h = more a b _ _ (set_station a b w s _ h)
+kept_done a b (Asked (Start s)) w e h = more a b _ _ (set_station a b w s _ h)
 kept_done a b (Asked (Wake s)) w e h = more a b _ _ (set_station a b w s _ h)
 kept_done a b (Asked (Poll s)) w e h = more a b _ _ (set_station a b w s _ h)
 kept_done a b (Asked (Rx s c air)) w e h = more a b _ _ (kept_share a b w s c _ h)
@@ -269,7 +274,7 @@ kept_done a b (Asked Reap) w e h = more a b _ _ (kept_reaped a b w.finished w h)
 kept_refused : (a b : ℕ) (note : Note) (r : Refusal) (w : World) → Counts a b w →
     Counts a b (after_refusal w note r)
 unfolding after_refusal
-kept_refused a b (Asked (Pull c)) Idle w h = after_idle (Counts a b) w c h (kept_after_pick a b w c h)
+kept_refused a b (Asked (Pull c l)) Idle w h = after_idle (Counts a b) w c h (kept_after_pick a b w c h)
 kept_refused a b _ _ w h = h
 
 kept_answer : (a b : ℕ) (r : Option Refusal) (w : World) (note : Note) → refusal w note ≡ r → Counts a b w →

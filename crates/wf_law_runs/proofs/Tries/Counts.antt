@@ -4,7 +4,8 @@ use Rattle.std.proofs.Common.{◌≡◌, refl, ap, sym, ◌∙◌, subst, arith,
 use Rattle.wf_frame.specs.declared.settings.Config.{Config}
 use Rattle.wf_frame.specs.declared.classes.Class.{Class}
 use Rattle.wf_frame.specs.declared.classes.Fate.{Fate}
-use Rattle.wf_frame.specs.declared.notes.Ask.TheVariants.{Join, Leave, Rate, Tick, Pull, Arrive, Answer, Done, Sleep, Wake, Poll, Rx, Reap}
+use Rattle.wf_frame.specs.declared.notes.Ask.TheVariants.{Join, Leave, Rate, Tick, Pull, Arrive, Answer, Done, Sleep, Wake, Poll, Rx, Reap, Ampdu, Stop, Start}
+use Rattle.wf_frame.specs.declared.notes.Limits.{Limits}
 use Rattle.wf_frame.specs.declared.notes.Note.{Note}
 use Rattle.wf_frame.specs.declared.notes.Note.TheVariants.{Enqueue, Asked}
 use Rattle.wf_frame.specs.declared.notes.Refusal.{Refusal}
@@ -16,23 +17,24 @@ use Rattle.wf_def_agreement.specs.Session.{Session, Slot, State, no_slot, slot, 
 use Rattle.wf_def_world.specs.World.{World, Station, Exchange, Mpdu, Content, Frames, Request, new_tid, no_tid, session, queue, is_live, exchange, accepted_count, with_station, on_station, on_session, on_receiver, with_exchange, without_exchange, with_frame_finished, opening}
 use Rattle.wf_def_world.specs.FlowQueues.{taken_for_tid, after_limit, after_put_in, with_appended, queue_for}
 use Rattle.wf_def_world.specs.CanSend.{can_send_in, can_give}
-use Rattle.wf_def_world.specs.Exchanges.{Aggregate, Prepared, most_frames, is_acked, mpdus_of, part_of, picked_station, sending_tid, waiting_mpdus, longest_fitting, with_number, with_fresh, aggregate_of, with_flying, prepared_data, prepared_exchange, with_exchange_opened, after_pick, after_tid_turn, after_arrival, after_charge, with_failed_finished, with_settled, with_all_settled, with_heard_start, after_done}
+use Rattle.wf_def_world.specs.Exchanges.{Aggregate, Prepared, most_frames, is_acked, mpdus_of, part_of, picked_station, sending_tid, waiting_mpdus, longest_fitting, with_number, with_fresh, aggregate_of, with_flying, prepared_data, prepared_exchange, with_exchange_opened, after_tid_turn, after_arrival, after_charge, with_failed_finished, with_settled, with_all_settled, with_heard_start, after_done}
 use Rattle.wf_def_world.specs.Refusals.{refusal}
-use Rattle.wf_def_world.specs.Step.{Outcome, with_frame, enqueue_outcome, join_outcome, leave_outcome, rate_outcome, tick_outcome, send_outcome, pull_outcome_for, pull_outcome, arrive_outcome, answer_outcome, done_outcome, outcome_where_open, sleep_outcome, wake_outcome, poll_outcome, rx_outcome, reap_outcome, outcome_of, concerned_station, after_refusal, judged_outcome, step}
+use Rattle.wf_def_world.specs.Step.{Outcome, with_frame, enqueue_outcome, join_outcome, leave_outcome, rate_outcome, tick_outcome, send_outcome, pull_outcome_for, pull_outcome, arrive_outcome, answer_outcome, done_outcome, outcome_where_open, sleep_outcome, wake_outcome, poll_outcome, rx_outcome, reap_outcome, outcome_of, concerned_station, after_refusal, judged_outcome, step, ampdu_outcome, stop_outcome, start_outcome}
 use Rattle.wf_def_world.specs.Run.{Entry, world_after}
 use Rattle.wf_law_runs.specs.Tries.{count_of, count_in_part, tries_by, tries, IsCounted}
 use Rattle.wf_law_rules.proofs.Lemmas.Numbers.{on_bool, on_if, eq_yes, eq_no, yes_eq, not_eq, both, and_true}
 use Rattle.wf_law_rules.proofs.Lemmas.Tables.{each_put}
 use Rattle.wf_law_runs.proofs.Common.Refused.{after_idle}
+use Rattle.wf_law_runs.proofs.Common.Picked.{picked_world}
 use Rattle.wf_law_runs.proofs.Sessions.Starts.{at_change_same, at_change_other, length-change}
 use Rattle.wf_law_runs.proofs.Sessions.Flights.{AllIn, Rises, rises_weaken, all_in_later}
 use Rattle.wf_law_runs.proofs.Windows.Opened.{eight}
-use Rattle.wf_law_runs.proofs.Windows.Sides.{Side, Same, side_of, sides_of, then_same, each_side_on, same_on_station, same_on_share, same_finish, same_listed, same_after_pick, same_after_turn, same_spent, same_take, same_charged, same_within_limit, same_put_in}
+use Rattle.wf_law_runs.proofs.Windows.Sides.{Side, Same, side_of, sides_of, then_same, each_side_on, same_on_station, same_on_share, same_finish, same_listed, same_after_pick, same_after_turn, same_spent, same_take, same_charged, same_within_limit, same_put_in, same_picked}
 use Rattle.wf_law_runs.proofs.Windows.Agreed.{IsLawful, IsReady, IsEnding, IsFound, found, ready_filled, ending_settled, ending_of, lawful_same, lawful_step, lawful_at_first, session_same, session_on_session, winner_ready, same_left_tids, same_off_lists}
 use Rattle.wf_law_runs.proofs.Releases.Kept.{KeptSession, kept_on_slot}
 use Rattle.wf_law_runs.proofs.Releases.Placed.{Placing, Numbered, Queued, Place, Any, placed_less, placed_at_first, queue_appended, less_put_in, less_with_frame, less_with_station, less_left_tids, less_off_lists, accepted_appended, accepted_with_frame, side_with_frame}
 use Rattle.wf_law_runs.proofs.Releases.Once.{placed_filled, placed_step}
-use Rattle.wf_law_runs.proofs.Frames.Fewer.{carries, Less, then_less, less_plain, less_on_station, less_on_session, less_on_receiver, less_on_share, less_finish, less_listed, less_after_pick, less_after_turn, less_spent, less_within_limit, less_charged, less_take, IsTaken, given_take}
+use Rattle.wf_law_runs.proofs.Frames.Fewer.{carries, Less, then_less, less_plain, less_on_station, less_on_session, less_on_receiver, less_on_share, less_finish, less_listed, less_after_pick, less_after_turn, less_spent, less_within_limit, less_charged, less_take, IsTaken, given_take, less_picked}
 use Rattle.wf_law_runs.proofs.Frames.Delivered.{Labelled, labelled_kept, labelled_filled}
 
 -- The counts of each number of a session.
@@ -437,14 +439,15 @@ counts_pulled_by (Some s) l n w c ready i p h =
     (placed_less l w _ (less_after_turn Any w s c t) k.sides p)
     (counts_same n w _ k (less_after_turn Any w s c t) h))
 
-counts_pulled : (l : List ℕ) (n : ℕ → ℕ) (w : World) (c : Class) → IsLawful w → Placing l w →
-    Counts n w → Counts (λ k. n k + tries_by k (pull_outcome w c).reply) (pull_outcome w c).world
+counts_pulled : (l : List ℕ) (n : ℕ → ℕ) (w : World) (c : Class) (limits : Limits) → IsLawful w →
+    Placing l w → Counts n w →
+    Counts (λ k. n k + tries_by k (pull_outcome w c limits).reply) (pull_outcome w c limits).world
 unfolding pull_outcome
-counts_pulled l n w c i p h =
-    let k : Same w (after_pick w c) = same_after_pick w c in
-    counts_pulled_by (picked_station w c).winner l n (after_pick w c) c (winner_ready w c)
-    (lawful_same _ _ k i) (placed_less l w _ (less_after_pick Any w c) k.sides p)
-    (counts_same n w _ k (less_after_pick Any w c) h)
+counts_pulled l n w c limits i p h =
+    let k : Same w (picked_world w c limits) = same_picked w c limits in
+    counts_pulled_by (picked_station w c).winner l n (picked_world w c limits) c (winner_ready w c limits)
+    (lawful_same _ _ k i) (placed_less l w _ (less_picked Any w c limits) k.sides p)
+    (counts_same n w _ k (less_picked Any w c limits) h)
 
 -- ---- the end of an exchange
 
@@ -673,7 +676,7 @@ counts_done (Asked (Rate s rate)) l n w i p c = counts_plain n (rate_outcome w s
     (counts_on_station n w s _ (λ x t. refl) c)
 counts_done (Asked (Tick by)) l n w i p c = counts_plain n (tick_outcome w by) (λ k. refl)
     (counts_less n w _ (λ s t. refl) (less_plain Any w _ refl refl) c)
-counts_done (Asked (Pull c)) l n w i p k = counts_pulled l n w c i p k
+counts_done (Asked (Pull c limits)) l n w i p k = counts_pulled l n w c limits i p k
 counts_done (Asked (Arrive e m)) l n w i p c =
     counts_plain n (outcome_where_open w (exchange w e) (λ x. arrive_outcome w x m))
     (λ k. none_open (exchange w e) w _ k (λ x. none_arrived w x m k))
@@ -689,6 +692,12 @@ counts_done (Asked (Done e heard air)) l n w i p c =
     (λ x f. counts_ended air n w i x heard f c) c)
 counts_done (Asked (Sleep s)) l n w i p c = counts_plain n (sleep_outcome w s) (λ k. refl)
     (counts_on_station n w s _ (λ x t. refl) c)
+counts_done (Asked (Ampdu s octets)) l n w i p c = counts_plain n (ampdu_outcome w s octets) (λ k. refl)
+    (counts_on_station n w s _ (λ x t. refl) c)
+counts_done (Asked (Stop s)) l n w i p c = counts_plain n (stop_outcome w s) (λ k. refl)
+    (counts_on_station n w s _ (λ x t. refl) c)
+counts_done (Asked (Start s)) l n w i p c = counts_plain n (start_outcome w s) (λ k. refl)
+    (counts_on_station n w s _ (λ x t. refl) c)
 counts_done (Asked (Wake s)) l n w i p c = counts_plain n (wake_outcome w s) (λ k. refl)
     (counts_on_station n w s _ (λ x t. refl) c)
 counts_done (Asked (Poll s)) l n w i p c = counts_plain n (poll_outcome w s) (λ k. refl)
@@ -701,7 +710,7 @@ counts_done (Asked Reap) l n w i p c = counts_plain n (reap_outcome w w.finished
 counts_refused : (note : Note) (r : Refusal) (n : ℕ → ℕ) (w : World) → Counts n w →
     Counts n (after_refusal w note r)
 unfolding after_refusal
-counts_refused (Asked (Pull c)) Idle n w k = after_idle (Counts n) w c k
+counts_refused (Asked (Pull c l)) Idle n w k = after_idle (Counts n) w c k
     (counts_same n w _ (same_after_pick w c) (less_after_pick Any w c) k)
 counts_refused _ _ n w k = k
 

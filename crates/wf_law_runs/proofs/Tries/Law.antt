@@ -28,11 +28,12 @@ use Rattle.wf_law_runs.proofs.Deficits.KeptStep.{kept_step, kept_opening}
 use Rattle.wf_law_runs.proofs.Frames.Delivered.{Labelled}
 use Rattle.wf_law_runs.proofs.Frames.Fates.{Steady, steady_step, steady_first}
 use Rattle.wf_law_runs.proofs.Sent.Lengths.{IsStocked, stocked_step, stocked_first}
-use Rattle.wf_law_runs.proofs.Sent.Some.{AllSome, some_step, apt}
+use Rattle.wf_law_runs.proofs.Sent.Some.{AllSome, some_step, fit}
 use Rattle.wf_law_runs.proofs.Attempts.Law.{AllTried, Tried, tried_step, none_given}
 use Rattle.wf_law_runs.proofs.Tries.Counts.{AllCounted, Counts, times_in, times_part, counts_step, counts_first, counts, one_if, none_if}
 use Rattle.wf_law_runs.proofs.Tries.Opens.{Opens, at_some, opens_step}
 use Rattle.wf_law_runs.proofs.Tries.Requests.{few_requests}
+use Rattle.wf_law_runs.proofs.Ranges.Traits.{Traits, traits_step}
 
 -- ---- each frame
 
@@ -190,15 +191,17 @@ data_step w note a = elim (opens_step w note) [
 ]
 
 data_run : (h : List Entry) (l : List ℕ) (w : World) → AreAtMost greatest_body h → IsKept (books w) →
-    Steady l w → IsStocked greatest_body w → AllSome w → data_exchanges w h ≤ frames_sent_in w h
-data_run [] l w short k y i a = omega arith
-data_run (e ∷ es) l w short k y i a =
-    let b : AllSome (step w e.1).world = some_step w e.1 y.lawful (apt w k i) a in
+    Steady l w → IsStocked greatest_body w → Traits w → AllSome w →
+    data_exchanges w h ≤ frames_sent_in w h
+data_run [] l w short k y i z a = omega arith
+data_run (e ∷ es) l w short k y i z a =
+    let b : AllSome (step w e.1).world = some_step w e.1 y.lawful (fit w k i z) a in
     omega (
       arith,
       data_step w e.1 b,
       data_run es (l ++ named_by (step w e.1).reply) (step w e.1).world short.1 (kept_step w e.1 k)
-          (steady_step l w e.1 y) (stocked_step greatest_body l w e.1 short.0 y i) b,
+          (steady_step l w e.1 y) (stocked_step greatest_body l w e.1 short.0 y i)
+          (traits_step w e.1 z) b,
     )
 
 -- ---- the law
@@ -224,7 +227,7 @@ keeps_tries config past range =
         sum_most (λ k. tries (opening config) k past) config.attempts (accepted_count w) few,
       );
       exchanges = λ short. data_run past [] (opening config) short (kept_opening config range)
-          (steady_first config) (stocked_first greatest_body config) tt;
+          (steady_first config) (stocked_first greatest_body config) (λ s. tt) tt;
       requests = few_requests config past;
     }
 

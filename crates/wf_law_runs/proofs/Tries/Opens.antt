@@ -2,18 +2,20 @@
 -- none. By cases of the call.
 use Rattle.std.proofs.Common.{◌≡◌, refl, sym, subst, ℕ, ◌⊎◌, inl, inr, List, [], ◌∷◌, ◌++◌, Option, Some, None}
 use Rattle.wf_frame.specs.declared.classes.Class.{Class}
-use Rattle.wf_frame.specs.declared.notes.Ask.TheVariants.{Join, Leave, Rate, Tick, Pull, Arrive, Answer, Done, Sleep, Wake, Poll, Rx, Reap}
+use Rattle.wf_frame.specs.declared.notes.Ask.TheVariants.{Join, Leave, Rate, Tick, Pull, Arrive, Answer, Done, Sleep, Wake, Poll, Rx, Reap, Ampdu, Stop, Start}
+use Rattle.wf_frame.specs.declared.notes.Limits.{Limits}
 use Rattle.wf_frame.specs.declared.notes.Note.{Note}
 use Rattle.wf_frame.specs.declared.notes.Note.TheVariants.{Enqueue, Asked}
 use Rattle.wf_frame.specs.declared.notes.Refusal.{Refusal}
 use Rattle.wf_frame.specs.declared.notes.ReplyNote.{ReplyNote}
 use Rattle.wf_frame.specs.declared.notes.ReplyNote.TheVariants.{Send}
 use Rattle.wf_def_world.specs.World.{World, Exchange, exchange}
-use Rattle.wf_def_world.specs.Exchanges.{Prepared, part_of, exchange_of, picked_station, after_pick, with_exchange_opened}
+use Rattle.wf_def_world.specs.Exchanges.{Prepared, part_of, exchange_of, picked_station, with_exchange_opened}
 use Rattle.wf_def_world.specs.Refusals.{refusal}
 use Rattle.wf_def_world.specs.Step.{Outcome, enqueue_outcome, join_outcome, leave_outcome, rate_outcome, tick_outcome, send_outcome, pull_outcome_for, pull_outcome, arrive_outcome, answer_outcome, done_outcome, outcome_where_open, sleep_outcome, wake_outcome, poll_outcome, rx_outcome, reap_outcome, outcome_of, concerned_station, judged_outcome, step}
 use Rattle.wf_law_runs.specs.Windows.{SomeOpen}
 use Rattle.wf_law_runs.specs.Tries.{tries_by, frames_sent_by, data_exchanges_by}
+use Rattle.wf_law_runs.proofs.Common.Picked.{picked_world}
 use Rattle.wf_law_runs.proofs.Windows.Opened.{Each}
 use Rattle.wf_law_runs.proofs.Windows.Sides.{same_spent, same_listed}
 
@@ -73,13 +75,13 @@ unfolding pull_outcome_for
 opens_pulled_by None w c = inl (nothing _ (λ k. refl) refl refl)
 opens_pulled_by (Some s) w c = inr (opens_sent s _ c _)
 
-opens_pulled : (w : World) (c : Class) → NoneOrOpens (pull_outcome w c)
+opens_pulled : (w : World) (c : Class) (l : Limits) → NoneOrOpens (pull_outcome w c l)
 unfolding pull_outcome
-opens_pulled w c = opens_pulled_by (picked_station w c).winner (after_pick w c) c
+opens_pulled w c l = opens_pulled_by (picked_station w c).winner (picked_world w c l) c
 
 -- A call that is not a Pull sends nothing.
 abbrev pub PullsOr : Note → ReplyNote → Type 0
-PullsOr note r = ((c : Class) × (note ≡ Asked (Pull c))) ⊎ SendsNone r
+PullsOr note r = ((c : Class) × (l : Limits) × (note ≡ Asked (Pull c l))) ⊎ SendsNone r
 
 none_done : (note : Note) (w : World) → PullsOr note (outcome_of w note).reply
 unfolding outcome_of enqueue_outcome join_outcome leave_outcome tick_outcome rate_outcome sleep_outcome
@@ -89,12 +91,15 @@ none_done (Asked (Join s window start exponent weight)) w = inr (nothing _ (λ k
 none_done (Asked (Leave s)) w = inr (nothing _ (λ k. refl) refl refl)
 none_done (Asked (Rate s rate)) w = inr (nothing _ (λ k. refl) refl refl)
 none_done (Asked (Tick by)) w = inr (nothing _ (λ k. refl) refl refl)
-none_done (Asked (Pull c)) w = inl (c, refl)
+none_done (Asked (Pull c l)) w = inl (c, l, refl)
 none_done (Asked (Arrive e n)) w = inr (none_open (exchange w e) w _ (λ x. nothing _ (λ k. refl) refl refl))
 none_done (Asked (Answer e)) w = inr (none_open (exchange w e) w _ (λ x. nothing _ (λ k. refl) refl refl))
 none_done (Asked (Done e heard air)) w = inr (none_open (exchange w e) w _ (λ x.
     nothing _ (λ k. refl) refl refl))
 none_done (Asked (Sleep s)) w = inr (nothing _ (λ k. refl) refl refl)
+none_done (Asked (Ampdu s octets)) w = inr (nothing _ (λ k. refl) refl refl)
+none_done (Asked (Stop s)) w = inr (nothing _ (λ k. refl) refl refl)
+none_done (Asked (Start s)) w = inr (nothing _ (λ k. refl) refl refl)
 none_done (Asked (Wake s)) w = inr (nothing _ (λ k. refl) refl refl)
 none_done (Asked (Poll s)) w = inr (nothing _ (λ k. refl) refl refl)
 none_done (Asked (Rx s c air)) w = inr (nothing _ (λ k. refl) refl refl)
@@ -109,14 +114,14 @@ pub none_step : (w : World) (note : Note) → PullsOr note (step w note).reply
 unfolding step
 none_step w note = none_answer (refusal w note) w note
 
-pulled_is : (w : World) (c : Class) → outcome_of w (Asked (Pull c)) ≡ pull_outcome w c
+pulled_is : (w : World) (c : Class) (l : Limits) → outcome_of w (Asked (Pull c l)) ≡ pull_outcome w c l
 unfolding outcome_of
-pulled_is w c = refl
+pulled_is w c l = refl
 
 opens_done : (note : Note) (w : World) → NoneOrOpens (outcome_of w note)
 opens_done note w = elim (none_done note w) [
-  | inl p ↦ subst (λ (n : Note). NoneOrOpens (outcome_of w n)) (sym p.1)
-      (subst NoneOrOpens (sym (pulled_is w p.0)) (opens_pulled w p.0))
+  | inl p ↦ subst (λ (n : Note). NoneOrOpens (outcome_of w n)) (sym p.2)
+      (subst NoneOrOpens (sym (pulled_is w p.0 p.1)) (opens_pulled w p.0 p.1))
   | inr h ↦ inl h
 ]
 

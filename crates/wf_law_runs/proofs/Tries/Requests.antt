@@ -489,7 +489,7 @@ after_call note r l w h k s f d =
 
 still_refused : (note : Note) (r : Refusal) (w : World) → Still w (after_refusal w note r)
 unfolding after_refusal
-still_refused (Asked (Pull c)) Idle w = after_idle (Still w) w c (still_same w w (same w))
+still_refused (Asked (Pull c l)) Idle w = after_idle (Still w) w c (still_same w w (same w))
     (still_same w _ (same_after_pick w c))
 still_refused _ _ w = still_same w w (same w)
 

@@ -2,7 +2,8 @@
 -- failed. By cases of the call.
 use Rattle.std.proofs.Common.{◌≡◌, ◌≢◌, refl, ap, sym, ◌∙◌, subst, ℕ, zero, suc, ◌-◌, ◌==◌, List, [], ◌∷◌, ◌++◌, Option, Some, None}
 use Rattle.wf_frame.specs.declared.classes.Class.{Class}
-use Rattle.wf_frame.specs.declared.notes.Ask.TheVariants.{Join, Leave, Rate, Tick, Pull, Arrive, Answer, Done, Sleep, Wake, Poll, Rx, Reap}
+use Rattle.wf_frame.specs.declared.notes.Ask.TheVariants.{Join, Leave, Rate, Tick, Pull, Arrive, Answer, Done, Sleep, Wake, Poll, Rx, Reap, Ampdu, Stop, Start}
+use Rattle.wf_frame.specs.declared.notes.Limits.{Limits}
 use Rattle.wf_frame.specs.declared.notes.Note.{Note}
 use Rattle.wf_frame.specs.declared.notes.Note.TheVariants.{Enqueue, Asked}
 use Rattle.wf_frame.specs.Classes.{all_classes}
@@ -117,7 +118,7 @@ still_opening : (w : World) (x : Exchange) → Still w (with_exchange_opened w x
 unfolding with_exchange_opened
 still_opening w x = record { still = λ s t n _. stands_equal _ _ n refl }
 
-still_pulled : (w : World) (c : Class) → IsLawful w → Still w (pull_outcome w c).world
+still_pulled : (w : World) (c : Class) (l : Limits) → IsLawful w → Still w (pull_outcome w c l).world
 still_pulled = along_pull Still still_same still_then still_given still_flown still_opening
 
 -- A session without numbers has no failed one.
@@ -187,11 +188,14 @@ still_done (Asked (Join s window start exponent weight)) w i d =
 still_done (Asked (Leave s)) w i d = still_gone w s
 still_done (Asked (Rate s rate)) w i d = still_same w _ (same_on_station w s _ (λ x t. refl))
 still_done (Asked (Tick by)) w i d = record { still = λ s t n _. stands_equal _ _ n refl }
-still_done (Asked (Pull c)) w i d = still_pulled w c i
+still_done (Asked (Pull c l)) w i d = still_pulled w c l i
 still_done (Asked (Arrive e n)) w i d = still_open (exchange w e) w _ (λ x. still_arrived w x n)
 still_done (Asked (Answer e)) w i d = still_open (exchange w e) w _ (λ x. still_answered w x)
 still_done (Asked (Done e heard air)) w i d = absurd (d tt)
 still_done (Asked (Sleep s)) w i d = still_same w _ (same_on_station w s _ (λ x t. refl))
+still_done (Asked (Ampdu s octets)) w i d = still_same w _ (same_on_station w s _ (λ x t. refl))
+still_done (Asked (Stop s)) w i d = still_same w _ (same_on_station w s _ (λ x t. refl))
+still_done (Asked (Start s)) w i d = still_same w _ (same_on_station w s _ (λ x t. refl))
 still_done (Asked (Wake s)) w i d = still_same w _ (same_on_station w s _ (λ x t. refl))
 still_done (Asked (Poll s)) w i d = still_same w _ (same_on_station w s _ (λ x t. refl))
 still_done (Asked (Rx s c air)) w i d = still_same w _ (same_on_share w s c _)

@@ -13,7 +13,8 @@ use Rattle.wf_frame.specs.Classes.{lower_tid, upper_tid, class_number, all_class
 use Rattle.wf_def_world.specs.FlowQueues.{taken_for_tid}
 use Rattle.wf_def_world.specs.CanSend.{is_request, request_open, can_send, can_send_in, is_ready, can_give}
 use Rattle.wf_def_world.specs.Exchanges.{is_acked, transmissions, no_mpdu, station_need, most_frames, picked_station, after_arrival, exchange_of, sending_tid, with_heard_start, Aggregate, Prepared, mpdus_of, with_station_paid, with_stations_paid, after_pick, after_tid_turn, with_fresh, aggregate_of, with_number, fresh_mpdus, with_flying, waiting_mpdus, longest_fitting, prepared_data, prepared_exchange, with_exchange_opened, after_charge, with_failed_finished, with_settled, with_all_settled, after_done}
-use Rattle.wf_frame.specs.declared.notes.Ask.TheVariants.{Join, Leave, Rate, Tick, Pull, Arrive, Answer, Done, Sleep, Wake, Poll, Rx, Reap}
+use Rattle.wf_frame.specs.declared.notes.Ask.TheVariants.{Join, Leave, Rate, Tick, Pull, Arrive, Answer, Done, Sleep, Wake, Poll, Rx, Reap, Ampdu, Stop, Start}
+use Rattle.wf_frame.specs.declared.notes.Limits.{Limits}
 use Rattle.wf_frame.specs.declared.notes.Note.{Note}
 use Rattle.wf_frame.specs.declared.notes.Note.TheVariants.{Enqueue, Asked}
 use Rattle.wf_frame.specs.declared.notes.Refusal.{Refusal}
@@ -27,7 +28,8 @@ use Rattle.wf_law_runs.proofs.Common.Refused.{after_idle}
 use Rattle.wf_law_runs.proofs.Sessions.Starts.{start_ge, length-change}
 use Rattle.wf_law_runs.proofs.Sessions.Flights.{AllIn, Rises, rises_weaken, all_in_later, IsFlown, flown, IsChosen, chosen_fitting, chosen_waiting, chosen_give, chosen_fresh}
 use Rattle.wf_law_rules.proofs.Lemmas.Numbers.{on_bool, on_if, eq_yes, eq_no, yes_eq, either, both, and_true, has_new}
-use Rattle.wf_law_runs.proofs.Windows.Sides.{Side, side_of, side, sides_of, Same, each_side_on, at_side_on, side_on, on_live, on_opened, on_exchanges, same, then_same, same_on_station, same_with_queues, same_on_share, same_with_rotation, same_finish, same_finish_all, same_listed, same_after_pick, same_after_turn, same_spent, same_within_limit, same_put_in, same_take, same_purge_queues, same_charged}
+use Rattle.wf_law_runs.proofs.Common.Picked.{picked_world}
+use Rattle.wf_law_runs.proofs.Windows.Sides.{Side, side_of, side, sides_of, Same, each_side_on, at_side_on, side_on, on_live, on_opened, on_exchanges, same, then_same, same_on_station, same_with_queues, same_on_share, same_with_rotation, same_finish, same_finish_all, same_listed, same_after_pick, same_after_turn, same_spent, same_within_limit, same_put_in, same_take, same_purge_queues, same_charged, same_picked}
 use Rattle.wf_law_runs.proofs.Windows.Agreement.{IsAgreed, due_at, agreed_on_slot, not_due_give, agreed_give, agreed_heard, agreed_arrived, agreed_start, agreed_new, IsAsked, IsOpen, request_map, open_on_slot, open_flies, open_arrived, open_start, open_heard, agreed_fly, answer_right, AllRight, IfRequest}
 use Rattle.wf_law_runs.proofs.Windows.Opened.{Each, each_map, each_both, each_append, each_filter, each_find, FlyIn, fly_give, differ, some_along, pick_ready, can_give-room, eight, none_open, NoRow, no_row}
 
@@ -460,6 +462,11 @@ unmoved_after_pick w c =
     let a = unmoved_pay (in_order (rotation w c)) w c (picked_station w c).quanta in
     record { tids = a.tids; queues = a.queues }
 
+unmoved_picked : (w : World) (c : Class) (l : Limits) → Unmoved w (picked_world w c l)
+unmoved_picked w c l =
+    let k : Unmoved w (after_pick w c) = unmoved_after_pick w c in
+    record { tids = k.tids; queues = k.queues }
+
 abbrev pub sends_by : ℕ → ℕ → Session → List Exchange → ℕ → Bool
 sends_by s t y xs q = if request_due y then not
     (list_any (λ x. (x.station == s) && ((x.tid == t) && is_request x.content)) xs)
@@ -475,26 +482,26 @@ can_send_same w v s t h k =
     h.opened
     ∙ ap (λ (qs : List Queue). sends_by s t (session w s t) w.opened (queued_by qs (tid_of w s t))) k.queues
 
-pub winner_ready : (w : World) (c : Class) → IfSome (picked_station w c).winner
-    (λ s. (is_live (after_pick w c) s ≡ true) × (can_send_in (after_pick w c) s c ≡ true))
-winner_ready w c =
-    let k : Same w (after_pick w c) = same_after_pick w c in
-    let u : Unmoved w (after_pick w c) = unmoved_after_pick w c in
-    some_along (λ s. is_ready w c s ≡ true) (λ s. (is_live (after_pick w c) s ≡ true) ×
-    (can_send_in (after_pick w c) s c ≡ true)) (picked_station w c).winner (λ s h.
+pub winner_ready : (w : World) (c : Class) (l : Limits) → IfSome (picked_station w c).winner
+    (λ s. (is_live (picked_world w c l) s ≡ true) × (can_send_in (picked_world w c l) s c ≡ true))
+winner_ready w c l =
+    let k : Same w (picked_world w c l) = same_picked w c l in
+    let u : Unmoved w (picked_world w c l) = unmoved_picked w c l in
+    some_along (λ s. is_ready w c s ≡ true) (λ s. (is_live (picked_world w c l) s ≡ true) ×
+    (can_send_in (picked_world w c l) s c ≡ true)) (picked_station w c).winner (λ s h.
     let p = both (is_live w s) _ h in
     let q = both (can_send_in w s c) _ p.1 in (
       k.live s ∙ p.0,
-      ap (λ (b : Bool). b || can_send (after_pick w c) s (upper_tid c))
-          (can_send_same w (after_pick w c) s (lower_tid c) k u)
+      ap (λ (b : Bool). b || can_send (picked_world w c l) s (upper_tid c))
+          (can_send_same w (picked_world w c l) s (lower_tid c) k u)
           ∙ ap (λ (b : Bool). can_send w s (lower_tid c) || b)
-          (can_send_same w (after_pick w c) s (upper_tid c) k u) ∙ q.0,
+          (can_send_same w (picked_world w c l) s (upper_tid c) k u) ∙ q.0,
     )) (pick_ready (station_need w c) (is_ready w c) (rotation w c))
 
-pub lawful_pulled : (w : World) (c : Class) → IsLawful w → IsLawful (pull_outcome w c).world
+pub lawful_pulled : (w : World) (c : Class) (l : Limits) → IsLawful w → IsLawful (pull_outcome w c l).world
 unfolding pull_outcome
-lawful_pulled w c i = lawful_pulled_by (picked_station w c).winner (after_pick w c) c (winner_ready w c)
-    (lawful_same _ _ (same_after_pick w c) i)
+lawful_pulled w c l i = lawful_pulled_by (picked_station w c).winner (picked_world w c l) c
+    (winner_ready w c l) (lawful_same _ _ (same_picked w c l) i)
 
 -- ---- arrivals and answers
 
@@ -1033,7 +1040,7 @@ lawful_done (Asked (Join s window start exponent weight)) w e i =
 lawful_done (Asked (Leave s)) w e i = lawful_gone w s e.1.1.0 i
 lawful_done (Asked (Rate s rate)) w e i = lawful_on_station w s _ (λ x t. refl) i
 lawful_done (Asked (Tick by)) w e i = lawful_plain w _ refl refl refl i
-lawful_done (Asked (Pull c)) w e i = lawful_pulled w c i
+lawful_done (Asked (Pull c l)) w e i = lawful_pulled w c l i
 lawful_done (Asked (Arrive e n)) w r i = lawful_on_open (IsFound w i)
     (λ x. (is_some x.answer ≡ false) × (nat_le (transmissions x.content) n ≡ false)) (exchange w e) w _
     (found w i e)
@@ -1048,6 +1055,9 @@ lawful_done (Asked (Done e heard air)) w r i = lawful_on_open (IsFound w i)
     (λ x. heard ≡ true → is_some x.answer ≡ true) (exchange w e) w _ (found w i e)
     (heard_told (exchange w e) heard r.1.0) i (λ x f g. lawful_ended air w i x heard f g)
 lawful_done (Asked (Sleep s)) w e i = lawful_on_station w s _ (λ x t. refl) i
+lawful_done (Asked (Ampdu s octets)) w e i = lawful_on_station w s _ (λ x t. refl) i
+lawful_done (Asked (Stop s)) w e i = lawful_on_station w s _ (λ x t. refl) i
+lawful_done (Asked (Start s)) w e i = lawful_on_station w s _ (λ x t. refl) i
 lawful_done (Asked (Wake s)) w e i = lawful_on_station w s _ (λ x t. refl) i
 lawful_done (Asked (Poll s)) w e i = lawful_on_station w s _ (λ x t. refl) i
 lawful_done (Asked (Rx s c air)) w e i = lawful_same w _ (same_on_share w s c _) i
@@ -1055,7 +1065,8 @@ lawful_done (Asked Reap) w e i = lawful_reaped w.finished w i
 
 pub lawful_refused : (note : Note) (r : Refusal) (w : World) → IsLawful w → IsLawful (after_refusal w note r)
 unfolding after_refusal
-lawful_refused (Asked (Pull c)) Idle w i = after_idle IsLawful w c i (lawful_same w _ (same_after_pick w c) i)
+lawful_refused (Asked (Pull c l)) Idle w i =
+    after_idle IsLawful w c i (lawful_same w _ (same_after_pick w c) i)
 lawful_refused _ _ w i = i
 
 pub lawful_answer : (r : Option Refusal) (w : World) (note : Note) → refusal w note ≡ r → IsLawful w →

@@ -4,7 +4,8 @@
 use Rattle.std.proofs.Common.{◌≡◌, ◌≢◌, refl, ap, sym, ◌∙◌, subst, arith, ℕ, zero, suc, ◌+◌, ◌-◌, ◌<◌, ◌≤◌, nat_lt, nat_le, Bool, true, false, if◌then◌else◌, ◌==◌, ◌⊎◌, inl, inr, List, [], ◌∷◌, ◌++◌, length, map, Option, Some, None, IfSome, is_some}
 use Rattle.wf_frame.specs.declared.settings.Config.{Config}
 use Rattle.wf_frame.specs.declared.classes.Class.{Class}
-use Rattle.wf_frame.specs.declared.notes.Ask.TheVariants.{Join, Leave, Rate, Tick, Pull, Arrive, Answer, Done, Sleep, Wake, Poll, Rx, Reap}
+use Rattle.wf_frame.specs.declared.notes.Ask.TheVariants.{Join, Leave, Rate, Tick, Pull, Arrive, Answer, Done, Sleep, Wake, Poll, Rx, Reap, Ampdu, Stop, Start}
+use Rattle.wf_frame.specs.declared.notes.Limits.{Limits}
 use Rattle.wf_frame.specs.declared.notes.Note.{Note}
 use Rattle.wf_frame.specs.declared.notes.Note.TheVariants.{Enqueue, Asked}
 use Rattle.wf_frame.specs.declared.notes.Refusal.{Refusal}
@@ -15,15 +16,16 @@ use Rattle.wf_def_agreement.specs.Receiver.{Receiver, Score, greatest, score, sc
 use Rattle.wf_def_agreement.specs.Session.{Session, State, is_settled, start_of, next_number}
 use Rattle.wf_def_world.specs.World.{World, Station, Exchange, Mpdu, Content, Frames, Request, rotation, session, receiver, is_live, exchange, with_station, on_receiver, with_exchange, opening}
 use Rattle.wf_def_world.specs.CanSend.{is_ready}
-use Rattle.wf_def_world.specs.Exchanges.{transmissions, no_mpdu, mpdus_of, station_need, picked_station, sending_tid, exchange_of, Prepared, after_pick, after_tid_turn, with_exchange_opened, after_arrival}
+use Rattle.wf_def_world.specs.Exchanges.{transmissions, no_mpdu, mpdus_of, station_need, picked_station, sending_tid, exchange_of, Prepared, after_tid_turn, with_exchange_opened, after_arrival}
 use Rattle.wf_def_world.specs.Refusals.{open_of_station, refusals, refusal}
 use Rattle.wf_def_world.specs.Step.{Outcome, join_outcome, leave_outcome, rate_outcome, tick_outcome, send_outcome, pull_outcome_for, pull_outcome, arrive_outcome, answer_outcome, done_outcome, outcome_where_open, sleep_outcome, wake_outcome, poll_outcome, rx_outcome, reap_outcome, concerned_station, outcome_of, after_refusal, judged_outcome, step}
 use Rattle.wf_def_world.specs.Run.{Entry, world_after}
 use Rattle.wf_law_rules.proofs.Lemmas.Numbers.{has_new, has_old, greatest_least, greatest_has, score_past, le_no}
 use Rattle.wf_law_runs.proofs.Common.Refused.{after_idle}
+use Rattle.wf_law_runs.proofs.Common.Picked.{picked_world}
 use Rattle.wf_law_runs.proofs.Sessions.Starts.{start_le}
 use Rattle.wf_law_runs.proofs.Sessions.Flights.{AllIn, Rises}
-use Rattle.wf_law_runs.proofs.Windows.Sides.{Side, side, Same, each_side_on, then_same, same_listed, same_after_pick, same_after_turn, same_spent, same_on_station, same_on_share}
+use Rattle.wf_law_runs.proofs.Windows.Sides.{Side, side, Same, each_side_on, then_same, same_listed, same_after_pick, same_after_turn, same_spent, same_on_station, same_on_share, same_picked}
 use Rattle.wf_law_runs.proofs.Windows.Agreement.{IsAgreed, IsAsked, IfRequest, option_along, unsettled_ge, score_kept}
 use Rattle.wf_law_runs.proofs.Windows.Opened.{Each, each_map, each_both, each_append, each_find, FlyIn, some_along, pick_ready, left_true, none_open, NoRow, no_row}
 use Rattle.wf_law_runs.proofs.Windows.Agreed.{IsLawful, IsOpenIn, each_map_if, both_some, if_on, no_answer, lawful_same, lawful_step, lawful_at_first, same_left_tids, same_off_lists}
@@ -155,12 +157,13 @@ marked_pulled_by (Some s) w c live i h =
     marked_sent s _ c v _ (prepared_right v s _ (lawful_same _ _ k i) (k.live s ∙ live)) (keep_prepared v s _)
     (marked_same w v k h)
 
-marked_pulled : (w : World) (c : Class) → IsLawful w → Marked w → Marked (pull_outcome w c).world
+marked_pulled : (w : World) (c : Class) (l : Limits) → IsLawful w → Marked w →
+    Marked (pull_outcome w c l).world
 unfolding pull_outcome
-marked_pulled w c i h =
-    let k : Same w (after_pick w c) = same_after_pick w c in
-    marked_pulled_by (picked_station w c).winner (after_pick w c) c
-    (some_along (λ s. is_ready w c s ≡ true) (λ s. is_live (after_pick w c) s ≡ true)
+marked_pulled w c l i h =
+    let k : Same w (picked_world w c l) = same_picked w c l in
+    marked_pulled_by (picked_station w c).winner (picked_world w c l) c
+    (some_along (λ s. is_ready w c s ≡ true) (λ s. is_live (picked_world w c l) s ≡ true)
     (picked_station w c).winner (λ s e. k.live s ∙ left_true (is_live w s) _ e)
     (pick_ready (station_need w c) (is_ready w c) (rotation w c))) (lawful_same _ _ k i)
     (marked_same w _ k h)
@@ -314,7 +317,7 @@ marked_done (Asked (Join s window start exponent weight)) w i r h =
 marked_done (Asked (Leave s)) w i r h = marked_gone w s r.1.1.0 h
 marked_done (Asked (Rate s rate)) w i r h = marked_same w _ (same_on_station w s _ (λ x t. refl)) h
 marked_done (Asked (Tick by)) w i r h = marked_kept w _ (keep_plain w _ refl) refl h
-marked_done (Asked (Pull c)) w i r h = marked_pulled w c i h
+marked_done (Asked (Pull c l)) w i r h = marked_pulled w c l i h
 marked_done (Asked (Arrive e n)) w i r h = marked_open
     (λ x. IsRead w x × ((is_some x.answer ≡ false) × (nat_le (transmissions x.content) n ≡ false)))
     (exchange w e) w _
@@ -332,6 +335,9 @@ marked_done (Asked (Answer e)) w i r h = marked_open (λ x. IsRead w x × ((leng
 marked_done (Asked (Done e heard air)) w i r h = marked_open (IsRead w) (exchange w e) w _ (read w i h e) h
     (λ x f. marked_ended air w x heard h)
 marked_done (Asked (Sleep s)) w i r h = marked_same w _ (same_on_station w s _ (λ x t. refl)) h
+marked_done (Asked (Ampdu s octets)) w i r h = marked_same w _ (same_on_station w s _ (λ x t. refl)) h
+marked_done (Asked (Stop s)) w i r h = marked_same w _ (same_on_station w s _ (λ x t. refl)) h
+marked_done (Asked (Start s)) w i r h = marked_same w _ (same_on_station w s _ (λ x t. refl)) h
 marked_done (Asked (Wake s)) w i r h = marked_same w _ (same_on_station w s _ (λ x t. refl)) h
 marked_done (Asked (Poll s)) w i r h = marked_same w _ (same_on_station w s _ (λ x t. refl)) h
 marked_done (Asked (Rx s c air)) w i r h = marked_same w _ (same_on_share w s c _) h
@@ -339,7 +345,7 @@ marked_done (Asked Reap) w i r h = marked_reaped w.finished w h
 
 marked_refused : (note : Note) (r : Refusal) (w : World) → Marked w → Marked (after_refusal w note r)
 unfolding after_refusal
-marked_refused (Asked (Pull c)) Idle w h = after_idle Marked w c h (marked_same w _ (same_after_pick w c) h)
+marked_refused (Asked (Pull c l)) Idle w h = after_idle Marked w c h (marked_same w _ (same_after_pick w c) h)
 marked_refused _ _ w h = h
 
 marked_answer : (r : Option Refusal) (w : World) (note : Note) → refusal w note ≡ r → IsLawful w → Marked w →

@@ -9,8 +9,9 @@ use Rattle.wf_def_agreement.specs.Session.{next_number}
 use Rattle.wf_def_world.specs.World.{receiver, World, Station, Exchange, Mpdu, Content, no_tid, rotation, session, is_live, exchange, with_station, on_station, on_receiver, with_exchange, opening}
 use Rattle.wf_frame.specs.Classes.{all_classes}
 use Rattle.wf_def_world.specs.CanSend.{is_ready}
-use Rattle.wf_def_world.specs.Exchanges.{station_need, picked_station, after_arrival, exchange_of, sending_tid, Prepared, mpdus_of, after_pick, after_tid_turn, with_exchange_opened}
-use Rattle.wf_frame.specs.declared.notes.Ask.TheVariants.{Join, Leave, Rate, Tick, Pull, Arrive, Answer, Done, Sleep, Wake, Poll, Rx, Reap}
+use Rattle.wf_def_world.specs.Exchanges.{station_need, picked_station, after_arrival, exchange_of, sending_tid, Prepared, mpdus_of, after_tid_turn, with_exchange_opened}
+use Rattle.wf_frame.specs.declared.notes.Ask.TheVariants.{Join, Leave, Rate, Tick, Pull, Arrive, Answer, Done, Sleep, Wake, Poll, Rx, Reap, Ampdu, Stop, Start}
+use Rattle.wf_frame.specs.declared.notes.Limits.{Limits}
 use Rattle.wf_frame.specs.declared.notes.Note.{Note}
 use Rattle.wf_frame.specs.declared.notes.Note.TheVariants.{Enqueue, Asked}
 use Rattle.wf_frame.specs.declared.notes.Refusal.{Refusal}
@@ -20,11 +21,12 @@ use Rattle.wf_def_world.specs.Step.{Outcome, join_outcome, leave_outcome, rate_o
 use Rattle.wf_def_world.specs.Run.{Entry, world_after, by}
 use Rattle.wf_law_rules.proofs.Lemmas.Numbers.{eq_yes, eq_no}
 use Rattle.wf_law_runs.proofs.Common.Refused.{after_idle}
-use Rattle.wf_law_runs.proofs.Windows.Sides.{side_of, Same, on_exchanges, then_same, same_on_station, same_on_share, same_listed, same_after_pick, same_after_turn, same_spent}
+use Rattle.wf_law_runs.proofs.Windows.Sides.{side_of, Same, on_exchanges, then_same, same_on_station, same_on_share, same_listed, same_after_pick, same_after_turn, same_spent, same_picked}
 use Rattle.wf_law_runs.proofs.Windows.Agreement.{answer_right, AllRight}
 use Rattle.wf_law_runs.proofs.Windows.Opened.{Each, each_both, each_append, each_find, some_along, pick_ready, left_true, NoRow, no_row}
 use Rattle.wf_law_runs.specs.Windows.{EachMpdu}
 use Rattle.wf_law_runs.specs.Answers.{IsBa, StandsAsThen, AnswerLaw}
+use Rattle.wf_law_runs.proofs.Common.Picked.{picked_world}
 use Rattle.wf_law_runs.proofs.Windows.Agreed.{IsLawful, IsOpenIn, lawful, lawful_step, lawful_run, lawful_same, same_left_tids, same_off_lists, if_on, each_map_if}
 use Rattle.wf_law_runs.proofs.Frames.Delivered.{IsPrepared, prepared_right, opened_ended, exchanges_ended, opened_on_receiver, same_enqueued, filtered}
 
@@ -82,13 +84,13 @@ module _ (e : ℕ) (b : Score) (s t : ℕ) (c : Content) where
       standing_sent a _ d v _ (prepared_right v a _ (lawful_same _ _ k i) (k.live a ∙ live))
       (standing_same w v k h)
 
-  standing_pulled : (w : World) (d : Class) → IsLawful w → IsStanding e b s t c w →
-      IsStanding e b s t c (pull_outcome w d).world
+  standing_pulled : (w : World) (d : Class) (l : Limits) → IsLawful w → IsStanding e b s t c w →
+      IsStanding e b s t c (pull_outcome w d l).world
   unfolding pull_outcome
-  standing_pulled w d i h =
-      let k : Same w (after_pick w d) = same_after_pick w d in
-      standing_pulled_by (picked_station w d).winner (after_pick w d) d
-      (some_along (λ a. is_ready w d a ≡ true) (λ a. is_live (after_pick w d) a ≡ true)
+  standing_pulled w d l i h =
+      let k : Same w (picked_world w d l) = same_picked w d l in
+      standing_pulled_by (picked_station w d).winner (picked_world w d l) d
+      (some_along (λ a. is_ready w d a ≡ true) (λ a. is_live (picked_world w d l) a ≡ true)
       (picked_station w d).winner (λ a g. k.live a ∙ left_true (is_live w a) _ g)
       (pick_ready (station_need w d) (is_ready w d) (rotation w d))) (lawful_same _ _ k i)
       (standing_same w _ k h)
@@ -179,7 +181,7 @@ module _ (e : ℕ) (b : Score) (s t : ℕ) (c : Content) where
   standing_done (Asked (Leave i)) w l r h = standing_gone w i h
   standing_done (Asked (Rate i rate)) w l r h = standing_station w i _ (λ x t. refl) h
   standing_done (Asked (Tick by)) w l r h = standing_plain w _ refl refl h
-  standing_done (Asked (Pull d)) w l r h = standing_pulled w d l h
+  standing_done (Asked (Pull d limits)) w l r h = standing_pulled w d limits l h
   standing_done (Asked (Arrive x n)) w l r h = standing_open AsThen (λ y. is_some y.answer ≡ false)
       (exchange w x) w _ (found_then w x h) (if_on (exchange w x) (λ y. is_some y.answer) r.1.1.0) h
       (λ y f none. standing_arrived w y n f none h)
@@ -190,6 +192,9 @@ module _ (e : ℕ) (b : Score) (s t : ℕ) (c : Content) where
       standing_open AsThen AsThen (exchange w x) w _ (found_then w x h) (found_then w x h) h
       (λ y f g. standing_ended air w y heard h)
   standing_done (Asked (Sleep i)) w l r h = standing_station w i _ (λ x t. refl) h
+  standing_done (Asked (Ampdu i octets)) w l r h = standing_station w i _ (λ x t. refl) h
+  standing_done (Asked (Stop i)) w l r h = standing_station w i _ (λ x t. refl) h
+  standing_done (Asked (Start i)) w l r h = standing_station w i _ (λ x t. refl) h
   standing_done (Asked (Wake i)) w l r h = standing_station w i _ (λ x t. refl) h
   standing_done (Asked (Poll i)) w l r h = standing_station w i _ (λ x t. refl) h
   standing_done (Asked (Rx i d air)) w l r h = standing_same w _ (same_on_share w i d _) h
@@ -198,7 +203,7 @@ module _ (e : ℕ) (b : Score) (s t : ℕ) (c : Content) where
   standing_refused : (note : Note) (r : Refusal) (w : World) → IsStanding e b s t c w →
       IsStanding e b s t c (after_refusal w note r)
   unfolding after_refusal
-  standing_refused (Asked (Pull d)) Idle w h = after_idle (IsStanding e b s t c) w d h
+  standing_refused (Asked (Pull d l)) Idle w h = after_idle (IsStanding e b s t c) w d h
       (standing_same w _ (same_after_pick w d) h)
   standing_refused _ _ w h = h
 

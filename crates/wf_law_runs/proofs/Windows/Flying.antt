@@ -11,8 +11,9 @@ use Rattle.wf_def_world.specs.World.{receiver, World, Station, Tid, Exchange, Mp
 use Rattle.wf_frame.specs.Classes.{all_classes}
 use Rattle.wf_def_world.specs.FlowQueues.{taken_for_tid}
 use Rattle.wf_def_world.specs.CanSend.{is_ready, can_give}
-use Rattle.wf_def_world.specs.Exchanges.{is_acked, station_need, most_frames, picked_station, after_arrival, exchange_of, sending_tid, with_heard_start, Aggregate, Prepared, mpdus_of, after_pick, after_tid_turn, with_fresh, aggregate_of, with_number, with_flying, waiting_mpdus, longest_fitting, prepared_data, prepared_exchange, with_exchange_opened, after_charge, with_failed_finished, with_settled, with_all_settled, after_done}
-use Rattle.wf_frame.specs.declared.notes.Ask.TheVariants.{Join, Leave, Rate, Tick, Pull, Arrive, Answer, Done, Sleep, Wake, Poll, Rx, Reap}
+use Rattle.wf_def_world.specs.Exchanges.{is_acked, station_need, most_frames, picked_station, after_arrival, exchange_of, sending_tid, with_heard_start, Aggregate, Prepared, mpdus_of, after_tid_turn, with_fresh, aggregate_of, with_number, with_flying, waiting_mpdus, longest_fitting, prepared_data, prepared_exchange, with_exchange_opened, after_charge, with_failed_finished, with_settled, with_all_settled, after_done}
+use Rattle.wf_frame.specs.declared.notes.Ask.TheVariants.{Join, Leave, Rate, Tick, Pull, Arrive, Answer, Done, Sleep, Wake, Poll, Rx, Reap, Ampdu, Stop, Start}
+use Rattle.wf_frame.specs.declared.notes.Limits.{Limits}
 use Rattle.wf_frame.specs.declared.notes.Note.{Note}
 use Rattle.wf_frame.specs.declared.notes.Note.TheVariants.{Enqueue, Asked}
 use Rattle.wf_frame.specs.declared.notes.Refusal.{Refusal}
@@ -25,10 +26,11 @@ use Rattle.wf_law_rules.proofs.Lemmas.Tables.{each_put}
 use Rattle.wf_law_runs.proofs.Common.Refused.{after_idle}
 use Rattle.wf_law_runs.proofs.Sessions.Flights.{Rises, flown, next-give}
 use Rattle.wf_law_rules.proofs.Lemmas.Numbers.{on_bool, on_if, lt_yes, lt_no, eq_yes, eq_no, either, or_left, or_right}
-use Rattle.wf_law_runs.proofs.Windows.Sides.{side_of, sides_of, Same, each_side_on, on_exchanges, same, then_same, same_on_station, same_on_share, same_finish, same_listed, same_after_pick, same_after_turn, same_spent, same_take, same_charged}
+use Rattle.wf_law_runs.proofs.Windows.Sides.{side_of, sides_of, Same, each_side_on, on_exchanges, same, then_same, same_on_station, same_on_share, same_finish, same_listed, same_after_pick, same_after_turn, same_spent, same_take, same_charged, same_picked}
 use Rattle.wf_law_runs.proofs.Windows.Agreement.{below_next, slot_give, slot_new, slot_other, slot_same}
 use Rattle.wf_law_runs.proofs.Windows.Opened.{Each, each_map, each_find, FlyIn, some_along, pick_ready, left_true, eight}
 use Rattle.wf_law_runs.specs.Windows.{EachMpdu, SomeOpen, IsSending, OpenRises}
+use Rattle.wf_law_runs.proofs.Common.Picked.{picked_world}
 use Rattle.wf_law_runs.proofs.Windows.Agreed.{IsLawful, IsOpenIn, IsReady, ready_filled, lawful_same, lawful_step, lawful_at_first, session_same, same_left_tids, same_off_lists}
 use Rattle.wf_law_runs.proofs.Windows.Settling.{all_landed, without_same, without_live}
 use Rattle.wf_law_runs.proofs.Frames.Delivered.{IsPrepared, prepared_right, opened_ended, exchanges_ended, opened_on_receiver, same_enqueued}
@@ -394,12 +396,13 @@ flown_pulled_by (Some a) w d live i h =
     flown_sent a _ d v _ (prepared_right v a _ (lawful_same _ _ k i) (k.live a ∙ live))
     (sent_prepared v a _ (lawful_same _ _ k i) (k.live a ∙ live)) (flown_same w v k h)
 
-flown_pulled : (w : World) (d : Class) → IsLawful w → IsFlown_by w → IsFlown_by (pull_outcome w d).world
+flown_pulled : (w : World) (d : Class) (l : Limits) → IsLawful w → IsFlown_by w →
+    IsFlown_by (pull_outcome w d l).world
 unfolding pull_outcome
-flown_pulled w d i h =
-    let k : Same w (after_pick w d) = same_after_pick w d in
-    flown_pulled_by (picked_station w d).winner (after_pick w d) d
-    (some_along (λ a. is_ready w d a ≡ true) (λ a. is_live (after_pick w d) a ≡ true)
+flown_pulled w d l i h =
+    let k : Same w (picked_world w d l) = same_picked w d l in
+    flown_pulled_by (picked_station w d).winner (picked_world w d l) d
+    (some_along (λ a. is_ready w d a ≡ true) (λ a. is_live (picked_world w d l) a ≡ true)
     (picked_station w d).winner (λ a g. k.live a ∙ left_true (is_live w a) _ g)
     (pick_ready (station_need w d) (is_ready w d) (rotation w d))) (lawful_same _ _ k i)
     (flown_same w _ k h)
@@ -641,7 +644,7 @@ flown_done (Asked (Join s window start exponent weight)) w i k =
 flown_done (Asked (Leave s)) w i k = flown_gone w s k
 flown_done (Asked (Rate s rate)) w i k = flown_station w s _ (λ x t. refl) k
 flown_done (Asked (Tick by)) w i k = flown_plain w _ refl refl refl k
-flown_done (Asked (Pull c)) w i k = flown_pulled w c i k
+flown_done (Asked (Pull c l)) w i k = flown_pulled w c l i k
 flown_done (Asked (Arrive x n)) w i k = flown_open (IsOnly w) (exchange w x) w _ (only_found w x i k) k
     (λ y u. flown_arrived w y n u k)
 flown_done (Asked (Answer x)) w i k = flown_open (IsOnly w) (exchange w x) w _ (only_found w x i k) k
@@ -649,6 +652,9 @@ flown_done (Asked (Answer x)) w i k = flown_open (IsOnly w) (exchange w x) w _ (
 flown_done (Asked (Done x heard air)) w i k = flown_open (IsOnly w) (exchange w x) w _ (only_found w x i k) k
     (λ y u. flown_ended air w y heard u k)
 flown_done (Asked (Sleep s)) w i k = flown_station w s _ (λ x t. refl) k
+flown_done (Asked (Ampdu s octets)) w i k = flown_station w s _ (λ x t. refl) k
+flown_done (Asked (Stop s)) w i k = flown_station w s _ (λ x t. refl) k
+flown_done (Asked (Start s)) w i k = flown_station w s _ (λ x t. refl) k
 flown_done (Asked (Wake s)) w i k = flown_station w s _ (λ x t. refl) k
 flown_done (Asked (Poll s)) w i k = flown_station w s _ (λ x t. refl) k
 flown_done (Asked (Rx s c air)) w i k = flown_same w _ (same_on_share w s c _) k
@@ -656,7 +662,8 @@ flown_done (Asked Reap) w i k = flown_reaped w.finished w k
 
 flown_refused : (note : Note) (r : Refusal) (w : World) → IsFlown_by w → IsFlown_by (after_refusal w note r)
 unfolding after_refusal
-flown_refused (Asked (Pull c)) Idle w k = after_idle IsFlown_by w c k (flown_same w _ (same_after_pick w c) k)
+flown_refused (Asked (Pull c l)) Idle w k =
+    after_idle IsFlown_by w c k (flown_same w _ (same_after_pick w c) k)
 flown_refused _ _ w k = k
 
 flown_answer : (r : Option Refusal) (w : World) (note : Note) → IsLawful w → IsFlown_by w →

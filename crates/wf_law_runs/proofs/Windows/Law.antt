@@ -111,7 +111,7 @@ keeps w i k = record {
   flown = k.flown;
   sole = λ s t. one_count (asks s t) (i.sole s t).who 0 w.exchanges w.opened k.rising (i.sole s t).only;
   settles = settles w i;
-  waits = λ c s t due. ap next_number ((holds_pull w c i).held s t due);
+  waits = λ c l s t due. ap next_number ((holds_pull w c l i).held s t due);
 }
 
 pub window_law : (config : Config) (h : List Entry) → WindowLaw config h

@@ -2,6 +2,7 @@
 -- open exchanges.
 use Rattle.std.proofs.Common.{◌≡◌, refl, ap, sym, ◌∙◌, subst, ℕ, Bool, true, false, if◌then◌else◌, List, [], ◌∷◌, Option, Some, None, is_some, unwrap_or, option_map}
 use Rattle.wf_frame.specs.declared.classes.Class.{Class}
+use Rattle.wf_frame.specs.declared.notes.Limits.{Limits}
 use Rattle.wf_frame.specs.declared.classes.Fate.{Fate}
 use Rattle.wf_def_lists.specs.Table.{at, change}
 use Rattle.wf_def_codel.specs.Codel.{Item}
@@ -13,6 +14,7 @@ use Rattle.wf_def_world.specs.FlowQueues.{without_head, after_limit, with_listed
 use Rattle.wf_def_world.specs.CanSend.{with_listing_in, with_listings_in, with_listings_of}
 use Rattle.wf_def_world.specs.Exchanges.{with_station_paid, with_stations_paid, after_pick, after_tid_turn, without_credit, after_charge}
 use Rattle.wf_law_rules.proofs.Lemmas.Tables.{each_put, at_put_same}
+use Rattle.wf_law_runs.proofs.Common.Picked.{picked_world}
 
 -- ---- the session of a TID after one session changes
 
@@ -183,6 +185,11 @@ same_pay_stations (s ∷ ss) w c quanta = then_same _ _ _ (same_on_share w s c _
 pub same_after_pick : (w : World) (c : Class) → Same w (after_pick w c)
 unfolding after_pick
 same_after_pick w c = then_same _ _ _ (same_pay_stations _ w c _) (same_with_rotation _ c _)
+
+pub same_picked : (w : World) (c : Class) (l : Limits) → Same w (picked_world w c l)
+same_picked w c l =
+    let k : Same w (after_pick w c) = same_after_pick w c in
+    record { sides = k.sides; live = k.live; opened = k.opened; exchanges = k.exchanges }
 
 pub same_after_turn : (w : World) (s : ℕ) (c : Class) (t : ℕ) → Same w (after_tid_turn w s c t)
 unfolding after_tid_turn

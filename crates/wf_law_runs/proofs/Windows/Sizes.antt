@@ -4,7 +4,7 @@ use Rattle.std.proofs.lemmas.Bool.{not-false}
 use Rattle.wf_frame.specs.declared.settings.Config.{Config}
 use Rattle.wf_frame.specs.declared.notes.Note.{Note}
 use Rattle.wf_frame.specs.declared.notes.Note.TheVariants.{Enqueue, Asked}
-use Rattle.wf_frame.specs.declared.notes.Ask.TheVariants.{Join, Leave, Rate, Tick, Pull, Arrive, Answer, Done, Sleep, Wake, Poll, Rx, Reap}
+use Rattle.wf_frame.specs.declared.notes.Ask.TheVariants.{Join, Leave, Rate, Tick, Pull, Arrive, Answer, Done, Sleep, Wake, Poll, Rx, Reap, Ampdu, Stop, Start}
 use Rattle.wf_frame.specs.declared.notes.Refusal.{Refusal}
 use Rattle.wf_frame.specs.Classes.{all_classes}
 use Rattle.wf_def_lists.specs.Table.{at, upto}
@@ -21,7 +21,7 @@ use Rattle.wf_law_runs.proofs.Windows.Sides.{each_side_on, on_live, Side, sides_
 use Rattle.wf_law_runs.proofs.Windows.Opened.{eight, NoRow, no_row}
 use Rattle.wf_law_runs.proofs.Windows.Agreed.{same_left_tids, same_off_lists}
 use Rattle.wf_law_runs.proofs.Releases.Kept.{Kept, kept_same, then_keep, keep_pulled, keep_ended, keep_answered, keep_enqueued, keep_reaped}
-use Rattle.wf_law_runs.proofs.Releases.Released.{side_with_station, side_own_station, keep_rate, keep_tick, keep_slept, keep_woken, keep_credited, keep_received, refused_kept}
+use Rattle.wf_law_runs.proofs.Releases.Released.{side_with_station, side_own_station, keep_rate, keep_tick, keep_slept, keep_woken, keep_credited, keep_received, refused_kept, keep_stated, keep_stopped, keep_started}
 
 pub record IsSized (w : World) : Type 0 where
   pub size : (s t : ℕ) → (session w s t).size ≤ 256
@@ -130,13 +130,16 @@ sized_done (Asked (Join s window start exponent weight)) w e i =
 sized_done (Asked (Leave s)) w e i = sized_gone w s i
 sized_done (Asked (Rate s rate)) w e i = sized_kept w _ (keep_rate w s rate) i
 sized_done (Asked (Tick by)) w e i = sized_kept w _ (keep_tick w by) i
-sized_done (Asked (Pull c)) w e i = sized_kept w _ (keep_pulled w c) i
+sized_done (Asked (Pull c l)) w e i = sized_kept w _ (keep_pulled w c l) i
 sized_done (Asked (Arrive x n)) w e i = sized_open (exchange w x) w _ (λ y. sized_arrived w y n i) i
 sized_done (Asked (Answer x)) w e i = sized_open (exchange w x) w _
     (λ y. sized_kept w _ (keep_answered w y) i) i
 sized_done (Asked (Done x heard air)) w e i = sized_open (exchange w x) w _
     (λ y. sized_kept w _ (keep_ended air w y heard) i) i
 sized_done (Asked (Sleep s)) w e i = sized_kept w _ (keep_slept w s) i
+sized_done (Asked (Ampdu s octets)) w e i = sized_kept w _ (keep_stated w s octets) i
+sized_done (Asked (Stop s)) w e i = sized_kept w _ (keep_stopped w s) i
+sized_done (Asked (Start s)) w e i = sized_kept w _ (keep_started w s) i
 sized_done (Asked (Wake s)) w e i = sized_kept w _ (keep_woken w s) i
 sized_done (Asked (Poll s)) w e i = sized_kept w _ (keep_credited w s) i
 sized_done (Asked (Rx s c air)) w e i = sized_kept w _ (keep_received w s c air) i

@@ -6,15 +6,17 @@ use Rattle.wf_def_agreement.specs.Session.{request_due, Session, with_number_giv
 use Rattle.wf_def_world.specs.World.{World, Mpdu, rotation, session, is_live, on_session}
 use Rattle.wf_def_world.specs.FlowQueues.{taken_for_tid}
 use Rattle.wf_def_world.specs.CanSend.{is_ready, can_give}
-use Rattle.wf_def_world.specs.Exchanges.{station_need, most_frames, picked_station, sending_tid, Aggregate, Prepared, after_pick, after_tid_turn, with_fresh, aggregate_of, with_number, with_flying, waiting_mpdus, longest_fitting, prepared_data, prepared_exchange, with_exchange_opened}
+use Rattle.wf_def_world.specs.Exchanges.{station_need, most_frames, picked_station, sending_tid, Aggregate, Prepared, after_tid_turn, with_fresh, aggregate_of, with_number, with_flying, waiting_mpdus, longest_fitting, prepared_data, prepared_exchange, with_exchange_opened}
 use Rattle.wf_frame.specs.declared.notes.Ask.TheVariants.{Pull}
+use Rattle.wf_frame.specs.declared.notes.Limits.{Limits}
 use Rattle.wf_frame.specs.declared.notes.Note.TheVariants.{Asked}
 use Rattle.wf_frame.specs.declared.notes.Refusal.{Refusal}
 use Rattle.wf_frame.specs.declared.notes.Refusal.TheVariants.{Idle}
 use Rattle.wf_def_world.specs.Refusals.{refusal}
 use Rattle.wf_def_world.specs.Step.{send_outcome, pull_outcome_for, pull_outcome, outcome_of, after_refusal, judged_outcome, step}
 use Rattle.wf_law_runs.proofs.Common.Refused.{after_idle}
-use Rattle.wf_law_runs.proofs.Windows.Sides.{Same, each_side_on, same, same_listed, same_after_pick, same_after_turn, same_spent, same_take}
+use Rattle.wf_law_runs.proofs.Common.Picked.{picked_world}
+use Rattle.wf_law_runs.proofs.Windows.Sides.{Same, each_side_on, same, same_listed, same_after_pick, same_after_turn, same_spent, same_take, same_picked}
 use Rattle.wf_law_runs.proofs.Windows.Opened.{some_along, pick_ready, left_true, can_give-room}
 use Rattle.wf_law_runs.proofs.Windows.Agreed.{IsLawful, IsReady, ready_start, ready_filled, ready_same, longer_number, session_same, lawful_same}
 
@@ -117,28 +119,29 @@ holds_pulled_by (Some s) w c live i =
     holds_sent w s _ c _ (then_holds w _ _ (holds_same w _ k)
     (holds_prepared _ s _ (lawful_same _ _ k i) (k.live s ∙ live)))
 
-holds_pulled : (w : World) (c : Class) → IsLawful w → Holds w (pull_outcome w c).world
+holds_pulled : (w : World) (c : Class) (l : Limits) → IsLawful w → Holds w (pull_outcome w c l).world
 unfolding pull_outcome
-holds_pulled w c i =
-    let k : Same w (after_pick w c) = same_after_pick w c in
-    then_holds w (after_pick w c) _ (holds_same w _ k)
-    (holds_pulled_by (picked_station w c).winner (after_pick w c) c
-    (some_along (λ s. is_ready w c s ≡ true) (λ s. is_live (after_pick w c) s ≡ true)
+holds_pulled w c l i =
+    let k : Same w (picked_world w c l) = same_picked w c l in
+    then_holds w (picked_world w c l) _ (holds_same w _ k)
+    (holds_pulled_by (picked_station w c).winner (picked_world w c l) c
+    (some_along (λ s. is_ready w c s ≡ true) (λ s. is_live (picked_world w c l) s ≡ true)
     (picked_station w c).winner (λ s h. k.live s ∙ left_true (is_live w s) _ h)
     (pick_ready (station_need w c) (is_ready w c) (rotation w c))) (lawful_same _ _ k i))
 
-holds_refused : (r : Refusal) (w : World) (c : Class) → Holds w (after_refusal w (Asked (Pull c)) r)
+holds_refused : (r : Refusal) (w : World) (c : Class) (l : Limits) →
+    Holds w (after_refusal w (Asked (Pull c l)) r)
 unfolding after_refusal
-holds_refused Idle w c = after_idle (Holds w) w c (holds_same w w (same w))
+holds_refused Idle w c l = after_idle (Holds w) w c (holds_same w w (same w))
     (holds_same w _ (same_after_pick w c))
-holds_refused _ w c = holds_same w w (same w)
+holds_refused _ w c l = holds_same w w (same w)
 
-holds_answer : (o : Option Refusal) (w : World) (c : Class) → IsLawful w →
-    Holds w (judged_outcome w (Asked (Pull c)) o).world
+holds_answer : (o : Option Refusal) (w : World) (c : Class) (l : Limits) → IsLawful w →
+    Holds w (judged_outcome w (Asked (Pull c l)) o).world
 unfolding judged_outcome outcome_of
-holds_answer (Some r) w c i = holds_refused r w c
-holds_answer None w c i = then_holds w _ _ (holds_pulled w c i) (holds_same _ _ (same_listed _ _))
+holds_answer (Some r) w c l i = holds_refused r w c l
+holds_answer None w c l i = then_holds w _ _ (holds_pulled w c l i) (holds_same _ _ (same_listed _ _))
 
-pub holds_pull : (w : World) (c : Class) → IsLawful w → Holds w (step w (Asked (Pull c))).world
+pub holds_pull : (w : World) (c : Class) (l : Limits) → IsLawful w → Holds w (step w (Asked (Pull c l))).world
 unfolding step
-holds_pull w c i = holds_answer (refusal w (Asked (Pull c))) w c i
+holds_pull w c l i = holds_answer (refusal w (Asked (Pull c l))) w c l i

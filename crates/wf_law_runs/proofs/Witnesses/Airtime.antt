@@ -13,13 +13,14 @@ use Rattle.wf_def_world.specs.Run.{Entry, by}
 use Rattle.wf_def_world.specs.Stretches.{world_at, charged_between}
 use Rattle.wf_law_runs.specs.Deficits.{got_between}
 use Rattle.wf_def_world.specs.Computed.{the_machine}
+use Rattle.wf_frame.specs.Calls.{no_limits}
 
 abbrev config : Config
 config = record standard { agg = 1 }
 
 abbrev rounds : ℕ → ℕ → List Note
 rounds zero e = []
-rounds (suc n) e = Asked (Pull Be) ∷ Asked (Arrive e 0) ∷ Asked (Answer e) ∷ Asked (Done e true None)
+rounds (suc n) e = Asked (Pull Be no_limits) ∷ Asked (Arrive e 0) ∷ Asked (Answer e) ∷ Asked (Done e true None)
     ∷ rounds n (suc e)
 
 abbrev history : List Entry

@@ -14,6 +14,7 @@ use Rattle.wf_def_world.specs.Run.{Entry, by}
 use Rattle.wf_def_world.specs.Stretches.{world_at}
 use Rattle.wf_def_world.specs.Computed.{the_machine}
 use Rattle.wf_law_runs.specs.Dequeues.{visits_at}
+use Rattle.wf_frame.specs.Calls.{no_limits}
 
 abbrev config : Config
 config = record standard { agg = 1 }
@@ -22,9 +23,9 @@ config = record standard { agg = 1 }
 abbrev history : ℕ → List Entry
 history by_then = map (by 0) (Asked (Join 0 64 0 3 1) ∷ replicate 5 (Enqueue 0 0 7 1500) ++
     Asked (Tick 50000) ∷
-    Asked (Pull Be) ∷
+    Asked (Pull Be no_limits) ∷
     Asked (Tick by_then) ∷
-    Asked (Pull Be) ∷ [])
+    Asked (Pull Be no_limits) ∷ [])
 
 -- Returns the fate of frame 1 before and after the last entry.
 abbrev fates : ℕ → List Fate
@@ -52,7 +53,7 @@ visited = refl
 -- the setting the visits begin again then, and without it they go on.
 abbrev emptied : List Entry
 emptied = map (by 0) (Asked (Join 0 64 0 3 1) ∷ Enqueue 0 0 7 1500 ∷ replicate 3 (Enqueue 0 0 8 1500) ++
-    Asked (Pull Be) ∷
+    Asked (Pull Be no_limits) ∷
     Enqueue 0 0 7 1500 ∷ [])
 
 -- Returns how many dequeues the visits of the queue have before and after the last entry.

@@ -14,6 +14,7 @@ use Rattle.wf_def_world.specs.Computed.{the_machine}
 use Rattle.wf_law_runs.specs.Deficits.{got_between, most_owed}
 use Rattle.wf_law_runs.specs.Shares.{received_between, deficit_then, quantum_then}
 use Rattle.wf_law_runs.specs.Waiting.{sends_between, rounds_up}
+use Rattle.wf_frame.specs.Calls.{no_limits}
 
 -- a quantum of 4000 microseconds, two exchanges in flight of at most 4000 microseconds each, a debt of 4000
 abbrev config : Config
@@ -26,22 +27,22 @@ history = map (by 0) (
     Enqueue 0 0 1 100 ∷
     Enqueue 0 0 1 100 ∷
     Enqueue 0 0 1 100 ∷
-    Asked (Pull Be) ∷
+    Asked (Pull Be no_limits) ∷
     Asked (Done 0 false (Some 3999)) ∷
-    Asked (Pull Be) ∷
-    Asked (Pull Be) ∷
+    Asked (Pull Be no_limits) ∷
+    Asked (Pull Be no_limits) ∷
     Asked (Rx 0 Be 4001) ∷
     -- the tenth moment: station 0 has a deficit of -4000 and two open exchanges, and waits from here on
     Enqueue 1 0 2 100 ∷
     Asked (Done 1 false (Some 4000)) ∷
     Asked (Done 2 false (Some 4000)) ∷
-    Asked (Pull Be) ∷
+    Asked (Pull Be no_limits) ∷
     Asked (Done 3 false (Some 4000)) ∷
-    Asked (Pull Be) ∷
+    Asked (Pull Be no_limits) ∷
     Asked (Done 4 false (Some 4000)) ∷
-    Asked (Pull Be) ∷
+    Asked (Pull Be no_limits) ∷
     Asked (Done 5 false (Some 4000)) ∷
-    Asked (Pull Be) ∷ [])
+    Asked (Pull Be no_limits) ∷ [])
 
 abbrev all_ready : List ℕ → Bool
 all_ready [] = true
@@ -67,12 +68,12 @@ got_first : got_between config history 0 Be 10 20 ≡ 4
 unfolding the_machine
 got_first = refl
 
-got_most : rounds_up (most_owed config + config.debt + 1) (quantum_then config history 20 0) ≡ 4
+got_most : rounds_up (most_owed config Be + config.debt + 1) (quantum_then config history 20 0) ≡ 4
 unfolding the_machine
 got_most = refl
 
 -- without the 1 the bound is one quantum short
 got_short : nat_le (got_between config history 0 Be 10 20)
-    (rounds_up (most_owed config + config.debt) (quantum_then config history 20 0)) ≡ false
+    (rounds_up (most_owed config Be + config.debt) (quantum_then config history 20 0)) ≡ false
 unfolding the_machine
 got_short = refl

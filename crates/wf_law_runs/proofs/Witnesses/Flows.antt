@@ -11,6 +11,7 @@ use Rattle.wf_def_world.specs.Run.{Entry, by}
 use Rattle.wf_def_world.specs.Computed.{the_machine}
 use Rattle.wf_law_runs.specs.Releases.{named_from}
 use Rattle.wf_law_runs.specs.Flows.{released_of, sent_from, first_sends}
+use Rattle.wf_frame.specs.Calls.{no_limits}
 
 abbrev config : Config
 config = record standard { flows = 1 }
@@ -26,12 +27,12 @@ history = map (by 0) (
     Enqueue 1 0 7 300 ∷
     Enqueue 1 0 7 300 ∷
     Enqueue 1 0 7 300 ∷
-    Asked (Pull Be) ∷
+    Asked (Pull Be no_limits) ∷
     Asked (Done 0 false None) ∷
     Asked (Leave 0) ∷
     Enqueue 1 0 7 300 ∷
     Enqueue 1 0 7 300 ∷
-    Asked (Pull Be) ∷
+    Asked (Pull Be no_limits) ∷
     Asked (Arrive 1 0) ∷
     Asked (Arrive 1 1) ∷
     Asked (Arrive 1 2) ∷
@@ -53,7 +54,7 @@ sent_overtaken = refl
 -- The frames are sent again after the exchange was not heard. Each is listed at the exchange that sent it
 -- first.
 abbrev again : List Entry
-again = history ++ map (by 0) (Asked (Done 1 false None) ∷ Asked (Pull Be) ∷ [])
+again = history ++ map (by 0) (Asked (Done 1 false None) ∷ Asked (Pull Be no_limits) ∷ [])
 
 sent_in_order : first_sends keeping again 1 0 7 ≡ 1 ∷ 2 ∷ 3 ∷ 4 ∷ 5 ∷ []
 unfolding the_machine sent_from

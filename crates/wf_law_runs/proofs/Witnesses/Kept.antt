@@ -12,6 +12,7 @@ use Rattle.wf_def_agreement.specs.Receiver.{score_start}
 use Rattle.wf_def_world.specs.World.{World, session, receiver, is_live, opening}
 use Rattle.wf_def_world.specs.Run.{Entry, by, world_after}
 use Rattle.wf_def_world.specs.Computed.{the_machine}
+use Rattle.wf_frame.specs.Calls.{no_limits}
 
 abbrev config : Config
 config = record standard { limit = 8; room = 8; agg = 1 }
@@ -23,16 +24,16 @@ until_kept = map (by 0) (
     Enqueue 0 0 7 100 ∷
     Enqueue 0 0 7 100 ∷
     Enqueue 0 0 7 100 ∷
-    Asked (Pull Be) ∷
-    Asked (Pull Be) ∷
+    Asked (Pull Be no_limits) ∷
+    Asked (Pull Be no_limits) ∷
     Asked (Arrive 0 0) ∷
     Asked (Answer 0) ∷
     Asked (Done 0 true None) ∷
     Asked (Arrive 1 0) ∷
     Asked (Answer 1) ∷
     Asked (Done 1 true None) ∷
-    Asked (Pull Be) ∷
-    Asked (Pull Be) ∷
+    Asked (Pull Be no_limits) ∷
+    Asked (Pull Be no_limits) ∷
     Asked (Arrive 2 0) ∷
     Asked (Answer 2) ∷
     Asked (Arrive 3 0) ∷ [])
@@ -42,8 +43,8 @@ until_left = until_kept ++ map (by 0)
     (Asked (Done 2 true None) ∷ Asked (Done 3 false None) ∷ Asked (Leave 0) ∷ [])
 
 abbrev until_rejoined : List Entry
-until_rejoined = until_left ++ map (by 0) (Asked (Join 0 2 100 3 1) ∷ Enqueue 0 0 7 100 ∷ Asked (Pull Be)
-    ∷ [])
+until_rejoined = until_left ++ map (by 0) (Asked (Join 0 2 100 3 1) ∷ Enqueue 0 0 7 100 ∷
+    Asked (Pull Be no_limits) ∷ [])
 
 abbrev kept_world : World
 kept_world = world_after (opening config) until_kept

@@ -21,6 +21,7 @@ use Rattle.wf_def_world.specs.Run.{Entry, by, world_after}
 use Rattle.wf_def_world.specs.Computed.{the_machine}
 use Rattle.wf_law_runs.specs.Room.{in_windows, reaped_in}
 use Rattle.wf_law_runs.specs.Finished.{reaped_ids}
+use Rattle.wf_frame.specs.Calls.{no_limits}
 
 abbrev config : Config
 config = record standard { limit = 3; room = 6; agg = 2 }
@@ -31,11 +32,11 @@ first_part = map (by 0) (
     Enqueue 0 0 7 100 ∷
     Enqueue 0 0 7 100 ∷
     Enqueue 0 0 7 100 ∷
-    Asked (Pull Be) ∷
+    Asked (Pull Be no_limits) ∷
     Asked (Arrive 0 0) ∷
     Asked (Answer 0) ∷
     Asked (Done 0 true None) ∷
-    Asked (Pull Be) ∷
+    Asked (Pull Be no_limits) ∷
     Enqueue 0 0 7 100 ∷
     Enqueue 0 0 7 100 ∷
     Enqueue 0 0 7 100 ∷ [])
@@ -46,11 +47,11 @@ whole = map (by 0) (
     Enqueue 0 0 7 100 ∷
     Enqueue 0 0 7 100 ∷
     Enqueue 0 0 7 100 ∷
-    Asked (Pull Be) ∷
+    Asked (Pull Be no_limits) ∷
     Asked (Arrive 0 0) ∷
     Asked (Answer 0) ∷
     Asked (Done 0 true None) ∷
-    Asked (Pull Be) ∷
+    Asked (Pull Be no_limits) ∷
     Enqueue 0 0 7 100 ∷
     Enqueue 0 0 7 100 ∷
     Enqueue 0 0 7 100 ∷

@@ -11,6 +11,7 @@ use Rattle.wf_def_world.specs.World.{opening, frame}
 use Rattle.wf_def_world.specs.Run.{Entry, by, world_after}
 use Rattle.wf_def_world.specs.Computed.{the_machine}
 use Rattle.wf_law_runs.specs.Releases.{passed_from, passed, named_from}
+use Rattle.wf_frame.specs.Calls.{no_limits}
 
 abbrev config : Config
 config = standard
@@ -21,12 +22,12 @@ first_part = map (by 0) (
     Enqueue 0 0 7 100 ∷
     Enqueue 0 0 7 100 ∷
     Enqueue 0 0 7 100 ∷
-    Asked (Pull Be) ∷
+    Asked (Pull Be no_limits) ∷
     Asked (Arrive 0 1) ∷
     Asked (Arrive 0 0) ∷
     Asked (Answer 0) ∷
     Asked (Done 0 true None) ∷
-    Asked (Pull Be) ∷
+    Asked (Pull Be no_limits) ∷
     Asked (Arrive 1 0) ∷
     Asked (Answer 1) ∷
     Asked (Done 1 true None) ∷ [])
@@ -37,19 +38,19 @@ whole = map (by 0) (
     Enqueue 0 0 7 100 ∷
     Enqueue 0 0 7 100 ∷
     Enqueue 0 0 7 100 ∷
-    Asked (Pull Be) ∷
+    Asked (Pull Be no_limits) ∷
     Asked (Arrive 0 1) ∷
     Asked (Arrive 0 0) ∷
     Asked (Answer 0) ∷
     Asked (Done 0 true None) ∷
-    Asked (Pull Be) ∷
+    Asked (Pull Be no_limits) ∷
     Asked (Arrive 1 0) ∷
     Asked (Answer 1) ∷
     Asked (Done 1 true None) ∷
     Asked (Leave 0) ∷
     Asked (Join 0 4 4094 3 1) ∷
     Enqueue 0 0 7 100 ∷
-    Asked (Pull Be) ∷
+    Asked (Pull Be no_limits) ∷
     Asked (Arrive 2 0) ∷ [])
 
 passed_first : passed config first_part 0 0 ≡ 0 ∷ 1 ∷ 2 ∷ []

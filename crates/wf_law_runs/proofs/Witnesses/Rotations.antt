@@ -13,6 +13,7 @@ use Rattle.wf_def_world.specs.CanSend.{is_ready}
 use Rattle.wf_def_world.specs.Refusals.{refusal}
 use Rattle.wf_def_world.specs.Run.{Entry, by, world_after}
 use Rattle.wf_def_world.specs.Computed.{the_machine}
+use Rattle.wf_frame.specs.Calls.{no_limits}
 
 abbrev config : Config
 config = standard
@@ -24,7 +25,7 @@ history = map (by 0) (
     Enqueue 0 0 7 100 ∷
     Enqueue 1 0 8 100 ∷
     Asked (Sleep 1) ∷
-    Asked (Pull Be) ∷ [])
+    Asked (Pull Be no_limits) ∷ [])
 
 abbrev world : World
 world = world_after (opening config) history
@@ -41,6 +42,6 @@ second_ready : is_ready world Be 1 ≡ false
 unfolding the_machine
 second_ready = refl
 
-idle_now : refusal world (Asked (Pull Be)) ≡ Some Idle
+idle_now : refusal world (Asked (Pull Be no_limits)) ≡ Some Idle
 unfolding the_machine
 idle_now = refl

@@ -14,6 +14,7 @@ use Rattle.wf_def_world.specs.Stretches.{world_at, charged_between}
 use Rattle.wf_def_world.specs.Computed.{the_machine}
 use Rattle.wf_law_runs.specs.Deficits.{got_between, most_owed, weight_at}
 use Rattle.wf_law_runs.specs.Shares.{used_between, deficit_then, quantum_then, overrun}
+use Rattle.wf_frame.specs.Calls.{no_limits}
 
 -- a quantum of 100 microseconds, two exchanges in flight, and at most 4000 microseconds for each
 abbrev config : Config
@@ -25,23 +26,23 @@ history = map (by 0) (
     Asked (Join 1 64 0 3 1) ∷
     Enqueue 0 0 1 100 ∷
     Enqueue 1 0 2 100 ∷
-    Asked (Pull Be) ∷
+    Asked (Pull Be no_limits) ∷
     Asked (Done 0 false (Some 100)) ∷
-    Asked (Pull Be) ∷
+    Asked (Pull Be no_limits) ∷
     Asked (Done 1 false (Some 100)) ∷
-    Asked (Pull Be) ∷
+    Asked (Pull Be no_limits) ∷
     -- both stations are on the old list from here on, the ninth moment
     Asked (Done 2 false (Some 100)) ∷
-    Asked (Pull Be) ∷
+    Asked (Pull Be no_limits) ∷
     Asked (Done 3 false (Some 100)) ∷
     Asked (Join 2 64 0 3 1) ∷
     Enqueue 2 0 3 100 ∷
     Enqueue 2 0 3 100 ∷
     -- the fifteenth moment: station 2 uses its quantum down to a deficit of 1, and opens two exchanges
-    Asked (Pull Be) ∷
+    Asked (Pull Be no_limits) ∷
     Asked (Done 4 false (Some 99)) ∷
-    Asked (Pull Be) ∷
-    Asked (Pull Be) ∷
+    Asked (Pull Be no_limits) ∷
+    Asked (Pull Be no_limits) ∷
     Asked (Done 5 false (Some 4000)) ∷
     Asked (Done 6 false (Some 4000)) ∷
     -- the twenty-first moment: it leaves, and begins again
@@ -49,10 +50,10 @@ history = map (by 0) (
     Asked (Join 2 64 0 3 1) ∷
     Enqueue 2 0 3 100 ∷
     Enqueue 2 0 3 100 ∷
-    Asked (Pull Be) ∷
+    Asked (Pull Be no_limits) ∷
     Asked (Done 7 false (Some 99)) ∷
-    Asked (Pull Be) ∷
-    Asked (Pull Be) ∷
+    Asked (Pull Be no_limits) ∷
+    Asked (Pull Be no_limits) ∷
     Asked (Done 8 false (Some 4000)) ∷
     Asked (Done 9 false (Some 4000)) ∷ [])
 
@@ -87,15 +88,15 @@ charged_third : charged_between config history 2 Be 15 21 ≡ 8099
 unfolding the_machine
 charged_third = refl
 
-charged_most : quantum_then config history 21 2 * (got_between config history 0 Be 15 21 + 1) + overrun config
-    ≡ 8099
+charged_most : quantum_then config history 21 2 * (got_between config history 0 Be 15 21 + 1) +
+    overrun config Be ≡ 8099
 unfolding the_machine
 charged_most = refl
 
 -- the bound fails with an overrun that is 1 smaller
 charged_short : nat_le (charged_between config history 2 Be 15 21)
-    (quantum_then config history 21 2 * (got_between config history 0 Be 15 21 + 1) + (most_owed config - 2))
-    ≡ false
+    (quantum_then config history 21 2 * (got_between config history 0 Be 15 21 + 1) +
+    (most_owed config Be - 2)) ≡ false
 unfolding the_machine
 charged_short = refl
 
@@ -112,14 +113,14 @@ weighted_third = refl
 
 weighted_most : used_between config history 0 Be 15 21 * weight_at config history 21 2 +
     2 * config.quantum * weight_at config history 21 0 * weight_at config history 21 2 +
-    weight_at config history 21 0 * overrun config ≡ 8199
+    weight_at config history 21 0 * overrun config Be ≡ 8199
 unfolding the_machine
 weighted_most = refl
 
 -- the bound fails with one quantum instead of two
 weighted_short : nat_le 8199 (used_between config history 0 Be 15 21 * weight_at config history 21 2 +
     1 * config.quantum * weight_at config history 21 0 * weight_at config history 21 2 +
-    weight_at config history 21 0 * overrun config) ≡ false
+    weight_at config history 21 0 * overrun config Be) ≡ false
 unfolding the_machine
 weighted_short = refl
 
@@ -133,7 +134,7 @@ charged_twice : charged_between config history 2 Be 15 31 ≡ 16198
 unfolding the_machine
 charged_twice = refl
 
-most_once : quantum_then config history 31 2 * (got_between config history 0 Be 15 31 + 1) + overrun config
+most_once : quantum_then config history 31 2 * (got_between config history 0 Be 15 31 + 1) + overrun config Be
     ≡ 8099
 unfolding the_machine
 most_once = refl

@@ -14,6 +14,7 @@ use Rattle.wf_def_world.specs.Computed.{the_machine}
 use Rattle.wf_law_runs.specs.Deficits.{got_between}
 use Rattle.wf_law_runs.specs.Shares.{quantum_then, spent_between, standing_then, excess}
 use Rattle.wf_law_runs.specs.Waiting.{sends_between}
+use Rattle.wf_frame.specs.Calls.{no_limits}
 
 -- a quantum of 1985 microseconds, and data of at most 3820 microseconds
 abbrev config : Config
@@ -25,26 +26,26 @@ history = map (by 0) (
     Asked (Join 1 64 0 3 1) ∷
     Enqueue 0 0 1 1500 ∷
     Enqueue 1 0 2 1500 ∷
-    Asked (Pull Be) ∷
+    Asked (Pull Be no_limits) ∷
     Asked (Done 0 false None) ∷
-    Asked (Pull Be) ∷
+    Asked (Pull Be no_limits) ∷
     Asked (Done 1 false None) ∷
-    Asked (Pull Be) ∷
+    Asked (Pull Be no_limits) ∷
     Asked (Done 2 false None) ∷
-    Asked (Pull Be) ∷
+    Asked (Pull Be no_limits) ∷
     Asked (Done 3 false None) ∷
-    Asked (Pull Be) ∷
+    Asked (Pull Be no_limits) ∷
     Asked (Done 4 false None) ∷
-    Asked (Pull Be) ∷
+    Asked (Pull Be no_limits) ∷
     Asked (Done 5 false None) ∷
     Asked (Join 2 256 0 3 1) ∷
     -- the seventeenth moment: station 2 uses its quantum down to a standing of 1, and opens the longest
     -- exchange
     Enqueue 2 0 3 1500 ∷
-    Asked (Pull Be) ∷
+    Asked (Pull Be no_limits) ∷
     Enqueue 2 0 3 1500 ∷
     Enqueue 2 0 3 1500 ∷
-    Asked (Pull Be) ∷ [])
+    Asked (Pull Be no_limits) ∷ [])
 
 abbrev all_on_old : List ℕ → Bool
 all_on_old [] = true
@@ -66,21 +67,21 @@ spent_third : spent_between config history 2 Be 17 22 ≡ pos 5860
 unfolding the_machine
 spent_third = refl
 
-spent_most : quantum_then config history 22 2 * (got_between config history 0 Be 17 22 + 1) + excess config 0
-    ≡ 5860
+spent_most : quantum_then config history 22 2 * (got_between config history 0 Be 17 22 + 1) +
+    excess config Be 0 ≡ 5860
 unfolding the_machine
 spent_most = refl
 
 -- the bound fails with an excess that is 1 smaller
 spent_short : int_le (spent_between config history 2 Be 17 22)
     (pos (quantum_then config history 22 2 * (got_between config history 0 Be 17 22 + 1) +
-    (excess config 0 - 1)))
+    (excess config Be 0 - 1)))
     ≡ false
 unfolding the_machine
 spent_short = refl
 
 -- it is the same with fewer exchanges in flight
-excess_same : excess (record config { inflight = 2 }) 0 ≡ excess config 0
+excess_same : excess (record config { inflight = 2 }) Be 0 ≡ excess config Be 0
 excess_same = refl
 
 -- ---- the same with `pending` and without it
@@ -97,17 +98,18 @@ eight = map (by 0) (
     Enqueue 0 0 1 1500 ∷ Enqueue 0 0 1 1500 ∷ Enqueue 0 0 1 1500 ∷ Enqueue 0 0 1 1500 ∷
     Enqueue 1 0 2 1500 ∷ Enqueue 1 0 2 1500 ∷ Enqueue 1 0 2 1500 ∷ Enqueue 1 0 2 1500 ∷ Enqueue 1 0 2 1500 ∷
     Enqueue 1 0 2 1500 ∷ Enqueue 1 0 2 1500 ∷ Enqueue 1 0 2 1500 ∷ Enqueue 1 0 2 1500 ∷
-    Asked (Pull Be) ∷
+    Asked (Pull Be no_limits) ∷
     Asked (Done 0 false None) ∷
-    Asked (Pull Be) ∷
+    Asked (Pull Be no_limits) ∷
     Asked (Done 1 false None) ∷
-    Asked (Pull Be) ∷
+    Asked (Pull Be no_limits) ∷
     Asked (Done 2 false None) ∷
-    Asked (Pull Be) ∷
+    Asked (Pull Be no_limits) ∷
     Asked (Done 3 false None) ∷
     -- the twenty-eighth moment: both stations are on the old list, and eight exchanges open
-    Asked (Pull Be) ∷ Asked (Pull Be) ∷ Asked (Pull Be) ∷ Asked (Pull Be) ∷
-    Asked (Pull Be) ∷ Asked (Pull Be) ∷ Asked (Pull Be) ∷ Asked (Pull Be) ∷ [])
+    Asked (Pull Be no_limits) ∷ Asked (Pull Be no_limits) ∷ Asked (Pull Be no_limits) ∷
+    Asked (Pull Be no_limits) ∷ Asked (Pull Be no_limits) ∷ Asked (Pull Be no_limits) ∷
+    Asked (Pull Be no_limits) ∷ Asked (Pull Be no_limits) ∷ [])
 
 abbrev both_on_old : ℕ → List ℕ → Bool
 both_on_old p [] = true
@@ -138,7 +140,7 @@ sends_all = refl
 
 spent_over : int_le (spent_between (either 0) eight 0 Be 28 36)
     (pos (quantum_then (either 0) eight 36 0 * (got_between (either 0) eight 1 Be 28 36 + 1) +
-    excess (either 0) 0))
+    excess (either 0) Be 0))
     ≡ false
 unfolding the_machine
 spent_over = refl

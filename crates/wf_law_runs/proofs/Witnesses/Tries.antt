@@ -14,6 +14,7 @@ use Rattle.wf_def_world.specs.Run.{Entry, by}
 use Rattle.wf_def_world.specs.Stretches.{world_at}
 use Rattle.wf_def_world.specs.Computed.{the_machine}
 use Rattle.wf_law_runs.specs.Tries.{tries, frames_sent_in, data_exchanges, requests_heard}
+use Rattle.wf_frame.specs.Calls.{no_limits}
 
 -- three attempts, and two frames in an aggregate
 abbrev config : Config
@@ -26,13 +27,13 @@ history = map (by 0) (
     Asked (Join 0 64 0 3 1) ∷
     Enqueue 0 0 1 100 ∷
     Enqueue 0 0 1 100 ∷
-    Asked (Pull Be) ∷
+    Asked (Pull Be no_limits) ∷
     Asked (Done 0 false None) ∷
-    Asked (Pull Be) ∷
+    Asked (Pull Be no_limits) ∷
     Asked (Done 1 false None) ∷
-    Asked (Pull Be) ∷
+    Asked (Pull Be no_limits) ∷
     Asked (Done 2 false None) ∷
-    Asked (Pull Be) ∷
+    Asked (Pull Be no_limits) ∷
     Asked (Arrive 3 0) ∷
     Asked (Answer 3) ∷
     Asked (Done 3 true None) ∷ [])
@@ -64,11 +65,11 @@ alone = record standard { attempts = 3; agg = 1 }
 
 abbrev longer : List Entry
 longer = history ++ map (by 0) (
-    Asked (Pull Be) ∷
+    Asked (Pull Be no_limits) ∷
     Asked (Done 4 false None) ∷
-    Asked (Pull Be) ∷
+    Asked (Pull Be no_limits) ∷
     Asked (Done 5 false None) ∷
-    Asked (Pull Be) ∷ [])
+    Asked (Pull Be no_limits) ∷ [])
 
 exchanges_attained : data_exchanges (opening alone) longer ≡ 6
 unfolding the_machine
@@ -96,9 +97,9 @@ abbrev asked : List Entry
 asked = map (by 0) (
     Asked (Join 0 64 0 3 1) ∷
     Enqueue 0 0 1 100 ∷
-    Asked (Pull Be) ∷
+    Asked (Pull Be no_limits) ∷
     Asked (Done 0 false None) ∷
-    Asked (Pull Be) ∷
+    Asked (Pull Be no_limits) ∷
     Asked (Arrive 1 0) ∷
     Asked (Answer 1) ∷ [])
 

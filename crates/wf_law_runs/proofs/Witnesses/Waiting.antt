@@ -16,6 +16,7 @@ use Rattle.wf_def_world.specs.Computed.{the_machine}
 use Rattle.wf_law_runs.specs.Deficits.{got_between, most_owed}
 use Rattle.wf_law_runs.specs.Shares.{deficit_then, quantum_then}
 use Rattle.wf_law_runs.specs.Waiting.{is_sent_to, sends_between, rounds_up}
+use Rattle.wf_frame.specs.Calls.{no_limits}
 
 -- a quantum of 4000 microseconds, two exchanges in flight, and at most 4000 microseconds for each
 abbrev config : Config
@@ -28,17 +29,17 @@ history = map (by 0) (
     Enqueue 0 0 1 100 ∷
     Enqueue 0 0 1 100 ∷
     Enqueue 0 0 1 100 ∷
-    Asked (Pull Be) ∷
+    Asked (Pull Be no_limits) ∷
     Asked (Done 0 false (Some 3999)) ∷
-    Asked (Pull Be) ∷
-    Asked (Pull Be) ∷
+    Asked (Pull Be no_limits) ∷
+    Asked (Pull Be no_limits) ∷
     -- the ninth moment: station 0 has a deficit of 1 and two open exchanges, and waits from here on
     Enqueue 1 0 2 100 ∷
     Asked (Done 1 false (Some 4000)) ∷
     Asked (Done 2 false (Some 4000)) ∷
-    Asked (Pull Be) ∷
+    Asked (Pull Be no_limits) ∷
     Asked (Done 3 false (Some 4000)) ∷
-    Asked (Pull Be) ∷ [])
+    Asked (Pull Be no_limits) ∷ [])
 
 abbrev all_ready : List ℕ → Bool
 all_ready [] = true
@@ -60,13 +61,13 @@ got_first : got_between config history 0 Be 9 15 ≡ 2
 unfolding the_machine
 got_first = refl
 
-got_most : rounds_up (most_owed config) (quantum_then config history 15 0) ≡ 2
+got_most : rounds_up (most_owed config Be) (quantum_then config history 15 0) ≡ 2
 unfolding the_machine
 got_most = refl
 
 -- the bound fails with one exchange less in flight
 got_short : nat_le (got_between config history 0 Be 9 15)
-    (rounds_up (most_owed config - 4000) (quantum_then config history 15 0)) ≡ false
+    (rounds_up (most_owed config Be - 4000) (quantum_then config history 15 0)) ≡ false
 unfolding the_machine
 got_short = refl
 
@@ -80,11 +81,11 @@ first_on_new : (rotation (world_at config history 12) Be).new ≡ 0 ∷ 1 ∷ []
 unfolding the_machine
 first_on_new = refl
 
-sent_second : is_sent_to 1 (step (world_at config history 12) (Asked (Pull Be))).reply ≡ true
+sent_second : is_sent_to 1 (step (world_at config history 12) (Asked (Pull Be no_limits))).reply ≡ true
 unfolding the_machine
 sent_second = refl
 
 -- after the first five entries the deficit is above 0, and the station is next
-sent_first : is_sent_to 0 (step (world_at config history 5) (Asked (Pull Be))).reply ≡ true
+sent_first : is_sent_to 0 (step (world_at config history 5) (Asked (Pull Be no_limits))).reply ≡ true
 unfolding the_machine
 sent_first = refl
