@@ -9,7 +9,7 @@ use Rattle.wf_octets.specs.declared.block.decoding.BlockFault.TheVariants.{Lengt
 use Rattle.wf_octets.specs.declared.block.frames.Bar.{Bar}
 use Rattle.wf_octets.specs.declared.block.frames.Ba.{Ba}
 use Rattle.wf_octets.specs.declared.block.frames.WideBa.{WideBa}
-use Rattle.wf_octets.specs.BlockLayout.{HasHead, head_of_ba, head_of_wide, head_in}
+use Rattle.wf_octets.specs.BlockLayout.{HasHead, narrow_fragment, fragment_of, head_of_ba, head_of_wide, head_in}
 use Rattle.wf_octets.specs.BlockFaults.{first_block_fault}
 
 -- ---- the checks
@@ -18,8 +18,7 @@ pub record IsChecked (need first : ℕ) (wide : Bool) (octets : List ℕ) : Type
   pub kind : get_or octets 0 0 ≡ first
   pub compressed : is_set (get_or octets 16 0) 2 ≡ true
   pub one_tid : is_set (get_or octets 16 0) 1 ≡ false
-  pub wide_form : (wide && not (is_set (get_or octets 16 0) 3)) ≡ false
-  pub whole : number_at octets 18 % 16 ≡ 0
+  pub fragment : number_at octets 18 % 16 ≡ fragment_of wide
 
 passes : (b : Bool) (fault : BlockFault) (rest : Option BlockFault) →
     (if b then Some fault else rest) ≡ None → (b ≡ false) × (rest ≡ None)
@@ -36,22 +35,22 @@ checked need first wide octets e =
     let p2 = passes (not (get_or octets 0 0 == first)) (Kind (get_or octets 0 0)) _ p1.1 in
     let p3 = passes (not (is_set (get_or octets 16 0) 2)) NotCompressed _ p2.1 in
     let p4 = passes (is_set (get_or octets 16 0) 1) MultiTid _ p3.1 in
-    let p5 = passes (wide && not (is_set (get_or octets 16 0) 3)) NotWide _ p4.1 in
-    let p6 = passes (not (number_at octets 18 % 16 == 0)) (Fragment (number_at octets 18 % 16)) None p5.1 in
+    let p5 = passes (wide && (number_at octets 18 % 16 == narrow_fragment)) NotWide _ p4.1 in
+    let p6 = passes (not (number_at octets 18 % 16 == fragment_of wide)) (Fragment (number_at octets 18 % 16))
+    None p5.1 in
     record {
       size = equal (length octets) need p1.0;
       kind = equal (get_or octets 0 0) first p2.0;
       compressed = not-false (is_set (get_or octets 16 0) 2) p3.0;
       one_tid = p4.0;
-      wide_form = p5.0;
-      whole = equal (number_at octets 18 % 16) 0 p6.0;
+      fragment = equal (number_at octets 18 % 16) (fragment_of wide) p6.0;
     }
 
 number_small : (octets : List ℕ) (i : ℕ) → ((i : ℕ) → get_or octets i 0 < 256) → number_at octets i < 65536
 number_small octets i small = let a = small i in let b = small (i + 1) in omega arith
 
 pub head_read : (need first : ℕ) (wide : Bool) (octets : List ℕ) → ((i : ℕ) → get_or octets i 0 < 256) →
-    IsChecked need first wide octets → HasHead octets first (head_in octets)
+    IsChecked need first wide octets → HasHead octets first (fragment_of wide) (head_in octets)
 head_read need first wide octets small c = record {
   kind = c.kind;
   duration = refl;
@@ -60,18 +59,22 @@ head_read need first wide octets small c = record {
   compressed = c.compressed;
   one_tid = c.one_tid;
   tid = refl;
-  start = omega (arith, c.whole, number_small octets 18 small);
+  start = omega (arith, c.fragment, number_small octets 18 small);
 }
 
 -- ---- only one reading
+fragment_low : (wide : Bool) → fragment_of wide < 16
+fragment_low true = omega arith
+fragment_low false = omega arith
+
 bar_same : (a b : Bar) → a.ra ≡ b.ra → a.ta ≡ b.ta → a.duration ≡ b.duration → a.tid ≡ b.tid →
     a.start ≡ b.start → a ≡ b
 bar_same a b p q r s t i = record { ra = p i; ta = q i; duration = r i; tid = s i; start = t i }
 
-pub one_head : (first : ℕ) (octets : List ℕ) (h : Bar) → ((i : ℕ) → get_or octets i 0 < 256) →
-    HasHead octets first h → head_in octets ≡ h
-one_head first octets h small r = bar_same (head_in octets) h r.recipient r.transmitter r.duration r.tid
-    (omega (arith, r.start, number_small octets 18 small))
+pub one_head : (first : ℕ) (wide : Bool) (octets : List ℕ) (h : Bar) → ((i : ℕ) → get_or octets i 0 < 256) →
+    HasHead octets first (fragment_of wide) h → head_in octets ≡ h
+one_head first wide octets h small r = bar_same (head_in octets) h r.recipient r.transmitter r.duration r.tid
+    (omega (arith, fragment_low wide, r.start, number_small octets 18 small))
 
 pub ba_same : (b : Ba) (h : Bar) (bits : List ℕ) → h ≡ head_of_ba b → bits ≡ b.bits →
     record { ra = h.ra; ta = h.ta; duration = h.duration; tid = h.tid; start = h.start; bits = bits } ≡ b
@@ -96,9 +99,9 @@ wide_same b h bits p q i = record {
 }
 
 -- ---- a bitmap written after the head
-pub head_kept : (xs ys : List ℕ) (first : ℕ) (h : Bar) → take 20 ys ≡ take 20 xs → HasHead xs first h →
-    HasHead ys first h
-head_kept xs ys first h same r = record {
+pub head_kept : (xs ys : List ℕ) (first fragment : ℕ) (h : Bar) → take 20 ys ≡ take 20 xs →
+    HasHead xs first fragment h → HasHead ys first fragment h
+head_kept xs ys first fragment h same r = record {
   kind = octet 0 (omega arith) ∙ r.kind;
   duration = number 2 (omega arith) ∙ r.duration;
   recipient = front_part ys (take 20 xs) 20 4 6 10 same refl
@@ -130,7 +133,3 @@ after_head old new field n is same short long =
       ap (drop 20) whole ∙ ap (λ k. drop k (take 20 old ++ field)) (sym front)
           ∙ drop-append_seam (take 20 old) field,
     )
-
-pub octet_kept : (xs ys : List ℕ) (i : ℕ) → take 20 ys ≡ take 20 xs → i < 20 → get_or ys i 0 ≡ get_or xs i 0
-octet_kept xs ys i same below = front_octet ys (take 20 xs) 20 i same below
-    ∙ sym (front_octet xs (take 20 xs) 20 i refl below)

@@ -1,9 +1,9 @@
 -- Proves that the octets before the bitmap, with free bits 0, are read as the fields that were written.
-use Rattle.std.proofs.Common.{◌≡◌, ℕ, ◌+◌, ◌*◌, ◌/◌, ◌<◌, ◌⊎◌, true, false, List, [], ◌∷◌, ◌++◌, length, take, get_or, refl, ◌∙◌, ap, inl, inr, arith}
+use Rattle.std.proofs.Common.{◌≡◌, ℕ, ◌+◌, ◌*◌, ◌/◌, ◌<◌, List, [], ◌∷◌, ◌++◌, length, take, get_or, refl, ◌∙◌, ap, arith}
 use Rattle.wf_octets.specs.Fields.{is_set, number_at, part, two_octets}
 use Rattle.wf_octets.proofs.Places.{front_octet, front_number, front_part, six}
 use Rattle.wf_octets.specs.declared.block.frames.Bar.{Bar}
-use Rattle.wf_octets.specs.BlockLayout.{HasHead, head_octets, narrow_form, wide_form}
+use Rattle.wf_octets.specs.BlockLayout.{HasHead, head_octets, compressed_form}
 
 head : ℕ → ℕ → List ℕ → List ℕ → ℕ → ℕ → ℕ → List ℕ
 head o d a1 a2 form t s = (o ∷ 0 ∷ []) ++ two_octets d ++ a1 ++ a2 ++ (form ∷ t ∷ []) ++ two_octets s
@@ -35,43 +35,31 @@ head_read o d a1 a2 form t s small seq_small l1 l2 =
       start = seq_small;
     }) a2 l2) a1 l1
 
-form_bits : (form : ℕ) → (form ≡ narrow_form) ⊎ (form ≡ wide_form) → (is_set form 2 ≡ true) ×
-    (is_set form 1 ≡ false)
-form_bits form (inl e) = (ap (λ f. is_set f 2) e, ap (λ f. is_set f 1) e)
-form_bits form (inr e) = (ap (λ f. is_set f 2) e, ap (λ f. is_set f 1) e)
-
-pub head_begins : (xs : List ℕ) (first form : ℕ) (h : Bar) → (form ≡ narrow_form) ⊎ (form ≡ wide_form) →
-    h.tid < 16 → number_at (two_octets h.duration) 0 ≡ h.duration →
-    number_at (two_octets (16 * h.start)) 0 ≡ 16 * h.start
-    → length h.ra ≡ 6 → length h.ta ≡ 6 → take 20 xs ≡ head_octets first form h → HasHead xs first h
+pub head_begins : (xs : List ℕ) (first fragment : ℕ) (h : Bar) → h.tid < 16 →
+    number_at (two_octets h.duration) 0 ≡ h.duration →
+    number_at (two_octets (16 * h.start + fragment)) 0 ≡ 16 * h.start + fragment
+    → length h.ra ≡ 6 → length h.ta ≡ 6 → take 20 xs ≡ head_octets first fragment h →
+    HasHead xs first fragment h
 unfolding head
-head_begins xs first form h known tid d s l1 l2 same = record {
+head_begins xs first fragment h tid d s l1 l2 same = record {
   kind = front_octet xs ys 20 0 same (omega arith) ∙ r.kind;
   duration = front_number xs ys 20 2 same (omega arith) ∙ r.duration;
   recipient = front_part xs ys 20 4 6 10 same refl ∙ r.recipient;
   transmitter = front_part xs ys 20 10 6 4 same refl ∙ r.transmitter;
-  compressed = ap (λ o. is_set o 2) control ∙ (form_bits form known).0;
-  one_tid = ap (λ o. is_set o 1) control ∙ (form_bits form known).1;
+  compressed = ap (λ o. is_set o 2) control;
+  one_tid = ap (λ o. is_set o 1) control;
   tid = ap (λ o. o / 16) (front_octet xs ys 20 17 same (omega arith) ∙ r.tid) ∙ sixteenth h.tid;
   start = front_number xs ys 20 18 same (omega arith) ∙ r.start;
 }
   where
     ys : List ℕ
-    ys = head_octets first form h
+    ys = head_octets first fragment h
 
-    r : IsRead ys first h.duration h.ra h.ta form (16 * h.tid) (16 * h.start)
-    r = head_read first h.duration h.ra h.ta form (16 * h.tid) (16 * h.start) d s l1 l2
+    r : IsRead ys first h.duration h.ra h.ta compressed_form (16 * h.tid) (16 * h.start + fragment)
+    r = head_read first h.duration h.ra h.ta compressed_form (16 * h.tid) (16 * h.start + fragment) d s l1 l2
 
-    control : get_or xs 16 0 ≡ form
+    control : get_or xs 16 0 ≡ compressed_form
     control = front_octet xs ys 20 16 same (omega arith) ∙ r.control
 
     sixteenth : (t : ℕ) → 16 * t / 16 ≡ t
     sixteenth t = omega arith
-
-pub head_form : (xs : List ℕ) (first form : ℕ) (h : Bar) → number_at (two_octets h.duration) 0 ≡ h.duration →
-    number_at (two_octets (16 * h.start)) 0 ≡ 16 * h.start
-    → length h.ra ≡ 6 → length h.ta ≡ 6 → take 20 xs ≡ head_octets first form h → get_or xs 16 0 ≡ form
-unfolding head
-head_form xs first form h d s l1 l2 same =
-    front_octet xs (head_octets first form h) 20 16 same (omega arith)
-    ∙ (head_read first h.duration h.ra h.ta form (16 * h.tid) (16 * h.start) d s l1 l2).control

@@ -1,5 +1,5 @@
 //! The frames of block acknowledgement: BlockAckReq and BlockAck (IEEE 802.11-2012, 8.3.1.8, 8.3.1.9 and
-//! 9.21). A session with a window above 64 uses a BlockAck of this project's own, with a bitmap of 256 bits.
+//! 9.21), and the BlockAck of 256 numbers (IEEE 802.11ax-2021, 9.3.1.8.2).
 //!
 //! Writers write the layout with reserved bits 0. Readers return Ok exactly for octets of the layout, and
 //! otherwise the first fault.

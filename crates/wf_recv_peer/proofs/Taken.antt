@@ -155,7 +155,7 @@ bar_passes octets b is =
     (passes _ _ _ (ap (λ n. not (n == request)) is.head.kind)
     (passes _ _ _ (ap not is.head.compressed)
     (passes _ _ _ is.head.one_tid
-    (passes _ _ _ (no_fragment (number_at octets 18) b.start is.head.start) refl))))
+    (passes _ _ _ (no_fragment (number_at octets 18) b.start (omega (arith, is.head.start))) refl))))
 
 request_block : (octets : List ℕ) (b : Bar) → IsBar octets b → block_fault octets ≡ None
 request_block octets b is =

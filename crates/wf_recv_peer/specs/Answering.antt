@@ -4,7 +4,7 @@ use Rattle.std.specs.Prelude.{◌≡◌, ℕ, nat_lt, List, take, MatchBool, if�
 use Rattle.wf_recv_peer.specs.Board.{Board}
 use Rattle.wf_octets.specs.declared.block.frames.Ba.{Ba}
 use Rattle.wf_octets.specs.declared.block.frames.WideBa.{WideBa}
-use Rattle.wf_octets.specs.BlockLayout.{IsBlockAck, IsWideBa, answer, narrow_form, wide_form, head_octets, head_of_ba, head_of_wide}
+use Rattle.wf_octets.specs.BlockLayout.{IsBlockAck, IsWideBa, answer, narrow_fragment, wide_fragment, head_octets, head_of_ba, head_of_wide}
 
 abbrev pub narrow_answer : List ℕ → List ℕ → ℕ → Board → Ba
 narrow_answer own base tid b = record {
@@ -29,11 +29,11 @@ wide_answer own base tid b = record {
 -- the octets have the layout, and each bit that it leaves open is 0
 pub record IsWritten (octets : List ℕ) (ba : Ba) : Type 0 where
   pub layout : IsBlockAck octets ba
-  pub head : take 20 octets ≡ head_octets answer narrow_form (head_of_ba ba)
+  pub head : take 20 octets ≡ head_octets answer narrow_fragment (head_of_ba ba)
 
 pub record IsWrittenWide (octets : List ℕ) (ba : WideBa) : Type 0 where
   pub layout : IsWideBa octets ba
-  pub head : take 20 octets ≡ head_octets answer wide_form (head_of_wide ba)
+  pub head : take 20 octets ≡ head_octets answer wide_fragment (head_of_wide ba)
 
 -- the BlockAck of 256 bits is for windows above 64
 abbrev pub answer_size : Board → ℕ

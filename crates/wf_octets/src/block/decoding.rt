@@ -1,6 +1,6 @@
 ghost use Rattle.std.specs.Prelude.{◌≡◌, ◌+◌, ◌<◌, ◌≤◌, IfOk, Ok, true, false, length, drop};
 ghost use Rattle.wf_octets.specs.Offsets.{IsOffsets};
-ghost use Rattle.wf_octets.specs.BlockLayout.{IsBar, IsBlockAck, IsWideBa, head_in, request, answer};
+ghost use Rattle.wf_octets.specs.BlockLayout.{IsBar, IsBlockAck, IsWideBa, fragment_of, head_in, request, answer};
 ghost use Rattle.std.specs.Result.{result_err};
 ghost use Rattle.wf_octets.specs.BlockFaults.{first_block_fault};
 ghost use Rattle.wf_octets.specs.declared.block.frames.Bar.{Bar};
@@ -8,7 +8,7 @@ ghost use Rattle.wf_octets.specs.declared.block.frames.Ba.{Ba};
 ghost use Rattle.wf_octets.specs.declared.block.frames.WideBa.{WideBa};
 
 use crate::bits::{Bits64, Bits256};
-use crate::block::encoding::{ANSWER, REQUEST};
+use crate::block::encoding::{ANSWER, NARROW, REQUEST, WIDE};
 use crate::block::{Ba, Bar, WideBa};
 use crate::fields::{address_at, is_set, number_at};
 use crate::seq12::Seq12;
@@ -34,10 +34,10 @@ pub enum BlockFault {
     /// Multi-TID is 1.
     #[error("a frame of several traffic identifiers")]
     MultiTid,
-    /// The fragment number is not 0.
+    /// The fragment number is not that of the bitmap: 0 for 64 bits, 4 for 256.
     #[error("fragment number {0}")]
     Fragment(u8),
-    /// The bit of the wide form is 0.
+    /// The fragment number is 0, that of a bitmap of 64 bits, where 256 are wanted.
     #[error("a bitmap of 64 numbers where 256 are wanted")]
     NotWide,
 }
@@ -119,14 +119,21 @@ fn check(octets: &[u8], need: usize, first: u8, wide: bool) -> Result<(), BlockF
     if is_set(form, 1) {
         return Err(BlockFault::MultiTid);
     }
-    if wide && !is_set(form, 3) {
+    let fragment = number_at(octets, 18) % 16;
+    if wide && fragment == NARROW {
         return Err(BlockFault::NotWide);
     }
-    let fragment = number_at(octets, 18) % 16;
-    if fragment != 0 {
+    if fragment != fragment_of(wide) {
         return Err(BlockFault::Fragment(fragment as u8));
     }
     Ok(())
+}
+
+/// Returns the fragment number of a frame whose bitmap, if it has one, has 256 bits or 64.
+fn fragment_of(wide: bool) -> u16
+    ensures { result ≡ fragment_of wide }
+{
+    if wide { WIDE } else { NARROW }
 }
 
 /// Returns the fields before the bitmap.

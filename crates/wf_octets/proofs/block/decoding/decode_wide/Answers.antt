@@ -1,9 +1,7 @@
 -- The checks imply the layout, and the layout determines the fields.
-use Rattle.std.proofs.Common.{true, Ok, arith, rules, ap, subst, sym, ◌∙◌, get_or}
-use Rattle.std.proofs.lemmas.Bool.{not-false}
-use Rattle.wf_octets.specs.Fields.{is_set}
+use Rattle.std.proofs.Common.{true, Ok, arith, rules, ap, subst, sym, ◌∙◌}
 use Rattle.wf_octets.specs.Offsets.{offsets_in}
-use Rattle.wf_octets.specs.BlockLayout.{HasHead, answer, head_of_wide}
+use Rattle.wf_octets.specs.BlockLayout.{HasHead, wide_fragment, answer, head_of_wide}
 use Rattle.wf_octets.proofs.BlockChecked.{checked, head_read, one_head, wide_same}
 use Rattle.wf_octets.proofs.block.decoding.decode_wide.Goals as goal
 
@@ -12,10 +10,9 @@ returns-clause-read c =
     let k = checked 52 answer true c.args.octets.now (sym c.in_ok-check.ensures) in
     record {
       size = k.size;
-      head = subst (HasHead c.args.octets.now answer) (sym c.head_at-head.ensures)
+      head = subst (HasHead c.args.octets.now answer wide_fragment) (sym c.head_at-head.ensures)
           (head_read 52 answer true c.args.octets.now
           (λ i. first_of (omega (arith, c.type_inv.octets i), search rules)) k);
-      wide = not-false (is_set (get_or c.args.octets.now 16 0) 3) k.wide_form;
       bitmap = ap offsets_in (sym c.bitmap_at.ensures) ∙ sym c.of_octets-bits.ensures.shown;
     }
 
@@ -23,6 +20,6 @@ pub returns-clause-complete : goal.returns-clause-complete
 returns-clause-complete c b is =
     ap (λ read. Ok read)
     (wide_same b c.head_at-head.result c.of_octets-bits.result
-    (c.head_at-head.ensures ∙ one_head answer c.args.octets.now (head_of_wide b)
+    (c.head_at-head.ensures ∙ one_head answer true c.args.octets.now (head_of_wide b)
     (λ i. first_of (omega (arith, c.type_inv.octets i), search rules)) is.head)
     (c.of_octets-bits.ensures.shown ∙ ap offsets_in c.bitmap_at.ensures ∙ is.bitmap))

@@ -1,7 +1,7 @@
 -- The bitmap is written after the head, which stays unchanged.
 use Rattle.std.proofs.Common.{arith, ap, subst, ◌∙◌}
 use Rattle.wf_octets.specs.Offsets.{offsets_in}
-use Rattle.wf_octets.specs.BlockLayout.{HasHead, answer, head_of_ba}
+use Rattle.wf_octets.specs.BlockLayout.{HasHead, narrow_fragment, answer, head_of_ba}
 use Rattle.wf_octets.proofs.BlockChecked.{head_kept, after_head}
 use Rattle.wf_octets.proofs.block.encoding.encode_ba.Goals as goal
 
@@ -11,7 +11,8 @@ returns-clause-layout c =
     c.put.ensures.place c.put.ensures.up_to_it (omega arith) (omega arith) in
     record {
       size = omega arith;
-      head = head_kept c.put_head.new.out c.put.new.out answer (head_of_ba c.args.ba.now) parts.0
-          (subst (HasHead c.put_head.new.out answer) c.head.ensures c.put_head.ensures.head);
+      head = head_kept c.put_head.new.out c.put.new.out answer narrow_fragment (head_of_ba c.args.ba.now)
+          parts.0
+          (subst (HasHead c.put_head.new.out answer narrow_fragment) c.head.ensures c.put_head.ensures.head);
       bitmap = ap offsets_in parts.1 ∙ c.to_octets.ensures;
     }
