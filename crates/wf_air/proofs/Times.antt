@@ -60,11 +60,11 @@ module _ (r : Rate) (t : Timing) (is : IsRate r) (timed : t ≡ timing_of r) (oc
       time_is z z_is = z_is ∙ rw (payload_is, timed) (same_ceiling _ 10 (omega arith))
 
     module _ (few : octets ≤ longest_aggregate) where
-      all_few : preamble_tenths r + payload_tenths r octets ≤ 13000000
-      all_few = few_tenths _ 1300000 (time_most r octets is few)
+      all_few : preamble_tenths r + payload_tenths r octets ≤ 81000000
+      all_few = few_tenths _ 8100000 (time_most r octets is few)
 
-      pub few_in_symbols : t.symbol * n ≤ 13000000
+      pub few_in_symbols : t.symbol * n ≤ 81000000
       few_in_symbols = rw (symbols_are, timed) (omega (arith, symbols_within r octets, all_few))
 
-      pub few_in_all : (y : ℕ) → y ≡ div_ceil (t.symbol * n) t.unit → t.preamble + y * t.unit ≤ 13000000
+      pub few_in_all : (y : ℕ) → y ≡ div_ceil (t.symbol * n) t.unit → t.preamble + y * t.unit ≤ 81000000
       few_in_all y y_is = rw (payload_is y y_is, timed) all_few

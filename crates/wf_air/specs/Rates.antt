@@ -1,8 +1,8 @@
 -- Defines how the code's rates represent those of wf_def_air, and bounds of their durations.
 use Rattle.std.specs.Prelude.{◌≡◌, refl, ℕ, ◌+◌, ◌*◌, true}
-use Rattle.wf_def_lists.specs.Lengths.{greatest_body}
-use Rattle.wf_def_lists.specs.Bounds.{greatest_exponent}
-use Rattle.wf_def_air.specs.Fit.{subframe_octets, most_octets}
+use Rattle.wf_def_lists.specs.Lengths.{greatest_protected}
+use Rattle.wf_def_lists.specs.Bounds.{greatest_ampdu}
+use Rattle.wf_def_air.specs.Fit.{subframe_octets, longest_alone}
 use Rattle.wf_def_air.specs.Airtime.{Rate, Ht, Vht, He, service_bits, tail_bits, bits, encoders, symbol_tenths, preamble_tenths, kbps}
 use Rattle.wf_air.specs.declared.time.Format.{Format}
 use Rattle.wf_air.specs.declared.time.Timing.{Timing}
@@ -53,17 +53,16 @@ most_kbps = 9607794
 
 -- the most octets of an aggregate for any receiver at any rate
 abbrev pub longest_aggregate : ℕ
-longest_aggregate = most_octets (Vht 0 20 true 3) greatest_exponent
+longest_aggregate = greatest_ampdu
 
 -- the upper bound of an aggregate's time, in microseconds
 abbrev pub longest_time : ℕ
-longest_time = 1300000
+longest_time = 8100000
 
--- the most octets of an aggregate of one frame
+-- the most octets of an aggregate of one frame, with its encryption
 abbrev pub longest_single : ℕ
-longest_single = subframe_octets greatest_body
+longest_single = subframe_octets greatest_protected
 
--- the upper bound of the time of an aggregate of one frame, in microseconds: the least time limit that the
--- settings allow for an aggregate
+-- the upper bound of the time of an aggregate of one frame, in microseconds
 abbrev pub longest_single_time : ℕ
-longest_single_time = 3000
+longest_single_time = longest_alone

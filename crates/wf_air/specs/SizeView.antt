@@ -1,32 +1,30 @@
 -- Defines how the fields of an `AggregateSize` represent its value.
-use Rattle.std.specs.Prelude.{◌≡◌, ◌≤◌}
+use Rattle.std.specs.Prelude.{◌≡◌, ◌≤◌, max}
+use Rattle.wf_def_lists.specs.Bounds.{greatest_ampdu}
 use Rattle.wf_def_air.specs.Airtime.{data_time}
-use Rattle.wf_def_air.specs.Fit.{most_octets}
-use Rattle.wf_air.specs.Rates.{longest_time}
+use Rattle.wf_def_air.specs.Fit.{longest_alone}
+use Rattle.wf_air.specs.Rates.{longest_time, longest_single}
 use Rattle.wf_air.specs.Sizes.{AggregateSizeValue}
 use Rattle.wf_air.specs.declared.fit.AggregateSize.TheInside.{Inside}
 
 abbrev pub value_of : Inside → AggregateSizeValue
 value_of r = record {
   rate = r.rate;
-  exponent = r.exponent;
-  agg = r.agg;
-  cap = r.cap;
+  limits = r.limits;
+  answers = r.answers;
   wide = r.wide;
-  count =
-      r.count;
+  count = r.count;
   octets = r.octets;
 }
 
 -- the invariant: the frames fit
 pub record IsSize (r : Inside) : Type 0 where
-  pub exponent_in : r.exponent ≤ 3
-  pub agg_in : 1 ≤ r.agg
-  pub cap_in : 3000 ≤ r.cap
-  pub limit : r.most_octets ≡ most_octets r.rate r.exponent
-  pub count_in : r.count ≤ r.agg
-  pub octets_in : r.octets ≤ most_octets r.rate r.exponent
+  pub octets_least : longest_single ≤ r.limits.octets
+  pub octets_most : r.limits.octets ≤ greatest_ampdu
+  pub frames_in : 1 ≤ r.limits.frames
+  pub count_in : r.count ≤ r.limits.frames
+  pub octets_in : r.octets ≤ r.limits.octets
   pub empty : r.count ≡ 0 → r.octets ≡ 0
   pub short : r.time ≤ longest_time
   pub timed : 1 ≤ r.count → r.time ≡ data_time r.rate r.octets
-  pub timely : 1 ≤ r.count → data_time r.rate r.octets ≤ r.cap
+  pub timely : 1 ≤ r.count → data_time r.rate r.octets ≤ max r.limits.time longest_alone

@@ -1,13 +1,15 @@
 //! The size of an aggregate (A-MPDU) and its limits: IEEE 802.11-2012, 8.6.1 (subframes and their padding)
 //! and 9.12.2 (the length limit). Lengths are octets, times whole microseconds.
 
-ghost use Rattle.std.specs.Prelude.{◌≡◌, ◌+◌, ◌-◌, ◌≤◌, ◌++◌, [], ◌∷◌, ℕ, List, length, IsTrue, IsFalse};
-ghost use Rattle.wf_def_lists.specs.Lengths.{greatest_body};
+ghost use Rattle.std.specs.Prelude.{◌≡◌, ◌+◌, ◌-◌, ◌≤◌, ◌++◌, [], ◌∷◌, ℕ, max, List, length, IsTrue, IsFalse};
+ghost use Rattle.wf_def_lists.specs.Lengths.{greatest_protected};
+ghost use Rattle.wf_def_lists.specs.Bounds.{greatest_ampdu};
 ghost use Rattle.wf_def_air.specs.Airtime.{data_charge, longest_answer};
-ghost use Rattle.wf_def_air.specs.Fit.{aggregate_octets, fits};
-ghost use Rattle.wf_air.specs.Sizes.{empty_size, SizeStandsFor};
+ghost use Rattle.wf_def_air.specs.Fit.{aggregate_octets, fits, longest_alone};
+ghost use Rattle.wf_air.specs.Rates.{longest_single};
+ghost use Rattle.wf_air.specs.Sizes.{empty_size, time_with_next, SizeStandsFor};
 
-use crate::time::{Format, Rate, SIFS, answer_time};
+use crate::time::{Rate, SIFS, answer_time};
 use std::marker::Model;
 
 /// The size of the delimiter before an MPDU, in octets (8.6.1).
@@ -25,23 +27,26 @@ pub const OVERHEAD_OCTETS: u32 = DELIMITER_OCTETS + HEADER_OCTETS + CHECK_OCTETS
 /// Each subframe except the last is padded to a multiple of this, in octets (8.6.1).
 const PADDING: u32 = 4;
 
-/// An HT receiver with the length exponent x takes 2^(13+x) - 1 octets (8.4.2.58.3).
-const LEAST_HT_EXPONENT: u8 = 13;
+/// The data time that a frame alone may take whatever the limit is, in microseconds. At every rate the
+/// greatest body with its encryption fits it.
+const LONGEST_ALONE: u32 = 3_000;
 
-/// A VHT or HE receiver takes 2^(17+x) - 1 octets. Its own exponent is x + 4: that the exponents 0 to 3 here
-/// mean 4 to 7 there is this project's own rule.
-const LEAST_EXPONENT: u8 = 17;
+/// The limits of an aggregate: its octets, its frames, and its data time in microseconds.
+#[derive(Clone, Copy, Debug, PartialEq, Eq)]
+pub struct SizeLimits {
+    pub octets: u32,
+    pub frames: u16,
+    pub time: u32,
+}
 
 /// The size of an aggregate to which frames are added one at a time.
 #[derive(Drop)]
 pub struct AggregateSize {
     rate: Rate,
-    exponent: u8,
-    agg: u16,
-    cap: u32,
+    limits: SizeLimits,
+    /// The setting `answers`: 1 if control frames go at a rate that depends on that of the data.
+    answers: u32,
     wide: bool,
-    /// The most octets that the receiver takes (8.4.2.58.3).
-    most_octets: u32,
     count: u16,
     octets: u32,
     /// The duration of the octets, if there is a frame.
@@ -61,40 +66,45 @@ impl Model for AggregateSize {
 }
 
 impl AggregateSize {
-    /// Returns the size of an empty aggregate for a station with this rate and maximum A-MPDU length
-    /// exponent, 0 to 3: at most `2^(13+exponent) - 1` octets at an HT rate, and `2^(17+exponent) - 1` at a
-    /// VHT or HE rate. It takes at most `agg` frames, 1 or more, and `cap` microseconds of data time, 3000 or
-    /// more. `wide` says that the session's window is above 64.
-    pub fn new(rate: Rate, exponent: u8, agg: u16, cap: u32, wide: bool) -> AggregateSize
-        requires exponent_in { exponent ≤ 3 }
-        requires agg_in { 1 ≤ agg }
-        requires cap_in { 3000 ≤ cap }
-        ensures made { result ≡ empty_size rate exponent agg cap wide }
+    /// Returns the size of an empty aggregate for a station with this rate. It takes at most
+    /// `limits.octets`, 2370 to 6,500,631, at most `limits.frames`, 1 or more, and data of at most
+    /// `limits.time` microseconds; a frame alone may take 3000. `answers` is the setting of that name.
+    /// `wide` says that the session's window is above 64.
+    pub fn new(rate: Rate, limits: SizeLimits, answers: u32, wide: bool) -> AggregateSize
+        requires octets_least { longest_single ≤ limits.octets }
+        requires octets_most { limits.octets ≤ greatest_ampdu }
+        requires frames_in { 1 ≤ limits.frames }
+        ensures made { result ≡ empty_size rate limits answers wide }
         ensures empty { SizeStandsFor result [] }
     {
-        let least_exponent = match rate.format {
-            Format::Ht { .. } => LEAST_HT_EXPONENT,
-            Format::Vht { .. } | Format::He { .. } => LEAST_EXPONENT,
-        };
         AggregateSize {
             rate,
-            exponent,
-            agg,
-            cap,
+            limits,
+            answers,
             wide,
-            most_octets: (1 << (least_exponent + exponent)) - 1,
             count: 0,
             octets: 0,
             time: 0,
         }
     }
 
-    /// Adds a frame with a body of `len` octets, 1 to 2304, at the end. Returns false, without a change,
-    /// exactly if it does not fit. The first frame always fits.
+    // Returns the greatest data time after one more frame, in microseconds.
+    fn time_with_next(&self) -> u32
+        ensures { result ≡ time_with_next self.now }
+    {
+        if self.count == 0 {
+            self.limits.time.max(LONGEST_ALONE)
+        } else {
+            self.limits.time
+        }
+    }
+
+    /// Adds a frame at the end. `len` is the length of its body with its encryption, 1 to 2336 octets.
+    /// Returns false, without a change, exactly if it does not fit. The first frame always fits.
     pub fn add(&mut self, len: u16) -> bool
-        requires { (1 ≤ len) × (len ≤ greatest_body) }
-        ensures exact { (lens : List ℕ) → SizeStandsFor self.old lens →
-            result ≡ fits self.old.rate self.old.exponent self.old.agg self.old.cap (lens ++ len ∷ []) }
+        requires { (1 ≤ len) × (len ≤ greatest_protected) }
+        ensures exact { (lens : List ℕ) → SizeStandsFor self.old lens → result ≡
+            fits self.old.rate self.old.limits.octets self.old.limits.frames self.old.limits.time (lens ++ len ∷ []) }
         ensures taken { (lens : List ℕ) → SizeStandsFor self.old lens → IsTrue result →
             SizeStandsFor self.new (lens ++ len ∷ []) }
         ensures kept { self.new ≡ record self.old { count = self.new.count; octets = self.new.octets } }
@@ -102,11 +112,11 @@ impl AggregateSize {
         ensures first { self.old.count ≡ 0 → IsTrue result }
     {
         let octets = self.octets.next_multiple_of(PADDING) + OVERHEAD_OCTETS + u32::from(len);
-        if self.count >= self.agg || octets > self.most_octets {
+        if self.count >= self.limits.frames || octets > self.limits.octets {
             return false;
         }
         let time = self.rate.data_time(octets);
-        if time > self.cap {
+        if time > self.time_with_next() {
             return false;
         }
         self.count += 1;
@@ -115,23 +125,23 @@ impl AggregateSize {
         true
     }
 
-    /// Returns the number of frames, at most `agg`.
+    /// Returns the number of frames, at most `limits.frames`.
     pub fn count(&self) -> u16
         ensures exact { (lens : List ℕ) → SizeStandsFor self.now lens → result ≡ length lens }
         ensures value { result ≡ self.now.count }
-        ensures most { result ≤ self.now.agg }
+        ensures most { result ≤ self.now.limits.frames }
     {
         self.count
     }
 
-    /// Returns the charge of a data exchange of the frames in microseconds: at most `cap`, SIFS and the
-    /// longest BlockAck.
+    /// Returns the charge of a data exchange of the frames in microseconds: at most `limits.time`, or 3000 if
+    /// that is less, SIFS and the longest BlockAck.
     pub fn air(&self) -> u32
         requires { 1 ≤ self.now.count }
         ensures exact { (lens : List ℕ) → SizeStandsFor self.now lens →
-            result ≡ data_charge self.now.rate (aggregate_octets lens) self.now.wide }
-        ensures most { result ≤ self.now.cap + longest_answer }
+            result ≡ data_charge self.now.answers self.now.rate (aggregate_octets lens) self.now.wide }
+        ensures most { result ≤ max self.now.limits.time longest_alone + longest_answer self.now.answers }
     {
-        self.time + SIFS + answer_time(self.wide)
+        self.time + SIFS + answer_time(self.rate.control_mbps(self.answers), self.wide)
     }
 }

@@ -4,7 +4,8 @@
 //! ```text
 //! let rate = Rate::vht(9, 80, true, 2)?;       // VHT MCS 9, 80 MHz, short guard interval, 2 streams
 //! let kbps = rate.kbps();                      // 866_666
-//! let mut size = AggregateSize::new(rate, 3, 64, 4_000, false);
+//! let limits = SizeLimits { octets: rate.most_octets(3, None), frames: 64, time: 4_000 };
+//! let mut size = AggregateSize::new(rate, limits, 0, false);
 //! while size.add(1_500) {}                     // frames of 1,500 octets, until one does not fit
 //! let charge = size.air();                     // the exchange's airtime in microseconds
 //! ```

@@ -1,11 +1,13 @@
 //! The rates, and how long transmissions take at 5 GHz. Data are sent in HT mixed format (IEEE 802.11-2012,
 //! clause 20), in VHT to one station (802.11-2016, clause 21) or in HE to one station (802.11ax-2021, clause
-//! 27), with convolutional codes. Control frames are sent in OFDM at 24 Mbit/s. Durations are whole
+//! 27), with convolutional codes. Control frames are sent in OFDM at 6, 12 or 24 Mbit/s. Durations are whole
 //! microseconds, except if a name says tenths; lengths are octets.
 
-ghost use Rattle.std.specs.Prelude.{◌≡◌, ◌+◌, ◌/◌, ◌==◌, ◌≤◌, ◌<◌, if◌then◌else◌, true, false, IfOk, IfErr};
+ghost use Rattle.std.specs.Prelude.{◌≡◌, ◌+◌, ◌/◌, ◌==◌, ◌≤◌, ◌<◌, if◌then◌else◌, true, false, IfOk, IfErr, IfSome};
 ghost use Rattle.wf_def_lists.specs.Table.{has};
-ghost use Rattle.wf_def_air.specs.Airtime.{Ht, Vht, He, IsRate, is_rate, lowest_rate, carriers_of_312, carriers_of_78, vht_encoders, is_wide_width, are_streams, streams_left_out, streams, modulation, carriers, bits, symbol_tenths, kbps, encoders, preamble_tenths, data_time, answer_time, longest_answer, data_charge, request_charge};
+ghost use Rattle.wf_def_air.specs.Airtime.{Ht, Vht, He, IsRate, is_rate, lowest_rate, carriers_of_312, carriers_of_78, vht_encoders, is_wide_width, are_streams, streams_left_out, streams, modulation, carriers, bits, symbol_tenths, kbps, encoders, preamble_tenths, data_time, control_mbps, slowest_control, control_time, answer_time, longest_answer, data_charge, request_charge};
+ghost use Rattle.wf_def_lists.specs.Bounds.{least_ampdu, greatest_ampdu};
+ghost use Rattle.wf_def_air.specs.Fit.{most_octets};
 ghost use Rattle.wf_air.specs.Rates.{rate_of, unit_tenths, timing_of, least_kbps, most_kbps, longest_aggregate, longest_single, longest_time, longest_single_time};
 
 use std::marker::Model;
@@ -66,20 +68,33 @@ const TRAINING_FIELDS: [u32; 8] = [1, 2, 4, 4, 6, 6, 8, 8];
 /// The OFDM preamble and SIGNAL field of a control frame, in microseconds (18.4.3).
 const CONTROL_PREAMBLE_TIME: u32 = 20;
 
-/// An OFDM symbol, in microseconds (18.4.3). It has 96 data bits at 24 Mbit/s (18.3.2.3).
+/// An OFDM symbol, in microseconds (18.4.3). It has 4 data bits for each Mbit/s (18.3.2.3).
 const CONTROL_SYMBOL_TIME: u32 = 4;
 
-/// The duration of a BlockAckReq in microseconds: its 24 octets with the check sequence (8.3.1.8), the
-/// SERVICE field and a tail are 214 bits, in three symbols.
-const REQUEST_TIME: u32 = CONTROL_PREAMBLE_TIME + 3 * CONTROL_SYMBOL_TIME;
+/// The mandatory rates of OFDM, in Mbit/s (18.4.3).
+const SLOW_MBPS: u32 = 6;
 
-/// The duration of a BlockAck in microseconds: its 32 octets with the check sequence (8.3.1.9), the SERVICE
-/// field and a tail are 278 bits, in three symbols.
-const ANSWER_TIME: u32 = CONTROL_PREAMBLE_TIME + 3 * CONTROL_SYMBOL_TIME;
+const MIDDLE_MBPS: u32 = 12;
 
-/// The duration of a wide session's BlockAck in microseconds, which is this project's own: its 56 octets with
-/// a bitmap of 32, the SERVICE field and a tail are 470 bits, in five symbols.
-const WIDE_ANSWER_TIME: u32 = CONTROL_PREAMBLE_TIME + 5 * CONTROL_SYMBOL_TIME;
+const FAST_MBPS: u32 = 24;
+
+/// The kbit/s in a Mbit/s.
+const KBPS: u32 = 1_000;
+
+/// The octets of a BlockAckReq with its check sequence (8.3.1.8), of a BlockAck with a bitmap of 8 octets
+/// (8.3.1.9), and of one with a bitmap of 32.
+const REQUEST_OCTETS: u32 = 24;
+
+const ANSWER_OCTETS: u32 = 32;
+
+const WIDE_ANSWER_OCTETS: u32 = 56;
+
+/// An HT receiver with the length exponent x takes 2^(13+x) - 1 octets (8.4.2.58.3).
+const LEAST_HT_EXPONENT: u8 = 13;
+
+/// A VHT or HE receiver takes 2^(17+x) - 1 octets, if no other number was stated. Its own exponent is x + 4:
+/// that the exponents 0 to 3 here mean 4 to 7 there is this project's own rule.
+const LEAST_EXPONENT: u8 = 17;
 
 /// The pause between a frame and its answer at 5 GHz, in microseconds (18.4.4).
 pub(crate) const SIFS: u32 = 16;
@@ -469,28 +484,85 @@ impl Rate {
         (timing.preamble + payload).div_ceil(TENTHS)
     }
 
-    /// Returns the charge of a data exchange in microseconds: its data time, SIFS and the BlockAck. `wide`
-    /// says that the session's window is above 64, whose BlockAck takes longer.
-    pub fn data_charge(self, octets: u32, wide: bool) -> u32
+    /// Returns the charge of a data exchange in microseconds: its data time, SIFS and the BlockAck. `answers`
+    /// is the setting of that name, and `wide` says that the session's window is above 64, whose BlockAck
+    /// takes longer.
+    pub fn data_charge(self, octets: u32, answers: u32, wide: bool) -> u32
         requires { octets ≤ longest_aggregate }
-        ensures exact { result ≡ data_charge self octets wide }
-        ensures most { result ≤ data_time self octets + longest_answer }
+        ensures exact { result ≡ data_charge answers self octets wide }
+        ensures most { result ≤ data_time self octets + longest_answer answers }
     {
-        self.data_time(octets) + SIFS + answer_time(wide)
+        self.data_time(octets) + SIFS + answer_time(self.control_mbps(answers), wide)
+    }
+
+    /// Returns the charge of an exchange of a BlockAckReq in microseconds: the request, SIFS and its
+    /// BlockAck. `answers` is the setting of that name, and `wide` says that the session's window is above 64.
+    pub fn request_charge(self, answers: u32, wide: bool) -> u32
+        ensures exact { result ≡ request_charge answers self wide }
+        ensures most { result ≤ 60 + longest_answer answers }
+    {
+        let mbps = self.control_mbps(answers);
+        control_time(mbps, REQUEST_OCTETS) + SIFS + answer_time(mbps, wide)
+    }
+
+    /// Returns the rate of control frames in Mbit/s, for a station with this rate of data. If the setting
+    /// `answers` is not 0 it is the highest of 6, 12 and 24 that is not above the data's (IEEE 802.11-2012,
+    /// 9.7.6.5.2), otherwise 24.
+    pub fn control_mbps(self, answers: u32) -> u32
+        ensures exact { result ≡ control_mbps answers self }
+        ensures least { slowest_control answers ≤ result }
+        ensures most { result ≤ 24 }
+    {
+        if answers == 0 || self.kbps() >= KBPS * FAST_MBPS {
+            FAST_MBPS
+        } else if self.kbps() >= KBPS * MIDDLE_MBPS {
+            MIDDLE_MBPS
+        } else {
+            SLOW_MBPS
+        }
+    }
+
+    /// Returns the most octets of an aggregate for a receiver with this maximum A-MPDU length exponent, 0 to 3.
+    /// At a rate of HT that is `2^(13+exponent) - 1`. At a rate of VHT or HE it is `stated`, 4,096 to
+    /// 6,500,631, or `2^(17+exponent) - 1` if nothing was stated.
+    pub fn most_octets(self, exponent: u8, stated: Option<u32>) -> u32
+        requires exponent_in { exponent ≤ 3 }
+        requires stated_in { IfSome stated (λ n. (least_ampdu ≤ n) × (n ≤ greatest_ampdu)) }
+        ensures exact { result ≡ most_octets self exponent stated }
+        ensures least { longest_single ≤ result }
+        ensures most { result ≤ greatest_ampdu }
+    {
+        match self.format {
+            Format::Ht { .. } => (1 << (LEAST_HT_EXPONENT + exponent)) - 1,
+            Format::Vht { .. } | Format::He { .. } => match stated {
+                Some(octets) => octets,
+                None => (1 << (LEAST_EXPONENT + exponent)) - 1,
+            },
+        }
     }
 }
 
-// Returns the duration of a BlockAck in microseconds.
-pub(crate) fn answer_time(wide: bool) -> u32
-    ensures exact { result ≡ answer_time wide }
-    ensures most { result ≤ answer_time true }
+// Returns the duration in microseconds of a control frame of at most 64 octets, at a rate in Mbit/s.
+fn control_time(mbps: u32, octets: u32) -> u32
+    requires mbps_in { (6 ≤ mbps) × (mbps ≤ 24) }
+    requires octets_in { octets ≤ 64 }
+    ensures { result ≡ control_time mbps octets }
 {
-    if wide { WIDE_ANSWER_TIME } else { ANSWER_TIME }
+    let bits = 8 * octets + SERVICE_BITS + TAIL_BITS;
+    CONTROL_PREAMBLE_TIME + CONTROL_SYMBOL_TIME * bits.div_ceil(CONTROL_SYMBOL_TIME * mbps)
 }
 
-/// Returns the charge of an exchange of a BlockAckReq in microseconds: the request, SIFS and its BlockAck.
-pub fn request_charge(wide: bool) -> u32
-    ensures { result ≡ request_charge wide }
+// Returns the duration of a BlockAck at a rate in Mbit/s, in microseconds.
+pub(crate) fn answer_time(mbps: u32, wide: bool) -> u32
+    requires { (6 ≤ mbps) × (mbps ≤ 24) }
+    ensures { result ≡ answer_time mbps wide }
 {
-    REQUEST_TIME + SIFS + answer_time(wide)
+    control_time(
+        mbps,
+        if wide {
+            WIDE_ANSWER_OCTETS
+        } else {
+            ANSWER_OCTETS
+        },
+    )
 }

@@ -87,19 +87,6 @@ impl Line {
         self.push_number(number.unsigned_abs());
     }
 
-    /// Appends a word. There must be room for its greatest width.
-    pub fn push_word(&mut self, word: Word)
-        requires { length self.old + width_of word ≤ 8192 }
-        ensures text { self.new ≡ self.old ++ words_text word }
-        ensures len { length self.new ≤ length self.old + width_of word }
-    {
-        match word {
-            Word::Text(text) => self.push_all(text),
-            Word::Number(number) => self.push_number(number),
-            Word::Signed(number) => self.push_signed(number),
-        }
-    }
-
     /// Appends words, with a space before each. There must be room for their greatest widths and the spaces.
     pub fn push_words(&mut self, words: &[Word])
         requires { length self.old + sum_by (λ w. width_of w + 1) words.now ≤ 8192 }
@@ -108,7 +95,11 @@ impl Line {
     {
         for word in words {
             self.push(b' ');
-            self.push_word(*word);
+            match *word {
+                Word::Text(text) => self.push_all(text),
+                Word::Number(number) => self.push_number(number),
+                Word::Signed(number) => self.push_signed(number),
+            }
         }
     }
 

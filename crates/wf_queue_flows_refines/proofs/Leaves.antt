@@ -8,7 +8,7 @@ use Rattle.wf_def_lists.specs.Table.{at}
 use Rattle.wf_def_rotation.specs.Rotation.{Rotation, no_keys}
 use Rattle.wf_def_agreement.specs.Session.{Session}
 use Rattle.wf_def_agreement.specs.Receiver.{Receiver}
-use Rattle.wf_def_world.specs.World.{World, Station, Share, Tid, Exchange, no_tid, new_tid, is_live, with_station, on_station, on_session, on_receiver, on_share, with_rotation, with_exchange, without_exchange}
+use Rattle.wf_def_world.specs.World.{World, Bounds, Station, Share, Tid, Exchange, no_tid, new_tid, is_live, with_station, on_station, on_session, on_receiver, on_share, with_rotation, with_exchange, without_exchange, with_bounds}
 use Rattle.wf_def_world.specs.CanSend.{with_listing_in, with_listings_in, with_listings_of}
 use Rattle.wf_def_world.specs.Exchanges.{with_station_paid, with_stations_paid, after_pick, after_tid_turn}
 use Rattle.wf_def_world.specs.Step.{join_outcome, without_listings}
@@ -144,6 +144,9 @@ pay_stations_alone (s ∷ ss) w c quanta = pay_stations_alone ss _ c quanta ∙ 
 pub pick_alone : (w : World) (c : Class) → flows_part (after_pick w c) ≡ flows_part w
 unfolding after_pick with_rotation
 pick_alone w c = pay_stations_alone _ w c _
+
+pub bounds_alone : (w : World) (b : Bounds) → flows_part (with_bounds w b) ≡ flows_part w
+bounds_alone w b = refl
 
 pub turn_alone : (w : World) (s : ℕ) (c : Class) (t : ℕ) → flows_part (after_tid_turn w s c t) ≡ flows_part w
 unfolding after_tid_turn

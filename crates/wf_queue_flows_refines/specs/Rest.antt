@@ -5,7 +5,7 @@ use Rattle.wf_def_lists.specs.Table.{at}
 use Rattle.wf_def_rotation.specs.Rotation.{Rotation}
 use Rattle.wf_def_agreement.specs.Session.{Session}
 use Rattle.wf_def_agreement.specs.Receiver.{Receiver}
-use Rattle.wf_def_world.specs.World.{World, Station, Exchange, no_station, no_tid}
+use Rattle.wf_def_world.specs.World.{World, Bounds, Station, Exchange, no_station, no_tid}
 
 -- a station without its TIDs
 abbrev pub bare : Station → Station
@@ -26,6 +26,7 @@ pub record Rest : Type 0 where
   pub stations : ℕ → Option Station  -- each live station, without its TIDs
   pub sessions : ℕ → ℕ → Session  -- by station and TID
   pub receivers : ℕ → ℕ → Receiver
+  pub bounds : Bounds  -- those of the latest pull
 
 abbrev pub rest_of_world : World → Rest
 rest_of_world w = record {
@@ -37,4 +38,5 @@ rest_of_world w = record {
   stations = λ s. option_map bare (at None w.stations s);
   sessions = λ s. session_in (at None w.stations s);
   receivers = λ s. receiver_in (at None w.stations s);
+  bounds = w.bounds;
 }

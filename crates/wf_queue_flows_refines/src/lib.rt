@@ -23,7 +23,7 @@ ghost use Rattle.wf_def_codel.specs.Codel.{Params};
 ghost use Rattle.wf_def_rotation.specs.Rotation.{Rotation, no_keys, in_order};
 ghost use Rattle.wf_def_agreement.specs.Session.{Session};
 ghost use Rattle.wf_def_agreement.specs.Receiver.{Receiver};
-ghost use Rattle.wf_def_world.specs.World.{World, Station, Share, Exchange, opening, is_live, session, tid_of, frame, accepted_count, codel_params as codel_params, with_station, on_station, on_session, on_receiver, on_share, with_queues, with_rotation, with_exchange, without_exchange, with_frame_finished, with_frames_finished};
+ghost use Rattle.wf_def_world.specs.World.{World, Bounds, Station, Share, Exchange, opening, is_live, session, tid_of, frame, accepted_count, codel_params as codel_params, with_station, on_station, on_session, on_receiver, on_share, with_queues, with_rotation, with_exchange, without_exchange, with_bounds, with_frame_finished, with_frames_finished};
 ghost use Rattle.wf_def_world.specs.FlowQueues.{total_queued, after_queues_left};
 ghost use Rattle.wf_def_world.specs.FlowQueues.{frames_queued as world_queued, longest_queue as world_longest, dropped_for_limit as world_dropped, is_listed_elsewhere as world_listed_elsewhere, queue_for as world_queue_for, after_limit as world_after_limit, taken_for_tid as world_take};
 ghost use Rattle.wf_def_world.specs.CanSend.{with_listings_of};
@@ -183,8 +183,9 @@ pub fn stations_come_and_go()
 {}
 
 /// The flow queues depend on one part of the world only (`flows_part`), so they agree with every world
-/// that has the same part. That part does not depend on the clock, on a station's rate, sleep, credit or
-/// shares, on sessions, receivers, the stations' rotations or the open exchanges.
+/// that has the same part. That part does not depend on the clock, on a station's rate, its stated length
+/// of aggregates, stop, sleep, credit or shares, on sessions, receivers, the stations' rotations, the
+/// bounds of a pull or the open exchanges.
 pub fn the_rest_does_not_matter()
     ensures same { (v : FlowsValue) (w x : World) → flows_part x ≡ flows_part w → FlowsStandFor v w →
         FlowsStandFor v x }
@@ -204,14 +205,15 @@ pub fn the_rest_does_not_matter()
     ensures opened { (w : World) (count : ℕ) (opened : List Exchange) →
         flows_part (record w { exchanges = count; opened = opened }) ≡ flows_part w }
     ensures pick { (w : World) (c : Class) → flows_part (after_pick w c) ≡ flows_part w }
+    ensures bounds { (w : World) (b : Bounds) → flows_part (with_bounds w b) ≡ flows_part w }
     ensures turn { (w : World) (s : ℕ) (c : Class) (t : ℕ) →
         flows_part (after_tid_turn w s c t) ≡ flows_part w }
     ensures listed { (w : World) (o : Option ℕ) → flows_part (with_listings_of w o) ≡ flows_part w }
 {}
 
 /// A call of the flow queues changes no other part of the world: not the clock, the stations, their
-/// sessions, receivers and rotations, nor the open exchanges. So the same stations are live, with the
-/// same CoDel parameters.
+/// sessions, receivers and rotations, the bounds of the latest pull, nor the open exchanges. So the same
+/// stations are live, with the same CoDel parameters.
 pub fn nothing_else_changes()
     ensures put { (w : World) (s t flow len : ℕ) →
         rest_of_world (enqueue_outcome w s t flow len).world ≡ rest_of_world w }

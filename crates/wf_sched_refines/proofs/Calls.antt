@@ -4,7 +4,8 @@ use Rattle.std.proofs.lemmas.Bool.{leb-false}
 use Rattle.std.proofs.lemmas.Int.{ints}
 use Rattle.wf_frame.specs.declared.settings.Config.{Config}
 use Rattle.wf_frame.specs.declared.classes.Class.{Class}
-use Rattle.wf_frame.specs.declared.notes.Ask.TheVariants.{Join, Leave, Rate, Tick, Pull, Arrive, Answer, Done, Sleep, Wake, Poll, Rx, Reap}
+use Rattle.wf_frame.specs.declared.notes.Ask.TheVariants.{Join, Leave, Rate, Tick, Pull, Arrive, Answer, Done, Sleep, Wake, Poll, Rx, Reap, Ampdu, Stop, Start}
+use Rattle.wf_frame.specs.declared.notes.Limits.{Limits}
 use Rattle.wf_frame.specs.declared.notes.Note.{Note}
 use Rattle.wf_frame.specs.declared.notes.Note.TheVariants.{Enqueue, Asked}
 use Rattle.wf_frame.specs.declared.notes.Refusal.{Refusal}
@@ -12,13 +13,14 @@ use Rattle.wf_frame.specs.declared.notes.Refusal.TheVariants.{Idle}
 use Rattle.wf_frame.specs.Settings.{IsInRange}
 use Rattle.wf_def_world.specs.World.{World, Exchange, opening, share, owed, pending_air, standing, is_live, exchange}
 use Rattle.wf_def_world.specs.CanSend.{is_ready, is_to_list, with_listings_of}
-use Rattle.wf_def_world.specs.Exchanges.{after_pick, picked_station}
+use Rattle.wf_def_world.specs.Exchanges.{after_pick, bounds_of, picked_station}
 use Rattle.wf_def_world.specs.Refusals.{refusal, refusals}
 use Rattle.wf_def_world.specs.Step.{Outcome, outcome_where_open, done_outcome, arrive_outcome, answer_outcome, pull_outcome, outcome_of, concerned_station, after_refusal, judged_outcome, step}
 use Rattle.wf_def_world.specs.Run.{Entry}
 use Rattle.wf_def_world.specs.Stretches.{world_at}
 use Rattle.wf_law_runs.specs.Numbers.{least_deficit, greatest_deficit, NumbersFit}
 use Rattle.wf_law_runs.specs.Windows.{OpenRises, EachOpen}
+use Rattle.wf_law_runs.proofs.Common.Picked.{picked_world}
 use Rattle.wf_law_runs.proofs.Deficits.Configs.{config_run}
 use Rattle.wf_law_runs.proofs.Deficits.KeptStep.{NoRow, no_row}
 use Rattle.wf_law_runs.proofs.Deficits.Numbers.{number_law}
@@ -31,7 +33,7 @@ use Rattle.wf_sched_refines.proofs.Charges.{receive_stands}
 use Rattle.wf_sched_refines.proofs.Members.{join_stands, gone_stands}
 use Rattle.wf_sched_refines.proofs.Listings.{concerned_stands, unconcerned_stands}
 use Rattle.wf_sched_refines.proofs.Picks.{pick_stands}
-use Rattle.wf_sched_refines.proofs.Unchanged.{enqueued_leaves, rate_leaves, tick_leaves, arrived_leaves, answered_leaves, slept_leaves, woken_leaves, credited_leaves, reaped_leaves}
+use Rattle.wf_sched_refines.proofs.Unchanged.{bounded_leaves, enqueued_leaves, rate_leaves, tick_leaves, arrived_leaves, answered_leaves, slept_leaves, woken_leaves, credited_leaves, reaped_leaves, stated_leaves, stopped_leaves, started_leaves}
 use Rattle.wf_sched_refines.proofs.Exchanges.{winner_stands, end_stands}
 
 -- ---- a call that is not refused
@@ -58,12 +60,13 @@ unfolding outcome_where_open
 open_leaves None w f k v h = h
 open_leaves (Some x) w f k v h = k x refl v h
 
-pulled_stands : (v u : SchedValue) (w : World) (c : Class) → SchedulerStandsFor v w → HasPulled w c v u →
-    SchedulerStandsFor u (pull_outcome w c).world
+pulled_stands : (v u : SchedValue) (w : World) (c : Class) (l : Limits) → SchedulerStandsFor v w →
+    HasPulled w c l v u → SchedulerStandsFor u (pull_outcome w c l).world
 unfolding pull_outcome
-pulled_stands v u w c h k = to _ u _ k.sent (winner_stands k.picked (after_pick w c) c
+pulled_stands v u w c l h k = to _ u _ k.sent (winner_stands k.picked (picked_world w c l) c
     (picked_station w c).winner
-    (picked_stands v k.picked w c h k.turned))
+    (bounded_leaves (after_pick w c) (bounds_of w.config c l) k.picked
+    (picked_stands v k.picked w c h k.turned)))
 
 -- a station that is not live has no open exchange
 none_open : (w : World) (s : ℕ) → EachOpen (λ x. is_live w x.station ≡ true) w.opened → is_live w s ≡ false →
@@ -83,7 +86,7 @@ done_stands (Asked (Leave s)) v u w rows rises each h k =
     to (everywhere (after_station_left s) v) u _ k (gone_stands v w s h)
 done_stands (Asked (Rate s rate)) v u w rows rises each h k = to v u _ k (rate_leaves w s rate v h)
 done_stands (Asked (Tick by)) v u w rows rises each h k = to v u _ k (tick_leaves w by v h)
-done_stands (Asked (Pull c)) v u w rows rises each h k = pulled_stands v u w c h k
+done_stands (Asked (Pull c l)) v u w rows rises each h k = pulled_stands v u w c l h k
 done_stands (Asked (Arrive e i)) v u w rows rises each h k =
     to v u _ k (open_leaves (exchange w e) w (λ x. arrive_outcome w x i)
     (λ x is. arrived_leaves w x e i is rises) v h)
@@ -94,6 +97,9 @@ done_stands (Asked (Done e heard air)) v u w rows rises each h k =
     to (with_charge_of w.config v air (exchange w e)) u _ k
     (ended_stands (exchange w e) v w e heard air refl rises h)
 done_stands (Asked (Sleep s)) v u w rows rises each h k = to v u _ k (slept_leaves w s v h)
+done_stands (Asked (Ampdu s octets)) v u w rows rises each h k = to v u _ k (stated_leaves w s octets v h)
+done_stands (Asked (Stop s)) v u w rows rises each h k = to v u _ k (stopped_leaves w s v h)
+done_stands (Asked (Start s)) v u w rows rises each h k = to v u _ k (started_leaves w s v h)
 done_stands (Asked (Wake s)) v u w rows rises each h k = to v u _ k (woken_leaves w s v h)
 done_stands (Asked (Poll s)) v u w rows rises each h k = to v u _ k (credited_leaves w s v h)
 done_stands (Asked (Rx s c air)) v u w rows rises each h k =
@@ -138,7 +144,7 @@ idle_stands false v u w c h k = picked_stands v u w c h k
 refused_stands : (note : Note) (r : Refusal) (v u : SchedValue) (w : World) → SchedulerStandsFor v w →
     IsRefused w note r v u → SchedulerStandsFor u (after_refusal w note r)
 unfolding after_refusal
-refused_stands (Asked (Pull c)) Idle v u w h k = idle_stands (w.config.pending == 1) v u w c h k
+refused_stands (Asked (Pull c l)) Idle v u w h k = idle_stands (w.config.pending == 1) v u w c h k
 refused_stands _ _ v u w h k = to v u w k h
 
 refusal_answered : (v u : SchedValue) (w : World) (note : Note) (r : Refusal) → SchedulerStandsFor v w →

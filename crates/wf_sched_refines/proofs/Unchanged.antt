@@ -9,10 +9,10 @@ use Rattle.wf_def_lists.specs.Table.{at, put, with_member}
 use Rattle.wf_def_rotation.specs.Rotation.{Rotation, has_key, in_order}
 use Rattle.wf_def_agreement.specs.Session.{Session}
 use Rattle.wf_def_agreement.specs.Receiver.{Receiver, score}
-use Rattle.wf_def_world.specs.World.{World, Station, Share, Tid, Queue, Exchange, Mpdu, Content, Frames, Request, no_share, is_live, receiver, exchange, on_station, with_station, on_tid, on_session, on_receiver, with_queues, on_share, on_queue, with_fate, with_frame_finished, with_frames_finished, with_exchange}
+use Rattle.wf_def_world.specs.World.{World, Bounds, Station, Share, Tid, Queue, Exchange, Mpdu, Content, Frames, Request, no_share, is_live, receiver, exchange, on_station, with_station, on_tid, on_session, on_receiver, with_queues, on_share, on_queue, with_fate, with_frame_finished, with_frames_finished, with_exchange, with_bounds}
 use Rattle.wf_def_world.specs.FlowQueues.{taken_for_tid}
 use Rattle.wf_def_world.specs.Exchanges.{after_arrival, after_tid_turn, without_credit, prepared_exchange, aggregate_of, with_failed_finished, with_settled, with_all_settled, after_done}
-use Rattle.wf_def_world.specs.Step.{after_tids_left, with_frame, rate_outcome, tick_outcome, enqueue_outcome, arrive_outcome, answer_outcome, sleep_outcome, wake_outcome, poll_outcome, reap_outcome}
+use Rattle.wf_def_world.specs.Step.{after_tids_left, with_frame, rate_outcome, tick_outcome, enqueue_outcome, arrive_outcome, answer_outcome, sleep_outcome, wake_outcome, poll_outcome, reap_outcome, ampdu_outcome, stop_outcome, start_outcome}
 use Rattle.wf_def_lists.specs.Lists.{IsOnce}
 use Rattle.wf_law_rules.proofs.Lemmas.Tables.{at_put_same, at_put_other}
 use Rattle.wf_law_runs.proofs.Deficits.Books.{cases_class, account, core, Account, Books, books, with_account, books_with_station, books_on_queue, books_finish, books_finish_all}
@@ -242,6 +242,18 @@ answered_leaves w x e known rises =
 pub slept_leaves : (w : World) (s : ℕ) → LeavesRotas w (sleep_outcome w s).world
 unfolding sleep_outcome
 slept_leaves w s = station_leaves w s _ (record { weight = λ x. refl; deficits = λ x c. refl })
+
+pub bounded_leaves : (w : World) (b : Bounds) → LeavesRotas w (with_bounds w b)
+bounded_leaves w b = leaves_same w (with_bounds w b) refl
+
+pub stated_leaves : (w : World) (s octets : ℕ) → LeavesRotas w (ampdu_outcome w s octets).world
+stated_leaves w s octets = station_leaves w s _ (record { weight = λ x. refl; deficits = λ x c. refl })
+
+pub stopped_leaves : (w : World) (s : ℕ) → LeavesRotas w (stop_outcome w s).world
+stopped_leaves w s = station_leaves w s _ (record { weight = λ x. refl; deficits = λ x c. refl })
+
+pub started_leaves : (w : World) (s : ℕ) → LeavesRotas w (start_outcome w s).world
+started_leaves w s = station_leaves w s _ (record { weight = λ x. refl; deficits = λ x c. refl })
 
 pub woken_leaves : (w : World) (s : ℕ) → LeavesRotas w (wake_outcome w s).world
 unfolding wake_outcome

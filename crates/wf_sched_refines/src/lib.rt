@@ -23,14 +23,14 @@ ghost use Rattle.wf_def_lists.specs.Bounds.{deepest_deficit};
 ghost use Rattle.wf_def_rotation.specs.Rotation.{Rotation, has_key};
 ghost use Rattle.wf_def_agreement.specs.Session.{Session};
 ghost use Rattle.wf_def_agreement.specs.Receiver.{Receiver};
-ghost use Rattle.wf_def_world.specs.World.{World, Station, Tid, Queue, Exchange, Content, opening as opening_world, share, owed, pending_air, standing, rotation, is_live, exchange, with_station, on_station, on_tid, on_session, on_receiver, on_queue, with_queues, with_fate, with_frame_finished, with_frames_finished, with_exchange, without_exchange};
+ghost use Rattle.wf_def_world.specs.World.{World, Bounds, Station, Tid, Queue, Exchange, Content, opening as opening_world, share, owed, pending_air, standing, rotation, is_live, exchange, with_station, on_station, on_tid, on_session, on_receiver, on_queue, with_queues, with_fate, with_frame_finished, with_frames_finished, with_exchange, without_exchange, with_bounds};
 ghost use Rattle.wf_def_world.specs.FlowQueues.{taken_for_tid};
 ghost use Rattle.wf_def_world.specs.CanSend.{is_ready, is_debtor, is_to_list, with_listing_in, with_listings_in, with_listings_of};
 ghost use Rattle.wf_def_world.specs.Exchanges.{Prepared, picked_station, after_pick, after_tid_turn, without_credit, aggregate_of, prepared_exchange, with_exchange_opened, charge_of, after_charge, after_done};
 ghost use Rattle.wf_def_world.specs.Refusals.{refusal};
 ghost use Rattle.wf_def_world.specs.Stretches.{world_at};
 ghost use Rattle.wf_def_world.specs.Run.{Entry};
-ghost use Rattle.wf_def_world.specs.Step.{join_outcome as joined_world, outcome_of, concerned_station, step, after_tids_left, without_listings, leave_outcome, rate_outcome, tick_outcome, with_frame, enqueue_outcome, send_outcome, pull_outcome_for, arrive_outcome, answer_outcome, done_outcome, sleep_outcome, wake_outcome, poll_outcome, rx_outcome, reap_outcome};
+ghost use Rattle.wf_def_world.specs.Step.{join_outcome as joined_world, outcome_of, concerned_station, step, after_tids_left, without_listings, leave_outcome, rate_outcome, tick_outcome, with_frame, enqueue_outcome, send_outcome, pull_outcome_for, arrive_outcome, answer_outcome, done_outcome, sleep_outcome, wake_outcome, poll_outcome, rx_outcome, reap_outcome, ampdu_outcome, stop_outcome, start_outcome};
 ghost use Rattle.wf_law_rules.specs.Renamed.{IsSame};
 ghost use Rattle.wf_law_runs.specs.Windows.{OpenRises, EachOpen};
 ghost use Rattle.wf_rotation.specs.Rotas.{is_ready as entry};
@@ -224,9 +224,9 @@ pub fn a_change_of_exchanges()
         LeavesRotas w (after_done w x heard content) }
 {}
 
-/// The calls that do not affect the scheduler, except that they may list a station at their end. `pulled` is
-/// the part of a pull after a station is picked: with the setting `pending`, the computed airtime of what the
-/// winner sends is taken off.
+/// The calls that do not affect the scheduler, except that they may list a station at their end. `bounded`
+/// and `pulled` are parts of a pull after a station is picked: the scheduler does not depend on the bounds,
+/// and with the setting `pending`, the computed airtime of what the winner sends is taken off.
 pub fn a_call_that_leaves_the_turns()
     ensures enqueued { (w : World) (s t flow len : ℕ) → LeavesRotas w (enqueue_outcome w s t flow len).world }
     ensures rate { (w : World) (s : ℕ) (rate : AskedRate) →
@@ -238,6 +238,10 @@ pub fn a_call_that_leaves_the_turns()
         OpenRises 0 w.exchanges w.opened → LeavesRotas w (arrive_outcome w x i).world }
     ensures answered { (w : World) (x : Exchange) (e : ℕ) → exchange w e ≡ Some x →
         OpenRises 0 w.exchanges w.opened → LeavesRotas w (answer_outcome w x).world }
+    ensures bounded { (w : World) (b : Bounds) → LeavesRotas w (with_bounds w b) }
+    ensures stated { (w : World) (s octets : ℕ) → LeavesRotas w (ampdu_outcome w s octets).world }
+    ensures stopped { (w : World) (s : ℕ) → LeavesRotas w (stop_outcome w s).world }
+    ensures started { (w : World) (s : ℕ) → LeavesRotas w (start_outcome w s).world }
     ensures slept { (w : World) (s : ℕ) → LeavesRotas w (sleep_outcome w s).world }
     ensures woken { (w : World) (s : ℕ) → LeavesRotas w (wake_outcome w s).world }
     ensures credited { (w : World) (s : ℕ) → LeavesRotas w (poll_outcome w s).world }

@@ -1,5 +1,5 @@
 -- Each clause is a law of Leaves.
-use Rattle.wf_queue_flows_refines.proofs.Leaves.{stands_same, clock_alone, station_alone, share_alone, session_alone, receiver_alone, rotation_alone, exchange_alone, closing_alone, opened_alone, pick_alone, turn_alone, listed_alone}
+use Rattle.wf_queue_flows_refines.proofs.Leaves.{stands_same, clock_alone, station_alone, share_alone, session_alone, receiver_alone, rotation_alone, exchange_alone, closing_alone, opened_alone, pick_alone, bounds_alone, turn_alone, listed_alone}
 use Rattle.wf_queue_flows_refines.proofs.the_rest_does_not_matter.Goals as goal
 
 pub returns-clause-same : goal.returns-clause-same
@@ -34,6 +34,9 @@ returns-clause-opened c = opened_alone
 
 pub returns-clause-pick : goal.returns-clause-pick
 returns-clause-pick c = pick_alone
+
+pub returns-clause-bounds : goal.returns-clause-bounds
+returns-clause-bounds c = bounds_alone
 
 pub returns-clause-turn : goal.returns-clause-turn
 returns-clause-turn c = turn_alone

@@ -1,5 +1,5 @@
 -- Each clause is a law of Unchanged or Exchanges.
-use Rattle.wf_sched_refines.proofs.Unchanged.{enqueued_leaves, rate_leaves, tick_leaves, arrived_leaves, answered_leaves, slept_leaves, woken_leaves, credited_leaves, reaped_leaves}
+use Rattle.wf_sched_refines.proofs.Unchanged.{enqueued_leaves, rate_leaves, tick_leaves, arrived_leaves, answered_leaves, slept_leaves, woken_leaves, credited_leaves, reaped_leaves, bounded_leaves, stated_leaves, stopped_leaves, started_leaves}
 use Rattle.wf_sched_refines.proofs.Exchanges.{winner_stands}
 use Rattle.wf_sched_refines.proofs.a_call_that_leaves_the_turns.Goals as goal
 
@@ -32,3 +32,15 @@ returns-clause-credited c = credited_leaves
 
 pub returns-clause-reaped : goal.returns-clause-reaped
 returns-clause-reaped c = reaped_leaves
+
+pub returns-clause-bounded : goal.returns-clause-bounded
+returns-clause-bounded c = bounded_leaves
+
+pub returns-clause-stated : goal.returns-clause-stated
+returns-clause-stated c = stated_leaves
+
+pub returns-clause-stopped : goal.returns-clause-stopped
+returns-clause-stopped c = stopped_leaves
+
+pub returns-clause-started : goal.returns-clause-started
+returns-clause-started c = started_leaves

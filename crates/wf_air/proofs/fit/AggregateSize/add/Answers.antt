@@ -2,7 +2,7 @@
 use Rattle.std.proofs.Common.{◌≡◌, ap, subst, ℕ, ◌+◌, ◌<◌, ◌≤◌, refl, arith}
 use Rattle.wf_def_air.specs.Fit.{overhead_octets, subframe_octets, padded}
 use Rattle.wf_air.specs.Sizes.{AggregateSizeValue}
-use Rattle.wf_air.proofs.Adding.{few, alone, refused_full, refused_long, refused_late, taken, stands_after}
+use Rattle.wf_air.proofs.Adding.{few, alone, alone_allowed, refused_full, refused_long, refused_late, taken, stands_after}
 use Rattle.wf_air.proofs.fit.AggregateSize.add.Goals as goal
 use Rattle.wf_air.proofs.fit.AggregateSize.add.Goals.{then-self-via-then-self, then-self-via-else-self+then-octets-self}
 
@@ -22,12 +22,12 @@ returns-then-self-clause-exact c = λ lens stands.
           w.if-octets-self.true
     ]
 
-pub returns-then-time-self-clause-exact : goal.returns-then-time-self-clause-exact
-returns-then-time-self-clause-exact c = λ lens stands.
+pub returns-then-time-time_with_next-clause-exact : goal.returns-then-time-time_with_next-clause-exact
+returns-then-time-time_with_next-clause-exact c = λ lens stands.
     let octets_is : c.next_multiple_of.result + overhead_octets + c.from.result
     ≡ padded c.self.inside.octets + subframe_octets c.args.len = omega arith in
     refused_late _ _ c.self.view_is c.self.invariant c.args.len _ octets_is lens stands
-    (subst (λ (n : ℕ). c.self.inside.cap < n) c.data_time-time.ensures.exact c.if-time-self.true)
+    (omega (arith, c.data_time-time.ensures.exact, c.time_with_next.ensures, c.if-time-time_with_next.true))
 
 pub returns-then-self-clause-first : goal.returns-then-self-clause-first
 returns-then-self-clause-first c = λ none.
@@ -39,7 +39,7 @@ returns-then-self-clause-first c = λ none.
           absurd (omega (
             arith,
             w.if-self.true,
-            c.self.invariant.agg_in,
+            c.self.invariant.frames_in,
             ap (λ (v : AggregateSizeValue). v.count) c.self.view_is,
             none,
           ))
@@ -47,16 +47,17 @@ returns-then-self-clause-first c = λ none.
           absurd (omega (arith, w.if-octets-self.true, short.0, short.1))
     ]
 
-pub returns-then-time-self-clause-first : goal.returns-then-time-self-clause-first
-returns-then-time-self-clause-first c = λ none.
+pub returns-then-time-time_with_next-clause-first : goal.returns-then-time-time_with_next-clause-first
+returns-then-time-time_with_next-clause-first c = λ none.
     let octets_is : c.next_multiple_of.result + overhead_octets + c.from.result
     ≡ padded c.self.inside.octets + subframe_octets c.args.len = omega arith in
     let short = alone _ _ c.self.view_is c.self.invariant c.args.len _ octets_is none c.requires.1 in
     absurd (omega (
       arith,
-      c.if-time-self.true,
+      c.if-time-time_with_next.true,
+      c.time_with_next.ensures,
       c.data_time-time.ensures.single short.0,
-      c.self.invariant.cap_in,
+      alone_allowed c.args.self.now none,
     ))
 
 pub returns-clause-exact : goal.returns-clause-exact
@@ -65,7 +66,7 @@ returns-clause-exact c = λ lens stands.
     ≡ padded c.self.inside.octets + subframe_octets c.args.len = omega arith in
     taken _ _ c.self.view_is c.self.invariant c.args.len _ octets_is lens stands c.if-self.false
     c.if-octets-self.false
-    (subst (λ (n : ℕ). n ≤ c.self.inside.cap) c.data_time-time.ensures.exact c.if-time-self.false)
+    (omega (arith, c.data_time-time.ensures.exact, c.time_with_next.ensures, c.if-time-time_with_next.false))
 
 pub returns-clause-taken : goal.returns-clause-taken
 returns-clause-taken c = λ lens stands _.
