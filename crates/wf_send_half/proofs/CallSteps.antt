@@ -8,8 +8,8 @@ use Rattle.wf_frame.specs.declared.settings.Config.{Config}
 use Rattle.wf_frame.specs.declared.classes.Class.{Class}
 use Rattle.wf_frame.specs.declared.notes.AskedRate.{AskedRate}
 use Rattle.wf_frame.specs.declared.notes.Note.TheVariants.{Asked}
-use Rattle.wf_frame.specs.declared.notes.Ask.TheVariants.{Join, Rate as Rates, Tick, Sleep, Wake, Poll, Rx, Reap}
-use Rattle.wf_frame.specs.declared.notes.ReplyNote.TheVariants.{Joined, Set, Now, Slept, Woken, Polled, Charged, Reaped, Refused}
+use Rattle.wf_frame.specs.declared.notes.Ask.TheVariants.{Join, Rate as Rates, Tick, Sleep, Wake, Poll, Rx, Reap, Ampdu, Stop, Start}
+use Rattle.wf_frame.specs.declared.notes.ReplyNote.TheVariants.{Joined, Set, Now, Slept, Woken, Polled, Charged, Reaped, Stopped, Started, Refused}
 use Rattle.wf_frame.specs.declared.notes.Refusal.TheVariants.{Debt, Nothing}
 use Rattle.wf_frame.specs.Frames.{FrameValue}
 use Rattle.wf_def_air.specs.Airtime.{Rate}
@@ -26,15 +26,15 @@ use Rattle.wf_sched_refines.specs.Standing.{everywhere, with_deficit_charged}
 use Rattle.wf_sched_refines.proofs.Charges.{debt_same}
 use Rattle.wf_send_parts.specs.Window.{WindowValue}
 use Rattle.wf_send_parts.specs.declared.stations.members.Member.{Member}
-use Rattle.wf_send_parts.specs.Members.{member, on_member, new_member, with_rate, with_receipt}
+use Rattle.wf_send_parts.specs.Members.{member, on_member, new_member, with_rate, with_ampdu, with_receipt}
 use Rattle.wf_send_parts.specs.declared.stations.sleepers.Sleeper.{Sleeper}
-use Rattle.wf_send_parts.specs.Sleepers.{sleeper, with_sleeper, awake}
+use Rattle.wf_send_parts.specs.Sleepers.{sleeper, with_sleeper, awake, woken}
 use Rattle.wf_send_half_model.specs.Half.{TransmitValue, pending_air_of}
 use Rattle.wf_send_half_model.specs.Standing.{StandsFor, Meets}
 use Rattle.wf_send_half_model.specs.Changes.{after_listing, after_listing_in, AreReset}
 use Rattle.wf_send_half_model.proofs.Readers.{pending_same, deficit_same}
 use Rattle.wf_send_half_model.proofs.Receipts.{after_receipt, rx_meets}
-use Rattle.wf_send_half_model.proofs.Whole.{tick_meets, reap_meets, rate_meets, sleep_meets, wake_meets, poll_meets, join_meets}
+use Rattle.wf_send_half_model.proofs.Whole.{tick_meets, reap_meets, rate_meets, ampdu_meets, stop_meets, start_meets, sleep_meets, wake_meets, poll_meets, join_meets}
 use Rattle.wf_send_half.specs.declared.half.Half.TheInside.{Inside}
 use Rattle.wf_send_half.proofs.Rows.{last_row, live_of, refused_call}
 use Rattle.wf_send_half.proofs.Worlds.{met_by}
@@ -81,6 +81,39 @@ module _ (v x : TransmitValue) (same : x ≡ v) (w : World) (bodies : ℕ → Fr
       (e ∙ ap (λ (r : Rate). on_member x.members s (with_rate r)) is))
       (rate_meets x w bodies at_x s asked (sym done))
 
+  pub ampdu_done : (s octets : ℕ) (members : List (Option Member)) →
+      members ≡ on_member x.members s (with_ampdu octets) → None ≡ refusal w (Asked (Ampdu s octets)) →
+      Meets w bodies (Asked (Ampdu s octets)) (record x { members = members }) Set
+  ampdu_done s octets members e done =
+      met_by (record x { members = on_member x.members s (with_ampdu octets) })
+      (record x { members = members }) w bodies (Asked (Ampdu s octets)) Set
+      (ap (λ (m : List (Option Member)). record x { members = m }) e)
+      (ampdu_meets x w bodies at_x s octets (sym done))
+
+  pub stop_done : (s : ℕ) (sleepers : List Sleeper) (y : TransmitValue) →
+      sleepers ≡ with_sleeper x.sleepers s (record (sleeper x.sleepers s) { stopped = true }) →
+      y ≡ after_listing (record x { sleepers = sleepers }) s → None ≡ refusal w (Asked (Stop s)) →
+      Meets w bodies (Asked (Stop s)) y Stopped
+  stop_done s sleepers y e listed done =
+      met_by (after_listing (record x {
+        sleepers = with_sleeper x.sleepers s
+            (record (sleeper x.sleepers s) { stopped = true });
+      }) s) y w bodies (Asked (Stop s)) Stopped
+      (listed ∙ ap (λ (z : List Sleeper). after_listing (record x { sleepers = z }) s) e)
+      (stop_meets x w bodies at_x s (sym done))
+
+  pub start_done : (s : ℕ) (sleepers : List Sleeper) (y : TransmitValue) →
+      sleepers ≡ with_sleeper x.sleepers s (record (sleeper x.sleepers s) { stopped = false }) →
+      y ≡ after_listing (record x { sleepers = sleepers }) s → None ≡ refusal w (Asked (Start s)) →
+      Meets w bodies (Asked (Start s)) y Started
+  start_done s sleepers y e listed done =
+      met_by (after_listing (record x {
+        sleepers = with_sleeper x.sleepers s
+            (record (sleeper x.sleepers s) { stopped = false });
+      }) s) y w bodies (Asked (Start s)) Started
+      (listed ∙ ap (λ (z : List Sleeper). after_listing (record x { sleepers = z }) s) e)
+      (start_meets x w bodies at_x s (sym done))
+
   pub sleep_done : (s : ℕ) (sleepers : List Sleeper) (y : TransmitValue) →
       sleepers ≡ with_sleeper x.sleepers s (record (sleeper x.sleepers s) { asleep = true }) →
       y ≡ after_listing (record x { sleepers = sleepers }) s → None ≡ refusal w (Asked (Sleep s)) →
@@ -94,12 +127,13 @@ module _ (v x : TransmitValue) (same : x ≡ v) (w : World) (bodies : ℕ → Fr
       (sleep_meets x w bodies at_x s (sym done))
 
   pub wake_done : (s : ℕ) (sleepers : List Sleeper) (y : TransmitValue) →
-      sleepers ≡ with_sleeper x.sleepers s awake → y ≡ after_listing (record x { sleepers = sleepers }) s →
-      None ≡ refusal w (Asked (Wake s)) →
+      sleepers ≡ with_sleeper x.sleepers s (woken (sleeper x.sleepers s)) →
+      y ≡ after_listing (record x { sleepers = sleepers }) s → None ≡ refusal w (Asked (Wake s)) →
       Meets w bodies (Asked (Wake s)) y Woken
   wake_done s sleepers y e listed done =
-      met_by (after_listing (record x { sleepers = with_sleeper x.sleepers s awake }) s) y w bodies
-      (Asked (Wake s)) Woken
+      met_by (after_listing (record x {
+        sleepers = with_sleeper x.sleepers s (woken (sleeper x.sleepers s));
+      }) s) y w bodies (Asked (Wake s)) Woken
       (listed ∙ ap (λ (z : List Sleeper). after_listing (record x { sleepers = z }) s) e)
       (wake_meets x w bodies at_x s (sym done))
 

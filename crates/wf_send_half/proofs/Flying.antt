@@ -4,7 +4,7 @@ use Rattle.std.proofs.lemmas.List.{map-append, length-map, length-take}
 use Rattle.std.specs.Prelude.{slice_get}
 use Rattle.wf_frame.specs.Frames.{FrameValue}
 use Rattle.wf_def_agreement.specs.Session.{Session, State, slot, with_state}
-use Rattle.wf_def_world.specs.World.{World, Mpdu, session, on_session}
+use Rattle.wf_def_world.specs.World.{World, Bounds, Mpdu, session, on_session}
 use Rattle.wf_send_parts.specs.Window.{WindowValue, WindowStandsFor as WindowStandsFor, IsNumber, HasOwnFrame, state_at, on_air}
 use Rattle.wf_send_parts.specs.Sent.{with_one_sent, with_all_sent}
 use Rattle.wf_send_parts.proofs.Sending.{all_sent_then}
@@ -149,13 +149,18 @@ module _ (v : TransmitValue) (bodies : ℕ → FrameValue) (s t : ℕ) (room : A
       (off_begins v a bodies s t h.parts h.live h.tid h.underway h.waiting)
 
   pub some_room : 1 ≤ length a.mpdus → 1 ≤ room.count
-  some_room some = omega (arith, some, h.room_is.lens.count, length-map a.mpdus (λ (m : Mpdu). m.len))
+  some_room some = omega (
+    arith,
+    some,
+    h.room_is.lens.count,
+    length-map a.mpdus (λ (m : Mpdu). m.len + a.world.config.overhead),
+  )
 
   module _ (w : World) (is : aggregate_of w s t ≡ a) where
     pub filled_flies : (u : TransmitValue) (pairs : List (ℕ × ℕ)) (charge : ℕ) →
         IsFlying u bodies s t v.exchanges a.mpdus (prepared_data s t a).world (length a.mpdus) pairs →
         ((lens : List ℕ) → SizeStandsFor room lens → charge
-        ≡ data_charge room.rate (aggregate_octets lens) room.wide) →
+        ≡ data_charge room.answers room.rate (aggregate_octets lens) room.wide) →
         IsPrepared u w bodies s t charge numbers pairs
     filled_flies u pairs charge flying air =
         subst (λ (b : Aggregate). IsPreparedAs u b bodies s t charge numbers pairs) (sym is) (record {
@@ -164,7 +169,8 @@ module _ (v : TransmitValue) (bodies : ℕ → FrameValue) (s t : ℕ) (room : A
               (prepared_data s t a).world) h.parts.others.exchanges
               (subst (λ (ms : List Mpdu). IsTakingOff u flying.world (with_all_sent pairs bodies) s t
               v.exchanges ms (prepared_data s t a).world) (drop_all a.mpdus) flying.off);
-          charge_is = air (lens_of a.mpdus) h.room_is.lens ∙ filled_charge v bodies s t room numbers a h;
+          charge_is = air (lens_of a.world.config.overhead a.mpdus) h.room_is.lens
+              ∙ filled_charge v bodies s t room numbers a h;
           numbers_are = h.on_air;
           pairs_are = flying.pairs_are ∙ ap pairs_of (take_all a.mpdus);
         })
@@ -179,9 +185,9 @@ quiet_now x v same z s t at due read none =
     ∙ ap (λ (y : WindowValue). is_some y.due) (sym at) ∙ sym read ∙ none
 
 -- if no request is due, the half fills an aggregate
-pub to_fill : (v : TransmitValue) (s t : ℕ) (h : HasToPrepare v s t) →
+pub to_fill : (v : TransmitValue) (s t : ℕ) (b : Bounds) (h : HasToPrepare v s t b) →
     is_some (window_of v.windows s t).due ≡ false → IsToFill v h.world h.bodies s t
-to_fill v s t h quiet = record {
+to_fill v s t b h quiet = record {
   turned = h.turned;
   quiet = sym (due_is (window_of v.windows s t) (session h.world s t) h.bodies
       (h.turned.parts.windows.all.stands s t h.turned.live h.turned.tid)) ∙ quiet;

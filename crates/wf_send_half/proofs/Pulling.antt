@@ -11,29 +11,34 @@ use Rattle.wf_frame.specs.declared.answers.Brief.{Brief}
 use Rattle.wf_frame.specs.declared.answers.Brief.TheVariants.{Send}
 use Rattle.wf_frame.specs.declared.classes.Class.{Class}
 use Rattle.wf_frame.specs.declared.notes.Ask.TheVariants.{Pull}
+use Rattle.wf_frame.specs.declared.notes.Limits.{Limits}
 use Rattle.wf_frame.specs.declared.notes.Note.TheVariants.{Asked}
 use Rattle.wf_frame.specs.declared.notes.Part.TheVariants.{Mpdus, Request as Starts}
 use Rattle.wf_frame.specs.declared.notes.ReplyNote.TheVariants.{Send as Sends, Refused as Refuses}
 use Rattle.wf_frame.specs.declared.notes.Refusal.TheVariants.{Idle, Full, Ahead}
+use Rattle.wf_frame.specs.Calls.{no_limits}
 use Rattle.wf_frame.specs.Answers.{reply_with}
 use Rattle.wf_frame.specs.Classes.{lower_tid, same_class}
 use Rattle.wf_frame.specs.Frames.{FrameValue}
-use Rattle.wf_def_lists.specs.Bounds.{greatest_air}
+use Rattle.wf_def_lists.specs.Bounds.{greatest_air, least_ampdu, greatest_ampdu}
 use Rattle.wf_def_lists.specs.Lengths.{greatest_body}
 use Rattle.wf_def_rotation.specs.Rotation.{Rotation, has_key}
 use Rattle.wf_def_agreement.specs.Session.{request_due}
 use Rattle.wf_def_lists.specs.Table.{at}
-use Rattle.wf_def_world.specs.World.{World, Station, no_station, is_live, station, session}
+use Rattle.wf_def_world.specs.World.{World, Bounds, Station, opening, no_station, is_live, station, session, on_station, with_station, on_share}
 use Rattle.wf_def_world.specs.CanSend.{can_give, can_send, has_waiting, request_open}
+use Rattle.wf_frame.specs.declared.settings.Config.{Config}
+use Rattle.wf_def_world.specs.Run.{Entry, world_after}
 use Rattle.wf_def_world.specs.Step.{step}
-use Rattle.wf_def_world.specs.Exchanges.{aggregate_of, picked_station, after_pick, sending_tid, after_tid_turn}
+use Rattle.wf_def_world.specs.Exchanges.{aggregate_of, picked_station, after_pick, bounds_of, sending_tid, after_tid_turn}
 use Rattle.wf_law_runs.specs.Rotations.{NoneReady}
 use Rattle.wf_law_runs.proofs.Deficits.Books.{books}
 use Rattle.wf_law_runs.proofs.Deficits.Kept.{IsKept}
 use Rattle.wf_law_runs.proofs.Deficits.KeptStep.{kept}
 use Rattle.wf_law_runs.proofs.Ranges.Law.{range_law}
+use Rattle.wf_law_runs.proofs.Ranges.Traits.{Traits, traits_step}
 use Rattle.wf_law_runs.proofs.Sent.Lengths.{IsStocked, stocked}
-use Rattle.wf_law_runs.proofs.Sent.Some.{IsApt, apt, apt_picked, apt_turned, some_filled}
+use Rattle.wf_law_runs.proofs.Sent.Some.{IsFit, fit, apt_picked, apt_turned, some_filled}
 use Rattle.wf_sched.specs.ClassRotas.{SchedValue, IsAfterPick, class_rota, with_class_rota, pick_of_class, deficit}
 use Rattle.wf_sched_refines.specs.Calls.{HasPickedInClass}
 use Rattle.wf_sched_refines.specs.Standing.{SchedulerStandsFor as TurnsStandFor, TellsReady}
@@ -49,53 +54,71 @@ use Rattle.wf_send_parts.specs.Windows.{window_of}
 use Rattle.wf_send_half_model.specs.Half.{TransmitValue, can_send_of, is_ahead_of}
 use Rattle.wf_send_half_model.specs.Standing.{IsMember, AreBoth, IsReached, Parts, StandsFor, Meets}
 use Rattle.wf_send_half_model.specs.Changes.{after_listing_in}
-use Rattle.wf_send_half_model.specs.Filling.{IsTurned}
+use Rattle.wf_send_half_model.specs.Filling.{after_pick_within, IsTurned}
 use Rattle.wf_send_half_model.specs.Pulling.{sending_tid_of, after_turn, open_next, after_sending}
 use Rattle.wf_send_half_model.proofs.Asked.{turn_sends, full_refused, ahead_refused, idle_refused, not_refused, none_ready_refused, some_ready_picked}
 use Rattle.wf_send_half_model.proofs.Meets.{refused_meets}
 use Rattle.wf_send_half_model.proofs.Openings.{opens_above, opens_small, opens_within}
-use Rattle.wf_send_half_model.proofs.Pulls.{pick_parts, idle_pull, idle_pull_stays}
+use Rattle.wf_send_half_model.proofs.Pulls.{pick_parts, pick_within_parts, idle_pull, idle_pull_stays}
 use Rattle.wf_send_half_model.proofs.Reached.{by_law, now_is}
 use Rattle.wf_send_half_model.proofs.Readers.{can_send_same, live_same, ready_same}
 use Rattle.wf_send_half_model.proofs.Sends.{winner_live, turn_tid, turned, request_meets, data_meets}
 use Rattle.wf_send_parts.specs.Sent.{with_all_sent}
 use Rattle.wf_send_half.specs.Replies.{bodies_sent}
-use Rattle.wf_send_half.specs.Pulls.{IsExponentSmall, IsSameButFrames, IsPreparedAs, TellsWhoIsReady, IsPickedInClass, HasToPrepare, IsRequestDue, IsData, IsPreparedFor, start_sent}
+use Rattle.wf_send_half.specs.Pulls.{HasLengths, TakesAggregates, IsSameButFrames, IsPreparedAs, TellsWhoIsReady, IsPickedInClass, HasToPrepare, IsRequestDue, IsData, IsPreparedFor, start_sent}
 
 -- ---- facts about the worlds of a run
 
-apt_reached : (w : World) → IsReached w → IsApt w
-apt_reached w r =
-    apt w (subst (λ (z : World). IsKept (books z)) (sym r.after) (kept w.config r.history r.in_range))
+traits_run : (h : List Entry) (w : World) → Traits w → Traits (world_after w h)
+unfolding world_after
+traits_run [] w i = i
+traits_run (e ∷ es) w i = traits_run es (step w e.1).world (traits_step w e.1 i)
+
+fit_reached : (w : World) → IsReached w → IsFit w
+fit_reached w r =
+    fit w (subst (λ (z : World). IsKept (books z)) (sym r.after) (kept w.config r.history r.in_range))
     (subst (IsStocked greatest_body) (sym r.after) (stocked greatest_body w.config r.history r.lengths.1))
+    (subst Traits (sym r.after) (traits_run r.history (opening w.config) (λ s. tt)))
 
-exponent_reached : (w : World) → IsReached w → (s : ℕ) → is_live w s ≡ true → (station w s).exponent ≤ 3
-exponent_reached w r s = by_law (λ u. is_live u s ≡ true → (station u s).exponent ≤ 3) w r
-    (λ m live. ((range_law w.config r.history r.in_range m).stations s live).exponent)
+-- the numbers of a station that bound its aggregates are in their ranges
+abbrev HasRanges : Station → Type 0
+HasRanges x = (x.exponent ≤ 3) × IfSome x.ampdu (λ n. (least_ampdu ≤ n) × (n ≤ greatest_ampdu))
 
-exponent_of : (m : Option Member) (o : Option Station) → AreBoth IsMember m o →
-    (is_some o ≡ true → (unwrap_or o no_station).exponent ≤ 3) → IfSome m (λ k. k.exponent ≤ 3)
-exponent_of None o h few = tt
-exponent_of (Some m) None h few = absurd h
-exponent_of (Some m) (Some x) h few = omega (arith, h.exponent, few refl)
+ranges_reached : (w : World) → IsReached w → (s : ℕ) → is_live w s ≡ true → HasRanges (station w s)
+ranges_reached w r s = by_law (λ u. is_live u s ≡ true → HasRanges (station u s)) w r
+    (λ m live. let k = (range_law w.config r.history r.in_range m).stations s live in (k.exponent, k.ampdu))
 
-pub exponent_small : (v : TransmitValue) (w : World) (bodies : ℕ → FrameValue) → StandsFor v w bodies →
-    (s : ℕ) → IsExponentSmall v s
-exponent_small v w bodies h s = exponent_of (member v.members s) (at None w.stations s)
-    (h.parts.others.stations.live s) (exponent_reached w h.reached s)
+lengths_of : (m : Option Member) (o : Option Station) → AreBoth IsMember m o →
+    (is_some o ≡ true → HasRanges (unwrap_or o no_station)) → IfSome m HasLengths
+lengths_of None o h has = tt
+lengths_of (Some m) None h has = absurd h
+lengths_of (Some m) (Some x) h has = (
+  omega (arith, h.exponent, (has refl).0),
+  subst (λ (o : Option ℕ). IfSome o (λ n. (least_ampdu ≤ n) × (n ≤ greatest_ampdu))) (sym h.ampdu)
+      (has refl).1,
+)
 
-upper_small : (o : Option Member) (c : Class) (b : Bool) → IfSome o (λ m. m.exponent ≤ 3) →
-    IfSome (option_map (with_upper c b) o) (λ m. m.exponent ≤ 3)
-upper_small None c b h = tt
-upper_small (Some m) c b h = h
+pub takes_aggregates : (v : TransmitValue) (w : World) (bodies : ℕ → FrameValue) → StandsFor v w bodies →
+    (s : ℕ) → TakesAggregates v s
+takes_aggregates v w bodies h s = lengths_of (member v.members s) (at None w.stations s)
+    (h.parts.others.stations.live s) (ranges_reached w h.reached s)
 
-turn_small : (v : TransmitValue) (s t : ℕ) (c : Class) → s < length v.members → IsExponentSmall v s →
-    IsExponentSmall (after_turn v s c t) s
-turn_small v s t c low h =
-    subst (λ (o : Option Member). IfSome o (λ m. m.exponent ≤ 3))
+upper_takes : (o : Option Member) (c : Class) (b : Bool) → IfSome o HasLengths →
+    IfSome (option_map (with_upper c b) o) HasLengths
+upper_takes None c b h = tt
+upper_takes (Some m) c b h = h
+
+turn_takes : (v : TransmitValue) (s t : ℕ) (c : Class) → s < length v.members → TakesAggregates v s →
+    TakesAggregates (after_turn v s c t) s
+turn_takes v s t c low h =
+    subst (λ (o : Option Member). IfSome o HasLengths)
     (sym (get_or-set_same v.members s (option_map (with_upper c (t == lower_tid c)) (member v.members s))
     None low))
-    (upper_small (member v.members s) c (t == lower_tid c) h)
+    (upper_takes (member v.members s) c (t == lower_tid c) h)
+
+turned_bounds : (w : World) (s : ℕ) (c : Class) (t : ℕ) → (after_tid_turn w s c t).bounds ≡ w.bounds
+unfolding after_tid_turn on_share on_station with_station
+turned_bounds w s c t = refl
 
 last_small : (xs : List Open) (y : Open) → All (λ o. o.charge ≤ greatest_air) (xs ++ y ∷ []) →
     y.charge ≤ greatest_air
@@ -109,34 +132,38 @@ sends_data : (b x y : Bool) → (if b then x else y) ≡ true → b ≡ false �
 sends_data true x y h quiet = absurd (cc quiet)
 sends_data false x y h quiet = h
 
-module _ {v u : TransmitValue} {w : World} {bodies : ℕ → FrameValue} {s : ℕ} {c : Class}
-    (h : IsPickedInClass v u w bodies s c) where
+module _ {v u : TransmitValue} {w : World} {bodies : ℕ → FrameValue} {s : ℕ} {c : Class} {l : Limits}
+    (h : IsPickedInClass v u w bodies s c l) where
+  -- the world after the pick, with the bounds of the pull
+  abbrev picked_in : World
+  picked_in = after_pick_within w c l
+
   abbrev picked_half : TransmitValue
   picked_half = record v { sched = u.sched }
 
-  pub tid_of : sending_tid_of u s c ≡ sending_tid (after_pick w c) s c
+  pub tid_of : sending_tid_of u s c ≡ sending_tid picked_in s c
   tid_of = ap (λ (z : TransmitValue). sending_tid_of z s c) h.others
-      ∙ turn_tid v w bodies h.stands c s h.won u.sched h.picked
+      ∙ turn_tid v w bodies h.stands c l s h.won u.sched h.picked
 
-  picked_parts : Parts picked_half (after_pick w c) bodies
-  picked_parts = pick_parts v w bodies c u.sched h.picked h.stands.parts
+  picked_parts : Parts picked_half picked_in bodies
+  picked_parts = pick_within_parts v w bodies c u.sched h.picked h.stands.parts l
 
   picked_within : s < length v.members
   picked_within = omega (
     arith,
-    picked_parts.others.turns.live s (winner_live v w bodies h.stands c s h.won),
+    picked_parts.others.turns.live s (winner_live v w bodies h.stands c l s h.won),
     picked_parts.others.stations.sized.0,
   )
 
   pub live_picked : is_some (member u.members s) ≡ true
   live_picked =
       ap (λ (z : TransmitValue). is_some (member z.members s)) h.others
-      ∙ live_same picked_half (after_pick w c) bodies s picked_parts
-      ∙ winner_live v w bodies h.stands c s h.won
+      ∙ live_same picked_half picked_in bodies s picked_parts
+      ∙ winner_live v w bodies h.stands c l s h.won
 
   module _ {t : ℕ} (t_is : t ≡ sending_tid_of u s c) {y : TransmitValue} (y_is : y ≡ after_turn u s c t) where
     abbrev turned_world : World
-    turned_world = after_tid_turn (after_pick w c) s c t
+    turned_world = after_tid_turn picked_in s c t
 
     own_tid : t ≡ sending_tid_of picked_half s c
     own_tid = t_is ∙ ap (λ (z : TransmitValue). sending_tid_of z s c) h.others
@@ -146,55 +173,65 @@ module _ {v u : TransmitValue} {w : World} {bodies : ℕ → FrameValue} {s : �
 
     pub turned_half : IsTurned y turned_world bodies s t
     turned_half = subst (λ (z : TransmitValue). IsTurned z turned_world bodies s t) (sym half_is)
-        (turned v w bodies h.stands c s h.won u.sched h.picked t own_tid)
+        (turned v w bodies h.stands c l s h.won u.sched h.picked t own_tid)
 
     can_send_turned : can_send turned_world s t ≡ true
     can_send_turned =
         sym (can_send_same y turned_world bodies s t turned_half.parts turned_half.live turned_half.tid)
         ∙ ap (λ (z : TransmitValue). can_send_of z s t) half_is
         ∙ ap (λ (k : ℕ). can_send_of picked_half s k) own_tid
-        ∙ turn_sends v w bodies h.stands c s h.won u.sched h.picked
+        ∙ turn_sends v w bodies h.stands c l s h.won u.sched h.picked
 
-    pub to_prepare : HasToPrepare y s t
-    to_prepare = record {
+    -- the half keeps its settings
+    same_settings : y.config ≡ w.config
+    same_settings = ap (λ (z : TransmitValue). z.config) half_is ∙ h.stands.parts.others.config
+
+    bounds_turned : (b : Bounds) → b ≡ bounds_of y.config c l → turned_world.bounds ≡ b
+    bounds_turned b b_is = turned_bounds picked_in s c t
+        ∙ ap (λ (k : Config). bounds_of k c l) (sym same_settings) ∙ sym b_is
+
+    pub to_prepare : (b : Bounds) → b ≡ bounds_of y.config c l → HasToPrepare y s t b
+    to_prepare b b_is = record {
       world = turned_world;
       bodies = bodies;
       turned = turned_half;
+      bounds = bounds_turned b b_is;
       some = λ quiet.
           some_filled turned_world s t turned_half.live
           (sends_data (request_due (session turned_world s t)) (not (request_open turned_world s t))
           (has_waiting turned_world s t || can_give turned_world s t) can_send_turned quiet)
-          (apt_turned (after_pick w c) s c t (apt_picked w c (apt_reached w h.stands.reached)));
+          (apt_turned picked_in s c t (apt_picked w c l (fit_reached w h.stands.reached)));
     }
 
     pub live_turned : is_some (member y.members s) ≡ true
     live_turned = live_same y turned_world bodies s turned_half.parts ∙ turned_half.live
 
-    pub exponent_turned : IsExponentSmall y s
-    exponent_turned = subst (λ (z : TransmitValue). IsExponentSmall z s) (sym half_is)
-        (turn_small picked_half s t c picked_within (exponent_small v w bodies h.stands s))
+    pub takes_turned : TakesAggregates y s
+    takes_turned = subst (λ (z : TransmitValue). TakesAggregates z s) (sym half_is)
+        (turn_takes picked_half s t c picked_within (takes_aggregates v w bodies h.stands s))
 
     -- ---- its transmissions
 
-    module _ (z : TransmitValue) (charge : ℕ) (pairs : List (ℕ × ℕ)) where
+    module _ (b : Bounds) (b_is : b ≡ bounds_of y.config c l) (z : TransmitValue) (charge : ℕ)
+        (pairs : List (ℕ × ℕ)) where
       request_sent : (start : ℕ) → IsRequestDue y z s t charge start →
-          Meets w bodies (Asked (Pull c))
+          Meets w bodies (Asked (Pull c l))
           (after_listing_in (after_sending z s t c charge (Starts_at start)) s c)
           (Sends z.exchanges s t charge (Starts start) (open_next z s t c charge (Starts_at start)).more)
       request_sent start k =
-          subst (λ (x : TransmitValue). Meets w bodies (Asked (Pull c))
+          subst (λ (x : TransmitValue). Meets w bodies (Asked (Pull c l))
           (after_listing_in (after_sending x s t c charge (Starts_at start)) s c)
           (Sends x.exchanges s t charge (Starts start) (open_next x s t c charge (Starts_at start)).more))
           (sym k.same)
-          (subst (λ (n : ℕ). Meets w bodies (Asked (Pull c))
+          (subst (λ (n : ℕ). Meets w bodies (Asked (Pull c l))
           (after_listing_in (after_sending y s t c charge (Starts_at n)) s c)
           (Sends y.exchanges s t charge (Starts n) (open_next y s t c charge (Starts_at n)).more))
           (sym k.start_is)
-          (request_meets v w bodies h.stands c s h.passes h.won t
+          (request_meets v w bodies h.stands c l s h.passes h.won t
           (t_is ∙ tid_of) y turned_half k.due charge k.charge_is))
 
-      data_sent : (numbers : List ℕ) → IsData y z s t charge pairs numbers →
-          Meets w (with_all_sent pairs bodies) (Asked (Pull c))
+      data_sent : (numbers : List ℕ) → IsData y z s t b charge pairs numbers →
+          Meets w (with_all_sent pairs bodies) (Asked (Pull c l))
           (after_listing_in (after_sending z s t c charge (Data numbers)) s c)
           (Sends z.exchanges s t charge (Mpdus pairs) (open_next z s t c charge (Data numbers)).more)
       data_sent numbers k =
@@ -202,45 +239,46 @@ module _ {v u : TransmitValue} {w : World} {bodies : ℕ → FrameValue} {s : �
           sym (due_is (window_of y.windows s t) (session turned_world s t) bodies
           (turned_half.parts.windows.all.stands s t turned_half.live turned_half.tid)) ∙ k.quiet in
           let p : IsPreparedAs z (aggregate_of turned_world s t) bodies s t charge numbers pairs =
-          k.prepared turned_world bodies (record { turned = turned_half; quiet = quiet }) in
-          subst (λ (l : List (ℕ × ℕ)). Meets w (with_all_sent pairs bodies) (Asked (Pull c))
+          k.prepared turned_world bodies (record { turned = turned_half; quiet = quiet })
+          (bounds_turned b b_is) in
+          subst (λ (ps : List (ℕ × ℕ)). Meets w (with_all_sent pairs bodies) (Asked (Pull c l))
           (after_listing_in (after_sending z s t c charge (Data numbers)) s c)
-          (Sends z.exchanges s t charge (Mpdus l) (open_next z s t c charge (Data numbers)).more))
+          (Sends z.exchanges s t charge (Mpdus ps) (open_next z s t c charge (Data numbers)).more))
           (sym p.pairs_are)
-          (data_meets v w bodies h.stands c s h.passes h.won t (t_is ∙ tid_of)
+          (data_meets v w bodies h.stands c l s h.passes h.won t (t_is ∙ tid_of)
           (aggregate_of turned_world s t) refl quiet z p.world (with_all_sent pairs bodies) p.off charge
           numbers p.charge_is p.numbers_are)
 
-      part_sent : (sending : Sending) → IsPreparedFor y z s t charge pairs sending →
+      part_sent : (sending : Sending) → IsPreparedFor y z s t b charge pairs sending →
           Meets w (bodies_sent (reply_with (Send z.exchanges s t charge (start_sent sending)
-          (open_next z s t c charge sending).more) pairs []) bodies) (Asked (Pull c))
+          (open_next z s t c charge sending).more) pairs []) bodies) (Asked (Pull c l))
           (after_listing_in (after_sending z s t c charge sending) s c)
           (reply_with (Send z.exchanges s t charge (start_sent sending)
           (open_next z s t c charge sending).more) pairs [])
       part_sent (Data numbers) k = data_sent numbers k
       part_sent (Starts_at start) k = request_sent start k
 
-      pub pull_done : (sending : Sending) → IsPreparedFor y z s t charge pairs sending → {a : TransmitValue} →
+      pub pull_done : (sending : Sending) → IsPreparedFor y z s t b charge pairs sending → {a : TransmitValue} →
           a ≡ after_listing_in (after_sending z s t c charge sending) s c →
           {brief : Brief} → brief ≡ Send z.exchanges s t charge (start_sent sending)
           (open_next z s t c charge sending).more →
-          Meets w (bodies_sent (reply_with brief pairs []) bodies) (Asked (Pull c)) a
+          Meets w (bodies_sent (reply_with brief pairs []) bodies) (Asked (Pull c l)) a
           (reply_with brief pairs [])
       pull_done sending k {a} a_is {brief} brief_is =
           subst (λ (x : TransmitValue). Meets w (bodies_sent (reply_with brief pairs []) bodies)
-          (Asked (Pull c)) x (reply_with brief pairs [])) (sym a_is)
-          (subst (λ (b : Brief). Meets w (bodies_sent (reply_with b pairs []) bodies) (Asked (Pull c))
+          (Asked (Pull c l)) x (reply_with brief pairs [])) (sym a_is)
+          (subst (λ (b : Brief). Meets w (bodies_sent (reply_with b pairs []) bodies) (Asked (Pull c l))
           (after_listing_in (after_sending z s t c charge sending) s c) (reply_with b pairs []))
           (sym brief_is)
           (part_sent sending k))
 
       -- its charge is small, as that of each open exchange in the world of a run
-      pub charge_small : (sending : Sending) → IsPreparedFor y z s t charge pairs sending →
+      pub charge_small : (sending : Sending) → IsPreparedFor y z s t b charge pairs sending →
           charge ≤ greatest_air
       charge_small sending k =
           let a : TransmitValue = after_listing_in (after_sending z s t c charge sending) s c in
           last_small z.opened (open_next z s t c charge sending)
-          (opens_small a (step w (Asked (Pull c))).world _ (pull_done sending k refl refl).stands)
+          (opens_small a (step w (Asked (Pull c l))).world _ (pull_done sending k refl refl).stands)
 
     -- its number is above those of all open exchanges
     pub opens_next : {z : TransmitValue} → IsSameButFrames y z → All (λ o. o.number < z.exchanges) z.opened
@@ -261,26 +299,26 @@ abbrev open_in : TransmitValue → Class → ℕ
 open_in v c = count_by (λ x. same_class x.class c) v.opened
 
 pub pull_full : {x v : TransmitValue} → x ≡ v → {w : World} {bodies : ℕ → FrameValue} →
-    StandsFor v w bodies → {c : Class} {n : ℕ} → n ≡ open_in x c → x.config.inflight ≤ n →
-    Meets w bodies (Asked (Pull c)) v (Refuses (Full n))
-pull_full {x} {v} same {w} {bodies} h {c} {n} is full =
+    StandsFor v w bodies → {c : Class} {l : Limits} {n : ℕ} → n ≡ open_in x c → x.config.inflight ≤ n →
+    Meets w bodies (Asked (Pull c l)) v (Refuses (Full n))
+pull_full {x} {v} same {w} {bodies} h {c} {l} {n} is full =
     let at_x : StandsFor x w bodies = subst (λ (z : TransmitValue). StandsFor z w bodies) (sym same) h in
-    subst (λ (z : TransmitValue). Meets w bodies (Asked (Pull c)) z (Refuses (Full n))) same
-    (subst (λ (k : ℕ). Meets w bodies (Asked (Pull c)) x (Refuses (Full k))) (sym is)
-    (refused_meets x w bodies (Asked (Pull c)) (Full (open_in x c)) at_x
-    (full_refused x w bodies c at_x.parts (many_open x.config.inflight n (open_in x c) full is))
+    subst (λ (z : TransmitValue). Meets w bodies (Asked (Pull c l)) z (Refuses (Full n))) same
+    (subst (λ (k : ℕ). Meets w bodies (Asked (Pull c l)) x (Refuses (Full k))) (sym is)
+    (refused_meets x w bodies (Asked (Pull c l)) (Full (open_in x c)) at_x
+    (full_refused x w bodies c l at_x.parts (many_open x.config.inflight n (open_in x c) full is))
     (λ e. cc e)))
 
 -- refused as Ahead
 pub pull_ahead : {x v : TransmitValue} → x ≡ v → {w : World} {bodies : ℕ → FrameValue} →
-    StandsFor v w bodies → {c : Class} {n k : ℕ} → n ≡ open_in x c → n < x.config.inflight →
-    is_ahead_of x ≡ true → k ≡ airtime_of x.opened → Meets w bodies (Asked (Pull c)) v (Refuses (Ahead k))
-pull_ahead {x} {v} same {w} {bodies} h {c} {n} {k} is less ahead owed =
+    StandsFor v w bodies → {c : Class} {l : Limits} {n k : ℕ} → n ≡ open_in x c → n < x.config.inflight →
+    is_ahead_of x ≡ true → k ≡ airtime_of x.opened → Meets w bodies (Asked (Pull c l)) v (Refuses (Ahead k))
+pull_ahead {x} {v} same {w} {bodies} h {c} {l} {n} {k} is less ahead owed =
     let at_x : StandsFor x w bodies = subst (λ (z : TransmitValue). StandsFor z w bodies) (sym same) h in
-    subst (λ (z : TransmitValue). Meets w bodies (Asked (Pull c)) z (Refuses (Ahead k))) same
-    (subst (λ (m : ℕ). Meets w bodies (Asked (Pull c)) x (Refuses (Ahead m))) (sym owed)
-    (refused_meets x w bodies (Asked (Pull c)) (Ahead (airtime_of x.opened)) at_x
-    (ahead_refused x w bodies c at_x.parts (few_open x.config.inflight n (open_in x c) less is) ahead)
+    subst (λ (z : TransmitValue). Meets w bodies (Asked (Pull c l)) z (Refuses (Ahead k))) same
+    (subst (λ (m : ℕ). Meets w bodies (Asked (Pull c l)) x (Refuses (Ahead m))) (sym owed)
+    (refused_meets x w bodies (Asked (Pull c l)) (Ahead (airtime_of x.opened)) at_x
+    (ahead_refused x w bodies c l at_x.parts (few_open x.config.inflight n (open_in x c) less is) ahead)
     (λ e. cc e)))
 
 -- ---- the pick
@@ -306,14 +344,14 @@ module _ {x v : TransmitValue} (same : x ≡ v) {w : World} {bodies : ℕ → Fr
       ∙ ready_same x w bodies c s at_x.parts
 
   -- with the setting `pending`, a pull that finds no ready station changes nothing
-  pub pull_stays : (idle : Bool) → ((idle ≡ true) ↔ NoneReady w c) →
+  pub pull_stays : {l : Limits} → (idle : Bool) → ((idle ≡ true) ↔ NoneReady w c) →
       ((x.config.pending == 1) && idle) ≡ true →
-      Meets w bodies (Asked (Pull c)) v (Refuses Idle)
-  pull_stays idle means stops =
+      Meets w bodies (Asked (Pull c l)) v (Refuses Idle)
+  pull_stays {l} idle means stops =
       let both = and_parts (x.config.pending == 1) idle stops in
-      subst (λ (z : TransmitValue). Meets w bodies (Asked (Pull c)) z (Refuses Idle)) same
-      (idle_pull_stays x w bodies at_x c both.0
-      (none_ready_refused x w bodies c at_x.parts few behind (means.0 both.1)))
+      subst (λ (z : TransmitValue). Meets w bodies (Asked (Pull c l)) z (Refuses Idle)) same
+      (idle_pull_stays x w bodies at_x c l both.0
+      (none_ready_refused x w bodies c l at_x.parts few behind (means.0 both.1)))
 
   winner_is : (picked_station w c).winner ≡ (pick_of_class x.sched c ready).winner
   winner_is = sym (pick_same x.sched w c ready at_x.parts.others.turns tells).winner
@@ -323,11 +361,11 @@ module _ {x v : TransmitValue} (same : x ≡ v) {w : World} {bodies : ℕ → Fr
     has_picked : HasPickedInClass w c x.sched turns
     has_picked = record { ready = ready; tells = tells; turned = after; others = others }
 
-    pub picked_one : {s : ℕ} → Some s ≡ (pick_of_class x.sched c ready).winner →
-        IsPickedInClass x (record x { sched = turns }) w bodies s c
-    picked_one {s} is = record {
+    pub picked_one : (l : Limits) → {s : ℕ} → Some s ≡ (pick_of_class x.sched c ready).winner →
+        IsPickedInClass x (record x { sched = turns }) w bodies s c l
+    picked_one l {s} is = record {
       stands = at_x;
-      passes = not_refused x w bodies c at_x.parts few behind s (winner_is ∙ sym is);
+      passes = not_refused x w bodies c l at_x.parts few behind s (winner_is ∙ sym is);
       won = winner_is ∙ sym is;
       picked = has_picked;
       others = refl;
@@ -343,7 +381,7 @@ module _ {x v : TransmitValue} (same : x ≡ v) {w : World} {bodies : ℕ → Fr
         let live : is_live w s ≡ true =
         sym (live_same x w bodies s at_x.parts)
         ∙ live_same (record x { sched = turns }) (after_pick w c) bodies s parts
-        ∙ winner_live x w bodies at_x c s won in
+        ∙ winner_live x w bodies at_x c no_limits s won in
         let r : IsReached w = at_x.reached in
         let back = sym (now_is w r) in
         let low : negsuc (2 ^ 62 - 1) ≤ℤ (deficit x.sched c s -ℤ pos air) =
@@ -357,18 +395,18 @@ module _ {x v : TransmitValue} (same : x ≡ v) {w : World} {bodies : ℕ → Fr
         rises d e n m is low = omega (arith, ints)
 
     -- No station is picked. With the setting `pending` this cannot be, as some station is ready.
-    pub picked_none : (idle : Bool) → ((idle ≡ true) ↔ NoneReady w c) →
+    pub picked_none : {l : Limits} → (idle : Bool) → ((idle ≡ true) ↔ NoneReady w c) →
         ((x.config.pending == 1) && idle) ≡ false → None ≡ (pick_of_class x.sched c ready).winner →
-        Meets w bodies (Asked (Pull c)) (record x { sched = turns }) (Refuses Idle)
-    picked_none idle means goes is = by_setting (x.config.pending == 1) refl goes
+        Meets w bodies (Asked (Pull c l)) (record x { sched = turns }) (Refuses Idle)
+    picked_none {l} idle means goes is = by_setting (x.config.pending == 1) refl goes
       where
         none : (picked_station w c).winner ≡ None
         none = winner_is ∙ sym is
 
         by_setting : (b : Bool) → (x.config.pending == 1) ≡ b → (b && idle) ≡ false →
-            Meets w bodies (Asked (Pull c)) (record x { sched = turns }) (Refuses Idle)
-        by_setting false off k = idle_pull x w bodies at_x c turns off
-            (idle_refused x w bodies c at_x.parts few behind none) has_picked
+            Meets w bodies (Asked (Pull c l)) (record x { sched = turns }) (Refuses Idle)
+        by_setting false off k = idle_pull x w bodies at_x c l turns off
+            (idle_refused x w bodies c l at_x.parts few behind none) has_picked
         by_setting true on k = absurd (some_ready_picked w c at_x.reached
             (λ nobody. let no : true ≡ false = sym (means.1 nobody) ∙ k in cc no) none)
 

@@ -13,12 +13,12 @@ use Rattle.wf_def_lists.specs.Bounds.{greatest_air, deepest_deficit}
 use Rattle.std.specs.Result.{result_err}
 use Rattle.wf_frame.specs.declared.notes.ReplyNote.TheVariants.{Refused}
 use Rattle.wf_def_world.specs.World.{World, is_live, station, share}
-use Rattle.wf_def_world.specs.Refusals.{first_refusal, is_bad_station, is_within, refusals, refusal}
+use Rattle.wf_def_world.specs.Refusals.{first_refusal, is_bad_station, is_within, has_live_credit, refusals, refusal}
 use Rattle.wf_send_parts.specs.Members.{member}
 use Rattle.wf_send_parts.specs.Sleepers.{sleeper}
-use Rattle.wf_send_half_model.specs.Half.{TransmitValue}
+use Rattle.wf_send_half_model.specs.Half.{TransmitValue, has_live_credit_of}
 use Rattle.wf_send_half_model.specs.Standing.{StandsFor, Meets}
-use Rattle.wf_send_half_model.proofs.Readers.{live_same}
+use Rattle.wf_send_half_model.proofs.Readers.{live_same, live_credit_same}
 use Rattle.wf_send_half_model.proofs.Meets.{refused_meets}
 
 -- ---- one row
@@ -78,11 +78,15 @@ module _ (v : TransmitValue) (w : World) (bodies : ℕ → FrameValue) (h : Stan
   there rows e = row_passes (not (is_some (member v.members s)))
       (not (is_live w s)) NoStation rows absent_same e
 
-  pub credit_same : is_live w s ≡ true → (station w s).credit ≡ (sleeper v.sleepers s).credit
-  credit_same live = sym (h.parts.others.stations.credit s live)
+  -- whether a credit blocks a poll
+  pub credit_same : is_live w s ≡ true → has_live_credit w s ≡ has_live_credit_of v s
+  credit_same live = sym (live_credit_same v w bodies s h.parts live)
 
   pub asleep_same : is_live w s ≡ true → (station w s).asleep ≡ (sleeper v.sleepers s).asleep
   asleep_same live = sym (h.parts.others.stations.asleep s live)
+
+  pub stopped_same : is_live w s ≡ true → (station w s).stopped ≡ (sleeper v.sleepers s).stopped
+  stopped_same live = sym (h.parts.others.stations.stopped s live)
 
   pub live_of : is_some (member v.members s) ≡ true → is_live w s ≡ true
   live_of is = sym (live_same v w bodies s h.parts) ∙ is

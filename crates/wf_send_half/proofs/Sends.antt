@@ -10,6 +10,7 @@ use Rattle.wf_frame.specs.declared.answers.Brief.{Brief}
 use Rattle.wf_frame.specs.declared.answers.Brief.TheVariants as brief
 use Rattle.wf_frame.specs.declared.classes.Class.{Class}
 use Rattle.wf_frame.specs.declared.notes.Ask.TheVariants.{Pull}
+use Rattle.wf_frame.specs.declared.notes.Limits.{Limits}
 use Rattle.wf_frame.specs.declared.notes.Note.TheVariants.{Asked}
 use Rattle.wf_frame.specs.declared.notes.Part.{Part}
 use Rattle.wf_frame.specs.declared.notes.Refusal.{Refusal}
@@ -18,13 +19,14 @@ use Rattle.wf_frame.specs.declared.notes.ReplyNote.TheVariants.{Send, Refused}
 use Rattle.wf_frame.specs.declared.settings.Config.{Config}
 use Rattle.wf_def_world.specs.World.{World, Exchange, rotation, is_live}
 use Rattle.wf_def_world.specs.CanSend.{is_ready}
-use Rattle.wf_def_world.specs.Exchanges.{picked_station, sending_tid, after_pick, after_tid_turn, prepared_exchange, exchange_of, part_of}
+use Rattle.wf_def_world.specs.Exchanges.{picked_station, sending_tid, after_tid_turn, prepared_exchange, exchange_of, part_of}
 use Rattle.wf_def_world.specs.Refusals.{refusal, refusals}
 use Rattle.wf_def_world.specs.Step.{Outcome, outcome_of, pull_outcome, pull_outcome_for, send_outcome, step}
 use Rattle.wf_law_runs.proofs.Deficits.KeptStep.{NoRow, no_row}
 use Rattle.wf_law_runs.proofs.Windows.Opened.{pick_ready, left_true}
 use Rattle.wf_send_half_model.specs.Half.{TransmitValue, is_ready_of}
 use Rattle.wf_send_half_model.specs.Standing.{StandsFor, Meets}
+use Rattle.wf_send_half_model.specs.Filling.{after_pick_within}
 use Rattle.wf_send_half_model.proofs.Pulled.{ready_pulled}
 use Rattle.wf_send_half_model.proofs.Reached.{step_done, step_refused}
 use Rattle.wf_send_half_model.proofs.Readers.{live_same}
@@ -49,9 +51,9 @@ pub record HasSent (winner : Option ℕ) (reply : ReplyNote) : Type 0 where
   pub is : reply ≡ Send exchange station tid air part more
 
 -- the reply of a pull: a station sends, or the pull is refused
-pub data Says (w : World) (c : Class) (reply : ReplyNote) : Type 0 where
-  Sends : HasSent (picked_station w c).winner reply → Says w c reply
-  Refuses : (r : Refusal) → refusal w (Asked (Pull c)) ≡ Some r → reply ≡ Refused r → Says w c reply
+pub data Says (w : World) (c : Class) (l : Limits) (reply : ReplyNote) : Type 0 where
+  Sends : HasSent (picked_station w c).winner reply → Says w c l reply
+  Refuses : (r : Refusal) → refusal w (Asked (Pull c l)) ≡ Some r → reply ≡ Refused r → Says w c l reply
 
 sent_for : (w : World) (c : Class) (winner : Option ℕ) → is_none winner ≡ false →
     HasSent winner (pull_outcome_for w c winner).reply
@@ -71,27 +73,28 @@ sent_for w c (Some s) e =
       is = refl;
     }
 
-sent_by : (w : World) (c : Class) → is_none (picked_station w c).winner ≡ false →
-    HasSent (picked_station w c).winner (outcome_of w (Asked (Pull c))).reply
+sent_by : (w : World) (c : Class) (l : Limits) → is_none (picked_station w c).winner ≡ false →
+    HasSent (picked_station w c).winner (outcome_of w (Asked (Pull c l))).reply
 unfolding outcome_of pull_outcome
-sent_by w c e = sent_for (after_pick w c) c (picked_station w c).winner e
+sent_by w c l e = sent_for (after_pick_within w c l) c (picked_station w c).winner e
 
-pub says : (w : World) (c : Class) → Says w c (step w (Asked (Pull c))).reply
-says w c = from (refusal w (Asked (Pull c))) refl
+pub says : (w : World) (c : Class) (l : Limits) → Says w c l (step w (Asked (Pull c l))).reply
+says w c l = from (refusal w (Asked (Pull c l))) refl
   where
-    from : (o : Option Refusal) → refusal w (Asked (Pull c)) ≡ o → Says w c (step w (Asked (Pull c))).reply
-    from (Some r) e = Refuses r e (ap (λ (o : Outcome). o.reply) (step_refused w (Asked (Pull c)) r e))
+    from : (o : Option Refusal) → refusal w (Asked (Pull c l)) ≡ o →
+        Says w c l (step w (Asked (Pull c l))).reply
+    from (Some r) e = Refuses r e (ap (λ (o : Outcome). o.reply) (step_refused w (Asked (Pull c l)) r e))
     from None e =
-        let rows : NoRow (refusals w (Asked (Pull c))) = no_row (refusals w (Asked (Pull c))) e in
-        subst (λ (x : ReplyNote). Says w c x) (sym (ap (λ (o : Outcome). o.reply)
-        (step_done w (Asked (Pull c)) e))) (Sends (sent_by w c rows.1.1.0))
+        let rows : NoRow (refusals w (Asked (Pull c l))) = no_row (refusals w (Asked (Pull c l))) e in
+        subst (λ (x : ReplyNote). Says w c l x) (sym (ap (λ (o : Outcome). o.reply)
+        (step_done w (Asked (Pull c l)) e))) (Sends (sent_by w c l rows.1.1.0))
 
 -- the station that sends was picked
-pub sender_won : (w : World) (c : Class) (e s t air : ℕ) (part : Part) (more : Bool) →
-    Send e s t air part more ≡ (step w (Asked (Pull c))).reply → (picked_station w c).winner ≡ Some s
-sender_won w c e s t air part more is = from (says w c)
+pub sender_won : (w : World) (c : Class) (l : Limits) (e s t air : ℕ) (part : Part) (more : Bool) →
+    Send e s t air part more ≡ (step w (Asked (Pull c l))).reply → (picked_station w c).winner ≡ Some s
+sender_won w c l e s t air part more is = from (says w c l)
   where
-    from : Says w c (step w (Asked (Pull c))).reply → (picked_station w c).winner ≡ Some s
+    from : Says w c l (step w (Asked (Pull c l))).reply → (picked_station w c).winner ≡ Some s
     from (Refuses r h how) = absurd (let k = is ∙ how in cc k)
     from (Sends sent) =
         let k : Send e s t air part more ≡ Send sent.exchange sent.station sent.tid sent.air sent.part
@@ -103,13 +106,13 @@ sender_won w c e s t air part more is = from (says w c)
 
 -- after a refused pull all flags are right, after any other all except that of the station that sends
 module _ (v y : TransmitValue) (r : Flags) (flags : AreFlags v r) (w : World) (bodies after : ℕ → FrameValue)
-    (c : Class) (reply : ReplyNote) (h : StandsFor v w bodies)
-    (m : Meets w after (Asked (Pull c)) y reply) where
+    (c : Class) (l : Limits) (reply : ReplyNote) (h : StandsFor v w bodies)
+    (m : Meets w after (Asked (Pull c l)) y reply) where
   pub nearly_pulled : (Q : ℕ → Class → Type 0) →
       ((s : ℕ) (d : Class) → (picked_station w c).winner ≡ Some s → d ≡ c → Q s d) → AreNearly y r Q
   nearly_pulled Q left =
-      nearly v y r flags w bodies after (Asked (Pull c)) reply h m Q
-      (λ s d out. ready_pulled w c h.reached s d (λ won same. out (left s d won (sym same))))
+      nearly v y r flags w bodies after (Asked (Pull c l)) reply h m Q
+      (λ s d out. ready_pulled w c l h.reached s d (λ won same. out (left s d won (sym same))))
 
 -- ---- the station that is picked
 
@@ -166,29 +169,31 @@ send_only brief.Woken pairs e s t air part more is = absurd (cc is)
 send_only (brief.Polled class) pairs e s t air part more is = absurd (cc is)
 send_only (brief.Charged deficit) pairs e s t air part more is = absurd (cc is)
 send_only (brief.Reaped id fate) pairs e s t air part more is = absurd (cc is)
+send_only brief.Stopped pairs e s t air part more is = absurd (cc is)
+send_only brief.Started pairs e s t air part more is = absurd (cc is)
 send_only (brief.Refused refusal) pairs e s t air part more is = absurd (cc is)
 
 -- ---- a whole pull
 
 -- x is the half before the pull, with the flags r, and u is the half after it
-module _ (x : TransmitValue) (r : Flags) (h : IsTracked x r) (c : Class) (b : Brief) (pairs : List (ℕ × ℕ))
-    (u : TransmitValue) (meets : Leaves x u (bodies_sent (reply_with b pairs [])) (Asked (Pull c))
+module _ (x : TransmitValue) (r : Flags) (h : IsTracked x r) (c : Class) (l : Limits) (b : Brief)
+    (pairs : List (ℕ × ℕ)) (u : TransmitValue) (meets : Leaves x u (bodies_sent (reply_with b pairs [])) (Asked (Pull c l))
     (reply_with b pairs [])) where
   -- each pulled frame is sent again
   abbrev sent : (ℕ → FrameValue) → ℕ → FrameValue
   sent = bodies_sent (reply_with b pairs [])
 
-  met : Meets h.some.world (sent h.some.bodies) (Asked (Pull c)) u (reply_with b pairs [])
+  met : Meets h.some.world (sent h.some.bodies) (Asked (Pull c l)) u (reply_with b pairs [])
   met = meets h.some.world h.some.bodies h.some.stands
 
   pub pulled_unheard : HasUnheardWorld u
-  pulled_unheard = kept_unheard x u sent (Asked (Pull c)) (reply_with b pairs []) meets tt h.some
+  pulled_unheard = kept_unheard x u sent (Asked (Pull c l)) (reply_with b pairs []) meets tt h.some
 
   -- a station sends
   module _ (e s t air : ℕ) (request : Option ℕ) (more : Bool)
       (is : b ≡ brief.Send e s t air request more) where
     won : (picked_station h.some.world c).winner ≡ Some s
-    won = sender_won h.some.world c e s t air _ more
+    won = sender_won h.some.world c l e s t air _ more
         (sym (ap (λ (z : Brief). reply_with z pairs []) is) ∙ met.reply)
 
     pub sender_low : s < x.config.stations
@@ -196,7 +201,7 @@ module _ (x : TransmitValue) (r : Flags) (h : IsTracked x r) (c : Class) (b : Br
 
     pub sender_within : s < u.config.stations
     sender_within = subst (λ (z : Config). s < z.stations)
-        (same_config x u h.some.world h.some.bodies (sent h.some.bodies) (Asked (Pull c)) _ h.some.stands
+        (same_config x u h.some.world h.some.bodies (sent h.some.bodies) (Asked (Pull c l)) _ h.some.stands
         met)
         sender_low
 
@@ -207,7 +212,7 @@ module _ (x : TransmitValue) (r : Flags) (h : IsTracked x r) (c : Class) (b : Br
     tracked_sender z set = subst (IsTracked u) (sym set) (record {
       some = pulled_unheard;
       flags = set_alone u r s c
-          (nearly_pulled x u r h.flags h.some.world h.some.bodies (sent h.some.bodies) c _ h.some.stands met
+          (nearly_pulled x u r h.flags h.some.world h.some.bodies (sent h.some.bodies) c l _ h.some.stands met
           (λ i d. (i ≡ s) × (d ≡ c))
           (λ i d wins same. (let k : Some i ≡ Some s = sym wins ∙ won in cc k, same)))
           sender_within;
@@ -218,14 +223,14 @@ module _ (x : TransmitValue) (r : Flags) (h : IsTracked x r) (c : Class) (b : Br
   tracked_idle none = record {
     some = pulled_unheard;
     flags = all_set u r (λ _ _. ⊥)
-        (nearly x u r h.flags h.some.world h.some.bodies (sent h.some.bodies) (Asked (Pull c)) _
+        (nearly x u r h.flags h.some.world h.some.bodies (sent h.some.bodies) (Asked (Pull c l)) _
         h.some.stands met
-        (λ _ _. ⊥) (λ s d _. from (says h.some.world c) s d))
+        (λ _ _. ⊥) (λ s d _. from (says h.some.world c l) s d))
         (λ s d low other. other);
   }
     where
-      from : Says h.some.world c (step h.some.world (Asked (Pull c))).reply → (s : ℕ) (d : Class) →
-          is_ready (step h.some.world (Asked (Pull c))).world d s ≡ is_ready h.some.world d s
+      from : Says h.some.world c l (step h.some.world (Asked (Pull c l))).reply → (s : ℕ) (d : Class) →
+          is_ready (step h.some.world (Asked (Pull c l))).world d s ≡ is_ready h.some.world d s
       from (Sends sent) s d = absurd (none (send_only b pairs sent.exchange sent.station sent.tid sent.air
           sent.part sent.more (met.reply ∙ sent.is)))
-      from (Refuses why is how) s d = ready_refused h.some.world (Asked (Pull c)) why is s d
+      from (Refuses why is how) s d = ready_refused h.some.world (Asked (Pull c l)) why is s d

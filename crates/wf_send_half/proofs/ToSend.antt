@@ -9,6 +9,7 @@ use Rattle.wf_frame.specs.Classes.{same_class}
 use Rattle.wf_frame.specs.Frames.{FrameValue}
 use Rattle.wf_frame.specs.declared.classes.Class.{Class}
 use Rattle.wf_frame.specs.declared.notes.Ask.TheVariants.{Pull}
+use Rattle.wf_frame.specs.declared.notes.Limits.{Limits}
 use Rattle.wf_frame.specs.declared.notes.Note.TheVariants.{Asked}
 use Rattle.wf_frame.specs.declared.notes.Refusal.TheVariants.{Idle}
 use Rattle.wf_frame.specs.declared.settings.Config.{Config}
@@ -47,34 +48,34 @@ none_up (false ∷ xs) is (suc s) = none_up xs is s
 
 -- ---- a pull
 
-module _ (w : World) (c : Class) (keeps : KeepsRotations w) where
+module _ (w : World) (c : Class) (l : Limits) (keeps : KeepsRotations w) where
   when_full : nat_le w.config.inflight (open_of_class w c) ≡ true →
-      false ≡ is_none (refusal w (Asked (Pull c)))
+      false ≡ is_none (refusal w (Asked (Pull c l)))
   unfolding first_refusal
   when_full full = rw full refl
 
   when_ahead : nat_le w.config.inflight (open_of_class w c) ≡ false → is_at_aql_total w ≡ true →
-      false ≡ is_none (refusal w (Asked (Pull c)))
+      false ≡ is_none (refusal w (Asked (Pull c l)))
   unfolding first_refusal
   when_ahead room ahead = rw (room, ahead) refl
 
   when_ready : nat_le w.config.inflight (open_of_class w c) ≡ false → is_at_aql_total w ≡ false → (s : ℕ) →
-      is_ready w c s ≡ true → true ≡ is_none (refusal w (Asked (Pull c)))
+      is_ready w c s ≡ true → true ≡ is_none (refusal w (Asked (Pull c l)))
   unfolding first_refusal
   when_ready room behind s ready = by (is_none (picked_station w c).winner) refl
     where
       by : (b : Bool) → is_none (picked_station w c).winner ≡ b →
-          true ≡ is_none (refusal w (Asked (Pull c)))
+          true ≡ is_none (refusal w (Asked (Pull c l)))
       by false won = rw (room, behind, won) refl
       by true none =
-          let idle : refusal w (Asked (Pull c)) ≡ Some Idle = rw (room, behind, none) refl in
-          let unready : is_ready w c s ≡ false = ((keeps.idle c).0 idle).1 s in
+          let idle : refusal w (Asked (Pull c l)) ≡ Some Idle = rw (room, behind, none) refl in
+          let unready : is_ready w c s ≡ false = ((keeps.idle c l).0 idle).1 s in
           absurd (cc (ready, unready))
 
   when_none : nat_le w.config.inflight (open_of_class w c) ≡ false → is_at_aql_total w ≡ false → NoneReady
       w c →
-      false ≡ is_none (refusal w (Asked (Pull c)))
-  when_none room behind none = sym (ap is_none ((keeps.idle c).1 ((leb-false _ _ room, behind), none)))
+      false ≡ is_none (refusal w (Asked (Pull c l)))
+  when_none room behind none = sym (ap is_none ((keeps.idle c l).1 ((leb-false _ _ room, behind), none)))
 
 -- a live station's number is below the setting
 live_low : (v : TransmitValue) (w : World) (bodies : ℕ → FrameValue) → StandsFor v w bodies → (s : ℕ) →
@@ -109,9 +110,9 @@ module _ (v : TransmitValue) (r : Flags) (t : IsTracked v r) (c : Class) (w : Wo
   some_flag = list_any (λ up. up) (flags_in r c)
 
   -- the flags and the open exchanges determine whether a pull would send
-  pub pull_is : (not (nat_le v.config.inflight (count_by (λ x. same_class x.class c) v.opened))
-      && not (is_ahead_of v)) && some_flag ≡ is_none (refusal w (Asked (Pull c)))
-  pull_is =
+  pub pull_is : (l : Limits) → (not (nat_le v.config.inflight (count_by (λ x. same_class x.class c) v.opened))
+      && not (is_ahead_of v)) && some_flag ≡ is_none (refusal w (Asked (Pull c l)))
+  pull_is l =
       ap₂ (λ (a b : Bool). (not a && not b) && some_flag)
       (ap₂ nat_le (ap (λ (k : Config). k.inflight) h.parts.others.config)
       (class_count_same v w bodies c h.parts)) (ahead_same v w bodies h.parts)
@@ -119,10 +120,10 @@ module _ (v : TransmitValue) (r : Flags) (t : IsTracked v r) (c : Class) (w : Wo
     where
       by : (full : Bool) → nat_le w.config.inflight (open_of_class w c) ≡ full → (ahead : Bool) →
           is_at_aql_total w ≡ ahead → (some : Bool) → some_flag ≡ some →
-          (not full && not ahead) && some ≡ is_none (refusal w (Asked (Pull c)))
-      by true full ahead off some is = when_full w c keeps full
-      by false room true ahead some is = when_ahead w c keeps room ahead
+          (not full && not ahead) && some ≡ is_none (refusal w (Asked (Pull c l)))
+      by true full ahead off some is = when_full w c l keeps full
+      by false room true ahead some is = when_ahead w c l keeps room ahead
       by false room false behind true is =
           let u : IsUp (flags_in r c) = some_up (flags_in r c) is in
-          when_ready w c keeps room behind u.at (somebody u)
-      by false room false behind false is = when_none w c keeps room behind (nobody is)
+          when_ready w c l keeps room behind u.at (somebody u)
+      by false room false behind false is = when_none w c l keeps room behind (nobody is)

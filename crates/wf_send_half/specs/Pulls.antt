@@ -6,11 +6,14 @@ use Rattle.wf_frame.specs.declared.notes.Note.TheVariants.{Asked}
 use Rattle.wf_frame.specs.declared.answers.Brief.TheVariants.{Send}
 use Rattle.wf_frame.specs.Frames.{FrameValue}
 use Rattle.wf_def_air.specs.Airtime.{Rate, request_charge}
+use Rattle.wf_def_air.specs.Fit.{most_octets}
 use Rattle.wf_def_codel.specs.Codel.{Params}
 use Rattle.wf_def_codel.specs.Parameters.{params_at}
 use Rattle.wf_def_rotation.specs.Rotation.{has_key}
 use Rattle.wf_def_agreement.specs.Session.{Session, next_number, request_due, with_number_given}
-use Rattle.wf_def_world.specs.World.{World, Mpdu, session}
+use Rattle.wf_def_lists.specs.Bounds.{least_ampdu, greatest_ampdu}
+use Rattle.wf_frame.specs.declared.notes.Limits.{Limits}
+use Rattle.wf_def_world.specs.World.{World, Bounds, Mpdu, session}
 use Rattle.wf_def_world.specs.Exchanges.{Aggregate, aggregate_of, aggregate_charge, prepared_data, picked_station}
 use Rattle.wf_def_world.specs.Refusals.{refusal}
 use Rattle.wf_rotation.specs.Rotas.{is_ready as entry}
@@ -18,9 +21,11 @@ use Rattle.wf_sched.specs.ClassRotas.{class_rotation}
 use Rattle.wf_sched_refines.specs.Calls.{HasPickedInClass}
 use Rattle.wf_send_parts.specs.declared.exchanges.opened.Sending.{Sending}
 use Rattle.wf_send_parts.specs.declared.exchanges.opened.Sending.TheVariants.{Data, Request as Starts_at}
+use Rattle.wf_air.specs.declared.fit.SizeLimits.{SizeLimits}
 use Rattle.wf_air.specs.Sizes.{AggregateSizeValue, SizeStandsFor as SizeStandsFor}
 use Rattle.wf_frame.specs.Classes.{tid_number}
 use Rattle.wf_queue_flows.specs.Flows.{taken_for_tid}
+use Rattle.wf_send_parts.specs.declared.stations.members.Member.{Member}
 use Rattle.wf_send_parts.specs.Members.{member}
 use Rattle.wf_send_parts.specs.Sleepers.{sleeper}
 use Rattle.wf_send_parts.specs.Window.{WindowValue, WindowStandsFor as WindowStandsFor}
@@ -29,16 +34,30 @@ use Rattle.wf_send_parts.specs.Windows.{WindowsHaveRoom, window_of, with_window}
 use Rattle.wf_send_half_model.specs.Half.{TransmitValue, is_ready_of}
 use Rattle.wf_send_half_model.specs.Standing.{StandsFor, numbers_on_air}
 use Rattle.wf_send_half_model.specs.Pulling.{is_wide_of}
+use Rattle.wf_send_half.specs.declared.bounds.Bounds.{Bounds as BoundsGiven}
 use Rattle.wf_send_half.specs.declared.pull.Pulled.{Pulled}
-use Rattle.wf_send_half_model.specs.Filling.{IsTurned, IsToFill, IsFilling, IsTakingOff, after_take, after_giving}
+use Rattle.wf_send_half_model.specs.Filling.{IsTurned, IsToFill, IsChoosing, IsFilling, IsTakingOff, after_take, after_giving}
 
--- the greatest number of frames in an aggregate to a station: 1 if it sleeps
-abbrev pub most_of : TransmitValue → ℕ → ℕ
-most_of v s = if (sleeper v.sleepers s).asleep then 1 else v.config.agg
+-- the bounds of a pull, as those of the world
+abbrev pub bounds_in : BoundsGiven → Bounds
+bounds_in b = record { frames = b.frames; air = b.air }
 
--- if a station is live, its maximum A-MPDU length exponent is at most 3
-abbrev pub IsExponentSmall : TransmitValue → ℕ → Type 0
-IsExponentSmall v s = IfSome (member v.members s) (λ m. m.exponent ≤ 3)
+-- the limits of an aggregate to a station in a pull with these bounds: one frame if the station sleeps
+abbrev pub size_limits_of : TransmitValue → ℕ → Bounds → Member → SizeLimits
+size_limits_of v s b m = record {
+  octets = most_octets m.rate m.exponent m.ampdu;
+  frames = if (sleeper v.sleepers s).asleep then 1 else b.frames;
+  time = b.air;
+}
+
+-- a station's maximum A-MPDU length exponent is at most 3, and the greatest length of its aggregates, if one
+-- was stated, is in its range
+abbrev pub HasLengths : Member → Type 0
+HasLengths m = (m.exponent ≤ 3) × IfSome m.ampdu (λ n. (least_ampdu ≤ n) × (n ≤ greatest_ampdu))
+
+-- this holds of a station, if it is live
+abbrev pub TakesAggregates : TransmitValue → ℕ → Type 0
+TakesAggregates v s = IfSome (member v.members s) HasLengths
 
 -- only the places and the fates of frames differ
 abbrev pub IsSameButFrames : TransmitValue → TransmitValue → Type 0
@@ -52,11 +71,20 @@ pub record HasTurn (v : TransmitValue) (s t : ℕ) : Type 0 where
   pub bodies : ℕ → FrameValue
   pub turned : IsTurned v world bodies s t
 
--- in some world no request of TID t of station s is due
-pub record HasToFill (v : TransmitValue) (s t : ℕ) : Type 0 where
+-- in some world no request of TID t of station s is due, and the pull has these bounds
+pub record HasToFill (v : TransmitValue) (s t : ℕ) (b : Bounds) : Type 0 where
   pub world : World
   pub bodies : ℕ → FrameValue
   pub to_fill : IsToFill v world bodies s t
+  pub bounds : world.bounds ≡ b
+
+-- in some world no request of TID t of station s is due, and this aggregate begins with its waiting numbers
+pub record HasChoosing (v : TransmitValue) (s t : ℕ) (room : AggregateSizeValue)
+    (numbers : List ℕ) : Type 0 where
+  pub world : World
+  pub bodies : ℕ → FrameValue
+  pub to_fill : IsToFill v world bodies s t
+  pub choosing : IsChoosing room numbers (window_of v.windows s t).start world s t
 
 -- in some world the filling of this aggregate to TID t of station s continues and ends at that aggregate
 pub record AggregateGoesOn (v : TransmitValue) (bodies : ℕ → FrameValue) (s t : ℕ) (room : AggregateSizeValue)
@@ -77,7 +105,7 @@ pub record HasLens (room : AggregateSizeValue) (numbers : List ℕ) : Type 0 whe
   pub lens : List ℕ
   pub stands : SizeStandsFor room lens
   pub as_many : length numbers ≡ length lens
-  pub few : room.agg ≤ 256
+  pub few : room.limits.frames ≤ 256
 
 -- ---- a frame is taken out of its queue
 
@@ -160,20 +188,22 @@ abbrev pub IsSenderTold : TransmitValue → Class → Pulled → Type 0
 IsSenderTold v c p = (e s t air : ℕ) (request : Option ℕ) (more : Bool) →
     p.brief ≡ Send e s t air request more → p.is_ready ≡ is_ready_of v c s
 
--- u is v after a pull picked station s in a class, and v represents w
+-- u is v after a pull with these limits picked station s in a class, and v represents w
 pub record IsPickedInClass (v u : TransmitValue) (w : World) (bodies : ℕ → FrameValue) (s : ℕ)
-    (c : Class) : Type 0 where
+    (c : Class) (l : Limits) : Type 0 where
   pub stands : StandsFor v w bodies
-  pub passes : refusal w (Asked (Pull c)) ≡ None
+  pub passes : refusal w (Asked (Pull c l)) ≡ None
   pub won : (picked_station w c).winner ≡ Some s
   pub picked : HasPickedInClass w c v.sched u.sched
   pub others : u ≡ record v { sched = u.sched }
 
--- in some world TID t of station s has had its turn; if no request is due, its aggregate has a number
-pub record HasToPrepare (v : TransmitValue) (s t : ℕ) : Type 0 where
+-- in some world TID t of station s has had its turn, and the pull has these bounds; if no request is due, its
+-- aggregate has a number
+pub record HasToPrepare (v : TransmitValue) (s t : ℕ) (b : Bounds) : Type 0 where
   pub world : World
   pub bodies : ℕ → FrameValue
   pub turned : IsTurned v world bodies s t
+  pub bounds : world.bounds ≡ b
   pub some : request_due (session world s t) ≡ false → 1 ≤ length (aggregate_of world s t).mpdus
 
 -- the start of a request; none for data
@@ -185,17 +215,18 @@ start_sent (Starts_at start) = Some start
 pub record IsRequestDue (v u : TransmitValue) (s t charge start : ℕ) : Type 0 where
   pub due : is_some (window_of v.windows s t).due ≡ true
   pub same : u ≡ v
-  pub charge_is : charge ≡ request_charge (is_wide_of v s t)
+  pub charge_is : IfSome (member v.members s) (λ m.
+      charge ≡ request_charge v.config.answers m.rate (is_wide_of v s t))
   pub start_is : start ≡ (window_of v.windows s t).start
 
--- no request is due there, and the numbers of its aggregate fly
-pub record IsData (v u : TransmitValue) (s t charge : ℕ) (pairs : List (ℕ × ℕ))
+-- no request is due there, and the numbers of its aggregate in a pull with these bounds fly
+pub record IsData (v u : TransmitValue) (s t : ℕ) (b : Bounds) (charge : ℕ) (pairs : List (ℕ × ℕ))
     (numbers : List ℕ) : Type 0 where
   pub quiet : is_some (window_of v.windows s t).due ≡ false
-  pub prepared : (w : World) (bodies : ℕ → FrameValue) → IsToFill v w bodies s t →
+  pub prepared : (w : World) (bodies : ℕ → FrameValue) → IsToFill v w bodies s t → w.bounds ≡ b →
       IsPrepared u w bodies s t charge numbers pairs
 
--- u is v after it prepared this for TID t of station s
-abbrev pub IsPreparedFor : TransmitValue → TransmitValue → ℕ → ℕ → ℕ → List (ℕ × ℕ) → Sending → Type 0
-IsPreparedFor v u s t charge pairs (Data numbers) = IsData v u s t charge pairs numbers
-IsPreparedFor v u s t charge pairs (Starts_at start) = IsRequestDue v u s t charge start
+-- u is v after it prepared this for TID t of station s in a pull with these bounds
+abbrev pub IsPreparedFor : TransmitValue → TransmitValue → ℕ → ℕ → Bounds → ℕ → List (ℕ × ℕ) → Sending → Type 0
+IsPreparedFor v u s t b charge pairs (Data numbers) = IsData v u s t b charge pairs numbers
+IsPreparedFor v u s t b charge pairs (Starts_at start) = IsRequestDue v u s t charge start

@@ -5,10 +5,10 @@ ghost use Rattle.wf_frame.specs.Answers.{reply_with};
 ghost use Rattle.wf_frame.specs.Classes.{same_class};
 ghost use Rattle.wf_frame.specs.Frames.{FrameValue};
 ghost use Rattle.wf_frame.specs.declared.answers.Brief.TheVariants.{Refused as Refuses};
-ghost use Rattle.wf_frame.specs.declared.notes.Ask.TheVariants.{Join, Leave, Rate, Tick, Pull, Sleep, Wake, Poll, Rx, Reap};
+ghost use Rattle.wf_frame.specs.declared.notes.Ask.TheVariants.{Join, Leave, Rate, Tick, Pull, Sleep, Wake, Poll, Rx, Reap, Ampdu, Stop, Start};
 ghost use Rattle.wf_frame.specs.declared.notes.Note.TheVariants.{Asked};
 ghost use Rattle.wf_frame.specs.declared.notes.Refusal.TheVariants.{Full, Ahead, Idle};
-ghost use Rattle.wf_frame.specs.declared.notes.ReplyNote.TheVariants.{Joined, Left, Set, Now, Slept, Woken, Polled, Charged, Accepted, Refused};
+ghost use Rattle.wf_frame.specs.declared.notes.ReplyNote.TheVariants.{Joined, Left, Set, Now, Slept, Woken, Polled, Charged, Accepted, Stopped, Started, Refused};
 ghost use Rattle.wf_def_world.specs.World.{World};
 ghost use Rattle.wf_queue_flows_refines.specs.Frames.{with_body, IsBodySettled};
 ghost use Rattle.wf_send_half_model.specs.Half.{is_ahead_of};
@@ -22,7 +22,7 @@ ghost use Rattle.wf_send_half.specs.Replies.{bodies_sent, reaped_reply, reply_of
 
 use crate::enqueue::Admitted;
 use crate::{Admission, Ended, Transmit};
-use wf_frame::{AskedRate, Brief, Class, Pairs, Refusal};
+use wf_frame::{AskedRate, Brief, Class, Limits, Pairs, Refusal};
 use wf_octets::bits::Bits256;
 use wf_octets::seq12::Seq12;
 use wf_queue_parts::chain::Parcel;
@@ -63,17 +63,18 @@ impl Transmit {
     }
 
     /// Opens the next exchange of a class. The station whose turn it is sends on one of its TIDs a request
-    /// if one is due, else an aggregate. The aggregate's frames are written to `pairs`, each by its id and
+    /// if one is due, else an aggregate within these limits; one frame goes whatever they are. The
+    /// aggregate's frames are written to `pairs`, each by its id and
     /// its sequence number, and each of these frames counts one more send. Refused as Full if as many
     /// exchanges of the class are open as the setting `inflight` allows, as Ahead if the computed airtime of
     /// all open exchanges has reached the setting `aql_total` and this is not 0, or as Idle if no station is
     /// ready in the class. A refused pull changes nothing with the setting `pending`; without it an idle one
     /// may turn the lists.
-    pub fn pull(&mut self, class: Class, pairs: &mut Pairs) -> Brief
+    pub fn pull(&mut self, class: Class, limits: Limits, pairs: &mut Pairs) -> Brief
         requires clock { self.old.clock < 2 ^ 62 }
         requires exchanges { self.old.exchanges < 2 ^ 62 }
         ensures meets { (w : World) (bodies : ℕ → FrameValue) → StandsFor self.old w bodies →
-            Meets w (bodies_sent (reply_with result pairs.new []) bodies) (Asked (Pull class)) self.new
+            Meets w (bodies_sent (reply_with result pairs.new []) bodies) (Asked (Pull class limits)) self.new
             (reply_with result pairs.new []) }
         ensures full { nat_le self.old.config.inflight
             (count_by (λ x. same_class x.class class) self.old.opened) ≡ true →
@@ -87,7 +88,9 @@ impl Transmit {
         ensures unheard { HasUnheardWorld self.new }
     {
         let is_idle = !self.ready.has_any(class);
-        let pulled = self.half.pull(class, self.ready.of(class), is_idle, pairs);
+        let pulled = self
+            .half
+            .pull(class, limits, self.ready.of(class), is_idle, pairs);
         if let Brief::Send { station, .. } = pulled.brief {
             self.ready.set(station, class, pulled.is_ready);
         }
@@ -188,6 +191,50 @@ impl Transmit {
         ensures unheard { HasUnheardWorld self.new }
     {
         self.half.tick(by)
+    }
+
+    /// Aggregates of VHT and HE to a station have at most `octets` octets from now on, 4,096 to 6,500,631
+    /// (IEEE 802.11ax-2021, 26.6.1). Refused as BadStation, BadAmpdu or NoStation.
+    pub fn ampdu(&mut self, station: u16, octets: u32) -> Result<(), Refusal>
+        ensures meets { (w : World) (bodies : ℕ → FrameValue) → StandsFor self.old w bodies →
+            Meets w bodies (Asked (Ampdu station octets)) self.new
+            (reply_of_result (λ _. Set) result) }
+        ensures refused { IfErr result (λ _. self.new ≡ self.old) }
+        ensures unheard { HasUnheardWorld self.new }
+    {
+        self.half.ampdu(station, octets)
+    }
+
+    /// Stops a station: no pull picks it until it is started. Refused as BadStation, NoStation or Stopped.
+    pub fn stop(&mut self, station: u16) -> Result<(), Refusal>
+        ensures meets { (w : World) (bodies : ℕ → FrameValue) → StandsFor self.old w bodies →
+            Meets w bodies (Asked (Stop station)) self.new (reply_of_result (λ _. Stopped) result) }
+        ensures refused { IfErr result (λ _. self.new ≡ self.old) }
+        ensures unheard { HasUnheardWorld self.new }
+    {
+        match self.half.stop(station) {
+            Ok(()) => {
+                self.ready.set_all(&self.half, station);
+                Ok(())
+            }
+            Err(reason) => Err(reason),
+        }
+    }
+
+    /// Starts a station: pulls may pick it again. Refused as BadStation, NoStation or Started.
+    pub fn start(&mut self, station: u16) -> Result<(), Refusal>
+        ensures meets { (w : World) (bodies : ℕ → FrameValue) → StandsFor self.old w bodies →
+            Meets w bodies (Asked (Start station)) self.new (reply_of_result (λ _. Started) result) }
+        ensures refused { IfErr result (λ _. self.new ≡ self.old) }
+        ensures unheard { HasUnheardWorld self.new }
+    {
+        match self.half.start(station) {
+            Ok(()) => {
+                self.ready.set_all(&self.half, station);
+                Ok(())
+            }
+            Err(reason) => Err(reason),
+        }
     }
 
     /// A station goes to sleep (IEEE 802.11-2012, 10.2.1). Refused as BadStation, NoStation or Asleep.

@@ -1,14 +1,16 @@
 //! Fills an aggregate.
 
-ghost use Rattle.std.specs.Prelude.{◌≡◌, ◌<◌, ◌≤◌, ◌^◌, ℕ, IsTrue, IsFalse};
+ghost use Rattle.std.specs.Prelude.{◌≡◌, ◌+◌, ◌<◌, ◌≤◌, ◌^◌, ℕ, IsTrue, IsFalse};
 ghost use Rattle.wf_frame.specs.Frames.{FrameValue};
+ghost use Rattle.wf_def_lists.specs.Lengths.{greatest_body, greatest_overhead, greatest_protected};
 ghost use Rattle.wf_send_parts.specs.Windows.{window_of};
 ghost use Rattle.wf_def_world.specs.World.{World};
 ghost use Rattle.wf_def_world.specs.Exchanges.{Aggregate as Filled, aggregate_of};
 ghost use Rattle.wf_send_half_model.specs.Filling.{IsToFill, IsChoosing, IsFilled};
 ghost use Rattle.wf_send_half.specs.Half.{IsLive};
-ghost use Rattle.wf_send_half.specs.Pulls.{most_of, IsExponentSmall, IsSameButFrames, HasToFill, AggregateGoesOn, HasFilling};
+ghost use Rattle.wf_send_half.specs.Pulls.{bounds_in, TakesAggregates, IsSameButFrames, HasToFill, HasChoosing, AggregateGoesOn, HasFilling};
 
+use crate::bounds::Bounds;
 use crate::half::Half;
 use wf_air::fit::AggregateSize;
 use wf_frame::{Cause, Fate, NARROW_WINDOW};
@@ -23,38 +25,46 @@ pub(crate) struct Aggregate {
     pub(crate) size: AggregateSize,
 }
 
+// Returns the length of a body with its encryption, in octets.
+fn protected(len: u16, overhead: u32) -> u16
+    requires body { len ≤ greatest_body }
+    requires encryption { overhead ≤ greatest_overhead }
+    ensures exact { result ≡ len + overhead }
+    ensures least { len ≤ result }
+    ensures most { result ≤ greatest_protected }
+{
+    len + overhead as u16
+}
+
 impl Half {
-    /// Fills the aggregate that a TID sends next: waiting numbers from the lowest up, and, if all of them
-    /// fit, fresh frames. Each fresh frame gets a number; none flies yet.
-    pub(crate) fn fill(&mut self, station: u16, tid: u8) -> Aggregate
+    /// Fills the aggregate that a TID sends next in a pull with these bounds: waiting numbers from the lowest
+    /// up, and, if all of them fit, fresh frames. Each fresh frame gets a number; none flies yet.
+    pub(crate) fn fill(&mut self, station: u16, tid: u8, bounds: Bounds) -> Aggregate
         requires within { station < self.old.config.stations }
         requires tid { tid < 8 }
         requires live { IsLive self.old station }
         requires small { self.old.clock < 2 ^ 62 }
-        requires exponent { IsExponentSmall self.old station }
-        requires to_fill { HasToFill self.old station tid }
+        requires takes { TakesAggregates self.old station }
+        requires some { 1 ≤ bounds.frames }
+        requires few { bounds.frames ≤ 256 }
+        requires to_fill { HasToFill self.old station tid (bounds_in bounds) }
         ensures filled { (w : World) (bodies : ℕ → FrameValue) → IsToFill self.old w bodies station tid →
+            w.bounds ≡ bounds_in bounds →
             IsFilled self.new bodies station tid result.size result.numbers (aggregate_of w station tid) }
         ensures same { IsSameButFrames self.old self.new }
     {
-        let member = self.members.member(station);
-        let most = if self.sleepers.asleep(station) {
-            1
-        } else {
-            self.config.agg as u16
-        };
+        let limits = self.size_limits(station, bounds);
         let mut aggregate = Aggregate {
             numbers: Numbers::new(),
             size: AggregateSize::new(
-                member.rate,
-                member.exponent,
-                most,
-                self.config.cap,
+                self.members.member(station).rate,
+                limits,
+                self.config.answers,
                 self.windows.at(station, tid).size() > NARROW_WINDOW,
             ),
         };
         if self.add_waiting(station, tid, &mut aggregate) {
-            self.add_fresh(station, tid, most, &mut aggregate);
+            self.add_fresh(station, tid, limits.frames, &mut aggregate);
         }
         aggregate
     }
@@ -63,25 +73,28 @@ impl Half {
     fn add_waiting(&self, station: u16, tid: u8, aggregate: &mut Aggregate) -> bool
         requires within { station < self.now.config.stations }
         requires tid { tid < 8 }
-        requires to_fill { HasToFill self.now station tid }
-        requires begins { (w : World) (bodies : ℕ → FrameValue) → IsToFill self.now w bodies station tid →
-            IsChoosing aggregate.old.size aggregate.old.numbers
-            (window_of self.now.windows station tid).start w station tid }
-        requires most { aggregate.old.size.agg ≡ most_of self.now station }
+        requires choosing { HasChoosing self.now station tid aggregate.old.size aggregate.old.numbers }
+        requires few { aggregate.old.size.limits.frames ≤ 256 }
         ensures all { IsTrue result → (w : World) (bodies : ℕ → FrameValue) →
             IsToFill self.now w bodies station tid →
+            IsChoosing aggregate.old.size aggregate.old.numbers
+            (window_of self.now.windows station tid).start w station tid →
             AggregateGoesOn self.now bodies station tid aggregate.new.size aggregate.new.numbers
             (aggregate_of w station tid) }
         ensures some { IsFalse result → (w : World) (bodies : ℕ → FrameValue) →
             IsToFill self.now w bodies station tid →
+            IsChoosing aggregate.old.size aggregate.old.numbers
+            (window_of self.now.windows station tid).start w station tid →
             IsFilled self.now bodies station tid aggregate.new.size aggregate.new.numbers
             (aggregate_of w station tid) }
-        ensures most { aggregate.new.size.agg ≡ most_of self.now station }
+        ensures limits { aggregate.new.size.limits ≡ aggregate.old.size.limits }
     {
+        let overhead = self.config.overhead;
         let window = self.windows.at(station, tid);
         let mut from = window.start();
         'waiting: while let Some(number) = window.next_waiting(from) {
-            if !aggregate.size.add(window.frame(number).len()) {
+            let octets = protected(window.frame(number).len(), overhead);
+            if !aggregate.size.add(octets) {
                 return false;
             }
             aggregate.numbers.push(number);
@@ -99,7 +112,7 @@ impl Half {
         requires live { IsLive self.old station }
         requires small { self.old.clock < 2 ^ 62 }
         requires filling { HasFilling self.old station tid aggregate.old.size aggregate.old.numbers }
-        requires most { aggregate.old.size.agg ≡ most }
+        requires most { aggregate.old.size.limits.frames ≡ most }
         requires few { most ≤ 256 }
         ensures filled { (bodies : ℕ → FrameValue) (after : Filled) →
             AggregateGoesOn self.old bodies station tid aggregate.old.size aggregate.old.numbers after →
@@ -107,6 +120,7 @@ impl Half {
         ensures same { IsSameButFrames self.old self.new }
     {
         let params = Params::of(self.members.member(station).rate);
+        let overhead = self.config.overhead;
         'fresh: while aggregate.numbers.len() < usize::from(most)
             && self.windows.at(station, tid).can_give()
         {
@@ -119,7 +133,7 @@ impl Half {
             let Ok(number) = self.windows.give(station, tid, parcel) else {
                 unreachable!()
             };
-            if !aggregate.size.add(len) {
+            if !aggregate.size.add(protected(len, overhead)) {
                 return;
             }
             aggregate.numbers.push(number);

@@ -8,6 +8,7 @@
 //! driver knows receivers by BlockAcks alone.
 #![tactic(auto)]
 
+mod bounds;
 mod calls;
 mod clock;
 mod enqueue;

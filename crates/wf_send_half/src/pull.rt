@@ -22,12 +22,12 @@ ghost use Rattle.wf_send_half_model.specs.Filling.{IsTakingOff};
 ghost use Rattle.wf_send_half_model.specs.Pulling.{sending_tid_of, after_turn, has_more_of, open_next, after_sending};
 ghost use Rattle.wf_send_half.specs.Replies.{bodies_sent};
 ghost use Rattle.wf_send_half.specs.Half.{HasWorld, IsLive};
-ghost use Rattle.wf_send_half.specs.Pulls.{IsSenderTold, TellsWhoIsReady, IsExponentSmall, IsSameButFrames, HasTakingOff, IsFlying, HasToPrepare, IsPreparedFor, start_sent};
+ghost use Rattle.wf_send_half.specs.Pulls.{bounds_in, IsSenderTold, TellsWhoIsReady, TakesAggregates, IsSameButFrames, HasTakingOff, IsFlying, HasToPrepare, IsPreparedFor, start_sent};
 
+use crate::bounds::Bounds;
 use crate::half::Half;
 use crate::pending::charge_opened;
-use wf_air::time::request_charge;
-use wf_frame::{Brief, Class, NARROW_WINDOW, Pairs, Refusal};
+use wf_frame::{Brief, Class, Limits, NARROW_WINDOW, Pairs, Refusal};
 use wf_send_parts::exchanges::{Numbers, Open, Sending};
 
 /// The outcome of a pull.
@@ -48,12 +48,13 @@ pub(crate) struct Prepared {
 }
 
 impl Half {
-    // Opens the next exchange of a class (`Transmit::pull`). `ready` has an entry for each station; for a
-    // listed station the entry says whether it is ready in the class. `is_idle` says that none is ready
-    // there.
+    // Opens the next exchange of a class within these limits (`Transmit::pull`). `ready` has an entry for
+    // each station; for a listed station the entry says whether it is ready in the class. `is_idle` says
+    // that none is ready there.
     pub(crate) fn pull(
         &mut self,
         class: Class,
+        limits: Limits,
         ready: &[bool],
         is_idle: bool,
         pairs: &mut Pairs,
@@ -65,8 +66,8 @@ impl Half {
         requires clock { self.old.clock < 2 ^ 62 }
         requires exchanges { self.old.exchanges < 2 ^ 62 }
         ensures meets { (w : World) (bodies : ℕ → FrameValue) → StandsFor self.old w bodies →
-            Meets w (bodies_sent (reply_with result.brief pairs.new []) bodies) (Asked (Pull class)) self.new
-            (reply_with result.brief pairs.new []) }
+            Meets w (bodies_sent (reply_with result.brief pairs.new []) bodies) (Asked (Pull class limits))
+            self.new (reply_with result.brief pairs.new []) }
         ensures ready { IsSenderTold self.new class result }
         ensures full { nat_le self.old.config.inflight
             (count_by (λ x. same_class x.class class) self.old.opened) ≡ true →
@@ -101,7 +102,8 @@ impl Half {
         match self.sched.pick(class, ready) {
             Some(station) => {
                 let tid = self.take_turn(station, class);
-                let prepared = self.prepare(station, tid, pairs);
+                let bounds = self.bounds(class, limits);
+                let prepared = self.prepare(station, tid, bounds, pairs);
                 self.put_on_air(station, tid, class, prepared)
             }
             None => Pulled {
@@ -192,28 +194,33 @@ impl Half {
         self.windows.at(station, tid).has_waiting() || self.flows.queued(station, tid) > 0
     }
 
-    // Prepares a request if one is due, else an aggregate, whose numbers fly from then on.
-    fn prepare(&mut self, station: u16, tid: u8, pairs: &mut Pairs) -> Prepared
+    // Prepares a request if one is due, else an aggregate within these bounds, whose numbers fly from then
+    // on.
+    fn prepare(&mut self, station: u16, tid: u8, bounds: Bounds, pairs: &mut Pairs) -> Prepared
         requires within { station < self.old.config.stations }
         requires tid { tid < 8 }
         requires live { IsLive self.old station }
         requires small { self.old.clock < 2 ^ 62 }
-        requires exponent { IsExponentSmall self.old station }
-        requires due { HasToPrepare self.old station tid }
-        ensures prepared { IsPreparedFor self.old self.new station tid result.charge pairs.new result.sending }
+        requires takes { TakesAggregates self.old station }
+        requires some { 1 ≤ bounds.frames }
+        requires few { bounds.frames ≤ 256 }
+        requires due { HasToPrepare self.old station tid (bounds_in bounds) }
+        ensures prepared { IsPreparedFor self.old self.new station tid (bounds_in bounds) result.charge
+            pairs.new result.sending }
         ensures same { IsSameButFrames self.old self.new }
         ensures request { result.request ≡ start_sent result.sending }
     {
         let window = self.windows.at(station, tid);
         if window.bar_due() {
             let start = window.start();
+            let rate = self.members.member(station).rate;
             return Prepared {
                 sending: Sending::Request(start),
-                charge: request_charge(window.size() > NARROW_WINDOW),
+                charge: rate.request_charge(self.config.answers, window.size() > NARROW_WINDOW),
                 request: Some(start.raw()),
             };
         }
-        let aggregate = self.fill(station, tid);
+        let aggregate = self.fill(station, tid, bounds);
         let charge = aggregate.size.air();
         let numbers = aggregate.numbers;
         self.fly_all(station, tid, &numbers, pairs);

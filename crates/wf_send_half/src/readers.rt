@@ -4,6 +4,7 @@ ghost use Rattle.std.specs.Prelude.{◌≡◌, ◌<◌, ◌==◌, ◌&&◌, ℕ,
 ghost use Rattle.wf_frame.specs.Classes.{tid_number};
 ghost use Rattle.wf_frame.specs.Frames.{FrameValue};
 ghost use Rattle.wf_frame.specs.declared.notes.Ask.TheVariants.{Pull};
+ghost use Rattle.wf_frame.specs.declared.notes.Limits.{Limits};
 ghost use Rattle.wf_frame.specs.declared.notes.Note.TheVariants.{Asked};
 ghost use Rattle.wf_def_world.specs.Refusals.{refusal};
 ghost use Rattle.wf_def_world.specs.World.{World, is_live, share, rotation, inside, owed};
@@ -159,11 +160,11 @@ impl Transmit {
         self.half.windows.at(station, tid)
     }
 
-    /// Returns whether a pull of a class would send now: exactly if it would be refused neither as Full nor
-    /// as Ahead nor as Idle.
+    /// Returns whether a pull of a class would send now, whatever its limits: exactly if it would be refused
+    /// neither as Full nor as Ahead nor as Idle.
     pub fn can_pull(&self, class: Class) -> bool
-        ensures { (w : World) (bodies : ℕ → FrameValue) → StandsFor self.now w bodies →
-            result ≡ is_none (refusal w (Asked (Pull class))) }
+        ensures { (w : World) (bodies : ℕ → FrameValue) → StandsFor self.now w bodies → (limits : Limits) →
+            result ≡ is_none (refusal w (Asked (Pull class limits))) }
     {
         self.half.may_open(class) && self.ready.has_any(class)
     }

@@ -7,7 +7,7 @@ ghost use Rattle.wf_def_world.specs.CanSend.{is_ready, has_credit};
 ghost use Rattle.wf_sched.specs.ClassRotas.{deficit};
 ghost use Rattle.wf_send_parts.specs.Exchanges.{airtime_to};
 ghost use Rattle.wf_send_parts.specs.Sleepers.{sleeper};
-ghost use Rattle.wf_send_half_model.specs.Half.{can_send_of, is_below_aql_of, may_receive_of, is_ready_of, pending_air_of, is_debtor_of};
+ghost use Rattle.wf_send_half_model.specs.Half.{can_send_of, is_below_aql_of, may_receive_of, has_live_credit_of, is_ready_of, pending_air_of, is_debtor_of};
 ghost use Rattle.wf_send_half_model.specs.Standing.{StandsFor};
 ghost use Rattle.wf_send_half_model.specs.Changes.{after_listing, after_listing_in};
 ghost use Rattle.wf_send_half.specs.Half.{can_send_in_of};
@@ -17,8 +17,8 @@ use wf_frame::Class;
 
 impl Half {
     /// Returns whether a station is ready in a class: it is live, one of the class's two TIDs can send, it is
-    /// awake or has a credit for the class, and its airtime in flight is below the setting `aql`. The
-    /// station's number is below the setting `stations`.
+    /// not stopped, it is awake or has a credit for the class, and its airtime in flight is below the setting
+    /// `aql`. The station's number is below the setting `stations`.
     pub(crate) fn is_ready(&self, station: u16, class: Class) -> bool
         requires within { station < self.now.config.stations }
         ensures value { result ≡ is_ready_of self.now class station }
@@ -30,13 +30,14 @@ impl Half {
             && self.may_receive(station, class)
     }
 
-    // Returns whether a station may receive in a class: it is awake or has a credit for the class, and its
-    // airtime in flight is below the setting `aql`.
+    // Returns whether a station may receive in a class: it is not stopped, it is awake or has a credit for
+    // the class, and its airtime in flight is below the setting `aql`.
     fn may_receive(&self, station: u16, class: Class) -> bool
         requires within { station < self.now.config.stations }
         ensures value { result ≡ may_receive_of self.now station class }
     {
-        (!self.sleepers.asleep(station) || self.has_credit(station, class))
+        !self.sleepers.stopped(station)
+            && (!self.sleepers.asleep(station) || self.has_credit(station, class))
             && self.is_below_aql(station, class)
     }
 
@@ -56,6 +57,18 @@ impl Half {
     {
         match self.sleepers.credit(station) {
             Some(granted) => granted == class,
+            None => false,
+        }
+    }
+
+    // Returns whether a station has a credit that blocks a poll: with the setting `credits`, only one in
+    // whose class it can send.
+    pub(crate) fn has_live_credit(&self, station: u16) -> bool
+        requires within { station < self.now.config.stations }
+        ensures value { result ≡ has_live_credit_of self.now station }
+    {
+        match self.sleepers.credit(station) {
+            Some(class) => self.config.credits == 0 || self.can_send_in(station, class),
             None => false,
         }
     }

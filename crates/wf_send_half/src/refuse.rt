@@ -2,7 +2,7 @@
 
 ghost use Rattle.std.specs.Prelude.{◌≡◌, ◌<◌, ◌≤◌, ℕ, ◌-ℤ◌, pos, int_lt, true, false, [], ◌∷◌, None, Some, is_some, not, find, IfOk, IfErr, if◌then◌else◌, nat_le};
 ghost use Rattle.wf_frame.specs.Frames.{FrameValue};
-ghost use Rattle.wf_frame.specs.declared.notes.Ask.TheVariants.{Join, Rate as Rates, Tick, Sleep, Wake, Poll, Rx};
+ghost use Rattle.wf_frame.specs.declared.notes.Ask.TheVariants.{Join, Rate as Rates, Tick, Sleep, Wake, Poll, Rx, Ampdu, Stop, Start};
 ghost use Rattle.wf_frame.specs.declared.notes.Note.TheVariants.{Asked};
 ghost use Rattle.wf_frame.specs.declared.notes.Refusal.TheVariants.{BadRate, BadStation, NoStation, Debt};
 ghost use Rattle.wf_frame.specs.declared.classes.Class.TheVariants.{Bk, Be, Vi, Vo};
@@ -21,15 +21,15 @@ ghost use Rattle.std.specs.Result.{result_err};
 use crate::half::Half;
 use wf_air::time::Rate;
 use wf_frame::{
-    AskedRate, Class, GREATEST_AIR, GREATEST_EXPONENT, GREATEST_START, GREATEST_TICK,
-    GREATEST_WEIGHT, GREATEST_WINDOW, Refusal,
+    AskedRate, Class, GREATEST_AIR, GREATEST_AMPDU, GREATEST_EXPONENT, GREATEST_START,
+    GREATEST_TICK, GREATEST_WEIGHT, GREATEST_WINDOW, LEAST_AMPDU, Refusal,
 };
 
-// Returns whether a number is from 1 to the greatest.
-fn is_within(greatest: u32, number: u32) -> bool
-    ensures { result ≡ is_within 1 greatest number }
+// Returns whether a number is from the least to the greatest.
+fn is_within(least: u32, greatest: u32, number: u32) -> bool
+    ensures { result ≡ is_within least greatest number }
 {
-    1 <= number && number <= greatest
+    least <= number && number <= greatest
 }
 
 // Refuses for this reason if a condition holds.
@@ -101,13 +101,13 @@ impl Half {
     {
         self.in_range(station)?;
         refuse_where(
-            !is_within(GREATEST_WINDOW as u32, u32::from(window)),
+            !is_within(1, GREATEST_WINDOW as u32, u32::from(window)),
             Refusal::BadWindow,
         )?;
         refuse_where(GREATEST_START < start, Refusal::BadStart)?;
         refuse_where(GREATEST_EXPONENT < exponent, Refusal::BadExponent)?;
         refuse_where(
-            !is_within(GREATEST_WEIGHT as u32, u32::from(weight)),
+            !is_within(1, GREATEST_WEIGHT as u32, u32::from(weight)),
             Refusal::BadWeight,
         )?;
         refuse_where(self.members.is_live(station), Refusal::Live)
@@ -145,10 +145,9 @@ impl Half {
             StandsFor self.now w bodies → class ≡ class_to_send w station) }
         ensures within { IfOk result (λ _. station < self.now.config.stations) }
         ensures asleep { IfOk result (λ _. (sleeper self.now.sleepers station).asleep ≡ true) }
-        ensures no_credit { IfOk result (λ _. (sleeper self.now.sleepers station).credit ≡ None) }
     {
         self.check_wake(station)?;
-        refuse_where(self.is_credited(station), Refusal::Polled)?;
+        refuse_where(self.has_live_credit(station), Refusal::Polled)?;
         match self.class_to_send(station) {
             Some(class) => Ok(class),
             None => Err(Refusal::Nothing),
@@ -168,6 +167,42 @@ impl Half {
         Ok(rate)
     }
 
+    // Checks a stated length of aggregates.
+    pub(crate) fn check_ampdu(&self, station: u16, octets: u32) -> Result<(), Refusal>
+        ensures refused { (w : World) (bodies : ℕ → FrameValue) → StandsFor self.now w bodies →
+            result_err result ≡ refusal w (Asked (Ampdu station octets)) }
+        ensures within { IfOk result (λ _. station < self.now.config.stations) }
+    {
+        self.in_range(station)?;
+        refuse_where(
+            !is_within(LEAST_AMPDU, GREATEST_AMPDU, octets),
+            Refusal::BadAmpdu,
+        )?;
+        self.live(station)
+    }
+
+    // Checks that a station may be stopped.
+    pub(crate) fn check_stop(&self, station: u16) -> Result<(), Refusal>
+        ensures refused { (w : World) (bodies : ℕ → FrameValue) → StandsFor self.now w bodies →
+            result_err result ≡ refusal w (Asked (Stop station)) }
+        ensures within { IfOk result (λ _. station < self.now.config.stations) }
+    {
+        self.in_range(station)?;
+        self.live(station)?;
+        refuse_where(self.sleepers.stopped(station), Refusal::Stopped)
+    }
+
+    // Checks that a station may be started.
+    pub(crate) fn check_start(&self, station: u16) -> Result<(), Refusal>
+        ensures refused { (w : World) (bodies : ℕ → FrameValue) → StandsFor self.now w bodies →
+            result_err result ≡ refusal w (Asked (Start station)) }
+        ensures within { IfOk result (λ _. station < self.now.config.stations) }
+    {
+        self.in_range(station)?;
+        self.live(station)?;
+        refuse_where(!self.sleepers.stopped(station), Refusal::Started)
+    }
+
     // Checks a charge for received airtime, except for the debt.
     pub(crate) fn check_rx(&self, station: u16, class: Class, air: u32) -> Result<(), Refusal>
         ensures refused { IfErr result (λ reason. (w : World) (bodies : ℕ → FrameValue) →
@@ -182,16 +217,8 @@ impl Half {
         ensures live { IfOk result (λ _. IsLive self.now station) }
     {
         self.in_range(station)?;
-        refuse_where(!is_within(GREATEST_AIR, air), Refusal::BadAir)?;
+        refuse_where(!is_within(1, GREATEST_AIR, air), Refusal::BadAir)?;
         self.live(station)
-    }
-
-    // Returns whether a station has an unspent credit.
-    fn is_credited(&self, station: u16) -> bool
-        requires { station < self.now.config.stations }
-        ensures { result ≡ is_some (sleeper self.now.sleepers station).credit }
-    {
-        self.sleepers.credit(station).is_some()
     }
 
     // Returns the most urgent class in which a station can send.

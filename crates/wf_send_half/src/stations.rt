@@ -1,10 +1,10 @@
-//! Joins, rates, sleep, received airtime, and the clock.
+//! Joins, rates and lengths of aggregates, sleep, stops, received airtime, and the clock.
 
 ghost use Rattle.std.specs.Prelude.{◌≡◌, ◌<◌, ◌^◌, ℕ, IfErr};
 ghost use Rattle.wf_frame.specs.Frames.{FrameValue};
-ghost use Rattle.wf_frame.specs.declared.notes.Ask.TheVariants.{Join, Rate, Tick, Sleep, Wake, Poll, Rx};
+ghost use Rattle.wf_frame.specs.declared.notes.Ask.TheVariants.{Join, Rate, Tick, Sleep, Wake, Poll, Rx, Ampdu, Stop, Start};
 ghost use Rattle.wf_frame.specs.declared.notes.Note.TheVariants.{Asked};
-ghost use Rattle.wf_frame.specs.declared.notes.ReplyNote.TheVariants.{Joined, Set, Now, Slept, Woken, Polled, Charged};
+ghost use Rattle.wf_frame.specs.declared.notes.ReplyNote.TheVariants.{Joined, Set, Now, Slept, Woken, Polled, Charged, Stopped, Started};
 ghost use Rattle.wf_def_world.specs.World.{World};
 ghost use Rattle.wf_send_half_model.specs.Standing.{StandsFor, Meets};
 ghost use Rattle.wf_send_half.specs.Half.{HasWorld, IsReceiptSmall};
@@ -62,6 +62,42 @@ impl Half {
     {
         let rate = self.check_rate(station, asked)?;
         self.members.set_rate(station, rate);
+        Ok(())
+    }
+
+    // States the most octets of a station's aggregates (`Transmit::ampdu`).
+    pub(crate) fn ampdu(&mut self, station: u16, octets: u32) -> Result<(), Refusal>
+        ensures meets { (w : World) (bodies : ℕ → FrameValue) → StandsFor self.old w bodies →
+            Meets w bodies (Asked (Ampdu station octets)) self.new
+            (reply_of_result (λ _. Set) result) }
+        ensures refused { IfErr result (λ _. self.new ≡ self.old) }
+    {
+        self.check_ampdu(station, octets)?;
+        self.members.set_ampdu(station, octets);
+        Ok(())
+    }
+
+    // Stops a station (`Transmit::stop`).
+    pub(crate) fn stop(&mut self, station: u16) -> Result<(), Refusal>
+        ensures meets { (w : World) (bodies : ℕ → FrameValue) → StandsFor self.old w bodies →
+            Meets w bodies (Asked (Stop station)) self.new (reply_of_result (λ _. Stopped) result) }
+        ensures refused { IfErr result (λ _. self.new ≡ self.old) }
+    {
+        self.check_stop(station)?;
+        self.sleepers.set_stopped(station, true);
+        self.list(station);
+        Ok(())
+    }
+
+    // Starts a station again (`Transmit::start`).
+    pub(crate) fn start(&mut self, station: u16) -> Result<(), Refusal>
+        ensures meets { (w : World) (bodies : ℕ → FrameValue) → StandsFor self.old w bodies →
+            Meets w bodies (Asked (Start station)) self.new (reply_of_result (λ _. Started) result) }
+        ensures refused { IfErr result (λ _. self.new ≡ self.old) }
+    {
+        self.check_start(station)?;
+        self.sleepers.set_stopped(station, false);
+        self.list(station);
         Ok(())
     }
 

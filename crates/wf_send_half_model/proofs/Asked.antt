@@ -1,21 +1,23 @@
 -- Proves that a pull reads the same values from a half as from its world, and that the half refuses a pull
 -- exactly if the machine does.
-use Rattle.std.proofs.Common.{◌≡◌, refl, ap, ap₂, sym, ◌∙◌, arith, ℕ, ◌+◌, ◌-◌, ◌<◌, Bool, true, false, if◌then◌else◌, [], ◌∷◌, length, Option, Some, None, is_some, is_none, option_map, unwrap_or}
+use Rattle.std.proofs.Common.{◌≡◌, refl, ap, ap₂, sym, ◌∙◌, subst, arith, ℕ, ◌+◌, ◌-◌, ◌<◌, Bool, true, false, if◌then◌else◌, [], ◌∷◌, length, Option, Some, None, is_some, is_none, option_map, unwrap_or}
 use Rattle.std.specs.Prelude.{nat_le, IfSome, count_by}
 use Rattle.wf_frame.specs.declared.classes.Class.{Class}
 use Rattle.wf_frame.specs.Classes.{lower_tid, upper_tid, same_class, tid_number}
 use Rattle.wf_frame.specs.declared.notes.Note.TheVariants.{Asked}
 use Rattle.wf_frame.specs.declared.notes.Ask.TheVariants.{Pull}
+use Rattle.wf_frame.specs.declared.notes.Limits.{Limits}
 use Rattle.wf_frame.specs.declared.notes.Refusal.{Refusal}
 use Rattle.wf_frame.specs.declared.notes.Refusal.TheVariants.{Full, Ahead, Idle}
 use Rattle.wf_frame.specs.Frames.{FrameValue}
 use Rattle.wf_def_air.specs.Airtime.{Rate}
+use Rattle.wf_def_air.specs.Fit.{most_octets}
 use Rattle.wf_def_codel.specs.Codel.{Params}
 use Rattle.wf_def_codel.specs.Parameters.{params_at}
 use Rattle.wf_def_lists.specs.Table.{at}
-use Rattle.wf_def_world.specs.World.{World, Station, no_station, is_live, station, share, rotation, codel_params, owed_by_all}
+use Rattle.wf_def_world.specs.World.{World, Bounds, Station, no_station, is_live, station, share, rotation, codel_params, owed_by_all}
 use Rattle.wf_def_world.specs.CanSend.{can_send, can_send_in, is_ready}
-use Rattle.wf_def_world.specs.Exchanges.{most_frames, station_need, picked_station, after_pick, sending_tid}
+use Rattle.wf_def_world.specs.Exchanges.{most_frames, station_need, picked_station, sending_tid}
 use Rattle.wf_def_world.specs.Refusals.{open_of_class, is_at_aql_total, first_refusal, refusal}
 use Rattle.wf_def_rotation.specs.Rotation.{has_key}
 use Rattle.wf_law_rules.proofs.Lemmas.Counts.{listed-none}
@@ -23,7 +25,7 @@ use Rattle.wf_law_rules.proofs.Lemmas.Rotations.{pick_none}
 use Rattle.wf_law_runs.specs.Rotations.{NoneReady}
 use Rattle.wf_law_runs.proofs.Windows.Opened.{pick_ready}
 use Rattle.wf_law_runs.proofs.Windows.Agreed.{sends, winner_ready}
-use Rattle.wf_air.specs.Sizes.{empty_size}
+use Rattle.wf_air.specs.Sizes.{AggregateSizeValue, empty_size}
 use Rattle.wf_sched.specs.ClassRotas.{SchedValue}
 use Rattle.wf_sched_refines.specs.Calls.{HasPickedInClass}
 use Rattle.wf_queue_flows.specs.Flows.{TakenFromFlows, frames_of_tid, taken_for_tid as take_out}
@@ -36,8 +38,8 @@ use Rattle.wf_send_parts.specs.Sleepers.{sleeper}
 use Rattle.wf_send_half_model.specs.Half.{TransmitValue, can_send_of, is_ahead_of}
 use Rattle.wf_send_half_model.specs.Standing.{IsMember, AreBoth, IsReached, Parts, StandsFor}
 use Rattle.wf_send_half_model.specs.Pulling.{sending_tid_of, is_wide_of}
-use Rattle.wf_send_half_model.specs.Filling.{room_for}
-use Rattle.wf_send_half_model.proofs.Pulls.{pick_parts, sending_same, sending_low, wide_same}
+use Rattle.wf_send_half_model.specs.Filling.{after_pick_within, room_for}
+use Rattle.wf_send_half_model.proofs.Pulls.{pick_within_parts, sending_same, sending_low, wide_same}
 use Rattle.wf_send_half_model.proofs.Readers.{can_send_same, class_count_same, airtime_same, ahead_same}
 use Rattle.wf_send_half_model.proofs.Sends.{from_winner, winner_live}
 use Rattle.wf_send_half_model.proofs.Whole.{listed_where_ready}
@@ -63,21 +65,41 @@ module _ (v : TransmitValue) (w : World) (bodies : ℕ → FrameValue) (s : ℕ)
   pub params_read : params_at rate ≡ codel_params w s
   params_read = ap params_at rate_read
 
-  pub room_read : (t exponent : ℕ) → t < 8 → option_map (λ m. m.exponent) (member v.members s)
-      ≡ Some exponent →
-      empty_size rate exponent (if (sleeper v.sleepers s).asleep then 1 else v.config.agg) v.config.cap
-      (is_wide_of v s t) ≡ room_for w s t
-  room_read t exponent low exponent_is =
-      let exponent_read : exponent ≡ (station w s).exponent =
-      read_member (λ m. m.exponent) (λ x. x.exponent) (λ m x k. k.exponent) (member v.members s)
-      (at None w.stations s) (h.others.stations.live s) live exponent exponent_is in
-      ap₂ (λ (r : Rate) (n : ℕ). empty_size r n (if (sleeper v.sleepers s).asleep then 1 else v.config.agg)
-      v.config.cap (is_wide_of v s t)) rate_read exponent_read
-      ∙ ap₂ (λ (b : Bool) (n : ℕ). empty_size (station w s).rate (station w s).exponent
-      (if b then 1 else n) v.config.cap (is_wide_of v s t)) (h.others.stations.asleep s live)
-      (ap (λ c. c.agg) h.others.config)
-      ∙ ap₂ (λ (n : ℕ) (b : Bool). empty_size (station w s).rate (station w s).exponent (most_frames w s) n b)
-      (ap (λ c. c.cap) h.others.config) (wide_same v w bodies s t h live low)
+-- the member of a live station has its rate, its exponent, and its stated length of aggregates
+member_read : (k : Member) (m : Option Member) (o : Option Station) → AreBoth IsMember m o → is_some o ≡ true →
+    m ≡ Some k → IsMember k (unwrap_or o no_station)
+member_read k None None h live e = absurd (cc live)
+member_read k None (Some x) h live e = absurd h
+member_read k (Some m) None h live e = absurd h
+member_read k (Some m) (Some x) h live e =
+    let is : m ≡ k = cc in subst (λ (z : Member). IsMember z x) is h
+
+-- an empty aggregate with these limits
+abbrev sized : Rate → ℕ → Option ℕ → ℕ → ℕ → ℕ → Bool → AggregateSizeValue
+sized r exponent stated frames time answers wide =
+    empty_size r (record { octets = most_octets r exponent stated; frames = frames; time = time }) answers wide
+
+pub room_read : (v : TransmitValue) (w : World) (bodies : ℕ → FrameValue) (s : ℕ) → Parts v w bodies →
+    is_live w s ≡ true → (m : Member) → member v.members s ≡ Some m → (t : ℕ) → t < 8 → (b : Bounds) →
+    w.bounds ≡ b →
+    empty_size m.rate (record {
+      octets = most_octets m.rate m.exponent m.ampdu;
+      frames = if (sleeper v.sleepers s).asleep then 1 else b.frames;
+      time = b.air;
+    }) v.config.answers (is_wide_of v s t) ≡ room_for w s t
+room_read v w bodies s h live m is t low b bounds =
+    let x : Station = station w s in
+    let k : IsMember m x = member_read m (member v.members s) (at None w.stations s)
+    (h.others.stations.live s) live is in
+    let wide : Bool = is_wide_of v s t in
+    let frames : ℕ = if (sleeper v.sleepers s).asleep then 1 else b.frames in
+    ap₂ (λ (r : Rate) (n : ℕ). sized r n m.ampdu frames b.air v.config.answers wide) k.rate k.exponent
+    ∙ ap₂ (λ (o : Option ℕ) (p : Bool). sized x.rate x.exponent o (if p then 1 else b.frames) b.air
+    v.config.answers wide) k.ampdu (h.others.stations.asleep s live)
+    ∙ ap₂ (λ (c : Bounds) (n : ℕ). sized x.rate x.exponent x.ampdu (if x.asleep then 1 else c.frames) c.air n
+    wide) (sym bounds) (ap (λ c. c.answers) h.others.config)
+    ∙ ap (sized x.rate x.exponent x.ampdu (most_frames w s) w.bounds.air w.config.answers)
+    (wide_same v w bodies s t h live low)
 
 -- ---- a take
 
@@ -114,16 +136,16 @@ drops_read v w bodies s t h live low params f out =
 -- ---- who sends
 
 pub turn_sends : (v : TransmitValue) (w : World) (bodies : ℕ → FrameValue) → StandsFor v w bodies →
-    (c : Class) (s : ℕ) → (picked_station w c).winner ≡ Some s → (turns : SchedValue) →
+    (c : Class) (l : Limits) (s : ℕ) → (picked_station w c).winner ≡ Some s → (turns : SchedValue) →
     HasPickedInClass w c v.sched turns →
     can_send_of (record v { sched = turns }) s (sending_tid_of (record v { sched = turns }) s c) ≡ true
-turn_sends v w bodies h c s won turns picked =
+turn_sends v w bodies h c l s won turns picked =
     let x : TransmitValue = record v { sched = turns } in
-    let u : World = after_pick w c in
-    let k : Parts x u bodies = pick_parts v w bodies c turns picked h.parts in
-    let live : is_live u s ≡ true = winner_live v w bodies h c s won in
+    let u : World = after_pick_within w c l in
+    let k : Parts x u bodies = pick_within_parts v w bodies c turns picked h.parts l in
+    let live : is_live u s ≡ true = winner_live v w bodies h c l s won in
     let can : can_send_in u s c ≡ true = (from_winner (picked_station w c).winner s
-    (λ i. (is_live u i ≡ true) × (can_send_in u i c ≡ true)) won (winner_ready w c)).1 in
+    (λ i. (is_live u i ≡ true) × (can_send_in u i c ≡ true)) won (winner_ready w c l)).1 in
     ap (can_send_of x s) (sending_same x u bodies s c k live)
     ∙ can_send_same x u bodies s (sending_tid u s c) k live (sending_low x u bodies s c k live)
     ∙ sends (can_send u s) (share u s c).upper (lower_tid c) (upper_tid c) can
@@ -141,14 +163,15 @@ judged_by count airtime full ahead idle =
     if full then Some (Full count) else if ahead then Some (Ahead airtime)
     else if idle then Some Idle else None
 
-module _ (v : TransmitValue) (w : World) (bodies : ℕ → FrameValue) (c : Class) (h : Parts v w bodies) where
+module _ (v : TransmitValue) (w : World) (bodies : ℕ → FrameValue) (c : Class) (l : Limits)
+    (h : Parts v w bodies) where
   abbrev nobody : Bool
   nobody = is_none (picked_station w c).winner
 
   abbrev judged : Bool → Bool → Bool → Option Refusal
   judged = judged_by (open_of_class w c) (owed_by_all w.opened)
 
-  rows_are : refusal w (Asked (Pull c))
+  rows_are : refusal w (Asked (Pull c l))
       ≡ judged (nat_le w.config.inflight (open_of_class w c)) (is_at_aql_total w) nobody
   rows_are = three_rows (nat_le w.config.inflight (open_of_class w c)) (is_at_aql_total w) nobody
       (Full (open_of_class w c)) (Ahead (owed_by_all w.opened)) Idle
@@ -161,18 +184,18 @@ module _ (v : TransmitValue) (w : World) (bodies : ℕ → FrameValue) (c : Clas
   test_read = ap₂ (λ (n m : ℕ). nat_le n m) (ap (λ x. x.inflight) h.others.config) count_read
 
   pub full_refused : nat_le v.config.inflight (count_by (λ x. same_class x.class c) v.opened) ≡ true →
-      refusal w (Asked (Pull c)) ≡ Some (Full (count_by (λ x. same_class x.class c) v.opened))
+      refusal w (Asked (Pull c l)) ≡ Some (Full (count_by (λ x. same_class x.class c) v.opened))
   full_refused full =
       rows_are
       ∙ ap (λ (b : Bool). judged b (is_at_aql_total w) nobody) (sym test_read ∙ full)
       ∙ ap (λ (n : ℕ). Some (Full n)) (sym count_read)
 
   module _ (few : nat_le v.config.inflight (count_by (λ x. same_class x.class c) v.opened) ≡ false) where
-    with_room : refusal w (Asked (Pull c)) ≡ judged false (is_at_aql_total w) nobody
+    with_room : refusal w (Asked (Pull c l)) ≡ judged false (is_at_aql_total w) nobody
     with_room = rows_are ∙ ap (λ (b : Bool). judged b (is_at_aql_total w) nobody) (sym test_read ∙ few)
 
     pub ahead_refused : is_ahead_of v ≡ true →
-        refusal w (Asked (Pull c)) ≡ Some (Ahead (airtime_of v.opened))
+        refusal w (Asked (Pull c l)) ≡ Some (Ahead (airtime_of v.opened))
     ahead_refused ahead =
         with_room
         ∙ ap (λ (b : Bool). judged false b nobody) (sym (ahead_same v w bodies h) ∙ ahead)
@@ -180,26 +203,26 @@ module _ (v : TransmitValue) (w : World) (bodies : ℕ → FrameValue) (c : Clas
 
     module _ (behind : is_ahead_of v ≡ false) where
       by_winner : (o : Option ℕ) → (picked_station w c).winner ≡ o →
-          refusal w (Asked (Pull c)) ≡ (if is_none o then Some Idle else None)
+          refusal w (Asked (Pull c l)) ≡ (if is_none o then Some Idle else None)
       by_winner o is =
           with_room
           ∙ ap (λ (b : Bool). judged false b nobody) (sym (ahead_same v w bodies h) ∙ behind)
           ∙ ap (λ (z : Option ℕ). if is_none z then Some Idle else None) is
 
-      pub idle_refused : (picked_station w c).winner ≡ None → refusal w (Asked (Pull c)) ≡ Some Idle
+      pub idle_refused : (picked_station w c).winner ≡ None → refusal w (Asked (Pull c l)) ≡ Some Idle
       idle_refused none = by_winner None none
 
-      pub not_refused : (s : ℕ) → (picked_station w c).winner ≡ Some s → refusal w (Asked (Pull c)) ≡ None
+      pub not_refused : (s : ℕ) → (picked_station w c).winner ≡ Some s → refusal w (Asked (Pull c l)) ≡ None
       not_refused s won = by_winner (Some s) won
 
-      idle_only : (o : Option ℕ) → (picked_station w c).winner ≡ o → refusal w (Asked (Pull c)) ≡ Some Idle →
+      idle_only : (o : Option ℕ) → (picked_station w c).winner ≡ o → refusal w (Asked (Pull c l)) ≡ Some Idle →
           o ≡ None
       idle_only None is idle = refl
       idle_only (Some s) is idle =
           absurd (let e : None ≡ Some Idle = sym (by_winner (Some s) is) ∙ idle in cc e)
 
       -- if no station is ready, the pull is refused as Idle
-      pub none_ready_refused : NoneReady w c → refusal w (Asked (Pull c)) ≡ Some Idle
+      pub none_ready_refused : NoneReady w c → refusal w (Asked (Pull c l)) ≡ Some Idle
       none_ready_refused nobody_ready = idle_refused (unpicked (picked_station w c).winner
           (pick_ready (station_need w c) (is_ready w c) (rotation w c)))
         where

@@ -77,7 +77,8 @@ beyond_on_session w s t f = record {
       x { tids = change no_tid x.tids t (λ y. record y { session = f y.session }) })
       (λ x. at_put_other no_tid x.tids t j _ (λ e. other (sym e)));
   live = live_on w s _ s;
-  receives = receives_on_station w s _ (record { asleep = λ x. refl; credit = λ x. refl }) s;
+  receives = receives_on_station w s _
+      (record { asleep = λ x. refl; credit = λ x. refl; stopped = λ x. refl }) s;
   opened = on_station_opened w s _;
 }
 
@@ -87,7 +88,8 @@ unfolding on_share
 beyond_on_share w s t c f = record {
   tids = λ j _. tid_on_station w s j _ (λ x. refl);
   live = live_on w s _ s;
-  receives = receives_on_station w s _ (record { asleep = λ x. refl; credit = λ x. refl }) s;
+  receives = receives_on_station w s _
+      (record { asleep = λ x. refl; credit = λ x. refl; stopped = λ x. refl }) s;
   opened = on_station_opened w s _;
 }
 
@@ -165,8 +167,9 @@ without_elsewhere : (w : World) (e : ℕ) (x : Exchange) → IsKept (books w) �
     may_receive (without_exchange w x.number) s c ≡ may_receive w s c
 unfolding without_exchange
 without_elsewhere w e x kept own found s c other =
-    ap (λ (n : ℕ). (not (station w s).asleep || has_credit (station w s).credit c)
-    && ((w.config.aql == 0) || nat_lt n w.config.aql)) (owed_elsewhere w e x kept own found s c other)
+    ap (λ (n : ℕ). not (station w s).stopped
+    && ((not (station w s).asleep || has_credit (station w s).credit c)
+    && ((w.config.aql == 0) || nat_lt n w.config.aql))) (owed_elsewhere w e x kept own found s c other)
 
 module _ (w : World) (e : ℕ) (x : Exchange) (heard : Bool) (air : Option ℕ) (kept : IsKept (books w))
     (own : HaveOwnClass w.opened) (found : IsFound w e x) where

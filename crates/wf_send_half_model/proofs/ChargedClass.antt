@@ -3,8 +3,10 @@
 use Rattle.std.proofs.Common.{◌≡◌, refl, ap, sym, ◌∙◌, subst, arith, ℕ, ◌+◌, ◌==◌, Bool, true, false, not, ◌&&◌, if◌then◌else◌, List, [], ◌∷◌, ◌++◌, filter, map, Option, Some, None, inl, inr}
 use Rattle.std.proofs.lemmas.Bool.{cases_Bool, ne_eqb}
 use Rattle.wf_frame.specs.declared.classes.Class.{Class}
-use Rattle.wf_frame.specs.declared.notes.Ask.TheVariants.{Join, Leave, Rate, Tick, Pull, Arrive, Answer, Done, Sleep, Wake, Poll, Rx, Reap}
+use Rattle.wf_frame.specs.declared.notes.Ask.TheVariants.{Join, Leave, Rate, Tick, Pull, Arrive, Answer, Done, Sleep, Wake, Poll, Rx, Reap, Ampdu, Stop, Start}
 use Rattle.wf_frame.specs.declared.notes.Note.{Note}
+use Rattle.wf_frame.specs.declared.notes.Limits.{Limits}
+use Rattle.wf_law_runs.proofs.Common.Picked.{picked_world}
 use Rattle.wf_frame.specs.declared.notes.Note.TheVariants.{Enqueue, Asked}
 use Rattle.wf_frame.specs.declared.notes.Refusal.{Refusal}
 use Rattle.wf_frame.specs.declared.notes.Refusal.TheVariants.{Idle}
@@ -18,7 +20,7 @@ use Rattle.wf_def_world.specs.Step.{Outcome, outcome_of, after_refusal, judged_o
 use Rattle.wf_def_world.specs.Run.{Entry, world_after}
 use Rattle.wf_law_rules.proofs.Lemmas.Numbers.{on_if}
 use Rattle.wf_law_runs.proofs.Deficits.Books.{Books, books, core}
-use Rattle.wf_law_runs.proofs.Deficits.BookSteps.{books_after_turn, books_prepared, books_sent, books_ended, books_gone, books_enqueued, books_received, books_reaped, books_slept, books_woken, books_credited, books_with_rate, books_joined, books_after_pick}
+use Rattle.wf_law_runs.proofs.Deficits.BookSteps.{books_after_turn, books_prepared, books_sent, books_ended, books_gone, books_enqueued, books_received, books_reaped, books_slept, books_woken, books_credited, books_with_rate, books_joined, books_after_pick, books_stated, books_stopped, books_started}
 use Rattle.wf_law_runs.proofs.Deficits.Kept.{IsKept}
 use Rattle.wf_law_runs.proofs.Deficits.KeptStep.{IsFound, books_arrived, books_answered, kept_step, kept_opening}
 use Rattle.wf_law_runs.proofs.Deficits.Openings.{Every, every_append, every_filter}
@@ -62,9 +64,9 @@ own_pulled_by (Some s) v c i =
 own_after_pick : (w : World) (c : Class) → Own (books w) → Own (books (after_pick w c))
 own_after_pick w c i = own_is _ _ (books_after_pick w c) i
 
-own_pulled : (w : World) (c : Class) → Own (books w) → Own (books (pull_outcome w c).world)
+own_pulled : (w : World) (c : Class) (l : Limits) → Own (books w) → Own (books (pull_outcome w c l).world)
 unfolding pull_outcome
-own_pulled w c i = own_pulled_by (picked_station w c).winner (after_pick w c) c (own_after_pick w c i)
+own_pulled w c l i = own_pulled_by (picked_station w c).winner (picked_world w c l) c (own_after_pick w c i)
 
 -- ---- a listing
 
@@ -102,7 +104,7 @@ own_done (Asked (Join s window start exponent weight)) w k i =
 own_done (Asked (Leave s)) w k i = own_is _ _ (books_gone w s) i
 own_done (Asked (Rate s rate)) w k i = own_is _ _ (books_with_rate w s rate) i
 own_done (Asked (Tick by)) w k i = i
-own_done (Asked (Pull c)) w k i = own_pulled w c i
+own_done (Asked (Pull c l)) w k i = own_pulled w c l i
 own_done (Asked (Arrive e j)) w k i = own_open w e (exchange w e) _ refl i
     (λ x f. own_is _ _ (books_arrived w e j x k f) i)
 own_done (Asked (Answer e)) w k i = own_open w e (exchange w e) _ refl i
@@ -111,6 +113,9 @@ own_done (Asked (Done e heard air)) w k i = own_open w e (exchange w e) _ refl i
     (λ x f. own_is _ _ (books_ended air w x heard)
     (every_filter (λ y. class_of y.tid ≡ y.class) (λ y. not (y.number == x.number)) (books w).opened i))
 own_done (Asked (Sleep s)) w k i = own_is _ _ (books_slept w s) i
+own_done (Asked (Ampdu s octets)) w k i = own_is _ _ (books_stated w s octets) i
+own_done (Asked (Stop s)) w k i = own_is _ _ (books_stopped w s) i
+own_done (Asked (Start s)) w k i = own_is _ _ (books_started w s) i
 own_done (Asked (Wake s)) w k i = own_is _ _ (books_woken w s) i
 own_done (Asked (Poll s)) w k i = own_is _ _ (books_credited w s) i
 own_done (Asked (Rx s c air)) w k i = own_is _ _ (books_received w s c air) i
@@ -118,7 +123,7 @@ own_done (Asked Reap) w k i = own_is _ _ (books_reaped w.finished w) i
 
 own_refused : (note : Note) (r : Refusal) (w : World) → Own (books w) → Own (books (after_refusal w note r))
 unfolding after_refusal
-own_refused (Asked (Pull c)) Idle w i =
+own_refused (Asked (Pull c l)) Idle w i =
     on_if (λ (v : World). Own (books v)) (w.config.pending == 1) w (after_pick w c) (λ _. i)
     (λ _. own_after_pick w c i)
 own_refused _ _ w i = i

@@ -6,17 +6,19 @@ use Rattle.std.specs.Prelude.{int_le}
 use Rattle.wf_frame.specs.declared.settings.Config.{Config}
 use Rattle.wf_frame.specs.declared.classes.Class.{Class}
 use Rattle.wf_frame.specs.declared.notes.Ask.TheVariants.{Pull}
+use Rattle.wf_frame.specs.declared.notes.Limits.{Limits}
 use Rattle.wf_frame.specs.declared.notes.Note.TheVariants.{Asked}
 use Rattle.wf_frame.specs.Classes.{class_number, same_class, class_of}
 use Rattle.wf_def_lists.specs.Table.{at}
 use Rattle.wf_def_rotation.specs.Rotation.{Picked, in_order}
 use Rattle.wf_def_world.specs.World.{World, Station, Share, Exchange, no_station, no_share, owed, without_exchange}
 use Rattle.wf_def_world.specs.CanSend.{is_debtor}
-use Rattle.wf_def_world.specs.Exchanges.{Prepared, picked_station, after_pick, sending_tid, after_tid_turn, prepared_exchange, exchange_of, charge_of}
+use Rattle.wf_def_world.specs.Exchanges.{Prepared, picked_station, sending_tid, after_tid_turn, prepared_exchange, exchange_of, charge_of}
 use Rattle.wf_def_world.specs.Step.{outcome_of, enqueue_outcome, pull_outcome_for, pull_outcome, send_outcome, done_outcome, rx_outcome}
 use Rattle.wf_def_lists.specs.Lists.{on}
 use Rattle.wf_law_runs.proofs.Deficits.Books.{Account, account, core, Books, books, on_part, same_number, upd_same, updc_other}
 use Rattle.wf_law_runs.proofs.Deficits.BookSteps.{without, after, paid, pay_share, charge_share, receive_share, books_without, books_after_turn, books_prepared, books_sent, books_ended, books_enqueued, books_received, books_after_pick}
+use Rattle.wf_law_runs.proofs.Common.Picked.{picked_world}
 use Rattle.wf_law_runs.proofs.Deficits.Kept.{IsKept}
 use Rattle.wf_law_runs.proofs.Deficits.KeptStep.{IsFound}
 use Rattle.wf_send_half_model.proofs.ChargedClass.{HaveOwnClass, owed_append}
@@ -98,11 +100,11 @@ debtor_enqueued w s t flow len d i =
     ∙ ap (λ (b : Books). debts b d i) (books_enqueued w s t flow len)
     ∙ sym (debtor_is w d i)
 
-pub debtor_pulled : (w : World) (c d : Class) (s : ℕ) → (picked_station w c).winner ≡ Some s →
-    (d ≡ c → ⊥) → is_debtor (outcome_of w (Asked (Pull c))).world d s ≡ is_debtor w d s
+pub debtor_pulled : (w : World) (c d : Class) (l : Limits) (s : ℕ) → (picked_station w c).winner ≡ Some s →
+    (d ≡ c → ⊥) → is_debtor (outcome_of w (Asked (Pull c l))).world d s ≡ is_debtor w d s
 unfolding outcome_of pull_outcome pull_outcome_for
-debtor_pulled w c d s won other =
-    let v : World = after_pick w c in
+debtor_pulled w c d l s won other =
+    let v : World = picked_world w c l in
     let t : ℕ = sending_tid v s c in
     let p : Prepared = prepared_exchange (after_tid_turn v s c t) s t in
     let b : Books = books p.world in

@@ -6,7 +6,7 @@ use Rattle.std.proofs.lemmas.Bool.{or_left, or_right}
 use Rattle.std.proofs.lemmas.Bool.Decides.{nat_tests}
 use Rattle.std.proofs.lemmas.List.{map-append}
 use Rattle.wf_frame.specs.Frames.{FrameValue}
-use Rattle.wf_def_air.specs.Fit.{fits}
+use Rattle.wf_def_air.specs.Fit.{most_octets, fits}
 use Rattle.wf_def_lists.specs.Lists.{IsRising}
 use Rattle.wf_def_agreement.specs.Session.{Session, State, slot, start_of, waiting_numbers}
 use Rattle.wf_def_lists.specs.Table.{has}
@@ -167,13 +167,22 @@ module _ (v : TransmitValue) (w : World) (bodies : ℕ → FrameValue) (s t : �
     choosing_near = listing_near (window_of v.windows s t) y bodies
         (to.turned.parts.windows.all.stands s t to.turned.live to.turned.tid) ns from so_far.listed
 
-    adds_number : (m : Mpdu) → fits room.rate room.exponent room.agg room.cap
-        (lens_of (map g ns) ++ m.len ∷ []) ≡ fits_in w s (map g ns ++ m ∷ [])
+    -- the lengths with one more, by the half's setting and by the world's
+    abbrev longer : ℕ → Mpdu → List ℕ
+    longer overhead m = lens_of w.config.overhead (map g ns) ++ (m.len + overhead) ∷ []
+
+    same_lens : (m : Mpdu) → longer v.config.overhead m ≡ longer w.config.overhead m
+    same_lens m = ap (λ c. longer c.overhead m) to.turned.parts.others.config
+
+    adds_number : (m : Mpdu) → fits room.rate room.limits.octets room.limits.frames room.limits.time
+        (longer v.config.overhead m) ≡ fits_in w s (map g ns ++ m ∷ [])
     adds_number m =
-        ap (λ (r : AggregateSizeValue). fits r.rate r.exponent r.agg r.cap (lens_of (map g ns) ++ m.len ∷ []))
-        so_far.room_is.settings
-        ∙ ap (fits (station w s).rate (station w s).exponent (most_frames w s) w.config.cap)
-        (sym (map-append (λ (k : Mpdu). k.len) (map g ns) (m ∷ [])))
+        ap (λ (r : AggregateSizeValue). fits r.rate r.limits.octets r.limits.frames r.limits.time
+        (longer v.config.overhead m)) so_far.room_is.settings
+        ∙ ap (fits (station w s).rate
+        (most_octets (station w s).rate (station w s).exponent (station w s).ampdu) (most_frames w s)
+        w.bounds.air)
+        (same_lens m ∙ sym (map-append (λ (k : Mpdu). k.len + w.config.overhead) (map g ns) (m ∷ [])))
 
     -- all of them are chosen
     pub choosing_ends : option_map on_air (waiting_from y so_far.listed.number) ≡ None →
@@ -216,10 +225,11 @@ module _ (v : TransmitValue) (w : World) (bodies : ℕ → FrameValue) (s t : �
           sym (ap len_of (to.turned.parts.others.notes (slot y next.number).id
           (known_number next.number from next.waits)).note)
 
-      pub choosing_next : (more : AggregateSizeValue) → fits room.rate room.exponent room.agg room.cap
-          (lens_of (map g ns) ++ m.len ∷ []) ≡ true →
+      pub choosing_next : (more : AggregateSizeValue) →
+          fits room.rate room.limits.octets room.limits.frames room.limits.time
+          (longer v.config.overhead m) ≡ true →
           more ≡ record room { count = more.count; octets = more.octets } →
-          SizeStandsFor more (lens_of (map g ns) ++ m.len ∷ []) →
+          SizeStandsFor more (longer v.config.overhead m) →
           IsChoosing more (numbers ++ seq ∷ []) ((seq + 1) % 4096) w s t
       choosing_next more fit kept lens =
           let split : map g (ns ++ next.number ∷ []) ≡ map g ns ++ m ∷ [] =
@@ -235,8 +245,8 @@ module _ (v : TransmitValue) (w : World) (bodies : ℕ → FrameValue) (s t : �
                     more.octets;
               })
                   so_far.room_is.settings;
-              lens = subst (SizeStandsFor more) (sym (ap lens_of split
-                  ∙ map-append (λ (k : Mpdu). k.len) (map g ns) (m ∷ []))) lens;
+              lens = subst (SizeStandsFor more) (same_lens m ∙ sym (ap (lens_of w.config.overhead) split
+                  ∙ map-append (λ (k : Mpdu). k.len + w.config.overhead) (map g ns) (m ∷ []))) lens;
             };
             fit = λ some. ap (fits_in w s) split ∙ sym (adds_number m) ∙ fit;
           }
@@ -244,8 +254,8 @@ module _ (v : TransmitValue) (w : World) (bodies : ℕ → FrameValue) (s t : �
           ap2 : {ms : List ℕ} {n : ℕ} → numbers ≡ ms → seq ≡ n → numbers ++ seq ∷ [] ≡ ms ++ n ∷ []
           ap2 {ms} {n} a b = ap (λ (l : List ℕ). l ++ seq ∷ []) a ∙ ap (λ (k : ℕ). ms ++ k ∷ []) b
 
-      pub choosing_stops : fits room.rate room.exponent room.agg room.cap (lens_of (map g ns) ++ m.len ∷ [])
-          ≡ false → IsFilled v bodies s t room numbers (aggregate_of w s t)
+      pub choosing_stops : fits room.rate room.limits.octets room.limits.frames room.limits.time
+          (longer v.config.overhead m) ≡ false → IsFilled v bodies s t room numbers (aggregate_of w s t)
       choosing_stops fit =
           let rest : List ℕ = waiting_since y next.goes_on.number in
           let split : ns ++ next.number ∷ rest ≡ waiting_numbers y =

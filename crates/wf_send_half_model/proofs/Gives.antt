@@ -1,6 +1,6 @@
 -- Proves that fresh frames get numbers, one after the other, while they fit, as in the world's loop. One
 -- round takes a frame, gives it the next number, and either adds it to the aggregate or ends the aggregate.
-use Rattle.std.proofs.Common.{◌≡◌, refl, ap, ap₂, sym, ◌∙◌, subst, arith, ℕ, zero, suc, ◌-◌, ◌<◌, ◌≤◌, Bool, true, false, not, ◌&&◌, if◌then◌else◌, List, [], ◌∷◌, ◌++◌, map, length, length-append, Option, Some, None, option_map, unwrap_or}
+use Rattle.std.proofs.Common.{◌≡◌, refl, ap, ap₂, sym, ◌∙◌, subst, arith, ℕ, zero, suc, ◌+◌, ◌-◌, ◌<◌, ◌≤◌, Bool, true, false, not, ◌&&◌, if◌then◌else◌, List, [], ◌∷◌, ◌++◌, map, length, length-append, Option, Some, None, option_map, unwrap_or}
 use Rattle.std.specs.Prelude.{nat_lt, is_some, IfSome}
 use Rattle.std.proofs.lemmas.List.{map-append, length-map}
 use Rattle.wf_frame.specs.declared.classes.Class.{Class}
@@ -8,24 +8,26 @@ use Rattle.wf_frame.specs.Frames.{FrameValue}
 use Rattle.wf_def_air.specs.Airtime.{Rate}
 use Rattle.wf_def_lists.specs.Bounds.{narrow_window}
 use Rattle.wf_def_codel.specs.Codel.{Item, Params}
-use Rattle.wf_def_air.specs.Fit.{fits}
+use Rattle.wf_def_air.specs.Fit.{most_octets, fits}
 use Rattle.wf_def_lists.specs.Lists.{IsRising}
 use Rattle.wf_def_agreement.specs.Session.{Session, Slot, State, no_slot, slot, next_number, request_due, has_room, with_number_given}
 use Rattle.wf_def_lists.specs.Table.{at}
-use Rattle.wf_def_world.specs.World.{World, Station, Mpdu, no_station, is_live, station, session, codel_params, on_session}
+use Rattle.wf_def_world.specs.World.{World, Bounds, Station, Mpdu, no_station, is_live, station, session, codel_params, with_station, on_station, on_tid, on_session}
 use Rattle.wf_def_world.specs.FlowQueues.{taken_for_tid}
 use Rattle.wf_def_world.specs.CanSend.{can_give}
-use Rattle.wf_def_world.specs.Exchanges.{Aggregate, after_pick, after_tid_turn, most_frames, lens_of, fits_in, fresh_mpdus, with_number, with_fresh}
+use Rattle.wf_def_world.specs.Exchanges.{Aggregate, after_tid_turn, most_frames, lens_of, fits_in, fresh_mpdus, with_number, with_fresh}
 use Rattle.wf_law_runs.specs.Windows.{EachMpdu}
 use Rattle.wf_law_runs.proofs.Frames.Fates.{Fresh, safe_calm, safe_numbered}
-use Rattle.wf_law_runs.proofs.Frames.Fewer.{less_after_pick, less_after_turn}
+use Rattle.wf_law_runs.proofs.Frames.Fewer.{less_picked, less_after_turn}
 use Rattle.wf_law_runs.proofs.Frames.Places.{standing}
-use Rattle.wf_law_runs.proofs.Frames.Untouched.{untouched_after_pick, untouched_after_turn}
+use Rattle.wf_law_runs.proofs.Frames.Untouched.{untouched_picked, untouched_after_turn}
 use Rattle.wf_law_runs.proofs.Releases.Placed.{Any, Placing}
 use Rattle.wf_law_runs.proofs.Windows.Agreement.{slot_give, not_due_give}
 use Rattle.wf_law_runs.proofs.Windows.Agreed.{session_same}
-use Rattle.wf_law_runs.proofs.Windows.Sides.{same_after_pick, same_after_turn, same_take}
-use Rattle.wf_air.specs.Sizes.{AggregateSizeValue, SizeStandsFor as SizeStandsFor}
+use Rattle.wf_law_runs.proofs.Windows.Sides.{same_picked, same_after_turn, same_take}
+use Rattle.wf_air.specs.Sizes.{AggregateSizeValue, SizeStandsFor as SizeStandsFor, empty_size}
+use Rattle.wf_frame.specs.declared.notes.Limits.{Limits}
+use Rattle.wf_queue_flows_refines.specs.Rest.{Rest}
 use Rattle.wf_queue_flows.specs.Backlog.{item_of}
 use Rattle.wf_frame.specs.Classes.{tid_number}
 use Rattle.wf_queue_flows.specs.Flows.{frames_of_tid, taken_for_tid as take_out}
@@ -37,7 +39,7 @@ use Rattle.wf_send_parts.proofs.Calls.{can_take_is}
 use Rattle.wf_send_parts.specs.Windows.{WindowsHaveRoom, window_of, with_window}
 use Rattle.wf_send_half_model.specs.Half.{TransmitValue}
 use Rattle.wf_send_half_model.specs.Standing.{Parts, IsReached}
-use Rattle.wf_send_half_model.specs.Filling.{IsWaitingWith, AreWaiting, after_take, with_one_fresh, with_so_many_fresh, IsUnderway, room_for, HasRoomFor, IsFilling, IsFilled, after_giving, fresh_mpdu}
+use Rattle.wf_send_half_model.specs.Filling.{after_pick_within, IsWaitingWith, AreWaiting, after_take, with_one_fresh, with_so_many_fresh, IsUnderway, room_for, HasRoomFor, IsFilling, IsFilled, after_giving, fresh_mpdu}
 use Rattle.wf_send_half_model.specs.Views.{StationView, view_of, Roster, roster}
 use Rattle.wf_send_half_model.proofs.Views.{roster_rest, roster_session}
 use Rattle.wf_send_half_model.proofs.Moves.{session_parts, session_is}
@@ -56,13 +58,15 @@ placed_reached w r =
     let k = standing w.config r.history r.in_range in
     subst Placed (sym r.after) (record { named = _; placing = k.steady.placing; fresh = k.steady.fresh })
 
-placed_turned : (w : World) (s t : ℕ) (c : Class) → Placed w → Placed (after_tid_turn (after_pick w c) s c t)
-placed_turned w s t c p =
-    let a = safe_calm p.named w (after_pick w c) (less_after_pick Any w c) (same_after_pick w c)
-    (untouched_after_pick w c) p.placing p.fresh in
-    let b = safe_calm p.named (after_pick w c) (after_tid_turn (after_pick w c) s c t)
-    (less_after_turn Any (after_pick w c) s c t) (same_after_turn (after_pick w c) s c t)
-    (untouched_after_turn (after_pick w c) s c t) a.placing a.fresh in
+placed_turned : (w : World) (s t : ℕ) (c : Class) (l : Limits) → Placed w →
+    Placed (after_tid_turn (after_pick_within w c l) s c t)
+placed_turned w s t c l p =
+    let u : World = after_pick_within w c l in
+    let a = safe_calm p.named w u (less_picked Any w c l) (same_picked w c l)
+    (untouched_picked w c l) p.placing p.fresh in
+    let b = safe_calm p.named u (after_tid_turn u s c t)
+    (less_after_turn Any u s c t) (same_after_turn u s c t)
+    (untouched_after_turn u s c t) a.placing a.fresh in
     record { named = p.named; placing = b.placing; fresh = b.fresh }
 
 placed_fresh : (n : ℕ) (w : World) (s t : ℕ) → Placed w → Placed (with_so_many_fresh n w s t)
@@ -74,14 +78,15 @@ placed_fresh (suc n) w s t p =
 
 pub placed : (w : World) (s t : ℕ) → IsUnderway w s t → Placed w
 placed w s t u = subst Placed u.is (placed_fresh u.given
-    (after_tid_turn (after_pick u.before u.class) s u.class t) s t
-    (placed_turned u.before s t u.class (placed_reached u.before u.reached)))
+    (after_tid_turn (after_pick_within u.before u.class u.limits) s u.class t) s t
+    (placed_turned u.before s t u.class u.limits (placed_reached u.before u.reached)))
 
 pub one_more_fresh : (w : World) (s t : ℕ) → IsUnderway w s t → IsUnderway (with_one_fresh w s t) s t
 one_more_fresh w s t u = record {
   before = u.before;
   reached = u.reached;
   class = u.class;
+  limits = u.limits;
   given =
       suc u.given;
   is = ap (λ (x : World). with_one_fresh x s t) u.is;
@@ -167,14 +172,19 @@ fresh_waiting y bodies id ms m number same frame a =
 
 -- ---- the room is unchanged
 
+bounds_session : (w : World) (s t : ℕ) (f : Session → Session) → (on_session w s t f).bounds ≡ w.bounds
+unfolding on_session on_tid on_station with_station
+bounds_session w s t f = refl
+
 record IsSameStation (x y : Station) : Type 0 where
   rate : y.rate ≡ x.rate
   exponent : y.exponent ≡ x.exponent
+  ampdu : y.ampdu ≡ x.ampdu
   asleep : y.asleep ≡ x.asleep
 
 same_station : (o p : Option Station) → option_map view_of p ≡ option_map view_of o →
     IsSameStation (unwrap_or o no_station) (unwrap_or p no_station)
-same_station None None e = record { rate = refl; exponent = refl; asleep = refl }
+same_station None None e = record { rate = refl; exponent = refl; ampdu = refl; asleep = refl }
 same_station None (Some y) e = absurd (cc e)
 same_station (Some x) None e = absurd (cc e)
 same_station (Some x) (Some y) e =
@@ -183,10 +193,17 @@ same_station (Some x) (Some y) e =
       rate = ap (λ (z : StationView). z.rate) same;
       exponent =
           ap (λ (z : StationView). z.exponent) same;
+      ampdu = ap (λ (z : StationView). z.ampdu) same;
       asleep = ap (λ (z : StationView). z.asleep) same;
     }
 
-module _ (w u : World) (s t : ℕ) (same : roster u ≡ roster w)
+-- an empty aggregate with these limits, in a session of this size
+abbrev sized : Rate → ℕ → Option ℕ → ℕ → ℕ → ℕ → ℕ → AggregateSizeValue
+sized r exponent stated frames time answers size = empty_size r
+    (record { octets = most_octets r exponent stated; frames = frames; time = time }) answers
+    (nat_lt narrow_window size)
+
+module _ (w u : World) (s t : ℕ) (same : roster u ≡ roster w) (bounds : u.bounds ≡ w.bounds)
     (size : (session u s t).size ≡ (session w s t).size) where
   station_is : IsSameStation (station w s) (station u s)
   station_is = same_station (at None w.stations s) (at None u.stations s)
@@ -194,30 +211,32 @@ module _ (w u : World) (s t : ℕ) (same : roster u ≡ roster w)
 
   pub most_same : most_frames u s ≡ most_frames w s
   most_same = ap₂ (λ (b : Bool) (n : ℕ). if b then 1 else n) station_is.asleep
-      (ap (λ (r : Roster). r.config.agg) same)
+      (ap (λ (b : Bounds). b.frames) bounds)
 
   pub room_same : room_for u s t ≡ room_for w s t
   room_same =
-      ap₂ (λ (r : Rate) (n : ℕ). record (room_for u s t) { rate = r; exponent = n }) station_is.rate
-      station_is.exponent
-      ∙ ap₂ (λ (n m : ℕ). record (room_for u s t) {
-        rate = (station w s).rate;
-        exponent =
-            (station w s).exponent;
-        agg = n;
-        cap = m;
-      }) most_same (ap (λ (r : Roster). r.config.cap) same)
-      ∙ ap (λ (n : ℕ). record (room_for w s t) { wide = nat_lt narrow_window n }) size
+      let x : Station = station w s in
+      let y : Station = station u s in
+      let long : ℕ = (session u s t).size in
+      ap₂ (λ (r : Rate) (n : ℕ). sized r n y.ampdu (most_frames u s) u.bounds.air u.config.answers long)
+      station_is.rate station_is.exponent
+      ∙ ap₂ (λ (o : Option ℕ) (n : ℕ). sized x.rate x.exponent o n u.bounds.air u.config.answers long)
+      station_is.ampdu most_same
+      ∙ ap₂ (λ (b : Bounds) (r : Roster). sized x.rate x.exponent x.ampdu (most_frames w s) b.air
+      r.config.answers long) bounds same
+      ∙ ap (sized x.rate x.exponent x.ampdu (most_frames w s) w.bounds.air w.config.answers) size
 
 room_kept : (room more : AggregateSizeValue) (w u : World) (s t : ℕ) (mpdus longer : List Mpdu) →
-    room_for u s t ≡ room_for w s t → more ≡ record room { count = more.count; octets = more.octets } →
-    SizeStandsFor more (lens_of longer) → HasRoomFor room w s t mpdus → HasRoomFor more u s t longer
-room_kept room more w u s t mpdus longer same kept lens h = record {
+    room_for u s t ≡ room_for w s t → u.config.overhead ≡ w.config.overhead →
+    more ≡ record room { count = more.count; octets = more.octets } →
+    SizeStandsFor more (lens_of w.config.overhead longer) → HasRoomFor room w s t mpdus →
+    HasRoomFor more u s t longer
+room_kept room more w u s t mpdus longer same overhead kept lens h = record {
   settings =
       kept
       ∙ ap (λ (r : AggregateSizeValue). record r { count = more.count; octets = more.octets }) h.settings
       ∙ ap (λ (r : AggregateSizeValue). record r { count = more.count; octets = more.octets }) (sym same);
-  lens = lens;
+  lens = subst (λ (n : ℕ). SizeStandsFor more (lens_of n longer)) (sym overhead) lens;
 }
 
 -- ---- the world's loop
@@ -354,6 +373,11 @@ module _ (v : TransmitValue) (w : World) (bodies : ℕ → FrameValue) (s t : �
     roster_next = ap roster next_is ∙ roster_session taken s t (λ z. with_number_given z f.id)
         ∙ roster_rest w taken (rest_take w s t)
 
+    bounds_next : next.bounds ≡ w.bounds
+    bounds_next = ap (λ (u : World). u.bounds) next_is
+        ∙ bounds_session taken s t (λ z. with_number_given z f.id)
+        ∙ ap (λ (r : Rest). r.bounds) (rest_take w s t)
+
     live_next : is_live next s ≡ true
     live_next = live_by (at None next.stations s) (at None w.stations s)
         (ap (λ (r : Roster). r.stations s) roster_next) left.live
@@ -366,7 +390,10 @@ module _ (v : TransmitValue) (w : World) (bodies : ℕ → FrameValue) (s t : �
         live_by (Some a) (Some b) e h = refl
 
     room_next : room_for next s t ≡ room_for w s t
-    room_next = room_same w next s t roster_next (ap (λ (z : Session). z.size) session_next)
+    room_next = room_same w next s t roster_next bounds_next (ap (λ (z : Session). z.size) session_next)
+
+    overhead_next : next.config.overhead ≡ w.config.overhead
+    overhead_next = ap (λ (r : Roster). r.config.overhead) roster_next
 
     module _ (x : WindowValue) (have : WindowsHaveRoom (with_window v.windows s t x))
         (stands : WindowStandsFor x (with_number_given y f.id) bodies) where
@@ -387,7 +414,7 @@ module _ (v : TransmitValue) (w : World) (bodies : ℕ → FrameValue) (s t : �
       pub given_fits : (more : AggregateSizeValue) → length mpdus < most_frames w s → can_give w s t ≡ true →
           fits_in w s (mpdus ++ m ∷ []) ≡ true → more
           ≡ record room { count = more.count; octets = more.octets } →
-          SizeStandsFor more (lens_of mpdus ++ length f.body ∷ []) →
+          SizeStandsFor more (lens_of w.config.overhead mpdus ++ (length f.body + v.config.overhead) ∷ []) →
           IsFilling half next bodies s t more (numbers ++ on_air m.number ∷ []) (mpdus ++ m ∷ []) after
       given_fits more few gives fit kept lens = record {
         parts = given_parts;
@@ -400,8 +427,10 @@ module _ (v : TransmitValue) (w : World) (bodies : ℕ → FrameValue) (s t : �
             (sym (ap (λ (g : FrameValue). g.id) given_own)) left.waiting);
         on_air = ap (λ (ns : List ℕ). ns ++ on_air m.number ∷ []) left.on_air
             ∙ sym (map-append (λ (k : Mpdu). on_air k.number) mpdus (m ∷ []));
-        room_is = room_kept room more w next s t mpdus (mpdus ++ m ∷ []) room_next kept
-            (subst (SizeStandsFor more) (sym (map-append (λ (k : Mpdu). k.len) mpdus (m ∷ []))) lens)
+        room_is = room_kept room more w next s t mpdus (mpdus ++ m ∷ []) room_next overhead_next kept
+            (subst (SizeStandsFor more) (ap (λ c. lens_of w.config.overhead mpdus
+            ++ (length f.body + c.overhead) ∷ []) left.parts.others.config
+            ∙ sym (map-append (λ (k : Mpdu). k.len + w.config.overhead) mpdus (m ∷ []))) lens)
             left.room_is;
         leads =
             ap (λ (n : ℕ). with_fresh n next s t (mpdus ++ m ∷ [])) fewer
@@ -415,7 +444,7 @@ module _ (v : TransmitValue) (w : World) (bodies : ℕ → FrameValue) (s t : �
           fewer : most_frames next s - length (mpdus ++ m ∷ []) ≡ most_frames w s - suc (length mpdus)
           fewer = omega (
             arith,
-            most_same w next s t roster_next (ap (λ (z : Session). z.size) session_next),
+            most_same w next s t roster_next bounds_next (ap (λ (z : Session). z.size) session_next),
             length-append mpdus (m ∷ []),
           )
 
@@ -433,7 +462,8 @@ module _ (v : TransmitValue) (w : World) (bodies : ℕ → FrameValue) (s t : �
         waiting = subst (λ (z : Session). AreWaiting z bodies mpdus) (sym session_next)
             (still_waiting y bodies f.id mpdus left.waiting);
         on_air = left.on_air;
-        room_is = room_kept room room w next s t mpdus mpdus room_next refl left.room_is.lens left.room_is;
+        room_is = room_kept room room w next s t mpdus mpdus room_next overhead_next refl left.room_is.lens
+            left.room_is;
       })
         where
           is : length mpdus < most_frames w s → record { world = next; mpdus = mpdus } ≡ after
@@ -448,23 +478,30 @@ module _ (v : TransmitValue) (w : World) (bodies : ℕ → FrameValue) (s t : �
 module _ (v : TransmitValue) (w : World) (bodies : ℕ → FrameValue) (s t : ℕ) (room : AggregateSizeValue)
     (numbers : List ℕ) (mpdus : List Mpdu) (after : Aggregate)
     (left : IsFilling v w bodies s t room numbers mpdus after) where
-  agg_is : room.agg ≡ most_frames w s
-  agg_is = ap (λ (r : AggregateSizeValue). r.agg) left.room_is.settings
+  frames_are : room.limits.frames ≡ most_frames w s
+  frames_are = ap (λ (r : AggregateSizeValue). r.limits.frames) left.room_is.settings
 
   count_is : length numbers ≡ length mpdus
   count_is = ap (length {A = ℕ}) left.on_air ∙ length-map mpdus (λ (m : Mpdu). on_air m.number)
 
-  adds_same : (m : Mpdu) → fits room.rate room.exponent room.agg room.cap (lens_of mpdus ++ m.len ∷ [])
+  -- the lengths with one more, by the half's setting
+  abbrev longer : ℕ → List ℕ
+  longer len = lens_of w.config.overhead mpdus ++ (len + v.config.overhead) ∷ []
+
+  adds_same : (m : Mpdu) → fits room.rate room.limits.octets room.limits.frames room.limits.time (longer m.len)
       ≡ fits_in w s (mpdus ++ m ∷ [])
   adds_same m =
-      ap (λ (r : AggregateSizeValue). fits r.rate r.exponent r.agg r.cap (lens_of mpdus ++ m.len ∷ []))
+      ap (λ (r : AggregateSizeValue). fits r.rate r.limits.octets r.limits.frames r.limits.time (longer m.len))
       left.room_is.settings
-      ∙ ap (fits (station w s).rate (station w s).exponent (most_frames w s) w.config.cap)
-      (sym (map-append (λ (k : Mpdu). k.len) mpdus (m ∷ [])))
+      ∙ ap (fits (station w s).rate
+      (most_octets (station w s).rate (station w s).exponent (station w s).ampdu) (most_frames w s)
+      w.bounds.air)
+      (ap (λ c. lens_of w.config.overhead mpdus ++ (m.len + c.overhead) ∷ []) left.parts.others.config
+      ∙ sym (map-append (λ (k : Mpdu). k.len + w.config.overhead) mpdus (m ∷ [])))
 
-  pub full_fills : room.agg ≤ length numbers → IsFilled v bodies s t room numbers after
+  pub full_fills : room.limits.frames ≤ length numbers → IsFilled v bodies s t room numbers after
   full_fills full = filled_full v w bodies s t room numbers mpdus after left
-      (omega (arith, full, agg_is, count_is))
+      (omega (arith, full, frames_are, count_is))
 
   module _ (params : Params) (right : params ≡ codel_params w s) (f : FrameValue)
       (out : (take_out v.flows (tid_number s t) v.clock params).frame ≡ Some f) where
@@ -476,7 +513,7 @@ module _ (v : TransmitValue) (w : World) (bodies : ℕ → FrameValue) (s t : �
 
     module _ (x : WindowValue) (have : WindowsHaveRoom (with_window v.windows s t x))
         (stands : WindowStandsFor x (with_number_given (session w s t) f.id) bodies)
-        (few : length numbers < room.agg)
+        (few : length numbers < room.limits.frames)
         (gives : (nat_lt 0 (frames_of_tid v.flows (tid_number s t)) && can_take (window_of v.windows s t))
         ≡ true) where
       half_is : after_giving v s t (codel_params w s) x ≡ after_giving v s t params x
@@ -486,12 +523,12 @@ module _ (v : TransmitValue) (w : World) (bodies : ℕ → FrameValue) (s t : �
       can = sym (gives_same v w bodies s t room numbers mpdus after left) ∙ gives
 
       fewer_than : length mpdus < most_frames w s
-      fewer_than = omega (arith, few, agg_is, count_is)
+      fewer_than = omega (arith, few, frames_are, count_is)
 
-      pub fresh_goes_on : (more : AggregateSizeValue) → fits room.rate room.exponent room.agg room.cap
-          (lens_of mpdus ++ length f.body ∷ []) ≡ true →
+      pub fresh_goes_on : (more : AggregateSizeValue) →
+          fits room.rate room.limits.octets room.limits.frames room.limits.time (longer (length f.body)) ≡ true →
           more ≡ record room { count = more.count; octets = more.octets } →
-          SizeStandsFor more (lens_of mpdus ++ length f.body ∷ []) →
+          SizeStandsFor more (longer (length f.body)) →
           IsFilling (after_giving v s t params x) (with_one_fresh w s t) bodies s t more
           (numbers ++ on_air (next_number (session w s t)) ∷ []) (mpdus ++ fresh_mpdu w s t f ∷ []) after
       fresh_goes_on more fit kept lens =
@@ -501,8 +538,8 @@ module _ (v : TransmitValue) (w : World) (bodies : ℕ → FrameValue) (s t : �
           (given_fits v w bodies s t room numbers mpdus after left f out_is x have stands more fewer_than can
           (sym (adds_same (fresh_mpdu w s t f)) ∙ fit) kept lens)
 
-      pub fresh_stops : fits room.rate room.exponent room.agg room.cap (lens_of mpdus ++ length f.body ∷ [])
-          ≡ false → IsFilled (after_giving v s t params x) bodies s t room numbers after
+      pub fresh_stops : fits room.rate room.limits.octets room.limits.frames room.limits.time
+          (longer (length f.body)) ≡ false → IsFilled (after_giving v s t params x) bodies s t room numbers after
       fresh_stops fit =
           subst (λ (z : TransmitValue). IsFilled z bodies s t room numbers after) half_is
           (given_ends v w bodies s t room numbers mpdus after left f out_is x have stands fewer_than can

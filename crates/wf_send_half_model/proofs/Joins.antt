@@ -39,6 +39,8 @@ joining airtime window start exponent weight =
       weight = weight;
       rate = lowest_rate;
       exponent = exponent;
+      ampdu = None;
+      stopped = false;
       asleep = false;
       credit = None;
       shares = share ∷ share ∷ share ∷ share ∷ [];
@@ -81,6 +83,7 @@ module _ (airtime window start exponent weight : ℕ) where
     four = record { upper = refl; charged = refl; received = refl };
     rate = refl;
     exponent = refl;
+    ampdu = refl;
     upper = no_turn;
     charged = no_charge;
     received = no_receipt;
@@ -142,7 +145,7 @@ join_parts v w bodies after s window start exponent weight low off nothing reset
           (station_replaced v.members v.sleepers w.config.stations (roster w).stations s
           (Some (new_member exponent)) awake (Some (view_of x)) p.stations low
           (fresh_member (w.config.quantum * weight) window start exponent weight)
-          (record { asleep = refl; credit = refl }));
+          (record { asleep = refl; credit = refl; stopped = refl }));
       windows = subst (WindowsStand after bodies) (sym (agreements_with_station w s (Some x)))
           (windows_reset v.windows after bodies (agreements w) s start window
           (session_in (Some x)) p.windows reset (new_sessions

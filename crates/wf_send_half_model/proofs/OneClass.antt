@@ -5,16 +5,18 @@ use Rattle.std.proofs.Common.{◌≡◌, ap, sym, ◌∙◌, ℕ, Bool, true, Op
 use Rattle.wf_frame.specs.declared.classes.Class.{Class}
 use Rattle.wf_frame.specs.declared.notes.Note.TheVariants.{Enqueue, Asked}
 use Rattle.wf_frame.specs.declared.notes.Ask.TheVariants.{Pull}
+use Rattle.wf_frame.specs.declared.notes.Limits.{Limits}
 use Rattle.wf_frame.specs.Classes.{class_of}
 use Rattle.wf_def_lists.specs.Lengths.{greatest_body}
 use Rattle.wf_def_rotation.specs.Rotation.{Rotation, has_key}
 use Rattle.wf_def_world.specs.World.{World, Exchange, rotation, exchange}
 use Rattle.wf_def_world.specs.CanSend.{is_ready, is_debtor, is_to_list}
-use Rattle.wf_def_world.specs.Exchanges.{Prepared, picked_station, after_pick, sending_tid, after_tid_turn, prepared_exchange}
+use Rattle.wf_def_world.specs.Exchanges.{Prepared, picked_station, sending_tid, after_tid_turn, prepared_exchange}
 use Rattle.wf_def_world.specs.Refusals.{refusal}
 use Rattle.wf_def_world.specs.Step.{outcome_of, enqueue_outcome, pull_outcome_for, pull_outcome, done_outcome, rx_outcome}
 use Rattle.wf_law_rules.proofs.Lemmas.Numbers.{either}
 use Rattle.wf_law_runs.specs.Queues.{HasLength, IsAtMost}
+use Rattle.wf_law_runs.proofs.Common.Picked.{picked_world}
 use Rattle.wf_law_runs.proofs.Deficits.Books.{Books, books, same_number, updc_other}
 use Rattle.wf_law_runs.proofs.Deficits.BookSteps.{books_after_turn, books_prepared, books_sent, books_ended, books_enqueued, books_after_pick}
 use Rattle.wf_send_half_model.specs.Standing.{IsReached}
@@ -51,11 +53,12 @@ enqueue_listed w s t flow len r some most done d other =
     (λ e. other (sym e)))
     (debtor_enqueued w s t flow len d s)
 
-pull_lists : (w : World) (c d : Class) (s : ℕ) → (picked_station w c).winner ≡ Some s → (d ≡ c → ⊥) →
-    rotation (outcome_of w (Asked (Pull c))).world d ≡ rotation w d
+pull_lists : (w : World) (c d : Class) (l : Limits) (s : ℕ) → (picked_station w c).winner ≡ Some s →
+    (d ≡ c → ⊥) →
+    rotation (outcome_of w (Asked (Pull c l))).world d ≡ rotation w d
 unfolding outcome_of pull_outcome pull_outcome_for
-pull_lists w c d s won other =
-    let v : World = after_pick w c in
+pull_lists w c d l s won other =
+    let v : World = picked_world w c l in
     let t : ℕ = sending_tid v s c in
     let p : Prepared = prepared_exchange (after_tid_turn v s c t) s t in
     ap (λ (o : Option ℕ). rotation (pull_outcome_for v c o).world d) won
@@ -64,12 +67,13 @@ pull_lists w c d s won other =
     (books_prepared (after_tid_turn v s c t) s t ∙ books_after_turn v s c t ∙ books_after_pick w c)
     ∙ updc_other (books w).rotations c d (picked_station w c).lists (λ e. other (same_number d c e))
 
-pub pull_listed : (w : World) (c : Class) (s : ℕ) → IsReached w → (picked_station w c).winner ≡ Some s →
-    IsListedBut (outcome_of w (Asked (Pull c))).world s c
-pull_listed w c s r won d other =
-    still_listed w (outcome_of w (Asked (Pull c))).world r s d (pull_lists w c d s won other)
-    (λ is. sym (whole_pulled w c s r won d (λ e. other (sym e))) ∙ is)
-    (debtor_pulled w c d s won other)
+pub pull_listed : (w : World) (c : Class) (l : Limits) (s : ℕ) → IsReached w →
+    (picked_station w c).winner ≡ Some s →
+    IsListedBut (outcome_of w (Asked (Pull c l))).world s c
+pull_listed w c l s r won d other =
+    still_listed w (outcome_of w (Asked (Pull c l))).world r s d (pull_lists w c d l s won other)
+    (λ is. sym (whole_pulled w c l s r won d (λ e. other (sym e))) ∙ is)
+    (debtor_pulled w c d l s won other)
 
 pub done_listed : (w : World) (e : ℕ) (x : Exchange) (heard : Bool) (air : Option ℕ) → IsReached w →
     exchange w e ≡ Some x → IsListedBut (done_outcome w x heard air).world x.station (class_of x.tid)

@@ -68,6 +68,7 @@ new_stands c bodies range = record {
         live = nobody c.stations;
         asleep = λ s is. absurd (cc is);
         credit = λ s is. absurd (cc is);
+        stopped = λ s is. absurd (cc is);
       };
       inside = refl;
       tally = refl;

@@ -1,6 +1,6 @@
 -- Proves that an enqueue changes its own station's readiness only in the class of its TID, and in a class in
 -- which the limit drops a frame. In the latter the station does not become ready.
-use Rattle.std.proofs.Common.{◌≡◌, refl, ap, ap₂, sym, ◌∙◌, subst, arith, ℕ, ◌==◌, nat_lt, Bool, true, false, ◌&&◌, ◌||◌, List, [], ◌∷◌, ◌++◌, length, Option, Some, None, option_map, inl, inr}
+use Rattle.std.proofs.Common.{◌≡◌, refl, ap, sym, ◌∙◌, subst, arith, ℕ, ◌==◌, nat_lt, Bool, true, false, ◌||◌, List, [], ◌∷◌, ◌++◌, length, Option, Some, None, option_map, inl, inr}
 use Rattle.std.proofs.lemmas.Bool.{cases_eq, not-false}
 use Rattle.wf_frame.specs.declared.classes.Class.{Class}
 use Rattle.wf_frame.specs.declared.classes.Class.TheVariants.{Bk, Be, Vi, Vo}
@@ -12,7 +12,7 @@ use Rattle.wf_def_codel.specs.Codel.{Item}
 use Rattle.wf_def_rotation.specs.Rotation.{Rotation, has_key, with_new_key}
 use Rattle.wf_def_world.specs.World.{World, Station, Queue, new_queue, tid_of, queue, is_live, owed, on_queue, with_queues, on_tid, on_station, with_station, with_frame_finished, with_fate}
 use Rattle.wf_def_world.specs.FlowQueues.{is_at_limit, longest_queue, without_head, after_limit, queue_for, with_appended, when_listed, with_listed_queue, after_put_in}
-use Rattle.wf_def_world.specs.CanSend.{may_receive, is_ready}
+use Rattle.wf_def_world.specs.CanSend.{is_below_aql, may_receive, is_ready}
 use Rattle.wf_def_world.specs.Refusals.{refusal, refusals}
 use Rattle.wf_def_world.specs.Step.{Outcome, outcome_of, step, next_item, with_frame, enqueue_outcome}
 use Rattle.wf_law_rules.proofs.Lemmas.Numbers.{on_if}
@@ -237,16 +237,18 @@ upper_class Be = refl
 upper_class Vi = refl
 upper_class Vo = refl
 
-receives_bare : (c : Class) (o : Option Station) → receives c o ≡ receives c (option_map bare o)
-receives_bare c None = refl
-receives_bare c (Some x) = refl
+receives_bare : (c : Class) (o : Option Station) (below : Bool) →
+    receives c o below ≡ receives c (option_map bare o) below
+receives_bare c None below = refl
+receives_bare c (Some x) below = refl
 
 receives_rest : (w v : World) (s : ℕ) (c : Class) → rest_of_world v ≡ rest_of_world w →
     may_receive v s c ≡ may_receive w s c
-receives_rest w v s c e = ap₂ (λ (a b : Bool). a && b)
-    (receives_bare c (at None v.stations s)
-    ∙ ap (λ (z : Rest). receives c (z.stations s)) e ∙ sym (receives_bare c (at None w.stations s)))
-    (ap (λ (z : Rest). (z.config.aql == 0) || nat_lt (owed s c z.opened) z.config.aql) e)
+receives_rest w v s c e =
+    receives_bare c (at None v.stations s) (is_below_aql v s c)
+    ∙ ap (λ (z : Rest). receives c (z.stations s)
+    ((z.config.aql == 0) || nat_lt (owed s c z.opened) z.config.aql)) e
+    ∙ sym (receives_bare c (at None w.stations s) (is_below_aql w s c))
 
 own_enqueued : (w : World) (s t flow len : ℕ) → IsReached (step w (Enqueue s t flow len)).world →
     refusal w (Enqueue s t flow len) ≡ None → NoRow (refusals w (Enqueue s t flow len)) → (c : Class) →

@@ -1,5 +1,5 @@
 -- Proves that a pull changes the readiness of the station that it picks only in the pull's class.
-use Rattle.std.proofs.Common.{◌≡◌, refl, ap, ap₂, sym, ◌∙◌, subst, arith, ℕ, zero, suc, ◌<◌, ◌≤◌, Bool, true, false, not, ◌&&◌, ◌||◌, if◌then◌else◌, List, [], ◌∷◌, length, Option, Some, None, IfSome, option_map, inl, inr, nat_lt}
+use Rattle.std.proofs.Common.{◌≡◌, refl, ap, sym, ◌∙◌, subst, arith, ℕ, zero, suc, ◌<◌, ◌≤◌, Bool, true, false, not, ◌&&◌, ◌||◌, if◌then◌else◌, List, [], ◌∷◌, ◌++◌, length, Option, Some, None, IfSome, option_map, inl, inr, nat_lt}
 use Rattle.std.specs.Prelude.{◌==◌}
 use Rattle.std.proofs.lemmas.Bool.{cases_eq, ne_eqb, and_parts}
 use Rattle.std.proofs.lemmas.List.Folds.{list_any-append}
@@ -7,21 +7,23 @@ use Rattle.wf_frame.specs.declared.classes.Class.{Class}
 use Rattle.wf_frame.specs.declared.classes.Fate.{Fate}
 use Rattle.wf_frame.specs.declared.notes.Note.TheVariants.{Asked}
 use Rattle.wf_frame.specs.declared.notes.Ask.TheVariants.{Pull}
+use Rattle.wf_frame.specs.declared.notes.Limits.{Limits}
 use Rattle.wf_frame.specs.Classes.{lower_tid, upper_tid, class_of, class_number}
 use Rattle.wf_def_lists.specs.Table.{at, change}
 use Rattle.wf_def_codel.specs.Codel.{Item}
 use Rattle.wf_def_lists.specs.Lists.{on}
 use Rattle.wf_def_rotation.specs.Rotation.{Rotation, in_order}
-use Rattle.wf_def_world.specs.World.{World, Station, Tid, Queue, Mpdu, no_tid, rotation, tid_of, queue, is_live, on_queue, with_station, on_station, on_tid, with_queues, with_frames_finished}
+use Rattle.wf_def_world.specs.World.{World, Station, owed, Tid, Queue, Mpdu, no_tid, rotation, tid_of, queue, is_live, on_queue, with_station, on_station, on_tid, with_queues, with_frames_finished}
 use Rattle.wf_def_world.specs.FlowQueues.{taken_from_picked, taken_by_codel, taken_for_tid, with_queues_paid}
-use Rattle.wf_def_world.specs.CanSend.{is_request, has_credit, may_receive, is_ready}
+use Rattle.wf_def_world.specs.CanSend.{is_request, has_credit, is_below_aql, may_receive, is_ready}
 use Rattle.wf_def_world.specs.Exchanges.{Aggregate, Prepared, picked_station, station_need, with_fresh, aggregate_of, prepared_data, prepared_exchange, with_number, after_pick, after_tid_turn, sending_tid, exchange_of, with_exchange_opened, without_credit}
 use Rattle.wf_def_world.specs.Step.{outcome_of, send_outcome, pull_outcome_for, pull_outcome, step}
 use Rattle.wf_law_rules.proofs.Lemmas.Counts.{listed-some}
 use Rattle.wf_law_rules.proofs.Lemmas.Tables.{at_put_same, at_put_other}
 use Rattle.wf_law_runs.specs.Queues.{KeepsQueues}
 use Rattle.wf_law_runs.proofs.Queues.Law.{queue_law}
-use Rattle.wf_law_runs.proofs.Queues.Shelves.{Shelves, shelves, shelves_after_pick}
+use Rattle.wf_law_runs.proofs.Common.Picked.{picked_world}
+use Rattle.wf_law_runs.proofs.Queues.Shelves.{Shelves, shelves, shelves_picked}
 use Rattle.wf_law_runs.proofs.Windows.Sides.{live_on}
 use Rattle.wf_law_runs.proofs.Windows.Opened.{pick_ready}
 use Rattle.wf_law_runs.proofs.Frames.Delivered.{less_pulled}
@@ -52,7 +54,8 @@ beyond_with_queues w s t r = record {
       x { tids = change no_tid x.tids t (λ y. record y { queues = r }) })
       (λ x. at_put_other no_tid x.tids t j _ (λ e. other (sym e)));
   live = live_on w s _ s;
-  receives = receives_on_station w s _ (record { asleep = λ x. refl; credit = λ x. refl }) s;
+  receives = receives_on_station w s _
+      (record { asleep = λ x. refl; credit = λ x. refl; stopped = λ x. refl }) s;
   opened = on_station_opened w s _;
 }
 
@@ -147,10 +150,12 @@ sent_requests s t j d p other =
     nothing false false = refl
 
 -- spending a credit for class d does not change whether the station may receive in another class c
-no_credit : (o : Option Station) (d c : Class) → (d ≡ c → ⊥) → receives d o ≡ true →
-    receives c (option_map (λ (x : Station). record x { credit = None }) o) ≡ receives c o
-no_credit None d c other h = refl
-no_credit (Some x) d c other h = go x.asleep x.credit h
+no_credit : (o : Option Station) (d c : Class) (low below : Bool) → (d ≡ c → ⊥) → receives d o low ≡ true →
+    receives c (option_map (λ (x : Station). record x { credit = None }) o) below ≡ receives c o below
+no_credit None d c low below other h = refl
+no_credit (Some x) d c low below other h = ap (λ (a : Bool). not x.stopped && (a && below))
+    (go x.asleep x.credit (and_parts (not x.asleep || has_credit x.credit d) low
+    (and_parts (not x.stopped) _ h).1).0)
   where
     go : (asleep : Bool) (credit : Option Class) → (not asleep || has_credit credit d) ≡ true →
         (not asleep || has_credit None c) ≡ (not asleep || has_credit credit c)
@@ -167,33 +172,36 @@ no_credit (Some x) d c other h = go x.asleep x.credit h
 sent_receives : (s t : ℕ) (d c : Class) (p : Prepared) → (d ≡ c → ⊥) → may_receive p.world s d ≡ true →
     may_receive (send_outcome s t d p).world s c ≡ may_receive p.world s c
 unfolding send_outcome without_credit with_exchange_opened on_station with_station
-sent_receives s t d c p other h = ap₂ (λ (a b : Bool). a && b)
-    (ap (receives c) (at_put_same None p.world.stations s
+sent_receives s t d c p other h =
+    let below : ℕ → Bool = λ n. (p.world.config.aql == 0) || nat_lt n p.world.config.aql in
+    let owes : ℕ = owed s c (p.world.opened ++ exchange_of s t d p ∷ []) in
+    ap (λ (o : Option Station). receives c o (below owes)) (at_put_same None p.world.stations s
     (option_map (λ (x : Station). record x { credit = None }) (at None p.world.stations s)))
-    ∙ no_credit (at None p.world.stations s) d c other (and_parts _ _ h).0)
-    (ap (λ (n : ℕ). (p.world.config.aql == 0) || nat_lt n p.world.config.aql)
-    (owed_append s c p.world.opened (exchange_of s t d p) (λ e. other (same_number d c e))))
+    ∙ no_credit (at None p.world.stations s) d c (is_below_aql p.world s d) (below owes) other h
+    ∙ ap (λ (n : ℕ). receives c (at None p.world.stations s) (below n))
+    (owed_append s c p.world.opened (exchange_of s t d p) (λ e. other (same_number d c e)))
 
 -- ---- the pull
 
-module _ (w : World) (d : Class) (i : ℕ) (r : IsReached w) (won : (picked_station w d).winner ≡ Some i) where
+module _ (w : World) (d : Class) (l : Limits) (i : ℕ) (r : IsReached w)
+    (won : (picked_station w d).winner ≡ Some i) where
   picked : World
-  picked = after_pick w d
+  picked = picked_world w d l
 
   sends_on : ℕ
-  sends_on = sending_tid (after_pick w d) i d
+  sends_on = sending_tid (picked_world w d l) i d
 
   sent : World
-  sent = (pull_outcome_for (after_pick w d) d (Some i)).world
+  sent = (pull_outcome_for (picked_world w d l) d (Some i)).world
 
   beyond_ready : IsBeyond i sends_on picked (prepared_exchange
       (after_tid_turn picked i d sends_on) i sends_on).world
   beyond_ready = beyond_then i sends_on picked _ _ (beyond_turn picked i d sends_on)
       (beyond_prepared _ i sends_on)
 
-  whole : (pull_outcome w d).world ≡ sent
+  whole : (pull_outcome w d l).world ≡ sent
   unfolding sent pull_outcome
-  whole = ap (λ (o : Option ℕ). (pull_outcome_for (after_pick w d) d o).world) won
+  whole = ap (λ (o : Option ℕ). (pull_outcome_for (picked_world w d l) d o).world) won
 
   winner_ready : is_ready w d i ≡ true
   winner_ready = subst (λ (o : Option ℕ). IfSome o (λ k. is_ready w d k ≡ true)) won
@@ -204,8 +212,8 @@ module _ (w : World) (d : Class) (i : ℕ) (r : IsReached w) (won : (picked_stat
   unfolding picked sends_on sent
   sent_long j q other k =
       let keeps : KeepsQueues w = by_law KeepsQueues w r (queue_law w.config r.history r.in_range) in
-      let T : ℕ → Type 0 = λ z. z ≡ sending_tid (after_pick w d) i d in
-      let same : shelves (after_pick w d) ≡ shelves w = shelves_after_pick w d in
+      let T : ℕ → Type 0 = λ z. z ≡ sending_tid (picked_world w d l) i d in
+      let same : shelves (picked_world w d l) ≡ shelves w = shelves_picked w d l in
       let before : IsApart T (length (queue w q).items) q i (shelves w) = record {
         live = winner_live w d i won;
         off = λ t e. elim (cases_eq (on (in_order (tid_of w i t).queues) q) 0) [
@@ -216,15 +224,15 @@ module _ (w : World) (d : Class) (i : ℕ) (r : IsReached w) (won : (picked_stat
         long = omega arith;
       } in
       let after : IsApart T (length (queue w q).items) q i
-      (shelves (pull_outcome_for (after_pick w d) d (Some i)).world) =
-      apart_pulled T (length (queue w q).items) q i (after_pick w d) d refl
+      (shelves (pull_outcome_for (picked_world w d l) d (Some i)).world) =
+      apart_pulled T (length (queue w q).items) q i (picked_world w d l) d refl
       (subst (IsApart T (length (queue w q).items) q i) (sym same) before) in
-      let short : length (queue (pull_outcome w d).world q).items ≤ length (queue w q).items =
-      ((less_pulled Any w d).queues q).short in
-      let is : length (queue (pull_outcome w d).world q).items
-      ≡ length (queue (pull_outcome_for (after_pick w d) d (Some i)).world q).items =
+      let short : length (queue (pull_outcome w d l).world q).items ≤ length (queue w q).items =
+      ((less_pulled Any w d l).queues q).short in
+      let is : length (queue (pull_outcome w d l).world q).items
+      ≡ length (queue (pull_outcome_for (picked_world w d l) d (Some i)).world q).items =
       ap (λ (u : World). length (queue u q).items) whole in
-      let first : length (queue (after_pick w d) q).items ≡ length (queue w q).items =
+      let first : length (queue (picked_world w d l) q).items ≡ length (queue w q).items =
       ap (λ (b : Shelves). length (b.queues q).items) same in
       omega (arith, after.long, short, is, first)
 
@@ -258,22 +266,22 @@ module _ (w : World) (d : Class) (i : ℕ) (r : IsReached w) (won : (picked_stat
       ∙ upper_class c)))
       ∙ ready_after_pick w d c i
 
-  pub whole_pulled : (c : Class) → (d ≡ c → ⊥) → is_ready (outcome_of w (Asked (Pull d))).world c i
+  pub whole_pulled : (c : Class) → (d ≡ c → ⊥) → is_ready (outcome_of w (Asked (Pull d l))).world c i
       ≡ is_ready w c i
   unfolding outcome_of
   whole_pulled c other = ap (λ (u : World). is_ready u c i) whole ∙ own_pulled c other
 
-pub ready_pulled : (w : World) (d : Class) → IsReached w → (i : ℕ) (c : Class) →
+pub ready_pulled : (w : World) (d : Class) (l : Limits) → IsReached w → (i : ℕ) (c : Class) →
     ((picked_station w d).winner ≡ Some i → d ≡ c → ⊥) →
-    is_ready (step w (Asked (Pull d))).world c i ≡ is_ready w c i
-ready_pulled w d r i c other = go (picked_station w d).winner refl
+    is_ready (step w (Asked (Pull d l))).world c i ≡ is_ready w c i
+ready_pulled w d l r i c other = go (picked_station w d).winner refl
   where
     go : (o : Option ℕ) → (picked_station w d).winner ≡ o →
-        is_ready (step w (Asked (Pull d))).world c i ≡ is_ready w c i
-    go None e = ready_others w (Asked (Pull d)) r i c (λ k. absurd (cc (e, k))) refl
+        is_ready (step w (Asked (Pull d l))).world c i ≡ is_ready w c i
+    go None e = ready_others w (Asked (Pull d l)) r i c (λ k. absurd (cc (e, k))) refl
     go (Some k) e = elim (cases_eq k i) [
       | inl same ↦
           let won : (picked_station w d).winner ≡ Some i = e ∙ ap (λ (n : ℕ). Some n) same in
-          ready_stepped w (Asked (Pull d)) i c (λ _. whole_pulled w d i r won c (other won))
-      | inr differs ↦ ready_others w (Asked (Pull d)) r i c (λ h. differs (cc (e, h))) refl
+          ready_stepped w (Asked (Pull d l)) i c (λ _. whole_pulled w d l i r won c (other won))
+      | inr differs ↦ ready_others w (Asked (Pull d l)) r i c (λ h. differs (cc (e, h))) refl
     ]

@@ -8,6 +8,7 @@ use Rattle.wf_frame.specs.declared.classes.Class.{Class}
 use Rattle.wf_frame.specs.declared.settings.Config.{Config}
 use Rattle.wf_frame.specs.declared.notes.Note.TheVariants.{Asked}
 use Rattle.wf_frame.specs.declared.notes.Ask.TheVariants.{Pull}
+use Rattle.wf_frame.specs.declared.notes.Limits.{Limits}
 use Rattle.wf_frame.specs.declared.notes.Refusal.TheVariants.{Idle}
 use Rattle.wf_frame.specs.declared.notes.ReplyNote.TheVariants.{Send, Refused}
 use Rattle.wf_frame.specs.Classes.{lower_tid, upper_tid, tid_number}
@@ -15,10 +16,10 @@ use Rattle.wf_frame.specs.Frames.{FrameValue}
 use Rattle.wf_def_lists.specs.Table.{at, count_from}
 use Rattle.wf_def_rotation.specs.Rotation.{in_order}
 use Rattle.wf_def_lists.specs.Bounds.{narrow_window}
-use Rattle.wf_def_world.specs.World.{World, Station, Share, Content, Frames, Request, Exchange, no_station, quantum, is_live, share, is_wide, rotation, on_share}
+use Rattle.wf_def_world.specs.World.{World, Bounds, Station, Share, Content, Frames, Request, Exchange, no_station, quantum, is_live, share, is_wide, rotation, on_share, with_bounds}
 use Rattle.wf_def_world.specs.FlowQueues.{frames_queued as world_queued}
 use Rattle.wf_def_world.specs.CanSend.{can_send, has_waiting, is_request as sends_request}
-use Rattle.wf_def_world.specs.Exchanges.{picked_station, with_station_paid, with_stations_paid, after_pick, first_tid, other_tid, sending_tid, after_tid_turn, Prepared, has_more, exchange_of, with_exchange_opened, without_credit, part_of}
+use Rattle.wf_def_world.specs.Exchanges.{picked_station, with_station_paid, with_stations_paid, after_pick, bounds_of, first_tid, other_tid, sending_tid, after_tid_turn, Prepared, has_more, exchange_of, with_exchange_opened, without_credit, part_of}
 use Rattle.wf_def_world.specs.Refusals.{refusal}
 use Rattle.wf_def_world.specs.Step.{Outcome, after_refusal, send_outcome, step}
 use Rattle.wf_law_runs.proofs.Deficits.Books.{updc, updc_idle}
@@ -27,7 +28,7 @@ use Rattle.wf_sched_refines.specs.Standing.{SchedulerStandsFor as TurnsStandFor,
 use Rattle.wf_sched_refines.specs.Calls.{HasPickedInClass}
 use Rattle.wf_sched_refines.proofs.Exchanges.{opened_stands}
 use Rattle.wf_sched_refines.proofs.Picks.{pick_stands}
-use Rattle.wf_sched_refines.proofs.Unchanged.{turn_leaves, spent_leaves}
+use Rattle.wf_sched_refines.proofs.Unchanged.{bounded_leaves, turn_leaves, spent_leaves}
 use Rattle.wf_queue_flows_refines.proofs.Leaves.{share_alone, opened_alone, stands_same}
 use Rattle.wf_queue_flows.specs.Flows.{frames_of_tid}
 use Rattle.wf_send_parts.specs.Windows.{window_of}
@@ -41,6 +42,7 @@ use Rattle.wf_send_half_model.specs.Standing.{IsMember, AreBoth, sending_of, ope
 use Rattle.wf_send_half_model.specs.Pulling.{has_upper_turn, sending_tid_of, after_turn, is_wide_of, has_more_of, open_next, after_opening, after_pending_charge, after_spending, after_sending}
 use Rattle.wf_send_half_model.specs.Views.{view_of, roster, HasSameViews}
 use Rattle.wf_send_half_model.proofs.Views.{agreements_share, roster_share, ledger_share, reshared, view_reshared}
+use Rattle.wf_send_half_model.specs.Filling.{after_pick_within}
 use Rattle.wf_send_half_model.proofs.Stands.{Pieces, to_pieces, of_pieces, same_views}
 use Rattle.wf_send_half_model.proofs.Stations.{member_changed, sleeper_changed, turned, resting, station_parts}
 use Rattle.wf_send_half_model.proofs.Listings.{views_here, views_then, views_rotation}
@@ -86,15 +88,39 @@ pub pick_parts : (v : TransmitValue) (w : World) (bodies : ℕ → FrameValue) (
 pick_parts v w bodies c turns p h = same_views v w (after_pick w c) bodies turns (views_pick w c)
     (pick_stands v.sched turns w c p.ready h.others.turns p.tells p.turned p.others) h
 
-idle_picks : (w : World) (c : Class) → (w.config.pending == 1) ≡ false →
-    after_refusal w (Asked (Pull c)) Idle ≡ after_pick w c
-unfolding after_refusal
-idle_picks w c off = ap (λ (b : Bool). if b then w else after_pick w c) off
+-- the half does not depend on the bounds of a pull
+pub bounded_parts : (v : TransmitValue) (w : World) (bodies : ℕ → FrameValue) (b : Bounds) →
+    Parts v w bodies → Parts v (with_bounds w b) bodies
+bounded_parts v w bodies b h =
+    let p : Pieces v w bodies = to_pieces v w bodies h in
+    of_pieces v (with_bounds w b) bodies (record {
+      config = p.config;
+      clock = p.clock;
+      exchanges = p.exchanges;
+      opened = p.opened;
+      stations = p.stations;
+      windows = p.windows;
+      flows = stands_same v.flows w (with_bounds w b) refl p.flows;
+      turns = bounded_leaves w b v.sched p.turns;
+      ledger = p.ledger;
+      frames = p.frames;
+    })
 
-idle_stays : (w : World) (c : Class) → (w.config.pending == 1) ≡ true →
-    after_refusal w (Asked (Pull c)) Idle ≡ w
+pub pick_within_parts : (v : TransmitValue) (w : World) (bodies : ℕ → FrameValue) (c : Class)
+    (turns : SchedValue) → HasPickedInClass w c v.sched turns → Parts v w bodies → (l : Limits) →
+    Parts (record v { sched = turns }) (after_pick_within w c l) bodies
+pick_within_parts v w bodies c turns p h l = bounded_parts (record v { sched = turns }) (after_pick w c) bodies
+    (bounds_of w.config c l) (pick_parts v w bodies c turns p h)
+
+idle_picks : (w : World) (c : Class) (l : Limits) → (w.config.pending == 1) ≡ false →
+    after_refusal w (Asked (Pull c l)) Idle ≡ after_pick w c
 unfolding after_refusal
-idle_stays w c on = ap (λ (b : Bool). if b then w else after_pick w c) on
+idle_picks w c l off = ap (λ (b : Bool). if b then w else after_pick w c) off
+
+idle_stays : (w : World) (c : Class) (l : Limits) → (w.config.pending == 1) ≡ true →
+    after_refusal w (Asked (Pull c l)) Idle ≡ w
+unfolding after_refusal
+idle_stays w c l on = ap (λ (b : Bool). if b then w else after_pick w c) on
 
 same_setting : (v : TransmitValue) (w : World) (bodies : ℕ → FrameValue) → Parts v w bodies → (b : Bool) →
     (v.config.pending == 1) ≡ b → (w.config.pending == 1) ≡ b
@@ -102,38 +128,38 @@ same_setting v w bodies h b e = sym (ap (λ (x : Config). x.pending == 1) h.othe
 
 -- no station is ready: without the setting `pending`, only the pick changes something
 pub idle_pull : (v : TransmitValue) (w : World) (bodies : ℕ → FrameValue) → StandsFor v w bodies →
-    (c : Class) (turns : SchedValue) → (v.config.pending == 1) ≡ false →
-    refusal w (Asked (Pull c)) ≡ Some Idle → HasPickedInClass w c v.sched turns →
-    Meets w bodies (Asked (Pull c)) (record v { sched = turns }) (Refused Idle)
-idle_pull v w bodies h c turns off e p =
-    let is : step w (Asked (Pull c)) ≡ record {
-      world = after_refusal w (Asked (Pull c)) Idle;
+    (c : Class) (l : Limits) (turns : SchedValue) → (v.config.pending == 1) ≡ false →
+    refusal w (Asked (Pull c l)) ≡ Some Idle → HasPickedInClass w c v.sched turns →
+    Meets w bodies (Asked (Pull c l)) (record v { sched = turns }) (Refused Idle)
+idle_pull v w bodies h c l turns off e p =
+    let is : step w (Asked (Pull c l)) ≡ record {
+      world = after_refusal w (Asked (Pull c l)) Idle;
       reply =
           Refused Idle;
-    } = step_refused w (Asked (Pull c)) Idle e in
-    let world : (step w (Asked (Pull c))).world ≡ after_pick w c =
-    ap (λ (o : Outcome). o.world) is ∙ idle_picks w c (same_setting v w bodies h.parts false off) in
+    } = step_refused w (Asked (Pull c l)) Idle e in
+    let world : (step w (Asked (Pull c l))).world ≡ after_pick w c =
+    ap (λ (o : Outcome). o.world) is ∙ idle_picks w c l (same_setting v w bodies h.parts false off) in
     record {
       stands = record {
         parts = subst (λ (u : World). Parts (record v { sched = turns }) u bodies) (sym world)
             (pick_parts v w bodies c turns p h.parts);
-        reached = reached_step w (Asked (Pull c)) h.reached tt tt;
+        reached = reached_step w (Asked (Pull c l)) h.reached tt tt;
       };
       reply = sym (ap (λ (o : Outcome). o.reply) is);
     }
 
 -- with the setting, nothing changes
 pub idle_pull_stays : (v : TransmitValue) (w : World) (bodies : ℕ → FrameValue) → StandsFor v w bodies →
-    (c : Class) → (v.config.pending == 1) ≡ true → refusal w (Asked (Pull c)) ≡ Some Idle →
-    Meets w bodies (Asked (Pull c)) v (Refused Idle)
-idle_pull_stays v w bodies h c on e =
-    let is : step w (Asked (Pull c)) ≡ record {
-      world = after_refusal w (Asked (Pull c)) Idle;
+    (c : Class) (l : Limits) → (v.config.pending == 1) ≡ true → refusal w (Asked (Pull c l)) ≡ Some Idle →
+    Meets w bodies (Asked (Pull c l)) v (Refused Idle)
+idle_pull_stays v w bodies h c l on e =
+    let is : step w (Asked (Pull c l)) ≡ record {
+      world = after_refusal w (Asked (Pull c l)) Idle;
       reply =
           Refused Idle;
-    } = step_refused w (Asked (Pull c)) Idle e in
-    let world : (step w (Asked (Pull c))).world ≡ w =
-    ap (λ (o : Outcome). o.world) is ∙ idle_stays w c (same_setting v w bodies h.parts true on) in
+    } = step_refused w (Asked (Pull c l)) Idle e in
+    let world : (step w (Asked (Pull c l))).world ≡ w =
+    ap (λ (o : Outcome). o.world) is ∙ idle_stays w c l (same_setting v w bodies h.parts true on) in
     record {
       stands = subst (λ (u : World). StandsFor v u bodies) (sym world) h;
       reply = sym (ap (λ (o : Outcome). o.reply) is);
@@ -195,7 +221,8 @@ turn_parts v w bodies s c t low h =
     (updc_idle (view_of x).received c (share_in x c).received refl))
     (turn_leaves w s c t v.sched h.others.turns)
     (λ k. member_changed v.members v.sleepers w.config.stations (roster w).stations s (with_upper c upper)
-    (λ x. record x { upper = updc x.upper c upper }) k low (turned c upper) (λ x. refl) (λ x. refl)) h
+    (λ x. record x { upper = updc x.upper c upper }) k low (turned c upper) (λ x. refl) (λ x. refl)
+    (λ x. refl)) h
 
 -- ---- the exchange opens
 
@@ -231,7 +258,8 @@ spend_parts v w bodies s low h =
     (λ x. refl) (λ x. refl) (spent_leaves w s v.sched h.others.turns)
     (λ k. sleeper_changed v.members v.sleepers w.config.stations (roster w).stations s
     (record (sleeper v.sleepers s) { credit = None }) (λ x. record x { credit = None }) k low
-    (λ m x. resting x.asleep None m x) (λ x y. record { asleep = y.asleep; credit = refl })) h
+    (λ m x. resting x.asleep None x.stopped m x)
+    (λ x y. record { asleep = y.asleep; credit = refl; stopped = y.stopped })) h
 
 -- ---- the exchange's contents
 

@@ -121,5 +121,5 @@ step_refused w note r e = ap (judged_outcome w note) e
 -- a refusal changes nothing, except the refusal of a pull that finds no ready station
 pub nothing_changed : (w : World) (note : Note) (r : Refusal) → (r ≡ Idle → ⊥) → after_refusal w note r ≡ w
 unfolding after_refusal
-nothing_changed w (Asked (Pull c)) Idle h = absurd (h refl)
+nothing_changed w (Asked (Pull c l)) Idle h = absurd (h refl)
 nothing_changed w _ _ h = refl

@@ -14,7 +14,7 @@ use Rattle.wf_def_lists.specs.Table.{at, upto, count_from}
 use Rattle.wf_def_world.specs.World.{World, Station, Exchange, Content, Frames, Request, is_live, session, share, exchange, owed, owed_by_all, pending_air, standing}
 use Rattle.wf_def_world.specs.FlowQueues.{frames_queued as world_queued}
 use Rattle.wf_def_world.specs.CanSend.{is_request as world_request, request_open, has_waiting, can_give, can_send, has_credit, can_send_in, is_below_aql, may_receive, is_ready, is_debtor, is_to_list}
-use Rattle.wf_def_world.specs.Refusals.{is_at_aql_total, open_of_station, open_of_class, can_send_any, queued_in_class}
+use Rattle.wf_def_world.specs.Refusals.{is_live_credit, has_live_credit, is_at_aql_total, open_of_station, open_of_class, can_send_any, queued_in_class}
 use Rattle.wf_def_world.specs.Step.{class_to_send}
 use Rattle.wf_queue_flows.specs.Flows.{frames_of_tid}
 use Rattle.wf_queue_flows_refines.proofs.Readers.{same_queued}
@@ -27,7 +27,8 @@ use Rattle.wf_send_parts.specs.declared.exchanges.opened.Open.{Open}
 use Rattle.wf_send_parts.specs.Exchanges.{sending_is_request, asks, airtime_of, airtime_to}
 use Rattle.wf_send_parts.specs.declared.stations.members.Member.{Member}
 use Rattle.wf_send_parts.specs.Members.{member}
-use Rattle.wf_send_half_model.specs.Half.{TransmitValue, some_wait, can_send_of, is_below_aql_of, may_receive_of, is_ready_of, pending_air_of, is_debtor_of, is_to_list_of, is_ahead_of}
+use Rattle.wf_send_parts.specs.Sleepers.{sleeper}
+use Rattle.wf_send_half_model.specs.Half.{TransmitValue, some_wait, can_send_of, is_below_aql_of, may_receive_of, is_ready_of, pending_air_of, is_live_credit_of, has_live_credit_of, is_debtor_of, is_to_list_of, is_ahead_of}
 use Rattle.wf_send_half_model.specs.Standing.{sending_of, open_of, IsMember, AreBoth, Parts}
 
 -- ---- open exchanges
@@ -195,9 +196,10 @@ ready_same v w bodies c s h = elim (cases_Bool (is_live w s)) [
   | inl live ↦
       ap₂ (λ (a b : Bool). a && b) (live_same v w bodies s h)
       (ap₂ (λ (a b : Bool). a && b) (can_send_in_same v w bodies s c h live)
+      (ap₂ (λ (a b : Bool). not a && b) (h.others.stations.stopped s live)
       (ap₂ (λ (a b : Bool). a && b)
       (ap₂ (λ (a : Bool) (k : Option Class). not a || has_credit k c) (h.others.stations.asleep s live)
-      (h.others.stations.credit s live)) (below_aql_same v w bodies s c h)))
+      (h.others.stations.credit s live)) (below_aql_same v w bodies s c h))))
   | inr off ↦
       ap (λ (b : Bool). b && ((can_send_of v s (lower_tid c) || can_send_of v s (upper_tid c))
       && may_receive_of v s c))
@@ -255,6 +257,17 @@ pub class_same : (v : TransmitValue) (w : World) (bodies : ℕ → FrameValue) (
     Bk ≡ class_to_send w s
 class_same v w bodies s h live = ap (λ (o : Option Class). unwrap_or o Bk)
     (find_same _ (can_send_in w s) (λ c. can_send_in_same v w bodies s c h live) (Vo ∷ Vi ∷ Be ∷ []))
+
+-- a credit blocks a poll on both sides, or on neither
+pub live_credit_same : (v : TransmitValue) (w : World) (bodies : ℕ → FrameValue) (s : ℕ) → Parts v w bodies →
+    is_live w s ≡ true → has_live_credit_of v s ≡ has_live_credit w s
+live_credit_same v w bodies s h live =
+    blocks (sleeper v.sleepers s).credit ∙ ap (is_live_credit w s) (h.others.stations.credit s live)
+  where
+    blocks : (o : Option Class) → is_live_credit_of v s o ≡ is_live_credit w s o
+    blocks None = refl
+    blocks (Some c) = ap₂ (λ (n : ℕ) (b : Bool). (n == 0) || b) (ap (λ x. x.credits) h.others.config)
+        (can_send_in_same v w bodies s c h live)
 
 -- if two tests agree on each of these TIDs, both or neither find one that passes
 any_same : (p q : ℕ → Bool) (n from : ℕ) → ((t : ℕ) → t < from + n → p t ≡ q t) →

@@ -1,20 +1,22 @@
 -- Proves a whole pull: the picked station sends a request or an aggregate, and the half represents the world
 -- after the step.
-use Rattle.std.proofs.Common.{◌≡◌, refl, ap, sym, ◌∙◌, subst, arith, ℕ, ◌%◌, Bool, true, false, if◌then◌else◌, List, [], map, Option, Some, None, is_some}
+use Rattle.std.proofs.Common.{◌≡◌, refl, ap, ap₂, sym, ◌∙◌, subst, arith, ℕ, ◌%◌, ◌<◌, Bool, true, false, if◌then◌else◌, List, [], map, Option, Some, None, is_some, unwrap_or}
 use Rattle.std.specs.Prelude.{IfSome}
 use Rattle.wf_frame.specs.declared.classes.Class.{Class}
 use Rattle.wf_frame.specs.declared.notes.Note.TheVariants.{Asked}
 use Rattle.wf_frame.specs.declared.notes.Ask.TheVariants.{Pull}
+use Rattle.wf_frame.specs.declared.notes.Limits.{Limits}
 use Rattle.wf_frame.specs.declared.notes.Part.TheVariants.{Mpdus, Request as Starts}
 use Rattle.wf_frame.specs.declared.notes.ReplyNote.{ReplyNote}
 use Rattle.wf_frame.specs.declared.notes.ReplyNote.TheVariants.{Send}
 use Rattle.wf_frame.specs.Frames.{FrameValue}
-use Rattle.wf_def_air.specs.Airtime.{data_charge, request_charge}
+use Rattle.wf_def_air.specs.Airtime.{Rate, data_charge, request_charge}
+use Rattle.wf_def_lists.specs.Table.{at}
 use Rattle.wf_def_air.specs.Fit.{aggregate_octets}
 use Rattle.wf_def_agreement.specs.Session.{request_due}
-use Rattle.wf_def_world.specs.World.{World, is_live, session}
+use Rattle.wf_def_world.specs.World.{World, Station, no_station, is_live, is_wide, station, session}
 use Rattle.wf_def_world.specs.CanSend.{can_send_in}
-use Rattle.wf_def_world.specs.Exchanges.{picked_station, after_pick, sending_tid, after_tid_turn, lens_of, Aggregate, aggregate_of, with_flying, Prepared, aggregate_charge, prepared_data, prepared_request, prepared_exchange, part_of}
+use Rattle.wf_def_world.specs.Exchanges.{picked_station, sending_tid, after_tid_turn, lens_of, Aggregate, aggregate_of, with_flying, Prepared, aggregate_charge, prepared_data, prepared_request, prepared_exchange, part_of}
 use Rattle.wf_def_world.specs.Refusals.{refusal}
 use Rattle.wf_def_world.specs.Step.{Outcome, send_outcome, pull_outcome_for, pull_outcome, outcome_of}
 use Rattle.wf_law_runs.proofs.Windows.Agreed.{winner_ready}
@@ -23,18 +25,20 @@ use Rattle.wf_sched.specs.ClassRotas.{SchedValue}
 use Rattle.wf_sched_refines.specs.Calls.{HasPickedInClass}
 use Rattle.wf_send_parts.specs.declared.exchanges.opened.Sending.TheVariants.{Data, Request as Starts_at}
 use Rattle.wf_send_parts.proofs.Calls.{due_is}
+use Rattle.wf_send_parts.specs.declared.stations.members.Member.{Member}
+use Rattle.wf_send_parts.specs.Members.{member}
 use Rattle.wf_send_parts.specs.Windows.{window_of}
 use Rattle.wf_send_half_model.specs.Half.{TransmitValue}
-use Rattle.wf_send_half_model.specs.Standing.{numbers_on_air, sending_of, Parts, StandsFor, Meets}
+use Rattle.wf_send_half_model.specs.Standing.{IsMember, AreBoth, numbers_on_air, sending_of, Parts, StandsFor, Meets}
 use Rattle.wf_send_half_model.specs.Changes.{after_listing_in}
 use Rattle.wf_send_half_model.specs.Pulling.{sending_tid_of, after_turn, is_wide_of, open_next, after_sending}
-use Rattle.wf_send_half_model.specs.Filling.{IsTakingOff, IsTurned, IsFilled}
+use Rattle.wf_send_half_model.specs.Filling.{after_pick_within, IsTakingOff, IsTurned, IsFilled}
 use Rattle.wf_send_half_model.specs.Views.{Agreements}
 use Rattle.wf_send_half_model.proofs.Views.{agreements_session, agreements_share}
 use Rattle.wf_send_half_model.proofs.Flies.{off_ends}
 use Rattle.wf_send_half_model.proofs.Meets.{listed_in_meets}
 use Rattle.wf_send_half_model.proofs.OneClass.{pull_listed}
-use Rattle.wf_send_half_model.proofs.Pulls.{pick_parts, sending_same, sending_low, turn_parts, send_parts, send_reply, wide_same}
+use Rattle.wf_send_half_model.proofs.Pulls.{pick_within_parts, sending_same, sending_low, turn_parts, send_parts, send_reply, wide_same}
 
 -- ---- the picked station has its turn
 
@@ -47,34 +51,38 @@ unfolding after_tid_turn
 turn_live w s t c live = ap (λ (a : Agreements). a.live s) (agreements_share w s c _) ∙ live
 
 module _ (v : TransmitValue) (w : World) (bodies : ℕ → FrameValue) (h : StandsFor v w bodies) (c : Class)
-    (s : ℕ) (won : (picked_station w c).winner ≡ Some s) where
-  pub winner_live : is_live (after_pick w c) s ≡ true
+    (l : Limits) (s : ℕ) (won : (picked_station w c).winner ≡ Some s) where
+  -- the world after the pick, with the bounds of the pull
+  abbrev picked_in : World
+  picked_in = after_pick_within w c l
+
+  pub winner_live : is_live picked_in s ≡ true
   winner_live = (from_winner (picked_station w c).winner s
-      (λ k. (is_live (after_pick w c) k ≡ true) × (can_send_in (after_pick w c) k c ≡ true)) won
-      (winner_ready w c)).0
+      (λ k. (is_live picked_in k ≡ true) × (can_send_in picked_in k c ≡ true)) won
+      (winner_ready w c l)).0
 
   module _ (turns : SchedValue) (picked : HasPickedInClass w c v.sched turns) where
-    picks : Parts (record v { sched = turns }) (after_pick w c) bodies
-    picks = pick_parts v w bodies c turns picked h.parts
+    picks : Parts (record v { sched = turns }) picked_in bodies
+    picks = pick_within_parts v w bodies c turns picked h.parts l
 
-    pub turn_tid : sending_tid_of (record v { sched = turns }) s c ≡ sending_tid (after_pick w c) s c
-    turn_tid = sending_same (record v { sched = turns }) (after_pick w c) bodies s c picks winner_live
+    pub turn_tid : sending_tid_of (record v { sched = turns }) s c ≡ sending_tid picked_in s c
+    turn_tid = sending_same (record v { sched = turns }) picked_in bodies s c picks winner_live
 
     pub turned : (t : ℕ) → t ≡ sending_tid_of (record v { sched = turns }) s c →
         IsTurned (after_turn (record v { sched = turns }) s c t)
-        (after_tid_turn (after_pick w c) s c t) bodies s t
+        (after_tid_turn picked_in s c t) bodies s t
     turned t is = record {
-      parts = turn_parts (record v { sched = turns }) (after_pick w c) bodies s c t
+      parts = turn_parts (record v { sched = turns }) picked_in bodies s c t
           (picks.others.turns.live s winner_live) picks;
-      live = turn_live (after_pick w c) s t c winner_live;
+      live = turn_live picked_in s t c winner_live;
       tid = omega (
         arith,
         is,
         turn_tid,
         sending_low (record v { sched = turns })
-            (after_pick w c) bodies s c picks winner_live,
+            picked_in bodies s c picks winner_live,
       );
-      underway = record { before = w; reached = h.reached; class = c; given = 0; is = refl };
+      underway = record { before = w; reached = h.reached; class = c; limits = l; given = 0; is = refl };
     }
 
 -- ---- the exchange that is sent
@@ -85,10 +93,10 @@ pull_for : (w : World) (c : Class) (s : ℕ) → pull_outcome_for w c (Some s)
 unfolding pull_outcome_for
 pull_for w c s = refl
 
-pull_is : (w : World) (c : Class) → outcome_of w (Asked (Pull c))
-    ≡ pull_outcome_for (after_pick w c) c (picked_station w c).winner
+pull_is : (w : World) (c : Class) (l : Limits) → outcome_of w (Asked (Pull c l))
+    ≡ pull_outcome_for (after_pick_within w c l) c (picked_station w c).winner
 unfolding outcome_of pull_outcome
-pull_is w c = refl
+pull_is w c l = refl
 
 if_due : (b : Bool) (p q : Prepared) → b ≡ true → (if b then p else q) ≡ p
 if_due true p q e = refl
@@ -108,36 +116,60 @@ quiet_prepared : (w : World) (s t : ℕ) → request_due (session w s t) ≡ fal
 unfolding prepared_exchange
 quiet_prepared w s t quiet = if_not_due (request_due (session w s t)) _ _ quiet
 
+-- a request is charged by the rate of its station's member, which is that of the station
+charged_as : (x : TransmitValue) (u : World) (bodies : ℕ → FrameValue) (s t charge : ℕ) → Parts x u bodies →
+    is_live u s ≡ true → t < 8 →
+    IfSome (member x.members s) (λ m. charge ≡ request_charge x.config.answers m.rate (is_wide_of x s t)) →
+    charge ≡ request_charge u.config.answers (station u s).rate (is_wide u s t)
+charged_as x u bodies s t charge h live low charge_is =
+    go (member x.members s) (at None u.stations s) (h.others.stations.live s) live charge_is
+    ∙ ap₂ (λ (n : ℕ) (b : Bool). request_charge n (station u s).rate b)
+    (ap (λ k. k.answers) h.others.config) (wide_same x u bodies s t h live low)
+  where
+    go : (m : Option Member) (o : Option Station) → AreBoth IsMember m o → is_some o ≡ true →
+        IfSome m (λ k. charge ≡ request_charge x.config.answers k.rate (is_wide_of x s t)) →
+        charge ≡ request_charge x.config.answers (unwrap_or o no_station).rate (is_wide_of x s t)
+    go None None both some e = absurd (cc some)
+    go None (Some y) both some e = absurd both
+    go (Some m) None both some e = absurd both
+    go (Some m) (Some y) both some e =
+        e ∙ ap (λ (r : Rate). request_charge x.config.answers r (is_wide_of x s t)) both.rate
+
 module _ (v : TransmitValue) (w : World) (bodies : ℕ → FrameValue) (h : StandsFor v w bodies) (c : Class)
-    (s : ℕ) (done : refusal w (Asked (Pull c)) ≡ None) (won : (picked_station w c).winner ≡ Some s) (t : ℕ)
-    (t_is : t ≡ sending_tid (after_pick w c) s c) where
+    (l : Limits) (s : ℕ) (done : refusal w (Asked (Pull c l)) ≡ None)
+    (won : (picked_station w c).winner ≡ Some s) (t : ℕ)
+    (t_is : t ≡ sending_tid (after_pick_within w c l) s c) where
+  -- the world after the pick, with the bounds of the pull, and the one after the turn
+  abbrev w0 : World
+  w0 = after_pick_within w c l
+
   abbrev w1 : World
-  w1 = after_tid_turn (after_pick w c) s c t
+  w1 = after_tid_turn w0 s c t
 
   sent_meets : (sent : ℕ → FrameValue) (p : Prepared) → prepared_exchange w1 s t ≡ p →
       (x : TransmitValue) → Parts x p.world sent →
       is_live p.world s ≡ true →
-      Meets w sent (Asked (Pull c)) (after_listing_in
+      Meets w sent (Asked (Pull c l)) (after_listing_in
       (after_sending x s t c p.charge (sending_of p.content)) s c)
       (Send x.exchanges s t p.charge (part_of p.content)
       (open_next x s t c p.charge (sending_of p.content)).more)
   sent_meets sent p is x parts live =
-      let all : outcome_of w (Asked (Pull c)) ≡ send_outcome s t c p =
-      pull_is w c ∙ ap (pull_outcome_for (after_pick w c) c) won ∙ pull_for (after_pick w c) c s
-      ∙ ap (λ (k : ℕ). send_outcome s k c (prepared_exchange (after_tid_turn (after_pick w c) s c k) s k))
+      let all : outcome_of w (Asked (Pull c l)) ≡ send_outcome s t c p =
+      pull_is w c l ∙ ap (pull_outcome_for w0 c) won ∙ pull_for w0 c s
+      ∙ ap (λ (k : ℕ). send_outcome s k c (prepared_exchange (after_tid_turn w0 s c k) s k))
       (sym t_is) ∙ ap (send_outcome s t c) is in
       let half : TransmitValue = after_sending x s t c p.charge (sending_of p.content) in
-      subst (λ (r : ReplyNote). Meets w sent (Asked (Pull c)) (after_listing_in half s c) r)
+      subst (λ (r : ReplyNote). Meets w sent (Asked (Pull c l)) (after_listing_in half s c) r)
       (ap (λ (o : Outcome). o.reply) all ∙ sym (send_reply x sent s t c p parts live))
-      (listed_in_meets half w sent (Asked (Pull c)) h.reached tt tt done
+      (listed_in_meets half w sent (Asked (Pull c l)) h.reached tt tt done
       (subst (λ (o : Outcome). Parts half o.world sent) (sym all)
-      (send_parts x sent s t c p parts live)) s c won (pull_listed w c s h.reached won))
+      (send_parts x sent s t c p parts live)) s c won (pull_listed w c l s h.reached won))
 
   -- a request
   pub request_meets : (x : TransmitValue) → IsTurned x w1 bodies s t →
       is_some (window_of x.windows s t).due ≡ true → (charge : ℕ) →
-      charge ≡ request_charge (is_wide_of x s t) →
-      Meets w bodies (Asked (Pull c)) (after_listing_in
+      IfSome (member x.members s) (λ m. charge ≡ request_charge x.config.answers m.rate (is_wide_of x s t)) →
+      Meets w bodies (Asked (Pull c l)) (after_listing_in
       (after_sending x s t c charge (Starts_at (window_of x.windows s t).start)) s c)
       (Send x.exchanges s t charge (Starts (window_of x.windows s t).start)
       (open_next x s t c charge (Starts_at (window_of x.windows s t).start)).more)
@@ -147,12 +179,12 @@ module _ (v : TransmitValue) (w : World) (bodies : ℕ → FrameValue) (h : Stan
       sym (due_is (window_of x.windows s t) (session w1 s t) bodies stands) ∙ due in
       let meets = sent_meets bodies (prepared_request w1 s t) (due_prepared w1 s t is_due) x to.parts to.live
       in
-      subst (λ (n : ℕ). Meets w bodies (Asked (Pull c))
+      subst (λ (n : ℕ). Meets w bodies (Asked (Pull c l))
       (after_listing_in (after_sending x s t c n (Starts_at (window_of x.windows s t).start)) s c)
       (Send x.exchanges s t n (Starts (window_of x.windows s t).start)
       (open_next x s t c n (Starts_at (window_of x.windows s t).start)).more))
-      (ap request_charge (sym (wide_same x w1 bodies s t to.parts to.live to.tid)) ∙ sym charge_is)
-      (subst (λ (k : ℕ). Meets w bodies (Asked (Pull c))
+      (sym (charged_as x w1 bodies s t charge to.parts to.live to.tid charge_is))
+      (subst (λ (k : ℕ). Meets w bodies (Asked (Pull c l))
       (after_listing_in (after_sending x s t c (prepared_request w1 s t).charge (Starts_at k)) s c)
       (Send x.exchanges s t (prepared_request w1 s t).charge (Starts k)
       (open_next x s t c (prepared_request w1 s t).charge (Starts_at k)).more))
@@ -162,7 +194,7 @@ module _ (v : TransmitValue) (w : World) (bodies : ℕ → FrameValue) (h : Stan
   data_sent : (a : Aggregate) → aggregate_of w1 s t ≡ a → request_due (session w1 s t) ≡ false →
       (x : TransmitValue) (sent : ℕ → FrameValue) → Parts x (prepared_data s t a).world sent →
       is_live (prepared_data s t a).world s ≡ true →
-      Meets w sent (Asked (Pull c)) (after_listing_in
+      Meets w sent (Asked (Pull c l)) (after_listing_in
       (after_sending x s t c (aggregate_charge s t a) (Data (numbers_on_air a.mpdus))) s c)
       (Send x.exchanges s t (aggregate_charge s t a) (Mpdus (map (λ m. (m.id, m.number % 4096)) a.mpdus))
       (open_next x s t c (aggregate_charge s t a) (Data (numbers_on_air a.mpdus))).more)
@@ -174,7 +206,7 @@ module _ (v : TransmitValue) (w : World) (bodies : ℕ → FrameValue) (h : Stan
       (x : TransmitValue) (u : World) (sent : ℕ → FrameValue) → IsTakingOff x u sent s t a.world.exchanges []
       (prepared_data s t a).world →
       (charge : ℕ) (numbers : List ℕ) → charge ≡ aggregate_charge s t a → numbers ≡ numbers_on_air a.mpdus →
-      Meets w sent (Asked (Pull c)) (after_listing_in (after_sending x s t c charge (Data numbers)) s c)
+      Meets w sent (Asked (Pull c l)) (after_listing_in (after_sending x s t c charge (Data numbers)) s c)
       (Send x.exchanges s t charge (Mpdus (map (λ m. (m.id, m.number % 4096)) a.mpdus))
       (open_next x s t c charge (Data numbers)).more)
   data_meets a is quiet x u sent left charge numbers charge_is numbers_is =
@@ -184,11 +216,11 @@ module _ (v : TransmitValue) (w : World) (bodies : ℕ → FrameValue) (h : Stan
       (with_flying a.world.exchanges []) left.live) ∙ left.live in
       let meets = data_sent a is quiet x sent (off_ends x u sent s t a.world.exchanges
       (prepared_data s t a).world left) live in
-      subst (λ (n : ℕ). Meets w sent (Asked (Pull c))
+      subst (λ (n : ℕ). Meets w sent (Asked (Pull c l))
       (after_listing_in (after_sending x s t c n (Data numbers)) s c)
       (Send x.exchanges s t n (Mpdus (map (λ m. (m.id, m.number % 4096)) a.mpdus))
       (open_next x s t c n (Data numbers)).more)) (sym charge_is)
-      (subst (λ (ns : List ℕ). Meets w sent (Asked (Pull c))
+      (subst (λ (ns : List ℕ). Meets w sent (Asked (Pull c l))
       (after_listing_in (after_sending x s t c (aggregate_charge s t a) (Data ns)) s c)
       (Send x.exchanges s t (aggregate_charge s t a) (Mpdus (map (λ m. (m.id, m.number % 4096)) a.mpdus))
       (open_next x s t c (aggregate_charge s t a) (Data ns)).more)) (sym numbers_is) meets)
@@ -197,7 +229,8 @@ module _ (v : TransmitValue) (w : World) (bodies : ℕ → FrameValue) (h : Stan
 
 pub filled_charge : (v : TransmitValue) (bodies : ℕ → FrameValue) (s t : ℕ) (room : AggregateSizeValue)
     (numbers : List ℕ) (a : Aggregate) → IsFilled v bodies s t room numbers a →
-    data_charge room.rate (aggregate_octets (lens_of a.mpdus)) room.wide ≡ aggregate_charge s t a
+    data_charge room.answers room.rate (aggregate_octets (lens_of a.world.config.overhead a.mpdus)) room.wide
+    ≡ aggregate_charge s t a
 filled_charge v bodies s t room numbers a h =
-    ap (λ (r : AggregateSizeValue). data_charge r.rate (aggregate_octets
-    (lens_of a.mpdus)) r.wide) h.room_is.settings
+    ap (λ (r : AggregateSizeValue). data_charge r.answers r.rate (aggregate_octets
+    (lens_of a.world.config.overhead a.mpdus)) r.wide) h.room_is.settings

@@ -7,8 +7,10 @@ use Rattle.std.proofs.lemmas.List.Sums.{sum_by-cons}
 use Rattle.wf_frame.specs.declared.classes.Class.{Class}
 use Rattle.wf_frame.specs.declared.settings.Config.{Config}
 use Rattle.wf_frame.specs.declared.notes.Note.{Note}
+use Rattle.wf_frame.specs.declared.notes.Limits.{Limits}
+use Rattle.wf_law_runs.proofs.Common.Picked.{picked_world}
 use Rattle.wf_frame.specs.declared.notes.Note.TheVariants.{Enqueue, Asked}
-use Rattle.wf_frame.specs.declared.notes.Ask.TheVariants.{Join, Leave, Rate, Tick, Pull, Arrive, Answer, Done, Sleep, Wake, Poll, Rx, Reap}
+use Rattle.wf_frame.specs.declared.notes.Ask.TheVariants.{Join, Leave, Rate, Tick, Pull, Arrive, Answer, Done, Sleep, Wake, Poll, Rx, Reap, Ampdu, Stop, Start}
 use Rattle.wf_frame.specs.declared.notes.Refusal.{Refusal}
 use Rattle.wf_frame.specs.declared.notes.Refusal.TheVariants.{Idle}
 use Rattle.wf_frame.specs.Classes.{lower_tid, upper_tid, all_classes}
@@ -28,7 +30,7 @@ use Rattle.wf_law_rules.proofs.Lemmas.Counts.{on-cons, on-cons_same, listed-some
 use Rattle.wf_law_rules.proofs.Lemmas.Tables.{each_put}
 use Rattle.wf_law_runs.specs.Queues.{KeepsQueues}
 use Rattle.wf_law_runs.proofs.Queues.Law.{queue_law}
-use Rattle.wf_law_runs.proofs.Queues.Shelves.{Shelves, shelves, shelves_after_pick, shelves_open, shelves_ended, shelves_arrived, shelves_answered, shelves_reaped}
+use Rattle.wf_law_runs.proofs.Queues.Shelves.{Shelves, shelves, shelves_after_pick, shelves_picked, shelves_open, shelves_ended, shelves_arrived, shelves_answered, shelves_reaped}
 use Rattle.wf_law_runs.proofs.Windows.Opened.{left_true, pick_ready}
 use Rattle.wf_law_runs.proofs.Deficits.KeptStep.{NoRow, no_row}
 use Rattle.wf_law_runs.proofs.Deficits.Mild.{sends, Lists, IsMild}
@@ -208,10 +210,12 @@ module _ (w v : World) (i s : ℕ) (other : s ≡ i → ⊥) (m : IsMild i w v) 
       m.stations s other in
       ready_same_by w v c s (live_same (at None v.stations s) (at None w.stations s) same)
       (ap₂ (λ (a b : Bool). a && b)
+      (sends_same (λ x. not x.stopped) (λ x. refl) (at None v.stations s) (at None w.stations s) same)
+      (ap₂ (λ (a b : Bool). a && b)
       (sends_same (λ x. not x.asleep || has_credit x.credit c) (λ x. refl) (at None v.stations s)
       (at None w.stations s) same)
       (ap₂ (λ (config : Config) (n : ℕ). (config.aql == 0) || nat_lt n config.aql) m.config
-      (m.airtime s c other)))
+      (m.airtime s c other))))
       (tid_same (lower_tid c) (lower_low c) lower) (tid_same (upper_tid c) (upper_low c) upper)
 
 -- ---- an enqueue shortens only the queue that loses its head
@@ -302,15 +306,15 @@ winner_live w c i e = left_true (is_live w i) _
     (subst (λ (o : Option ℕ). IfSome o (λ k. is_ready w c k ≡ true)) e
     (pick_ready (station_need w c) (is_ready w c) (rotation w c)))
 
-long_pulled : (o : Option ℕ) (w : World) (c : Class) (s t q : ℕ) → KeepsQueues w →
+long_pulled : (o : Option ℕ) (w : World) (c : Class) (l : Limits) (s t q : ℕ) → KeepsQueues w →
     (picked_station w c).winner ≡ o → (o ≡ Some s → ⊥) → Lists w s t q →
-    length (queue w q).items ≤ length (queue (pull_outcome_for (after_pick w c) c o).world q).items
+    length (queue w q).items ≤ length (queue (pull_outcome_for (picked_world w c l) c o).world q).items
 unfolding pull_outcome_for
-long_pulled None w c s t q keeps e other k = long_by w (after_pick w c) q (shelves_after_pick w c)
-long_pulled (Some i) w c s t q keeps e other k =
+long_pulled None w c l s t q keeps e other k = long_by w (picked_world w c l) q (shelves_picked w c l)
+long_pulled (Some i) w c l s t q keeps e other k =
     let live : is_live w i ≡ true = winner_live w c i e in
-    (apart_pulled (λ _. Unit {0}) (length (queue w q).items) q i (after_pick w c) c tt
-    (subst (IsApart (λ _. Unit {0}) (length (queue w q).items) q i) (sym (shelves_after_pick w c))
+    (apart_pulled (λ _. Unit {0}) (length (queue w q).items) q i (picked_world w c l) c tt
+    (subst (IsApart (λ _. Unit {0}) (length (queue w q).items) q i) (sym (shelves_picked w c l))
     (apart_other w i s t q keeps (λ h. other (ap (λ (z : ℕ). Some z) (sym h))) live k))).long
 
 long_on_station : (w : World) (i q : ℕ) (f : Station → Station) →
@@ -363,8 +367,8 @@ long_done (Asked (Leave i)) w s t q r keeps other spared k =
     (apart_other w i s t q keeps (λ h. other (ap (λ (z : ℕ). Some z) (sym h))) (not-false _ r.1.0) k)
 long_done (Asked (Rate i rate)) w s t q r keeps other spared k = long_on_station w i q _
 long_done (Asked (Tick by)) w s t q r keeps other spared k = omega arith
-long_done (Asked (Pull c)) w s t q r keeps other spared k =
-    long_pulled (picked_station w c).winner w c s t q keeps refl other k
+long_done (Asked (Pull c l)) w s t q r keeps other spared k =
+    long_pulled (picked_station w c).winner w c l s t q keeps refl other k
 long_done (Asked (Arrive e j)) w s t q r keeps other spared k =
     long_open (exchange w e) w (λ x. arrive_outcome w x j) q (λ x. shelves_arrived w x j)
 long_done (Asked (Answer e)) w s t q r keeps other spared k =
@@ -372,6 +376,9 @@ long_done (Asked (Answer e)) w s t q r keeps other spared k =
 long_done (Asked (Done e heard air)) w s t q r keeps other spared k =
     long_open (exchange w e) w (λ x. done_outcome w x heard air) q (λ x. shelves_ended air w x heard)
 long_done (Asked (Sleep i)) w s t q r keeps other spared k = long_on_station w i q _
+long_done (Asked (Ampdu i octets)) w s t q r keeps other spared k = long_on_station w i q _
+long_done (Asked (Stop i)) w s t q r keeps other spared k = long_on_station w i q _
+long_done (Asked (Start i)) w s t q r keeps other spared k = long_on_station w i q _
 long_done (Asked (Wake i)) w s t q r keeps other spared k = long_on_station w i q _
 long_done (Asked (Poll i)) w s t q r keeps other spared k = long_on_station w i q _
 long_done (Asked (Rx i c air)) w s t q r keeps other spared k = long_on_station w i q _
@@ -408,7 +415,7 @@ ready_after_pick w d c s =
 after_refused : (note : Note) (r : Refusal) (w : World) (c : Class) (s : ℕ) →
     is_ready (after_refusal w note r) c s ≡ is_ready w c s
 unfolding after_refusal
-after_refused (Asked (Pull d)) Idle w c s =
+after_refused (Asked (Pull d l)) Idle w c s =
     on_if (λ (v : World). is_ready v c s ≡ is_ready w c s) (w.config.pending == 1) w (after_pick w d)
     (λ _. refl) (λ _. ready_after_pick w d c s)
 after_refused _ _ w c s = refl

@@ -49,6 +49,7 @@ pub record IsOfView (m : Member) (x : StationView) : Type 0 where
   pub four : HasFour m
   pub rate : m.rate ≡ x.rate
   pub exponent : m.exponent ≡ x.exponent
+  pub ampdu : m.ampdu ≡ x.ampdu
   pub upper : (c : Class) → upper_in m c ≡ x.upper c
   pub charged : (c : Class) → charged_in m c ≡ x.charged c
   pub received : (c : Class) → received_in m c ≡ x.received c
@@ -57,6 +58,7 @@ pub record IsOfView (m : Member) (x : StationView) : Type 0 where
 pub record IsSleeperOf (y : Sleeper) (x : StationView) : Type 0 where
   pub asleep : y.asleep ≡ x.asleep
   pub credit : y.credit ≡ x.credit
+  pub stopped : y.stopped ≡ x.stopped
 
 pub record StationsStand (members : List (Option Member)) (sleepers : List Sleeper) (count : ℕ)
     (stations : ℕ → Option StationView) : Type 0 where
@@ -74,6 +76,7 @@ member_view (Some m) (Some x) h = record {
   four = h.four;
   rate = h.rate;
   exponent = h.exponent;
+  ampdu = h.ampdu;
   upper =
       h.upper;
   charged = h.charged;
@@ -89,6 +92,7 @@ view_member (Some m) (Some x) h = record {
   four = h.four;
   rate = h.rate;
   exponent = h.exponent;
+  ampdu = h.ampdu;
   upper =
       h.upper;
   charged = h.charged;
@@ -98,9 +102,11 @@ view_member (Some m) (Some x) h = record {
 sleeper_view : (y : Sleeper) (o : Option Station) →
     (is_some o ≡ true → y.asleep ≡ (unwrap_or o no_station).asleep) →
     (is_some o ≡ true → y.credit ≡ (unwrap_or o no_station).credit) →
+    (is_some o ≡ true → y.stopped ≡ (unwrap_or o no_station).stopped) →
     IfSome (option_map view_of o) (IsSleeperOf y)
-sleeper_view y None asleep credit = tt
-sleeper_view y (Some x) asleep credit = record { asleep = asleep refl; credit = credit refl }
+sleeper_view y None asleep credit stopped = tt
+sleeper_view y (Some x) asleep credit stopped =
+    record { asleep = asleep refl; credit = credit refl; stopped = stopped refl }
 
 view_asleep : (y : Sleeper) (o : Option Station) → IfSome (option_map view_of o) (IsSleeperOf y) →
     is_some o ≡ true → y.asleep ≡ (unwrap_or o no_station).asleep
@@ -111,6 +117,11 @@ view_credit : (y : Sleeper) (o : Option Station) → IfSome (option_map view_of 
     is_some o ≡ true → y.credit ≡ (unwrap_or o no_station).credit
 view_credit y None h is = absurd (cc is)
 view_credit y (Some x) h is = h.credit
+
+view_stopped : (y : Sleeper) (o : Option Station) → IfSome (option_map view_of o) (IsSleeperOf y) →
+    is_some o ≡ true → y.stopped ≡ (unwrap_or o no_station).stopped
+view_stopped y None h is = absurd (cc is)
+view_stopped y (Some x) h is = h.stopped
 
 -- ---- the ledger
 
@@ -146,7 +157,7 @@ to_pieces v w bodies h = record {
     sleepers_sized = h.others.stations.sized.1;
     live = λ s. member_view (member v.members s) (at None w.stations s) (h.others.stations.live s);
     rests = λ s. sleeper_view (sleeper v.sleepers s) (at None w.stations s) (h.others.stations.asleep s)
-        (h.others.stations.credit s);
+        (h.others.stations.credit s) (h.others.stations.stopped s);
   };
   windows = to_agreements v.windows w bodies h.windows;
   flows = h.others.flows;
@@ -171,6 +182,7 @@ of_pieces v w bodies h = record {
       live = λ s. view_member (member v.members s) (at None w.stations s) (h.stations.live s);
       asleep = λ s. view_asleep (sleeper v.sleepers s) (at None w.stations s) (h.stations.rests s);
       credit = λ s. view_credit (sleeper v.sleepers s) (at None w.stations s) (h.stations.rests s);
+      stopped = λ s. view_stopped (sleeper v.sleepers s) (at None w.stations s) (h.stations.rests s);
     };
     inside = h.ledger.count;
     tally = h.ledger.fates;

@@ -13,7 +13,7 @@ use Rattle.wf_sched_refines.specs.Standing.{SchedulerStandsFor as TurnsStandFor}
 use Rattle.wf_sched_refines.proofs.Stands.{each_other, each_other_class}
 use Rattle.wf_queue_flows_refines.proofs.Leaves.{stands_same, station_alone}
 use Rattle.wf_send_parts.specs.declared.stations.members.Member.{Member}
-use Rattle.wf_send_parts.specs.Members.{member, on_member, with_rate, with_upper, charged_in, with_charge, received_in, with_receipt}
+use Rattle.wf_send_parts.specs.Members.{member, on_member, with_rate, with_ampdu, with_upper, charged_in, with_charge, received_in, with_receipt}
 use Rattle.wf_send_parts.specs.declared.stations.sleepers.Sleeper.{Sleeper}
 use Rattle.wf_send_parts.specs.Sleepers.{sleeper, with_sleeper, awake}
 use Rattle.wf_send_half_model.specs.Half.{TransmitValue}
@@ -65,15 +65,20 @@ pub member_changed : (members : List (Option Member)) (sleepers : List Sleeper) 
     StationsStand members sleepers count stations → s < count →
     ((m : Member) (x : StationView) → IsOfView m x → IsOfView (f m) (g x)) →
     ((x : StationView) → (g x).asleep ≡ x.asleep) → ((x : StationView) → (g x).credit ≡ x.credit) →
+    ((x : StationView) → (g x).stopped ≡ x.stopped) →
     StationsStand (on_member members s f) sleepers count (upd stations s (option_map g (stations s)))
-member_changed members sleepers count stations s f g h low keeps asleep credit =
+member_changed members sleepers count stations s f g h low keeps asleep credit stopped =
     subst (λ (ys : List Sleeper). StationsStand (on_member members s f) ys count
     (upd stations s (option_map g (stations s)))) (set-get_or sleepers s awake)
     (station_replaced members sleepers count stations s (option_map f (member members s)) (sleeper sleepers s)
     (option_map g (stations s)) h low
     (both_mapped f g keeps (member members s) (stations s) (h.live s))
     (sleeps_mapped (sleeper sleepers s) (sleeper sleepers s) g
-    (λ x k. record { asleep = k.asleep ∙ sym (asleep x); credit = k.credit ∙ sym (credit x) })
+    (λ x k. record {
+      asleep = k.asleep ∙ sym (asleep x);
+      credit = k.credit ∙ sym (credit x);
+      stopped = k.stopped ∙ sym (stopped x);
+    })
     (stations s) (h.rests s)))
 
 none_mapped : (m : Option Member) → option_map (λ (z : Member). z) m ≡ m
@@ -112,6 +117,19 @@ rated rate m x h = record {
   four = record { upper = h.four.upper; charged = h.four.charged; received = h.four.received };
   rate = refl;
   exponent = h.exponent;
+  ampdu = h.ampdu;
+  upper = h.upper;
+  charged = h.charged;
+  received = h.received;
+}
+
+pub stated : (octets : ℕ) (m : Member) (x : StationView) → IsOfView m x →
+    IsOfView (with_ampdu octets m) (record x { ampdu = Some octets })
+stated octets m x h = record {
+  four = record { upper = h.four.upper; charged = h.four.charged; received = h.four.received };
+  rate = h.rate;
+  exponent = h.exponent;
+  ampdu = refl;
   upper = h.upper;
   charged = h.charged;
   received = h.received;
@@ -127,6 +145,7 @@ turned c upper m x h = record {
   };
   rate = h.rate;
   exponent = h.exponent;
+  ampdu = h.ampdu;
   upper = by_class m.upper false upper c x.upper h.four.upper h.upper;
   charged = h.charged;
   received = h.received;
@@ -144,6 +163,7 @@ charged c air m x h = record {
   };
   rate = h.rate;
   exponent = h.exponent;
+  ampdu = h.ampdu;
   upper = h.upper;
   charged = λ k. by_class m.charged 0 (charged_in m c + air) c x.charged h.four.charged h.charged k
       ∙ ap (λ (n : ℕ). updc x.charged c (n + air) k) (h.charged c);
@@ -161,19 +181,21 @@ receipted c air m x h = record {
   };
   rate = h.rate;
   exponent = h.exponent;
+  ampdu = h.ampdu;
   upper = h.upper;
   charged = h.charged;
   received = λ k. by_class m.received 0 (received_in m c + air) c x.received h.four.received h.received k
       ∙ ap (λ (n : ℕ). updc x.received c (n + air) k) (h.received c);
 }
 
--- a member does not depend on sleep and credit
-pub resting : (asleep : Bool) (credit : Option Class) (m : Member) (x : StationView) → IsOfView m x →
-    IsOfView m (record x { asleep = asleep; credit = credit })
-resting asleep credit m x h = record {
+-- a member does not depend on sleep, credit and stops
+pub resting : (asleep : Bool) (credit : Option Class) (stopped : Bool) (m : Member) (x : StationView) →
+    IsOfView m x → IsOfView m (record x { asleep = asleep; credit = credit; stopped = stopped })
+resting asleep credit stopped m x h = record {
   four = h.four;
   rate = h.rate;
   exponent = h.exponent;
+  ampdu = h.ampdu;
   upper = h.upper;
   charged = h.charged;
   received = h.received;

@@ -8,14 +8,14 @@ use Rattle.wf_frame.specs.declared.settings.Config.{Config}
 use Rattle.wf_frame.specs.declared.notes.AskedRate.{AskedRate}
 use Rattle.wf_frame.specs.declared.notes.Note.{Note}
 use Rattle.wf_frame.specs.declared.notes.Note.TheVariants.{Enqueue, Asked}
-use Rattle.wf_frame.specs.declared.notes.Ask.TheVariants.{Join, Leave, Rate, Tick, Pull, Arrive, Answer, Done, Sleep, Wake, Poll, Rx, Reap}
+use Rattle.wf_frame.specs.declared.notes.Ask.TheVariants.{Join, Leave, Rate, Tick, Pull, Arrive, Answer, Done, Sleep, Wake, Poll, Rx, Reap, Ampdu, Stop, Start}
 use Rattle.wf_frame.specs.Classes.{lower_tid, upper_tid}
 use Rattle.wf_def_lists.specs.Table.{at}
 use Rattle.wf_def_rotation.specs.Rotation.{in_order}
 use Rattle.wf_def_agreement.specs.Receiver.{Receiver}
 use Rattle.wf_def_world.specs.World.{World, Station, Exchange, no_station, owed, exchange, on_station, with_station, on_tid, on_receiver, on_share, with_exchange}
 use Rattle.wf_def_world.specs.CanSend.{is_request, request_open, has_credit, is_below_aql, may_receive, is_ready}
-use Rattle.wf_def_world.specs.Step.{Outcome, outcome_of, step, outcome_where_open, rate_outcome, tick_outcome, arrive_outcome, answer_outcome, rx_outcome, reap_outcome}
+use Rattle.wf_def_world.specs.Step.{Outcome, outcome_of, step, outcome_where_open, rate_outcome, tick_outcome, arrive_outcome, answer_outcome, rx_outcome, reap_outcome, ampdu_outcome}
 use Rattle.wf_law_rules.proofs.Lemmas.Tables.{each_put}
 use Rattle.wf_law_runs.proofs.Deficits.Books.{Books, books, core}
 use Rattle.wf_law_runs.proofs.Deficits.Openings.{owed-core}
@@ -50,29 +50,34 @@ steady_ready : (w v : World) → IsSteady w v → (c : Class) (s : ℕ) → is_r
 steady_ready w v h c s = ready_same_by w v c s (ap (λ (a : Agreements). a.live s) h.agreements)
     (h.receives s c) (steady_tid w v h s (lower_tid c)) (steady_tid w v h s (upper_tid c))
 
--- ---- a station changes, but not its TIDs, its sleep or its credit
+-- ---- a station changes, but not its TIDs, its sleep, its credit or its stop
 
--- whether a station that is present may receive in a class
-abbrev pub receives : Class → Option Station → Bool
-receives c o = not (unwrap_or o no_station).asleep || has_credit (unwrap_or o no_station).credit c
+-- whether a station may receive in a class, if its airtime in flight is below the limit, or not
+abbrev pub receives : Class → Option Station → Bool → Bool
+receives c o below = not (unwrap_or o no_station).stopped
+    && ((not (unwrap_or o no_station).asleep || has_credit (unwrap_or o no_station).credit c) && below)
 
--- the change does not affect sleep and credit
+-- the change does not affect sleep, credit and stop
 pub record KeepsSleep (f : Station → Station) : Type 0 where
   pub asleep : (x : Station) → (f x).asleep ≡ x.asleep
   pub credit : (x : Station) → (f x).credit ≡ x.credit
+  pub stopped : (x : Station) → (f x).stopped ≡ x.stopped
 
-receives_mapped : (f : Station → Station) → KeepsSleep f → (c : Class) (o : Option Station) →
-    receives c (option_map f o) ≡ receives c o
-receives_mapped f h c None = refl
-receives_mapped f h c (Some x) = ap₂ (λ (b : Bool) (o : Option Class). not b || has_credit o c) (h.asleep x)
+receives_mapped : (f : Station → Station) → KeepsSleep f → (c : Class) (below : Bool) (o : Option Station) →
+    receives c (option_map f o) below ≡ receives c o below
+receives_mapped f h c below None = refl
+receives_mapped f h c below (Some x) =
+    ap (λ (b : Bool). not b && ((not (f x).asleep || has_credit (f x).credit c) && below)) (h.stopped x)
+    ∙ ap₂ (λ (b : Bool) (o : Option Class). not x.stopped && ((not b || has_credit o c) && below)) (h.asleep x)
     (h.credit x)
 
-heard_on_station : (w : World) (i : ℕ) (f : Station → Station) → KeepsSleep f → (s : ℕ) (c : Class) →
-    receives c (at None (on_station w i f).stations s) ≡ receives c (at None w.stations s)
+heard_on_station : (w : World) (i : ℕ) (f : Station → Station) → KeepsSleep f → (s : ℕ) (c : Class)
+    (below : Bool) →
+    receives c (at None (on_station w i f).stations s) below ≡ receives c (at None w.stations s) below
 unfolding on_station with_station
-heard_on_station w i f h s c =
-    each_put (λ y o. receives c o ≡ receives c (at None w.stations y)) None w.stations i
-    (option_map f (at None w.stations i)) (λ y. refl) (receives_mapped f h c (at None w.stations i)) s
+heard_on_station w i f h s c below =
+    each_put (λ y o. receives c o below ≡ receives c (at None w.stations y) below) None w.stations i
+    (option_map f (at None w.stations i)) (λ y. refl) (receives_mapped f h c below (at None w.stations i)) s
 
 pub below_on_station : (w : World) (i : ℕ) (f : Station → Station) (s : ℕ) (c : Class) →
     is_below_aql (on_station w i f) s c ≡ is_below_aql w s c
@@ -81,8 +86,9 @@ below_on_station w i f s c = refl
 
 pub receives_on_station : (w : World) (i : ℕ) (f : Station → Station) → KeepsSleep f → (s : ℕ) (c : Class) →
     may_receive (on_station w i f) s c ≡ may_receive w s c
-receives_on_station w i f h s c = ap₂ (λ (a b : Bool). a && b) (heard_on_station w i f h s c)
-    (below_on_station w i f s c)
+receives_on_station w i f h s c =
+    heard_on_station w i f h s c (is_below_aql (on_station w i f) s c)
+    ∙ ap (receives c (at None w.stations s)) (below_on_station w i f s c)
 
 requests_on_station : (w : World) (i : ℕ) (f : Station → Station) (s t : ℕ) →
     request_open (on_station w i f) s t ≡ request_open w s t
@@ -95,7 +101,16 @@ steady_rated w i rate = record {
   part = station_alone w i _ (λ x. refl);
   agreements = agreements_station w i _ (λ x. refl);
   requests = requests_on_station w i _;
-  receives = receives_on_station w i _ (record { asleep = λ x. refl; credit = λ x. refl });
+  receives = receives_on_station w i _ (record { asleep = λ x. refl; credit = λ x. refl; stopped = λ x. refl });
+}
+
+steady_stated : (w : World) (i octets : ℕ) → IsSteady w (ampdu_outcome w i octets).world
+steady_stated w i octets = record {
+  part = station_alone w i _ (λ x. refl);
+  agreements = agreements_station w i _ (λ x. refl);
+  requests = requests_on_station w i _;
+  receives = receives_on_station w i _
+      (record { asleep = λ x. refl; credit = λ x. refl; stopped = λ x. refl });
 }
 
 steady_received : (w : World) (i : ℕ) (d : Class) (air : ℕ) → IsSteady w (rx_outcome w i d air).world
@@ -104,7 +119,7 @@ steady_received w i d air = record {
   part = station_alone w i _ (λ x. refl);
   agreements = agreements_station w i _ (λ x. refl);
   requests = requests_on_station w i _;
-  receives = receives_on_station w i _ (record { asleep = λ x. refl; credit = λ x. refl });
+  receives = receives_on_station w i _ (record { asleep = λ x. refl; credit = λ x. refl; stopped = λ x. refl });
 }
 
 -- ---- an open exchange is marked
@@ -126,15 +141,16 @@ agreements_marked : (w : World) (z : Exchange) → agreements (with_exchange w z
 unfolding with_exchange
 agreements_marked w z = refl
 
-heard_marked : (w : World) (z : Exchange) (s : ℕ) (c : Class) →
-    receives c (at None (with_exchange w z).stations s) ≡ receives c (at None w.stations s)
+heard_marked : (w : World) (z : Exchange) (s : ℕ) (c : Class) (below : Bool) →
+    receives c (at None (with_exchange w z).stations s) below ≡ receives c (at None w.stations s) below
 unfolding with_exchange
-heard_marked w z s c = refl
+heard_marked w z s c below = refl
 
-heard_receiver : (w : World) (i t : ℕ) (f : Receiver → Receiver) (s : ℕ) (c : Class) →
-    receives c (at None (on_receiver w i t f).stations s) ≡ receives c (at None w.stations s)
+heard_receiver : (w : World) (i t : ℕ) (f : Receiver → Receiver) (s : ℕ) (c : Class) (below : Bool) →
+    receives c (at None (on_receiver w i t f).stations s) below ≡ receives c (at None w.stations s) below
 unfolding on_receiver on_tid
-heard_receiver w i t f = heard_on_station w i _ (record { asleep = λ x. refl; credit = λ x. refl })
+heard_receiver w i t f = heard_on_station w i _
+    (record { asleep = λ x. refl; credit = λ x. refl; stopped = λ x. refl })
 
 -- the same books have the same airtime in flight
 same_below : (w v : World) → books v ≡ books w → (s : ℕ) (c : Class) → is_below_aql v s c ≡ is_below_aql w s c
@@ -149,9 +165,10 @@ steady_arrived w e i x kept found = record {
   part = exchange_alone _ _ ∙ receiver_alone w x.station x.tid _;
   agreements = agreements_marked _ _ ∙ agreements_receiver w x.station x.tid _;
   requests = same_requests w (arrive_outcome w x i).world (books_arrived w e i x kept found);
-  receives = λ s c. ap₂ (λ (a b : Bool). a && b)
-      (heard_marked _ _ s c ∙ heard_receiver w x.station x.tid _ s c)
-      (same_below w (arrive_outcome w x i).world (books_arrived w e i x kept found) s c);
+  receives = λ s c.
+      let u : World = (arrive_outcome w x i).world in
+      heard_marked _ _ s c (is_below_aql u s c) ∙ heard_receiver w x.station x.tid _ s c (is_below_aql u s c)
+      ∙ ap (receives c (at None w.stations s)) (same_below w u (books_arrived w e i x kept found) s c);
 }
 
 steady_answered : (w : World) (e : ℕ) (x : Exchange) → IsKept (books w) → IsFound w e x →
@@ -161,8 +178,10 @@ steady_answered w e x kept found = record {
   part = exchange_alone w _;
   agreements = agreements_marked w _;
   requests = same_requests w (answer_outcome w x).world (books_answered w e x kept found);
-  receives = λ s c. ap₂ (λ (a b : Bool). a && b) (heard_marked w _ s c)
-      (same_below w (answer_outcome w x).world (books_answered w e x kept found) s c);
+  receives = λ s c.
+      let u : World = (answer_outcome w x).world in
+      heard_marked w _ s c (is_below_aql u s c)
+      ∙ ap (receives c (at None w.stations s)) (same_below w u (books_answered w e x kept found) s c);
 }
 
 steady_open : (o : Option Exchange) (w : World) (e : ℕ) (f : Exchange → Outcome) → exchange w e ≡ o →
@@ -206,9 +225,12 @@ steady_done (Asked Reap) w r h c s = ready_reap w.finished w c s
 steady_done (Enqueue i t flow len) w r h c s = absurd (cc h)
 steady_done (Asked (Join i window start exponent weight)) w r h c s = absurd (cc h)
 steady_done (Asked (Leave i)) w r h c s = absurd (cc h)
-steady_done (Asked (Pull d)) w r h c s = absurd (cc h)
+steady_done (Asked (Pull d l)) w r h c s = absurd (cc h)
 steady_done (Asked (Done e heard air)) w r h c s = absurd (cc h)
 steady_done (Asked (Sleep i)) w r h c s = absurd (cc h)
+steady_done (Asked (Ampdu i octets)) w r h c s = steady_ready w _ (steady_stated w i octets) c s
+steady_done (Asked (Stop i)) w r h c s = absurd (cc h)
+steady_done (Asked (Start i)) w r h c s = absurd (cc h)
 steady_done (Asked (Wake i)) w r h c s = absurd (cc h)
 steady_done (Asked (Poll i)) w r h c s = absurd (cc h)
 

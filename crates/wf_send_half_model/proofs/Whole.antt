@@ -8,10 +8,10 @@ use Rattle.std.proofs.lemmas.List.{get_or-set_same}
 use Rattle.wf_frame.specs.declared.classes.Class.{Class}
 use Rattle.wf_frame.specs.declared.notes.AskedRate.{AskedRate}
 use Rattle.wf_frame.specs.declared.notes.Note.TheVariants.{Asked}
-use Rattle.wf_frame.specs.declared.notes.Ask.TheVariants.{Join, Rate, Tick, Arrive, Answer, Sleep, Wake, Poll, Reap}
+use Rattle.wf_frame.specs.declared.notes.Ask.TheVariants.{Join, Rate, Tick, Arrive, Answer, Sleep, Wake, Poll, Reap, Ampdu, Stop, Start}
 use Rattle.wf_frame.specs.declared.notes.Refusal.{Refusal}
 use Rattle.wf_frame.specs.declared.notes.ReplyNote.{ReplyNote}
-use Rattle.wf_frame.specs.declared.notes.ReplyNote.TheVariants.{Joined, Set, Now, Slept, Woken, Polled, Reaped}
+use Rattle.wf_frame.specs.declared.notes.ReplyNote.TheVariants.{Joined, Set, Now, Slept, Woken, Polled, Reaped, Stopped, Started}
 use Rattle.wf_frame.specs.Classes.{lower_tid, upper_tid}
 use Rattle.wf_frame.specs.Frames.{FrameValue}
 use Rattle.wf_def_rotation.specs.Rotation.{Rotation, has_key}
@@ -19,7 +19,7 @@ use Rattle.wf_def_world.specs.Rates.{rate_asked}
 use Rattle.wf_def_world.specs.World.{World, Exchange, rotation, is_live, exchange, on_station, on_tid, on_receiver, on_share, with_station, with_exchange}
 use Rattle.wf_def_world.specs.CanSend.{is_ready, is_debtor, is_to_list, with_listings_of}
 use Rattle.wf_def_world.specs.Refusals.{refusal, refusals}
-use Rattle.wf_def_world.specs.Step.{outcome_of, outcome_where_open, station_of, after_refusal, judged_outcome, step, arrive_outcome, answer_outcome, class_to_send, tick_outcome, rate_outcome, sleep_outcome, wake_outcome, poll_outcome, rx_outcome, join_outcome}
+use Rattle.wf_def_world.specs.Step.{outcome_of, outcome_where_open, station_of, after_refusal, judged_outcome, step, arrive_outcome, answer_outcome, class_to_send, tick_outcome, rate_outcome, sleep_outcome, wake_outcome, poll_outcome, rx_outcome, join_outcome, ampdu_outcome}
 use Rattle.wf_law_rules.proofs.Lemmas.Numbers.{either}
 use Rattle.wf_law_runs.proofs.Deficits.KeptStep.{NoRow, no_row}
 use Rattle.wf_law_runs.proofs.Deficits.Law.{deficits}
@@ -29,14 +29,14 @@ use Rattle.wf_queue_flows_refines.specs.Standing.{with_finished}
 use Rattle.wf_queue_flows_refines.proofs.Ends.{reply_reaped}
 use Rattle.wf_send_parts.specs.Window.{WindowValue}
 use Rattle.wf_send_parts.specs.declared.stations.members.Member.{Member}
-use Rattle.wf_send_parts.specs.Members.{member, on_member, new_member, with_rate}
-use Rattle.wf_send_parts.specs.Sleepers.{sleeper, with_sleeper, awake}
+use Rattle.wf_send_parts.specs.Members.{member, on_member, new_member, with_rate, with_ampdu}
+use Rattle.wf_send_parts.specs.Sleepers.{sleeper, with_sleeper, awake, woken}
 use Rattle.wf_send_half_model.specs.Half.{TransmitValue, can_send_of, may_receive_of, is_to_list_of}
 use Rattle.wf_send_half_model.specs.Standing.{Parts, IsReached, StandsFor, Meets}
 use Rattle.wf_send_half_model.specs.Changes.{after_listing, AreReset}
 use Rattle.wf_send_half_model.proofs.Reached.{by_law, reached_step, rises, owes_nothing}
 use Rattle.wf_send_half_model.proofs.Readers.{to_list_same}
-use Rattle.wf_send_half_model.proofs.Calls.{tick_parts, rate_parts, sleep_parts, wake_parts, poll_parts, reap_parts}
+use Rattle.wf_send_half_model.proofs.Calls.{tick_parts, rate_parts, sleep_parts, wake_parts, poll_parts, reap_parts, ampdu_parts, stop_parts, start_parts}
 use Rattle.wf_send_half_model.proofs.Joins.{join_parts}
 use Rattle.wf_send_half_model.proofs.Meets.{listed_none, listed_meets, unlisted_meets, idle_meets}
 use Rattle.wf_send_half_model.proofs.Listings.{nobody_new}
@@ -104,6 +104,11 @@ pub rx_lists : (w : World) (s : ℕ) (d : Class) (air : ℕ) (c : Class) →
     rotation (rx_outcome w s d air).world c ≡ rotation w c
 unfolding rx_outcome on_share on_station with_station
 rx_lists w s d air c = refl
+
+ampdu_lists : (w : World) (s octets : ℕ) (c : Class) →
+    rotation (ampdu_outcome w s octets).world c ≡ rotation w c
+unfolding on_station with_station
+ampdu_lists w s octets c = refl
 
 rate_reply : (w : World) (s : ℕ) (rate : AskedRate) → (rate_outcome w s rate).reply ≡ Set
 unfolding rate_outcome
@@ -178,11 +183,11 @@ module _ (v : TransmitValue) (w : World) (bodies : ℕ → FrameValue) (h : Stan
 
   pub wake_meets : (s : ℕ) → refusal w (Asked (Wake s)) ≡ None →
       Meets w bodies (Asked (Wake s)) (after_listing
-      (record v { sleepers = with_sleeper v.sleepers s awake }) s) Woken
+      (record v { sleepers = with_sleeper v.sleepers s (woken (sleeper v.sleepers s)) }) s) Woken
   unfolding outcome_of wake_outcome
   wake_meets s done =
       let rows : NoRow (refusals w (Asked (Wake s))) = no_row (refusals w (Asked (Wake s))) done in
-      listed_meets (record v { sleepers = with_sleeper v.sleepers s awake }) w bodies
+      listed_meets (record v { sleepers = with_sleeper v.sleepers s (woken (sleeper v.sleepers s)) }) w bodies
       (Asked (Wake s)) h.reached tt tt done (wake_parts v w bodies s (below w s rows.0) h.parts) s refl
 
   pub poll_meets : (s : ℕ) → refusal w (Asked (Poll s)) ≡ None →
@@ -200,6 +205,55 @@ module _ (v : TransmitValue) (w : World) (bodies : ℕ → FrameValue) (h : Stan
             (record (sleeper v.sleepers s) { credit = Some (class_to_send w s) });
       }) w bodies
       (Asked (Poll s)) h.reached tt tt done (poll_parts v w bodies s (below w s rows.0) h.parts) s refl
+
+  pub ampdu_meets : (s octets : ℕ) → refusal w (Asked (Ampdu s octets)) ≡ None →
+      Meets w bodies (Asked (Ampdu s octets))
+      (record v { members = on_member v.members s (with_ampdu octets) }) Set
+  unfolding outcome_of
+  ampdu_meets s octets done =
+      let rows : NoRow (refusals w (Asked (Ampdu s octets))) =
+      no_row (refusals w (Asked (Ampdu s octets))) done in
+      stated (below w s rows.0)
+    where
+      stated : s < w.config.stations → Meets w bodies (Asked (Ampdu s octets))
+          (record v { members = on_member v.members s (with_ampdu octets) }) Set
+      stated low =
+          let x : TransmitValue = record v { members = on_member v.members s (with_ampdu octets) } in
+          let k : Parts x (ampdu_outcome w s octets).world bodies =
+          ampdu_parts v w bodies s low h.parts octets in
+          idle_meets x w bodies (Asked (Ampdu s octets)) h.reached tt tt done k s refl
+          (same_listed v x w (ampdu_outcome w s octets).world bodies s h.reached h.parts k
+          (same_wanted v s (with_ampdu octets) (sized s low)) (ampdu_lists w s octets))
+
+  pub stop_meets : (s : ℕ) → refusal w (Asked (Stop s)) ≡ None →
+      Meets w bodies (Asked (Stop s)) (after_listing
+      (record v {
+        sleepers = with_sleeper v.sleepers s
+            (record (sleeper v.sleepers s) { stopped = true });
+      }) s) Stopped
+  unfolding outcome_of
+  stop_meets s done =
+      let rows : NoRow (refusals w (Asked (Stop s))) = no_row (refusals w (Asked (Stop s))) done in
+      listed_meets (record v {
+        sleepers = with_sleeper v.sleepers s
+            (record (sleeper v.sleepers s) { stopped = true });
+      }) w bodies (Asked (Stop s)) h.reached tt tt done
+      (stop_parts v w bodies s (below w s rows.0) h.parts) s refl
+
+  pub start_meets : (s : ℕ) → refusal w (Asked (Start s)) ≡ None →
+      Meets w bodies (Asked (Start s)) (after_listing
+      (record v {
+        sleepers = with_sleeper v.sleepers s
+            (record (sleeper v.sleepers s) { stopped = false });
+      }) s) Started
+  unfolding outcome_of
+  start_meets s done =
+      let rows : NoRow (refusals w (Asked (Start s))) = no_row (refusals w (Asked (Start s))) done in
+      listed_meets (record v {
+        sleepers = with_sleeper v.sleepers s
+            (record (sleeper v.sleepers s) { stopped = false });
+      }) w bodies (Asked (Start s)) h.reached tt tt done
+      (start_parts v w bodies s (below w s rows.0) h.parts) s refl
 
   pub join_meets : (windows : List WindowValue) (s window start exponent weight : ℕ) →
       refusal w (Asked (Join s window start exponent weight)) ≡ None →

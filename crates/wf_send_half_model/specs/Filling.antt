@@ -8,9 +8,11 @@ use Rattle.wf_frame.specs.Frames.{FrameValue}
 use Rattle.wf_def_codel.specs.Codel.{Params}
 use Rattle.wf_def_lists.specs.Lists.{IsRising}
 use Rattle.wf_def_agreement.specs.Session.{Session, State, slot, next_number, request_due}
-use Rattle.wf_def_world.specs.World.{World, Mpdu, is_live, station, session, is_wide, on_session}
+use Rattle.wf_def_air.specs.Fit.{most_octets}
+use Rattle.wf_frame.specs.declared.notes.Limits.{Limits}
+use Rattle.wf_def_world.specs.World.{World, Station, Mpdu, is_live, station, session, is_wide, with_bounds, on_session}
 use Rattle.wf_def_world.specs.FlowQueues.{Taken, taken_for_tid}
-use Rattle.wf_def_world.specs.Exchanges.{Aggregate, after_pick, after_tid_turn, most_frames, lens_of, fits_in, mpdu_of, with_number, with_fresh, with_flying}
+use Rattle.wf_def_world.specs.Exchanges.{Aggregate, after_pick, bounds_of, after_tid_turn, most_frames, lens_of, fits_in, mpdu_of, with_number, with_fresh, with_flying}
 use Rattle.wf_law_runs.specs.Places.{IsNumbered}
 use Rattle.wf_law_runs.specs.Windows.{EachMpdu}
 use Rattle.wf_air.specs.Sizes.{AggregateSizeValue, empty_size, SizeStandsFor as SizeStandsFor}
@@ -78,26 +80,35 @@ abbrev pub with_so_many_fresh : ℕ → World → ℕ → ℕ → World
 with_so_many_fresh zero w s t = w
 with_so_many_fresh (suc n) w s t = with_one_fresh (with_so_many_fresh n w s t) s t
 
--- A world in the middle of a pull of a run: a class was picked, TID t of station s took the turn, and `given`
--- fresh frames of the TID have numbers.
+-- a station of class c is picked by a pull with these limits
+abbrev pub after_pick_within : World → Class → Limits → World
+after_pick_within w c limits = with_bounds (after_pick w c) (bounds_of w.config c limits)
+
+-- A world in the middle of a pull of a run: a class was picked with these limits, TID t of station s took the
+-- turn, and `given` fresh frames of the TID have numbers.
 pub record IsUnderway (w : World) (s t : ℕ) : Type 0 where
   pub before : World
   pub reached : IsReached before
   pub class : Class
+  pub limits : Limits
   pub given : ℕ
-  pub is : with_so_many_fresh given (after_tid_turn (after_pick before class) s class t) s t ≡ w
+  pub is : with_so_many_fresh given
+      (after_tid_turn (after_pick_within before class limits) s class t) s t ≡ w
 
 -- ---- the aggregate
 
 -- an empty aggregate for TID t of station s
 abbrev pub room_for : World → ℕ → ℕ → AggregateSizeValue
-room_for w s t = empty_size (station w s).rate (station w s).exponent (most_frames w s) w.config.cap
-    (is_wide w s t)
+room_for w s t =
+    let x : Station = station w s in
+    empty_size x.rate
+    (record { octets = most_octets x.rate x.exponent x.ampdu; frames = most_frames w s; time = w.bounds.air })
+    w.config.answers (is_wide w s t)
 
--- the aggregate under way has these transmissions to TID t of station s, as their lengths say
+-- the aggregate under way has these transmissions to TID t of station s, as their lengths with encryption say
 pub record HasRoomFor (room : AggregateSizeValue) (w : World) (s t : ℕ) (mpdus : List Mpdu) : Type 0 where
   pub settings : room ≡ record (room_for w s t) { count = room.count; octets = room.octets }
-  pub lens : SizeStandsFor room (lens_of mpdus)
+  pub lens : SizeStandsFor room (lens_of w.config.overhead mpdus)
 
 -- TID t of station s has had its turn in a pull; next, the half prepares what it sends
 pub record IsTurned (v : TransmitValue) (w : World) (bodies : ℕ → FrameValue) (s t : ℕ) : Type 0 where

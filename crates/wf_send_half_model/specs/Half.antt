@@ -1,6 +1,6 @@
 -- Defines what a transmit half of an access point keeps, as its callers see it; what stations received is no
 -- part of it. Times, deficits and airtime are in microseconds.
-use Rattle.std.specs.Prelude.{ℕ, ◌*◌, ◌==◌, nat_lt, nat_le, pos, int_le, Bool, not, ◌&&◌, ◌||◌, List, [], ◌∷◌, ◌++◌, Option, Some, None, is_some, option_map, if◌then◌else◌, map, find, replicate}
+use Rattle.std.specs.Prelude.{ℕ, ◌*◌, ◌==◌, nat_lt, nat_le, pos, int_le, Bool, false, not, ◌&&◌, ◌||◌, List, [], ◌∷◌, ◌++◌, Option, Some, None, is_some, option_map, if◌then◌else◌, map, find, replicate}
 use Rattle.std.specs.List.{list_any}
 use Rattle.wf_frame.specs.declared.settings.Config.{Config}
 use Rattle.wf_frame.specs.declared.classes.Class.{Class}
@@ -69,11 +69,12 @@ can_send_of v s t =
 abbrev pub is_below_aql_of : TransmitValue → ℕ → Class → Bool
 is_below_aql_of v s c = (v.config.aql == 0) || nat_lt (airtime_to v.opened s c) v.config.aql
 
--- whether a station may receive in a class: it is awake, or has a credit for the class, and its airtime in
--- flight is below the limit
+-- whether a station may receive in a class: it is not stopped, it is awake or has a credit for the class, and
+-- its airtime in flight is below the limit
 abbrev pub may_receive_of : TransmitValue → ℕ → Class → Bool
-may_receive_of v s c =
-    (not (sleeper v.sleepers s).asleep || has_credit (sleeper v.sleepers s).credit c) && is_below_aql_of v s c
+may_receive_of v s c = not (sleeper v.sleepers s).stopped
+    && ((not (sleeper v.sleepers s).asleep || has_credit (sleeper v.sleepers s).credit c)
+    && is_below_aql_of v s c)
 
 -- whether a station is ready in a class: it is live, one of its two TIDs of the class can send, and it may
 -- receive in the class
@@ -86,6 +87,16 @@ is_ready_of v c s =
 -- `pending`
 abbrev pub pending_air_of : TransmitValue → ℕ → Class → ℕ
 pending_air_of v s c = if v.config.pending == 1 then airtime_to v.opened s c else 0
+
+-- whether a credit blocks a poll: with the setting `credits`, only one in whose class the station can send
+abbrev pub is_live_credit_of : TransmitValue → ℕ → Option Class → Bool
+is_live_credit_of v s None = false
+is_live_credit_of v s (Some c) = (v.config.credits == 0)
+    || (can_send_of v s (lower_tid c) || can_send_of v s (upper_tid c))
+
+-- whether a station has a credit that blocks a poll
+abbrev pub has_live_credit_of : TransmitValue → ℕ → Bool
+has_live_credit_of v s = is_live_credit_of v s (sleeper v.sleepers s).credit
 
 -- whether a station is live and has nothing left to use in a class, with the setting `pending`: the scheduler
 -- keeps the standing

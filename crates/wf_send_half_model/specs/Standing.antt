@@ -61,11 +61,12 @@ pub record HasFour (m : Member) : Type 0 where
   pub charged : length m.charged ≡ 4
   pub received : length m.received ≡ 4
 
--- a member represents a live station: rate, exponent, turns, and sums of airtime
+-- a member represents a live station: rate, exponent, stated length of aggregates, turns, and sums of airtime
 pub record IsMember (m : Member) (x : Station) : Type 0 where
   pub four : HasFour m
   pub rate : m.rate ≡ x.rate
   pub exponent : m.exponent ≡ x.exponent
+  pub ampdu : m.ampdu ≡ x.ampdu
   pub upper : (c : Class) → upper_in m c ≡ (share_in x c).upper
   pub charged : (c : Class) → charged_in m c ≡ (share_in x c).charged
   pub received : (c : Class) → received_in m c ≡ (share_in x c).received
@@ -76,12 +77,14 @@ AreBoth R None None = Unit {0}
 AreBoth R (Some x) (Some y) = R x y
 AreBoth R _ _ = ⊥
 
--- the members are the live stations, and the sleepers have the sleep and the credit of each
+-- the members are the live stations, and the sleepers have the sleep and the credit of each, and whether it
+-- is stopped
 pub record HasStations (members : List (Option Member)) (sleepers : List Sleeper) (w : World) : Type 0 where
   pub sized : (length members ≡ w.config.stations) × (length sleepers ≡ w.config.stations)
   pub live : (s : ℕ) → AreBoth IsMember (member members s) (at None w.stations s)
   pub asleep : (s : ℕ) → is_live w s ≡ true → (sleeper sleepers s).asleep ≡ (station w s).asleep
   pub credit : (s : ℕ) → is_live w s ≡ true → (sleeper sleepers s).credit ≡ (station w s).credit
+  pub stopped : (s : ℕ) → is_live w s ≡ true → (sleeper sleepers s).stopped ≡ (station w s).stopped
 
 -- ---- frames
 

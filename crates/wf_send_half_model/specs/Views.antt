@@ -28,6 +28,8 @@ agreements w = record { config = w.config; live = λ s. is_live w s; sessions = 
 pub record StationView : Type 0 where
   pub rate : Rate
   pub exponent : ℕ
+  pub ampdu : Option ℕ
+  pub stopped : Bool
   pub asleep : Bool
   pub credit : Option Class
   pub upper : Class → Bool
@@ -38,6 +40,8 @@ abbrev pub view_of : Station → StationView
 view_of x = record {
   rate = x.rate;
   exponent = x.exponent;
+  ampdu = x.ampdu;
+  stopped = x.stopped;
   asleep = x.asleep;
   credit = x.credit;
   upper = λ c. (share_in x c).upper;

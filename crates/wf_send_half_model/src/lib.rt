@@ -11,7 +11,7 @@
 //! half has: those that were accepted and are not reaped, each with its body.
 #![tactic(auto)]
 
-ghost use Rattle.std.specs.Prelude.{◌≡◌, ◌<◌, ◌≤◌, ℕ, suc, ◌+◌, ◌-◌, ◌*◌, ◌==◌, ◌||◌, ◌++◌, pos, ◌+ℤ◌, ◌-ℤ◌, Bool, true, false, List, [], ◌∷◌, Some, None, is_some, option_map, map, find, count_by, set, length, max, unwrap_or, ◌%◌, ◌&&◌, nat_lt, nat_le, if◌then◌else◌, All, Option};
+ghost use Rattle.std.specs.Prelude.{◌≡◌, ◌<◌, ◌≤◌, ℕ, suc, ◌+◌, ◌-◌, ◌*◌, ◌==◌, ◌||◌, ◌++◌, pos, ◌+ℤ◌, ◌-ℤ◌, Bool, true, false, List, [], ◌∷◌, Some, None, is_some, option_map, map, find, count_by, set, length, max, unwrap_or, ◌%◌, ◌&&◌, nat_lt, nat_le, if◌then◌else◌, All, Option, IfSome};
 ghost use Rattle.std.specs.List.{list_any};
 ghost use Rattle.wf_frame.specs.Classes.{lower_tid, upper_tid, same_class, class_of, tid_number};
 ghost use Rattle.wf_frame.specs.Frames.{FrameValue, source_octets};
@@ -20,20 +20,21 @@ ghost use Rattle.wf_frame.specs.declared.classes.Class.{Class};
 ghost use Rattle.wf_frame.specs.declared.classes.Class.TheVariants.{Bk, Be, Vi, Vo};
 ghost use Rattle.wf_frame.specs.declared.classes.Fate.{Fate};
 ghost use Rattle.wf_frame.specs.declared.classes.Fate.TheVariants.{Held};
-ghost use Rattle.wf_frame.specs.declared.notes.Ask.TheVariants.{Done, Join, Leave, Pull, Rate, Tick, Arrive, Answer, Sleep, Wake, Poll, Rx, Reap};
+ghost use Rattle.wf_frame.specs.declared.notes.Ask.TheVariants.{Done, Join, Leave, Pull, Rate, Tick, Arrive, Answer, Sleep, Wake, Poll, Rx, Reap, Ampdu, Stop, Start};
 ghost use Rattle.wf_frame.specs.declared.notes.AskedRate.{AskedRate};
+ghost use Rattle.wf_frame.specs.declared.notes.Limits.{Limits};
 ghost use Rattle.wf_frame.specs.declared.notes.Note.{Note};
 ghost use Rattle.wf_frame.specs.declared.notes.Note.TheVariants.{Enqueue, Asked};
 ghost use Rattle.wf_frame.specs.declared.notes.Refusal.{Refusal};
 ghost use Rattle.wf_frame.specs.declared.notes.Refusal.TheVariants.{Idle, Full, Ahead};
-ghost use Rattle.wf_frame.specs.declared.notes.ReplyNote.TheVariants.{Accepted, Left, Joined, Set, Now, Slept, Woken, Polled, Charged, Reaped, Refused, Send};
+ghost use Rattle.wf_frame.specs.declared.notes.ReplyNote.TheVariants.{Accepted, Left, Joined, Set, Now, Slept, Woken, Polled, Charged, Reaped, Stopped, Started, Refused, Send};
 ghost use Rattle.wf_frame.specs.declared.notes.ReplyNote.TheVariants as reply;
 ghost use Rattle.wf_frame.specs.declared.settings.Config.{Config};
 ghost use Rattle.wf_frame.specs.declared.notes.Part.TheVariants.{Mpdus, Request as Starts};
 ghost use Rattle.wf_def_air.specs.Airtime.{Rate as RateValue, data_charge, request_charge};
 ghost use Rattle.wf_def_codel.specs.Codel.{Params};
 ghost use Rattle.wf_def_codel.specs.Parameters.{params_at};
-ghost use Rattle.wf_def_air.specs.Fit.{fits, aggregate_octets};
+ghost use Rattle.wf_def_air.specs.Fit.{fits, most_octets, aggregate_octets};
 ghost use Rattle.wf_send_parts.specs.declared.exchanges.opened.Sending.TheVariants.{Data, Request as Starts_at};
 ghost use Rattle.wf_def_lists.specs.Bounds.{greatest_air};
 ghost use Rattle.wf_def_lists.specs.Lengths.{greatest_body};
@@ -43,11 +44,11 @@ ghost use Rattle.wf_def_lists.specs.Table.{has, upto};
 ghost use Rattle.wf_def_rotation.specs.Rotation.{Rotation, has_key};
 ghost use Rattle.wf_def_agreement.specs.Session.{Session, State, slot, start_of, next_number, request_due, with_state, is_acknowledged, is_waiting, is_failed, with_number_given};
 ghost use Rattle.wf_def_world.specs.Rates.{rate_asked};
-ghost use Rattle.wf_def_world.specs.World.{World, Station, Tid, Share, Queue, Exchange, Mpdu, frame, accepted_count, is_held, codel_params, with_frame_finished, with_frames_finished, Frames, Request, opening, without_exchange, is_live, session, share, rotation, exchange, owed_by_all, pending_air, on_station, on_tid, on_session, on_receiver, on_share, on_queue, with_queues, with_rotation, is_wide};
+ghost use Rattle.wf_def_world.specs.World.{World, Bounds, Station, Tid, Share, Queue, Exchange, Mpdu, frame, accepted_count, is_held, codel_params, with_frame_finished, with_frames_finished, Frames, Request, opening, without_exchange, is_live, session, share, rotation, exchange, owed_by_all, pending_air, on_station, on_tid, on_session, on_receiver, on_share, on_queue, with_queues, with_rotation, is_wide};
 ghost use Rattle.wf_def_world.specs.FlowQueues.{frames_queued as world_queued, after_limit, dropped_for_limit as dropped_for_limit_in};
 ghost use Rattle.wf_def_world.specs.CanSend.{request_open, has_waiting, can_send, can_send_in, is_ready, is_debtor, is_to_list, with_listings_of};
-ghost use Rattle.wf_def_world.specs.Exchanges.{Aggregate, Prepared, picked_station, sending_tid, after_pick, after_tid_turn, aggregate_of, prepared_data, mpdus_of, is_acked, charge_of, after_charge, with_settled, with_all_settled, count_in, part_of, lens_of, mpdu_of, aggregate_charge};
-ghost use Rattle.wf_def_world.specs.Refusals.{refusal, is_at_aql_total, open_of_station, open_of_class, queued_in_class, can_send_any};
+ghost use Rattle.wf_def_world.specs.Exchanges.{Aggregate, Prepared, picked_station, sending_tid, after_tid_turn, aggregate_of, prepared_data, mpdus_of, is_acked, charge_of, after_charge, with_settled, with_all_settled, count_in, part_of, lens_of, mpdu_of, aggregate_charge};
+ghost use Rattle.wf_def_world.specs.Refusals.{has_live_credit, refusal, is_at_aql_total, open_of_station, open_of_class, queued_in_class, can_send_any};
 ghost use Rattle.wf_def_world.specs.Step.{outcome_of, concerned_station, class_to_send, step, done_outcome, rx_outcome, send_outcome};
 ghost use Rattle.wf_law_runs.specs.Queues.{HasLength, IsAtMost};
 ghost use Rattle.wf_law_runs.specs.Rotations.{NoneReady};
@@ -71,16 +72,17 @@ ghost use Rattle.wf_octets.specs.Distance.{distance};
 ghost use Rattle.wf_send_parts.specs.Listing.{IsListedNext};
 ghost use Rattle.wf_send_parts.specs.Windows.{WindowsHaveRoom, window_of, with_window};
 ghost use Rattle.wf_send_parts.specs.Exchanges.{asks, airtime_of};
-ghost use Rattle.wf_send_parts.specs.Members.{member, on_member, new_member, with_rate, with_receipt};
-ghost use Rattle.wf_send_parts.specs.Sleepers.{sleeper, with_sleeper, awake};
-ghost use Rattle.wf_send_half_model.specs.Half.{TransmitValue, opening_half, some_wait, can_send_of, is_ready_of, pending_air_of, is_to_list_of, is_ahead_of};
+ghost use Rattle.wf_send_parts.specs.Members.{member, on_member, new_member, with_rate, with_ampdu, with_receipt};
+ghost use Rattle.wf_send_parts.specs.Sleepers.{sleeper, with_sleeper, awake, woken};
+ghost use Rattle.wf_send_parts.specs.declared.stations.members.Member.{Member};
+ghost use Rattle.wf_send_half_model.specs.Half.{TransmitValue, opening_half, some_wait, can_send_of, has_live_credit_of, is_ready_of, pending_air_of, is_to_list_of, is_ahead_of};
 ghost use Rattle.wf_send_half_model.specs.Standing.{open_of, counts_in, HasWindows, Parts, IsReached, StandsFor, Meets, sending_of, numbers_on_air};
 ghost use Rattle.wf_send_half_model.specs.Changes.{after_listing, after_listing_in, AreReset, after_enqueue};
 ghost use Rattle.wf_send_half_model.specs.Counting.{with_overlimit};
 ghost use Rattle.wf_send_half_model.specs.Ending.{after_close, after_finish, after_answer, IsEnding, state_left};
 ghost use Rattle.wf_send_half_model.specs.Leaving.{after_expelled, after_tid_purged, after_leave, IsLeaving, IsExpelling, IsExpelled};
 ghost use Rattle.wf_send_half_model.specs.Pulling.{sending_tid_of, after_turn, is_wide_of, open_next, after_sending};
-ghost use Rattle.wf_send_half_model.specs.Filling.{AreWaiting, IsTakingOff, IsUnderway, with_one_fresh, IsFilling, IsFilled, after_giving, fresh_mpdu, room_for, IsToFill, IsChoosing, IsTurned};
+ghost use Rattle.wf_send_half_model.specs.Filling.{after_pick_within, AreWaiting, IsTakingOff, IsUnderway, with_one_fresh, IsFilling, IsFilled, after_giving, fresh_mpdu, room_for, IsToFill, IsChoosing, IsTurned};
 ghost use Rattle.wf_send_half_model.specs.Views.{agreements, roster, ledger, HasSameViews, KeepsView, KeepsSums};
 ghost use Rattle.wf_send_half_model.specs.Readiness.{loses_in, leaves_ready, IsListedBut};
 
@@ -190,6 +192,9 @@ pub fn the_readers_agree()
     ensures any_tid { (v : TransmitValue) (w : World) (bodies : ℕ → FrameValue) (s : ℕ) → Parts v w bodies →
         is_live w s ≡ true →
         list_any (can_send_of v s) (upto 8) ≡ can_send_any w s }
+    ensures live_credit { (v : TransmitValue) (w : World) (bodies : ℕ → FrameValue) (s : ℕ) → Parts v w bodies →
+        is_live w s ≡ true →
+        has_live_credit_of v s ≡ has_live_credit w s }
     ensures polled { (v : TransmitValue) (w : World) (bodies : ℕ → FrameValue) (s : ℕ) → Parts v w bodies →
         is_live w s ≡ true →
         unwrap_or (find (λ c. can_send_of v s (lower_tid c) || can_send_of v s (upper_tid c))
@@ -248,8 +253,9 @@ pub fn one_class_is_enough()
     ensures enqueue { (w : World) (s t flow len : ℕ) → IsReached w → HasLength (Enqueue s t flow len) →
         IsAtMost greatest_body (Enqueue s t flow len) → refusal w (Enqueue s t flow len) ≡ None →
         IsListedBut (outcome_of w (Enqueue s t flow len)).world s (class_of t) }
-    ensures pull { (w : World) (c : Class) (s : ℕ) → IsReached w → (picked_station w c).winner ≡ Some s →
-        IsListedBut (outcome_of w (Asked (Pull c))).world s c }
+    ensures pull { (w : World) (c : Class) (l : Limits) (s : ℕ) → IsReached w →
+        (picked_station w c).winner ≡ Some s →
+        IsListedBut (outcome_of w (Asked (Pull c l))).world s c }
     ensures done { (w : World) (e : ℕ) (x : Exchange) (heard : Bool) (air : Option ℕ) → IsReached w →
         exchange w e ≡ Some x →
         IsListedBut (done_outcome w x heard air).world x.station (class_of x.tid) }
@@ -259,8 +265,8 @@ pub fn one_class_is_enough()
 
 /// The calls that move no frame, and reap, which takes one off the finished list. If the machine does not
 /// refuse the call, the half with these changes represents the world after the step, and the reply is the
-/// step's. Tick and Reap concern no station. A rate does not change who belongs on a list, so it lists no
-/// station. A receive charge may make its station a debtor in its class.
+/// step's. Tick and Reap concern no station. A rate and a stated length of aggregates do not change who
+/// belongs on a list, so they list no station. A receive charge may make its station a debtor in its class.
 pub fn a_call_that_moves_no_frame()
     ensures tick { (v : TransmitValue) (w : World) (bodies : ℕ → FrameValue) → StandsFor v w bodies →
         (by : ℕ) → refusal w (Asked (Tick by)) ≡ None →
@@ -293,7 +299,7 @@ pub fn a_call_that_moves_no_frame()
     ensures wake { (v : TransmitValue) (w : World) (bodies : ℕ → FrameValue) → StandsFor v w bodies →
         (s : ℕ) → refusal w (Asked (Wake s)) ≡ None →
         Meets w bodies (Asked (Wake s)) (after_listing
-        (record v { sleepers = with_sleeper v.sleepers s awake }) s) Woken }
+        (record v { sleepers = with_sleeper v.sleepers s (woken (sleeper v.sleepers s)) }) s) Woken }
     ensures poll { (v : TransmitValue) (w : World) (bodies : ℕ → FrameValue) → StandsFor v w bodies →
         (s : ℕ) → refusal w (Asked (Poll s)) ≡ None →
         Meets w bodies (Asked (Poll s))
@@ -302,6 +308,24 @@ pub fn a_call_that_moves_no_frame()
               (record (sleeper v.sleepers s) { credit = Some (class_to_send w s) });
         }) s)
         (Polled (class_to_send w s)) }
+    ensures ampdu { (v : TransmitValue) (w : World) (bodies : ℕ → FrameValue) → StandsFor v w bodies →
+        (s octets : ℕ) → refusal w (Asked (Ampdu s octets)) ≡ None →
+        Meets w bodies (Asked (Ampdu s octets))
+        (record v { members = on_member v.members s (with_ampdu octets) }) Set }
+    ensures stop { (v : TransmitValue) (w : World) (bodies : ℕ → FrameValue) → StandsFor v w bodies →
+        (s : ℕ) → refusal w (Asked (Stop s)) ≡ None →
+        Meets w bodies (Asked (Stop s)) (after_listing
+        (record v {
+          sleepers = with_sleeper v.sleepers s
+              (record (sleeper v.sleepers s) { stopped = true });
+        }) s) Stopped }
+    ensures start { (v : TransmitValue) (w : World) (bodies : ℕ → FrameValue) → StandsFor v w bodies →
+        (s : ℕ) → refusal w (Asked (Start s)) ≡ None →
+        Meets w bodies (Asked (Start s)) (after_listing
+        (record v {
+          sleepers = with_sleeper v.sleepers s
+              (record (sleeper v.sleepers s) { stopped = false });
+        }) s) Started }
 {}
 
 /// A station joins. In each class it gets its quantum of airtime, and on each TID a new window.
@@ -521,12 +545,12 @@ pub fn a_leave()
 /// class's lists and the deficits. With the setting, nothing changes.
 pub fn a_pull_that_finds_nobody()
     ensures picks { (v : TransmitValue) (w : World) (bodies : ℕ → FrameValue) → StandsFor v w bodies →
-        (c : Class) (turns : SchedValue) → (v.config.pending == 1) ≡ false →
-        refusal w (Asked (Pull c)) ≡ Some Idle → HasPickedInClass w c v.sched turns →
-        Meets w bodies (Asked (Pull c)) (record v { sched = turns }) (Refused Idle) }
+        (c : Class) (l : Limits) (turns : SchedValue) → (v.config.pending == 1) ≡ false →
+        refusal w (Asked (Pull c l)) ≡ Some Idle → HasPickedInClass w c v.sched turns →
+        Meets w bodies (Asked (Pull c l)) (record v { sched = turns }) (Refused Idle) }
     ensures stays { (v : TransmitValue) (w : World) (bodies : ℕ → FrameValue) → StandsFor v w bodies →
-        (c : Class) → (v.config.pending == 1) ≡ true → refusal w (Asked (Pull c)) ≡ Some Idle →
-        Meets w bodies (Asked (Pull c)) v (Refused Idle) }
+        (c : Class) (l : Limits) → (v.config.pending == 1) ≡ true → refusal w (Asked (Pull c l)) ≡ Some Idle →
+        Meets w bodies (Asked (Pull c l)) v (Refused Idle) }
 {}
 
 /// Decides from the half whether a pull is refused: with `full` if the class has as many open exchanges as
@@ -534,28 +558,32 @@ pub fn a_pull_that_finds_nobody()
 /// if no station is picked, otherwise not. In the world of a run, a station is picked exactly if one is
 /// ready.
 pub fn a_pull_is_refused()
-    ensures full { (v : TransmitValue) (w : World) (bodies : ℕ → FrameValue) (c : Class) → Parts v w bodies →
+    ensures full { (v : TransmitValue) (w : World) (bodies : ℕ → FrameValue) (c : Class) (l : Limits) →
+        Parts v w bodies →
         nat_le v.config.inflight (count_by (λ x. same_class x.class c) v.opened) ≡ true →
-        refusal w (Asked (Pull c)) ≡ Some (Full (count_by (λ x. same_class x.class c) v.opened)) }
-    ensures ahead { (v : TransmitValue) (w : World) (bodies : ℕ → FrameValue) (c : Class) → Parts v w bodies →
+        refusal w (Asked (Pull c l)) ≡ Some (Full (count_by (λ x. same_class x.class c) v.opened)) }
+    ensures ahead { (v : TransmitValue) (w : World) (bodies : ℕ → FrameValue) (c : Class) (l : Limits) →
+        Parts v w bodies →
         nat_le v.config.inflight (count_by (λ x. same_class x.class c) v.opened) ≡ false →
         is_ahead_of v ≡ true →
-        refusal w (Asked (Pull c)) ≡ Some (Ahead (airtime_of v.opened)) }
-    ensures idle { (v : TransmitValue) (w : World) (bodies : ℕ → FrameValue) (c : Class) → Parts v w bodies →
+        refusal w (Asked (Pull c l)) ≡ Some (Ahead (airtime_of v.opened)) }
+    ensures idle { (v : TransmitValue) (w : World) (bodies : ℕ → FrameValue) (c : Class) (l : Limits) →
+        Parts v w bodies →
         nat_le v.config.inflight (count_by (λ x. same_class x.class c) v.opened) ≡ false →
         is_ahead_of v ≡ false →
         (picked_station w c).winner ≡ None →
-        refusal w (Asked (Pull c)) ≡ Some Idle }
-    ensures none { (v : TransmitValue) (w : World) (bodies : ℕ → FrameValue) (c : Class) → Parts v w bodies →
+        refusal w (Asked (Pull c l)) ≡ Some Idle }
+    ensures none { (v : TransmitValue) (w : World) (bodies : ℕ → FrameValue) (c : Class) (l : Limits) →
+        Parts v w bodies →
         nat_le v.config.inflight (count_by (λ x. same_class x.class c) v.opened) ≡ false →
         is_ahead_of v ≡ false → (s : ℕ) →
         (picked_station w c).winner ≡ Some s →
-        refusal w (Asked (Pull c)) ≡ None }
-    ensures none_ready { (v : TransmitValue) (w : World) (bodies : ℕ → FrameValue) (c : Class) →
+        refusal w (Asked (Pull c l)) ≡ None }
+    ensures none_ready { (v : TransmitValue) (w : World) (bodies : ℕ → FrameValue) (c : Class) (l : Limits) →
         Parts v w bodies →
         nat_le v.config.inflight (count_by (λ x. same_class x.class c) v.opened) ≡ false →
         is_ahead_of v ≡ false → NoneReady w c →
-        refusal w (Asked (Pull c)) ≡ Some Idle }
+        refusal w (Asked (Pull c l)) ≡ Some Idle }
     ensures some_ready { (w : World) (c : Class) → IsReached w → (NoneReady w c → ⊥) →
         (picked_station w c).winner ≡ None → ⊥ }
 {}
@@ -583,10 +611,12 @@ pub fn a_pull_reads()
         params_at rate ≡ codel_params w s }
     ensures room { (v : TransmitValue) (w : World) (bodies : ℕ → FrameValue) (s : ℕ) → Parts v w bodies →
         is_live w s ≡ true →
-        (rate : RateValue) → option_map (λ m. m.rate) (member v.members s) ≡ Some rate →
-        (t exponent : ℕ) → t < 8 → option_map (λ m. m.exponent) (member v.members s) ≡ Some exponent →
-        empty_size rate exponent (if (sleeper v.sleepers s).asleep then 1 else v.config.agg) v.config.cap
-        (is_wide_of v s t) ≡ room_for w s t }
+        (m : Member) → member v.members s ≡ Some m → (t : ℕ) → t < 8 → (b : Bounds) → w.bounds ≡ b →
+        empty_size m.rate (record {
+          octets = most_octets m.rate m.exponent m.ampdu;
+          frames = if (sleeper v.sleepers s).asleep then 1 else b.frames;
+          time = b.air;
+        }) v.config.answers (is_wide_of v s t) ≡ room_for w s t }
     ensures drops { (v : TransmitValue) (w : World) (bodies : ℕ → FrameValue) (s t : ℕ) → Parts v w bodies →
         is_live w s ≡ true → t < 8 →
         (params : Params) (f : FrameValue) →
@@ -597,11 +627,13 @@ pub fn a_pull_reads()
         (tid_number s t) v.clock params).flows.backlog.finished - length v.flows.backlog.finished }
 {}
 
-/// A pull begins. A station is picked, and the TID of the class that sends gives the turn to the other TID.
+/// A pull begins. A station is picked, the pull's bounds are set, and the TID of the class that sends gives
+/// the turn to the other TID.
 pub fn a_pull_begins()
     ensures pick { (v : TransmitValue) (w : World) (bodies : ℕ → FrameValue) (c : Class)
         (turns : SchedValue) → HasPickedInClass w c v.sched turns →
-        Parts v w bodies → Parts (record v { sched = turns }) (after_pick w c) bodies }
+        Parts v w bodies → (l : Limits) →
+        Parts (record v { sched = turns }) (after_pick_within w c l) bodies }
     ensures sends { (v : TransmitValue) (w : World) (bodies : ℕ → FrameValue) (s : ℕ) (c : Class) →
         Parts v w bodies → is_live w s ≡ true →
         sending_tid_of v s c ≡ sending_tid w s c }
@@ -646,19 +678,21 @@ pub fn waiting_numbers_are_chosen()
         (room : AggregateSizeValue) (numbers : List ℕ) (from : ℕ)
         (so_far : IsChoosing room numbers from w s t)
         (seq : ℕ) (next : IsListedNext (session w s t) so_far.chosen seq) →
-        (more : AggregateSizeValue) → fits room.rate room.exponent room.agg room.cap
-        (lens_of (map (mpdu_of w s t) so_far.chosen) ++ (mpdu_of w s t next.number).len ∷ []) ≡ true →
+        (more : AggregateSizeValue) → fits room.rate room.limits.octets room.limits.frames room.limits.time
+        (lens_of w.config.overhead (map (mpdu_of w s t) so_far.chosen)
+        ++ ((mpdu_of w s t next.number).len + v.config.overhead) ∷ []) ≡ true →
         more ≡ record room { count = more.count; octets = more.octets } →
-        SizeStandsFor more (lens_of (map (mpdu_of w s t) so_far.chosen) ++ (mpdu_of w s t next.number).len
-        ∷ []) →
+        SizeStandsFor more (lens_of w.config.overhead (map (mpdu_of w s t) so_far.chosen)
+        ++ ((mpdu_of w s t next.number).len + v.config.overhead) ∷ []) →
         IsChoosing more (numbers ++ seq ∷ []) ((seq + 1) % 4096) w s t }
     ensures stops { (v : TransmitValue) (w : World) (bodies : ℕ → FrameValue) (s t : ℕ) →
         IsToFill v w bodies s t →
         (room : AggregateSizeValue) (numbers : List ℕ) (from : ℕ)
         (so_far : IsChoosing room numbers from w s t)
         (seq : ℕ) (next : IsListedNext (session w s t) so_far.chosen seq) →
-        fits room.rate room.exponent room.agg room.cap
-        (lens_of (map (mpdu_of w s t) so_far.chosen) ++ (mpdu_of w s t next.number).len ∷ []) ≡ false →
+        fits room.rate room.limits.octets room.limits.frames room.limits.time
+        (lens_of w.config.overhead (map (mpdu_of w s t) so_far.chosen)
+        ++ ((mpdu_of w s t next.number).len + v.config.overhead) ∷ []) ≡ false →
         IsFilled v bodies s t room numbers (aggregate_of w s t) }
     ensures ends { (v : TransmitValue) (w : World) (bodies : ℕ → FrameValue) (s t : ℕ) →
         IsToFill v w bodies s t →
@@ -682,7 +716,7 @@ pub fn fresh_frames_are_given()
     ensures full { (v : TransmitValue) (w : World) (bodies : ℕ →
         FrameValue) (s t : ℕ) (room : AggregateSizeValue) (numbers : List ℕ) (mpdus : List Mpdu)
         (after : Aggregate) →
-        IsFilling v w bodies s t room numbers mpdus after → room.agg ≤ length numbers →
+        IsFilling v w bodies s t room numbers mpdus after → room.limits.frames ≤ length numbers →
         IsFilled v bodies s t room numbers after }
     ensures idle { (v : TransmitValue) (w : World) (bodies : ℕ →
         FrameValue) (s t : ℕ) (room : AggregateSizeValue) (numbers : List ℕ) (mpdus : List Mpdu)
@@ -703,12 +737,12 @@ pub fn fresh_frames_are_given()
         (f : FrameValue) → (taken_for_tid v.flows (tid_number s t) v.clock params).frame ≡ Some f →
         (x : WindowValue) → WindowsHaveRoom (with_window v.windows s t x) →
         WindowStandsFor x (with_number_given (session w s t) f.id) bodies →
-        length numbers < room.agg → (nat_lt 0 (frames_of_tid v.flows (tid_number s t))
+        length numbers < room.limits.frames → (nat_lt 0 (frames_of_tid v.flows (tid_number s t))
         && can_take (window_of v.windows s t)) ≡ true →
-        (more : AggregateSizeValue) → fits room.rate room.exponent room.agg room.cap
-        (lens_of mpdus ++ length f.body ∷ []) ≡ true →
+        (more : AggregateSizeValue) → fits room.rate room.limits.octets room.limits.frames room.limits.time
+        (lens_of w.config.overhead mpdus ++ (length f.body + v.config.overhead) ∷ []) ≡ true →
         more ≡ record room { count = more.count; octets = more.octets } →
-        SizeStandsFor more (lens_of mpdus ++ length f.body ∷ []) →
+        SizeStandsFor more (lens_of w.config.overhead mpdus ++ (length f.body + v.config.overhead) ∷ []) →
         IsFilling (after_giving v s t params x) (with_one_fresh w s t) bodies s t more
         (numbers ++ on_air (next_number (session w s t)) ∷ []) (mpdus ++ fresh_mpdu w s t f ∷ []) after }
     ensures stops { (v : TransmitValue) (w : World) (bodies : ℕ →
@@ -718,9 +752,10 @@ pub fn fresh_frames_are_given()
         (f : FrameValue) → (taken_for_tid v.flows (tid_number s t) v.clock params).frame ≡ Some f →
         (x : WindowValue) → WindowsHaveRoom (with_window v.windows s t x) →
         WindowStandsFor x (with_number_given (session w s t) f.id) bodies →
-        length numbers < room.agg → (nat_lt 0 (frames_of_tid v.flows (tid_number s t))
+        length numbers < room.limits.frames → (nat_lt 0 (frames_of_tid v.flows (tid_number s t))
         && can_take (window_of v.windows s t)) ≡ true →
-        fits room.rate room.exponent room.agg room.cap (lens_of mpdus ++ length f.body ∷ []) ≡ false →
+        fits room.rate room.limits.octets room.limits.frames room.limits.time
+        (lens_of w.config.overhead mpdus ++ (length f.body + v.config.overhead) ∷ []) ≡ false →
         IsFilled (after_giving v s t params x) bodies s t room numbers after }
 {}
 
@@ -763,47 +798,49 @@ pub fn the_numbers_take_off()
 /// numbers have taken off. Then the half represents the world after the step, and the reply is the step's.
 pub fn a_pull()
     ensures tid { (v : TransmitValue) (w : World) (bodies : ℕ → FrameValue) → StandsFor v w bodies →
-        (c : Class) (s : ℕ) →
+        (c : Class) (l : Limits) (s : ℕ) →
         (picked_station w c).winner ≡ Some s →
         (turns : SchedValue) → HasPickedInClass w c v.sched turns →
-        sending_tid_of (record v { sched = turns }) s c ≡ sending_tid (after_pick w c) s c }
+        sending_tid_of (record v { sched = turns }) s c ≡ sending_tid (after_pick_within w c l) s c }
     ensures sends { (v : TransmitValue) (w : World) (bodies : ℕ → FrameValue) → StandsFor v w bodies →
-        (c : Class) (s : ℕ) →
+        (c : Class) (l : Limits) (s : ℕ) →
         (picked_station w c).winner ≡ Some s →
         (turns : SchedValue) → HasPickedInClass w c v.sched turns →
         can_send_of (record v { sched = turns }) s (sending_tid_of (record v { sched = turns }) s c) ≡ true }
     ensures turned { (v : TransmitValue) (w : World) (bodies : ℕ → FrameValue) → StandsFor v w bodies →
-        (c : Class) (s : ℕ) →
+        (c : Class) (l : Limits) (s : ℕ) →
         (picked_station w c).winner ≡ Some s →
         (turns : SchedValue) → HasPickedInClass w c v.sched turns → (t : ℕ) →
         t ≡ sending_tid_of (record v { sched = turns }) s c →
         IsTurned (after_turn (record v { sched = turns }) s c t)
-        (after_tid_turn (after_pick w c) s c t) bodies s t }
+        (after_tid_turn (after_pick_within w c l) s c t) bodies s t }
     ensures request { (v : TransmitValue) (w : World) (bodies : ℕ → FrameValue) → StandsFor v w bodies →
-        (c : Class) (s : ℕ) →
-        refusal w (Asked (Pull c)) ≡ None →
-        (picked_station w c).winner ≡ Some s → (t : ℕ) → t ≡ sending_tid (after_pick w c) s c →
-        (x : TransmitValue) → IsTurned x (after_tid_turn (after_pick w c) s c t) bodies s t →
+        (c : Class) (l : Limits) (s : ℕ) →
+        refusal w (Asked (Pull c l)) ≡ None →
+        (picked_station w c).winner ≡ Some s → (t : ℕ) → t ≡ sending_tid (after_pick_within w c l) s c →
+        (x : TransmitValue) → IsTurned x (after_tid_turn (after_pick_within w c l) s c t) bodies s t →
         is_some (window_of x.windows s t).due ≡ true →
-        (charge : ℕ) → charge ≡ request_charge (is_wide_of x s t) →
-        Meets w bodies (Asked (Pull c)) (after_listing_in
+        (charge : ℕ) → IfSome (member x.members s) (λ m.
+        charge ≡ request_charge x.config.answers m.rate (is_wide_of x s t)) →
+        Meets w bodies (Asked (Pull c l)) (after_listing_in
         (after_sending x s t c charge (Starts_at (window_of x.windows s t).start)) s c)
         (Send x.exchanges s t charge (Starts (window_of x.windows s t).start)
         (open_next x s t c charge (Starts_at (window_of x.windows s t).start)).more) }
     ensures charge { (v : TransmitValue) (bodies : ℕ → FrameValue) (s t : ℕ) (room : AggregateSizeValue)
         (numbers : List ℕ) (a : Aggregate) →
         IsFilled v bodies s t room numbers a →
-        data_charge room.rate (aggregate_octets (lens_of a.mpdus)) room.wide ≡ aggregate_charge s t a }
+        data_charge room.answers room.rate
+        (aggregate_octets (lens_of a.world.config.overhead a.mpdus)) room.wide ≡ aggregate_charge s t a }
     ensures data { (v : TransmitValue) (w : World) (bodies : ℕ → FrameValue) → StandsFor v w bodies →
-        (c : Class) (s : ℕ) →
-        refusal w (Asked (Pull c)) ≡ None →
-        (picked_station w c).winner ≡ Some s → (t : ℕ) → t ≡ sending_tid (after_pick w c) s c →
-        (a : Aggregate) → aggregate_of (after_tid_turn (after_pick w c) s c t) s t ≡ a →
-        request_due (session (after_tid_turn (after_pick w c) s c t) s t) ≡ false →
+        (c : Class) (l : Limits) (s : ℕ) →
+        refusal w (Asked (Pull c l)) ≡ None →
+        (picked_station w c).winner ≡ Some s → (t : ℕ) → t ≡ sending_tid (after_pick_within w c l) s c →
+        (a : Aggregate) → aggregate_of (after_tid_turn (after_pick_within w c l) s c t) s t ≡ a →
+        request_due (session (after_tid_turn (after_pick_within w c l) s c t) s t) ≡ false →
         (x : TransmitValue) (u : World) (sent : ℕ → FrameValue) →
         IsTakingOff x u sent s t a.world.exchanges [] (prepared_data s t a).world →
         (charge : ℕ) (numbers : List ℕ) → charge ≡ aggregate_charge s t a → numbers ≡ numbers_on_air a.mpdus →
-        Meets w sent (Asked (Pull c)) (after_listing_in (after_sending x s t c charge (Data numbers)) s c)
+        Meets w sent (Asked (Pull c l)) (after_listing_in (after_sending x s t c charge (Data numbers)) s c)
         (Send x.exchanges s t charge (Mpdus (map (λ m. (m.id, m.number % 4096)) a.mpdus))
         (open_next x s t c charge (Data numbers)).more) }
 {}
@@ -820,9 +857,9 @@ pub fn readiness_stays()
         IsAtMost greatest_body (Enqueue s t flow len) →
         (i : ℕ) (c : Class) → (i ≡ s → class_of t ≡ c → ⊥) → loses_in w (Enqueue s t flow len) i c ≡ false →
         is_ready (step w (Enqueue s t flow len)).world c i ≡ is_ready w c i }
-    ensures pull { (w : World) (d : Class) → IsReached w → (i : ℕ) (c : Class) →
+    ensures pull { (w : World) (d : Class) (l : Limits) → IsReached w → (i : ℕ) (c : Class) →
         ((picked_station w d).winner ≡ Some i → d ≡ c → ⊥) →
-        is_ready (step w (Asked (Pull d))).world c i ≡ is_ready w c i }
+        is_ready (step w (Asked (Pull d l))).world c i ≡ is_ready w c i }
     ensures done { (w : World) (e : ℕ) (heard : Bool) (air : Option ℕ) (x : Exchange) → IsReached w →
         exchange w e ≡ Some x →
         (i : ℕ) (c : Class) → (i ≡ x.station → class_of x.tid ≡ c → ⊥) →

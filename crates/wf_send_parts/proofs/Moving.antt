@@ -70,11 +70,6 @@ pub begins_none : (ps : List (Option Place)) → length ps ≡ 0 → settled_fir
 begins_none [] h = refl
 begins_none (p ∷ ps) h = absurd (omega arith)
 
-pub begins_false : (ps : List (Option Place)) → is_settled (state_of_place (get_or ps 0 None)) ≡ false →
-    settled_first state_of_place ps ≡ false
-begins_false [] h = refl
-begins_false (p ∷ ps) h = h
-
 -- the distance rises by at most one for each place that is passed
 pub since_bound : (d : Option ℕ) (ps : List (Option Place)) →
     unwrap_or (since_failed state_of_place d ps) 0 ≤ unwrap_or d 0 + length ps

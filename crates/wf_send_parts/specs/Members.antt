@@ -1,15 +1,17 @@
 -- Defines the state that is kept of each live station, by number. Airtime is in microseconds.
-use Rattle.std.specs.Prelude.{ℕ, ◌+◌, Bool, false, List, [], ◌∷◌, Option, None, option_map, slice_index, slice_index_or, slice_set}
+use Rattle.std.specs.Prelude.{ℕ, ◌+◌, Bool, false, List, [], ◌∷◌, Option, Some, None, option_map, slice_index, slice_index_or, slice_set}
 use Rattle.wf_frame.specs.declared.classes.Class.{Class}
 use Rattle.wf_frame.specs.Classes.{class_number}
 use Rattle.wf_def_air.specs.Airtime.{Rate, lowest_rate}
 use Rattle.wf_send_parts.specs.declared.stations.members.Member.{Member}
 
--- a station that joins: it has the lowest rate, the lower TID's turn in each class, and no airtime charged
+-- a station that joins: it has the lowest rate, no stated length of aggregates, the lower TID's turn in each
+-- class, and no airtime charged
 abbrev pub new_member : ℕ → Member
 new_member exponent = record {
   rate = lowest_rate;
   exponent = exponent;
+  ampdu = None;
   upper = false ∷ false ∷ false ∷ false ∷ [];
   charged = 0 ∷ 0 ∷ 0 ∷ 0 ∷ [];
   received = 0 ∷ 0 ∷ 0 ∷ 0 ∷ [];
@@ -26,6 +28,10 @@ on_member members s f = slice_set members s (option_map f (member members s))
 -- a member with another rate
 abbrev pub with_rate : Rate → Member → Member
 with_rate rate m = record m { rate = rate }
+
+-- a member with this stated greatest length of aggregates of VHT and HE, in octets
+abbrev pub with_ampdu : ℕ → Member → Member
+with_ampdu octets m = record m { ampdu = Some octets }
 
 -- whether it is the upper TID's turn in a class
 abbrev pub upper_in : Member → Class → Bool

@@ -1,9 +1,9 @@
 -- Proves the law `a_pull_begins` by the lemmas of Pulls.
-use Rattle.wf_send_half_model.proofs.Pulls.{pick_parts, sending_same, turn_parts}
+use Rattle.wf_send_half_model.proofs.Pulls.{pick_within_parts, sending_same, turn_parts}
 use Rattle.wf_send_half_model.proofs.a_pull_begins.Goals as goal
 
 pub returns-clause-pick : goal.returns-clause-pick
-returns-clause-pick c = pick_parts
+returns-clause-pick c = pick_within_parts
 
 pub returns-clause-sends : goal.returns-clause-sends
 returns-clause-sends c = sending_same

@@ -1,5 +1,5 @@
 -- Proves the law `the_readers_agree` by the lemmas of Readers.
-use Rattle.wf_send_half_model.proofs.Readers.{live_same, queued_same, due_same, waiting_same, can_send_same, can_send_in_same, ready_same, to_list_same, pending_same, deficit_same, asks_same, exchange_same, station_count_same, class_count_same, airtime_same, ahead_same, class_queued_same, any_tid_same, class_same}
+use Rattle.wf_send_half_model.proofs.Readers.{live_same, queued_same, due_same, waiting_same, can_send_same, can_send_in_same, ready_same, to_list_same, pending_same, deficit_same, asks_same, exchange_same, station_count_same, class_count_same, airtime_same, ahead_same, class_queued_same, any_tid_same, live_credit_same, class_same}
 use Rattle.wf_send_half_model.proofs.the_readers_agree.Goals as goal
 
 pub returns-clause-live : goal.returns-clause-live
@@ -58,3 +58,6 @@ returns-clause-pending c = pending_same
 
 pub returns-clause-deficit : goal.returns-clause-deficit
 returns-clause-deficit c = deficit_same
+
+pub returns-clause-live_credit : goal.returns-clause-live_credit
+returns-clause-live_credit c = live_credit_same

@@ -14,6 +14,9 @@ pub struct Member {
     pub rate: Rate,
     /// The maximum A-MPDU length exponent, 0 to 3 (IEEE 802.11-2012, 8.4.2.58.3).
     pub exponent: u8,
+    /// The most octets of an aggregate of VHT or HE to it, if that was stated: 4,096 to 6,500,631 (IEEE
+    /// 802.11ax-2021, 26.6.1).
+    pub ampdu: Option<u32>,
     /// By class, from background to voice: whether it is the turn of the upper of the class's two TIDs.
     pub upper: [bool; 4],
     /// By class: the airtime charged for its exchanges since its join, in microseconds.
@@ -39,7 +42,7 @@ impl Model for Members {
 }
 
 impl Members {
-    ghost use Rattle.wf_send_parts.specs.Members.{new_member, member, on_member, with_rate, with_upper, charged_in, with_charge, received_in, with_receipt};
+    ghost use Rattle.wf_send_parts.specs.Members.{new_member, member, on_member, with_rate, with_ampdu, with_upper, charged_in, with_charge, received_in, with_receipt};
 
     /// Creates `stations` stations, 1 to 256, of which none is live. Fails only if memory runs out.
     pub fn new(alloc: Global, stations: u32) -> Result<Members, AllocError>
@@ -51,8 +54,8 @@ impl Members {
         })
     }
 
-    /// Makes a station live, at the lowest rate, with the lower TID's turn in each class and no airtime
-    /// charged.
+    /// Makes a station live, at the lowest rate, with no stated length of aggregates, the lower TID's turn in
+    /// each class and no airtime charged.
     pub fn join(&mut self, station: u16, exponent: u8)
         requires { station < length self.old }
         ensures { self.new ≡ slice_set self.old station (Some (new_member exponent)) }
@@ -60,6 +63,7 @@ impl Members {
         self.stations[usize::from(station)] = Some(Member {
             rate: Rate::lowest(),
             exponent,
+            ampdu: None,
             upper: [false; 4],
             charged: [0; 4],
             received: [0; 4],
@@ -101,6 +105,16 @@ impl Members {
     {
         if let Some(member) = &mut self.stations[usize::from(station)] {
             member.rate = rate;
+        }
+    }
+
+    /// States the most octets of an aggregate of VHT or HE to a station. Does nothing if it is not live.
+    pub fn set_ampdu(&mut self, station: u16, octets: u32)
+        requires { station < length self.old }
+        ensures { self.new ≡ on_member self.old station (with_ampdu octets) }
+    {
+        if let Some(member) = &mut self.stations[usize::from(station)] {
+            member.ampdu = Some(octets);
         }
     }
 

@@ -1,4 +1,4 @@
-//! Which stations sleep, and their credits.
+//! Which stations sleep, their credits, and which stations are stopped.
 
 ghost use Rattle.std.specs.Prelude.{◌≡◌, ◌<◌, ◌≤◌, Some, None, IfOk, true, false, length, replicate};
 
@@ -6,16 +6,18 @@ use std::alloc::{AllocError, Global};
 use std::marker::Model;
 use wf_frame::Class;
 
-/// The power-save state of a station.
+/// The power-save state of a station, and whether its driver stopped it.
 #[derive(Clone, Copy, Debug, PartialEq, Eq)]
 pub struct Sleeper {
     /// Whether it sleeps.
     pub asleep: bool,
     /// The class of which one exchange may be sent to it while it sleeps.
     pub credit: Option<Class>,
+    /// Whether no pull picks it.
+    pub stopped: bool,
 }
 
-/// All stations, awake or asleep, with their credits. Contracts see them as a list by number.
+/// All stations, awake or asleep, with their credits, stopped or not. Contracts see them as a list by number.
 #[derive(Drop)]
 pub struct Sleepers {
     stations: Vec<Sleeper>,
@@ -31,9 +33,10 @@ impl Model for Sleepers {
 }
 
 impl Sleepers {
-    ghost use Rattle.wf_send_parts.specs.Sleepers.{awake, sleeper, with_sleeper};
+    ghost use Rattle.wf_send_parts.specs.Sleepers.{awake, sleeper, with_sleeper, woken};
 
-    /// Creates `stations` stations, 1 to 256, all awake and without a credit. Fails only if memory runs out.
+    /// Creates `stations` stations, 1 to 256, all awake, without a credit and not stopped. Fails only if
+    /// memory runs out.
     pub fn new(alloc: Global, stations: u32) -> Result<Sleepers, AllocError>
         requires { (1 ≤ stations) × (stations ≤ 256) }
         ensures { IfOk result (λ made. made ≡ replicate stations awake) }
@@ -41,13 +44,14 @@ impl Sleepers {
         let awake = Sleeper {
             asleep: false,
             credit: None,
+            stopped: false,
         };
         Ok(Sleepers {
             stations: vec![in alloc; awake; stations as usize]?,
         })
     }
 
-    /// Makes a station awake, without a credit.
+    /// Makes a station awake, without a credit, and not stopped.
     pub fn reset(&mut self, station: u16)
         requires { station < length self.old }
         ensures { self.new ≡ with_sleeper self.old station awake }
@@ -55,6 +59,7 @@ impl Sleepers {
         self.stations[usize::from(station)] = Sleeper {
             asleep: false,
             credit: None,
+            stopped: false,
         };
     }
 
@@ -78,16 +83,17 @@ impl Sleepers {
     /// Wakes a station and clears its credit.
     pub fn wake(&mut self, station: u16)
         requires { station < length self.old }
-        ensures { self.new ≡ with_sleeper self.old station awake }
+        ensures { self.new ≡ with_sleeper self.old station (woken (sleeper self.old station)) }
     {
-        self.reset(station);
+        let sleeper = &mut self.stations[usize::from(station)];
+        sleeper.asleep = false;
+        sleeper.credit = None;
     }
 
-    /// Gives a sleeping station without a credit one for this class.
+    /// Gives a sleeping station a credit for this class, in place of one that it may have.
     pub fn grant(&mut self, station: u16, class: Class)
         requires within { station < length self.old }
         requires asleep { (sleeper self.old station).asleep ≡ true }
-        requires no_credit { (sleeper self.old station).credit ≡ None }
         ensures { self.new ≡ with_sleeper self.old station
             (record (sleeper self.old station) { credit = Some class }) }
     {
@@ -109,5 +115,22 @@ impl Sleepers {
             (record (sleeper self.old station) { credit = None }) }
     {
         self.stations[usize::from(station)].credit = None;
+    }
+
+    /// Returns whether no pull picks a station.
+    pub fn stopped(&self, station: u16) -> bool
+        requires { station < length self.now }
+        ensures { result ≡ (sleeper self.now station).stopped }
+    {
+        self.stations[usize::from(station)].stopped
+    }
+
+    /// Stops a station, or starts it again.
+    pub fn set_stopped(&mut self, station: u16, stopped: bool)
+        requires { station < length self.old }
+        ensures { self.new ≡ with_sleeper self.old station
+            (record (sleeper self.old station) { stopped = stopped }) }
+    {
+        self.stations[usize::from(station)].stopped = stopped;
     }
 }

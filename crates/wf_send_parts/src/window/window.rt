@@ -8,9 +8,9 @@ ghost use Rattle.std.specs.List.{list_any};
 ghost use Rattle.wf_frame.specs.Frames.{FrameValue};
 ghost use Rattle.wf_frame.specs.declared.classes.Fate.TheVariants.{Dropped};
 ghost use Rattle.wf_frame.specs.declared.classes.Cause.TheVariants.{Left};
-ghost use Rattle.wf_def_agreement.specs.Session.{Session, State, slot, new_session, with_number_given, with_state, start_of, next_number, request_due, is_settled, waiting_numbers};
+ghost use Rattle.wf_def_agreement.specs.Session.{Session, State, slot, new_session, with_number_given, with_state, start_of, next_number, request_due, waiting_numbers};
 ghost use Rattle.wf_octets.specs.Distance.{distance};
-ghost use Rattle.wf_send_parts.specs.Places.{state_of_place, front, rest, next_since, since_failed};
+ghost use Rattle.wf_send_parts.specs.Places.{state_of_place, front, rest, since_failed};
 ghost use Rattle.wf_send_parts.specs.Window.{fresh_window, WindowStandsFor, IsNumber, may_give, waiting_from, on_air, session_settled, place_at, state_at, attempts_of, is_flying, holds_parcel, HasOwnFrame, waits, some_fly, can_take};
 ghost use Rattle.wf_send_parts.specs.Sent.{with_one_sent};
 ghost use Rattle.wf_send_parts.specs.Answers.{settling_answer, with_fate};
@@ -61,31 +61,6 @@ impl Model for Window {
     ghost invariant = { λ w. IsInOrder w.ring.capacity w.size w.ring.items w.due };
 }
 
-fn is_settled(place: &Option<Place>) -> bool
-    ensures { result ≡ is_settled (state_of_place place.now) }
-{
-    match place {
-        None => true,
-        Some(Place::Failed) => true,
-        Some(_) => false,
-    }
-}
-
-// Returns how far the number after `place` is past the last failed one, if the number of `place` is `due`
-// past it.
-fn next_due(place: &Option<Place>, due: Option<u16>) -> Option<u16>
-    requires { unwrap_or due 0 < 65535 }
-    ensures { result ≡ next_since (state_of_place place.now) due }
-{
-    if let Some(Place::Failed) = place {
-        return Some(1);
-    }
-    match due {
-        Some(distance) => Some(distance + 1),
-        None => None,
-    }
-}
-
 // Drops the settled places at the front of the ring. Returns how many these were, and the new distance.
 fn advance(ring: &mut Ring, due: Option<u16>) -> (u16, Option<u16>)
     requires { unwrap_or due 0 + length ring.old.items ≤ 256 }
@@ -95,8 +70,16 @@ fn advance(ring: &mut Ring, due: Option<u16>) -> (u16, Option<u16>)
 {
     let mut moved = 0;
     let mut distance = due;
-    'moving: while ring.len() > 0 && is_settled(ring.at(0)) {
-        distance = next_due(ring.at(0), distance);
+    'moving: while ring.len() > 0 {
+        distance = match ring.at(0) {
+            Some(Place::Waiting { .. }) => return (moved, distance),
+            Some(Place::Flying { .. }) => return (moved, distance),
+            Some(Place::Failed) => Some(1),
+            None => match distance {
+                Some(past) => Some(past + 1),
+                None => None,
+            },
+        };
         ring.drop_front();
         moved += 1;
     }

@@ -1,9 +1,10 @@
 -- Proves what `Half::add_fresh` promises: each step adds the frame that the world's aggregate adds next.
 -- By cases of what ends the loop: a full aggregate, a full window, no queued frame, or a frame that does
 -- not fit.
-use Rattle.std.proofs.Common.{refl, ap, sym, ◌∙◌, arith, ℕ, ◌∷◌, [], length, length-append, Option, option_map}
+use Rattle.std.proofs.Common.{refl, ap, sym, ◌∙◌, arith, ℕ, ◌+◌, ◌∷◌, [], length, length-append, Option, option_map}
 use Rattle.wf_frame.specs.Frames.{FrameValue}
 use Rattle.wf_def_air.specs.Airtime.{Rate}
+use Rattle.wf_air.specs.declared.fit.SizeLimits.{SizeLimits}
 use Rattle.wf_queue_flows.specs.CodelParams.{params_of}
 use Rattle.wf_queue_flows.specs.Flows.{SettingsValue}
 use Rattle.wf_send_parts.specs.declared.stations.members.Member.{Member}
@@ -13,7 +14,7 @@ use Rattle.wf_send_half_model.specs.Half.{TransmitValue}
 use Rattle.wf_send_half_model.proofs.Gives.{full_fills, filled_idle}
 use Rattle.wf_send_half.specs.Pulls.{HasTurn, IsParamsOf, IsGivenNumber}
 use Rattle.wf_send_half.proofs.CallSteps.{view_of}
-use Rattle.wf_send_half.proofs.Filling.{both_give, takes_none, none_queued, goes_on_fresh, ends_fresh, same_agg, turn_of, same_given}
+use Rattle.wf_send_half.proofs.Filling.{both_give, takes_none, none_queued, goes_on_fresh, ends_fresh, same_limits, turn_of, same_given}
 use Rattle.wf_send_half.proofs.Giving.{drops_held, gave_fresh}
 use Rattle.wf_send_half.proofs.half.Half.add_fresh.Goals as goal
 use Rattle.wf_send_half.proofs.half.Half.add_fresh.Goals.{In-Ok}
@@ -78,7 +79,9 @@ returns-then-not-add-clause-filled c bodies after k =
     (omega (arith, c.fresh.invariant.most, c.len.ensures.count, c.fresh-test.true))
     (both_give c.in-Some.ensures.some
     (ap can_take (sym c.at.ensures) ∙ sym c.if-can_give.ensures.shown)) u c.in-Ok.number
-    c.len-len.result given c.if-not-add.ensures.exact)
+    c.len-len.result given c.protected.result (c.protected.ensures.exact ∙ ap (λ (n : ℕ). c.len-len.result + n)
+    (ap (λ (z : TransmitValue). z.config.overhead) c.self.view_is
+    ∙ sym (ap (λ (z : TransmitValue). z.config.overhead) c.fresh.invariant.same))) c.if-not-add.ensures.exact)
 
 pub returns-then-not-add-clause-same : goal.returns-then-not-add-clause-same
 returns-then-not-add-clause-same c =
@@ -112,7 +115,9 @@ fresh-preserved c =
           (omega (arith, c.fresh.invariant.most, c.len.ensures.count, c.fresh-test.true))
           (both_give c.in-Some.ensures.some
           (ap can_take (sym c.at.ensures) ∙ sym c.if-can_give.ensures.shown)) u c.in-Ok.number
-          c.len-len.result given
+          c.len-len.result given c.protected.result (c.protected.ensures.exact ∙ ap (λ (n : ℕ). c.len-len.result + n)
+          (ap (λ (z : TransmitValue). z.config.overhead) c.self.view_is
+          ∙ sym (ap (λ (z : TransmitValue). z.config.overhead) c.fresh.invariant.same)))
           c.add.new.self c.if-not-add.ensures.exact
           (λ ls k. c.if-not-add.ensures.taken ls k refl) c.if-not-add.ensures.kept);
       same = same_given c.args.self.now v u c.args.station c.args.tid
@@ -120,7 +125,8 @@ fresh-preserved c =
           given;
       stations = ap (λ (x : SettingsValue). x.stations) c.take.ensures.settings ∙ c.fresh.invariant.stations;
       sized = c.give.ensures.count ∙ c.fresh.invariant.sized;
-      most = same_agg c.fresh.aggregate.size c.add.new.self c.if-not-add.ensures.kept
+      most = ap (λ (z : SizeLimits). z.frames)
+          (same_limits c.fresh.aggregate.size c.add.new.self c.if-not-add.ensures.kept)
           ∙ c.fresh.invariant.most;
     }
 

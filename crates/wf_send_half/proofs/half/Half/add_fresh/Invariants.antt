@@ -16,7 +16,7 @@ invariant-fresh l = record {
   same : IsSameButFrames l.fn.self (view_of l.self-inside);
   stations : l.self-inside.flows.stations ≡ l.fn.self.flows.stations;
   sized : length l.self-inside.windows ≡ length l.fn.self.windows;
-  most : l.aggregate.size.agg ≡ l.most;
+  most : l.aggregate.size.limits.frames ≡ l.most;
 }
 
 abbrev pub decreases-fresh : goal.decreases-fresh

@@ -5,14 +5,15 @@ use Rattle.wf_frame.specs.Frames.{FrameValue}
 use Rattle.wf_def_world.specs.World.{World}
 use Rattle.wf_send_parts.specs.Windows.{window_of}
 use Rattle.wf_send_half_model.specs.Filling.{IsToFill, IsChoosing}
-use Rattle.wf_send_half.specs.Pulls.{most_of}
 use Rattle.wf_send_half.proofs.half.Half.add_waiting.Given as goal
 
 abbrev pub invariant-waiting : goal.invariant-waiting
 invariant-waiting l = record {
   choosing : (w : World) (bodies : ℕ → FrameValue) → IsToFill l.self w bodies l.station l.tid →
+      IsChoosing l.fn.aggregate.size l.fn.aggregate.numbers (window_of l.self.windows l.station l.tid).start w
+      l.station l.tid →
       IsChoosing l.aggregate.size l.aggregate.numbers l.from w l.station l.tid;
-  most : l.aggregate.size.agg ≡ most_of l.self l.station;
+  limits : l.aggregate.size.limits ≡ l.fn.aggregate.size.limits;
   window : l.window ≡ window_of l.self.windows l.station l.tid;
 }
 

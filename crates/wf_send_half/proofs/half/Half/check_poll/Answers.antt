@@ -1,6 +1,6 @@
--- Proves what `Half::check_poll` promises: a Poll is refused as a Wake is, then for an unspent credit, then
--- if the station can send in no class.
-use Rattle.std.proofs.Common.{◌∙◌, sym, ap, not, is_some}
+-- Proves what `Half::check_poll` promises: a Poll is refused as a Wake is, then for a credit that
+-- blocks it, then if the station can send in no class.
+use Rattle.std.proofs.Common.{◌∙◌, sym, ap, not}
 use Rattle.std.proofs.lemmas.Result.{err_from_is_err_and}
 use Rattle.wf_frame.specs.declared.notes.Note.TheVariants.{Asked}
 use Rattle.wf_frame.specs.declared.notes.Ask.TheVariants.{Wake}
@@ -22,9 +22,9 @@ pub returns-in_err-refuse_where-clause-refused : goal.returns-in_err-refuse_wher
 returns-in_err-refuse_where-clause-refused c w bodies h =
     let p = err_from_is_err_and c.from_residual-in_err-refuse_where.result
     c.from_residual-in_err-refuse_where.ensures.1 in rw (p.1, p.2)
-    (row_refuses _ _ _ _ _ (ap is_some (credit_same c.args.self.now w bodies h c.args.station
-    (live_of c.args.self.now w bodies h c.args.station c.in_ok-check_wake.ensures.live))
-    ∙ sym c.is_credited.ensures) c.in_err-refuse_where.ensures.refused
+    (row_refuses _ _ _ _ _ (credit_same c.args.self.now w bodies h c.args.station
+    (live_of c.args.self.now w bodies h c.args.station c.in_ok-check_wake.ensures.live)
+    ∙ sym c.has_live_credit.ensures.value) c.in_err-refuse_where.ensures.refused
     ∙ sym (rows_pass (refusals w (Asked (Wake c.args.station))) _
     (c.in_ok-check_wake.ensures.refused w bodies h)))
 
@@ -35,9 +35,9 @@ returns-in-Some-clause-refused c w bodies h =
     (λ k. can_send_in_same c.args.self.now w bodies c.args.station k h.parts
     (live_of c.args.self.now w bodies h c.args.station c.in_ok-check_wake.ensures.live)) c.in-Some.class
     (sym c.in-Some.ensures)))
-    ∙ sym (row_passes _ _ _ _ (ap is_some (credit_same c.args.self.now w bodies h c.args.station
-    (live_of c.args.self.now w bodies h c.args.station c.in_ok-check_wake.ensures.live))
-    ∙ sym c.is_credited.ensures) c.in_ok-refuse_where.ensures.refused)
+    ∙ sym (row_passes _ _ _ _ (credit_same c.args.self.now w bodies h c.args.station
+    (live_of c.args.self.now w bodies h c.args.station c.in_ok-check_wake.ensures.live)
+    ∙ sym c.has_live_credit.ensures.value) c.in_ok-refuse_where.ensures.refused)
     ∙ sym (rows_pass (refusals w (Asked (Wake c.args.station))) _
     (c.in_ok-check_wake.ensures.refused w bodies h))
 
@@ -55,8 +55,8 @@ returns-in-None-clause-refused c w bodies h =
     (λ k. can_send_in_same c.args.self.now w bodies c.args.station k h.parts
     (live_of c.args.self.now w bodies h c.args.station c.in_ok-check_wake.ensures.live))
     (sym c.in-None.ensures)))
-    ∙ sym (row_passes _ _ _ _ (ap is_some (credit_same c.args.self.now w bodies h c.args.station
-    (live_of c.args.self.now w bodies h c.args.station c.in_ok-check_wake.ensures.live))
-    ∙ sym c.is_credited.ensures) c.in_ok-refuse_where.ensures.refused)
+    ∙ sym (row_passes _ _ _ _ (credit_same c.args.self.now w bodies h c.args.station
+    (live_of c.args.self.now w bodies h c.args.station c.in_ok-check_wake.ensures.live)
+    ∙ sym c.has_live_credit.ensures.value) c.in_ok-refuse_where.ensures.refused)
     ∙ sym (rows_pass (refusals w (Asked (Wake c.args.station))) _
     (c.in_ok-check_wake.ensures.refused w bodies h))

@@ -2,6 +2,7 @@
 -- numbers fly, and its charge is the world's.
 use Rattle.std.proofs.Common.{refl, ℕ}
 use Rattle.wf_def_world.specs.Exchanges.{Aggregate, aggregate_of, prepared_data}
+use Rattle.wf_send_half.specs.Pulls.{bounds_in}
 use Rattle.wf_send_half.proofs.CallSteps.{view_of}
 use Rattle.wf_send_half.proofs.Flying.{quiet_now, to_fill, some_room, filled_off, filled_flies}
 use Rattle.wf_send_half.proofs.half.Half.prepare.Goals as goal
@@ -11,33 +12,36 @@ fill-aggregate-requires-clause-to_fill c =
     let s : ℕ = c.args.station in
     let t : ℕ = c.args.tid in
     let h = c.requires.due in
-    let to = to_fill c.args.self.now s t h (quiet_now (view_of c.self.inside) c.args.self.now c.self.view_is
+    let to = to_fill c.args.self.now s t (bounds_in c.args.bounds) h (quiet_now (view_of c.self.inside)
+    c.args.self.now c.self.view_is
     c.at-window.result.now s t c.at-window.ensures c.bar_due.result c.bar_due.ensures.shown
     c.if-bar_due.false) in
-    record { world = h.world; bodies = h.bodies; to_fill = to }
+    record { world = h.world; bodies = h.bodies; to_fill = to; bounds = h.bounds }
 
 pub air-charge-requires : goal.air-charge-requires
 air-charge-requires c =
     let s : ℕ = c.args.station in
     let t : ℕ = c.args.tid in
     let h = c.requires.due in
-    let to = to_fill c.args.self.now s t h (quiet_now (view_of c.self.inside) c.args.self.now c.self.view_is
+    let to = to_fill c.args.self.now s t (bounds_in c.args.bounds) h (quiet_now (view_of c.self.inside)
+    c.args.self.now c.self.view_is
     c.at-window.result.now s t c.at-window.ensures c.bar_due.result c.bar_due.ensures.shown
     c.if-bar_due.false) in
     some_room c.fill-aggregate.new.self h.bodies s t c.fill-aggregate.result.size
     c.fill-aggregate.result.numbers (aggregate_of h.world s t)
-    (c.fill-aggregate.ensures.filled h.world h.bodies to) (h.some to.quiet)
+    (c.fill-aggregate.ensures.filled h.world h.bodies to h.bounds) (h.some to.quiet)
 
 pub fly_all-requires-clause-off : goal.fly_all-requires-clause-off
 fly_all-requires-clause-off c =
     let s : ℕ = c.args.station in
     let t : ℕ = c.args.tid in
     let h = c.requires.due in
-    let to = to_fill c.args.self.now s t h (quiet_now (view_of c.self.inside) c.args.self.now c.self.view_is
+    let to = to_fill c.args.self.now s t (bounds_in c.args.bounds) h (quiet_now (view_of c.self.inside)
+    c.args.self.now c.self.view_is
     c.at-window.result.now s t c.at-window.ensures c.bar_due.result c.bar_due.ensures.shown
     c.if-bar_due.false) in
     let a : Aggregate = aggregate_of h.world s t in
-    let filled = c.fill-aggregate.ensures.filled h.world h.bodies to in
+    let filled = c.fill-aggregate.ensures.filled h.world h.bodies to h.bounds in
     record {
       world = a.world;
       bodies = h.bodies;
@@ -55,9 +59,9 @@ returns-clause-prepared c =
     record {
       quiet = quiet_now (view_of c.self.inside) c.args.self.now c.self.view_is c.at-window.result.now s t
           c.at-window.ensures c.bar_due.result c.bar_due.ensures.shown c.if-bar_due.false;
-      prepared = λ w bodies to.
+      prepared = λ w bodies to bounds.
           let a : Aggregate = aggregate_of w s t in
-          let filled = c.fill-aggregate.ensures.filled w bodies to in
+          let filled = c.fill-aggregate.ensures.filled w bodies to bounds in
           filled_flies c.fill-aggregate.new.self bodies s t c.fill-aggregate.result.size
           c.fill-aggregate.result.numbers a filled w refl c.fly_all.new.self c.fly_all.new.pairs
           c.air-charge.result

@@ -4,7 +4,8 @@ use Rattle.std.proofs.Common.{◌∙◌, ap, sym, subst, ◌<◌, ◌≤◌, ◌
 use Rattle.wf_def_lists.specs.Bounds.{greatest_air}
 use Rattle.wf_sched.specs.ClassRotas.{deficit}
 use Rattle.wf_send_half_model.specs.Half.{TransmitValue, is_ready_of, is_ahead_of}
-use Rattle.wf_send_half.proofs.Pulling.{pull_full, pull_ahead, pull_stays, pick_fits, charge_small, room_next, picked_one, picked_none, picked_some, live_picked, live_turned, exponent_turned, to_prepare, opens_next, pull_done}
+use Rattle.wf_send_half.specs.Pulls.{bounds_in}
+use Rattle.wf_send_half.proofs.Pulling.{pull_full, pull_ahead, pull_stays, pick_fits, charge_small, room_next, picked_one, picked_none, picked_some, live_picked, live_turned, takes_turned, to_prepare, opens_next, pull_done}
 use Rattle.wf_send_half.proofs.half.Half.pull.Goals as goal
 
 pub returns-then-self-count-clause-meets : goal.returns-then-self-count-clause-meets
@@ -30,28 +31,33 @@ pub take_turn-tid-requires-clause-live : goal.take_turn-tid-requires-clause-live
 take_turn-tid-requires-clause-live c = live_picked (picked_one c.self.view_is c.requires.some.stands
     c.requires.told c.of_class-count.ensures c.if-self-count.false
     (ap is_ahead_of c.self.view_is ∙ sym c.is_ahead.ensures ∙ c.if-is_ahead.false) c.pick.ensures.turned
-    c.pick.ensures.others c.in-Some.ensures.winner)
+    c.pick.ensures.others c.args.limits
+    c.in-Some.ensures.winner)
 
 pub prepare-prepared-requires-clause-live : goal.prepare-prepared-requires-clause-live
 prepare-prepared-requires-clause-live c = live_turned (picked_one c.self.view_is c.requires.some.stands
     c.requires.told c.of_class-count.ensures c.if-self-count.false
     (ap is_ahead_of c.self.view_is ∙ sym c.is_ahead.ensures ∙ c.if-is_ahead.false) c.pick.ensures.turned
-    c.pick.ensures.others c.in-Some.ensures.winner)
+    c.pick.ensures.others c.args.limits
+    c.in-Some.ensures.winner)
     c.take_turn-tid.ensures.tid c.take_turn-tid.ensures.turned
 
-pub prepare-prepared-requires-clause-exponent : goal.prepare-prepared-requires-clause-exponent
-prepare-prepared-requires-clause-exponent c = exponent_turned (picked_one c.self.view_is
+pub prepare-prepared-requires-clause-takes : goal.prepare-prepared-requires-clause-takes
+prepare-prepared-requires-clause-takes c = takes_turned (picked_one c.self.view_is
     c.requires.some.stands c.requires.told c.of_class-count.ensures c.if-self-count.false
     (ap is_ahead_of c.self.view_is ∙ sym c.is_ahead.ensures ∙ c.if-is_ahead.false)
-    c.pick.ensures.turned c.pick.ensures.others c.in-Some.ensures.winner)
+    c.pick.ensures.turned c.pick.ensures.others c.args.limits
+    c.in-Some.ensures.winner)
     c.take_turn-tid.ensures.tid c.take_turn-tid.ensures.turned
 
 pub prepare-prepared-requires-clause-due : goal.prepare-prepared-requires-clause-due
 prepare-prepared-requires-clause-due c = to_prepare (picked_one c.self.view_is c.requires.some.stands
     c.requires.told c.of_class-count.ensures c.if-self-count.false
     (ap is_ahead_of c.self.view_is ∙ sym c.is_ahead.ensures ∙ c.if-is_ahead.false) c.pick.ensures.turned
-    c.pick.ensures.others c.in-Some.ensures.winner)
-    c.take_turn-tid.ensures.tid c.take_turn-tid.ensures.turned
+    c.pick.ensures.others c.args.limits
+    c.in-Some.ensures.winner)
+    c.take_turn-tid.ensures.tid c.take_turn-tid.ensures.turned (bounds_in c.bounds-bounds.result)
+    c.bounds-bounds.ensures.exact
 
 pub put_on_air-requires-clause-room : goal.put_on_air-requires-clause-room
 put_on_air-requires-clause-room c =
@@ -65,8 +71,10 @@ pub put_on_air-requires-clause-charge : goal.put_on_air-requires-clause-charge
 put_on_air-requires-clause-charge c = charge_small (picked_one c.self.view_is c.requires.some.stands
     c.requires.told c.of_class-count.ensures c.if-self-count.false
     (ap is_ahead_of c.self.view_is ∙ sym c.is_ahead.ensures ∙ c.if-is_ahead.false) c.pick.ensures.turned
-    c.pick.ensures.others c.in-Some.ensures.winner)
-    c.take_turn-tid.ensures.tid c.take_turn-tid.ensures.turned c.prepare-prepared.new.self
+    c.pick.ensures.others c.args.limits
+    c.in-Some.ensures.winner)
+    c.take_turn-tid.ensures.tid c.take_turn-tid.ensures.turned (bounds_in c.bounds-bounds.result)
+    c.bounds-bounds.ensures.exact c.prepare-prepared.new.self
     c.prepare-prepared.result.charge c.prepare-prepared.new.pairs c.prepare-prepared.result.sending
     c.prepare-prepared.ensures.prepared
 
@@ -88,16 +96,18 @@ pub put_on_air-requires-clause-above : goal.put_on_air-requires-clause-above
 put_on_air-requires-clause-above c = opens_next (picked_one c.self.view_is c.requires.some.stands
     c.requires.told c.of_class-count.ensures c.if-self-count.false
     (ap is_ahead_of c.self.view_is ∙ sym c.is_ahead.ensures ∙ c.if-is_ahead.false) c.pick.ensures.turned
-    c.pick.ensures.others c.in-Some.ensures.winner)
+    c.pick.ensures.others c.args.limits
+    c.in-Some.ensures.winner)
     c.take_turn-tid.ensures.tid c.take_turn-tid.ensures.turned c.prepare-prepared.ensures.same
 
 pub returns-in-Some-clause-meets : goal.returns-in-Some-clause-meets
 returns-in-Some-clause-meets c w bodies h = pull_done (picked_one c.self.view_is h c.requires.told
     c.of_class-count.ensures c.if-self-count.false
     (ap is_ahead_of c.self.view_is ∙ sym c.is_ahead.ensures ∙ c.if-is_ahead.false) c.pick.ensures.turned
-    c.pick.ensures.others
+    c.pick.ensures.others c.args.limits
     c.in-Some.ensures.winner)
-    c.take_turn-tid.ensures.tid c.take_turn-tid.ensures.turned c.prepare-prepared.new.self
+    c.take_turn-tid.ensures.tid c.take_turn-tid.ensures.turned (bounds_in c.bounds-bounds.result)
+    c.bounds-bounds.ensures.exact c.prepare-prepared.new.self
     c.prepare-prepared.result.charge c.prepare-prepared.new.pairs c.prepare-prepared.result.sending
     c.prepare-prepared.ensures.prepared c.put_on_air.ensures.opened c.put_on_air.ensures.brief
 

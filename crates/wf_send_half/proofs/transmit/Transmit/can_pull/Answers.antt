@@ -9,17 +9,17 @@ use Rattle.wf_send_half.proofs.ToSend.{pull_is}
 use Rattle.wf_send_half.proofs.transmit.Transmit.can_pull.Goals as goal
 
 pub returns-then-may_open : goal.returns-then-may_open
-returns-then-may_open c w bodies h =
+returns-then-may_open c w bodies h l =
     c.has_any.ensures
     ∙ ap (λ (b : Bool). b && list_any (λ up. up) (flags_in c.self.inside.ready c.args.class))
     (sym c.if-may_open.true ∙ c.may_open.ensures)
     ∙ pull_is c.self.inside.half c.self.inside.ready c.self.invariant c.args.class w bodies
-    (subst (λ (u : TransmitValue). StandsFor u w bodies) (sym c.self.view_is) h)
+    (subst (λ (u : TransmitValue). StandsFor u w bodies) (sym c.self.view_is) h) l
 
 pub returns-else-may_open : goal.returns-else-may_open
-returns-else-may_open c w bodies h =
+returns-else-may_open c w bodies h l =
     c.if-may_open.false
     ∙ ap (λ (b : Bool). b && list_any (λ up. up) (flags_in c.self.inside.ready c.args.class))
     (sym c.if-may_open.false ∙ c.may_open.ensures)
     ∙ pull_is c.self.inside.half c.self.inside.ready c.self.invariant c.args.class w bodies
-    (subst (λ (u : TransmitValue). StandsFor u w bodies) (sym c.self.view_is) h)
+    (subst (λ (u : TransmitValue). StandsFor u w bodies) (sym c.self.view_is) h) l

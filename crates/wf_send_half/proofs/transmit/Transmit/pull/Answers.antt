@@ -15,7 +15,7 @@ use Rattle.wf_send_half.proofs.transmit.Transmit.pull.Goals as goal
 
 pub set-requires : goal.set-requires
 set-requires c = record {
-  room = sender_room c.self.inside.half c.self.inside.ready c.self.invariant c.args.class
+  room = sender_room c.self.inside.half c.self.inside.ready c.self.invariant c.args.class c.args.limits
       c.pull-pulled.result.brief c.pull-pulled.new.pairs c.pull-pulled.new.self c.pull-pulled.ensures.meets
       c.in-Send.exchange c.in-Send.station c.in-Send.tid c.in-Send.air c.in-Send.request c.in-Send.more
       c.in-Send.is;
@@ -23,7 +23,7 @@ set-requires c = record {
 
 pub invariant_of-self : goal.invariant_of-self
 invariant_of-self c =
-    tracked_sender c.self.inside.half c.self.inside.ready c.self.invariant c.args.class
+    tracked_sender c.self.inside.half c.self.inside.ready c.self.invariant c.args.class c.args.limits
     c.pull-pulled.result.brief c.pull-pulled.new.pairs c.pull-pulled.new.self c.pull-pulled.ensures.meets
     c.in-Send.exchange c.in-Send.station c.in-Send.tid c.in-Send.air c.in-Send.request c.in-Send.more
     c.in-Send.is c.set.new.self (c.set.ensures
@@ -33,13 +33,13 @@ invariant_of-self c =
 
 pub invariant_of-self-in_default : goal.invariant_of-self-in_default
 invariant_of-self-in_default c =
-    tracked_idle c.self.inside.half c.self.inside.ready c.self.invariant c.args.class
+    tracked_idle c.self.inside.half c.self.inside.ready c.self.invariant c.args.class c.args.limits
     c.pull-pulled.result.brief c.pull-pulled.new.pairs c.pull-pulled.new.self c.pull-pulled.ensures.meets
     (λ b. c.in_default.not-Send b.exchange b.station b.tid b.air b.request b.more b.is)
 
 pub returns-in-Send-clause-unheard : goal.returns-in-Send-clause-unheard
 returns-in-Send-clause-unheard c = pulled_unheard c.self.inside.half c.self.inside.ready c.self.invariant
-    c.args.class c.pull-pulled.result.brief c.pull-pulled.new.pairs c.pull-pulled.new.self
+    c.args.class c.args.limits c.pull-pulled.result.brief c.pull-pulled.new.pairs c.pull-pulled.new.self
     c.pull-pulled.ensures.meets
 
 pub returns-in_default : goal.returns-in_default
@@ -56,7 +56,7 @@ returns-in_default c = record {
       c.self.view_is c.pull-pulled.ensures.ahead;
   idle = subst (λ (v : TransmitValue). v.config.pending ≡ 1 → c.pull-pulled.result.brief ≡ Refuses Idle →
       c.pull-pulled.new.self ≡ v) c.self.view_is c.pull-pulled.ensures.idle;
-  unheard = pulled_unheard c.self.inside.half c.self.inside.ready c.self.invariant c.args.class
+  unheard = pulled_unheard c.self.inside.half c.self.inside.ready c.self.invariant c.args.class c.args.limits
       c.pull-pulled.result.brief c.pull-pulled.new.pairs c.pull-pulled.new.self c.pull-pulled.ensures.meets;
 }
 

@@ -1,11 +1,13 @@
 -- Proves the contract of `advance` from the loop's invariant in Moving.
-use Rattle.std.proofs.Common.{◌≡◌, ℕ, ◌+◌, true, get_or, None, drop, refl, ap, sym, ◌∙◌, subst, arith, Option}
+use Rattle.std.proofs.Common.{◌≡◌, ℕ, ◌+◌, true, get_or, None, Some, drop, refl, ap, sym, ◌∙◌, subst, arith, Option}
 use Rattle.wf_def_agreement.specs.Session.{is_settled}
 use Rattle.wf_send_parts.specs.declared.window.place.Place.{Place}
+use Rattle.wf_send_parts.specs.declared.window.place.Place.TheVariants.{Failed}
 use Rattle.wf_send_parts.specs.Ring.{RingValue}
 use Rattle.wf_send_parts.specs.Places.{state_of_place, next_since}
-use Rattle.wf_send_parts.proofs.Moving.{IsMoving, moving_step, moving_end, begins_none, begins_false}
+use Rattle.wf_send_parts.proofs.Moving.{IsMoving, moving_step, moving_end, begins_none}
 use Rattle.wf_send_parts.proofs.window.window.advance.Goals as goal
+use Rattle.wf_send_parts.proofs.window.window.advance.Goals.{After-drop_front, in-Some-Failed, in-None+in-Some, in-None+in-None-distance}
 
 pub moving-init : goal.moving-init
 moving-init c = record {
@@ -17,31 +19,38 @@ moving-init c = record {
   counted = omega arith;
 }
 
-pub moving-preserved : goal.moving-preserved
-moving-preserved c =
-    let settled : is_settled (state_of_place (get_or c.moving.ring.items 0 None)) ≡ true =
-    ap (λ (p : Option Place). is_settled (state_of_place p)) (sym c.at.ensures) ∙ sym c.is_settled.ensures
-    ∙ c.if-is_settled.true in
+-- one more step, given the place that the match found
+goes_on : (c : After-drop_front) (place : Option Place) → c.at.result.now ≡ place →
+    is_settled (state_of_place place) ≡ true →
+    c.match-at.distance ≡ next_since (state_of_place place) c.moving.distance →
+    IsMoving c.args.ring.now c.drop_front.new.self c.args.due c.match-at.distance (c.moving.moved + 1)
+goes_on c place here settled distance_is =
+    let first : get_or c.moving.ring.items 0 None ≡ place = sym c.at.ensures ∙ here in
     let step = moving_step c.args.ring.now c.moving.ring.capacity c.moving.ring.items c.args.due
-    c.moving.distance c.moving.moved (omega arith) settled c.moving.invariant in
-    let P : RingValue → Type 0 = λ v. IsMoving c.args.ring.now v c.args.due c.next_due-distance.result
+    c.moving.distance c.moving.moved (omega (arith, c.len.ensures.number, c.moving-test.true))
+    (ap (λ (p : Option Place). is_settled (state_of_place p)) first ∙ settled) c.moving.invariant in
+    let P : RingValue → Type 0 = λ v. IsMoving c.args.ring.now v c.args.due c.match-at.distance
     (c.moving.moved + 1) in
     let Q : Option ℕ → Type 0 = λ d. IsMoving c.args.ring.now
     (record c.moving.ring { items = drop 1 c.moving.ring.items }) c.args.due d (c.moving.moved + 1) in
-    let distance_is = c.next_due-distance.ensures
-    ∙ ap (λ (p : Option Place). next_since (state_of_place p) c.moving.distance) c.at-in-moving.ensures in
-    subst P (sym c.drop_front.ensures) (subst Q (sym distance_is) step)
+    subst P (sym c.drop_front.ensures) (subst Q
+    (ap (λ (p : Option Place). next_since (state_of_place p) c.moving.distance) first ∙ sym distance_is)
+    step)
 
-pub returns-else-is_settled : goal.returns-else-is_settled
-returns-else-is_settled c =
-    let begins = begins_false c.moving.ring.items
-    (ap (λ (p : Option Place). is_settled (state_of_place p)) (sym c.at.ensures)
-    ∙ sym c.is_settled.ensures ∙ c.if-is_settled.false) in
-    let m = moving_end _ _ _ _ _ begins c.moving.invariant in
-    record { items = m.items; moved = m.moved_is; due = m.due_is }
+pub moving-preserved : goal.moving-preserved
+moving-preserved c =
+    let next : Option ℕ → Option ℕ = λ d. next_since (state_of_place None) d in
+    elim c.match-at.branch [
+      | in-Some-Failed w ↦
+          let found : c.at.result.now ≡ Some Failed = grind arith in
+          goes_on c (Some Failed) found refl w.distance-is
+      | in-None+in-Some w ↦ goes_on c None w.in-None.is refl (w.distance-is ∙ sym (ap next w.in-Some.is))
+      | in-None+in-None-distance w ↦
+          goes_on c None w.in-None.is refl (w.distance-is ∙ sym (ap next w.in-None-distance.is))
+    ]
 
-pub returns-after-moving : goal.returns-after-moving
-returns-after-moving c =
-    let begins = begins_none c.moving.ring.items (omega arith) in
+pub returns : goal.returns
+returns c =
+    let begins = begins_none c.moving.ring.items (omega (arith, c.len.ensures.number, c.moving-test.false)) in
     let m = moving_end _ _ _ _ _ begins c.moving.invariant in
     record { items = m.items; moved = m.moved_is; due = m.due_is }
