@@ -37,7 +37,7 @@ sent_body _ bodies id = refl
 
 called_body : (v : TransmitValue) (ask : Ask) (answered : ReplyNote) (bodies : ℕ → FrameValue) (id : ℕ) →
     (bodies_after v (Call ask) answered bodies id).body ≡ (bodies id).body
-called_body v (ask.Pull class) answered bodies id = sent_body answered bodies id
+called_body v (ask.Pull class limits) answered bodies id = sent_body answered bodies id
 called_body v _ answered bodies id = refl
 
 module _ (v : TransmitValue) (w : World) (bodies : ℕ → FrameValue) (stands : StandsFor v w bodies) where
@@ -90,6 +90,8 @@ module _ (v : TransmitValue) (w : World) (bodies : ℕ → FrameValue) (stands :
   by_call ask (reply.Done acked waiting failed) id = stays id
   by_call ask reply.Slept id = stays id
   by_call ask reply.Woken id = stays id
+  by_call ask reply.Stopped id = stays id
+  by_call ask reply.Started id = stays id
   by_call ask (reply.Polled class) id = stays id
   by_call ask (reply.Charged deficit) id = stays id
   by_call ask (reply.Reaped gone fate) id = goes gone id
@@ -111,6 +113,8 @@ module _ (v : TransmitValue) (w : World) (bodies : ℕ → FrameValue) (stands :
   by_reply (Give f) (reply.Done acked waiting failed) id next = stays id
   by_reply (Give f) reply.Slept id next = stays id
   by_reply (Give f) reply.Woken id next = stays id
+  by_reply (Give f) reply.Stopped id next = stays id
+  by_reply (Give f) reply.Started id next = stays id
   by_reply (Give f) (reply.Polled class) id next = stays id
   by_reply (Give f) (reply.Charged deficit) id next = stays id
   by_reply (Give f) (reply.Reaped gone fate) id next = goes gone id
@@ -158,7 +162,7 @@ reaped_body v w bodies job answered back stands told given id fate is =
     of (Call (ask.Leave s)) e = tt
     of (Call (ask.Rate s rate)) e = tt
     of (Call (ask.Tick by)) e = tt
-    of (Call (ask.Pull c)) e = tt
+    of (Call (ask.Pull c l)) e = tt
     of (Call (ask.Arrive exchange index)) e = tt
     of (Call (ask.Answer exchange)) e = tt
     of (Call (ask.Done exchange heard air)) e = tt
@@ -166,6 +170,9 @@ reaped_body v w bodies job answered back stands told given id fate is =
     of (Call (ask.Wake s)) e = tt
     of (Call (ask.Poll s)) e = tt
     of (Call (ask.Rx s c air)) e = tt
+    of (Call (ask.Ampdu s octets)) e = tt
+    of (Call (ask.Stop s)) e = tt
+    of (Call (ask.Start s)) e = tt
 
 -- an id has a body exactly if its frame is inside
 pub ids_inside : (v : TransmitValue) (w : World) (bodies : ℕ → FrameValue) → StandsFor v w bodies → (id : ℕ) →

@@ -8,6 +8,7 @@ use Rattle.wf_frame.specs.declared.answers.Brief.TheVariants as brief
 use Rattle.wf_frame.specs.declared.classes.Class.{Class}
 use Rattle.wf_frame.specs.declared.notes.Ask.{Ask}
 use Rattle.wf_frame.specs.declared.notes.Ask.TheVariants as ask
+use Rattle.wf_frame.specs.declared.notes.Limits.{Limits}
 use Rattle.wf_frame.specs.declared.notes.Note.{Note}
 use Rattle.wf_frame.specs.declared.notes.Note.TheVariants.{Asked}
 use Rattle.wf_frame.specs.declared.notes.Part.{Part}
@@ -15,9 +16,10 @@ use Rattle.wf_frame.specs.declared.notes.Refusal.{Refusal}
 use Rattle.wf_frame.specs.declared.notes.ReplyNote.{ReplyNote}
 use Rattle.wf_frame.specs.declared.notes.ReplyNote.TheVariants as reply
 use Rattle.wf_def_world.specs.World.{World, Exchange, exchange}
-use Rattle.wf_def_world.specs.Exchanges.{picked_station, after_pick, after_tid_turn, sending_tid, prepared_exchange, exchange_of, Prepared, part_of as world_part_of}
+use Rattle.wf_def_world.specs.Exchanges.{picked_station, after_tid_turn, sending_tid, prepared_exchange, exchange_of, Prepared, part_of as world_part_of}
 use Rattle.wf_def_world.specs.Refusals.{refusal, refusals}
 use Rattle.wf_def_world.specs.Step.{Outcome, outcome_of, outcome_where_open, join_outcome, done_outcome, pull_outcome, pull_outcome_for, send_outcome, step}
+use Rattle.wf_law_runs.proofs.Common.Picked.{picked_world}
 use Rattle.wf_law_runs.proofs.Deficits.KeptStep.{no_row}
 use Rattle.wf_recv_marks.specs.declared.marks.Mark.{Mark}
 use Rattle.wf_recv_marks.specs.Marks.{new_mark}
@@ -222,43 +224,43 @@ pulled_is : (w : World) (c : Class) (winner : Option ℕ) → is_none winner ≡
 pulled_is w c None some = absurd (cc)
 pulled_is w c (Some s) some = picked_is w c s
 
-pub pulled_reply : (w : World) (c : Class) → refusal w (Asked (ask.Pull c)) ≡ None →
-    IsSend (step w (Asked (ask.Pull c))).reply
+pub pulled_reply : (w : World) (c : Class) (l : Limits) → refusal w (Asked (ask.Pull c l)) ≡ None →
+    IsSend (step w (Asked (ask.Pull c l))).reply
 unfolding outcome_of pull_outcome
-pulled_reply w c e =
-    subst IsSend (sym (done_reply w (Asked (ask.Pull c)) e))
-    (pulled_is (after_pick w c) c (picked_station w c).winner
-    (no_row (refusals w (Asked (ask.Pull c))) e).1.1.0)
+pulled_reply w c l e =
+    subst IsSend (sym (done_reply w (Asked (ask.Pull c l)) e))
+    (pulled_is (picked_world w c l) c (picked_station w c).winner
+    (no_row (refusals w (Asked (ask.Pull c l))) e).1.1.0)
 
-pub not_pulled : (w : World) (c : Class) → (IsSend (step w (Asked (ask.Pull c))).reply → ⊥) →
-    IsRefused w (Asked (ask.Pull c))
-not_pulled w c other = refused_else w (Asked (ask.Pull c)) (λ e. other (pulled_reply w c e))
+pub not_pulled : (w : World) (c : Class) (l : Limits) → (IsSend (step w (Asked (ask.Pull c l))).reply → ⊥) →
+    IsRefused w (Asked (ask.Pull c l))
+not_pulled w c l other = refused_else w (Asked (ask.Pull c l)) (λ e. other (pulled_reply w c l e))
 
-module _ (w : World) (c : Class) (r : IsReached w) (answered : ReplyNote)
-    (same : answered ≡ (step w (Asked (ask.Pull c))).reply) (sent : IsSend answered) where
-  pub is_pulled : refusal w (Asked (ask.Pull c)) ≡ None
-  is_pulled = not_refused w (Asked (ask.Pull c))
+module _ (w : World) (c : Class) (l : Limits) (r : IsReached w) (answered : ReplyNote)
+    (same : answered ≡ (step w (Asked (ask.Pull c l))).reply) (sent : IsSend answered) where
+  pub is_pulled : refusal w (Asked (ask.Pull c l)) ≡ None
+  is_pulled = not_refused w (Asked (ask.Pull c l))
       (λ r other. let two : reply.Send sent.number sent.station sent.tid sent.charge sent.part sent.more
       ≡ reply.Refused r = sym sent.is ∙ same ∙ other in cc)
 
   pub number_is : sent.number ≡ w.exchanges
-  number_is = opened_number w c sent.number sent.station sent.tid sent.charge sent.part sent.more r
+  number_is = opened_number w c l sent.number sent.station sent.tid sent.charge sent.part sent.more r
       (sym same ∙ sent.is)
 
 -- an exchange that opens has a mark
 pub pulled_meets : (v : EngineValue) (after : TransmitValue) (answered : ReplyNote) (w : World)
-    (bodies others : ℕ → FrameValue) (c : Class) → EngineIsIn v w bodies →
-    PathMeets w others (Asked (ask.Pull c)) after answered → (sent : IsSend answered) →
-    EngineMeets w others (Asked (ask.Pull c)) (record
+    (bodies others : ℕ → FrameValue) (c : Class) (l : Limits) → EngineIsIn v w bodies →
+    PathMeets w others (Asked (ask.Pull c l)) after answered → (sent : IsSend answered) →
+    EngineMeets w others (Asked (ask.Pull c l)) (record
     v { half = after; marks = v.marks ++ new_mark sent.number ∷ [] }) answered
-pulled_meets v after answered w bodies others c i m sent = record {
+pulled_meets v after answered w bodies others c l i m sent = record {
   is_in = record {
     half = m.stands;
     hears =
-        subst (λ n. Hears v.peers (v.marks ++ new_mark n ∷ []) (step w (Asked (ask.Pull c))).world)
-        (sym (number_is w c i.half.reached answered m.reply sent))
-        (opened_hears v.peers v.marks w c i.half.reached i.hears
-        (is_pulled w c i.half.reached answered m.reply sent));
+        subst (λ n. Hears v.peers (v.marks ++ new_mark n ∷ []) (step w (Asked (ask.Pull c l))).world)
+        (sym (number_is w c l i.half.reached answered m.reply sent))
+        (opened_hears v.peers v.marks w c l i.half.reached i.hears
+        (is_pulled w c l i.half.reached answered m.reply sent));
   };
   reply = m.reply;
 }
@@ -269,14 +271,14 @@ pub record HasPlaceFor (marks : List Mark) (number : ℕ) : Type 0 where
   pub above : All (λ k. k.number < number) marks
 
 pub mark_fits : (v : EngineValue) (after : TransmitValue) (answered : ReplyNote) (w : World)
-    (bodies others : ℕ → FrameValue) (c : Class) → EngineIsIn v w bodies →
-    PathMeets w others (Asked (ask.Pull c)) after answered → (sent : IsSend answered) →
+    (bodies others : ℕ → FrameValue) (c : Class) (l : Limits) → EngineIsIn v w bodies →
+    PathMeets w others (Asked (ask.Pull c l)) after answered → (sent : IsSend answered) →
     HasPlaceFor v.marks sent.number
-mark_fits v after answered w bodies others c i m sent = record {
-  room = marks_within v.peers v.marks w c i.half.reached i.hears
-      (is_pulled w c i.half.reached answered m.reply sent);
+mark_fits v after answered w bodies others c l i m sent = record {
+  room = marks_within v.peers v.marks w c l i.half.reached i.hears
+      (is_pulled w c l i.half.reached answered m.reply sent);
   above = subst (λ n. All (λ k. k.number < n) v.marks)
-      (sym (number_is w c i.half.reached answered m.reply sent))
+      (sym (number_is w c l i.half.reached answered m.reply sent))
       (marks_below v.peers v.marks w i.half.reached i.hears);
 }
 
@@ -305,19 +307,22 @@ ask_untold (path_ask.Sleep s) other = tt
 ask_untold (path_ask.Wake s) other = tt
 ask_untold (path_ask.Poll s) other = tt
 ask_untold (path_ask.Rx s c air) other = tt
+ask_untold (path_ask.Ampdu s octets) other = tt
+ask_untold (path_ask.Stop s) other = tt
+ask_untold (path_ask.Start s) other = tt
 
 pub job_untold : (job : PathJob) → ((ask : PathAsk) → job ≡ path_job.Call ask → ⊥) →
-    ((c : Class) → job ≡ path_job.Pull c → ⊥) → IsUntold (note_of (job_of job))
+    ((c : Class) (l : Limits) → job ≡ path_job.Pull c l → ⊥) → IsUntold (note_of (job_of job))
 job_untold (path_job.Give f) no_call no_pull = tt
 job_untold path_job.Reap no_call no_pull = tt
 job_untold (path_job.Call ask) no_call no_pull = absurd (no_call ask refl)
-job_untold (path_job.Pull c) no_call no_pull = no_pull c refl
+job_untold (path_job.Pull c l) no_call no_pull = no_pull c l refl
 
 not_received : (job : PathJob) → is_received (job_of job) ≡ false
 not_received (path_job.Give f) = refl
 not_received path_job.Reap = refl
 not_received (path_job.Call (path_ask.Join s window start exponent weight)) = refl
-not_received (path_job.Pull c) = refl
+not_received (path_job.Pull c l) = refl
 not_received (path_job.Call (path_ask.Leave s)) = refl
 not_received (path_job.Call (path_ask.Rate s rate)) = refl
 not_received (path_job.Call (path_ask.Tick by)) = refl
@@ -325,6 +330,9 @@ not_received (path_job.Call (path_ask.Sleep s)) = refl
 not_received (path_job.Call (path_ask.Wake s)) = refl
 not_received (path_job.Call (path_ask.Poll s)) = refl
 not_received (path_job.Call (path_ask.Rx s c air)) = refl
+not_received (path_job.Call (path_ask.Ampdu s octets)) = refl
+not_received (path_job.Call (path_ask.Stop s)) = refl
+not_received (path_job.Call (path_ask.Start s)) = refl
 
 -- for a call of the path alone, the reply says whether the path is unchanged
 pub path_kept_by : (job : PathJob) (answered : ReplyNote) →

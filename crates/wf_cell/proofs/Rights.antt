@@ -76,6 +76,8 @@ module _ (v : TransmitValue) (w : World) (bodies : ℕ → FrameValue) (stands :
   back_is (Give f) (reply.Done acked waiting failed) e = refl
   back_is (Give f) reply.Slept e = refl
   back_is (Give f) reply.Woken e = refl
+  back_is (Give f) reply.Stopped e = refl
+  back_is (Give f) reply.Started e = refl
   back_is (Give f) (reply.Polled class) e = refl
   back_is (Give f) (reply.Charged deficit) e = refl
   back_is (Give f) (reply.Reaped id fate) e = refl
@@ -91,6 +93,8 @@ module _ (v : TransmitValue) (w : World) (bodies : ℕ → FrameValue) (stands :
   back_is (Call ask.Reap) (reply.Done acked waiting failed) e = refl
   back_is (Call ask.Reap) reply.Slept e = refl
   back_is (Call ask.Reap) reply.Woken e = refl
+  back_is (Call ask.Reap) reply.Stopped e = refl
+  back_is (Call ask.Reap) reply.Started e = refl
   back_is (Call ask.Reap) (reply.Polled class) e = refl
   back_is (Call ask.Reap) (reply.Charged deficit) e = refl
   back_is (Call ask.Reap) (reply.Reaped id fate) e = reaped_back id fate e
@@ -99,7 +103,7 @@ module _ (v : TransmitValue) (w : World) (bodies : ℕ → FrameValue) (stands :
   back_is (Call (ask.Leave s)) answered e = refl
   back_is (Call (ask.Rate s rate)) answered e = refl
   back_is (Call (ask.Tick by)) answered e = refl
-  back_is (Call (ask.Pull c)) answered e = refl
+  back_is (Call (ask.Pull c l)) answered e = refl
   back_is (Call (ask.Arrive exchange index)) answered e = refl
   back_is (Call (ask.Answer exchange)) answered e = refl
   back_is (Call (ask.Done exchange heard air)) answered e = refl
@@ -107,6 +111,9 @@ module _ (v : TransmitValue) (w : World) (bodies : ℕ → FrameValue) (stands :
   back_is (Call (ask.Wake s)) answered e = refl
   back_is (Call (ask.Poll s)) answered e = refl
   back_is (Call (ask.Rx s c air)) answered e = refl
+  back_is (Call (ask.Ampdu s octets)) answered e = refl
+  back_is (Call (ask.Stop s)) answered e = refl
+  back_is (Call (ask.Start s)) answered e = refl
 
 -- an answer is right if its reply is the run's and the returned frame is the path's
 pub is_right : (v : TransmitValue) (p : Past) (bodies : ℕ → FrameValue) (job : Job) (answered : ReplyNote)

@@ -1,6 +1,6 @@
 -- Proves that the octets of a transmission have the fields of its frame or request (`IsSentTo`), and that
 -- they fit in the buffer.
-use Rattle.std.proofs.Common.{◌≡◌, refl, ap, sym, ◌∙◌, subst, ℕ, zero, suc, ◌*◌, ◌%◌, ◌<◌, ◌≤◌, true, false, inl, lit≤, List, [], ◌∷◌, length, Option, Some, None, length-append, arith}
+use Rattle.std.proofs.Common.{◌≡◌, refl, ap, sym, ◌∙◌, subst, ℕ, zero, suc, ◌+◌, ◌*◌, ◌%◌, ◌<◌, ◌≤◌, true, false, lit≤, List, [], ◌∷◌, length, Option, Some, None, length-append, arith}
 use Rattle.std.specs.Prelude.{slice_get, option_map, option_and_then, if◌then◌else◌, Result, Ok, Err}
 use Rattle.std.proofs.lemmas.Bool.{le-ltb}
 use Rattle.std.specs.Result.{is_err}
@@ -17,7 +17,7 @@ use Rattle.wf_octets.specs.Fields.{number_at, two_octets}
 use Rattle.wf_octets.specs.declared.header.header.Header.{Header}
 use Rattle.wf_octets.specs.HeaderLayout.{first_octet, flags_octet, header_as_octets}
 use Rattle.wf_octets.proofs.HeaderWritten.{qos_begins, qos_long}
-use Rattle.wf_octets.specs.BlockLayout.{request, narrow_form}
+use Rattle.wf_octets.specs.BlockLayout.{request, narrow_fragment}
 use Rattle.wf_octets.proofs.BlockWritten.{head_begins}
 use Rattle.wf_send_parts.specs.declared.exchanges.opened.Sending.TheVariants.{Data}
 use Rattle.wf_send_half_model.specs.Half.{TransmitValue}
@@ -78,8 +78,9 @@ bar_says x start low = record {
   is_for = record {
     layout = record {
       size = refl;
-      head = head_begins (bar_octets plain x start) request narrow_form (bar_of plain x start) (inl refl)
-          (omega (arith, low)) refl (two_read (16 * (start % 4096)) (omega arith)) refl refl refl;
+      head = head_begins (bar_octets plain x start) request narrow_fragment (bar_of plain x start)
+          (omega (arith, low)) refl (two_read (16 * (start % 4096) + narrow_fragment) (omega arith)) refl refl
+          refl;
     };
     recipient = refl;
     transmitter = refl;

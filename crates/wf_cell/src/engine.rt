@@ -16,7 +16,7 @@ ghost use Rattle.wf_cell.specs.Cells.{is_received};
 use crate::peers::Peers;
 use std::alloc::{AllocError, Global};
 use std::marker::Model;
-use wf_frame::{Answer, Ask, Brief, Class, Config};
+use wf_frame::{Answer, Ask, Brief, Class, Config, Limits};
 use wf_octets::header::GREATEST_MPDU;
 use wf_octets::seq12::Seq12;
 use wf_path::{ExchangeAsk, Job, Path, PathAsk, PathJob};
@@ -112,8 +112,8 @@ impl Engine {
     {
         match job {
             PathJob::Call(ask) => self.path_ask(ask, answer),
-            PathJob::Pull(class) => {
-                self.pull(class, answer);
+            PathJob::Pull(class, limits) => {
+                self.pull(class, limits, answer);
                 None
             }
             _ => self.path.call(job, answer),
@@ -200,17 +200,17 @@ impl Engine {
         }
     }
 
-    // Opens the next exchange of a class, with a mark.
-    fn pull(&mut self, class: Class, answer: &mut Answer)
+    // Opens the next exchange of a class within these limits, with a mark.
+    fn pull(&mut self, class: Class, limits: Limits, answer: &mut Answer)
         requires some { EngineHasWorld self.old }
         requires small { IsSmall self.old.half }
         ensures meets { (w : World) (bodies : ℕ → FrameValue) → EngineIsIn self.old w bodies →
-            EngineMeets w (bodies_sent (reply_of answer.new) bodies) (Asked (Pull class)) self.new
+            EngineMeets w (bodies_sent (reply_of answer.new) bodies) (Asked (Pull class limits)) self.new
             (reply_of answer.new) }
         ensures path_kept { changes_nothing (reply_of answer.new) ≡ true →
             self.new.half ≡ self.old.half }
     {
-        let _ = self.path.call(PathJob::Pull(class), answer);
+        let _ = self.path.call(PathJob::Pull(class, limits), answer);
         match answer.brief {
             Brief::Send { exchange, .. } => self.marks.open(exchange),
             _ => {}

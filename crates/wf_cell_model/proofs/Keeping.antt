@@ -1,7 +1,7 @@
 -- Proves which calls leave every receive half unchanged, and the effect of a Done on the marks.
 use Rattle.std.proofs.Common.{◌≡◌, ◌≢◌, refl, ap, sym, ◌∙◌, subst, ℕ, ◌==◌, Bool, true, false, not, List, [], ◌∷◌, map, filter, Option, Some, None, is_none, is_some, if◌then◌else◌, length}
 use Rattle.wf_frame.specs.declared.settings.Config.{Config}
-use Rattle.wf_frame.specs.declared.notes.Ask.TheVariants.{Join, Leave, Rate, Tick, Pull, Arrive, Answer, Done, Sleep, Wake, Poll, Rx, Reap}
+use Rattle.wf_frame.specs.declared.notes.Ask.TheVariants.{Join, Leave, Rate, Tick, Pull, Arrive, Answer, Done, Sleep, Wake, Poll, Rx, Reap, Ampdu, Stop, Start}
 use Rattle.wf_frame.specs.declared.notes.Note.{Note}
 use Rattle.wf_frame.specs.declared.notes.Note.TheVariants.{Enqueue, Asked}
 use Rattle.wf_frame.specs.declared.notes.Refusal.{Refusal}
@@ -165,7 +165,7 @@ left_untold (Asked (Join s window start exponent weight)) w k = absurd k
 left_untold (Asked (Leave s)) w k = left_gone w s
 left_untold (Asked (Rate s rate)) w k = left_same w _ (same_on_station w s _ (λ x t. refl))
 left_untold (Asked (Tick by)) w k = left_here w _ refl refl
-left_untold (Asked (Pull c)) w k = absurd k
+left_untold (Asked (Pull c l)) w k = absurd k
 left_untold (Asked (Arrive e n)) w k = absurd k
 left_untold (Asked (Answer e)) w k = absurd k
 left_untold (Asked (Done e heard air)) w k = absurd k
@@ -174,6 +174,9 @@ left_untold (Asked (Wake s)) w k = left_same w _ (same_on_station w s _ (λ x t.
 left_untold (Asked (Poll s)) w k = left_same w _ (same_on_station w s _ (λ x t. refl))
 left_untold (Asked (Rx s c air)) w k = left_same w _ (same_on_share w s c _)
 left_untold (Asked Reap) w k = left_reaped w.finished w
+left_untold (Asked (Ampdu s octets)) w k = left_same w _ (same_on_station w s _ (λ x t. refl))
+left_untold (Asked (Stop s)) w k = left_same w _ (same_on_station w s _ (λ x t. refl))
+left_untold (Asked (Start s)) w k = left_same w _ (same_on_station w s _ (λ x t. refl))
 
 -- An idle pull leaves what receivers have, whether it changes the lists or not.
 left_idle : (b : Bool) (w : World) (c : Class) → IsLeft w (if b then w else after_pick w c)
@@ -182,7 +185,7 @@ left_idle false w c = left_same w _ (same_after_pick w c)
 
 pub left_refused : (note : Note) (r : Refusal) (w : World) → IsLeft w (after_refusal w note r)
 unfolding after_refusal
-left_refused (Asked (Pull c)) Idle w = left_idle (w.config.pending == 1) w c
+left_refused (Asked (Pull c l)) Idle w = left_idle (w.config.pending == 1) w c
 left_refused _ _ w = left_here w w refl refl
 
 pub refused_world : (w : World) (note : Note) (r : Refusal) → refusal w note ≡ Some r →

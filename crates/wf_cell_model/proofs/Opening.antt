@@ -7,6 +7,7 @@ use Rattle.std.proofs.lemmas.List.Elements.{All-nil, All-cons}
 use Rattle.wf_frame.specs.declared.classes.Class.{Class}
 use Rattle.wf_frame.specs.declared.classes.Class.TheVariants.{Bk, Be, Vi, Vo}
 use Rattle.wf_frame.specs.declared.notes.Ask.TheVariants.{Pull}
+use Rattle.wf_frame.specs.declared.notes.Limits.{Limits}
 use Rattle.wf_frame.specs.declared.notes.Note.TheVariants.{Asked}
 use Rattle.wf_frame.specs.declared.notes.Part.{Part}
 use Rattle.wf_frame.specs.declared.notes.Refusal.{Refusal}
@@ -15,13 +16,14 @@ use Rattle.wf_frame.specs.Classes.{same_class}
 use Rattle.wf_law_rules.proofs.Lemmas.Numbers.{le_no}
 use Rattle.wf_def_world.specs.World.{World, Exchange, is_live, rotation}
 use Rattle.wf_def_world.specs.CanSend.{is_ready}
-use Rattle.wf_def_world.specs.Exchanges.{station_need, picked_station, sending_tid, after_pick, after_tid_turn, Prepared, prepared_exchange, exchange_of, with_exchange_opened}
+use Rattle.wf_def_world.specs.Exchanges.{station_need, picked_station, sending_tid, after_tid_turn, Prepared, prepared_exchange, exchange_of, with_exchange_opened}
 use Rattle.wf_def_world.specs.Refusals.{refusals, refusal, open_of_class}
 use Rattle.wf_def_world.specs.Step.{send_outcome, pull_outcome_for, pull_outcome, outcome_of, judged_outcome, step}
 use Rattle.wf_law_runs.specs.Windows.{OpenRises, KeepsWindows}
+use Rattle.wf_law_runs.proofs.Common.Picked.{picked_world}
 use Rattle.wf_law_runs.proofs.Deficits.Numbers.{number_law}
 use Rattle.wf_law_runs.proofs.Windows.Law.{window_law}
-use Rattle.wf_law_runs.proofs.Windows.Sides.{Same, same_after_pick, same_after_turn, same_spent}
+use Rattle.wf_law_runs.proofs.Windows.Sides.{Same, same_picked, same_after_turn, same_spent}
 use Rattle.wf_law_runs.proofs.Windows.Opened.{left_true, no_row, pick_ready, some_along}
 use Rattle.wf_law_runs.proofs.Windows.Agreed.{IsLawful, lawful_same}
 use Rattle.wf_law_runs.proofs.Frames.Delivered.{IsPrepared, prepared_right}
@@ -75,55 +77,56 @@ pulled_number (Some a) w c e s t charge part more live i h =
     (sending_tid w a c)).world.exchanges ≡ e = cc h in
     sym it ∙ ((ready_sent w a c live i).exchanges ∙ k.exchanges)
 
-pub picked_live : (w : World) (c : Class) → IfSome (picked_station w c).winner
-    (λ s. is_live (after_pick w c) s ≡ true)
-picked_live w c =
-    let k : Same w (after_pick w c) = same_after_pick w c in
-    some_along (λ s. is_ready w c s ≡ true) (λ s. is_live (after_pick w c) s ≡ true)
+pub picked_live : (w : World) (c : Class) (l : Limits) → IfSome (picked_station w c).winner
+    (λ s. is_live (picked_world w c l) s ≡ true)
+picked_live w c l =
+    let k : Same w (picked_world w c l) = same_picked w c l in
+    some_along (λ s. is_ready w c s ≡ true) (λ s. is_live (picked_world w c l) s ≡ true)
     (picked_station w c).winner
     (λ s h. k.live s ∙ left_true (is_live w s) _ h)
     (pick_ready (station_need w c) (is_ready w c) (rotation w c))
 
-opened_marks : (w : World) (c : Class) → IsLawful w → is_none (picked_station w c).winner ≡ false →
-    map mark_of (pull_outcome w c).world.opened ≡ map mark_of w.opened ++ new_mark w.exchanges ∷ []
+opened_marks : (w : World) (c : Class) (l : Limits) → IsLawful w → is_none (picked_station w c).winner ≡ false →
+    map mark_of (pull_outcome w c l).world.opened ≡ map mark_of w.opened ++ new_mark w.exchanges ∷ []
 unfolding pull_outcome
-opened_marks w c i some =
-    let k : Same w (after_pick w c) = same_after_pick w c in
-    pulled_marks (picked_station w c).winner (after_pick w c) c some (picked_live w c) (lawful_same _ _ k i)
+opened_marks w c l i some =
+    let k : Same w (picked_world w c l) = same_picked w c l in
+    pulled_marks (picked_station w c).winner (picked_world w c l) c some (picked_live w c l)
+    (lawful_same _ _ k i)
     ∙ ap₂ (λ (xs : List Exchange) (n : ℕ). map mark_of xs ++ new_mark n ∷ []) k.opened k.exchanges
 
-pub opened_hears : (peers : List PeerValue) (marks : List Mark) (w : World) (c : Class) → IsReached w →
-    Hears peers marks w →
-    refusal w (Asked (Pull c)) ≡ None → Hears peers (marks ++ new_mark w.exchanges ∷ [])
-    (step w (Asked (Pull c))).world
+pub opened_hears : (peers : List PeerValue) (marks : List Mark) (w : World) (c : Class) (l : Limits) →
+    IsReached w → Hears peers marks w →
+    refusal w (Asked (Pull c l)) ≡ None → Hears peers (marks ++ new_mark w.exchanges ∷ [])
+    (step w (Asked (Pull c l))).world
 unfolding outcome_of
-opened_hears peers marks w c reached h fine =
+opened_hears peers marks w c l reached h fine =
     let i : IsLawful w = lawful_now w reached in
     let some : is_none (picked_station w c).winner ≡ false =
-    (no_row (refusals w (Asked (Pull c))) fine).1.1.0 in
-    hears_outcome peers marks _ w (Asked (Pull c)) i fine (stays_kept w _ (keep_pulled w c))
-    (ap (λ (ms : List Mark). ms ++ new_mark w.exchanges ∷ []) h.kept ∙ sym (opened_marks w c i some)) h
+    (no_row (refusals w (Asked (Pull c l))) fine).1.1.0 in
+    hears_outcome peers marks _ w (Asked (Pull c l)) i fine (stays_kept w _ (keep_pulled w c l))
+    (ap (λ (ms : List Mark). ms ++ new_mark w.exchanges ∷ []) h.kept ∙ sym (opened_marks w c l i some)) h
 
-sent_number : (w : World) (c : Class) (e s t charge : ℕ) (part : Part) (more : Bool) → IsLawful w →
-    (pull_outcome w c).reply ≡ Send e s t charge part more → e ≡ w.exchanges
+sent_number : (w : World) (c : Class) (l : Limits) (e s t charge : ℕ) (part : Part) (more : Bool) →
+    IsLawful w → (pull_outcome w c l).reply ≡ Send e s t charge part more → e ≡ w.exchanges
 unfolding pull_outcome
-sent_number w c e s t charge part more i h =
-    let k : Same w (after_pick w c) = same_after_pick w c in
-    pulled_number (picked_station w c).winner (after_pick w c) c e s t charge part more (picked_live w c)
+sent_number w c l e s t charge part more i h =
+    let k : Same w (picked_world w c l) = same_picked w c l in
+    pulled_number (picked_station w c).winner (picked_world w c l) c e s t charge part more (picked_live w c l)
     (lawful_same _ _ k i) h ∙ k.exchanges
 
-judged_number : (o : Option Refusal) (w : World) (c : Class) (e s t charge : ℕ) (part : Part) (more : Bool) →
-    IsLawful w →
-    (judged_outcome w (Asked (Pull c)) o).reply ≡ Send e s t charge part more → e ≡ w.exchanges
+judged_number : (o : Option Refusal) (w : World) (c : Class) (l : Limits) (e s t charge : ℕ) (part : Part)
+    (more : Bool) → IsLawful w →
+    (judged_outcome w (Asked (Pull c l)) o).reply ≡ Send e s t charge part more → e ≡ w.exchanges
 unfolding judged_outcome outcome_of
-judged_number (Some r) w c e s t charge part more i h = absurd (cc h)
-judged_number None w c e s t charge part more i h = sent_number w c e s t charge part more i h
+judged_number (Some r) w c l e s t charge part more i h = absurd (cc h)
+judged_number None w c l e s t charge part more i h = sent_number w c l e s t charge part more i h
 
-pub opened_number : (w : World) (c : Class) (e s t charge : ℕ) (part : Part) (more : Bool) → IsReached w →
-    (step w (Asked (Pull c))).reply ≡ Send e s t charge part more → e ≡ w.exchanges
+pub opened_number : (w : World) (c : Class) (l : Limits) (e s t charge : ℕ) (part : Part) (more : Bool) →
+    IsReached w → (step w (Asked (Pull c l))).reply ≡ Send e s t charge part more → e ≡ w.exchanges
 unfolding step
-opened_number w c e s t charge part more reached h =
-    judged_number (refusal w (Asked (Pull c))) w c e s t charge part more (lawful_now w reached) h
+opened_number w c l e s t charge part more reached h =
+    judged_number (refusal w (Asked (Pull c l))) w c l e s t charge part more (lawful_now w reached) h
 
 -- ---- its number is above all others
 
@@ -190,13 +193,13 @@ fewer_in Be bk be vi vo f a b d e i j k l less = omega (arith, a, b, d, e, i, j,
 fewer_in Vi bk be vi vo f a b d e i j k l less = omega (arith, a, b, d, e, i, j, k, l, less)
 fewer_in Vo bk be vi vo f a b d e i j k l less = omega (arith, a, b, d, e, i, j, k, l, less)
 
-pub marks_within : (peers : List PeerValue) (marks : List Mark) (w : World) (c : Class) → IsReached w →
-    Hears peers marks w →
-    refusal w (Asked (Pull c)) ≡ None → length marks < 32
+pub marks_within : (peers : List PeerValue) (marks : List Mark) (w : World) (c : Class) (l : Limits) →
+    IsReached w → Hears peers marks w →
+    refusal w (Asked (Pull c l)) ≡ None → length marks < 32
 unfolding counted
-marks_within peers marks w c reached h fine =
+marks_within peers marks w c l reached h fine =
     let few : nat_le w.config.inflight (open_of_class w c) ≡ false =
-    (no_row (refusals w (Asked (Pull c))) fine).0 in
+    (no_row (refusals w (Asked (Pull c l))) fine).0 in
     let most : (d : Class) → open_of_class w d ≤ 8 = most_of_class w reached in
     let less : open_of_class w c < 8 = omega (
       arith,

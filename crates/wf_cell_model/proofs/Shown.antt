@@ -2,7 +2,8 @@
 -- window, so a BlockAck with 64 or 256 bits has them all.
 use Rattle.std.proofs.Common.{◌≡◌, refl, ap, sym, ◌∙◌, subst, arith, ℕ, ◌+◌, ◌-◌, ◌*◌, ◌%◌, ◌<◌, ◌≤◌, ◌==◌, nat_le, nat_lt, Bool, true, false, not, ◌&&◌, ◌||◌, inl, inr, List, [], ◌∷◌, ◌++◌, map, filter, Option, Some, None, IfSome, option_map, if◌then◌else◌}
 use Rattle.wf_frame.specs.declared.classes.Class.{Class}
-use Rattle.wf_frame.specs.declared.notes.Ask.TheVariants.{Join, Leave, Rate, Tick, Pull, Arrive, Answer, Done, Sleep, Wake, Poll, Rx, Reap}
+use Rattle.wf_frame.specs.declared.notes.Ask.TheVariants.{Join, Leave, Rate, Tick, Pull, Arrive, Answer, Done, Sleep, Wake, Poll, Rx, Reap, Ampdu, Stop, Start}
+use Rattle.wf_frame.specs.declared.notes.Limits.{Limits}
 use Rattle.wf_frame.specs.declared.notes.Note.{Note}
 use Rattle.wf_frame.specs.declared.notes.Note.TheVariants.{Enqueue, Asked}
 use Rattle.wf_frame.specs.declared.notes.Refusal.{Refusal}
@@ -11,14 +12,15 @@ use Rattle.wf_def_agreement.specs.Receiver.{Receiver, Score, score, score_start,
 use Rattle.wf_def_agreement.specs.Session.{Session}
 use Rattle.wf_law_rules.proofs.Lemmas.Numbers.{on_bool, eq_yes, lt_yes, le_yes, yes_le, yes_lt, either, both}
 use Rattle.wf_def_world.specs.World.{World, Exchange, Mpdu, session, receiver, exchange, is_live, is_wide, with_exchange, without_exchange, opening}
-use Rattle.wf_def_world.specs.Exchanges.{mpdus_of, picked_station, sending_tid, after_pick, Prepared, exchange_of, with_exchange_opened}
+use Rattle.wf_def_world.specs.Exchanges.{mpdus_of, picked_station, sending_tid, Prepared, exchange_of, with_exchange_opened}
 use Rattle.wf_def_world.specs.Refusals.{refusal}
 use Rattle.wf_def_world.specs.Run.{Entry, world_after}
 use Rattle.wf_def_world.specs.Step.{Outcome, send_outcome, pull_outcome_for, pull_outcome, answer_outcome, done_outcome, outcome_where_open, outcome_of, concerned_station, step}
 use Rattle.wf_law_runs.specs.Kept.{KeepsByCall}
 use Rattle.wf_law_runs.specs.Windows.{EachMpdu}
+use Rattle.wf_law_runs.proofs.Common.Picked.{picked_world}
 use Rattle.wf_law_runs.proofs.Kept.Law.{kept_step}
-use Rattle.wf_law_runs.proofs.Windows.Sides.{Same, same_listed, same_after_pick, same_after_turn, same_spent}
+use Rattle.wf_law_runs.proofs.Windows.Sides.{Same, same_listed, same_picked, same_after_turn, same_spent}
 use Rattle.wf_law_runs.proofs.Windows.Opened.{Each, each_both, each_append, each_filter, each_find}
 use Rattle.wf_law_runs.proofs.Windows.Agreed.{IsLawful, IsOpenIn, each_map_if, lawful_same, lawful_step, lawful_at_first}
 use Rattle.wf_law_runs.proofs.Frames.Delivered.{IsPrepared, opened_ended}
@@ -132,12 +134,12 @@ pulled_below (Some s) u w c live i h =
     sent_below s _ c u _ _ (ready_sent w s c live i)
     (subst (AllBelow u) (sym (same_after_turn w s c (sending_tid w s c)).opened) h)
 
-pull_below : (w : World) (c : Class) → IsLawful w → AllBelow w w.opened →
-    AllBelow w (pull_outcome w c).world.opened
+pull_below : (w : World) (c : Class) (l : Limits) → IsLawful w → AllBelow w w.opened →
+    AllBelow w (pull_outcome w c l).world.opened
 unfolding pull_outcome
-pull_below w c i h =
-    let k : Same w (after_pick w c) = same_after_pick w c in
-    pulled_below (picked_station w c).winner w (after_pick w c) c (picked_live w c) (lawful_same _ _ k i)
+pull_below w c l i h =
+    let k : Same w (picked_world w c l) = same_picked w c l in
+    pulled_below (picked_station w c).winner w (picked_world w c l) c (picked_live w c l) (lawful_same _ _ k i)
     (subst (AllBelow w) (sym k.opened) h)
 
 replaced_below : (w : World) (z : Exchange) → KeepsBelow w z → AllBelow w w.opened →
@@ -184,7 +186,7 @@ done_below : (note : Note) (w : World) → IsLawful w → AllBelow w w.opened �
 unfolding outcome_of
 done_below (Asked (Join s window start exponent weight)) w i h =
     subst (AllBelow w) (sym (joined_rest w s window start exponent weight).0) h
-done_below (Asked (Pull c)) w i h = pull_below w c i h
+done_below (Asked (Pull c l)) w i h = pull_below w c l i h
 done_below (Asked (Arrive e n)) w i h =
     open_below (IsRead w) (exchange w e) w _ (read w i h e) h
     (λ x f. subst (AllBelow w) (sym (arrived_opened w x n))
@@ -203,6 +205,9 @@ done_below (Asked (Wake s)) w i h = left_below w _ (left_untold (Asked (Wake s))
 done_below (Asked (Poll s)) w i h = left_below w _ (left_untold (Asked (Poll s)) w tt) h
 done_below (Asked (Rx s c air)) w i h = left_below w _ (left_untold (Asked (Rx s c air)) w tt) h
 done_below (Asked Reap) w i h = left_below w _ (left_untold (Asked Reap) w tt) h
+done_below (Asked (Ampdu s octets)) w i h = left_below w _ (left_untold (Asked (Ampdu s octets)) w tt) h
+done_below (Asked (Stop s)) w i h = left_below w _ (left_untold (Asked (Stop s)) w tt) h
+done_below (Asked (Start s)) w i h = left_below w _ (left_untold (Asked (Start s)) w tt) h
 
 judged_below : (w : World) (note : Note) (o : Option Refusal) → refusal w note ≡ o → IsLawful w →
     AllBelow w w.opened → AllBelow w (step w note).world.opened

@@ -2,7 +2,8 @@
 -- a reply has.
 use Rattle.std.proofs.Common.{◌≡◌, refl, ap, sym, ◌∙◌, ℕ, nat_le, ◌==◌, ◌&&◌, Bool, true, false, List, [], ◌∷◌, map, find, Option, Some, None, IfSome, is_some, is_none, option_map, if◌then◌else◌, length}
 use Rattle.wf_frame.specs.declared.classes.Class.{Class}
-use Rattle.wf_frame.specs.declared.notes.Ask.TheVariants.{Join, Leave, Rate, Tick, Pull, Arrive, Answer, Done, Sleep, Wake, Poll, Rx, Reap}
+use Rattle.wf_frame.specs.declared.notes.Ask.TheVariants.{Join, Leave, Rate, Tick, Pull, Arrive, Answer, Done, Sleep, Wake, Poll, Rx, Reap, Ampdu, Stop, Start}
+use Rattle.wf_frame.specs.declared.notes.Limits.{Limits}
 use Rattle.wf_frame.specs.declared.notes.Note.{Note}
 use Rattle.wf_frame.specs.declared.notes.Note.TheVariants.{Enqueue, Asked}
 use Rattle.wf_frame.specs.declared.notes.Refusal.{Refusal}
@@ -11,10 +12,11 @@ use Rattle.wf_frame.specs.declared.notes.ReplyNote.TheVariants.{Refused}
 use Rattle.wf_def_lists.specs.Table.{has}
 use Rattle.wf_def_agreement.specs.Receiver.{Score}
 use Rattle.wf_def_world.specs.World.{World, Exchange, exchange}
-use Rattle.wf_def_world.specs.Exchanges.{transmissions, picked_station, after_pick}
+use Rattle.wf_def_world.specs.Exchanges.{transmissions, picked_station}
 use Rattle.wf_def_world.specs.Refusals.{first_refusal, exchange_has, refusal}
 use Rattle.wf_frame.specs.Settings.{is_bad_air}
 use Rattle.wf_def_world.specs.Step.{Outcome, join_outcome, leave_outcome, rate_outcome, tick_outcome, enqueue_outcome, send_outcome, pull_outcome_for, pull_outcome, arrive_outcome, answer_outcome, done_outcome, outcome_where_open, sleep_outcome, wake_outcome, poll_outcome, rx_outcome, reap_outcome, outcome_of, judged_outcome, step}
+use Rattle.wf_law_runs.proofs.Common.Picked.{picked_world}
 use Rattle.wf_recv_marks.specs.declared.marks.Mark.{Mark}
 use Rattle.wf_recv_peer.specs.Agreements.{PeerValue}
 use Rattle.wf_cell_model.specs.Hearing.{kept_of, mark_of, Hears}
@@ -114,9 +116,9 @@ unfolding pull_outcome_for send_outcome
 never_sent None w c r h = cc h
 never_sent (Some s) w c r h = cc h
 
-never_pulled : (w : World) (c : Class) (r : Refusal) → (pull_outcome w c).reply ≡ Refused r → ⊥
+never_pulled : (w : World) (c : Class) (l : Limits) (r : Refusal) → (pull_outcome w c l).reply ≡ Refused r → ⊥
 unfolding pull_outcome
-never_pulled w c r h = never_sent (picked_station w c).winner (after_pick w c) c r h
+never_pulled w c l r h = never_sent (picked_station w c).winner (picked_world w c l) c r h
 
 never_reaped : (ids : List ℕ) (w : World) (r : Refusal) → (reap_outcome w ids).reply ≡ Refused r → ⊥
 unfolding reap_outcome
@@ -131,7 +133,7 @@ never_refused (Asked (Join s window start exponent weight)) w r h = cc h
 never_refused (Asked (Leave s)) w r h = cc h
 never_refused (Asked (Rate s rate)) w r h = cc h
 never_refused (Asked (Tick by)) w r h = cc h
-never_refused (Asked (Pull c)) w r h = never_pulled w c r h
+never_refused (Asked (Pull c l)) w r h = never_pulled w c l r h
 never_refused (Asked (Arrive e n)) w r h = never_open (exchange w e) w _ r (λ x k. cc k) h
 never_refused (Asked (Answer e)) w r h = never_open (exchange w e) w _ r (λ x k. cc k) h
 never_refused (Asked (Done e heard air)) w r h = never_open (exchange w e) w _ r (λ x k. cc k) h
@@ -140,6 +142,9 @@ never_refused (Asked (Wake s)) w r h = cc h
 never_refused (Asked (Poll s)) w r h = cc h
 never_refused (Asked (Rx s c air)) w r h = cc h
 never_refused (Asked Reap) w r h = never_reaped w.finished w r h
+never_refused (Asked (Ampdu s octets)) w r h = cc h
+never_refused (Asked (Stop s)) w r h = cc h
+never_refused (Asked (Start s)) w r h = cc h
 
 judged_refused : (o : Option Refusal) (w : World) (note : Note) (r : Refusal) →
     (judged_outcome w note o).reply ≡ Refused r → o ≡ Some r

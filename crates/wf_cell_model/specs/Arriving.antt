@@ -52,7 +52,7 @@ MayReach r i (Request start) = IsRequestInReach r start
 -- a call that changes neither a receive half nor a mark: any call except these five
 abbrev pub IsUntold : Note → Type 0
 IsUntold (Asked (Join s window start exponent weight)) = ⊥
-IsUntold (Asked (Pull c)) = ⊥
+IsUntold (Asked (Pull c limits)) = ⊥
 IsUntold (Asked (Arrive e i)) = ⊥
 IsUntold (Asked (Answer e)) = ⊥
 IsUntold (Asked (Done e heard air)) = ⊥

@@ -12,6 +12,7 @@
 ghost use Rattle.std.specs.Prelude.{◌≡◌, ◌<◌, ◌≤◌, ℕ, ◌==◌, not, ◌++◌, Bool, List, [], ◌∷◌, Some, None, IfSome, option_map, filter, length, nat_lt, All, Option};
 ghost use Rattle.wf_frame.specs.declared.classes.Class.{Class};
 ghost use Rattle.wf_frame.specs.declared.notes.Ask.TheVariants.{Join, Pull, Arrive, Answer, Done};
+ghost use Rattle.wf_frame.specs.declared.notes.Limits.{Limits};
 ghost use Rattle.wf_frame.specs.declared.notes.Note.{Note};
 ghost use Rattle.wf_frame.specs.declared.notes.Note.TheVariants.{Asked};
 ghost use Rattle.wf_frame.specs.declared.notes.Part.{Part};
@@ -73,15 +74,15 @@ pub fn a_station_joins()
 /// A pull that finds a station opens an exchange, with a new mark. There is room for the mark, and its number
 /// is above all others.
 pub fn an_exchange_opens()
-    ensures hears { (peers : List PeerValue) (marks : List Mark) (w : World) (c : Class) → IsReached w →
-        Hears peers marks w →
-        refusal w (Asked (Pull c)) ≡ None → Hears peers (marks ++ new_mark w.exchanges ∷ [])
-        (step w (Asked (Pull c))).world }
-    ensures number { (w : World) (c : Class) (e s t charge : ℕ) (part : Part) (more : Bool) → IsReached w →
-        (step w (Asked (Pull c))).reply ≡ Send e s t charge part more → e ≡ w.exchanges }
-    ensures room { (peers : List PeerValue) (marks : List Mark) (w : World) (c : Class) → IsReached w →
-        Hears peers marks w →
-        refusal w (Asked (Pull c)) ≡ None → length marks < MOST_OPEN }
+    ensures hears { (peers : List PeerValue) (marks : List Mark) (w : World) (c : Class)
+        (limits : Limits) → IsReached w → Hears peers marks w →
+        refusal w (Asked (Pull c limits)) ≡ None → Hears peers (marks ++ new_mark w.exchanges ∷ [])
+        (step w (Asked (Pull c limits))).world }
+    ensures number { (w : World) (c : Class) (limits : Limits) (e s t charge : ℕ) (part : Part) (more : Bool) →
+        IsReached w → (step w (Asked (Pull c limits))).reply ≡ Send e s t charge part more → e ≡ w.exchanges }
+    ensures room { (peers : List PeerValue) (marks : List Mark) (w : World) (c : Class)
+        (limits : Limits) → IsReached w → Hears peers marks w →
+        refusal w (Asked (Pull c limits)) ≡ None → length marks < MOST_OPEN }
     ensures above { (peers : List PeerValue) (marks : List Mark) (w : World) → IsReached w →
         Hears peers marks w →
         All (λ m. m.number < w.exchanges) marks }

@@ -7,7 +7,7 @@ use Rattle.wf_frame.specs.declared.answers.Brief.{Brief}
 use Rattle.wf_frame.specs.declared.notes.Ask.{Ask}
 use Rattle.wf_frame.specs.declared.notes.Note.TheVariants.{Asked}
 use Rattle.wf_frame.specs.declared.notes.ReplyNote.{ReplyNote}
-use Rattle.wf_frame.specs.declared.notes.ReplyNote.TheVariants.{Joined, Left, Set, Now, Accepted, Send, Released, Ba, Done, Slept, Woken, Polled, Charged, Reaped, Refused}
+use Rattle.wf_frame.specs.declared.notes.ReplyNote.TheVariants.{Joined, Left, Set, Now, Accepted, Send, Released, Ba, Done, Slept, Woken, Polled, Charged, Reaped, Stopped, Started, Refused}
 use Rattle.wf_send_half_model.specs.Half.{TransmitValue}
 use Rattle.wf_send_half_model.specs.Standing.{StandsFor, Meets}
 use Rattle.wf_path.specs.Addresses.{Addresses}
@@ -35,6 +35,8 @@ refused_so Woken is = absurd (cc is)
 refused_so (Polled class) is = absurd (cc is)
 refused_so (Charged deficit) is = absurd (cc is)
 refused_so (Reaped id fate) is = absurd (cc is)
+refused_so Stopped is = absurd (cc is)
+refused_so Started is = absurd (cc is)
 
 -- x is the half of the path p, a are its addresses, and u is the half after the call
 module _ (x : TransmitValue) (h : IsPath x) (ask : Ask) (reply : ReplyNote) (u : TransmitValue)

@@ -14,7 +14,7 @@ use Rattle.wf_send_half_model.specs.Half.{TransmitValue}
 use Rattle.wf_send_half_model.specs.Standing.{StandsFor, Meets}
 use Rattle.wf_path.specs.Jobs.{as_ask, job_of, note_of, bodies_after, frame_given_back}
 use Rattle.wf_path.specs.declared.asks.PathAsk.{PathAsk}
-use Rattle.wf_path.specs.declared.asks.PathAsk.TheVariants.{Join, Leave, Rate, Tick, Sleep, Wake, Poll, Rx}
+use Rattle.wf_path.specs.declared.asks.PathAsk.TheVariants.{Join, Leave, Rate, Tick, Sleep, Wake, Poll, Rx, Ampdu, Stop, Start}
 use Rattle.wf_path.specs.declared.asks.PathJob.{PathJob}
 use Rattle.wf_path.specs.declared.asks.PathJob.TheVariants as path
 use Rattle.wf_path.specs.declared.job.Job.{Job}
@@ -32,6 +32,9 @@ none_for bodies (Sleep s) reply = refl
 none_for bodies (Wake s) reply = refl
 none_for bodies (Poll s) reply = refl
 none_for bodies (Rx s c air) reply = refl
+none_for bodies (Ampdu s octets) reply = refl
+none_for bodies (Stop s) reply = refl
+none_for bodies (Start s) reply = refl
 
 pub none_back : (bodies : ℕ → FrameValue) (job : PathJob) (ask : PathAsk) → job ≡ path.Call ask →
     (reply : ReplyNote) → ◌≡◌ {A = Option FrameValue} None (frame_given_back bodies (job_of job) reply)
@@ -60,10 +63,13 @@ silent_ask (Sleep s) = tt
 silent_ask (Wake s) = tt
 silent_ask (Poll s) = tt
 silent_ask (Rx s c air) = tt
+silent_ask (Ampdu s octets) = tt
+silent_ask (Stop s) = tt
+silent_ask (Start s) = tt
 
 silent_job : (job : PathJob) → IsSilent (note_of (job_of job))
 silent_job (path.Give f) = tt
-silent_job (path.Pull c) = tt
+silent_job (path.Pull c l) = tt
 silent_job (path.Call ask) = silent_ask ask
 silent_job path.Reap = tt
 

@@ -1,7 +1,7 @@
 -- Proves that a station that is live only since a call has joined by this call, so its airtimes begin at 0.
 -- By cases of the call.
 use Rattle.std.proofs.Common.{◌≡◌, refl, ap, sym, ◌∙◌, ℕ, ◌==◌, ◌&&◌, Bool, true, false, if◌then◌else◌, List, [], ◌∷◌, Option, Some, None, is_none, IfSome}
-use Rattle.wf_frame.specs.declared.notes.Ask.TheVariants.{Join, Leave, Rate, Tick, Pull, Arrive, Answer, Done, Sleep, Wake, Poll, Rx, Reap}
+use Rattle.wf_frame.specs.declared.notes.Ask.TheVariants.{Join, Leave, Rate, Tick, Pull, Arrive, Answer, Done, Sleep, Wake, Poll, Rx, Reap, Ampdu, Stop, Start}
 use Rattle.wf_frame.specs.declared.notes.Note.{Note}
 use Rattle.wf_frame.specs.declared.notes.Note.TheVariants.{Enqueue, Asked}
 use Rattle.wf_frame.specs.declared.notes.Refusal.{Refusal}
@@ -78,7 +78,7 @@ were_done (Asked (Leave s)) w i = were_gone w s
 were_done (Asked (Rate s rate)) w i =
     were_same (Asked (Rate s rate)) w _ (same_on_station w s _ (λ x t. refl))
 were_done (Asked (Tick by)) w i = λ s other live. live
-were_done (Asked (Pull c)) w i = were_last (Asked (Pull c)) w _ (last_pulled w c i)
+were_done (Asked (Pull c l)) w i = were_last (Asked (Pull c l)) w _ (last_pulled w c l i)
 were_done (Asked (Arrive e n)) w i =
     were_open (Asked (Arrive e n)) (IsFound w i) (exchange w e) w _ (found w i e) (λ x f. last_arrived w x n)
 were_done (Asked (Answer e)) w i = were_open (Asked (Answer e)) (IsFound w i) (exchange w e) w _ (found w i e)
@@ -91,6 +91,10 @@ were_done (Asked (Wake s)) w i = were_same (Asked (Wake s)) w _ (same_on_station
 were_done (Asked (Poll s)) w i = were_same (Asked (Poll s)) w _ (same_on_station w s _ (λ x t. refl))
 were_done (Asked (Rx s c air)) w i = were_same (Asked (Rx s c air)) w _ (same_on_share w s c _)
 were_done (Asked Reap) w i = were_reaped (Asked Reap) w.finished w
+were_done (Asked (Ampdu s octets)) w i =
+    were_same (Asked (Ampdu s octets)) w _ (same_on_station w s _ (λ x t. refl))
+were_done (Asked (Stop s)) w i = were_same (Asked (Stop s)) w _ (same_on_station w s _ (λ x t. refl))
+were_done (Asked (Start s)) w i = were_same (Asked (Start s)) w _ (same_on_station w s _ (λ x t. refl))
 
 -- ---- the step
 
@@ -103,7 +107,7 @@ were_idle false w c s live = sym ((same_after_pick w c).live s) ∙ live
 were_refused : (note : Note) (r : Refusal) (w : World) (s : ℕ) →
     is_live (after_refusal w note r) s ≡ true → is_live w s ≡ true
 unfolding after_refusal
-were_refused (Asked (Pull c)) Idle w s live = were_idle (w.config.pending == 1) w c s live
+were_refused (Asked (Pull c l)) Idle w s live = were_idle (w.config.pending == 1) w c s live
 were_refused _ _ w s live = live
 
 begun : (note : Note) (w : World) (s n : ℕ) → refusal w note ≡ None → is_join_of s note ≡ true →
@@ -115,7 +119,7 @@ begun (Enqueue i t flow len) w s n fine own = absurd (cc own)
 begun (Asked (Leave i)) w s n fine own = absurd (cc own)
 begun (Asked (Rate i rate)) w s n fine own = absurd (cc own)
 begun (Asked (Tick by)) w s n fine own = absurd (cc own)
-begun (Asked (Pull c)) w s n fine own = absurd (cc own)
+begun (Asked (Pull c l)) w s n fine own = absurd (cc own)
 begun (Asked (Arrive e i)) w s n fine own = absurd (cc own)
 begun (Asked (Answer e)) w s n fine own = absurd (cc own)
 begun (Asked (Done e heard air)) w s n fine own = absurd (cc own)
@@ -124,6 +128,9 @@ begun (Asked (Wake i)) w s n fine own = absurd (cc own)
 begun (Asked (Poll i)) w s n fine own = absurd (cc own)
 begun (Asked (Rx i c air)) w s n fine own = absurd (cc own)
 begun (Asked Reap) w s n fine own = absurd (cc own)
+begun (Asked (Ampdu i octets)) w s n fine own = absurd (cc own)
+begun (Asked (Stop i)) w s n fine own = absurd (cc own)
+begun (Asked (Start i)) w s n fine own = absurd (cc own)
 
 new_answer : (r : Option Refusal) (w : World) (note : Note) (s n : ℕ) → refusal w note ≡ r → IsLawful w →
     is_live w s ≡ false → is_live (judged_outcome w note r).world s ≡ true → since_join w s note n ≡ 0

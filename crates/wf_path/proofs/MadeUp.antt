@@ -8,7 +8,7 @@ use Rattle.std.proofs.lemmas.Bool.{cases_lt}
 use Rattle.std.proofs.lemmas.List.{get_or_past}
 use Rattle.std.proofs.lemmas.List.FromFn.{get_or-map-range_with_len, length-map-range_with_len}
 use Rattle.wf_frame.specs.Frames.{FrameValue}
-use Rattle.wf_octets.specs.BlockLayout.{head_octets, request, narrow_form}
+use Rattle.wf_octets.specs.BlockLayout.{head_octets, request, narrow_fragment}
 use Rattle.wf_octets.specs.declared.block.frames.Bar.{Bar}
 use Rattle.wf_octets.specs.Addresses.{base, address_of_station}
 use Rattle.wf_octets.specs.HeaderLayout.{header_as_octets}
@@ -61,7 +61,7 @@ module _ (w : World) (bodies : ℕ → FrameValue) where
   content_plain : (x : Exchange) (c : Content) →
       octets_of_content made_up w bodies x c ≡ octets_of_content plain w bodies x c
   content_plain x (Frames mpdus) = all_plain x mpdus
-  content_plain x (Request start) = ap (λ (b : Bar). head_octets request narrow_form b ∷ [])
+  content_plain x (Request start) = ap (λ (b : Bar). head_octets request narrow_fragment b ∷ [])
       (bar_plain x start)
 
   pub frames_plain : (x : Exchange) → frames_on_air made_up w bodies x ≡ frames_on_air plain w bodies x

@@ -8,6 +8,7 @@ use Rattle.wf_frame.specs.declared.answers.Brief.{Brief}
 use Rattle.wf_frame.specs.declared.answers.Brief.TheVariants as brief
 use Rattle.wf_frame.specs.declared.classes.Class.{Class}
 use Rattle.wf_frame.specs.declared.notes.Ask.TheVariants.{Pull}
+use Rattle.wf_frame.specs.declared.notes.Limits.{Limits}
 use Rattle.wf_frame.specs.declared.notes.Note.TheVariants.{Asked}
 use Rattle.wf_frame.specs.declared.notes.Refusal.{Refusal}
 use Rattle.wf_frame.specs.declared.notes.Refusal.TheVariants.{Idle}
@@ -32,34 +33,36 @@ use Rattle.wf_path.proofs.Values.{half_is, addresses_are, with_half}
 -- ---- the answer
 
 -- the answer of a pull has no list of ids
-same_said : (w : World) (c : Class) (x : ReplyNote) (b : Brief) (pairs : List (ℕ × ℕ)) (ids : List ℕ) →
-    Says w c x → reply_with b pairs [] ≡ x → reply_with b pairs ids ≡ x
-same_said w c x brief.Joined pairs ids k e = e
-same_said w c x (brief.Left dropped) pairs ids k e = e
-same_said w c x brief.Set pairs ids k e = e
-same_said w c x (brief.Now now) pairs ids k e = e
-same_said w c x (brief.Accepted id dropped) pairs ids k e = e
-same_said w c x (brief.Send exchange station tid air request more) pairs ids k e = e
-same_said w c x brief.Released pairs ids (Sends sent) e = absurd (let k = e ∙ sent.is in cc k)
-same_said w c x brief.Released pairs ids (Refuses r is how) e = absurd (let k = e ∙ how in cc k)
-same_said w c x (brief.Ba start b0 b1 b2 b3 wide) pairs ids k e = e
-same_said w c x (brief.Done acked waiting failed) pairs ids k e = e
-same_said w c x brief.Slept pairs ids k e = e
-same_said w c x brief.Woken pairs ids k e = e
-same_said w c x (brief.Polled class) pairs ids k e = e
-same_said w c x (brief.Charged deficit) pairs ids k e = e
-same_said w c x (brief.Reaped id fate) pairs ids k e = e
-same_said w c x (brief.Refused refusal) pairs ids k e = e
+same_said : (w : World) (c : Class) (l : Limits) (x : ReplyNote) (b : Brief) (pairs : List (ℕ × ℕ)) (ids : List ℕ) →
+    Says w c l x → reply_with b pairs [] ≡ x → reply_with b pairs ids ≡ x
+same_said w c l x brief.Joined pairs ids k e = e
+same_said w c l x (brief.Left dropped) pairs ids k e = e
+same_said w c l x brief.Set pairs ids k e = e
+same_said w c l x (brief.Now now) pairs ids k e = e
+same_said w c l x (brief.Accepted id dropped) pairs ids k e = e
+same_said w c l x (brief.Send exchange station tid air request more) pairs ids k e = e
+same_said w c l x brief.Released pairs ids (Sends sent) e = absurd (let k = e ∙ sent.is in cc k)
+same_said w c l x brief.Released pairs ids (Refuses r is how) e = absurd (let k = e ∙ how in cc k)
+same_said w c l x (brief.Ba start b0 b1 b2 b3 wide) pairs ids k e = e
+same_said w c l x (brief.Done acked waiting failed) pairs ids k e = e
+same_said w c l x brief.Slept pairs ids k e = e
+same_said w c l x brief.Woken pairs ids k e = e
+same_said w c l x brief.Stopped pairs ids k e = e
+same_said w c l x brief.Started pairs ids k e = e
+same_said w c l x (brief.Polled class) pairs ids k e = e
+same_said w c l x (brief.Charged deficit) pairs ids k e = e
+same_said w c l x (brief.Reaped id fate) pairs ids k e = e
+same_said w c l x (brief.Refused refusal) pairs ids k e = e
 
-pub pull_met : (w : World) (bodies : ℕ → FrameValue) (c : Class) (y : TransmitValue) (b : Brief)
+pub pull_met : (w : World) (bodies : ℕ → FrameValue) (c : Class) (l : Limits) (y : TransmitValue) (b : Brief)
     (pairs : List (ℕ × ℕ)) (ids : List ℕ) →
-    Meets w (bodies_sent (reply_with b pairs []) bodies) (Asked (Pull c)) y (reply_with b pairs []) →
-    Meets w (bodies_sent (reply_with b pairs ids) bodies) (Asked (Pull c)) y (reply_with b pairs ids)
-pull_met w bodies c y b pairs ids m =
-    let said : reply_with b pairs ids ≡ (step w (Asked (Pull c))).reply =
-    same_said w c (step w (Asked (Pull c))).reply b pairs ids (says w c) m.reply in
+    Meets w (bodies_sent (reply_with b pairs []) bodies) (Asked (Pull c l)) y (reply_with b pairs []) →
+    Meets w (bodies_sent (reply_with b pairs ids) bodies) (Asked (Pull c l)) y (reply_with b pairs ids)
+pull_met w bodies c l y b pairs ids m =
+    let said : reply_with b pairs ids ≡ (step w (Asked (Pull c l))).reply =
+    same_said w c l (step w (Asked (Pull c l))).reply b pairs ids (says w c l) m.reply in
     record {
-      stands = subst (λ (r : ReplyNote). StandsFor y (step w (Asked (Pull c))).world (bodies_sent r bodies))
+      stands = subst (λ (r : ReplyNote). StandsFor y (step w (Asked (Pull c l))).world (bodies_sent r bodies))
           (m.reply ∙ sym said) m.stands;
       reply = said;
     }
@@ -74,23 +77,23 @@ only_idle false true d x y r off behind is = absurd (cc behind)
 only_idle false false true x y r off behind is = cc is
 only_idle false false false x y r off behind is = absurd (cc is)
 
-pub may_open : (w : World) (c : Class) → nat_le w.config.inflight (open_of_class w c) ≡ false →
-    is_at_aql_total w ≡ false → changes_nothing (step w (Asked (Pull c))).reply ≡ false
-may_open w c off behind = from (says w c)
+pub may_open : (w : World) (c : Class) (l : Limits) → nat_le w.config.inflight (open_of_class w c) ≡ false →
+    is_at_aql_total w ≡ false → changes_nothing (step w (Asked (Pull c l))).reply ≡ false
+may_open w c l off behind = from (says w c l)
   where
-    from : Says w c (step w (Asked (Pull c))).reply → changes_nothing (step w (Asked (Pull c))).reply ≡ false
+    from : Says w c l (step w (Asked (Pull c l))).reply → changes_nothing (step w (Asked (Pull c l))).reply ≡ false
     from (Sends sent) = ap changes_nothing sent.is
     from (Refuses r h how) = ap changes_nothing (how ∙ ap Refused (only_idle _ _ _ _ _ r off behind h))
 
 -- a pull whose answer says that it changed nothing was refused as Full or Ahead
-pub closed_or_same : (v y : TransmitValue) (w : World) (bodies after : ℕ → FrameValue) (c : Class) (b : Brief)
-    (pairs : List (ℕ × ℕ)) (ids : List ℕ) → StandsFor v w bodies →
-    Meets w after (Asked (Pull c)) y (reply_with b pairs ids) →
+pub closed_or_same : (v y : TransmitValue) (w : World) (bodies after : ℕ → FrameValue) (c : Class)
+    (l : Limits) (b : Brief) (pairs : List (ℕ × ℕ)) (ids : List ℕ) → StandsFor v w bodies →
+    Meets w after (Asked (Pull c l)) y (reply_with b pairs ids) →
     (nat_le v.config.inflight (count_by (λ x. same_class x.class c) v.opened) ≡ true → y ≡ v) →
     (nat_le v.config.inflight (count_by (λ x. same_class x.class c) v.opened) ≡ false →
     is_ahead_of v ≡ true → y ≡ v) →
     changes_nothing (reply_with b pairs ids) ≡ true → y ≡ v
-closed_or_same v y w bodies after c b pairs ids h m full ahead is =
+closed_or_same v y w bodies after c l b pairs ids h m full ahead is =
     from (nat_le v.config.inflight (count_by (λ x. same_class x.class c) v.opened)) refl (is_ahead_of v) refl
   where
     from : (a : Bool) → nat_le v.config.inflight (count_by (λ x. same_class x.class c) v.opened) ≡ a →
@@ -102,7 +105,7 @@ closed_or_same v y w bodies after c b pairs ids h m full ahead is =
         ap₂ (λ (z : Config) (n : ℕ). nat_le z.inflight n) (sym h.parts.others.config)
         (sym (class_count_same v w bodies c h.parts)) ∙ e in
         let behind : is_at_aql_total w ≡ false = sym (ahead_same v w bodies h.parts) ∙ k in
-        absurd (let z : false ≡ true = sym (may_open w c same behind) ∙ ap changes_nothing (sym m.reply) ∙
+        absurd (let z : false ≡ true = sym (may_open w c l same behind) ∙ ap changes_nothing (sym m.reply) ∙
         is in
         cc z)
 
@@ -124,27 +127,29 @@ refused_only brief.Woken pairs ids r is = absurd (cc is)
 refused_only (brief.Polled class) pairs ids r is = absurd (cc is)
 refused_only (brief.Charged deficit) pairs ids r is = absurd (cc is)
 refused_only (brief.Reaped id fate) pairs ids r is = absurd (cc is)
+refused_only brief.Stopped pairs ids r is = absurd (cc is)
+refused_only brief.Started pairs ids r is = absurd (cc is)
 refused_only (brief.Refused reason) pairs ids r is = ap brief.Refused (cc is)
 
 -- a pull that is refused neither as Full nor as Ahead is refused as Idle
-idle_then : (w : World) (c : Class) → nat_le w.config.inflight (open_of_class w c) ≡ false →
-    is_at_aql_total w ≡ false → is_refused (step w (Asked (Pull c))).reply ≡ true →
-    (step w (Asked (Pull c))).reply ≡ Refused Idle
-idle_then w c off behind is = from (says w c)
+idle_then : (w : World) (c : Class) (l : Limits) → nat_le w.config.inflight (open_of_class w c) ≡ false →
+    is_at_aql_total w ≡ false → is_refused (step w (Asked (Pull c l))).reply ≡ true →
+    (step w (Asked (Pull c l))).reply ≡ Refused Idle
+idle_then w c l off behind is = from (says w c l)
   where
-    from : Says w c (step w (Asked (Pull c))).reply → (step w (Asked (Pull c))).reply ≡ Refused Idle
+    from : Says w c l (step w (Asked (Pull c l))).reply → (step w (Asked (Pull c l))).reply ≡ Refused Idle
     from (Sends sent) = absurd (let no : true ≡ false = sym is ∙ ap is_refused sent.is in cc no)
     from (Refuses r h how) = how ∙ ap Refused (only_idle _ _ _ _ _ r off behind h)
 
 -- with the setting `pending`, a pull that is refused changes nothing
-kept_if_refused : (v y : TransmitValue) (w : World) (bodies after : ℕ → FrameValue) (c : Class) (b : Brief)
-    (pairs : List (ℕ × ℕ)) (ids : List ℕ) → StandsFor v w bodies →
-    Meets w after (Asked (Pull c)) y (reply_with b pairs ids) →
+kept_if_refused : (v y : TransmitValue) (w : World) (bodies after : ℕ → FrameValue) (c : Class)
+    (l : Limits) (b : Brief) (pairs : List (ℕ × ℕ)) (ids : List ℕ) → StandsFor v w bodies →
+    Meets w after (Asked (Pull c l)) y (reply_with b pairs ids) →
     (nat_le v.config.inflight (count_by (λ x. same_class x.class c) v.opened) ≡ true → y ≡ v) →
     (nat_le v.config.inflight (count_by (λ x. same_class x.class c) v.opened) ≡ false →
     is_ahead_of v ≡ true → y ≡ v) → (b ≡ brief.Refused Idle → y ≡ v) →
     is_refused (reply_with b pairs ids) ≡ true → y ≡ v
-kept_if_refused v y w bodies after c b pairs ids h m full ahead idle is =
+kept_if_refused v y w bodies after c l b pairs ids h m full ahead idle is =
     from (nat_le v.config.inflight (count_by (λ x. same_class x.class c) v.opened)) refl (is_ahead_of v) refl
   where
     from : (a : Bool) → nat_le v.config.inflight (count_by (λ x. same_class x.class c) v.opened) ≡ a →
@@ -157,19 +162,19 @@ kept_if_refused v y w bodies after c b pairs ids h m full ahead idle is =
         (sym (class_count_same v w bodies c h.parts)) ∙ e in
         let behind : is_at_aql_total w ≡ false = sym (ahead_same v w bodies h.parts) ∙ k in
         idle (refused_only b pairs ids Idle
-        (m.reply ∙ idle_then w c same behind (ap is_refused (sym m.reply) ∙ is)))
+        (m.reply ∙ idle_then w c l same behind (ap is_refused (sym m.reply) ∙ is)))
 
 -- ---- a whole pull
 
 -- x is the half of the path p, a are its addresses, and u is the half after the pull
-module _ (x : TransmitValue) (h : IsPath x) (c : Class) (b : Brief) (pairs : List (ℕ × ℕ))
-    (u : TransmitValue) (meets : Leaves x u (bodies_sent (reply_with b pairs [])) (Asked (Pull c))
+module _ (x : TransmitValue) (h : IsPath x) (c : Class) (l : Limits) (b : Brief) (pairs : List (ℕ × ℕ))
+    (u : TransmitValue) (meets : Leaves x u (bodies_sent (reply_with b pairs [])) (Asked (Pull c l))
     (reply_with b pairs [])) (unheard : IsPath u) where
   -- each pulled frame is sent again
   abbrev sent : (ℕ → FrameValue) → ℕ → FrameValue
   sent = bodies_sent (reply_with b pairs [])
 
-  met : Meets h.world (sent h.bodies) (Asked (Pull c)) u (reply_with b pairs [])
+  met : Meets h.world (sent h.bodies) (Asked (Pull c l)) u (reply_with b pairs [])
   met = meets h.world h.bodies h.stands
 
   pub pull_answered : (a : Addresses) (p : PathValue) →
@@ -178,19 +183,19 @@ module _ (x : TransmitValue) (h : IsPath x) (c : Class) (b : Brief) (pairs : Lis
       (nat_le x.config.inflight (count_by (λ y. same_class y.class c) x.opened) ≡ false →
       is_ahead_of x ≡ true → u ≡ x) →
       (x.config.pending ≡ 1 → b ≡ brief.Refused Idle → u ≡ x) →
-      IsAnswered p (Pull c) (record { half = u; addresses = a }) b pairs
+      IsAnswered p (Pull c l) (record { half = u; addresses = a }) b pairs
   pull_answered a p same full ahead idle = record {
-    meets = λ w bodies ids st. pull_met w bodies c u b pairs ids
+    meets = λ w bodies ids st. pull_met w bodies c l u b pairs ids
         (meets w bodies (subst (λ (z : TransmitValue). StandsFor z w bodies) (sym (half_is same)) st));
     refused = λ ids is. ap (λ (z : TransmitValue). with_half a z)
-        (closed_or_same x u h.world h.bodies _ c b pairs ids h.stands
-        (pull_met h.world h.bodies c u b pairs ids met) full ahead is) ∙ same;
+        (closed_or_same x u h.world h.bodies _ c l b pairs ids h.stands
+        (pull_met h.world h.bodies c l u b pairs ids met) full ahead is) ∙ same;
     pending = λ ids on is. ap (λ (z : TransmitValue). with_half a z)
-        (kept_if_refused x u h.world h.bodies _ c b pairs ids h.stands
-        (pull_met h.world h.bodies c u b pairs ids met) full ahead
+        (kept_if_refused x u h.world h.bodies _ c l b pairs ids h.stands
+        (pull_met h.world h.bodies c l u b pairs ids met) full ahead
         (idle (ap (λ (z : TransmitValue). z.config.pending) (half_is same) ∙ on)) is) ∙ same;
     addresses = addresses_are same;
     path = unheard;
     rises = subst (λ (z : TransmitValue). RiseLittle z u) (half_is same) (rises_by x u h
-        (sent h.bodies) (Asked (Pull c)) (reply_with b pairs []) met);
+        (sent h.bodies) (Asked (Pull c l)) (reply_with b pairs []) met);
   }

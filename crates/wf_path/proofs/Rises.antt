@@ -82,7 +82,7 @@ charge_little (Asked (Done e heard air)) w s c k =
     (exchange w e) (λ x found. omega (
       arith,
       charge_within w e x air k found (no_row (refusals w (Asked (Done e heard air))) fine).1.1.0,
-      longest_within w.config k.range,
+      longest_within w.config x.class k.range,
     ))))
 charge_little _ w s c k = omega arith
 

@@ -8,7 +8,7 @@ use Rattle.std.proofs.lemmas.List.{length-map}
 use Rattle.wf_frame.specs.Frames.{FrameValue}
 use Rattle.wf_octets.specs.HeaderLayout.{header_as_octets}
 use Rattle.wf_octets.specs.declared.header.header.Header.{Header}
-use Rattle.wf_octets.specs.BlockLayout.{head_octets, request, narrow_form}
+use Rattle.wf_octets.specs.BlockLayout.{head_octets, request, narrow_fragment}
 use Rattle.wf_octets.specs.declared.block.frames.Bar.{Bar}
 use Rattle.wf_def_world.specs.World.{World, Exchange, Mpdu, Content, Frames, Request, exchange}
 use Rattle.wf_def_world.specs.Exchanges.{mpdus_of}
@@ -126,7 +126,7 @@ module _ (a : Addresses) (v : TransmitValue) (e : ℕ) (o : Open) (index seq : �
     (first : index < transmissions_of o.sending)
     (w : World) (bodies : ℕ → FrameValue) (h : StandsFor v w bodies) (bar : Bar) (head : List ℕ)
     (bar_is : (x : Exchange) (start : ℕ) → o ≡ open_of x → seq ≡ on_air start → bar ≡ bar_of a x start)
-    (head_is : head ≡ head_octets request narrow_form bar) where
+    (head_is : head ≡ head_octets request narrow_fragment bar) where
   known : IsKnown w e o
   known = known_of v w bodies h e o is
 
@@ -137,7 +137,7 @@ module _ (a : Addresses) (v : TransmitValue) (e : ℕ) (o : Open) (index seq : �
   bar_octets_are =
       let at_first : index ≡ 0 = omega (arith, ap transmissions_of asks, first) in
       let written : bar_octets a known.exchange_is asked.start ≡ head ++ [] =
-      sym (append-nil head ∙ head_is ∙ ap (head_octets request narrow_form)
+      sym (append-nil head ∙ head_is ∙ ap (head_octets request narrow_fragment)
       (bar_is known.exchange_is asked.start known.same asked.air)) in
       ap (λ (c : Content). slice_get (octets_of_content a w bodies known.exchange_is c) index) asked.content
       ∙ ap (slice_get (bar_octets a known.exchange_is asked.start ∷ [])) at_first

@@ -1,6 +1,6 @@
 -- Defines the checks of the octets of a BlockAck to an open exchange, in their order, and the content of the
--- BlockAck (IEEE 802.11-2012, 8.3.1.9).
-use Rattle.std.specs.Prelude.{ℕ, ◌/◌, ◌==◌, Bool, ◌&&◌, List, drop, slice_index, Option, Some, None, if◌then◌else◌}
+-- BlockAck (IEEE 802.11-2012, 8.3.1.9, and 802.11ax-2021, 9.3.1.8.2).
+use Rattle.std.specs.Prelude.{ℕ, ◌/◌, ◌==◌, Bool, ◌&&◌, not, false, List, length, drop, slice_index, Option, Some, None, if◌then◌else◌}
 use Rattle.std.specs.Option.{option_map, option_map_or, option_or}
 use Rattle.std.specs.Str.{bytes_eq}
 use Rattle.wf_def_air.specs.Airtime.{block_ack_octets}
@@ -42,9 +42,16 @@ block_ack_in octets = (number_at octets start_at / 16, offsets_in (drop bitmap_a
 
 -- ---- the checks: each gives its fault, or none
 
--- the check that the octets are a BlockAck of the session's width: 256 numbers if it is wide, else 64
+-- whether octets are read as a BlockAck of 256 numbers: if the session is wide, unless they have the length
+-- of a BlockAck of 64, which a wide session takes too
+abbrev pub is_read_wide : Bool → List ℕ → Bool
+is_read_wide wide octets = wide && not (length octets == block_ack_octets false)
+
+-- the check that the octets are a BlockAck of 256 numbers, if they are read so, or else of 64
 abbrev pub layout_fault : Bool → List ℕ → Option DoneFault
-layout_fault wide octets = option_map Block (first_block_fault (block_ack_octets wide) answer wide octets)
+layout_fault wide octets =
+    let long : Bool = is_read_wide wide octets in
+    option_map Block (first_block_fault (block_ack_octets long) answer long octets)
 
 -- the check that the BlockAck is to the access point and from station s
 abbrev pub address_fault : Addresses → ℕ → List ℕ → Option DoneFault

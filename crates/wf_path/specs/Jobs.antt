@@ -43,11 +43,14 @@ as_ask (path.Sleep station) = machine.Sleep station
 as_ask (path.Wake station) = machine.Wake station
 as_ask (path.Poll station) = machine.Poll station
 as_ask (path.Rx station class air) = machine.Rx station class air
+as_ask (path.Ampdu station octets) = machine.Ampdu station octets
+as_ask (path.Stop station) = machine.Stop station
+as_ask (path.Start station) = machine.Start station
 
 -- the machine's job that a path's job is
 abbrev pub job_of : PathJob → Job
 job_of (paths.Give f) = Give f
-job_of (paths.Pull class) = Call (Pull class)
+job_of (paths.Pull class limits) = Call (Pull class limits)
 job_of (paths.Call ask) = Call (as_ask ask)
 job_of paths.Reap = Call Reap
 
@@ -61,7 +64,7 @@ ask_about (about.Done exchange heard air) = machine.Done exchange heard air
 -- accepted frame is added; the frames that a pull sends, by its reply, count one more transmission.
 abbrev pub bodies_after : TransmitValue → Job → ReplyNote → (ℕ → FrameValue) → ℕ → FrameValue
 bodies_after v (Give f) (Accepted id dropped) bodies = with_body bodies (as_accepted v f)
-bodies_after v (Call (Pull class)) reply bodies = bodies_sent reply bodies
+bodies_after v (Call (Pull class limits)) reply bodies = bodies_sent reply bodies
 bodies_after v job reply bodies = bodies
 
 -- how often an id is in these pairs

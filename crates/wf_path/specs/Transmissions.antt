@@ -4,12 +4,12 @@
 -- addresses.
 use Rattle.std.specs.Prelude.{ℕ, ◌+◌, nat_lt, Bool, true, false, List, [], ◌∷◌, ◌++◌, map, slice_get, Option, option_and_then, option_map}
 use Rattle.wf_frame.specs.Frames.{FrameValue}
-use Rattle.wf_def_air.specs.Airtime.{sifs, answer_time}
+use Rattle.wf_def_air.specs.Airtime.{fast_mbps, sifs, answer_time}
 use Rattle.wf_def_agreement.specs.Session.{slot}
 use Rattle.wf_octets.specs.HeaderLayout.{header_as_octets}
 use Rattle.wf_octets.specs.declared.header.header.Header.{Header}
 use Rattle.wf_octets.specs.declared.header.header.Kind.TheVariants.{QosData}
-use Rattle.wf_octets.specs.BlockLayout.{head_octets, request, narrow_form}
+use Rattle.wf_octets.specs.BlockLayout.{head_octets, request, narrow_fragment}
 use Rattle.wf_octets.specs.declared.block.frames.Bar.{Bar}
 use Rattle.wf_send_parts.specs.Window.{on_air}
 use Rattle.wf_def_world.specs.World.{World, Mpdu, Content, Frames, Request, Exchange, session, exchange}
@@ -21,9 +21,9 @@ use Rattle.wf_path.specs.declared.reading.Sent.{Sent}
 -- ---- one transmission
 
 -- the Duration of each transmission, in microseconds (8.2.5): 48, the interframe space and a BlockAck of 64
--- numbers
+-- numbers at 24 Mbit/s
 abbrev pub duration : ℕ
-duration = sifs + answer_time false
+duration = sifs + answer_time fast_mbps false
 
 -- the Retry bit (8.2.4.1.6): whether number n of TID t of station s was sent before
 abbrev pub is_retried : World → ℕ → ℕ → ℕ → Bool
@@ -64,7 +64,7 @@ bar_of a x start = record {
 
 -- the octets of a transmission of a BlockAckReq
 abbrev pub bar_octets : Addresses → Exchange → ℕ → List ℕ
-bar_octets a x start = head_octets request narrow_form (bar_of a x start)
+bar_octets a x start = head_octets request narrow_fragment (bar_of a x start)
 
 -- ---- the transmissions of an exchange
 

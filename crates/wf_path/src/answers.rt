@@ -11,7 +11,7 @@ ghost use Rattle.wf_octets.specs.BlockLayout.{answer};
 ghost use Rattle.std.specs.Result.{result_err};
 ghost use Rattle.wf_octets.specs.BlockFaults.{first_block_fault};
 ghost use Rattle.wf_path.specs.Addresses.{address_in};
-ghost use Rattle.wf_path.specs.Answers.{recipient_in, transmitter_in, tid_in, answer_fault, read_fault, block_ack_in};
+ghost use Rattle.wf_path.specs.Answers.{recipient_in, transmitter_in, tid_in, answer_fault, read_fault, block_ack_in, is_read_wide};
 
 use crate::DoneFault;
 use crate::addresses::AddressBook;
@@ -22,9 +22,12 @@ use wf_octets::seq12::Seq12;
 use wf_send_half::Transmit;
 use wf_send_parts::exchanges::widened;
 
+/// The number of octets of a BlockAck of 64 numbers.
+const NARROW_OCTETS: usize = 28;
+
 /// Reads the BlockAck to the exchange with this number (IEEE 802.11-2012, 8.3.1.9). Returns its start, and
-/// the offsets from the start of the numbers that arrived. A session whose window is above 64 has the
-/// BlockAck of 256 numbers, each other one that of 64.
+/// the offsets from the start of the numbers that arrived. A session whose window is above 64 takes the
+/// BlockAck of 256 numbers and that of 64, each other one only that of 64.
 pub(crate) fn read_block_ack(
     half: &Transmit,
     addresses: &AddressBook,
@@ -45,7 +48,7 @@ pub(crate) fn read_block_ack(
     read_answer(addresses, open.station, open.tid, wide, octets)
 }
 
-/// Reads the BlockAck of this width from a station, for one of its TIDs.
+/// Reads the BlockAck from a station, for one of its TIDs. `wide` is whether its window is above 64.
 fn read_answer(
     addresses: &AddressBook,
     station: u16,
@@ -56,7 +59,7 @@ fn read_answer(
     ensures fault { result_err result ≡ answer_fault addresses.now wide station tid octets.now }
     ensures read { IfOk result (λ read. read ≡ block_ack_in octets.now) }
 {
-    let answer = decode(wide, octets)?;
+    let answer = decode(is_read_wide(wide, octets), octets)?;
     if !is_from(addresses, station, &answer) {
         return Err(DoneFault::NotMine);
     }
@@ -64,6 +67,14 @@ fn read_answer(
         return Err(DoneFault::WrongTid { found: answer.tid });
     }
     Ok((answer.start, answer.bits))
+}
+
+/// Returns whether the octets to a session are read as a BlockAck of 256 numbers. A station may answer a wide
+/// session by one of 64 (IEEE 802.11ax-2021, 9.3.1.8.2).
+fn is_read_wide(wide: bool, octets: &[u8]) -> bool
+    ensures { result ≡ is_read_wide wide octets.now }
+{
+    wide && octets.len() != NARROW_OCTETS
 }
 
 /// Reads a BlockAck of 256 numbers, or one of 64 as one of 256.

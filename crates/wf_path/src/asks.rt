@@ -5,7 +5,7 @@ ghost use Rattle.wf_path.specs.Jobs.{job_of, ask_about};
 ghost use Rattle.wf_path.specs.declared.asks.PathAsk.TheVariants.{Join};
 ghost use Rattle.wf_path.specs.declared.job.Job.TheVariants.{Call};
 
-use wf_frame::{Ask, AskedRate, Class};
+use wf_frame::{Ask, AskedRate, Class, Limits};
 use wf_queue_parts::chain::Parcel;
 
 /// A call of a path.
@@ -13,15 +13,16 @@ use wf_queue_parts::chain::Parcel;
 pub enum PathJob {
     /// A frame for a station.
     Give(Parcel),
-    /// The driver asks for the next exchange of a class. Its answer may have a list of frames.
-    Pull(Class),
+    /// The driver asks for the next exchange of a class, within these limits: `Limits::NONE` if its device has
+    /// none. Its answer may have a list of frames. Refused as Full, Ahead or Idle, whatever the limits are.
+    Pull(Class, Limits),
     /// A call that brings and returns no frame, and whose answer has no lists.
     Call(PathAsk),
     /// The caller takes the next finished frame.
     Reap,
 }
 
-/// A call of a path that brings and returns no frame, and whose answer has no lists: one of eight. An
+/// A call of a path that brings and returns no frame, and whose answer has no lists: one of eleven. An
 /// argument outside its given range is refused.
 #[derive(Clone, Copy, Debug, PartialEq, Eq)]
 pub enum PathAsk {
@@ -64,6 +65,21 @@ pub enum PathAsk {
         station: u16,
         class: Class,
         air: u32,
+    },
+    /// A station takes aggregates of at most this many octets at a rate of VHT or HE until it leaves: 4,096 to
+    /// 6,500,631 (IEEE 802.11ax-2021, 26.6.1). Until then its exponent bounds them, at a rate of HT always.
+    /// Refused as BadStation, BadAmpdu or NoStation.
+    Ampdu {
+        station: u16,
+        octets: u32,
+    },
+    /// No pull picks the station until it is started. Refused as BadStation, NoStation or Stopped.
+    Stop {
+        station: u16,
+    },
+    /// Pulls may pick the station again. Refused as BadStation, NoStation or Started.
+    Start {
+        station: u16,
     },
 }
 
@@ -122,7 +138,7 @@ impl PathJob {
             Ask::Leave { station } => Ok(PathJob::Call(PathAsk::Leave { station })),
             Ask::Rate { station, rate } => Ok(PathJob::Call(PathAsk::Rate { station, rate })),
             Ask::Tick { by } => Ok(PathJob::Call(PathAsk::Tick { by })),
-            Ask::Pull { class } => Ok(PathJob::Pull(class)),
+            Ask::Pull { class, limits } => Ok(PathJob::Pull(class, limits)),
             Ask::Arrive { exchange, index } => Err(ExchangeAsk::Arrive { exchange, index }),
             Ask::Answer { exchange } => Err(ExchangeAsk::Answer { exchange }),
             Ask::Done {
@@ -147,6 +163,9 @@ impl PathJob {
                 air,
             })),
             Ask::Reap => Ok(PathJob::Reap),
+            Ask::Ampdu { station, octets } => Ok(PathJob::Call(PathAsk::Ampdu { station, octets })),
+            Ask::Stop { station } => Ok(PathJob::Call(PathAsk::Stop { station })),
+            Ask::Start { station } => Ok(PathJob::Call(PathAsk::Start { station })),
         }
     }
 }

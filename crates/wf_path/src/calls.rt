@@ -3,7 +3,7 @@
 ghost use Rattle.std.specs.Prelude.{◌≡◌, ℕ, true, List, Option};
 ghost use Rattle.wf_frame.specs.Frames.{FrameValue};
 ghost use Rattle.wf_frame.specs.Answers.{reply_of, reply_with};
-ghost use Rattle.wf_frame.specs.declared.notes.Ask.TheVariants.{Join, Leave, Rate, Tick, Sleep, Wake, Poll, Rx, Reap};
+ghost use Rattle.wf_frame.specs.declared.notes.Ask.TheVariants.{Join, Leave, Rate, Tick, Sleep, Wake, Poll, Rx, Reap, Ampdu, Stop, Start};
 ghost use Rattle.wf_frame.specs.declared.notes.ReplyNote.TheVariants.{Accepted, Refused};
 ghost use Rattle.wf_def_world.specs.World.{World};
 ghost use Rattle.wf_def_world.specs.Step.{step};
@@ -48,8 +48,8 @@ impl Path {
                     Some(parcel)
                 }
             },
-            PathJob::Pull(class) => {
-                answer.brief = self.half.pull(class, &mut answer.pairs);
+            PathJob::Pull(class, limits) => {
+                answer.brief = self.half.pull(class, limits, &mut answer.pairs);
                 None
             }
             PathJob::Call(ask) => {
@@ -88,6 +88,9 @@ impl Path {
                 class,
                 air,
             } => self.rx(station, class, air),
+            PathAsk::Ampdu { station, octets } => self.ampdu(station, octets),
+            PathAsk::Stop { station } => self.stop(station),
+            PathAsk::Start { station } => self.start(station),
         }
     }
 
@@ -106,6 +109,33 @@ impl Path {
     {
         match self.half.rate(station, rate) {
             Ok(()) => Brief::Set,
+            Err(reason) => Brief::Refused(reason),
+        }
+    }
+
+    fn ampdu(&mut self, station: u16, octets: u32) -> Brief
+        ensures { IsAnsweredBriefly self.old (Ampdu station octets) self.new result }
+    {
+        match self.half.ampdu(station, octets) {
+            Ok(()) => Brief::Set,
+            Err(reason) => Brief::Refused(reason),
+        }
+    }
+
+    fn stop(&mut self, station: u16) -> Brief
+        ensures { IsAnsweredBriefly self.old (Stop station) self.new result }
+    {
+        match self.half.stop(station) {
+            Ok(()) => Brief::Stopped,
+            Err(reason) => Brief::Refused(reason),
+        }
+    }
+
+    fn start(&mut self, station: u16) -> Brief
+        ensures { IsAnsweredBriefly self.old (Start station) self.new result }
+    {
+        match self.half.start(station) {
+            Ok(()) => Brief::Started,
             Err(reason) => Brief::Refused(reason),
         }
     }

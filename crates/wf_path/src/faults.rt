@@ -68,7 +68,7 @@ pub enum DoneFault {
     /// No open exchange has that number.
     #[error("no such exchange")]
     NoExchange,
-    /// The octets are no BlockAck of the session's width.
+    /// The octets are no BlockAck that the session takes.
     #[error(transparent)]
     Block(BlockFault),
     /// The BlockAck is not to the access point, or not from the exchange's station.

@@ -16,7 +16,7 @@ use wf_send_half::Transmit;
 use wf_send_parts::exchanges::Open;
 
 /// The Duration field of a transmission, in microseconds: the interframe space, 16, and a BlockAck of 64
-/// numbers, 32.
+/// numbers at 24 Mbit/s, 32.
 pub(crate) const DURATION: u16 = 48;
 
 /// Returns the frame of a transmission that carries this number.

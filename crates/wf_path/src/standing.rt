@@ -3,6 +3,7 @@
 ghost use Rattle.std.specs.Prelude.{◌≡◌, ◌<◌, ℕ, length, is_none};
 ghost use Rattle.wf_frame.specs.Frames.{FrameValue};
 ghost use Rattle.wf_frame.specs.declared.notes.Ask.TheVariants.{Pull};
+ghost use Rattle.wf_frame.specs.declared.notes.Limits.{Limits};
 ghost use Rattle.wf_frame.specs.declared.notes.Note.TheVariants.{Asked};
 ghost use Rattle.wf_def_agreement.specs.Session.{waiting_numbers};
 ghost use Rattle.wf_def_world.specs.FlowQueues.{frames_queued};
@@ -17,11 +18,11 @@ use wf_frame::Class;
 use wf_rotation::Side;
 
 impl Path {
-    /// Returns whether a pull of a class would send now: exactly if it would be refused neither as Full nor
-    /// as Ahead nor as Idle.
+    /// Returns whether a pull of a class would send now, whatever its limits: exactly if it would be refused
+    /// neither as Full nor as Ahead nor as Idle.
     pub fn can_pull(&self, class: Class) -> bool
         ensures { (w : World) (bodies : ℕ → FrameValue) → StandsFor self.now.half w bodies →
-            result ≡ is_none (refusal w (Asked (Pull class))) }
+            (limits : Limits) → result ≡ is_none (refusal w (Asked (Pull class limits))) }
     {
         self.half.can_pull(class)
     }

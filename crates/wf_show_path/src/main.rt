@@ -3,7 +3,7 @@
 
 use anyhow::{Result, bail, ensure};
 use std::alloc::Global;
-use wf_frame::{Answer, Brief, Class, Config, Frame, Ids};
+use wf_frame::{Answer, Brief, Class, Config, Frame, Ids, Limits};
 use wf_octets::header::{GREATEST_MPDU, base_address, station_address};
 use wf_octets::seq12::Seq12;
 use wf_path::{Path, PathAsk, PathJob};
@@ -67,7 +67,7 @@ impl Air {
     /// Pulls an exchange, loses the transmission with the index `lost`, and ends it by the station's
     /// BlockAck.
     fn exchange(&mut self, rt: &HostRuntime, lost: Option<u16>) -> Result<()> {
-        let _ = self.call(rt, PathJob::Pull(Class::Vi))?;
+        let _ = self.call(rt, PathJob::Pull(Class::Vi, Limits::NONE))?;
         let Brief::Send { exchange, .. } = self.answer.brief else {
             bail!("nothing to send");
         };

@@ -2,7 +2,7 @@
 use Rattle.std.specs.Prelude.{◌≡◌, ℕ, ◌+◌, ◌%◌, ◌<◌, ◌≤◌, ◌==◌, nat_lt, nat_le, ◌&&◌, ◌⊎◌, false, List, [], ◌∷◌, length, sum_by, flat_map, Option, Some, None, if◌then◌else◌}
 use Rattle.wf_def_air.specs.Airtime.{Rate, data_charge}
 use Rattle.wf_uplink.specs.Reordering.{Passed, Released, GivenUp, number_read}
-use Rattle.wf_uplink.specs.World.{World, Delivery, Call, Answer, Received, TimedOut, new_world, after_calls, answers, reordering_of, rate_of, held, released_in, given_up_in, count_of, around_octets}
+use Rattle.wf_uplink.specs.World.{World, Delivery, Call, Answer, Received, TimedOut, new_world, after_calls, answers, reordering_of, rate_of, held, released_in, given_up_in, count_of, around_octets, rates_of_answers}
 
 -- ---- the numbers that are passed
 
@@ -106,7 +106,7 @@ pub record TotalsLaw (stations : ℕ) (calls : List Call) : Type 0 where
 -- a frame is charged the airtime of its octets, and of the eight around them, at its station's rate
 abbrev pub IsCharged : World → List ℕ → Delivery → Type 0
 IsCharged w octets d = (rate : Rate) × (rate_of w d.station ≡ Some rate) ×
-    (d.air ≡ data_charge rate (length octets + around_octets) false)
+    (d.air ≡ data_charge rates_of_answers rate (length octets + around_octets) false)
 
 -- the twelve bits of a number from b to b + 2047 are read as that number, and those of a number from b - 2048
 -- to below b as none

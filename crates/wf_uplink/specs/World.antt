@@ -126,10 +126,15 @@ receive_fault octets w =
 abbrev pub around_octets : ℕ
 around_octets = 8
 
+-- the setting `answers` that charges in the uplink have: the access point answers at 24 Mbit/s, whatever the
+-- station's rate is
+abbrev pub rates_of_answers : ℕ
+rates_of_answers = 0
+
 -- the charge for octets at a rate, not wide; 0 without a rate
 abbrev pub air_of : Option Rate → ℕ → ℕ
 air_of None octets = 0
-air_of (Some rate) octets = data_charge rate (octets + around_octets) false
+air_of (Some rate) octets = data_charge rates_of_answers rate (octets + around_octets) false
 
 abbrev pub released_in : List Passed → ℕ
 released_in [] = 0

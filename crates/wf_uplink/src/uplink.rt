@@ -24,6 +24,9 @@ use wf_octets::seq12::Seq12;
 /// The number of TIDs of a station.
 const TIDS: u32 = 8;
 
+/// The setting `answers` that charges have: the access point answers at 24 Mbit/s.
+const RATES_OF_ANSWERS: u32 = 0;
+
 /// The receiving side of an access point: puts the frames of each TID of each station in the order of their
 /// sequence numbers, and gives up a hole after 100,000 microseconds (`expired`).
 ///
@@ -264,7 +267,7 @@ impl Uplink {
             station,
             tid: header.tid,
             seq: header.seq,
-            air: rate.data_charge(length + OVERHEAD_OCTETS, false),
+            air: rate.data_charge(length + OVERHEAD_OCTETS, RATES_OF_ANSWERS, false),
         })
     }
 

@@ -21,7 +21,7 @@ returns-in-Pull-clause-done c = λ w bodies i.
     let x = c.in-Pull in
     subst (λ (job : PathJob). IsJobDone w bodies (job_of job) c.args.self.now.half c.pull.new.self
     (reply_of c.pull.new.answer) None) (sym x.is)
-    (ask_done c.args.self.now c.pull.new.self (Pull x.class) (reply_of c.pull.new.answer)
+    (ask_done c.args.self.now c.pull.new.self (Pull x.class x.limits) (reply_of c.pull.new.answer)
     (λ b. refl) c.pull.ensures.meets w bodies i)
 
 pub returns-in_default-clause-done : goal.returns-in_default-clause-done

@@ -36,7 +36,7 @@ open-requires-clause-room c =
       more = s.more;
       is = ap (λ (b : Brief). reply_with b a.pairs a.ids) s.is;
     } in
-    (mark_fits v after (reply_of a) w bodies (bodies_sent (reply_of a) bodies) c.args.class j
+    (mark_fits v after (reply_of a) w bodies (bodies_sent (reply_of a) bodies) c.args.class c.args.limits j
     (c.call.ensures.meets w bodies j.half) sent).room
 
 pub open-requires-clause-above : goal.open-requires-clause-above
@@ -62,7 +62,7 @@ open-requires-clause-above c =
       more = s.more;
       is = ap (λ (b : Brief). reply_with b a.pairs a.ids) s.is;
     } in
-    (mark_fits v after (reply_of a) w bodies (bodies_sent (reply_of a) bodies) c.args.class j
+    (mark_fits v after (reply_of a) w bodies (bodies_sent (reply_of a) bodies) c.args.class c.args.limits j
     (c.call.ensures.meets w bodies j.half) sent).above
 
 pub returns-in-Send-clause-meets : goal.returns-in-Send-clause-meets
@@ -89,9 +89,9 @@ returns-in-Send-clause-meets c = λ w bodies i.
     } in
     subst (λ (ms : List Mark). let u : EngineValue =
     record { half = after; peers = c.self.inside.peers; marks = ms } in
-    EngineMeets w (bodies_sent (reply_of a) bodies) (Asked (Pull c.args.class)) u (reply_of a))
+    EngineMeets w (bodies_sent (reply_of a) bodies) (Asked (Pull c.args.class c.args.limits)) u (reply_of a))
     (sym c.open.ensures) (pulled_meets v after (reply_of a) w bodies (bodies_sent (reply_of a) bodies)
-    c.args.class j (c.call.ensures.meets w bodies j.half) sent)
+    c.args.class c.args.limits j (c.call.ensures.meets w bodies j.half) sent)
 
 pub returns-in_default-clause-meets : goal.returns-in_default-clause-meets
 returns-in_default-clause-meets c = λ w bodies i.
@@ -106,9 +106,9 @@ returns-in_default-clause-meets c = λ w bodies i.
     let a : Answer = c.call.new.answer in
     let after : TransmitValue = c.call.new.self.half in
     let m = c.call.ensures.meets w bodies j.half in
-    refused_meets v after (Asked (Pull c.args.class)) (reply_of a) w bodies
+    refused_meets v after (Asked (Pull c.args.class c.args.limits)) (reply_of a) w bodies
     (bodies_sent (reply_of a) bodies) j m
-    (not_pulled w c.args.class (λ sent. send_brief a.brief a.pairs a.ids
+    (not_pulled w c.args.class c.args.limits (λ sent. send_brief a.brief a.pairs a.ids
     (subst IsSend (sym m.reply) sent) c.in_default.not-Send))
 
 pub returns-in-Send-clause-path_kept : goal.returns-in-Send-clause-path_kept

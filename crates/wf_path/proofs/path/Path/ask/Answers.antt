@@ -44,3 +44,18 @@ pub returns-in-Rx : goal.returns-in-Rx
 returns-in-Rx c =
     subst (λ (ask : PathAsk). IsAnsweredBriefly c.args.self.now (as_ask ask) c.rx.new.self c.rx.result)
     (sym c.in-Rx.is) c.rx.ensures
+
+pub returns-in-Ampdu : goal.returns-in-Ampdu
+returns-in-Ampdu c =
+    subst (λ (ask : PathAsk). IsAnsweredBriefly c.args.self.now (as_ask ask) c.ampdu.new.self c.ampdu.result)
+    (sym c.in-Ampdu.is) c.ampdu.ensures
+
+pub returns-in-Stop : goal.returns-in-Stop
+returns-in-Stop c =
+    subst (λ (ask : PathAsk). IsAnsweredBriefly c.args.self.now (as_ask ask) c.stop.new.self c.stop.result)
+    (sym c.in-Stop.is) c.stop.ensures
+
+pub returns-in-Start : goal.returns-in-Start
+returns-in-Start c =
+    subst (λ (ask : PathAsk). IsAnsweredBriefly c.args.self.now (as_ask ask) c.start.new.self c.start.result)
+    (sym c.in-Start.is) c.start.ensures

@@ -33,11 +33,11 @@ returns-in-Call c =
 
 pub returns-in-Pull : goal.returns-in-Pull
 returns-in-Pull c =
-    let is : job_of c.args.job ≡ Call (Pull c.in-Pull.class) = ap job_of c.in-Pull.is in
-    let answered : IsAnswered c.args.self.now (Pull c.in-Pull.class)
+    let is : job_of c.args.job ≡ Call (Pull c.in-Pull.class c.in-Pull.limits) = ap job_of c.in-Pull.is in
+    let answered : IsAnswered c.args.self.now (Pull c.in-Pull.class c.in-Pull.limits)
     (with_half c.self-in-Pull.inside.addresses c.pull-answer.new.self) c.pull-answer.result
     c.pull-answer.new.pairs =
-    pull_answered c.self-in-Pull.inside.half c.self-in-Pull.invariant c.in-Pull.class
+    pull_answered c.self-in-Pull.inside.half c.self-in-Pull.invariant c.in-Pull.class c.in-Pull.limits
     c.pull-answer.result c.pull-answer.new.pairs
     c.pull-answer.new.self c.pull-answer.ensures.meets c.pull-answer.ensures.unheard
     c.self-in-Pull.inside.addresses c.args.self.now
@@ -45,7 +45,7 @@ returns-in-Pull c =
     (λ few e. (c.pull-answer.ensures.ahead few e).1) c.pull-answer.ensures.idle in
     record {
       meets = λ w bodies h. asked_meets c.args.self.now.half c.pull-answer.new.self c.args.job
-          (Pull c.in-Pull.class) is c.pull-answer.result c.pull-answer.new.pairs c.args.answer.now.ids
+          (Pull c.in-Pull.class c.in-Pull.limits) is c.pull-answer.result c.pull-answer.new.pairs c.args.answer.now.ids
           w bodies
           (answered.meets w bodies c.args.answer.now.ids h);
       parcel = λ w bodies h. search rules;

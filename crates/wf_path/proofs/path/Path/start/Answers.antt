@@ -1,0 +1,22 @@
+-- Proves what `Path::start` promises from the clauses of `Transmit::start`. By cases of its result.
+use Rattle.std.proofs.Common.{refl, ap}
+use Rattle.wf_frame.specs.Answers.{reply_with}
+use Rattle.wf_frame.specs.declared.answers.Brief.{Brief}
+use Rattle.wf_frame.specs.declared.notes.Ask.TheVariants.{Start}
+use Rattle.wf_frame.specs.declared.notes.ReplyNote.TheVariants as reply
+use Rattle.wf_path.proofs.CallAnswers.{answered_briefly}
+use Rattle.wf_path.proofs.path.Path.start.Goals as goal
+use Rattle.wf_path.proofs.path.Path.start.Goals.{in-Ok, in-Err}
+
+pub returns : goal.returns
+returns c = elim c.match-start.branch [
+  | in-Ok w ↦ answered_briefly c.self.inside.half c.self.invariant (Start c.args.station) (reply.Started)
+      c.start.new.self w.in-Ok.ensures.meets c.start.ensures.unheard c.self.inside.addresses c.args.self.now
+      c.self.view_is c.match-start.result (λ pairs ids. ap (λ (b : Brief). reply_with b pairs ids) w.result-is)
+      (λ _. refl) (λ e. absurd (cc e))
+  | in-Err w ↦ answered_briefly c.self.inside.half c.self.invariant (Start c.args.station)
+      (reply.Refused w.in-Err.reason) c.start.new.self w.in-Err.ensures.meets c.start.ensures.unheard
+      c.self.inside.addresses c.args.self.now c.self.view_is c.match-start.result
+      (λ pairs ids. ap (λ (b : Brief). reply_with b pairs ids) w.result-is) (λ _. refl)
+      (λ _. w.in-Err.ensures.refused)
+]

@@ -1,0 +1,22 @@
+-- Proves what `Path::stop` promises from the clauses of `Transmit::stop`. By cases of its result.
+use Rattle.std.proofs.Common.{refl, ap}
+use Rattle.wf_frame.specs.Answers.{reply_with}
+use Rattle.wf_frame.specs.declared.answers.Brief.{Brief}
+use Rattle.wf_frame.specs.declared.notes.Ask.TheVariants.{Stop}
+use Rattle.wf_frame.specs.declared.notes.ReplyNote.TheVariants as reply
+use Rattle.wf_path.proofs.CallAnswers.{answered_briefly}
+use Rattle.wf_path.proofs.path.Path.stop.Goals as goal
+use Rattle.wf_path.proofs.path.Path.stop.Goals.{in-Ok, in-Err}
+
+pub returns : goal.returns
+returns c = elim c.match-stop.branch [
+  | in-Ok w ↦ answered_briefly c.self.inside.half c.self.invariant (Stop c.args.station) (reply.Stopped)
+      c.stop.new.self w.in-Ok.ensures.meets c.stop.ensures.unheard c.self.inside.addresses c.args.self.now
+      c.self.view_is c.match-stop.result (λ pairs ids. ap (λ (b : Brief). reply_with b pairs ids) w.result-is)
+      (λ _. refl) (λ e. absurd (cc e))
+  | in-Err w ↦ answered_briefly c.self.inside.half c.self.invariant (Stop c.args.station)
+      (reply.Refused w.in-Err.reason) c.stop.new.self w.in-Err.ensures.meets c.stop.ensures.unheard
+      c.self.inside.addresses c.args.self.now c.self.view_is c.match-stop.result
+      (λ pairs ids. ap (λ (b : Brief). reply_with b pairs ids) w.result-is) (λ _. refl)
+      (λ _. w.in-Err.ensures.refused)
+]
