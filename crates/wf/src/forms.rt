@@ -10,7 +10,7 @@ use wf_run::help::Command;
 use wf_trace::{Arg, next_word};
 
 /// The most forms that a command has.
-const MOST_FORMS: usize = 19;
+const MOST_FORMS: usize = 25;
 
 /// The most arguments that a form has.
 const MOST_ARGS: usize = 6;
@@ -85,12 +85,12 @@ fn form_with(command: Command, word: &[u8], second: &[u8]) -> Option<&'static [u
 }
 
 /// Returns the form of a line with this first word and these words after it. If several forms begin with this
-/// word, it is the form with the line's format, or the form with `air` if the line has that word; otherwise
-/// it is the first.
+/// word, it is the form with the line's format or limits, or the form with `air` if the line has that word;
+/// otherwise it is the first.
 pub fn form_named(command: Command, word: &[u8], rest: &[u8]) -> Option<&'static [u8]> {
     if let Some(second) = second_word(rest) {
         if let Some(form) = form_with(command, word, second) {
-            return Some(form);
+            return Some(with_air(form, rest));
         }
     }
     for form in forms(command).iter().copied() {
@@ -101,11 +101,15 @@ pub fn form_named(command: Command, word: &[u8], rest: &[u8]) -> Option<&'static
     None
 }
 
-// Returns the form of a `done` with an airtime if the line has the word `air`. Other forms are returned
-// unchanged.
+// Returns the form of a `done`, or of a `pull` with a limit on frames, that has an airtime, if the line has the
+// word `air` there. Other forms are returned unchanged.
 fn with_air(form: &'static [u8], rest: &[u8]) -> &'static [u8] {
     match third_word(rest) {
-        Some(b"air") if form == CallForm::Done.line() => CallForm::DoneAir.line(),
+        Some(b"air") if form == CallForm::Done.line() => return CallForm::DoneAir.line(),
+        _ => {}
+    }
+    match fourth_word(rest) {
+        Some(b"air") if form == CallForm::PullFrames.line() => CallForm::PullLimited.line(),
         _ => form,
     }
 }
@@ -121,6 +125,12 @@ fn second_word(line: &[u8]) -> Option<&[u8]> {
 pub fn third_word(line: &[u8]) -> Option<&[u8]> {
     let (_, rest) = next_word(line)?;
     second_word(rest)
+}
+
+// Returns the fourth word of a line.
+fn fourth_word(line: &[u8]) -> Option<&[u8]> {
+    let (_, rest) = next_word(line)?;
+    third_word(rest)
 }
 
 /// Returns the name of an argument of a form, by its place, counted from 0.
@@ -235,6 +245,7 @@ pub fn say_wanted(arg: Arg, out: &mut Line) {
         Arg::Guard => say(&[b"long or short"], out),
         Arg::Heard => say(&[b"heard or lost"], out),
         Arg::Air => say(&[b"air"], out),
+        Arg::Frames => say(&[b"frames"], out),
         Arg::End => say(&[b"a or b"], out),
         Arg::Number { low, high } => say_range(low, high, out),
     }

@@ -74,7 +74,7 @@ pub after_sample : (v : TransmitValue) (job : Job) (answered : ReplyNote) (bodie
 after_sample v (Give f) (reply.Accepted given dropped) bodies all brought =
     let is : IsSample f = brought f refl in
     with_sample bodies (as_accepted v f) all (record { body = is.body; source = is.source })
-after_sample v (Call (Pull class)) answered bodies all brought = of answered
+after_sample v (Call (Pull class l)) answered bodies all brought = of answered
   where
     of : (r : ReplyNote) → (id : ℕ) → IsSample (bodies_sent r bodies id)
     of (reply.Send exchange station tid air (Mpdus pairs) more) = sent_samples pairs bodies all

@@ -1,8 +1,8 @@
--- Defines the octets of a BlockAck in a reply (IEEE 802.11-2012, 8.3.1.9).
-use Rattle.std.specs.Prelude.{ℕ, Bool, List, ◌++◌, flat_map, if◌then◌else◌}
+-- Defines the octets of a BlockAck in a reply (IEEE 802.11-2012, 8.3.1.9, and 802.11ax-2021, 9.3.1.8.2).
+use Rattle.std.specs.Prelude.{ℕ, Bool, List, ◌++◌, flat_map}
 use Rattle.byteorder.specs.Endian.{little_bytes}
 use Rattle.wf_octets.specs.Addresses.{base, address_of_station}
-use Rattle.wf_octets.specs.BlockLayout.{head_octets, answer, narrow_form, wide_form}
+use Rattle.wf_octets.specs.BlockLayout.{head_octets, answer, fragment_of}
 use Rattle.wf_octets.specs.declared.block.frames.Bar.{Bar}
 use Rattle.wf_send_parts.specs.Window.{on_air}
 
@@ -25,5 +25,5 @@ bitmap_octets words = flat_map (little_bytes 8) words
 -- A BlockAck of 64 numbers, with one word, or a wide one of 256 numbers, with four.
 abbrev pub block_ack_frame : ℕ → ℕ → ℕ → List ℕ → Bool → List ℕ
 block_ack_frame s t start words wide =
-    head_octets answer (if wide then wide_form else narrow_form) (block_ack_head s t start)
+    head_octets answer (fragment_of wide) (block_ack_head s t start)
     ++ bitmap_octets words

@@ -255,6 +255,8 @@ pub fn print_reply(answer: &Answer, out: &mut Line)
         Brief::Polled { class } => out.push_line(b"polled", &[Word::Text(class.word())]),
         Brief::Charged { deficit } => out.push_line(b"charged", &[Word::Signed(deficit)]),
         Brief::Reaped { id, fate } => push_reaped(out, id, fate),
+        Brief::Stopped => out.push_line(b"stopped", &[]),
+        Brief::Started => out.push_line(b"started", &[]),
         Brief::Refused(refusal) => push_refusal(out, refusal),
     }
 }

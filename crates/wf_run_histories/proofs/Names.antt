@@ -1,16 +1,17 @@
 -- Proves that an exchange that a reply names has begun by then. By cases of the call.
 use Rattle.std.proofs.Common.{◌≡◌, ℕ, ◌<◌, ◌≤◌, Bool, true, false, if◌then◌else◌, List, [], ◌∷◌, Option, Some, None, refl, sym, ◌∙◌, subst, arith}
 use Rattle.wf_frame.specs.declared.classes.Class.{Class}
-use Rattle.wf_frame.specs.declared.notes.Ask.TheVariants.{Join, Leave, Rate, Tick, Pull, Arrive, Answer, Done, Sleep, Wake, Poll, Rx, Reap}
+use Rattle.wf_frame.specs.declared.notes.Ask.TheVariants.{Join, Leave, Rate, Tick, Pull, Arrive, Answer, Done, Sleep, Wake, Poll, Rx, Reap, Ampdu, Stop, Start}
+use Rattle.wf_frame.specs.declared.notes.Limits.{Limits}
 use Rattle.wf_frame.specs.declared.notes.Note.{Note}
 use Rattle.wf_frame.specs.declared.notes.Note.TheVariants.{Enqueue, Asked}
 use Rattle.wf_frame.specs.declared.notes.Refusal.{Refusal}
 use Rattle.wf_frame.specs.declared.notes.ReplyNote.{ReplyNote}
 use Rattle.wf_frame.specs.declared.notes.ReplyNote.TheVariants.{Send}
 use Rattle.wf_frame.specs.Classes.{all_classes}
-use Rattle.wf_def_world.specs.World.{World, Exchange, exchange, with_station, on_station, with_rotation}
+use Rattle.wf_def_world.specs.World.{World, Exchange, exchange, with_bounds, with_station, on_station, with_rotation}
 use Rattle.wf_def_world.specs.CanSend.{with_listing_in, with_listings_in, with_listings_of}
-use Rattle.wf_def_world.specs.Exchanges.{Prepared, picked_station, after_pick, with_exchange_opened, without_credit}
+use Rattle.wf_def_world.specs.Exchanges.{Prepared, picked_station, after_pick, bounds_of, with_exchange_opened, without_credit}
 use Rattle.wf_def_world.specs.Refusals.{refusal}
 use Rattle.wf_def_world.specs.Step.{Outcome, join_outcome, leave_outcome, rate_outcome, tick_outcome, enqueue_outcome, send_outcome, pull_outcome_for, pull_outcome, arrive_outcome, answer_outcome, done_outcome, outcome_where_open, sleep_outcome, wake_outcome, poll_outcome, rx_outcome, reap_outcome, outcome_of, concerned_station, judged_outcome, step}
 
@@ -32,9 +33,10 @@ unfolding pull_outcome_for
 own_pulled_by None w c = tt
 own_pulled_by (Some s) w c = own_sent s _ c _
 
-own_pulled : (w : World) (c : Class) → NamesOwn (pull_outcome w c)
+own_pulled : (w : World) (c : Class) (l : Limits) → NamesOwn (pull_outcome w c l)
 unfolding pull_outcome
-own_pulled w c = own_pulled_by (picked_station w c).winner (after_pick w c) c
+own_pulled w c l =
+    own_pulled_by (picked_station w c).winner (with_bounds (after_pick w c) (bounds_of w.config c l)) c
 
 own_open : (o : Option Exchange) (w : World) (f : Exchange → Outcome) → ((x : Exchange) → NamesOwn (f x)) →
     NamesOwn (outcome_where_open w o f)
@@ -67,7 +69,7 @@ own_outcome (Asked (Join s window start exponent weight)) w = tt
 own_outcome (Asked (Leave s)) w = tt
 own_outcome (Asked (Rate s rate)) w = tt
 own_outcome (Asked (Tick by)) w = tt
-own_outcome (Asked (Pull c)) w = own_pulled w c
+own_outcome (Asked (Pull c l)) w = own_pulled w c l
 own_outcome (Asked (Arrive e i)) w = own_open (exchange w e) w _ (λ x. own_arrived w x i)
 own_outcome (Asked (Answer e)) w = own_open (exchange w e) w _ (λ x. own_answered w x)
 own_outcome (Asked (Done e heard air)) w = own_open (exchange w e) w _ (λ x. own_done w x heard air)
@@ -76,6 +78,9 @@ own_outcome (Asked (Wake s)) w = tt
 own_outcome (Asked (Poll s)) w = tt
 own_outcome (Asked (Rx s c air)) w = tt
 own_outcome (Asked Reap) w = own_reaped w.finished w
+own_outcome (Asked (Ampdu s octets)) w = tt
+own_outcome (Asked (Stop s)) w = tt
+own_outcome (Asked (Start s)) w = tt
 
 -- Listing a station begins no exchange.
 same_if : (b : Bool) (u w : World) → u.exchanges ≡ w.exchanges → (if b then u else w).exchanges ≡ w.exchanges

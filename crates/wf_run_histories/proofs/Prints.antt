@@ -6,6 +6,7 @@ use Rattle.std.proofs.lemmas.List.Elements.{All-nil, All-cons, All-head, All-tai
 use Rattle.rand_pcg.specs.Lcg.{Lcg}
 use Rattle.wf_frame.specs.declared.settings.Config.{Config}
 use Rattle.wf_frame.specs.declared.classes.Class.{Class}
+use Rattle.wf_frame.specs.Calls.{no_limits}
 use Rattle.wf_frame.specs.declared.notes.Ask.TheVariants.{Tick, Pull, Arrive, Answer, Done, Reap}
 use Rattle.wf_frame.specs.declared.notes.Note.{Note}
 use Rattle.wf_frame.specs.declared.notes.Note.TheVariants.{Asked}
@@ -115,7 +116,7 @@ some_is a b is = cc
 printed_next : (class : Class) (phase : Phase) (note : Note) → Fits phase → call_in class phase ≡ Some note →
     IsPrintable note
 printed_next class Ticks note fits is = subst IsPrintable (some_is (Asked (Tick 0)) note is) (tt, tt)
-printed_next class (Pulls shown) note fits is = subst IsPrintable (some_is (Asked (Pull class))
+printed_next class (Pulls shown) note fits is = subst IsPrintable (some_is (Asked (Pull class no_limits))
     note is) (tt, tt)
 printed_next class (Owes []) note fits is = subst IsPrintable (some_is (Asked Reap) note is) tt
 printed_next class (Owes (call ∷ calls)) note fits is =

@@ -3,6 +3,7 @@ use Rattle.std.proofs.Common.{◌==◌, ◌-◌, ◌+◌, ◌/◌, ◌%◌, ℕ,
 use Rattle.std.specs.Prelude.{Option, Some, None}
 use Rattle.wf_frame.specs.declared.classes.Class.{Class}
 use Rattle.wf_frame.specs.declared.notes.Ask.{Ask}
+use Rattle.wf_frame.specs.Calls.{no_limits}
 use Rattle.wf_frame.specs.declared.notes.Ask.TheVariants.{Tick, Pull, Arrive, Answer, Sleep, Wake, Poll, Rx, Reap}
 use Rattle.wf_frame.specs.declared.classes.Class.TheVariants.{Be}
 use Rattle.wf_frame.specs.declared.notes.Note.{Note}
@@ -85,8 +86,8 @@ followed None k before = before
 followed (Some exchange) k before = played exchange.0 exchange.1 k before
 
 pulled : (c : Class) (k : Soak) → Keeps k → Keeps (after_pull c k)
-pulled c k before = followed (sending (reply_to (Asked (Pull c)) k)) (call (Asked (Pull c)) k)
-    (asked (Pull c) k before)
+pulled c k before = followed (sending (reply_to (Asked (Pull c no_limits)) k)) (call (Asked (Pull c no_limits)) k)
+    (asked (Pull c no_limits) k before)
 
 reaped : (n : ℕ) (k : Soak) → Keeps k → Keeps (after_reaps n k)
 unfolding after_reaps

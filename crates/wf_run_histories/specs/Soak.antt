@@ -7,6 +7,7 @@ use Rattle.rand_pcg.specs.Pcg.{pcg32, multiplier_64}
 use Rattle.wf_frame.specs.Settings.{standard}
 use Rattle.wf_frame.specs.declared.classes.Class.{Class}
 use Rattle.wf_frame.specs.declared.classes.Class.TheVariants.{Bk, Be, Vi, Vo}
+use Rattle.wf_frame.specs.Calls.{no_limits}
 use Rattle.wf_frame.specs.declared.notes.Ask.TheVariants.{Tick, Pull, Arrive, Answer, Done, Sleep, Wake, Poll, Rx, Reap}
 use Rattle.wf_frame.specs.declared.notes.Note.{Note}
 use Rattle.wf_frame.specs.declared.notes.Note.TheVariants.{Enqueue, Asked}
@@ -126,7 +127,7 @@ abbrev pub class_in_round : ℕ → Class
 class_in_round r = at Vo (Bk ∷ Be ∷ Vi ∷ []) (r % 4)
 
 abbrev pub after_pull : Class → Soak → Soak
-after_pull c k = sending_played (sending (reply_to (Asked (Pull c)) k)) (call (Asked (Pull c)) k)
+after_pull c k = sending_played (sending (reply_to (Asked (Pull c no_limits)) k)) (call (Asked (Pull c no_limits)) k)
 
 -- Reaps until no finished frame or no call is left, at most n times.
 abbrev pub is_nothing : Option ReplyNote → Bool

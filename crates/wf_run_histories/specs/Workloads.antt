@@ -6,6 +6,7 @@ use Rattle.rand_pcg.specs.Lcg.{Lcg, started, increment_of}
 use Rattle.rand_pcg.specs.Pcg.{pcg32, multiplier_64}
 use Rattle.wf_frame.specs.declared.classes.Class.{Class}
 use Rattle.wf_frame.specs.declared.notes.Ask.{Ask}
+use Rattle.wf_frame.specs.Calls.{no_limits}
 use Rattle.wf_frame.specs.declared.notes.Ask.TheVariants.{Tick, Pull, Arrive, Answer, Done, Reap}
 use Rattle.wf_frame.specs.declared.notes.Note.{Note}
 use Rattle.wf_frame.specs.declared.notes.Note.TheVariants.{Enqueue, Asked}
@@ -103,7 +104,7 @@ pub record Driver : Type 0 where
 -- The next call, until the driver has ended.
 abbrev pub call_in : Class → Phase → Option Note
 call_in class Ticks = Some (Asked (Tick 0))
-call_in class (Pulls shown) = Some (Asked (Pull class))
+call_in class (Pulls shown) = Some (Asked (Pull class no_limits))
 call_in class (Owes []) = Some (Asked Reap)
 call_in class (Owes (call ∷ calls)) = Some call
 call_in class Ends = None

@@ -14,7 +14,7 @@ use Rattle.wf_frame.specs.Classes.{class_named}
 use Rattle.wf_def_lists.specs.Lengths.{greatest_body}
 use Rattle.wf_trace.specs.Faults.{earlier_fault, first_fault}
 use Rattle.wf_trace.specs.Words.{number_of, in_range}
-use Rattle.wf_trace.specs.Grammar.{air_word, among, absent_arg, behind, both, read_arg, result_seen, read_args}
+use Rattle.wf_trace.specs.Grammar.{air_word, frames_word, among, absent_arg, behind, both, read_arg, result_seen, read_args}
 use Rattle.wf_trace.specs.Notes.{long_in}
 
 pub earlier_assoc : (a b c : FaultKind) → earlier_fault a (earlier_fault b c)
@@ -95,6 +95,11 @@ air_kind : (b : Bool) (v : Value) → among (if b then Some value.Air else None)
 air_kind true v is = let same : value.Air ≡ v = cc in subst (IsOfKind kind.Air) same tt
 air_kind false v is = absurd (cc)
 
+frames_kind : (b : Bool) (v : Value) → among (if b then Some value.Frames else None) ≡ Ok v →
+    IsOfKind kind.Frames v
+frames_kind true v is = let same : value.Frames ≡ v = cc in subst (IsOfKind kind.Frames) same tt
+frames_kind false v is = absurd (cc)
+
 pub kind_read : (arg : Arg) (word : List ℕ) (v : Value) → read_arg arg word ≡ Ok v → IsOfKind arg v
 kind_read kind.Short word v is =
     number_kind 0 65535 value.Short (IsOfKind kind.Short) (number_of word) v (λ n low high. omega arith) is
@@ -120,6 +125,7 @@ kind_read kind.Guard word v is = word_kind value.Guard (IsOfKind kind.Guard) _ v
 kind_read kind.Heard word v is = word_kind value.Heard (IsOfKind kind.Heard) _ v (λ x. tt) is
 kind_read kind.End word v is = word_kind value.End (IsOfKind kind.End) _ v (λ x. tt) is
 kind_read kind.Air word v is = air_kind (bytes_eq air_word word) v is
+kind_read kind.Frames word v is = frames_kind (bytes_eq frames_word word) v is
 
 -- only a weight may be left out
 kind_absent : (arg : Arg) (v : Value) → absent_arg arg ≡ Ok v → IsOfKind arg v

@@ -12,7 +12,7 @@ use Rattle.wf_frame.specs.declared.classes.Class.{Class}
 use Rattle.wf_frame.specs.declared.classes.Class.TheVariants.{Bk, Be, Vi, Vo}
 use Rattle.wf_frame.specs.declared.notes.Note.{Note}
 use Rattle.wf_frame.specs.declared.notes.Note.TheVariants.{Asked}
-use Rattle.wf_frame.specs.declared.notes.Ask.TheVariants.{Rate, Done}
+use Rattle.wf_frame.specs.declared.notes.Ask.TheVariants.{Rate, Pull, Done}
 use Rattle.wf_frame.specs.declared.notes.AskedRate.TheVariants.{Ht}
 use Rattle.wf_frame.specs.Classes.{class_word}
 use Rattle.wf_def_lists.specs.Lengths.{greatest_body}
@@ -26,14 +26,14 @@ use Rattle.wf_frame.specs.declared.calls.RateFormat.TheVariants as format
 use Rattle.wf_frame.specs.declared.calls.Arg.{Arg}
 use Rattle.wf_frame.specs.declared.calls.Arg.TheVariants as arg
 use Rattle.wf_frame.specs.declared.calls.Value.{Value}
-use Rattle.wf_frame.specs.declared.calls.Value.TheVariants.{Short, Octet, Long, Exchange, Class as TheClass, Format, Guard, Heard, Air, End}
+use Rattle.wf_frame.specs.declared.calls.Value.TheVariants.{Short, Octet, Long, Exchange, Class as TheClass, Format, Guard, Heard, Air, Frames, End}
 use Rattle.wf_trace.specs.declared.meaning.Place.{Place}
 use Rattle.wf_trace.specs.declared.meaning.Meaning.TheVariants.{Entry}
 use Rattle.wf_trace.specs.Lines.{is_printable}
 use Rattle.wf_trace.specs.Words.{words, parts, in_front, is_word, is_number, number_of, in_range}
 use Rattle.wf_frame.specs.declared.calls.Argument.{Argument}
 use Rattle.wf_frame.specs.declared.calls.Argument.TheVariants as argument
-use Rattle.wf_frame.specs.Calls.{arguments_of, args_of, call_word, default_of, format_word, format_named, note_form, argument_kind, note_values, IsOfKind, AreOfKinds}
+use Rattle.wf_frame.specs.Calls.{arguments_of, args_of, call_word, default_of, format_word, format_named, note_form, form_of_limits, limits, argument_kind, note_values, IsOfKind, AreOfKinds}
 use Rattle.wf_frame.proofs.TableLaws.{made_again}
 use Rattle.wf_trace.specs.Grammar.{read_arg, read_args, guard_word, heard_word, long_most}
 use Rattle.wf_trace.specs.Notes.{in_form, read_call}
@@ -240,6 +240,9 @@ heard_told false = record { read = refl; plain = (refl, refl); short = omega ari
 air_told : IsTold arg.Air Air
 air_told = record { read = refl; plain = (refl, refl); short = omega arith }
 
+frames_told : IsTold arg.Frames Frames
+frames_told = record { read = refl; plain = (refl, refl); short = omega arith }
+
 end_told : (b : Bool) → IsTold arg.End (End b)
 end_told true = record { read = refl; plain = (refl, refl); short = omega arith }
 end_told false = record { read = refl; plain = (refl, refl); short = omega arith }
@@ -269,6 +272,7 @@ kind_told arg.Format (Format f) small is = format_told f
 kind_told arg.Guard (Guard b) small is = guard_told b
 kind_told arg.Heard (Heard b) small is = heard_told b
 kind_told arg.Air Air small is = air_told
+kind_told arg.Frames Frames small is = frames_told
 kind_told arg.End (End b) small is = end_told b
 kind_told (arg.Number low high) (Long n) small is =
     let most : high ≤ 4294967295 = grind (arith, nat_tests) in
@@ -367,10 +371,20 @@ texts_read (a ∷ b ∷ args) (v ∷ values) last told =
     told_plainly a (b ∷ args) (words_of_values (b ∷ args) values) v values
     (no_default (default_of a) both.0) told.0 (texts_read (b ∷ args) values both.1 told.1)
 
+-- a pull has the words of its limits
+pull_read : (c : Class) (frames air : Option ℕ) → read_call (note_words (Asked (Pull c (limits frames air))))
+    ≡ in_form (form_of_limits frames air) (words_of_values (args_of (form_of_limits frames air))
+    (note_values (Asked (Pull c (limits frames air)))))
+pull_read c None None = refl
+pull_read c (Some n) None = refl
+pull_read c None (Some air) = refl
+pull_read c (Some n) (Some air) = refl
+
 -- a rate without a format has a number in its place; the last line covers all other calls
 form_read : (note : Note) → NumbersAreInRange note → read_call (note_words note)
     ≡ in_form (note_form note) (words_of_values (args_of (note_form note)) (note_values note))
 form_read (Asked (Rate station (Ht mcs mhz short))) r = rw (number_format mcs r.1.0) refl
+form_read (Asked (Pull c l)) r = pull_read c l.frames l.air
 form_read (Asked (Done exchange heard None)) r = refl
 form_read note r = refl
 

@@ -4,11 +4,11 @@ use Rattle.std.specs.Str.{bytes_eq}
 use Rattle.wf_trace.specs.declared.fault.FaultKind.{FaultKind}
 use Rattle.wf_trace.specs.declared.fault.FaultKind.TheVariants as kind
 use Rattle.wf_frame.specs.declared.calls.CallForm.{CallForm}
-use Rattle.wf_frame.specs.declared.calls.CallForm.TheVariants.{Rate, RateVht, RateHe, Done, DoneAir}
+use Rattle.wf_frame.specs.declared.calls.CallForm.TheVariants.{Rate, RateVht, RateHe, Pull, PullFrames, PullAir, PullLimited, Done, DoneAir}
 use Rattle.wf_frame.specs.declared.calls.RateFormat.{RateFormat}
 use Rattle.wf_frame.specs.declared.calls.RateFormat.TheVariants.{Vht, He}
 use Rattle.wf_frame.specs.declared.calls.Arg.{Arg}
-use Rattle.wf_frame.specs.declared.calls.Arg.TheVariants.{Short, Octet, Long, Exchange, Length, Weight, Class, Format, Guard, Heard, Air, Number, End}
+use Rattle.wf_frame.specs.declared.calls.Arg.TheVariants.{Short, Octet, Long, Exchange, Length, Weight, Class, Format, Guard, Heard, Air, Frames, Number, End}
 use Rattle.wf_frame.specs.declared.calls.Value.{Value}
 use Rattle.wf_frame.specs.declared.calls.Value.TheVariants as value
 use Rattle.wf_def_lists.specs.Lengths.{greatest_body}
@@ -23,18 +23,36 @@ rate_form None = Rate
 rate_form (Some Vht) = RateVht
 rate_form (Some He) = RateHe
 
--- the word before the airtime of a `done`
+-- the word before the airtime of a `done`, or the one that a `pull` allows
 abbrev pub air_word : List ℕ
 air_word = codes "air"
+
+-- the word before the number of frames that a `pull` allows
+abbrev pub frames_word : List ℕ
+frames_word = codes "frames"
+
+-- the form of a `pull` line that has a limit on frames, by its words after `frames`
+abbrev pub frames_form : List (List ℕ) → CallForm
+frames_form (frames ∷ word ∷ words) = if bytes_eq air_word word then PullLimited else PullFrames
+frames_form words = PullFrames
+
+-- the form of a `pull` line, by its words after the class: it may have a limit on frames, one on airtime, or
+-- both in this order
+abbrev pub pull_form : List (List ℕ) → CallForm
+pull_form (word ∷ words) =
+    if bytes_eq frames_word word then frames_form words
+    else (if bytes_eq air_word word then PullAir else Pull)
+pull_form [] = Pull
 
 -- the form of a `done` line, by its word after the other arguments
 abbrev pub done_form : List ℕ → CallForm
 done_form word = if bytes_eq air_word word then DoneAir else Done
 
 -- the form of a call's line, by its words after the first: the second argument of a rate may be a format,
--- and the third of a `done` may be `air`
+-- that of a `pull` `frames` or `air`, and the third of a `done` `air`
 abbrev pub call_form : CallForm → List (List ℕ) → CallForm
 call_form Rate (station ∷ format ∷ words) = rate_form (format_named format)
+call_form Pull (class ∷ words) = pull_form words
 call_form Done (exchange ∷ heard ∷ word ∷ words) = done_form word
 call_form call words = call
 
@@ -73,6 +91,7 @@ known_value Heard word =
 known_value End word =
     option_map value.End (find (λ recipient. bytes_eq (end_word recipient) word) (false ∷ true ∷ []))
 known_value Air word = if bytes_eq air_word word then Some value.Air else None
+known_value Frames word = if bytes_eq frames_word word then Some value.Frames else None
 known_value _ word = None
 
 -- a result with f applied to its value

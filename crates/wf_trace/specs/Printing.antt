@@ -9,7 +9,7 @@ use Rattle.wf_frame.specs.Classes.{class_word}
 use Rattle.wf_frame.specs.Words.{line}
 use Rattle.wf_frame.specs.Calls.{args_of, call_word, default_of, note_form, format_word, note_values}
 pub use Rattle.wf_frame.specs.Calls.{IsPrintable, NumbersAreInRange}
-use Rattle.wf_trace.specs.Grammar.{guard_word, heard_word, end_word, air_word}
+use Rattle.wf_trace.specs.Grammar.{guard_word, heard_word, end_word, air_word, frames_word}
 
 -- the word of a value
 abbrev pub value_word : Value → List ℕ
@@ -22,6 +22,7 @@ value_word (value.Format format) = format_word format
 value_word (value.Guard short) = guard_word short
 value_word (value.Heard heard) = heard_word heard
 value_word value.Air = air_word
+value_word value.Frames = frames_word
 value_word (value.End recipient) = end_word recipient
 
 -- whether a value is left out: it equals the default of its argument. Only a number of 8 bits has a

@@ -29,6 +29,7 @@ fn known(arg: Arg, word: &[u8]) -> Option<Value>
         (Arg::Heard, b"heard") => Some(Value::Heard(true)),
         (Arg::Heard, b"lost") => Some(Value::Heard(false)),
         (Arg::Air, b"air") => Some(Value::Air),
+        (Arg::Frames, b"frames") => Some(Value::Frames),
         (Arg::End, b"a") => Some(Value::End(false)),
         (Arg::End, b"b") => Some(Value::End(true)),
         _ => None,
@@ -46,9 +47,8 @@ fn read_one(arg: Arg, word: &[u8]) -> Result<Value, FaultKind>
         Arg::Exchange => Ok(Value::Exchange(u64::from(in_range(0, u32::MAX, word)?))),
         Arg::Number { low, high } => Ok(Value::Long(in_range(low, high, word)?)),
         Arg::Length => Ok(Value::Short(in_range(1, u32::from(GREATEST_BODY), word)? as u16)),
-        Arg::Class | Arg::Format | Arg::Guard | Arg::Heard | Arg::Air | Arg::End => known(
-            arg, word,
-        ).ok_or(FaultKind::Word),
+        Arg::Class | Arg::Format | Arg::Guard | Arg::Heard | Arg::Air | Arg::Frames | Arg::End =>
+            known(arg, word).ok_or(FaultKind::Word),
     }
 }
 

@@ -2,7 +2,7 @@
 
 ghost use Rattle.std.specs.Prelude.{◌≡◌, ◌∷◌};
 ghost use Rattle.wf_trace.specs.Words.{words};
-ghost use Rattle.wf_trace.specs.Grammar.{call_form};
+ghost use Rattle.wf_trace.specs.Grammar.{call_form, frames_form};
 ghost use Rattle.wf_trace.specs.Meanings.{entry_of, caller_of, caller_first, meant, HasRoomForLine};
 
 use crate::args::read_named;
@@ -46,6 +46,41 @@ fn rate_form(line: &[u8]) -> CallForm
     }
 }
 
+// Returns the form of a `pull` line that has a limit on frames, given its words after `frames`. The second of
+// them may be `air`.
+fn frames_form(line: &[u8]) -> CallForm
+    ensures { result ≡ frames_form (words line.now) }
+{
+    let Some((_, rest)) = next_word(line) else {
+        return CallForm::PullFrames;
+    };
+    let Some((word, _)) = next_word(rest) else {
+        return CallForm::PullFrames;
+    };
+    match word {
+        b"air" => CallForm::PullLimited,
+        _ => CallForm::PullFrames,
+    }
+}
+
+// Returns the form of a `pull` line, given its words after the first. The second of them may be `frames` or
+// `air`.
+fn pull_form(line: &[u8]) -> CallForm
+    ensures { result ≡ call_form CallForm.Pull (words line.now) }
+{
+    let Some((_, rest)) = next_word(line) else {
+        return CallForm::Pull;
+    };
+    let Some((word, rest)) = next_word(rest) else {
+        return CallForm::Pull;
+    };
+    match word {
+        b"frames" => frames_form(rest),
+        b"air" => CallForm::PullAir,
+        _ => CallForm::Pull,
+    }
+}
+
 // Returns the form of a `done` line, given its words after the first. The third of them may be `air`.
 fn done_form(line: &[u8]) -> CallForm
     ensures { result ≡ call_form CallForm.Done (words line.now) }
@@ -75,6 +110,7 @@ fn call(caller: u32, place: Option<Place>, name: &[u8], line: &[u8]) -> Result<M
     };
     let form = match call {
         CallForm::Rate => rate_form(line),
+        CallForm::Pull => pull_form(line),
         CallForm::Done => done_form(line),
         _ => call,
     };

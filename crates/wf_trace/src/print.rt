@@ -55,6 +55,7 @@ fn word_of(value: Value) -> Word
         Value::Guard(short) => Word::Text(guard_word(short)),
         Value::Heard(heard) => Word::Text(heard_word(heard)),
         Value::Air => Word::Text(b"air"),
+        Value::Frames => Word::Text(b"frames"),
         Value::End(recipient) => Word::Text(end_word(recipient)),
     }
 }

@@ -58,6 +58,9 @@ A trace is a head, then calls, then the line end:
   tick MICROSECONDS               0..4294967295
   enq S TID FLOW LENGTH           TID, 0..255; flow, 0..4294967295; octets, 1..2304
   pull CLASS                      bk, be, vi or vo
+  pull CLASS frames N             and at most N frames, 1..65535
+  pull CLASS air MICROSECONDS     and at most this airtime, 1..4294967295
+  pull CLASS frames N air MICROSECONDS     and both limits
   arrive EXCHANGE INDEX           exchange, 0..4294967295; index, 0..65535
   answer EXCHANGE
   done EXCHANGE HEARD             heard or lost
@@ -67,12 +70,16 @@ A trace is a head, then calls, then the line end:
   poll S
   rx S CLASS MICROSECONDS
   reap
+  ampdu S OCTETS                  octets, 0..4294967295
+  stop S
+  start S
   end
 
 Settings: stations=1..256 flows=1..4096 limit=1..65535 room=1..131072 flow_quantum=64..65535
 quantum=100..10000 inflight=1..8 attempts=1..64 agg=1..256 cap=3000..5400 sleeping=1..65535
 calls=1..4294967295 charge=0..65535 debt=0..1000000 aql_total=0..262144 keep_order=0..1
-codel_reset=0..1 aql=0..262144 pending=0..1
+codel_reset=0..1 aql=0..262144 pending=0..1 overhead=0..32 cap_vi=0..5400 cap_vo=0..5400
+answers=0..1 credits=0..1
 
 Words are separated by spaces. A line that begins with #, after any spaces, is a comment and
 is skipped. A call line may begin with its caller, @0 to @65535. A number has 1 to 10 decimal

@@ -2,6 +2,7 @@
 
 ghost use Rattle.std.specs.Prelude.{◌≡◌, ◌-◌, ◌%◌, ◌≤◌, ◌<◌, IfOk, OnOk, Some, None, length, if◌then◌else◌};
 ghost use Rattle.wf_frame.specs.Answers.{reply_of};
+ghost use Rattle.wf_frame.specs.Calls.{no_limits};
 ghost use Rattle.wf_frame.specs.Settings.{standard};
 ghost use Rattle.wf_frame.specs.declared.notes.Ask.TheVariants.{Pull, Reap};
 ghost use Rattle.wf_frame.specs.declared.notes.Note.TheVariants.{Asked};
@@ -15,7 +16,7 @@ use rand_pcg::Lcg64Xsh32;
 use std::alloc::{AllocError, Global};
 use std::marker::Model;
 use wf_cell::{Cell, Job};
-use wf_frame::{Answer, Ask, Brief, Class, Config, Frame, Refusal};
+use wf_frame::{Answer, Ask, Brief, Class, Config, Frame, Limits, Refusal};
 use wf_queue_parts::chain::Parcel;
 
 /// A soak in progress: the cell with the calls so far, the generator of random words, and the number of calls
@@ -256,11 +257,12 @@ impl SoakRun {
     /// Pulls a class if a call is left. Returns the number of the exchange that this begins, and its number
     /// of transmissions.
     fn pull(&mut self, class: Class, answer: &mut Answer) -> Option<(u64, u16)>
-        ensures made { self.new ≡ call (Asked (Pull class)) self.old }
-        ensures sending { result ≡ sending (reply_to (Asked (Pull class)) self.old) }
+        ensures made { self.new ≡ call (Asked (Pull class no_limits)) self.old }
+        ensures sending { result ≡ sending (reply_to (Asked (Pull class no_limits)) self.old) }
         ensures later { IsLater self.old self.new }
     {
-        if self.ask(Ask::Pull { class }, answer) {
+        let limits = Limits::NONE;
+        if self.ask(Ask::Pull { class, limits }, answer) {
             sending(answer)
         } else {
             None

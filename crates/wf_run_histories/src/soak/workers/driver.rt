@@ -13,7 +13,7 @@ ghost use Rattle.wf_run_histories.specs.Workloads.Phase.{Ticks, Pulls, Owes, End
 use crate::soak::workers::desk::{Desk, Spent};
 use rand_core::utils::NextWord;
 use rand_pcg::Lcg64Xsh32;
-use wf_frame::{Answer, Ask, Brief, Class, Refusal};
+use wf_frame::{Answer, Ask, Brief, Class, Limits, Refusal};
 
 /// The stream of random words of the first driver.
 const FIRST_STREAM: u64 = 1000;
@@ -111,7 +111,10 @@ impl DriverRun {
             (playing (at self.now (Pulls clock)) r.0 r.1)) }
         ensures spent { OnErr result (Stops D.has D.left desk.old desk.new (at self.now (Pulls clock))) }
     {
-        desk.ask(Ask::Pull { class: self.class })?;
+        desk.ask(Ask::Pull {
+            class: self.class,
+            limits: Limits::NONE,
+        })?;
         Ok(pulled(desk.answer(), self.senders, clock))
     }
 
