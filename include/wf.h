@@ -99,10 +99,10 @@ extern "C" {
 /* The values that functions of type int32_t return, except wf_path_live, wf_path_can_pull, wf_path_listed and
  * wf_path_has_small_counts. 0 means success. Any other code says why nothing has changed: neither what the
  * handle holds, nor the caller's structs and buffers. There are these exceptions:
- * - `reply` shows the refusal, if the code is 1 to 28, unless the comment of the function says that it is
+ * - `reply` shows the refusal, if the code is 1 to 31, unless the comment of the function says that it is
  *   unchanged;
  * - after a code of wf_path_burst or wf_cell_burst the first `made` calls are made;
- * - WF_FULL, WF_AHEAD and WF_IDLE set the count of wf_path_pull's `frames` to 0;
+ * - WF_FULL, WF_AHEAD and WF_IDLE set the count of `frames` of wf_path_pull and wf_path_pull_limited to 0;
  * - WF_IDLE may have changed something of the path or the cell, unless the setting `pending` is 1;
  * - a refused call of a cell is an entry of its history, except after WF_HISTORY_FULL;
  * - after each refusal of a cell, also WF_HISTORY_FULL, wf_cell_frames and wf_cell_released write the count 0,
@@ -150,6 +150,9 @@ enum wf_code {
   WF_BAD_WEIGHT = 27,   /* the weight is not 1 to 16 */
   WF_AHEAD = 28,        /* `air` microseconds of computed airtime are in flight in all classes:
                          * `aql_total` or more */
+  WF_BAD_AMPDU = 29,    /* the greatest aggregate is not 4,096 to 6,500,631 octets */
+  WF_STOPPED = 30,      /* the station is stopped already */
+  WF_STARTED = 31,      /* the station is not stopped */
   /* end refusals */
   /* other codes */
   WF_NO_MEMORY = 40,    /* out of memory */
@@ -162,12 +165,12 @@ enum wf_code {
                          * body from its owner's buffer */
   WF_BAD_CLASS = 47,    /* the class is above 3 */
   /* why octets are not a BlockAck to the exchange */
-  WF_BLOCK_LENGTH = 51, /* not 28 octets, or, if the window is above 64, not 52 */
+  WF_BLOCK_LENGTH = 51, /* not 28 octets, nor, if the window is above 64, 52 */
   WF_BLOCK_KIND = 52,   /* not a BlockAck */
   WF_BLOCK_BASIC = 53,  /* not compressed */
   WF_BLOCK_MULTI = 54,  /* for several TIDs */
-  WF_BLOCK_FRAGMENT = 55, /* its fragment number is not 0 */
-  WF_BLOCK_NARROW = 56, /* the window is above 64, and the bitmap does not have 256 bits */
+  WF_BLOCK_FRAGMENT = 55, /* its fragment number is not 0, or, of 52 octets, not 4 */
+  WF_BLOCK_NARROW = 56, /* of 52 octets, and its fragment number is 0, that of 64 bits */
   WF_NOT_MINE = 57,     /* not to the access point, or not from the exchange's station */
   WF_WRONG_TID = 58,    /* for another TID */
   /* wf_path_make, wf_cell_make: 100 plus the place, counted from 1, of the first setting that is out of its
@@ -200,7 +203,7 @@ enum wf_fate {
 enum wf_kind {
   WF_KIND_JOINED = 0,
   WF_KIND_LEFT = 1,      /* count: the number of frames that were dropped */
-  WF_KIND_SET = 2,       /* the rate is set */
+  WF_KIND_SET = 2,       /* the rate or the greatest aggregate is set */
   WF_KIND_NOW = 3,       /* now */
   WF_KIND_ACCEPTED = 4,  /* id; dropped, if has_dropped is 1 */
   WF_KIND_SEND = 5,      /* exchange, station, tid, air, more; start, if request is 1 */
@@ -212,11 +215,14 @@ enum wf_kind {
   WF_KIND_POLLED = 11,   /* class_ */
   WF_KIND_CHARGED = 12,  /* deficit */
   WF_KIND_REAPED = 13,   /* id, fate */
-  WF_KIND_REFUSED = 14   /* refusal; count, deficit or air, if the refusal has one */
+  WF_KIND_REFUSED = 14,  /* refusal; count, deficit or air, if the refusal has one */
+  WF_KIND_STOPPED = 15,
+  WF_KIND_STARTED = 16
 };
 
 /* The calls of a cell, each with the fields of `struct wf_call` that have a meaning. The other fields are 0
- * in an entry that is read, and are ignored in a call that is made. A call has the number of its answer. */
+ * in an entry that is read, and are ignored in a call that is made. A call has the number of its answer, but
+ * WF_CALL_AMPDU is answered with WF_KIND_SET. */
 enum wf_call_kind {
   /* begin calls: tools/tables writes these lines; the comments stay */
   WF_CALL_JOIN = 0,    /* station, window, start, exponent, weight */
@@ -225,7 +231,7 @@ enum wf_call_kind {
                         * HE: guard and streams */
   WF_CALL_TICK = 3,    /* by */
   WF_CALL_ENQUEUE = 4, /* station, tid, flow, length; made by wf_cell_enqueue, or in a burst */
-  WF_CALL_PULL = 5,    /* class_ */
+  WF_CALL_PULL = 5,    /* class_; frames and air, each 0 if it limits nothing */
   WF_CALL_ARRIVE = 6,  /* exchange, index */
   WF_CALL_ANSWER = 7,  /* exchange */
   WF_CALL_DONE = 8,    /* exchange, heard; air, or 0 if no airtime is given */
@@ -233,7 +239,10 @@ enum wf_call_kind {
   WF_CALL_WAKE = 10,   /* station */
   WF_CALL_POLL = 11,   /* station */
   WF_CALL_RX = 12,     /* station, class_, air */
-  WF_CALL_REAP = 13    /* made by wf_cell_reap, or in a burst */
+  WF_CALL_REAP = 13,   /* made by wf_cell_reap, or in a burst */
+  WF_CALL_AMPDU = 14,  /* station, octets */
+  WF_CALL_STOP = 15,   /* station */
+  WF_CALL_START = 16   /* station */
   /* end calls */
 };
 
@@ -280,7 +289,17 @@ struct wf_settings {
                           * microseconds; 0 means no limit [0..262144] */
   uint32_t pending;      /* whether the airtime in flight counts against a station when a pull
                           * picks one [0..1] */
-  uint32_t reserved[13]; /* for later settings: each has to be 0 */
+  uint32_t overhead;     /* octets of encryption that each MPDU has in addition to its header,
+                          * body and check sequence [0..32] */
+  uint32_t cap_vi;       /* data time of one aggregate of `vi`, microseconds; 0 means `cap`
+                          * [0..5400] */
+  uint32_t cap_vo;       /* data time of one aggregate of `vo`, microseconds; 0 means `cap`
+                          * [0..5400] */
+  uint32_t answers;      /* whether BlockAcks and BlockAckReqs go at 6, 12 or 24 Mbit/s by the
+                          * rate of the data; with 0 always at 24 [0..1] */
+  uint32_t credits;      /* whether a credit blocks the next poll only while the station can send
+                          * in the credit's class [0..1] */
+  uint32_t reserved[8];  /* for later settings: each has to be 0 */
   /* end settings */
 };
 
@@ -299,7 +318,7 @@ struct wf_reply {
   uint16_t waiting;     /* frames of the exchange that wait to be sent again */
   uint16_t failed;      /* frames of the exchange that are dropped */
   uint8_t kind;         /* enum wf_kind */
-  uint8_t refusal;      /* enum wf_code, 0 to 28: what the function returned */
+  uint8_t refusal;      /* enum wf_code, 0 to 31: what the function returned */
   uint8_t tid;          /* the TID to send for */
   uint8_t class_;       /* enum wf_class: the class of the credit */
   uint8_t fate;         /* enum wf_fate */
@@ -388,7 +407,10 @@ struct wf_call {
   uint64_t exchange;
   uint32_t flow;
   uint32_t by;         /* how far the clock moves, in microseconds */
-  uint32_t air;        /* the airtime that a station or an exchange used, in microseconds */
+  uint32_t air;        /* the airtime that a station or an exchange used, or the most that the data of a
+                        * pull may take, in microseconds */
+  uint32_t frames;     /* the most frames that a pull may send */
+  uint32_t octets;     /* the most octets of an aggregate */
   uint16_t station;
   uint16_t window;     /* in frames */
   uint16_t start;      /* the first sequence number */
@@ -450,7 +472,7 @@ void wf_kind_name(int32_t kind, char name[WF_NAME]);
  * word for any other number is "?". */
 void wf_fate_name(int32_t fate, char name[WF_NAME]);
 
-/* Writes the word for a setting, as in a trace, by its place in struct wf_settings, 1 to 19; the rest of
+/* Writes the word for a setting, as in a trace, by its place in struct wf_settings, 1 to 24; the rest of
  * `name`, at least one octet, is 0. The word for any other number is "?". */
 void wf_setting_name(int32_t place, char name[WF_NAME]);
 
@@ -550,6 +572,19 @@ int32_t wf_path_wake(struct wf_path *path, uint16_t station, struct wf_reply *re
  * WF_NOTHING. */
 int32_t wf_path_poll(struct wf_path *path, uint16_t station, struct wf_reply *reply);
 
+/* Sets the most octets of an aggregate (A-MPDU) of VHT or HE to a live station, 4,096 to 6,500,631 (IEEE
+ * 802.11ax-2021, 26.6.1), until it leaves. Without this call, and at a rate of HT always, the station's
+ * exponent bounds them (wf_path_join). Returns WF_OK, WF_BAD_STATION, WF_BAD_AMPDU or WF_NO_STATION. */
+int32_t wf_path_ampdu(struct wf_path *path, uint16_t station, uint32_t octets, struct wf_reply *reply);
+
+/* Stops a live station: no pull picks it until wf_path_start. Its frames stay queued, its open exchanges go on,
+ * and it sleeps, wakes and polls as before. Returns WF_OK, WF_BAD_STATION, WF_NO_STATION or WF_STOPPED. */
+int32_t wf_path_stop(struct wf_path *path, uint16_t station, struct wf_reply *reply);
+
+/* Starts a station that is stopped: pulls may pick it again. Returns WF_OK, WF_BAD_STATION, WF_NO_STATION or
+ * WF_STARTED. */
+int32_t wf_path_start(struct wf_path *path, uint16_t station, struct wf_reply *reply);
+
 /* Charges a live station for airtime that it used to send in a class: 1 to 65,535 microseconds. `deficit` of
  * the reply is its deficit after the charge. Returns WF_OK; WF_BAD_CLASS exactly if the class is above 3, and
  * then `reply` is unchanged; or else WF_BAD_STATION, WF_BAD_AIR, WF_NO_STATION or WF_DEBT. */
@@ -583,8 +618,15 @@ int32_t wf_path_enqueue_bare(struct wf_path *path, uint16_t station, const struc
  * of the reply is the time of the transmissions and of the BlockAck, in microseconds. Returns WF_OK;
  * WF_BAD_CLASS exactly if the class is above 3, and then `reply` and `frames` are unchanged; or else WF_FULL,
  * WF_AHEAD or WF_IDLE. After WF_FULL, pull again when an exchange of the class has ended; after WF_AHEAD, when
- * any exchange has ended; after WF_IDLE, also after an enqueue, a wake or a poll. */
+ * any exchange has ended; after WF_IDLE, also after an enqueue, a wake, a poll or a start. */
 int32_t wf_path_pull(struct wf_path *path, uint8_t class_, struct wf_reply *reply, struct wf_frames *frames);
+
+/* Opens the next exchange of a class as wf_path_pull does, for a device that can take only so much now: an
+ * aggregate has at most `most` frames (also at most `agg`), and its data take at most `air` microseconds (also
+ * at most the cap of the class). 0 limits nothing. One frame, and a BlockAckReq, go whatever the limits are. The
+ * limits hold for this call alone. Returns and writes what wf_path_pull does. */
+int32_t wf_path_pull_limited(struct wf_path *path, uint8_t class_, uint32_t most, uint32_t air, struct wf_reply *reply,
+                             struct wf_frames *frames);
 
 /* Takes the first finished frame out of the path. `taken` gets its id, its fate and what its packet was, and
  * the front of `body` its `taken->length` octets; the rest of `body`, whose size is `room`, is unchanged. If
@@ -651,13 +693,14 @@ int32_t wf_path_done_lost(struct wf_path *path, uint64_t exchange, uint32_t air,
 int32_t wf_path_done_bits(struct wf_path *path, uint64_t exchange, uint16_t start, const uint8_t bits[32], uint32_t air,
                           struct wf_reply *reply);
 
-/* Ends an exchange by the octets of a BlockAck that was heard, without its check sequence. Frames that it
- * shows are acknowledged; the others wait to be sent again, or are dropped after their last transmission. The
- * station is charged `air`, 1 to `charge` microseconds as the device measured them, or, if `air` is 0, what
- * wf_path_pull answered. Returns WF_OK, or the first of these that holds: WF_NO_EXCHANGE; WF_BLOCK_LENGTH,
- * WF_BLOCK_KIND, WF_BLOCK_BASIC, WF_BLOCK_MULTI, WF_BLOCK_NARROW, WF_BLOCK_FRAGMENT, WF_NOT_MINE or
- * WF_WRONG_TID if the octets are not a BlockAck to this exchange; WF_BAD_AIR if `air` is above the setting
- * `charge`. After an error the exchange is still open, and `reply` is unchanged. */
+/* Ends an exchange by the octets of a BlockAck that was heard, without its check sequence: 28 octets, with a
+ * bitmap of 64 bits, or, if the window is above 64, also 52, with one of 256 (IEEE 802.11ax-2021, 9.3.1.8.2).
+ * Frames that it shows are acknowledged; the others wait to be sent again, or are dropped after their last
+ * transmission. The station is charged `air`, 1 to `charge` microseconds as the device measured them, or, if
+ * `air` is 0, what wf_path_pull answered. Returns WF_OK, or the first of these that holds: WF_NO_EXCHANGE;
+ * WF_BLOCK_LENGTH, WF_BLOCK_KIND, WF_BLOCK_BASIC, WF_BLOCK_MULTI, WF_BLOCK_NARROW, WF_BLOCK_FRAGMENT,
+ * WF_NOT_MINE or WF_WRONG_TID if the octets are not a BlockAck to this exchange; WF_BAD_AIR if `air` is above
+ * the setting `charge`. After an error the exchange is still open, and `reply` is unchanged. */
 int32_t wf_path_done_octets(struct wf_path *path, uint64_t exchange, const uint8_t *octets, size_t length, uint32_t air,
                             struct wf_reply *reply);
 

@@ -90,8 +90,10 @@ static uint64_t some_exchange(void) {
 static uint8_t some_kind(void) {
   static const uint8_t KINDS[] = {WF_CALL_PULL, WF_CALL_PULL, WF_CALL_PULL, WF_CALL_ARRIVE, WF_CALL_ARRIVE, WF_CALL_ARRIVE, WF_CALL_ARRIVE,
                                   WF_CALL_ARRIVE, WF_CALL_ARRIVE, WF_CALL_ANSWER, WF_CALL_ANSWER, WF_CALL_DONE, WF_CALL_DONE};
+  uint8_t kind;
   if (below(8)) return KINDS[below(sizeof KINDS)];
-  return (uint8_t)below(WF_CALL_REAP);
+  kind = (uint8_t)below(WF_CALL_START);
+  return (uint8_t)(kind < WF_CALL_REAP ? kind : kind + 1);
 }
 
 /* Returns a width in MHz, sometimes one that no format has. */
@@ -119,6 +121,9 @@ static void call_ask(uint32_t caller, uint16_t station) {
   call.by = below(50) ? below(20000) : 10000000 + below(2);
   call.air = below(50) ? below(2000) : 65535 + below(2);
   if (call.kind == WF_CALL_DONE) call.air = some_airtime();
+  if (call.kind == WF_CALL_PULL && below(2)) call.air = 0;
+  call.frames = below(2) ? below(9) : 0;
+  call.octets = 4000 + below(100000);
   call.window = (uint16_t)(below(4) ? 1 + below(64) : 1 + below(257));
   call.start = (uint16_t)below(4100);
   call.exponent = (uint8_t)below(5);
@@ -199,6 +204,14 @@ static void write_done(const struct wf_call *c) {
   fprintf(trace, "\n");
 }
 
+/* Writes a pull and its limits, if it has any. */
+static void write_pull(const struct wf_call *c) {
+  fprintf(trace, "pull %s", CLASSES[c->class_]);
+  if (c->frames) fprintf(trace, " frames %lu", (unsigned long)c->frames);
+  if (c->air) fprintf(trace, " air %lu", (unsigned long)c->air);
+  fprintf(trace, "\n");
+}
+
 /* Writes an entry of the history as a line of the trace. */
 static void write_entry(uint64_t place) {
   struct wf_call c = {0};
@@ -215,7 +228,7 @@ static void write_entry(uint64_t place) {
     case WF_CALL_RATE: write_rate(&c); break;
     case WF_CALL_TICK: fprintf(trace, "tick %lu\n", (unsigned long)c.by); break;
     case WF_CALL_ENQUEUE: fprintf(trace, "enq %u %u %lu %u\n", s, (unsigned)c.tid, (unsigned long)c.flow, (unsigned)c.length); break;
-    case WF_CALL_PULL: fprintf(trace, "pull %s\n", CLASSES[c.class_]); break;
+    case WF_CALL_PULL: write_pull(&c); break;
     case WF_CALL_ARRIVE: fprintf(trace, "arrive %llu %u\n", (unsigned long long)c.exchange, (unsigned)c.index); break;
     case WF_CALL_ANSWER: fprintf(trace, "answer %llu\n", (unsigned long long)c.exchange); break;
     case WF_CALL_DONE: write_done(&c); break;
@@ -224,6 +237,9 @@ static void write_entry(uint64_t place) {
     case WF_CALL_POLL: fprintf(trace, "poll %u\n", s); break;
     case WF_CALL_RX: fprintf(trace, "rx %u %s %lu\n", s, CLASSES[c.class_], (unsigned long)c.air); break;
     case WF_CALL_REAP: fprintf(trace, "reap\n"); break;
+    case WF_CALL_AMPDU: fprintf(trace, "ampdu %u %lu\n", s, (unsigned long)c.octets); break;
+    case WF_CALL_STOP: fprintf(trace, "stop %u\n", s); break;
+    case WF_CALL_START: fprintf(trace, "start %u\n", s); break;
     default: fail("an entry of no kind");
   }
 }

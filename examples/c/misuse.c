@@ -32,6 +32,11 @@ static const uint32_t OUTSIDE[][2] = {
     {2u, 2u}, /* codel_reset */
     {262145u, 262145u}, /* aql */
     {2u, 2u}, /* pending */
+    {33u, 33u}, /* overhead */
+    {5401u, 5401u}, /* cap_vi */
+    {5401u, 5401u}, /* cap_vo */
+    {2u, 2u}, /* answers */
+    {2u, 2u}, /* credits */
     /* end outside */
 };
 
@@ -123,6 +128,9 @@ static void misuse_stations(void) {
   want(wf_path_rate_ht(&path, none, 7, 20, 0, &reply), WF_BAD_STATION, "wf_path_rate_ht");
   want(wf_path_sleep(&path, none, &reply), WF_BAD_STATION, "wf_path_sleep");
   want(wf_path_wake(&path, none, &reply), WF_BAD_STATION, "wf_path_wake");
+  want(wf_path_ampdu(&path, none, 4096, &reply), WF_BAD_STATION, "wf_path_ampdu");
+  want(wf_path_stop(&path, none, &reply), WF_BAD_STATION, "wf_path_stop");
+  want(wf_path_start(&path, none, &reply), WF_BAD_STATION, "wf_path_start");
   want(wf_path_poll(&path, none, &reply), WF_BAD_STATION, "wf_path_poll");
   want(wf_path_rx(&path, none, WF_BE, 100, &reply), WF_BAD_STATION, "wf_path_rx");
   want(wf_path_enqueue(&path, none, &packet, &reply), WF_BAD_STATION, "wf_path_enqueue");
@@ -130,6 +138,9 @@ static void misuse_stations(void) {
   want(wf_path_rate_ht(&path, 3, 7, 20, 0, &reply), WF_NO_STATION, "wf_path_rate_ht");
   want(wf_path_sleep(&path, 3, &reply), WF_NO_STATION, "wf_path_sleep");
   want(wf_path_wake(&path, 3, &reply), WF_NO_STATION, "wf_path_wake");
+  want(wf_path_ampdu(&path, 3, 4096, &reply), WF_NO_STATION, "wf_path_ampdu");
+  want(wf_path_stop(&path, 3, &reply), WF_NO_STATION, "wf_path_stop");
+  want(wf_path_start(&path, 3, &reply), WF_NO_STATION, "wf_path_start");
   want(wf_path_poll(&path, 3, &reply), WF_NO_STATION, "wf_path_poll");
   want(wf_path_rx(&path, 3, WF_BE, 100, &reply), WF_NO_STATION, "wf_path_rx");
   want(wf_path_enqueue(&path, 3, &packet, &reply), WF_NO_STATION, "wf_path_enqueue");
@@ -296,7 +307,7 @@ static void misuse_bursts(void) {
   call.heard = 0;
   call.exchange = 1000;
   misuse_burst(call, WF_OK, "the end of no exchange");
-  call.kind = WF_CALL_REAP + 1;
+  call.kind = WF_CALL_START + 1;
   misuse_burst(call, WF_BAD_CALL, "a call of no kind");
   call.kind = WF_CALL_PULL;
   call.class_ = 4;
@@ -396,6 +407,17 @@ static void misuse_exchanges(void) {
   misuse_answers(exchange);
 }
 
+static void misuse_stops(void) {
+  struct wf_frames frames;
+  want(wf_path_ampdu(&path, 1, 4095, &reply), WF_BAD_AMPDU, "an aggregate of 4,095 octets");
+  want(wf_path_ampdu(&path, 1, 6500632, &reply), WF_BAD_AMPDU, "an aggregate of 6,500,632 octets");
+  want(wf_path_start(&path, 1, &reply), WF_STARTED, "a start of one that is not stopped");
+  want(wf_path_stop(&path, 1, &reply), WF_OK, "a stop");
+  want(wf_path_stop(&path, 1, &reply), WF_STOPPED, "a second stop");
+  want(wf_path_start(&path, 1, &reply), WF_OK, "a start");
+  want(wf_path_pull_limited(&path, WF_VO + 1, 1, 1, &reply, &frames), WF_BAD_CLASS, "a limited pull of class 4");
+}
+
 static void misuse_sleepers(void) {
   static const uint8_t body[100];
   const struct wf_packet packet = packet_of(0, body, sizeof body);
@@ -457,6 +479,7 @@ static void misuse_path(void) {
   want(path.at == NULL, 1, "a handle that holds nothing");
   want(wf_path_make(&path, &settings), WF_OK, "a path in the same handle");
   want(wf_path_join(&path, 1, 64, 0, 3, 1, &reply), WF_OK, "wf_path_join");
+  misuse_stops();
   misuse_sleepers();
   wf_path_free(&path);
 }
@@ -479,7 +502,7 @@ static void misuse_cell(void) {
   want(wf_cell_ask(&cell, 0, &call, &reply), WF_BAD_CALL, "a frame without its body");
   call.kind = WF_CALL_REAP;
   want(wf_cell_ask(&cell, 0, &call, &reply), WF_BAD_CALL, "a reap without its struct");
-  call.kind = WF_CALL_REAP + 1;
+  call.kind = WF_CALL_START + 1;
   want(wf_cell_ask(&cell, 0, &call, &reply), WF_BAD_CALL, "a call of no kind");
   call.kind = WF_CALL_RATE;
   call.form = WF_FORM_HE + 1;
@@ -516,7 +539,7 @@ static void misuse_cell(void) {
 
 /* Numbers without a meaning. */
 static void misuse_names(void) {
-  static const int32_t NONE[] = {-1, 29, 39, 46, 48, 50, 59, 100, WF_BAD_SETTING + PLACES + 1, INT32_MAX, INT32_MIN};
+  static const int32_t NONE[] = {-1, 32, 39, 46, 48, 50, 59, 100, WF_BAD_SETTING + PLACES + 1, INT32_MAX, INT32_MIN};
   size_t i;
   for (i = 0; i < sizeof NONE / sizeof *NONE; i++) {
     char name[WF_NAME] = {0};

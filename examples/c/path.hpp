@@ -132,6 +132,15 @@ class Path {
   [[nodiscard]] std::int32_t poll(std::uint16_t station, wf_reply &reply) {
     return wf_path_poll(&handle_, station, &reply);
   }
+  [[nodiscard]] std::int32_t ampdu(std::uint16_t station, std::uint32_t octets, wf_reply &reply) {
+    return wf_path_ampdu(&handle_, station, octets, &reply);
+  }
+  [[nodiscard]] std::int32_t stop(std::uint16_t station, wf_reply &reply) {
+    return wf_path_stop(&handle_, station, &reply);
+  }
+  [[nodiscard]] std::int32_t start(std::uint16_t station, wf_reply &reply) {
+    return wf_path_start(&handle_, station, &reply);
+  }
   [[nodiscard]] std::int32_t rx(std::uint16_t station, wf_class access, std::uint32_t air,
                                      wf_reply &reply) {
     return wf_path_rx(&handle_, station, static_cast<std::uint8_t>(access), air, &reply);
@@ -149,6 +158,10 @@ class Path {
   }
   [[nodiscard]] std::int32_t pull(wf_class access, wf_reply &reply, wf_frames &frames) {
     return wf_path_pull(&handle_, static_cast<std::uint8_t>(access), &reply, &frames);
+  }
+  [[nodiscard]] std::int32_t pull_limited(wf_class access, std::uint32_t most, std::uint32_t air, wf_reply &reply,
+                                          wf_frames &frames) {
+    return wf_path_pull_limited(&handle_, static_cast<std::uint8_t>(access), most, air, &reply, &frames);
   }
   [[nodiscard]] std::int32_t reap(wf_reply &reply, wf_taken &taken, std::uint8_t *body, std::size_t room) {
     return wf_path_reap(&handle_, &reply, &taken, body, room);

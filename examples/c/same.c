@@ -17,7 +17,7 @@
 #include "words.h"
 #include "wf.h"
 
-enum { STATIONS = 6, NUMBERS = 4096, OPEN = 32, CHARGE = 5000, DEBT = 9000, TICK = 10000000, ATTEMPTS = 4, SETTINGS = 19 };
+enum { STATIONS = 6, NUMBERS = 4096, OPEN = 32, CHARGE = 5000, DEBT = 9000, TICK = 10000000, ATTEMPTS = 4, SETTINGS = 24 };
 
 /* An open exchange. */
 struct exchange {
@@ -195,6 +195,14 @@ static void look_at(const struct exchange *x) {
   if (wf_path_header(&path, x->number, x->frames.count, (uint8_t[WF_HEADER]){0}) != WF_BAD_INDEX) fail("a header too many");
 }
 
+/* Writes the line of a pull with limits; 0 limits nothing. */
+static void write_pull(uint8_t class_, uint32_t most, uint32_t air) {
+  fprintf(trace, "pull %s", CLASSES[class_]);
+  if (most) fprintf(trace, " frames %lu", (unsigned long)most);
+  if (air) fprintf(trace, " air %lu", (unsigned long)air);
+  fprintf(trace, "\n");
+}
+
 static void call_pull(void) {
   struct exchange *x = &exchanges[open_count];
   struct session *session;
@@ -205,9 +213,15 @@ static void call_pull(void) {
   if (open_count == OPEN) return;
   memset(&x->frames, 0, sizeof x->frames);
   can = wf_path_can_pull(&path, class_);
-  code = wf_path_pull(&path, class_, &reply, &x->frames);
+  if (below(2)) {
+    code = wf_path_pull(&path, class_, &reply, &x->frames);
+    fprintf(trace, "pull %s\n", CLASSES[class_]);
+  } else {
+    uint32_t most = below(9), air = below(3000);
+    code = wf_path_pull_limited(&path, class_, most, air, &reply, &x->frames);
+    write_pull(class_, most, air);
+  }
   if (can != (code == WF_OK)) fail("another pull than was told");
-  fprintf(trace, "pull %s\n", CLASSES[class_]);
   write_answer(code, &x->frames);
   if (code) return;
   x->number = reply.exchange;
@@ -263,9 +277,9 @@ static int32_t done_octets(const struct exchange *x, uint16_t start, const uint8
   ack[0] = 0x94;
   memcpy(ack + 4, frame + 10, 6);
   memcpy(ack + 10, frame + 4, 6);
-  ack[16] = length == 52 ? 0x0c : 0x04;
+  ack[16] = 0x04;
   ack[17] = (uint8_t)((x->tid + 1) % 8 << 4);
-  ack[18] = (uint8_t)(start << 4);
+  ack[18] = (uint8_t)(start << 4 | (length == 52 ? 4 : 0));
   ack[19] = (uint8_t)(start >> 4);
   memcpy(ack + 20, bits, length - 20);
   if (wf_path_done_octets(&path, x->number, ack, length, air, &reply) != WF_WRONG_TID) fail("another TID is taken");
@@ -367,7 +381,7 @@ static void call_other(uint16_t s) {
   uint8_t class_ = (uint8_t)below(4);
   uint32_t number = below(50) ? below(2000) : 10000000 + below(2);
   int32_t code;
-  switch (below(6)) {
+  switch (below(10)) {
     case 0: code = wf_path_leave(&path, s, &reply), fprintf(trace, "leave %u\n", (unsigned)s); break;
     case 1: code = wf_path_sleep(&path, s, &reply), fprintf(trace, "sleep %u\n", (unsigned)s); break;
     case 2: code = wf_path_wake(&path, s, &reply), fprintf(trace, "wake %u\n", (unsigned)s); break;
@@ -375,6 +389,14 @@ static void call_other(uint16_t s) {
     case 4:
       code = wf_path_rx(&path, s, class_, number, &reply);
       fprintf(trace, "rx %u %s %lu\n", (unsigned)s, CLASSES[class_], (unsigned long)number);
+      break;
+    case 5: code = wf_path_stop(&path, s, &reply), fprintf(trace, "stop %u\n", (unsigned)s); break;
+    case 6:
+    case 7: code = wf_path_start(&path, s, &reply), fprintf(trace, "start %u\n", (unsigned)s); break;
+    case 8:
+      number = 4095 + 100 * number;
+      code = wf_path_ampdu(&path, s, number, &reply);
+      fprintf(trace, "ampdu %u %lu\n", (unsigned)s, (unsigned long)number);
       break;
     default:
       number *= 10;

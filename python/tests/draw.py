@@ -14,14 +14,17 @@ from wfpath.raw import Call
 STATIONS, CHARGE, TICK = 6, 5000, 10_000_000
 SETTINGS = {"stations": STATIONS, "flows": 32, "limit": 40, "room": 400, "attempts": 4, "sleeping": 8}
 SETTINGS["charge"] = CHARGE
-# Rules that are off in the standard settings, for every second seed, as far as the library has them.
+# Rules that are off in the standard settings, as far as the library has them: these for every second seed, and
+# OTHERS for the seeds between. A head has no room for all.
 RULES = {"aql_total": 1500, "debt": 20000, "keep_order": 1, "codel_reset": 1, "aql": 1200, "pending": 1}
+OTHERS = {"overhead": 8, "cap_vi": 2000, "cap_vo": 1000, "answers": 1, "credits": 1}
 WORDS = {"join": "joined", "set_rate": "set", "sleep": "slept", "wake": "woken"}
+WORDS |= {"set_ampdu": "set", "stop": "stopped", "start": "started"}
 
 
 def settings_of(seed: int) -> dict[str, int]:
     """Returns the settings for a seed."""
-    rules = {name: value for name, value in RULES.items() if name in RANGES and seed % 2 == 0}
+    rules = {name: value for name, value in (OTHERS if seed % 2 else RULES).items() if name in RANGES}
     return {**SETTINGS, **rules}
 
 
@@ -154,13 +157,22 @@ class Draw:
         """One of the other calls."""
         class_ = AccessClass(self.below(4))
         number = self.below(2000) if self.below(50) else TICK + self.below(2)
-        name = self.random.choice(("leave", "sleep", "wake", "poll", "rx", "tick"))
+        name = self.random.choice(("leave", "sleep", "wake", "poll", "stop", "start", "start", "ampdu", "rx", "tick"))
         if name == "rx":
             self.call(f"rx {station} {class_.word} {number}", "rx", station, class_, number)
         elif name == "tick":
             self.call(f"tick {number * 10}", "tick", number * 10)
+        elif name == "ampdu":
+            octets = 4095 + 100 * number
+            self.call(f"ampdu {station} {octets}", "set_ampdu", station, octets)
         else:
             self.call(f"{name} {station}", name, station)
+
+    def limited_pull(self, class_: AccessClass) -> Any:
+        """A pull, half of the time within limits."""
+        frames, air = (self.below(9), self.below(3000)) if self.below(2) else (0, 0)
+        words = (f" frames {frames}" if frames else "") + (f" air {air}" if air else "")
+        return self.call(f"pull {class_.word}{words}", "pull", class_, frames, air)
 
     def common(self, which: int) -> None:
         """A call that a path and a cell have; `which` is below 70."""
@@ -206,7 +218,7 @@ class PathDraw(Draw):
         """A pull, and a look at what it opened."""
         class_ = AccessClass(self.below(4))
         can = self.handle.can_pull(class_)
-        exchange = self.call(f"pull {class_.word}", "pull", class_)
+        exchange = self.limited_pull(class_)
         assert can == (exchange is not None)
         if exchange is None:
             return
@@ -289,7 +301,7 @@ class CellDraw(Draw):
             self.burst(min(most, 9))
         elif which < 100:
             class_ = AccessClass(self.below(4))
-            exchange = self.call(f"pull {class_.word}", "pull", class_)
+            exchange = self.limited_pull(class_)
             if exchange is not None:
                 self.open.append(exchange.number)
                 self.opened += 1

@@ -61,6 +61,8 @@ class Kind(enum.IntEnum):
     CHARGED = 12
     REAPED = 13
     REFUSED = 14
+    STOPPED = 15
+    STARTED = 16
 
     @property
     def word(self) -> str:
@@ -85,6 +87,9 @@ class CallKind(enum.IntEnum):
     POLL = 11
     RX = 12
     REAP = 13
+    AMPDU = 14
+    STOP = 15
+    START = 16
 
     @property
     def word(self) -> str:
@@ -169,6 +174,23 @@ class Settings:
     pending: int = 0
     """Whether the airtime in flight counts against a station when a pull picks one [0..1]."""
 
+    overhead: int = 0
+    """Octets of encryption that each MPDU has in addition to its header, body and check sequence [0..32]."""
+
+    cap_vi: int = 0
+    """Data time of one aggregate of `vi`, microseconds; 0 means `cap` [0..5400]."""
+
+    cap_vo: int = 0
+    """Data time of one aggregate of `vo`, microseconds; 0 means `cap` [0..5400]."""
+
+    answers: int = 0
+    """Whether BlockAcks and BlockAckReqs go at 6, 12 or 24 Mbit/s by the rate of the data; with 0 always at
+    24 [0..1].
+    """
+
+    credits: int = 0
+    """Whether a credit blocks the next poll only while the station can send in the credit's class [0..1]."""
+
     @classmethod
     def device(cls, **others: int) -> Settings:
         """Returns the settings for devices, with others in their place."""
@@ -185,6 +207,7 @@ DEVICE: dict[str, int] = {
     "codel_reset": 1,
     "aql": 12000,
     "pending": 1,
+    "credits": 1,
 }
 
 # The range of each setting, in the order of their places.
@@ -208,6 +231,11 @@ RANGES: dict[str, tuple[int, int]] = {
     "codel_reset": (0, 1),
     "aql": (0, 262144),
     "pending": (0, 1),
+    "overhead": (0, 32),
+    "cap_vi": (0, 5400),
+    "cap_vo": (0, 5400),
+    "answers": (0, 1),
+    "credits": (0, 1),
 }
 
 
@@ -244,9 +272,14 @@ class SettingsStruct(ctypes.Structure):
     codel_reset: int
     aql: int
     pending: int
+    overhead: int
+    cap_vi: int
+    cap_vo: int
+    answers: int
+    credits: int
     reserved: ctypes.Array[ctypes.c_uint32]
 
-    LAYOUT = "@IIIIIIIIIIIIIIIIIII13I"
+    LAYOUT = "@IIIIIIIIIIIIIIIIIIIIIIII8I"
     _fields_ = [
         ("stations", ctypes.c_uint32),
         ("flows", ctypes.c_uint32),
@@ -267,7 +300,12 @@ class SettingsStruct(ctypes.Structure):
         ("codel_reset", ctypes.c_uint32),
         ("aql", ctypes.c_uint32),
         ("pending", ctypes.c_uint32),
-        ("reserved", ctypes.c_uint32 * 13),
+        ("overhead", ctypes.c_uint32),
+        ("cap_vi", ctypes.c_uint32),
+        ("cap_vo", ctypes.c_uint32),
+        ("answers", ctypes.c_uint32),
+        ("credits", ctypes.c_uint32),
+        ("reserved", ctypes.c_uint32 * 8),
     ]
 
 
@@ -477,6 +515,8 @@ class CallStruct(ctypes.Structure):
     flow: int
     by: int
     air: int
+    frames: int
+    octets: int
     station: int
     window: int
     start: int
@@ -495,12 +535,14 @@ class CallStruct(ctypes.Structure):
     streams: int
     heard: int
 
-    LAYOUT = "@QIIIHHHHHHBBBBBBBBBBB"
+    LAYOUT = "@QIIIIIHHHHHHBBBBBBBBBBB"
     _fields_ = [
         ("exchange", ctypes.c_uint64),
         ("flow", ctypes.c_uint32),
         ("by", ctypes.c_uint32),
         ("air", ctypes.c_uint32),
+        ("frames", ctypes.c_uint32),
+        ("octets", ctypes.c_uint32),
         ("station", ctypes.c_uint16),
         ("window", ctypes.c_uint16),
         ("start", ctypes.c_uint16),
@@ -674,6 +716,31 @@ FUNCTIONS: dict[str, tuple[Any, tuple[Any, ...]]] = {
             ctypes.POINTER(ReplyStruct),
         ),
     ),
+    "wf_path_ampdu": (
+        ctypes.c_int32,
+        (
+            ctypes.POINTER(PathStruct),
+            ctypes.c_uint16,
+            ctypes.c_uint32,
+            ctypes.POINTER(ReplyStruct),
+        ),
+    ),
+    "wf_path_stop": (
+        ctypes.c_int32,
+        (
+            ctypes.POINTER(PathStruct),
+            ctypes.c_uint16,
+            ctypes.POINTER(ReplyStruct),
+        ),
+    ),
+    "wf_path_start": (
+        ctypes.c_int32,
+        (
+            ctypes.POINTER(PathStruct),
+            ctypes.c_uint16,
+            ctypes.POINTER(ReplyStruct),
+        ),
+    ),
     "wf_path_rx": (
         ctypes.c_int32,
         (
@@ -708,6 +775,17 @@ FUNCTIONS: dict[str, tuple[Any, tuple[Any, ...]]] = {
         (
             ctypes.POINTER(PathStruct),
             ctypes.c_uint8,
+            ctypes.POINTER(ReplyStruct),
+            ctypes.POINTER(FramesStruct),
+        ),
+    ),
+    "wf_path_pull_limited": (
+        ctypes.c_int32,
+        (
+            ctypes.POINTER(PathStruct),
+            ctypes.c_uint8,
+            ctypes.c_uint32,
+            ctypes.c_uint32,
             ctypes.POINTER(ReplyStruct),
             ctypes.POINTER(FramesStruct),
         ),

@@ -97,6 +97,22 @@ class Cell(Handle):
         self._of_station(CallKind.POLL, station)
         return CLASSES[self._reply.class_]
 
+    def set_ampdu(self, station: int, octets: int) -> None:
+        """Sets the most octets of aggregates of VHT and HE to a station, 4,096 to 6,500,631."""
+        if station >> 16 or octets >> 32:
+            raise out_of_range(station=(station, 16), octets=(octets, 32))
+        call = self._calls[CallKind.AMPDU]
+        call.struct.station, call.struct.octets = station, octets
+        self._must(self._code(call))
+
+    def stop(self, station: int) -> None:
+        """Stops a station: no pull picks it until it is started."""
+        self._of_station(CallKind.STOP, station)
+
+    def start(self, station: int) -> None:
+        """Starts a station that is stopped: pulls may pick it again."""
+        self._of_station(CallKind.START, station)
+
     def rx(self, station: int, class_: int, air: int) -> int:
         """Charges a station for airtime that it used to send, and returns its deficit."""
         if station >> 16 or class_ >> 2 or air >> 32:
@@ -151,14 +167,18 @@ class Cell(Handle):
         tag 0, and a reap frees its frame."""
         return self._made(C.wf_cell_burst, (self._caller,), calls)
 
-    def pull(self, class_: int) -> Exchange:
-        """Opens the next exchange of a class. Raises Idle, Full or the like if there is none."""
-        self._must(self._pull_code(class_))
+    def pull(self, class_: int, frames: int = 0, air: int = 0) -> Exchange:
+        """Opens the next exchange of a class. Raises Idle, Full or the like if there is none.
+
+        An aggregate has at most `frames` frames, and its data take at most `air` microseconds; 0 limits
+        nothing. One frame goes whatever the limits are.
+        """
+        self._must(self._pull_code(class_, frames, air))
         return self._opened()
 
-    def try_pull(self, class_: int) -> Exchange | None:
+    def try_pull(self, class_: int, frames: int = 0, air: int = 0) -> Exchange | None:
         """Does what `pull` does, and returns None if there is none now."""
-        code = self._pull_code(class_)
+        code = self._pull_code(class_, frames, air)
         if code in WAITS:
             return None
         self._must(code)
@@ -277,12 +297,12 @@ class Cell(Handle):
         call.struct.station = station
         self._must(self._code(call))
 
-    def _pull_code(self, class_: int) -> int:
+    def _pull_code(self, class_: int, frames: int, air: int) -> int:
         """Makes the call of a pull."""
-        if class_ >> 2:
-            raise out_of_range(class_=(class_, 2))
+        if class_ >> 2 or frames >> 32 or air >> 32:
+            raise out_of_range(class_=(class_, 2), frames=(frames, 32), air=(air, 32))
         call = self._calls[CallKind.PULL]
-        call.struct.class_ = class_
+        call.struct.class_, call.struct.frames, call.struct.air = class_, frames, air
         return self._code(call)
 
     def _opened(self) -> Exchange:

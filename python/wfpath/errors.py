@@ -255,6 +255,30 @@ class Ahead(Refused):
     field = "air"
 
 
+class BadAmpdu(Refused):
+    """The greatest aggregate is not 4,096 to 6,500,631 octets."""
+
+    code = 29
+    word = "bad-ampdu"
+    about = "the greatest aggregate is not 4,096 to 6,500,631 octets"
+
+
+class Stopped(Refused):
+    """The station is stopped already."""
+
+    code = 30
+    word = "stopped"
+    about = "the station is stopped already"
+
+
+class Started(Refused):
+    """The station is not stopped."""
+
+    code = 31
+    word = "started"
+    about = "the station is not stopped"
+
+
 class NoMemory(WfError):
     """Out of memory."""
 
@@ -316,11 +340,11 @@ class BadClass(WfError):
 
 
 class BlockLength(BlockError):
-    """Not 28 octets, or, if the window is above 64, not 52."""
+    """Not 28 octets, nor, if the window is above 64, 52."""
 
     code = 51
     word = "block-length"
-    about = "not 28 octets, or, if the window is above 64, not 52"
+    about = "not 28 octets, nor, if the window is above 64, 52"
 
 
 class BlockKind(BlockError):
@@ -348,19 +372,19 @@ class BlockMulti(BlockError):
 
 
 class BlockFragment(BlockError):
-    """Its fragment number is not 0."""
+    """Its fragment number is not 0, or, of 52 octets, not 4."""
 
     code = 55
     word = "block-fragment"
-    about = "its fragment number is not 0"
+    about = "its fragment number is not 0, or, of 52 octets, not 4"
 
 
 class BlockNarrow(BlockError):
-    """The window is above 64, and the bitmap does not have 256 bits."""
+    """Of 52 octets, and its fragment number is 0, that of 64 bits."""
 
     code = 56
     word = "block-narrow"
-    about = "the window is above 64, and the bitmap does not have 256 bits"
+    about = "of 52 octets, and its fragment number is 0, that of 64 bits"
 
 
 class NotMine(BlockError):
@@ -409,6 +433,9 @@ ERRORS: dict[int, type[WfError]] = {
     26: HistoryFull,
     27: BadWeight,
     28: Ahead,
+    29: BadAmpdu,
+    30: Stopped,
+    31: Started,
     40: NoMemory,
     41: BadLength,
     42: SmallBuffer,

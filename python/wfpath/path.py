@@ -84,6 +84,20 @@ class Path(Handle):
         self._of_station(C.wf_path_poll, station)
         return CLASSES[self._reply.class_]
 
+    def set_ampdu(self, station: int, octets: int) -> None:
+        """Sets the most octets of aggregates of VHT and HE to a station, 4,096 to 6,500,631."""
+        if station >> 16 or octets >> 32:
+            raise out_of_range(station=(station, 16), octets=(octets, 32))
+        self._must(C.wf_path_ampdu(self._at, station, octets, self._reply_at))
+
+    def stop(self, station: int) -> None:
+        """Stops a station: no pull picks it until it is started."""
+        self._of_station(C.wf_path_stop, station)
+
+    def start(self, station: int) -> None:
+        """Starts a station that is stopped: pulls may pick it again."""
+        self._of_station(C.wf_path_start, station)
+
     def rx(self, station: int, class_: int, air: int) -> int:
         """Charges a station for airtime that it used to send, and returns its deficit."""
         if station >> 16 or class_ >> 2 or air >> 32:
@@ -153,19 +167,26 @@ class Path(Handle):
         tag 0, a reap frees its frame, and a done is `done_lost`."""
         return self._made(C.wf_path_burst, (), calls)
 
-    def pull(self, class_: int) -> Exchange:
+    def pull(self, class_: int, frames: int = 0, air: int = 0) -> Exchange:
         """Opens the next exchange of a class, which the driver then sends. Raises Idle, Full or the like if
-        there is none."""
-        if class_ >> 2:
-            raise out_of_range(class_=(class_, 2))
-        self._must(_pull(self._at, class_, self._reply_at, self._frames_at))
+        there is none.
+
+        An aggregate has at most `frames` frames, and its data take at most `air` microseconds; 0 limits
+        nothing. One frame goes whatever the limits are.
+        """
+        self._must(self._pull_code(class_, frames, air))
         return self._exchange()
 
-    def try_pull(self, class_: int) -> Exchange | None:
+    def _pull_code(self, class_: int, frames: int, air: int) -> int:
+        if class_ >> 2 or frames >> 32 or air >> 32:
+            raise out_of_range(class_=(class_, 2), frames=(frames, 32), air=(air, 32))
+        if frames or air:
+            return int(C.wf_path_pull_limited(self._at, class_, frames, air, self._reply_at, self._frames_at))
+        return int(_pull(self._at, class_, self._reply_at, self._frames_at))
+
+    def try_pull(self, class_: int, frames: int = 0, air: int = 0) -> Exchange | None:
         """Does what `pull` does, and returns None if there is none now."""
-        if class_ >> 2:
-            raise out_of_range(class_=(class_, 2))
-        code = _pull(self._at, class_, self._reply_at, self._frames_at)
+        code = self._pull_code(class_, frames, air)
         if code in WAITS:
             return None
         self._must(code)

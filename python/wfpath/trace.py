@@ -13,7 +13,7 @@ FIELDS: dict[CallKind, tuple[str, ...]] = {
     CallKind.RATE: ("station", "form", "mcs", "mhz", "short_guard", "streams", "guard"),
     CallKind.TICK: ("by",),
     CallKind.ENQUEUE: ("station", "tid", "flow", "length"),
-    CallKind.PULL: ("class_",),
+    CallKind.PULL: ("class_", "frames", "air"),
     CallKind.ARRIVE: ("exchange", "index"),
     CallKind.ANSWER: ("exchange",),
     CallKind.DONE: ("exchange", "heard", "air"),
@@ -22,6 +22,9 @@ FIELDS: dict[CallKind, tuple[str, ...]] = {
     CallKind.POLL: ("station",),
     CallKind.RX: ("station", "class_", "air"),
     CallKind.REAP: (),
+    CallKind.AMPDU: ("station", "octets"),
+    CallKind.STOP: ("station",),
+    CallKind.START: ("station",),
 }
 WORDS = {CallKind.ENQUEUE: "enq"}
 
@@ -49,6 +52,9 @@ def arguments(kind: CallKind, fields: dict[str, int]) -> tuple[str, ...]:
     """Returns the words after the first one of a call's line."""
     if kind == CallKind.RATE:
         return (str(fields["station"]), str(rate(fields)))
+    if kind == CallKind.PULL:
+        limits = [(name, str(fields[name])) for name in ("frames", "air") if fields[name]]
+        return (AccessClass(fields["class_"]).word, *(word for limit in limits for word in limit))
     if kind == CallKind.DONE:
         heard = "heard" if fields["heard"] else "lost"
         return (str(fields["exchange"]), heard, *(("air", str(fields["air"])) if fields["air"] else ()))

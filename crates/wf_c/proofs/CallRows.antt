@@ -3,11 +3,11 @@
 use Rattle.std.proofs.Common.{◌≡◌, ℕ, ◌<◌, ◌≤◌, nat_eq, nat_lt, Bool, true, false, refl, arith}
 use Rattle.std.specs.Prelude.{Some, None}
 use Rattle.std.proofs.lemmas.Bool.Decides.{nat_tests}
-use Rattle.wf_frame.specs.Calls.{call_numbered}
+use Rattle.wf_frame.specs.Calls.{call_numbered, limits, no_limits}
 use Rattle.wf_frame.specs.Classes.{all_classes, class_among, class_number}
 use Rattle.wf_frame.specs.declared.classes.Class.{Class}
 use Rattle.wf_frame.specs.declared.notes.Note.TheVariants.{Enqueue, Asked}
-use Rattle.wf_frame.specs.declared.notes.Ask.TheVariants.{Join, Leave, Rate, Tick, Pull, Arrive, Answer, Done, Sleep, Wake, Poll, Rx, Reap}
+use Rattle.wf_frame.specs.declared.notes.Ask.TheVariants.{Join, Leave, Rate, Tick, Pull, Arrive, Answer, Done, Sleep, Wake, Poll, Rx, Reap, Ampdu, Stop, Start}
 use Rattle.wf_frame.specs.declared.notes.AskedRate.TheVariants.{Ht, Vht, He}
 use Rattle.wf_c.specs.CallNumbers.{blank_call, numbers_of_call, asked, call_noted}
 use Rattle.wf_c.specs.Numbers.{flag_of, is_up}
@@ -71,8 +71,13 @@ pub fields_of_enqueue : (station tid flow len : ℕ) →
 fields_of_enqueue station tid flow len = refl
 
 pub fields_of_pull : (class : Class) →
-    numbers_of_call (Asked (Pull class)) ≡ record blank_call { kind = 5; class = class_number class }
+    numbers_of_call (Asked (Pull class no_limits)) ≡ record blank_call { kind = 5; class = class_number class }
 fields_of_pull class = refl
+
+pub fields_of_pull_limited : (class : Class) (frames air : ℕ) →
+    numbers_of_call (Asked (Pull class (limits (Some frames) (Some air))))
+    ≡ record blank_call { kind = 5; class = class_number class; frames = frames; air = air }
+fields_of_pull_limited class frames air = refl
 
 pub fields_of_arrive : (exchange index : ℕ) →
     numbers_of_call (Asked (Arrive exchange index))
@@ -113,6 +118,19 @@ fields_of_rx station class air = refl
 pub fields_of_reap : numbers_of_call (Asked Reap) ≡ record blank_call { kind = 13 }
 fields_of_reap = refl
 
+pub fields_of_ampdu : (station octets : ℕ) →
+    numbers_of_call (Asked (Ampdu station octets))
+    ≡ record blank_call { kind = 14; station = station; octets = octets }
+fields_of_ampdu station octets = refl
+
+pub fields_of_stop : (station : ℕ) →
+    numbers_of_call (Asked (Stop station)) ≡ record blank_call { kind = 15; station = station }
+fields_of_stop station = refl
+
+pub fields_of_start : (station : ℕ) →
+    numbers_of_call (Asked (Start station)) ≡ record blank_call { kind = 16; station = station }
+fields_of_start station = refl
+
 -- ---- the call of fields
 
 -- the calls that these fields show, by their kind and some other field
@@ -126,7 +144,15 @@ pub record Rows (c : CallNumbers) : Type 0 where
   pub no_rate : (n : ℕ) → 2 < n → asked (record c { kind = 2; form = n }) ≡ None
   pub tick : asked (record c { kind = 3 }) ≡ Some (Tick c.by)
   pub enqueue : asked (record c { kind = 4 }) ≡ None
-  pub pull : c.class ≤ 3 → asked (record c { kind = 5 }) ≡ Some (Pull (class_among all_classes c.class))
+  pub pull : c.class ≤ 3 → asked (record c { kind = 5; frames = 0; air = 0 })
+      ≡ Some (Pull (class_among all_classes c.class) no_limits)
+  pub pull_frames : c.class ≤ 3 → (n : ℕ) → 0 < n → asked (record c { kind = 5; frames = n; air = 0 })
+      ≡ Some (Pull (class_among all_classes c.class) (limits (Some n) None))
+  pub pull_air : c.class ≤ 3 → (n : ℕ) → 0 < n → asked (record c { kind = 5; frames = 0; air = n })
+      ≡ Some (Pull (class_among all_classes c.class) (limits None (Some n)))
+  pub pull_limited : c.class ≤ 3 → (n m : ℕ) → 0 < n → 0 < m →
+      asked (record c { kind = 5; frames = n; air = m })
+      ≡ Some (Pull (class_among all_classes c.class) (limits (Some n) (Some m)))
   pub no_pull : (n : ℕ) → 3 < n → asked (record c { kind = 5; class = n }) ≡ None
   pub arrive : asked (record c { kind = 6 }) ≡ Some (Arrive c.exchange c.index)
   pub answer : asked (record c { kind = 7 }) ≡ Some (Answer c.exchange)
@@ -140,12 +166,15 @@ pub record Rows (c : CallNumbers) : Type 0 where
       asked (record c { kind = 12 }) ≡ Some (Rx c.station (class_among all_classes c.class) c.air)
   pub no_rx : (n : ℕ) → 3 < n → asked (record c { kind = 12; class = n }) ≡ None
   pub reap : asked (record c { kind = 13 }) ≡ None
-  pub no_call : (n : ℕ) → 13 < n → asked (record c { kind = n }) ≡ None
+  pub ampdu : asked (record c { kind = 14 }) ≡ Some (Ampdu c.station c.octets)
+  pub stop : asked (record c { kind = 15 }) ≡ Some (Stop c.station)
+  pub start : asked (record c { kind = 16 }) ≡ Some (Start c.station)
+  pub no_call : (n : ℕ) → 16 < n → asked (record c { kind = n }) ≡ None
 
 above : (n k : ℕ) → k < n → nat_eq n k ≡ false
 above n k less = grind (arith, nat_tests)
 
-none_numbered : (n : ℕ) → 13 < n → call_numbered n ≡ None
+none_numbered : (n : ℕ) → 16 < n → call_numbered n ≡ None
 none_numbered n less = grind (arith, nat_tests)
 
 is_class : (n : ℕ) → n ≤ 3 → nat_lt 3 n ≡ false
@@ -167,6 +196,9 @@ rows c = record {
   tick = refl;
   enqueue = refl;
   pull = λ low. rw (is_class c.class low) refl;
+  pull_frames = λ low n some. rw (is_class c.class low, above n 0 some) refl;
+  pull_air = λ low n some. rw (is_class c.class low, above n 0 some) refl;
+  pull_limited = λ low n m some long. rw (is_class c.class low, above n 0 some, above m 0 long) refl;
   no_pull = λ n high. rw (no_class n high) refl;
   arrive = refl;
   answer = refl;
@@ -178,5 +210,8 @@ rows c = record {
   rx = λ low. rw (is_class c.class low) refl;
   no_rx = λ n high. rw (no_class n high) refl;
   reap = refl;
+  ampdu = refl;
+  stop = refl;
+  start = refl;
   no_call = λ n less. rw (none_numbered n less) refl;
 }

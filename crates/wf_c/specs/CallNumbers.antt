@@ -1,6 +1,6 @@
 -- Defines how the fields of a struct show a call, by the table of calls: each argument has its own field.
 use Rattle.std.specs.Prelude.{ℕ, nat_lt, ◌==◌, List, ◌∷◌, Option, Some, None, map, option_and_then, if◌then◌else◌}
-use Rattle.wf_frame.specs.Calls.{form_number, call_numbered, arguments_of, form_of_end, note_form, note_values, note_made}
+use Rattle.wf_frame.specs.Calls.{form_number, call_numbered, arguments_of, form_of_end, form_of_limits, note_form, note_values, note_made}
 use Rattle.wf_frame.specs.Classes.{all_classes, class_among, class_number}
 use Rattle.wf_frame.specs.declared.calls.Argument.{Argument}
 use Rattle.wf_frame.specs.declared.calls.Argument.TheVariants as argument
@@ -14,7 +14,7 @@ use Rattle.wf_frame.specs.declared.notes.Ask.{Ask}
 use Rattle.wf_frame.specs.declared.notes.Ask.TheVariants.{Reap}
 use Rattle.wf_frame.specs.declared.notes.Note.{Note}
 use Rattle.wf_frame.specs.declared.notes.Note.TheVariants.{Enqueue, Asked}
-use Rattle.wf_c.specs.Numbers.{flag_of, is_up, named_air}
+use Rattle.wf_c.specs.Numbers.{flag_of, is_up, given_number}
 use Rattle.wf_c.specs.declared.cell.calls.CallNumbers.{CallNumbers}
 
 -- all fields are 0
@@ -24,6 +24,8 @@ blank_call = record {
   flow = 0;
   by = 0;
   air = 0;
+  frames = 0;
+  octets = 0;
   station = 0;
   window = 0;
   start = 0;
@@ -77,6 +79,10 @@ value_in c argument.Index = value.Short c.index
 value_in c argument.Heard = value.Heard (is_up c.heard)
 value_in c argument.Measured = value.Air
 value_in c argument.Air = value.Long c.air
+value_in c argument.Framed = value.Frames
+value_in c argument.Frames = value.Long c.frames
+value_in c argument.Allowed = value.Long c.air
+value_in c argument.Octets = value.Long c.octets
 
 -- the fields after they are set to this value of an argument
 abbrev pub with_argument : CallNumbers → Argument → Value → CallNumbers
@@ -100,6 +106,9 @@ with_argument c argument.Exchange (value.Exchange n) = record c { exchange = n }
 with_argument c argument.Index (value.Short n) = record c { index = n }
 with_argument c argument.Heard (value.Heard heard) = record c { heard = flag_of heard }
 with_argument c argument.Air (value.Long n) = record c { air = n }
+with_argument c argument.Frames (value.Long n) = record c { frames = n }
+with_argument c argument.Allowed (value.Long n) = record c { air = n }
+with_argument c argument.Octets (value.Long n) = record c { octets = n }
 with_argument c _ _ = c
 
 -- the fields after they are set to these values of several arguments
@@ -110,7 +119,8 @@ with_arguments c _ _ = c
 -- ---- the fields of a call
 
 -- The fields of a call: those of its arguments, and the number of its form. A Done with the airtime 0 has the
--- same fields as one without an airtime: no fields show it, so no history of a cell in C has it.
+-- same fields as one without an airtime, and a Pull with the limit 0 as one without this limit: no fields
+-- show such a call, so no history of a cell in C has it.
 abbrev pub numbers_of_call : Note → CallNumbers
 numbers_of_call note =
     record (with_arguments blank_call (arguments_of (note_form note)) (note_values note)) {
@@ -132,11 +142,12 @@ abbrev pub form_of_class : CallForm → ℕ → Option CallForm
 form_of_class f class = if nat_lt 3 class then None else Some f
 
 -- the form of a call that the fields show: for a rate by its format, for a Done by whether it gives an
--- airtime; a call of a class that does not exist has none
+-- airtime, for a Pull by its limits; a call of a class that does not exist has none
 abbrev pub form_of_fields : CallNumbers → CallForm → Option CallForm
 form_of_fields c form.Rate = form_of_format c.form
-form_of_fields c form.Done = Some (form_of_end (named_air c.air))
-form_of_fields c form.Pull = form_of_class form.Pull c.class
+form_of_fields c form.Done = Some (form_of_end (given_number c.air))
+form_of_fields c form.Pull =
+    form_of_class (form_of_limits (given_number c.frames) (given_number c.air)) c.class
 form_of_fields c form.Rx = form_of_class form.Rx c.class
 form_of_fields c call = Some call
 

@@ -7,7 +7,7 @@ use Rattle.wf_c.specs.declared.settings.Settings.{Settings}
 
 -- the place of the first reserved number: it follows the settings
 abbrev pub first_reserved : ℕ
-first_reserved = 20
+first_reserved = 25
 
 -- the place of the first reserved number that is not 0, if any
 abbrev pub first_set : List ℕ → Option ℕ
@@ -41,6 +41,11 @@ config_of s = record {
   codel_reset = s.codel_reset;
   aql = s.aql;
   pending = s.pending;
+  overhead = s.overhead;
+  cap_vi = s.cap_vi;
+  cap_vo = s.cap_vo;
+  answers = s.answers;
+  credits = s.credits;
 }
 
 -- end settings

@@ -80,7 +80,7 @@ kind_rows =
     (0, codes "joined") ∷ (1, codes "left") ∷ (2, codes "set") ∷ (3, codes "now") ∷ (4, codes "accepted") ∷
     (5, codes "send") ∷ (6, codes "released") ∷ (7, codes "ba") ∷ (8, codes "done") ∷ (9, codes "slept") ∷
     (10, codes "woken") ∷ (11, codes "polled") ∷ (12, codes "charged") ∷ (13, codes "reaped") ∷
-    (14, codes "refused") ∷ []
+    (14, codes "refused") ∷ (15, codes "stopped") ∷ (16, codes "started") ∷ []
 
 -- the word for a kind of answer
 abbrev pub answer_word : ℕ → List ℕ

@@ -3,9 +3,11 @@ use Rattle.std.specs.Prelude.{ℕ, ◌==◌, not, Bool, true, false, Option, Som
 use Rattle.wf_frame.specs.Classes.{all_classes, class_number, fate_number}
 use Rattle.wf_frame.specs.declared.classes.Class.{Class}
 use Rattle.wf_frame.specs.declared.answers.Brief.{Brief}
-use Rattle.wf_frame.specs.declared.answers.Brief.TheVariants.{Joined, Set, Now, Accepted, Send, Released, Ba, Done, Slept, Woken, Polled, Charged, Reaped, Refused}
+use Rattle.wf_frame.specs.declared.answers.Brief.TheVariants.{Joined, Set, Now, Accepted, Send, Released, Ba, Done, Slept, Woken, Polled, Charged, Reaped, Stopped, Started, Refused}
 use Rattle.wf_frame.specs.declared.answers.Brief.TheVariants as brief
+use Rattle.wf_frame.specs.Calls.{limits}
 use Rattle.wf_frame.specs.Refusals.{refusal_number}
+use Rattle.wf_frame.specs.declared.notes.Limits.{Limits}
 use Rattle.wf_frame.specs.declared.notes.Refusal.{Refusal}
 use Rattle.wf_frame.specs.declared.notes.Refusal.TheVariants as refusal
 use Rattle.wf_rotation.specs.declared.side.Side.{Side}
@@ -33,11 +35,15 @@ list_number None = 0
 list_number (Some New) = 1
 list_number (Some Old) = 2
 
--- ---- airtimes
+-- ---- airtimes and limits
 
--- the airtime that a number gives; 0 gives none
-abbrev pub named_air : ℕ → Option ℕ
-named_air n = if n == 0 then None else Some n
+-- the airtime or the limit that a number gives; 0 gives none
+abbrev pub given_number : ℕ → Option ℕ
+given_number n = if n == 0 then None else Some n
+
+-- the limits that two numbers give to a pull
+abbrev pub limits_given : (frames air : ℕ) → Limits
+limits_given frames air = limits (given_number frames) (given_number air)
 
 -- ---- answers
 
@@ -114,6 +120,8 @@ numbers_of Woken = record blank { kind = 10 }
 numbers_of (Polled class) = record blank { kind = 11; class = class_number class }
 numbers_of (Charged deficit) = record blank { kind = 12; deficit = deficit }
 numbers_of (Reaped id fate) = record blank { kind = 13; id = id; fate = fate_number fate }
+numbers_of Stopped = record blank { kind = 15 }
+numbers_of Started = record blank { kind = 16 }
 numbers_of (Refused reason) = with_refusal reason
     (record blank { kind = 14; refusal = refusal_number reason })
 

@@ -3,18 +3,20 @@
 //! Each writes its answer to the caller's `Reply`, and returns its refusal, or 0 if it was not refused.
 
 ghost use Rattle.std.specs.Prelude.{◌≡◌, true, is_some, pos, IfSome, IfNone, OnSome};
-ghost use Rattle.wf_frame.specs.declared.notes.Ask.TheVariants.{Join, Leave, Rate, Tick, Pull, Sleep, Wake, Poll, Rx};
+ghost use Rattle.wf_frame.specs.declared.notes.Ask.TheVariants.{Join, Leave, Rate, Tick, Pull, Sleep, Wake, Poll, Rx, Ampdu, Stop, Start};
 ghost use Rattle.wf_frame.specs.declared.notes.AskedRate.TheVariants.{Ht, Vht, He};
+ghost use Rattle.wf_frame.specs.Calls.{no_limits};
 ghost use Rattle.wf_path.specs.Jobs.{as_ask};
 ghost use Rattle.wf_c.specs.Bodies.{IsUntouched};
 ghost use Rattle.wf_c.specs.Calls.{Becomes, HoldsSmall, IsCalled};
-ghost use Rattle.wf_c.specs.Numbers.{bad_class, class_shown, is_up};
+ghost use Rattle.wf_c.specs.Numbers.{bad_class, class_shown, is_up, limits_given};
 ghost use Rattle.wf_c.specs.Pulled.{ShowsAggregate};
 
+use crate::exchanges::given_number;
 use crate::pulled::Frames;
 use crate::reply::Reply;
 use crate::slot::PathSlot;
-use wf_frame::{AskedRate, Class};
+use wf_frame::{AskedRate, Class, Limits};
 use wf_path::PathAsk;
 
 impl PathSlot {
@@ -204,6 +206,45 @@ pub extern "C" fn wf_path_poll(path: &mut PathSlot, station: u16, reply: &mut Re
     path.ask(PathAsk::Poll { station }, reply)
 }
 
+/// Sets the most octets of aggregates of VHT and HE to a station, 4,096 to 6,500,631.
+#[unsafe(no_mangle)]
+pub extern "C" fn wf_path_ampdu(
+    path: &mut PathSlot,
+    station: u16,
+    octets: u32,
+    reply: &mut Reply,
+) -> i32
+    requires open { is_some path.old.value ≡ true }
+    requires small { HoldsSmall path.old.value }
+    ensures called { Becomes (λ h k. IsCalled h
+        (Ampdu station octets) k reply.new) path.old.value path.new.value }
+    ensures code { result ≡ pos reply.new.refusal }
+{
+    path.ask(PathAsk::Ampdu { station, octets }, reply)
+}
+
+/// Stops a station: no pull picks it until it is started.
+#[unsafe(no_mangle)]
+pub extern "C" fn wf_path_stop(path: &mut PathSlot, station: u16, reply: &mut Reply) -> i32
+    requires open { is_some path.old.value ≡ true }
+    requires small { HoldsSmall path.old.value }
+    ensures called { Becomes (λ h k. IsCalled h (Stop station) k reply.new) path.old.value path.new.value }
+    ensures code { result ≡ pos reply.new.refusal }
+{
+    path.ask(PathAsk::Stop { station }, reply)
+}
+
+/// Starts a station that is stopped: pulls may pick it again.
+#[unsafe(no_mangle)]
+pub extern "C" fn wf_path_start(path: &mut PathSlot, station: u16, reply: &mut Reply) -> i32
+    requires open { is_some path.old.value ≡ true }
+    requires small { HoldsSmall path.old.value }
+    ensures called { Becomes (λ h k. IsCalled h (Start station) k reply.new) path.old.value path.new.value }
+    ensures code { result ≡ pos reply.new.refusal }
+{
+    path.ask(PathAsk::Start { station }, reply)
+}
+
 /// Charges a station for `air` microseconds that it used to send in a class. Returns 47 if the class is above
 /// 3, and then nothing has changed.
 #[unsafe(no_mangle)]
@@ -246,7 +287,7 @@ pub extern "C" fn wf_path_pull(
     requires open { is_some path.old.value ≡ true }
     requires small { HoldsSmall path.old.value }
     ensures called { IfSome (class_shown class) (λ c. Becomes (λ h k. IsCalled h
-        (Pull c) k reply.new × (result ≡ pos reply.new.refusal)) path.old.value path.new.value) }
+        (Pull c no_limits) k reply.new × (result ≡ pos reply.new.refusal)) path.old.value path.new.value) }
     ensures frames { OnSome (class_shown class) (IfSome path.new.value
         (λ k. ShowsAggregate frames.new k.answer.brief k.answer.pairs)) }
     ensures refused { IfNone (class_shown class)
@@ -257,7 +298,42 @@ pub extern "C" fn wf_path_pull(
         return BAD_CLASS;
     };
     let held = path.held();
-    *reply = held.pull(class);
+    *reply = held.pull(class, Limits::NONE);
+    frames.show(&held.answer);
+    i32::from(reply.refusal)
+}
+
+/// Opens the next exchange of a class with at most `most` frames, whose data take at most `air` microseconds.
+/// 0 limits nothing, and one frame goes whatever the limits are. Otherwise like `wf_path_pull`.
+#[unsafe(no_mangle)]
+pub extern "C" fn wf_path_pull_limited(
+    path: &mut PathSlot,
+    class: u8,
+    most: u32,
+    air: u32,
+    reply: &mut Reply,
+    frames: &mut Frames,
+) -> i32
+    requires open { is_some path.old.value ≡ true }
+    requires small { HoldsSmall path.old.value }
+    ensures called { IfSome (class_shown class) (λ c. Becomes (λ h k. IsCalled h
+        (Pull c (limits_given most air)) k reply.new × (result ≡ pos reply.new.refusal))
+        path.old.value path.new.value) }
+    ensures frames { OnSome (class_shown class) (IfSome path.new.value
+        (λ k. ShowsAggregate frames.new k.answer.brief k.answer.pairs)) }
+    ensures refused { IfNone (class_shown class)
+        (IsUntouched path.old.value path.new.value reply.old reply.new result bad_class) }
+    ensures kept { IfNone (class_shown class) (frames.new ≡ frames.old) }
+{
+    let Some(class) = class_of_number(class) else {
+        return BAD_CLASS;
+    };
+    let limits = Limits {
+        frames: given_number(most),
+        air: given_number(air),
+    };
+    let held = path.held();
+    *reply = held.pull(class, limits);
     frames.show(&held.answer);
     i32::from(reply.refusal)
 }

@@ -14,7 +14,7 @@ ghost use Rattle.wf_path.specs.Driver.{end_fault};
 ghost use Rattle.wf_path.specs.Paths.{IsSmall};
 ghost use Rattle.wf_c.specs.Calls.{Becomes, HoldsFor, HoldsSmall, addresses_held, reserve_held};
 ghost use Rattle.wf_c.specs.Ends.{IsExchangeEnded, end_code, id_code, needs, octets_code, sent_code, sent_shown, write_code};
-ghost use Rattle.wf_c.specs.Numbers.{named_air};
+ghost use Rattle.wf_c.specs.Numbers.{given_number};
 
 use crate::held::Held;
 use crate::reply::{Reply, refusal_code};
@@ -191,11 +191,11 @@ pub(crate) const SMALL_BUFFER: i32 = 42;
 /// The code of a transmission whose frame is bare.
 const NO_BODY: i32 = 45;
 
-// The airtime that a number gives; 0 gives none.
-pub(crate) fn named_air(air: u32) -> Option<u32>
-    ensures { result ≡ named_air air }
+// The airtime or the limit that a number gives; 0 gives none.
+pub(crate) fn given_number(number: u32) -> Option<u32>
+    ensures { result ≡ given_number number }
 {
-    if air == 0 { None } else { Some(air) }
+    if number == 0 { None } else { Some(number) }
 }
 
 impl Held {
@@ -250,10 +250,10 @@ impl PathSlot {
         requires open { is_some self.old.value ≡ true }
         requires small { HoldsSmall self.old.value }
         ensures ended { Becomes (λ h k. IsExchangeEnded h exchange heard
-            (named_air air) k reply.new) self.old.value self.new.value }
+            (given_number air) k reply.new) self.old.value self.new.value }
         ensures code { result ≡ pos reply.new.refusal }
     {
-        *reply = self.held().end(exchange, heard, named_air(air));
+        *reply = self.held().end(exchange, heard, given_number(air));
         i32::from(reply.refusal)
     }
 }
@@ -271,7 +271,7 @@ pub extern "C" fn wf_path_done_lost(
     requires open { is_some path.old.value ≡ true }
     requires small { HoldsSmall path.old.value }
     ensures ended { Becomes (λ h k. IsExchangeEnded h exchange None
-        (named_air air) k reply.new) path.old.value path.new.value }
+        (given_number air) k reply.new) path.old.value path.new.value }
     ensures code { result ≡ pos reply.new.refusal }
 {
     path.end_exchange(exchange, None, air, reply)
@@ -292,7 +292,7 @@ pub extern "C" fn wf_path_done_bits(
     requires open { is_some path.old.value ≡ true }
     requires small { HoldsSmall path.old.value }
     ensures ended { Becomes (λ h k. IsExchangeEnded h exchange
-        (Some (start % 4096, offsets_in bits.now)) (named_air air)
+        (Some (start % 4096, offsets_in bits.now)) (given_number air)
         k reply.new) path.old.value path.new.value }
     ensures code { result ≡ pos reply.new.refusal }
 {
@@ -316,15 +316,15 @@ pub extern "C" fn wf_path_done_octets(
     requires small { HoldsSmall path.old.value }
     ensures code { (w : World) (bodies : ℕ → FrameValue) → HoldsFor path.old.value w bodies →
         result ≡ pos (octets_code (end_fault (addresses_held path.old.value) w exchange (Some octets.now))
-        (is_bad_air w.config (named_air air))) }
+        (is_bad_air w.config (given_number air))) }
     ensures ended { (result ≡ pos 0 → Becomes
         (λ h k. IsExchangeEnded h exchange (Some
-        (block_ack_in octets.now)) (named_air air) k reply.new) path.old.value path.new.value) }
+        (block_ack_in octets.now)) (given_number air) k reply.new) path.old.value path.new.value) }
     ensures fault { (result ≡ pos 0) ⊎ Becomes (λ h k. k.path ≡ h.path) path.old.value path.new.value }
     ensures kept { (result ≡ pos 0) ⊎ (reply.new ≡ reply.old) }
     ensures reserve { reserve_held path.old.value ≤ reserve_held path.new.value }
 {
-    let air = named_air(air);
+    let air = given_number(air);
     let held = path.held();
     let is_bad = held.is_bad_air(air);
     match held.end_by(exchange, octets, air) {

@@ -13,7 +13,7 @@ ghost use Rattle.wf_c.specs.Calls.{IsCalled};
 use crate::reply::Reply;
 use crate::reserve::Reserve;
 use std::alloc::Global;
-use wf_frame::{Answer, Class, Config};
+use wf_frame::{Answer, Class, Config, Limits};
 use wf_path::{Path, PathAsk, PathJob};
 
 /// A path, the buffer that each call writes its answer to, and memory in reserve.
@@ -56,12 +56,14 @@ impl Held {
         }
     }
 
-    // Opens the next exchange of a class.
-    pub(crate) fn pull(&mut self, class: Class) -> Reply
+    // Opens the next exchange of a class, within these limits.
+    pub(crate) fn pull(&mut self, class: Class, limits: Limits) -> Reply
         requires small { IsSmall self.old.path.half }
-        ensures { IsCalled self.old (Pull class) self.new result }
+        ensures { IsCalled self.old (Pull class limits) self.new result }
     {
-        let _ = self.path.call(PathJob::Pull(class), &mut self.answer);
+        let _ = self
+            .path
+            .call(PathJob::Pull(class, limits), &mut self.answer);
         Reply::of(self.answer.brief)
     }
 

@@ -98,7 +98,7 @@ fn word_of_own(code: u32) -> &'static [u8]
     }
 }
 
-/// Writes the word for a kind of answer, 0 to 14, the first word of its line in a trace; `?` for any other
+/// Writes the word for a kind of answer, 0 to 16, the first word of its line in a trace; `?` for any other
 /// number.
 #[unsafe(no_mangle)]
 pub extern "C" fn wf_kind_name(kind: i32, name: &mut [u8; 16])
@@ -133,6 +133,8 @@ fn word_of_kind(kind: u32) -> &'static [u8]
         12 => b"charged",
         13 => b"reaped",
         14 => b"refused",
+        15 => b"stopped",
+        16 => b"started",
         _ => UNKNOWN,
     }
 }
@@ -161,7 +163,7 @@ fn word_of_fate(fate: u32) -> &'static [u8]
     }
 }
 
-/// Writes the word for a setting, by its place, 1 to 19; `?` for any other number.
+/// Writes the word for a setting, by its place, 1 to 24; `?` for any other number.
 #[unsafe(no_mangle)]
 pub extern "C" fn wf_setting_name(place: i32, name: &mut [u8; 16])
     ensures { name.new ≡ name_text (word_at setting_word_at place) }

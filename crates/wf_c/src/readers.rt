@@ -4,6 +4,7 @@ ghost use Rattle.std.specs.Prelude.{◌≡◌, ◌<◌, ◌⊎◌, ℕ, true, is
 ghost use Rattle.std.specs.Result.{result_err};
 ghost use Rattle.wf_frame.specs.Frames.{FrameValue};
 ghost use Rattle.wf_frame.specs.declared.notes.Ask.TheVariants.{Pull};
+ghost use Rattle.wf_frame.specs.declared.notes.Limits.{Limits};
 ghost use Rattle.wf_frame.specs.declared.notes.Note.TheVariants.{Asked};
 ghost use Rattle.wf_def_agreement.specs.Session.{waiting_numbers};
 ghost use Rattle.wf_def_world.specs.FlowQueues.{frames_queued};
@@ -166,12 +167,14 @@ pub extern "C" fn wf_path_share(
     }
 }
 
-/// Returns 1 if a pull of a class would send now, or 0 if it would be refused, or if the class is above 3.
+/// Returns 1 if a pull of a class would send now, whatever its limits, or 0 if it would be refused, or if the
+/// class is above 3.
 #[unsafe(no_mangle)]
 pub extern "C" fn wf_path_can_pull(path: &mut PathSlot, class: u8) -> i32
     requires open { is_some path.old.value ≡ true }
     ensures world { (w : World) (bodies : ℕ → FrameValue) → HoldsFor path.old.value w bodies →
-        IfSome (class_shown class) (λ c. result ≡ pos (flag_of (is_none (refusal w (Asked (Pull c)))))) }
+        IfSome (class_shown class) (λ c. (limits : Limits) →
+        result ≡ pos (flag_of (is_none (refusal w (Asked (Pull c limits)))))) }
     ensures no_class { IfNone (class_shown class) (result ≡ pos 0) }
     ensures unchanged { path.new.value ≡ path.old.value }
 {

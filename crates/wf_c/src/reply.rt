@@ -37,9 +37,9 @@ pub struct Reply {
     pub waiting: u16,
     /// The number of its frames that are dropped.
     pub failed: u16,
-    /// The kind of answer: 0 to 14.
+    /// The kind of answer: 0 to 16.
     pub kind: u8,
-    /// Why the call was refused: 1 to 28, or 0 if it was not.
+    /// Why the call was refused: 1 to 31, or 0 if it was not.
     pub refusal: u8,
     /// The TID to send for: 0 to 7.
     pub tid: u8,
@@ -119,6 +119,8 @@ impl Reply {
                 ..of_kind(12)
             },
             Brief::Reaped { id, fate } => reaped(id, fate),
+            Brief::Stopped => of_kind(15),
+            Brief::Started => of_kind(16),
             Brief::Refused(refusal) => refused(refusal),
         }
     }

@@ -7,7 +7,7 @@ ghost use Rattle.wf_c.specs.Making.{bad_place, config_of, first_set};
 use wf_frame::Config;
 
 // The place of the first reserved number: it follows the settings.
-const FIRST_RESERVED: u8 = 20;
+const FIRST_RESERVED: u8 = 25;
 
 /// The settings of a path: those of `wf_frame::Config`, in its order, with the same units and ranges.
 #[repr(C)]
@@ -33,9 +33,14 @@ pub struct Settings {
     pub codel_reset: u32,
     pub aql: u32,
     pub pending: u32,
+    pub overhead: u32,
+    pub cap_vi: u32,
+    pub cap_vo: u32,
+    pub answers: u32,
+    pub credits: u32,
     // end fields
     /// Room for later settings: each has to be 0.
-    pub reserved: [u32; 13],
+    pub reserved: [u32; 8],
 }
 
 impl Settings {
@@ -64,6 +69,11 @@ impl Settings {
             codel_reset: self.codel_reset,
             aql: self.aql,
             pending: self.pending,
+            overhead: self.overhead,
+            cap_vi: self.cap_vi,
+            cap_vo: self.cap_vo,
+            answers: self.answers,
+            credits: self.credits,
             // end config
         }
     }
@@ -92,7 +102,7 @@ impl Settings {
     // The index of the first reserved number that is not 0.
     fn first_set(&self) -> Option<usize>
         ensures index { result ≡ position (λ number. not (number == 0)) self.now.reserved }
-        ensures inside { IfSome result (λ i. i < 13) }
+        ensures inside { IfSome result (λ i. i < 8) }
     {
         self.reserved.iter().position(|number| *number != 0)
     }
@@ -101,7 +111,7 @@ impl Settings {
 // The settings as the caller's struct has them.
 fn shown(config: &Config) -> Settings
     ensures config { config_of result ≡ config.now }
-    ensures reserved { result.reserved ≡ replicate 13 0 }
+    ensures reserved { result.reserved ≡ replicate 8 0 }
 {
     Settings {
         // begin shown: tools/tables writes these lines
@@ -124,8 +134,13 @@ fn shown(config: &Config) -> Settings
         codel_reset: config.codel_reset,
         aql: config.aql,
         pending: config.pending,
+        overhead: config.overhead,
+        cap_vi: config.cap_vi,
+        cap_vo: config.cap_vo,
+        answers: config.answers,
+        credits: config.credits,
         // end shown
-        reserved: [0; 13],
+        reserved: [0; 8],
     }
 }
 
@@ -133,7 +148,7 @@ fn shown(config: &Config) -> Settings
 #[unsafe(no_mangle)]
 pub extern "C" fn wf_settings_standard(settings: &mut Settings)
     ensures config { config_of settings.new ≡ standard }
-    ensures reserved { settings.new.reserved ≡ replicate 13 0 }
+    ensures reserved { settings.new.reserved ≡ replicate 8 0 }
 {
     *settings = shown(&Config::standard());
 }
@@ -142,7 +157,7 @@ pub extern "C" fn wf_settings_standard(settings: &mut Settings)
 #[unsafe(no_mangle)]
 pub extern "C" fn wf_settings_device(settings: &mut Settings)
     ensures config { config_of settings.new ≡ device }
-    ensures reserved { settings.new.reserved ≡ replicate 13 0 }
+    ensures reserved { settings.new.reserved ≡ replicate 8 0 }
 {
     *settings = shown(&Config::device());
 }

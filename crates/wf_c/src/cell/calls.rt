@@ -2,11 +2,11 @@
 
 ghost use Rattle.std.specs.Prelude.{◌≡◌, length, map};
 ghost use Rattle.wf_frame.specs.Classes.{all_classes, class_among};
-ghost use Rattle.wf_frame.specs.Calls.{arguments_of, form_number, form_of_end, note_form};
+ghost use Rattle.wf_frame.specs.Calls.{arguments_of, form_number, form_of_end, form_of_limits, note_form};
 ghost use Rattle.wf_c.specs.CallNumbers.{asked, blank_call, form_shown, format_number, format_shown, note_in, call_noted, numbers_of_call, form_of_class, form_of_format, value_in, with_argument, with_arguments, without_frame};
-ghost use Rattle.wf_c.specs.Numbers.{named_air as air_named};
+ghost use Rattle.wf_c.specs.Numbers.{given_number as number_given};
 
-use crate::exchanges::named_air;
+use crate::exchanges::given_number;
 use crate::reply::number_of_class;
 use arrayvec::ArrayVec;
 use wf_frame::{Argument, Ask, CallForm, Class, Note, RateFormat, Value};
@@ -21,8 +21,13 @@ pub struct CallNumbers {
     pub flow: u32,
     /// How far the clock moves, in microseconds.
     pub by: u32,
-    /// The airtime that a station used, or that the end of an exchange gives, in microseconds; 0 gives none.
+    /// The airtime that a station used, that the end of an exchange gives, or that a pull allows, in
+    /// microseconds; 0 gives none.
     pub air: u32,
+    /// The most frames that a pull allows; 0 gives none.
+    pub frames: u32,
+    /// The most octets of an aggregate.
+    pub octets: u32,
     /// The station.
     pub station: u16,
     /// The window of a join, in frames.
@@ -35,7 +40,7 @@ pub struct CallNumbers {
     pub length: u16,
     /// The guard interval of a rate of HE, in nanoseconds.
     pub guard: u16,
-    /// The kind of call: 0 to 13.
+    /// The kind of call: 0 to 16.
     pub kind: u8,
     /// The TID of a frame.
     pub tid: u8,
@@ -65,6 +70,8 @@ const BLANK: CallNumbers = CallNumbers {
     flow: 0,
     by: 0,
     air: 0,
+    frames: 0,
+    octets: 0,
     station: 0,
     window: 0,
     start: 0,
@@ -119,11 +126,23 @@ fn form_of_rate(number: u8) -> Option<CallForm>
 
 // The form of a Done, by the airtime that it gives, if any.
 fn form_of_end(air: u32) -> CallForm
-    ensures { result ≡ form_of_end (air_named air) }
+    ensures { result ≡ form_of_end (number_given air) }
 {
-    match named_air(air) {
+    match given_number(air) {
         None => CallForm::Done,
         Some(_) => CallForm::DoneAir,
+    }
+}
+
+// The form of a Pull, by the limits that it gives, if any.
+fn form_of_limits(frames: u32, air: u32) -> CallForm
+    ensures { result ≡ form_of_limits (number_given frames) (number_given air) }
+{
+    match (given_number(frames), given_number(air)) {
+        (None, None) => CallForm::Pull,
+        (Some(_), None) => CallForm::PullFrames,
+        (None, Some(_)) => CallForm::PullAir,
+        (Some(_), Some(_)) => CallForm::PullLimited,
     }
 }
 
@@ -172,7 +191,10 @@ impl CallNumbers {
             Argument::Index => Value::Short(self.index),
             Argument::Heard => Value::Heard(self.heard != 0),
             Argument::Measured => Value::Air,
-            Argument::Air => Value::Long(self.air),
+            Argument::Air | Argument::Allowed => Value::Long(self.air),
+            Argument::Framed => Value::Frames,
+            Argument::Frames => Value::Long(self.frames),
+            Argument::Octets => Value::Long(self.octets),
         }
     }
 
@@ -200,7 +222,9 @@ impl CallNumbers {
             (Argument::Exchange, Value::Exchange(number)) => self.exchange = number,
             (Argument::Index, Value::Short(number)) => self.index = number,
             (Argument::Heard, Value::Heard(heard)) => self.heard = u8::from(heard),
-            (Argument::Air, Value::Long(number)) => self.air = number,
+            (Argument::Air | Argument::Allowed, Value::Long(number)) => self.air = number,
+            (Argument::Frames, Value::Long(number)) => self.frames = number,
+            (Argument::Octets, Value::Long(number)) => self.octets = number,
             _ => {}
         }
     }
@@ -212,7 +236,7 @@ impl CallNumbers {
         match CallForm::numbered(self.kind)? {
             CallForm::Rate => form_of_rate(self.form),
             CallForm::Done => Some(form_of_end(self.air)),
-            CallForm::Pull => form_of_class(CallForm::Pull, self.class),
+            CallForm::Pull => form_of_class(form_of_limits(self.frames, self.air), self.class),
             CallForm::Rx => form_of_class(CallForm::Rx, self.class),
             call => Some(call),
         }

@@ -19,7 +19,7 @@ fits true = refl
 pub returns-in-Some-clause-world : goal.returns-in-Some-clause-world
 returns-in-Some-clause-world c w bodies h =
     let is : class_shown c.args.class ≡ Some c.in-Some.class = sym c.class_of_number.ensures ∙ c.in-Some.is in
-    rw is (ap (λ (z : ℤ). to_z w32 (of_z w32 z)) (c.number_of_flag.ensures
+    rw is (λ limits. ap (λ (z : ℤ). to_z w32 (of_z w32 z)) (c.number_of_flag.ensures
     ∙ ap (λ (b : Bool). pos (flag_of b))
-    (c.can_pull.ensures w bodies (subst (λ (o : Option Held). HoldsFor o w bodies) c.held.ensures.value h)))
-    ∙ fits (is_none (refusal w (Asked (Pull c.in-Some.class)))))
+    (c.can_pull.ensures w bodies (subst (λ (o : Option Held). HoldsFor o w bodies) c.held.ensures.value h) limits))
+    ∙ fits (is_none (refusal w (Asked (Pull c.in-Some.class limits)))))
