@@ -65,7 +65,7 @@ static struct wf_call some_call(void) {
   static const uint8_t KINDS[] = {WF_CALL_JOIN,    WF_CALL_LEAVE,   WF_CALL_RATE,    WF_CALL_TICK, WF_CALL_TICK, WF_CALL_ENQUEUE,
                                   WF_CALL_ENQUEUE, WF_CALL_ENQUEUE, WF_CALL_ENQUEUE, WF_CALL_PULL, WF_CALL_PULL, WF_CALL_DONE,
                                   WF_CALL_DONE,    WF_CALL_SLEEP,   WF_CALL_WAKE,    WF_CALL_POLL, WF_CALL_RX,   WF_CALL_REAP,
-                                  WF_CALL_REAP,    WF_CALL_REAP};
+                                  WF_CALL_REAP,    WF_CALL_REAP,    WF_CALL_AMPDU,   WF_CALL_STOP, WF_CALL_START, WF_CALL_START};
   struct wf_call call = {0};
   call.kind = KINDS[below(sizeof KINDS)];
   if (call.kind == WF_CALL_LEAVE && below(8)) call.kind = WF_CALL_JOIN;
@@ -83,6 +83,8 @@ static struct wf_call some_call(void) {
   call.class_ = (uint8_t)below(4);
   call.exchange = open_count && below(20) ? opened[below(open_count)] : below(1000);
   call.air = call.kind == WF_CALL_RX ? 1 + below(4000) : 0;
+  if (call.kind == WF_CALL_PULL && below(2)) call.frames = below(5), call.air = below(2000);
+  call.octets = 4000 + below(10000);
   return call;
 }
 
@@ -124,12 +126,15 @@ static int32_t single(struct wf_path *path, const struct wf_call *call, int is_b
     case WF_CALL_RATE: return wf_path_rate_ht(path, call->station, call->mcs, call->mhz, call->short_guard, reply);
     case WF_CALL_TICK: return wf_path_tick(path, call->by, reply);
     case WF_CALL_ENQUEUE: return enqueue(path, call, is_bare, reply);
-    case WF_CALL_PULL: return wf_path_pull(path, call->class_, reply, &frames);
+    case WF_CALL_PULL: return wf_path_pull_limited(path, call->class_, call->frames, call->air, reply, &frames);
     case WF_CALL_DONE: return wf_path_done_lost(path, call->exchange, call->air, reply);
     case WF_CALL_SLEEP: return wf_path_sleep(path, call->station, reply);
     case WF_CALL_WAKE: return wf_path_wake(path, call->station, reply);
     case WF_CALL_POLL: return wf_path_poll(path, call->station, reply);
     case WF_CALL_RX: return wf_path_rx(path, call->station, call->class_, call->air, reply);
+    case WF_CALL_AMPDU: return wf_path_ampdu(path, call->station, call->octets, reply);
+    case WF_CALL_STOP: return wf_path_stop(path, call->station, reply);
+    case WF_CALL_START: return wf_path_start(path, call->station, reply);
     default: return reap(path, reply);
   }
 }

@@ -248,7 +248,7 @@ def read_calls(text: str) -> Iterator[Call]:
     kind_of = argument_kinds(text)
     for row in rows(text, "calls"):
         line = row.more[0].removeprefix('b"').removesuffix('"')
-        allowing = tuple(allowed(kinds[kind_of[argument]]) for argument in listed_in[row.variant])
+        allowing = tuple(allowed(kinds.get(kind, kind)) for kind in map(kind_of.__getitem__, listed_in[row.variant]))
         if line.split()[0] != row.word or len(line.split()) - 1 != len(allowing):
             raise Fault(f"the line of {row.variant} has not its word and its {len(allowing)} arguments: {line}")
         yield Call(row.variant, row.number, line, allowing, said[row.variant])
@@ -273,9 +273,21 @@ def argument_lists(text: str) -> dict[str, list[str]]:
 
 
 def argument_kinds(text: str) -> dict[str, str]:
-    """The kind of each argument, by its variant."""
-    arms_of = re.findall(r"((?:[\s|]*Argument::\w+)+)\s*=> Arg::(\w+)", function(text, "kind"))
-    return {argument: kind for patterns, kind in arms_of for argument in re.findall(r"Argument::(\w+)", patterns)}
+    """The kind of each argument, by its variant; of a number in a range of its own, the sentence `low to high`."""
+    found: dict[str, str] = {}
+    arms = re.findall(r"((?:[\s|]*Argument::\w+)+)\s*=> Arg::(\w+)(?:\s*\{\s*low: (\w+),\s*high: ([\w:]+))?", function(text, "kind"))
+    for patterns, kind, low, high in arms:
+        for argument in re.findall(r"Argument::(\w+)", patterns):
+            found[argument] = f"{number(text, low)} to {number(text, high)}" if low else kind
+    return found
+
+
+def number(text: str, word: str) -> int:
+    """The number that a word of the source means: a literal, the greatest of its type, or a constant of the source."""
+    if word == "u32::MAX":
+        return GREATEST
+    constant = re.search(rf"^const {re.escape(word)}: u32 = ([\d_]+);", text, re.M)
+    return int(constant[1] if constant else word)
 
 
 def read(top: Path) -> Tables:

@@ -9,10 +9,11 @@ import pathlib
 import shlex
 import shutil
 import time
+from collections.abc import Iterator
 
-from . import fresh, kernel, proved, shared, snapshot, unproved
+from . import cache, fresh, kernel, proved, shared, snapshot, unproved
 from .children import noted_signals
-from .files import lock, place, reason, temporary_folder, write_whole
+from .files import lock, put, reason, temporary_folder, write_whole
 from .kit import need_rt
 from .report import Failure, Notes
 
@@ -24,6 +25,9 @@ UNPROVED_NEEDS = 200 << 20
 PROVED_NEEDS = 3 << 30
 # A second copy of each built file: `rt ci` removes all that is in the folders of the crates.
 KEPT = "out/built"
+# The gate sets this variable to the checksum of the sources before its `rt ci`. A program that `rt ci` leaves has no record: it is kept in
+# the cache only if this checksum shows that no source was changed meanwhile.
+GATE = "WF_GATE"
 
 
 @dataclasses.dataclass(frozen=True)
@@ -55,6 +59,11 @@ class Product:
         """Whether it is the static library."""
         return self.crate == LIBRARY_CRATE
 
+    def cached(self, sources: str, kit: str) -> pathlib.Path | None:
+        """Returns the path of its entry in the user's cache, which has proved files only."""
+        shaping = kernel.SHAPING if self.is_kernel else ()
+        return cache.path_of(os.path.basename(self.name), sources, kit, shaping) if self.is_proved else None
+
     def is_fresh(self) -> bool:
         """Returns whether the file is made from the sources as they are."""
         if self.is_kernel and not kernel.is_older_than(self.path):
@@ -74,14 +83,34 @@ def build(product: Product) -> None:
     """Builds a file unless it is fresh. It is replaced only if the build succeeds."""
     if product.is_fresh():
         Notes.say(f"{product.name} is built from these sources already")
-        return
-    need_rt()
+    else:
+        need_rt()
+        with _alone(product):
+            if not _is_there(product):
+                _build_anew(product)
+    if GATE in os.environ:
+        _cache_for_gate(product, os.environ[GATE])
+
+
+def takes_earlier(product: Product) -> bool:
+    """Puts a file in place if an earlier build made it from these sources, and returns whether it is fresh. Nothing is built."""
+    with _alone(product):
+        return _is_there(product)
+
+
+@contextlib.contextmanager
+def _alone(product: Product) -> Iterator[None]:
+    """Holds the lock of the folder of a file."""
     try:
         with noted_signals(), lock(product.path.parent):
-            if not product.is_fresh() and not _take_kept(product):
-                _build_anew(product)
+            yield
     except OSError as fault:
         raise Failure(reason(fault)) from None
+
+
+def _is_there(product: Product) -> bool:
+    """Returns whether a file is fresh, or an earlier build of it is put in place."""
+    return product.is_fresh() or _take_kept(product) or _take_cached(product)
 
 
 def _build_anew(product: Product) -> None:
@@ -99,25 +128,19 @@ def _build_anew(product: Product) -> None:
         except Failure as why:
             raise Failure(f"{why.why}\n{product.name} is not built{_kept_log(log, product.log)}", why.said) from None
         record = fresh.Record(sources, kit, fresh.file_checksum(str(made)))
-        _put(made, product.path, record, began)
+        # The date of the file is the time at which the sources were copied.
+        put(made, product.path, record, began)
         _keep(made, TOP / product.kept_name, record, began)
-
-
-def _put(made: pathlib.Path, target: pathlib.Path, record: fresh.Record, when: float) -> None:
-    """Puts a file in place, with its record. In between it has none, so it does not count as fresh.
-
-    Its date is the time at which the sources were copied.
-    """
-    target.with_name(target.name + fresh.RECORD).unlink(missing_ok=True)
-    place(made, target, when)
-    fresh.write_record(str(target), record)
+        entry = product.cached(record.sources, record.kit)
+        if entry is not None:
+            cache.keep(made, entry, record)
 
 
 def _keep(made: pathlib.Path, target: pathlib.Path, record: fresh.Record, when: float) -> None:
     """Keeps a second copy, if there is room for it."""
     with contextlib.suppress(OSError, Failure):
         target.parent.mkdir(parents=True, exist_ok=True)
-        _put(made, target, record, when)
+        put(made, target, record, when)
 
 
 def _take_kept(product: Product) -> bool:
@@ -130,9 +153,31 @@ def _take_kept(product: Product) -> bool:
     record = fresh.read_record(str(kept))
     if record is None:
         return False
-    _put(kept, product.path, fresh.Record(record.sources, record.kit, record.made), kept.stat().st_mtime)
+    put(kept, product.path, fresh.Record(record.sources, record.kit, record.made), kept.stat().st_mtime)
     Notes.say(f"{product.name}: an earlier build from the same sources is taken from {product.kept_name}")
     return True
+
+
+def _take_cached(product: Product) -> bool:
+    """Puts the entry of the user's cache in place if it is made from the sources as they are, and returns whether it is."""
+    began = time.time()
+    sources = fresh.Sources(str(TOP))
+    entry = product.cached(sources.checksum(), sources.kit)
+    if entry is None or not cache.take(entry, product.path, sources.checksum(), sources.kit, began):
+        return False
+    Notes.say(f"{product.name}: a proved build from the same sources is taken from {entry}")
+    return True
+
+
+def _cache_for_gate(product: Product, sources: str) -> None:
+    """Keeps a proved file in the user's cache if its record has the checksum of the sources that the gate proved."""
+    record = fresh.read_record(str(product.path))
+    if record is None or record.sources != sources:
+        return
+    entry = product.cached(record.sources, record.kit)
+    if entry is not None and cache.record_of(entry, record.sources, record.kit) is None:
+        with noted_signals():
+            cache.keep(product.path, entry, record)
 
 
 def _make(product: Product, copy: pathlib.Path, room: pathlib.Path, log: pathlib.Path) -> pathlib.Path:
@@ -165,6 +210,16 @@ def _kept_log(log: pathlib.Path, target: pathlib.Path) -> str:
 def program(is_proved: bool) -> None:
     """The word `build`."""
     build(PROGRAM if is_proved else UNPROVED_PROGRAM)
+
+
+def program_to_answer() -> tuple[str, str]:
+    """Returns whether the program that answers is proved, and its path, if none is built yet: the proved one is taken if an earlier build
+    made it from the same sources; else the unproved one is built."""
+    need_rt()
+    if takes_earlier(PROGRAM):
+        return "proved", str(PROGRAM.path)
+    build(UNPROVED_PROGRAM)
+    return "unproved", str(UNPROVED_PROGRAM.path)
 
 
 def library(is_proved: bool) -> None:

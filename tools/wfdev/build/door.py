@@ -50,10 +50,9 @@ def become(path: str, words: list[str]) -> NoReturn:
 
 
 def program_to_ask(found: tuple[str, str] | None) -> str:
-    """Returns the path of the program that answers; if none is built, the unproved one is built first."""
-    if found is None:
-        builds.program(is_proved=False)
-        found = "unproved", str(builds.UNPROVED_PROGRAM.path)
+    """Returns the path of the program that answers. If none is built, an earlier proved build of the same sources is taken, or the unproved
+    program is built first."""
+    found = found or builds.program_to_answer()
     if found[0] == "unproved":
         Notes.say(NOT_PROVED)
     return found[1]
@@ -109,10 +108,11 @@ def print_which(of_library: bool) -> int:
 
 
 def run_sim(words: list[str]) -> int:
-    """Runs a scenario. If no program is built from these sources, the simulator has one built by this script."""
+    """Runs a scenario. If no program is built from these sources and no earlier build can be taken, the simulator has one built by this
+    script."""
     command = [sys.executable, "-P", "-m", "sim", *words]
     variables = {**os.environ, "PYTHONPATH": os.pathsep.join([fresh.TOP, os.path.join(fresh.TOP, "python")])}
-    if any(word in HELP_WORDS for word in words) or find_program():
+    if any(word in HELP_WORDS for word in words) or find_program() or builds.takes_earlier(builds.PROGRAM):
         signal.signal(signal.SIGPIPE, signal.SIG_DFL)
         signal.signal(signal.SIGXFSZ, signal.SIG_DFL)
         os.execve(sys.executable, command, variables)

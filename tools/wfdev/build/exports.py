@@ -13,6 +13,9 @@ from .report import Failure
 EXPORT = r'^pub extern "C" fn (\w+)\((.*?)\)(?: -> \w+)?\s*(?:requires|ensures|\{)'
 STRUCT = r"#\[repr\(C\)\]\n(?:#[^\n]*\n)*pub struct (\w+)(?:<'\w+>)? \{\n(.*?)^\}"
 FIELD = r"^    (?:pub )?(\w+): (.*),$"
+# A symbol of a compiled module with its function's name, and the head of a function that only the module sees.
+SYMBOL = re.compile(r'@"([\w:]*::(\w+))"')
+INTERNAL = re.compile(r'^define internal ([^@\n]*)(?=@"[\w:]*::(\w+)")', re.M)
 # The longest buffer that an export takes, in octets.
 BUFFER = "[u8; 2400]"
 
@@ -94,11 +97,12 @@ def calling_test(sources: Mapping[str, str]) -> str:
 
 def with_exports(text: str, names: list[str]) -> str:
     """Returns the text of a compiled module in which these functions have their own names and are visible, and `main` is not."""
-    for name in names:
-        found = set(re.findall(rf'@"[\w:]*::{name}"', text))
-        if len(found) != 1:
-            raise Failure(f"the module that 'rt try' compiled has {len(found)} functions {name}: expected one")
-        whole = found.pop()
-        text = re.sub(rf"^define internal (.*?){re.escape(whole)}", rf"define \1{whole}", text, flags=re.M)
-        text = text.replace(whole, f"@{name}")
+    found: dict[str, set[str]] = {name: set() for name in names}
+    for whole, name in set(SYMBOL.findall(text)):
+        found.get(name, set()).add(whole)
+    for name, symbols in found.items():
+        if len(symbols) != 1:
+            raise Failure(f"the module that 'rt try' compiled has {len(symbols)} functions {name}: expected one")
+    text = INTERNAL.sub(lambda head: f"define {head[1]}" if head[2] in found else head[0], text)
+    text = SYMBOL.sub(lambda symbol: f"@{symbol[2]}" if symbol[2] in found else symbol[0], text)
     return text.replace("define i32 @main(", "define internal i32 @main(")

@@ -11,6 +11,7 @@ import shutil
 import tempfile
 from collections.abc import Iterator
 
+from . import fresh
 from .children import wait
 from .report import Failure, Notes
 
@@ -75,14 +76,17 @@ def lock(folder: pathlib.Path) -> Iterator[None]:
         yield
 
 
-def place(made: pathlib.Path, target: pathlib.Path, when: float | None = None) -> None:
-    """Copies a file next to its target and renames it over the target, dated `when`. If the copy fails, the target is as before."""
+def place(made: pathlib.Path, target: pathlib.Path, when: float | None = None, checksum: str | None = None) -> None:
+    """Copies a file next to its target and renames it over the target, dated `when`. If the copy fails, or has another checksum than the
+    one that is given, the target is as before."""
     number, name = tempfile.mkstemp(prefix=ASIDE, dir=target.parent)
     try:
         with os.fdopen(number, "wb") as file, open(made, "rb") as source:
             shutil.copyfileobj(source, file, 1 << 20)
             file.flush()
             os.fsync(file.fileno())
+        if checksum not in (None, fresh.file_checksum(name)):
+            raise Failure(f"{made} was changed meanwhile; {target} was not replaced")
         os.chmod(name, 0o755 if os.access(made, os.X_OK) else 0o644)
         if when is not None:
             os.utime(name, (when, when))
@@ -92,6 +96,13 @@ def place(made: pathlib.Path, target: pathlib.Path, when: float | None = None) -
     finally:
         with contextlib.suppress(FileNotFoundError):
             os.unlink(name)
+
+
+def put(made: pathlib.Path, target: pathlib.Path, record: fresh.Record, when: float | None = None) -> None:
+    """Puts a built file in place, dated `when`, with its record. In between it has none, so it does not count as fresh."""
+    target.with_name(target.name + fresh.RECORD).unlink(missing_ok=True)
+    place(made, target, when, record.made)
+    fresh.write_record(str(target), record)
 
 
 def write_whole(target: pathlib.Path, text: str) -> None:

@@ -21,6 +21,8 @@ TOOLS = pathlib.Path(__file__).resolve().parents[2]
 # These look for the kit next to themselves, so links to them would lead to the kit itself.
 COPIED = ("rt", "rtlib.py")
 HEAP = pathlib.Path(fresh.TOP) / "examples" / "kernel" / "heap.c"
+# The files that shape a library for a kernel module.
+SHAPING = (HEAP, pathlib.Path(__file__), pathlib.Path(__file__).with_name("kernel_clang.py"))
 LEVEL = "-O2"
 SHAPE = ["-mgeneral-regs-only", "-mcmodel=kernel", "-fno-pic"]
 # Calls of one path take less stack if the parts of a call are compiled into it.
@@ -34,7 +36,7 @@ ATTRIBUTES = 'noredzone "no-jump-tables"="true"'
 def is_older_than(made: pathlib.Path) -> bool:
     """Returns whether a built file is there and no file that shapes it was changed since."""
     try:
-        return max(HEAP.stat().st_mtime, pathlib.Path(__file__).stat().st_mtime) < made.stat().st_mtime
+        return max(path.stat().st_mtime for path in SHAPING) < made.stat().st_mtime
     except OSError:
         return made.exists()
 

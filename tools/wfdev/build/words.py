@@ -51,7 +51,9 @@ TABLE = (
 With --unproved it builds crates/wf/out/wf.unproved from the same sources, optimized and with no proof.
 
 Nothing is built if the file is made from the sources as they are: next to it is a record with their
-checksum. If a build fails or is stopped, the file is not replaced. A build needs some hundred megabytes of
+checksum. A proved file, with its record, is also kept in the folder lacrossefir of $XDG_CACHE_HOME, or of
+~/.cache: every checkout with the same sources and the same kit takes it from there. The newest four of each
+product stay. If a build fails or is stopped, the file is not replaced. A build needs some hundred megabytes of
 temporary files, in the folder that TMPDIR names; with proofs it needs three gigabytes.""",
         ("--unproved",),
     ),
@@ -125,7 +127,7 @@ checkout. checks/dist tries the archives; nothing of them is proved, except the 
         "sim SCENARIO",
         (Form("sim SCENARIO", "runs stations and flows in simulated time (docs/SIM.md)"),),
         """Runs a scenario in simulated time. './wf sim --help' lists its options. If no program is built from these
-sources, the unproved one is built first.""",
+sources, a proved one is taken from the cache ('./wf help build'), or the unproved one is built first.""",
         (),
         "file",
     ),

@@ -31,7 +31,7 @@ def refuse(name: str, is_so: bool, number: int | None = None) -> None:
 
 @dataclass(frozen=True)
 class Word:
-    """An answer of one word: joined, set, slept, woken."""
+    """An answer of one word: joined, set, slept, woken, stopped, started."""
 
     word: str
 

@@ -9,6 +9,7 @@ CLASS = OneOf(tuple(Class))
 GUARD = OneOf(("long", "short"))
 HEARD = OneOf(("heard", "lost"))
 LENGTH = NumberIn(range(1, 2305))
+FRAMES, MICROSECONDS = NumberIn(range(1, 65_536)), NumberIn(range(1, 2**32))
 NANOSECONDS = {"long": LONG, "short": SHORT}
 
 
@@ -27,11 +28,28 @@ def he_values(station: int, _: str, mcs: int, mhz: int, guard: int, streams: int
     return station, Rate(Format.HE, mcs, mhz, guard, streams)
 
 
+def frames_values(access: str, _: str, frames: int) -> tuple[object, ...]:
+    """Returns the values of a pull with a limit on frames."""
+    return access, frames
+
+
+def air_values(access: str, _: str, air: int) -> tuple[object, ...]:
+    """Returns the values of a pull with a limit on airtime."""
+    return access, None, air
+
+
+def limited_values(access: str, _: str, frames: int, __: str, air: int) -> tuple[object, ...]:
+    """Returns the values of a pull with both limits."""
+    return access, frames, air
+
+
 def done_values(exchange: int, heard: str, _: str, air: int) -> tuple[object, ...]:
     """Returns the values of a done with its airtime."""
     return exchange, heard, air
 
 
+AIR = OneOf(("air",))
+WITH_FRAMES = (CLASS, OneOf(("frames",)), FRAMES)
 VHT = (STATION, OneOf(("vht",)), OCTET, OCTET, GUARD, OCTET)
 HE = (STATION, OneOf(("he",)), OCTET, OCTET, SHORT_NUMBER, OCTET)
 
@@ -40,17 +58,22 @@ FORMS = {
     "join": [Form((STATION, SHORT_NUMBER, SHORT_NUMBER, OCTET, OCTET), optional=1)],
     "leave": [Form((STATION,))],
     "rate": [
-        Form(VHT, mark=(1, "vht"), values=vht_values),
-        Form(HE, mark=(1, "he"), values=he_values),
+        Form(VHT, marks=((1, "vht"),), values=vht_values),
+        Form(HE, marks=((1, "he"),), values=he_values),
         Form((STATION, OCTET, OCTET, GUARD), values=ht_values),
     ],
     "tick": [Form((LONG_NUMBER,))],
     "enq": [Form((STATION, OCTET, LONG_NUMBER, LENGTH))],
-    "pull": [Form((CLASS,))],
+    "pull": [
+        Form((*WITH_FRAMES, AIR, MICROSECONDS), marks=((1, "frames"), (3, "air")), values=limited_values),
+        Form(WITH_FRAMES, marks=((1, "frames"),), values=frames_values),
+        Form((CLASS, AIR, MICROSECONDS), marks=((1, "air"),), values=air_values),
+        Form((CLASS,)),
+    ],
     "arrive": [Form((EXCHANGE, SHORT_NUMBER))],
     "answer": [Form((EXCHANGE,))],
     "done": [
-        Form((EXCHANGE, HEARD, OneOf(("air",)), LONG_NUMBER), mark=(2, "air"), values=done_values),
+        Form((EXCHANGE, HEARD, AIR, LONG_NUMBER), marks=((2, "air"),), values=done_values),
         Form((EXCHANGE, HEARD)),
     ],
     "sleep": [Form((STATION,))],
@@ -58,5 +81,8 @@ FORMS = {
     "poll": [Form((STATION,))],
     "rx": [Form((STATION, CLASS, LONG_NUMBER))],
     "reap": [Form()],
+    "ampdu": [Form((STATION, LONG_NUMBER))],
+    "stop": [Form((STATION,))],
+    "start": [Form((STATION,))],
 }
 LINES = {**FORMS, "end": [Form()]}

@@ -79,17 +79,17 @@ def same(*values: object) -> tuple[object, ...]:
 class Form:
     """A form of a line: its arguments, how many of the last may be missing, and the values of the call.
 
-    If it has a mark, a place and a word, it is the form of the lines with this word in this place.
+    If it has marks, each a place and a word, it is the form of the lines with these words in these places.
     """
 
     arguments: tuple[Argument, ...] = ()
     optional: int = 0
-    mark: tuple[int, str] | None = None
+    marks: tuple[tuple[int, str], ...] = ()
     values: Callable[..., tuple[object, ...]] = same
 
     def is_meant(self, words: Sequence[str]) -> bool:
         """Returns whether a line with these words after its first has this form."""
-        return self.mark is None or list(words[self.mark[0] : self.mark[0] + 1]) == [self.mark[1]]
+        return all(list(words[place : place + 1]) == [word] for place, word in self.marks)
 
     def fault(self, words: Sequence[str]) -> str | None:
         """Returns the kind of the fault of the words after the first, if they have one."""

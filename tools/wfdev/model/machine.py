@@ -1,4 +1,4 @@
-"""The fourteen calls: MACHINE.md, from the table of calls to Power save.
+"""The seventeen calls: MACHINE.md, from the table of calls to Power save.
 
 The method of a call begins with its refusals in the order of the table. A refused call raises `Refused`. It
 changes nothing, except if it is `idle`.
@@ -6,7 +6,6 @@ changes nothing, except if it is `idle`.
 from collections import deque
 from dataclasses import dataclass, field
 
-from wfdev.model import rates
 from wfdev.model.answers import (
     Accepted,
     Answer,
@@ -25,7 +24,7 @@ from wfdev.model.grammar import Call
 from wfdev.model.codel import SLOW, USUAL
 from wfdev.model.frames import CLASS_OF, CLASS_TIDS, NUMBERS, TIDS, Class, Fate, Frame
 from wfdev.model.queues import Queues
-from wfdev.model.rates import Bounds, Rate
+from wfdev.model.rates import Bounds, Control, Rate, control_mbps, octets_of, octets_taken
 from wfdev.model.rotation import Rotation
 from wfdev.model.session import Ended
 from wfdev.model.settings import Settings
@@ -33,6 +32,7 @@ from wfdev.model.stations import Exchange, Station
 
 MOST_TICK = 10_000_000
 MOST_WINDOW, MOST_EXPONENT, MOST_WEIGHT, MOST_AIR = 256, 3, 16, 65_535
+AMPDUS = range(4096, 6_500_632)
 POLL_ORDER = (Class.VO, Class.VI, Class.BE, Class.BK)
 
 
@@ -120,6 +120,32 @@ class Machine:
         self.list_ready(station)
         return Word("set")
 
+    def ampdu(self, station: int, octets: int) -> Answer:
+        """A station takes VHT and HE aggregates of at most this many octets from now on."""
+        self.numbered(station)
+        refuse("bad-ampdu", octets not in AMPDUS)
+        self.live(station).ampdu = octets
+        self.list_ready(station)
+        return Word("set")
+
+    def stop(self, station: int) -> Answer:
+        """No pull picks a station from now on."""
+        self.numbered(station)
+        held = self.live(station)
+        refuse("stopped", held.stopped)
+        held.stopped = True
+        self.list_ready(station)
+        return Word("stopped")
+
+    def start(self, station: int) -> Answer:
+        """Pulls may pick a station again."""
+        self.numbered(station)
+        held = self.live(station)
+        refuse("started", not held.stopped)
+        held.stopped = False
+        self.list_ready(station)
+        return Word("started")
+
     def tick(self, by: int) -> Answer:
         """The clock moves on."""
         refuse("bad-tick", by > MOST_TICK)
@@ -168,10 +194,14 @@ class Machine:
     def is_ready(self, station: int, access: Class) -> bool:
         """Returns whether a station is ready in a class."""
         held = self.stations.get(station)
-        if held is None or not (not held.asleep or held.credit is access):
+        if held is None or held.stopped or not (not held.asleep or held.credit is access):
             return False
         if 0 < self.settings.aql <= self.in_flight(station, access):
             return False
+        return self.can_send_in(station, access)
+
+    def can_send_in(self, station: int, access: Class) -> bool:
+        """Returns whether a TID of a class can send."""
         return any(self.can_send(station, tid) for tid in CLASS_TIDS[access])
 
     def in_flight(self, station: int, access: Class) -> int:
@@ -198,8 +228,8 @@ class Machine:
 
     # Pull.
 
-    def pull(self, access: str) -> Answer:
-        """The driver asks for the next exchange of a class."""
+    def pull(self, access: str, frames: int | None = None, air: int | None = None) -> Answer:
+        """The driver asks for the next exchange of a class, with at most these frames and this airtime."""
         one = Class(access)
         count = sum(CLASS_OF[exchange.tid] is one for exchange in self.exchanges.values())
         refuse("full", count >= self.settings.inflight, count)
@@ -214,7 +244,14 @@ class Machine:
         if not self.can_send(winner, tid):
             tid, other = other, tid
         held.turns[one] = other
-        return self.send(held, tid)
+        agg, cap = self.settings.agg, self.cap(one)
+        most = min(agg, agg if frames is None else frames)
+        return self.send(held, tid, most, min(cap, cap if air is None else air))
+
+    def cap(self, access: Class) -> int:
+        """Returns the setting for the airtime of an aggregate of a class."""
+        of_class = {Class.VI: self.settings.cap_vi, Class.VO: self.settings.cap_vo}
+        return of_class.get(access, 0) or self.settings.cap
 
     def picked(self, access: Class) -> int | None:
         """Returns the station that is picked in a class, if any. With `pending`, nothing changes if none is ready."""
@@ -228,16 +265,18 @@ class Machine:
             lambda station: self.pending(station, access),
         )
 
-    def send(self, held: Station, tid: int) -> Answer:
-        """Makes the exchange of a TID that can send."""
-        session = held.sessions[tid]
+    def send(self, held: Station, tid: int, most: int, cap: int) -> Answer:
+        """Makes the exchange of a TID that can send, an aggregate within these bounds."""
+        session, overhead = held.sessions[tid], self.settings.overhead
+        control = Control(control_mbps(held.rate, self.settings.answers), held.is_wide)
         number, self.pulled = self.pulled, self.pulled + 1
         if session.request_is_due():
-            exchange = Exchange(held.number, tid, rates.request_charge(held.window), [], session.start)
+            exchange = Exchange(held.number, tid, control.request_charge, [], session.start)
         else:
-            numbers = self.aggregate(held, tid)
-            charge = rates.data_charge(held.rate, [session.length(one) for one in numbers], held.window)
-            exchange = Exchange(held.number, tid, charge, numbers)
+            octets = octets_taken(held.rate, held.exponent, held.ampdu)
+            numbers = self.aggregate(held, tid, Bounds(1 if held.asleep else most, octets, held.rate, cap, overhead))
+            data = held.rate.time(octets_of([session.length(one) for one in numbers], overhead))
+            exchange = Exchange(held.number, tid, data + control.answer_time, numbers)
         self.exchanges[number] = exchange
         held.credit = None
         pairs = tuple((session.slots[one].frame.id, one) for one in exchange.numbers)
@@ -245,10 +284,9 @@ class Machine:
         self.list_ready(held.number)
         return Send(number, held.number, tid, exchange.charge, pairs, exchange.request, more)
 
-    def aggregate(self, held: Station, tid: int) -> list[int]:
+    def aggregate(self, held: Station, tid: int, bounds: Bounds) -> list[int]:
         """Makes an aggregate of waiting numbers and fresh frames, and returns its numbers."""
         session, owner = held.sessions[tid], (held.number, tid)
-        bounds = Bounds(1 if held.asleep else self.settings.agg, held.exponent, held.rate, self.settings.cap)
         numbers: list[int] = []
         all_fit = True
         for number in session.waiting():
@@ -367,8 +405,8 @@ class Machine:
         self.numbered(station)
         held = self.live(station)
         refuse("awake", not held.asleep)
-        refuse("polled", held.credit is not None)
-        can = [one for one in POLL_ORDER if any(self.can_send(station, tid) for tid in CLASS_TIDS[one])]
+        can = [one for one in POLL_ORDER if self.can_send_in(station, one)]
+        refuse("polled", held.credit is not None and (self.settings.credits == 0 or held.credit in can))
         refuse("nothing", not can)
         held.credit = can[0]
         self.list_ready(station)

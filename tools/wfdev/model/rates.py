@@ -38,6 +38,8 @@ ENCODERS = {
     (160, 8, 8): 12,
 }  # fmt: skip
 SLOW_BELOW = 12_000  # kbit/s
+LONGEST_ALONE = 3000  # microseconds
+FASTEST_CONTROL, CONTROL_RATES = 24, (24, 12, 6)  # Mbit/s
 DELIMITER, HEADER, CHECK = 4, 26, 4
 SIFS = 16
 NARROW_WINDOW = 64
@@ -112,45 +114,61 @@ def ht(mcs: int, mhz: int, guard: int) -> Rate:
 LOWEST = ht(0, 20, LONG)
 
 
-def octets_of(bodies: Sequence[int]) -> int:
-    """Returns the octets of an aggregate of bodies of these lengths."""
+def octets_of(bodies: Sequence[int], overhead: int = 0) -> int:
+    """Returns the octets of an aggregate of bodies of these lengths, each with its octets of encryption."""
     total = 0
     for body in bodies:
-        total = 4 * up(total, 4) + DELIMITER + HEADER + body + CHECK
+        total = 4 * up(total, 4) + DELIMITER + HEADER + body + overhead + CHECK
     return total
+
+
+def octets_taken(rate: Rate, exponent: int, stated: int | None) -> int:
+    """Returns the most octets of an aggregate, by the exponent or, at VHT and HE, as the station stated."""
+    if rate.form is Format.HT:
+        return (1 << 13 + exponent) - 1
+    return (1 << 17 + exponent) - 1 if stated is None else stated
 
 
 @dataclass(frozen=True)
 class Bounds:
-    """The bounds of an aggregate: frames, the exponent of the length, the rate, and microseconds of data."""
+    """The bounds of an aggregate: frames, octets, the rate, microseconds of data, and encryption of a frame."""
 
     agg: int
-    exponent: int
+    octets: int
     rate: Rate
     cap: int
+    overhead: int = 0
 
     def fits(self, bodies: Sequence[int]) -> bool:
-        """Returns whether bodies of these lengths fit."""
-        octets = octets_of(bodies)
-        most = 2 ** ((13 if self.rate.form is Format.HT else 17) + self.exponent) - 1
-        return len(bodies) <= self.agg and octets <= most and self.rate.time(octets) <= self.cap
+        """Returns whether bodies of these lengths fit. One frame alone has at least 3000 microseconds."""
+        octets = octets_of(bodies, self.overhead)
+        cap = max(self.cap, LONGEST_ALONE) if len(bodies) <= 1 else self.cap
+        return len(bodies) <= self.agg and octets <= self.octets and self.rate.time(octets) <= cap
 
 
-def control_time(octets: int) -> int:
-    """Returns the microseconds of a request or a BlockAck with these octets before its check sequence."""
-    return 20 + 4 * up(8 * (octets + CHECK) + 22, 96)
+@dataclass(frozen=True)
+class Control:
+    """The control frames with a station: their Mbit/s, and whether its sessions are wide."""
+
+    mbps: int
+    is_wide: bool
+
+    def time(self, octets: int) -> int:
+        """Returns the microseconds of a request or a BlockAck with these octets before its check sequence."""
+        return 20 + 4 * up(8 * (octets + CHECK) + 22, 4 * self.mbps)
+
+    @property
+    def answer_time(self) -> int:
+        """The microseconds of the pause and the BlockAck."""
+        return SIFS + self.time(WIDE_OCTETS if self.is_wide else NARROW_OCTETS)
+
+    @property
+    def request_charge(self) -> int:
+        """The charge of a BlockAckReq."""
+        return self.time(REQUEST_OCTETS) + self.answer_time
 
 
-def answer_time(window: int) -> int:
-    """Returns the microseconds of the pause and the BlockAck in a session of this window."""
-    return SIFS + control_time(WIDE_OCTETS if window > NARROW_WINDOW else NARROW_OCTETS)
-
-
-def data_charge(rate: Rate, bodies: Sequence[int], window: int) -> int:
-    """Returns the charge of an aggregate."""
-    return rate.time(octets_of(bodies)) + answer_time(window)
-
-
-def request_charge(window: int) -> int:
-    """Returns the charge of a BlockAckReq."""
-    return control_time(REQUEST_OCTETS) + answer_time(window)
+def control_mbps(rate: Rate, answers: int) -> int:
+    """Returns the Mbit/s of control frames: with the setting `answers`, not faster than data if that can be."""
+    slower = [mbps for mbps in CONTROL_RATES if 1000 * mbps <= rate.kbps]
+    return FASTEST_CONTROL if answers == 0 else next(iter(slower), CONTROL_RATES[-1])

@@ -32,6 +32,11 @@ class Settings:
     codel_reset: int = setting(0, 0, 1)
     aql: int = setting(0, 0, 262_144)
     pending: int = setting(0, 0, 1)
+    overhead: int = setting(0, 0, 32)
+    cap_vi: int = setting(0, 0, 5400)
+    cap_vo: int = setting(0, 0, 5400)
+    answers: int = setting(0, 0, 1)
+    credits: int = setting(0, 0, 1)
     # end settings
 
 

@@ -19,7 +19,10 @@ def first_turns() -> dict[Class, int]:
 
 @dataclass
 class Station:
-    """A live station. `turns` has the TID whose turn it is in each class; `credit` is the class of a poll."""
+    """A live station. `turns` has the TID whose turn it is in each class; `credit` is the class of a poll.
+
+    `ampdu` is the most octets of its aggregates of VHT and HE, if that was stated.
+    """
 
     number: int
     window: int
@@ -27,6 +30,8 @@ class Station:
     exponent: int
     weight: int
     rate: Rate = LOWEST
+    ampdu: int | None = None
+    stopped: bool = False
     asleep: bool = False
     credit: Class | None = None
     turns: dict[Class, int] = field(default_factory=first_turns)

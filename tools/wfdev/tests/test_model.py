@@ -56,7 +56,7 @@ class Rates(unittest.TestCase):
                     self.assertEqual(rate.time(int(row["octets"])), int(row["us"]), rate)
 
     def test_a_frame_of_any_length_fits_alone(self) -> None:
-        self.assertTrue(Bounds(agg=1, exponent=0, rate=LOWEST, cap=3000).fits([2304]))
+        self.assertTrue(Bounds(agg=1, octets=8191, rate=LOWEST, cap=3000).fits([2304]))
 
 
 class Settled(unittest.TestCase):

@@ -133,7 +133,7 @@ class Fields(unittest.TestCase):
         texts = ["joined", "left 3", "set", "now 5", "accepted 1", "accepted 4 dropped 2", "released 1 2"]
         texts += ["send 0 sta 1 tid 2 air 3 data 4:5 6:7 more", "send 0 sta 1 tid 2 air 80 bar 9"]
         texts += ["ba 100 00000000000000ff", "ba 1 " + "0" * 63 + "5", "done acked 1 waiting 2 failed 3"]
-        texts += ["slept", "woken", "polled be", "charged -5", "reaped 3 codel"]
+        texts += ["slept", "woken", "polled be", "charged -5", "reaped 3 codel", "stopped", "started"]
         texts += ["refused open 2", "refused debt -7", "refused ahead 3952", "refused idle"]
         nested = {"frames": "wf_frames", "passed_up": "wf_passed_up", "block": "wf_block"}
         for text in texts:
@@ -250,7 +250,7 @@ class Explained(unittest.TestCase):
         self.assertNotIn("There is nothing to answer, to send or to reap", told)
 
     def test_the_page_has_each_refusal(self) -> None:
-        self.assertEqual(len(rules.table()), 28)
+        self.assertEqual(len(rules.table()), 31)
         said = rules.rule("room", 9, {"room": 9})
         self.assertEqual(said, "9 frames are accepted and not yet reaped: as many as room (9).")
 

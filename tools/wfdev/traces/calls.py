@@ -20,6 +20,9 @@ FORMS: dict[str, tuple[str, ...]] = {
     "poll": ("station",),
     "rx": ("station", "class_", "air"),
     "reap": (),
+    "ampdu": ("station", "octets"),
+    "stop": ("station",),
+    "start": ("station",),
 }
 RATES: dict[str, tuple[str, ...]] = {
     "ht": ("station", "mcs", "mhz", "short_guard"),
@@ -69,6 +72,12 @@ def rate_fields(words: list[str]) -> dict[str, Value]:
     return {**named(RATES[form], rest), "form": form}
 
 
+def pull_fields(words: list[str]) -> dict[str, Value]:
+    """Returns the arguments of a pull: its class, and its limits by their words."""
+    limits: dict[str, Value] = dict(zip(words[1::2], map(int, words[2::2])))
+    return {**named(FORMS["pull"], words), **limits}
+
+
 def read(text: str) -> Call:
     """Returns the call of a line that the program answered."""
     words = text.split()
@@ -76,6 +85,8 @@ def read(text: str) -> Call:
     kind, *rest = words
     if kind == "rate":
         return Call(kind, caller, rate_fields(rest))
+    if kind == "pull":
+        return Call(kind, caller, pull_fields(rest))
     fields = named(FORMS[kind], rest)
     if kind == "join":
         fields.setdefault("weight", 1)

@@ -106,6 +106,14 @@ def rate_of(call: Call) -> str:
     )
 
 
+def asked_pull(call: Call) -> str:
+    """Returns what a pull asks."""
+    frames = [f"at most {count(call.number('frames'), 'frame')}"] if "frames" in call.fields else []
+    air = [f"data of at most {call.number('air')} us"] if "air" in call.fields else []
+    limits = f", with {' and '.join([*frames, *air])}" if frames or air else ""
+    return f"The driver asks for the next exchange of class {call.word('class_')}{limits}."
+
+
 def asked_done(call: Call) -> str:
     """Returns what a done asks."""
     heard = "was heard" if call.fields["heard"] else "was not heard"
@@ -126,7 +134,7 @@ ASKED: dict[str, Callable[[Call], str]] = {
         f"A frame of {call.number('length')} octets comes for {station_of(call)}, TID {call.number('tid')}, "
         f"of flow {call.number('flow')}."
     ),
-    "pull": lambda call: f"The driver asks for the next exchange of class {call.word('class_')}.",
+    "pull": asked_pull,
     "arrive": lambda call: (
         f"Transmission {call.number('index')} of exchange {call.number('exchange')} reached its station."
     ),
@@ -140,6 +148,11 @@ ASKED: dict[str, Callable[[Call], str]] = {
         "send."
     ),
     "reap": lambda _: "The caller asks for the next finished frame.",
+    "ampdu": lambda call: (
+        f"{station_of(call).capitalize()} takes VHT and HE aggregates of at most {call.number('octets')} octets."
+    ),
+    "stop": lambda call: f"{station_of(call).capitalize()} is to be picked by no pull.",
+    "start": lambda call: f"{station_of(call).capitalize()} is to be picked again.",
 }
 
 
@@ -182,6 +195,8 @@ def why_not_ready(station: Station, class_: str, book: Ledger) -> str:
         one.sent for one in book.exchanges_of(station.number) if one.class_ == class_ and one.start is None
     )
     text = f"Station {station.number} holds {count(held, 'frame')} of the class"
+    if station.is_stopped:
+        return f"{text}, but is stopped."
     if station.is_asleep and station.credit != class_:
         return f"{text}, but sleeps and has no credit for it."
     return f"{text}, {on_air} of them in open exchanges."
@@ -255,6 +270,8 @@ def other(station: Station, class_: str, book: Ledger) -> str:
     held = book.held(station.number, class_)
     if not held:
         return ""
+    if station.is_stopped:
+        return f"Station {station.number} is stopped, so it was not ready."
     if station.is_asleep and station.credit != class_:
         return f"Station {station.number} sleeps and has no credit, so it was not ready."
     if book.settings["pending"]:
@@ -346,6 +363,9 @@ ANSWERED: dict[str, Callable[[Call, Reply, Ledger, Exchange | None], str]] = {
     "poll": lambda _, reply, __, ___: f"It gets a credit for one frame of class {reply.fields['class_']}.",
     "rx": said_of_charged,
     "reap": said_of_reaped,
+    "ampdu": lambda *_: "The most octets are set.",
+    "stop": lambda *_: "It is stopped.",
+    "start": lambda *_: "It is started.",
 }
 
 

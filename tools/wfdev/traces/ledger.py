@@ -87,6 +87,7 @@ class Station:
     number: int
     weight: int
     is_asleep: bool = False
+    is_stopped: bool = False
     credit: str = ""
     used: dict[str, int] = dataclasses.field(default_factory=dict)
     quanta: dict[str, int] = dataclasses.field(default_factory=dict)
@@ -226,6 +227,12 @@ class Ledger:
 
     def _poll(self, call: Call, reply: Reply) -> None:
         self.stations[call.number("station")].credit = str(reply.fields["class_"])
+
+    def _stop(self, call: Call, _: Reply) -> None:
+        self.stations[call.number("station")].is_stopped = True
+
+    def _start(self, call: Call, _: Reply) -> None:
+        self.stations[call.number("station")].is_stopped = False
 
     def _rx(self, call: Call, _: Reply) -> None:
         self._charge(call.number("station"), call.word("class_"), call.number("air"))

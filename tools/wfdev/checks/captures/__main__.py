@@ -5,10 +5,9 @@ changed to 0, to 255 and to its complement; captures that go past 2^28 and 2^32 
 text2pcap, editcap or scapy is installed, captures that these wrote. No capture here reaches the limit of 2^40 octets.
 
 Written are: captures of the example traces and of 1,000 generated ones of a few calls each, octet by octet by the answers that
-`wf replay` gives. If tshark or scapy is installed, it reads those of the example traces, and those of the generated ones in two
-files, of windows up to 64 and above: times, kinds, Retry and More Data bits, TIDs, sequence numbers, starts and bitmaps have
-to be equal to the model's. In captures of windows up to 64, tshark finds no malformed field and reports no error. There
-are some 4,000 runs.
+`wf replay` gives. If tshark or scapy is installed, it reads those of the example traces, and those of the generated ones in one
+file: times, kinds, Retry and More Data bits, TIDs, sequence numbers, starts, fragment numbers and bitmaps have to be equal to
+the model's, and tshark finds no malformed field and reports no error. There are some 4,000 runs.
 
 Converted are captures as devices give them, if tshark is installed: with radiotap fields, with and without frame check
 sequences (scapy), of the format pcapng, also with two link types (editcap, mergecap), and of A-MPDUs (ns-3). `./wf convert`
@@ -157,8 +156,7 @@ def written(wf: Wf) -> list[Capture]:
     made = [written_alike(wf, f"generated trace {seed}", air.made_trace(seed)) for seed in range(MADE_TRACES)]
     SCRIPT.say(f"{MADE_TRACES} generated traces: their captures are the model's, and are listed alike")
     found = [written_alike(wf, path.name, path.read_text(encoding="ascii")) for path in sorted(paths.EXAMPLES.glob("*.trace"))]
-    found.append(joined("generated traces", [one for one in made if not air.is_wide(one.packets)]))
-    return [*found, joined("generated traces of wide windows", [one for one in made if air.is_wide(one.packets)])]
+    return [*found, joined("generated traces", made)]
 
 
 def read_by_others(captures: Sequence[Capture], folder: Path) -> None:

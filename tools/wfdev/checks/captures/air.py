@@ -3,7 +3,7 @@ import random
 from collections.abc import Iterator, Sequence
 from dataclasses import dataclass, field
 
-from wfdev.checks.captures.model import BLOCK_ACK_KIND, DATA_KIND, REQUEST_KIND, WIDE_OCTETS, Packet
+from wfdev.checks.captures.model import BLOCK_ACK_KIND, DATA_KIND, REQUEST_KIND, Packet
 
 BASE, SOURCE = bytes.fromhex("020000000000"), bytes.fromhex("020000020000")
 MICROSECONDS = 10**6
@@ -37,13 +37,9 @@ def request(number: int, tid: int, start: int) -> bytes:
 def block_ack(number: int, tid: int, start: int, digits: str) -> bytes:
     """Returns the octets of a BlockAck of a station."""
     bits = int(digits, 16).to_bytes(len(digits) // 2, "little")
-    head = bytes([BLOCK_ACK_KIND, 0, 0, 0]) + BASE + station(number) + bytes([12 if len(bits) > 8 else 4, 16 * tid])
-    return head + (16 * start).to_bytes(2, "little") + bits
-
-
-def is_wide(packets: Sequence[Packet]) -> bool:
-    """Returns whether a BlockAck of 256 numbers is among the packets."""
-    return any(len(packet.octets) == WIDE_OCTETS for packet in packets)
+    head = bytes([BLOCK_ACK_KIND, 0, 0, 0]) + BASE + station(number) + bytes([4, 16 * tid])
+    fragment = 4 if len(bits) > 8 else 0
+    return head + (16 * start + fragment).to_bytes(2, "little") + bits
 
 
 def calls_of(trace: str) -> list[list[str]]:

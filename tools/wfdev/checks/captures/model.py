@@ -12,7 +12,7 @@ REQUEST_OCTETS, NARROW_OCTETS, WIDE_OCTETS = 20, 28, 52
 
 ADDRESSES = bytes.fromhex("020000000000" "020000010000")
 BLOCK_ACK = bytes.fromhex("94000000") + ADDRESSES + bytes.fromhex("0400" "4006" "0100000000000000")
-WIDE_BLOCK_ACK = bytes.fromhex("94000000") + ADDRESSES + bytes.fromhex("0c30" "4006") + bytes(32)
+WIDE_BLOCK_ACK = bytes.fromhex("94000000") + ADDRESSES + bytes.fromhex("0430" "4406") + bytes(32)
 REQUEST = bytes.fromhex("84000000") + ADDRESSES + bytes.fromhex("0450" "f0ff")
 DATA = bytes.fromhex("88023000") + ADDRESSES + bytes.fromhex("020000020000" "4006" "0700") + bytes(14)
 ACK = bytes.fromhex("d4000000") + ADDRESSES[:6]
@@ -64,10 +64,9 @@ def block_name(octets: bytes) -> str | None:
     """Returns `bar` or `ba` if octets are a block frame in the form that the program reads."""
     if len(octets) not in (REQUEST_OCTETS, NARROW_OCTETS, WIDE_OCTETS):
         return None
-    is_wide = len(octets) == WIDE_OCTETS
+    fragment = 4 if len(octets) == WIDE_OCTETS else 0
     kind = REQUEST_KIND if len(octets) == REQUEST_OCTETS else BLOCK_ACK_KIND
-    mask, form = (0x0E, 0x0C) if is_wide else (0x06, 0x04)
-    if octets[0] != kind or octets[16] & mask != form or octets[18] & 15:
+    if octets[0] != kind or octets[16] & 6 != 4 or octets[18] & 15 != fragment:
         return None
     return "bar" if kind == REQUEST_KIND else "ba"
 

@@ -7,13 +7,13 @@ from collections.abc import Sequence
 from dataclasses import dataclass
 from pathlib import Path
 
-from wfdev.checks.captures.air import MICROSECONDS, is_wide
+from wfdev.checks.captures.air import MICROSECONDS
 from wfdev.checks.captures.model import ACK, BLOCK_ACK_KIND, DATA_KIND, REQUEST, REQUEST_KIND, Packet, name_of
 from wfdev.harness.script import Difference, expect
 
 # The time and the fields of every frame, of data frames, of block frames and of BlockAcks, and tshark's complaints.
 HEAD_FIELDS = "frame.time_epoch wlan.fc.type_subtype wlan.fc.retry wlan.fc.moredata _ws.malformed _ws.expert.severity"
-FIELDS = (HEAD_FIELDS + " wlan.qos.tid wlan.seq wlan.ba.basic.tidinfo wlan.fixed.ssc.sequence wlan.ba.bm").split()
+FIELDS = (HEAD_FIELDS + " wlan.qos.tid wlan.seq wlan.ba.basic.tidinfo wlan.fixed.ssc.sequence wlan.fixed.ssc.fragment wlan.ba.bm").split()
 ERROR = 0x800000
 KINDS = {DATA_KIND: 0x28, REQUEST_KIND: 0x18, BLOCK_ACK_KIND: 0x19}
 WORDS = {"": None, "True": 1, "False": 0}
@@ -50,20 +50,20 @@ def expect_line(where: str, line: str, packet: Packet) -> None:
     expect(f"{where}, bits Retry and More Data", (retry, more), (octets[1] >> 3 & 1, octets[1] >> 5 & 1))
     expect(f"{where}, kind", kind, KINDS[octets[0]])
     listed = [int(word) for word in name_of(octets).split() if word.isdigit()]
-    expect(f"{where}, numbers", numbers, [*listed, None, None] if octets[0] == DATA_KIND else [None, None, *listed])
+    wanted = [*listed, None, None, None] if octets[0] == DATA_KIND else [None, None, *listed, octets[18] & 15]
+    expect(f"{where}, numbers", numbers, wanted)
     if octets[0] == BLOCK_ACK_KIND:
         expect(f"{where}, bitmap", bytes.fromhex(bitmap.replace(":", "")), octets[20:])
 
 
 def read_by_tshark(capture: Capture, path: Path) -> None:
-    """Has tshark read a capture. It does not know BlockAcks of 256 numbers, so of these it only counts packets."""
+    """Has tshark read a capture."""
     words = ["tshark", "-r", str(path), "--disable-protocol", "llc", "-T", "fields", "-E", "separator=;", "-E", "occurrence=f"]
     words += [word for name in FIELDS for word in ("-e", name)]
     lines = subprocess.run(words, capture_output=True, check=True, text=True).stdout.splitlines()
     expect(f"{capture.name}: packets read by tshark", len(lines), len(capture.packets))
-    if not is_wide(capture.packets):
-        for number, (line, packet) in enumerate(zip(lines, capture.packets, strict=True), 1):
-            expect_line(f"{capture.name}, packet {number}", line, packet)
+    for number, (line, packet) in enumerate(zip(lines, capture.packets, strict=True), 1):
+        expect_line(f"{capture.name}, packet {number}", line, packet)
 
 
 def read_by_scapy(capture: Capture, path: Path) -> None:

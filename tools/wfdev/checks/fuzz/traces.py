@@ -28,6 +28,11 @@ LIKELY = {
     "debt": (0, 1, 300, 20_000, 65_535),
     "aql": (1, 80, 2000, 4000),
     "pending": (1,),
+    "overhead": (8, 16, 32),
+    "cap_vi": (1, 300, 2000),
+    "cap_vo": (1, 300, 1000),
+    "answers": (1,),
+    "credits": (1,),
 }
 # How often a setting is in a head, if not three times in ten. With little room most calls do nothing.
 CHANCE = {"stations": 0.6, "room": 0.06, "limit": 0.25, "calls": 0.0, "pending": 0.6}
@@ -39,7 +44,10 @@ TICKS = (0, 1, 1000, 5000, 19_999, 20_000, 20_001, 50_000, 99_999, 100_000, 300_
 SOME = (*range(10), 16, 17, 20, 40, 64, 80, 160, 256, 257, 800, 1600, 4095, 4096, 10_000_000, 10_000_001)
 LENGTHS = (1, 2, 64, 100, 700, 1500, 1500, 2303, 2304)
 AIRS = (1, 100, 5000, 65_535)
-KINDS = "join leave rate tick burst pull arrive answer done play sleep wake poll rx reap wild".split()
+OCTETS = (4095, 4096, 8192, 20_000, 65_535, 1_048_575, 6_500_631, 6_500_632)
+FRAMES = (1, 1, 2, 3, 8, 64, 65_535)
+LIMITS = (1, 40, 100, 300, 1000, 3000, 3001, 2**32 - 1)
+KINDS = "join leave rate ampdu tick burst pull arrive answer done play sleep wake poll stop start rx reap wild".split()
 
 
 def head(draw: random.Random, chances: Mapping[str, float]) -> str:
@@ -100,7 +108,7 @@ class Maker:
         self.write(head(draw, WAITING if does_wait else CHANCE))
         self.weights = [draw.choice((0.05, 0.3, 1, 1, 3)) for _ in KINDS]
         self.set_weights(join=0.1, leave=0.05, rate=0.2, sleep=0.15, wake=0.3, poll=0.4)
-        self.set_weights(play=3.0, answer=0.4, rx=0.1, reap=0.3, wild=0.05)
+        self.set_weights(play=3.0, answer=0.4, rx=0.1, reap=0.3, wild=0.05, ampdu=0.1, stop=0.1, start=0.3)
         count = self.machine.settings.stations
         drawn = [draw.randrange(count) for _ in range(draw.choice((1, 2, 3, 6)))]
         self.stations = sorted({*drawn, count - 1})
@@ -219,9 +227,19 @@ class Maker:
                 tid, flow = self.draw.choice(self.tids), self.draw.randrange(self.flows)
             yield f"enq {station} {tid} {flow} {self.draw.choice(self.lengths)}"
 
+    def make_ampdu(self) -> Iterator[str]:
+        """Yields the greatest aggregate of a station."""
+        yield f"ampdu {self.station()} {self.draw.choice(OCTETS)}"
+
+    def limits(self) -> str:
+        """Returns the words of a pull's limits, mostly none."""
+        frames = f" frames {self.draw.choice(FRAMES)}" if self.draw.random() < 0.15 else ""
+        air = f" air {self.draw.choice(LIMITS)}" if self.draw.random() < 0.15 else ""
+        return frames + air
+
     def make_pull(self) -> Iterator[str]:
         """Yields a pull."""
-        yield f"pull {self.access()}"
+        yield f"pull {self.access()}{self.limits()}"
 
     def make_arrive(self) -> Iterator[str]:
         """Yields an arrival."""
@@ -247,7 +265,7 @@ class Maker:
     def make_play(self) -> Iterator[str]:
         """Yields a pull, and mostly the whole exchange."""
         before = self.machine.pulled
-        yield f"pull {self.access()}"
+        yield f"pull {self.access()}{self.limits()}"
         for number in list(self.machine.exchanges) if self.machine.pulled > before else ():
             if self.draw.random() < 0.8:
                 opened = self.machine.exchanges[number]
@@ -276,9 +294,18 @@ class Maker:
         if held is not None and held.credit is not None:
             kind = self.draw.random()
             if kind < 0.5:
-                yield f"pull {held.credit}"
+                yield f"pull {held.credit}{self.limits()}"
             elif kind < 0.75:
                 yield from (f"wake {station}", f"sleep {station}", f"poll {station}")
+
+    def make_stop(self) -> Iterator[str]:
+        """Yields a stop."""
+        yield f"stop {self.station()}"
+
+    def make_start(self) -> Iterator[str]:
+        """Yields a start, mostly of a station that is stopped."""
+        stopped = [held.number for held in self.machine.stations.values() if held.stopped]
+        yield f"start {self.draw.choice(stopped) if stopped and self.draw.random() < 0.9 else self.station()}"
 
     def make_rx(self) -> Iterator[str]:
         """Yields a receive charge, or charges down to the greatest debt."""
