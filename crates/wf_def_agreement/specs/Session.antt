@@ -1,7 +1,7 @@
 -- Defines the originator's side of one TID's block acknowledgement agreement, over numbers that do not
 -- wrap: IEEE 802.11-2012, 9.21.7.7 (originator's behavior). The standard calls its state the transmit
 -- buffer control (9.21.7.2), with WinStartO and WinSizeO.
-use Rattle.std.specs.Prelude.{ℕ, suc, ◌+◌, ◌-◌, nat_lt, nat_le, Bool, true, false, ◌&&◌, List, [], ◌∷◌, ◌++◌, if◌then◌else◌, length}
+use Rattle.std.specs.Prelude.{ℕ, suc, ◌+◌, ◌-◌, nat_lt, nat_le, Bool, true, false, ◌&&◌, List, [], ◌∷◌, ◌++◌, if◌then◌else◌, length, map}
 use Rattle.std.specs.List.{list_any}
 use Rattle.wf_def_lists.specs.Table.{at, change}
 
@@ -13,7 +13,7 @@ pub data State : Type 0 where
   Failed : State
 
 -- What one number carries: the id of its frame, and how often the number was sent without being
--- acknowledged.
+-- acknowledged. A number that is given up forgoes the attempts that are left: they count as made.
 pub record Slot : Type 0 where
   pub id : ℕ
   pub attempts : ℕ
@@ -45,7 +45,8 @@ abbrev pub is_acknowledged : State → Bool
 is_acknowledged Acked = true
 is_acknowledged _ = false
 
--- Returns whether a number failed: it was sent as often as the limit allows, and not acknowledged.
+-- Returns whether a number failed: it was sent as often as the limit allows and not acknowledged, or it was
+-- given up before.
 abbrev pub is_failed : State → Bool
 is_failed Failed = true
 is_failed _ = false
@@ -121,3 +122,31 @@ slot_after_miss limit x =
 -- The session after number n was sent and not acknowledged.
 abbrev pub after_miss : ℕ → ℕ → Session → Session
 after_miss limit n s = on_slot n (slot_after_miss limit) s
+
+-- Returns a slot whose number is given up: it fails, and the attempts that are left count as made.
+abbrev pub slot_given_up : ℕ → Slot → Slot
+slot_given_up limit x = record { id = x.id; attempts = limit; state = Failed }
+
+-- How an exchange ends for one of its numbers: the number is acknowledged, was sent in vain, was given up, or
+-- never went on the air.
+pub data End : Type 0 where
+  Acknowledged : End
+  Missed : End
+  GivenUp : End
+  Unsent : End
+
+-- The session after an exchange ended so for number n. A number that never went on the air waits again, and
+-- no attempt is counted.
+abbrev pub after_end : ℕ → End → ℕ → Session → Session
+after_end limit Acknowledged n s = with_state Acked n s
+after_end limit Missed n s = after_miss limit n s
+after_end limit GivenUp n s = on_slot n (slot_given_up limit) s
+after_end limit Unsent n s = with_state Waiting n s
+
+-- Returns a slot after a flush: a number that waits is given up.
+abbrev pub slot_flushed : ℕ → Slot → Slot
+slot_flushed limit x = if is_waiting x.state then slot_given_up limit x else x
+
+-- The session after all numbers that wait were given up.
+abbrev pub after_flush : ℕ → Session → Session
+after_flush limit s = record s { slots = map (slot_flushed limit) s.slots }

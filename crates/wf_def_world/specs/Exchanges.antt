@@ -12,12 +12,12 @@ use Rattle.wf_frame.specs.declared.settings.Config.{Config}
 use Rattle.wf_frame.specs.declared.notes.Limits.{Limits}
 use Rattle.wf_frame.specs.declared.notes.Part.{Part}
 use Rattle.wf_frame.specs.declared.notes.Part.TheVariants.{Mpdus, Request as Starts_at}
-use Rattle.wf_def_lists.specs.Table.{upto, at, longest_front}
+use Rattle.wf_def_lists.specs.Table.{upto, at, has, longest_front}
 use Rattle.wf_def_air.specs.Airtime.{data_charge, request_charge}
 use Rattle.wf_def_air.specs.Fit.{aggregate_octets, most_octets, fits}
 use Rattle.wf_def_codel.specs.Codel.{Item}
 use Rattle.wf_def_rotation.specs.Rotation.{in_order, need_of, Picked, pick}
-use Rattle.wf_def_agreement.specs.Session.{Session, State, slot, waiting_numbers, next_number, start_of, request_due, with_state, with_number_given, after_miss, is_failed}
+use Rattle.wf_def_agreement.specs.Session.{Session, State, End, slot, waiting_numbers, next_number, start_of, request_due, with_state, with_number_given, after_end, is_failed}
 use Rattle.wf_def_agreement.specs.Receiver.{Receiver, with_arrived, with_start, Score, shows}
 use Rattle.wf_def_world.specs.World.{World, Bounds, Station, Share, Mpdu, Content, Frames, Request, Exchange, station, session, share, standing, quantum, rotation, frame, len_of, is_wide, on_station, on_session, on_share, with_rotation, with_frame_finished}
 use Rattle.wf_frame.specs.Classes.{lower_tid, upper_tid}
@@ -97,8 +97,8 @@ most_frames w s = if (station w s).asleep then 1 else w.bounds.frames
 abbrev pub lens_of : ℕ → List Mpdu → List ℕ
 lens_of overhead mpdus = map (λ m. m.len + overhead) mpdus
 
--- whether an aggregate to a station fits: the most frames, the longest A-MPDU of its rate, and the data time of
--- the pull's bounds
+-- whether an aggregate to a station fits: the most frames, the longest A-MPDU of its rate, and the data time
+-- of the pull's bounds
 abbrev pub fits_in : World → ℕ → List Mpdu → Bool
 fits_in w s mpdus =
     let x : Station = station w s in
@@ -216,6 +216,8 @@ exchange_of s t c p =
       content = p.content;
       arrived = [];
       answer = None;
+      unsent = [];
+      given_up = [];
       more = (station p.world s).asleep && (not (is_request p.content) && has_more p.world s);
     }
 
@@ -244,6 +246,27 @@ abbrev pub after_arrival : Content → ℕ → Receiver → Receiver
 after_arrival (Frames mpdus) i r = with_arrived (at no_mpdu mpdus i).number r
 after_arrival (Request start) i r = with_start start r
 
+-- ---- the marks of a device
+
+-- whether transmission i has a mark: it never went on the air, or the device will not try it again
+abbrev pub is_marked : Exchange → ℕ → Bool
+is_marked x i = has x.unsent i || has x.given_up i
+
+-- the number that transmission i carries: that of its frame, or the start of a request
+abbrev pub number_at : Content → ℕ → ℕ
+number_at (Frames mpdus) i = (at no_mpdu mpdus i).number
+number_at (Request start) i = start
+
+-- the numbers of an exchange that never went on the air
+abbrev pub numbers_unsent : Exchange → List ℕ
+numbers_unsent x = map (number_at x.content) x.unsent
+
+-- the numbers of an exchange that the device will not try again
+abbrev pub numbers_given_up : Exchange → List ℕ
+numbers_given_up x = map (number_at x.content) x.given_up
+
+-- ---- the frames of an exchange
+
 -- the ids of the frames that these numbers carry
 abbrev pub ids_of : Session → List ℕ → List ℕ
 ids_of x numbers = map (λ n. (slot x n).id) numbers
@@ -268,22 +291,32 @@ abbrev pub is_acked : Bool → Option Score → ℕ → Bool
 is_acked heard None n = false
 is_acked heard (Some b) n = heard && shows b n
 
+-- how an exchange ends for its number n. What never went on the air waits again, even if the BlockAck shows
+-- it.
+abbrev pub end_of : Exchange → Bool → ℕ → End
+end_of x heard n =
+    if has (numbers_unsent x) n then End.Unsent
+    else if is_acked heard x.answer n then End.Acknowledged
+    else if has (numbers_given_up x) n then End.GivenUp
+    else End.Missed
+
 -- if the number failed, its frame is dropped as Retries
 unfoldable pub with_failed_finished : World → ℕ → ℕ → Mpdu → World
 with_failed_finished w s t m =
     if is_failed (slot (session w s t) m.number).state then with_frame_finished w (Dropped Retries) m.id
     else w
 
--- one number of an exchange that ends: it is acknowledged, or was sent in vain
-unfoldable pub with_settled : World → ℕ → ℕ → Bool → Mpdu → World
-with_settled w s t acked m =
-    if acked then with_frame_finished (on_session w s t (with_state State.Acked m.number)) Acked m.id
-    else with_failed_finished (on_session w s t (after_miss w.config.attempts m.number)) s t m
+-- one number of an exchange that ends
+unfoldable pub with_settled : World → ℕ → ℕ → End → Mpdu → World
+with_settled w s t End.Acknowledged m =
+    with_frame_finished (on_session w s t (with_state State.Acked m.number)) Acked m.id
+with_settled w s t end m =
+    with_failed_finished (on_session w s t (after_end w.config.attempts end m.number)) s t m
 
 -- all numbers of an exchange that ends, in order
-unfoldable pub with_all_settled : World → ℕ → ℕ → (ℕ → Bool) → List Mpdu → World
-with_all_settled w s t acked [] = w
-with_all_settled w s t acked (m ∷ ms) = with_all_settled (with_settled w s t (acked m.number) m) s t acked ms
+unfoldable pub with_all_settled : World → ℕ → ℕ → (ℕ → End) → List Mpdu → World
+with_all_settled w s t ends [] = w
+with_all_settled w s t ends (m ∷ ms) = with_all_settled (with_settled w s t (ends m.number) m) s t ends ms
 
 -- the session after a request ended: if the request was heard, `heard` becomes its start, unless it is
 -- greater already
@@ -292,7 +325,7 @@ with_heard_start heard start x = if heard then record x { heard = max x.heard st
 
 -- the world after an exchange with this content ended, heard or not
 unfoldable pub after_done : World → Exchange → Bool → Content → World
-after_done w x heard (Frames mpdus) = with_all_settled w x.station x.tid (is_acked heard x.answer) mpdus
+after_done w x heard (Frames mpdus) = with_all_settled w x.station x.tid (end_of x heard) mpdus
 after_done w x heard (Request start) = on_session w x.station x.tid (with_heard_start heard start)
 
 -- the subframes of an exchange, of which a request has none

@@ -5,7 +5,7 @@
 use Rattle.std.specs.Prelude.{ℕ, ◌+◌, ◌*◌, ◌%◌, ◌==◌, nat_lt, nat_le, pos, ◌+ℤ◌, ◌-ℤ◌, Bool, false, not, ◌&&◌, ◌||◌, List, [], ◌∷◌, ◌++◌, Option, Some, None, if◌then◌else◌, length, map, find, unwrap_or, sum_by}
 use Rattle.std.specs.List.{list_any, list_all}
 use Rattle.wf_frame.specs.declared.settings.Config.{Config}
-use Rattle.wf_frame.specs.declared.classes.Cause.TheVariants.{Overlimit, Codel as By_codel, Left}
+use Rattle.wf_frame.specs.declared.classes.Cause.TheVariants.{Overlimit, Codel as By_codel, Left, Flushed}
 use Rattle.wf_frame.specs.declared.classes.Fate.TheVariants.{Dropped}
 use Rattle.wf_def_lists.specs.Table.{at, upto}
 use Rattle.wf_def_codel.specs.Codel.{Item, Codel, new_codel, octets, Dequeued, dequeue}
@@ -189,3 +189,14 @@ after_queue_left w q =
 unfoldable pub after_queues_left : World → List ℕ → World
 after_queues_left w [] = w
 after_queues_left w (q ∷ qs) = after_queues_left (after_queue_left w q) qs
+
+-- the frames of queue q are dropped as Flushed; its deficit and its CoDel state stay
+unfoldable pub after_queue_flushed : World → ℕ → World
+after_queue_flushed w q =
+    let emptied : World = on_queue w q (λ y. record y { items = [] }) in
+    with_frames_finished emptied (Dropped Flushed) (map (λ x. x.id) (queue w q).items)
+
+-- the same for each of these queues, in order
+unfoldable pub after_queues_flushed : World → List ℕ → World
+after_queues_flushed w [] = w
+after_queues_flushed w (q ∷ qs) = after_queues_flushed (after_queue_flushed w q) qs

@@ -5,11 +5,11 @@ use Rattle.std.specs.List.{list_any}
 use Rattle.wf_frame.specs.Settings.{is_bad_air}
 use Rattle.wf_frame.specs.declared.classes.Class.{Class}
 use Rattle.wf_frame.specs.declared.notes.Ask.{Ask}
-use Rattle.wf_frame.specs.declared.notes.Ask.TheVariants.{Join, Leave, Rate, Tick, Pull, Arrive, Answer, Done, Sleep, Wake, Poll, Rx, Reap, Ampdu, Stop, Start}
+use Rattle.wf_frame.specs.declared.notes.Ask.TheVariants.{Join, Leave, Rate, Tick, Pull, Arrive, Answer, Done, Sleep, Wake, Poll, Rx, Reap, Ampdu, Stop, Start, Unsent, GiveUp, Flush}
 use Rattle.wf_frame.specs.declared.notes.Note.{Note}
 use Rattle.wf_frame.specs.declared.notes.Note.TheVariants.{Enqueue, Asked}
 use Rattle.wf_frame.specs.declared.notes.Refusal.{Refusal}
-use Rattle.wf_frame.specs.declared.notes.Refusal.TheVariants.{BadStation, BadWindow, BadStart, BadExponent, BadRate, BadTick, BadTid, BadAir, BadIndex, Live, NoStation, NoExchange, NoAnswer, Open, Room, Sleeping, Full, Idle, Answered, Arrived, Nothing, Asleep, Awake, Polled, Debt, BadWeight, Ahead, BadAmpdu, Stopped, Started}
+use Rattle.wf_frame.specs.declared.notes.Refusal.TheVariants.{BadStation, BadWindow, BadStart, BadExponent, BadRate, BadTick, BadTid, BadAir, BadIndex, Live, NoStation, NoExchange, NoAnswer, Open, Room, Sleeping, Full, Idle, Answered, Arrived, Nothing, Asleep, Awake, Polled, Debt, BadWeight, Ahead, BadAmpdu, Stopped, Started, Marked}
 use Rattle.wf_def_lists.specs.Table.{has, upto}
 use Rattle.wf_def_lists.specs.Bounds.{greatest_window, greatest_start, greatest_exponent, greatest_weight, greatest_tid, greatest_tick, greatest_air, least_ampdu, greatest_ampdu, deepest_deficit}
 use Rattle.wf_def_air.specs.Airtime.{is_rate}
@@ -18,7 +18,7 @@ use Rattle.wf_def_world.specs.World.{World, Exchange, station, is_live, inside, 
 use Rattle.wf_frame.specs.Classes.{same_class, lower_tid, upper_tid, class_of}
 use Rattle.wf_def_world.specs.FlowQueues.{frames_queued}
 use Rattle.wf_def_world.specs.CanSend.{can_send, can_send_in}
-use Rattle.wf_def_world.specs.Exchanges.{picked_station, transmissions}
+use Rattle.wf_def_world.specs.Exchanges.{picked_station, transmissions, is_marked}
 
 -- the refusal of the first row whose test holds
 unfoldable pub first_refusal : List (Bool × Refusal) → Option Refusal
@@ -94,7 +94,8 @@ refusals_of w (Arrive e i) = (
     (is_none (exchange w e), NoExchange) ∷
     (exchange_has (exchange w e) (λ x. nat_le (transmissions x.content) i), BadIndex) ∷
     (exchange_has (exchange w e) (λ x. is_some x.answer), Answered) ∷
-    (exchange_has (exchange w e) (λ x. has x.arrived i), Arrived) ∷ [])
+    (exchange_has (exchange w e) (λ x. has x.arrived i), Arrived) ∷
+    (exchange_has (exchange w e) (λ x. has x.unsent i), Marked) ∷ [])
 refusals_of w (Answer e) = (
     (is_none (exchange w e), NoExchange) ∷
     (exchange_has (exchange w e) (λ x. is_some x.answer), Answered) ∷
@@ -129,6 +130,18 @@ refusals_of w (Stop s) = (
 refusals_of w (Start s) = (
     (is_bad_station w s, BadStation) ∷ (not (is_live w s), NoStation) ∷
     (not (station w s).stopped, Started) ∷ [])
+refusals_of w (Unsent e i) = (
+    (is_none (exchange w e), NoExchange) ∷
+    (exchange_has (exchange w e) (λ x. nat_le (transmissions x.content) i), BadIndex) ∷
+    (exchange_has (exchange w e) (λ x. is_some x.answer), Answered) ∷
+    (exchange_has (exchange w e) (λ x. has x.arrived i), Arrived) ∷
+    (exchange_has (exchange w e) (λ x. is_marked x i), Marked) ∷ [])
+refusals_of w (GiveUp e i) = (
+    (is_none (exchange w e), NoExchange) ∷
+    (exchange_has (exchange w e) (λ x. nat_le (transmissions x.content) i), BadIndex) ∷
+    (exchange_has (exchange w e) (λ x. is_marked x i), Marked) ∷ [])
+refusals_of w (Flush s t) = (
+    (is_bad_station w s, BadStation) ∷ (nat_lt greatest_tid t, BadTid) ∷ (not (is_live w s), NoStation) ∷ [])
 
 -- the rows of a call, in order
 abbrev pub refusals : World → Note → List (Bool × Refusal)

@@ -2,9 +2,9 @@
 use Rattle.std.specs.Prelude.{ℕ, ◌+◌, ◌-◌, ◌*◌, ◌%◌, ◌==◌, pos, ◌-ℤ◌, Bool, true, false, List, [], ◌∷◌, ◌++◌, Option, Some, None, if◌then◌else◌, length, find, unwrap_or}
 use Rattle.wf_frame.specs.declared.classes.Class.{Class}
 use Rattle.wf_frame.specs.declared.classes.Class.TheVariants.{Bk, Be, Vi, Vo}
-use Rattle.wf_frame.specs.declared.classes.Cause.TheVariants.{Left}
+use Rattle.wf_frame.specs.declared.classes.Cause.TheVariants.{Left, Flushed}
 use Rattle.wf_frame.specs.declared.classes.Fate.TheVariants.{Held, Dropped}
-use Rattle.wf_frame.specs.declared.notes.Ask.TheVariants.{Join, Leave, Rate, Tick, Pull, Arrive, Answer, Done, Sleep, Wake, Poll, Rx, Reap, Ampdu, Stop, Start}
+use Rattle.wf_frame.specs.declared.notes.Ask.TheVariants.{Join, Leave, Rate, Tick, Pull, Arrive, Answer, Done, Sleep, Wake, Poll, Rx, Reap, Ampdu, Stop, Start, Unsent, GiveUp, Flush}
 use Rattle.wf_frame.specs.declared.notes.Limits.{Limits}
 use Rattle.wf_frame.specs.declared.notes.AskedRate.{AskedRate}
 use Rattle.wf_frame.specs.declared.notes.Note.{Note}
@@ -12,18 +12,18 @@ use Rattle.wf_frame.specs.declared.notes.Note.TheVariants.{Enqueue, Asked}
 use Rattle.wf_frame.specs.declared.notes.Refusal.{Refusal}
 use Rattle.wf_frame.specs.declared.notes.Refusal.TheVariants.{Idle}
 use Rattle.wf_frame.specs.declared.notes.ReplyNote.{ReplyNote}
-use Rattle.wf_frame.specs.declared.notes.ReplyNote.TheVariants.{Joined, Set, Now, Accepted, Send, Released, Ba, Slept, Woken, Polled, Charged, Reaped, Refused}
+use Rattle.wf_frame.specs.declared.notes.ReplyNote.TheVariants.{Joined, Set, Now, Accepted, Send, Released, Ba, Slept, Woken, Polled, Charged, Reaped, Marked, Refused}
 use Rattle.wf_frame.specs.declared.notes.ReplyNote.TheVariants as reply
 use Rattle.wf_def_lists.specs.Table.{upto, with_member}
 use Rattle.wf_def_air.specs.Airtime.{lowest_rate}
 use Rattle.wf_def_codel.specs.Codel.{Item}
 use Rattle.wf_def_rotation.specs.Rotation.{in_order, without_key, no_keys}
-use Rattle.wf_def_agreement.specs.Session.{Slot, State, is_acknowledged, is_waiting, is_failed}
+use Rattle.wf_def_agreement.specs.Session.{Slot, State, is_acknowledged, is_waiting, is_failed, after_flush}
 use Rattle.wf_def_agreement.specs.Receiver.{Receiver, Score, score, bitmap_word, released_between}
 use Rattle.wf_def_world.specs.Rates.{rate_asked}
-use Rattle.wf_def_world.specs.World.{World, Exchange, new_share, new_tid, session, receiver, share, tid_of, rotation, frame, accepted_count, is_wide, exchange, with_bounds, with_station, on_station, on_share, on_receiver, with_rotation, with_queues, with_exchange, without_exchange, with_frames_finished}
+use Rattle.wf_def_world.specs.World.{World, Exchange, new_share, new_tid, session, receiver, share, tid_of, rotation, frame, accepted_count, is_wide, exchange, with_bounds, with_station, on_station, on_share, on_session, on_receiver, with_rotation, with_queues, with_exchange, without_exchange, with_frames_finished}
 use Rattle.wf_frame.specs.Classes.{all_classes}
-use Rattle.wf_def_world.specs.FlowQueues.{dropped_for_limit, after_limit, queue_for, after_put_in, after_queues_left}
+use Rattle.wf_def_world.specs.FlowQueues.{dropped_for_limit, after_limit, queue_for, after_put_in, after_queues_left, after_queues_flushed}
 use Rattle.wf_def_world.specs.CanSend.{can_send_in, with_listings_of}
 use Rattle.wf_def_world.specs.Exchanges.{picked_station, after_pick, bounds_of, sending_tid, after_tid_turn, Prepared, prepared_exchange, exchange_of, with_exchange_opened, without_credit, part_of, after_arrival, ids_of, after_charge, after_done, count_in}
 use Rattle.wf_def_world.specs.Refusals.{refusal}
@@ -98,6 +98,20 @@ leave_outcome w s =
       reply = reply.Left (length left.finished - length w.finished);
     }
 
+-- Flush: the frames of a TID are dropped as Flushed: first those of the numbers that wait, which fail, then
+-- those of its queues, queue by queue in the order of their numbers. What is on the air stays.
+unfoldable pub after_tid_flushed : World → ℕ → ℕ → World
+after_tid_flushed w s t =
+    let emptied : World = with_frames_finished (on_session w s t (after_flush w.config.attempts))
+    (Dropped Flushed) (waiting_ids (session w s t).slots) in
+    after_queues_flushed emptied (in_rising_order (in_order (tid_of w s t).queues))
+
+-- Flush: the reply says how many frames are dropped
+unfoldable pub flush_outcome : World → ℕ → ℕ → Outcome
+flush_outcome w s t =
+    let flushed : World = after_tid_flushed w s t in
+    record { world = flushed; reply = reply.Flushed (length flushed.finished - length w.finished) }
+
 -- Rate: data to the station has this rate from now on
 unfoldable pub rate_outcome : World → ℕ → AskedRate → Outcome
 rate_outcome w s rate =
@@ -165,7 +179,8 @@ pull_outcome_for w c (Some s) =
 -- Pull: a station of the class is picked, and sends within these limits
 unfoldable pub pull_outcome : World → Class → Limits → Outcome
 pull_outcome w c limits =
-    pull_outcome_for (with_bounds (after_pick w c) (bounds_of w.config c limits)) c (picked_station w c).winner
+    pull_outcome_for (with_bounds (after_pick w c) (bounds_of w.config c limits)) c
+    (picked_station w c).winner
 
 -- ---- exchanges
 
@@ -190,6 +205,22 @@ answer_outcome w x =
       reply =
           Ba (b.start % 4096) (bitmap_word b 0) (bitmap_word b 1) (bitmap_word b 2) (bitmap_word b 3)
           (is_wide w x.station x.tid);
+    }
+
+-- Unsent: transmission i never went on the air
+unfoldable pub unsent_outcome : World → Exchange → ℕ → Outcome
+unsent_outcome w x i =
+    record {
+      world = with_exchange w (record x { unsent = with_member i x.unsent });
+      reply = Marked;
+    }
+
+-- GiveUp: the device will not try transmission i again
+unfoldable pub give_up_outcome : World → Exchange → ℕ → Outcome
+give_up_outcome w x i =
+    record {
+      world = with_exchange w (record x { given_up = with_member i x.given_up });
+      reply = Marked;
     }
 
 -- Done: the exchange ends. It is charged the airtime that is given, otherwise the computed one. The reply
@@ -266,6 +297,9 @@ outcome_of w (Asked Reap) = reap_outcome w w.finished
 outcome_of w (Asked (Ampdu s octets)) = ampdu_outcome w s octets
 outcome_of w (Asked (Stop s)) = stop_outcome w s
 outcome_of w (Asked (Start s)) = start_outcome w s
+outcome_of w (Asked (Unsent e i)) = outcome_where_open w (exchange w e) (λ x. unsent_outcome w x i)
+outcome_of w (Asked (GiveUp e i)) = outcome_where_open w (exchange w e) (λ x. give_up_outcome w x i)
+outcome_of w (Asked (Flush s t)) = flush_outcome w s t
 
 -- the station of an exchange, if the exchange is open
 abbrev pub station_of : Option Exchange → Option ℕ
@@ -292,6 +326,9 @@ concerned_station w (Asked Reap) = None
 concerned_station w (Asked (Ampdu s octets)) = Some s
 concerned_station w (Asked (Stop s)) = Some s
 concerned_station w (Asked (Start s)) = Some s
+concerned_station w (Asked (Unsent e i)) = station_of (exchange w e)
+concerned_station w (Asked (GiveUp e i)) = station_of (exchange w e)
+concerned_station w (Asked (Flush s t)) = Some s
 
 -- The world after a refusal. Only Idle without the setting `pending` changes it: the pick found no ready
 -- station, gave the listed ones their quanta, and emptied the lists of the class.

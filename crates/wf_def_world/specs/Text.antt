@@ -5,14 +5,14 @@ use Rattle.std.specs.Fmt.{signed_decimal}
 use Rattle.std.specs.List.{concat}
 use Rattle.wf_frame.specs.declared.classes.Class.{Class}
 use Rattle.wf_frame.specs.declared.classes.Cause.{Cause}
-use Rattle.wf_frame.specs.declared.classes.Cause.TheVariants.{Overlimit, Codel, Retries, Left}
+use Rattle.wf_frame.specs.declared.classes.Cause.TheVariants.{Overlimit, Codel, Retries, Left, Flushed}
 use Rattle.wf_frame.specs.declared.classes.Fate.{Fate}
 use Rattle.wf_frame.specs.declared.classes.Fate.TheVariants.{Held, Acked, Dropped}
 use Rattle.wf_frame.specs.declared.notes.Part.{Part}
 use Rattle.wf_frame.specs.declared.notes.Part.TheVariants.{Mpdus, Request}
 use Rattle.wf_frame.specs.declared.notes.Refusal.{Refusal}
 use Rattle.wf_frame.specs.declared.notes.ReplyNote.{ReplyNote}
-use Rattle.wf_frame.specs.declared.notes.ReplyNote.TheVariants.{Joined, Set, Now, Accepted, Send, Released, Ba, Done, Slept, Woken, Polled, Charged, Reaped, Stopped, Started, Refused}
+use Rattle.wf_frame.specs.declared.notes.ReplyNote.TheVariants.{Joined, Set, Now, Accepted, Send, Released, Ba, Done, Slept, Woken, Polled, Charged, Reaped, Stopped, Started, Marked, Refused}
 use Rattle.wf_frame.specs.declared.notes.ReplyNote.TheVariants as reply
 use Rattle.wf_frame.specs.declared.settings.Config.{Config}
 use Rattle.wf_def_tim.specs.Tim.{tim_element}
@@ -63,12 +63,14 @@ reply_words Set = codes "set" ∷ []
 reply_words (Now now) = codes "now" ∷ decimal now ∷ []
 reply_words (Accepted id dropped) = codes "accepted" ∷ decimal id ∷ dropped_words dropped
 reply_words (Send e s t air part more) =
-    codes "send" ∷ decimal e ∷ codes "sta" ∷ decimal s ∷ codes "tid" ∷ decimal t ∷ codes "air" ∷ decimal air ∷ []
+    codes "send" ∷ decimal e ∷ codes "sta" ∷ decimal s ∷ codes "tid" ∷ decimal t ∷ codes "air"
+    ∷ decimal air ∷ []
     ++ part_words part ++ (if more then codes "more" ∷ [] else [])
 reply_words (Released ids) = codes "released" ∷ map decimal ids
 reply_words (Ba start b0 b1 b2 b3 wide) = codes "ba" ∷ decimal start ∷ score_digits b0 b1 b2 b3 wide ∷ []
 reply_words (Done acked waiting failed) =
-    codes "done" ∷ codes "acked" ∷ decimal acked ∷ codes "waiting" ∷ decimal waiting ∷ codes "failed" ∷ decimal failed ∷ []
+    codes "done" ∷ codes "acked" ∷ decimal acked ∷ codes "waiting" ∷ decimal waiting ∷ codes "failed"
+    ∷ decimal failed ∷ []
 reply_words Slept = codes "slept" ∷ []
 reply_words Woken = codes "woken" ∷ []
 reply_words (Polled class) = codes "polled" ∷ class_word class ∷ []
@@ -76,6 +78,8 @@ reply_words (Charged deficit) = codes "charged" ∷ signed_decimal deficit ∷ [
 reply_words (Reaped id fate) = codes "reaped" ∷ decimal id ∷ fate_word fate ∷ []
 reply_words Stopped = codes "stopped" ∷ []
 reply_words Started = codes "started" ∷ []
+reply_words Marked = codes "marked" ∷ []
+reply_words (reply.Flushed dropped) = codes "flushed" ∷ decimal dropped ∷ []
 reply_words (Refused refusal) = codes "refused" ∷ refusal_words refusal
 
 -- the answer line of a reply
@@ -90,6 +94,7 @@ same_cause Overlimit Overlimit = true
 same_cause Codel Codel = true
 same_cause Retries Retries = true
 same_cause Left Left = true
+same_cause Flushed Flushed = true
 same_cause _ _ = false
 
 -- whether two fates are equal
@@ -103,12 +108,19 @@ same_fate _ _ = false
 abbrev pub tally : World → Fate → ℕ
 tally w fate = count_by (λ f. same_fate f.fate fate) w.frames
 
+-- the words for a fate that only calls beyond the first ones give: none if no frame has it
+abbrev pub tally_if_any : World → Fate → List (List ℕ)
+tally_if_any w fate = if tally w fate == 0 then [] else fate_word fate ∷ decimal (tally w fate) ∷ []
+
 -- line 3: the number of accepted frames, and how many have each fate
 abbrev pub tally_words : World → List (List ℕ)
 tally_words w =
-    codes "frames" ∷ decimal (accepted_count w) ∷ codes "acked" ∷ decimal (tally w Acked) ∷ codes "overlimit" ∷ decimal (tally w (Dropped Overlimit)) ∷
-    codes "codel" ∷ decimal (tally w (Dropped Codel)) ∷ codes "retries" ∷ decimal (tally w (Dropped Retries)) ∷
+    codes "frames" ∷ decimal (accepted_count w) ∷ codes "acked" ∷ decimal (tally w Acked)
+    ∷ codes "overlimit" ∷ decimal (tally w (Dropped Overlimit)) ∷
+    codes "codel" ∷ decimal (tally w (Dropped Codel)) ∷ codes "retries"
+    ∷ decimal (tally w (Dropped Retries)) ∷
     codes "left" ∷ decimal (tally w (Dropped Left)) ∷ codes "held" ∷ decimal (tally w Held) ∷ []
+    ++ tally_if_any w (Dropped Flushed)
 
 -- line 5, one for each station and class: its airtime in microseconds; empty if it had none
 abbrev pub share_line : ℕ → Class → Share → List ℕ
@@ -132,7 +144,8 @@ with_traffic w = map (λ s. s + 1) (filter (λ s. (station w s).asleep && has_mo
 -- the summary of a world after this number of calls
 abbrev pub summary : World → ℕ → List ℕ
 summary w calls =
-    line (codes "calls" ∷ decimal calls ∷ []) ++ line (codes "now" ∷ decimal w.clock ∷ []) ++ line (tally_words w)
+    line (codes "calls" ∷ decimal calls ∷ []) ++ line (codes "now" ∷ decimal w.clock ∷ [])
+    ++ line (tally_words w)
     ++ line (codes "exchanges" ∷ decimal w.exchanges ∷ codes "open" ∷ decimal (length w.opened) ∷ [])
     ++ concat (map (share_lines w) (live_stations w))
     ++ line (codes "tim" ∷ concat (map (hex 2) (traffic_map (with_traffic w))) ∷ [])

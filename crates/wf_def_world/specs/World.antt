@@ -113,6 +113,8 @@ pub record Exchange : Type 0 where
   pub content : Content
   pub arrived : List ℕ  -- the indices of the transmissions that arrived, rising
   pub answer : Option Score  -- the BlockAck, once the station has answered
+  pub unsent : List ℕ  -- the indices of the transmissions that never went on the air, rising
+  pub given_up : List ℕ  -- the indices of those that the device will not try again, rising
   pub more : Bool  -- the More Data bit
 
 -- an accepted frame: the call that brought it, and its fate
@@ -249,7 +251,8 @@ abbrev pub owed_by_all : List Exchange → ℕ
 owed_by_all [] = 0
 owed_by_all (x ∷ xs) = x.charge + owed_by_all xs
 
--- the airtime in flight that counts against a station's deficit in a class: none without the setting `pending`
+-- the airtime in flight that counts against a station's deficit in a class: none without the setting
+-- `pending`
 abbrev pub pending_air : World → ℕ → Class → ℕ
 pending_air w s c = if w.config.pending == 1 then owed s c w.opened else 0
 
