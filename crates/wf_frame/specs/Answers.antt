@@ -33,6 +33,8 @@ reply_with (brief.Charged deficit) pairs ids = reply.Charged deficit
 reply_with (brief.Reaped id fate) pairs ids = reply.Reaped id fate
 reply_with brief.Stopped pairs ids = reply.Stopped
 reply_with brief.Started pairs ids = reply.Started
+reply_with brief.Marked pairs ids = reply.Marked
+reply_with (brief.Flushed dropped) pairs ids = reply.Flushed dropped
 reply_with (brief.Refused refusal) pairs ids = reply.Refused refusal
 
 -- the reply of an answer: its brief, with the list that the brief refers to

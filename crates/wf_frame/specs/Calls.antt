@@ -15,7 +15,7 @@ use Rattle.wf_frame.specs.declared.calls.Value.TheVariants as value
 use Rattle.wf_frame.specs.declared.notes.Note.{Note}
 use Rattle.wf_frame.specs.declared.notes.Note.TheVariants.{Enqueue, Asked}
 use Rattle.wf_frame.specs.declared.notes.Ask.{Ask}
-use Rattle.wf_frame.specs.declared.notes.Ask.TheVariants.{Join, Leave, Rate, Tick, Pull, Arrive, Answer, Done, Sleep, Wake, Poll, Rx, Reap, Ampdu, Stop, Start}
+use Rattle.wf_frame.specs.declared.notes.Ask.TheVariants.{Join, Leave, Rate, Tick, Pull, Arrive, Answer, Done, Sleep, Wake, Poll, Rx, Reap, Ampdu, Stop, Start, Unsent, GiveUp, Flush}
 use Rattle.wf_frame.specs.declared.notes.Limits.{Limits}
 use Rattle.wf_frame.specs.declared.notes.AskedRate.{AskedRate}
 use Rattle.wf_frame.specs.declared.notes.AskedRate.TheVariants.{Ht, Vht, He}
@@ -58,6 +58,9 @@ form_row form.Reap = row 13 (codes "reap") (codes "reap")
 form_row form.Ampdu = row 14 (codes "ampdu") (codes "ampdu S OCTETS")
 form_row form.Stop = row 15 (codes "stop") (codes "stop S")
 form_row form.Start = row 16 (codes "start") (codes "start S")
+form_row form.Unsent = row 17 (codes "unsent") (codes "unsent EXCHANGE INDEX")
+form_row form.GiveUp = row 18 (codes "giveup") (codes "giveup EXCHANGE INDEX")
+form_row form.Flush = row 19 (codes "flush") (codes "flush S TID")
 
 -- the number of a form's call
 abbrev pub form_number : CallForm → ℕ
@@ -101,6 +104,9 @@ arguments_of form.Reap = []
 arguments_of form.Ampdu = argument.Station ∷ argument.Octets ∷ []
 arguments_of form.Stop = argument.Station ∷ []
 arguments_of form.Start = argument.Station ∷ []
+arguments_of form.Unsent = argument.Exchange ∷ argument.Index ∷ []
+arguments_of form.GiveUp = argument.Exchange ∷ argument.Index ∷ []
+arguments_of form.Flush = argument.Station ∷ argument.Tid ∷ []
 
 -- the greatest number of frames that a line gives to a pull as its limit
 abbrev pub greatest_frames : ℕ
@@ -152,14 +158,15 @@ abbrev pub forms : List CallForm
 forms =
     form.Join ∷ form.Leave ∷ form.Rate ∷ form.RateVht ∷ form.RateHe ∷ form.Tick ∷ form.Enqueue ∷ form.Pull
     ∷ form.PullFrames ∷ form.PullAir ∷ form.PullLimited ∷ form.Arrive ∷ form.Answer ∷ form.Done ∷ form.DoneAir
-    ∷ form.Sleep ∷ form.Wake ∷ form.Poll ∷ form.Rx ∷ form.Reap ∷ form.Ampdu ∷ form.Stop ∷ form.Start ∷ []
+    ∷ form.Sleep ∷ form.Wake ∷ form.Poll ∷ form.Rx ∷ form.Reap ∷ form.Ampdu ∷ form.Stop ∷ form.Start
+    ∷ form.Unsent ∷ form.GiveUp ∷ form.Flush ∷ []
 
 -- all calls, in their first forms
 abbrev pub calls : List CallForm
 calls =
     form.Join ∷ form.Leave ∷ form.Rate ∷ form.Tick ∷ form.Enqueue ∷ form.Pull ∷ form.Arrive ∷ form.Answer
     ∷ form.Done ∷ form.Sleep ∷ form.Wake ∷ form.Poll ∷ form.Rx ∷ form.Reap ∷ form.Ampdu ∷ form.Stop
-    ∷ form.Start ∷ []
+    ∷ form.Start ∷ form.Unsent ∷ form.GiveUp ∷ form.Flush ∷ []
 
 -- the first form of the call with this word
 abbrev pub call_named : List ℕ → Option CallForm
@@ -217,6 +224,9 @@ note_form (Asked Reap) = form.Reap
 note_form (Asked (Ampdu station octets)) = form.Ampdu
 note_form (Asked (Stop station)) = form.Stop
 note_form (Asked (Start station)) = form.Start
+note_form (Asked (Unsent exchange index)) = form.Unsent
+note_form (Asked (GiveUp exchange index)) = form.GiveUp
+note_form (Asked (Flush station tid)) = form.Flush
 
 -- the values of a rate's arguments after the station
 abbrev pub values_of_rate : AskedRate → List Value
@@ -260,6 +270,9 @@ note_values (Asked Reap) = []
 note_values (Asked (Ampdu station octets)) = value.Short station ∷ value.Long octets ∷ []
 note_values (Asked (Stop station)) = value.Short station ∷ []
 note_values (Asked (Start station)) = value.Short station ∷ []
+note_values (Asked (Unsent exchange index)) = value.Exchange exchange ∷ value.Short index ∷ []
+note_values (Asked (GiveUp exchange index)) = value.Exchange exchange ∷ value.Short index ∷ []
+note_values (Asked (Flush station tid)) = value.Short station ∷ value.Octet tid ∷ []
 
 -- the Enqueue call with these values; None if they are no values of its arguments
 abbrev pub enqueued : List Value → Option Note
@@ -307,6 +320,9 @@ ask_of form.Reap [] = Some Reap
 ask_of form.Ampdu (value.Short station ∷ value.Long octets ∷ []) = Some (Ampdu station octets)
 ask_of form.Stop (value.Short station ∷ []) = Some (Stop station)
 ask_of form.Start (value.Short station ∷ []) = Some (Start station)
+ask_of form.Unsent (value.Exchange exchange ∷ value.Short index ∷ []) = Some (Unsent exchange index)
+ask_of form.GiveUp (value.Exchange exchange ∷ value.Short index ∷ []) = Some (GiveUp exchange index)
+ask_of form.Flush (value.Short station ∷ value.Octet tid ∷ []) = Some (Flush station tid)
 ask_of _ _ = None
 
 -- the call of a form with these values; None if they are no values of its arguments

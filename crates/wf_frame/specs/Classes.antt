@@ -3,7 +3,7 @@ use Rattle.std.specs.Prelude.{ℕ, zero, suc, ◌+◌, ◌*◌, ◌==◌, Bool, 
 use Rattle.std.specs.Str.{bytes_eq}
 use Rattle.wf_frame.specs.declared.classes.Class.{Class}
 use Rattle.wf_frame.specs.declared.classes.Class.TheVariants.{Bk, Be, Vi, Vo}
-use Rattle.wf_frame.specs.declared.classes.Cause.TheVariants.{Overlimit, Codel, Retries, Left}
+use Rattle.wf_frame.specs.declared.classes.Cause.TheVariants.{Overlimit, Codel, Retries, Left, Flushed}
 use Rattle.wf_frame.specs.declared.classes.Fate.{Fate}
 use Rattle.wf_frame.specs.declared.classes.Fate.TheVariants.{Held, Acked, Dropped}
 
@@ -69,6 +69,7 @@ fate_row (Dropped Overlimit) = (2, codes "overlimit")
 fate_row (Dropped Codel) = (3, codes "codel")
 fate_row (Dropped Retries) = (4, codes "retries")
 fate_row (Dropped Left) = (5, codes "left")
+fate_row (Dropped Flushed) = (6, codes "flushed")
 
 -- the number of a fate
 abbrev pub fate_number : Fate → ℕ
@@ -80,7 +81,8 @@ fate_word fate = (fate_row fate).1
 
 -- the fates by their numbers
 abbrev pub fates : List Fate
-fates = Held ∷ Acked ∷ Dropped Overlimit ∷ Dropped Codel ∷ Dropped Retries ∷ Dropped Left ∷ []
+fates =
+    Held ∷ Acked ∷ Dropped Overlimit ∷ Dropped Codel ∷ Dropped Retries ∷ Dropped Left ∷ Dropped Flushed ∷ []
 
 -- the fate with this number
 abbrev pub fate_numbered : ℕ → Option Fate

@@ -1,5 +1,5 @@
 -- Defines what contracts see of a frame.
-use Rattle.std.specs.Prelude.{ℕ, zero, suc, ◌+◌, ◌%◌, nat_lt, Bool, true, false, if◌then◌else◌, List, [], ◌∷◌, ◌++◌, replicate}
+use Rattle.std.specs.Prelude.{ℕ, zero, suc, ◌+◌, ◌-◌, ◌%◌, nat_lt, Bool, true, false, if◌then◌else◌, List, [], ◌∷◌, ◌++◌, replicate}
 use Rattle.wf_frame.specs.declared.classes.Fate.{Fate}
 use Rattle.wf_frame.specs.declared.classes.Fate.TheVariants.{Held}
 use Rattle.wf_frame.specs.declared.frames.Body.{Body}
@@ -64,6 +64,10 @@ most_attempts = 255
 -- the frame after one more transmission
 abbrev pub sent_again : FrameValue → FrameValue
 sent_again f = record f { attempts = if nat_lt f.attempts most_attempts then f.attempts + 1 else f.attempts }
+
+-- the frame after one transmission of those that it counts turned out never to have been on the air
+abbrev pub sent_once_less : FrameValue → FrameValue
+sent_once_less f = record f { attempts = f.attempts - 1 }
 
 -- the body of a frame of a trace: octet j is (flow + j) mod 256
 abbrev pub sample_body : ℕ → ℕ → List ℕ

@@ -2,7 +2,7 @@
 -- of them.
 use Rattle.std.specs.Prelude.{ℕ, ℤ, pos, ◌==◌, Option, Some, None, List, [], ◌∷◌, codes, find}
 use Rattle.wf_frame.specs.declared.notes.Refusal.{Refusal}
-use Rattle.wf_frame.specs.declared.notes.Refusal.TheVariants.{BadStation, BadWindow, BadStart, BadExponent, BadRate, BadTick, BadTid, BadAir, BadIndex, Live, NoStation, NoExchange, NoAnswer, Open, Room, Sleeping, Full, Idle, Answered, Arrived, Nothing, Asleep, Awake, Polled, Debt, HistoryFull, BadWeight, Ahead, BadAmpdu, Stopped, Started}
+use Rattle.wf_frame.specs.declared.notes.Refusal.TheVariants.{BadStation, BadWindow, BadStart, BadExponent, BadRate, BadTick, BadTid, BadAir, BadIndex, Live, NoStation, NoExchange, NoAnswer, Open, Room, Sleeping, Full, Idle, Answered, Arrived, Nothing, Asleep, Awake, Polled, Debt, HistoryFull, BadWeight, Ahead, BadAmpdu, Stopped, Started, Marked}
 
 -- begin rows: tools/tables writes these lines
 
@@ -39,6 +39,7 @@ refusal_row (Ahead owed) = (28, codes "ahead")
 refusal_row BadAmpdu = (29, codes "bad-ampdu")
 refusal_row Stopped = (30, codes "stopped")
 refusal_row Started = (31, codes "started")
+refusal_row Marked = (32, codes "marked")
 
 -- end rows
 
@@ -69,7 +70,7 @@ refusal_list =
     BadStation ∷ BadWindow ∷ BadStart ∷ BadExponent ∷ BadRate ∷ BadTick ∷ BadTid ∷ BadAir ∷ BadIndex ∷ Live
     ∷ NoStation ∷ NoExchange ∷ NoAnswer ∷ Open 0 ∷ Room 0 ∷ Sleeping 0 ∷ Full 0 ∷ Idle ∷ Answered ∷ Arrived
     ∷ Nothing ∷ Asleep ∷ Awake ∷ Polled ∷ Debt (pos 0) ∷ HistoryFull ∷ BadWeight ∷ Ahead 0 ∷ BadAmpdu
-    ∷ Stopped ∷ Started ∷ []
+    ∷ Stopped ∷ Started ∷ Marked ∷ []
 
 -- end numbers
 

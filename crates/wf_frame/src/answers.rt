@@ -79,6 +79,12 @@ pub enum Brief {
     Stopped,
     /// The station is started.
     Started,
+    /// The transmission is marked.
+    Marked,
+    /// The TID was flushed, and this number of its frames were dropped.
+    Flushed {
+        dropped: u32,
+    },
     /// The call was refused.
     Refused(Refusal),
 }

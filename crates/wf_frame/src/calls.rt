@@ -10,8 +10,8 @@ use crate::Class;
 const GREATEST_FRAMES: u32 = 65_535;
 
 /// A form of a call's line. A rate has three forms, one for each format, a pull has four, by the limits that
-/// it gives, and the end of an exchange has two; each other call has one. The comment of each variant is its sentence in the table of docs/TRACE.md.
-/// Names in capitals are those of the line.
+/// it gives, and the end of an exchange has two; each other call has one. The comment of each variant is its
+/// sentence in the table of docs/TRACE.md. Names in capitals are those of the line.
 #[derive(Clone, Copy)]
 pub enum CallForm {
     /// A station joins: S, its window W, its first sequence number START, its A-MPDU length exponent X, and
@@ -61,6 +61,12 @@ pub enum CallForm {
     Stop,
     /// Pulls may pick the station again.
     Start,
+    /// A transmission never went on the air; INDEX counts from 0.
+    Unsent,
+    /// The device will not try a transmission again; INDEX counts from 0.
+    GiveUp,
+    /// The frames of a TID that are not on the air are dropped.
+    Flush,
 }
 
 /// The format of a rate, if its line has a word for it. A rate of HT has none.
@@ -192,7 +198,7 @@ impl Default for Value {
     }
 }
 
-const CALLS: [CallForm; 17] = [
+const CALLS: [CallForm; 20] = [
     CallForm::Join,
     CallForm::Leave,
     CallForm::Rate,
@@ -210,9 +216,12 @@ const CALLS: [CallForm; 17] = [
     CallForm::Ampdu,
     CallForm::Stop,
     CallForm::Start,
+    CallForm::Unsent,
+    CallForm::GiveUp,
+    CallForm::Flush,
 ];
 
-const FORMS: [CallForm; 23] = [
+const FORMS: [CallForm; 26] = [
     CallForm::Join,
     CallForm::Leave,
     CallForm::Rate,
@@ -236,6 +245,9 @@ const FORMS: [CallForm; 23] = [
     CallForm::Ampdu,
     CallForm::Stop,
     CallForm::Start,
+    CallForm::Unsent,
+    CallForm::GiveUp,
+    CallForm::Flush,
 ];
 
 impl RateFormat {
@@ -268,7 +280,7 @@ impl CallForm {
         ensures number { result.0 ≡ form_number self }
         ensures word { result.1.now ≡ call_word self }
         ensures line { result.2.now ≡ form_line self }
-        ensures range { result.0 < 17 }
+        ensures range { result.0 < 20 }
         ensures short { length result.1.now ≤ 6 }
     {
         match self {
@@ -295,20 +307,23 @@ impl CallForm {
             CallForm::Ampdu => (14, b"ampdu", b"ampdu S OCTETS"),
             CallForm::Stop => (15, b"stop", b"stop S"),
             CallForm::Start => (16, b"start", b"start S"),
+            CallForm::Unsent => (17, b"unsent", b"unsent EXCHANGE INDEX"),
+            CallForm::GiveUp => (18, b"giveup", b"giveup EXCHANGE INDEX"),
+            CallForm::Flush => (19, b"flush", b"flush S TID"),
         }
     }
 
     /// Returns all forms, in the order of the help.
-    pub fn all() -> [CallForm; 23]
+    pub fn all() -> [CallForm; 26]
         ensures { result ≡ forms }
     {
         FORMS
     }
 
-    /// Returns the number of its call in C: 0 to 16.
+    /// Returns the number of its call in C: 0 to 19.
     pub fn number(self) -> u8
         ensures number { result ≡ form_number self }
-        ensures range { result < 17 }
+        ensures range { result < 20 }
     {
         self.row().0
     }
@@ -363,17 +378,11 @@ impl CallForm {
                 Argument::Flow,
                 Argument::Length,
             ],
-            CallForm::Pull => &[Argument::Class],
-            CallForm::PullFrames => &[Argument::Class, Argument::Framed, Argument::Frames],
-            CallForm::PullAir => &[Argument::Class, Argument::Measured, Argument::Allowed],
-            CallForm::PullLimited => &[
-                Argument::Class,
-                Argument::Framed,
-                Argument::Frames,
-                Argument::Measured,
-                Argument::Allowed,
-            ],
-            CallForm::Arrive => &[Argument::Exchange, Argument::Index],
+            CallForm::Pull | CallForm::PullFrames | CallForm::PullAir | CallForm::PullLimited =>
+                self.pull_arguments(),
+            CallForm::Arrive | CallForm::Unsent | CallForm::GiveUp => {
+                &[Argument::Exchange, Argument::Index]
+            }
             CallForm::Answer => &[Argument::Exchange],
             CallForm::Done => &[Argument::Exchange, Argument::Heard],
             CallForm::DoneAir => &[
@@ -391,6 +400,27 @@ impl CallForm {
             CallForm::Rx => &[Argument::Station, Argument::Class, Argument::Air],
             CallForm::Reap => &[],
             CallForm::Ampdu => &[Argument::Station, Argument::Octets],
+            CallForm::Flush => &[Argument::Station, Argument::Tid],
+        }
+    }
+
+    // The arguments of a pull.
+    fn pull_arguments(self) -> &'static [Argument]
+        requires { form_number self ≡ 5 }
+        ensures arguments { result.now ≡ arguments_of self }
+        ensures most { length result.now ≤ 6 }
+    {
+        match self {
+            CallForm::PullFrames => &[Argument::Class, Argument::Framed, Argument::Frames],
+            CallForm::PullAir => &[Argument::Class, Argument::Measured, Argument::Allowed],
+            CallForm::PullLimited => &[
+                Argument::Class,
+                Argument::Framed,
+                Argument::Frames,
+                Argument::Measured,
+                Argument::Allowed,
+            ],
+            _ => &[Argument::Class],
         }
     }
 

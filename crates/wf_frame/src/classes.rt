@@ -100,10 +100,12 @@ pub enum Cause {
     Overlimit,
     /// Dropped by CoDel (RFC 8289).
     Codel,
-    /// Dropped after its last transmission: it was sent `attempts` times and never acknowledged.
+    /// Dropped after its last transmission: it was sent `attempts` times or given up, and never acknowledged.
     Retries,
     /// Dropped when its station left.
     Left,
+    /// Dropped when its TID was flushed.
+    Flushed,
 }
 
 /// What became of an accepted frame. The comment of each variant, and of each cause, is its sentence in
@@ -119,13 +121,14 @@ pub enum Fate {
 }
 
 // The fates by their numbers.
-const FATES: [Fate; 6] = [
+const FATES: [Fate; 7] = [
     Fate::Held,
     Fate::Acked,
     Fate::Dropped(Cause::Overlimit),
     Fate::Dropped(Cause::Codel),
     Fate::Dropped(Cause::Retries),
     Fate::Dropped(Cause::Left),
+    Fate::Dropped(Cause::Flushed),
 ];
 
 impl Fate {
@@ -133,7 +136,7 @@ impl Fate {
     fn row(self) -> (u8, &'static [u8])
         ensures number { result.0 ≡ fate_number self }
         ensures word { result.1.now ≡ fate_word self }
-        ensures range { result.0 < 6 }
+        ensures range { result.0 < 7 }
         ensures short { length result.1.now ≤ 9 }
     {
         match self {
@@ -143,13 +146,14 @@ impl Fate {
             Fate::Dropped(Cause::Codel) => (3, b"codel"),
             Fate::Dropped(Cause::Retries) => (4, b"retries"),
             Fate::Dropped(Cause::Left) => (5, b"left"),
+            Fate::Dropped(Cause::Flushed) => (6, b"flushed"),
         }
     }
 
-    /// Returns the number of the fate in C: 0 to 5.
+    /// Returns the number of the fate in C: 0 to 6.
     pub fn number(self) -> u8
         ensures number { result ≡ fate_number self }
-        ensures range { result < 6 }
+        ensures range { result < 7 }
     {
         self.row().0
     }

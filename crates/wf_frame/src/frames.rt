@@ -2,7 +2,7 @@
 
 ghost use Rattle.std.specs.Prelude.{◌≡◌, ◌<◌, ◌≤◌, ◌⊎◌, length, IfOk, IfErr};
 ghost use Rattle.wf_def_lists.specs.Lengths.{greatest_body};
-ghost use Rattle.wf_frame.specs.Frames.{made_up_source, source_octets, octets_of, is_bare, new_frame, bare_frame, sent_again, sample_body};
+ghost use Rattle.wf_frame.specs.Frames.{made_up_source, source_octets, octets_of, is_bare, new_frame, bare_frame, sent_again, sent_once_less, sample_body};
 ghost use Rattle.wf_frame.specs.declared.classes.Fate.TheVariants.{Held};
 
 use crate::Fate;
@@ -269,6 +269,13 @@ impl Frame {
         if self.attempts < GREATEST_ATTEMPTS {
             self.attempts += 1;
         }
+    }
+
+    /// Takes back the count of one transmission, which never went on the air.
+    pub fn unsend(&mut self)
+        ensures { self.new ≡ sent_once_less self.old }
+    {
+        self.attempts = self.attempts.saturating_sub(1);
     }
 
     /// Sets its fate.

@@ -49,7 +49,7 @@ impl Limits {
     };
 }
 
-/// A call that brings no frame: one of sixteen. An argument outside its given range is refused.
+/// A call that brings no frame: one of nineteen. An argument outside its given range is refused.
 #[derive(Clone, Copy, Debug, PartialEq, Eq)]
 pub enum Ask {
     /// A station joins, with its window size in frames (1 to 256), first sequence number (0 to 4095),
@@ -115,8 +115,9 @@ pub enum Ask {
     },
     /// The caller takes the next finished frame.
     Reap,
-    /// A station takes aggregates of at most this many octets at a rate of VHT or HE until it leaves: 4,096 to
-    /// 6,500,631 (IEEE 802.11ax-2021, 26.6.1). Until then its exponent bounds them, at a rate of HT always.
+    /// A station takes aggregates of at most this many octets at a rate of VHT or HE until it leaves: 4,096
+    /// to 6,500,631 (IEEE 802.11ax-2021, 26.6.1). Until then its exponent bounds them, at a rate of HT
+    /// always.
     Ampdu {
         station: u16,
         octets: u32,
@@ -128,6 +129,22 @@ pub enum Ask {
     /// Pulls may pick the station again.
     Start {
         station: u16,
+    },
+    /// A transmission of an open exchange never went on the air. `index` counts the transmissions from 0.
+    Unsent {
+        exchange: u64,
+        index: u16,
+    },
+    /// The device will not try a transmission of an open exchange again. `index` counts the transmissions
+    /// from 0.
+    GiveUp {
+        exchange: u64,
+        index: u16,
+    },
+    /// The frames of a TID (0 to 7) that are not on the air are dropped.
+    Flush {
+        station: u16,
+        tid: u8,
     },
 }
 
@@ -225,6 +242,8 @@ pub enum Refusal {
     Stopped,
     /// The station is not stopped.
     Started,
+    /// That transmission has a mark: it never went on the air, or the device will not try it again.
+    Marked,
     // end refusals
 }
 
@@ -300,6 +319,12 @@ pub enum ReplyNote {
     Stopped,
     /// The station is started.
     Started,
+    /// The transmission is marked.
+    Marked,
+    /// The TID was flushed, and this number of its frames were dropped.
+    Flushed {
+        dropped: u32,
+    },
     /// The call was refused.
     Refused(Refusal),
 }

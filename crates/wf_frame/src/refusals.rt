@@ -6,7 +6,7 @@ ghost use Rattle.wf_frame.specs.Refusals.{refusal_number, refusal_word, number_t
 use crate::Refusal;
 
 // The refusals by their numbers. A number that follows the word is 0.
-const REFUSALS: [Refusal; 31] = [
+const REFUSALS: [Refusal; 32] = [
     // begin list: tools/tables writes these lines
     Refusal::BadStation,
     Refusal::BadWindow,
@@ -39,6 +39,7 @@ const REFUSALS: [Refusal; 31] = [
     Refusal::BadAmpdu,
     Refusal::Stopped,
     Refusal::Started,
+    Refusal::Marked,
     // end list
 ];
 
@@ -47,7 +48,7 @@ impl Refusal {
     fn row(self) -> (u8, &'static [u8])
         ensures number { result.0 ≡ refusal_number self }
         ensures word { result.1.now ≡ refusal_word self }
-        ensures range { (0 < result.0) × (result.0 ≤ 31) }
+        ensures range { (0 < result.0) × (result.0 ≤ 32) }
         ensures short { length result.1.now ≤ 12 }
     {
         match self {
@@ -83,14 +84,15 @@ impl Refusal {
             Refusal::BadAmpdu => (29, b"bad-ampdu"),
             Refusal::Stopped => (30, b"stopped"),
             Refusal::Started => (31, b"started"),
+            Refusal::Marked => (32, b"marked"),
             // end rows
         }
     }
 
-    /// Returns the number of the refusal in C: 1 to 31.
+    /// Returns the number of the refusal in C: 1 to 32.
     pub fn number(self) -> u8
         ensures number { result ≡ refusal_number self }
-        ensures range { (0 < result) × (result ≤ 31) }
+        ensures range { (0 < result) × (result ≤ 32) }
     {
         self.row().0
     }

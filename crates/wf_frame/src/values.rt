@@ -1,9 +1,10 @@
 //! The values of a call's arguments, and the call with given values.
 
-ghost use Rattle.std.specs.Prelude.{◌≡◌, ◌≤◌, length, Some};
+ghost use Rattle.std.specs.Prelude.{◌≡◌, ◌≤◌, [], ◌∷◌, length, Some};
 ghost use Rattle.wf_frame.specs.declared.notes.Note.TheVariants.{Asked};
-ghost use Rattle.wf_frame.specs.declared.notes.Ask.TheVariants.{Rate, Pull, Done};
-ghost use Rattle.wf_frame.specs.Calls.{note_form, form_of_rate, form_of_limits, limits, note_values, note_made, IsPrintable, NumbersAreInRange};
+ghost use Rattle.wf_frame.specs.declared.notes.Ask.TheVariants.{Join, Rate, Pull, Arrive, Done};
+ghost use Rattle.wf_frame.specs.declared.calls.Argument.TheVariants.{Station, Exchange, Index};
+ghost use Rattle.wf_frame.specs.Calls.{note_form, form_of_rate, form_of_limits, limits, note_values, note_made, enqueued, ask_of, arguments_of, IsPrintable, NumbersAreInRange};
 
 use crate::Class;
 use crate::calls::{CallForm, RateFormat, Value};
@@ -49,49 +50,9 @@ impl Note {
     pub fn of_values(form: CallForm, values: &[Value]) -> Option<Note>
         ensures { result ≡ note_made form values.now }
     {
-        match (form, values) {
-            (
-                CallForm::Enqueue,
-                [
-                    Value::Short(station),
-                    Value::Octet(tid),
-                    Value::Long(flow),
-                    Value::Short(len),
-                ],
-            ) => Some(Note::Enqueue {
-                station: *station,
-                tid: *tid,
-                flow: *flow,
-                len: *len,
-            }),
-            (CallForm::Join, _) => join(values),
-            (CallForm::Leave, [Value::Short(station)]) => asked(Ask::Leave { station: *station }),
-            (CallForm::Rate, _) => ht(values),
-            (CallForm::RateVht, _) => vht(values),
-            (CallForm::RateHe, _) => he(values),
-            (CallForm::Tick, [Value::Long(by)]) => asked(Ask::Tick { by: *by }),
-            (CallForm::Pull, _) => pull(values),
-            (CallForm::PullFrames, _) => pull_frames(values),
-            (CallForm::PullAir, _) => pull_air(values),
-            (CallForm::PullLimited, _) => pull_limited(values),
-            (CallForm::Arrive, _) => arrive(values),
-            (CallForm::Answer, [Value::Exchange(exchange)]) => asked(Ask::Answer {
-                exchange: *exchange,
-            }),
-            (CallForm::Done, _) => done(values),
-            (CallForm::DoneAir, _) => done_air(values),
-            (CallForm::Sleep, [Value::Short(station)]) => asked(Ask::Sleep { station: *station }),
-            (CallForm::Wake, [Value::Short(station)]) => asked(Ask::Wake { station: *station }),
-            (CallForm::Poll, [Value::Short(station)]) => asked(Ask::Poll { station: *station }),
-            (CallForm::Rx, _) => rx(values),
-            (CallForm::Reap, []) => asked(Ask::Reap),
-            (CallForm::Ampdu, [Value::Short(station), Value::Long(octets)]) => asked(Ask::Ampdu {
-                station: *station,
-                octets: *octets,
-            }),
-            (CallForm::Stop, [Value::Short(station)]) => asked(Ask::Stop { station: *station }),
-            (CallForm::Start, [Value::Short(station)]) => asked(Ask::Start { station: *station }),
-            _ => None,
+        match form {
+            CallForm::Enqueue => enqueue(values),
+            _ => ask_made(form, values).map(|ask| Note::Asked(ask)),
         }
     }
 }
@@ -119,6 +80,9 @@ impl Ask {
             Ask::Ampdu { .. } => CallForm::Ampdu,
             Ask::Stop { .. } => CallForm::Stop,
             Ask::Start { .. } => CallForm::Start,
+            Ask::Unsent { .. } => CallForm::Unsent,
+            Ask::GiveUp { .. } => CallForm::GiveUp,
+            Ask::Flush { .. } => CallForm::Flush,
         }
     }
 
@@ -134,13 +98,7 @@ impl Ask {
                 start,
                 exponent,
                 weight,
-            } => listed(&[
-                Value::Short(station),
-                Value::Short(window),
-                Value::Short(start),
-                Value::Octet(exponent),
-                Value::Octet(weight),
-            ]),
+            } => join_values(station, window, start, exponent, weight),
             Ask::Leave { station }
             | Ask::Sleep { station }
             | Ask::Wake { station }
@@ -150,9 +108,9 @@ impl Ask {
             Ask::Rate { station, rate } => rate.values(station),
             Ask::Tick { by } => listed(&[Value::Long(by)]),
             Ask::Pull { class, limits } => limits.values(class),
-            Ask::Arrive { exchange, index } => {
-                listed(&[Value::Exchange(exchange), Value::Short(index)])
-            }
+            Ask::Arrive { exchange, index }
+            | Ask::Unsent { exchange, index }
+            | Ask::GiveUp { exchange, index } => transmission_values(exchange, index),
             Ask::Answer { exchange } => listed(&[Value::Exchange(exchange)]),
             Ask::Done {
                 exchange,
@@ -168,6 +126,7 @@ impl Ask {
             Ask::Ampdu { station, octets } => {
                 listed(&[Value::Short(station), Value::Long(octets)])
             }
+            Ask::Flush { station, tid } => listed(&[Value::Short(station), Value::Octet(tid)]),
         }
     }
 }
@@ -271,6 +230,32 @@ fn listed(values: &[Value]) -> ArrayVec<Value, 6>
     list
 }
 
+// The values of a Join.
+fn join_values(
+    station: u16,
+    window: u16,
+    start: u16,
+    exponent: u8,
+    weight: u8,
+) -> ArrayVec<Value, 6>
+    ensures { result.items ≡ note_values (Asked (Join station window start exponent weight)) }
+{
+    listed(&[
+        Value::Short(station),
+        Value::Short(window),
+        Value::Short(start),
+        Value::Octet(exponent),
+        Value::Octet(weight),
+    ])
+}
+
+// The values of a call on one transmission of an exchange.
+fn transmission_values(exchange: u64, index: u16) -> ArrayVec<Value, 6>
+    ensures { result.items ≡ note_values (Asked (Arrive exchange index)) }
+{
+    listed(&[Value::Exchange(exchange), Value::Short(index)])
+}
+
 // The values of a Done, which include its airtime if it gives one.
 fn end_values(exchange: u64, heard: bool, air: Option<u32>) -> ArrayVec<Value, 6>
     ensures values { result.items ≡ note_values (Asked (Done exchange heard air)) }
@@ -288,44 +273,125 @@ fn end_values(exchange: u64, heard: bool, air: Option<u32>) -> ArrayVec<Value, 6
     }
 }
 
-// A call that brings no frame.
-fn asked(ask: Ask) -> Option<Note>
-    ensures { result ≡ Some (Asked ask) }
+// The Enqueue call with these values.
+fn enqueue(values: &[Value]) -> Option<Note>
+    ensures { result ≡ enqueued values.now }
 {
-    Some(Note::Asked(ask))
+    let [
+        Value::Short(station),
+        Value::Octet(tid),
+        Value::Long(flow),
+        Value::Short(len),
+    ] = values
+    else {
+        return None;
+    };
+    Some(Note::Enqueue {
+        station: *station,
+        tid: *tid,
+        flow: *flow,
+        len: *len,
+    })
+}
+
+// The call without a frame that has this form and these values.
+fn ask_made(form: CallForm, values: &[Value]) -> Option<Ask>
+    ensures { result ≡ ask_of form values.now }
+{
+    match form {
+        CallForm::Join => join(values),
+        CallForm::Leave
+        | CallForm::Sleep
+        | CallForm::Wake
+        | CallForm::Poll
+        | CallForm::Stop
+        | CallForm::Start => to_station(form, values),
+        CallForm::Rate => ht(values),
+        CallForm::RateVht => vht(values),
+        CallForm::RateHe => he(values),
+        CallForm::Tick => tick(values),
+        CallForm::Enqueue => None,
+        CallForm::Pull => pull(values),
+        CallForm::PullFrames => pull_frames(values),
+        CallForm::PullAir => pull_air(values),
+        CallForm::PullLimited => pull_limited(values),
+        CallForm::Arrive | CallForm::Unsent | CallForm::GiveUp => of_transmission(form, values),
+        CallForm::Answer => answer(values),
+        CallForm::Done => done(values),
+        CallForm::DoneAir => done_air(values),
+        CallForm::Rx => rx(values),
+        CallForm::Reap => reap(values),
+        CallForm::Ampdu => ampdu(values),
+        CallForm::Flush => flush(values),
+    }
+}
+
+// The call with these values whose one argument is a station.
+fn to_station(form: CallForm, values: &[Value]) -> Option<Ask>
+    requires { arguments_of form ≡ Station ∷ [] }
+    ensures { result ≡ ask_of form values.now }
+{
+    let [Value::Short(station)] = *values else {
+        return None;
+    };
+    match form {
+        CallForm::Leave => Some(Ask::Leave { station }),
+        CallForm::Sleep => Some(Ask::Sleep { station }),
+        CallForm::Wake => Some(Ask::Wake { station }),
+        CallForm::Poll => Some(Ask::Poll { station }),
+        CallForm::Stop => Some(Ask::Stop { station }),
+        CallForm::Start => Some(Ask::Start { station }),
+        _ => None,
+    }
+}
+
+// The call with these values on one transmission of an exchange.
+fn of_transmission(form: CallForm, values: &[Value]) -> Option<Ask>
+    requires { arguments_of form ≡ Exchange ∷ Index ∷ [] }
+    ensures { result ≡ ask_of form values.now }
+{
+    let [Value::Exchange(exchange), Value::Short(index)] = *values else {
+        return None;
+    };
+    match form {
+        CallForm::Arrive => Some(Ask::Arrive { exchange, index }),
+        CallForm::Unsent => Some(Ask::Unsent { exchange, index }),
+        CallForm::GiveUp => Some(Ask::GiveUp { exchange, index }),
+        _ => None,
+    }
 }
 
 // A Rate call.
-fn rated(station: u16, rate: AskedRate) -> Note
-    ensures { result ≡ Asked (Rate station rate) }
+fn rated(station: u16, rate: AskedRate) -> Ask
+    ensures { result ≡ Rate station rate }
 {
-    Note::Asked(Ask::Rate { station, rate })
+    Ask::Rate { station, rate }
 }
 
 // A Pull call.
-fn pulled(class: Class, frames: Option<u32>, air: Option<u32>) -> Note
-    ensures { result ≡ Asked (Pull class (limits frames air)) }
+fn pulled(class: Class, frames: Option<u32>, air: Option<u32>) -> Ask
+    ensures { result ≡ Pull class (limits frames air) }
 {
-    Note::Asked(Ask::Pull {
+    Ask::Pull {
         class,
         limits: Limits { frames, air },
-    })
+    }
 }
 
 // A Done call.
-fn ended(exchange: u64, heard: bool, air: Option<u32>) -> Note
-    ensures { result ≡ Asked (Done exchange heard air) }
+fn ended(exchange: u64, heard: bool, air: Option<u32>) -> Ask
+    ensures { result ≡ Done exchange heard air }
 {
-    Note::Asked(Ask::Done {
+    Ask::Done {
         exchange,
         heard,
         air,
-    })
+    }
 }
 
 // The Join call with these values.
-fn join(values: &[Value]) -> Option<Note>
-    ensures { result ≡ note_made CallForm.Join values.now }
+fn join(values: &[Value]) -> Option<Ask>
+    ensures { result ≡ ask_of CallForm.Join values.now }
 {
     let [
         Value::Short(station),
@@ -337,18 +403,18 @@ fn join(values: &[Value]) -> Option<Note>
     else {
         return None;
     };
-    Some(Note::Asked(Ask::Join {
+    Some(Ask::Join {
         station: *station,
         window: *window,
         start: *start,
         exponent: *exponent,
         weight: *weight,
-    }))
+    })
 }
 
 // The Rate call with the values of an HT rate.
-fn ht(values: &[Value]) -> Option<Note>
-    ensures { result ≡ note_made CallForm.Rate values.now }
+fn ht(values: &[Value]) -> Option<Ask>
+    ensures { result ≡ ask_of CallForm.Rate values.now }
 {
     let [
         Value::Short(station),
@@ -370,8 +436,8 @@ fn ht(values: &[Value]) -> Option<Note>
 }
 
 // The Rate call with the values of a VHT rate.
-fn vht(values: &[Value]) -> Option<Note>
-    ensures { result ≡ note_made CallForm.RateVht values.now }
+fn vht(values: &[Value]) -> Option<Ask>
+    ensures { result ≡ ask_of CallForm.RateVht values.now }
 {
     let [
         Value::Short(station),
@@ -396,8 +462,8 @@ fn vht(values: &[Value]) -> Option<Note>
 }
 
 // The Rate call with the values of an HE rate.
-fn he(values: &[Value]) -> Option<Note>
-    ensures { result ≡ note_made CallForm.RateHe values.now }
+fn he(values: &[Value]) -> Option<Ask>
+    ensures { result ≡ ask_of CallForm.RateHe values.now }
 {
     let [
         Value::Short(station),
@@ -422,8 +488,8 @@ fn he(values: &[Value]) -> Option<Note>
 }
 
 // The Pull call with these values, which include no limit.
-fn pull(values: &[Value]) -> Option<Note>
-    ensures { result ≡ note_made CallForm.Pull values.now }
+fn pull(values: &[Value]) -> Option<Ask>
+    ensures { result ≡ ask_of CallForm.Pull values.now }
 {
     let [Value::Class(class)] = values else {
         return None;
@@ -432,8 +498,8 @@ fn pull(values: &[Value]) -> Option<Note>
 }
 
 // The Pull call with these values, which include a limit on frames.
-fn pull_frames(values: &[Value]) -> Option<Note>
-    ensures { result ≡ note_made CallForm.PullFrames values.now }
+fn pull_frames(values: &[Value]) -> Option<Ask>
+    ensures { result ≡ ask_of CallForm.PullFrames values.now }
 {
     let [Value::Class(class), Value::Frames, Value::Long(frames)] = values else {
         return None;
@@ -442,8 +508,8 @@ fn pull_frames(values: &[Value]) -> Option<Note>
 }
 
 // The Pull call with these values, which include a limit on the data's airtime.
-fn pull_air(values: &[Value]) -> Option<Note>
-    ensures { result ≡ note_made CallForm.PullAir values.now }
+fn pull_air(values: &[Value]) -> Option<Ask>
+    ensures { result ≡ ask_of CallForm.PullAir values.now }
 {
     let [Value::Class(class), Value::Air, Value::Long(air)] = values else {
         return None;
@@ -452,8 +518,8 @@ fn pull_air(values: &[Value]) -> Option<Note>
 }
 
 // The Pull call with these values, which include both limits.
-fn pull_limited(values: &[Value]) -> Option<Note>
-    ensures { result ≡ note_made CallForm.PullLimited values.now }
+fn pull_limited(values: &[Value]) -> Option<Ask>
+    ensures { result ≡ ask_of CallForm.PullLimited values.now }
 {
     let [
         Value::Class(class),
@@ -468,22 +534,59 @@ fn pull_limited(values: &[Value]) -> Option<Note>
     Some(pulled(*class, Some(*frames), Some(*air)))
 }
 
-// The Arrive call with these values.
-fn arrive(values: &[Value]) -> Option<Note>
-    ensures { result ≡ note_made CallForm.Arrive values.now }
+// The Tick call with these values.
+fn tick(values: &[Value]) -> Option<Ask>
+    ensures { result ≡ ask_of CallForm.Tick values.now }
 {
-    let [Value::Exchange(exchange), Value::Short(index)] = values else {
+    let [Value::Long(by)] = *values else {
         return None;
     };
-    Some(Note::Asked(Ask::Arrive {
-        exchange: *exchange,
-        index: *index,
-    }))
+    Some(Ask::Tick { by })
+}
+
+// The Answer call with these values.
+fn answer(values: &[Value]) -> Option<Ask>
+    ensures { result ≡ ask_of CallForm.Answer values.now }
+{
+    let [Value::Exchange(exchange)] = *values else {
+        return None;
+    };
+    Some(Ask::Answer { exchange })
+}
+
+// The Reap call, which has no values.
+fn reap(values: &[Value]) -> Option<Ask>
+    ensures { result ≡ ask_of CallForm.Reap values.now }
+{
+    let [] = values else {
+        return None;
+    };
+    Some(Ask::Reap)
+}
+
+// The Ampdu call with these values.
+fn ampdu(values: &[Value]) -> Option<Ask>
+    ensures { result ≡ ask_of CallForm.Ampdu values.now }
+{
+    let [Value::Short(station), Value::Long(octets)] = *values else {
+        return None;
+    };
+    Some(Ask::Ampdu { station, octets })
+}
+
+// The Flush call with these values.
+fn flush(values: &[Value]) -> Option<Ask>
+    ensures { result ≡ ask_of CallForm.Flush values.now }
+{
+    let [Value::Short(station), Value::Octet(tid)] = *values else {
+        return None;
+    };
+    Some(Ask::Flush { station, tid })
 }
 
 // The Done call with these values, which include no airtime.
-fn done(values: &[Value]) -> Option<Note>
-    ensures { result ≡ note_made CallForm.Done values.now }
+fn done(values: &[Value]) -> Option<Ask>
+    ensures { result ≡ ask_of CallForm.Done values.now }
 {
     let [Value::Exchange(exchange), Value::Heard(heard)] = values else {
         return None;
@@ -492,8 +595,8 @@ fn done(values: &[Value]) -> Option<Note>
 }
 
 // The Done call with these values, which include an airtime.
-fn done_air(values: &[Value]) -> Option<Note>
-    ensures { result ≡ note_made CallForm.DoneAir values.now }
+fn done_air(values: &[Value]) -> Option<Ask>
+    ensures { result ≡ ask_of CallForm.DoneAir values.now }
 {
     let [
         Value::Exchange(exchange),
@@ -508,15 +611,15 @@ fn done_air(values: &[Value]) -> Option<Note>
 }
 
 // The Rx call with these values.
-fn rx(values: &[Value]) -> Option<Note>
-    ensures { result ≡ note_made CallForm.Rx values.now }
+fn rx(values: &[Value]) -> Option<Ask>
+    ensures { result ≡ ask_of CallForm.Rx values.now }
 {
     let [Value::Short(station), Value::Class(class), Value::Long(air)] = values else {
         return None;
     };
-    Some(Note::Asked(Ask::Rx {
+    Some(Ask::Rx {
         station: *station,
         class: *class,
         air: *air,
-    }))
+    })
 }
