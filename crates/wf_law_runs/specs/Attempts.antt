@@ -11,7 +11,8 @@ use Rattle.wf_def_world.specs.Stretches.{world_at}
 pub record IsTried (limit : ℕ) (x : Slot) : Type 0 where
   -- A number that waits, is on the air or is acknowledged has fewer attempts.
   pub fewer : is_failed x.state ≡ false → x.attempts < limit
-  -- A failed number has exactly that many.
+  -- A failed number has exactly that many. One that the device gave up, or that was flushed, forgoes those
+  -- that were left: they count as made.
   pub failed : is_failed x.state ≡ true → x.attempts ≡ limit
 
 -- The law: `IsTried` holds after each entry of a history, for each number of each TID.

@@ -4,7 +4,8 @@
 --
 -- Only a Pull dequeues. CoDel's state of a queue changes otherwise only by a Leave of the station that lists
 -- the queue and, with the setting `codel_reset`, when the queue becomes listed. After both, as in a new
--- queue, no look has seen a standing queue. So the laws speak of the dequeues since the last of these.
+-- queue, no look has seen a standing queue. So the laws speak of the dequeues since the last of these. A
+-- Flush drops the frames of queues without a dequeue, and their CoDel states stay.
 use Rattle.std.specs.Prelude.{◌≡◌, ℕ, zero, suc, ◌-◌, ◌<◌, ◌==◌, Bool, not, ◌&&◌, List, [], ◌∷◌, ◌++◌, Option, Some, None, is_none, if◌then◌else◌, length, take, slice_get}
 use Rattle.std.specs.List.{list_any}
 use Rattle.wf_frame.specs.declared.settings.Config.{Config}

@@ -47,7 +47,8 @@ abbrev pub FlowReleaseLaw : Config → List Entry → Type 0
 FlowReleaseLaw config history =
     config.keep_order ≡ 1 → (s t flow : ℕ) → IsRising 0 (released_of config history s t flow)
 
--- Returns the ids that a reply sends, in their order. Only the reply to a Pull sends frames.
+-- Returns the ids that a reply sends, in their order. Only the reply to a Pull sends frames. A frame of an
+-- exchange counts as sent, even if it never goes on the air.
 abbrev pub ids_sent_by : ReplyNote → List ℕ
 ids_sent_by (Send exchange station tid air (Mpdus mpdus) more) = map (λ m. m.0) mpdus
 ids_sent_by reply = []

@@ -6,7 +6,7 @@
 -- ended as heard, or the first number. `release_start r` is the least number that has not arrived and is
 -- not below the first number or a start that arrived (WinStartB). `score_start r` is the start of the
 -- scoreboard (WinStartR), and `y.size` is the window.
-use Rattle.std.specs.Prelude.{◌≡◌, ℕ, suc, ◌==◌, ◌&&◌, Bool, map, count_by, ◌+◌, ◌*◌, ◌<◌, ◌≤◌, true, false, ◌⊎◌, ◌↔◌, List, [], ◌∷◌, Option, IfSome}
+use Rattle.std.specs.Prelude.{◌≡◌, ℕ, suc, ◌==◌, not, ◌&&◌, Bool, map, count_by, ◌+◌, ◌*◌, ◌<◌, ◌≤◌, true, false, ◌⊎◌, ◌↔◌, List, [], ◌∷◌, Option, IfSome}
 use Rattle.wf_frame.specs.declared.settings.Config.{Config}
 use Rattle.wf_frame.specs.declared.notes.Ask.TheVariants.{Pull, Done}
 use Rattle.wf_frame.specs.declared.notes.Note.TheVariants.{Asked}
@@ -17,7 +17,7 @@ use Rattle.wf_def_agreement.specs.Session.{Session, State, slot, start_of, next_
 use Rattle.wf_def_agreement.specs.Receiver.{Receiver, release_start, score_start, shows}
 use Rattle.wf_def_world.specs.World.{World, Exchange, Content, Frames, Request, Mpdu, session, receiver, exchange}
 use Rattle.wf_def_world.specs.CanSend.{is_request}
-use Rattle.wf_def_world.specs.Exchanges.{mpdus_of}
+use Rattle.wf_def_world.specs.Exchanges.{mpdus_of, numbers_unsent}
 use Rattle.wf_def_world.specs.Step.{step}
 use Rattle.wf_def_world.specs.Run.{Entry}
 use Rattle.wf_def_world.specs.Stretches.{world_at}
@@ -107,12 +107,13 @@ pub record IsOpenRight (y : Session) (r : Receiver) (x : Exchange) : Type 0 wher
       (b.start ≤ m.number) × (m.number < b.start + 2 * y.size)) (mpdus_of x.content))
 
 -- A Done that was heard, without a bad airtime, acknowledges exactly those numbers of an exchange with an
--- answer that arrived.
+-- answer that arrived and that are not among the numbers that never went on the air.
 abbrev pub Settles : World → ℕ → Exchange → Type 0
 Settles w e x =
     (air : Option ℕ) → is_bad_air w.config air ≡ false → IfSome x.answer (λ _. EachMpdu (λ m.
     ((slot (session (step w (Asked (Done e true air))).world x.station x.tid) m.number).state ≡ State.Acked)
-    ↔ (has (receiver w x.station x.tid).arrived m.number ≡ true)) (mpdus_of x.content))
+    ↔ (has (receiver w x.station x.tid).arrived m.number && not (has (numbers_unsent x) m.number) ≡ true))
+    (mpdus_of x.content))
 
 -- The window law in one world.
 pub record KeepsWindows (w : World) : Type 0 where

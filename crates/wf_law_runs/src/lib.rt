@@ -212,7 +212,7 @@ pub fn queue_deficit_law()
     ensures { (config : Config) → (history : List Entry) → IsInRange config → QueueDeficitLaw config history }
 {}
 
-/// After every entry, the computed charge of an open exchange is 1 to 5456 microseconds: the greatest data
+/// After every entry, the computed charge of an open exchange is 1 to 5516 microseconds: the greatest data
 /// time, 5400, SIFS and the longest BlockAck. A class has at most eight open exchanges. The deficits and
 /// standings of live stations are between bounds that are far within 32 bits. If no frame is longer than the
 /// greatest body, the deficits of listed queues are too (specs/Numbers).
@@ -238,16 +238,18 @@ pub fn sent_law()
 {}
 
 /// After every entry, a number that waits, is on the air or is acknowledged has fewer failed attempts than
-/// the setting `attempts`, and a failed number has exactly that many (specs/Attempts).
+/// the setting `attempts`, and a failed number has exactly that many. One that is given up or flushed forgoes
+/// those that are left: they count as made (specs/Attempts).
 pub fn attempts_law()
     ensures { (config : Config) → (history : List Entry) → IsInRange config → AttemptsLaw config history }
 {}
 
-/// In every run, a frame is sent at most as often as the setting `attempts`, all exchanges counted. A number
-/// that waits or is on the air counts how often its frame was sent. All frames together are sent at most
-/// `attempts` times the number of accepted frames; and there are at most as many exchanges of data, if no
-/// frame is longer than the greatest body. At most as many requests end as heard as frames are dropped for
-/// retries (specs/Tries).
+/// In every run, a frame is sent at most as often as the setting `attempts`, all exchanges counted, except
+/// those in which it never went on the air. A number that waits or is on the air counts how often its frame
+/// was sent. All frames together are sent at most `attempts` times the number of accepted frames, counted in
+/// the same way. There are at most as many exchanges of data as frames sent, if no frame is longer than the
+/// greatest body. At most as many requests end as heard as frames are dropped for retries or flushed
+/// (specs/Tries).
 pub fn tries_law()
     ensures { (config : Config) → (history : List Entry) → IsInRange config → TriesLaw config history }
 {}

@@ -3,7 +3,7 @@
 use Rattle.std.proofs.Common.{◌≡◌, refl, ap, sym, ◌∙◌, subst, arith, ℕ, zero, suc, ◌+◌, ◌-◌, ◌<◌, ◌≤◌, nat_le, Bool, true, false, if◌then◌else◌, not, ◌==◌, List, [], ◌∷◌, ◌++◌, length, take, Option, Some, None, IfSome}
 use Rattle.wf_frame.specs.declared.settings.Config.{Config}
 use Rattle.wf_frame.specs.declared.classes.Class.{Class}
-use Rattle.wf_frame.specs.declared.notes.Ask.TheVariants.{Join, Leave, Rate, Tick, Pull, Arrive, Answer, Done, Sleep, Wake, Poll, Rx, Reap, Ampdu, Stop, Start}
+use Rattle.wf_frame.specs.declared.notes.Ask.TheVariants.{Join, Leave, Rate, Tick, Pull, Arrive, Answer, Done, Sleep, Wake, Poll, Rx, Reap, Ampdu, Stop, Start, Unsent, GiveUp, Flush}
 use Rattle.wf_frame.specs.declared.notes.Limits.{Limits}
 use Rattle.wf_frame.specs.declared.notes.Note.{Note}
 use Rattle.wf_frame.specs.declared.notes.Note.TheVariants.{Enqueue, Asked}
@@ -11,26 +11,29 @@ use Rattle.wf_frame.specs.declared.notes.Refusal.{Refusal}
 use Rattle.wf_frame.specs.declared.notes.Refusal.TheVariants.{Idle}
 use Rattle.wf_frame.specs.Classes.{all_classes}
 use Rattle.wf_frame.specs.Settings.{IsInRange}
-use Rattle.wf_def_lists.specs.Table.{at, upto}
+use Rattle.wf_def_lists.specs.Table.{at, upto, with_member}
 use Rattle.wf_def_codel.specs.Codel.{Item}
-use Rattle.wf_def_agreement.specs.Session.{Session, Slot, State, no_slot, slot, on_slot, with_state, with_number_given, after_miss, slot_after_miss, is_failed, request_due}
+use Rattle.wf_def_agreement.specs.Session.{End, Session, Slot, State, no_slot, slot, on_slot, with_state, with_number_given, is_waiting, slot_after_miss, slot_given_up, after_flush, is_failed, request_due}
 use Rattle.wf_def_world.specs.World.{World, Station, Exchange, Mpdu, Content, Frames, Request, new_tid, session, is_live, exchange, with_station, on_station, on_tid, on_session, on_receiver, on_share, with_exchange, without_exchange, with_fate, with_frame_finished, opening}
 use Rattle.wf_def_world.specs.FlowQueues.{taken_for_tid}
 use Rattle.wf_def_world.specs.CanSend.{can_send_in, can_give}
-use Rattle.wf_def_world.specs.Exchanges.{Aggregate, Prepared, most_frames, is_acked, picked_station, sending_tid, waiting_mpdus, longest_fitting, with_number, with_fresh, aggregate_of, with_flying, prepared_data, prepared_exchange, with_exchange_opened, after_tid_turn, after_arrival, after_charge, with_failed_finished, with_settled, with_all_settled, with_heard_start, after_done}
+use Rattle.wf_def_world.specs.Exchanges.{Aggregate, Prepared, most_frames, end_of, picked_station, sending_tid, waiting_mpdus, longest_fitting, with_number, with_fresh, aggregate_of, with_flying, prepared_data, prepared_exchange, with_exchange_opened, after_tid_turn, after_arrival, after_charge, with_failed_finished, with_settled, with_all_settled, with_heard_start, after_done}
 use Rattle.wf_def_world.specs.Refusals.{refusal}
-use Rattle.wf_def_world.specs.Step.{Outcome, tick_outcome, rate_outcome, sleep_outcome, wake_outcome, poll_outcome, rx_outcome, join_outcome, leave_outcome, send_outcome, pull_outcome_for, pull_outcome, arrive_outcome, answer_outcome, done_outcome, outcome_where_open, reap_outcome, outcome_of, concerned_station, after_refusal, judged_outcome, step}
+use Rattle.wf_def_world.specs.Step.{Outcome, tick_outcome, rate_outcome, sleep_outcome, wake_outcome, poll_outcome, rx_outcome, join_outcome, leave_outcome, send_outcome, pull_outcome_for, pull_outcome, arrive_outcome, answer_outcome, done_outcome, outcome_where_open, reap_outcome, unsent_outcome, give_up_outcome, flush_outcome, outcome_of, concerned_station, after_refusal, judged_outcome, step}
 use Rattle.wf_def_world.specs.Run.{Entry, world_after}
 use Rattle.wf_def_world.specs.Stretches.{world_at}
 use Rattle.wf_law_runs.specs.Attempts.{IsTried, AttemptsLaw}
 use Rattle.wf_law_rules.proofs.Lemmas.Numbers.{on_if, le_yes, le_no}
 use Rattle.wf_law_rules.proofs.Lemmas.Tables.{each_put}
 use Rattle.wf_law_runs.proofs.Common.Refused.{after_idle}
+use Rattle.wf_law_runs.proofs.Common.Marks.{marked_world}
+use Rattle.wf_law_runs.proofs.Common.Ends.{slot_after_end, on_settled}
+use Rattle.wf_law_runs.proofs.Common.Flushes.{flush_at, if_flushed}
 use Rattle.wf_law_runs.proofs.Common.Picked.{picked_world}
 use Rattle.wf_law_runs.proofs.Sessions.Flights.{AllIn, Rises, all_in_later}
 use Rattle.wf_law_runs.proofs.Deficits.Configs.{config_step}
 use Rattle.wf_law_runs.proofs.Windows.Opened.{eight}
-use Rattle.wf_law_runs.proofs.Windows.Sides.{Same, sides_of, then_same, each_side_on, same_on_station, same_on_share, same_finish, same_listed, same_after_pick, same_after_turn, same_spent, same_take, same_charged, same_picked}
+use Rattle.wf_law_runs.proofs.Windows.Sides.{Same, sides_of, then_same, each_side_on, same_on_station, same_on_share, same_on_queue, same_finish, same_listed, same_after_pick, same_after_turn, same_spent, same_take, same_charged, same_picked}
 use Rattle.wf_law_runs.proofs.Windows.Agreed.{IsLawful, IsReady, IsEnding, IsFound, found, ready_filled, ending_settled, ending_of, lawful_same, lawful_step, lawful_at_first, session_same, winner_ready, same_left_tids, same_off_lists}
 use Rattle.wf_law_runs.proofs.Frames.Delivered.{same_enqueued}
 
@@ -197,45 +200,52 @@ tried_pulled limit w c l some i h =
 
 -- ---- the end of an exchange
 
-config_settled : (b : Bool) (w : World) (s t : ℕ) (m : Mpdu) → (with_settled w s t b m).config ≡ w.config
+config_settled : (end : End) (w : World) (s t : ℕ) (m : Mpdu) → (with_settled w s t end m).config ≡ w.config
 unfolding with_settled with_failed_finished with_frame_finished with_fate on_session on_tid on_station
     with_station
-config_settled true w s t m = refl
-config_settled false w s t m = on_if (λ (v : World). v.config ≡ w.config) _ _ _ (λ _. refl) (λ _. refl)
+config_settled end w s t m = on_settled (λ v. v.config ≡ w.config) end w s t m (λ _. refl)
+    (λ _. on_if (λ (v : World). v.config ≡ w.config) _ _ _ (λ _. refl) (λ _. refl))
 
 -- A number on the air is acknowledged, waits again, or fails.
-tried_settled : (b : Bool) (limit e : ℕ) (w : World) (s t : ℕ) (m : Mpdu) → w.config.attempts ≡ limit
-    → (slot (session w s t) m.number).state ≡ State.Flying e → Tried limit w →
-    Tried limit (with_settled w s t b m)
-unfolding with_settled with_failed_finished
-tried_settled true limit e w s t m same_limit flies h =
-    let y : Session = session w s t in
-    let few : (slot y m.number).attempts < limit = (h s t (m.number - y.first)).fewer (ap is_failed flies) in
-    tried_same limit _ _ (same_finish _ _ _) (tried_on_session limit w s t (with_state State.Acked m.number)
-    (tried_put limit y m.number (λ x. record x { state = State.Acked })
-    (record { fewer = λ _. few; failed = λ no. absurd (cc no) }) (h s t)) h)
-tried_settled false limit e w s t m same_limit flies h =
-    let y : Session = session w s t in
-    let few : (slot y m.number).attempts < limit = (h s t (m.number - y.first)).fewer (ap is_failed flies) in
-    let missed : AllTried limit (after_miss w.config.attempts m.number y) =
-    subst (λ (n : ℕ). AllTried limit (after_miss n m.number y)) (sym same_limit)
-    (tried_put limit y m.number (slot_after_miss limit) (tried_miss limit (slot y m.number) few) (h s t))
-    in
-    let v : World = on_session w s t (after_miss w.config.attempts m.number) in
-    let k : Tried limit v = tried_on_session limit w s t (after_miss w.config.attempts m.number) missed h in
-    on_if (Tried limit) (is_failed (slot (session v s t) m.number).state) _ v
-    (λ _. tried_same limit v _ (same_finish v _ _) k) (λ _. k)
+tried_end : (end : End) (limit : ℕ) (x : Slot) → x.attempts < limit →
+    IsTried limit (slot_after_end limit end x)
+tried_end End.Acknowledged limit x few = record { fewer = λ _. few; failed = λ no. absurd (cc no) }
+tried_end End.Missed limit x few = tried_miss limit x few
+tried_end End.GivenUp limit x few = record { fewer = λ no. absurd (cc no); failed = λ _. refl }
+tried_end End.Unsent limit x few = record { fewer = λ _. few; failed = λ no. absurd (cc no) }
 
-tried_all : (ms : List Mpdu) (limit e s t : ℕ) (w : World) (acked : ℕ → Bool) → w.config.attempts ≡ limit →
-    IsEnding e s t acked w ms
-    → Tried limit w → Tried limit (with_all_settled w s t acked ms)
+tried_settled : (end : End) (limit e : ℕ) (w : World) (s t : ℕ) (m : Mpdu) → w.config.attempts ≡ limit
+    → (slot (session w s t) m.number).state ≡ State.Flying e → Tried limit w →
+    Tried limit (with_settled w s t end m)
+unfolding with_settled with_failed_finished
+tried_settled end limit e w s t m same_limit flies h =
+    let y : Session = session w s t in
+    let few : (slot y m.number).attempts < limit = (h s t (m.number - y.first)).fewer (ap is_failed flies) in
+    let f : Slot → Slot = slot_after_end w.config.attempts end in
+    let ended : AllTried limit (on_slot m.number f y) =
+    subst (λ (n : ℕ). AllTried limit (on_slot m.number (slot_after_end n end) y)) (sym same_limit)
+    (tried_put limit y m.number (slot_after_end limit end) (tried_end end limit (slot y m.number) few)
+    (h s t)) in
+    let v : World = on_session w s t (on_slot m.number f) in
+    let k : Tried limit v = tried_on_session limit w s t (on_slot m.number f) ended h in
+    on_settled (Tried limit) end w s t m
+    (λ _. tried_same limit _ _ (same_finish _ _ _)
+    (tried_on_session limit w s t (with_state State.Acked m.number)
+    (tried_put limit y m.number (λ x. record x { state = State.Acked })
+    (tried_end End.Acknowledged limit (slot y m.number) few) (h s t)) h))
+    (λ _. on_if (Tried limit) (is_failed (slot (session v s t) m.number).state) _ v
+    (λ _. tried_same limit v _ (same_finish v _ _) k) (λ _. k))
+
+tried_all : (ms : List Mpdu) (limit e s t : ℕ) (w : World) (ends : ℕ → End) → w.config.attempts ≡ limit →
+    IsEnding e s t ends w ms
+    → Tried limit w → Tried limit (with_all_settled w s t ends ms)
 unfolding with_all_settled
-tried_all [] limit e s t w acked same_limit n h = h
-tried_all (m ∷ ms) limit e s t w acked same_limit n h =
-    tried_all ms limit e s t _ acked (ap (λ (c : Config). c.attempts)
-    (config_settled (acked m.number) w s t m) ∙ same_limit)
-    (ending_settled (acked m.number) e s t acked w m ms refl n)
-    (tried_settled (acked m.number) limit e w s t m same_limit n.flies.flying.0 h)
+tried_all [] limit e s t w ends same_limit n h = h
+tried_all (m ∷ ms) limit e s t w ends same_limit n h =
+    tried_all ms limit e s t _ ends (ap (λ (c : Config). c.attempts)
+    (config_settled (ends m.number) w s t m) ∙ same_limit)
+    (ending_settled (ends m.number) e s t ends w m ms refl n)
+    (tried_settled (ends m.number) limit e w s t m same_limit n.flies.flying.0 h)
 
 tried_heard : (b : Bool) (limit f : ℕ) (y : Session) → AllTried limit y →
     AllTried limit (with_heard_start b f y)
@@ -250,8 +260,8 @@ tried_after : (air : Option ℕ) (c : Content) (limit : ℕ) (w : World) (i : Is
     → Tried limit (after_done v x heard c)
 unfolding after_done
 tried_after air (Frames ms) limit w i x heard v e is same_limit f h =
-    tried_all ms limit x.number x.station x.tid v (is_acked heard x.answer) same_limit
-    (subst (λ (u : World). IsEnding x.number x.station x.tid (is_acked heard x.answer) u ms) (sym is)
+    tried_all ms limit x.number x.station x.tid v (end_of x heard) same_limit
+    (subst (λ (u : World). IsEnding x.number x.station x.tid (end_of x heard) u ms) (sym is)
     (ending_of air w i x ms heard e f)) h
 tried_after air (Request g) limit w i x heard v e is same_limit f h =
     tried_on_session limit v x.station x.tid _
@@ -288,6 +298,38 @@ tried_answered : (limit : ℕ) (w : World) (x : Exchange) → Tried limit w →
     Tried limit (answer_outcome w x).world
 unfolding answer_outcome with_exchange
 tried_answered limit w x h = h
+
+tried_marked : (limit : ℕ) (w : World) (x : Exchange) (unsent given_up : List ℕ) → Tried limit w →
+    Tried limit (marked_world w x unsent given_up)
+unfolding with_exchange
+tried_marked limit w x unsent given_up h = h
+
+tried_unsent : (limit : ℕ) (w : World) (x : Exchange) (n : ℕ) → Tried limit w →
+    Tried limit (unsent_outcome w x n).world
+unfolding unsent_outcome
+tried_unsent limit w x n h = tried_marked limit w x (with_member n x.unsent) x.given_up h
+
+tried_given_up : (limit : ℕ) (w : World) (x : Exchange) (n : ℕ) → Tried limit w →
+    Tried limit (give_up_outcome w x n).world
+unfolding give_up_outcome
+tried_given_up limit w x n h = tried_marked limit w x x.unsent (with_member n x.given_up) h
+
+-- A number that a flush gives up has as many attempts as the limit says.
+tried_flush : (limit : ℕ) (y : Session) → AllTried limit y → AllTried limit (after_flush limit y)
+tried_flush limit y h i = subst (IsTried limit) (sym (flush_at limit y.slots i))
+    (on_if (IsTried limit) (is_waiting (at no_slot y.slots i).state)
+    (slot_given_up limit (at no_slot y.slots i)) (at no_slot y.slots i)
+    (λ _. record { fewer = λ no. absurd (cc no); failed = λ _. refl }) (λ _. h i))
+
+tried_flushed : (limit : ℕ) (w : World) (s t : ℕ) → w.config.attempts ≡ limit → Tried limit w →
+    Tried limit (flush_outcome w s t).world
+tried_flushed limit w s t same_limit h = if_flushed (Tried limit)
+    (record {
+      finish = λ u id k. tried_same limit u _ (same_finish u _ id) k;
+      empty = λ u q k. tried_same limit u _ (same_on_queue u q _) k;
+    }) w s t
+    (tried_on_session limit w s t _ (subst (λ (n : ℕ). AllTried limit (after_flush n (session w s t)))
+    (sym same_limit) (tried_flush limit (session w s t) (h s t))) h)
 
 tried_joined : (limit : ℕ) (w : World) (s window start exponent weight : ℕ) → 1 ≤ limit → Tried limit w
     → Tried limit (join_outcome w s window start exponent weight).world
@@ -352,6 +394,11 @@ tried_done (Asked (Poll s)) limit w some same_limit i h =
     tried_same limit w _ (same_on_station w s _ (λ x t. refl)) h
 tried_done (Asked (Rx s c air)) limit w some same_limit i h = tried_same limit w _ (same_on_share w s c _) h
 tried_done (Asked Reap) limit w some same_limit i h = tried_reaped w.finished limit w h
+tried_done (Asked (Unsent e n)) limit w some same_limit i h =
+    tried_open (IsFound w i) (exchange w e) limit w _ (found w i e) (λ x _. tried_unsent limit w x n h) h
+tried_done (Asked (GiveUp e n)) limit w some same_limit i h =
+    tried_open (IsFound w i) (exchange w e) limit w _ (found w i e) (λ x _. tried_given_up limit w x n h) h
+tried_done (Asked (Flush s t)) limit w some same_limit i h = tried_flushed limit w s t same_limit h
 
 tried_refused : (note : Note) (r : Refusal) (limit : ℕ) (w : World) → Tried limit w →
     Tried limit (after_refusal w note r)

@@ -6,7 +6,7 @@ use Rattle.wf_frame.specs.declared.settings.Config.{Config}
 use Rattle.wf_frame.specs.declared.classes.Class.{Class}
 use Rattle.wf_frame.specs.declared.classes.Class.TheVariants.{Bk, Be, Vi, Vo}
 use Rattle.wf_frame.specs.declared.classes.Fate.{Fate}
-use Rattle.wf_frame.specs.declared.notes.Ask.TheVariants.{Join, Leave, Rate, Tick, Pull, Arrive, Answer, Done, Sleep, Wake, Poll, Rx, Reap, Ampdu, Stop, Start}
+use Rattle.wf_frame.specs.declared.notes.Ask.TheVariants.{Join, Leave, Rate, Tick, Pull, Arrive, Answer, Done, Sleep, Wake, Poll, Rx, Reap, Ampdu, Stop, Start, Unsent, GiveUp, Flush}
 use Rattle.wf_frame.specs.declared.notes.Limits.{Limits}
 use Rattle.wf_frame.specs.declared.notes.Note.{Note}
 use Rattle.wf_frame.specs.declared.notes.Note.TheVariants.{Enqueue, Asked}
@@ -15,14 +15,14 @@ use Rattle.wf_frame.specs.declared.notes.Refusal.TheVariants.{Idle}
 use Rattle.wf_def_lists.specs.Table.{at}
 use Rattle.wf_def_codel.specs.Codel.{Item}
 use Rattle.wf_def_rotation.specs.Rotation.{Rotation}
-use Rattle.wf_def_agreement.specs.Session.{Session}
+use Rattle.wf_def_agreement.specs.Session.{Session, End}
 use Rattle.wf_def_agreement.specs.Receiver.{Receiver}
 use Rattle.wf_def_world.specs.World.{World, Station, Share, Tid, Queue, Exchange, Mpdu, Content, Frames, Request, new_share, no_share, no_station, quantum, with_station, on_station, on_tid, on_session, on_receiver, with_queues, on_share, on_queue, with_rotation, with_fate, with_frame_finished, with_frames_finished, with_exchange, without_exchange, opening}
 use Rattle.wf_frame.specs.Classes.{class_number}
-use Rattle.wf_def_world.specs.FlowQueues.{without_head, after_limit, with_listed_queue, with_appended, after_put_in, with_queues_paid, taken_by_codel, taken_from_picked, taken_for_tid, after_queue_left, after_queues_left}
+use Rattle.wf_def_world.specs.FlowQueues.{without_head, after_limit, with_listed_queue, with_appended, after_put_in, with_queues_paid, taken_by_codel, taken_from_picked, taken_for_tid, after_queue_left, after_queues_left, after_queue_flushed, after_queues_flushed}
 use Rattle.wf_def_world.specs.CanSend.{with_listing_in, with_listings_in, with_listings_of}
 use Rattle.wf_def_world.specs.Exchanges.{Aggregate, Prepared, with_station_paid, with_stations_paid, after_pick, after_tid_turn, with_fresh, aggregate_of, with_number, without_credit, prepared_data, prepared_exchange, with_exchange_opened, after_charge, with_failed_finished, with_settled, with_all_settled, after_done, charge_of}
-use Rattle.wf_def_world.specs.Step.{Outcome, join_outcome, after_tid_left, after_tids_left, without_listings, leave_outcome, rate_outcome, tick_outcome, with_frame, enqueue_outcome, send_outcome, pull_outcome_for, pull_outcome, arrive_outcome, answer_outcome, done_outcome, outcome_where_open, sleep_outcome, wake_outcome, poll_outcome, rx_outcome, reap_outcome, outcome_of, after_refusal, judged_outcome, step}
+use Rattle.wf_def_world.specs.Step.{Outcome, join_outcome, after_tid_left, after_tids_left, without_listings, leave_outcome, after_tid_flushed, flush_outcome, rate_outcome, tick_outcome, with_frame, enqueue_outcome, send_outcome, pull_outcome_for, pull_outcome, arrive_outcome, answer_outcome, unsent_outcome, give_up_outcome, done_outcome, outcome_where_open, sleep_outcome, wake_outcome, poll_outcome, rx_outcome, reap_outcome, outcome_of, after_refusal, judged_outcome, step}
 use Rattle.wf_def_world.specs.Run.{Entry, world_after}
 use Rattle.wf_law_runs.proofs.Common.Refused.{after_idle}
 use Rattle.wf_law_runs.proofs.Deficits.Balance.{IsBalanced, IsFairStation, IsFair}
@@ -210,6 +210,11 @@ unfolding after_queues_left after_queue_left
 fair_purge_queues [] w h = h
 fair_purge_queues (q ∷ qs) w h = fair_purge_queues qs _ (fair_finish_all _ _ _ (fair_on_queue w q _ h))
 
+fair_flush_queues : (qs : List ℕ) (w : World) → IsFair w → IsFair (after_queues_flushed w qs)
+unfolding after_queues_flushed after_queue_flushed
+fair_flush_queues [] w h = h
+fair_flush_queues (q ∷ qs) w h = fair_flush_queues qs _ (fair_finish_all _ _ _ (fair_on_queue w q _ h))
+
 -- ---- pulls
 
 fair_after_turn : (w : World) (s : ℕ) (c : Class) (t : ℕ) → IsFair w → IsFair (after_tid_turn w s c t)
@@ -285,18 +290,30 @@ unfolding after_charge
 fair_charged air w x h = fair_on_share w _ _ _ h (λ y b.
     record { deficit = charged_number _ y.charged y.received (charge_of air x) y.deficit b.deficit })
 
-fair_settled : (w : World) (s t : ℕ) (acked : Bool) (m : Mpdu) → IsFair w →
-    IsFair (with_settled w s t acked m)
-unfolding with_settled with_failed_finished
-fair_settled w s t acked m h =
-    fair_if acked _ _ (fair_finish _ _ _ (fair_on_session w s t _ h))
-    (let k = fair_on_session w s t _ h in fair_if _ _ _ (fair_finish _ _ _ k) k)
+fair_unsent : (w : World) (x : Exchange) (i : ℕ) → IsFair w → IsFair (unsent_outcome w x i).world
+unfolding unsent_outcome
+fair_unsent w x i h = fair_with_exchange w _ h
 
-fair_all_settled : (ms : List Mpdu) (w : World) (s t : ℕ) (acked : ℕ → Bool) → IsFair w →
-    IsFair (with_all_settled w s t acked ms)
+fair_given_up : (w : World) (x : Exchange) (i : ℕ) → IsFair w → IsFair (give_up_outcome w x i).world
+unfolding give_up_outcome
+fair_given_up w x i h = fair_with_exchange w _ h
+
+fair_failed : (w : World) (s t : ℕ) (m : Mpdu) → IsFair w → IsFair (with_failed_finished w s t m)
+unfolding with_failed_finished
+fair_failed w s t m h = fair_if _ _ _ (fair_finish _ _ _ h) h
+
+fair_settled : (end : End) (w : World) (s t : ℕ) (m : Mpdu) → IsFair w → IsFair (with_settled w s t end m)
+unfolding with_settled
+fair_settled End.Acknowledged w s t m h = fair_finish _ _ _ (fair_on_session w s t _ h)
+fair_settled End.Missed w s t m h = fair_failed _ s t m (fair_on_session w s t _ h)
+fair_settled End.GivenUp w s t m h = fair_failed _ s t m (fair_on_session w s t _ h)
+fair_settled End.Unsent w s t m h = fair_failed _ s t m (fair_on_session w s t _ h)
+
+fair_all_settled : (ms : List Mpdu) (w : World) (s t : ℕ) (ends : ℕ → End) → IsFair w →
+    IsFair (with_all_settled w s t ends ms)
 unfolding with_all_settled
-fair_all_settled [] w s t acked h = h
-fair_all_settled (m ∷ ms) w s t acked h = fair_all_settled ms _ s t acked (fair_settled w s t _ m h)
+fair_all_settled [] w s t ends h = h
+fair_all_settled (m ∷ ms) w s t ends h = fair_all_settled ms _ s t ends (fair_settled _ w s t m h)
 
 fair_after_done : (content : Content) (w : World) (x : Exchange) (heard : Bool) → IsFair w →
     IsFair (after_done w x heard content)
@@ -339,6 +356,10 @@ fair_gone : (w : World) (s : ℕ) → IsFair w → IsFair (leave_outcome w s).wo
 unfolding leave_outcome
 fair_gone w s h = fair_with_station _ s None (fair_off_lists _ _ s (fair_left_tids _ w s h)) tt
 
+fair_flushed : (w : World) (s t : ℕ) → IsFair w → IsFair (flush_outcome w s t).world
+unfolding flush_outcome after_tid_flushed
+fair_flushed w s t h = fair_flush_queues _ _ (fair_finish_all _ _ _ (fair_on_session w s t _ h))
+
 fair_enqueued : (w : World) (s t flow len : ℕ) → IsFair w → IsFair (enqueue_outcome w s t flow len).world
 unfolding enqueue_outcome with_frame
 fair_enqueued w s t flow len h = record { each = (fair_put_in _ s t _ _ (fair_within_limit w h)).each }
@@ -364,6 +385,9 @@ fair_done (Asked (Rate s rate)) w h = fair_on_station w s _ h (λ q x k. k)
 fair_done (Asked (Tick by)) w h = record { each = h.each }
 fair_done (Asked (Pull c l)) w h = fair_pulled w c l h
 fair_done (Asked (Arrive e i)) w h = fair_on_open _ w _ h (λ x. fair_arrived w x i h)
+fair_done (Asked (Unsent e i)) w h = fair_on_open _ w _ h (λ x. fair_unsent w x i h)
+fair_done (Asked (GiveUp e i)) w h = fair_on_open _ w _ h (λ x. fair_given_up w x i h)
+fair_done (Asked (Flush s t)) w h = fair_flushed w s t h
 fair_done (Asked (Answer e)) w h = fair_on_open _ w _ h (λ x. fair_answered w x h)
 fair_done (Asked (Done e heard air)) w h = fair_on_open _ w _ h (λ x. fair_ended air w x heard h)
 fair_done (Asked (Sleep s)) w h = fair_on_station w s _ h (λ q x k. k)

@@ -9,13 +9,14 @@ use Rattle.wf_def_lists.specs.Table.{at}
 use Rattle.wf_def_air.specs.Airtime.{lowest_rate}
 use Rattle.wf_def_codel.specs.Codel.{Item}
 use Rattle.wf_def_rotation.specs.Rotation.{without_key, in_order, Picked}
+use Rattle.wf_def_agreement.specs.Session.{End}
 use Rattle.wf_def_world.specs.Rates.{rate_asked}
 use Rattle.wf_def_world.specs.World.{World, Station, Share, Exchange, Mpdu, Content, Frames, Request, no_share, no_station, rotation, quantum, with_rotation, without_exchange}
 use Rattle.wf_frame.specs.Classes.{class_number}
 use Rattle.wf_frame.specs.declared.notes.AskedRate.{AskedRate}
-use Rattle.wf_def_world.specs.FlowQueues.{without_head, after_limit, with_listed_queue, with_appended, after_put_in, with_queues_paid, taken_by_codel, taken_from_picked, taken_for_tid, after_queue_left, after_queues_left}
+use Rattle.wf_def_world.specs.FlowQueues.{without_head, after_limit, with_listed_queue, with_appended, after_put_in, with_queues_paid, taken_by_codel, taken_from_picked, taken_for_tid, after_queue_left, after_queues_left, after_queue_flushed, after_queues_flushed}
 use Rattle.wf_def_world.specs.Exchanges.{Aggregate, Prepared, with_station_paid, with_stations_paid, after_pick, after_tid_turn, with_fresh, aggregate_of, with_number, without_credit, prepared_data, prepared_exchange, with_exchange_opened, after_charge, with_failed_finished, with_settled, with_all_settled, after_done, exchange_of, picked_station, charge_of}
-use Rattle.wf_def_world.specs.Step.{join_outcome, after_tid_left, after_tids_left, without_listings, leave_outcome, rate_outcome, with_frame, enqueue_outcome, send_outcome, done_outcome, sleep_outcome, wake_outcome, poll_outcome, rx_outcome, reap_outcome, ampdu_outcome, stop_outcome, start_outcome}
+use Rattle.wf_def_world.specs.Step.{join_outcome, after_tid_left, after_tids_left, without_listings, leave_outcome, rate_outcome, with_frame, enqueue_outcome, send_outcome, done_outcome, sleep_outcome, wake_outcome, poll_outcome, rx_outcome, reap_outcome, ampdu_outcome, stop_outcome, start_outcome, after_tid_flushed, flush_outcome}
 use Rattle.wf_law_runs.proofs.Deficits.Books.{upd, updc, Account, plain, account, core, Books, books, with_account, with_lists, on_part, books_with_station, books_with_rotation, books_on_station, books_hidden, books_on_session, books_with_queues, books_on_share, books_on_queue, books_finish, books_finish_all, books_if, updc_idle, upd_idle, upd_same, upd_other, updc_same}
 use Rattle.wf_def_lists.specs.Lists.{on}
 use Rattle.wf_law_rules.proofs.Lemmas.Counts.{on-nil, on-cons_same, on-cons_other}
@@ -57,6 +58,15 @@ books_purge_queues : (qs : List ℕ) (w : World) → books (after_queues_left w 
 unfolding after_queues_left after_queue_left
 books_purge_queues [] w = refl
 books_purge_queues (q ∷ qs) w = books_purge_queues qs _ ∙ (books_finish_all _ _ _ ∙ books_on_queue w q _)
+
+books_flush_queues : (qs : List ℕ) (w : World) → books (after_queues_flushed w qs) ≡ books w
+unfolding after_queues_flushed after_queue_flushed
+books_flush_queues [] w = refl
+books_flush_queues (q ∷ qs) w = books_flush_queues qs _ ∙ (books_finish_all _ _ _ ∙ books_on_queue w q _)
+
+pub books_flushed : (w : World) (s t : ℕ) → books (flush_outcome w s t).world ≡ books w
+unfolding flush_outcome after_tid_flushed
+books_flushed w s t = books_flush_queues _ _ ∙ (books_finish_all _ _ _ ∙ books_on_session w s t _)
 
 -- ---- pulls
 
@@ -153,17 +163,22 @@ pub books_charged : (air : Option ℕ) (w : World) (x : Exchange) →
 unfolding after_charge
 books_charged air w x = books_on_share w x.station x.class _ (charge_share (charge_of air x)) (λ y. refl)
 
-books_settled : (w : World) (s t : ℕ) (acked : Bool) (m : Mpdu) → books (with_settled w s t acked m) ≡ books w
-unfolding with_settled with_failed_finished
-books_settled w s t acked m =
-    books_if acked (books w) _ _ (books_finish _ _ _ ∙ books_on_session w s t _)
-    (let k = books_on_session w s t _ in books_if _ (books w) _ _ (books_finish _ _ _ ∙ k) k)
+books_failed : (w : World) (s t : ℕ) (m : Mpdu) → books (with_failed_finished w s t m) ≡ books w
+unfolding with_failed_finished
+books_failed w s t m = books_if _ (books w) _ _ (books_finish _ _ _) refl
 
-books_all_settled : (ms : List Mpdu) (w : World) (s t : ℕ) (acked : ℕ → Bool) →
-    books (with_all_settled w s t acked ms) ≡ books w
+books_settled : (end : End) (w : World) (s t : ℕ) (m : Mpdu) → books (with_settled w s t end m) ≡ books w
+unfolding with_settled
+books_settled End.Acknowledged w s t m = books_finish _ _ _ ∙ books_on_session w s t _
+books_settled End.Missed w s t m = books_failed _ s t m ∙ books_on_session w s t _
+books_settled End.GivenUp w s t m = books_failed _ s t m ∙ books_on_session w s t _
+books_settled End.Unsent w s t m = books_failed _ s t m ∙ books_on_session w s t _
+
+books_all_settled : (ms : List Mpdu) (w : World) (s t : ℕ) (ends : ℕ → End) →
+    books (with_all_settled w s t ends ms) ≡ books w
 unfolding with_all_settled
-books_all_settled [] w s t acked = refl
-books_all_settled (m ∷ ms) w s t acked = books_all_settled ms _ s t acked ∙ books_settled w s t _ m
+books_all_settled [] w s t ends = refl
+books_all_settled (m ∷ ms) w s t ends = books_all_settled ms _ s t ends ∙ books_settled _ w s t m
 
 books_after_done : (content : Content) (w : World) (x : Exchange) (heard : Bool) →
     books (after_done w x heard content) ≡ books w

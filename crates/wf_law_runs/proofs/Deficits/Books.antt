@@ -134,9 +134,9 @@ account x = record {
       λ c. plain (at no_share x.shares (class_number c));
 }
 
--- An exchange without the parts that its receiver sets.
+-- An exchange without the parts that its receiver and its device set.
 abbrev pub core : Exchange → Exchange
-core x = record x { arrived = []; answer = None }
+core x = record x { arrived = []; answer = None; unsent = []; given_up = [] }
 
 pub record Books : Type 0 where
   pub config : Config

@@ -3,7 +3,7 @@
 use Rattle.std.proofs.Common.{◌≡◌, refl, ap, sym, ◌∙◌, subst, arith, ℕ, ◌<◌, Bool, true, false, [], ◌∷◌, Option, Some, None, is_some, inl, inr, ◌⊎◌}
 use Rattle.std.proofs.lemmas.Bool.{cases_eq}
 use Rattle.wf_frame.specs.declared.classes.Class.{Class}
-use Rattle.wf_frame.specs.declared.notes.Ask.TheVariants.{Join, Leave, Rate, Tick, Pull, Arrive, Answer, Done, Sleep, Wake, Poll, Rx, Reap, Ampdu, Stop, Start}
+use Rattle.wf_frame.specs.declared.notes.Ask.TheVariants.{Join, Leave, Rate, Tick, Pull, Arrive, Answer, Done, Sleep, Wake, Poll, Rx, Reap, Ampdu, Stop, Start, Unsent, GiveUp, Flush}
 use Rattle.wf_frame.specs.declared.notes.Limits.{Limits}
 use Rattle.wf_frame.specs.declared.notes.Note.{Note}
 use Rattle.wf_frame.specs.declared.notes.Note.TheVariants.{Enqueue, Asked}
@@ -18,9 +18,9 @@ use Rattle.wf_law_rules.proofs.Lemmas.Counts.{on-nil, on-cons_other, on-append}
 use Rattle.wf_law_rules.proofs.Lemmas.Rotations.{pick_keeps, pick_winner}
 use Rattle.wf_law_runs.proofs.Common.Limits.{with_limits}
 use Rattle.wf_law_runs.proofs.Deficits.Books.{Books, books, with_account, upd_same, each_updc}
-use Rattle.wf_law_runs.proofs.Deficits.BookSteps.{books_after_turn, books_prepared, books_sent, books_ended, books_gone, all_off, books_enqueued, books_received, books_reaped, books_slept, books_woken, books_credited, books_with_rate, books_joined, after, books_after_pick, books_stated, books_stopped, books_started}
+use Rattle.wf_law_runs.proofs.Deficits.BookSteps.{books_after_turn, books_prepared, books_sent, books_ended, books_gone, all_off, books_enqueued, books_received, books_reaped, books_slept, books_woken, books_credited, books_with_rate, books_joined, after, books_after_pick, books_stated, books_stopped, books_started, books_flushed}
 use Rattle.wf_law_runs.proofs.Deficits.Kept.{IsKept}
-use Rattle.wf_law_runs.proofs.Deficits.KeptStep.{to_list_live, live_account, IsFound, books_arrived, books_answered}
+use Rattle.wf_law_runs.proofs.Deficits.KeptStep.{to_list_live, live_account, IsFound, books_arrived, books_unsent, books_given_up, books_answered}
 use Rattle.wf_law_runs.proofs.Deficits.Listing.{Adds, AddedOf, added_listed}
 
 -- If station s is on a list of the class in w, it is on one in b, or it is not live there.
@@ -96,6 +96,10 @@ own_done (Asked (Tick by)) w s c k h = own_same c s w _ refl
 own_done (Asked (Pull d l)) w s c k h = own_pulled w d c l s h
 own_done (Asked (Arrive e j)) w s c k h = own_open (exchange w e) w e s c _ refl
     (λ x f. ap (λ (b : Books). b.rotations) (books_arrived w e j x k f))
+own_done (Asked (Unsent e j)) w s c k h = own_open (exchange w e) w e s c _ refl
+    (λ x f. ap (λ (b : Books). b.rotations) (books_unsent w e j x k f))
+own_done (Asked (GiveUp e j)) w s c k h = own_open (exchange w e) w e s c _ refl
+    (λ x f. ap (λ (b : Books). b.rotations) (books_given_up w e j x k f))
 own_done (Asked (Answer e)) w s c k h = own_open (exchange w e) w e s c _ refl
     (λ x f. ap (λ (b : Books). b.rotations) (books_answered w e x k f))
 own_done (Asked (Done e heard air)) w s c k h = own_open (exchange w e) w e s c _ refl
@@ -104,6 +108,8 @@ own_done (Asked (Sleep i)) w s c k h = own_same c s w _ (ap (λ (b : Books). b.r
 own_done (Asked (Ampdu i octets)) w s c k h = own_same c s w _ (ap (λ (b : Books). b.rotations) (books_stated w i octets))
 own_done (Asked (Stop i)) w s c k h = own_same c s w _ (ap (λ (b : Books). b.rotations) (books_stopped w i))
 own_done (Asked (Start i)) w s c k h = own_same c s w _ (ap (λ (b : Books). b.rotations) (books_started w i))
+own_done (Asked (Flush i t)) w s c k h = own_same c s w _
+    (ap (λ (b : Books). b.rotations) (books_flushed w i t))
 own_done (Asked (Wake i)) w s c k h = own_same c s w _ (ap (λ (b : Books). b.rotations) (books_woken w i))
 own_done (Asked (Poll i)) w s c k h = own_same c s w _ (ap (λ (b : Books). b.rotations) (books_credited w i))
 own_done (Asked (Rx i d air)) w s c k h = own_same c s w _

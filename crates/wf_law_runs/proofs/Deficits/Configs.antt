@@ -1,7 +1,7 @@
 -- Proves that no call changes the settings.
 use Rattle.std.proofs.Common.{◌≡◌, refl, ap, ◌∙◌, ℕ, Bool, true, false, if◌then◌else◌, List, [], ◌∷◌, Option, Some, None}
 use Rattle.wf_frame.specs.declared.classes.Class.{Class}
-use Rattle.wf_frame.specs.declared.notes.Ask.TheVariants.{Join, Leave, Rate, Tick, Pull, Arrive, Answer, Done, Sleep, Wake, Poll, Rx, Reap, Ampdu, Stop, Start}
+use Rattle.wf_frame.specs.declared.notes.Ask.TheVariants.{Join, Leave, Rate, Tick, Pull, Arrive, Answer, Done, Sleep, Wake, Poll, Rx, Reap, Ampdu, Stop, Start, Unsent, GiveUp, Flush}
 use Rattle.wf_frame.specs.declared.notes.Limits.{Limits}
 use Rattle.wf_frame.specs.declared.notes.Note.{Note}
 use Rattle.wf_frame.specs.declared.notes.Note.TheVariants.{Enqueue, Asked}
@@ -13,11 +13,11 @@ use Rattle.wf_frame.specs.Classes.{all_classes}
 use Rattle.wf_def_world.specs.CanSend.{with_listing_in, with_listings_in, with_listings_of}
 use Rattle.wf_def_world.specs.Exchanges.{Prepared, after_pick, after_tid_turn, prepared_exchange, sending_tid}
 use Rattle.wf_def_world.specs.Refusals.{refusal}
-use Rattle.wf_def_world.specs.Step.{Outcome, tick_outcome, outcome_where_open, pull_outcome_for, pull_outcome, arrive_outcome, answer_outcome, outcome_of, after_refusal, judged_outcome, step}
+use Rattle.wf_def_world.specs.Step.{Outcome, tick_outcome, outcome_where_open, pull_outcome_for, pull_outcome, arrive_outcome, answer_outcome, unsent_outcome, give_up_outcome, outcome_of, after_refusal, judged_outcome, step}
 use Rattle.wf_def_world.specs.Run.{Entry, world_after}
 use Rattle.wf_law_runs.proofs.Common.Refused.{after_idle}
 use Rattle.wf_law_runs.proofs.Deficits.Books.{Books, books}
-use Rattle.wf_law_runs.proofs.Deficits.BookSteps.{books_after_turn, books_prepared, books_sent, books_ended, books_gone, books_enqueued, books_received, books_reaped, books_slept, books_woken, books_credited, books_with_rate, books_joined, books_after_pick, books_stated, books_stopped, books_started}
+use Rattle.wf_law_runs.proofs.Deficits.BookSteps.{books_after_turn, books_prepared, books_sent, books_ended, books_gone, books_enqueued, books_received, books_reaped, books_slept, books_woken, books_credited, books_with_rate, books_joined, books_after_pick, books_stated, books_stopped, books_started, books_flushed}
 
 same : (w v : World) (b : Books) → books v ≡ b → b.config ≡ w.config → v.config ≡ w.config
 same w v b e h = ap (λ (z : Books). z.config) e ∙ h
@@ -69,6 +69,14 @@ config_answered : (w : World) (x : Exchange) → (answer_outcome w x).world.conf
 unfolding answer_outcome with_exchange
 config_answered w x = refl
 
+config_unsent : (w : World) (x : Exchange) (j : ℕ) → (unsent_outcome w x j).world.config ≡ w.config
+unfolding unsent_outcome with_exchange
+config_unsent w x j = refl
+
+config_given_up : (w : World) (x : Exchange) (j : ℕ) → (give_up_outcome w x j).world.config ≡ w.config
+unfolding give_up_outcome with_exchange
+config_given_up w x j = refl
+
 pub config_done : (note : Note) (w : World) → (outcome_of w note).world.config ≡ w.config
 unfolding outcome_of tick_outcome
 config_done (Enqueue s t flow len) w = ap (λ (z : Books). z.config) (books_enqueued w s t flow len)
@@ -80,6 +88,8 @@ config_done (Asked (Rate s rate)) w =
 config_done (Asked (Tick by)) w = refl
 config_done (Asked (Pull c l)) w = config_pulled w c l
 config_done (Asked (Arrive e j)) w = config_open (exchange w e) w _ (λ x. config_arrived w x j)
+config_done (Asked (Unsent e j)) w = config_open (exchange w e) w _ (λ x. config_unsent w x j)
+config_done (Asked (GiveUp e j)) w = config_open (exchange w e) w _ (λ x. config_given_up w x j)
 config_done (Asked (Answer e)) w = config_open (exchange w e) w _ (λ x. config_answered w x)
 config_done (Asked (Done e heard air)) w = config_open (exchange w e) w _
     (λ x. ap (λ (z : Books). z.config) (books_ended air w x heard))
@@ -87,6 +97,7 @@ config_done (Asked (Sleep s)) w = ap (λ (z : Books). z.config) (books_slept w s
 config_done (Asked (Ampdu s octets)) w = ap (λ (z : Books). z.config) (books_stated w s octets)
 config_done (Asked (Stop s)) w = ap (λ (z : Books). z.config) (books_stopped w s)
 config_done (Asked (Start s)) w = ap (λ (z : Books). z.config) (books_started w s)
+config_done (Asked (Flush s t)) w = ap (λ (z : Books). z.config) (books_flushed w s t)
 config_done (Asked (Wake s)) w = ap (λ (z : Books). z.config) (books_woken w s)
 config_done (Asked (Poll s)) w = ap (λ (z : Books). z.config) (books_credited w s)
 config_done (Asked (Rx s c air)) w = ap (λ (z : Books). z.config) (books_received w s c air)

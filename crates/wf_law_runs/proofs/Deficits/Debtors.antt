@@ -4,7 +4,7 @@ use Rattle.std.proofs.Common.{◌≡◌, refl, ap, sym, ◌∙◌, subst, arith,
 use Rattle.std.proofs.lemmas.Int.{ints}
 use Rattle.wf_frame.specs.declared.settings.Config.{Config}
 use Rattle.wf_frame.specs.declared.classes.Class.{Class}
-use Rattle.wf_frame.specs.declared.notes.Ask.TheVariants.{Join, Leave, Rate, Tick, Pull, Arrive, Answer, Done, Sleep, Wake, Poll, Rx, Reap, Ampdu, Stop, Start}
+use Rattle.wf_frame.specs.declared.notes.Ask.TheVariants.{Join, Leave, Rate, Tick, Pull, Arrive, Answer, Done, Sleep, Wake, Poll, Rx, Reap, Ampdu, Stop, Start, Unsent, GiveUp, Flush}
 use Rattle.wf_frame.specs.declared.notes.Limits.{Limits}
 use Rattle.wf_frame.specs.declared.notes.Note.{Note}
 use Rattle.wf_frame.specs.declared.notes.Note.TheVariants.{Enqueue, Asked}
@@ -18,10 +18,10 @@ use Rattle.wf_def_world.specs.Step.{Outcome, tick_outcome, pull_outcome_for, pul
 use Rattle.wf_law_rules.proofs.Lemmas.Rotations.{pick_leaves}
 use Rattle.wf_law_runs.proofs.Common.Limits.{with_limits}
 use Rattle.wf_law_runs.proofs.Deficits.Books.{Account, Books, books, core, with_account, upd_other, updc_same, updc_other, cases_class}
-use Rattle.wf_law_runs.proofs.Deficits.BookSteps.{books_after_turn, books_prepared, books_sent, with_opened, without, books_ended, books_gone, all_off, books_enqueued, books_received, books_reaped, books_slept, books_woken, books_credited, books_with_rate, books_joined, paid, after, books_after_pick, pay_share, books_stated, books_stopped, books_started}
+use Rattle.wf_law_runs.proofs.Deficits.BookSteps.{books_after_turn, books_prepared, books_sent, with_opened, without, books_ended, books_gone, all_off, books_enqueued, books_received, books_reaped, books_slept, books_woken, books_credited, books_with_rate, books_joined, paid, after, books_after_pick, pay_share, books_stated, books_stopped, books_started, books_flushed}
 use Rattle.wf_law_runs.proofs.Deficits.Openings.{every_map, only_one, owed-others_append, owed-others_filter}
 use Rattle.wf_law_runs.proofs.Deficits.Kept.{IsKept, counted_in, standing_of, need_in, if_map, if_same, above_after}
-use Rattle.wf_law_runs.proofs.Deficits.KeptStep.{need_is, IsFound, at_number, books_arrived, books_answered}
+use Rattle.wf_law_runs.proofs.Deficits.KeptStep.{need_is, IsFound, at_number, books_arrived, books_unsent, books_given_up, books_answered}
 use Rattle.std.proofs.lemmas.Bool.{eqb-true, not-false, ne_eqb, not_from_false}
 use Rattle.wf_frame.specs.declared.classes.Class.TheVariants.{Bk, Be, Vi, Vo}
 use Rattle.wf_law_rules.proofs.Lemmas.Counts.{on-append, on-filter}
@@ -223,6 +223,10 @@ backs_done (Asked (Tick by)) w s k h = backs_same s _ _ refl
 backs_done (Asked (Pull d l)) w s k h = backs_pulled s w d l k h
 backs_done (Asked (Arrive e j)) w s k h = backs_open (exchange w e) w e s _ refl h
     (λ x f. backs_same x.station _ _ (books_arrived w e j x k f))
+backs_done (Asked (Unsent e j)) w s k h = backs_open (exchange w e) w e s _ refl h
+    (λ x f. backs_same x.station _ _ (books_unsent w e j x k f))
+backs_done (Asked (GiveUp e j)) w s k h = backs_open (exchange w e) w e s _ refl h
+    (λ x f. backs_same x.station _ _ (books_given_up w e j x k f))
 backs_done (Asked (Answer e)) w s k h = backs_open (exchange w e) w e s _ refl h
     (λ x f. backs_same x.station _ _ (books_answered w e x k f))
 backs_done (Asked (Done e heard air)) w s k h = backs_open (exchange w e) w e s _ refl h
@@ -231,6 +235,7 @@ backs_done (Asked (Sleep i)) w s k h = backs_same s _ _ (books_slept w i)
 backs_done (Asked (Ampdu i octets)) w s k h = backs_same s _ _ (books_stated w i octets)
 backs_done (Asked (Stop i)) w s k h = backs_same s _ _ (books_stopped w i)
 backs_done (Asked (Start i)) w s k h = backs_same s _ _ (books_started w i)
+backs_done (Asked (Flush i t)) w s k h = backs_same s _ _ (books_flushed w i t)
 backs_done (Asked (Wake i)) w s k h = backs_same s _ _ (books_woken w i)
 backs_done (Asked (Poll i)) w s k h = backs_same s _ _ (books_credited w i)
 backs_done (Asked (Rx i c air)) w s k h = backs_named i s _ _ h

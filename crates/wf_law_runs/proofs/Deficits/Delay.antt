@@ -3,7 +3,7 @@
 use Rattle.std.proofs.Common.{◌≡◌, refl, ap, sym, ◌∙◌, subst, arith, ℕ, zero, suc, ◌+◌, ◌-◌, ◌<◌, ◌≤◌, Bool, true, false, if◌then◌else◌, cond, not, ◌||◌, List, [], ◌∷◌, ◌++◌, Option, Some, None, is_some, is_none, map, filter, find, take, drop, nat_le, ◌==◌, inl, inr}
 use Rattle.wf_frame.specs.declared.settings.Config.{Config}
 use Rattle.wf_frame.specs.declared.classes.Class.{Class}
-use Rattle.wf_frame.specs.declared.notes.Ask.TheVariants.{Join, Leave, Rate, Tick, Pull, Arrive, Answer, Done, Sleep, Wake, Poll, Rx, Reap, Ampdu, Stop, Start}
+use Rattle.wf_frame.specs.declared.notes.Ask.TheVariants.{Join, Leave, Rate, Tick, Pull, Arrive, Answer, Done, Sleep, Wake, Poll, Rx, Reap, Ampdu, Stop, Start, Unsent, GiveUp, Flush}
 use Rattle.wf_frame.specs.declared.notes.Limits.{Limits}
 use Rattle.wf_frame.specs.declared.notes.Note.{Note}
 use Rattle.wf_frame.specs.declared.notes.Note.TheVariants.{Enqueue, Asked}
@@ -22,9 +22,9 @@ use Rattle.wf_law_runs.specs.Delay.{HasOpen, computed_of, airtime_ended_by, airt
 use Rattle.wf_law_runs.proofs.Common.Refused.{after_idle}
 use Rattle.wf_law_runs.proofs.Common.Limits.{with_limits}
 use Rattle.wf_law_runs.proofs.Deficits.Books.{core, Books, books}
-use Rattle.wf_law_runs.proofs.Deficits.BookSteps.{books_after_turn, books_prepared, books_sent, with_opened, books_ended, books_gone, books_enqueued, books_received, books_reaped, books_slept, books_woken, books_credited, books_with_rate, books_joined, books_after_pick, books_stated, books_stopped, books_started}
+use Rattle.wf_law_runs.proofs.Deficits.BookSteps.{books_after_turn, books_prepared, books_sent, with_opened, books_ended, books_gone, books_enqueued, books_received, books_reaped, books_slept, books_woken, books_credited, books_with_rate, books_joined, books_after_pick, books_stated, books_stopped, books_started, books_flushed}
 use Rattle.wf_law_runs.proofs.Deficits.Kept.{IsKept}
-use Rattle.wf_law_runs.proofs.Deficits.KeptStep.{IsFound, found_number, at_number, books_arrived, books_answered, kept_step, kept}
+use Rattle.wf_law_runs.proofs.Deficits.KeptStep.{IsFound, found_number, at_number, books_arrived, books_unsent, books_given_up, books_answered, kept_step, kept}
 use Rattle.wf_law_runs.proofs.Deficits.InFlight.{in_flight_law}
 use Rattle.wf_law_runs.proofs.Windows.Sides.{Same, same_listed}
 use Rattle.wf_law_runs.proofs.Fairness.Law.{run_split}
@@ -231,6 +231,10 @@ passes_done n (Asked (Tick by)) w r k b = passes_same _ n (books w) _ refl refl
 passes_done n (Asked (Pull c l)) w r k b = passes_pulled _ n w c l b
 passes_done n (Asked (Arrive e j)) w r k b = passes_open _ n w e (exchange w e) _ (λ _. 0) refl refl
     (λ x found. passes_books _ n w (books w) _ (books_arrived w e j x k found) refl refl)
+passes_done n (Asked (Unsent e j)) w r k b = passes_open _ n w e (exchange w e) _ (λ _. 0) refl refl
+    (λ x found. passes_books _ n w (books w) _ (books_unsent w e j x k found) refl refl)
+passes_done n (Asked (GiveUp e j)) w r k b = passes_open _ n w e (exchange w e) _ (λ _. 0) refl refl
+    (λ x found. passes_books _ n w (books w) _ (books_given_up w e j x k found) refl refl)
 passes_done n (Asked (Answer e)) w r k b = passes_open _ n w e (exchange w e) _ (λ _. 0) refl refl
     (λ x found. passes_books _ n w (books w) _ (books_answered w e x k found) refl refl)
 passes_done n (Asked (Done e heard air)) w r k b =
@@ -246,6 +250,7 @@ passes_done n (Asked (Sleep s)) w r k b = passes_books _ n w (books w) _ (books_
 passes_done n (Asked (Ampdu s octets)) w r k b = passes_books _ n w (books w) _ (books_stated w s octets) refl refl
 passes_done n (Asked (Stop s)) w r k b = passes_books _ n w (books w) _ (books_stopped w s) refl refl
 passes_done n (Asked (Start s)) w r k b = passes_books _ n w (books w) _ (books_started w s) refl refl
+passes_done n (Asked (Flush s t)) w r k b = passes_books _ n w (books w) _ (books_flushed w s t) refl refl
 passes_done n (Asked (Wake s)) w r k b = passes_books _ n w (books w) _ (books_woken w s) refl refl
 passes_done n (Asked (Poll s)) w r k b = passes_books _ n w (books w) _ (books_credited w s) refl refl
 passes_done n (Asked (Rx s c air)) w r k b = passes_books _ n w _ _ (books_received w s c air) refl refl

@@ -7,13 +7,13 @@ use Rattle.std.proofs.lemmas.List.Sums.{sum_by-cons}
 use Rattle.std.proofs.Math.Nat.{le-max_left, le-max_right, min-le_right}
 use Rattle.wf_frame.specs.declared.settings.Config.{Config}
 use Rattle.wf_frame.specs.declared.classes.Class.{Class}
-use Rattle.wf_frame.specs.declared.notes.Ask.TheVariants.{Join, Leave, Rate, Tick, Pull, Arrive, Answer, Done, Sleep, Wake, Poll, Rx, Reap, Ampdu, Stop, Start}
+use Rattle.wf_frame.specs.declared.notes.Ask.TheVariants.{Join, Leave, Rate, Tick, Pull, Arrive, Answer, Done, Sleep, Wake, Poll, Rx, Reap, Ampdu, Stop, Start, Unsent, GiveUp, Flush}
 use Rattle.wf_frame.specs.declared.notes.Limits.{Limits}
 use Rattle.wf_frame.specs.declared.notes.Note.{Note}
 use Rattle.wf_frame.specs.declared.notes.Note.TheVariants.{Enqueue, Asked}
 use Rattle.wf_frame.specs.declared.notes.Refusal.{Refusal}
 use Rattle.wf_frame.specs.declared.notes.Refusal.TheVariants.{Idle}
-use Rattle.wf_def_lists.specs.Table.{at}
+use Rattle.wf_def_lists.specs.Table.{at, with_member}
 use Rattle.wf_def_rotation.specs.Rotation.{with_key_listed, has_key, need_of}
 use Rattle.wf_def_lists.specs.Bounds.{greatest_air, deepest_deficit}
 use Rattle.wf_def_air.specs.Airtime.{IsRate}
@@ -23,17 +23,18 @@ use Rattle.wf_frame.specs.Classes.{class_number, all_classes}
 use Rattle.wf_def_world.specs.CanSend.{has_credit, can_send_in, is_below_aql, may_receive, is_ready, is_to_list, with_listing_in, with_listings_in, with_listings_of}
 use Rattle.wf_def_world.specs.Exchanges.{Prepared, cap_of, limited, station_need, picked_station, after_pick, after_tid_turn, prepared_exchange, exchange_of, after_arrival, sending_tid, charge_of}
 use Rattle.wf_def_world.specs.Refusals.{first_refusal, refusals, refusal, open_of_class, is_at_aql_total, is_within}
-use Rattle.wf_def_world.specs.Step.{Outcome, tick_outcome, send_outcome, pull_outcome_for, pull_outcome, arrive_outcome, answer_outcome, outcome_where_open, rx_outcome, outcome_of, after_refusal, judged_outcome, step}
+use Rattle.wf_def_world.specs.Step.{Outcome, tick_outcome, send_outcome, pull_outcome_for, pull_outcome, arrive_outcome, answer_outcome, unsent_outcome, give_up_outcome, outcome_where_open, rx_outcome, outcome_of, after_refusal, judged_outcome, step}
 use Rattle.wf_def_world.specs.Run.{Entry, world_after}
 use Rattle.wf_frame.specs.Settings.{IsInRange, is_bad_air}
 use Rattle.wf_law_runs.specs.Deficits.{longest_computed, longest_exchange, most_covered}
 use Rattle.wf_def_lists.specs.Lists.{on}
 use Rattle.wf_law_rules.proofs.Lemmas.Counts.{on-nil}
 use Rattle.wf_law_rules.proofs.Lemmas.Rotations.{pick_on, pick_need, IsWinner, pick_winner}
+use Rattle.wf_law_runs.proofs.Common.Marks.{marked_world}
 use Rattle.wf_law_runs.proofs.Common.Refused.{if_idle}
 use Rattle.wf_law_runs.proofs.Common.Limits.{with_limits}
 use Rattle.wf_law_runs.proofs.Deficits.Books.{Account, account, core, Books, books, on_part, each_updc, books_with_rotation, books_on_receiver}
-use Rattle.wf_law_runs.proofs.Deficits.BookSteps.{books_after_turn, books_prepared, books_sent, books_ended, books_gone, books_enqueued, receive_share, books_received, books_reaped, books_slept, books_woken, books_credited, rated, books_with_rate, books_joined, books_after_pick, books_stated, books_stopped, books_started}
+use Rattle.wf_law_runs.proofs.Deficits.BookSteps.{books_after_turn, books_prepared, books_sent, books_ended, books_gone, books_enqueued, receive_share, books_received, books_reaped, books_slept, books_woken, books_credited, rated, books_with_rate, books_joined, books_after_pick, books_stated, books_stopped, books_started, books_flushed}
 use Rattle.wf_law_runs.proofs.Deficits.Openings.{Every, every_map, every_find, only_one, many, many-count, many-core, owed-core, owed_all-core, owed_most}
 use Rattle.wf_law_runs.proofs.Deficits.Bounds.{counted, IsBounded, bounded_receive}
 use Rattle.wf_law_runs.proofs.Deficits.Kept.{IsOpen, at_stake, counted_in, IsGood, IsKept, standing_of, need_in, some_map, if_same, kept_on, kept_add, at_stake_most, kept_fresh, kept_gone, within_opened, kept_opened, kept_ended, IsPick, kept_after, above_after}
@@ -369,6 +370,20 @@ pub books_answered : (w : World) (e : ℕ) (x : Exchange) → IsKept (books w) �
 unfolding answer_outcome
 books_answered w e x i found = books_with_exchange w _ (only_this w e x i found)
 
+pub books_marked : (w : World) (e : ℕ) (x : Exchange) (unsent given_up : List ℕ) → IsKept (books w) →
+    IsFound w e x → books (marked_world w x unsent given_up) ≡ books w
+books_marked w e x unsent given_up i found = books_with_exchange w _ (only_this w e x i found)
+
+pub books_unsent : (w : World) (e j : ℕ) (x : Exchange) → IsKept (books w) → IsFound w e x →
+    books (unsent_outcome w x j).world ≡ books w
+unfolding unsent_outcome
+books_unsent w e j x i found = books_marked w e x (with_member j x.unsent) x.given_up i found
+
+pub books_given_up : (w : World) (e j : ℕ) (x : Exchange) → IsKept (books w) → IsFound w e x →
+    books (give_up_outcome w x j).world ≡ books w
+unfolding give_up_outcome
+books_given_up w e j x i found = books_marked w e x x.unsent (with_member j x.given_up) i found
+
 -- The charge of an ended exchange is at most the longest, computed or given by its Done.
 pub charge_within : (w : World) (e : ℕ) (x : Exchange) (air : Option ℕ) → IsKept (books w) → IsFound w e x →
     is_bad_air w.config air ≡ false → charge_of air x ≤ longest_exchange w.config x.class
@@ -470,6 +485,10 @@ kept_done (Asked (Tick by)) w e i = i
 kept_done (Asked (Pull c l)) w e i = kept_pulled w c l e.0 e.1.0 i
 kept_done (Asked (Arrive e j)) w _ i = kept_open w e (exchange w e) _ refl i
     (λ x f. is _ _ (books_arrived w e j x i f) i)
+kept_done (Asked (Unsent e j)) w _ i = kept_open w e (exchange w e) _ refl i
+    (λ x f. is _ _ (books_unsent w e j x i f) i)
+kept_done (Asked (GiveUp e j)) w _ i = kept_open w e (exchange w e) _ refl i
+    (λ x f. is _ _ (books_given_up w e j x i f) i)
 kept_done (Asked (Answer e)) w _ i = kept_open w e (exchange w e) _ refl i
     (λ x f. is _ _ (books_answered w e x i f) i)
 kept_done (Asked (Done e heard air)) w r i = kept_open w e (exchange w e) _ refl i
@@ -480,6 +499,7 @@ kept_done (Asked (Sleep s)) w e i = is _ _ (books_slept w s) i
 kept_done (Asked (Ampdu s octets)) w e i = is _ _ (books_stated w s octets) i
 kept_done (Asked (Stop s)) w e i = is _ _ (books_stopped w s) i
 kept_done (Asked (Start s)) w e i = is _ _ (books_started w s) i
+kept_done (Asked (Flush s t)) w e i = is _ _ (books_flushed w s t) i
 kept_done (Asked (Wake s)) w e i = is _ _ (books_woken w s) i
 kept_done (Asked (Poll s)) w e i = is _ _ (books_credited w s) i
 kept_done (Asked (Rx s c air)) w e i = kept_received w s c air e.1.0 e.1.1.1.0 i

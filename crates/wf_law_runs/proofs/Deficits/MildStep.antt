@@ -6,21 +6,21 @@ use Rattle.std.proofs.lemmas.Nat.{mod_below}
 use Rattle.std.proofs.lemmas.List.Folds.{list_any-append}
 use Rattle.wf_frame.specs.declared.settings.Config.{Config}
 use Rattle.wf_frame.specs.declared.classes.Class.{Class}
-use Rattle.wf_frame.specs.declared.notes.Ask.TheVariants.{Join, Leave, Rate, Tick, Pull, Arrive, Answer, Done, Sleep, Wake, Poll, Rx, Reap, Ampdu, Stop, Start}
+use Rattle.wf_frame.specs.declared.notes.Ask.TheVariants.{Join, Leave, Rate, Tick, Pull, Arrive, Answer, Done, Sleep, Wake, Poll, Rx, Reap, Ampdu, Stop, Start, Unsent, GiveUp, Flush}
 use Rattle.wf_frame.specs.declared.notes.Limits.{Limits}
 use Rattle.wf_frame.specs.declared.notes.Note.{Note}
 use Rattle.wf_frame.specs.declared.notes.Note.TheVariants.{Enqueue, Asked}
 use Rattle.wf_def_lists.specs.Table.{at, put, change, upto, count_from, has}
 use Rattle.wf_def_codel.specs.Codel.{Item, Dequeued}
 use Rattle.wf_def_rotation.specs.Rotation.{Rotation, no_keys, has_key, in_order, with_new_key, Picked}
-use Rattle.wf_def_agreement.specs.Session.{Session}
+use Rattle.wf_def_agreement.specs.Session.{Session, End}
 use Rattle.wf_def_agreement.specs.Receiver.{Receiver}
 use Rattle.wf_def_world.specs.World.{World, Station, Tid, Queue, Exchange, Mpdu, Content, Frames, Request, no_tid, no_station, new_queue, new_tid, tid_of, queue, is_live, live_stations, owed, exchange, with_station, on_station, on_tid, on_session, on_receiver, with_queues, on_queue, with_exchange, without_exchange}
-use Rattle.wf_def_world.specs.FlowQueues.{without_head, after_limit, is_listed_elsewhere, goes_over, overflow_queue, queue_for, when_listed, with_listed_queue, with_appended, after_put_in, with_queues_paid, taken_by_codel, taken_from_picked, taken_for_tid, picked_queue, queue_need, has_frames, after_queue_left, after_queues_left}
+use Rattle.wf_def_world.specs.FlowQueues.{without_head, after_limit, is_listed_elsewhere, goes_over, overflow_queue, queue_for, when_listed, with_listed_queue, with_appended, after_put_in, with_queues_paid, taken_by_codel, taken_from_picked, taken_for_tid, picked_queue, queue_need, has_frames, after_queue_left, after_queues_left, after_queue_flushed, after_queues_flushed}
 use Rattle.wf_def_world.specs.CanSend.{is_request}
 use Rattle.wf_def_world.specs.Exchanges.{Aggregate, Prepared, picked_station, with_station_paid, with_stations_paid, after_pick, after_tid_turn, with_number, with_fresh, aggregate_of, prepared_data, prepared_exchange, without_credit, exchange_of, with_exchange_opened, after_charge, with_failed_finished, with_settled, with_all_settled, after_done, sending_tid, after_arrival}
 use Rattle.wf_def_world.specs.Refusals.{refusals}
-use Rattle.wf_def_world.specs.Step.{Outcome, join_outcome, after_tid_left, after_tids_left, without_listings, leave_outcome, rate_outcome, tick_outcome, with_frame, enqueue_outcome, send_outcome, pull_outcome_for, pull_outcome, arrive_outcome, answer_outcome, done_outcome, outcome_where_open, sleep_outcome, wake_outcome, poll_outcome, rx_outcome, reap_outcome, outcome_of, station_of, concerned_station}
+use Rattle.wf_def_world.specs.Step.{Outcome, join_outcome, after_tid_left, after_tids_left, without_listings, leave_outcome, after_tid_flushed, flush_outcome, rate_outcome, tick_outcome, with_frame, enqueue_outcome, send_outcome, pull_outcome_for, pull_outcome, arrive_outcome, answer_outcome, unsent_outcome, give_up_outcome, done_outcome, outcome_where_open, sleep_outcome, wake_outcome, poll_outcome, rx_outcome, reap_outcome, outcome_of, station_of, concerned_station}
 use Rattle.wf_law_rules.proofs.Lemmas.Tables.{at_put_other}
 use Rattle.wf_def_lists.specs.Lists.{on}
 use Rattle.wf_law_rules.proofs.Lemmas.Counts.{on-nil, on-cons_same, on-cons_other, on-append, on-filter, hasnot-on}
@@ -110,6 +110,18 @@ mild_purge_queues [] s w = mild_here s w
 mild_purge_queues (q ∷ qs) s w = mild_then s w _ _
     (mild_then s w _ _ (mild_on_queue s w q _ (omega arith)) (mild_finish_all _ s _ _))
     (mild_purge_queues qs s _)
+
+mild_flush_queues : (qs : List ℕ) (s : ℕ) (w : World) → IsMild s w (after_queues_flushed w qs)
+unfolding after_queues_flushed after_queue_flushed
+mild_flush_queues [] s w = mild_here s w
+mild_flush_queues (q ∷ qs) s w = mild_then s w _ _
+    (mild_then s w _ _ (mild_on_queue s w q _ (omega arith)) (mild_finish_all _ s _ _))
+    (mild_flush_queues qs s _)
+
+mild_flushed : (w : World) (s t : ℕ) → IsMild s w (flush_outcome w s t).world
+unfolding flush_outcome after_tid_flushed
+mild_flushed w s t = mild_then s w _ _ (mild_then s w _ _ (mild_on_session w s t _) (mild_finish_all _ s _ _))
+    (mild_flush_queues _ s _)
 
 -- ---- pulls
 
@@ -281,18 +293,33 @@ mild_answered : (w : World) (e : ℕ) (x : Exchange) → IsKept (books w) → Is
 unfolding answer_outcome
 mild_answered w e x i found = mild_exchange x.station w _ (only_this w e x i found)
 
-mild_settled : (w : World) (s t : ℕ) (acked : Bool) (m : Mpdu) → IsMild s w (with_settled w s t acked m)
-unfolding with_settled with_failed_finished
-mild_settled w s t acked m =
-    mild_if acked s w _ _ (mild_then s w _ _ (mild_on_session w s t _) (mild_finish s _ _ _))
-    (let k = mild_on_session w s t _ in mild_if _ s w _ _ (mild_then s w _ _ k (mild_finish s _ _ _)) k)
+mild_unsent : (w : World) (e j : ℕ) (x : Exchange) → IsKept (books w) → IsFound w e x →
+    IsMild x.station w (unsent_outcome w x j).world
+unfolding unsent_outcome
+mild_unsent w e j x i found = mild_exchange x.station w _ (only_this w e x i found)
 
-mild_all_settled : (ms : List Mpdu) (w : World) (s t : ℕ) (acked : ℕ → Bool) →
-    IsMild s w (with_all_settled w s t acked ms)
+mild_given_up : (w : World) (e j : ℕ) (x : Exchange) → IsKept (books w) → IsFound w e x →
+    IsMild x.station w (give_up_outcome w x j).world
+unfolding give_up_outcome
+mild_given_up w e j x i found = mild_exchange x.station w _ (only_this w e x i found)
+
+mild_failed : (w : World) (s t : ℕ) (m : Mpdu) → IsMild s w (with_failed_finished w s t m)
+unfolding with_failed_finished
+mild_failed w s t m = mild_if _ s w _ _ (mild_finish s w _ _) (mild_here s w)
+
+mild_settled : (end : End) (w : World) (s t : ℕ) (m : Mpdu) → IsMild s w (with_settled w s t end m)
+unfolding with_settled
+mild_settled End.Acknowledged w s t m = mild_then s w _ _ (mild_on_session w s t _) (mild_finish s _ _ _)
+mild_settled End.Missed w s t m = mild_then s w _ _ (mild_on_session w s t _) (mild_failed _ s t m)
+mild_settled End.GivenUp w s t m = mild_then s w _ _ (mild_on_session w s t _) (mild_failed _ s t m)
+mild_settled End.Unsent w s t m = mild_then s w _ _ (mild_on_session w s t _) (mild_failed _ s t m)
+
+mild_all_settled : (ms : List Mpdu) (w : World) (s t : ℕ) (ends : ℕ → End) →
+    IsMild s w (with_all_settled w s t ends ms)
 unfolding with_all_settled
-mild_all_settled [] w s t acked = mild_here s w
-mild_all_settled (m ∷ ms) w s t acked = mild_then s w _ _ (mild_settled w s t _ m)
-    (mild_all_settled ms _ s t acked)
+mild_all_settled [] w s t ends = mild_here s w
+mild_all_settled (m ∷ ms) w s t ends = mild_then s w _ _ (mild_settled (ends m.number) w s t m)
+    (mild_all_settled ms _ s t ends)
 
 mild_after_done : (content : Content) (w : World) (x : Exchange) (heard : Bool) →
     IsMild x.station w (after_done w x heard content)
@@ -573,6 +600,10 @@ mild_done (Asked (Tick by)) w s r k o h = mild_plain s w _ refl refl refl refl
 mild_done (Asked (Pull c l)) w s r k o h = mild_pulled s w c l h
 mild_done (Asked (Arrive e j)) w s r k o h = mild_open (exchange w e) w e s _ refl h
     (λ x f. mild_arrived w e j x k f)
+mild_done (Asked (Unsent e j)) w s r k o h = mild_open (exchange w e) w e s _ refl h
+    (λ x f. mild_unsent w e j x k f)
+mild_done (Asked (GiveUp e j)) w s r k o h = mild_open (exchange w e) w e s _ refl h
+    (λ x f. mild_given_up w e j x k f)
 mild_done (Asked (Answer e)) w s r k o h = mild_open (exchange w e) w e s _ refl h
     (λ x f. mild_answered w e x k f)
 mild_done (Asked (Done e heard air)) w s r k o h =
@@ -581,6 +612,7 @@ mild_done (Asked (Sleep i)) w s r k o h = named i s w _ h (mild_on_station w i _
 mild_done (Asked (Ampdu i octets)) w s r k o h = named i s w _ h (mild_on_station w i _ (λ x. refl))
 mild_done (Asked (Stop i)) w s r k o h = named i s w _ h (mild_on_station w i _ (λ x. refl))
 mild_done (Asked (Start i)) w s r k o h = named i s w _ h (mild_on_station w i _ (λ x. refl))
+mild_done (Asked (Flush i t)) w s r k o h = named i s w _ h (mild_flushed w i t)
 mild_done (Asked (Wake i)) w s r k o h = named i s w _ h (mild_on_station w i _ (λ x. refl))
 mild_done (Asked (Poll i)) w s r k o h = named i s w _ h (mild_on_station w i _ (λ x. refl))
 mild_done (Asked (Rx i c air)) w s r k o h = mild_on_share s w i c _

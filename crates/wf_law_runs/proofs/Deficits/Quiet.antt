@@ -4,7 +4,7 @@ use Rattle.std.proofs.Common.{◌≡◌, refl, ap, sym, ◌∙◌, subst, arith,
 use Rattle.std.proofs.lemmas.Bool.{cases_eq, ne_eqb, and_parts, not-false, leb-true}
 use Rattle.wf_frame.specs.declared.settings.Config.{Config}
 use Rattle.wf_frame.specs.declared.classes.Class.{Class}
-use Rattle.wf_frame.specs.declared.notes.Ask.TheVariants.{Join, Leave, Rate, Tick, Pull, Arrive, Answer, Done, Sleep, Wake, Poll, Rx, Reap, Ampdu, Stop, Start}
+use Rattle.wf_frame.specs.declared.notes.Ask.TheVariants.{Join, Leave, Rate, Tick, Pull, Arrive, Answer, Done, Sleep, Wake, Poll, Rx, Reap, Ampdu, Stop, Start, Unsent, GiveUp, Flush}
 use Rattle.wf_frame.specs.declared.notes.Note.{Note}
 use Rattle.wf_frame.specs.declared.notes.Note.TheVariants.{Enqueue, Asked}
 use Rattle.wf_frame.specs.declared.notes.Refusal.{Refusal}
@@ -23,9 +23,9 @@ use Rattle.wf_law_runs.specs.Deficits.{receive_charges_by, receive_charges_in, Q
 use Rattle.wf_def_lists.specs.Lists.{on}
 use Rattle.wf_law_runs.proofs.Common.Refused.{after_idle}
 use Rattle.wf_law_runs.proofs.Deficits.Books.{Account, account, Books, books, with_account, on_part, upd_same, upd_other, each_upd, updc_same, updc_other, each_updc, cases_class}
-use Rattle.wf_law_runs.proofs.Deficits.BookSteps.{books_ended, books_gone, all_off, books_enqueued, receive_share, books_received, books_reaped, books_slept, books_woken, books_credited, rated, books_with_rate, fresh_account, books_joined, charge_share, pay_share, after, books_after_pick, books_stated, books_stopped, books_started}
+use Rattle.wf_law_runs.proofs.Deficits.BookSteps.{books_ended, books_gone, all_off, books_enqueued, receive_share, books_received, books_reaped, books_slept, books_woken, books_credited, rated, books_with_rate, fresh_account, books_joined, charge_share, pay_share, after, books_after_pick, books_stated, books_stopped, books_started, books_flushed}
 use Rattle.wf_law_runs.proofs.Deficits.Kept.{IsKept, if_map}
-use Rattle.wf_law_runs.proofs.Deficits.KeptStep.{NoRow, no_row, IsFound, books_arrived, books_answered, kept_step, kept_opening}
+use Rattle.wf_law_runs.proofs.Deficits.KeptStep.{NoRow, no_row, IsFound, books_arrived, books_unsent, books_given_up, books_answered, kept_step, kept_opening}
 use Rattle.wf_law_runs.proofs.Fairness.OldOrder.{calm_pulled}
 use Rattle.wf_law_runs.proofs.Deficits.Listing.{longer_listed}
 use Rattle.wf_def_world.specs.CanSend.{with_listings_of}
@@ -172,6 +172,10 @@ heard_done (Asked (Pull d l)) w c n s r k h = heard_calm c n s (after (books w) 
     (books (pull_outcome w d l).world) (calm_pulled w d l).accounts (heard_after c n s w d h)
 heard_done (Asked (Arrive e j)) w c n s r k h =
     heard_open w e (exchange w e) _ c n s refl h (λ x f. heard_books c n s _ _ (books_arrived w e j x k f) h)
+heard_done (Asked (Unsent e j)) w c n s r k h =
+    heard_open w e (exchange w e) _ c n s refl h (λ x f. heard_books c n s _ _ (books_unsent w e j x k f) h)
+heard_done (Asked (GiveUp e j)) w c n s r k h =
+    heard_open w e (exchange w e) _ c n s refl h (λ x f. heard_books c n s _ _ (books_given_up w e j x k f) h)
 heard_done (Asked (Answer e)) w c n s r k h =
     heard_open w e (exchange w e) _ c n s refl h (λ x f. heard_books c n s _ _ (books_answered w e x k f) h)
 heard_done (Asked (Done e heard air)) w c n s r k h =
@@ -183,6 +187,7 @@ heard_done (Asked (Sleep i)) w c n s r k h = heard_books c n s _ _ (books_slept 
 heard_done (Asked (Ampdu i octets)) w c n s r k h = heard_books c n s _ _ (books_stated w i octets) h
 heard_done (Asked (Stop i)) w c n s r k h = heard_books c n s _ _ (books_stopped w i) h
 heard_done (Asked (Start i)) w c n s r k h = heard_books c n s _ _ (books_started w i) h
+heard_done (Asked (Flush i t)) w c n s r k h = heard_books c n s _ _ (books_flushed w i t) h
 heard_done (Asked (Wake i)) w c n s r k h = heard_books c n s _ _ (books_woken w i) h
 heard_done (Asked (Poll i)) w c n s r k h = heard_books c n s _ _ (books_credited w i) h
 heard_done (Asked (Rx i d air)) w c n s r k h =

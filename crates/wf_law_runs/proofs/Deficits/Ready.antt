@@ -4,7 +4,7 @@ use Rattle.std.proofs.Common.{◌≡◌, refl, ap, sym, ◌∙◌, subst, arith,
 use Rattle.std.proofs.lemmas.Bool.{cases_eq, cases_Bool, and_parts, or_parts, eqb-true}
 use Rattle.wf_frame.specs.declared.settings.Config.{Config}
 use Rattle.wf_frame.specs.declared.classes.Class.{Class}
-use Rattle.wf_frame.specs.declared.notes.Ask.TheVariants.{Join, Leave, Rate, Tick, Pull, Arrive, Answer, Done, Sleep, Wake, Poll, Rx, Reap, Ampdu, Stop, Start}
+use Rattle.wf_frame.specs.declared.notes.Ask.TheVariants.{Join, Leave, Rate, Tick, Pull, Arrive, Answer, Done, Sleep, Wake, Poll, Rx, Reap, Ampdu, Stop, Start, Unsent, GiveUp, Flush}
 use Rattle.wf_frame.specs.declared.notes.Limits.{Limits}
 use Rattle.wf_frame.specs.declared.notes.Note.{Note}
 use Rattle.wf_frame.specs.declared.notes.Note.TheVariants.{Enqueue, Asked}
@@ -25,9 +25,9 @@ use Rattle.wf_law_rules.proofs.Lemmas.Counts.{on-nil}
 use Rattle.wf_law_rules.proofs.Lemmas.Rotations.{pick_keeps}
 use Rattle.wf_law_runs.proofs.Common.Refused.{after_idle, if_idle}
 use Rattle.wf_law_runs.proofs.Deficits.Books.{Books, books, with_account, each_updc, Account}
-use Rattle.wf_law_runs.proofs.Deficits.BookSteps.{books_ended, books_gone, all_off, books_enqueued, books_received, books_reaped, books_slept, books_woken, books_credited, books_with_rate, books_joined, after, books_after_pick, books_stated, books_stopped, books_started}
+use Rattle.wf_law_runs.proofs.Deficits.BookSteps.{books_ended, books_gone, all_off, books_enqueued, books_received, books_reaped, books_slept, books_woken, books_credited, books_with_rate, books_joined, after, books_after_pick, books_stated, books_stopped, books_started, books_flushed}
 use Rattle.wf_law_runs.proofs.Deficits.Kept.{IsKept, counted_in, standing_of, if_same}
-use Rattle.wf_law_runs.proofs.Deficits.KeptStep.{NoRow, no_row, IsFound, books_arrived, books_answered, kept_step, kept, live_account, standing_is}
+use Rattle.wf_law_runs.proofs.Deficits.KeptStep.{NoRow, no_row, IsFound, books_arrived, books_unsent, books_given_up, books_answered, kept_step, kept, live_account, standing_is}
 use Rattle.wf_law_runs.proofs.Deficits.Mild.{IsMild, mild_here, mild_then, mild_if, mild_with_rotation, ready_less}
 use Rattle.wf_law_runs.proofs.Deficits.MildStep.{IsOwning, owning_mild, mild_after_pick, mild_done}
 use Rattle.wf_law_runs.proofs.Deficits.Concerned.{rotations_pulled}
@@ -107,6 +107,10 @@ keeps_done (Asked (Tick by)) w s k h = keeps_same s w _ refl
 keeps_done (Asked (Pull c l)) w s k h = keeps_pulled s w c l
 keeps_done (Asked (Arrive e j)) w s k h = keeps_open (exchange w e) w e s _ refl
     (λ x f. ap (λ (b : Books). b.rotations) (books_arrived w e j x k f))
+keeps_done (Asked (Unsent e j)) w s k h = keeps_open (exchange w e) w e s _ refl
+    (λ x f. ap (λ (b : Books). b.rotations) (books_unsent w e j x k f))
+keeps_done (Asked (GiveUp e j)) w s k h = keeps_open (exchange w e) w e s _ refl
+    (λ x f. ap (λ (b : Books). b.rotations) (books_given_up w e j x k f))
 keeps_done (Asked (Answer e)) w s k h = keeps_open (exchange w e) w e s _ refl
     (λ x f. ap (λ (b : Books). b.rotations) (books_answered w e x k f))
 keeps_done (Asked (Done e heard air)) w s k h = keeps_open (exchange w e) w e s _ refl
@@ -115,6 +119,8 @@ keeps_done (Asked (Sleep i)) w s k h = keeps_same s w _ (ap (λ (b : Books). b.r
 keeps_done (Asked (Ampdu i octets)) w s k h = keeps_same s w _ (ap (λ (b : Books). b.rotations) (books_stated w i octets))
 keeps_done (Asked (Stop i)) w s k h = keeps_same s w _ (ap (λ (b : Books). b.rotations) (books_stopped w i))
 keeps_done (Asked (Start i)) w s k h = keeps_same s w _ (ap (λ (b : Books). b.rotations) (books_started w i))
+keeps_done (Asked (Flush i t)) w s k h = keeps_same s w _
+    (ap (λ (b : Books). b.rotations) (books_flushed w i t))
 keeps_done (Asked (Wake i)) w s k h = keeps_same s w _ (ap (λ (b : Books). b.rotations) (books_woken w i))
 keeps_done (Asked (Poll i)) w s k h = keeps_same s w _ (ap (λ (b : Books). b.rotations) (books_credited w i))
 keeps_done (Asked (Rx i c air)) w s k h = keeps_same s w _

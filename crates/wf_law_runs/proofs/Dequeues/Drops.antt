@@ -3,10 +3,10 @@
 use Rattle.std.proofs.Common.{◌≡◌, refl, ap, sym, ◌∙◌, subst, arith, ℕ, zero, suc, ◌-◌, ◌<◌, ◌==◌, ◌⊎◌, inl, inr, Bool, true, false, not, if◌then◌else◌, List, [], ◌∷◌, ◌++◌, length, map, take, Option, Some, None, is_none, append_assoc, slice_get}
 use Rattle.std.proofs.lemmas.Bool.{cases_eq}
 use Rattle.wf_frame.specs.declared.classes.Class.{Class}
-use Rattle.wf_frame.specs.declared.classes.Cause.TheVariants.{Codel as By_codel, Left, Overlimit, Retries}
+use Rattle.wf_frame.specs.declared.classes.Cause.TheVariants.{Codel as By_codel, Left, Overlimit, Retries, Flushed}
 use Rattle.wf_frame.specs.declared.classes.Fate.{Fate}
 use Rattle.wf_frame.specs.declared.classes.Fate.TheVariants.{Held, Acked, Dropped}
-use Rattle.wf_frame.specs.declared.notes.Ask.TheVariants.{Join, Leave, Rate, Tick, Pull, Arrive, Answer, Done, Sleep, Wake, Poll, Rx, Reap, Ampdu, Stop, Start}
+use Rattle.wf_frame.specs.declared.notes.Ask.TheVariants.{Join, Leave, Rate, Tick, Pull, Arrive, Answer, Done, Sleep, Wake, Poll, Rx, Reap, Ampdu, Stop, Start, Unsent, GiveUp, Flush}
 use Rattle.wf_frame.specs.declared.notes.Limits.{Limits}
 use Rattle.wf_frame.specs.declared.notes.Note.{Note}
 use Rattle.wf_frame.specs.declared.notes.Note.TheVariants.{Enqueue, Asked}
@@ -16,13 +16,13 @@ use Rattle.wf_frame.specs.Classes.{all_classes}
 use Rattle.wf_def_lists.specs.Table.{at, has, upto}
 use Rattle.wf_def_codel.specs.Codel.{Item, Codel, Dequeued, new_codel, drops as codel_drops, dequeue}
 use Rattle.wf_def_rotation.specs.Rotation.{in_order, no_keys}
-use Rattle.wf_def_agreement.specs.Session.{State, request_due, with_state, after_miss}
+use Rattle.wf_def_agreement.specs.Session.{Session, State, End, request_due, with_state, after_end, after_flush}
 use Rattle.wf_def_world.specs.World.{World, Mpdu, Exchange, Content, Frames, Request, Frame, no_frame, frame, session, tid_of, queue, exchange, codel_params, on_session, on_receiver, on_station, on_share, with_station, with_queues, on_queue, with_fate, with_frame_finished, with_frames_finished, with_exchange, without_exchange}
-use Rattle.wf_def_world.specs.FlowQueues.{Taken, without_head, after_limit, is_at_limit, longest_queue, queue_for, after_put_in, after_dequeue, taken_by_codel, taken_from_picked, picked_queue, taken_for_tid, after_queue_left, after_queues_left}
+use Rattle.wf_def_world.specs.FlowQueues.{Taken, without_head, after_limit, is_at_limit, longest_queue, queue_for, after_put_in, after_dequeue, taken_by_codel, taken_from_picked, picked_queue, taken_for_tid, after_queue_left, after_queues_left, after_queue_flushed, after_queues_flushed}
 use Rattle.wf_def_world.specs.CanSend.{can_give, with_listings_of}
-use Rattle.wf_def_world.specs.Exchanges.{Aggregate, Prepared, most_frames, fits_in, waiting_mpdus, longest_fitting, fresh_mpdus, with_number, with_fresh, aggregate_of, prepared_data, prepared_request, prepared_exchange, with_flying, after_arrival, with_exchange_opened, without_credit, picked_station, sending_tid, after_tid_turn, after_charge, is_acked, with_failed_finished, with_settled, with_all_settled, after_done}
+use Rattle.wf_def_world.specs.Exchanges.{Aggregate, Prepared, most_frames, fits_in, waiting_mpdus, longest_fitting, fresh_mpdus, with_number, with_fresh, aggregate_of, prepared_data, prepared_request, prepared_exchange, with_flying, after_arrival, with_exchange_opened, without_credit, picked_station, sending_tid, after_tid_turn, after_charge, end_of, with_failed_finished, with_settled, with_all_settled, after_done}
 use Rattle.wf_def_world.specs.Refusals.{refusal}
-use Rattle.wf_def_world.specs.Step.{Outcome, in_rising_order, waiting_ids, after_tid_left, after_tids_left, without_listings, leave_outcome, join_outcome, with_frame, enqueue_outcome, next_item, send_outcome, pull_outcome_for, pull_outcome, tick_outcome, rate_outcome, arrive_outcome, answer_outcome, done_outcome, outcome_where_open, sleep_outcome, wake_outcome, poll_outcome, rx_outcome, reap_outcome, outcome_of, after_refusal, judged_outcome, step, concerned_station}
+use Rattle.wf_def_world.specs.Step.{Outcome, in_rising_order, waiting_ids, after_tid_left, after_tids_left, without_listings, leave_outcome, after_tid_flushed, flush_outcome, join_outcome, with_frame, enqueue_outcome, next_item, send_outcome, pull_outcome_for, pull_outcome, tick_outcome, rate_outcome, arrive_outcome, answer_outcome, unsent_outcome, give_up_outcome, done_outcome, outcome_where_open, sleep_outcome, wake_outcome, poll_outcome, rx_outcome, reap_outcome, outcome_of, after_refusal, judged_outcome, step, concerned_station}
 use Rattle.wf_law_rules.specs.CodelLaws.{Dequeue, codel_after_all, drops_by}
 use Rattle.wf_law_rules.proofs.Lemmas.Numbers.{eq_yes, yes_eq, either, or_left, or_right}
 use Rattle.wf_law_runs.specs.Dequeues.{dequeue_for, if_picked, dequeue_of_take, dequeues_of_fresh, dequeues_of_aggregate, dequeues_of_exchange, dequeues_of_winner, dequeues_of_pull, dequeues_by}
@@ -400,6 +400,29 @@ none_purged (q ∷ qs) w =
     (drops_nothing u (Dropped Left) (map (λ x. x.id) (queue w q).items) (λ e. absurd (cc e)))
     (none_purged qs v))
 
+none_all_flushed : (qs : List ℕ) (w : World) → Drops None_of w (after_queues_flushed w qs)
+unfolding after_queues_flushed after_queue_flushed
+none_all_flushed [] w = no_drops None_of w w (untouched w)
+none_all_flushed (q ∷ qs) w =
+    let u : World = on_queue w q (λ y. record y { items = [] }) in
+    let v : World = with_frames_finished u (Dropped Flushed) (map (λ x. x.id) (queue w q).items) in
+    then_drops None_of w u (after_queues_flushed v qs) (no_drops None_of w u (untouched_on_queue w q _))
+    (then_drops None_of u v (after_queues_flushed v qs)
+    (drops_nothing u (Dropped Flushed) (map (λ x. x.id) (queue w q).items) (λ e. absurd (cc e)))
+    (none_all_flushed qs v))
+
+none_flushed : (w : World) (s t : ℕ) → Drops None_of w (flush_outcome w s t).world
+unfolding flush_outcome after_tid_flushed
+none_flushed w s t =
+    let ids : List ℕ = waiting_ids (session w s t).slots in
+    let qs : List ℕ = in_rising_order (in_order (tid_of w s t).queues) in
+    let a : World = on_session w s t (after_flush w.config.attempts) in
+    let b : World = with_frames_finished a (Dropped Flushed) ids in
+    let c : World = after_queues_flushed b qs in
+    then_drops None_of w a c (no_drops None_of w a (untouched_on_session w s t _))
+    (then_drops None_of a b c (drops_nothing a (Dropped Flushed) ids (λ e. absurd (cc e)))
+    (none_all_flushed qs b))
+
 none_left : (ts : List ℕ) (w : World) (s : ℕ) → Drops None_of w (after_tids_left w s ts)
 unfolding after_tids_left after_tid_left
 none_left [] w s = no_drops None_of w w (untouched w)
@@ -460,34 +483,40 @@ none_enqueued w s t flow len =
     (then_drops None_of u v (with_frame v note) (no_drops None_of u v (untouched_put_in u s t _ _))
     (none_accepted v note))
 
-none_settled : (w : World) (s t : ℕ) (acked : Bool) (m : Mpdu) →
-    Drops None_of w (with_settled w s t acked m)
-unfolding with_settled with_failed_finished
-none_settled w s t acked m =
-    let a : World = on_session w s t (with_state State.Acked m.number) in
-    let b : World = on_session w s t (after_miss w.config.attempts m.number) in
-    let same : Drops None_of w b = no_drops None_of w b (untouched_on_session w s t _) in
-    if_drops None_of acked w (with_frame_finished a Acked m.id) _
-    (then_drops None_of w a (with_frame_finished a Acked m.id)
-    (no_drops None_of w a (untouched_on_session w s t _))
-    (drops_finish None_of a Acked m.id (λ e. absurd (cc e))))
-    (if_drops None_of _ w (with_frame_finished b (Dropped Retries) m.id) b
+none_failed : (w : World) (s t : ℕ) (f : Session → Session) (m : Mpdu) →
+    Drops None_of w (with_failed_finished (on_session w s t f) s t m)
+unfolding with_failed_finished
+none_failed w s t f m =
+    let b : World = on_session w s t f in
+    let same : Drops None_of w b = no_drops None_of w b (untouched_on_session w s t f) in
+    if_drops None_of _ w (with_frame_finished b (Dropped Retries) m.id) b
     (then_drops None_of w b (with_frame_finished b (Dropped Retries) m.id) same
-    (drops_finish None_of b (Dropped Retries) m.id (λ e. absurd (cc e)))) same)
+    (drops_finish None_of b (Dropped Retries) m.id (λ e. absurd (cc e)))) same
 
-none_all_settled : (ms : List Mpdu) (w : World) (s t : ℕ) (acked : ℕ → Bool) →
-    Drops None_of w (with_all_settled w s t acked ms)
+none_settled : (end : End) (w : World) (s t : ℕ) (m : Mpdu) → Drops None_of w (with_settled w s t end m)
+unfolding with_settled
+none_settled End.Acknowledged w s t m =
+    let a : World = on_session w s t (with_state State.Acked m.number) in
+    then_drops None_of w a (with_frame_finished a Acked m.id)
+    (no_drops None_of w a (untouched_on_session w s t _))
+    (drops_finish None_of a Acked m.id (λ e. absurd (cc e)))
+none_settled End.Missed w s t m = none_failed w s t (after_end w.config.attempts End.Missed m.number) m
+none_settled End.GivenUp w s t m = none_failed w s t (after_end w.config.attempts End.GivenUp m.number) m
+none_settled End.Unsent w s t m = none_failed w s t (after_end w.config.attempts End.Unsent m.number) m
+
+none_all_settled : (ms : List Mpdu) (w : World) (s t : ℕ) (ends : ℕ → End) →
+    Drops None_of w (with_all_settled w s t ends ms)
 unfolding with_all_settled
-none_all_settled [] w s t acked = no_drops None_of w w (untouched w)
-none_all_settled (m ∷ ms) w s t acked =
-    let v : World = with_settled w s t (acked m.number) m in
-    then_drops None_of w v (with_all_settled v s t acked ms) (none_settled w s t (acked m.number) m)
-    (none_all_settled ms v s t acked)
+none_all_settled [] w s t ends = no_drops None_of w w (untouched w)
+none_all_settled (m ∷ ms) w s t ends =
+    let v : World = with_settled w s t (ends m.number) m in
+    then_drops None_of w v (with_all_settled v s t ends ms) (none_settled (ends m.number) w s t m)
+    (none_all_settled ms v s t ends)
 
 none_after : (content : Content) (w : World) (x : Exchange) (heard : Bool) →
     Drops None_of w (after_done w x heard content)
 unfolding after_done
-none_after (Frames mpdus) w x heard = none_all_settled mpdus w x.station x.tid (is_acked heard x.answer)
+none_after (Frames mpdus) w x heard = none_all_settled mpdus w x.station x.tid (end_of x heard)
 none_after (Request start) w x heard = no_drops None_of w _ (untouched_on_session w x.station x.tid _)
 
 none_ended : (w : World) (x : Exchange) (heard : Bool) (air : Option ℕ) →
@@ -510,6 +539,14 @@ untouched_arrived w x n =
 untouched_answered : (w : World) (x : Exchange) → Untouched w (answer_outcome w x).world
 unfolding answer_outcome with_exchange
 untouched_answered w x = record { frames = refl; finished = refl }
+
+untouched_unsent : (w : World) (x : Exchange) (n : ℕ) → Untouched w (unsent_outcome w x n).world
+unfolding unsent_outcome with_exchange
+untouched_unsent w x n = record { frames = refl; finished = refl }
+
+untouched_given_up : (w : World) (x : Exchange) (n : ℕ) → Untouched w (give_up_outcome w x n).world
+unfolding give_up_outcome with_exchange
+untouched_given_up w x n = record { frames = refl; finished = refl }
 
 none_open : (o : Option Exchange) (w : World) (f : Exchange → Outcome) →
     ((x : Exchange) → Drops None_of w (f x).world) → Drops None_of w (outcome_where_open w o f).world
@@ -547,6 +584,11 @@ drops_done (Asked (Pull c l)) w r =
     (λ q. refl) refl x) (drops_pulled w c l)
 drops_done (Asked (Arrive e n)) w r = none_wider _ w _ (none_open (exchange w e) w _
     (λ x. no_drops None_of w _ (untouched_arrived w x n)))
+drops_done (Asked (Unsent e n)) w r = none_wider _ w _ (none_open (exchange w e) w _
+    (λ x. no_drops None_of w _ (untouched_unsent w x n)))
+drops_done (Asked (GiveUp e n)) w r = none_wider _ w _ (none_open (exchange w e) w _
+    (λ x. no_drops None_of w _ (untouched_given_up w x n)))
+drops_done (Asked (Flush s t)) w r = none_wider _ w _ (none_flushed w s t)
 drops_done (Asked (Answer e)) w r = none_wider _ w _ (none_open (exchange w e) w _
     (λ x. no_drops None_of w _ (untouched_answered w x)))
 drops_done (Asked (Done e heard air)) w r = none_wider _ w _ (none_open (exchange w e) w _

@@ -1,7 +1,7 @@
 -- Proves the law of CoDel in whole runs, by induction on the run.
 use Rattle.std.proofs.Common.{subst, ap, sym, ◌∙◌, suc, ◌++◌, ◌<◌, inl, inr, ◌≡◌, refl, ℕ, ◌==◌, ◌&&◌, is_none, List, [], ◌∷◌, take}
 use Rattle.wf_frame.specs.declared.settings.Config.{Config}
-use Rattle.wf_frame.specs.declared.notes.Ask.TheVariants.{Join, Leave, Rate, Tick, Pull, Arrive, Answer, Done, Sleep, Wake, Poll, Rx, Reap, Ampdu, Stop, Start}
+use Rattle.wf_frame.specs.declared.notes.Ask.TheVariants.{Join, Leave, Rate, Tick, Pull, Arrive, Answer, Done, Sleep, Wake, Poll, Rx, Reap, Ampdu, Stop, Start, Unsent, GiveUp, Flush}
 use Rattle.wf_frame.specs.declared.notes.Note.{Note}
 use Rattle.wf_frame.specs.declared.notes.Note.TheVariants.{Enqueue, Asked}
 use Rattle.wf_def_codel.specs.Codel.{Codel}
@@ -34,6 +34,9 @@ start_done (Asked (Rate s to)) w q x h = h
 start_done (Asked (Tick by)) w q x h = h
 start_done (Asked (Pull c l)) w q x h = h
 start_done (Asked (Arrive e n)) w q x h = h
+start_done (Asked (Unsent e n)) w q x h = h
+start_done (Asked (GiveUp e n)) w q x h = h
+start_done (Asked (Flush s t)) w q x h = h
 start_done (Asked (Answer e)) w q x h = h
 start_done (Asked (Done e heard air)) w q x h = h
 start_done (Asked (Sleep s)) w q x h = h

@@ -5,10 +5,10 @@ use Rattle.std.specs.List.{list_any}
 use Rattle.std.proofs.lemmas.Bool.{cases_eq}
 use Rattle.wf_frame.specs.declared.settings.Config.{Config}
 use Rattle.wf_frame.specs.declared.classes.Class.{Class}
-use Rattle.wf_frame.specs.declared.classes.Cause.TheVariants.{Codel as By_codel, Left, Overlimit}
+use Rattle.wf_frame.specs.declared.classes.Cause.TheVariants.{Codel as By_codel, Left, Overlimit, Flushed}
 use Rattle.wf_frame.specs.declared.classes.Fate.{Fate}
 use Rattle.wf_frame.specs.declared.classes.Fate.TheVariants.{Dropped}
-use Rattle.wf_frame.specs.declared.notes.Ask.TheVariants.{Join, Leave, Rate, Tick, Pull, Arrive, Answer, Done, Sleep, Wake, Poll, Rx, Reap, Ampdu, Stop, Start}
+use Rattle.wf_frame.specs.declared.notes.Ask.TheVariants.{Join, Leave, Rate, Tick, Pull, Arrive, Answer, Done, Sleep, Wake, Poll, Rx, Reap, Ampdu, Stop, Start, Unsent, GiveUp, Flush}
 use Rattle.wf_frame.specs.declared.notes.Limits.{Limits}
 use Rattle.wf_frame.specs.declared.notes.Note.{Note}
 use Rattle.wf_frame.specs.declared.notes.Note.TheVariants.{Enqueue, Asked}
@@ -21,11 +21,11 @@ use Rattle.wf_def_codel.specs.Parameters.{params_at}
 use Rattle.wf_def_rotation.specs.Rotation.{Rotation, Picked, has_key, in_order, no_keys, with_new_key}
 use Rattle.wf_def_agreement.specs.Session.{request_due}
 use Rattle.wf_def_world.specs.World.{World, Station, Tid, Queue, Mpdu, no_tid, no_station, session, tid_of, queue, exchange, codel_params, with_station, on_station, on_tid, with_queues, on_queue, with_fate, with_frame_finished, with_frames_finished}
-use Rattle.wf_def_world.specs.FlowQueues.{Taken, calmed, without_head, after_limit, is_at_limit, longest_queue, queue_for, when_listed, with_listed_queue, with_appended, after_put_in, with_queues_paid, after_dequeue, taken_by_codel, taken_from_picked, picked_queue, taken_for_tid, after_queue_left, after_queues_left}
+use Rattle.wf_def_world.specs.FlowQueues.{Taken, calmed, without_head, after_limit, is_at_limit, longest_queue, queue_for, when_listed, with_listed_queue, with_appended, after_put_in, with_queues_paid, after_dequeue, taken_by_codel, taken_from_picked, picked_queue, taken_for_tid, after_queue_left, after_queues_left, after_queue_flushed, after_queues_flushed}
 use Rattle.wf_def_world.specs.CanSend.{can_give}
 use Rattle.wf_def_world.specs.Exchanges.{Aggregate, Prepared, most_frames, fits_in, waiting_mpdus, longest_fitting, fresh_mpdus, with_number, with_fresh, aggregate_of, prepared_data, prepared_exchange, picked_station, sending_tid, after_tid_turn}
 use Rattle.wf_def_world.specs.Refusals.{refusal}
-use Rattle.wf_def_world.specs.Step.{in_rising_order, waiting_ids, after_tid_left, after_tids_left, without_listings, leave_outcome, join_outcome, with_frame, enqueue_outcome, next_item, pull_outcome_for, pull_outcome, tick_outcome, rate_outcome, sleep_outcome, wake_outcome, poll_outcome, rx_outcome, outcome_of, after_refusal, judged_outcome, step, concerned_station}
+use Rattle.wf_def_world.specs.Step.{in_rising_order, waiting_ids, after_tid_left, after_tids_left, without_listings, leave_outcome, after_tid_flushed, flush_outcome, join_outcome, with_frame, enqueue_outcome, next_item, pull_outcome_for, pull_outcome, tick_outcome, rate_outcome, sleep_outcome, wake_outcome, poll_outcome, rx_outcome, unsent_outcome, give_up_outcome, outcome_of, after_refusal, judged_outcome, step, concerned_station}
 use Rattle.wf_law_rules.specs.CodelLaws.{Dequeue, codel_after_all}
 use Rattle.wf_law_rules.proofs.Lemmas.Numbers.{on_if, eq_yes, eq_no, has_with}
 use Rattle.wf_law_rules.proofs.Lemmas.Tables.{at_put_same, at_put_other}
@@ -33,7 +33,7 @@ use Rattle.wf_law_runs.specs.Dequeues.{dequeue_for, if_picked, dequeue_of_take, 
 use Rattle.wf_law_runs.proofs.Common.Refused.{after_idle}
 use Rattle.wf_law_runs.proofs.Common.Picked.{picked_world}
 use Rattle.wf_law_runs.proofs.Deficits.Books.{upd, upd_same, upd_other, each_upd}
-use Rattle.wf_law_runs.proofs.Queues.Shelves.{Shelves, shelves, shelves_with_station, shelves_hidden, shelves_on_session, shelves_on_share, shelves_on_queue, shelves_finish, shelves_finish_all, shelves_pay_queues, shelves_after_pick, shelves_after_turn, shelves_sent, shelves_ended, shelves_arrived, shelves_answered, shelves_reaped, shelves_off_lists, shelves_listed, shelves_open, shelves_picked}
+use Rattle.wf_law_runs.proofs.Queues.Shelves.{Shelves, shelves, shelves_with_station, shelves_hidden, shelves_on_session, shelves_on_share, shelves_on_queue, shelves_finish, shelves_finish_all, shelves_pay_queues, shelves_after_pick, shelves_after_turn, shelves_sent, shelves_ended, shelves_arrived, shelves_answered, shelves_marked, shelves_reaped, shelves_off_lists, shelves_listed, shelves_open, shelves_picked}
 
 -- The state after two lists of dequeues.
 pub codel_append : (xs ys : List Dequeue) (c : Codel) →
@@ -378,6 +378,24 @@ codel_gone w s q =
     codel_same q (shelves_with_station (without_listings a s all_classes) s None)
     ∙ (codel_same q (shelves_off_lists all_classes a s) ∙ codel_tids_left (upto 8) w s q)
 
+-- ---- a Flush
+
+codel_all_flushed : (qs : List ℕ) (w : World) (q : ℕ) →
+    (queue (after_queues_flushed w qs) q).codel ≡ (queue w q).codel
+unfolding after_queues_flushed after_queue_flushed
+codel_all_flushed [] w q = refl
+codel_all_flushed (p ∷ ps) w q =
+    let u : World = on_queue w p (λ y. record y { items = [] }) in
+    let ids : List ℕ = map (λ x. x.id) (queue w p).items in
+    codel_all_flushed ps (with_frames_finished u (Dropped Flushed) ids) q
+    ∙ (codel_finished u (Dropped Flushed) ids q ∙ codel_kept w p (λ y. record y { items = [] }) q refl)
+
+codel_flushed : (w : World) (s t q : ℕ) →
+    (queue (flush_outcome w s t).world q).codel ≡ (queue w q).codel
+unfolding flush_outcome after_tid_flushed
+codel_flushed w s t q = codel_all_flushed _ _ q
+    ∙ (codel_finished _ _ _ q ∙ codel_same q (shelves_on_session w s t _))
+
 -- ---- an Enqueue
 
 codel_headless : (items : List Item) (w : World) (p q : ℕ) →
@@ -488,6 +506,7 @@ state_if false x y = refl
 codel_done : (note : Note) (w : World) (q : ℕ) (x : Visits) → (queue w q).codel ≡ state_of x →
     (queue (outcome_of w note).world q).codel ≡ state_of (visits_done w q note x)
 unfolding outcome_of tick_outcome rate_outcome sleep_outcome wake_outcome poll_outcome rx_outcome join_outcome
+    unsent_outcome give_up_outcome
 codel_done (Enqueue s t flow len) w q x h =
     let b : Bool = (w.config.codel_reset == 1) && becomes_listed (after_limit w) s t flow q in
     codel_enqueued w s t flow len q ∙ (ap (λ (c : Codel). if b then calmed c else c) h
@@ -504,6 +523,11 @@ codel_done (Asked (Pull c l)) w q x h = codel_pulled w c l q
     ∙ sym (codel_append x.dequeues (dequeues_of_pull w c l q) x.start))
 codel_done (Asked (Arrive e n)) w q x h =
     codel_same q (shelves_open (exchange w e) w _ (λ y. shelves_arrived w y n)) ∙ h
+codel_done (Asked (Unsent e n)) w q x h =
+    codel_same q (shelves_open (exchange w e) w _ (λ y. shelves_marked w y _ _)) ∙ h
+codel_done (Asked (GiveUp e n)) w q x h =
+    codel_same q (shelves_open (exchange w e) w _ (λ y. shelves_marked w y _ _)) ∙ h
+codel_done (Asked (Flush s t)) w q x h = codel_flushed w s t q ∙ h
 codel_done (Asked (Answer e)) w q x h =
     codel_same q (shelves_open (exchange w e) w _ (λ y. shelves_answered w y)) ∙ h
 codel_done (Asked (Done e heard air)) w q x h =

@@ -3,7 +3,7 @@ use Rattle.std.proofs.Common.{◌≡◌, refl, ap, sym, ◌∙◌, subst, arith,
 use Rattle.std.proofs.lemmas.Bool.{cases_eq, ne_eqb, not_from_true, not_from_false}
 use Rattle.wf_frame.specs.declared.classes.Class.{Class}
 use Rattle.wf_frame.specs.declared.classes.Class.TheVariants.{Bk, Be, Vi, Vo}
-use Rattle.wf_frame.specs.declared.notes.Ask.TheVariants.{Join, Leave, Rate, Tick, Pull, Arrive, Answer, Done, Sleep, Wake, Poll, Rx, Reap, Ampdu, Stop, Start}
+use Rattle.wf_frame.specs.declared.notes.Ask.TheVariants.{Join, Leave, Rate, Tick, Pull, Arrive, Answer, Done, Sleep, Wake, Poll, Rx, Reap, Ampdu, Stop, Start, Unsent, GiveUp, Flush}
 use Rattle.wf_frame.specs.declared.notes.AskedRate.{AskedRate}
 use Rattle.wf_frame.specs.declared.notes.Limits.{Limits}
 use Rattle.wf_frame.specs.declared.notes.Note.{Note}
@@ -25,10 +25,10 @@ use Rattle.wf_law_rules.proofs.Lemmas.Rotations.{stay}
 use Rattle.wf_law_runs.proofs.Common.Refused.{after_idle}
 use Rattle.wf_law_runs.proofs.Common.Limits.{with_limits}
 use Rattle.wf_law_runs.proofs.Deficits.Books.{Account, account, core, Books, books, with_account, on_part, upd_same, upd_other, each_upd, updc_same, updc_other, each_updc, cases_class}
-use Rattle.wf_law_runs.proofs.Deficits.BookSteps.{books_after_turn, books_prepared, books_sent, with_opened, charge_share, with_charge, books_ended, books_gone, all_off, books_enqueued, receive_share, books_received, books_reaped, books_slept, books_woken, books_credited, rated, books_with_rate, fresh_account, books_joined, pay_share, paid, after, books_after_pick, books_stated, books_stopped, books_started}
+use Rattle.wf_law_runs.proofs.Deficits.BookSteps.{books_after_turn, books_prepared, books_sent, with_opened, charge_share, with_charge, books_ended, books_gone, all_off, books_enqueued, receive_share, books_received, books_reaped, books_slept, books_woken, books_credited, rated, books_with_rate, fresh_account, books_joined, pay_share, paid, after, books_after_pick, books_stated, books_stopped, books_started, books_flushed}
 use Rattle.wf_law_runs.proofs.Deficits.Openings.{every_find}
 use Rattle.wf_law_runs.proofs.Deficits.Kept.{IsOpen, IsKept}
-use Rattle.wf_law_runs.proofs.Deficits.KeptStep.{NoRow, no_row, live_account, IsFound, at_number, books_arrived, books_answered}
+use Rattle.wf_law_runs.proofs.Deficits.KeptStep.{NoRow, no_row, live_account, IsFound, at_number, books_arrived, books_unsent, books_given_up, books_answered}
 use Rattle.wf_law_runs.proofs.Deficits.Concerned.{old_before}
 use Rattle.wf_law_runs.proofs.Deficits.Listing.{longer_listed, Adds, AddedOf, added_listed}
 
@@ -498,6 +498,12 @@ turn_done (Asked (Pull d l)) w c i j r k h h' = turn_pulled w d c l i j k h h'
 turn_done (Asked (Arrive e n)) w c i j r k h h' =
     turn_open w e (exchange w e) _ c i j (λ _ _. 0) (λ _. refl) refl
     (λ x f. turn_same c i j _ _ (books_arrived w e n x k f))
+turn_done (Asked (Unsent e n)) w c i j r k h h' =
+    turn_open w e (exchange w e) _ c i j (λ _ _. 0) (λ _. refl) refl
+    (λ x f. turn_same c i j _ _ (books_unsent w e n x k f))
+turn_done (Asked (GiveUp e n)) w c i j r k h h' =
+    turn_open w e (exchange w e) _ c i j (λ _ _. 0) (λ _. refl) refl
+    (λ x f. turn_same c i j _ _ (books_given_up w e n x k f))
 turn_done (Asked (Answer e)) w c i j r k h h' =
     turn_open w e (exchange w e) _ c i j (λ _ _. 0) (λ _. refl) refl
     (λ x f. turn_same c i j _ _ (books_answered w e x k f))
@@ -508,6 +514,7 @@ turn_done (Asked (Sleep s)) w c i j r k h h' = turn_same c i j _ _ (books_slept 
 turn_done (Asked (Ampdu s octets)) w c i j r k h h' = turn_same c i j _ _ (books_stated w s octets)
 turn_done (Asked (Stop s)) w c i j r k h h' = turn_same c i j _ _ (books_stopped w s)
 turn_done (Asked (Start s)) w c i j r k h h' = turn_same c i j _ _ (books_started w s)
+turn_done (Asked (Flush s t)) w c i j r k h h' = turn_same c i j _ _ (books_flushed w s t)
 turn_done (Asked (Wake s)) w c i j r k h h' = turn_same c i j _ _ (books_woken w s)
 turn_done (Asked (Poll s)) w c i j r k h h' = turn_same c i j _ _ (books_credited w s)
 turn_done (Asked (Rx s d air)) w c i j r k h h' = turn_received w s d air c i j

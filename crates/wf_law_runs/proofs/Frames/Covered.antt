@@ -244,7 +244,7 @@ pub queue_rest : (ids : List ℕ) (w : World) (fate : Fate) (q k : ℕ) → carr
 queue_rest ids w fate q k h = ap (λ (qs : List Queue). carries (at new_queue qs q).items k)
     (queues_dropped ids w fate) ∙ h
 
-hand_finish_all : (ids : List ℕ) (w : World) (fate : Fate) (k : ℕ) → InHand w k →
+pub hand_finish_all : (ids : List ℕ) (w : World) (fate : Fate) (k : ℕ) → InHand w k →
     InHand (with_frames_finished w fate ids) k
 hand_finish_all ids w fate k i = hand_same w (with_frames_finished w fate ids) k
     (λ q h. queue_rest ids w fate q k h) (λ s t. sym (session_same w _ (same_finish_all ids w fate) s t)) i

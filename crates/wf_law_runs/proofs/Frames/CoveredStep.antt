@@ -4,7 +4,7 @@ use Rattle.wf_law_runs.proofs.Releases.Once.{placed_settled, placed_without}
 use Rattle.std.proofs.Common.{◌≡◌, refl, ap, sym, ◌∙◌, subst, arith, ℕ, zero, suc, ◌<◌, ◌-◌, Bool, true, false, if◌then◌else◌, ◌==◌, inl, inr, List, [], ◌∷◌, ◌++◌, length, Option, Some, None, is_some, unwrap_or}
 use Rattle.std.proofs.lemmas.Bool.{cases_eq}
 use Rattle.wf_frame.specs.declared.classes.Class.{Class}
-use Rattle.wf_frame.specs.declared.classes.Cause.TheVariants.{Overlimit, Left, Retries}
+use Rattle.wf_frame.specs.declared.classes.Cause.TheVariants.{Overlimit, Left, Retries, Flushed}
 use Rattle.wf_frame.specs.declared.classes.Fate.{Fate}
 use Rattle.wf_frame.specs.declared.classes.Fate.TheVariants.{Held, Acked, Dropped}
 use Rattle.wf_frame.specs.declared.notes.Note.{Note}
@@ -13,14 +13,16 @@ use Rattle.wf_frame.specs.Classes.{all_classes}
 use Rattle.wf_def_lists.specs.Table.{at, has, upto}
 use Rattle.wf_def_codel.specs.Codel.{Item, new_codel}
 use Rattle.wf_def_rotation.specs.Rotation.{Rotation, has_key, in_order, no_keys}
-use Rattle.wf_def_agreement.specs.Session.{Session, Slot, State, no_slot, slot, on_slot, is_settled, is_failed, is_waiting, slot_after_miss, next_number, numbers_where, new_session}
+use Rattle.wf_def_agreement.specs.Session.{End, Session, Slot, State, no_slot, slot, on_slot, is_settled, is_failed, is_waiting, after_flush, next_number, numbers_where, new_session}
 use Rattle.wf_def_world.specs.World.{World, Station, Queue, Exchange, Mpdu, Content, Frames, Request, Frame, no_frame, no_tid, no_station, new_queue, queue, session, tid_of, is_live, accepted_count, on_queue, on_session, on_tid, on_station, on_share, with_station, with_queues, with_rotation, with_fate, with_frame_finished, with_frames_finished, without_exchange}
-use Rattle.wf_def_world.specs.FlowQueues.{is_at_limit, longest_queue, without_head, after_limit, queue_for, when_listed, with_listed_queue, with_appended, after_put_in, after_queue_left, after_queues_left}
-use Rattle.wf_def_world.specs.Exchanges.{is_acked, with_heard_start, mpdus_of, after_charge, with_settled, with_failed_finished, with_all_settled, after_done, ids_of}
-use Rattle.wf_def_world.specs.Step.{with_frame, enqueue_outcome, done_outcome, waiting_ids, in_rising_order, after_tid_left, after_tids_left, without_listings, leave_outcome, join_outcome}
+use Rattle.wf_def_world.specs.FlowQueues.{is_at_limit, longest_queue, without_head, after_limit, queue_for, when_listed, with_listed_queue, with_appended, after_put_in, after_queue_left, after_queues_left, after_queue_flushed, after_queues_flushed}
+use Rattle.wf_def_world.specs.Exchanges.{end_of, with_heard_start, mpdus_of, after_charge, with_settled, with_failed_finished, with_all_settled, after_done, ids_of}
+use Rattle.wf_def_world.specs.Step.{with_frame, enqueue_outcome, done_outcome, waiting_ids, in_rising_order, after_tid_left, after_tids_left, without_listings, leave_outcome, after_tid_flushed, flush_outcome, join_outcome}
 use Rattle.wf_law_rules.proofs.Lemmas.Tables.{each_put}
 use Rattle.wf_law_rules.proofs.Lemmas.Counts.{on-has}
 use Rattle.wf_law_rules.proofs.Lemmas.Numbers.{on_bool, on_if, eq_yes, eq_no, yes_eq, either, or_left, or_right}
+use Rattle.wf_law_runs.proofs.Common.Ends.{slot_after_end, end_id, on_settled}
+use Rattle.wf_law_runs.proofs.Common.Flushes.{waiting_is, slot_flush, flushed_stays, next-flush}
 use Rattle.wf_law_runs.proofs.Windows.Agreement.{slot_same}
 use Rattle.wf_law_runs.proofs.Windows.Sides.{Side, Same, same_put_in, same_finish, same_finish_all, same_with_queues, same_charged}
 use Rattle.wf_law_runs.proofs.Windows.Settling.{without_same}
@@ -29,12 +31,12 @@ use Rattle.wf_law_runs.proofs.Releases.Kept.{Kept, keep_settled}
 use Rattle.wf_law_runs.proofs.Releases.Released.{side_with_station}
 use Rattle.wf_law_runs.proofs.Frames.Fewer.{carries, queue_on, less_charged, less_drop_all}
 use Rattle.wf_law_runs.proofs.Frames.Delivered.{Labelled, labelled_kept}
-use Rattle.wf_law_runs.proofs.Frames.Fates.{IsHeld, InHand, Carries, bears_carried, ids_in, ids_carried, session_on_queue, fate_with_frame, head_gone, held_ids, waiting_member, IsWaiting, Pend, same_purge_queue, less_purge_queue}
+use Rattle.wf_law_runs.proofs.Frames.Fates.{IsHeld, InHand, Carries, bears_carried, ids_in, ids_carried, session_on_queue, fate_with_frame, head_gone, held_ids, waiting_member, IsWaiting, Pend, same_purge_queue, less_purge_queue, same_flush_queue, less_flush_queue, placed_flush_slots}
 use Rattle.wf_law_runs.proofs.Frames.Untouched.{untouched_on_queue, untouched_on_session, untouched_with_queues, untouched_without, untouched_charged, untouched_off_lists, untouched_with_station, untouched_put_in}
 use Rattle.wf_law_runs.proofs.Frames.Owners.{IsOwned}
 use Rattle.wf_law_runs.proofs.Deficits.MildStep.{on_upto}
 use Rattle.wf_law_runs.proofs.Queues.ShelvedStep.{accepted_limit, accepted_put}
-use Rattle.wf_law_runs.proofs.Frames.Covered.{Covers, Full, covers_frames, covers_more, covers_finish, covers_all, hand_same, queue_rest, queue_hand, hand_queue, hand_session, carries_other, carries_on_slot, covers_session, covers_calm}
+use Rattle.wf_law_runs.proofs.Frames.Covered.{Covers, Full, covers_frames, covers_more, covers_finish, covers_all, hand_same, queue_rest, queue_hand, hand_finish_all, hand_queue, hand_session, carries_other, carries_on_slot, covers_session, covers_calm}
 
 queue_finish : (w : World) (fate : Fate) (id q k : ℕ) → carries (queue w q).items k ≡ true →
     carries (queue (with_frame_finished w fate id) q).items k ≡ true
@@ -221,12 +223,21 @@ missed_open : (b : Bool) → is_failed (if b then State.Failed else State.Waitin
 missed_open true h = absurd (cc h)
 missed_open false h = refl
 
+-- A number that is neither acknowledged nor failed after its exchange is not settled.
+end_open : (limit : ℕ) (end : End) (x : Slot) → (end ≡ End.Acknowledged → ⊥) →
+    is_failed (slot_after_end limit end x).state ≡ false →
+    is_settled (slot_after_end limit end x).state ≡ false
+end_open limit End.Acknowledged x other h = absurd (other refl)
+end_open limit End.Missed x other h = missed_open _ h
+end_open limit End.GivenUp x other h = absurd (cc h)
+end_open limit End.Unsent x other h = refl
+
 -- The frame of a number that is settled now gets its fate.
-covers_slot : (l : List ℕ) (e s t : ℕ) (acked : ℕ → Bool) (w : World) (m : Mpdu) (ms : List Mpdu)
+covers_slot : (l : List ℕ) (e s t : ℕ) (ends : ℕ → End) (w : World) (m : Mpdu) (ms : List Mpdu)
     (f : Slot → Slot) (fate : Fate) → (fate ≡ Held → ⊥) → ((x : Slot) → (f x).id ≡ x.id) →
-    IsEnding e s t acked w (m ∷ ms) → (slot (session w s t) m.number).id ≡ m.id
+    IsEnding e s t ends w (m ∷ ms) → (slot (session w s t) m.number).id ≡ m.id
     → Placing l w → Full w → Full (with_frame_finished (on_session w s t (on_slot m.number f)) fate m.id)
-covers_slot l e s t acked w m ms f fate never same_id n own p c =
+covers_slot l e s t ends w m ms f fate never same_id n own p c =
     let y : Session = session w s t in
     let v : World = on_session w s t (on_slot m.number f) in
     let frames : v.frames ≡ w.frames = (untouched_on_session w s t (on_slot m.number f)).frames in
@@ -240,40 +251,41 @@ covers_slot l e s t acked w m ms f fate never same_id n own p c =
     (λ j d. carries_other y m.number k j f n.flies.rising.0 same_id
     (λ e. other (sym d.id ∙ (ap (λ (i : ℕ). (slot y i).id) (sym e) ∙ own))) d) i))
 
-covers_settled : (b : Bool) (l : List ℕ) (e s t : ℕ) (acked : ℕ → Bool) (w : World) (m : Mpdu)
-    (ms : List Mpdu) → IsEnding e s t acked w (m ∷ ms) → (slot (session w s t) m.number).id ≡ m.id →
-    Placing l w → Full w → Full (with_settled w s t b m)
+covers_settled : (end : End) (l : List ℕ) (e s t : ℕ) (ends : ℕ → End) (w : World) (m : Mpdu)
+    (ms : List Mpdu) → IsEnding e s t ends w (m ∷ ms) → (slot (session w s t) m.number).id ≡ m.id →
+    Placing l w → Full w → Full (with_settled w s t end m)
 unfolding with_settled with_failed_finished
-covers_settled true l e s t acked w m ms n own p c =
-    covers_slot l e s t acked w m ms (λ x. record x { state = State.Acked }) Acked (λ d. cc d)
-    (λ x. refl) n own p c
-covers_settled false l e s t acked w m ms n own p c =
+covers_settled end l e s t ends w m ms n own p c =
     let y : Session = session w s t in
-    let f : Slot → Slot = slot_after_miss w.config.attempts in
+    let limit : ℕ = w.config.attempts in
+    let f : Slot → Slot = slot_after_end limit end in
     let v : World = on_session w s t (on_slot m.number f) in
     let state : (slot (session v s t) m.number).state ≡ (f (slot y m.number)).state =
     ap (λ (u : Session). (slot u m.number).state) (session_on_session w s t (on_slot m.number f) n.live)
     ∙ ap (λ (x : Slot). x.state) (slot_same y m.number f) in
-    on_if (λ (u : World). Full u) (is_failed (slot (session v s t) m.number).state)
+    on_settled Full end w s t m
+    (λ _. covers_slot l e s t ends w m ms (λ x. record x { state = State.Acked }) Acked (λ d. cc d)
+    (λ x. refl) n own p c)
+    (λ other. on_if (λ (u : World). Full u) (is_failed (slot (session v s t) m.number).state)
     (with_frame_finished v (Dropped Retries) m.id) v
-    (λ _. covers_slot l e s t acked w m ms f (Dropped Retries) (λ d. cc d) (λ x. refl) n own p c)
+    (λ _. covers_slot l e s t ends w m ms f (Dropped Retries) (λ d. cc d) (λ x. end_id limit end x) n own p c)
     (λ open_still. covers_session w s t (on_slot m.number f)
-    (λ k j d. carries_on_slot y m.number k j f n.flies.rising.0 (λ x. refl)
-    (missed_open _ (ap is_failed (sym state) ∙ open_still)) d) c)
+    (λ k j d. carries_on_slot y m.number k j f n.flies.rising.0 (λ x. end_id limit end x)
+    (end_open limit end (slot y m.number) other (ap is_failed (sym state) ∙ open_still)) d) c))
 
-covers_all_settled : (ms : List Mpdu) (l : List ℕ) (e s t : ℕ) (acked : ℕ → Bool) (w : World) →
-    IsEnding e s t acked w ms → Labelled (session w s t) ms → Placing l w → Full w →
-    Full (with_all_settled w s t acked ms)
+covers_all_settled : (ms : List Mpdu) (l : List ℕ) (e s t : ℕ) (ends : ℕ → End) (w : World) →
+    IsEnding e s t ends w ms → Labelled (session w s t) ms → Placing l w → Full w →
+    Full (with_all_settled w s t ends ms)
 unfolding with_all_settled
-covers_all_settled [] l e s t acked w n a p c = c
-covers_all_settled (m ∷ ms) l e s t acked w n a p c =
-    let v : World = with_settled w s t (acked m.number) m in
-    let kept : Kept w v = keep_settled (acked m.number) w s t m in
-    covers_all_settled ms l e s t acked v (ending_settled (acked m.number) e s t acked w m ms refl n)
+covers_all_settled [] l e s t ends w n a p c = c
+covers_all_settled (m ∷ ms) l e s t ends w n a p c =
+    let v : World = with_settled w s t (ends m.number) m in
+    let kept : Kept w v = keep_settled (ends m.number) w s t m in
+    covers_all_settled ms l e s t ends v (ending_settled (ends m.number) e s t ends w m ms refl n)
     (labelled_kept ms (session w s t) (session v s t) (suc m.number) (kept.sessions s t)
     (omega (arith, n.flies.rising.0)) n.flies.rising.2 a.1)
-    (placed_settled (acked m.number) l e s t acked w m ms n p)
-    (covers_settled (acked m.number) l e s t acked w m ms n a.0 p c)
+    (placed_settled (ends m.number) l e s t ends w m ms n p)
+    (covers_settled (ends m.number) l e s t ends w m ms n a.0 p c)
 
 covers_after : (air : Option ℕ) (c : Content) (l : List ℕ) (w : World) (i : IsLawful w) (x : Exchange)
     (heard : Bool) →
@@ -287,7 +299,7 @@ covers_after air (Frames ms) l w i x heard e f a p c =
     let d : session v x.station x.tid ≡ session w x.station x.tid =
     session_same _ _ (same_charged air (without_exchange w x.number) x) x.station x.tid
     ∙ without_same w x.number x.station x.tid in
-    covers_all_settled ms l x.number x.station x.tid (is_acked heard x.answer) v
+    covers_all_settled ms l x.number x.station x.tid (end_of x heard) v
     (ending_of air w i x ms heard e f) (subst (λ (y : Session). Labelled y ms) (sym d) a) p c
 covers_after air (Request g) l w i x heard e f a p c =
     covers_session (after_charge (without_exchange w x.number) x air) x.station x.tid
@@ -505,6 +517,73 @@ covers_gone l w s p q o c =
         | inr none ↦ absurd (cc none)
       ]
     ]) k)
+
+-- ---- a flush
+
+carries_flush : (limit : ℕ) (y : Session) (k n : ℕ) → has (waiting_ids y.slots) k ≡ false → Carries y k n →
+    Carries (after_flush limit y) k n
+carries_flush limit y k n none c = on_bool (is_waiting (slot y n).state)
+    (λ waits. absurd (cc (
+      none,
+      subst (λ (i : ℕ). has (waiting_ids y.slots) i ≡ true) c.id
+          (held_has y.slots (n - y.first) (waiting_is (slot y n).state waits)),
+    )))
+    (λ stays.
+    let d : slot (after_flush limit y) n ≡ slot y n =
+    slot_flush limit y n ∙ flushed_stays limit (slot y n) stays in
+    record {
+      from = c.from;
+      below = omega (arith, c.below, next-flush limit y);
+      unsettled = ap (λ (x : Slot). is_settled x.state) d ∙ c.unsettled;
+      id = ap (λ (x : Slot). x.id) d ∙ c.id;
+    })
+
+covers_flush_slots : (l : List ℕ) (w : World) (s t : ℕ) → Placing l w → Full w →
+    Full (with_frames_finished (on_session w s t (after_flush w.config.attempts)) (Dropped Flushed)
+    (waiting_ids (session w s t).slots))
+covers_flush_slots l w s t p c =
+    let y : Session = session w s t in
+    let f : Session → Session = after_flush w.config.attempts in
+    let u : World = on_session w s t f in
+    let ids : List ℕ = waiting_ids y.slots in
+    covers_all ids (InHand w) (InHand (with_frames_finished u (Dropped Flushed) ids)) u (Dropped Flushed)
+    (λ d. cc d)
+    (λ k h. subst (λ (fs : List Frame). k < length fs) (sym (untouched_on_session w s t f).frames)
+    (held_old l w s t k p h))
+    (covers_frames (InHand w) w u (untouched_on_session w s t f).frames c)
+    (λ k none i. hand_finish_all ids u (Dropped Flushed) k
+    (hand_session w s t k f (λ n d. carries_flush w.config.attempts y k n none d) i))
+
+covers_flush_queue : (l : List ℕ) (w : World) (q : ℕ) → Placing l w → Full w → Full (after_queue_flushed w q)
+unfolding after_queue_flushed
+covers_flush_queue l w q p c =
+    let g : Queue → Queue = λ y. record y { items = [] } in
+    let u : World = on_queue w q g in
+    let ids : List ℕ = ids_in (queue w q).items in
+    let v : World = with_frames_finished u (Dropped Flushed) ids in
+    covers_all ids (InHand w) (InHand v) u (Dropped Flushed) (λ d. cc d)
+    (λ k h. subst (λ (fs : List Frame). k < length fs) (sym (untouched_on_queue w q g).frames)
+    (p.queued q k (sym (ids_carried (queue w q).items k) ∙ h)).old)
+    (covers_frames (InHand w) w u (untouched_on_queue w q g).frames c)
+    (λ k none i. elim (hand_queue w q k g i) [
+      | inl a ↦ hand_finish_all ids u (Dropped Flushed) k a
+      | inr b ↦ absurd (cc (none, ids_carried (queue w q).items k ∙ b))
+    ])
+
+covers_flush_queues : (qs : List ℕ) (l : List ℕ) (w : World) → Placing l w → Full w →
+    Full (after_queues_flushed w qs)
+unfolding after_queues_flushed
+covers_flush_queues [] l w p c = c
+covers_flush_queues (q ∷ qs) l w p c = covers_flush_queues qs l (after_queue_flushed w q)
+    (placed_less l w (after_queue_flushed w q) (less_flush_queue w q) (same_flush_queue w q).sides p)
+    (covers_flush_queue l w q p c)
+
+pub covers_flushed : (l : List ℕ) (w : World) (s t : ℕ) → Placing l w → Full w →
+    Full (flush_outcome w s t).world
+unfolding flush_outcome after_tid_flushed
+covers_flushed l w s t p c =
+    covers_flush_queues (in_rising_order (in_order (tid_of w s t).queues)) l _ (placed_flush_slots l w s t p)
+    (covers_flush_slots l w s t p c)
 
 -- ---- a station joins
 

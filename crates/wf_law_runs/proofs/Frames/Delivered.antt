@@ -2,27 +2,30 @@
 -- exchange that sends it. By cases of the call.
 use Rattle.std.proofs.Common.{◌≡◌, ◌≢◌, refl, ap, sym, ◌∙◌, subst, arith, ℕ, zero, suc, ◌+◌, ◌-◌, ◌<◌, ◌≤◌, nat_lt, append-nil, Bool, true, false, if◌then◌else◌, not, ◌==◌, ◌⊎◌, inl, inr, List, [], ◌∷◌, ◌++◌, length, map, Option, Some, None, IfSome, is_some, ◌↔◌}
 use Rattle.wf_frame.specs.declared.classes.Class.{Class}
-use Rattle.wf_def_agreement.specs.Receiver.{Score, Receiver, score}
+use Rattle.wf_def_agreement.specs.Receiver.{Score, Receiver, score, shows}
 use Rattle.wf_def_lists.specs.Table.{at, has, with_member, put, upto}
 use Rattle.wf_def_codel.specs.Codel.{Item}
-use Rattle.wf_def_agreement.specs.Session.{request_due, waiting_numbers, with_state, Session, State, is_failed, slot, with_number_given, after_miss, next_number, has_room}
-use Rattle.wf_def_world.specs.World.{receiver, World, Station, Exchange, Mpdu, Content, Frames, Request, no_tid, rotation, session, is_live, exchange, with_station, on_station, on_session, on_receiver, on_queue, with_exchange, without_exchange, no_frame, Frame}
+use Rattle.wf_def_agreement.specs.Session.{End, request_due, waiting_numbers, with_state, Session, State, is_failed, slot, on_slot, with_number_given, next_number, has_room}
+use Rattle.wf_def_world.specs.World.{receiver, World, Station, Exchange, Mpdu, Content, Frames, Request, no_tid, rotation, session, is_live, exchange, with_station, on_station, on_session, on_receiver, on_queue, queue, with_exchange, without_exchange, no_frame, Frame}
 use Rattle.wf_frame.specs.Classes.{all_classes}
 use Rattle.wf_def_world.specs.FlowQueues.{after_limit, with_appended, after_put_in, taken_for_tid}
 use Rattle.wf_def_world.specs.CanSend.{is_ready, can_give}
-use Rattle.wf_def_world.specs.Exchanges.{is_acked, station_need, most_frames, picked_station, after_arrival, exchange_of, sending_tid, Prepared, mpdus_of, after_tid_turn, with_fresh, aggregate_of, with_number, fresh_mpdus, with_flying, waiting_mpdus, longest_fitting, without_credit, prepared_data, prepared_exchange, with_exchange_opened, after_charge, with_failed_finished, with_settled, with_all_settled, after_done, fits_in, mpdu_of, Aggregate}
-use Rattle.wf_frame.specs.declared.notes.Ask.TheVariants.{Join, Leave, Rate, Tick, Pull, Arrive, Answer, Done, Sleep, Wake, Poll, Rx, Reap, Ampdu, Stop, Start}
+use Rattle.wf_def_world.specs.Exchanges.{end_of, is_acked, station_need, most_frames, picked_station, after_arrival, exchange_of, sending_tid, Prepared, mpdus_of, after_tid_turn, with_fresh, aggregate_of, with_number, fresh_mpdus, with_flying, waiting_mpdus, longest_fitting, without_credit, prepared_data, prepared_exchange, with_exchange_opened, after_charge, with_failed_finished, with_settled, with_all_settled, after_done, fits_in, mpdu_of, Aggregate}
+use Rattle.wf_frame.specs.declared.notes.Ask.TheVariants.{Join, Leave, Rate, Tick, Pull, Arrive, Answer, Done, Sleep, Wake, Poll, Rx, Reap, Ampdu, Stop, Start, Unsent, GiveUp, Flush}
 use Rattle.wf_frame.specs.declared.notes.Limits.{Limits}
 use Rattle.wf_frame.specs.declared.notes.Note.{Note}
 use Rattle.wf_frame.specs.declared.notes.Note.TheVariants.{Enqueue, Asked}
 use Rattle.wf_frame.specs.declared.notes.Refusal.{Refusal}
 use Rattle.wf_frame.specs.declared.notes.Refusal.TheVariants.{Idle}
 use Rattle.wf_def_world.specs.Refusals.{open_of_station, refusals, refusal}
-use Rattle.wf_def_world.specs.Step.{Outcome, join_outcome, after_tid_left, after_tids_left, without_listings, leave_outcome, rate_outcome, tick_outcome, with_frame, enqueue_outcome, send_outcome, pull_outcome_for, pull_outcome, arrive_outcome, answer_outcome, done_outcome, outcome_where_open, sleep_outcome, wake_outcome, poll_outcome, rx_outcome, reap_outcome, outcome_of, after_refusal, judged_outcome, step, concerned_station}
+use Rattle.wf_def_world.specs.Step.{Outcome, join_outcome, after_tid_left, after_tids_left, without_listings, leave_outcome, rate_outcome, tick_outcome, with_frame, enqueue_outcome, send_outcome, pull_outcome_for, pull_outcome, arrive_outcome, answer_outcome, done_outcome, outcome_where_open, sleep_outcome, wake_outcome, poll_outcome, rx_outcome, reap_outcome, unsent_outcome, give_up_outcome, flush_outcome, outcome_of, after_refusal, judged_outcome, step, concerned_station}
 use Rattle.wf_law_rules.proofs.Lemmas.Tables.{at_put_other}
 use Rattle.wf_law_runs.proofs.Common.Refused.{after_idle}
+use Rattle.wf_law_runs.proofs.Common.Marks.{with_marks, marked_world}
+use Rattle.wf_law_runs.proofs.Common.Ends.{slot_after_end, end_backed, on_settled}
+use Rattle.wf_law_runs.proofs.Common.Flushes.{if_flushed}
 use Rattle.wf_law_runs.proofs.Sessions.Flights.{Rises}
-use Rattle.wf_law_rules.proofs.Lemmas.Numbers.{on_if, yes_eq, or_left, or_right}
+use Rattle.wf_law_rules.proofs.Lemmas.Numbers.{on_if, both, yes_eq, or_left, or_right}
 use Rattle.wf_law_runs.proofs.Windows.Sides.{Side, side_of, sides_of, Same, each_side_on, on_opened, then_same, same_on_station, same_on_share, same_finish, same_listed, same_after_pick, same_after_turn, same_spent, same_within_limit, same_put_in, same_take, same_charged, same_picked}
 use Rattle.wf_law_runs.proofs.Windows.Opened.{Each, each_map, each_both, each_append, each_filter, each_find, FlyIn, some_along, pick_ready, left_true, can_give-room, none_open, NoRow, no_row}
 use Rattle.std.proofs.Common.{drop, take as take_front}
@@ -32,9 +35,9 @@ use Rattle.wf_frame.specs.declared.classes.Fate.TheVariants.{Acked, Held}
 use Rattle.wf_law_runs.specs.Windows.{EachMpdu}
 use Rattle.wf_law_runs.specs.Delivery.{ids_sent, EndsHeard}
 use Rattle.wf_law_runs.proofs.Common.Picked.{picked_world}
-use Rattle.wf_law_runs.proofs.Releases.Kept.{KeptSession, kept_give, kept_fly, Kept, kept_same, keep_ended, keep_prepared}
+use Rattle.wf_law_runs.proofs.Releases.Kept.{KeptSession, kept_give, kept_fly, Kept, kept_same, keep_ended, keep_prepared, keep_flushed, opened_flushed}
 use Rattle.wf_law_runs.proofs.Windows.Agreed.{IsLawful, IsOpenIn, IsReady, AllBacked, ready_start, ready_filled, ready_same, longer_number, lawful_same, lawful_done, backed_by, session_same, session_on_session, opened_on_session, exchanges_on_session, same_left_tids, same_off_lists, each_map_if}
-use Rattle.wf_law_runs.proofs.Frames.Fewer.{IsAcked, Less, less, then_less, if_less, less_plain, less_on_station, less_on_session, less_on_receiver, less_with_queues, less_on_share, less_with_rotation, less_finish, less_drop_all, less_listed, less_after_pick, less_after_turn, less_spent, less_within_limit, less_listed_queue, less_purge_queues, less_charged, less_take, less_picked}
+use Rattle.wf_law_runs.proofs.Frames.Fewer.{IsAcked, Less, less, then_less, if_less, less_plain, less_on_station, less_on_session, less_on_queue, fewer_none, less_on_receiver, less_with_queues, less_on_share, less_with_rotation, less_finish, less_drop_all, less_listed, less_after_pick, less_after_turn, less_spent, less_within_limit, less_listed_queue, less_purge_queues, less_charged, less_take, less_picked}
 use Rattle.wf_law_runs.proofs.Windows.Settling.{all_acked, without_same, without_live}
 use Rattle.wf_law_runs.proofs.Releases.Placed.{slot_new_id}
 
@@ -287,6 +290,13 @@ pub opened_on_receiver : (w : World) (s t : ℕ) (g : Receiver → Receiver) →
 unfolding on_receiver
 opened_on_receiver w s t g = on_opened w s t _
 
+labelled_marked : (w : World) (x : Exchange) (unsent given_up : List ℕ) →
+    Labelled (session w x.station x.tid) (mpdus_of x.content) → IsLabelled w →
+    IsLabelled (marked_world w x unsent given_up)
+unfolding with_exchange
+labelled_marked w x unsent given_up l a =
+    labelled_with_exchange w _ x (with_marks unsent given_up x) (λ s t. refl) refl l a
+
 labelled_arrived : (w : World) (x : Exchange) (n : ℕ) →
     Labelled (session w x.station x.tid) (mpdus_of x.content) → IsLabelled w →
     IsLabelled (arrive_outcome w x n).world
@@ -297,21 +307,22 @@ labelled_arrived w x n l a =
     (ap (map (λ y. if y.number == z.number then z else y))
     (opened_on_receiver w x.station x.tid (after_arrival x.content n))) l a
 
-opened_settled : (b : Bool) (w : World) (s t : ℕ) (m : Mpdu) → (with_settled w s t b m).opened ≡ w.opened
+opened_settled : (end : End) (w : World) (s t : ℕ) (m : Mpdu) → (with_settled w s t end m).opened ≡ w.opened
 unfolding with_settled with_failed_finished
-opened_settled true w s t m = (same_finish (on_session w s t (with_state State.Acked m.number)) _ _).opened
-    ∙ opened_on_session w s t _
-opened_settled false w s t m =
-    let v : World = on_session w s t (after_miss w.config.attempts m.number) in
-    on_if (λ (u : World). u.opened ≡ w.opened) (is_failed (slot (session v s t) m.number).state) _ v
-    (λ _. (same_finish v _ _).opened ∙ opened_on_session w s t _) (λ _. opened_on_session w s t _)
+opened_settled end w s t m =
+    let v : World = on_session w s t (on_slot m.number (slot_after_end w.config.attempts end)) in
+    on_settled (λ u. u.opened ≡ w.opened) end w s t m
+    (λ _. (same_finish (on_session w s t (with_state State.Acked m.number)) _ _).opened
+    ∙ opened_on_session w s t _)
+    (λ _. on_if (λ (u : World). u.opened ≡ w.opened) (is_failed (slot (session v s t) m.number).state) _ v
+    (λ _. (same_finish v _ _).opened ∙ opened_on_session w s t _) (λ _. opened_on_session w s t _))
 
-opened_all : (ms : List Mpdu) (w : World) (s t : ℕ) (acked : ℕ → Bool) →
-    (with_all_settled w s t acked ms).opened ≡ w.opened
+opened_all : (ms : List Mpdu) (w : World) (s t : ℕ) (ends : ℕ → End) →
+    (with_all_settled w s t ends ms).opened ≡ w.opened
 unfolding with_all_settled
-opened_all [] w s t acked = refl
-opened_all (m ∷ ms) w s t acked = opened_all ms (with_settled w s t (acked m.number) m) s t acked
-    ∙ opened_settled (acked m.number) w s t m
+opened_all [] w s t ends = refl
+opened_all (m ∷ ms) w s t ends = opened_all ms (with_settled w s t (ends m.number) m) s t ends
+    ∙ opened_settled (ends m.number) w s t m
 
 opened_after : (c : Content) (w : World) (x : Exchange) (heard : Bool) →
     (after_done w x heard c).opened ≡ w.opened
@@ -319,23 +330,25 @@ unfolding after_done
 opened_after (Frames ms) w x heard = opened_all ms w x.station x.tid _
 opened_after (Request f) w x heard = opened_on_session w x.station x.tid _
 
-exchanges_settled : (b : Bool) (w : World) (s t : ℕ) (m : Mpdu) →
-    (with_settled w s t b m).exchanges ≡ w.exchanges
+exchanges_settled : (end : End) (w : World) (s t : ℕ) (m : Mpdu) →
+    (with_settled w s t end m).exchanges ≡ w.exchanges
 unfolding with_settled with_failed_finished
-exchanges_settled true w s t m = (same_finish
-    (on_session w s t (with_state State.Acked m.number)) _ _).exchanges ∙ exchanges_on_session w s t _
-exchanges_settled false w s t m =
-    let v : World = on_session w s t (after_miss w.config.attempts m.number) in
-    on_if (λ (u : World). u.exchanges ≡ w.exchanges) (is_failed (slot (session v s t) m.number).state) _ v
+exchanges_settled end w s t m =
+    let v : World = on_session w s t (on_slot m.number (slot_after_end w.config.attempts end)) in
+    on_settled (λ u. u.exchanges ≡ w.exchanges) end w s t m
+    (λ _. (same_finish (on_session w s t (with_state State.Acked m.number)) _ _).exchanges
+    ∙ exchanges_on_session w s t _)
+    (λ _. on_if (λ (u : World). u.exchanges ≡ w.exchanges)
+    (is_failed (slot (session v s t) m.number).state) _ v
     (λ _. (same_finish v _ _).exchanges ∙ exchanges_on_session w s t _)
-    (λ _. exchanges_on_session w s t _)
+    (λ _. exchanges_on_session w s t _))
 
-exchanges_all : (ms : List Mpdu) (w : World) (s t : ℕ) (acked : ℕ → Bool) →
-    (with_all_settled w s t acked ms).exchanges ≡ w.exchanges
+exchanges_all : (ms : List Mpdu) (w : World) (s t : ℕ) (ends : ℕ → End) →
+    (with_all_settled w s t ends ms).exchanges ≡ w.exchanges
 unfolding with_all_settled
-exchanges_all [] w s t acked = refl
-exchanges_all (m ∷ ms) w s t acked = exchanges_all ms (with_settled w s t (acked m.number) m) s t acked
-    ∙ exchanges_settled (acked m.number) w s t m
+exchanges_all [] w s t ends = refl
+exchanges_all (m ∷ ms) w s t ends = exchanges_all ms (with_settled w s t (ends m.number) m) s t ends
+    ∙ exchanges_settled (ends m.number) w s t m
 
 exchanges_after : (c : Content) (w : World) (x : Exchange) (heard : Bool) →
     (after_done w x heard c).exchanges ≡ w.exchanges
@@ -416,38 +429,38 @@ abbrev None_of : ℕ → Type 0
 None_of id = ⊥
 
 -- One of these numbers carries the frame and becomes acknowledged.
-abbrev AckedAmong : (ℕ → Bool) → List Mpdu → ℕ → Type 0
-AckedAmong acked [] id = ⊥
-AckedAmong acked (m ∷ ms) id = ((m.id ≡ id) × (acked m.number ≡ true)) ⊎ AckedAmong acked ms id
+abbrev AckedAmong : (ℕ → End) → List Mpdu → ℕ → Type 0
+AckedAmong ends [] id = ⊥
+AckedAmong ends (m ∷ ms) id = ((m.id ≡ id) × (ends m.number ≡ End.Acknowledged)) ⊎ AckedAmong ends ms id
 
-less_settled : (b : Bool) (P : ℕ → Type 0) (w : World) (s t : ℕ) (m : Mpdu) → (b ≡ true → P m.id) →
-    Less P w (with_settled w s t b m)
+less_settled : (end : End) (P : ℕ → Type 0) (w : World) (s t : ℕ) (m : Mpdu) →
+    (end ≡ End.Acknowledged → P m.id) → Less P w (with_settled w s t end m)
 unfolding with_settled with_failed_finished
-less_settled true P w s t m h = then_less P _ _ _ (less_on_session P w s t _)
-    (less_finish P _ _ _ (λ _. h refl))
-less_settled false P w s t m h = then_less P _ _ _ (less_on_session P w s t _)
-    (if_less P _ _ _ _ (less_finish P _ _ _ (λ e. absurd (cc e))) (less P _))
+less_settled end P w s t m h = on_settled (Less P w) end w s t m
+    (λ e. then_less P _ _ _ (less_on_session P w s t _) (less_finish P _ _ _ (λ _. h e)))
+    (λ _. then_less P _ _ _ (less_on_session P w s t _)
+    (if_less P _ _ _ _ (less_finish P _ _ _ (λ e. absurd (cc e))) (less P _)))
 
-less_all : (ms : List Mpdu) (P : ℕ → Type 0) (w : World) (s t : ℕ) (acked : ℕ → Bool) →
-    ((id : ℕ) → AckedAmong acked ms id → P id) → Less P w (with_all_settled w s t acked ms)
+less_all : (ms : List Mpdu) (P : ℕ → Type 0) (w : World) (s t : ℕ) (ends : ℕ → End) →
+    ((id : ℕ) → AckedAmong ends ms id → P id) → Less P w (with_all_settled w s t ends ms)
 unfolding with_all_settled
-less_all [] P w s t acked h = less P w
-less_all (m ∷ ms) P w s t acked h = then_less P _ _ _
-    (less_settled (acked m.number) P w s t m (λ e. h m.id (inl (refl, e))))
-    (less_all ms P _ s t acked (λ id k. h id (inr k)))
+less_all [] P w s t ends h = less P w
+less_all (m ∷ ms) P w s t ends h = then_less P _ _ _
+    (less_settled (ends m.number) P w s t m (λ e. h m.id (inl (refl, e))))
+    (less_all ms P _ s t ends (λ id k. h id (inr k)))
 
 less_without : (P : ℕ → Type 0) (w : World) (e : ℕ) → Less P w (without_exchange w e)
 unfolding without_exchange
 less_without P w e = less_plain P w _ refl refl
 
 less_after : (c : Content) (w : World) (x : Exchange) (heard : Bool) →
-    Less (AckedAmong (is_acked heard x.answer) (mpdus_of c)) w (after_done w x heard c)
+    Less (AckedAmong (end_of x heard) (mpdus_of c)) w (after_done w x heard c)
 unfolding after_done
 less_after (Frames ms) w x heard = less_all ms _ w x.station x.tid _ (λ id k. k)
 less_after (Request f) w x heard = less_on_session _ w x.station x.tid _
 
 pub less_ended : (air : Option ℕ) (w : World) (x : Exchange) (heard : Bool) →
-    Less (AckedAmong (is_acked heard x.answer) (mpdus_of x.content)) w (done_outcome w x heard air).world
+    Less (AckedAmong (end_of x heard) (mpdus_of x.content)) w (done_outcome w x heard air).world
 unfolding done_outcome
 less_ended air w x heard = then_less _ _ _ _ (less_without _ w x.number)
     (then_less _ _ _ _ (less_charged air _ _ x) (less_after x.content _ x heard))
@@ -465,13 +478,14 @@ pub record HasArrived (w : World) (id : ℕ) : Type 0 where
   pub arrived : has (receiver w station tid).arrived number ≡ true
 
 -- An acknowledged number of the ended exchange has arrived at its receiver.
-reached_among : (ms : List Mpdu) (v : World) (y : Session) (r : Receiver) (s t id lo : ℕ) (acked : ℕ → Bool) →
+reached_among : (ms : List Mpdu) (v : World) (y : Session) (r : Receiver) (s t id lo : ℕ) (ends : ℕ → End) →
     is_live v s ≡ true → KeptSession y (session v s t) → receiver v s t ≡ r → y.first ≤ lo →
-    Rises lo (next_number y) ms → Labelled y ms → AllBacked acked r ms
-    → EachMpdu (λ m. ((slot (session v s t) m.number).state ≡ State.Acked) ↔ (acked m.number ≡ true)) ms →
-    AckedAmong acked ms id → HasArrived v id
-reached_among [] v y r s t id lo acked live k e b rises labels backed states h = absurd h
-reached_among (m ∷ ms) v y r s t id lo acked live k e b rises labels backed states h = elim h [
+    Rises lo (next_number y) ms → Labelled y ms → AllBacked ends r ms
+    → EachMpdu (λ m. ((slot (session v s t) m.number).state ≡ State.Acked)
+    ↔ (ends m.number ≡ End.Acknowledged)) ms →
+    AckedAmong ends ms id → HasArrived v id
+reached_among [] v y r s t id lo ends live k e b rises labels backed states h = absurd h
+reached_among (m ∷ ms) v y r s t id lo ends live k e b rises labels backed states h = elim h [
   | inl own ↦ record {
     station = s;
     tid = t;
@@ -483,14 +497,15 @@ reached_among (m ∷ ms) v y r s t id lo acked live k e b rises labels backed st
     acked = states.0.1 own.1;
     arrived = ap (λ (q : Receiver). has q.arrived m.number) e ∙ backed.0 own.1;
   }
-  | inr rest ↦ reached_among ms v y r s t id (suc m.number) acked live k e
+  | inr rest ↦ reached_among ms v y r s t id (suc m.number) ends live k e
       (omega (arith, b, rises.0)) rises.2 labels.1 backed.1 states.1 rest
 ]
 
 states_after : (air : Option ℕ) (c : Content) (w : World) (x : Exchange) (heard : Bool) → x.content ≡ c →
     IsOpenIn w x →
     EachMpdu (λ m. ((slot (session (after_done (after_charge (without_exchange w x.number) x air) x heard c)
-    x.station x.tid) m.number).state ≡ State.Acked) ↔ (is_acked heard x.answer m.number ≡ true)) (mpdus_of c)
+    x.station x.tid) m.number).state ≡ State.Acked) ↔ (end_of x heard m.number ≡ End.Acknowledged))
+    (mpdus_of c)
 unfolding after_done
 states_after air (Request f) w x heard e o = tt
 states_after air (Frames ms) w x heard e o =
@@ -501,28 +516,29 @@ states_after air (Frames ms) w x heard e o =
     ∙ without_same w x.number x.station x.tid in
     let flies : FlyIn x.number ms y = subst (λ (c : Content). FlyIn x.number (mpdus_of c) y) e o.opened.flies
     in
-    all_acked ms v x.station x.tid (is_acked heard x.answer) y.first (next_number y)
+    all_acked ms v x.station x.tid (end_of x heard) y.first (next_number y)
     (k.live x.station ∙ without_live w x.number x.station ∙ o.live)
     (omega (arith, ap (λ (z : Session). z.first) same_y)) flies.rising
 
 states_ended : (air : Option ℕ) (w : World) (x : Exchange) (heard : Bool) → IsOpenIn w x →
     EachMpdu (λ m. ((slot (session (done_outcome w x heard air).world x.station x.tid) m.number).state
-    ≡ State.Acked) ↔ (is_acked heard x.answer m.number ≡ true)) (mpdus_of x.content)
+    ≡ State.Acked) ↔ (end_of x heard m.number ≡ End.Acknowledged)) (mpdus_of x.content)
 unfolding done_outcome
 states_ended air w x heard o = states_after air x.content w x heard refl o
 
 reached_ended : (air : Option ℕ) (w : World) (x : Exchange) (heard : Bool) (id : ℕ) → IsOpenIn w x →
     Labelled (session w x.station x.tid) (mpdus_of x.content) →
-    AckedAmong (is_acked heard x.answer) (mpdus_of x.content) id →
+    AckedAmong (end_of x heard) (mpdus_of x.content) id →
     HasArrived (done_outcome w x heard air).world id
 reached_ended air w x heard id o l h =
     let k : Kept w (done_outcome w x heard air).world = keep_ended air w x heard in
     let y : Session = session w x.station x.tid in
     reached_among (mpdus_of x.content) (done_outcome w x heard air).world y
-    (receiver w x.station x.tid) x.station x.tid id y.first (is_acked heard x.answer)
+    (receiver w x.station x.tid) x.station x.tid id y.first (end_of x heard)
     (k.live x.station ∙ o.live) (k.sessions x.station x.tid) (k.receivers x.station x.tid)
     (omega arith) o.opened.flies.rising l
-    (backed_by (mpdus_of x.content) heard x.answer (receiver w x.station x.tid) o.opened.kept)
+    (backed_by (mpdus_of x.content) heard x.answer (receiver w x.station x.tid) (end_of x heard)
+    (λ n e. (end_backed x heard n e).1) o.opened.kept)
     (states_ended air w x heard o) h
 
 reached_same : (w v : World) (id : ℕ) → Same w v → HasArrived w id → HasArrived v id
@@ -636,6 +652,19 @@ pub less_answered : (P : ℕ → Type 0) (w : World) (x : Exchange) → Less P w
 unfolding answer_outcome with_exchange
 less_answered P w x = less_plain P w _ refl refl
 
+pub less_marked : (P : ℕ → Type 0) (w : World) (x : Exchange) (unsent given_up : List ℕ) →
+    Less P w (marked_world w x unsent given_up)
+unfolding with_exchange
+less_marked P w x unsent given_up = less_plain P w _ refl refl
+
+pub less_flushed : (P : ℕ → Type 0) (w : World) (s t : ℕ) → Less P w (flush_outcome w s t).world
+less_flushed P w s t = if_flushed (Less P w)
+    (record {
+      finish = λ u id k. then_less P w u _ k (less_finish P u _ id (λ e. cc e));
+      empty = λ u q k. then_less P w u _ k (less_on_queue P u q _ (fewer_none (queue u q).items));
+    })
+    w s t (less_on_session P w s t _)
+
 pub less_reaped : (ids : List ℕ) (P : ℕ → Type 0) (w : World) → Less P w (reap_outcome w ids).world
 unfolding reap_outcome
 less_reaped [] P w = less P w
@@ -740,24 +769,24 @@ unfolding reap_outcome
 delivered_reaped note [] w i a = record { labelled = a; acks = λ id e. inl e }
 delivered_reaped note (id ∷ ids) w i a = delivered_plain _ w _ refl refl refl (λ id e. e) i a
 
-heard_among : (ms : List Mpdu) (heard : Bool) (o : Option Score) (id : ℕ) →
-    AckedAmong (is_acked heard o) ms id → heard ≡ true
-heard_among ms true o id h = refl
-heard_among [] false o id h = absurd h
-heard_among (m ∷ ms) false None id h = elim h [
-  | inl e ↦ absurd (cc e.1)
-  | inr k ↦
-      heard_among ms false None id k
-]
-heard_among (m ∷ ms) false (Some b) id h = elim
-    h [ inl e ↦ absurd (cc e.1) | inr k ↦ heard_among ms false (Some b) id k ]
+acked_heard : (heard : Bool) (o : Option Score) (n : ℕ) → is_acked heard o n ≡ true → heard ≡ true
+acked_heard heard None n h = absurd (cc h)
+acked_heard heard (Some b) n h = (both heard (shows b n) h).0
 
-sent_among : (ms : List Mpdu) (acked : ℕ → Bool) (id : ℕ) → AckedAmong acked ms id →
+heard_among : (ms : List Mpdu) (x : Exchange) (heard : Bool) (id : ℕ) →
+    AckedAmong (end_of x heard) ms id → heard ≡ true
+heard_among [] x heard id h = absurd h
+heard_among (m ∷ ms) x heard id h = elim h [
+  | inl e ↦ acked_heard heard x.answer m.number (end_backed x heard m.number e.1).1
+  | inr k ↦ heard_among ms x heard id k
+]
+
+sent_among : (ms : List Mpdu) (ends : ℕ → End) (id : ℕ) → AckedAmong ends ms id →
     has (map (λ m. m.id) ms) id ≡ true
-sent_among [] acked id h = absurd h
-sent_among (m ∷ ms) acked id h = elim h [
+sent_among [] ends id h = absurd h
+sent_among (m ∷ ms) ends id h = elim h [
   | inl own ↦ or_left (m.id == id) (has (map (λ m. m.id) ms) id) (yes_eq m.id id own.0)
-  | inr later ↦ or_right (m.id == id) (has (map (λ m. m.id) ms) id) (sent_among ms acked id later)
+  | inr later ↦ or_right (m.id == id) (has (map (λ m. m.id) ms) id) (sent_among ms ends id later)
 ]
 
 ends_heard : (air : Option ℕ) (w : World) (e : ℕ) (heard : Bool) (id : ℕ) → heard ≡ true →
@@ -774,13 +803,34 @@ delivered_ended air w x e heard at_number r i a = record {
     | inl was ↦ inl was
     | inr now ↦
         inr (
-          ends_heard air w e heard id (heard_among (mpdus_of x.content) heard x.answer id now)
+          ends_heard air w e heard id (heard_among (mpdus_of x.content) x heard id now)
               (ap (λ (o : Option Exchange). has (ids_sent o) id) at_number
-              ∙ sent_among (mpdus_of x.content) (is_acked heard x.answer) id now),
+              ∙ sent_among (mpdus_of x.content) (end_of x heard) id now),
           reached_ended air w x heard id r.open_in r.labels now,
         )
   ];
 }
+
+delivered_unsent : (note : Note) (w : World) (x : Exchange) (n : ℕ) → IsRead w x → IsLabelled w →
+    IsDelivered note w (unsent_outcome w x n).world
+unfolding unsent_outcome
+delivered_unsent note w x n r a = record {
+  labelled = labelled_marked w x (with_member n x.unsent) x.given_up r.labels a;
+  acks = acks_less note w _ (less_marked None_of w x (with_member n x.unsent) x.given_up);
+}
+
+delivered_given_up : (note : Note) (w : World) (x : Exchange) (n : ℕ) → IsRead w x → IsLabelled w →
+    IsDelivered note w (give_up_outcome w x n).world
+unfolding give_up_outcome
+delivered_given_up note w x n r a = record {
+  labelled = labelled_marked w x x.unsent (with_member n x.given_up) r.labels a;
+  acks = acks_less note w _ (less_marked None_of w x x.unsent (with_member n x.given_up));
+}
+
+labelled_flushed : (w : World) (s t : ℕ) → IsLawful w → IsLabelled w →
+    IsLabelled (flush_outcome w s t).world
+labelled_flushed w s t i a =
+    labelled_keep w _ i (keep_flushed w s t) (opened_flushed w s t) a
 
 delivered_done : (note : Note) (w : World) → IsLawful w → IsLabelled w → NoRow (refusals w note) →
     IsDelivered note w (outcome_of w note).world
@@ -840,6 +890,14 @@ delivered_done (Asked (Rx s c air)) w i a e =
           acks_less (Asked (Rx s c air)) w _ (less_on_share None_of w s c _);
     }
 delivered_done (Asked Reap) w i a e = delivered_reaped _ w.finished w i a
+delivered_done (Asked (Unsent x n)) w i a e = delivered_open _ (IsRead w) (exchange w x) w _ (read w i a x) a
+    (λ y r. delivered_unsent _ w y n r a)
+delivered_done (Asked (GiveUp x n)) w i a e = delivered_open _ (IsRead w) (exchange w x) w _ (read w i a x) a
+    (λ y r. delivered_given_up _ w y n r a)
+delivered_done (Asked (Flush s t)) w i a e = record {
+  labelled = labelled_flushed w s t i a;
+  acks = acks_less (Asked (Flush s t)) w _ (less_flushed None_of w s t);
+}
 
 delivered_refused : (note : Note) (r : Refusal) (w : World) → IsLawful w → IsLabelled w →
     IsDelivered note w (after_refusal w note r)

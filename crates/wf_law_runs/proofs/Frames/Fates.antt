@@ -4,30 +4,33 @@ use Rattle.std.proofs.Common.{◌≡◌, ◌≢◌, refl, ap, sym, ◌∙◌, su
 use Rattle.wf_frame.specs.declared.settings.Config.{Config}
 use Rattle.wf_frame.specs.declared.classes.Class.{Class}
 use Rattle.wf_frame.specs.declared.classes.Fate.{Fate}
-use Rattle.wf_def_lists.specs.Table.{at, has, put, upto, count_from}
+use Rattle.wf_def_lists.specs.Table.{at, has, put, upto, count_from, with_member}
 use Rattle.wf_def_codel.specs.Codel.{Item, Params, Codel, new_codel, Dequeued, dequeue}
 use Rattle.wf_def_codel.specs.CodelLoop.{giving, dropping_first}
 use Rattle.wf_law_rules.proofs.Lemmas.Dequeues.{each_dequeue}
 use Rattle.wf_def_rotation.specs.Rotation.{in_order, no_keys}
 use Rattle.wf_def_agreement.specs.Receiver.{Receiver}
-use Rattle.wf_def_agreement.specs.Session.{is_waiting, request_due, waiting_numbers, with_state, Session, Slot, State, is_settled, is_failed, slot_after_miss, slot, on_slot, with_number_given, after_miss, new_session, next_number, numbers_where, no_slot}
+use Rattle.wf_def_agreement.specs.Session.{End, is_waiting, request_due, waiting_numbers, with_state, Session, Slot, State, is_settled, is_failed, slot_given_up, slot, on_slot, with_number_given, after_flush, new_session, next_number, numbers_where, no_slot}
 use Rattle.wf_def_world.specs.World.{World, Station, Share, Queue, Exchange, Mpdu, Content, Frames, Request, new_tid, no_tid, rotation, session, tid_of, is_live, exchange, with_station, on_station, on_tid, on_session, on_receiver, with_queues, on_share, on_queue, with_fate, with_frame_finished, with_frames_finished, with_exchange, without_exchange, opening, inside, is_held, no_frame, Frame, frame, new_queue, queue, accepted_count, codel_params}
 use Rattle.wf_frame.specs.Classes.{all_classes}
-use Rattle.wf_def_world.specs.FlowQueues.{without_head, after_limit, with_appended, after_put_in, with_queues_paid, taken_by_codel, taken_from_picked, taken_for_tid, after_queue_left, after_queues_left, len_given, picked_queue, queue_for, longest_queue, is_at_limit}
+use Rattle.wf_def_world.specs.FlowQueues.{without_head, after_limit, with_appended, after_put_in, with_queues_paid, taken_by_codel, taken_from_picked, taken_for_tid, after_queue_left, after_queues_left, after_queue_flushed, after_queues_flushed, len_given, picked_queue, queue_for, longest_queue, is_at_limit}
 use Rattle.wf_def_world.specs.CanSend.{is_ready, with_listings_of, can_give}
-use Rattle.wf_def_world.specs.Exchanges.{is_acked, station_need, most_frames, picked_station, after_arrival, exchange_of, sending_tid, with_heard_start, Prepared, mpdus_of, after_pick, after_tid_turn, with_fresh, aggregate_of, with_number, with_flying, waiting_mpdus, longest_fitting, without_credit, prepared_data, prepared_exchange, with_exchange_opened, after_charge, with_failed_finished, with_settled, with_all_settled, after_done, ids_of, Aggregate}
-use Rattle.wf_frame.specs.declared.notes.Ask.TheVariants.{Join, Leave, Rate, Tick, Pull, Arrive, Answer, Done, Sleep, Wake, Poll, Rx, Reap, Ampdu, Stop, Start}
+use Rattle.wf_def_world.specs.Exchanges.{end_of, station_need, most_frames, picked_station, after_arrival, exchange_of, sending_tid, with_heard_start, Prepared, mpdus_of, after_pick, after_tid_turn, with_fresh, aggregate_of, with_number, with_flying, waiting_mpdus, longest_fitting, without_credit, prepared_data, prepared_exchange, with_exchange_opened, after_charge, with_failed_finished, with_settled, with_all_settled, after_done, ids_of, Aggregate}
+use Rattle.wf_frame.specs.declared.notes.Ask.TheVariants.{Join, Leave, Rate, Tick, Pull, Arrive, Answer, Done, Sleep, Wake, Poll, Rx, Reap, Ampdu, Stop, Start, Unsent, GiveUp, Flush}
 use Rattle.wf_frame.specs.declared.notes.Limits.{Limits}
 use Rattle.wf_frame.specs.declared.notes.Note.{Note}
 use Rattle.wf_frame.specs.declared.notes.Note.TheVariants.{Enqueue, Asked}
 use Rattle.wf_frame.specs.declared.notes.Refusal.{Refusal}
 use Rattle.wf_frame.specs.declared.notes.Refusal.TheVariants.{Idle}
 use Rattle.wf_def_world.specs.Refusals.{refusal, refusals}
-use Rattle.wf_def_world.specs.Step.{Outcome, join_outcome, after_tid_left, after_tids_left, without_listings, leave_outcome, rate_outcome, tick_outcome, with_frame, enqueue_outcome, send_outcome, pull_outcome_for, pull_outcome, arrive_outcome, answer_outcome, done_outcome, outcome_where_open, sleep_outcome, wake_outcome, poll_outcome, rx_outcome, reap_outcome, outcome_of, after_refusal, judged_outcome, step, waiting_ids, in_rising_order, concerned_station}
+use Rattle.wf_def_world.specs.Step.{Outcome, join_outcome, after_tid_left, after_tids_left, without_listings, leave_outcome, after_tid_flushed, rate_outcome, tick_outcome, with_frame, enqueue_outcome, send_outcome, pull_outcome_for, pull_outcome, arrive_outcome, answer_outcome, done_outcome, outcome_where_open, sleep_outcome, wake_outcome, poll_outcome, rx_outcome, reap_outcome, unsent_outcome, give_up_outcome, flush_outcome, outcome_of, after_refusal, judged_outcome, step, waiting_ids, in_rising_order, concerned_station}
 use Rattle.wf_def_world.specs.Run.{Entry, world_after}
 use Rattle.std.proofs.lemmas.List.{length-append}
 use Rattle.std.proofs.lemmas.List.Sums.{sum_by-append}
 use Rattle.wf_law_runs.proofs.Common.Refused.{after_idle}
+use Rattle.wf_law_runs.proofs.Common.Marks.{marked_world}
+use Rattle.wf_law_runs.proofs.Common.Ends.{slot_after_end, end_id, on_settled}
+use Rattle.wf_law_runs.proofs.Common.Flushes.{flush_along, slot_flush, flushed_fails, next-flush}
 use Rattle.wf_law_runs.proofs.Windows.Opened.{NoRow, no_row, each_find, some_along, pick_ready, left_true, eight}
 use Rattle.wf_law_rules.proofs.Lemmas.Sums.{sum_put_within, length_put}
 use Rattle.wf_law_runs.proofs.Frames.Untouched.{Untouched, untouched, then_untouched, untouched_on_session, untouched_on_queue, untouched_pay_queues, untouched_with_queues, untouched_spent, untouched_after_turn, untouched_after_pick, untouched_without, untouched_charged, untouched_put_in, untouched_off_lists, untouched_with_station, untouched_on_station, untouched_on_receiver, untouched_listed, untouched_picked}
@@ -38,8 +41,8 @@ use Rattle.wf_law_rules.proofs.Lemmas.Numbers.{Climbs, climbs_from, on_bool, on_
 use Rattle.wf_law_runs.proofs.Windows.Sides.{Side, side_of, sides_of, Same, each_side_on, then_same, same_on_station, same_with_queues, same_on_queue, same_finish, same_finish_all, same_listed, same_after_pick, same_after_turn, same_spent, same_put_in, same_pay_queues, same_take, same_charged, same_picked}
 use Rattle.wf_law_runs.proofs.Windows.Agreement.{slot_give, slot_other, slot_same, next-on_slot}
 use Rattle.wf_frame.specs.declared.classes.Fate.TheVariants.{Held, Dropped}
-use Rattle.wf_frame.specs.declared.classes.Cause.TheVariants.{Codel as By_codel, Left, Overlimit}
-use Rattle.wf_law_runs.proofs.Releases.Kept.{Kept, kept_heard, kept_on_slot, keep_settled}
+use Rattle.wf_frame.specs.declared.classes.Cause.TheVariants.{Codel as By_codel, Left, Overlimit, Flushed}
+use Rattle.wf_law_runs.proofs.Releases.Kept.{Kept, kept_heard, kept_on_slot, kept_flush, keep_settled}
 use Rattle.wf_law_runs.proofs.Frames.Delivered.{Labelled, labelled_kept, IsLabelled, labelled_step}
 use Rattle.wf_law_runs.proofs.Windows.Settling.{without_same}
 use Rattle.wf_law_runs.proofs.Releases.Released.{side_with_station, side_own_station}
@@ -47,7 +50,7 @@ use Rattle.wf_def_lists.specs.Lists.{IsOnce}
 use Rattle.wf_law_runs.specs.Releases.{named_by, named_from}
 use Rattle.wf_law_runs.proofs.Common.Picked.{picked_world}
 use Rattle.wf_law_runs.proofs.Windows.Agreed.{IsLawful, IsReady, IsEnding, IsFound, found, ready_filled, ending_settled, ending_of, lawful_same, lawful_step, lawful_at_first, session_same, session_on_session, same_off_lists}
-use Rattle.wf_law_runs.proofs.Frames.Fewer.{Ordered, carries, carries_from, Fewer, Less, then_less, less_plain, less_on_station, less_on_session, less_on_queue, less_with_queues, less_pay_queues, less_after_pick, less_after_turn, less_spent, less_listed, less_charged, fewer_tail, less_drop_all, less_purge_queues, less_finish, less_take, given_take, less_dequeued, queue_on, queues_dropped, right_dequeue, less_picked}
+use Rattle.wf_law_runs.proofs.Frames.Fewer.{Ordered, carries, carries_from, Fewer, fewer_none, Less, then_less, less_plain, less_on_station, less_on_session, less_on_queue, less_with_queues, less_pay_queues, less_after_pick, less_after_turn, less_spent, less_listed, less_charged, fewer_tail, less_drop_all, less_purge_queues, less_finish, less_take, given_take, less_dequeued, queue_on, queues_dropped, right_dequeue, less_picked}
 use Rattle.wf_law_runs.proofs.Releases.Placed.{Queued, Numbered, Placing, Any, placed_less, placed_session, next-heard, queue_appended, less_put_in, less_with_frame, side_with_frame, less_with_station, less_off_lists, once_ids, has_ids, IsIdOf, placed_at_first, slot_new_id}
 use Rattle.wf_law_runs.proofs.Releases.Once.{placed_number, placed_frames, placed_without, placed_gone, placed_joined, placed_step}
 
@@ -816,11 +819,11 @@ record IsStopped (l : List ℕ) (w v : World) (s t : ℕ) (m : Mpdu) (f : Slot �
   id : (slot (session v s t) m.number).id ≡ m.id
   state : (slot (session v s t) m.number).state ≡ (f (slot (session w s t) m.number)).state
 
-stopped : (l : List ℕ) (e s t : ℕ) (acked : ℕ → Bool) (w : World) (m : Mpdu) (ms : List Mpdu)
-    (f : Slot → Slot) → ((x : Slot) → (f x).id ≡ x.id) → IsEnding e s t acked w (m ∷ ms) →
+stopped : (l : List ℕ) (e s t : ℕ) (ends : ℕ → End) (w : World) (m : Mpdu) (ms : List Mpdu)
+    (f : Slot → Slot) → ((x : Slot) → (f x).id ≡ x.id) → IsEnding e s t ends w (m ∷ ms) →
     (slot (session w s t) m.number).id ≡ m.id → Placing l w → Fresh w →
     IsStopped l w (on_session w s t (on_slot m.number f)) s t m f
-stopped l e s t acked w m ms f same_id n own p h =
+stopped l e s t ends w m ms f same_id n own p h =
     let y : Session = session w s t in
     let z : Session = on_slot m.number f y in
     let v : World = on_session w s t (on_slot m.number f) in
@@ -853,36 +856,45 @@ stopped l e s t acked w m ms f same_id n own p h =
           ∙ ap (λ (x : Slot). x.state) (slot_same y m.number f);
     }
 
-pub safe_settled : (b : Bool) (l : List ℕ) (e s t : ℕ) (acked : ℕ → Bool) (w : World) (m : Mpdu)
-    (ms : List Mpdu) → IsEnding e s t acked w (m ∷ ms) → (slot (session w s t) m.number).id ≡ m.id →
-    Placing l w → Fresh w → Safe l w (with_settled w s t b m)
-unfolding with_settled with_failed_finished
-safe_settled true l e s t acked w m ms n own p h =
-    let v : World = on_session w s t (with_state State.Acked m.number) in
-    let k : IsStopped l w v s t m (λ x. record x { state = State.Acked }) =
-    stopped l e s t acked w m ms (λ x. record x { state = State.Acked }) (λ x. refl) n own p h in
-    then_safe l w v _ k.safe.stays (safe_finish l v s t m.number m.id _ refl k.safe.placing k.safe.fresh
-    k.held k.from k.below k.id (ap is_settled k.state))
-safe_settled false l e s t acked w m ms n own p h =
-    let v : World = on_session w s t (after_miss w.config.attempts m.number) in
-    let k : IsStopped l w v s t m (slot_after_miss w.config.attempts) =
-    stopped l e s t acked w m ms (slot_after_miss w.config.attempts) (λ x. refl) n own p h in
+safe_failing : (l : List ℕ) (e s t : ℕ) (ends : ℕ → End) (w : World) (m : Mpdu) (ms : List Mpdu)
+    (f : Slot → Slot) → ((x : Slot) → (f x).id ≡ x.id) → IsEnding e s t ends w (m ∷ ms) →
+    (slot (session w s t) m.number).id ≡ m.id → Placing l w → Fresh w →
+    Safe l w (with_failed_finished (on_session w s t (on_slot m.number f)) s t m)
+unfolding with_failed_finished
+safe_failing l e s t ends w m ms f same_id n own p h =
+    let v : World = on_session w s t (on_slot m.number f) in
+    let k : IsStopped l w v s t m f = stopped l e s t ends w m ms f same_id n own p h in
     safe_if (is_failed (slot (session v s t) m.number).state) l w _ v
     (λ b. then_safe l w v _ k.safe.stays (safe_finish l v s t m.number m.id _ refl k.safe.placing k.safe.fresh
     k.held k.from k.below k.id (failed_settled _ b)))
     (λ _. k.safe)
 
-safe_all : (ms : List Mpdu) (l : List ℕ) (e s t : ℕ) (acked : ℕ → Bool) (w : World) →
-    IsEnding e s t acked w ms → Labelled (session w s t) ms → Placing l w → Fresh w →
-    Safe l w (with_all_settled w s t acked ms)
+pub safe_settled : (end : End) (l : List ℕ) (e s t : ℕ) (ends : ℕ → End) (w : World) (m : Mpdu)
+    (ms : List Mpdu) → IsEnding e s t ends w (m ∷ ms) → (slot (session w s t) m.number).id ≡ m.id →
+    Placing l w → Fresh w → Safe l w (with_settled w s t end m)
+unfolding with_settled
+safe_settled end l e s t ends w m ms n own p h =
+    on_settled (Safe l w) end w s t m
+    (λ _.
+    let v : World = on_session w s t (with_state State.Acked m.number) in
+    let k : IsStopped l w v s t m (λ x. record x { state = State.Acked }) =
+    stopped l e s t ends w m ms (λ x. record x { state = State.Acked }) (λ x. refl) n own p h in
+    then_safe l w v _ k.safe.stays (safe_finish l v s t m.number m.id _ refl k.safe.placing k.safe.fresh
+    k.held k.from k.below k.id (ap is_settled k.state)))
+    (λ _. safe_failing l e s t ends w m ms (slot_after_end w.config.attempts end)
+    (λ x. end_id w.config.attempts end x) n own p h)
+
+safe_all : (ms : List Mpdu) (l : List ℕ) (e s t : ℕ) (ends : ℕ → End) (w : World) →
+    IsEnding e s t ends w ms → Labelled (session w s t) ms → Placing l w → Fresh w →
+    Safe l w (with_all_settled w s t ends ms)
 unfolding with_all_settled
-safe_all [] l e s t acked w n a p h = safe_here l w p h
-safe_all (m ∷ ms) l e s t acked w n a p h =
-    let v : World = with_settled w s t (acked m.number) m in
-    let k : Safe l w v = safe_settled (acked m.number) l e s t acked w m ms n a.0 p h in
-    let kept : Kept w v = keep_settled (acked m.number) w s t m in
-    then_safe l w v _ k.stays (safe_all ms l e s t acked v
-    (ending_settled (acked m.number) e s t acked w m ms refl n)
+safe_all [] l e s t ends w n a p h = safe_here l w p h
+safe_all (m ∷ ms) l e s t ends w n a p h =
+    let v : World = with_settled w s t (ends m.number) m in
+    let k : Safe l w v = safe_settled (ends m.number) l e s t ends w m ms n a.0 p h in
+    let kept : Kept w v = keep_settled (ends m.number) w s t m in
+    then_safe l w v _ k.stays (safe_all ms l e s t ends v
+    (ending_settled (ends m.number) e s t ends w m ms refl n)
     (labelled_kept ms (session w s t) (session v s t) (suc m.number) (kept.sessions s t)
     (omega (arith, n.flies.rising.0)) n.flies.rising.2 a.1) k.placing k.fresh)
 
@@ -903,7 +915,7 @@ safe_after air (Frames ms) l w i x heard e f a p h =
     let d : session v x.station x.tid ≡ session w x.station x.tid =
     session_same _ _ (same_charged air (without_exchange w x.number) x) x.station x.tid
     ∙ without_same w x.number x.station x.tid in
-    safe_all ms l x.number x.station x.tid (is_acked heard x.answer) v (ending_of air w i x ms heard e f)
+    safe_all ms l x.number x.station x.tid (end_of x heard) v (ending_of air w i x ms heard e f)
     (subst (λ (y : Session). Labelled y ms) (sym d) a) p h
 safe_after air (Request g) l w i x heard e f a p h =
     let v : World = after_charge (without_exchange w x.number) x air in
@@ -1139,6 +1151,7 @@ pub record IsWaiting (y : Session) (n hi k : ℕ) : Type 0 where
   pub from : n ≤ k
   pub below : k < hi
   pub unsettled : is_settled (slot y k).state ≡ false
+  pub waits : is_waiting (slot y k).state ≡ true
 
 pub waiting_member : (xs : List Slot) (y : Session) (n k : ℕ) →
     ((i : ℕ) → at no_slot y.slots (n + i - y.first) ≡ at no_slot xs i) →
@@ -1150,7 +1163,12 @@ waiting_member (x ∷ xs) y n k h e =
     let r : IsWaiting y (suc n) (suc n + length xs) k =
     waiting_member xs y (suc n) k (λ i. ap (λ (k : ℕ). at no_slot y.slots (k - y.first)) (omega arith)
     ∙ h (suc i)) d in
-    record { from = omega (arith, r.from); below = omega (arith, r.below); unsettled = r.unsettled }
+    record {
+      from = omega (arith, r.from);
+      below = omega (arith, r.below);
+      unsettled = r.unsettled;
+      waits = r.waits;
+    }
     in
     on_if (λ (ns : List ℕ). has ns k ≡ true → IsWaiting y n (n + length (x ∷ xs)) k) (is_waiting x.state)
     (n ∷ numbers_where is_waiting (suc n) xs) (numbers_where is_waiting (suc n) xs)
@@ -1165,6 +1183,9 @@ waiting_member (x ∷ xs) y n k h e =
             unsettled =
                 ap (λ (j : ℕ). is_settled (slot y j).state) (sym same_n)
                 ∙ ap (λ (z : Slot). is_settled z.state) here ∙ waiting_unsettled x.state waits;
+            waits =
+                ap (λ (j : ℕ). is_waiting (slot y j).state) (sym same_n)
+                ∙ ap (λ (z : Slot). is_waiting z.state) here ∙ waits;
           })
       | inr b ↦ rest b
     ])
@@ -1445,7 +1466,147 @@ safe_gone l w s p h = record {
       (gone_kept l w s p h).stays;
 }
 
+-- ---- a flush
+
+unsettles_flush : (limit : ℕ) (y : Session) → Unsettles y (after_flush limit y)
+unsettles_flush limit y = flush_along (Unsettles y) limit y
+    (λ z n e l b waits k. then_unsettles y z _ k (unsettles_on_slot z n (slot_given_up limit) l
+    (ap is_settled waits) (λ x. refl))) (unsettles_refl y)
+
+-- The frames of the waiting numbers get their fate, after these numbers were given up.
+flush_slots : (l : List ℕ) (w : World) (s t : ℕ) → is_live w s ≡ true → Placing l w → Fresh w →
+    Placing l (on_session w s t (after_flush w.config.attempts))
+    → Finished (InHand (with_frames_finished (on_session w s t (after_flush w.config.attempts))
+    (Dropped Flushed) (waiting_ids (session w s t).slots)))
+    (on_session w s t (after_flush w.config.attempts))
+    (with_frames_finished (on_session w s t (after_flush w.config.attempts)) (Dropped Flushed)
+    (waiting_ids (session w s t).slots))
+flush_slots l w s t live p h q =
+    let limit : ℕ = w.config.attempts in
+    let y : Session = session w s t in
+    let f : Session → Session = after_flush limit in
+    let u : World = on_session w s t f in
+    let ns : List ℕ = waiting_numbers y in
+    let ids : List ℕ = waiting_ids y.slots in
+    let v : World = with_frames_finished u (Dropped Flushed) ids in
+    let less_v : Less Any u v = less_drop_all Any ids u (Dropped Flushed) (λ e. cc e) in
+    let d : session u s t ≡ f y = session_on_session w s t f live in
+    let calm : Untouched w u = untouched_on_session w s t f in
+    let e : ids ≡ ids_of y ns = held_ids y.slots y y.first (λ i. ap (at no_slot y.slots) (omega arith)) in
+    let member : (n : ℕ) → has ns n ≡ true → IsWaiting y y.first (next_number y) n =
+    λ n g. waiting_member y.slots y y.first n (λ i. ap (at no_slot y.slots) (omega arith)) g in
+    let label : (n : ℕ) → has ns n ≡ true → p.home (slot y n).id ≡ Numbered s t n =
+    λ n g. (p.numbered s t n (member n g).from (member n g).below).place in
+    finish_ids ids (InHand w) (InHand v) u (Dropped Flushed) refl
+    (held_frames (InHand w) w u calm.frames h)
+    (subst IsOnce (sym e) (once_ids ns y.first y p.home s t (numbers_climb is_waiting y.slots y.first) label))
+    (λ i g.
+    let o : IsIdOf y ns i = has_ids ns y i (ap (λ (xs : List ℕ). has xs i) (sym e) ∙ g) in
+    let m = member o.number o.among in (
+      inr (record {
+        station = s;
+        tid = t;
+        number = o.number;
+        slot_of = record { from = m.from; below = m.below; unsettled = m.unsettled; id = o.id };
+      }),
+      old_same w u i calm
+          (subst (λ (k : ℕ). k < accepted_count w) o.id (p.numbered s t o.number m.from m.below).old),
+    ))
+    (λ i g.
+    let b : InHand u i = in_hand_less u v i less_v
+    (session_same u v (same_finish_all ids u (Dropped Flushed))) g in (
+      in_hand_session w s t f (unsettles_flush limit y) i b,
+      on_bool (has ids i) (λ there. absurd (
+          let o : IsIdOf y ns i = has_ids ns y i (ap (λ (xs : List ℕ). has xs i) (sym e) ∙ there) in
+          let m = member o.number o.among in
+          let fails : slot (session u s t) o.number ≡ slot_given_up limit (slot y o.number) =
+          ap (λ (z : Session). slot z o.number) d ∙ (slot_flush limit y o.number
+          ∙ flushed_fails limit (slot y o.number) m.waits) in
+          settled_not_in_hand l u q s t o.number i
+          (omega (arith, m.from, ap (λ (z : Session). z.first) d))
+          (omega (arith, m.below, next-flush limit y, ap next_number d))
+          (ap (λ (x : Slot). x.id) fails ∙ o.id) (ap (λ (x : Slot). is_settled x.state) fails) b))
+          (λ none. none),
+    ))
+
+pub same_flush_queue : (w : World) (q : ℕ) → Same w (after_queue_flushed w q)
+unfolding after_queue_flushed
+same_flush_queue w q = then_same _ _ _ (same_on_queue w q _) (same_finish_all _ _ _)
+
+pub less_flush_queue : (w : World) (q : ℕ) → Less Any w (after_queue_flushed w q)
+unfolding after_queue_flushed
+less_flush_queue w q = then_less Any _ _ _
+    (less_on_queue Any w q _ (fewer_none (queue w q).items)) (less_drop_all Any _ _ _ (λ e. cc e))
+
+flush_queue : (l : List ℕ) (w : World) (q : ℕ) → Placing l w → Fresh w →
+    Less Any w (after_queue_flushed w q) → Same w (after_queue_flushed w q) →
+    Finished (InHand (after_queue_flushed w q)) w (after_queue_flushed w q)
+unfolding after_queue_flushed
+flush_queue l w q p h less_v k =
+    let g : Queue → Queue = λ y. record y { items = [] } in
+    let u : World = on_queue w q g in
+    let ids : List ℕ = ids_in (queue w q).items in
+    let v : World = with_frames_finished u (Dropped Flushed) ids in
+    let items : (queue v q).items ≡ [] = ap (λ (qs : List Queue). (at new_queue qs q).items)
+    (queues_dropped ids u (Dropped Flushed)) ∙ ap (λ (y : Queue). y.items) (queue_on w q g) in
+    let r : Finished (InHand v) u v =
+    finish_ids ids (InHand w) (InHand v) u (Dropped Flushed) refl
+    (held_frames (InHand w) w u (untouched_on_queue w q g).frames h)
+    (ordered_once (queue w q).items 0 (p.ordered q))
+    (λ i d. let c : carries (queue w q).items i ≡ true = sym (ids_carried (queue w q).items i) ∙ d in (
+      inl (record { place = q; there = c }),
+      old_same w u i (untouched_on_queue w q g)
+          (p.queued q i c).old,
+    ))
+    (λ i d. (
+      in_hand_less w v i less_v (session_same w v k) d,
+      on_bool (has ids i) (λ e. absurd (in_place l w v p q i less_v (session_same w v k)
+          (sym (ids_carried (queue w q).items i) ∙ e) (ap (λ (ys : List Item). carries ys i) items) d))
+          (λ e. e),
+    ))
+    in
+    record { stays = then_stays w u v (stays_same w u (untouched_on_queue w q g)) r.stays; held = r.held }
+
+safe_flush_queues : (qs : List ℕ) (l : List ℕ) (w : World) → Placing l w → Fresh w →
+    Safe l w (after_queues_flushed w qs)
+unfolding after_queues_flushed
+safe_flush_queues [] l w p h = safe_here l w p h
+safe_flush_queues (q ∷ qs) l w p h =
+    let v : World = after_queue_flushed w q in
+    let r : Finished (InHand v) w v = flush_queue l w q p h (less_flush_queue w q) (same_flush_queue w q) in
+    then_safe l w v _ r.stays (safe_flush_queues qs l v
+    (placed_less l w v (less_flush_queue w q) (same_flush_queue w q).sides p) r.held)
+
+placed_flush : (l : List ℕ) (w : World) (s t : ℕ) → Placing l w →
+    Placing l (on_session w s t (after_flush w.config.attempts))
+placed_flush l w s t p = placed_session l w s t (after_flush w.config.attempts)
+    (kept_flush w.config.attempts (session w s t)) (next-flush w.config.attempts (session w s t)) p
+
+pub placed_flush_slots : (l : List ℕ) (w : World) (s t : ℕ) → Placing l w →
+    Placing l (with_frames_finished (on_session w s t (after_flush w.config.attempts)) (Dropped Flushed)
+    (waiting_ids (session w s t).slots))
+placed_flush_slots l w s t p =
+    let u : World = on_session w s t (after_flush w.config.attempts) in
+    let ids : List ℕ = waiting_ids (session w s t).slots in
+    placed_less l u _ (less_drop_all Any ids u (Dropped Flushed) (λ e. cc e))
+    (same_finish_all ids u (Dropped Flushed)).sides (placed_flush l w s t p)
+
+pub safe_flushed : (l : List ℕ) (w : World) (s t : ℕ) → is_live w s ≡ true → Placing l w → Fresh w →
+    Safe l w (flush_outcome w s t).world
+unfolding flush_outcome after_tid_flushed
+safe_flushed l w s t live p h =
+    let u : World = on_session w s t (after_flush w.config.attempts) in
+    let a : World = with_frames_finished u (Dropped Flushed) (waiting_ids (session w s t).slots) in
+    let r : Finished (InHand a) u a = flush_slots l w s t live p h (placed_flush l w s t p) in
+    then_safe l w a _ (then_stays w u a (stays_same w u (untouched_on_session w s t _)) r.stays)
+    (safe_flush_queues (in_rising_order (in_order (tid_of w s t).queues)) l a (placed_flush_slots l w s t p)
+    r.held)
+
 -- ---- the step
+
+pub flush_live : (b : Bool) → not b ≡ false → b ≡ true
+flush_live true h = refl
+flush_live false h = absurd (cc h)
 
 fresh_station : (w : World) (i : ℕ) (o : Option Station) →
     ((t : ℕ) → next_number (sides_of o t).session ≡ (sides_of o t).session.first) → Fresh w →
@@ -1523,6 +1684,20 @@ fates_station w s f g h =
 fates_answered : (w : World) (x : Exchange) → Fresh w → Kept_fates 0 0 w (answer_outcome w x).world
 unfolding answer_outcome with_exchange
 fates_answered w x h = fates_plain w _ refl (record { frames = refl; finished = refl }) (λ s t. refl) h
+
+fates_marked : (w : World) (x : Exchange) (unsent given_up : List ℕ) → Fresh w →
+    Kept_fates 0 0 w (marked_world w x unsent given_up)
+unfolding with_exchange
+fates_marked w x unsent given_up h =
+    fates_plain w _ refl (record { frames = refl; finished = refl }) (λ s t. refl) h
+
+fates_unsent : (w : World) (x : Exchange) (n : ℕ) → Fresh w → Kept_fates 0 0 w (unsent_outcome w x n).world
+unfolding unsent_outcome
+fates_unsent w x n h = fates_marked w x (with_member n x.unsent) x.given_up h
+
+fates_given_up : (w : World) (x : Exchange) (n : ℕ) → Fresh w → Kept_fates 0 0 w (give_up_outcome w x n).world
+unfolding give_up_outcome
+fates_given_up w x n h = fates_marked w x x.unsent (with_member n x.given_up) h
 
 queues_on_receiver : (w : World) (s t : ℕ) (g : Receiver → Receiver) → w.queues ≡ (on_receiver w s t g).queues
 unfolding on_receiver on_tid on_station with_station
@@ -1614,6 +1789,12 @@ fates_done (Asked (Wake s)) l w i e a p h = fates_station w s _ (λ x t. refl) h
 fates_done (Asked (Poll s)) l w i e a p h = fates_station w s _ (λ x t. refl) h
 fates_done (Asked (Rx s c air)) l w i e a p h = fates_share w s c _ h
 fates_done (Asked Reap) l w i e a p h = fates_reaped w.finished w refl e.0 h
+fates_done (Asked (Unsent x n)) l w i e a p h =
+    fates_open (IsFoundNamed w i) (exchange w x) w _ (found_named w i a x) h (λ y f. fates_unsent w y n h)
+fates_done (Asked (GiveUp x n)) l w i e a p h =
+    fates_open (IsFoundNamed w i) (exchange w x) w _ (found_named w i a x) h (λ y f. fates_given_up w y n h)
+fates_done (Asked (Flush s t)) l w i e a p h =
+    of_safe l w _ (safe_flushed l w s t (flush_live (is_live w s) e.1.1.0) p h)
 
 fates_refused : (note : Note) (r : Refusal) (w : World) → Fresh w → Kept_fates 0 0 w (after_refusal w note r)
 unfolding after_refusal

@@ -54,7 +54,7 @@ then_fewer zs ys xs h k = record {
   sized = λ e. k.sized (h.sized e);
 }
 
-fewer_none : (ys : List Item) → Fewer ys []
+pub fewer_none : (ys : List Item) → Fewer ys []
 fewer_none ys = record {
   ordered = λ lo o. tt;
   has = λ k h. absurd (cc h);

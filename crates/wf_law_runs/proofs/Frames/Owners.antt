@@ -6,28 +6,30 @@ use Rattle.std.proofs.Common.{nat_lt, ◌+◌, ◌++◌, ◌≡◌, refl, ap, sy
 use Rattle.wf_def_lists.specs.Table.{at}
 use Rattle.wf_def_codel.specs.Codel.{Params, Codel, Dequeued, dequeue, Item}
 use Rattle.wf_def_rotation.specs.Rotation.{in_order}
-use Rattle.wf_def_agreement.specs.Session.{Slot, State, slot, is_settled, next_number, with_state, after_miss, slot_after_miss, request_due, Session, with_number_given}
+use Rattle.wf_def_agreement.specs.Session.{End, Slot, State, slot, is_settled, next_number, on_slot, with_state, after_flush, request_due, Session, with_number_given}
 use Rattle.wf_def_world.specs.World.{Frame, no_frame, Mpdu, Exchange, Content, Frames, Request, queue, tid_of, is_live, rotation, on_queue, with_queues, on_tid, on_station, with_station, with_frame_finished, without_exchange, World, session, frame, on_session}
 use Rattle.wf_def_world.specs.FlowQueues.{queue_need, has_frames, with_queues_paid, taken_by_codel, taken_from_picked, picked_queue, taken_for_tid}
 use Rattle.wf_def_world.specs.CanSend.{is_ready}
-use Rattle.wf_def_world.specs.Exchanges.{Aggregate, Prepared, with_number, with_fresh, aggregate_of, longest_fitting, waiting_mpdus, most_frames, with_flying, prepared_data, prepared_exchange, sending_tid, after_tid_turn, picked_station, station_need, with_exchange_opened, without_credit, exchange_of, is_acked, with_heard_start, after_charge, with_settled, with_failed_finished, with_all_settled, after_done}
-use Rattle.wf_def_world.specs.Step.{send_outcome, pull_outcome_for, pull_outcome, done_outcome}
+use Rattle.wf_def_world.specs.Exchanges.{Aggregate, Prepared, with_number, with_fresh, aggregate_of, longest_fitting, waiting_mpdus, most_frames, with_flying, prepared_data, prepared_exchange, sending_tid, after_tid_turn, picked_station, station_need, with_exchange_opened, without_credit, exchange_of, end_of, with_heard_start, after_charge, with_settled, with_failed_finished, with_all_settled, after_done}
+use Rattle.wf_def_world.specs.Step.{send_outcome, pull_outcome_for, pull_outcome, done_outcome, flush_outcome}
 use Rattle.wf_law_runs.specs.Queues.{EachItem, IsFor}
 use Rattle.wf_law_rules.proofs.Lemmas.Numbers.{on_bool, lt_yes, lt_no}
 use Rattle.wf_law_rules.proofs.Lemmas.Dequeues.{each_dequeue}
 use Rattle.wf_law_rules.proofs.Lemmas.Rotations.{IsWinner, pick_winner}
 use Rattle.wf_law_runs.proofs.Common.Picked.{picked_world}
+use Rattle.wf_law_runs.proofs.Common.Ends.{slot_after_end, end_id, on_settled}
+use Rattle.wf_law_runs.proofs.Common.Flushes.{next-flush, if_flushed}
 use Rattle.wf_law_runs.proofs.Sessions.Flights.{flown, next-give}
 use Rattle.wf_law_runs.proofs.Windows.Agreement.{slot_give, next-on_slot}
-use Rattle.wf_law_runs.proofs.Windows.Sides.{Same, same_take, same_spent, same_after_turn, same_finish, same_charged, each_side_on, same_picked}
+use Rattle.wf_law_runs.proofs.Windows.Sides.{Same, same_take, same_spent, same_after_turn, same_on_queue, same_finish, same_charged, each_side_on, same_picked}
 use Rattle.wf_law_runs.proofs.Windows.Opened.{some_along, left_true, pick_ready}
 use Rattle.wf_law_runs.proofs.Windows.Agreed.{IsLawful, IsReady, IsEnding, IsFound, ready_filled, ending_settled, ending_of, lawful_same, session_same}
 use Rattle.wf_law_runs.proofs.Windows.Settling.{without_same}
-use Rattle.wf_law_runs.proofs.Releases.Kept.{KeptSession, kept_fly, kept_on_slot, kept_heard}
+use Rattle.wf_law_runs.proofs.Releases.Kept.{KeptSession, kept_fly, kept_on_slot, kept_heard, kept_flush}
 use Rattle.wf_law_runs.proofs.Releases.Placed.{slot_new_id, next-heard}
 use Rattle.wf_law_runs.proofs.Frames.Fates.{Bears}
-use Rattle.wf_law_runs.proofs.Frames.Untouched.{untouched_with_queues, untouched_pay_queues, untouched_on_session, untouched_spent, untouched_after_turn, untouched_picked}
-use Rattle.wf_law_runs.proofs.Queues.Shelves.{Shelves, shelves, shelves_pay_queues, shelves_finish_all, shelves_after_turn, shelves_ended, shelves_picked}
+use Rattle.wf_law_runs.proofs.Frames.Untouched.{untouched_on_queue, untouched_with_queues, untouched_pay_queues, untouched_on_session, untouched_spent, untouched_after_turn, untouched_picked}
+use Rattle.wf_law_runs.proofs.Queues.Shelves.{Shelves, shelves, shelves_pay_queues, shelves_finish, shelves_finish_all, shelves_after_turn, shelves_ended, shelves_picked}
 use Rattle.wf_law_runs.proofs.Queues.Shelved.{IsOf, IsShelved, each_item}
 use Rattle.wf_law_runs.proofs.Queues.ShelvedStep.{shelves_number, live_number, shelved_take}
 use Rattle.wf_frame.specs.declared.notes.Note.{Note}
@@ -295,30 +297,30 @@ slots_if false w u v h k = k
 slots_finish : (w : World) (fate : Fate) (id : ℕ) → SlotsFrom w (with_frame_finished w fate id)
 slots_finish w fate id = slots_same w _ (session_same w _ (same_finish w fate id))
 
-slots_settled : (b : Bool) (e s t : ℕ) (acked : ℕ → Bool) (w : World) (m : Mpdu) (ms : List Mpdu) →
-    IsEnding e s t acked w (m ∷ ms) → SlotsFrom w (with_settled w s t b m)
+slots_settled : (end : End) (e s t : ℕ) (ends : ℕ → End) (w : World) (m : Mpdu) (ms : List Mpdu) →
+    IsEnding e s t ends w (m ∷ ms) → SlotsFrom w (with_settled w s t end m)
 unfolding with_settled with_failed_finished
-slots_settled true e s t acked w m ms n =
-    then_slots w _ _ (slots_session w s t (with_state State.Acked m.number)
+slots_settled end e s t ends w m ms n =
+    let f : Slot → Slot = slot_after_end w.config.attempts end in
+    let k : SlotsFrom w (on_session w s t (on_slot m.number f)) =
+    slots_session w s t (on_slot m.number f)
+    (bears_kept (session w s t) _ (kept_on_slot (session w s t) m.number f
+    (λ x. end_id w.config.attempts end x))
+    (next-on_slot (session w s t) m.number f (ap is_settled n.flies.flying.0))) in
+    on_settled (SlotsFrom w) end w s t m
+    (λ _. then_slots w _ _ (slots_session w s t (with_state State.Acked m.number)
     (bears_kept (session w s t) _ (kept_on_slot (session w s t) m.number
     (λ x. record x { state = State.Acked }) (λ x. refl))
     (next-on_slot (session w s t) m.number (λ x. record x { state = State.Acked })
-    (ap is_settled n.flies.flying.0)))) (slots_finish _ _ _)
-slots_settled false e s t acked w m ms n =
-    let k : SlotsFrom w (on_session w s t (after_miss w.config.attempts m.number)) =
-    slots_session w s t (after_miss w.config.attempts m.number)
-    (bears_kept (session w s t) _ (kept_on_slot (session w s t) m.number
-    (slot_after_miss w.config.attempts) (λ x. refl))
-    (next-on_slot (session w s t) m.number (slot_after_miss w.config.attempts)
-    (ap is_settled n.flies.flying.0))) in
-    slots_if _ w _ _ (then_slots w _ _ k (slots_finish _ _ _)) k
+    (ap is_settled n.flies.flying.0)))) (slots_finish _ _ _))
+    (λ _. slots_if _ w _ _ (then_slots w _ _ k (slots_finish _ _ _)) k)
 
-slots_all : (ms : List Mpdu) (e s t : ℕ) (acked : ℕ → Bool) (w : World) → IsEnding e s t acked w ms →
-    SlotsFrom w (with_all_settled w s t acked ms)
+slots_all : (ms : List Mpdu) (e s t : ℕ) (ends : ℕ → End) (w : World) → IsEnding e s t ends w ms →
+    SlotsFrom w (with_all_settled w s t ends ms)
 unfolding with_all_settled
-slots_all [] e s t acked w n = slots_same w w (λ i j. refl)
-slots_all (m ∷ ms) e s t acked w n = then_slots w _ _ (slots_settled (acked m.number) e s t acked w m ms n)
-    (slots_all ms e s t acked _ (ending_settled (acked m.number) e s t acked w m ms refl n))
+slots_all [] e s t ends w n = slots_same w w (λ i j. refl)
+slots_all (m ∷ ms) e s t ends w n = then_slots w _ _ (slots_settled (ends m.number) e s t ends w m ms n)
+    (slots_all ms e s t ends _ (ending_settled (ends m.number) e s t ends w m ms refl n))
 
 slots_after : (air : Option ℕ) (c : Content) (w : World) (i : IsLawful w) (x : Exchange) (heard : Bool) →
     x.content ≡ c →
@@ -326,7 +328,7 @@ slots_after : (air : Option ℕ) (c : Content) (w : World) (i : IsLawful w) (x :
     (after_done (after_charge (without_exchange w x.number) x air) x heard c)
 unfolding after_done
 slots_after air (Frames ms) w i x heard e f = slots_all ms x.number x.station x.tid
-    (is_acked heard x.answer) _
+    (end_of x heard) _
     (ending_of air w i x ms heard e f)
 slots_after air (Request g) w i x heard e f = slots_session _ x.station x.tid (with_heard_start heard g)
     (bears_kept _ _ (kept_heard heard g _) (next-heard heard g _))
@@ -348,3 +350,29 @@ pub owned_ended : (air : Option ℕ) (w : World) (i : IsLawful w) (x : Exchange)
 owned_ended air w i x heard f o = owned_along w (done_outcome w x heard air).world
     (slots_ended air w i x heard f)
     (notes_shelves w (done_outcome w x heard air).world (shelves_ended air w x heard)) o
+
+-- ---- a flush
+
+slots_flushed : (w : World) (s t : ℕ) → SlotsFrom w (flush_outcome w s t).world
+slots_flushed w s t =
+    let y : Session = session w s t in
+    if_flushed (SlotsFrom w)
+    (record {
+      finish = λ u id k. then_slots w u _ k (slots_finish u _ id);
+      empty = λ u q k. then_slots w u _ k (slots_same u _ (session_same u _ (same_on_queue u q _)));
+    }) w s t
+    (slots_session w s t (after_flush w.config.attempts) (bears_kept y _ (kept_flush w.config.attempts y)
+    (next-flush w.config.attempts y)))
+
+notes_flushed : (w : World) (s t k : ℕ) → (frame (flush_outcome w s t).world k).note ≡ (frame w k).note
+notes_flushed w s t k = if_flushed (λ u. (frame u k).note ≡ (frame w k).note)
+    (record {
+      finish = λ u id h. ap (λ (b : Shelves). b.notes k) (shelves_finish u _ id) ∙ h;
+      empty = λ u q h. ap (λ (fs : List Frame). (at no_frame fs k).note) (untouched_on_queue u q _).frames
+          ∙ h;
+    }) w s t
+    (ap (λ (fs : List Frame). (at no_frame fs k).note) (untouched_on_session w s t _).frames)
+
+pub owned_flushed : (w : World) (s t : ℕ) → IsOwned w → IsOwned (flush_outcome w s t).world
+owned_flushed w s t o =
+    owned_along w _ (slots_flushed w s t) (record { same = λ k. notes_flushed w s t k }) o

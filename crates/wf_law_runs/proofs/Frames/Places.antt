@@ -5,13 +5,13 @@ use Rattle.wf_frame.specs.Settings.{IsInRange}
 use Rattle.wf_frame.specs.declared.classes.Class.{Class}
 use Rattle.wf_frame.specs.declared.classes.Cause.TheVariants.{Overlimit, Left}
 use Rattle.wf_frame.specs.declared.classes.Fate.TheVariants.{Dropped}
-use Rattle.wf_frame.specs.declared.notes.Ask.TheVariants.{Join, Leave, Rate, Tick, Pull, Arrive, Answer, Done, Sleep, Wake, Poll, Rx, Reap, Ampdu, Stop, Start}
+use Rattle.wf_frame.specs.declared.notes.Ask.TheVariants.{Join, Leave, Rate, Tick, Pull, Arrive, Answer, Done, Sleep, Wake, Poll, Rx, Reap, Ampdu, Stop, Start, Unsent, GiveUp, Flush}
 use Rattle.wf_frame.specs.declared.notes.Note.{Note}
 use Rattle.wf_frame.specs.declared.notes.Note.TheVariants.{Enqueue, Asked}
 use Rattle.wf_frame.specs.declared.notes.Refusal.{Refusal}
 use Rattle.wf_frame.specs.declared.notes.Refusal.TheVariants.{Idle}
 use Rattle.wf_frame.specs.Classes.{all_classes}
-use Rattle.wf_def_lists.specs.Table.{at, has, upto}
+use Rattle.wf_def_lists.specs.Table.{at, has, upto, with_member}
 use Rattle.wf_def_codel.specs.Codel.{Item}
 use Rattle.wf_def_agreement.specs.Session.{Session, State, slot, is_settled, next_number, new_session}
 use Rattle.wf_def_world.specs.World.{World, Queue, Station, Exchange, Frame, Share, new_queue, on_queue, on_receiver, on_tid, with_queues, with_rotation, rotation, no_frame, no_tid, new_tid, queue, session, frame, accepted_count, exchange, with_station, on_station, on_share, with_exchange, opening}
@@ -20,7 +20,7 @@ use Rattle.wf_def_world.specs.Exchanges.{after_arrival, after_pick}
 use Rattle.wf_def_rotation.specs.Rotation.{in_order}
 use Rattle.wf_def_world.specs.CanSend.{with_listing_in, with_listings_in, with_listings_of}
 use Rattle.wf_def_world.specs.Refusals.{refusals, refusal, open_of_station}
-use Rattle.wf_def_world.specs.Step.{Outcome, enqueue_outcome, join_outcome, after_tid_left, after_tids_left, without_listings, leave_outcome, rate_outcome, tick_outcome, sleep_outcome, wake_outcome, poll_outcome, rx_outcome, arrive_outcome, answer_outcome, reap_outcome, outcome_where_open, concerned_station, outcome_of, after_refusal, judged_outcome, step}
+use Rattle.wf_def_world.specs.Step.{Outcome, enqueue_outcome, join_outcome, after_tid_left, after_tids_left, without_listings, leave_outcome, rate_outcome, tick_outcome, sleep_outcome, wake_outcome, poll_outcome, rx_outcome, arrive_outcome, answer_outcome, unsent_outcome, give_up_outcome, reap_outcome, outcome_where_open, concerned_station, outcome_of, after_refusal, judged_outcome, step}
 use Rattle.wf_def_world.specs.Run.{Entry, world_after}
 use Rattle.wf_def_world.specs.Stretches.{world_at}
 use Rattle.wf_law_runs.specs.Windows.{SomeOpen, IsSending}
@@ -29,6 +29,7 @@ use Rattle.wf_law_runs.specs.Queues.{EachItem, IsFor, AreAtMost, IsAtMost}
 use Rattle.wf_law_runs.specs.Places.{Place, Queued, Numbered, IsNumbered, StandsAt, StandsOnce, KeepsPlaces, PlaceLaw}
 use Rattle.wf_law_rules.proofs.Lemmas.Numbers.{on_bool, on_if, eq_yes, eq_no, either}
 use Rattle.wf_law_runs.proofs.Common.Refused.{after_idle}
+use Rattle.wf_law_runs.proofs.Common.Marks.{marked_world}
 use Rattle.wf_law_runs.proofs.Windows.Sides.{Side, side_of, sides_of, Same, then_same, same_on_station, same_listed, same_after_pick}
 use Rattle.wf_law_runs.proofs.Windows.Opened.{Each, eight, none_open, NoRow, no_row}
 use Rattle.wf_law_runs.proofs.Windows.Agreed.{session_same, same_left_tids, same_off_lists}
@@ -39,9 +40,9 @@ use Rattle.wf_law_runs.proofs.Frames.Fewer.{carries}
 use Rattle.wf_law_runs.proofs.Frames.Delivered.{same_enqueued}
 use Rattle.wf_law_runs.proofs.Frames.Fates.{IsHeld, InQueue, AtSlot, InHand, Carries, Bears, bears_carried, ids_carried, Steady, steady_step, steady_first, IsFoundNamed, found_named, session_on_receiver}
 use Rattle.wf_law_runs.proofs.Frames.Untouched.{untouched_on_queue, untouched_put_in, untouched_with_station, untouched_off_lists, untouched_on_station, untouched_on_receiver, untouched_after_pick, untouched_listed}
-use Rattle.wf_law_runs.proofs.Frames.Owners.{BearsFrom, bears_refl, SlotsFrom, slots_same, then_slots, IsOwned, notes_frames, owned_along, owned_calm, owned_pulled, owned_ended}
+use Rattle.wf_law_runs.proofs.Frames.Owners.{BearsFrom, bears_refl, SlotsFrom, slots_same, then_slots, IsOwned, notes_frames, owned_along, owned_calm, owned_pulled, owned_ended, owned_flushed}
 use Rattle.wf_law_runs.proofs.Frames.Covered.{Full, covers_calm, covers_pulled, queues_pay_stations}
-use Rattle.wf_law_runs.proofs.Frames.CoveredStep.{IsQuiet, covers_enqueued, covers_ended, covers_gone, covers_joined}
+use Rattle.wf_law_runs.proofs.Frames.CoveredStep.{IsQuiet, covers_enqueued, covers_ended, covers_gone, covers_joined, covers_flushed}
 use Rattle.wf_law_runs.proofs.Deficits.Books.{upd_other}
 use Rattle.wf_law_runs.proofs.Queues.Shelves.{Shelves, shelves, shelves_finish, shelves_finish_all, shelves_with_frame}
 use Rattle.wf_law_runs.proofs.Queues.Shelved.{IsOf, IsShelved}
@@ -247,6 +248,19 @@ stood_answered : (w : World) (x : Exchange) → Stood w → Stood (answer_outcom
 unfolding answer_outcome with_exchange
 stood_answered w x i = stood_plain w _ refl refl refl i
 
+stood_marked : (w : World) (x : Exchange) (unsent given_up : List ℕ) → Stood w →
+    Stood (marked_world w x unsent given_up)
+unfolding with_exchange
+stood_marked w x unsent given_up i = stood_plain w _ refl refl refl i
+
+stood_unsent : (w : World) (x : Exchange) (n : ℕ) → Stood w → Stood (unsent_outcome w x n).world
+unfolding unsent_outcome
+stood_unsent w x n i = stood_marked w x (with_member n x.unsent) x.given_up i
+
+stood_given_up : (w : World) (x : Exchange) (n : ℕ) → Stood w → Stood (give_up_outcome w x n).world
+unfolding give_up_outcome
+stood_given_up w x n i = stood_marked w x x.unsent (with_member n x.given_up) i
+
 stood_reaped : (ids : List ℕ) (w : World) → Stood w → Stood (reap_outcome w ids).world
 unfolding reap_outcome
 stood_reaped [] w i = i
@@ -308,6 +322,14 @@ stood_done (Asked (Wake s)) l most w k r f h i = stood_station w s _ (λ x t. re
 stood_done (Asked (Poll s)) l most w k r f h i = stood_station w s _ (λ x t. refl) i
 stood_done (Asked (Rx s c air)) l most w k r f h i = stood_share w s c _ i
 stood_done (Asked Reap) l most w k r f h i = stood_reaped w.finished w i
+stood_done (Asked (Unsent x n)) l most w k r f h i =
+    stood_open (IsFoundNamed w k.lawful) (exchange w x) w _ (found_named w k.lawful k.labelled x) i
+    (λ y g. stood_unsent w y n i)
+stood_done (Asked (GiveUp x n)) l most w k r f h i =
+    stood_open (IsFoundNamed w k.lawful) (exchange w x) w _ (found_named w k.lawful k.labelled x) i
+    (λ y g. stood_given_up w y n i)
+stood_done (Asked (Flush s t)) l most w k r f h i =
+    record { owned = owned_flushed w s t i.owned; full = covers_flushed l w s t k.placing i.full }
 
 stood_refused : (note : Note) (r : Refusal) (w : World) → Stood w → Stood (after_refusal w note r)
 unfolding after_refusal

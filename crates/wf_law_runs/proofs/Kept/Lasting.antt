@@ -4,13 +4,17 @@ use Rattle.wf_frame.specs.declared.classes.Cause.TheVariants.{Retries}
 use Rattle.wf_frame.specs.declared.classes.Class.{Class}
 use Rattle.wf_frame.specs.declared.notes.Limits.{Limits}
 use Rattle.wf_frame.specs.declared.classes.Fate.TheVariants.{Dropped}
-use Rattle.wf_def_agreement.specs.Session.{Session, Slot, State, with_state, is_settled, is_failed, slot_after_miss, slot, on_slot, with_number_given, after_miss, next_number}
+use Rattle.wf_def_lists.specs.Table.{with_member}
+use Rattle.wf_def_agreement.specs.Session.{End, Session, Slot, State, with_state, is_settled, is_failed, slot_given_up, slot, on_slot, with_number_given, after_flush, next_number}
 use Rattle.wf_def_world.specs.World.{World, Exchange, Mpdu, Content, Frames, Request, session, is_live, on_session, on_receiver, with_exchange, without_exchange, with_frame_finished}
-use Rattle.wf_def_world.specs.Exchanges.{is_acked, with_heard_start, with_flying, with_exchange_opened, after_arrival, after_charge, with_failed_finished, with_settled, with_all_settled, after_done}
-use Rattle.wf_def_world.specs.Step.{pull_outcome, arrive_outcome, answer_outcome, done_outcome}
+use Rattle.wf_def_world.specs.Exchanges.{end_of, with_heard_start, with_flying, with_exchange_opened, after_arrival, after_charge, with_failed_finished, with_settled, with_all_settled, after_done}
+use Rattle.wf_def_world.specs.Step.{pull_outcome, arrive_outcome, answer_outcome, unsent_outcome, give_up_outcome, flush_outcome, done_outcome}
 use Rattle.wf_law_rules.proofs.Lemmas.Numbers.{on_if}
+use Rattle.wf_law_runs.proofs.Common.Marks.{marked_world}
+use Rattle.wf_law_runs.proofs.Common.Ends.{slot_after_end, end_id, on_settled}
+use Rattle.wf_law_runs.proofs.Common.Flushes.{flush_along, if_flushed}
 use Rattle.wf_law_runs.proofs.Sessions.Flights.{AllIn, Rises, all_in_later}
-use Rattle.wf_law_runs.proofs.Windows.Sides.{Side, Same, each_side_on, on_live, same_finish, same_charged}
+use Rattle.wf_law_runs.proofs.Windows.Sides.{Side, Same, each_side_on, on_live, same_on_queue, same_finish, same_charged}
 use Rattle.wf_law_runs.proofs.Windows.Agreement.{slot_give, slot_other}
 use Rattle.wf_law_runs.proofs.Windows.Agreed.{IsLawful, IsReady, IsFound, IsEnding, ending_settled, ending_of}
 use Rattle.wf_law_runs.proofs.Releases.Kept.{KeptSession, kept_refl, then_kept, kept_on_slot, kept_give, kept_heard}
@@ -118,6 +122,32 @@ last_pulled = along_pull Last last_same then_last last_given last_flown last_ope
 
 -- ---- exchanges
 
+pub last_marked : (w : World) (x : Exchange) (unsent given_up : List ℕ) →
+    Last w (marked_world w x unsent given_up)
+unfolding with_exchange
+last_marked w x unsent given_up = record { sessions = λ s t. lasts_refl (session w s t); live = λ s. refl }
+
+pub last_unsent : (w : World) (x : Exchange) (n : ℕ) → Last w (unsent_outcome w x n).world
+unfolding unsent_outcome
+last_unsent w x n = last_marked w x (with_member n x.unsent) x.given_up
+
+pub last_given_up : (w : World) (x : Exchange) (n : ℕ) → Last w (give_up_outcome w x n).world
+unfolding give_up_outcome
+last_given_up w x n = last_marked w x x.unsent (with_member n x.given_up)
+
+lasts_flush : (limit : ℕ) (y : Session) → Lasts y (after_flush limit y)
+lasts_flush limit y = flush_along (Lasts y) limit y
+    (λ z n e l b waits k. then_lasts y z _ k (lasts_on_slot z n (slot_given_up limit) (λ x. refl) l
+    (ap is_settled waits))) (lasts_refl y)
+
+pub last_flushed : (w : World) (s t : ℕ) → Last w (flush_outcome w s t).world
+last_flushed w s t = if_flushed (Last w)
+    (record {
+      finish = λ u id k. then_last w u _ k (last_same u _ (same_finish u _ id));
+      empty = λ u q k. then_last w u _ k (last_same u _ (same_on_queue u q _));
+    }) w s t
+    (last_on_session w s t (after_flush w.config.attempts) (lasts_flush w.config.attempts (session w s t)))
+
 pub last_arrived : (w : World) (x : Exchange) (n : ℕ) → Last w (arrive_outcome w x n).world
 unfolding arrive_outcome with_exchange on_receiver
 last_arrived w x n = record {
@@ -132,29 +162,30 @@ unfolding answer_outcome with_exchange
 last_answered w x = record { sessions = λ s t. lasts_refl (session w s t); live = λ s. refl }
 
 -- A number on the air is not settled before its exchange ends.
-last_settled : (b : Bool) (e s t : ℕ) (acked : ℕ → Bool) (w : World) (m : Mpdu) (ms : List Mpdu) →
-    IsEnding e s t acked w (m ∷ ms) → Last w (with_settled w s t b m)
+last_settled : (end : End) (e s t : ℕ) (ends : ℕ → End) (w : World) (m : Mpdu) (ms : List Mpdu) →
+    IsEnding e s t ends w (m ∷ ms) → Last w (with_settled w s t end m)
 unfolding with_settled with_failed_finished
-last_settled true e s t acked w m ms n =
-    then_last w _ _ (last_on_session w s t (with_state State.Acked m.number)
+last_settled end e s t ends w m ms n =
+    let f : Slot → Slot = slot_after_end w.config.attempts end in
+    let v : World = on_session w s t (on_slot m.number f) in
+    let k : Last w v = last_on_session w s t (on_slot m.number f)
+    (lasts_on_slot (session w s t) m.number f (λ x. end_id w.config.attempts end x) n.flies.rising.0
+    (ap is_settled n.flies.flying.0)) in
+    on_settled (Last w) end w s t m
+    (λ _. then_last w _ _ (last_on_session w s t (with_state State.Acked m.number)
     (lasts_on_slot (session w s t) m.number (λ x. record x { state = State.Acked })
-    (λ x. refl) n.flies.rising.0 (ap is_settled n.flies.flying.0))) (last_same _ _ (same_finish _ _ _))
-last_settled false e s t acked w m ms n =
-    let v : World = on_session w s t (after_miss w.config.attempts m.number) in
-    let k : Last w v = last_on_session w s t (after_miss w.config.attempts m.number)
-    (lasts_on_slot (session w s t) m.number (slot_after_miss w.config.attempts)
-    (λ x. refl) n.flies.rising.0 (ap is_settled n.flies.flying.0)) in
-    on_if (λ (u : World). Last w u) (is_failed (slot (session v s t) m.number).state)
+    (λ x. refl) n.flies.rising.0 (ap is_settled n.flies.flying.0))) (last_same _ _ (same_finish _ _ _)))
+    (λ _. on_if (λ (u : World). Last w u) (is_failed (slot (session v s t) m.number).state)
     (with_frame_finished v (Dropped Retries) m.id) v
-    (λ _. then_last w v _ k (last_same v _ (same_finish v _ _))) (λ _. k)
+    (λ _. then_last w v _ k (last_same v _ (same_finish v _ _))) (λ _. k))
 
-last_all_settled : (ms : List Mpdu) (e s t : ℕ) (w : World) (acked : ℕ → Bool) → IsEnding e s t acked w ms →
-    Last w (with_all_settled w s t acked ms)
+last_all_settled : (ms : List Mpdu) (e s t : ℕ) (w : World) (ends : ℕ → End) → IsEnding e s t ends w ms →
+    Last w (with_all_settled w s t ends ms)
 unfolding with_all_settled
-last_all_settled [] e s t w acked n = last_here w
-last_all_settled (m ∷ ms) e s t w acked n =
-    then_last w _ _ (last_settled (acked m.number) e s t acked w m ms n)
-    (last_all_settled ms e s t _ acked (ending_settled (acked m.number) e s t acked w m ms refl n))
+last_all_settled [] e s t w ends n = last_here w
+last_all_settled (m ∷ ms) e s t w ends n =
+    then_last w _ _ (last_settled (ends m.number) e s t ends w m ms n)
+    (last_all_settled ms e s t _ ends (ending_settled (ends m.number) e s t ends w m ms refl n))
 
 last_without : (w : World) (e : ℕ) → Last w (without_exchange w e)
 unfolding without_exchange
@@ -167,7 +198,7 @@ last_after_done : (air : Option ℕ) (c : Content) (w : World) (i : IsLawful w) 
     Last w (after_done (after_charge (without_exchange w x.number) x air) x heard c)
 unfolding after_done
 last_after_done air (Frames ms) w i x heard e f h =
-    then_last w _ _ h (last_all_settled ms x.number x.station x.tid _ (is_acked heard x.answer)
+    then_last w _ _ h (last_all_settled ms x.number x.station x.tid _ (end_of x heard)
     (ending_of air w i x ms heard e f))
 last_after_done air (Request g) w i x heard e f h =
     then_last w _ _ h (last_on_session _ x.station x.tid (with_heard_start heard g) (lasts_heard heard g _))

@@ -2,7 +2,7 @@
 -- call and induction on the run.
 use Rattle.std.proofs.Common.{◌≡◌, ◌≢◌, refl, ap, sym, ◌∙◌, subst, arith, ℕ, zero, suc, ◌+◌, ◌-◌, ◌≤◌, true, false, ◌==◌, List, [], ◌∷◌, Option, Some, None, IfSome, take, drop}
 use Rattle.wf_frame.specs.declared.settings.Config.{Config}
-use Rattle.wf_frame.specs.declared.notes.Ask.TheVariants.{Join, Leave, Rate, Tick, Pull, Arrive, Answer, Done, Sleep, Wake, Poll, Rx, Reap, Ampdu, Stop, Start}
+use Rattle.wf_frame.specs.declared.notes.Ask.TheVariants.{Join, Leave, Rate, Tick, Pull, Arrive, Answer, Done, Sleep, Wake, Poll, Rx, Reap, Ampdu, Stop, Start, Unsent, GiveUp, Flush}
 use Rattle.wf_frame.specs.declared.notes.Note.{Note}
 use Rattle.wf_frame.specs.declared.notes.Note.TheVariants.{Enqueue, Asked}
 use Rattle.wf_frame.specs.declared.notes.Refusal.{Refusal}
@@ -24,7 +24,7 @@ use Rattle.wf_law_runs.proofs.Windows.Opened.{NoRow, no_row}
 use Rattle.wf_law_runs.proofs.Windows.Agreed.{IsLawful, IsFound, found, same_left_tids, same_off_lists, lawful, lawful_step}
 use Rattle.wf_law_runs.proofs.Releases.Released.{side_with_station, live_with_station, live_own_station}
 use Rattle.wf_law_runs.proofs.Frames.Delivered.{same_enqueued}
-use Rattle.wf_law_runs.proofs.Kept.Lasting.{Lasts, lasts_refl, lasts_equal, then_lasts, Last, last_same, last_here, last_pulled, last_arrived, last_answered, last_ended}
+use Rattle.wf_law_runs.proofs.Kept.Lasting.{Lasts, lasts_refl, lasts_equal, then_lasts, Last, last_same, last_here, last_pulled, last_arrived, last_answered, last_unsent, last_given_up, last_flushed, last_ended}
 use Rattle.wf_law_runs.proofs.Frames.Fates.{world_after-append}
 
 -- How a call changes the sessions of each station that is live before and after it.
@@ -131,6 +131,11 @@ stays_done (Asked (Wake s)) w i r = stays_same _ w _ (same_on_station w s _ (λ 
 stays_done (Asked (Poll s)) w i r = stays_same _ w _ (same_on_station w s _ (λ x t. refl))
 stays_done (Asked (Rx s c air)) w i r = stays_same _ w _ (same_on_share w s c _)
 stays_done (Asked Reap) w i r = stays_last _ w _ (last_reaped w.finished w)
+stays_done (Asked (Unsent e n)) w i r = stays_last _ w _
+    (last_open (IsFound w i) (exchange w e) w _ (found w i e) (λ x f. last_unsent w x n))
+stays_done (Asked (GiveUp e n)) w i r = stays_last _ w _
+    (last_open (IsFound w i) (exchange w e) w _ (found w i e) (λ x f. last_given_up w x n))
+stays_done (Asked (Flush s t)) w i r = stays_last _ w _ (last_flushed w s t)
 
 last_refused : (note : Note) (r : Refusal) (w : World) → Last w (after_refusal w note r)
 unfolding after_refusal

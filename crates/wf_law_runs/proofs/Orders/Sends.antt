@@ -24,7 +24,7 @@ use Rattle.wf_law_rules.proofs.Lemmas.Numbers.{on_bool, on_if, lt_yes, lt_no, eq
 use Rattle.wf_law_runs.specs.Places.{IsNumbered, Numbered, Queued, Place, StandsAt, StandsOnce, IsRightFor, KeepsPlaces}
 use Rattle.wf_law_runs.specs.Queues.{IsFor}
 use Rattle.wf_law_runs.specs.Flows.{ids_sent_by, not_among, sent_from, FlowSendLaw}
-use Rattle.wf_law_runs.specs.Tries.{count_of, tries_by, tries}
+use Rattle.wf_law_runs.specs.Tries.{count_of, tries_by, tries, unsent as times_unsent}
 use Rattle.wf_law_runs.specs.Releases.{named_by, named_from}
 use Rattle.wf_law_runs.proofs.Sessions.Flights.{Rises}
 use Rattle.wf_law_runs.proofs.Windows.Agreed.{IsLawful, IsOpenIn}
@@ -519,7 +519,8 @@ module _ (config : Config) (range : IsInRange config) (keeps : config.keep_order
   flying_at h s t n e f =
       let y : Session = session (world_after (opening config) h) s t in
       let l : List ℕ = sent_from (opening config) [] h in
-      let c : tries (opening config) (slot y n).id h ≡ (slot y n).attempts + 1 =
+      let c : tries (opening config) (slot y n).id h ≡ (slot y n).attempts + 1
+      + times_unsent (opening config) (slot y n).id h =
       ((counts config h).slots s t (n - y.first)).flies e f in
       on_bool (has l (slot y n).id) (λ d. d)
       (λ none. absurd (omega (arith, c, never_sent h (opening config) [] (slot y n).id none)))

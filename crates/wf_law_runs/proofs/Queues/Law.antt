@@ -7,7 +7,7 @@ use Rattle.std.proofs.Common.{◌≡◌, refl, sym, subst, arith, ℕ, zero, suc
 use Rattle.std.proofs.lemmas.Bool.{leb-false, ltb-false}
 use Rattle.wf_frame.specs.declared.settings.Config.{Config}
 use Rattle.wf_frame.specs.Settings.{IsInRange}
-use Rattle.wf_frame.specs.declared.notes.Ask.TheVariants.{Join, Leave, Rate, Tick, Pull, Arrive, Answer, Done, Sleep, Wake, Poll, Rx, Reap, Ampdu, Stop, Start}
+use Rattle.wf_frame.specs.declared.notes.Ask.TheVariants.{Join, Leave, Rate, Tick, Pull, Arrive, Answer, Done, Sleep, Wake, Poll, Rx, Reap, Ampdu, Stop, Start, Unsent, GiveUp, Flush}
 use Rattle.wf_frame.specs.declared.notes.Note.{Note}
 use Rattle.wf_frame.specs.declared.notes.Note.TheVariants.{Enqueue, Asked}
 use Rattle.wf_frame.specs.declared.notes.Refusal.{Refusal}
@@ -17,7 +17,7 @@ use Rattle.wf_def_codel.specs.Codel.{Item}
 use Rattle.wf_def_rotation.specs.Rotation.{in_order}
 use Rattle.wf_def_world.specs.World.{World, tid_of, queue, exchange, opening}
 use Rattle.wf_def_world.specs.Refusals.{refusals, refusal}
-use Rattle.wf_def_world.specs.Step.{tick_outcome, rate_outcome, sleep_outcome, wake_outcome, poll_outcome, rx_outcome, outcome_of, after_refusal, judged_outcome, step, concerned_station}
+use Rattle.wf_def_world.specs.Step.{tick_outcome, rate_outcome, sleep_outcome, wake_outcome, poll_outcome, rx_outcome, unsent_outcome, give_up_outcome, outcome_of, after_refusal, judged_outcome, step, concerned_station}
 use Rattle.wf_def_world.specs.Run.{Entry, world_after}
 use Rattle.wf_def_world.specs.Stretches.{world_at}
 use Rattle.wf_def_lists.specs.Lists.{IsOnce, IsRising, on}
@@ -29,9 +29,9 @@ use Rattle.wf_law_runs.proofs.Windows.Agreed.{IsLawful, lawful_step, lawful_at_f
 use Rattle.wf_law_runs.proofs.Frames.Fewer.{Ordered}
 use Rattle.wf_law_runs.proofs.Deficits.MildStep.{lists-on}
 use Rattle.wf_law_runs.proofs.Deficits.Configs.{config_run}
-use Rattle.wf_law_runs.proofs.Queues.Shelves.{shelves, shelves_hidden, shelves_on_share, shelves_after_pick, shelves_ended, shelves_arrived, shelves_answered, shelves_reaped, shelves_listed, shelves_open}
+use Rattle.wf_law_runs.proofs.Queues.Shelves.{shelves, shelves_hidden, shelves_on_share, shelves_after_pick, shelves_ended, shelves_arrived, shelves_answered, shelves_marked, shelves_reaped, shelves_listed, shelves_open}
 use Rattle.wf_law_runs.proofs.Queues.Shelved.{IsFound, IsWithin, IsOf, IsShelved, each_item, later}
-use Rattle.wf_law_runs.proofs.Queues.ShelvedStep.{on_listed, shelved_enqueued, shelved_pulled, shelved_gone, shelved_joined}
+use Rattle.wf_law_runs.proofs.Queues.ShelvedStep.{on_listed, shelved_enqueued, shelved_pulled, shelved_gone, shelved_flushed, shelved_joined}
 
 not_false : (b : Bool) → not b ≡ false → b ≡ true
 not_false true h = refl
@@ -41,6 +41,7 @@ shelved_done : (note : Note) (l : List ℕ) (most : ℕ) (w : World) → NoRow (
     IsAtMost most note → Placing l w → IsShelved most (shelves w) →
     IsShelved most (shelves (outcome_of w note).world)
 unfolding outcome_of tick_outcome rate_outcome sleep_outcome wake_outcome poll_outcome rx_outcome
+    unsent_outcome give_up_outcome
 shelved_done (Enqueue s t flow len) l most w r short p i =
     shelved_enqueued l most w s t flow len p (not_false _ r.1.1.0)
     (omega (arith, ltb-false 7 t r.1.0)) short i
@@ -53,6 +54,11 @@ shelved_done (Asked (Tick by)) l most w r short p i = later most (shelves w) by 
 shelved_done (Asked (Pull c limits)) l most w r short p i = shelved_pulled most w c limits i
 shelved_done (Asked (Arrive x n)) l most w r short p i =
     subst (IsShelved most) (sym (shelves_open (exchange w x) w _ (λ y. shelves_arrived w y n))) i
+shelved_done (Asked (Unsent x n)) l most w r short p i =
+    subst (IsShelved most) (sym (shelves_open (exchange w x) w _ (λ y. shelves_marked w y _ _))) i
+shelved_done (Asked (GiveUp x n)) l most w r short p i =
+    subst (IsShelved most) (sym (shelves_open (exchange w x) w _ (λ y. shelves_marked w y _ _))) i
+shelved_done (Asked (Flush s t)) l most w r short p i = shelved_flushed most w s t i
 shelved_done (Asked (Answer x)) l most w r short p i =
     subst (IsShelved most) (sym (shelves_open (exchange w x) w _ (λ y. shelves_answered w y))) i
 shelved_done (Asked (Done x heard air)) l most w r short p i =

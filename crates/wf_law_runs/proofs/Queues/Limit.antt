@@ -7,17 +7,18 @@ use Rattle.std.specs.Prelude.{sum_by}
 use Rattle.wf_frame.specs.declared.settings.Config.{Config}
 use Rattle.wf_frame.specs.Settings.{IsInRange}
 use Rattle.wf_frame.specs.declared.notes.Ask.{Ask}
-use Rattle.wf_frame.specs.declared.notes.Ask.TheVariants.{Join, Leave, Rate, Tick, Pull, Arrive, Answer, Done, Sleep, Wake, Poll, Rx, Reap, Ampdu, Stop, Start}
+use Rattle.wf_frame.specs.declared.notes.Ask.TheVariants.{Join, Leave, Rate, Tick, Pull, Arrive, Answer, Done, Sleep, Wake, Poll, Rx, Reap, Ampdu, Stop, Start, Unsent, GiveUp, Flush}
 use Rattle.wf_frame.specs.declared.notes.Note.{Note}
 use Rattle.wf_frame.specs.declared.notes.Note.TheVariants.{Enqueue, Asked}
 use Rattle.wf_frame.specs.declared.notes.Refusal.{Refusal}
 use Rattle.wf_frame.specs.declared.notes.Refusal.TheVariants.{Idle}
+use Rattle.wf_def_lists.specs.Table.{with_member}
 use Rattle.wf_def_codel.specs.Codel.{Item, octets}
 use Rattle.wf_def_world.specs.World.{World, Queue, Exchange, new_queue, queue, accepted_count, exchange, on_queue, with_frame_finished, with_fate, opening}
 use Rattle.wf_def_world.specs.FlowQueues.{is_at_limit, total_queued, longest_queue, without_head, after_limit, queue_for, with_appended, after_put_in}
 use Rattle.wf_def_world.proofs.Longest.{octets_at, longest_first_most}
 use Rattle.wf_def_world.specs.Refusals.{refusal}
-use Rattle.wf_def_world.specs.Step.{Outcome, tick_outcome, rate_outcome, sleep_outcome, wake_outcome, poll_outcome, rx_outcome, with_frame, enqueue_outcome, outcome_where_open, concerned_station, outcome_of, after_refusal, judged_outcome, step}
+use Rattle.wf_def_world.specs.Step.{Outcome, tick_outcome, unsent_outcome, give_up_outcome, rate_outcome, sleep_outcome, wake_outcome, poll_outcome, rx_outcome, with_frame, enqueue_outcome, outcome_where_open, concerned_station, outcome_of, after_refusal, judged_outcome, step}
 use Rattle.wf_def_world.specs.Run.{Entry, world_after}
 use Rattle.wf_def_world.specs.Stretches.{world_at}
 use Rattle.wf_law_runs.specs.Queues.{EachItem, HasLength, HaveLengths}
@@ -29,7 +30,7 @@ use Rattle.wf_law_rules.proofs.Lemmas.Numbers.{le_yes, le_no}
 use Rattle.wf_law_runs.proofs.Common.Refused.{after_idle}
 use Rattle.wf_law_runs.proofs.Deficits.Configs.{config_step}
 use Rattle.wf_law_runs.proofs.Frames.Fewer.{HasOctets, Less, less, less_plain, less_on_station, less_on_share, less_after_pick, less_listed, less_within_limit}
-use Rattle.wf_law_runs.proofs.Frames.Delivered.{less_joined, less_gone, less_pulled, less_arrived, less_answered, less_reaped, less_ended}
+use Rattle.wf_law_runs.proofs.Frames.Delivered.{less_joined, less_gone, less_pulled, less_arrived, less_answered, less_marked, less_flushed, less_reaped, less_ended}
 use Rattle.wf_law_runs.proofs.Queues.Shelved.{each_append}
 use Rattle.wf_law_runs.proofs.Releases.Placed.{Any, less_put_in}
 
@@ -169,12 +170,18 @@ less_open (Some x) w f h = h x
 -- Only an Enqueue adds a frame to a queue.
 less_asked : (ask : Ask) (w : World) → Less Any w (outcome_of w (Asked ask)).world
 unfolding outcome_of tick_outcome rate_outcome sleep_outcome wake_outcome poll_outcome rx_outcome
+    unsent_outcome give_up_outcome
 less_asked (Join s window start exponent weight) w = less_joined Any w s window start exponent weight
 less_asked (Leave s) w = less_gone Any w s
 less_asked (Rate s rate) w = less_on_station Any w s _
 less_asked (Tick by) w = less_plain Any w _ refl refl
 less_asked (Pull c l) w = less_pulled Any w c l
 less_asked (Arrive e n) w = less_open (exchange w e) w _ (λ x. less_arrived Any w x n)
+less_asked (Unsent e n) w = less_open (exchange w e) w _
+    (λ x. less_marked Any w x (with_member n x.unsent) x.given_up)
+less_asked (GiveUp e n) w = less_open (exchange w e) w _
+    (λ x. less_marked Any w x x.unsent (with_member n x.given_up))
+less_asked (Flush s t) w = less_flushed Any w s t
 less_asked (Answer e) w = less_open (exchange w e) w _ (λ x. less_answered Any w x)
 less_asked (Done e heard air) w = less_open (exchange w e) w _
     (λ x. less_any _ w _ (less_ended air w x heard))

@@ -10,7 +10,7 @@ use Rattle.wf_def_codel.specs.Codel.{new_codel, Item, Dequeued, dequeue}
 use Rattle.wf_law_runs.proofs.Windows.Sides.{Same, same_take, on_live, same_after_turn, same_within_limit, same_picked}
 use Rattle.wf_frame.specs.declared.classes.Cause.TheVariants.{Left, Overlimit}
 use Rattle.wf_def_world.specs.World.{on_session, with_frames_finished, Mpdu, new_tid, session, rotation, World, Queue, no_frame, queue, tid_of, is_live, accepted_count, live_stations, codel_params, on_queue, with_queues, with_frame_finished, with_fate, on_tid, on_station, with_station}
-use Rattle.wf_def_world.specs.FlowQueues.{after_queues_left, after_queue_left, longest_queue, without_head, after_limit, is_listed_elsewhere, goes_over, overflow_queue, queue_for, when_listed, with_listed_queue, with_appended, after_put_in, queue_need, has_frames, with_queues_paid, len_given, taken_by_codel, taken_from_picked, picked_queue, taken_for_tid, is_at_limit}
+use Rattle.wf_def_world.specs.FlowQueues.{after_queues_left, after_queue_left, after_queues_flushed, after_queue_flushed, longest_queue, without_head, after_limit, is_listed_elsewhere, goes_over, overflow_queue, queue_for, when_listed, with_listed_queue, with_appended, after_put_in, queue_need, has_frames, with_queues_paid, len_given, taken_by_codel, taken_from_picked, picked_queue, taken_for_tid, is_at_limit}
 use Rattle.wf_law_runs.proofs.Queues.Shelves.{spot, shelves_with_station, shelves_on_session, shelves_sent, shelves_after_turn, shelves_off_lists, Spot, Shelves, shelves, with_listed, with_queue, with_note, all_paid, shelves_with_queues, shelves_on_queue, shelves_finish, shelves_finish_all, shelves_pay_queues, shelves_with_frame, shelves_picked}
 use Rattle.wf_law_rules.proofs.Lemmas.Numbers.{on_bool, lt_yes, lt_no, has_with, has_old, on_if, yes_lt, yes_eq, or_left, or_right, either, eq_yes}
 use Rattle.wf_frame.specs.declared.classes.Class.{Class}
@@ -19,7 +19,7 @@ use Rattle.wf_def_agreement.specs.Session.{request_due}
 use Rattle.wf_frame.specs.Classes.{all_classes}
 use Rattle.wf_def_world.specs.CanSend.{is_ready}
 use Rattle.wf_def_world.specs.Exchanges.{Prepared, with_number, with_fresh, aggregate_of, longest_fitting, waiting_mpdus, most_frames, prepared_data, prepared_exchange, sending_tid, after_tid_turn, picked_station, station_need, Aggregate}
-use Rattle.wf_def_world.specs.Step.{pull_outcome_for, pull_outcome, waiting_ids, in_rising_order, after_tid_left, after_tids_left, without_listings, leave_outcome, join_outcome, enqueue_outcome}
+use Rattle.wf_def_world.specs.Step.{pull_outcome_for, pull_outcome, waiting_ids, in_rising_order, after_tid_left, after_tids_left, without_listings, leave_outcome, after_tid_flushed, flush_outcome, join_outcome, enqueue_outcome}
 use Rattle.wf_law_runs.proofs.Windows.Opened.{eight, some_along, left_true, pick_ready}
 use Rattle.wf_law_runs.proofs.Deficits.Books.{each_upd, upd, upd_same, upd_other}
 use Rattle.std.proofs.Math.Path.{fun_ext}
@@ -717,6 +717,23 @@ shelved_gone most w s live i =
     empty a t q k h = on_bool (nat_lt 0 (on (in_order (tid_of a s t).queues) q))
         (λ e. h (k.below s t q (lt_yes 0 _ e)))
         (λ e. let none : on (in_order (tid_of a s t).queues) q ≤ 0 = lt_no 0 _ e in omega (arith, none))
+
+-- ---- a flush
+
+shelved_flush_queues : (qs : List ℕ) (most : ℕ) (w : World) → IsShelved most (shelves w) →
+    IsShelved most (shelves (after_queues_flushed w qs))
+unfolding after_queues_flushed after_queue_flushed
+shelved_flush_queues [] most w i = i
+shelved_flush_queues (q ∷ qs) most w i = shelved_flush_queues qs most _
+    (subst (IsShelved most) (sym (shelves_finish_all _ _ _ ∙ shelves_on_queue w q _))
+    (keep_queue most (shelves w) q (record (queue w q) { items = [] }) (part_none (queue w q).items)
+    (λ s t l. i.deficits s t q l) (i.counts q) i))
+
+pub shelved_flushed : (most : ℕ) (w : World) (s t : ℕ) → IsShelved most (shelves w) →
+    IsShelved most (shelves (flush_outcome w s t).world)
+unfolding flush_outcome after_tid_flushed
+shelved_flushed most w s t i = shelved_flush_queues _ most _
+    (subst (IsShelved most) (sym (shelves_finish_all _ _ _ ∙ shelves_on_session w s t _)) i)
 
 -- ---- a station joins
 

@@ -11,7 +11,7 @@ use Rattle.wf_frame.specs.declared.classes.Fate.{Fate}
 use Rattle.wf_frame.specs.declared.notes.Note.{Note}
 use Rattle.wf_def_lists.specs.Table.{at, put, change}
 use Rattle.wf_def_rotation.specs.Rotation.{Rotation, in_order}
-use Rattle.wf_def_agreement.specs.Session.{Session}
+use Rattle.wf_def_agreement.specs.Session.{Session, End}
 use Rattle.wf_def_agreement.specs.Receiver.{Receiver}
 use Rattle.wf_def_world.specs.World.{World, Station, Share, Tid, Queue, Exchange, Mpdu, Content, Frames, Request, Frame, no_frame, no_tid, no_station, new_queue, queue, is_live, accepted_count, with_station, on_station, on_tid, on_session, on_receiver, with_queues, on_share, on_queue, with_rotation, with_fate, with_frame_finished, with_frames_finished, with_exchange, without_exchange}
 use Rattle.wf_frame.specs.Classes.{all_classes}
@@ -21,6 +21,7 @@ use Rattle.wf_def_world.specs.Exchanges.{with_station_paid, with_stations_paid, 
 use Rattle.wf_def_world.specs.Step.{Outcome, with_frame, send_outcome, arrive_outcome, answer_outcome, done_outcome, outcome_where_open, reap_outcome, without_listings}
 use Rattle.wf_def_lists.specs.Lists.{on}
 use Rattle.wf_law_rules.proofs.Lemmas.Counts.{on-nil, on-cons_same, on-cons_other}
+use Rattle.wf_law_runs.proofs.Common.Marks.{marked_world}
 use Rattle.wf_law_runs.proofs.Common.Picked.{picked_world}
 use Rattle.wf_law_runs.proofs.Deficits.Books.{upd, upd_same, upd_other, upd_idle, put_upd}
 
@@ -258,18 +259,23 @@ pub shelves_sent : (s t : ℕ) (c : Class) (p : Prepared) →
 unfolding send_outcome without_credit with_exchange_opened
 shelves_sent s t c p = shelves_hidden _ s _ (λ x. refl)
 
-shelves_settled : (w : World) (s t : ℕ) (acked : Bool) (m : Mpdu) →
-    shelves (with_settled w s t acked m) ≡ shelves w
-unfolding with_settled with_failed_finished
-shelves_settled w s t acked m =
-    shelves_if acked (shelves w) _ _ (shelves_finish _ _ _ ∙ shelves_on_session w s t _)
-    (let k = shelves_on_session w s t _ in shelves_if _ (shelves w) _ _ (shelves_finish _ _ _ ∙ k) k)
+shelves_failed : (w : World) (s t : ℕ) (m : Mpdu) → shelves (with_failed_finished w s t m) ≡ shelves w
+unfolding with_failed_finished
+shelves_failed w s t m = shelves_if _ (shelves w) _ _ (shelves_finish _ _ _) refl
 
-shelves_all_settled : (ms : List Mpdu) (w : World) (s t : ℕ) (acked : ℕ → Bool) →
-    shelves (with_all_settled w s t acked ms) ≡ shelves w
+shelves_settled : (end : End) (w : World) (s t : ℕ) (m : Mpdu) →
+    shelves (with_settled w s t end m) ≡ shelves w
+unfolding with_settled
+shelves_settled End.Acknowledged w s t m = shelves_finish _ _ _ ∙ shelves_on_session w s t _
+shelves_settled End.Missed w s t m = shelves_failed _ s t m ∙ shelves_on_session w s t _
+shelves_settled End.GivenUp w s t m = shelves_failed _ s t m ∙ shelves_on_session w s t _
+shelves_settled End.Unsent w s t m = shelves_failed _ s t m ∙ shelves_on_session w s t _
+
+shelves_all_settled : (ms : List Mpdu) (w : World) (s t : ℕ) (ends : ℕ → End) →
+    shelves (with_all_settled w s t ends ms) ≡ shelves w
 unfolding with_all_settled
-shelves_all_settled [] w s t acked = refl
-shelves_all_settled (m ∷ ms) w s t acked = shelves_all_settled ms _ s t acked ∙ shelves_settled w s t _ m
+shelves_all_settled [] w s t ends = refl
+shelves_all_settled (m ∷ ms) w s t ends = shelves_all_settled ms _ s t ends ∙ shelves_settled _ w s t m
 
 shelves_after_done : (content : Content) (w : World) (x : Exchange) (heard : Bool) →
     shelves (after_done w x heard content) ≡ shelves w
@@ -289,6 +295,11 @@ shelves_arrived w x n = shelves_on_receiver w _ _ _
 pub shelves_answered : (w : World) (x : Exchange) → shelves (answer_outcome w x).world ≡ shelves w
 unfolding answer_outcome with_exchange
 shelves_answered w x = refl
+
+pub shelves_marked : (w : World) (x : Exchange) (unsent given_up : List ℕ) →
+    shelves (marked_world w x unsent given_up) ≡ shelves w
+unfolding with_exchange
+shelves_marked w x unsent given_up = refl
 
 pub shelves_reaped : (ids : List ℕ) (w : World) → shelves (reap_outcome w ids).world ≡ shelves w
 unfolding reap_outcome

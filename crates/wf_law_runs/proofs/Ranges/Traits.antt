@@ -5,7 +5,7 @@ use Rattle.std.proofs.lemmas.Bool.{not-false}
 use Rattle.wf_frame.specs.declared.settings.Config.{Config}
 use Rattle.wf_frame.specs.declared.classes.Class.{Class}
 use Rattle.wf_frame.specs.declared.classes.Fate.{Fate}
-use Rattle.wf_frame.specs.declared.notes.Ask.TheVariants.{Join, Leave, Rate, Tick, Pull, Arrive, Answer, Done, Sleep, Wake, Poll, Rx, Reap, Ampdu, Stop, Start}
+use Rattle.wf_frame.specs.declared.notes.Ask.TheVariants.{Join, Leave, Rate, Tick, Pull, Arrive, Answer, Done, Sleep, Wake, Poll, Rx, Reap, Ampdu, Stop, Start, Unsent, GiveUp, Flush}
 use Rattle.wf_frame.specs.declared.notes.Limits.{Limits}
 use Rattle.wf_frame.specs.declared.notes.Note.{Note}
 use Rattle.wf_frame.specs.declared.notes.Note.TheVariants.{Enqueue, Asked}
@@ -16,14 +16,14 @@ use Rattle.wf_def_lists.specs.Table.{at, upto}
 use Rattle.wf_def_air.specs.Airtime.{Rate as Airtime_rate, IsRate}
 use Rattle.wf_def_codel.specs.Codel.{Item}
 use Rattle.wf_def_rotation.specs.Rotation.{in_order}
-use Rattle.wf_def_agreement.specs.Session.{Session, request_due}
+use Rattle.wf_def_agreement.specs.Session.{Session, End, request_due}
 use Rattle.wf_def_lists.specs.Bounds.{greatest_exponent, greatest_weight, least_ampdu, greatest_ampdu}
 use Rattle.wf_def_world.specs.World.{World, Station, Share, Tid, Exchange, Mpdu, Content, Frames, Request, no_station, station, session, queue, rotation, exchange, with_station, on_station, on_tid, on_session, on_receiver, with_queues, on_share, on_queue, with_rotation, with_fate, with_frame_finished, with_frames_finished, with_exchange, without_exchange, opening}
-use Rattle.wf_def_world.specs.FlowQueues.{is_at_limit, without_head, after_limit, longest_queue, with_listed_queue, with_appended, after_put_in, with_queues_paid, taken_by_codel, taken_from_picked, taken_for_tid, after_queue_left, after_queues_left}
+use Rattle.wf_def_world.specs.FlowQueues.{is_at_limit, without_head, after_limit, longest_queue, with_listed_queue, with_appended, after_put_in, with_queues_paid, taken_by_codel, taken_from_picked, taken_for_tid, after_queue_left, after_queues_left, after_queue_flushed, after_queues_flushed}
 use Rattle.wf_def_world.specs.CanSend.{with_listing_in, with_listings_in, with_listings_of, can_give}
 use Rattle.wf_def_world.specs.Exchanges.{picked_station, most_frames, waiting_mpdus, longest_fitting, Aggregate, Prepared, with_station_paid, with_stations_paid, after_pick, after_tid_turn, with_number, with_fresh, aggregate_of, prepared_data, prepared_exchange, without_credit, with_exchange_opened, after_charge, with_failed_finished, with_settled, with_all_settled, after_done}
 use Rattle.wf_def_world.specs.Refusals.{refusals, refusal, is_within}
-use Rattle.wf_def_world.specs.Step.{Outcome, join_outcome, after_tid_left, after_tids_left, without_listings, leave_outcome, rate_outcome, ampdu_outcome, tick_outcome, with_frame, enqueue_outcome, send_outcome, pull_outcome_for, pull_outcome, arrive_outcome, answer_outcome, done_outcome, outcome_where_open, sleep_outcome, wake_outcome, poll_outcome, rx_outcome, reap_outcome, concerned_station, outcome_of, after_refusal, judged_outcome, step}
+use Rattle.wf_def_world.specs.Step.{Outcome, join_outcome, after_tid_left, after_tids_left, without_listings, leave_outcome, after_tid_flushed, flush_outcome, rate_outcome, ampdu_outcome, tick_outcome, with_frame, enqueue_outcome, send_outcome, pull_outcome_for, pull_outcome, arrive_outcome, answer_outcome, unsent_outcome, give_up_outcome, done_outcome, outcome_where_open, sleep_outcome, wake_outcome, poll_outcome, rx_outcome, reap_outcome, concerned_station, outcome_of, after_refusal, judged_outcome, step}
 use Rattle.wf_def_world.specs.Run.{Entry, world_after}
 use Rattle.wf_law_rules.proofs.Lemmas.Numbers.{both, le_yes, lt_no}
 use Rattle.wf_law_rules.proofs.Lemmas.Tables.{each_put}
@@ -225,17 +225,23 @@ kept_pulled w c l h = kept_pulled_by (picked_station w c).winner (picked_world w
 
 -- ---- exchanges
 
-kept_settled : (b : Bool) (w : World) (s t : ℕ) (m : Mpdu) → Traits w → Traits (with_settled w s t b m)
-unfolding with_settled with_failed_finished with_frame_finished with_fate
-kept_settled true w s t m h = kept_session w s t _ h
-kept_settled false w s t m h = let k = kept_session w s t _ h in kept_if _ _ _ k k
+kept_failed : (w : World) (s t : ℕ) (m : Mpdu) → Traits w → Traits (with_failed_finished w s t m)
+unfolding with_failed_finished with_frame_finished with_fate
+kept_failed w s t m h = kept_if _ _ _ h h
 
-kept_all_settled : (ms : List Mpdu) (w : World) (s t : ℕ) (acked : ℕ → Bool) → Traits w →
-    Traits (with_all_settled w s t acked ms)
+kept_settled : (end : End) (w : World) (s t : ℕ) (m : Mpdu) → Traits w → Traits (with_settled w s t end m)
+unfolding with_settled with_frame_finished with_fate
+kept_settled End.Acknowledged w s t m h = kept_session w s t _ h
+kept_settled End.Missed w s t m h = kept_failed _ s t m (kept_session w s t _ h)
+kept_settled End.GivenUp w s t m h = kept_failed _ s t m (kept_session w s t _ h)
+kept_settled End.Unsent w s t m h = kept_failed _ s t m (kept_session w s t _ h)
+
+kept_all_settled : (ms : List Mpdu) (w : World) (s t : ℕ) (ends : ℕ → End) → Traits w →
+    Traits (with_all_settled w s t ends ms)
 unfolding with_all_settled
-kept_all_settled [] w s t acked h = h
-kept_all_settled (m ∷ ms) w s t acked h = kept_all_settled ms _ s t acked
-    (kept_settled (acked m.number) w s t m h)
+kept_all_settled [] w s t ends h = h
+kept_all_settled (m ∷ ms) w s t ends h = kept_all_settled ms _ s t ends
+    (kept_settled (ends m.number) w s t m h)
 
 kept_after_done : (content : Content) (w : World) (x : Exchange) (heard : Bool) → Traits w →
     Traits (after_done w x heard content)
@@ -255,6 +261,14 @@ kept_arrived w x n h = kept_tid w x.station x.tid _ h
 kept_answered : (w : World) (x : Exchange) → Traits w → Traits (answer_outcome w x).world
 unfolding answer_outcome with_exchange
 kept_answered w x h = h
+
+kept_unsent : (w : World) (x : Exchange) (n : ℕ) → Traits w → Traits (unsent_outcome w x n).world
+unfolding unsent_outcome with_exchange
+kept_unsent w x n h = h
+
+kept_given_up : (w : World) (x : Exchange) (n : ℕ) → Traits w → Traits (give_up_outcome w x n).world
+unfolding give_up_outcome with_exchange
+kept_given_up w x n h = h
 
 kept_open : (o : Option Exchange) (w : World) (f : Exchange → Outcome) →
     ((x : Exchange) → Traits (f x).world) → Traits w → Traits (outcome_where_open w o f).world
@@ -279,6 +293,15 @@ kept_off_lists : (cs : List Class) (w : World) (s : ℕ) → Traits w → Traits
 unfolding without_listings with_rotation
 kept_off_lists [] w s h = h
 kept_off_lists (c ∷ cs) w s h = kept_off_lists cs _ s h
+
+kept_flush_queues : (qs : List ℕ) (w : World) → Traits w → Traits (after_queues_flushed w qs)
+unfolding after_queues_flushed after_queue_flushed on_queue
+kept_flush_queues [] w h = h
+kept_flush_queues (q ∷ qs) w h = kept_flush_queues qs _ (kept_finish_all _ _ _ h)
+
+kept_flushed : (w : World) (s t : ℕ) → Traits w → Traits (flush_outcome w s t).world
+unfolding flush_outcome after_tid_flushed
+kept_flushed w s t h = kept_flush_queues _ _ (kept_finish_all _ _ _ (kept_session w s t _ h))
 
 kept_gone : (w : World) (s : ℕ) → Traits w → Traits (leave_outcome w s).world
 unfolding leave_outcome
@@ -347,6 +370,9 @@ kept_done (Asked (Rate s rate)) w e h =
 kept_done (Asked (Tick by)) w e h = h
 kept_done (Asked (Pull c l)) w e h = kept_pulled w c l h
 kept_done (Asked (Arrive x n)) w e h = kept_open (exchange w x) w _ (λ y. kept_arrived w y n h) h
+kept_done (Asked (Unsent x n)) w e h = kept_open (exchange w x) w _ (λ y. kept_unsent w y n h) h
+kept_done (Asked (GiveUp x n)) w e h = kept_open (exchange w x) w _ (λ y. kept_given_up w y n h) h
+kept_done (Asked (Flush s t)) w e h = kept_flushed w s t h
 kept_done (Asked (Answer x)) w e h = kept_open (exchange w x) w _ (λ y. kept_answered w y h) h
 kept_done (Asked (Done x heard air)) w e h = kept_open (exchange w x) w _ (λ y. kept_ended air w y heard h) h
 kept_done (Asked (Sleep s)) w e h = set_station w s _

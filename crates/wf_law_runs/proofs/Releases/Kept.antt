@@ -2,18 +2,21 @@
 use Rattle.std.proofs.Common.{◌≡◌, refl, ap, sym, ◌∙◌, subst, arith, ℕ, zero, suc, ◌-◌, ◌<◌, ◌≤◌, Bool, true, false, if◌then◌else◌, not, ◌==◌, List, [], ◌∷◌, length, Option, Some, None, is_some}
 use Rattle.wf_frame.specs.declared.classes.Class.{Class}
 use Rattle.wf_frame.specs.declared.notes.Limits.{Limits}
-use Rattle.wf_def_lists.specs.Table.{at, put}
+use Rattle.wf_def_lists.specs.Table.{at, put, with_member}
 use Rattle.wf_def_codel.specs.Codel.{Item}
-use Rattle.wf_def_agreement.specs.Session.{request_due, with_state, Session, Slot, State, is_failed, slot_after_miss, slot, on_slot, with_number_given, after_miss, next_number, no_slot}
+use Rattle.wf_def_agreement.specs.Session.{End, request_due, with_state, Session, Slot, State, is_failed, slot_given_up, slot, on_slot, with_number_given, after_flush, next_number, no_slot}
 use Rattle.wf_def_world.specs.World.{receiver, World, Station, Exchange, Mpdu, Content, Frames, Request, session, is_live, on_session, with_exchange, without_exchange}
 use Rattle.wf_def_world.specs.FlowQueues.{taken_for_tid}
 use Rattle.wf_def_world.specs.CanSend.{can_give}
 use Rattle.wf_def_world.specs.Exchanges.{most_frames, picked_station, sending_tid, with_heard_start, Aggregate, Prepared, with_fresh, aggregate_of, with_number, with_flying, waiting_mpdus, longest_fitting, prepared_data, prepared_exchange, with_exchange_opened, with_failed_finished, with_settled, with_all_settled, after_done}
-use Rattle.wf_def_world.specs.Step.{with_frame, enqueue_outcome, send_outcome, pull_outcome_for, pull_outcome, answer_outcome, done_outcome, reap_outcome}
+use Rattle.wf_def_world.specs.Step.{with_frame, enqueue_outcome, send_outcome, pull_outcome_for, pull_outcome, answer_outcome, done_outcome, unsent_outcome, give_up_outcome, flush_outcome, reap_outcome}
 use Rattle.wf_law_rules.proofs.Lemmas.Tables.{each_put}
 use Rattle.wf_law_runs.proofs.Common.Picked.{picked_world}
+use Rattle.wf_law_runs.proofs.Common.Marks.{marked_world}
+use Rattle.wf_law_runs.proofs.Common.Ends.{slot_after_end, end_id, on_settled}
+use Rattle.wf_law_runs.proofs.Common.Flushes.{flush_along, if_flushed}
 use Rattle.wf_law_runs.proofs.Sessions.Flights.{next-give}
-use Rattle.wf_law_runs.proofs.Windows.Sides.{Side, sides_of, Same, each_side_on, on_live, same, then_same, same_finish, same_after_turn, same_spent, same_within_limit, same_put_in, same_take, same_charged, same_picked}
+use Rattle.wf_law_runs.proofs.Windows.Sides.{Side, sides_of, Same, each_side_on, on_live, on_opened, same, then_same, same_on_queue, same_finish, same_after_turn, same_spent, same_within_limit, same_put_in, same_take, same_charged, same_picked}
 use Rattle.wf_law_runs.proofs.Windows.Agreement.{slot_give}
 
 -- The session's assigned numbers keep their ids.
@@ -177,24 +180,26 @@ unfolding pull_outcome
 keep_pulled w c l = then_keep w (picked_world w c l) _ (kept_same w _ (same_picked w c l))
     (keep_pulled_by (picked_station w c).winner (picked_world w c l) c)
 
-pub keep_settled : (b : Bool) (w : World) (s t : ℕ) (m : Mpdu) → Kept w (with_settled w s t b m)
+pub keep_settled : (end : End) (w : World) (s t : ℕ) (m : Mpdu) → Kept w (with_settled w s t end m)
 unfolding with_settled with_failed_finished
-keep_settled true w s t m = then_keep w _ _ (keep_on_session w s t (with_state State.Acked m.number)
+keep_settled end w s t m =
+    let f : Slot → Slot = slot_after_end w.config.attempts end in
+    let v : World = on_session w s t (on_slot m.number f) in
+    let k : Kept w v = keep_on_session w s t (on_slot m.number f)
+    (kept_on_slot (session w s t) m.number f (λ x. end_id w.config.attempts end x)) in
+    on_settled (Kept w) end w s t m
+    (λ _. then_keep w _ _ (keep_on_session w s t (with_state State.Acked m.number)
     (kept_on_slot (session w s t) m.number (λ x. record x { state = State.Acked }) (λ x. refl)))
-    (kept_same _ _ (same_finish _ _ _))
-keep_settled false w s t m =
-    let v : World = on_session w s t (after_miss w.config.attempts m.number) in
-    let k : Kept w v = keep_on_session w s t (after_miss w.config.attempts m.number)
-    (kept_on_slot (session w s t) m.number (slot_after_miss w.config.attempts) (λ x. refl)) in
-    keep_if (is_failed (slot (session v s t) m.number).state) w _ v
-    (then_keep w v _ k (kept_same v _ (same_finish v _ _))) k
+    (kept_same _ _ (same_finish _ _ _)))
+    (λ _. keep_if (is_failed (slot (session v s t) m.number).state) w _ v
+    (then_keep w v _ k (kept_same v _ (same_finish v _ _))) k)
 
-keep_all_settled : (ms : List Mpdu) (w : World) (s t : ℕ) (acked : ℕ → Bool) →
-    Kept w (with_all_settled w s t acked ms)
+keep_all_settled : (ms : List Mpdu) (w : World) (s t : ℕ) (ends : ℕ → End) →
+    Kept w (with_all_settled w s t ends ms)
 unfolding with_all_settled
-keep_all_settled [] w s t acked = kept_here w
-keep_all_settled (m ∷ ms) w s t acked = then_keep w _ _ (keep_settled (acked m.number) w s t m)
-    (keep_all_settled ms _ s t acked)
+keep_all_settled [] w s t ends = kept_here w
+keep_all_settled (m ∷ ms) w s t ends = then_keep w _ _ (keep_settled (ends m.number) w s t m)
+    (keep_all_settled ms _ s t ends)
 
 keep_after_done : (c : Content) (w : World) (x : Exchange) (heard : Bool) → Kept w (after_done w x heard c)
 unfolding after_done
@@ -226,6 +231,47 @@ keep_answered w x = record {
   live =
       λ s. refl;
 }
+
+pub keep_marked : (w : World) (x : Exchange) (unsent given_up : List ℕ) →
+    Kept w (marked_world w x unsent given_up)
+unfolding with_exchange
+keep_marked w x unsent given_up = record {
+  receivers = λ s t. refl;
+  sessions = λ s t. kept_refl (session w s t);
+  live = λ s. refl;
+}
+
+pub keep_unsent : (w : World) (x : Exchange) (n : ℕ) → Kept w (unsent_outcome w x n).world
+unfolding unsent_outcome
+keep_unsent w x n = keep_marked w x (with_member n x.unsent) x.given_up
+
+pub keep_given_up : (w : World) (x : Exchange) (n : ℕ) → Kept w (give_up_outcome w x n).world
+unfolding give_up_outcome
+keep_given_up w x n = keep_marked w x x.unsent (with_member n x.given_up)
+
+pub kept_flush : (limit : ℕ) (y : Session) → KeptSession y (after_flush limit y)
+kept_flush limit y = flush_along (KeptSession y) limit y
+    (λ z n e l b waits k. then_kept y z _ k (kept_on_slot z n (slot_given_up limit) (λ x. refl)))
+    (kept_refl y)
+
+pub keep_flushed : (w : World) (s t : ℕ) → Kept w (flush_outcome w s t).world
+keep_flushed w s t = if_flushed (Kept w)
+    (record {
+      finish = λ u id k. then_keep w u _ k (kept_same u _ (same_finish u _ id));
+      empty = λ u q k. then_keep w u _ k (kept_same u _ (same_on_queue u q _));
+    }) w s t
+    (keep_on_session w s t (after_flush w.config.attempts) (kept_flush w.config.attempts (session w s t)))
+
+opened_on_session : (w : World) (s t : ℕ) (f : Session → Session) → (on_session w s t f).opened ≡ w.opened
+unfolding on_session
+opened_on_session w s t f = on_opened w s t _
+
+pub opened_flushed : (w : World) (s t : ℕ) → (flush_outcome w s t).world.opened ≡ w.opened
+opened_flushed w s t = if_flushed (λ u. u.opened ≡ w.opened)
+    (record {
+      finish = λ u id k. (same_finish u _ id).opened ∙ k;
+      empty = λ u q k. (same_on_queue u q _).opened ∙ k;
+    }) w s t (opened_on_session w s t _)
 
 pub keep_plain : (w v : World) → w.stations ≡ v.stations → Kept w v
 keep_plain w v a = record {

@@ -1,11 +1,12 @@
 -- Proves that each frame has one place in every run, and is released at most once. Each call keeps the
 -- places, because each elementary change keeps them (Steps).
-use Rattle.std.proofs.Common.{◌≡◌, ℕ, Bool, List, [], ◌∷◌, ◌++◌, Option, IfSome}
+use Rattle.std.proofs.Common.{◌≡◌, ℕ, List, [], ◌∷◌, ◌++◌, Option, IfSome}
 use Rattle.wf_frame.specs.declared.settings.Config.{Config}
 use Rattle.wf_frame.specs.declared.notes.Note.{Note}
 use Rattle.wf_frame.specs.declared.notes.Note.TheVariants.{Enqueue}
 use Rattle.wf_def_codel.specs.Codel.{Item}
 use Rattle.wf_def_agreement.specs.Receiver.{Receiver, released_between}
+use Rattle.wf_def_agreement.specs.Session.{End}
 use Rattle.wf_def_world.specs.World.{World, Mpdu, receiver, session, without_exchange, opening}
 use Rattle.wf_def_world.specs.Exchanges.{Aggregate, ids_of, aggregate_of, prepared_data, with_number, with_settled}
 use Rattle.wf_def_world.specs.Refusals.{refusals}
@@ -50,8 +51,8 @@ pub placed_frames : (l : List ℕ) (s t : ℕ) (f : Aggregate) → IsReady s t f
 placed_frames = through_frames Placing Always placed_less placed_session placed_give passes_always
     placed_station enqueued_always
 
-pub placed_settled : (b : Bool) (l : List ℕ) (e s t : ℕ) (acked : ℕ → Bool) (w : World) (m : Mpdu)
-    (ms : List Mpdu) → IsEnding e s t acked w (m ∷ ms) → Placing l w → Placing l (with_settled w s t b m)
+pub placed_settled : (end : End) (l : List ℕ) (e s t : ℕ) (ends : ℕ → End) (w : World) (m : Mpdu)
+    (ms : List Mpdu) → IsEnding e s t ends w (m ∷ ms) → Placing l w → Placing l (with_settled w s t end m)
 placed_settled = through_settled Placing Always placed_less placed_session placed_give passes_always
     placed_station enqueued_always
 

@@ -10,10 +10,10 @@ use Rattle.wf_def_agreement.specs.Session.{Session, Slot, slot, with_number_give
 use Rattle.wf_def_world.specs.World.{receiver, World, Station, Tid, Frame, no_frame, Exchange, Content, Frames, Request, new_tid, session, exchange, with_station, on_tid, on_session, on_receiver, on_queue, with_exchange, opening, new_queue, queue, accepted_count}
 use Rattle.wf_def_world.specs.FlowQueues.{after_limit, with_appended, after_put_in, queue_for}
 use Rattle.wf_def_world.specs.Exchanges.{transmissions, no_mpdu, picked_station, after_arrival, with_heard_start, mpdus_of, ids_of}
-use Rattle.wf_frame.specs.declared.notes.Ask.TheVariants.{Join, Leave, Rate, Tick, Pull, Arrive, Answer, Done, Sleep, Wake, Poll, Rx, Reap, Ampdu, Stop, Start}
+use Rattle.wf_frame.specs.declared.notes.Ask.TheVariants.{Join, Leave, Rate, Tick, Pull, Arrive, Answer, Done, Sleep, Wake, Poll, Rx, Reap, Ampdu, Stop, Start, Unsent, GiveUp, Flush}
 use Rattle.wf_frame.specs.declared.notes.Note.{Note}
 use Rattle.wf_frame.specs.declared.notes.Note.TheVariants.{Enqueue, Asked}
-use Rattle.wf_def_world.specs.Step.{Outcome, join_outcome, after_tid_left, after_tids_left, without_listings, leave_outcome, rate_outcome, tick_outcome, with_frame, enqueue_outcome, send_outcome, pull_outcome_for, pull_outcome, answer_outcome, done_outcome, outcome_where_open, sleep_outcome, wake_outcome, poll_outcome, rx_outcome, reap_outcome, outcome_of}
+use Rattle.wf_def_world.specs.Step.{Outcome, join_outcome, after_tid_left, after_tids_left, without_listings, leave_outcome, rate_outcome, tick_outcome, with_frame, enqueue_outcome, send_outcome, pull_outcome_for, pull_outcome, answer_outcome, unsent_outcome, give_up_outcome, flush_outcome, done_outcome, outcome_where_open, sleep_outcome, wake_outcome, poll_outcome, rx_outcome, reap_outcome, outcome_of}
 use Rattle.wf_law_rules.proofs.Lemmas.Joined.{has_append, once_append}
 use Rattle.wf_law_rules.proofs.Lemmas.Tables.{each_put}
 use Rattle.wf_law_runs.proofs.Sessions.Starts.{at_append}
@@ -615,7 +615,8 @@ named_reaped (id ∷ ids) w = refl
 pub named_done : (note : Note) (w : World) → (named_by (outcome_of w note).reply ≡ []) ⊎
     ((e : ℕ) × (n : ℕ) × (note ≡ Asked (Arrive e n)))
 unfolding outcome_of enqueue_outcome join_outcome leave_outcome rate_outcome tick_outcome pull_outcome
-    answer_outcome done_outcome sleep_outcome wake_outcome poll_outcome rx_outcome
+    answer_outcome unsent_outcome give_up_outcome flush_outcome done_outcome sleep_outcome wake_outcome
+    poll_outcome rx_outcome
 named_done (Enqueue s t flow len) w = inl refl
 named_done (Asked (Join s window start exponent weight)) w = inl refl
 named_done (Asked (Leave s)) w = inl refl
@@ -633,6 +634,9 @@ named_done (Asked (Wake s)) w = inl refl
 named_done (Asked (Poll s)) w = inl refl
 named_done (Asked (Rx s c air)) w = inl refl
 named_done (Asked Reap) w = inl (named_reaped w.finished w)
+named_done (Asked (Unsent e n)) w = inl (named_open (exchange w e) w _ (λ x. refl))
+named_done (Asked (GiveUp e n)) w = inl (named_open (exchange w e) w _ (λ x. refl))
+named_done (Asked (Flush s t)) w = inl refl
 
 pub placed_at_first : (config : Config) → Placing [] (opening config)
 placed_at_first config = record {

@@ -9,14 +9,14 @@ use Rattle.wf_def_world.specs.World.{receiver, World, Station, Exchange, Content
 use Rattle.wf_frame.specs.Classes.{all_classes}
 use Rattle.wf_def_world.specs.CanSend.{with_listings_of}
 use Rattle.wf_def_world.specs.Exchanges.{transmissions, no_mpdu, after_arrival, mpdus_of, ids_of}
-use Rattle.wf_frame.specs.declared.notes.Ask.TheVariants.{Join, Leave, Rate, Tick, Pull, Arrive, Answer, Done, Sleep, Wake, Poll, Rx, Reap, Ampdu, Stop, Start}
+use Rattle.wf_frame.specs.declared.notes.Ask.TheVariants.{Join, Leave, Rate, Tick, Pull, Arrive, Answer, Done, Sleep, Wake, Poll, Rx, Reap, Ampdu, Stop, Start, Unsent, GiveUp, Flush}
 use Rattle.wf_frame.specs.declared.notes.AskedRate.{AskedRate}
 use Rattle.wf_frame.specs.declared.notes.Note.{Note}
 use Rattle.wf_frame.specs.declared.notes.Note.TheVariants.{Enqueue, Asked}
 use Rattle.wf_frame.specs.declared.notes.Refusal.{Refusal}
 use Rattle.wf_frame.specs.declared.notes.Refusal.TheVariants.{Idle}
 use Rattle.wf_def_world.specs.Refusals.{refusals, refusal}
-use Rattle.wf_def_world.specs.Step.{Outcome, join_outcome, after_tids_left, without_listings, leave_outcome, rate_outcome, tick_outcome, enqueue_outcome, pull_outcome, arrive_outcome, answer_outcome, done_outcome, outcome_where_open, sleep_outcome, wake_outcome, poll_outcome, rx_outcome, reap_outcome, outcome_of, after_refusal, judged_outcome, step, concerned_station, ampdu_outcome, stop_outcome, start_outcome}
+use Rattle.wf_def_world.specs.Step.{Outcome, join_outcome, after_tids_left, without_listings, leave_outcome, rate_outcome, tick_outcome, enqueue_outcome, pull_outcome, arrive_outcome, answer_outcome, unsent_outcome, give_up_outcome, flush_outcome, done_outcome, outcome_where_open, sleep_outcome, wake_outcome, poll_outcome, rx_outcome, reap_outcome, outcome_of, after_refusal, judged_outcome, step, concerned_station, ampdu_outcome, stop_outcome, start_outcome}
 use Rattle.wf_def_world.specs.Run.{Entry, world_after}
 use Rattle.wf_law_rules.proofs.Lemmas.Tables.{at_put_same, at_put_other}
 use Rattle.wf_law_rules.proofs.Lemmas.Numbers.{Climbs, on_bool, on_if, lt_yes, lt_no, eq_yes, eq_no, yes_eq, either, both, and_true, or_left, or_right, has_old, climbs_with, greatest_least, greatest_has, greatest_within}
@@ -29,7 +29,7 @@ use Rattle.wf_frame.specs.declared.notes.ReplyNote.TheVariants.{Joined, Released
 use Rattle.wf_def_lists.specs.Lists.{IsRising}
 use Rattle.wf_law_runs.specs.Releases.{is_join_of, is_at, is_arrival_for, passed_by, passed_from, passed, numbers_passed}
 use Rattle.wf_law_runs.proofs.Releases.Passing.{filter_split, filter_with, member_known, release_rises}
-use Rattle.wf_law_runs.proofs.Releases.Kept.{KeptSession, Kept, kept_same, keep_pulled, keep_ended, keep_answered, keep_plain, keep_enqueued, keep_reaped}
+use Rattle.wf_law_runs.proofs.Releases.Kept.{KeptSession, Kept, kept_same, keep_pulled, keep_ended, keep_answered, keep_plain, keep_enqueued, keep_unsent, keep_given_up, keep_flushed, keep_reaped}
 use Rattle.wf_law_runs.proofs.Windows.Agreed.{IsLawful, IsOpenIn, all_at, rises_at, if_on, same_left_tids, same_off_lists, lawful_step, lawful, lawful_at_first}
 use Rattle.wf_def_air.specs.Airtime.{lowest_rate}
 
@@ -384,6 +384,17 @@ passed_done (Asked (Poll a)) w i s t l e h = passed_quiet w (Asked (Poll a))
 passed_done (Asked (Rx a c air)) w i s t l e h =
     passed_quiet w (Asked (Rx a c air)) (rx_outcome w a c air) s t l refl refl
     (passed_kept w _ s t l i (keep_received w a c air) h)
+passed_done (Asked (Unsent x n)) w i s t l e h =
+    passed_quiet w (Asked (Unsent x n))
+    (outcome_where_open w (exchange w x) (λ y. unsent_outcome w y n)) s t l
+    refl refl (passed_kept w _ s t l i (keep_open (exchange w x) w _ (λ y. keep_unsent w y n)) h)
+passed_done (Asked (GiveUp x n)) w i s t l e h =
+    passed_quiet w (Asked (GiveUp x n))
+    (outcome_where_open w (exchange w x) (λ y. give_up_outcome w y n)) s t l
+    refl refl (passed_kept w _ s t l i (keep_open (exchange w x) w _ (λ y. keep_given_up w y n)) h)
+passed_done (Asked (Flush a b)) w i s t l e h =
+    passed_quiet w (Asked (Flush a b)) (flush_outcome w a b) s t l refl refl
+    (passed_kept w _ s t l i (keep_flushed w a b) h)
 passed_done (Asked Reap) w i s t l e h = passed_quiet w (Asked Reap)
     (reap_outcome w w.finished) s t l refl refl (passed_kept w _ s t l i (keep_reaped w.finished w) h)
 

@@ -7,32 +7,35 @@ use Rattle.wf_frame.specs.declared.classes.Fate.{Fate}
 use Rattle.wf_def_lists.specs.Table.{at, with_member, upto}
 use Rattle.wf_def_codel.specs.Codel.{Item}
 use Rattle.wf_def_agreement.specs.Receiver.{Receiver, released_between}
-use Rattle.wf_def_agreement.specs.Session.{request_due, Session, Slot, State, is_settled, is_failed, slot_after_miss, slot, on_slot, with_number_given, after_miss, next_number}
-use Rattle.wf_def_world.specs.World.{receiver, World, Station, Exchange, Mpdu, Content, Frames, Request, new_tid, no_tid, rotation, session, is_live, exchange, with_station, on_station, on_session, on_receiver, with_frame_finished, with_exchange, without_exchange}
+use Rattle.wf_def_agreement.specs.Session.{End, request_due, Session, Slot, State, is_settled, is_failed, slot, on_slot, with_number_given, after_flush, next_number}
+use Rattle.wf_def_world.specs.World.{receiver, World, Station, Exchange, Mpdu, Content, Frames, Request, new_tid, no_tid, queue, rotation, session, is_live, exchange, with_station, on_station, on_session, on_receiver, with_frame_finished, with_exchange, without_exchange}
 use Rattle.wf_frame.specs.Classes.{all_classes}
 use Rattle.wf_def_world.specs.FlowQueues.{taken_for_tid}
 use Rattle.wf_def_world.specs.CanSend.{is_ready, can_give}
-use Rattle.wf_def_world.specs.Exchanges.{is_acked, transmissions, station_need, most_frames, picked_station, after_arrival, sending_tid, with_heard_start, Prepared, after_tid_turn, with_fresh, aggregate_of, with_number, with_flying, waiting_mpdus, longest_fitting, prepared_data, prepared_exchange, with_exchange_opened, after_charge, with_failed_finished, with_settled, with_all_settled, after_done, ids_of, Aggregate}
-use Rattle.wf_frame.specs.declared.notes.Ask.TheVariants.{Join, Leave, Rate, Tick, Pull, Arrive, Answer, Done, Sleep, Wake, Poll, Rx, Reap, Ampdu, Stop, Start}
+use Rattle.wf_def_world.specs.Exchanges.{end_of, transmissions, station_need, most_frames, picked_station, after_arrival, sending_tid, with_heard_start, Prepared, after_tid_turn, with_fresh, aggregate_of, with_number, with_flying, waiting_mpdus, longest_fitting, prepared_data, prepared_exchange, with_exchange_opened, after_charge, with_failed_finished, with_settled, with_all_settled, after_done, ids_of, Aggregate}
+use Rattle.wf_frame.specs.declared.notes.Ask.TheVariants.{Join, Leave, Rate, Tick, Pull, Arrive, Answer, Done, Sleep, Wake, Poll, Rx, Reap, Ampdu, Stop, Start, Unsent, GiveUp, Flush}
 use Rattle.wf_frame.specs.declared.notes.Limits.{Limits}
 use Rattle.wf_frame.specs.declared.notes.Note.{Note}
 use Rattle.wf_frame.specs.declared.notes.Note.TheVariants.{Enqueue, Asked}
 use Rattle.wf_frame.specs.declared.notes.Refusal.{Refusal}
 use Rattle.wf_frame.specs.declared.notes.Refusal.TheVariants.{Idle}
 use Rattle.wf_def_world.specs.Refusals.{refusals, refusal}
-use Rattle.wf_def_world.specs.Step.{Outcome, join_outcome, leave_outcome, rate_outcome, tick_outcome, enqueue_outcome, send_outcome, pull_outcome_for, pull_outcome, arrive_outcome, answer_outcome, done_outcome, outcome_where_open, sleep_outcome, wake_outcome, poll_outcome, rx_outcome, reap_outcome, outcome_of, after_refusal, judged_outcome, step, concerned_station}
+use Rattle.wf_def_world.specs.Step.{Outcome, join_outcome, leave_outcome, rate_outcome, tick_outcome, enqueue_outcome, send_outcome, pull_outcome_for, pull_outcome, arrive_outcome, answer_outcome, done_outcome, outcome_where_open, sleep_outcome, wake_outcome, poll_outcome, rx_outcome, reap_outcome, unsent_outcome, give_up_outcome, flush_outcome, outcome_of, after_refusal, judged_outcome, step, concerned_station}
 use Rattle.wf_law_runs.proofs.Common.Refused.{after_idle}
+use Rattle.wf_law_runs.proofs.Common.Marks.{marked_world}
+use Rattle.wf_law_runs.proofs.Common.Ends.{slot_after_end, end_id, on_settled}
+use Rattle.wf_law_runs.proofs.Common.Flushes.{next-flush, if_flushed}
 use Rattle.wf_law_runs.proofs.Sessions.Starts.{length-change}
 use Rattle.wf_law_runs.proofs.Sessions.Flights.{flown}
-use Rattle.wf_law_runs.proofs.Windows.Sides.{side_of, side, sides_of, Same, then_same, same_on_station, same_on_share, same_finish, same_listed, same_after_pick, same_after_turn, same_spent, same_take, same_charged, same_picked}
+use Rattle.wf_law_runs.proofs.Windows.Sides.{side_of, side, sides_of, Same, then_same, same_on_station, same_on_share, same_on_queue, same_finish, same_listed, same_after_pick, same_after_turn, same_spent, same_take, same_charged, same_picked}
 use Rattle.wf_law_runs.proofs.Windows.Opened.{some_along, pick_ready, left_true, eight, NoRow, no_row}
 use Rattle.wf_frame.specs.declared.notes.ReplyNote.TheVariants.{Released, Refused}
 use Rattle.wf_law_runs.specs.Releases.{named_by}
 use Rattle.wf_law_runs.proofs.Common.Picked.{picked_world}
-use Rattle.wf_law_runs.proofs.Releases.Kept.{KeptSession, kept_on_slot, kept_fly, kept_heard}
+use Rattle.wf_law_runs.proofs.Releases.Kept.{KeptSession, kept_on_slot, kept_fly, kept_heard, kept_flush}
 use Rattle.wf_law_runs.proofs.Windows.Agreed.{IsLawful, IsOpenIn, IsReady, IsEnding, IsFound, found, ready_filled, ending_settled, ending_of, lawful_same, same_left_tids, same_off_lists, if_on}
 use Rattle.wf_law_runs.proofs.Releases.Released.{side_taken, side_untaken, opened_in}
-use Rattle.wf_law_runs.proofs.Frames.Fewer.{Less, then_less, less_plain, less_on_station, less_on_share, less_finish, less_listed, less_after_pick, less_after_turn, less_spent, less_charged, less_take, IsTaken, given_take, less_picked}
+use Rattle.wf_law_runs.proofs.Frames.Fewer.{Less, then_less, less_plain, fewer_none, less_on_queue, less_on_station, less_on_share, less_finish, less_listed, less_after_pick, less_after_turn, less_spent, less_charged, less_take, IsTaken, given_take, less_picked}
 use Rattle.wf_law_runs.proofs.Releases.Placed.{Any, next-heard, Grows, grows_after, less_taken, IsBare, new_bare, less_left_tids, less_off_lists, any_some, named_done}
 
 module _ (P : List ℕ → World → Type 0) (Good : World → Type 0)
@@ -140,10 +143,10 @@ module _ (P : List ℕ → World → Type 0) (Good : World → Type 0)
 
   -- ---- the end of an exchange
 
-  through_slot : (l : List ℕ) (e s t : ℕ) (acked : ℕ → Bool) (w : World) (m : Mpdu) (ms : List Mpdu)
-      (f : Slot → Slot) → ((x : Slot) → (f x).id ≡ x.id) → IsEnding e s t acked w (m ∷ ms) → P l w →
+  through_slot : (l : List ℕ) (e s t : ℕ) (ends : ℕ → End) (w : World) (m : Mpdu) (ms : List Mpdu)
+      (f : Slot → Slot) → ((x : Slot) → (f x).id ≡ x.id) → IsEnding e s t ends w (m ∷ ms) → P l w →
       P l (on_session w s t (on_slot m.number f))
-  through_slot l e s t acked w m ms f h n p =
+  through_slot l e s t ends w m ms f h n p =
       let y : Session = session w s t in
       let unsettled : is_settled (slot y m.number).state ≡ false = ap is_settled n.flies.flying.0 in
       kept l w s t (on_slot m.number f) (kept_on_slot y m.number f h)
@@ -158,25 +161,25 @@ module _ (P : List ℕ → World → Type 0) (Good : World → Type 0)
   through_finish l w fate id p = through_same l w _ (same_finish w fate id)
       (less_finish Any w fate id (λ _. tt)) p
 
-  pub through_settled : (b : Bool) (l : List ℕ) (e s t : ℕ) (acked : ℕ → Bool) (w : World) (m : Mpdu)
-      (ms : List Mpdu) → IsEnding e s t acked w (m ∷ ms) → P l w → P l (with_settled w s t b m)
+  pub through_settled : (end : End) (l : List ℕ) (e s t : ℕ) (ends : ℕ → End) (w : World) (m : Mpdu)
+      (ms : List Mpdu) → IsEnding e s t ends w (m ∷ ms) → P l w → P l (with_settled w s t end m)
   unfolding with_settled with_failed_finished
-  through_settled true l e s t acked w m ms n p =
-      through_finish l _ _ _ (through_slot l e s t acked w m ms (λ x. record x { state = State.Acked })
-      (λ x. refl) n p)
-  through_settled false l e s t acked w m ms n p =
-      let v : World = on_session w s t (after_miss w.config.attempts m.number) in
-      let k : P l v = through_slot l e s t acked w m ms (slot_after_miss w.config.attempts)
-      (λ x. refl) n p in
-      through_if (is_failed (slot (session v s t) m.number).state) l _ v (through_finish l v _ _ k) k
+  through_settled end l e s t ends w m ms n p =
+      let f : Slot → Slot = slot_after_end w.config.attempts end in
+      let v : World = on_session w s t (on_slot m.number f) in
+      let k : P l v = through_slot l e s t ends w m ms f (λ x. end_id w.config.attempts end x) n p in
+      on_settled (P l) end w s t m
+      (λ _. through_finish l _ _ _ (through_slot l e s t ends w m ms (λ x. record x { state = State.Acked })
+      (λ x. refl) n p))
+      (λ _. through_if (is_failed (slot (session v s t) m.number).state) l _ v (through_finish l v _ _ k) k)
 
-  through_all : (ms : List Mpdu) (l : List ℕ) (e s t : ℕ) (acked : ℕ → Bool) (w : World) →
-      IsEnding e s t acked w ms → P l w → P l (with_all_settled w s t acked ms)
+  through_all : (ms : List Mpdu) (l : List ℕ) (e s t : ℕ) (ends : ℕ → End) (w : World) →
+      IsEnding e s t ends w ms → P l w → P l (with_all_settled w s t ends ms)
   unfolding with_all_settled
-  through_all [] l e s t acked w n p = p
-  through_all (m ∷ ms) l e s t acked w n p = through_all ms l e s t acked _
-      (ending_settled (acked m.number) e s t acked w m ms refl n)
-      (through_settled (acked m.number) l e s t acked w m ms n p)
+  through_all [] l e s t ends w n p = p
+  through_all (m ∷ ms) l e s t ends w n p = through_all ms l e s t ends _
+      (ending_settled (ends m.number) e s t ends w m ms refl n)
+      (through_settled (ends m.number) l e s t ends w m ms n p)
 
   pub through_without : (l : List ℕ) (w : World) (e : ℕ) → P l w → P l (without_exchange w e)
   unfolding without_exchange
@@ -188,7 +191,7 @@ module _ (P : List ℕ → World → Type 0) (Good : World → Type 0)
       P l (after_done (after_charge (without_exchange w x.number) x air) x heard c)
   unfolding after_done
   through_after air (Frames ms) l w i x heard e f p =
-      through_all ms l x.number x.station x.tid (is_acked heard x.answer) _ (ending_of air w i x ms heard
+      through_all ms l x.number x.station x.tid (end_of x heard) _ (ending_of air w i x ms heard
       e f) p
   through_after air (Request g) l w i x heard e f p =
       kept l _ x.station x.tid (with_heard_start heard g) (kept_heard heard g _)
@@ -247,6 +250,32 @@ module _ (P : List ℕ → World → Type 0) (Good : World → Type 0)
       (through_same l w _ (then_same _ _ _ (same_left_tids (upto 8) w s) (same_off_lists all_classes _ s))
       (then_less Any _ _ _ (less_left_tids (upto 8) w s) (less_off_lists all_classes _ s)) p)
 
+  -- ---- marks and flushes
+
+  through_marked : (l : List ℕ) (w : World) (x : Exchange) (unsent given_up : List ℕ) → P l w →
+      P l (marked_world w x unsent given_up)
+  unfolding with_exchange
+  through_marked l w x unsent given_up p = plain l w _ (less_plain Any w _ refl refl) (λ s t. refl) p
+
+  through_unsent : (l : List ℕ) (w : World) (x : Exchange) (n : ℕ) → P l w → P l (unsent_outcome w x n).world
+  unfolding unsent_outcome
+  through_unsent l w x n p = through_marked l w x (with_member n x.unsent) x.given_up p
+
+  through_given_up : (l : List ℕ) (w : World) (x : Exchange) (n : ℕ) → P l w →
+      P l (give_up_outcome w x n).world
+  unfolding give_up_outcome
+  through_given_up l w x n p = through_marked l w x x.unsent (with_member n x.given_up) p
+
+  through_flushed : (l : List ℕ) (w : World) (s t : ℕ) → P l w → P l (flush_outcome w s t).world
+  through_flushed l w s t p = if_flushed (P l)
+      (record {
+        finish = λ u id h. through_finish l u _ id h;
+        empty = λ u q h. through_same l u _ (same_on_queue u q _)
+            (less_on_queue Any u q _ (fewer_none (queue u q).items)) h;
+      }) w s t
+      (kept l w s t (after_flush w.config.attempts) (kept_flush w.config.attempts (session w s t))
+      (next-flush w.config.attempts (session w s t)) p)
+
   -- ---- the step
 
   through_open : (IsFit Q : Exchange → Type 0) (o : Option Exchange) (l : List ℕ) (w : World)
@@ -301,6 +330,13 @@ module _ (P : List ℕ → World → Type 0) (Good : World → Type 0)
   through_call (Asked (Rx s c air)) l w i g e p r =
       through_same l w _ (same_on_share w s c _) (less_on_share Any w s c _) p
   through_call (Asked Reap) l w i g e p r = through_reaped w.finished l w p
+  through_call (Asked (Unsent x n)) l w i g e p r = through_open (λ _. Unit {0}) (λ _. Unit {0}) (exchange
+      w x) l w _
+      (any_some (exchange w x)) (λ y _. through_unsent l w y n p) p
+  through_call (Asked (GiveUp x n)) l w i g e p r = through_open (λ _. Unit {0}) (λ _. Unit {0}) (exchange
+      w x) l w _
+      (any_some (exchange w x)) (λ y _. through_given_up l w y n p) p
+  through_call (Asked (Flush s t)) l w i g e p r = through_flushed l w s t p
 
   through_arrival : (l : List ℕ) (w : World) (i : IsLawful w) (e n : ℕ) → Good w →
       NoRow (refusals w (Asked (Arrive e n))) → P l w →

@@ -7,7 +7,7 @@ use Rattle.wf_frame.specs.declared.settings.Config.{Config}
 use Rattle.wf_frame.specs.declared.classes.Class.{Class}
 use Rattle.wf_frame.specs.declared.classes.Fate.TheVariants.{Dropped}
 use Rattle.wf_frame.specs.declared.classes.Cause.TheVariants.{Left, Overlimit}
-use Rattle.wf_frame.specs.declared.notes.Ask.TheVariants.{Join, Leave, Rate, Tick, Pull, Arrive, Answer, Done, Sleep, Wake, Poll, Rx, Reap, Ampdu, Stop, Start}
+use Rattle.wf_frame.specs.declared.notes.Ask.TheVariants.{Join, Leave, Rate, Tick, Pull, Arrive, Answer, Done, Sleep, Wake, Poll, Rx, Reap, Ampdu, Stop, Start, Unsent, GiveUp, Flush}
 use Rattle.wf_frame.specs.declared.notes.Limits.{Limits}
 use Rattle.wf_frame.specs.declared.notes.Note.{Note}
 use Rattle.wf_frame.specs.declared.notes.Note.TheVariants.{Enqueue, Asked}
@@ -25,7 +25,7 @@ use Rattle.wf_def_world.specs.FlowQueues.{Taken, after_limit, is_at_limit, longe
 use Rattle.wf_def_world.specs.CanSend.{can_give, can_send_in, with_listings_of}
 use Rattle.wf_def_world.specs.Exchanges.{Aggregate, Prepared, most_frames, mpdus_of, mpdu_of, fits_in, picked_station, sending_tid, waiting_mpdus, longest_fitting, fresh_mpdus, with_number, with_fresh, aggregate_of, prepared_data, prepared_exchange, exchange_of, after_pick, after_tid_turn, with_exchange_opened, after_arrival}
 use Rattle.wf_def_world.specs.Refusals.{refusals, refusal}
-use Rattle.wf_def_world.specs.Step.{Outcome, tick_outcome, rate_outcome, sleep_outcome, wake_outcome, poll_outcome, rx_outcome, join_outcome, waiting_ids, in_rising_order, after_tid_left, after_tids_left, leave_outcome, next_item, with_frame, enqueue_outcome, send_outcome, pull_outcome_for, pull_outcome, arrive_outcome, answer_outcome, done_outcome, outcome_where_open, reap_outcome, outcome_of, concerned_station, after_refusal, judged_outcome, step}
+use Rattle.wf_def_world.specs.Step.{Outcome, tick_outcome, rate_outcome, sleep_outcome, wake_outcome, poll_outcome, rx_outcome, join_outcome, waiting_ids, in_rising_order, after_tid_left, after_tids_left, leave_outcome, next_item, with_frame, enqueue_outcome, send_outcome, pull_outcome_for, pull_outcome, arrive_outcome, answer_outcome, unsent_outcome, give_up_outcome, flush_outcome, done_outcome, outcome_where_open, reap_outcome, outcome_of, concerned_station, after_refusal, judged_outcome, step}
 use Rattle.wf_def_world.specs.Run.{Entry, world_after}
 use Rattle.wf_law_runs.specs.Windows.{EachMpdu}
 use Rattle.wf_law_runs.specs.Queues.{EachItem, IsAtMost, AreAtMost}
@@ -33,6 +33,9 @@ use Rattle.wf_law_rules.proofs.Lemmas.Dequeues.{each_dequeue}
 use Rattle.wf_law_rules.proofs.Lemmas.Numbers.{on_if, or_left, or_right, yes_eq}
 use Rattle.wf_law_rules.proofs.Lemmas.Tables.{each_put}
 use Rattle.wf_law_runs.proofs.Common.Refused.{after_idle}
+use Rattle.wf_law_runs.proofs.Common.Marks.{with_marks, marked_world}
+use Rattle.wf_law_runs.proofs.Common.Flushes.{if_flushed}
+use Rattle.wf_law_runs.proofs.Releases.Kept.{opened_flushed}
 use Rattle.wf_law_runs.proofs.Deficits.Books.{upd, upd_same, upd_other, each_upd}
 use Rattle.wf_law_runs.proofs.Frames.Delivered.{Labelled, prepared_right, opened_on_receiver, opened_ended, filtered}
 use Rattle.wf_law_runs.specs.Releases.{named_by}
@@ -596,6 +599,40 @@ stocked_arrived most w x n a i =
     (ap (map (λ y. if y.number == z.number then z else y))
     (opened_on_receiver w x.station x.tid (after_arrival x.content n))) a i
 
+stocked_marked : (most : ℕ) (w : World) (x : Exchange) (unsent given_up : List ℕ) →
+    AreMeasured (shelves w).notes (mpdus_of x.content) → IsStocked most w
+    → IsStocked most (marked_world w x unsent given_up)
+unfolding with_exchange
+stocked_marked most w x unsent given_up a i =
+    let z : Exchange = with_marks unsent given_up x in
+    stocked_with_exchange most w (record w {
+      opened =
+          map (λ y. if y.number == z.number then z else y) w.opened;
+    }) x z refl refl a i
+
+stocked_unsent : (most : ℕ) (w : World) (x : Exchange) (n : ℕ) →
+    AreMeasured (shelves w).notes (mpdus_of x.content) → IsStocked most w
+    → IsStocked most (unsent_outcome w x n).world
+unfolding unsent_outcome
+stocked_unsent most w x n a i = stocked_marked most w x (with_member n x.unsent) x.given_up a i
+
+stocked_given_up : (most : ℕ) (w : World) (x : Exchange) (n : ℕ) →
+    AreMeasured (shelves w).notes (mpdus_of x.content) → IsStocked most w
+    → IsStocked most (give_up_outcome w x n).world
+unfolding give_up_outcome
+stocked_given_up most w x n a i = stocked_marked most w x x.unsent (with_member n x.given_up) a i
+
+-- A flush removes frames from queues.
+sifted_flushed : (w : World) (s t : ℕ) → Sifted (shelves w) (shelves (flush_outcome w s t).world)
+sifted_flushed w s t = if_flushed (λ u. Sifted (shelves w) (shelves u))
+    (record {
+      finish = λ u id k. then_sifted _ _ _ k (sifted_is _ _ (shelves_finish u _ id));
+      empty = λ u q k. then_sifted _ _ _ k (sifted_on_queue u q _ (record {
+        each = λ notes h. tt;
+      }));
+    }) w s t
+    (sifted_is _ _ (shelves_on_session w s t _))
+
 stocked_ended : (air : Option ℕ) (most : ℕ) (w : World) (x : Exchange) (heard : Bool) → IsStocked most w →
     IsStocked most (done_outcome w x heard air).world
 stocked_ended air most w x heard i =
@@ -676,6 +713,14 @@ stocked_done most (Asked (Wake s)) l w e a k i = stocked_on_station most w s _ (
 stocked_done most (Asked (Poll s)) l w e a k i = stocked_on_station most w s _ (λ x. refl) (λ x t. refl) i
 stocked_done most (Asked (Rx s c air)) l w e a k i = stocked_on_share most w s c _ i
 stocked_done most (Asked Reap) l w e a k i = stocked_reaped most w.finished w i
+stocked_done most (Asked (Unsent x n)) l w e a k i =
+    stocked_open most (λ y. AreMeasured (shelves w).notes (mpdus_of y.content)) (exchange w x) w _
+    (measured_open most w x i) (λ y b. stocked_unsent most w y n b i) i
+stocked_done most (Asked (GiveUp x n)) l w e a k i =
+    stocked_open most (λ y. AreMeasured (shelves w).notes (mpdus_of y.content)) (exchange w x) w _
+    (measured_open most w x i) (λ y b. stocked_given_up most w y n b i) i
+stocked_done most (Asked (Flush s t)) l w e a k i =
+    stocked_sifted most (shelves w) _ w.opened _ (sifted_flushed w s t) (opened_flushed w s t) i
 
 stocked_refused : (most : ℕ) (note : Note) (r : Refusal) (w : World) → IsStocked most w →
     IsStocked most (after_refusal w note r)

@@ -4,7 +4,7 @@ use Rattle.std.proofs.Common.{◌≡◌, refl, ap, sym, ◌∙◌, subst, arith,
 use Rattle.std.proofs.lemmas.List.{length-append}
 use Rattle.wf_frame.specs.declared.settings.Config.{Config}
 use Rattle.wf_frame.specs.declared.classes.Class.{Class}
-use Rattle.wf_frame.specs.declared.notes.Ask.TheVariants.{Join, Leave, Rate, Tick, Pull, Arrive, Answer, Done, Sleep, Wake, Poll, Rx, Reap, Ampdu, Stop, Start}
+use Rattle.wf_frame.specs.declared.notes.Ask.TheVariants.{Join, Leave, Rate, Tick, Pull, Arrive, Answer, Done, Sleep, Wake, Poll, Rx, Reap, Ampdu, Stop, Start, Unsent, GiveUp, Flush}
 use Rattle.wf_frame.specs.declared.notes.Limits.{Limits}
 use Rattle.wf_frame.specs.declared.notes.Note.{Note}
 use Rattle.wf_frame.specs.declared.notes.Note.TheVariants.{Enqueue, Asked}
@@ -24,7 +24,7 @@ use Rattle.wf_def_world.specs.FlowQueues.{Taken, frames_queued, taken_for_tid}
 use Rattle.wf_def_world.specs.CanSend.{is_request, request_open, has_waiting, can_give, can_send, can_send_in, with_listings_of}
 use Rattle.wf_def_world.specs.Exchanges.{Aggregate, Prepared, mpdus_of, mpdu_of, most_frames, fits_in, picked_station, sending_tid, waiting_mpdus, longest_fitting, fresh_mpdus, with_number, with_fresh, aggregate_of, prepared_data, prepared_exchange, exchange_of, with_station_paid, with_stations_paid, after_pick, after_tid_turn, after_arrival, limited}
 use Rattle.wf_def_world.specs.Refusals.{refusal}
-use Rattle.wf_def_world.specs.Step.{Outcome, tick_outcome, rate_outcome, sleep_outcome, wake_outcome, poll_outcome, rx_outcome, join_outcome, leave_outcome, enqueue_outcome, pull_outcome_for, pull_outcome, arrive_outcome, answer_outcome, done_outcome, outcome_where_open, reap_outcome, outcome_of, concerned_station, after_refusal, judged_outcome, step}
+use Rattle.wf_def_world.specs.Step.{Outcome, tick_outcome, rate_outcome, sleep_outcome, wake_outcome, poll_outcome, rx_outcome, join_outcome, leave_outcome, enqueue_outcome, pull_outcome_for, pull_outcome, arrive_outcome, answer_outcome, unsent_outcome, give_up_outcome, flush_outcome, done_outcome, outcome_where_open, reap_outcome, outcome_of, concerned_station, after_refusal, judged_outcome, step}
 use Rattle.wf_def_world.specs.Run.{Entry, world_after}
 use Rattle.wf_law_runs.specs.Queues.{AreAtMost}
 use Rattle.wf_law_runs.specs.Releases.{named_by}
@@ -32,6 +32,8 @@ use Rattle.wf_law_runs.specs.Sent.{HasSome}
 use Rattle.wf_law_rules.proofs.Lemmas.Numbers.{lt_yes, both}
 use Rattle.wf_law_rules.proofs.Lemmas.Tables.{each_put}
 use Rattle.wf_law_runs.proofs.Common.Refused.{after_idle}
+use Rattle.wf_law_runs.proofs.Common.Marks.{with_marks, marked_world}
+use Rattle.wf_law_runs.proofs.Releases.Kept.{opened_flushed}
 use Rattle.wf_law_runs.proofs.Common.Picked.{picked_world}
 use Rattle.wf_law_runs.proofs.Deficits.Books.{books}
 use Rattle.wf_law_runs.proofs.Deficits.Kept.{IsKept}
@@ -333,6 +335,21 @@ unfolding arrive_outcome with_exchange
 some_arrived w x n a h = some_replaced w (record x { arrived = with_member n x.arrived }) _
     (opened_on_receiver w x.station x.tid (after_arrival x.content n)) a h
 
+some_marked : (w : World) (x : Exchange) (unsent given_up : List ℕ) → HasSome x → AllSome w →
+    AllSome (marked_world w x unsent given_up)
+unfolding with_exchange
+some_marked w x unsent given_up a h = some_replaced w (with_marks unsent given_up x) w.opened refl a h
+
+some_unsent : (w : World) (x : Exchange) (n : ℕ) → HasSome x → AllSome w →
+    AllSome (unsent_outcome w x n).world
+unfolding unsent_outcome
+some_unsent w x n a h = some_marked w x (with_member n x.unsent) x.given_up a h
+
+some_given_up : (w : World) (x : Exchange) (n : ℕ) → HasSome x → AllSome w →
+    AllSome (give_up_outcome w x n).world
+unfolding give_up_outcome
+some_given_up w x n a h = some_marked w x x.unsent (with_member n x.given_up) a h
+
 some_ended : (air : Option ℕ) (w : World) (x : Exchange) (heard : Bool) → AllSome w →
     AllSome (done_outcome w x heard air).world
 some_ended air w x heard h = subst (Each HasSome) (sym (opened_ended air w x heard))
@@ -389,6 +406,11 @@ some_done (Asked (Wake s)) w l a h = subst (Each HasSome) (sym (same_on_station 
 some_done (Asked (Poll s)) w l a h = subst (Each HasSome) (sym (same_on_station w s _ (λ x t. refl)).opened) h
 some_done (Asked (Rx s c air)) w l a h = subst (Each HasSome) (sym (same_on_share w s c _).opened) h
 some_done (Asked Reap) w l a h = some_reaped w.finished w h
+some_done (Asked (Unsent x n)) w l a h = some_open (exchange w x) w _ (found_some w x h)
+    (λ y k. some_unsent w y n k h) h
+some_done (Asked (GiveUp x n)) w l a h = some_open (exchange w x) w _ (found_some w x h)
+    (λ y k. some_given_up w y n k h) h
+some_done (Asked (Flush s t)) w l a h = some_opened w (flush_outcome w s t).world (opened_flushed w s t) h
 
 some_refused : (note : Note) (r : Refusal) (w : World) → AllSome w → AllSome (after_refusal w note r)
 unfolding after_refusal

@@ -5,7 +5,7 @@ use Rattle.std.proofs.Common.{◌≡◌, refl, ap, sym, ◌∙◌, subst, arith,
 use Rattle.std.proofs.lemmas.Int.{ints}
 use Rattle.wf_frame.specs.declared.settings.Config.{Config}
 use Rattle.wf_frame.specs.declared.classes.Class.{Class}
-use Rattle.wf_frame.specs.declared.notes.Ask.TheVariants.{Join, Leave, Rate, Tick, Pull, Arrive, Answer, Done, Sleep, Wake, Poll, Rx, Reap, Ampdu, Stop, Start}
+use Rattle.wf_frame.specs.declared.notes.Ask.TheVariants.{Join, Leave, Rate, Tick, Pull, Arrive, Answer, Done, Sleep, Wake, Poll, Rx, Reap, Ampdu, Stop, Start, Unsent, GiveUp, Flush}
 use Rattle.wf_frame.specs.declared.notes.Limits.{Limits}
 use Rattle.wf_frame.specs.declared.notes.Note.{Note}
 use Rattle.wf_frame.specs.declared.notes.Note.TheVariants.{Enqueue, Asked}
@@ -26,10 +26,10 @@ use Rattle.wf_law_runs.specs.Waiting.{sends}
 use Rattle.wf_law_runs.proofs.Common.Refused.{after_idle}
 use Rattle.wf_law_runs.proofs.Common.Limits.{with_limits}
 use Rattle.wf_law_runs.proofs.Deficits.Books.{Account, account, core, Books, books, with_account, on_part, upd_same, upd_other, each_upd, updc_same, updc_other, cases_class}
-use Rattle.wf_law_runs.proofs.Deficits.BookSteps.{with_opened, charge_share, with_charge, receive_share, rated, pay_share, paid, after, books_ended, books_gone, all_off, books_enqueued, books_received, books_reaped, books_slept, books_woken, books_credited, books_with_rate, books_joined, books_after_pick, books_stated, books_stopped, books_started}
+use Rattle.wf_law_runs.proofs.Deficits.BookSteps.{with_opened, charge_share, with_charge, receive_share, rated, pay_share, paid, after, books_ended, books_gone, all_off, books_enqueued, books_received, books_reaped, books_slept, books_woken, books_credited, books_with_rate, books_joined, books_after_pick, books_stated, books_stopped, books_started, books_flushed}
 use Rattle.wf_law_runs.proofs.Deficits.Bounds.{counted, paid_some}
 use Rattle.wf_law_runs.proofs.Deficits.Kept.{IsKept, counted_in, need_in, at_stake, IsOpen}
-use Rattle.wf_law_runs.proofs.Deficits.KeptStep.{NoRow, no_row, live_account, is_pick, IsFound, books_arrived, books_answered}
+use Rattle.wf_law_runs.proofs.Deficits.KeptStep.{NoRow, no_row, live_account, is_pick, IsFound, books_arrived, books_unsent, books_given_up, books_answered}
 use Rattle.wf_law_runs.proofs.Deficits.Listing.{longer_listed}
 use Rattle.wf_law_runs.proofs.Fairness.OldOrder.{acc, map_or, quanta_charge, quanta_receive}
 use Rattle.wf_law_runs.proofs.Shares.Turns.{pulled_by}
@@ -197,6 +197,10 @@ grants_done (Asked (Tick by)) w c s r k live still = grants_same c s _ _ refl
 grants_done (Asked (Pull d l)) w c s r k live still = grants_pulled w d c l s k
 grants_done (Asked (Arrive e j)) w c s r k live still = grants_open (exchange w e) w e c s _ refl
     (λ x f. grants_same c s _ _ (books_arrived w e j x k f))
+grants_done (Asked (Unsent e j)) w c s r k live still = grants_open (exchange w e) w e c s _ refl
+    (λ x f. grants_same c s _ _ (books_unsent w e j x k f))
+grants_done (Asked (GiveUp e j)) w c s r k live still = grants_open (exchange w e) w e c s _ refl
+    (λ x f. grants_same c s _ _ (books_given_up w e j x k f))
 grants_done (Asked (Answer e)) w c s r k live still = grants_open (exchange w e) w e c s _ refl
     (λ x f. grants_same c s _ _ (books_answered w e x k f))
 grants_done (Asked (Done e heard air)) w c s r k live still = grants_open (exchange w e) w e c s _ refl
@@ -208,6 +212,7 @@ grants_done (Asked (Sleep i)) w c s r k live still = grants_same c s _ _ (books_
 grants_done (Asked (Ampdu i octets)) w c s r k live still = grants_same c s _ _ (books_stated w i octets)
 grants_done (Asked (Stop i)) w c s r k live still = grants_same c s _ _ (books_stopped w i)
 grants_done (Asked (Start i)) w c s r k live still = grants_same c s _ _ (books_started w i)
+grants_done (Asked (Flush i t)) w c s r k live still = grants_same c s _ _ (books_flushed w i t)
 grants_done (Asked (Wake i)) w c s r k live still = grants_same c s _ _ (books_woken w i)
 grants_done (Asked (Poll i)) w c s r k live still = grants_same c s _ _ (books_credited w i)
 grants_done (Asked (Rx i d air)) w c s r k live still =

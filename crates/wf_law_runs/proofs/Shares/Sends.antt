@@ -4,7 +4,7 @@ use Rattle.std.proofs.Common.{◌≡◌, refl, ap, sym, ◌∙◌, subst, arith,
 use Rattle.std.proofs.lemmas.Bool.{cases_eq, eqb-true, ne_eqb}
 use Rattle.wf_frame.specs.declared.settings.Config.{Config}
 use Rattle.wf_frame.specs.declared.classes.Class.{Class}
-use Rattle.wf_frame.specs.declared.notes.Ask.TheVariants.{Join, Leave, Rate, Tick, Pull, Arrive, Answer, Done, Sleep, Wake, Poll, Rx, Reap, Ampdu, Stop, Start}
+use Rattle.wf_frame.specs.declared.notes.Ask.TheVariants.{Join, Leave, Rate, Tick, Pull, Arrive, Answer, Done, Sleep, Wake, Poll, Rx, Reap, Ampdu, Stop, Start, Unsent, GiveUp, Flush}
 use Rattle.wf_frame.specs.declared.notes.Limits.{Limits}
 use Rattle.wf_frame.specs.declared.notes.Note.{Note}
 use Rattle.wf_frame.specs.declared.notes.Note.TheVariants.{Enqueue, Asked}
@@ -27,10 +27,10 @@ use Rattle.wf_law_rules.proofs.Lemmas.Rotations.{find-none}
 use Rattle.wf_law_runs.proofs.Common.Refused.{after_idle}
 use Rattle.wf_law_runs.proofs.Common.Limits.{with_limits}
 use Rattle.wf_law_runs.proofs.Deficits.Books.{core, Books, books}
-use Rattle.wf_law_runs.proofs.Deficits.BookSteps.{with_opened, books_ended, books_gone, books_enqueued, books_received, books_reaped, books_slept, books_woken, books_credited, books_with_rate, books_joined, books_after_pick, books_stated, books_stopped, books_started}
+use Rattle.wf_law_runs.proofs.Deficits.BookSteps.{with_opened, books_ended, books_gone, books_enqueued, books_received, books_reaped, books_slept, books_woken, books_credited, books_with_rate, books_joined, books_after_pick, books_stated, books_stopped, books_started, books_flushed}
 use Rattle.wf_law_runs.proofs.Deficits.Openings.{reserved, reserved-append, reserved-ended}
 use Rattle.wf_law_runs.proofs.Deficits.Kept.{IsKept}
-use Rattle.wf_law_runs.proofs.Deficits.KeptStep.{no_row, IsFound, at_number, books_arrived, books_answered, charge_within, kept_step}
+use Rattle.wf_law_runs.proofs.Deficits.KeptStep.{no_row, IsFound, at_number, books_arrived, books_unsent, books_given_up, books_answered, charge_within, kept_step}
 use Rattle.wf_law_runs.proofs.Deficits.Configs.{config_step}
 use Rattle.wf_law_runs.proofs.Fairness.OldOrder.{owing, owing_done, owing_refused}
 use Rattle.wf_law_runs.proofs.Shares.Turns.{pulled_by, charge_most}
@@ -199,6 +199,10 @@ less_done (Asked (Tick by)) w c s r kept unsent = less_same _ c s (books w) (boo
 less_done (Asked (Pull d l)) w c s r kept unsent = less_pulled _ w d c l s r unsent
 less_done (Asked (Arrive e n)) w c s r kept unsent = less_open _ w e (exchange w e) _ c s (λ _. 0) refl refl
     (λ x f. less_same _ c s (books w) _ (ap (λ (b : Books). b.opened) (books_arrived w e n x kept f)))
+less_done (Asked (Unsent e n)) w c s r kept unsent = less_open _ w e (exchange w e) _ c s (λ _. 0) refl refl
+    (λ x f. less_same _ c s (books w) _ (ap (λ (b : Books). b.opened) (books_unsent w e n x kept f)))
+less_done (Asked (GiveUp e n)) w c s r kept unsent = less_open _ w e (exchange w e) _ c s (λ _. 0) refl refl
+    (λ x f. less_same _ c s (books w) _ (ap (λ (b : Books). b.opened) (books_given_up w e n x kept f)))
 less_done (Asked (Answer e)) w c s r kept unsent = less_open _ w e (exchange w e) _ c s (λ _. 0) refl refl
     (λ x f. less_same _ c s (books w) _ (ap (λ (b : Books). b.opened) (books_answered w e x kept f)))
 less_done (Asked (Done e heard air)) w c s r kept unsent =
@@ -214,6 +218,8 @@ less_done (Asked (Stop k)) w c s r kept unsent =
     less_same _ c s (books w) _ (ap (λ (b : Books). b.opened) (books_stopped w k))
 less_done (Asked (Start k)) w c s r kept unsent =
     less_same _ c s (books w) _ (ap (λ (b : Books). b.opened) (books_started w k))
+less_done (Asked (Flush k t)) w c s r kept unsent =
+    less_same _ c s (books w) _ (ap (λ (b : Books). b.opened) (books_flushed w k t))
 less_done (Asked (Wake k)) w c s r kept unsent =
     less_same _ c s (books w) _ (ap (λ (b : Books). b.opened) (books_woken w k))
 less_done (Asked (Poll k)) w c s r kept unsent =

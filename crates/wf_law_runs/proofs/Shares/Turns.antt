@@ -5,7 +5,7 @@ use Rattle.std.proofs.lemmas.Bool.{cases_eq, ne_eqb, eqb-true, and_parts, not-tr
 use Rattle.wf_frame.specs.declared.settings.Config.{Config}
 use Rattle.wf_frame.specs.declared.classes.Class.{Class}
 use Rattle.wf_frame.specs.declared.classes.Class.TheVariants.{Bk, Be, Vi, Vo}
-use Rattle.wf_frame.specs.declared.notes.Ask.TheVariants.{Join, Leave, Rate, Tick, Pull, Arrive, Answer, Done, Sleep, Wake, Poll, Rx, Reap, Ampdu, Stop, Start}
+use Rattle.wf_frame.specs.declared.notes.Ask.TheVariants.{Join, Leave, Rate, Tick, Pull, Arrive, Answer, Done, Sleep, Wake, Poll, Rx, Reap, Ampdu, Stop, Start, Unsent, GiveUp, Flush}
 use Rattle.wf_frame.specs.declared.notes.Limits.{Limits}
 use Rattle.wf_frame.specs.declared.notes.Note.{Note}
 use Rattle.wf_frame.specs.declared.notes.Note.TheVariants.{Enqueue, Asked}
@@ -27,10 +27,10 @@ use Rattle.wf_law_rules.proofs.Lemmas.Rotations.{IsWinner, pick_keeps, pick_winn
 use Rattle.wf_law_runs.proofs.Common.Refused.{after_idle}
 use Rattle.wf_law_runs.proofs.Common.Limits.{with_limits}
 use Rattle.wf_law_runs.proofs.Deficits.Books.{Account, account, core, Books, books, with_account, with_lists, upd_same, updc, updc_same, updc_other, cases_class, same_number, books_with_rotation}
-use Rattle.wf_law_runs.proofs.Deficits.BookSteps.{books_after_turn, books_prepared, books_sent, with_opened, books_ended, books_gone, all_off, books_enqueued, books_received, books_reaped, books_slept, books_woken, books_credited, books_with_rate, fresh_account, books_joined, after, books_after_pick, books_stated, books_stopped, books_started}
+use Rattle.wf_law_runs.proofs.Deficits.BookSteps.{books_after_turn, books_prepared, books_sent, with_opened, books_ended, books_gone, all_off, books_enqueued, books_received, books_reaped, books_slept, books_woken, books_credited, books_with_rate, fresh_account, books_joined, after, books_after_pick, books_stated, books_stopped, books_started, books_flushed}
 use Rattle.wf_law_runs.proofs.Deficits.Openings.{reserved, reserved-append, reserved-ended, part_of}
 use Rattle.wf_law_runs.proofs.Deficits.Kept.{IsKept, if_same, above_after, listed-on, counted_in, standing_of}
-use Rattle.wf_law_runs.proofs.Deficits.KeptStep.{NoRow, no_row, live_account, need_is, IsFound, at_number, books_arrived, books_answered, charge_within}
+use Rattle.wf_law_runs.proofs.Deficits.KeptStep.{NoRow, no_row, live_account, need_is, IsFound, at_number, books_arrived, books_unsent, books_given_up, books_answered, charge_within}
 use Rattle.wf_law_runs.proofs.Fairness.OldOrder.{acc, IsGrown, IsTurn, IsCalm, calm_pulled, turn_here, turn_other, turn_received, turn_rated, turn_ended, turn_class_other, grown_option, paid_quanta}
 use Rattle.wf_law_runs.proofs.Shares.Picks.{lead, lead_off, Stands, pick_lead, win_lead, lead_listed}
 use Rattle.std.proofs.lemmas.Int.{ints}
@@ -543,6 +543,12 @@ move_done (Asked (Pull d l)) w c s i r kept differs h = move_pulled _ w d c l s 
 move_done (Asked (Arrive e n)) w c s i r kept differs h =
     move_open _ w e (exchange w e) _ c s i (stays_listed c s i w _ h) refl
     (λ x f. move_same _ c s i _ _ (stays_listed c s i w _ h) (books_arrived w e n x kept f))
+move_done (Asked (Unsent e n)) w c s i r kept differs h =
+    move_open _ w e (exchange w e) _ c s i (stays_listed c s i w _ h) refl
+    (λ x f. move_same _ c s i _ _ (stays_listed c s i w _ h) (books_unsent w e n x kept f))
+move_done (Asked (GiveUp e n)) w c s i r kept differs h =
+    move_open _ w e (exchange w e) _ c s i (stays_listed c s i w _ h) refl
+    (λ x f. move_same _ c s i _ _ (stays_listed c s i w _ h) (books_given_up w e n x kept f))
 move_done (Asked (Answer e)) w c s i r kept differs h =
     move_open _ w e (exchange w e) _ c s i (stays_listed c s i w _ h) refl
     (λ x f. move_same _ c s i _ _ (stays_listed c s i w _ h) (books_answered w e x kept f))
@@ -558,6 +564,8 @@ move_done (Asked (Stop k)) w c s i r kept differs h =
     move_same _ c s i _ _ (stays_listed c s i w _ h) (books_stopped w k)
 move_done (Asked (Start k)) w c s i r kept differs h =
     move_same _ c s i _ _ (stays_listed c s i w _ h) (books_started w k)
+move_done (Asked (Flush k t)) w c s i r kept differs h =
+    move_same _ c s i _ _ (stays_listed c s i w _ h) (books_flushed w k t)
 move_done (Asked (Wake k)) w c s i r kept differs h =
     move_same _ c s i _ _ (stays_listed c s i w _ h) (books_woken w k)
 move_done (Asked (Poll k)) w c s i r kept differs h =

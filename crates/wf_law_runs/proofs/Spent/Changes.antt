@@ -3,7 +3,7 @@
 use Rattle.std.proofs.Common.{◌≡◌, refl, sym, ◌∙◌, subst, ℕ, ◌<◌, Bool, false, Option, Some, None, is_some, IfSome, option_map, ◌==◌, find, eq-eqb}
 use Rattle.std.proofs.lemmas.Bool.{and_parts, not-false, leb-true}
 use Rattle.wf_frame.specs.declared.classes.Class.{Class}
-use Rattle.wf_frame.specs.declared.notes.Ask.TheVariants.{Join, Leave, Rate, Tick, Pull, Arrive, Answer, Done, Sleep, Wake, Poll, Rx, Reap, Ampdu, Stop, Start}
+use Rattle.wf_frame.specs.declared.notes.Ask.TheVariants.{Join, Leave, Rate, Tick, Pull, Arrive, Answer, Done, Sleep, Wake, Poll, Rx, Reap, Ampdu, Stop, Start, Unsent, GiveUp, Flush}
 use Rattle.wf_frame.specs.declared.notes.AskedRate.{AskedRate}
 use Rattle.wf_frame.specs.declared.notes.Limits.{Limits}
 use Rattle.wf_frame.specs.declared.notes.Note.{Note}
@@ -21,9 +21,9 @@ use Rattle.wf_law_runs.specs.Shares.{ChargesWithin}
 use Rattle.wf_law_runs.proofs.Common.Refused.{if_idle}
 use Rattle.wf_law_runs.proofs.Common.Limits.{with_limits}
 use Rattle.wf_law_runs.proofs.Deficits.Books.{core, Books, books, with_account, on_part}
-use Rattle.wf_law_runs.proofs.Deficits.BookSteps.{with_opened, with_charge, without, receive_share, rated, after, books_ended, books_gone, all_off, books_enqueued, books_received, books_reaped, books_slept, books_woken, books_credited, books_with_rate, fresh_account, books_joined, books_after_pick, books_stated, books_stopped, books_started}
+use Rattle.wf_law_runs.proofs.Deficits.BookSteps.{with_opened, with_charge, without, receive_share, rated, after, books_ended, books_gone, all_off, books_enqueued, books_received, books_reaped, books_slept, books_woken, books_credited, books_with_rate, fresh_account, books_joined, books_after_pick, books_stated, books_stopped, books_started, books_flushed}
 use Rattle.wf_law_runs.proofs.Deficits.Kept.{IsKept}
-use Rattle.wf_law_runs.proofs.Deficits.KeptStep.{NoRow, no_row, live_account, IsFound, at_number, books_arrived, books_answered, kept_done}
+use Rattle.wf_law_runs.proofs.Deficits.KeptStep.{NoRow, no_row, live_account, IsFound, at_number, books_arrived, books_unsent, books_given_up, books_answered, kept_done}
 use Rattle.wf_law_runs.proofs.Deficits.Listing.{IsLonger, longer_listed}
 use Rattle.wf_law_runs.proofs.Shares.Turns.{pulled_by}
 
@@ -87,6 +87,10 @@ module _ (err : ℕ) (w : World) (P : Books → Type 0) (kept : IsKept (books w)
   changes_done (Asked (Pull d l)) fine r near k = changes_pulled d l k
   changes_done (Asked (Arrive e j)) fine r near k = changes_open (exchange w e) e _ refl
       (λ x f. changed _ _ (books_arrived w e j x kept f) p.same)
+  changes_done (Asked (Unsent e j)) fine r near k = changes_open (exchange w e) e _ refl
+      (λ x f. changed _ _ (books_unsent w e j x kept f) p.same)
+  changes_done (Asked (GiveUp e j)) fine r near k = changes_open (exchange w e) e _ refl
+      (λ x f. changed _ _ (books_given_up w e j x kept f) p.same)
   changes_done (Asked (Answer e)) fine r near k = changes_open (exchange w e) e _ refl
       (λ x f. changed _ _ (books_answered w e x kept f) p.same)
   changes_done (Asked (Done e heard air)) fine r near k =
@@ -95,6 +99,7 @@ module _ (err : ℕ) (w : World) (P : Books → Type 0) (kept : IsKept (books w)
   changes_done (Asked (Ampdu i octets)) fine r near k = changed _ _ (books_stated w i octets) p.same
   changes_done (Asked (Stop i)) fine r near k = changed _ _ (books_stopped w i) p.same
   changes_done (Asked (Start i)) fine r near k = changed _ _ (books_started w i) p.same
+  changes_done (Asked (Flush i t)) fine r near k = changed _ _ (books_flushed w i t) p.same
   changes_done (Asked (Wake i)) fine r near k = changed _ _ (books_woken w i) p.same
   changes_done (Asked (Poll i)) fine r near k = changed _ _ (books_credited w i) p.same
   changes_done (Asked (Rx i d air)) fine r near k = changed _ _ (books_received w i d air)

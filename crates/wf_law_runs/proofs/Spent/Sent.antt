@@ -4,7 +4,7 @@ use Rattle.std.proofs.Common.{◌≡◌, refl, ap, ◌∙◌, arith, ℕ, ◌+�
 use Rattle.std.proofs.lemmas.Int.{ints}
 use Rattle.wf_frame.specs.declared.settings.Config.{Config}
 use Rattle.wf_frame.specs.declared.classes.Class.{Class}
-use Rattle.wf_frame.specs.declared.notes.Ask.TheVariants.{Join, Leave, Rate, Tick, Pull, Arrive, Answer, Done, Sleep, Wake, Poll, Rx, Reap, Ampdu, Stop, Start}
+use Rattle.wf_frame.specs.declared.notes.Ask.TheVariants.{Join, Leave, Rate, Tick, Pull, Arrive, Answer, Done, Sleep, Wake, Poll, Rx, Reap, Ampdu, Stop, Start, Unsent, GiveUp, Flush}
 use Rattle.wf_frame.specs.declared.notes.Limits.{Limits}
 use Rattle.wf_frame.specs.declared.notes.Note.{Note}
 use Rattle.wf_frame.specs.declared.notes.Note.TheVariants.{Enqueue, Asked}
@@ -22,10 +22,10 @@ use Rattle.wf_law_runs.specs.Shares.{airtime_sent_to, airtime_sent_by, airtime_s
 use Rattle.wf_law_runs.proofs.Common.Refused.{after_idle}
 use Rattle.wf_law_runs.proofs.Common.Limits.{with_limits}
 use Rattle.wf_law_runs.proofs.Deficits.Books.{core, Books, books}
-use Rattle.wf_law_runs.proofs.Deficits.BookSteps.{books_after_turn, books_prepared, books_sent, books_ended, books_gone, books_enqueued, books_received, books_reaped, books_slept, books_woken, books_credited, books_with_rate, books_joined, books_after_pick, books_stated, books_stopped, books_started}
+use Rattle.wf_law_runs.proofs.Deficits.BookSteps.{books_after_turn, books_prepared, books_sent, books_ended, books_gone, books_enqueued, books_received, books_reaped, books_slept, books_woken, books_credited, books_with_rate, books_joined, books_after_pick, books_stated, books_stopped, books_started, books_flushed}
 use Rattle.wf_law_runs.proofs.Deficits.Openings.{owed-append, owed-core, owed-ended}
 use Rattle.wf_law_runs.proofs.Deficits.Kept.{IsKept}
-use Rattle.wf_law_runs.proofs.Deficits.KeptStep.{no_row, IsFound, at_number, books_arrived, books_answered, charge_exact, kept, kept_step}
+use Rattle.wf_law_runs.proofs.Deficits.KeptStep.{no_row, IsFound, at_number, books_arrived, books_unsent, books_given_up, books_answered, charge_exact, kept, kept_step}
 use Rattle.wf_law_runs.proofs.Deficits.Configs.{config_run, config_step}
 use Rattle.wf_law_runs.proofs.Deficits.Listing.{longer_listed}
 use Rattle.wf_law_runs.proofs.Fairness.OldOrder.{owing, owing_done, owing_refused}
@@ -127,6 +127,10 @@ paid_done (Asked (Tick by)) w s c fine kept none = paid_same s c (books w) (book
 paid_done (Asked (Pull d l)) w s c fine kept none = paid_pulled w d c l s
 paid_done (Asked (Arrive e j)) w s c fine kept none = paid_open (exchange w e) w e s c _ refl
     (λ x f. ap (λ (b : Books). b.opened) (books_arrived w e j x kept f))
+paid_done (Asked (Unsent e j)) w s c fine kept none = paid_open (exchange w e) w e s c _ refl
+    (λ x f. ap (λ (b : Books). b.opened) (books_unsent w e j x kept f))
+paid_done (Asked (GiveUp e j)) w s c fine kept none = paid_open (exchange w e) w e s c _ refl
+    (λ x f. ap (λ (b : Books). b.opened) (books_given_up w e j x kept f))
 paid_done (Asked (Answer e)) w s c fine kept none = paid_open (exchange w e) w e s c _ refl
     (λ x f. ap (λ (b : Books). b.opened) (books_answered w e x kept f))
 paid_done (Asked (Done e heard air)) w s c fine kept none =
@@ -140,6 +144,8 @@ paid_done (Asked (Stop i)) w s c fine kept none =
     paid_same s c (books w) _ (ap (λ (b : Books). b.opened) (books_stopped w i))
 paid_done (Asked (Start i)) w s c fine kept none =
     paid_same s c (books w) _ (ap (λ (b : Books). b.opened) (books_started w i))
+paid_done (Asked (Flush i t)) w s c fine kept none =
+    paid_same s c (books w) _ (ap (λ (b : Books). b.opened) (books_flushed w i t))
 paid_done (Asked (Wake i)) w s c fine kept none =
     paid_same s c (books w) _ (ap (λ (b : Books). b.opened) (books_woken w i))
 paid_done (Asked (Poll i)) w s c fine kept none =

@@ -4,7 +4,7 @@ use Rattle.std.proofs.Common.{◌≡◌, refl, ap, sym, ◌∙◌, subst, arith,
 use Rattle.std.proofs.lemmas.Bool.{cases_eq, ne_eqb}
 use Rattle.wf_frame.specs.declared.settings.Config.{Config}
 use Rattle.wf_frame.specs.declared.classes.Class.{Class}
-use Rattle.wf_frame.specs.declared.notes.Ask.TheVariants.{Join, Leave, Rate, Tick, Pull, Arrive, Answer, Done, Sleep, Wake, Poll, Rx, Reap, Ampdu, Stop, Start}
+use Rattle.wf_frame.specs.declared.notes.Ask.TheVariants.{Join, Leave, Rate, Tick, Pull, Arrive, Answer, Done, Sleep, Wake, Poll, Rx, Reap, Ampdu, Stop, Start, Unsent, GiveUp, Flush}
 use Rattle.wf_frame.specs.declared.notes.Note.{Note}
 use Rattle.wf_frame.specs.declared.notes.Note.TheVariants.{Enqueue, Asked}
 use Rattle.wf_frame.specs.declared.notes.Refusal.{Refusal}
@@ -21,9 +21,9 @@ use Rattle.wf_frame.specs.Settings.{IsInRange}
 use Rattle.wf_law_runs.specs.Sums.{since_join, air_by, charged_over, received_over}
 use Rattle.wf_law_runs.proofs.Common.Refused.{after_idle}
 use Rattle.wf_law_runs.proofs.Deficits.Books.{Account, account, Books, books, with_account, on_part, upd_same, upd_other, each_upd, updc_same, updc_other, each_updc, cases_class}
-use Rattle.wf_law_runs.proofs.Deficits.BookSteps.{books_ended, books_gone, all_off, books_enqueued, receive_share, books_received, books_reaped, books_slept, books_woken, books_credited, rated, books_with_rate, fresh_account, books_joined, charge_share, pay_share, after, books_after_pick, books_stated, books_stopped, books_started}
+use Rattle.wf_law_runs.proofs.Deficits.BookSteps.{books_ended, books_gone, all_off, books_enqueued, receive_share, books_received, books_reaped, books_slept, books_woken, books_credited, rated, books_with_rate, fresh_account, books_joined, charge_share, pay_share, after, books_after_pick, books_stated, books_stopped, books_started, books_flushed}
 use Rattle.wf_law_runs.proofs.Deficits.Kept.{IsKept, if_map}
-use Rattle.wf_law_runs.proofs.Deficits.KeptStep.{IsFound, books_arrived, books_answered, kept_step, kept_opening}
+use Rattle.wf_law_runs.proofs.Deficits.KeptStep.{IsFound, books_arrived, books_unsent, books_given_up, books_answered, kept_step, kept_opening}
 use Rattle.wf_law_runs.proofs.Fairness.OldOrder.{calm_pulled, owing, owing_done, owing_refused}
 use Rattle.wf_law_runs.proofs.Deficits.Listing.{longer_listed}
 use Rattle.wf_def_world.specs.CanSend.{with_listings_of}
@@ -216,6 +216,12 @@ sum_done (Asked (Pull d l)) w c p q s k h = still c p q _
 sum_done (Asked (Arrive e j)) w c p q s k h =
     sum_open w e (exchange w e) _ c p q s (λ _. 0) refl refl h
     (λ x f. still c p q _ (sum_books c p q s _ _ (books_arrived w e j x k f) h))
+sum_done (Asked (Unsent e j)) w c p q s k h =
+    sum_open w e (exchange w e) _ c p q s (λ _. 0) refl refl h
+    (λ x f. still c p q _ (sum_books c p q s _ _ (books_unsent w e j x k f) h))
+sum_done (Asked (GiveUp e j)) w c p q s k h =
+    sum_open w e (exchange w e) _ c p q s (λ _. 0) refl refl h
+    (λ x f. still c p q _ (sum_books c p q s _ _ (books_given_up w e j x k f) h))
 sum_done (Asked (Answer e)) w c p q s k h = sum_open w e (exchange w e) _ c p q s (λ _. 0) refl refl h
     (λ x f. still c p q _ (sum_books c p q s _ _ (books_answered w e x k f) h))
 sum_done (Asked (Done e heard air)) w c p q s k h =
@@ -225,6 +231,7 @@ sum_done (Asked (Sleep i)) w c p q s k h = still c p q _ (sum_books c p q s _ _ 
 sum_done (Asked (Ampdu i octets)) w c p q s k h = still c p q _ (sum_books c p q s _ _ (books_stated w i octets) h)
 sum_done (Asked (Stop i)) w c p q s k h = still c p q _ (sum_books c p q s _ _ (books_stopped w i) h)
 sum_done (Asked (Start i)) w c p q s k h = still c p q _ (sum_books c p q s _ _ (books_started w i) h)
+sum_done (Asked (Flush i t)) w c p q s k h = still c p q _ (sum_books c p q s _ _ (books_flushed w i t) h)
 sum_done (Asked (Wake i)) w c p q s k h = still c p q _ (sum_books c p q s _ _ (books_woken w i) h)
 sum_done (Asked (Poll i)) w c p q s k h = still c p q _ (sum_books c p q s _ _ (books_credited w i) h)
 sum_done (Asked (Rx i d air)) w c p q s k h = sum_received w i d air c p q s h

@@ -1,23 +1,28 @@
 -- Proves the law of tries, in every world of a run, from the counts and the law of attempts.
-use Rattle.std.proofs.Common.{◌≡◌, refl, ap, sym, ◌∙◌, subst, arith, ℕ, zero, suc, ◌+◌, ◌-◌, ◌*◌, ◌<◌, ◌≤◌, ◌==◌, Bool, false, if◌then◌else◌, ◌⊎◌, inl, inr, List, [], ◌∷◌, ◌++◌, length, take, map, ◌%◌, nat_lt}
+use Rattle.std.proofs.Common.{◌≡◌, refl, ap, sym, ◌∙◌, subst, arith, ℕ, zero, suc, ◌+◌, ◌-◌, ◌*◌, ◌<◌, ◌≤◌, ◌==◌, ◌&&◌, Bool, true, false, if◌then◌else◌, ◌⊎◌, inl, inr, List, [], ◌∷◌, ◌++◌, Option, Some, None, is_none, count_by, length, take, map, ◌%◌, nat_lt}
+use Rattle.std.proofs.lemmas.List.Sums.{sum_by-cons}
 use Rattle.wf_frame.specs.declared.settings.Config.{Config}
+use Rattle.wf_frame.specs.declared.notes.Ask.TheVariants.{Done}
 use Rattle.wf_frame.specs.declared.notes.Note.{Note}
+use Rattle.wf_frame.specs.declared.notes.Note.TheVariants.{Asked}
 use Rattle.wf_frame.specs.declared.notes.Part.{Part}
 use Rattle.wf_frame.specs.declared.notes.Part.TheVariants.{Mpdus, Request as Asks}
 use Rattle.wf_frame.specs.declared.notes.ReplyNote.{ReplyNote}
 use Rattle.wf_frame.specs.declared.notes.ReplyNote.TheVariants.{Send}
 use Rattle.wf_frame.specs.Settings.{IsInRange}
 use Rattle.wf_def_lists.specs.Lengths.{greatest_body}
+use Rattle.wf_def_lists.specs.Table.{has}
 use Rattle.wf_def_agreement.specs.Session.{Session, State, slot, is_failed}
-use Rattle.wf_def_world.specs.World.{World, Mpdu, Content, Frames, Request, session, accepted_count, opening}
-use Rattle.wf_def_world.specs.Exchanges.{mpdus_of, part_of}
+use Rattle.wf_def_world.specs.World.{World, Mpdu, Exchange, Content, Frames, Request, session, exchange, accepted_count, opening}
+use Rattle.wf_def_world.specs.Exchanges.{mpdus_of, part_of, numbers_unsent}
 use Rattle.wf_def_world.specs.CanSend.{is_request}
+use Rattle.wf_def_world.specs.Refusals.{refusal}
 use Rattle.wf_def_world.specs.Step.{step}
 use Rattle.wf_def_world.specs.Run.{Entry, world_after}
 use Rattle.wf_law_runs.specs.Queues.{AreAtMost}
 use Rattle.wf_law_runs.specs.Sent.{HasSome}
 use Rattle.wf_law_runs.specs.Releases.{named_by}
-use Rattle.wf_law_runs.specs.Tries.{count_of, count_in_part, tries_by, tries, frames_in_part, frames_sent_by, frames_sent_in, data_exchanges_by, data_exchanges, KeepsTries, TriesLaw}
+use Rattle.wf_law_runs.specs.Tries.{count_of, count_in_part, tries_by, tries, count_among, unsent_in, unsent_by, unsent, frames_unsent_in, frames_unsent_by, frames_unsent, frames_in_part, frames_sent_by, frames_sent_in, data_exchanges_by, data_exchanges, KeepsTries, TriesLaw}
 use Rattle.wf_law_rules.proofs.Lemmas.Numbers.{on_bool, eq_yes, eq_no, yes_eq, not_eq, lt_yes, lt_no}
 use Rattle.wf_law_runs.proofs.Sessions.Flights.{AllIn}
 use Rattle.wf_law_runs.proofs.Windows.Agreed.{IsOpenIn}
@@ -30,41 +35,46 @@ use Rattle.wf_law_runs.proofs.Frames.Fates.{Steady, steady_step, steady_first}
 use Rattle.wf_law_runs.proofs.Sent.Lengths.{IsStocked, stocked_step, stocked_first}
 use Rattle.wf_law_runs.proofs.Sent.Some.{AllSome, some_step, fit}
 use Rattle.wf_law_runs.proofs.Attempts.Law.{AllTried, Tried, tried_step, none_given}
-use Rattle.wf_law_runs.proofs.Tries.Counts.{AllCounted, Counts, times_in, times_part, counts_step, counts_first, counts, one_if, none_if}
+use Rattle.wf_law_runs.proofs.Tries.Counts.{Count, AllCounted, Counts, counted_after, no_count, count_in, times_in, times_part, counts_step, counts_first, counts, one_if, none_if}
 use Rattle.wf_law_runs.proofs.Tries.Opens.{Opens, at_some, opens_step}
 use Rattle.wf_law_runs.proofs.Tries.Requests.{few_requests}
 use Rattle.wf_law_runs.proofs.Ranges.Traits.{Traits, traits_step}
 
 -- ---- each frame
 
+-- A frame was sent at most `limit` times, if the times are not counted in which it never went on the air.
+abbrev AtMost : ℕ → Count → ℕ → Type 0
+AtMost limit n k = n.sent k ≤ limit + n.unsent k
+
 -- A frame of an exchange that flies was sent at most `limit` times.
-few_times : (ms : List Mpdu) (n : ℕ → ℕ) (limit e k : ℕ) (y : Session) → AllIn y (State.Flying e) ms →
-    Labelled y ms → AllCounted n y → AllTried limit y → (times_in k ms ≡ 0) ⊎ (n k ≤ limit)
+few_times : (ms : List Mpdu) (n : Count) (limit e k : ℕ) (y : Session) → AllIn y (State.Flying e) ms →
+    Labelled y ms → AllCounted n y → AllTried limit y → (times_in k ms ≡ 0) ⊎ AtMost limit n k
 few_times [] n limit e k y f l c a = inl refl
 few_times (m ∷ ms) n limit e k y f l c a = on_bool (m.id == k)
     (λ h.
     let is : (slot y m.number).id ≡ k = l.0 ∙ eq_yes m.id k h in
-    let counted : n (slot y m.number).id ≡ (slot y m.number).attempts + 1 =
+    let counted : n.sent (slot y m.number).id ≡ (slot y m.number).attempts + 1
+    + n.unsent (slot y m.number).id =
     (c (m.number - y.first)).flies e f.0 in
     let few : (slot y m.number).attempts < limit =
     (a (m.number - y.first)).fewer (ap is_failed f.0) in
-    inr (subst (λ (i : ℕ). n i ≤ limit) is (omega (arith, counted, few))))
+    inr (subst (λ (i : ℕ). n.sent i ≤ limit + n.unsent i) is (omega (arith, counted, few))))
     (λ h. elim (few_times ms n limit e k y f.1 l.1 c a) [
       | inl none ↦ inl (omega (arith, none, none_if (m.id == k) h))
       | inr few ↦ inr few
     ])
 
-each_step : (l : List ℕ) (n : ℕ → ℕ) (limit : ℕ) (w : World) (note : Note) → Steady l w →
-    Counts n w → 1 ≤ limit → w.config.attempts ≡ limit → Tried limit w → ((k : ℕ) → n k ≤ limit) → (k : ℕ) →
-    n k + tries_by k (step w note).reply ≤ limit
+each_step : (l : List ℕ) (n : Count) (limit : ℕ) (w : World) (note : Note) → Steady l w →
+    Counts n w → 1 ≤ limit → w.config.attempts ≡ limit → Tried limit w → ((k : ℕ) → AtMost limit n k) →
+    (k : ℕ) → AtMost limit (counted_after n w note (step w note).reply) k
 each_step l n limit w note y c some same a few k = elim (opens_step w note) [
-  | inl none ↦ omega (arith, none.tries k, few k)
+  | inl none ↦ unsent_none (none.tries k)
   | inr x ↦ sent x (few_times (mpdus_of x.exchange.content) _ limit x.exchange.number k
       (session v x.exchange.station x.exchange.tid)
       (at_some (IsOpenIn v) v.opened x.exchange y'.lawful.opened x.among).opened.flies.flying
       (at_some (λ z. Labelled (session v z.station z.tid) (mpdus_of z.content)) v.opened x.exchange
       y'.labelled.labels x.among)
-      ((counts_step l n w note y.lawful y.placing c).slots x.exchange.station x.exchange.tid)
+      ((counts_step l n w note y.lawful y.labelled y.placing c).slots x.exchange.station x.exchange.tid)
       (tried_step limit w note some same y.lawful a x.exchange.station x.exchange.tid))
 ]
   where
@@ -74,21 +84,25 @@ each_step l n limit w note y c some same a few k = elim (opens_step w note) [
     y' : Steady (l ++ named_by (step w note).reply) v
     y' = steady_step l w note y
 
+    unsent_none : tries_by k (step w note).reply ≡ 0 →
+        n.sent k + tries_by k (step w note).reply ≤ limit + (n.unsent k + unsent_by w k note)
+    unsent_none none = omega (arith, none, few k)
+
     sent : (x : Opens (step w note)) → (times_in k (mpdus_of x.exchange.content) ≡ 0) ⊎
-        (n k + tries_by k (step w note).reply ≤ limit) → n k + tries_by k (step w note).reply ≤ limit
-    sent x (inl none) =
-        let named : tries_by k (step w note).reply ≡ 0 =
-        ap (tries_by k) x.reply ∙ times_part k x.exchange.content ∙ none in
-        omega (arith, named, few k)
+        AtMost limit (counted_after n w note (step w note).reply) k →
+        AtMost limit (counted_after n w note (step w note).reply) k
+    sent x (inl none) = unsent_none (ap (tries_by k) x.reply ∙ times_part k x.exchange.content ∙ none)
     sent x (inr h) = h
 
-each_run : (h : List Entry) (l : List ℕ) (n : ℕ → ℕ) (limit : ℕ) (w : World) → Steady l w → Counts n w →
-    1 ≤ limit → w.config.attempts ≡ limit → Tried limit w → ((k : ℕ) → n k ≤ limit) → (k : ℕ) →
-    n k + tries w k h ≤ limit
+each_run : (h : List Entry) (l : List ℕ) (n : Count) (limit : ℕ) (w : World) → Steady l w → Counts n w →
+    1 ≤ limit → w.config.attempts ≡ limit → Tried limit w → ((k : ℕ) → AtMost limit n k) → (k : ℕ) →
+    n.sent k + tries w k h ≤ limit + (n.unsent k + unsent w k h)
 each_run [] l n limit w y c some same a few k = omega (arith, few k)
 each_run (e ∷ es) l n limit w y c some same a few k =
-    let rest = each_run es (l ++ named_by (step w e.1).reply) (λ i. n i + tries_by i (step w e.1).reply) limit
-    (step w e.1).world (steady_step l w e.1 y) (counts_step l n w e.1 y.lawful y.placing c) some
+    let rest : n.sent k + tries_by k (step w e.1).reply + tries (step w e.1).world k es
+    ≤ limit + (n.unsent k + unsent_by w k e.1 + unsent (step w e.1).world k es) =
+    each_run es (l ++ named_by (step w e.1).reply) (counted_after n w e.1 (step w e.1).reply) limit
+    (step w e.1).world (steady_step l w e.1 y) (counts_step l n w e.1 y.lawful y.labelled y.placing c) some
     (ap (λ (c : Config). c.attempts) (config_step w e.1) ∙ same) (tried_step limit w e.1 some same y.lawful a)
     (each_step l n limit w e.1 y c some same a few) k in
     omega (arith, rest)
@@ -108,9 +122,10 @@ sum_added : (f g : ℕ → ℕ) (c : ℕ) → sum_below (λ k. f k + g k) c ≡ 
 sum_added f g zero = refl
 sum_added f g (suc c) = omega (arith, sum_added f g c)
 
-sum_most : (f : ℕ → ℕ) (most c : ℕ) → ((k : ℕ) → f k ≤ most) → sum_below f c ≤ most * c
-sum_most f most zero h = omega arith
-sum_most f most (suc c) h = grind (arith, h c, sum_most f most c h)
+sum_most : (f g : ℕ → ℕ) (most c : ℕ) → ((k : ℕ) → f k ≤ most + g k) →
+    sum_below f c ≤ most * c + sum_below g c
+sum_most f g most zero h = omega arith
+sum_most f g most (suc c) h = grind (arith, h c, sum_most f g most c h)
 
 -- One id is counted once.
 sum_one_other : (id c : ℕ) → c ≤ id → sum_below (λ k. if id == k then 1 else 0) c ≡ 0
@@ -167,6 +182,81 @@ sum_run (e ∷ es) w c none =
       sum_run es (step w e.1).world c (λ k far. omega (arith, none k far)),
     )
 
+-- ---- the frames that never went on the air
+
+sum_one_most : (id c : ℕ) → sum_below (λ k. if id == k then 1 else 0) c ≤ 1
+sum_one_most id c = on_bool (nat_lt id c) (λ e. omega (arith, sum_one id c (lt_yes id c e)))
+    (λ e. omega (arith, sum_one_other id c (lt_no id c e)))
+
+sum_same : (f g : ℕ → ℕ) (c : ℕ) → ((k : ℕ) → f k ≡ g k) → sum_below f c ≡ sum_below g c
+sum_same f g zero h = refl
+sum_same f g (suc c) h = omega (arith, h c, sum_same f g c h)
+
+and_true_is : (a : Bool) → ◌≡◌ {A = ℕ} (if a && true then 1 else 0) (if a then 1 else 0)
+and_true_is true = refl
+and_true_is false = refl
+
+and_false_is : (a : Bool) → ◌≡◌ {A = ℕ} (if a && false then 1 else 0) 0
+and_false_is true = refl
+and_false_is false = refl
+
+sum_if : (b : Bool) (id c : ℕ) → sum_below (λ k. if (id == k) && b then 1 else 0) c ≤ (if b then 1 else 0)
+sum_if true id c = omega (
+  arith,
+  sum_same (λ k. if (id == k) && true then 1 else 0) (λ k. if id == k then 1 else 0) c
+      (λ k. and_true_is (id == k)),
+  sum_one_most id c,
+)
+sum_if false id c = omega (
+  arith,
+  sum_zero (λ k. if (id == k) && false then 1 else 0) c
+      (λ k. and_false_is (id == k)),
+)
+
+sum_among : (ms : List Mpdu) (numbers : List ℕ) (c : ℕ) →
+    sum_below (λ k. count_among k numbers ms) c ≤ count_by (λ m. has numbers m.number) ms
+sum_among [] numbers c = omega (arith, sum_zero (λ k. count_among k numbers []) c (λ k. refl))
+sum_among (m ∷ ms) numbers c =
+    let one : ℕ → ℕ = λ k. if (m.id == k) && has numbers m.number then 1 else 0 in
+    let parts : sum_below (λ k. count_among k numbers (m ∷ ms)) c
+    ≡ sum_below (λ k. one k + count_among k numbers ms) c =
+    sum_same (λ k. count_among k numbers (m ∷ ms)) (λ k. one k + count_among k numbers ms) c
+    (λ k. sum_by-cons (λ (z : Mpdu). if (z.id == k) && has numbers z.number then 1 else 0) m ms) in
+    let whole : count_by (λ m. has numbers m.number) (m ∷ ms)
+    ≡ (if has numbers m.number then 1 else 0) + count_by (λ m. has numbers m.number) ms =
+    sum_by-cons (λ (z : Mpdu). if has numbers z.number then 1 else 0) m ms in
+    omega (
+      arith,
+      parts,
+      whole,
+      sum_added one (λ k. count_among k numbers ms) c,
+      sum_if (has numbers m.number) m.id c,
+      sum_among ms numbers c,
+    )
+
+sum_exchange : (o : Option Exchange) (c : ℕ) → sum_below (λ k. unsent_in k o) c ≤ frames_unsent_in o
+sum_exchange None c = omega (arith, sum_zero (λ k. unsent_in k None) c (λ k. refl))
+sum_exchange (Some x) c = sum_among (mpdus_of x.content) (numbers_unsent x) c
+
+sum_ended : (b : Bool) (o : Option Exchange) (c : ℕ) →
+    sum_below (λ k. if b then unsent_in k o else 0) c ≤ (if b then frames_unsent_in o else 0)
+sum_ended true o c = sum_exchange o c
+sum_ended false o c = omega (arith, sum_zero (λ k. 0) c (λ k. refl))
+
+sum_call : (note : Note) (w : World) (c : ℕ) → sum_below (λ k. unsent_by w k note) c ≤ frames_unsent_by w note
+sum_call (Asked (Done e heard air)) w c =
+    sum_ended (is_none (refusal w (Asked (Done e heard air)))) (exchange w e) c
+sum_call _ w c = omega (arith, sum_zero (λ k. 0) c (λ k. refl))
+
+sum_unsent : (h : List Entry) (w : World) (c : ℕ) → sum_below (λ k. unsent w k h) c ≤ frames_unsent w h
+sum_unsent [] w c = omega (arith, sum_zero (λ k. 0) c (λ k. refl))
+sum_unsent (e ∷ es) w c = omega (
+  arith,
+  sum_added (λ k. unsent_by w k e.1) (λ k. unsent (step w e.1).world k es) c,
+  sum_call e.1 w c,
+  sum_unsent es (step w e.1).world c,
+)
+
 -- ---- exchanges of data
 
 length_named : (ms : List Mpdu) → length {A = ℕ × ℕ} (map (λ m. (m.id, m.number % 4096)) ms) ≡ length ms
@@ -211,20 +301,23 @@ pub keeps_tries : (config : Config) (past : List Entry) → IsInRange config →
 keeps_tries config past range =
     let w : World = world_after (opening config) past in
     let some : 1 ≤ config.attempts = omega (arith, range.attempts.0) in
-    let few : (k : ℕ) → tries (opening config) k past ≤ config.attempts = λ k.
-    (let f : 0 + tries (opening config) k past ≤ config.attempts =
-    each_run past [] (λ i. 0) config.attempts (opening config) (steady_first config) (counts_first config)
+    let few : (k : ℕ) → tries (opening config) k past ≤ config.attempts + unsent (opening config) k past =
+    λ k.
+    (let f : 0 + tries (opening config) k past ≤ config.attempts + (0 + unsent (opening config) k past) =
+    each_run past [] no_count config.attempts (opening config) (steady_first config) (counts_first config)
     some
     refl (λ s t i. none_given config.attempts some) (λ i. omega arith) k in omega (arith, f)) in
-    let c : Counts (λ k. tries (opening config) k past) w = counts config past in
+    let c : Counts (count_in config past) w = counts config past in
     record {
       each = few;
-      accepted = c.fresh;
+      accepted = λ k far. (c.fresh k far).0;
       counted = λ s t n. c.slots s t (n - (session w s t).first);
       all = omega (
         arith,
-        sum_run past (opening config) (accepted_count w) c.fresh,
-        sum_most (λ k. tries (opening config) k past) config.attempts (accepted_count w) few,
+        sum_run past (opening config) (accepted_count w) (λ k far. (c.fresh k far).0),
+        sum_most (λ k. tries (opening config) k past) (λ k. unsent (opening config) k past) config.attempts
+            (accepted_count w) few,
+        sum_unsent past (opening config) (accepted_count w),
       );
       exchanges = λ short. data_run past [] (opening config) short (kept_opening config range)
           (steady_first config) (stocked_first greatest_body config) (λ s. tt) tt;

@@ -1,25 +1,25 @@
--- Proves that there are at most as many heard requests as frames that are dropped for retries. Each heard
--- request announces a failed number that no earlier request announced, and the frame of this number is
--- dropped for retries. By cases of the call and induction on the run.
+-- Proves that there are at most as many heard requests as frames that are dropped for retries or flushed.
+-- Each heard request announces a failed number that no earlier request announced, and the frame of this
+-- number is dropped for retries or flushed. By cases of the call and induction on the run.
 use Rattle.std.proofs.Common.{◌||◌, zero-add, ◌≡◌, ◌≢◌, refl, ap, sym, ◌∙◌, subst, arith, ℕ, zero, suc, ◌+◌, ◌-◌, ◌<◌, ◌≤◌, Bool, true, false, if◌then◌else◌, ◌&&◌, ◌==◌, ◌⊎◌, inl, inr, List, [], ◌∷◌, ◌++◌, length, count_by, Option, Some, None, IfSome, is_none}
 use Rattle.std.proofs.lemmas.List.Sums.{sum_by-cons}
 use Rattle.wf_frame.specs.declared.settings.Config.{Config}
-use Rattle.wf_frame.specs.declared.classes.Cause.TheVariants.{Retries}
+use Rattle.wf_frame.specs.declared.classes.Cause.TheVariants.{Overlimit, Codel as By_codel, Retries, Left, Flushed}
 use Rattle.wf_frame.specs.declared.classes.Fate.{Fate}
-use Rattle.wf_frame.specs.declared.classes.Fate.TheVariants.{Acked, Dropped}
-use Rattle.wf_frame.specs.declared.notes.Ask.TheVariants.{Pull, Done}
+use Rattle.wf_frame.specs.declared.classes.Fate.TheVariants.{Held, Acked, Dropped}
+use Rattle.wf_frame.specs.declared.notes.Ask.TheVariants.{Pull, Done, Flush}
 use Rattle.wf_frame.specs.declared.notes.Note.{Note}
 use Rattle.wf_frame.specs.declared.notes.Note.TheVariants.{Asked}
 use Rattle.wf_frame.specs.declared.notes.Refusal.{Refusal}
 use Rattle.wf_frame.specs.declared.notes.Refusal.TheVariants.{Idle}
 use Rattle.wf_def_lists.specs.Table.{at, has, put}
 use Rattle.wf_def_lists.specs.Lists.{IsOnce}
-use Rattle.wf_def_agreement.specs.Session.{Session, Slot, State, no_slot, slot, with_state, after_miss, slot_after_miss, next_number, is_settled, is_failed}
-use Rattle.wf_def_world.specs.World.{World, on_tid, on_station, Exchange, Frame, Mpdu, Content, Frames, Request, no_frame, session, frame, is_live, exchange, with_station, on_session, without_exchange, with_fate, with_frame_finished, opening}
+use Rattle.wf_def_agreement.specs.Session.{End, Session, Slot, State, no_slot, slot, with_state, on_slot, after_flush, next_number, is_settled, is_waiting, is_failed}
+use Rattle.wf_def_world.specs.World.{World, on_tid, on_station, Exchange, Frame, Mpdu, Content, Frames, Request, no_frame, session, frame, is_live, exchange, with_station, on_session, without_exchange, on_queue, with_fate, with_frame_finished, with_frames_finished, opening}
 use Rattle.wf_def_world.specs.CanSend.{is_request, with_listings_of}
-use Rattle.wf_def_world.specs.Exchanges.{mpdus_of, is_acked, with_heard_start, after_charge, with_failed_finished, with_settled, with_all_settled, after_done}
+use Rattle.wf_def_world.specs.Exchanges.{mpdus_of, end_of, with_heard_start, after_charge, with_failed_finished, with_settled, with_all_settled, after_done}
 use Rattle.wf_def_world.specs.Refusals.{refusal}
-use Rattle.wf_def_world.specs.Step.{done_outcome, outcome_where_open, outcome_of, concerned_station, after_refusal, judged_outcome, step}
+use Rattle.wf_def_world.specs.Step.{Outcome, done_outcome, outcome_where_open, waiting_ids, after_tid_flushed, flush_outcome, outcome_of, concerned_station, after_refusal, judged_outcome, step}
 use Rattle.wf_def_world.specs.Run.{Entry, world_after}
 use Rattle.wf_def_world.specs.Text.{same_fate, tally}
 use Rattle.wf_law_rules.proofs.Lemmas.Numbers.{on_bool, on_if, eq_yes, eq_no, yes_eq, not_eq, either, or_left, or_right}
@@ -28,14 +28,16 @@ use Rattle.wf_law_rules.proofs.Lemmas.Joined.{not_more}
 use Rattle.wf_law_runs.specs.Tries.{requests_heard_by, requests_heard, asks_in}
 use Rattle.wf_law_runs.specs.Releases.{named_by}
 use Rattle.wf_law_runs.proofs.Common.Refused.{after_idle}
-use Rattle.wf_law_runs.proofs.Windows.Sides.{Side, Same, same, each_side_on, same_finish, same_listed, same_after_pick, same_charged}
+use Rattle.wf_law_runs.proofs.Common.Ends.{slot_after_end, end_id, on_settled}
+use Rattle.wf_law_runs.proofs.Common.Flushes.{slot_flush, flushed_stays, flushed_fails, StaysInFlush, flushed_ids, flushed_queues, if_flushed}
+use Rattle.wf_law_runs.proofs.Windows.Sides.{Side, Same, same, each_side_on, same_on_queue, same_finish, same_listed, same_after_pick, same_charged}
 use Rattle.wf_law_runs.proofs.Windows.Agreement.{within_length, IsUntold, IsAsked, IfRequest, slot_same}
 use Rattle.wf_law_runs.proofs.Windows.Agreed.{live_without, session_same, IsLawful, IsEnding, ending_settled, ending_of, session_on_session}
 use Rattle.wf_law_runs.proofs.Windows.Settling.{without_same}
 use Rattle.wf_law_runs.proofs.Releases.Placed.{Placing, Numbered}
 use Rattle.wf_law_runs.proofs.Frames.Delivered.{Labelled, labelled_kept}
 use Rattle.wf_law_runs.proofs.Releases.Kept.{Kept, keep_settled}
-use Rattle.wf_law_runs.proofs.Frames.Fates.{IsHeld, Remains, Fresh, Safe, Steady, IsFoundNamed, found_named, remains_same, remains_of, then_remains, safe_calm, safe_settled, steady_step, steady_first, remains_step, fresh_without}
+use Rattle.wf_law_runs.proofs.Frames.Fates.{IsHeld, Remains, Fresh, Safe, Steady, IsFoundNamed, found_named, remains_same, remains_of, then_remains, safe_calm, safe_settled, steady_step, steady_first, remains_step, fresh_without, waiting_unsettled}
 use Rattle.std.proofs.Math.Nat.{le-max_left, le-max_right}
 use Rattle.wf_law_runs.proofs.Releases.Placed.{Any}
 use Rattle.wf_law_runs.proofs.Releases.Once.{placed_without}
@@ -45,16 +47,22 @@ use Rattle.wf_law_runs.proofs.Tries.Still.{Stands, Still, stands_equal, still_sa
 
 -- ---- the fates of frames at failed numbers
 
-abbrev WasRetried : World → ℕ → Type 0
-WasRetried w k = (frame w k).fate ≡ Dropped Retries
+-- A frame is dropped because its number failed, or flushed.
+abbrev is_lost : Fate → Bool
+is_lost (Dropped Retries) = true
+is_lost (Dropped Flushed) = true
+is_lost _ = false
 
--- The frame of each failed number is dropped for retries.
+abbrev WasRetried : World → ℕ → Type 0
+WasRetried w k = is_lost (frame w k).fate ≡ true
+
+-- The frame of each failed number is dropped for retries or flushed.
 record Fated (w : World) : Type 0 where
   failed : (s t n : ℕ) → (slot (session w s t) n).state ≡ State.Failed →
       WasRetried w (slot (session w s t) n).id
 
 -- World v is later than w. Each failed number of v has the same slot as in w, or its frame was held in w and
--- is dropped for retries in v.
+-- is dropped for retries or flushed in v.
 record Fails (w v : World) : Type 0 where
   fails : (s t n : ℕ) → (slot (session v s t) n).state ≡ State.Failed →
       Stands (session w s t) (session v s t) n ⊎
@@ -67,8 +75,8 @@ fails_still w v h r = record { fails = λ s t n e. inl (h.still s t n e); remain
 -- A frame that was dropped stays so.
 stays_retried : (w v : World) (k : ℕ) → Remains w v → WasRetried w k → WasRetried v k
 stays_retried w v k r e = elim (r.remains k) [
-  | inl held ↦ absurd (cc (held, e))
-  | inr same_fate ↦ same_fate ∙ e
+  | inl held ↦ absurd (cc (ap is_lost held, e))
+  | inr same_fate ↦ ap is_lost same_fate ∙ e
 ]
 
 was_held : (w v : World) (k : ℕ) → Remains w v → IsHeld v k → IsHeld w k
@@ -92,7 +100,7 @@ fails_then u v w h k = record {
           ap (λ (x : Slot). x.id) b.same_slot in
           inr (
             ap (λ (k : ℕ). (frame u k).fate) id ∙ a.0,
-            ap (λ (k : ℕ). (frame w k).fate) id ∙ stays_retried v w _ k.remains a.1,
+            ap (λ (k : ℕ). is_lost (frame w k).fate) id ∙ stays_retried v w _ k.remains a.1,
           )
     ]
     | inr b ↦ inr (was_held u v _ h.remains b.0, b.1)
@@ -103,7 +111,7 @@ fails_then u v w h k = record {
 fated_later : (w v : World) → Fails w v → Fated w → Fated v
 fated_later w v h f = record {
   failed = λ s t n e. elim (h.fails s t n e) [
-    | inl a ↦ ap (λ (k : ℕ). (frame v k).fate) (ap (λ (x : Slot). x.id) a.same_slot)
+    | inl a ↦ ap (λ (k : ℕ). is_lost (frame v k).fate) (ap (λ (x : Slot). x.id) a.same_slot)
         ∙ stays_retried w v _ h.remains (f.failed s t n (failed_before _ _ n a e))
     | inr b ↦ b.1
   ];
@@ -124,57 +132,55 @@ fate_of_own w fate id k own = ap (λ (j : ℕ). (at no_frame (put no_frame w.fra
     (record (frame w id) { fate = fate })) j).fate) own ∙ ap (λ (x : Frame). x.fate)
     (at_put_same no_frame w.frames id (record (frame w id) { fate = fate }))
 
--- A number is missed: it is the only one that can fail, and it carries frame id.
-missed : (w : World) (s t m id limit : ℕ) → (slot (session w s t) m).id ≡ id → (i j n : ℕ) →
-    (slot (session (on_session w s t (after_miss limit m)) i j) n).state ≡ State.Failed →
-    Stands (session w i j) (session (on_session w s t (after_miss limit m)) i j) n ⊎
-    (((slot (session (on_session w s t (after_miss limit m)) i j) n).id ≡ id) ×
-    (is_failed (slot_after_miss limit (slot (session w s t) m)).state ≡ true))
+-- A number has a new slot: it is the only one that can fail, and it carries frame id.
+missed : (w : World) (s t m id : ℕ) (f : Slot → Slot) → (f (slot (session w s t) m)).id ≡ id → (i j n : ℕ) →
+    (slot (session (on_session w s t (on_slot m f)) i j) n).state ≡ State.Failed →
+    Stands (session w i j) (session (on_session w s t (on_slot m f)) i j) n ⊎
+    (((slot (session (on_session w s t (on_slot m f)) i j) n).id ≡ id) ×
+    (is_failed (f (slot (session w s t) m)).state ≡ true))
 unfolding on_session
-missed w s t m id limit own = each_side_on (λ i j a. (n : ℕ) → (slot a.session n).state ≡ State.Failed →
+missed w s t m id f own = each_side_on (λ i j a. (n : ℕ) → (slot a.session n).state ≡ State.Failed →
     Stands (session w i j) a.session n ⊎ (((slot a.session n).id ≡ id) ×
-    (is_failed (slot_after_miss limit (slot (session w s t) m)).state ≡ true))) w s t
-    (λ y. record y { session = after_miss limit m y.session }) (λ i j n _. inl (stands_equal _ _ n refl))
+    (is_failed (f (slot (session w s t) m)).state ≡ true))) w s t
+    (λ y. record y { session = on_slot m f y.session }) (λ i j n _. inl (stands_equal _ _ n refl))
     (λ n e. go n e)
   where
     y : Session
     y = session w s t
 
-    go : (n : ℕ) → (slot (after_miss limit m y) n).state ≡ State.Failed → Stands y (after_miss limit m y) n ⊎
-        (((slot (after_miss limit m y) n).id ≡ id) ×
-        (is_failed (slot_after_miss limit (slot y m)).state ≡ true))
+    go : (n : ℕ) → (slot (on_slot m f y) n).state ≡ State.Failed → Stands y (on_slot m f y) n ⊎
+        (((slot (on_slot m f y) n).id ≡ id) × (is_failed (f (slot y m)).state ≡ true))
     go n e = elim (each_put (λ i x. x.state ≡ State.Failed → (x ≡ at no_slot y.slots i) ⊎
-        ((x.id ≡ id) × (is_failed (slot_after_miss limit (slot y m)).state ≡ true))) no_slot y.slots
-        (m - y.first) (slot_after_miss limit (slot y m)) (λ i _. inl refl)
+        ((x.id ≡ id) × (is_failed (f (slot y m)).state ≡ true))) no_slot y.slots
+        (m - y.first) (f (slot y m)) (λ i _. inl refl)
         (λ d. inr (own, ap is_failed d)) (n - y.first) e) [
           | inl a ↦ inl (record { same_slot = a; same_heard = refl; same_first = refl })
           | inr b ↦ inr b
         ]
 
--- One number is settled.
-fails_settled : (b : Bool) (l : List ℕ) (e s t : ℕ) (acked : ℕ → Bool) (w : World) (m : Mpdu)
-    (ms : List Mpdu) → IsEnding e s t acked w (m ∷ ms) → (slot (session w s t) m.number).id ≡ m.id →
-    IsHeld w m.id → Remains w (with_settled w s t b m) → Fails w (with_settled w s t b m)
-unfolding with_settled with_failed_finished
-fails_settled true l e s t acked w m ms n own held r =
-    let v : World = on_session w s t (with_state State.Acked m.number) in
-    fails_still w _ (still_then w v _ (still_session w s t (with_state State.Acked m.number)
-    (stands_on_slot (session w s t) m.number (λ x. record x { state = State.Acked }) (λ d. cc d)))
-    (still_same v _ (same_finish v Acked m.id))) r
-fails_settled false l e s t acked w m ms n own held r = go (is_failed (slot (session v s t) m.number).state)
+-- One number fails or waits again.
+fails_failing : (e s t : ℕ) (ends : ℕ → End) (w : World) (m : Mpdu) (ms : List Mpdu) (f : Slot → Slot) →
+    ((x : Slot) → (f x).id ≡ x.id) → IsEnding e s t ends w (m ∷ ms) →
+    (slot (session w s t) m.number).id ≡ m.id → IsHeld w m.id →
+    Remains w (with_failed_finished (on_session w s t (on_slot m.number f)) s t m) →
+    Fails w (with_failed_finished (on_session w s t (on_slot m.number f)) s t m)
+unfolding with_failed_finished
+fails_failing e s t ends w m ms f same_id n own held r = go (is_failed (slot (session v s t) m.number).state)
     fails_here r
   where
     v : World
-    v = on_session w s t (after_miss w.config.attempts m.number)
+    v = on_session w s t (on_slot m.number f)
 
-    fails_here : is_failed (slot_after_miss w.config.attempts (slot (session w s t) m.number)).state
+    fails_here : is_failed (f (slot (session w s t) m.number)).state
         ≡ is_failed (slot (session v s t) m.number).state
-    fails_here = ap (λ (x : Slot). is_failed x.state) (sym (slot_same (session w s t) m.number
-        (slot_after_miss w.config.attempts))) ∙ ap (λ (y : Session). is_failed (slot y m.number).state)
-        (sym (session_on_session w s t (after_miss w.config.attempts m.number) n.live))
+    fails_here = ap (λ (x : Slot). is_failed x.state) (sym (slot_same (session w s t) m.number f))
+        ∙ ap (λ (y : Session). is_failed (slot y m.number).state)
+        (sym (session_on_session w s t (on_slot m.number f) n.live))
 
-    go : (b : Bool) →
-        is_failed (slot_after_miss w.config.attempts (slot (session w s t) m.number)).state ≡ b →
+    carried : (f (slot (session w s t) m.number)).id ≡ m.id
+    carried = same_id (slot (session w s t) m.number) ∙ own
+
+    go : (b : Bool) → is_failed (f (slot (session w s t) m.number)).state ≡ b →
         Remains w (if b then with_frame_finished v (Dropped Retries) m.id else v) →
         Fails w (if b then with_frame_finished v (Dropped Retries) m.id else v)
     go true d r = record {
@@ -185,33 +191,47 @@ fails_settled false l e s t acked w m ms n own held r = go (is_failed (slot (ses
           ap (λ (a : Side). a.session) (same_sides.sides i j) in
           subst (λ (y : Session). Stands (session w i j) y k ⊎ (IsHeld w (slot y k).id ×
           WasRetried (with_frame_finished v (Dropped Retries) m.id) (slot y k).id)) (sym here)
-          (elim (missed w s t m.number m.id w.config.attempts own i j k
+          (elim (missed w s t m.number m.id f carried i j k
           (ap (λ (y : Session). (slot y k).state) (sym here) ∙ h)) [
             | inl a ↦ inl a
             | inr b ↦ inr (
               ap (λ (q : ℕ). (frame w q).fate) b.0 ∙ held,
-              fate_of_own v (Dropped Retries) m.id _ b.0,
+              ap is_lost (fate_of_own v (Dropped Retries) m.id _ b.0),
             )
           ]);
       remains = r;
     }
     go false d r = record {
-      fails = λ i j k h. elim (missed w s t m.number m.id w.config.attempts own i j k h) [
+      fails = λ i j k h. elim (missed w s t m.number m.id f carried i j k h) [
         | inl a ↦ inl a
         | inr b ↦ absurd (cc (b.1, d))
       ];
       remains = r;
     }
 
-fails_all : (ms : List Mpdu) (l : List ℕ) (e s t : ℕ) (acked : ℕ → Bool) (w : World) →
-    IsEnding e s t acked w ms → Labelled (session w s t) ms → Placing l w → Fresh w →
-    Fails w (with_all_settled w s t acked ms)
+-- One number is settled.
+fails_settled : (end : End) (e s t : ℕ) (ends : ℕ → End) (w : World) (m : Mpdu)
+    (ms : List Mpdu) → IsEnding e s t ends w (m ∷ ms) → (slot (session w s t) m.number).id ≡ m.id →
+    IsHeld w m.id → Remains w (with_settled w s t end m) → Fails w (with_settled w s t end m)
+unfolding with_settled
+fails_settled end e s t ends w m ms n own held = on_settled (λ u. Remains w u → Fails w u) end w s t m
+    (λ _ r.
+    let v : World = on_session w s t (with_state State.Acked m.number) in
+    fails_still w _ (still_then w v _ (still_session w s t (with_state State.Acked m.number)
+    (stands_on_slot (session w s t) m.number (λ x. record x { state = State.Acked }) (λ d. cc d)))
+    (still_same v _ (same_finish v Acked m.id))) r)
+    (λ _ r. fails_failing e s t ends w m ms (slot_after_end w.config.attempts end)
+    (λ x. end_id w.config.attempts end x) n own held r)
+
+fails_all : (ms : List Mpdu) (l : List ℕ) (e s t : ℕ) (ends : ℕ → End) (w : World) →
+    IsEnding e s t ends w ms → Labelled (session w s t) ms → Placing l w → Fresh w →
+    Fails w (with_all_settled w s t ends ms)
 unfolding with_all_settled
-fails_all [] l e s t acked w n a p h = fails_still w w (still_same w w (same w)) (remains_same w w refl)
-fails_all (m ∷ ms) l e s t acked w n a p h =
-    let v : World = with_settled w s t (acked m.number) m in
-    let k : Safe l w v = safe_settled (acked m.number) l e s t acked w m ms n a.0 p h in
-    let kept : Kept w v = keep_settled (acked m.number) w s t m in
+fails_all [] l e s t ends w n a p h = fails_still w w (still_same w w (same w)) (remains_same w w refl)
+fails_all (m ∷ ms) l e s t ends w n a p h =
+    let v : World = with_settled w s t (ends m.number) m in
+    let k : Safe l w v = safe_settled (ends m.number) l e s t ends w m ms n a.0 p h in
+    let kept : Kept w v = keep_settled (ends m.number) w s t m in
     let held : IsHeld w m.id = h.held m.id (inr (record {
       station = s;
       tid = t;
@@ -223,15 +243,15 @@ fails_all (m ∷ ms) l e s t acked w n a p h =
         id = a.0;
       };
     })) in
-    fails_then w v _ (fails_settled (acked m.number) l e s t acked w m ms n a.0 held (remains_of w v k.stays))
-    (fails_all ms l e s t acked v (ending_settled (acked m.number) e s t acked w m ms refl n)
+    fails_then w v _ (fails_settled (ends m.number) e s t ends w m ms n a.0 held (remains_of w v k.stays))
+    (fails_all ms l e s t ends v (ending_settled (ends m.number) e s t ends w m ms refl n)
     (labelled_kept ms (session w s t) (session v s t) (suc m.number) (kept.sessions s t)
     (omega (arith, n.flies.rising.0)) n.flies.rising.2 a.1) k.placing k.fresh)
 
 -- ---- a frame for each heard request
 
--- l has a frame for each request that was heard. The frame was dropped for retries, and each failed number
--- that is not yet announced has another frame.
+-- l has a frame for each request that was heard. The frame was dropped for retries or flushed, and each
+-- failed number that is not yet announced has another frame.
 record Spent (l : List ℕ) (w : World) : Type 0 where
   once : IsOnce l
   dropped : (k : ℕ) → has l k ≡ true → WasRetried w k
@@ -245,7 +265,8 @@ spent_later l w v h f = record {
   untold = λ s t n from e told. elim (h.fails s t n e) [
     | inl a ↦ ap (λ (x : Slot). has l x.id) a.same_slot ∙ f.untold s t n
         (omega (arith, from, a.same_first)) (failed_before _ _ n a e) (omega (arith, told, a.same_heard))
-    | inr b ↦ on_bool (has l (slot (session v s t) n).id) (λ d. absurd (cc (f.dropped _ d, b.0))) (λ d. d)
+    | inr b ↦ on_bool (has l (slot (session v s t) n).id)
+        (λ d. absurd (cc (f.dropped _ d, ap is_lost b.0))) (λ d. d)
   ];
 }
 
@@ -324,11 +345,12 @@ module _ (r l : List ℕ) (w : World) (s t g m : ℕ) (p : Placing r w) (live : 
       let id : ℕ = (slot (session w s t) m).id in
       let v : World = on_session w s t (with_heard_start true g) in
       let stays : (k : ℕ) → WasRetried w k → WasRetried v k = λ k e.
-      ap (λ (fs : List Frame). (at no_frame fs k).fate) (frames_heard w s t true g) ∙ e in
+      ap (λ (fs : List Frame). is_lost (at no_frame fs k).fate) (frames_heard w s t true g) ∙ e in
       record {
         once = (f.untold s t m u.from u.failed u.told, f.once);
         dropped = λ k e. stays k (elim (either (id == k) (has l k) e) [
-          | inl d ↦ ap (λ (j : ℕ). (frame w j).fate) (sym (eq_yes id k d)) ∙ fated.failed s t m u.failed
+          | inl d ↦ ap (λ (j : ℕ). is_lost (frame w j).fate) (sym (eq_yes id k d))
+              ∙ fated.failed s t m u.failed
           | inr d ↦ f.dropped k d
         ]);
         untold = λ i j n. on_bool (i == s)
@@ -349,7 +371,7 @@ failed_heard w s t g f = each_side_on (λ i j a. (n : ℕ) → (slot a.session n
 
 fated_heard : (w : World) (s t g : ℕ) → Fated w → Fated (on_session w s t (with_heard_start true g))
 fated_heard w s t g f = record {
-  failed = λ i j n e. ap (λ (fs : List Frame). (at no_frame fs
+  failed = λ i j n e. ap (λ (fs : List Frame). is_lost (at no_frame fs
       (slot (session (on_session w s t (with_heard_start true g)) i j) n).id).fate)
       (frames_heard w s t true g) ∙ failed_heard w s t g f i j n e;
 }
@@ -420,9 +442,9 @@ after_content (Frames ms) heard air r l w i x e n p h f d =
     let labels : Labelled (session u x.station x.tid) ms =
     subst (λ (y : Session). Labelled y ms) (sym (same_session air w x))
     (subst (λ (c : Content). Labelled (session w x.station x.tid) (mpdus_of c)) e n.labels) in
-    subst (λ (m : ℕ). After l m (with_all_settled u x.station x.tid (is_acked heard x.answer) ms))
+    subst (λ (m : ℕ). After l m (with_all_settled u x.station x.tid (end_of x heard) ms))
     (sym (no_request heard)) (after_fails l w _ (fails_then w u _ (fails_charged air w x)
-    (fails_all ms r x.number x.station x.tid (is_acked heard x.answer) u
+    (fails_all ms r x.number x.station x.tid (end_of x heard) u
     (ending_of air w i x ms heard e n.found_one) labels k.placing k.fresh)) f d)
 after_content (Request g) false air r l w i x e n p h f d =
     let u : World = after_charge (without_exchange w x.number) x air in
@@ -476,6 +498,150 @@ after_done_is : (l : List ℕ) (k : ℕ) (w : World) (e : ℕ) (heard : Bool) (a
 unfolding outcome_of
 after_done_is l k w e heard air a = a
 
+-- ---- a flush
+
+lost_finish : (w : World) (id k : ℕ) → WasRetried w k →
+    WasRetried (with_frame_finished w (Dropped Flushed) id) k
+lost_finish w id k h = on_bool (k == id)
+    (λ e. ap is_lost (fate_of_own w (Dropped Flushed) id k (eq_yes k id e)))
+    (λ e. ap is_lost (fate_of_other w (Dropped Flushed) id k (eq_no k id e)) ∙ h)
+
+frames_emptied : (w : World) (q k : ℕ) → WasRetried w k →
+    WasRetried (on_queue w q (λ y. record y { items = [] })) k
+unfolding on_queue
+frames_emptied w q k h = h
+
+lost_stays : (k : ℕ) → StaysInFlush (λ u. WasRetried u k)
+lost_stays k = record {
+  finish = λ u id a. lost_finish u id k a;
+  empty = λ u q a. frames_emptied u q k a;
+}
+
+lost_among : (ids : List ℕ) (w : World) (k : ℕ) → has ids k ≡ true →
+    WasRetried (with_frames_finished w (Dropped Flushed) ids) k
+unfolding with_frames_finished
+lost_among [] w k h = absurd (cc h)
+lost_among (id ∷ ids) w k h = elim (either (id == k) (has ids k) h) [
+  | inl own ↦ flushed_ids (λ u. WasRetried u k) (lost_stays k) ids _
+      (ap is_lost (fate_of_own w (Dropped Flushed) id k (sym (eq_yes id k own))))
+  | inr later ↦ lost_among ids _ k later
+]
+
+waiting_has : (xs : List Slot) (i : ℕ) → is_waiting (at no_slot xs i).state ≡ true →
+    has (waiting_ids xs) (at no_slot xs i).id ≡ true
+waiting_has [] i h = absurd (cc h)
+waiting_has (x ∷ xs) zero h = on_if (λ (ids : List ℕ). has ids x.id ≡ true) (is_waiting x.state)
+    (x.id ∷ waiting_ids xs) (waiting_ids xs) (λ _. or_left (x.id == x.id) _ (yes_eq x.id x.id refl))
+    (λ e. absurd (cc (e, h)))
+waiting_has (x ∷ xs) (suc i) h =
+    on_if (λ (ids : List ℕ). has ids (at no_slot xs i).id ≡ true) (is_waiting x.state) (x.id ∷ waiting_ids xs)
+    (waiting_ids xs)
+    (λ _. or_right (x.id == (at no_slot xs i).id) _ (waiting_has xs i h)) (λ _. waiting_has xs i h)
+
+waiting_inside : (xs : List Slot) (i : ℕ) → is_waiting (at no_slot xs i).state ≡ true → i < length xs
+waiting_inside [] i h = absurd (cc h)
+waiting_inside (x ∷ xs) zero h = omega arith
+waiting_inside (x ∷ xs) (suc i) h = omega (arith, waiting_inside xs i h)
+
+-- The frame of a waiting number is held.
+waiting_held : (w : World) (s t n : ℕ) → Fresh w → is_waiting (slot (session w s t) n).state ≡ true →
+    IsHeld w (slot (session w s t) n).id
+waiting_held w s t n h waits =
+    let y : Session = session w s t in
+    let i : ℕ = n - y.first in
+    let spot : y.first + i - y.first ≡ i = omega arith in
+    h.held (slot y n).id (inr (record {
+      station = s;
+      tid = t;
+      number = y.first + i;
+      slot_of = record {
+        from = omega arith;
+        below = omega (arith, waiting_inside y.slots i waits);
+        unsettled = ap (λ (j : ℕ). is_settled (at no_slot y.slots j).state) spot
+            ∙ waiting_unsettled (slot y n).state waits;
+        id = ap (λ (j : ℕ). (at no_slot y.slots j).id) spot;
+      };
+    }))
+
+-- The numbers that a flush gives up.
+flush_failed : (w : World) (s t i j n : ℕ) →
+    (slot (session (on_session w s t (after_flush w.config.attempts)) i j) n).state ≡ State.Failed →
+    Stands (session w i j) (session (on_session w s t (after_flush w.config.attempts)) i j) n ⊎
+    ((is_waiting (slot (session w s t) n).state ≡ true) ×
+    ((slot (session (on_session w s t (after_flush w.config.attempts)) i j) n).id
+    ≡ (slot (session w s t) n).id))
+unfolding on_session
+flush_failed w s t i j n = each_side_on (λ i j a. (slot a.session n).state ≡ State.Failed →
+    Stands (session w i j) a.session n ⊎ ((is_waiting (slot (session w s t) n).state ≡ true) ×
+    ((slot a.session n).id ≡ (slot (session w s t) n).id))) w s t
+    (λ y. record y { session = after_flush w.config.attempts y.session })
+    (λ i j _. inl (stands_equal _ _ n refl)) (λ _. go) i j
+  where
+    y : Session
+    y = session w s t
+
+    limit : ℕ
+    limit = w.config.attempts
+
+    go : Stands y (after_flush limit y) n ⊎ ((is_waiting (slot y n).state ≡ true) ×
+        ((slot (after_flush limit y) n).id ≡ (slot y n).id))
+    go = on_bool (is_waiting (slot y n).state)
+        (λ waits. inr (
+          waits,
+          ap (λ (x : Slot). x.id) (slot_flush limit y n
+              ∙ flushed_fails limit (slot y n) waits),
+        ))
+        (λ stays. inl (record {
+          same_slot = slot_flush limit y n ∙ flushed_stays limit (slot y n) stays;
+          same_heard = refl;
+          same_first = refl;
+        }))
+
+flush_sides : (w : World) (s t i j : ℕ) → session (flush_outcome w s t).world i j
+    ≡ session (on_session w s t (after_flush w.config.attempts)) i j
+flush_sides w s t i j =
+    let u : World = on_session w s t (after_flush w.config.attempts) in
+    if_flushed (λ v. session v i j ≡ session u i j)
+    (record {
+      finish = λ v id h. session_same v _ (same_finish v _ id) i j ∙ h;
+      empty = λ v q h. session_same v _ (same_on_queue v q _) i j ∙ h;
+    }) w s t refl
+
+flush_lost : (w : World) (s t k : ℕ) → has (waiting_ids (session w s t).slots) k ≡ true →
+    WasRetried (flush_outcome w s t).world k
+unfolding flush_outcome after_tid_flushed
+flush_lost w s t k h = flushed_queues (λ u. WasRetried u k) (lost_stays k) _ _
+    (lost_among (waiting_ids (session w s t).slots) (on_session w s t (after_flush w.config.attempts)) k h)
+
+fails_flushed : (w : World) (s t : ℕ) → Fresh w → Remains w (flush_outcome w s t).world →
+    Fails w (flush_outcome w s t).world
+fails_flushed w s t h r = record {
+  fails = λ i j n e.
+      let v : World = (flush_outcome w s t).world in
+      let y : Session = session w s t in
+      let d = flush_sides w s t i j in
+      subst (λ (z : Session). Stands (session w i j) z n ⊎
+      (IsHeld w (slot z n).id × WasRetried v (slot z n).id)) (sym d)
+      (elim (flush_failed w s t i j n (ap (λ (z : Session). (slot z n).state) (sym d) ∙ e)) [
+        | inl a ↦ inl a
+        | inr b ↦ inr (
+          ap (λ (k : ℕ). (frame w k).fate) b.1 ∙ waiting_held w s t n h b.0,
+          ap (λ (k : ℕ). is_lost (frame v k).fate) b.1
+              ∙ flush_lost w s t (slot y n).id (waiting_has y.slots (n - y.first) b.0),
+        )
+      ]);
+  remains = r;
+}
+
+flushed_is : (w : World) (s t : ℕ) → outcome_of w (Asked (Flush s t)) ≡ flush_outcome w s t
+unfolding outcome_of
+flushed_is w s t = refl
+
+fails_call : (w : World) (s t : ℕ) → Fresh w → Remains w (outcome_of w (Asked (Flush s t))).world →
+    Fails w (outcome_of w (Asked (Flush s t))).world
+fails_call w s t h = subst (λ (o : Outcome). Remains w o.world → Fails w o.world) (sym (flushed_is w s t))
+    (fails_flushed w s t h)
+
 after_call : (note : Note) (r l : List ℕ) (w : World) → refusal w note ≡ None → Steady r w →
     Remains w (outcome_of w note).world → Spent l w → Fated w →
     After l (requests_heard_by w note) (outcome_of w note).world
@@ -484,6 +650,7 @@ after_call (Asked (Done e heard air)) r l w h k s f d =
     (sym (heard_here w e heard air h)) (after_done_is l _ w e heard air
     (after_ended (exchange w e) heard air r l w k.lawful (found_named w k.lawful k.labelled e) k.placing
     k.fresh f d))
+after_call (Asked (Flush i j)) r l w h k s f d = after_fails l w _ (fails_call w i j k.fresh s) f d
 after_call note r l w h k s f d =
     after_fails l w _ (fails_still w _ (still_done note w k.lawful (λ b. b)) s) f d
 
@@ -531,54 +698,70 @@ after_run (e ∷ es) r l w k f d =
     a.fated in
     record { list = b.list; more = omega (arith, a.more, b.more); spent = b.spent; fated = b.fated }
 
--- ---- the frames that are dropped for retries
+-- ---- the frames that are dropped for retries or flushed
 
-retried_from : ℕ → List Frame → List ℕ
-retried_from n [] = []
-retried_from n (f ∷ fs) =
-    if same_fate f.fate (Dropped Retries) then n ∷ retried_from (suc n) fs else retried_from (suc n) fs
+lost_from : ℕ → List Frame → List ℕ
+lost_from n [] = []
+lost_from n (f ∷ fs) = if is_lost f.fate then n ∷ lost_from (suc n) fs else lost_from (suc n) fs
 
-retried_count : (fs : List Frame) (n : ℕ) → length (retried_from n fs)
+lost_either : (f : Fate) → ◌≡◌ {A = ℕ} (if is_lost f then 1 else 0)
+    ((if same_fate f (Dropped Retries) then 1 else 0) + (if same_fate f (Dropped Flushed) then 1 else 0))
+lost_either Held = refl
+lost_either Acked = refl
+lost_either (Dropped Overlimit) = refl
+lost_either (Dropped By_codel) = refl
+lost_either (Dropped Retries) = refl
+lost_either (Dropped Left) = refl
+lost_either (Dropped Flushed) = refl
+
+lost_count : (fs : List Frame) (n : ℕ) → length (lost_from n fs)
     ≡ count_by (λ f. same_fate f.fate (Dropped Retries)) fs
-unfolding retried_from
-retried_count [] n = refl
-retried_count (f ∷ fs) n = go (same_fate f.fate (Dropped Retries)) (retried_count fs (suc n))
-    ∙ sym (sum_by-cons (λ (y : Frame). if same_fate y.fate (Dropped Retries) then 1 else 0) f fs)
+    + count_by (λ f. same_fate f.fate (Dropped Flushed)) fs
+unfolding lost_from
+lost_count [] n = refl
+lost_count (f ∷ fs) n =
+    let retries : count_by (λ f. same_fate f.fate (Dropped Retries)) (f ∷ fs)
+    ≡ (if same_fate f.fate (Dropped Retries) then 1 else 0)
+    + count_by (λ f. same_fate f.fate (Dropped Retries)) fs =
+    sum_by-cons (λ (y : Frame). if same_fate y.fate (Dropped Retries) then 1 else 0) f fs in
+    let flushed : count_by (λ f. same_fate f.fate (Dropped Flushed)) (f ∷ fs)
+    ≡ (if same_fate f.fate (Dropped Flushed) then 1 else 0)
+    + count_by (λ f. same_fate f.fate (Dropped Flushed)) fs =
+    sum_by-cons (λ (y : Frame). if same_fate y.fate (Dropped Flushed) then 1 else 0) f fs in
+    omega (arith, go (is_lost f.fate), lost_either f.fate, lost_count fs (suc n), retries, flushed)
   where
-    go : (b : Bool) → length (retried_from (suc n) fs)
-        ≡ count_by (λ f. same_fate f.fate (Dropped Retries)) fs →
-        length (if b then n ∷ retried_from (suc n) fs else retried_from (suc n) fs)
-        ≡ (if b then 1 else 0) + count_by (λ f. same_fate f.fate (Dropped Retries)) fs
-    go true e = omega (arith, e)
-    go false e = omega (arith, e)
+    go : (b : Bool) → length (if b then n ∷ lost_from (suc n) fs else lost_from (suc n) fs)
+        ≡ (if b then 1 else 0) + length (lost_from (suc n) fs)
+    go true = omega arith
+    go false = omega arith
 
-retried_has : (fs : List Frame) (n k : ℕ) → (at no_frame fs k).fate ≡ Dropped Retries →
-    has (retried_from n fs) (n + k) ≡ true
-unfolding retried_from
-retried_has [] n k e = absurd (cc e)
-retried_has (f ∷ fs) n zero e =
-    let is : same_fate f.fate (Dropped Retries) ≡ true =
-    ap (λ (x : Fate). same_fate x (Dropped Retries)) e in
+lost_has : (fs : List Frame) (n k : ℕ) → is_lost (at no_frame fs k).fate ≡ true →
+    has (lost_from n fs) (n + k) ≡ true
+unfolding lost_from
+lost_has [] n k e = absurd (cc e)
+lost_has (f ∷ fs) n zero e =
     let here : n + 0 ≡ n = omega arith in
-    rw (is, here) (or_left (n == n) (has (retried_from (suc n) fs) n) (yes_eq n n refl))
-retried_has (f ∷ fs) n (suc k) e =
-    let later : has (retried_from (suc n) fs) (n + suc k) ≡ true =
-    subst (λ (i : ℕ). has (retried_from (suc n) fs) i ≡ true) (omega arith) (retried_has fs (suc n) k e) in
-    on_if (λ (ns : List ℕ). has ns (n + suc k) ≡ true) (same_fate f.fate (Dropped Retries))
-    (n ∷ retried_from (suc n) fs) (retried_from (suc n) fs)
-    (λ _. or_right (n == n + suc k) (has (retried_from (suc n) fs) (n + suc k)) later) (λ _. later)
+    rw (e, here) (or_left (n == n) (has (lost_from (suc n) fs) n) (yes_eq n n refl))
+lost_has (f ∷ fs) n (suc k) e =
+    let later : has (lost_from (suc n) fs) (n + suc k) ≡ true =
+    subst (λ (i : ℕ). has (lost_from (suc n) fs) i ≡ true) (omega arith) (lost_has fs (suc n) k e) in
+    on_if (λ (ns : List ℕ). has ns (n + suc k) ≡ true) (is_lost f.fate)
+    (n ∷ lost_from (suc n) fs) (lost_from (suc n) fs)
+    (λ _. or_right (n == n + suc k) (has (lost_from (suc n) fs) (n + suc k)) later) (λ _. later)
 
-spent_most : (l : List ℕ) (w : World) → Spent l w → length l ≤ tally w (Dropped Retries)
+spent_most : (l : List ℕ) (w : World) → Spent l w →
+    length l ≤ tally w (Dropped Retries) + tally w (Dropped Flushed)
 spent_most l w f = omega (
   arith,
-  not_more l (retried_from 0 w.frames) f.once (λ k e.
-      subst (λ (i : ℕ). has (retried_from 0 w.frames) i ≡ true) (zero-add k)
-      (retried_has w.frames 0 k (f.dropped k e))),
-  retried_count w.frames 0,
+  not_more l (lost_from 0 w.frames) f.once (λ k e.
+      subst (λ (i : ℕ). has (lost_from 0 w.frames) i ≡ true) (zero-add k)
+      (lost_has w.frames 0 k (f.dropped k e))),
+  lost_count w.frames 0,
 )
 
 pub few_requests : (config : Config) (past : List Entry) →
     requests_heard (opening config) past ≤ tally (world_after (opening config) past) (Dropped Retries)
+    + tally (world_after (opening config) past) (Dropped Flushed)
 few_requests config past =
     let a : After [] (requests_heard (opening config) past) (world_after (opening config) past) =
     after_run past [] [] (opening config) (steady_first config)

@@ -1,19 +1,20 @@
--- Proves that a number fails only by a Done: after any other call, each failed number was there before and
--- failed. By cases of the call.
+-- Proves that a number fails only by a Done or a Flush: after any other call, each failed number was there
+-- before and failed. By cases of the call.
 use Rattle.std.proofs.Common.{◌≡◌, ◌≢◌, refl, ap, sym, ◌∙◌, subst, ℕ, zero, suc, ◌-◌, ◌==◌, List, [], ◌∷◌, ◌++◌, Option, Some, None}
 use Rattle.wf_frame.specs.declared.classes.Class.{Class}
-use Rattle.wf_frame.specs.declared.notes.Ask.TheVariants.{Join, Leave, Rate, Tick, Pull, Arrive, Answer, Done, Sleep, Wake, Poll, Rx, Reap, Ampdu, Stop, Start}
+use Rattle.wf_frame.specs.declared.notes.Ask.TheVariants.{Join, Leave, Rate, Tick, Pull, Arrive, Answer, Done, Sleep, Wake, Poll, Rx, Reap, Ampdu, Stop, Start, Unsent, GiveUp, Flush}
 use Rattle.wf_frame.specs.declared.notes.Limits.{Limits}
 use Rattle.wf_frame.specs.declared.notes.Note.{Note}
 use Rattle.wf_frame.specs.declared.notes.Note.TheVariants.{Enqueue, Asked}
 use Rattle.wf_frame.specs.Classes.{all_classes}
-use Rattle.wf_def_lists.specs.Table.{at, upto}
+use Rattle.wf_def_lists.specs.Table.{at, upto, with_member}
 use Rattle.wf_def_agreement.specs.Session.{Session, Slot, State, no_slot, slot, on_slot, with_state, with_number_given}
 use Rattle.wf_def_world.specs.World.{World, Station, Exchange, Mpdu, new_tid, session, exchange, with_station, on_session, on_receiver, with_exchange}
 use Rattle.wf_def_world.specs.Exchanges.{with_flying, with_exchange_opened, after_arrival}
-use Rattle.wf_def_world.specs.Step.{Outcome, join_outcome, leave_outcome, rate_outcome, tick_outcome, pull_outcome, arrive_outcome, answer_outcome, outcome_where_open, sleep_outcome, wake_outcome, poll_outcome, rx_outcome, reap_outcome, outcome_of}
+use Rattle.wf_def_world.specs.Step.{Outcome, join_outcome, leave_outcome, rate_outcome, tick_outcome, pull_outcome, arrive_outcome, answer_outcome, unsent_outcome, give_up_outcome, outcome_where_open, sleep_outcome, wake_outcome, poll_outcome, rx_outcome, reap_outcome, outcome_of}
 use Rattle.wf_law_rules.proofs.Lemmas.Numbers.{on_bool, eq_yes, eq_no}
 use Rattle.wf_law_rules.proofs.Lemmas.Tables.{each_put}
+use Rattle.wf_law_runs.proofs.Common.Marks.{marked_world}
 use Rattle.wf_law_runs.proofs.Windows.Sides.{Side, Same, side_of, sides_of, same, then_same, each_side_on, same_on_station, same_on_share}
 use Rattle.wf_law_runs.proofs.Windows.Opened.{eight}
 use Rattle.wf_law_runs.proofs.Windows.Agreed.{IsLawful, IsReady, same_left_tids, same_off_lists}
@@ -163,6 +164,19 @@ still_answered : (w : World) (x : Exchange) → Still w (answer_outcome w x).wor
 unfolding answer_outcome with_exchange
 still_answered w x = record { still = λ s t n _. stands_equal _ _ n refl }
 
+still_marked : (w : World) (x : Exchange) (unsent given_up : List ℕ) →
+    Still w (marked_world w x unsent given_up)
+unfolding with_exchange
+still_marked w x unsent given_up = record { still = λ s t n _. stands_equal _ _ n refl }
+
+still_unsent : (w : World) (x : Exchange) (n : ℕ) → Still w (unsent_outcome w x n).world
+unfolding unsent_outcome
+still_unsent w x n = still_marked w x (with_member n x.unsent) x.given_up
+
+still_given_up : (w : World) (x : Exchange) (n : ℕ) → Still w (give_up_outcome w x n).world
+unfolding give_up_outcome
+still_given_up w x n = still_marked w x x.unsent (with_member n x.given_up)
+
 still_open : (o : Option Exchange) (w : World) (f : Exchange → Outcome) →
     ((x : Exchange) → Still w (f x).world) → Still w (outcome_where_open w o f).world
 unfolding outcome_where_open
@@ -174,9 +188,10 @@ unfolding reap_outcome
 still_reaped [] w = still_same w w (same w)
 still_reaped (id ∷ ids) w = record { still = λ s t n _. stands_equal _ _ n refl }
 
--- The call is a Done.
+-- The call is a Done or a Flush: numbers fail.
 abbrev pub IsDone : Note → Type 0
 IsDone (Asked (Done e heard air)) = Unit {0}
+IsDone (Asked (Flush s t)) = Unit {0}
 IsDone _ = ⊥
 
 pub still_done : (note : Note) (w : World) → IsLawful w → (IsDone note → ⊥) →
@@ -200,3 +215,6 @@ still_done (Asked (Wake s)) w i d = still_same w _ (same_on_station w s _ (λ x 
 still_done (Asked (Poll s)) w i d = still_same w _ (same_on_station w s _ (λ x t. refl))
 still_done (Asked (Rx s c air)) w i d = still_same w _ (same_on_share w s c _)
 still_done (Asked Reap) w i d = still_reaped w.finished w
+still_done (Asked (Unsent e n)) w i d = still_open (exchange w e) w _ (λ x. still_unsent w x n)
+still_done (Asked (GiveUp e n)) w i d = still_open (exchange w e) w _ (λ x. still_given_up w x n)
+still_done (Asked (Flush s t)) w i d = absurd (d tt)

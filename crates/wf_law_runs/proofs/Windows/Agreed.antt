@@ -7,29 +7,32 @@ use Rattle.wf_def_lists.specs.Table.{at, has, with_member, put, change, upto}
 use Rattle.wf_def_codel.specs.Codel.{Item}
 use Rattle.wf_def_rotation.specs.Rotation.{in_order}
 use Rattle.wf_def_agreement.specs.Receiver.{Receiver, with_arrived, with_start, Score, score, shows}
-use Rattle.wf_def_agreement.specs.Session.{request_due, waiting_numbers, Session, Slot, State, is_settled, is_failed, slot_after_miss, slot, on_slot, with_number_given, after_miss, next_number, has_room}
+use Rattle.wf_def_agreement.specs.Session.{request_due, waiting_numbers, Session, Slot, State, End, is_settled, is_failed, slot_after_miss, slot_given_up, slot, on_slot, with_number_given, after_flush, next_number, has_room}
 use Rattle.wf_def_world.specs.World.{quantum, new_queue, no_share, receiver, share, World, Station, Share, Tid, Queue, Exchange, Mpdu, Content, Frames, Request, new_tid, no_tid, no_station, rotation, session, tid_of, is_live, exchange, with_station, on_station, on_tid, on_session, on_receiver, on_share, with_rotation, with_exchange, without_exchange, opening}
 use Rattle.wf_frame.specs.Classes.{lower_tid, upper_tid, class_number, all_classes}
 use Rattle.wf_def_world.specs.FlowQueues.{taken_for_tid}
 use Rattle.wf_def_world.specs.CanSend.{is_request, request_open, can_send, can_send_in, is_ready, can_give}
-use Rattle.wf_def_world.specs.Exchanges.{is_acked, transmissions, no_mpdu, station_need, most_frames, picked_station, after_arrival, exchange_of, sending_tid, with_heard_start, Aggregate, Prepared, mpdus_of, with_station_paid, with_stations_paid, after_pick, after_tid_turn, with_fresh, aggregate_of, with_number, fresh_mpdus, with_flying, waiting_mpdus, longest_fitting, prepared_data, prepared_exchange, with_exchange_opened, after_charge, with_failed_finished, with_settled, with_all_settled, after_done}
-use Rattle.wf_frame.specs.declared.notes.Ask.TheVariants.{Join, Leave, Rate, Tick, Pull, Arrive, Answer, Done, Sleep, Wake, Poll, Rx, Reap, Ampdu, Stop, Start}
+use Rattle.wf_def_world.specs.Exchanges.{is_acked, end_of, transmissions, no_mpdu, station_need, most_frames, picked_station, after_arrival, exchange_of, sending_tid, with_heard_start, Aggregate, Prepared, mpdus_of, with_station_paid, with_stations_paid, after_pick, after_tid_turn, with_fresh, aggregate_of, with_number, fresh_mpdus, with_flying, waiting_mpdus, longest_fitting, prepared_data, prepared_exchange, with_exchange_opened, after_charge, with_failed_finished, with_settled, with_all_settled, after_done}
+use Rattle.wf_frame.specs.declared.notes.Ask.TheVariants.{Join, Leave, Rate, Tick, Pull, Arrive, Answer, Done, Sleep, Wake, Poll, Rx, Reap, Ampdu, Stop, Start, Unsent, GiveUp, Flush}
 use Rattle.wf_frame.specs.declared.notes.Limits.{Limits}
 use Rattle.wf_frame.specs.declared.notes.Note.{Note}
 use Rattle.wf_frame.specs.declared.notes.Note.TheVariants.{Enqueue, Asked}
 use Rattle.wf_frame.specs.declared.notes.Refusal.{Refusal}
 use Rattle.wf_frame.specs.declared.notes.Refusal.TheVariants.{Idle}
 use Rattle.wf_def_world.specs.Refusals.{exchange_has, open_of_station, refusals, refusal}
-use Rattle.wf_def_world.specs.Step.{Outcome, join_outcome, after_tid_left, after_tids_left, without_listings, leave_outcome, rate_outcome, tick_outcome, with_frame, enqueue_outcome, send_outcome, pull_outcome_for, pull_outcome, arrive_outcome, answer_outcome, done_outcome, outcome_where_open, sleep_outcome, wake_outcome, poll_outcome, rx_outcome, reap_outcome, outcome_of, after_refusal, judged_outcome, step}
+use Rattle.wf_def_world.specs.Step.{Outcome, join_outcome, after_tid_left, after_tids_left, without_listings, leave_outcome, rate_outcome, tick_outcome, with_frame, enqueue_outcome, send_outcome, pull_outcome_for, pull_outcome, arrive_outcome, answer_outcome, done_outcome, outcome_where_open, sleep_outcome, wake_outcome, poll_outcome, rx_outcome, reap_outcome, unsent_outcome, give_up_outcome, flush_outcome, outcome_of, after_refusal, judged_outcome, step}
 use Rattle.wf_def_world.specs.Run.{Entry, world_after}
 use Rattle.std.specs.List.{list_any}
 use Rattle.wf_law_rules.proofs.Lemmas.Tables.{each_put, at_put_other}
 use Rattle.wf_law_runs.proofs.Common.Refused.{after_idle}
+use Rattle.wf_law_runs.proofs.Common.Marks.{with_marks, marked_world}
+use Rattle.wf_law_runs.proofs.Common.Ends.{missed_not_acked, end_backed}
+use Rattle.wf_law_runs.proofs.Common.Flushes.{flush_along, if_flushed}
 use Rattle.wf_law_runs.proofs.Sessions.Starts.{start_ge, length-change}
 use Rattle.wf_law_runs.proofs.Sessions.Flights.{AllIn, Rises, rises_weaken, all_in_later, IsFlown, flown, IsChosen, chosen_fitting, chosen_waiting, chosen_give, chosen_fresh}
 use Rattle.wf_law_rules.proofs.Lemmas.Numbers.{on_bool, on_if, eq_yes, eq_no, yes_eq, either, both, and_true, has_new}
 use Rattle.wf_law_runs.proofs.Common.Picked.{picked_world}
-use Rattle.wf_law_runs.proofs.Windows.Sides.{Side, side_of, side, sides_of, Same, each_side_on, at_side_on, side_on, on_live, on_opened, on_exchanges, same, then_same, same_on_station, same_with_queues, same_on_share, same_with_rotation, same_finish, same_finish_all, same_listed, same_after_pick, same_after_turn, same_spent, same_within_limit, same_put_in, same_take, same_purge_queues, same_charged, same_picked}
+use Rattle.wf_law_runs.proofs.Windows.Sides.{Side, side_of, side, sides_of, Same, each_side_on, at_side_on, side_on, on_live, on_opened, on_exchanges, same, then_same, same_on_station, same_with_queues, same_on_share, same_on_queue, same_with_rotation, same_finish, same_finish_all, same_listed, same_after_pick, same_after_turn, same_spent, same_within_limit, same_put_in, same_take, same_purge_queues, same_charged, same_picked}
 use Rattle.wf_law_runs.proofs.Windows.Agreement.{IsAgreed, due_at, agreed_on_slot, not_due_give, agreed_give, agreed_heard, agreed_arrived, agreed_start, agreed_new, IsAsked, IsOpen, request_map, open_on_slot, open_flies, open_arrived, open_start, open_heard, agreed_fly, answer_right, AllRight, IfRequest}
 use Rattle.wf_law_runs.proofs.Windows.Opened.{Each, each_map, each_both, each_append, each_filter, each_find, FlyIn, fly_give, differ, some_along, pick_ready, can_give-room, eight, none_open, NoRow, no_row}
 
@@ -555,6 +558,30 @@ lawful_answered w i x f some =
       sole = λ s t. sole_replaced w i x z s t refl refl f;
     }
 
+-- A device marks transmissions of the exchange.
+pub lawful_marked : (w : World) (i : IsLawful w) (x : Exchange) (unsent given_up : List ℕ) → IsFound w i x →
+    IsLawful (marked_world w x unsent given_up)
+unfolding with_exchange
+lawful_marked w i x unsent given_up f =
+    let z : Exchange = with_marks unsent given_up x in
+    let v : World = record w { opened = map (λ y. if y.number == z.number then z else y) w.opened } in
+    let o : IsOpenIn w x = f.open_in in
+    record {
+      agreed = i.agreed;
+      opened = each_map_if (IsOpenIn w) (IsOpenIn v) (λ y. y.number == z.number) z w.opened (record {
+        live = o.live;
+        below = o.below;
+        opened = record {
+          flies = o.opened.flies;
+          kept = o.opened.kept;
+          asked = o.opened.asked;
+          told = o.opened.told;
+          marked = o.opened.marked;
+        };
+      }) (λ y _ g. record { live = g.live; below = g.below; opened = g.opened }) i.opened;
+      sole = λ s t. sole_replaced w i x z s t refl refl f;
+    }
+
 pub with_member_some : (xs : List ℕ) (n : ℕ) → (length (with_member n xs) == 0) ≡ false
 with_member_some [] n = refl
 with_member_some (x ∷ xs) n = on_if (λ (ys : List ℕ). (length ys == 0) ≡ false) (nat_lt n x) (n ∷ x ∷ xs)
@@ -678,38 +705,39 @@ lawful_arrived w i x n f none l = taken_by x.content w i x n refl f none (not_le
 -- ---- the end of an exchange
 
 -- Those of the numbers that become acknowledged have arrived.
-abbrev pub AllBacked : (ℕ → Bool) → Receiver → List Mpdu → Type 0
-AllBacked acked r [] = Unit {0}
-AllBacked acked r (m ∷ ms) = (acked m.number ≡ true → has r.arrived m.number ≡ true) × AllBacked acked r ms
+abbrev pub AllBacked : (ℕ → End) → Receiver → List Mpdu → Type 0
+AllBacked ends r [] = Unit {0}
+AllBacked ends r (m ∷ ms) =
+    (ends m.number ≡ End.Acknowledged → has r.arrived m.number ≡ true) × AllBacked ends r ms
 
 -- The exchange e has ended in this world, and its numbers are still on the air.
-pub record IsEnding (e s t : ℕ) (acked : ℕ → Bool) (w : World) (ms : List Mpdu) : Type 0 where
+pub record IsEnding (e s t : ℕ) (ends : ℕ → End) (w : World) (ms : List Mpdu) : Type 0 where
   pub lawful : IsLawful w
   pub others : Each (λ x. x.number ≢ e) w.opened
   pub flies : FlyIn e ms (session w s t)
-  pub backed : AllBacked acked (receiver w s t) ms
+  pub backed : AllBacked ends (receiver w s t) ms
   pub live : is_live w s ≡ true
 
-pub ending_same : (e s t : ℕ) (acked : ℕ → Bool) (w v : World) (ms : List Mpdu) → Same w v →
-    IsEnding e s t acked w ms → IsEnding e s t acked v ms
-ending_same e s t acked w v ms h n = record {
+pub ending_same : (e s t : ℕ) (ends : ℕ → End) (w v : World) (ms : List Mpdu) → Same w v →
+    IsEnding e s t ends w ms → IsEnding e s t ends v ms
+ending_same e s t ends w v ms h n = record {
   lawful = lawful_same w v h n.lawful;
   others = subst (Each (λ x. x.number ≢ e)) (sym h.opened) n.others;
   flies = subst (λ (a : Side). FlyIn e ms a.session) (sym (h.sides s t)) n.flies;
-  backed = subst (λ (a : Side). AllBacked acked a.receiver ms) (sym (h.sides s t)) n.backed;
+  backed = subst (λ (a : Side). AllBacked ends a.receiver ms) (sym (h.sides s t)) n.backed;
   live = h.live s ∙ n.live;
 }
 
-pub if_ending : (b : Bool) (e s t : ℕ) (acked : ℕ → Bool) (w v : World) (ms : List Mpdu) →
-    IsEnding e s t acked w ms → IsEnding e s t acked v ms → IsEnding e s t acked (if b then w else v) ms
-if_ending true e s t acked w v ms h k = h
-if_ending false e s t acked w v ms h k = k
+pub if_ending : (b : Bool) (e s t : ℕ) (ends : ℕ → End) (w v : World) (ms : List Mpdu) →
+    IsEnding e s t ends w ms → IsEnding e s t ends v ms → IsEnding e s t ends (if b then w else v) ms
+if_ending true e s t ends w v ms h k = h
+if_ending false e s t ends w v ms h k = k
 
 -- One of its numbers leaves the air.
-pub ending_slot : (e s t : ℕ) (acked : ℕ → Bool) (w : World) (m : Mpdu) (ms : List Mpdu) (f : Slot → Slot) →
-    ((f (slot (session w s t) m.number)).state ≡ State.Acked → acked m.number ≡ true) →
-    IsEnding e s t acked w (m ∷ ms) → IsEnding e s t acked (on_session w s t (on_slot m.number f)) ms
-ending_slot e s t acked w m ms f k n =
+pub ending_slot : (e s t : ℕ) (ends : ℕ → End) (w : World) (m : Mpdu) (ms : List Mpdu) (f : Slot → Slot) →
+    ((f (slot (session w s t) m.number)).state ≡ State.Acked → ends m.number ≡ End.Acknowledged) →
+    IsEnding e s t ends w (m ∷ ms) → IsEnding e s t ends (on_session w s t (on_slot m.number f)) ms
+ending_slot e s t ends w m ms f k n =
     let y : Session = session w s t in
     let r : Receiver = receiver w s t in
     let unsettled : is_settled (slot y m.number).state ≡ false = ap is_settled n.flies.flying.0 in
@@ -729,34 +757,43 @@ ending_slot e s t acked w m ms f k n =
         flying = all_in_later y (State.Flying e) m.number
             (next_number y) f ms n.flies.rising.0 n.flies.rising.2 n.flies.flying.1;
       });
-      backed = subst (λ (r : Receiver). AllBacked acked r ms)
+      backed = subst (λ (r : Receiver). AllBacked ends r ms)
           (sym (receiver_on_session w s t (on_slot m.number f) n.live)) n.backed.1;
       live = live_on_session w s t _ s ∙ n.live;
     }
 
-pub missed_not_acked : (limit : ℕ) (x : Slot) → (slot_after_miss limit x).state ≡ State.Acked → ⊥
-missed_not_acked limit x = on_if (λ st. st ≡ State.Acked → ⊥)
-    (nat_le limit (x.attempts + 1)) State.Failed State.Waiting (λ _ h. cc h) (λ _ h. cc h)
+ending_failing : (e s t : ℕ) (ends : ℕ → End) (w : World) (m : Mpdu) (ms : List Mpdu)
+    (f : Slot → Slot) →
+    ((f (slot (session w s t) m.number)).state ≡ State.Acked → ends m.number ≡ End.Acknowledged) →
+    IsEnding e s t ends w (m ∷ ms) →
+    IsEnding e s t ends (with_failed_finished (on_session w s t (on_slot m.number f)) s t m) ms
+unfolding with_failed_finished
+ending_failing e s t ends w m ms f h n =
+    let v : World = on_session w s t (on_slot m.number f) in
+    let k : IsEnding e s t ends v ms = ending_slot e s t ends w m ms f h n in
+    if_ending (is_failed (slot (session v s t) m.number).state) e s t ends _ v ms
+    (ending_same e s t ends _ _ ms (same_finish v _ _) k) k
 
-pub ending_settled : (b : Bool) (e s t : ℕ) (acked : ℕ → Bool) (w : World) (m : Mpdu) (ms : List Mpdu) →
-    acked m.number ≡ b → IsEnding e s t acked w (m ∷ ms) → IsEnding e s t acked (with_settled w s t b m) ms
-unfolding with_settled with_failed_finished
-ending_settled true e s t acked w m ms h n =
-    ending_same e s t acked _ _ ms (same_finish _ _ _)
-    (ending_slot e s t acked w m ms (λ x. record x { state = State.Acked }) (λ _. h) n)
-ending_settled false e s t acked w m ms h n =
-    let v : World = on_session w s t (after_miss w.config.attempts m.number) in
-    let k : IsEnding e s t acked v ms = ending_slot e s t acked w m ms (slot_after_miss w.config.attempts)
-    (λ h. absurd (missed_not_acked w.config.attempts (slot (session w s t) m.number) h)) n in
-    if_ending (is_failed (slot (session v s t) m.number).state) e s t acked _ v ms
-    (ending_same e s t acked _ _ ms (same_finish v _ _) k) k
+pub ending_settled : (end : End) (e s t : ℕ) (ends : ℕ → End) (w : World) (m : Mpdu) (ms : List Mpdu) →
+    ends m.number ≡ end → IsEnding e s t ends w (m ∷ ms) → IsEnding e s t ends (with_settled w s t end m) ms
+unfolding with_settled
+ending_settled End.Acknowledged e s t ends w m ms h n =
+    ending_same e s t ends _ _ ms (same_finish _ _ _)
+    (ending_slot e s t ends w m ms (λ x. record x { state = State.Acked }) (λ _. h) n)
+ending_settled End.Missed e s t ends w m ms h n =
+    ending_failing e s t ends w m ms (slot_after_miss w.config.attempts)
+    (λ k. absurd (missed_not_acked w.config.attempts (slot (session w s t) m.number) k)) n
+ending_settled End.GivenUp e s t ends w m ms h n =
+    ending_failing e s t ends w m ms (slot_given_up w.config.attempts) (λ k. absurd (cc k)) n
+ending_settled End.Unsent e s t ends w m ms h n =
+    ending_failing e s t ends w m ms (λ x. record x { state = State.Waiting }) (λ k. absurd (cc k)) n
 
-pub ending_all : (ms : List Mpdu) (e s t : ℕ) (w : World) (acked : ℕ → Bool) → IsEnding e s t acked w ms →
-    IsLawful (with_all_settled w s t acked ms)
+pub ending_all : (ms : List Mpdu) (e s t : ℕ) (w : World) (ends : ℕ → End) → IsEnding e s t ends w ms →
+    IsLawful (with_all_settled w s t ends ms)
 unfolding with_all_settled
-ending_all [] e s t w acked n = n.lawful
-ending_all (m ∷ ms) e s t w acked n = ending_all ms e s t _ acked
-    (ending_settled (acked m.number) e s t acked w m ms refl n)
+ending_all [] e s t w ends n = n.lawful
+ending_all (m ∷ ms) e s t w ends n = ending_all ms e s t _ ends
+    (ending_settled (ends m.number) e s t ends w m ms refl n)
 
 pub lawful_without : (w : World) (i : IsLawful w) (e : ℕ) → IsLawful (without_exchange w e)
 unfolding without_exchange
@@ -797,13 +834,17 @@ pub live_without : (w : World) (e s : ℕ) → is_live (without_exchange w e) s 
 unfolding without_exchange
 live_without w e s = refl
 
-pub backed_by : (ms : List Mpdu) (heard : Bool) (o : Option Score) (r : Receiver) →
-    IfSome o (λ b. AllRight b r ms) → AllBacked (is_acked heard o) r ms
-backed_by [] heard o r k = tt
-backed_by (m ∷ ms) heard None r k = ((λ h. absurd (cc h)), backed_by ms heard None r tt)
-backed_by (m ∷ ms) heard (Some b) r k = (
-  (λ h. sym k.0.shown ∙ (both heard (shows b m.number) h).1),
-  backed_by ms heard (Some b) r k.1,
+pub backed_by : (ms : List Mpdu) (heard : Bool) (o : Option Score) (r : Receiver) (ends : ℕ → End) →
+    ((n : ℕ) → ends n ≡ End.Acknowledged → is_acked heard o n ≡ true) → IfSome o (λ b. AllRight b r ms) →
+    AllBacked ends r ms
+backed_by [] heard o r ends h k = tt
+backed_by (m ∷ ms) heard None r ends h k = (
+  (λ e. absurd (let d = h m.number e in cc)),
+  backed_by ms heard None r ends h tt,
+)
+backed_by (m ∷ ms) heard (Some b) r ends h k = (
+  (λ e. sym k.0.shown ∙ (both heard (shows b m.number) (h m.number e)).1),
+  backed_by ms heard (Some b) r ends h k.1,
 )
 
 -- Another exchange than e, which is not a request of this TID.
@@ -835,10 +876,10 @@ open_heard_start false x y r f h o = o
 
 -- The world after the exchange has ended and its charge is made.
 pub ending_of : (air : Option ℕ) (w : World) (i : IsLawful w) (x : Exchange) (ms : List Mpdu) (heard : Bool) →
-    x.content ≡ Frames ms → IsFound w i x → IsEnding x.number x.station x.tid (is_acked heard x.answer)
+    x.content ≡ Frames ms → IsFound w i x → IsEnding x.number x.station x.tid (end_of x heard)
     (after_charge (without_exchange w x.number) x air) ms
 ending_of air w i x ms heard e f =
-    ending_same x.number x.station x.tid (is_acked heard x.answer) (without_exchange w x.number) _ ms
+    ending_same x.number x.station x.tid (end_of x heard) (without_exchange w x.number) _ ms
     (same_charged air (without_exchange w x.number) x) (record {
       lawful = lawful_without w i x.number;
       others = others_without w i x.number;
@@ -846,9 +887,10 @@ ending_of air w i x ms heard e f =
           (sym (same_sides_without w x.number x.station x.tid))
           (subst (λ (c : Content). FlyIn x.number (mpdus_of c) (session w x.station x.tid)) e
           f.open_in.opened.flies);
-      backed = subst (λ (a : Side). AllBacked (is_acked heard x.answer) a.receiver ms)
+      backed = subst (λ (a : Side). AllBacked (end_of x heard) a.receiver ms)
           (sym (same_sides_without w x.number x.station x.tid))
-          (backed_by ms heard x.answer (receiver w x.station x.tid)
+          (backed_by ms heard x.answer (receiver w x.station x.tid) (end_of x heard)
+          (λ n h. (end_backed x heard n h).1)
           (subst (λ (c : Content). IfSome x.answer (λ b.
           AllRight b (receiver w x.station x.tid) (mpdus_of c))) e f.open_in.opened.kept));
       live = live_without w x.number x.station ∙ f.open_in.live;
@@ -859,8 +901,8 @@ pub ended_by : (c : Content) (w : World) (i : IsLawful w) (x : Exchange) (heard 
     Same (without_exchange w x.number) v → IsLawful (after_done v x heard c)
 unfolding after_done
 ended_by (Frames ms) w i x heard v e f told k =
-    ending_all ms x.number x.station x.tid v (is_acked heard x.answer)
-    (ending_same x.number x.station x.tid (is_acked heard x.answer) (without_exchange w x.number) v ms k
+    ending_all ms x.number x.station x.tid v (end_of x heard)
+    (ending_same x.number x.station x.tid (end_of x heard) (without_exchange w x.number) v ms k
     (record {
       lawful = lawful_without w i x.number;
       others = others_without w i x.number;
@@ -868,9 +910,10 @@ ended_by (Frames ms) w i x heard v e f told k =
           (sym (same_sides_without w x.number x.station x.tid))
           (subst (λ (c : Content). FlyIn x.number (mpdus_of c) (session w x.station x.tid)) e
           f.open_in.opened.flies);
-      backed = subst (λ (a : Side). AllBacked (is_acked heard x.answer) a.receiver ms)
+      backed = subst (λ (a : Side). AllBacked (end_of x heard) a.receiver ms)
           (sym (same_sides_without w x.number x.station x.tid))
-          (backed_by ms heard x.answer (receiver w x.station x.tid)
+          (backed_by ms heard x.answer (receiver w x.station x.tid) (end_of x heard)
+          (λ n h. (end_backed x heard n h).1)
           (subst (λ (c : Content). IfSome x.answer (λ b.
           AllRight b (receiver w x.station x.tid) (mpdus_of c))) e f.open_in.opened.kept));
       live = live_without w x.number x.station ∙ f.open_in.live;
@@ -908,6 +951,30 @@ pub lawful_ended : (air : Option ℕ) (w : World) (i : IsLawful w) (x : Exchange
     (heard ≡ true → is_some x.answer ≡ true) → IsLawful (done_outcome w x heard air).world
 unfolding done_outcome
 lawful_ended air w i x heard f told = ended_by x.content w i x heard _ refl f told (same_charged air _ x)
+
+-- ---- a flush
+
+agreed_flush : (limit : ℕ) (y : Session) (r : Receiver) → IsAgreed y r → IsAgreed (after_flush limit y) r
+agreed_flush limit y r a = flush_along (λ z. IsAgreed z r) limit y
+    (λ z n e l b waits k. agreed_on_slot z r n (slot_given_up limit) l (ap is_settled waits)
+    (λ no_ack. cc no_ack) k) a
+
+open_flush : (limit : ℕ) (x : Exchange) (y : Session) (r : Receiver) → IsOpen x y r →
+    IsOpen x (after_flush limit y) r
+open_flush limit x y r o = flush_along (λ z. IsOpen x z r) limit y
+    (λ z n e l b waits k. open_on_slot x z r n (slot_given_up limit) l (ap is_settled waits)
+    (λ flies. absurd (cc (flies, waits))) k) o
+
+pub lawful_flushed : (w : World) (s t : ℕ) → IsLawful w → IsLawful (flush_outcome w s t).world
+lawful_flushed w s t i =
+    if_flushed IsLawful
+    (record {
+      finish = λ u id k. lawful_same u _ (same_finish u _ id) k;
+      empty = λ u q k. lawful_same u _ (same_on_queue u q _) k;
+    }) w s t
+    (lawful_on_session (λ _. Unit {0}) w s t (after_flush w.config.attempts) (any_exchange w.opened)
+    (agreed_flush w.config.attempts (session w s t) (receiver w s t) (i.agreed s t))
+    (λ x b n e d o. open_flush w.config.attempts x (session w s t) (receiver w s t) o) i)
 
 -- ---- joining and leaving
 
@@ -986,6 +1053,20 @@ unfolding outcome_where_open
 lawful_on_open P Q None w f h j i k = i
 lawful_on_open P Q (Some x) w f h j i k = k x h j
 
+any_some : (o : Option Exchange) → IfSome o (λ _. Unit {0})
+any_some None = tt
+any_some (Some x) = tt
+
+lawful_unsent : (w : World) (i : IsLawful w) (x : Exchange) (n : ℕ) → IsFound w i x →
+    IsLawful (unsent_outcome w x n).world
+unfolding unsent_outcome
+lawful_unsent w i x n f = lawful_marked w i x (with_member n x.unsent) x.given_up f
+
+lawful_given_up : (w : World) (i : IsLawful w) (x : Exchange) (n : ℕ) → IsFound w i x →
+    IsLawful (give_up_outcome w x n).world
+unfolding give_up_outcome
+lawful_given_up w i x n f = lawful_marked w i x x.unsent (with_member n x.given_up) f
+
 pub both_some : (P Q : Exchange → Type 0) (o : Option Exchange) → IfSome o P → IfSome o Q →
     IfSome o (λ x. P x × Q x)
 both_some P Q None h k = tt
@@ -1062,6 +1143,11 @@ lawful_done (Asked (Wake s)) w e i = lawful_on_station w s _ (λ x t. refl) i
 lawful_done (Asked (Poll s)) w e i = lawful_on_station w s _ (λ x t. refl) i
 lawful_done (Asked (Rx s c air)) w e i = lawful_same w _ (same_on_share w s c _) i
 lawful_done (Asked Reap) w e i = lawful_reaped w.finished w i
+lawful_done (Asked (Unsent e n)) w r i = lawful_on_open (IsFound w i) (λ _. Unit {0}) (exchange w e) w _
+    (found w i e) (any_some (exchange w e)) i (λ x f _. lawful_unsent w i x n f)
+lawful_done (Asked (GiveUp e n)) w r i = lawful_on_open (IsFound w i) (λ _. Unit {0}) (exchange w e) w _
+    (found w i e) (any_some (exchange w e)) i (λ x f _. lawful_given_up w i x n f)
+lawful_done (Asked (Flush s t)) w e i = lawful_flushed w s t i
 
 pub lawful_refused : (note : Note) (r : Refusal) (w : World) → IsLawful w → IsLawful (after_refusal w note r)
 unfolding after_refusal

@@ -4,7 +4,7 @@
 use Rattle.std.proofs.Common.{◌≡◌, ◌≢◌, refl, ap, sym, ◌∙◌, subst, arith, ℕ, zero, suc, ◌+◌, ◌-◌, ◌<◌, ◌≤◌, nat_lt, nat_le, Bool, true, false, if◌then◌else◌, ◌==◌, ◌⊎◌, inl, inr, List, [], ◌∷◌, ◌++◌, length, map, Option, Some, None, IfSome, is_some}
 use Rattle.wf_frame.specs.declared.settings.Config.{Config}
 use Rattle.wf_frame.specs.declared.classes.Class.{Class}
-use Rattle.wf_frame.specs.declared.notes.Ask.TheVariants.{Join, Leave, Rate, Tick, Pull, Arrive, Answer, Done, Sleep, Wake, Poll, Rx, Reap, Ampdu, Stop, Start}
+use Rattle.wf_frame.specs.declared.notes.Ask.TheVariants.{Join, Leave, Rate, Tick, Pull, Arrive, Answer, Done, Sleep, Wake, Poll, Rx, Reap, Ampdu, Stop, Start, Unsent, GiveUp, Flush}
 use Rattle.wf_frame.specs.declared.notes.Limits.{Limits}
 use Rattle.wf_frame.specs.declared.notes.Note.{Note}
 use Rattle.wf_frame.specs.declared.notes.Note.TheVariants.{Enqueue, Asked}
@@ -18,10 +18,11 @@ use Rattle.wf_def_world.specs.World.{World, Station, Exchange, Mpdu, Content, Fr
 use Rattle.wf_def_world.specs.CanSend.{is_ready}
 use Rattle.wf_def_world.specs.Exchanges.{transmissions, no_mpdu, mpdus_of, station_need, picked_station, sending_tid, exchange_of, Prepared, after_tid_turn, with_exchange_opened, after_arrival}
 use Rattle.wf_def_world.specs.Refusals.{open_of_station, refusals, refusal}
-use Rattle.wf_def_world.specs.Step.{Outcome, join_outcome, leave_outcome, rate_outcome, tick_outcome, send_outcome, pull_outcome_for, pull_outcome, arrive_outcome, answer_outcome, done_outcome, outcome_where_open, sleep_outcome, wake_outcome, poll_outcome, rx_outcome, reap_outcome, concerned_station, outcome_of, after_refusal, judged_outcome, step}
+use Rattle.wf_def_world.specs.Step.{Outcome, join_outcome, leave_outcome, rate_outcome, tick_outcome, send_outcome, pull_outcome_for, pull_outcome, arrive_outcome, answer_outcome, unsent_outcome, give_up_outcome, done_outcome, outcome_where_open, sleep_outcome, wake_outcome, poll_outcome, rx_outcome, reap_outcome, concerned_station, outcome_of, after_refusal, judged_outcome, step}
 use Rattle.wf_def_world.specs.Run.{Entry, world_after}
 use Rattle.wf_law_rules.proofs.Lemmas.Numbers.{has_new, has_old, greatest_least, greatest_has, score_past, le_no}
 use Rattle.wf_law_runs.proofs.Common.Refused.{after_idle}
+use Rattle.wf_law_runs.proofs.Common.Marks.{marked_world}
 use Rattle.wf_law_runs.proofs.Common.Picked.{picked_world}
 use Rattle.wf_law_runs.proofs.Sessions.Starts.{start_le}
 use Rattle.wf_law_runs.proofs.Sessions.Flights.{AllIn, Rises}
@@ -29,7 +30,7 @@ use Rattle.wf_law_runs.proofs.Windows.Sides.{Side, side, Same, each_side_on, the
 use Rattle.wf_law_runs.proofs.Windows.Agreement.{IsAgreed, IsAsked, IfRequest, option_along, unsettled_ge, score_kept}
 use Rattle.wf_law_runs.proofs.Windows.Opened.{Each, each_map, each_both, each_append, each_find, FlyIn, some_along, pick_ready, left_true, none_open, NoRow, no_row}
 use Rattle.wf_law_runs.proofs.Windows.Agreed.{IsLawful, IsOpenIn, each_map_if, both_some, if_on, no_answer, lawful_same, lawful_step, lawful_at_first, same_left_tids, same_off_lists}
-use Rattle.wf_law_runs.proofs.Releases.Kept.{KeptSession, kept_refl, Kept, kept_same, keep_prepared, keep_ended, keep_plain}
+use Rattle.wf_law_runs.proofs.Releases.Kept.{KeptSession, kept_refl, Kept, kept_same, keep_prepared, keep_ended, keep_flushed, opened_flushed, keep_plain}
 use Rattle.wf_law_runs.proofs.Releases.Released.{side_taken, side_with_station}
 use Rattle.wf_law_runs.proofs.Frames.Delivered.{IsPrepared, prepared_right, opened_ended, opened_on_receiver, same_enqueued, filtered}
 
@@ -249,6 +250,28 @@ marked_answered w i x a some h =
       }) (λ y _ m. record { arrived = m.arrived; answered = m.answered }) h.marks;
     }
 
+marked_again : (w : World) (x : Exchange) (unsent given_up : List ℕ) → IsMarked w x → Marked w →
+    Marked (marked_world w x unsent given_up)
+unfolding with_exchange
+marked_again w x unsent given_up a h =
+    let z : Exchange = record x { unsent = unsent; given_up = given_up } in
+    let v : World = record w { opened = map (λ y. if y.number == z.number then z else y) w.opened } in
+    record {
+      marks = each_map_if (IsMarked w) (IsMarked v) (λ y. y.number == z.number) z w.opened
+          (record { arrived = a.arrived; answered = a.answered })
+          (λ y _ m. record { arrived = m.arrived; answered = m.answered }) h.marks;
+    }
+
+marked_unsent : (w : World) (x : Exchange) (n : ℕ) → IsMarked w x → Marked w →
+    Marked (unsent_outcome w x n).world
+unfolding unsent_outcome
+marked_unsent w x n a h = marked_again w x (with_member n x.unsent) x.given_up a h
+
+marked_given_up : (w : World) (x : Exchange) (n : ℕ) → IsMarked w x → Marked w →
+    Marked (give_up_outcome w x n).world
+unfolding give_up_outcome
+marked_given_up w x n a h = marked_again w x x.unsent (with_member n x.given_up) a h
+
 marked_ended : (air : Option ℕ) (w : World) (x : Exchange) (heard : Bool) → Marked w →
     Marked (done_outcome w x heard air).world
 marked_ended air w x heard h =
@@ -342,6 +365,11 @@ marked_done (Asked (Wake s)) w i r h = marked_same w _ (same_on_station w s _ (�
 marked_done (Asked (Poll s)) w i r h = marked_same w _ (same_on_station w s _ (λ x t. refl)) h
 marked_done (Asked (Rx s c air)) w i r h = marked_same w _ (same_on_share w s c _) h
 marked_done (Asked Reap) w i r h = marked_reaped w.finished w h
+marked_done (Asked (Unsent e n)) w i r h = marked_open (IsRead w) (exchange w e) w _ (read w i h e) h
+    (λ x f. marked_unsent w x n f.marked h)
+marked_done (Asked (GiveUp e n)) w i r h = marked_open (IsRead w) (exchange w e) w _ (read w i h e) h
+    (λ x f. marked_given_up w x n f.marked h)
+marked_done (Asked (Flush s t)) w i r h = marked_kept w _ (keep_flushed w s t) (opened_flushed w s t) h
 
 marked_refused : (note : Note) (r : Refusal) (w : World) → Marked w → Marked (after_refusal w note r)
 unfolding after_refusal

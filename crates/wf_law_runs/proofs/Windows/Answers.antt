@@ -10,24 +10,26 @@ use Rattle.wf_def_world.specs.World.{receiver, World, Station, Exchange, Mpdu, C
 use Rattle.wf_frame.specs.Classes.{all_classes}
 use Rattle.wf_def_world.specs.CanSend.{is_ready}
 use Rattle.wf_def_world.specs.Exchanges.{station_need, picked_station, after_arrival, exchange_of, sending_tid, Prepared, mpdus_of, after_tid_turn, with_exchange_opened}
-use Rattle.wf_frame.specs.declared.notes.Ask.TheVariants.{Join, Leave, Rate, Tick, Pull, Arrive, Answer, Done, Sleep, Wake, Poll, Rx, Reap, Ampdu, Stop, Start}
+use Rattle.wf_frame.specs.declared.notes.Ask.TheVariants.{Join, Leave, Rate, Tick, Pull, Arrive, Answer, Done, Sleep, Wake, Poll, Rx, Reap, Ampdu, Stop, Start, Unsent, GiveUp, Flush}
 use Rattle.wf_frame.specs.declared.notes.Limits.{Limits}
 use Rattle.wf_frame.specs.declared.notes.Note.{Note}
 use Rattle.wf_frame.specs.declared.notes.Note.TheVariants.{Enqueue, Asked}
 use Rattle.wf_frame.specs.declared.notes.Refusal.{Refusal}
 use Rattle.wf_frame.specs.declared.notes.Refusal.TheVariants.{Idle}
 use Rattle.wf_def_world.specs.Refusals.{refusals, refusal}
-use Rattle.wf_def_world.specs.Step.{Outcome, join_outcome, leave_outcome, rate_outcome, tick_outcome, send_outcome, pull_outcome_for, pull_outcome, arrive_outcome, answer_outcome, done_outcome, outcome_where_open, sleep_outcome, wake_outcome, poll_outcome, rx_outcome, reap_outcome, outcome_of, after_refusal, judged_outcome, step, concerned_station}
+use Rattle.wf_def_world.specs.Step.{Outcome, join_outcome, leave_outcome, rate_outcome, tick_outcome, send_outcome, pull_outcome_for, pull_outcome, arrive_outcome, answer_outcome, unsent_outcome, give_up_outcome, flush_outcome, done_outcome, outcome_where_open, sleep_outcome, wake_outcome, poll_outcome, rx_outcome, reap_outcome, outcome_of, after_refusal, judged_outcome, step, concerned_station}
 use Rattle.wf_def_world.specs.Run.{Entry, world_after, by}
 use Rattle.wf_law_rules.proofs.Lemmas.Numbers.{eq_yes, eq_no}
 use Rattle.wf_law_runs.proofs.Common.Refused.{after_idle}
-use Rattle.wf_law_runs.proofs.Windows.Sides.{side_of, Same, on_exchanges, then_same, same_on_station, same_on_share, same_listed, same_after_pick, same_after_turn, same_spent, same_picked}
+use Rattle.wf_law_runs.proofs.Common.Marks.{with_marks, marked_world}
+use Rattle.wf_law_runs.proofs.Common.Flushes.{if_flushed}
+use Rattle.wf_law_runs.proofs.Windows.Sides.{side_of, Same, on_exchanges, then_same, same_on_station, same_on_share, same_on_queue, same_finish, same_listed, same_after_pick, same_after_turn, same_spent, same_picked}
 use Rattle.wf_law_runs.proofs.Windows.Agreement.{answer_right, AllRight}
 use Rattle.wf_law_runs.proofs.Windows.Opened.{Each, each_both, each_append, each_find, some_along, pick_ready, left_true, NoRow, no_row}
 use Rattle.wf_law_runs.specs.Windows.{EachMpdu}
 use Rattle.wf_law_runs.specs.Answers.{IsBa, StandsAsThen, AnswerLaw}
 use Rattle.wf_law_runs.proofs.Common.Picked.{picked_world}
-use Rattle.wf_law_runs.proofs.Windows.Agreed.{IsLawful, IsOpenIn, lawful, lawful_step, lawful_run, lawful_same, same_left_tids, same_off_lists, if_on, each_map_if}
+use Rattle.wf_law_runs.proofs.Windows.Agreed.{IsLawful, IsOpenIn, lawful, lawful_step, lawful_run, lawful_same, opened_on_session, exchanges_on_session, same_left_tids, same_off_lists, if_on, each_map_if}
 use Rattle.wf_law_runs.proofs.Frames.Delivered.{IsPrepared, prepared_right, opened_ended, exchanges_ended, opened_on_receiver, same_enqueued, filtered}
 
 record Stands (b : Score) (s t : ℕ) (c : Content) (x : Exchange) : Type 0 where
@@ -126,6 +128,37 @@ module _ (e : ℕ) (b : Score) (s t : ℕ) (c : Content) where
       (exchanges_on_receiver w x.station x.tid (after_arrival x.content n))
       (λ k. absurd (other_one x f none k)) h
 
+  standing_marked : (w : World) (x : Exchange) (unsent given_up : List ℕ) → AsThen x →
+      IsStanding e b s t c w → IsStanding e b s t c (marked_world w x unsent given_up)
+  unfolding with_exchange
+  standing_marked w x unsent given_up f h = standing_replaced w _ (with_marks unsent given_up x) refl refl
+      (λ k. record {
+        answer = (f k).answer;
+        station = (f k).station;
+        tid = (f k).tid;
+        content = (f k).content;
+      })
+      h
+
+  standing_unsent : (w : World) (x : Exchange) (n : ℕ) → AsThen x → IsStanding e b s t c w →
+      IsStanding e b s t c (unsent_outcome w x n).world
+  unfolding unsent_outcome
+  standing_unsent w x n f h = standing_marked w x (with_member n x.unsent) x.given_up f h
+
+  standing_given_up : (w : World) (x : Exchange) (n : ℕ) → AsThen x → IsStanding e b s t c w →
+      IsStanding e b s t c (give_up_outcome w x n).world
+  unfolding give_up_outcome
+  standing_given_up w x n f h = standing_marked w x x.unsent (with_member n x.given_up) f h
+
+  standing_flushed : (w : World) (i j : ℕ) → IsStanding e b s t c w →
+      IsStanding e b s t c (flush_outcome w i j).world
+  standing_flushed w i j h = if_flushed (IsStanding e b s t c)
+      (record {
+        finish = λ u id k. standing_same u _ (same_finish u _ id) k;
+        empty = λ u q k. standing_same u _ (same_on_queue u q _) k;
+      })
+      w i j (standing_plain w _ (opened_on_session w i j _) (exchanges_on_session w i j _) h)
+
   standing_ended : (air : Option ℕ) (w : World) (x : Exchange) (heard : Bool) → IsStanding e b s t c w →
       IsStanding e b s t c (done_outcome w x heard air).world
   standing_ended air w x heard h = record {
@@ -199,6 +232,13 @@ module _ (e : ℕ) (b : Score) (s t : ℕ) (c : Content) where
   standing_done (Asked (Poll i)) w l r h = standing_station w i _ (λ x t. refl) h
   standing_done (Asked (Rx i d air)) w l r h = standing_same w _ (same_on_share w i d _) h
   standing_done (Asked Reap) w l r h = standing_reaped w.finished w h
+  standing_done (Asked (Unsent x n)) w l r h =
+      standing_open AsThen AsThen (exchange w x) w _ (found_then w x h) (found_then w x h) h
+      (λ y f g. standing_unsent w y n f h)
+  standing_done (Asked (GiveUp x n)) w l r h =
+      standing_open AsThen AsThen (exchange w x) w _ (found_then w x h) (found_then w x h) h
+      (λ y f g. standing_given_up w y n f h)
+  standing_done (Asked (Flush i j)) w l r h = standing_flushed w i j h
 
   standing_refused : (note : Note) (r : Refusal) (w : World) → IsStanding e b s t c w →
       IsStanding e b s t c (after_refusal w note r)

@@ -1,37 +1,40 @@
 -- Proves that each number on the air is sent by an open exchange, and that a TID has at most one open
 -- request. By cases of the call.
-use Rattle.std.proofs.Common.{◌≡◌, refl, ap, sym, ◌∙◌, subst, arith, ℕ, zero, suc, ◌+◌, ◌-◌, ◌<◌, ◌≤◌, nat_lt, Bool, true, false, if◌then◌else◌, not, ◌==◌, ◌⊎◌, inl, inr, List, [], ◌∷◌, ◌++◌, length, map, filter, find, count_by, nat_le, Option, Some, None, IfSome, is_some}
+use Rattle.std.proofs.Common.{◌≡◌, refl, ap, sym, ◌∙◌, subst, arith, ℕ, zero, suc, ◌+◌, ◌-◌, ◌<◌, ◌≤◌, nat_lt, Bool, true, false, if◌then◌else◌, not, ◌==◌, ◌⊎◌, inl, inr, List, [], ◌∷◌, ◌++◌, length, map, filter, find, count_by, Option, Some, None, IfSome, is_some}
 use Rattle.wf_frame.specs.declared.settings.Config.{Config}
 use Rattle.wf_frame.specs.declared.classes.Class.{Class}
 use Rattle.wf_def_lists.specs.Table.{at, has, with_member, upto}
 use Rattle.wf_def_codel.specs.Codel.{Item}
 use Rattle.wf_def_agreement.specs.Receiver.{Receiver, score}
-use Rattle.wf_def_agreement.specs.Session.{request_due, with_state, Session, Slot, State, is_failed, slot_after_miss, slot, on_slot, with_number_given, after_miss, new_session, next_number, no_slot}
+use Rattle.wf_def_agreement.specs.Session.{End, request_due, with_state, Session, Slot, State, is_failed, slot_given_up, slot, on_slot, with_number_given, after_flush, new_session, next_number, no_slot}
 use Rattle.wf_def_world.specs.World.{receiver, World, Station, Tid, Exchange, Mpdu, Content, Frames, Request, new_tid, no_tid, rotation, session, is_live, exchange, with_station, on_station, on_tid, on_session, on_receiver, with_exchange, without_exchange, opening}
 use Rattle.wf_frame.specs.Classes.{all_classes}
 use Rattle.wf_def_world.specs.FlowQueues.{taken_for_tid}
 use Rattle.wf_def_world.specs.CanSend.{is_ready, can_give}
-use Rattle.wf_def_world.specs.Exchanges.{is_acked, station_need, most_frames, picked_station, after_arrival, exchange_of, sending_tid, with_heard_start, Aggregate, Prepared, mpdus_of, after_tid_turn, with_fresh, aggregate_of, with_number, with_flying, waiting_mpdus, longest_fitting, prepared_data, prepared_exchange, with_exchange_opened, after_charge, with_failed_finished, with_settled, with_all_settled, after_done}
-use Rattle.wf_frame.specs.declared.notes.Ask.TheVariants.{Join, Leave, Rate, Tick, Pull, Arrive, Answer, Done, Sleep, Wake, Poll, Rx, Reap, Ampdu, Stop, Start}
+use Rattle.wf_def_world.specs.Exchanges.{end_of, station_need, most_frames, picked_station, after_arrival, exchange_of, sending_tid, with_heard_start, Aggregate, Prepared, mpdus_of, after_tid_turn, with_fresh, aggregate_of, with_number, with_flying, waiting_mpdus, longest_fitting, prepared_data, prepared_exchange, with_exchange_opened, after_charge, with_failed_finished, with_settled, with_all_settled, after_done}
+use Rattle.wf_frame.specs.declared.notes.Ask.TheVariants.{Join, Leave, Rate, Tick, Pull, Arrive, Answer, Done, Sleep, Wake, Poll, Rx, Reap, Ampdu, Stop, Start, Unsent, GiveUp, Flush}
 use Rattle.wf_frame.specs.declared.notes.Limits.{Limits}
 use Rattle.wf_frame.specs.declared.notes.Note.{Note}
 use Rattle.wf_frame.specs.declared.notes.Note.TheVariants.{Enqueue, Asked}
 use Rattle.wf_frame.specs.declared.notes.Refusal.{Refusal}
 use Rattle.wf_frame.specs.declared.notes.Refusal.TheVariants.{Idle}
 use Rattle.wf_def_world.specs.Refusals.{refusal}
-use Rattle.wf_def_world.specs.Step.{Outcome, join_outcome, leave_outcome, rate_outcome, tick_outcome, send_outcome, pull_outcome_for, pull_outcome, arrive_outcome, answer_outcome, done_outcome, outcome_where_open, sleep_outcome, wake_outcome, poll_outcome, rx_outcome, reap_outcome, outcome_of, after_refusal, judged_outcome, step}
+use Rattle.wf_def_world.specs.Step.{Outcome, join_outcome, leave_outcome, rate_outcome, tick_outcome, send_outcome, pull_outcome_for, pull_outcome, arrive_outcome, answer_outcome, done_outcome, outcome_where_open, sleep_outcome, wake_outcome, poll_outcome, rx_outcome, reap_outcome, unsent_outcome, give_up_outcome, flush_outcome, outcome_of, after_refusal, judged_outcome, step}
 use Rattle.wf_def_world.specs.Run.{Entry, world_after}
 use Rattle.std.proofs.lemmas.List.Sums.{sum_by-cons}
 use Rattle.wf_law_rules.proofs.Lemmas.Tables.{each_put}
 use Rattle.wf_law_runs.proofs.Common.Refused.{after_idle}
+use Rattle.wf_law_runs.proofs.Common.Marks.{with_marks, marked_world}
+use Rattle.wf_law_runs.proofs.Common.Ends.{slot_after_end, end_not_flying, on_settled}
+use Rattle.wf_law_runs.proofs.Common.Flushes.{flush_along, if_flushed}
 use Rattle.wf_law_runs.proofs.Sessions.Flights.{Rises, flown, next-give}
 use Rattle.wf_law_rules.proofs.Lemmas.Numbers.{on_bool, on_if, lt_yes, lt_no, eq_yes, eq_no, either, or_left, or_right}
-use Rattle.wf_law_runs.proofs.Windows.Sides.{side_of, sides_of, Same, each_side_on, on_exchanges, same, then_same, same_on_station, same_on_share, same_finish, same_listed, same_after_pick, same_after_turn, same_spent, same_take, same_charged, same_picked}
+use Rattle.wf_law_runs.proofs.Windows.Sides.{side_of, sides_of, Same, each_side_on, on_exchanges, same, then_same, same_on_station, same_on_share, same_on_queue, same_finish, same_listed, same_after_pick, same_after_turn, same_spent, same_take, same_charged, same_picked}
 use Rattle.wf_law_runs.proofs.Windows.Agreement.{below_next, slot_give, slot_new, slot_other, slot_same}
 use Rattle.wf_law_runs.proofs.Windows.Opened.{Each, each_map, each_find, FlyIn, some_along, pick_ready, left_true, eight}
 use Rattle.wf_law_runs.specs.Windows.{EachMpdu, SomeOpen, IsSending, OpenRises}
 use Rattle.wf_law_runs.proofs.Common.Picked.{picked_world}
-use Rattle.wf_law_runs.proofs.Windows.Agreed.{IsLawful, IsOpenIn, IsReady, ready_filled, lawful_same, lawful_step, lawful_at_first, session_same, same_left_tids, same_off_lists}
+use Rattle.wf_law_runs.proofs.Windows.Agreed.{IsLawful, IsOpenIn, IsReady, ready_filled, lawful_same, lawful_step, lawful_at_first, session_same, opened_on_session, exchanges_on_session, same_left_tids, same_off_lists}
 use Rattle.wf_law_runs.proofs.Windows.Settling.{all_landed, without_same, without_live}
 use Rattle.wf_law_runs.proofs.Frames.Delivered.{IsPrepared, prepared_right, opened_ended, exchanges_ended, opened_on_receiver, same_enqueued}
 use Rattle.wf_law_runs.proofs.Windows.Answers.{exchanges_on_receiver}
@@ -136,30 +139,26 @@ landing_filled w s t =
     (with_fresh (most_frames w s - length chosen) w s t chosen) (record { world = w; mpdus = chosen })
     (landing_fresh (most_frames w s - length chosen) w s t chosen) (landing_here w)
 
-missed_lands : (limit : ℕ) (x : Slot) (e : ℕ) → (slot_after_miss limit x).state ≡ State.Flying e → ⊥
-missed_lands limit x e = on_if (λ st. st ≡ State.Flying e → ⊥)
-    (nat_le limit (x.attempts + 1)) State.Failed State.Waiting (λ _ h. cc h) (λ _ h. cc h)
-
-landing_settled : (b : Bool) (w : World) (s t : ℕ) (m : Mpdu) → Landing w (with_settled w s t b m)
+landing_settled : (end : End) (w : World) (s t : ℕ) (m : Mpdu) → Landing w (with_settled w s t end m)
 unfolding with_settled with_failed_finished
-landing_settled true w s t m = then_landing w _ _
-    (landing_on_session w s t (with_state State.Acked m.number)
+landing_settled end w s t m =
+    let f : Slot → Slot = slot_after_end w.config.attempts end in
+    let v : World = on_session w s t (on_slot m.number f) in
+    let k : Landing w v = landing_on_session w s t (on_slot m.number f)
+    (lands_on_slot (session w s t) m.number f (λ x e. end_not_flying w.config.attempts end x e)) in
+    on_settled (Landing w) end w s t m
+    (λ _. then_landing w _ _ (landing_on_session w s t (with_state State.Acked m.number)
     (lands_on_slot (session w s t) m.number (λ x. record x { state = State.Acked }) (λ x e h. cc h)))
-    (landing_same _ _ (same_finish _ _ _))
-landing_settled false w s t m =
-    let v : World = on_session w s t (after_miss w.config.attempts m.number) in
-    let k : Landing w v = landing_on_session w s t (after_miss w.config.attempts m.number)
-    (lands_on_slot (session w s t) m.number (slot_after_miss w.config.attempts)
-    (missed_lands w.config.attempts)) in
-    landing_if (is_failed (slot (session v s t) m.number).state) w _ v
-    (then_landing w v _ k (landing_same v _ (same_finish v _ _))) k
+    (landing_same _ _ (same_finish _ _ _)))
+    (λ _. landing_if (is_failed (slot (session v s t) m.number).state) w _ v
+    (then_landing w v _ k (landing_same v _ (same_finish v _ _))) k)
 
-landing_all : (ms : List Mpdu) (w : World) (s t : ℕ) (acked : ℕ → Bool) →
-    Landing w (with_all_settled w s t acked ms)
+landing_all : (ms : List Mpdu) (w : World) (s t : ℕ) (ends : ℕ → End) →
+    Landing w (with_all_settled w s t ends ms)
 unfolding with_all_settled
-landing_all [] w s t acked = landing_here w
-landing_all (m ∷ ms) w s t acked = then_landing w _ _ (landing_settled (acked m.number) w s t m)
-    (landing_all ms _ s t acked)
+landing_all [] w s t ends = landing_here w
+landing_all (m ∷ ms) w s t ends = then_landing w _ _ (landing_settled (ends m.number) w s t m)
+    (landing_all ms _ s t ends)
 
 landing_after : (c : Content) (w : World) (x : Exchange) (heard : Bool) → Landing w (after_done w x heard c)
 unfolding after_done
@@ -473,6 +472,23 @@ unfolding on_receiver
 session_on_receiver w s t g = each_side_on (λ i j y. y.session ≡ session w i j) w s t
     (λ y. record y { receiver = g y.receiver }) (λ i j. refl) refl
 
+flown_marked : (w : World) (x : Exchange) (unsent given_up : List ℕ) → IsOnly w x → IsFlown_by w →
+    IsFlown_by (marked_world w x unsent given_up)
+unfolding with_exchange
+flown_marked w x unsent given_up u k =
+    flown_replaced w _ x (with_marks unsent given_up x) u refl refl refl refl
+    (λ s t. refl) refl refl k
+
+flown_unsent : (w : World) (x : Exchange) (n : ℕ) → IsOnly w x → IsFlown_by w →
+    IsFlown_by (unsent_outcome w x n).world
+unfolding unsent_outcome
+flown_unsent w x n u k = flown_marked w x (with_member n x.unsent) x.given_up u k
+
+flown_given_up : (w : World) (x : Exchange) (n : ℕ) → IsOnly w x → IsFlown_by w →
+    IsFlown_by (give_up_outcome w x n).world
+unfolding give_up_outcome
+flown_given_up w x n u k = flown_marked w x x.unsent (with_member n x.given_up) u k
+
 flown_arrived : (w : World) (x : Exchange) (n : ℕ) → IsOnly w x → IsFlown_by w →
     IsFlown_by (arrive_outcome w x n).world
 unfolding arrive_outcome with_exchange
@@ -507,7 +523,7 @@ landed_after air (Frames ms) w x heard e o =
     ∙ without_same w x.number x.station x.tid in
     let flies : FlyIn x.number ms y = subst (λ (c : Content). FlyIn x.number (mpdus_of c) y) e o.opened.flies
     in
-    all_landed ms v x.station x.tid (is_acked heard x.answer) y.first (next_number y)
+    all_landed ms v x.station x.tid (end_of x heard) y.first (next_number y)
     (k.live x.station ∙ without_live w x.number x.station ∙ o.live)
     (omega (arith, ap (λ (z : Session). z.first) same_y)) flies.rising
 
@@ -556,6 +572,24 @@ flown_ended air w x heard u k =
           (kept_open w x.number s t e n x u.only (λ own.
           not_own v x s t e n (landed_ended air w x heard u.open_in) own f) (k.flown s t n e p.0 p.1));
     }
+
+-- ---- a flush
+
+lands_flush : (limit : ℕ) (y : Session) → Lands y (after_flush limit y)
+lands_flush limit y = flush_along (Lands y) limit y
+    (λ z n e l b waits k. then_lands y z _ k (lands_on_slot z n (slot_given_up limit) (λ x e h. cc h)))
+    (lands_refl y)
+
+flown_flushed : (w : World) (s t : ℕ) → IsFlown_by w → IsFlown_by (flush_outcome w s t).world
+flown_flushed w s t k =
+    if_flushed IsFlown_by
+    (record {
+      finish = λ u id h. flown_same u _ (same_finish u _ id) h;
+      empty = λ u q h. flown_same u _ (same_on_queue u q _) h;
+    }) w s t
+    (flown_landing w _ (landing_on_session w s t (after_flush w.config.attempts)
+    (lands_flush w.config.attempts (session w s t))) (opened_on_session w s t _)
+    (exchanges_on_session w s t _) k)
 
 -- ---- joining and leaving
 
@@ -659,6 +693,11 @@ flown_done (Asked (Wake s)) w i k = flown_station w s _ (λ x t. refl) k
 flown_done (Asked (Poll s)) w i k = flown_station w s _ (λ x t. refl) k
 flown_done (Asked (Rx s c air)) w i k = flown_same w _ (same_on_share w s c _) k
 flown_done (Asked Reap) w i k = flown_reaped w.finished w k
+flown_done (Asked (Unsent x n)) w i k = flown_open (IsOnly w) (exchange w x) w _ (only_found w x i k) k
+    (λ y u. flown_unsent w y n u k)
+flown_done (Asked (GiveUp x n)) w i k = flown_open (IsOnly w) (exchange w x) w _ (only_found w x i k) k
+    (λ y u. flown_given_up w y n u k)
+flown_done (Asked (Flush s t)) w i k = flown_flushed w s t k
 
 flown_refused : (note : Note) (r : Refusal) (w : World) → IsFlown_by w → IsFlown_by (after_refusal w note r)
 unfolding after_refusal

@@ -8,11 +8,12 @@ use Rattle.wf_def_lists.specs.Table.{at, change}
 use Rattle.wf_def_codel.specs.Codel.{Item}
 use Rattle.wf_def_rotation.specs.Rotation.{Rotation}
 use Rattle.wf_def_agreement.specs.Receiver.{Receiver}
-use Rattle.wf_def_agreement.specs.Session.{Session}
-use Rattle.wf_def_world.specs.World.{World, Station, Share, Tid, Queue, Exchange, no_tid, no_station, tid_of, is_live, with_station, on_station, on_tid, with_queues, on_share, on_queue, with_rotation, with_fate, with_frame_finished, with_frames_finished}
-use Rattle.wf_def_world.specs.FlowQueues.{without_head, after_limit, with_listed_queue, with_appended, after_put_in, with_queues_paid, taken_by_codel, taken_from_picked, taken_for_tid, after_queue_left, after_queues_left}
+use Rattle.wf_def_agreement.specs.Session.{Session, after_flush}
+use Rattle.wf_def_world.specs.World.{World, Station, Share, Tid, Queue, Exchange, no_tid, no_station, tid_of, is_live, with_station, on_station, on_tid, on_session, with_queues, on_share, on_queue, with_rotation, with_fate, with_frame_finished, with_frames_finished}
+use Rattle.wf_def_world.specs.FlowQueues.{without_head, after_limit, with_listed_queue, with_appended, after_put_in, with_queues_paid, taken_by_codel, taken_from_picked, taken_for_tid, after_queue_left, after_queues_left, after_queue_flushed, after_queues_flushed}
 use Rattle.wf_def_world.specs.CanSend.{with_listing_in, with_listings_in, with_listings_of}
 use Rattle.wf_def_world.specs.Exchanges.{with_station_paid, with_stations_paid, after_pick, after_tid_turn, without_credit, after_charge}
+use Rattle.wf_def_world.specs.Step.{after_tid_flushed, flush_outcome}
 use Rattle.wf_law_rules.proofs.Lemmas.Tables.{each_put, at_put_same}
 use Rattle.wf_law_runs.proofs.Common.Picked.{picked_world}
 
@@ -233,6 +234,18 @@ unfolding after_queues_left after_queue_left
 same_purge_queues [] w = same w
 same_purge_queues (q ∷ qs) w = then_same _ _ _ (then_same _ _ _ (same_on_queue w q _) (same_finish_all _ _ _))
     (same_purge_queues qs _)
+
+pub same_flush_queues : (qs : List ℕ) (w : World) → Same w (after_queues_flushed w qs)
+unfolding after_queues_flushed after_queue_flushed
+same_flush_queues [] w = same w
+same_flush_queues (q ∷ qs) w = then_same _ _ _ (then_same _ _ _ (same_on_queue w q _) (same_finish_all _ _ _))
+    (same_flush_queues qs _)
+
+-- After the waiting numbers are given up, a flush changes no side.
+pub same_flushed : (w : World) (s t : ℕ) →
+    Same (on_session w s t (after_flush w.config.attempts)) (flush_outcome w s t).world
+unfolding flush_outcome after_tid_flushed
+same_flushed w s t = then_same _ _ _ (same_finish_all _ _ _) (same_flush_queues _ _)
 
 pub same_charged : (air : Option ℕ) (w : World) (x : Exchange) → Same w (after_charge w x air)
 unfolding after_charge

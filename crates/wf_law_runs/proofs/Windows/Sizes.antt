@@ -4,7 +4,7 @@ use Rattle.std.proofs.lemmas.Bool.{not-false}
 use Rattle.wf_frame.specs.declared.settings.Config.{Config}
 use Rattle.wf_frame.specs.declared.notes.Note.{Note}
 use Rattle.wf_frame.specs.declared.notes.Note.TheVariants.{Enqueue, Asked}
-use Rattle.wf_frame.specs.declared.notes.Ask.TheVariants.{Join, Leave, Rate, Tick, Pull, Arrive, Answer, Done, Sleep, Wake, Poll, Rx, Reap, Ampdu, Stop, Start}
+use Rattle.wf_frame.specs.declared.notes.Ask.TheVariants.{Join, Leave, Rate, Tick, Pull, Arrive, Answer, Done, Sleep, Wake, Poll, Rx, Reap, Ampdu, Stop, Start, Unsent, GiveUp, Flush}
 use Rattle.wf_frame.specs.declared.notes.Refusal.{Refusal}
 use Rattle.wf_frame.specs.Classes.{all_classes}
 use Rattle.wf_def_lists.specs.Table.{at, upto}
@@ -20,7 +20,7 @@ use Rattle.wf_law_rules.proofs.Lemmas.Numbers.{on_bool, eq_yes, eq_no, both, le_
 use Rattle.wf_law_runs.proofs.Windows.Sides.{each_side_on, on_live, Side, sides_of, same_listed}
 use Rattle.wf_law_runs.proofs.Windows.Opened.{eight, NoRow, no_row}
 use Rattle.wf_law_runs.proofs.Windows.Agreed.{same_left_tids, same_off_lists}
-use Rattle.wf_law_runs.proofs.Releases.Kept.{Kept, kept_same, then_keep, keep_pulled, keep_ended, keep_answered, keep_enqueued, keep_reaped}
+use Rattle.wf_law_runs.proofs.Releases.Kept.{Kept, kept_same, then_keep, keep_pulled, keep_ended, keep_answered, keep_enqueued, keep_unsent, keep_given_up, keep_flushed, keep_reaped}
 use Rattle.wf_law_runs.proofs.Releases.Released.{side_with_station, side_own_station, keep_rate, keep_tick, keep_slept, keep_woken, keep_credited, keep_received, refused_kept, keep_stated, keep_stopped, keep_started}
 
 pub record IsSized (w : World) : Type 0 where
@@ -143,6 +143,11 @@ sized_done (Asked (Start s)) w e i = sized_kept w _ (keep_started w s) i
 sized_done (Asked (Wake s)) w e i = sized_kept w _ (keep_woken w s) i
 sized_done (Asked (Poll s)) w e i = sized_kept w _ (keep_credited w s) i
 sized_done (Asked (Rx s c air)) w e i = sized_kept w _ (keep_received w s c air) i
+sized_done (Asked (Unsent x n)) w e i = sized_open (exchange w x) w _
+    (λ y. sized_kept w _ (keep_unsent w y n) i) i
+sized_done (Asked (GiveUp x n)) w e i = sized_open (exchange w x) w _
+    (λ y. sized_kept w _ (keep_given_up w y n) i) i
+sized_done (Asked (Flush s t)) w e i = sized_kept w _ (keep_flushed w s t) i
 sized_done (Asked Reap) w e i = sized_kept w _ (keep_reaped w.finished w) i
 
 sized_answer : (r : Option Refusal) (w : World) (note : Note) → refusal w note ≡ r → IsSized w →

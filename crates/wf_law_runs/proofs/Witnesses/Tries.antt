@@ -1,10 +1,11 @@
--- Histories that attain the bounds of the law of tries. A request is no try.
+-- Histories that attain the bounds of the law of tries. A request is no try, and a frame that never went on
+-- the air may be sent once more.
 use Rattle.std.proofs.Common.{◌≡◌, refl, ◌*◌, true, false, List, [], ◌∷◌, ◌++◌, None, map}
 use Rattle.wf_frame.specs.declared.settings.Config.{Config}
 use Rattle.wf_frame.specs.declared.classes.Class.TheVariants.{Be}
-use Rattle.wf_frame.specs.declared.classes.Cause.TheVariants.{Retries}
+use Rattle.wf_frame.specs.declared.classes.Cause.TheVariants.{Retries, Flushed}
 use Rattle.wf_frame.specs.declared.classes.Fate.TheVariants.{Dropped}
-use Rattle.wf_frame.specs.declared.notes.Ask.TheVariants.{Join, Pull, Arrive, Answer, Done}
+use Rattle.wf_frame.specs.declared.notes.Ask.TheVariants.{Join, Pull, Arrive, Answer, Done, Unsent, GiveUp, Flush}
 use Rattle.wf_frame.specs.declared.notes.Note.TheVariants.{Enqueue, Asked}
 use Rattle.wf_frame.specs.Settings.{standard}
 use Rattle.wf_def_agreement.specs.Session.{slot}
@@ -13,7 +14,7 @@ use Rattle.wf_def_world.specs.Text.{tally}
 use Rattle.wf_def_world.specs.Run.{Entry, by}
 use Rattle.wf_def_world.specs.Stretches.{world_at}
 use Rattle.wf_def_world.specs.Computed.{the_machine}
-use Rattle.wf_law_runs.specs.Tries.{tries, frames_sent_in, data_exchanges, requests_heard}
+use Rattle.wf_law_runs.specs.Tries.{tries, unsent, frames_sent_in, frames_unsent, data_exchanges, requests_heard}
 use Rattle.wf_frame.specs.Calls.{no_limits}
 
 -- three attempts, and two frames in an aggregate
@@ -116,3 +117,77 @@ dropped_as_many = refl
 unheard : requests_heard (opening once) (asked ++ by 0 (Asked (Done 1 false None)) ∷ []) ≡ 0
 unfolding the_machine
 unheard = refl
+
+-- With one attempt, a frame that never went on the air is sent again, and is dropped after the second
+-- exchange.
+abbrev unheard_once : List Entry
+unheard_once = map (by 0) (
+    Asked (Join 0 64 0 3 1) ∷
+    Enqueue 0 0 1 100 ∷
+    Asked (Pull Be no_limits) ∷
+    Asked (Unsent 0 0) ∷
+    Asked (Done 0 false None) ∷
+    Asked (Pull Be no_limits) ∷
+    Asked (Done 1 false None) ∷ [])
+
+tries_with_unsent : tries (opening once) 0 unheard_once ≡ 2
+unfolding the_machine
+tries_with_unsent = refl
+
+unsent_then : unsent (opening once) 0 unheard_once ≡ 1
+unfolding the_machine
+unsent_then = refl
+
+frames_with_unsent : frames_sent_in (opening once) unheard_once ≡ 2
+unfolding the_machine
+frames_with_unsent = refl
+
+frames_unsent_then : frames_unsent (opening once) unheard_once ≡ 1
+unfolding the_machine
+frames_unsent_then = refl
+
+dropped_after : tally (world_at once unheard_once 7) (Dropped Retries) ≡ 1
+unfolding the_machine
+dropped_after = refl
+
+-- A frame that is given up is dropped after one exchange of three.
+abbrev given_up : List Entry
+given_up = map (by 0) (
+    Asked (Join 0 64 0 3 1) ∷
+    Enqueue 0 0 1 100 ∷
+    Asked (Pull Be no_limits) ∷
+    Asked (GiveUp 0 0) ∷
+    Asked (Done 0 false None) ∷ [])
+
+given_up_then : tally (world_at alone given_up 5) (Dropped Retries) ≡ 1
+unfolding the_machine
+given_up_then = refl
+
+given_up_tries : tries (opening alone) 0 given_up ≡ 1
+unfolding the_machine
+given_up_tries = refl
+
+-- A request also follows a frame that is flushed while its number waits.
+abbrev flushed : List Entry
+flushed = map (by 0) (
+    Asked (Join 0 64 0 3 1) ∷
+    Enqueue 0 0 1 100 ∷
+    Asked (Pull Be no_limits) ∷
+    Asked (Done 0 false None) ∷
+    Asked (Flush 0 0) ∷
+    Asked (Pull Be no_limits) ∷
+    Asked (Arrive 1 0) ∷
+    Asked (Answer 1) ∷
+    Asked (Done 1 true None) ∷ [])
+
+flush_asks : requests_heard (opening alone) flushed ≡ 1
+unfolding the_machine
+flush_asks = refl
+
+flush_drops : tally (world_at alone flushed 9) (Dropped Flushed) ≡ 1
+unfolding the_machine
+flush_drops = refl
+
+flush_retries : tally (world_at alone flushed 9) (Dropped Retries) ≡ 0
+unfolding the_machine
+flush_retries = refl
