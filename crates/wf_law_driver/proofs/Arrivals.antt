@@ -35,6 +35,11 @@ abbrev pub AreIndices : ℕ → ℕ → List ℕ → Type 0
 AreIndices lo hi [] = Unit {0}
 AreIndices lo hi (i ∷ is) = (lo ≤ i) × (i < hi) × AreIndices (suc i) hi is
 
+-- none of these transmissions is in a list
+abbrev pub AreNotIn : List ℕ → List ℕ → Type 0
+AreNotIn xs [] = Unit {0}
+AreNotIn xs (i ∷ is) = (has xs i ≡ false) × AreNotIn xs is
+
 -- an exchange with another number has no mark
 abbrev pub IsOther : ℕ → Exchange → Type 0
 IsOther e y = y.number ≢ e → IsUnmarked y
@@ -134,10 +139,11 @@ after_same e x z G v u t h a = record {
   new = λ live n is. ap (λ (s : Side). has s.receiver.arrived n) (h.sides x.station x.tid) ∙ a.new live n is;
 }
 
--- an Arrive is not refused if no answer is kept and the transmission has not arrived
+-- an Arrive is not refused if no answer is kept, and the transmission went on the air and has not arrived
 not_refused : (v : World) (e : ℕ) (x : Exchange) (k : ℕ) → exchange v e ≡ Some x → x.answer ≡ None →
-    has x.arrived k ≡ false → k < transmissions x.content → refusal v (Asked (Arrive e k)) ≡ None
-not_refused v e x k found open_still fresh within = none_refuses _ (
+    has x.arrived k ≡ false → has x.unsent k ≡ false → k < transmissions x.content →
+    refusal v (Asked (Arrive e k)) ≡ None
+not_refused v e x k found open_still fresh sent within = none_refuses _ (
   ap is_none found,
   (
     ap (λ (o : Option Exchange). exchange_has o (λ y. nat_le (transmissions y.content) k)) found
@@ -146,7 +152,7 @@ not_refused v e x k found open_still fresh within = none_refuses _ (
       ap (λ (o : Option Exchange). exchange_has o (λ y. is_some y.answer)) found ∙ ap is_some open_still,
       (
         ap (λ (o : Option Exchange). exchange_has o (λ y. has y.arrived k)) found ∙ fresh,
-        tt,
+        (ap (λ (o : Option Exchange). exchange_has o (λ y. has y.unsent k)) found ∙ sent, tt),
       ),
     ),
   ),
@@ -231,9 +237,9 @@ pub record AllArrive (caller e : ℕ) (x : Exchange) (is : List ℕ) (v : World)
 
 pub all_arrive : (is : List ℕ) (lo caller e : ℕ) (v : World) (x : Exchange) → exchange v e ≡ Some x →
     x.answer ≡ None → ((k : ℕ) → has x.arrived k ≡ true → k < lo) →
-    AreIndices lo (transmissions x.content) is → AllArrive caller e x is v
+    AreIndices lo (transmissions x.content) is → AreNotIn x.unsent is → AllArrive caller e x is v
 unfolding world_after
-all_arrive [] lo caller e v x found none below r = record {
+all_arrive [] lo caller e v x found none below r sent = record {
   last = x;
   answered = tt;
   after = record {
@@ -250,19 +256,19 @@ all_arrive [] lo caller e v x found none below r = record {
   still = λ h. h;
   marked = λ some. absurd (some refl);
 }
-all_arrive (i ∷ is) lo caller e v x found none below r =
+all_arrive (i ∷ is) lo caller e v x found none below r sent =
     let z : Exchange = with_arrival i x in
     let u : World = (step v (Asked (Arrive e i))).world in
     let fresh : has x.arrived i ≡ false = on_bool (has x.arrived i)
     (λ h. absurd (omega (arith, below i h, r.0))) (λ h. h) in
-    let fine : refusal v (Asked (Arrive e i)) ≡ None = not_refused v e x i found none fresh r.1 in
+    let fine : refusal v (Asked (Arrive e i)) ≡ None = not_refused v e x i found none fresh sent.0 r.1 in
     let first : IsAfter e x z (IsNumber x.content i) v u = arrived_step v e x i found fine in
     let rest : AllArrive caller e z is u = all_arrive is (suc i) caller e u z first.found none
     (λ k h. elim (has_one x.arrived i k h) [
       | inl here ↦ omega (arith, here)
       | inr was ↦
           omega (arith, below k was, r.0)
-    ]) r.2 in
+    ]) r.2 sent.1 in
     record {
       last = rest.last;
       answered = (fine, rest.answered);
@@ -336,13 +342,14 @@ pub record AllInferred (caller e : ℕ) (x : Exchange) (is : List ℕ) (w : Worl
   pub kept : last.answer ≡ Some answer
 
 pub all_inferred : (i : ℕ) (is : List ℕ) (caller e : ℕ) (w : World) (x : Exchange) → exchange w e ≡ Some x →
-    IsUnmarked x → AreIndices 0 (transmissions x.content) (i ∷ is) → AllInferred caller e x (i ∷ is) w
-all_inferred i is caller e w x found un r =
+    IsUnmarked x → AreIndices 0 (transmissions x.content) (i ∷ is) → AreNotIn x.unsent (i ∷ is) →
+    AllInferred caller e x (i ∷ is) w
+all_inferred i is caller e w x found un r sent =
     let entries : List Entry = arrivals caller e (i ∷ is) in
     let v : World = world_after w entries in
     let first : AllArrive caller e x (i ∷ is) w =
     all_arrive (i ∷ is) 0 caller e w x found un.answer
-    (λ k h. absurd (cc (h, ap (λ (xs : List ℕ). has xs k) un.arrived))) r in
+    (λ k h. absurd (cc (h, ap (λ (xs : List ℕ). has xs k) un.arrived))) r sent in
     let z : Exchange = first.last in
     let marked : (length z.arrived == 0) ≡ false = first.marked (λ none. cc none) in
     let fine : refusal v (Asked (Answer e)) ≡ None = may_answer v e z first.after.found first.silent marked in

@@ -7,6 +7,8 @@ use Rattle.wf_frame.specs.declared.notes.Ask.TheVariants.{Done}
 use Rattle.wf_frame.specs.declared.notes.Note.{Note}
 use Rattle.wf_frame.specs.declared.notes.Note.TheVariants.{Asked}
 use Rattle.wf_frame.specs.declared.notes.Refusal.TheVariants.{NoExchange, NoAnswer, BadAir}
+use Rattle.wf_frame.specs.declared.notes.Refusal.{Refusal}
+use Rattle.wf_frame.specs.declared.notes.ReplyNote.TheVariants.{Refused}
 use Rattle.wf_def_lists.specs.Table.{at, has}
 use Rattle.wf_def_agreement.specs.Receiver.{Score}
 use Rattle.wf_def_agreement.specs.Session.{Session, State, slot, next_number}
@@ -14,7 +16,7 @@ use Rattle.wf_def_world.specs.World.{World, Station, Exchange, session, receiver
 use Rattle.wf_def_world.specs.CanSend.{with_listings_of}
 use Rattle.wf_def_world.specs.Refusals.{refusal, exchange_has}
 use Rattle.wf_frame.specs.Settings.{is_bad_air}
-use Rattle.wf_def_world.specs.Step.{done_outcome, outcome_where_open, outcome_of, station_of, step}
+use Rattle.wf_def_world.specs.Step.{done_outcome, outcome_where_open, outcome_of, station_of, after_refusal, judged_outcome, step}
 use Rattle.wf_def_world.specs.Run.{Entry, world_after}
 use Rattle.wf_law_runs.specs.Kept.{KeepsNumbers, KeepsByCall}
 use Rattle.wf_law_runs.specs.Sent.{IsSent}
@@ -138,6 +140,20 @@ may_end_heard w e x b air found kept fine = none_refuses _ (
     (fine, tt),
   ),
 )
+
+-- nothing was answered
+pub unanswered : (w : World) (e : ℕ) (x : Exchange) (air : Option ℕ) → exchange w e ≡ Some x →
+    x.answer ≡ None → refusal w (Asked (Done e true air)) ≡ Some NoAnswer
+unanswered w e x air found none = passes (is_none (exchange w e), NoExchange) _ (ap is_none found)
+    ∙ first_refuses (exchange_has (exchange w e) (λ y. is_none y.answer), NoAnswer) _
+    (ap (λ (o : Option Exchange). exchange_has o (λ y. is_none y.answer)) found ∙ ap is_none none)
+
+-- a Done that is refused changes nothing
+pub refused_step : (w : World) (e : ℕ) (heard : Bool) (air : Option ℕ) (r : Refusal) →
+    refusal w (Asked (Done e heard air)) ≡ Some r →
+    step w (Asked (Done e heard air)) ≡ record { world = w; reply = Refused r }
+unfolding step judged_outcome after_refusal
+refused_step w e heard air r bad = ap (judged_outcome w (Asked (Done e heard air))) bad
 
 -- an airtime that may not be given is the last fault of a Done
 pub bad_lost : (w : World) (e : ℕ) (x : Exchange) (air : Option ℕ) → exchange w e ≡ Some x →

@@ -1,13 +1,14 @@
--- Proves that the inferred indices rise, and are the indices of the numbers that a BlockAck shows. By
--- induction over the numbers of the exchange.
-use Rattle.std.proofs.Common.{◌≡◌, ap, subst, sym, ◌∙◌, arith, ℕ, zero, suc, ◌+◌, ◌<◌, ◌≤◌, Bool, true, inl, inr, List, [], ◌∷◌, length}
-use Rattle.wf_def_lists.specs.Table.{at}
-use Rattle.wf_law_rules.proofs.Lemmas.Numbers.{on_if}
+-- Proves that the inferred indices rise, are the indices of the numbers that a BlockAck shows, and went on
+-- the air if only such numbers are shown. By induction over the numbers of the exchange.
+use Rattle.std.proofs.Common.{◌≡◌, ap, subst, sym, ◌∙◌, arith, ℕ, zero, suc, ◌+◌, ◌<◌, ◌≤◌, ◌==◌, Bool, true, false, ◌&&◌, refl, inl, inr, List, [], ◌∷◌, length, map}
+use Rattle.std.specs.List.{list_all}
+use Rattle.wf_def_lists.specs.Table.{at, has, upto}
+use Rattle.wf_law_rules.proofs.Lemmas.Numbers.{on_if, on_bool, eq_yes, yes_eq, either, or_left, or_right}
 use Rattle.wf_def_world.specs.World.{Mpdu, Content, Frames, Request}
-use Rattle.wf_def_world.specs.Exchanges.{transmissions, no_mpdu, mpdus_of}
+use Rattle.wf_def_world.specs.Exchanges.{transmissions, no_mpdu, number_at, mpdus_of}
 use Rattle.wf_law_runs.specs.Windows.{EachMpdu}
 use Rattle.wf_law_driver.specs.Inferred.{shown_indices, indices_inferred}
-use Rattle.wf_law_driver.proofs.Arrivals.{IsAmong, AreIndices}
+use Rattle.wf_law_driver.proofs.Arrivals.{IsAmong, AreIndices, AreNotIn}
 
 pub each_mpdu : (P Q : Mpdu → Type 0) (ms : List Mpdu) → ((m : Mpdu) → P m → Q m) → EachMpdu P ms →
     EachMpdu Q ms
@@ -89,6 +90,48 @@ pub shown_inferred : (shown : ℕ → Bool) (c : Content) →
     EachMpdu (λ m. shown m.number ≡ true → IsAmong c (indices_inferred shown c) m.number) (mpdus_of c)
 shown_inferred shown (Frames ms) = shown_among shown 0 ms ms (λ k. ap (at no_mpdu ms) (omega arith))
 shown_inferred shown (Request f) = tt
+
+-- ---- they went on the air, if only numbers that did are shown
+
+has_map : (f : ℕ → ℕ) (xs : List ℕ) (i : ℕ) → has xs i ≡ true → has (map f xs) (f i) ≡ true
+has_map f [] i h = absurd (cc h)
+has_map f (x ∷ xs) i h = elim (either (x == i) (has xs i) h) [
+  | inl here ↦ or_left (f x == f i) (has (map f xs) (f i)) (yes_eq (f x) (f i) (ap f (eq_yes x i here)))
+  | inr later ↦ or_right (f x == f i) (has (map f xs) (f i)) (has_map f xs i later)
+]
+
+-- the number is not that of a transmission in the list, if it is shown
+abbrev IsNotIn : List ℕ → (ℕ → Bool) → Content → Mpdu → Type 0
+IsNotIn xs shown c m = shown m.number ≡ true → has (map (number_at c) xs) m.number ≡ false
+
+shown_not_in : (xs : List ℕ) (shown : ℕ → Bool) (i : ℕ) (ms all : List Mpdu) → StandsFrom i ms all →
+    EachMpdu (IsNotIn xs shown (Frames all)) ms → AreNotIn xs (shown_indices shown i ms)
+shown_not_in xs shown i [] all h k = tt
+shown_not_in xs shown i (m ∷ ms) all h k =
+    let rest : List ℕ = shown_indices shown (suc i) ms in
+    let later : AreNotIn xs rest = shown_not_in xs shown (suc i) ms all (stands_later i m ms all h) k.1 in
+    let number : number_at (Frames all) i ≡ m.number =
+    ap (λ (q : Mpdu). q.number) (stands_first i m ms all h) in
+    on_if (AreNotIn xs) (shown m.number) (i ∷ rest) rest
+    (λ yes. (
+      on_bool (has xs i) (λ e. absurd (cc (
+        k.0 yes,
+        ap (has (map (number_at (Frames all)) xs)) (sym number) ∙ has_map (number_at (Frames all)) xs i e,
+      ))) (λ e. e),
+      later,
+    ))
+    (λ _. later)
+
+first_false : (a : Bool) → (a && true) ≡ false → a ≡ false
+first_false true h = absurd (cc h)
+first_false false h = refl
+
+pub inferred_not_in : (xs : List ℕ) (shown : ℕ → Bool) (c : Content) →
+    EachMpdu (IsNotIn xs shown c) (mpdus_of c) → list_all (has xs) (upto (transmissions c)) ≡ false →
+    AreNotIn xs (indices_inferred shown c)
+inferred_not_in xs shown (Frames ms) k some =
+    shown_not_in xs shown 0 ms ms (λ n. ap (at no_mpdu ms) (omega arith)) k
+inferred_not_in xs shown (Request f) k some = (first_false (has xs 0) some, tt)
 
 -- ---- what holds for each number of an exchange holds for those that are inferred to arrive
 

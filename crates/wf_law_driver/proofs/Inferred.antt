@@ -1,6 +1,6 @@
 -- Proves the law of inferred calls: from what has arrived after them follows what the answer shows, and
 -- from that what the Done acknowledges.
-use Rattle.std.proofs.Common.{◌≡◌, refl, ap, sym, ◌∙◌, subst, arith, ℕ, suc, ◌+◌, ◌*◌, ◌<◌, ◌≤◌, nat_lt, Bool, true, false, ◌↔◌, inl, inr, List, [], ◌∷◌, ◌++◌, length, Option, Some, None, IfSome}
+use Rattle.std.proofs.Common.{◌≡◌, refl, ap, sym, ◌∙◌, subst, arith, ℕ, suc, ◌+◌, ◌*◌, ◌<◌, ◌≤◌, nat_lt, Bool, true, false, not, ◌&&◌, ◌↔◌, inl, inr, List, [], ◌∷◌, ◌++◌, length, Option, Some, None, IfSome}
 use Rattle.wf_frame.specs.declared.settings.Config.{Config}
 use Rattle.wf_frame.specs.declared.notes.Ask.TheVariants.{Done}
 use Rattle.wf_frame.specs.declared.notes.Note.{Note}
@@ -10,7 +10,7 @@ use Rattle.wf_def_agreement.specs.Receiver.{Receiver, Score, shows}
 use Rattle.wf_def_agreement.specs.Session.{Session, State, slot, next_number}
 use Rattle.wf_law_rules.proofs.Lemmas.Numbers.{same_bool, yes_lt}
 use Rattle.wf_def_world.specs.World.{World, Exchange, Mpdu, session, receiver, is_live, exchange, opening}
-use Rattle.wf_def_world.specs.Exchanges.{transmissions, mpdus_of}
+use Rattle.wf_def_world.specs.Exchanges.{transmissions, numbers_unsent, mpdus_of}
 use Rattle.wf_def_world.specs.Refusals.{refusal}
 use Rattle.wf_frame.specs.Settings.{is_bad_air}
 use Rattle.wf_def_world.specs.Step.{step}
@@ -19,14 +19,14 @@ use Rattle.wf_law_runs.specs.Kept.{KeepsByCall}
 use Rattle.wf_law_runs.specs.Sent.{NumbersRise, IsSent}
 use Rattle.wf_law_runs.specs.Windows.{EachMpdu, IsOpenRight, KeepsWindows, Settles}
 use Rattle.wf_law_runs.proofs.Windows.Agreement.{below_next}
-use Rattle.wf_law_runs.proofs.Windows.Opened.{Each, each_map}
+use Rattle.wf_law_runs.proofs.Windows.Opened.{Each, each_map, left_true}
 use Rattle.wf_law_runs.proofs.Deficits.Configs.{config_run}
 use Rattle.wf_law_runs.proofs.Frames.Fates.{world_after-append}
-use Rattle.wf_law_driver.specs.Inferred.{arrivals, answer_inferred, indices_inferred, inferred, tells, AreAnswered, AreAckedWhere, KeepsAnswer, IsInferred, InferredLaw}
+use Rattle.wf_law_driver.specs.Inferred.{ShowsSent, arrivals, answer_inferred, indices_inferred, inferred, tells, AreAnswered, AreAckedWhere, KeepsAnswer, IsInferred, InferredLaw}
 use Rattle.wf_law_driver.specs.Unheard.{IsUnmarked, HasAcked, IsUnheard}
 use Rattle.wf_law_driver.proofs.Opened.{one_entry, to_each, of_each, found_each, found_number, some_at}
-use Rattle.wf_law_driver.proofs.Arrivals.{IsAmong, AreIndices, IsOther, IsAfter, AllInferred, all_inferred}
-use Rattle.wf_law_driver.proofs.Indices.{both_mpdu, each_mpdu, inferred_rise, inferred_shown, shown_inferred, among_each}
+use Rattle.wf_law_driver.proofs.Arrivals.{IsAmong, AreIndices, AreNotIn, IsOther, IsAfter, AllInferred, all_inferred}
+use Rattle.wf_law_driver.proofs.Indices.{both_mpdu, each_mpdu, inferred_rise, inferred_shown, shown_inferred, inferred_not_in, among_each}
 use Rattle.wf_law_driver.proofs.Ended.{windows_after, sent_after, kept_after, live_acked, live_flying, kept_acked, IsEnded, ended_step, may_end_lost, may_end_heard}
 
 -- ---- the numbers of an open exchange
@@ -74,6 +74,11 @@ others_marked w e un = each_map IsUnmarked (IsOther e) w.opened (λ y h _. h)
 
 -- ---- after the inferred calls
 
+both_hold : (a b : Bool) → a ≡ true → b ≡ false → (a && not b) ≡ true
+both_hold true false h k = refl
+both_hold true true h k = absurd (cc k)
+both_hold false b h k = absurd (cc h)
+
 -- w is an unheard world of a run, in which exchange e is x, and u is the world after the inferred calls,
 -- which is a world of a run too
 record IsBetween (w u : World) (e : ℕ) (shown : ℕ → Bool) (x last : Exchange) (b : Score) (air : Option ℕ) :
@@ -83,6 +88,7 @@ record IsBetween (w u : World) (e : ℕ) (shown : ℕ → Bool) (x last : Exchan
   fly : EachMpdu (λ m. Flies w x.station x.tid e m.number) (mpdus_of x.content)
   after : IsAfter e x last (IsAmong x.content (indices_inferred shown x.content)) w u
   kept : last.answer ≡ Some b
+  sent : ShowsSent shown x
   windows : KeepsWindows u
   fine : is_bad_air u.config air ≡ false
 
@@ -144,20 +150,49 @@ module _ (w u : World) (e : ℕ) (shown : ℕ → Bool) (x last : Exchange) (b :
   abbrev done_world : World
   done_world = (step u (Asked (Done e true air))).world
 
-  -- the numbers of the exchange that have arrived are acknowledged
-  settled : EachMpdu (λ m. ((slot (session done_world x.station x.tid) m.number).state ≡ State.Acked) ↔
-      Arrived m.number) (mpdus_of x.content)
-  settled =
+  -- the numbers of the exchange that have arrived and went on the air are acknowledged
+  settled_sent : EachMpdu (λ m. ((slot (session done_world x.station x.tid) m.number).state ≡ State.Acked) ↔
+      (has (receiver u x.station x.tid).arrived m.number && not (has (numbers_unsent x) m.number) ≡ true))
+      (mpdus_of x.content)
+  settled_sent =
       let r : Receiver = receiver u last.station last.tid in
       let y : Session = session done_world last.station last.tid in
       let all : Settles u e last = some_at (Settles u e) (exchange u e) last k.after.found
       (k.windows.settles e) in
       let said = subst (λ (o : Option Score). IfSome o
-      (λ _. EachMpdu (λ m. ((slot y m.number).state ≡ State.Acked) ↔ (has r.arrived m.number ≡ true))
+      (λ _. EachMpdu (λ m. ((slot y m.number).state ≡ State.Acked) ↔
+      (has r.arrived m.number && not (has (numbers_unsent last) m.number) ≡ true))
       (mpdus_of last.content))) k.kept (all air k.fine) in
       subst (λ (z : Exchange). EachMpdu (λ m. ((slot (session done_world z.station z.tid) m.number).state
-      ≡ State.Acked) ↔ (has (receiver u z.station z.tid).arrived m.number ≡ true)) (mpdus_of z.content))
+      ≡ State.Acked) ↔ (has (receiver u z.station z.tid).arrived m.number
+      && not (has (numbers_unsent z) m.number) ≡ true)) (mpdus_of z.content))
       k.after.same said
+
+  -- a number that has arrived is shown, so it went on the air
+  arrived_sent : EachMpdu (λ m. Arrived m.number → has (numbers_unsent x) m.number ≡ false)
+      (mpdus_of x.content)
+  arrived_sent =
+      both_mpdu (λ m. has (receiver u x.station x.tid).arrived m.number ≡ shown m.number)
+      (λ m. shown m.number ≡ true → has (numbers_unsent x) m.number ≡ false)
+      (λ m. Arrived m.number → has (numbers_unsent x) m.number ≡ false) (mpdus_of x.content)
+      (λ m same on_air h. on_air (sym same ∙ h)) arrived_as_shown k.sent.numbers
+
+  -- the numbers of the exchange that have arrived are acknowledged
+  settled : EachMpdu (λ m. ((slot (session done_world x.station x.tid) m.number).state ≡ State.Acked) ↔
+      Arrived m.number) (mpdus_of x.content)
+  settled =
+      both_mpdu (λ m. ((slot (session done_world x.station x.tid) m.number).state ≡ State.Acked) ↔
+      (has (receiver u x.station x.tid).arrived m.number && not (has (numbers_unsent x) m.number) ≡ true))
+      (λ m. Arrived m.number → has (numbers_unsent x) m.number ≡ false)
+      (λ m. ((slot (session done_world x.station x.tid) m.number).state ≡ State.Acked) ↔ Arrived m.number)
+      (mpdus_of x.content)
+      (λ m h on_air. (
+        (λ acked. left_true (has (receiver u x.station x.tid).arrived m.number)
+            (not (has (numbers_unsent x) m.number)) (h.0 acked)),
+        (λ arrived. h.1 (both_hold (has (receiver u x.station x.tid).arrived m.number)
+            (has (numbers_unsent x) m.number) arrived (on_air arrived))),
+      ))
+      settled_sent arrived_sent
 
   acked_as_shown : AreAckedWhere done_world shown x
   acked_as_shown =
@@ -237,7 +272,7 @@ after_none w = refl
 
 module _ (config : Config) (h : List Entry) (caller e : ℕ) (shown : ℕ → Bool) (air : Option ℕ) (x : Exchange)
     (un : IsUnheard (world_after (opening config) h))
-    (found : exchange (world_after (opening config) h) e ≡ Some x)
+    (found : exchange (world_after (opening config) h) e ≡ Some x) (sent : ShowsSent shown x)
     (fine : is_bad_air (world_after (opening config) h).config air ≡ false) where
   abbrev w : World
   w = world_after (opening config) h
@@ -258,7 +293,8 @@ module _ (config : Config) (h : List Entry) (caller e : ℕ) (shown : ℕ → Bo
       let k : AllInferred caller e x (indices_inferred shown x.content) w =
       subst (λ (js : List ℕ). AllInferred caller e x js w) (sym some)
       (all_inferred i is caller e w x found (found_each IsUnmarked w e x found un.marks)
-      (subst (AreIndices 0 (transmissions x.content)) some (inferred_rise shown x.content))) in
+      (subst (AreIndices 0 (transmissions x.content)) some (inferred_rise shown x.content))
+      (subst (AreNotIn x.unsent) some (inferred_not_in x.unsent shown x.content sent.numbers sent.some))) in
       let later : world_after (opening config) (h ++ entries) ≡ u =
       world_after-append h (opening config) entries in
       let may : is_bad_air u.config air ≡ false =
@@ -269,6 +305,7 @@ module _ (config : Config) (h : List Entry) (caller e : ℕ) (shown : ℕ → Bo
         fly = fly;
         after = k.after;
         kept = k.kept;
+        sent = sent;
         windows = subst KeepsWindows later (windows_after config (h ++ entries));
         fine = may;
       } in
@@ -348,5 +385,5 @@ module _ (config : Config) (h : List Entry) (caller e : ℕ) (shown : ℕ → Bo
   inferred_right (i ∷ is) k = inferred_any i is k
 
 pub inferred_law : (config : Config) (h : List Entry) → InferredLaw config h
-inferred_law config h caller e shown air x un found fine =
-    inferred_right config h caller e shown air x un found fine (indices_inferred shown x.content) refl
+inferred_law config h caller e shown air x un found sent fine =
+    inferred_right config h caller e shown air x un found sent fine (indices_inferred shown x.content) refl

@@ -1,16 +1,17 @@
--- Proves that the end of an exchange depends only on which of its numbers are shown, by induction over the
--- numbers.
-use Rattle.std.proofs.Common.{◌≡◌, refl, ap, sym, ◌∙◌, subst, ℕ, Bool, true, false, List, [], ◌∷◌, Option, Some, None}
+-- Proves that the end of an exchange depends only on how it ends for each of its numbers, and so only on
+-- which of them are shown. By induction over the numbers.
+use Rattle.std.proofs.Common.{◌≡◌, refl, ap, sym, ◌∙◌, subst, ℕ, Bool, true, false, if◌then◌else◌, List, [], ◌∷◌, Option, Some, None}
 use Rattle.wf_frame.specs.declared.notes.Ask.TheVariants.{Done}
 use Rattle.wf_frame.specs.declared.notes.Note.TheVariants.{Asked}
 use Rattle.wf_frame.specs.declared.notes.Refusal.TheVariants.{BadAir}
 use Rattle.wf_frame.specs.declared.notes.ReplyNote.TheVariants.{Refused}
 use Rattle.wf_frame.specs.declared.notes.ReplyNote.TheVariants as reply
+use Rattle.wf_def_lists.specs.Table.{has}
 use Rattle.wf_def_agreement.specs.Receiver.{Score, shows}
-use Rattle.wf_def_agreement.specs.Session.{is_acknowledged, is_waiting, is_failed}
+use Rattle.wf_def_agreement.specs.Session.{End, is_acknowledged, is_waiting, is_failed}
 use Rattle.wf_def_world.specs.World.{World, Exchange, Mpdu, Content, Frames, Request, exchange, without_exchange}
 use Rattle.wf_def_world.specs.CanSend.{is_request, with_listings_of}
-use Rattle.wf_def_world.specs.Exchanges.{is_acked, mpdus_of, after_charge, with_settled, with_all_settled, after_done, count_in}
+use Rattle.wf_def_world.specs.Exchanges.{is_acked, numbers_unsent, numbers_given_up, end_of, mpdus_of, after_charge, with_settled, with_all_settled, after_done, count_in}
 use Rattle.wf_def_world.specs.Refusals.{refusal}
 use Rattle.wf_frame.specs.Settings.{is_bad_air}
 use Rattle.wf_def_world.specs.Step.{Outcome, done_outcome, outcome_where_open, outcome_of, after_refusal, judged_outcome, station_of, step}
@@ -19,15 +20,23 @@ use Rattle.wf_law_driver.specs.Shown.{SettlesAlike, EndsAsLost}
 use Rattle.wf_law_driver.proofs.Ended.{may_end_lost, may_end_heard, bad_lost, bad_heard}
 use Rattle.wf_law_driver.proofs.Indices.{each_mpdu}
 
-settled_alike : (ms : List Mpdu) (w : World) (s t : ℕ) (p q : ℕ → Bool) →
+settled_alike : (ms : List Mpdu) (w : World) (s t : ℕ) (p q : ℕ → End) →
     EachMpdu (λ m. p m.number ≡ q m.number) ms → with_all_settled w s t p ms ≡ with_all_settled w s t q ms
 unfolding with_all_settled
 settled_alike [] w s t p q h = refl
-settled_alike (m ∷ ms) w s t p q h = ap (λ (b : Bool). with_all_settled (with_settled w s t b m) s t p ms) h.0
+settled_alike (m ∷ ms) w s t p q h = ap (λ (b : End). with_all_settled (with_settled w s t b m) s t p ms) h.0
     ∙ settled_alike ms (with_settled w s t (q m.number) m) s t p q h.1
 
 pub settles_alike : (w : World) → SettlesAlike w
 settles_alike w s t p q mpdus h = settled_alike mpdus w s t p q h
+
+-- how an exchange ends for its number n, which the answer shows or not
+abbrev end_where : Exchange → ℕ → Bool → End
+end_where x n acked =
+    if has (numbers_unsent x) n then End.Unsent
+    else if acked then End.Acknowledged
+    else if has (numbers_given_up x) n then End.GivenUp
+    else End.Missed
 
 -- none of an aggregate's numbers is shown
 after_none : (c : Content) (v : World) (x : Exchange) (b : Score) → x.answer ≡ Some b → is_request c ≡ false →
@@ -35,11 +44,10 @@ after_none : (c : Content) (v : World) (x : Exchange) (b : Score) → x.answer �
 unfolding after_done
 after_none (Request f) v x b kept frames h = absurd (cc frames)
 after_none (Frames ms) v x b kept frames h =
-    settled_alike ms v x.station x.tid (is_acked true x.answer) (is_acked false x.answer)
-    (each_mpdu (λ m. shows b m.number ≡ false) (λ m. is_acked true x.answer m.number
-    ≡ is_acked false x.answer m.number) ms
-    (λ m none. subst (λ (o : Option Score). is_acked true o m.number ≡ is_acked false o m.number)
-    (sym kept) none) h)
+    settled_alike ms v x.station x.tid (end_of x true) (end_of x false)
+    (each_mpdu (λ m. shows b m.number ≡ false) (λ m. end_of x true m.number ≡ end_of x false m.number) ms
+    (λ m none. ap (end_where x m.number) (subst
+    (λ (o : Option Score). is_acked true o m.number ≡ is_acked false o m.number) (sym kept) none)) h)
 
 done_none : (w : World) (x : Exchange) (b : Score) (air : Option ℕ) → x.answer ≡ Some b →
     is_request x.content ≡ false →

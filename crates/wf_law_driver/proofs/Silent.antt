@@ -2,7 +2,8 @@
 use Rattle.std.proofs.Common.{◌≡◌, refl, ap, sym, ◌∙◌, subst, ℕ, ◌==◌, Bool, true, false, not, List, [], ◌∷◌, Option, Some, None, IfSome}
 use Rattle.wf_frame.specs.declared.settings.Config.{Config}
 use Rattle.wf_frame.specs.declared.classes.Class.{Class}
-use Rattle.wf_frame.specs.declared.notes.Ask.TheVariants.{Join, Leave, Rate, Tick, Pull, Arrive, Answer, Done, Sleep, Wake, Poll, Rx, Reap, Ampdu, Stop, Start}
+use Rattle.wf_frame.specs.declared.classes.Fate.{Fate}
+use Rattle.wf_frame.specs.declared.notes.Ask.TheVariants.{Join, Leave, Rate, Tick, Pull, Arrive, Answer, Done, Sleep, Wake, Poll, Rx, Reap, Ampdu, Stop, Start, Unsent, GiveUp, Flush}
 use Rattle.wf_frame.specs.declared.notes.Limits.{Limits}
 use Rattle.wf_frame.specs.declared.notes.Note.{Note}
 use Rattle.wf_frame.specs.declared.notes.Note.TheVariants.{Enqueue, Asked}
@@ -10,22 +11,26 @@ use Rattle.wf_frame.specs.declared.notes.Refusal.{Refusal}
 use Rattle.wf_frame.specs.declared.notes.Refusal.TheVariants.{Idle}
 use Rattle.wf_frame.specs.Classes.{all_classes}
 use Rattle.wf_def_lists.specs.Table.{has, upto}
+use Rattle.wf_def_agreement.specs.Session.{Session, after_flush}
+use Rattle.wf_law_rules.proofs.Lemmas.Numbers.{on_if}
 use Rattle.wf_law_rules.proofs.Lemmas.Tables.{each_put}
-use Rattle.wf_def_world.specs.World.{World, Station, Exchange, new_tid, session, receiver, rotation, is_live, exchange, with_station, without_exchange, opening}
+use Rattle.wf_def_world.specs.World.{World, Station, Queue, Exchange, new_tid, session, receiver, rotation, is_live, exchange, with_station, on_station, on_tid, on_session, on_queue, with_fate, with_frame_finished, with_exchange, without_exchange, opening}
 use Rattle.wf_def_world.specs.CanSend.{is_ready}
 use Rattle.wf_def_world.specs.Exchanges.{station_need, picked_station, after_tid_turn, sending_tid, Prepared, exchange_of, with_exchange_opened}
 use Rattle.wf_def_world.specs.Refusals.{refusal}
-use Rattle.wf_def_world.specs.Step.{join_outcome, leave_outcome, rate_outcome, tick_outcome, send_outcome, pull_outcome_for, pull_outcome, done_outcome, outcome_where_open, sleep_outcome, wake_outcome, poll_outcome, rx_outcome, reap_outcome, outcome_of, concerned_station, after_refusal, judged_outcome, step}
+use Rattle.wf_def_world.specs.Step.{Outcome, join_outcome, leave_outcome, rate_outcome, tick_outcome, send_outcome, pull_outcome_for, pull_outcome, done_outcome, outcome_where_open, sleep_outcome, wake_outcome, poll_outcome, rx_outcome, reap_outcome, unsent_outcome, give_up_outcome, flush_outcome, outcome_of, concerned_station, after_refusal, judged_outcome, step}
 use Rattle.wf_def_world.specs.Run.{Entry, world_after}
 use Rattle.wf_law_runs.proofs.Common.Picked.{picked_world}
 use Rattle.wf_law_runs.proofs.Common.Refused.{after_idle}
-use Rattle.wf_law_runs.proofs.Windows.Sides.{Side, Same, sides_of, then_same, same_on_station, same_on_share, same_listed, same_after_pick, same_picked, same_after_turn, same_spent}
+use Rattle.wf_law_runs.proofs.Common.Marks.{with_marks, marked_world}
+use Rattle.wf_law_runs.proofs.Common.Flushes.{StaysInFlush, if_flushed}
+use Rattle.wf_law_runs.proofs.Windows.Sides.{Side, Same, sides_of, each_side_on, then_same, same_on_station, same_on_share, same_listed, same_after_pick, same_picked, same_after_turn, same_spent}
 use Rattle.wf_law_runs.proofs.Windows.Opened.{Each, each_append, each_filter, eight, left_true, pick_ready, some_along}
 use Rattle.wf_law_runs.proofs.Windows.Agreed.{IsLawful, lawful, lawful_same, same_left_tids, same_off_lists}
 use Rattle.wf_law_runs.proofs.Frames.Delivered.{prepared_right, opened_ended, same_enqueued}
 use Rattle.wf_law_runs.proofs.Releases.Kept.{Kept, keep_ended, keep_pulled}
 use Rattle.wf_law_driver.specs.Unheard.{IsUnmarked, HasAcked, IsUnheard, IsSilent, SilentLaw}
-use Rattle.wf_law_driver.proofs.Opened.{to_each, of_each}
+use Rattle.wf_law_driver.proofs.Opened.{with_replaced, found_each, to_each, of_each}
 use Rattle.wf_law_driver.proofs.Ended.{kept_after, live_acked, live_arrived, kept_acked}
 
 -- no receiver gets a number, and no exchange a mark
@@ -122,6 +127,59 @@ silence_ended None w heard air = silence w
 silence_ended (Some x) w heard air = silence_kept w _ (keep_ended air w x heard)
     (λ m. subst (Each IsUnmarked) (sym (opened_ended air w x heard)) (marks_without w x.number m))
 
+-- ---- marks of the device
+
+marks_replaced : (z : Exchange) (xs : List Exchange) → IsUnmarked z → Each IsUnmarked xs →
+    Each IsUnmarked (with_replaced z xs)
+marks_replaced z [] h m = tt
+marks_replaced z (y ∷ ys) h m = (
+  on_if IsUnmarked (y.number == z.number) z y (λ _. h) (λ _. m.0),
+  marks_replaced z ys h m.1,
+)
+
+silence_marked : (w : World) (e : ℕ) (x : Exchange) (unsent given_up : List ℕ) → exchange w e ≡ Some x →
+    Silence w (marked_world w x unsent given_up)
+unfolding with_exchange
+silence_marked w e x unsent given_up found = record {
+  arrived = λ i j n h. h;
+  marks = λ m.
+      let own : IsUnmarked x = found_each IsUnmarked w e x found (of_each IsUnmarked w.opened m) in
+      marks_replaced (with_marks unsent given_up x) w.opened
+      (record { arrived = own.arrived; answer = own.answer }) m;
+}
+
+silence_open : (o : Option Exchange) (w : World) (f : Exchange → Outcome) →
+    ((x : Exchange) → o ≡ Some x → Silence w (f x).world) → Silence w (outcome_where_open w o f).world
+unfolding outcome_where_open
+silence_open None w f h = silence w
+silence_open (Some x) w f h = h x refl
+
+-- ---- a flush
+
+silence_session : (w : World) (s t : ℕ) (f : Session → Session) → Silence w (on_session w s t f)
+unfolding on_session on_tid on_station with_station
+silence_session w s t f = record {
+  arrived = λ i j n a. ap (λ r. has r.arrived n) (sym (each_side_on (λ i j z. z.receiver ≡ receiver w i j)
+      w s t (λ y. record y { session = f y.session }) (λ i j. refl) refl i j)) ∙ a;
+  marks = λ m. m;
+}
+
+silence_finished : (w : World) (fate : Fate) (id : ℕ) → Silence w (with_frame_finished w fate id)
+unfolding with_frame_finished with_fate
+silence_finished w fate id = record { arrived = λ i j n h. h; marks = λ m. m }
+
+silence_queue : (w : World) (q : ℕ) (f : Queue → Queue) → Silence w (on_queue w q f)
+unfolding on_queue
+silence_queue w q f = record { arrived = λ i j n h. h; marks = λ m. m }
+
+silence_flushed : (w : World) (s t : ℕ) → Silence w (flush_outcome w s t).world
+silence_flushed w s t =
+    let stays : StaysInFlush (Silence w) = record {
+      finish = λ v id h. then_silence w v _ h (silence_finished v _ id);
+      empty = λ v q h. then_silence w v _ h (silence_queue v q _);
+    } in
+    if_flushed (Silence w) stays w s t (silence_session w s t (after_flush w.config.attempts))
+
 -- ---- the step
 
 silence_reaped : (ids : List ℕ) (w : World) → Silence w (reap_outcome w ids).world
@@ -130,7 +188,7 @@ silence_reaped [] w = silence w
 silence_reaped (id ∷ ids) w = record { arrived = λ i j n h. h; marks = λ h. h }
 
 silence_done : (note : Note) (w : World) → IsSilent note → IsLawful w → Silence w (outcome_of w note).world
-unfolding outcome_of tick_outcome rate_outcome sleep_outcome wake_outcome poll_outcome rx_outcome
+unfolding outcome_of tick_outcome rate_outcome sleep_outcome wake_outcome poll_outcome rx_outcome unsent_outcome give_up_outcome
 silence_done (Enqueue s t flow len) w k i = silence_same w _ (same_enqueued w s t flow len)
 silence_done (Asked (Join s window start exponent weight)) w k i =
     silence_joined w s window start exponent weight
@@ -150,6 +208,11 @@ silence_done (Asked (Wake s)) w k i = silence_same w _ (same_on_station w s _ (�
 silence_done (Asked (Poll s)) w k i = silence_same w _ (same_on_station w s _ (λ x t. refl))
 silence_done (Asked (Rx s c air)) w k i = silence_same w _ (same_on_share w s c _)
 silence_done (Asked Reap) w k i = silence_reaped w.finished w
+silence_done (Asked (Unsent e n)) w k i = silence_open (exchange w e) w (λ x. unsent_outcome w x n)
+    (λ x found. silence_marked w e x _ x.given_up found)
+silence_done (Asked (GiveUp e n)) w k i = silence_open (exchange w e) w (λ x. give_up_outcome w x n)
+    (λ x found. silence_marked w e x x.unsent _ found)
+silence_done (Asked (Flush s t)) w k i = silence_flushed w s t
 
 silence_refused : (note : Note) (r : Refusal) (w : World) → Silence w (after_refusal w note r)
 unfolding after_refusal

@@ -1,6 +1,6 @@
 -- Defines the runs of a driver that reports receivers only by BlockAcks, and the history of the machine for
 -- each.
-use Rattle.std.specs.Prelude.{ℕ, Bool, false, List, [], ◌∷◌, ◌++◌, Option, None, Some, if◌then◌else◌}
+use Rattle.std.specs.Prelude.{ℕ, Bool, true, false, List, [], ◌∷◌, ◌++◌, Option, None, Some, if◌then◌else◌}
 use Rattle.wf_frame.specs.declared.settings.Config.{Config}
 use Rattle.wf_frame.specs.declared.notes.Ask.TheVariants.{Done}
 use Rattle.wf_frame.specs.declared.notes.Note.{Note}
@@ -8,7 +8,7 @@ use Rattle.wf_frame.specs.declared.notes.Note.TheVariants.{Asked}
 use Rattle.wf_def_world.specs.World.{World, Exchange, exchange, opening}
 use Rattle.wf_frame.specs.Settings.{is_bad_air}
 use Rattle.wf_def_world.specs.Run.{Entry, by, world_after}
-use Rattle.wf_law_driver.specs.Inferred.{inferred, done_inferred}
+use Rattle.wf_law_driver.specs.Inferred.{shown_of_sent, is_wholly_unsent, inferred, done_inferred}
 use Rattle.wf_law_driver.specs.Unheard.{IsSilent, IsUnheard}
 
 -- a deed of a driver: a call that reports nothing of a receiver, or the end of an exchange, with the
@@ -17,13 +17,16 @@ pub data Deed : Type 0 where
   Call : (note : Note) → Deed
   Heard : (exchange : ℕ) → (shown : ℕ → Bool) → (air : Option ℕ) → Deed
 
--- the calls for the end of exchange e: the inferred calls and the Done or, if the Done is refused, only the
--- Done
+-- The calls for the end of exchange e: the inferred calls and the Done or, if the Done is refused, only the
+-- Done. A number that never went on the air did not arrive: a BlockAck that shows it is not believed. A
+-- BlockAck for an exchange of which nothing went on the air is refused, as nothing was answered.
 abbrev pub ending : World → ℕ → ℕ → (ℕ → Bool) → Option ℕ → Option Exchange → List Entry
 ending w caller e shown air None = by caller (Asked (Done e false air)) ∷ []
 ending w caller e shown air (Some x) =
-    if is_bad_air w.config air then by caller (Asked (Done e false air)) ∷ []
-    else inferred caller e shown x.content ++ by caller (done_inferred e shown air x.content) ∷ []
+    if is_wholly_unsent x then by caller (Asked (Done e true air)) ∷ []
+    else if is_bad_air w.config air then by caller (Asked (Done e false air)) ∷ []
+    else let sent : ℕ → Bool = shown_of_sent x shown in
+    inferred caller e sent x.content ++ by caller (done_inferred e sent air x.content) ∷ []
 
 -- the calls of the machine for a deed
 abbrev pub entries_of : World → ℕ → Deed → List Entry

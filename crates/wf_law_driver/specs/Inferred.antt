@@ -1,16 +1,19 @@
 -- Defines the calls of the machine that are inferred from a BlockAck which a driver gives: just before the
 -- exchange's Done each of its numbers that the BlockAck shows arrived, no other did, and the receiver
 -- answered (IEEE 802.11-2012, 9.21.7.7). The calls belong to `caller`, the exchange's number is e, and
--- `shown` says of each number, which does not wrap, whether the BlockAck shows it.
-use Rattle.std.specs.Prelude.{◌≡◌, ℕ, suc, nat_lt, Bool, true, false, ◌↔◌, List, [], ◌∷◌, ◌++◌, Option, None, Some, if◌then◌else◌, length, map}
+-- `shown` says of each number, which does not wrap, whether the BlockAck shows it. A number that never went
+-- on the air did not arrive, so a BlockAck that shows it is not believed.
+use Rattle.std.specs.Prelude.{◌≡◌, ℕ, suc, nat_lt, Bool, true, false, not, ◌&&◌, ◌↔◌, List, [], ◌∷◌, ◌++◌, Option, None, Some, if◌then◌else◌, length, map}
+use Rattle.std.specs.List.{list_all}
 use Rattle.wf_frame.specs.declared.settings.Config.{Config}
 use Rattle.wf_frame.specs.declared.notes.Ask.TheVariants.{Arrive, Answer, Done}
 use Rattle.wf_frame.specs.declared.notes.Note.{Note}
 use Rattle.wf_frame.specs.declared.notes.Note.TheVariants.{Asked}
+use Rattle.wf_def_lists.specs.Table.{has, upto}
 use Rattle.wf_def_agreement.specs.Session.{State, slot}
 use Rattle.wf_def_agreement.specs.Receiver.{Score, shows}
 use Rattle.wf_def_world.specs.World.{World, Exchange, Mpdu, Content, Frames, Request, session, exchange, opening}
-use Rattle.wf_def_world.specs.Exchanges.{mpdus_of}
+use Rattle.wf_def_world.specs.Exchanges.{transmissions, numbers_unsent, mpdus_of}
 use Rattle.wf_def_world.specs.Refusals.{refusal}
 use Rattle.wf_frame.specs.Settings.{is_bad_air}
 use Rattle.wf_def_world.specs.Step.{step}
@@ -18,6 +21,20 @@ use Rattle.wf_def_world.specs.Run.{Entry, by, world_after}
 use Rattle.wf_law_runs.specs.Queues.{HaveLengths, AreAtMost}
 use Rattle.wf_law_runs.specs.Windows.{EachMpdu}
 use Rattle.wf_law_driver.specs.Unheard.{unmarked, IsUnheard}
+
+-- whether the BlockAck is believed to show number n: it shows it, and the number went on the air
+abbrev pub shown_of_sent : Exchange → (ℕ → Bool) → ℕ → Bool
+shown_of_sent x shown n = shown n && not (has (numbers_unsent x) n)
+
+-- whether nothing of the exchange went on the air
+abbrev pub is_wholly_unsent : Exchange → Bool
+is_wholly_unsent x = list_all (has x.unsent) (upto (transmissions x.content))
+
+-- Something of the exchange went on the air, and only such numbers are shown.
+pub record ShowsSent (shown : ℕ → Bool) (x : Exchange) : Type 0 where
+  pub numbers : EachMpdu (λ m. shown m.number ≡ true → has (numbers_unsent x) m.number ≡ false)
+      (mpdus_of x.content)
+  pub some : is_wholly_unsent x ≡ false
 
 -- the indices of the numbers that are shown: i is the index of the first number
 abbrev pub shown_indices : (ℕ → Bool) → ℕ → List Mpdu → List ℕ
@@ -64,8 +81,8 @@ abbrev pub AreAnswered : World → List Entry → Type 0
 AreAnswered w [] = Unit {0}
 AreAnswered w (e ∷ es) = (refusal w e.1 ≡ None) × AreAnswered (step w e.1).world es
 
--- Exchange e is open, is x except for its marks, and keeps an answer that shows exactly these of its
--- numbers.
+-- Exchange e is open, is x except for what its receiver did, and keeps an answer that shows exactly these of
+-- its numbers.
 pub record KeepsAnswer (w : World) (e : ℕ) (shown : ℕ → Bool) (x : Exchange) : Type 0 where
   pub marked : Exchange
   pub answer : Score
@@ -94,13 +111,13 @@ pub record IsInferred (w : World) (caller e : ℕ) (shown : ℕ → Bool) (air :
   pub unheard : IsUnheard (step (after_inferred w caller e shown x.content)
       (done_inferred e shown air x.content)).world
 
--- this holds in an unheard world after a history, for each open exchange and each airtime that its Done may
--- give
+-- this holds in an unheard world after a history, for each open exchange of which something went on the air,
+-- if only such numbers are shown, and for each airtime that its Done may give
 abbrev pub InferredLaw : Config → List Entry → Type 0
 InferredLaw config history =
     let w : World = world_after (opening config) history in
     (caller e : ℕ) (shown : ℕ → Bool) (air : Option ℕ) (x : Exchange) → IsUnheard w → exchange w e ≡ Some x →
-    is_bad_air w.config air ≡ false → IsInferred w caller e shown air x
+    ShowsSent shown x → is_bad_air w.config air ≡ false → IsInferred w caller e shown air x
 
 -- Calls continue a history: the world after the history and the calls is the world after the calls, from
 -- the history's world on. If each frame of the history has at least one octet, or at most a given number,

@@ -1,18 +1,20 @@
--- Defines that the end of an exchange depends only on which of its own numbers the kept answer shows.
-use Rattle.std.specs.Prelude.{◌≡◌, ℕ, Bool, true, false, List, Option, Some}
+-- Defines that the end of an exchange depends only on how it ends for each of its numbers, and so only on
+-- which of them the kept answer shows.
+use Rattle.std.specs.Prelude.{◌≡◌, ℕ, true, false, List, Option, Some}
 use Rattle.wf_frame.specs.declared.notes.Ask.TheVariants.{Done}
 use Rattle.wf_frame.specs.declared.notes.Note.TheVariants.{Asked}
 use Rattle.wf_def_agreement.specs.Receiver.{Score, shows}
+use Rattle.wf_def_agreement.specs.Session.{End}
 use Rattle.wf_def_world.specs.World.{World, Exchange, Mpdu, exchange}
 use Rattle.wf_def_world.specs.CanSend.{is_request}
 use Rattle.wf_def_world.specs.Exchanges.{mpdus_of, with_all_settled}
 use Rattle.wf_def_world.specs.Step.{step}
 use Rattle.wf_law_runs.specs.Windows.{EachMpdu}
 
--- two tests with the same result for each of these numbers settle them alike
+-- two functions that end each of these numbers in the same way settle them alike
 abbrev pub SettlesAlike : World → Type 0
 SettlesAlike w =
-    (s t : ℕ) (p q : ℕ → Bool) (mpdus : List Mpdu) → EachMpdu (λ m. p m.number ≡ q m.number) mpdus →
+    (s t : ℕ) (p q : ℕ → End) (mpdus : List Mpdu) → EachMpdu (λ m. p m.number ≡ q m.number) mpdus →
     with_all_settled w s t p mpdus ≡ with_all_settled w s t q mpdus
 
 -- If the kept answer shows none of an aggregate's numbers, a Done that is heard has the same world and

@@ -1,5 +1,5 @@
--- Defines what a transmit path keeps of a world: everything except what the receivers have, and the marks
--- of open exchanges.
+-- Defines what a transmit path keeps of a world: everything except what the receivers have, and what they
+-- did with open exchanges.
 use Rattle.std.specs.Prelude.{◌≡◌, ℕ, Bool, List, [], None, option_map, map}
 use Rattle.wf_frame.specs.declared.settings.Config.{Config}
 use Rattle.wf_frame.specs.declared.notes.Ask.TheVariants.{Arrive, Answer}

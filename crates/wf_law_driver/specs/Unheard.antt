@@ -12,11 +12,12 @@ use Rattle.wf_def_world.specs.Step.{step}
 use Rattle.wf_def_world.specs.Run.{Entry, world_after}
 use Rattle.wf_law_runs.specs.Windows.{EachOpen}
 
--- an exchange without its marks: what arrived of it, and the answer
+-- an exchange without what its receiver did: what arrived of it, and the answer. The marks of the device
+-- stay.
 abbrev pub unmarked : Exchange → Exchange
 unmarked x = record x { arrived = []; answer = None }
 
--- nothing of this exchange has arrived, and no answer is kept
+-- nothing of this exchange has arrived, and no answer is kept. The device may have marked it.
 pub record IsUnmarked (x : Exchange) : Type 0 where
   pub arrived : x.arrived ≡ []
   pub answer : x.answer ≡ None
@@ -27,7 +28,8 @@ pub record HasAcked (y : Session) (n : ℕ) : Type 0 where
   pub below : n < next_number y
   pub acked : (slot y n).state ≡ State.Acked
 
--- No open exchange has a mark, and each number that a receiver has is acknowledged.
+-- Nothing of an open exchange has arrived, none is answered, and each number that a receiver has is
+-- acknowledged.
 pub record IsUnheard (w : World) : Type 0 where
   pub marks : EachOpen IsUnmarked w.opened
   pub acked : (s t n : ℕ) → has (receiver w s t).arrived n ≡ true → HasAcked (session w s t) n
