@@ -8,10 +8,10 @@ use Rattle.std.proofs.lemmas.List.Elements.{All-set, All-replicate, All-nil, All
 use Rattle.wf_queue_parts.specs.Best.{IsBest}
 use Rattle.wf_frame.specs.Frames.{FrameValue}
 use Rattle.wf_frame.specs.declared.classes.Fate.TheVariants.{Dropped}
-use Rattle.wf_frame.specs.declared.classes.Cause.TheVariants.{Left}
+use Rattle.wf_frame.specs.declared.classes.Cause.{Cause}
 use Rattle.wf_def_lists.specs.Lengths.{greatest_body}
-use Rattle.wf_def_codel.specs.Codel.{new_codel}
-use Rattle.wf_queue_flows.specs.Backlog.{BacklogValue, frames_at, in_queues, held_in_backlog, queue_octets, octets_per_queue, is_some_frame, frame_with_fate, with_frames, after_flush, IsLongest, IsBodySized, IsBacklogKept}
+use Rattle.wf_def_codel.specs.Codel.{Codel, new_codel}
+use Rattle.wf_queue_flows.specs.Backlog.{BacklogValue, frames_at, in_queues, held_in_backlog, queue_octets, octets_per_queue, is_some_frame, frame_with_fate, codel_at, with_frames, after_emptying, unchanged, renewed, IsLongest, IsBodySized, IsBacklogKept}
 use Rattle.wf_queue_flows.proofs.Flags.{flag_pushed}
 use Rattle.wf_queue_flows.proofs.Fresh.{no_flags}
 
@@ -298,43 +298,54 @@ held_popped v v1 q f here first others = omega (
   ap length first,
 )
 
-pub flush_step : (v v1 v2 : BacklogValue) (q : ℕ) (f : FrameValue) → frames_at v q ≡ f ∷ frames_at v1 q →
-    v1 ≡ with_frames v q (frames_at v1 q)
-    → v2 ≡ record v1 { finished = v1.finished ++ frame_with_fate (Dropped Left) f ∷ [] } →
-    after_flush v2 q ≡ after_flush v q
-flush_step v v1 v2 q f first others last =
-    let left : FrameValue → FrameValue = frame_with_fate (Dropped Left) in
+pub empty_step : (cause : Cause) (v v1 v2 : BacklogValue) (q : ℕ) (f : FrameValue) →
+    frames_at v q ≡ f ∷ frames_at v1 q → v1 ≡ with_frames v q (frames_at v1 q)
+    → v2 ≡ record v1 { finished = v1.finished ++ frame_with_fate (Dropped cause) f ∷ [] } →
+    after_emptying cause unchanged v2 q ≡ after_emptying cause unchanged v q
+empty_step cause v v1 v2 q f first others last =
+    let settled : FrameValue → FrameValue = frame_with_fate (Dropped cause) in
     let room : v1.room ≡ v.room = ap (λ b. b.room) others in
-    let codels : set v1.codels q new_codel ≡ set v.codels q new_codel =
-    ap (λ b. set b.codels q new_codel) others in
+    let codels : set v1.codels q (codel_at v1 q) ≡ set v.codels q (codel_at v q) =
+    ap (λ b. set b.codels q (codel_at b q)) others in
     let queues : set v1.queues q [] ≡ set v.queues q [] =
     ap (λ b. set b.queues q []) others ∙ set-set v.queues q (frames_at v1 q) []
     in
-    let finished : (v1.finished ++ left f ∷ []) ++ map left (frames_at v1 q) ≡ v.finished
-    ++ map left (frames_at v q) =
-    append_assoc v1.finished (left f ∷ []) (map left (frames_at v1 q))
-    ∙ ap (λ b. b.finished ++ map left (f ∷ frames_at v1 q)) others
-    ∙ ap (λ (frames : List FrameValue). v.finished ++ map left frames) (sym first)
-    in ap (λ b. after_flush b q) last ∙ (λ i. record {
+    let finished : (v1.finished ++ settled f ∷ []) ++ map settled (frames_at v1 q) ≡ v.finished
+    ++ map settled (frames_at v q) =
+    append_assoc v1.finished (settled f ∷ []) (map settled (frames_at v1 q))
+    ∙ ap (λ b. b.finished ++ map settled (f ∷ frames_at v1 q)) others
+    ∙ ap (λ (frames : List FrameValue). v.finished ++ map settled frames) (sym first)
+    in ap (λ b. after_emptying cause unchanged b q) last ∙ (λ i. record {
       room = room i;
       queues = queues i;
       codels = codels i;
       finished = finished i;
     })
 
--- if no frame is left, only the state changes
-pub flush_done : (v : BacklogValue) (q : ℕ) → frames_at v q ≡ [] →
-    record v { codels = set v.codels q new_codel } ≡ after_flush v q
-flush_done v q empty =
-    let left : FrameValue → FrameValue = frame_with_fate (Dropped Left) in
+-- if no frame is left, nothing changes
+pub empty_done : (cause : Cause) (v : BacklogValue) (q : ℕ) → frames_at v q ≡ [] →
+    v ≡ after_emptying cause unchanged v q
+empty_done cause v q empty =
+    let settled : FrameValue → FrameValue = frame_with_fate (Dropped cause) in
     let queues : set v.queues q [] ≡ v.queues =
     ap (λ (frames : List FrameValue). set v.queues q frames) (sym empty) ∙ set-get_or v.queues q []
     in
-    let finished : v.finished ++ map left (frames_at v q) ≡ v.finished =
-    ap (λ (frames : List FrameValue). v.finished ++ map left frames) empty ∙ append-nil v.finished
+    let codels : set v.codels q (codel_at v q) ≡ v.codels = set-get_or v.codels q new_codel in
+    let finished : v.finished ++ map settled (frames_at v q) ≡ v.finished =
+    ap (λ (frames : List FrameValue). v.finished ++ map settled frames) empty ∙ append-nil v.finished
     in sym (λ i. record {
       room = v.room;
       queues = queues i;
-      codels = set v.codels q new_codel;
+      codels = codels i;
       finished = finished i;
     })
+
+-- the CoDel state of a queue that was emptied becomes new
+pub empty_renewed : (cause : Cause) (v v1 : BacklogValue) (q : ℕ) → v1 ≡ after_emptying cause unchanged v q →
+    record v1 { codels = set v1.codels q new_codel } ≡ after_emptying cause renewed v q
+empty_renewed cause v v1 q is =
+    let renew : BacklogValue → BacklogValue = λ b. record b { codels = set b.codels q new_codel } in
+    let emptied : BacklogValue = after_emptying cause unchanged v q in
+    ap renew is
+    ∙ ap (λ (states : List Codel). let b : BacklogValue = record emptied { codels = states } in b)
+    (set-set v.codels q (codel_at v q) new_codel)

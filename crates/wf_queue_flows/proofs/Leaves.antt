@@ -3,8 +3,10 @@
 use Rattle.std.proofs.Common.{◌≡◌, ℕ, ◌+◌, ◌*◌, ◌-◌, ◌<◌, ◌≤◌, true, false, not, List, ◌^◌, [], ◌∷◌, ◌++◌, length, get_or, set, drop, map, refl, sym, ap, ◌∙◌, subst, inl, inr, arith, length-drop, length-set, eq-eqb}
 use Rattle.std.specs.Prelude.{◌==◌, ◌%◌}
 use Rattle.std.proofs.lemmas.List.{get_or-map, get_or_past, length-map, get_or_read, get_or_default, get_or-set_same, get_or-set_other, nil_from_length}
-use Rattle.std.proofs.lemmas.Bool.{cases_eq, cases_lt, both_ways, ne_eqb}
+use Rattle.std.proofs.lemmas.Bool.{cases_eq, cases_lt, cases_Bool, both_ways, ne_eqb}
 use Rattle.wf_frame.specs.Frames.{FrameValue}
+use Rattle.wf_frame.specs.declared.classes.Cause.{Cause}
+use Rattle.wf_def_codel.specs.Codel.{Codel}
 use Rattle.wf_def_rotation.specs.Rotation.{Rotation, no_keys, in_order, without_key}
 use Rattle.wf_def_lists.specs.Lists.{on}
 use Rattle.wf_rotation.specs.declared.side.Side.{Side}
@@ -12,7 +14,7 @@ use Rattle.wf_rotation.specs.Lists.{lists_at, on_at, has_on}
 use Rattle.wf_rotation.specs.Rotas.{Rotas, IsUnlisted}
 use Rattle.wf_law_rules.proofs.Lemmas.Counts.{on_order-none}
 use Rattle.wf_law_rules.proofs.Lemmas.Counts.{on-nil, on-append}
-use Rattle.wf_queue_flows.specs.Backlog.{BacklogValue, frames_at, held_in_backlog, with_frames, after_head_drop, after_flush}
+use Rattle.wf_queue_flows.specs.Backlog.{BacklogValue, frames_at, held_in_backlog, with_frames, after_head_drop, after_emptying}
 use Rattle.wf_queue_flows.specs.Flows.{FlowsValue, tids, queues, is_listed, is_listed_by_another}
 use Rattle.wf_queue_flows.specs.Kept.{depth, AreFlowsKept, CanList}
 use Rattle.wf_queue_flows.proofs.Flags.{changed_at}
@@ -172,6 +174,23 @@ module _ (v now : FlowsValue) (counts : List ℕ) (same : v ≡ now) (ok : AreFl
   owner_is q place side there i is =
       ok.listed.apart.one_list i place q (on_now i q is) (stands q place side there)
 
+  -- ---- lists
+
+  now_listed : (i q : ℕ) → is_listed v i q ≡ is_listed now i q
+  now_listed i q = ap (λ (w : FlowsValue). is_listed w i q) same
+
+  -- it is listed by the TID of its place alone
+  pub lists_same : (i q place : ℕ) (side : Side) → has_on v.rotas.lists place side q ≡ true →
+      (place == i) ≡ is_listed now i q
+  lists_same i q place side there = elim (cases_eq place i) [
+    | inl e ↦ eq-eqb place i e ∙ sym (has_lists (lists_at v.rotas.lists place) side q there)
+        ∙ now_listed place q ∙ ap (λ (j : ℕ). is_listed now j q) e
+    | inr other ↦ ne_eqb place i other ∙ elim (cases_Bool (is_listed now i q)) [
+      | inl is ↦ absurd (other (sym (owner_is q place side there i is)))
+      | inr fails ↦ sym fails
+    ]
+  ]
+
   -- ---- purge_queue
 
   module _ (i q x gone : ℕ) (low : i < tids now) (is : is_listed now i q ≡ true)
@@ -193,35 +212,36 @@ module _ (v now : FlowsValue) (counts : List ℕ) (same : v ≡ now) (ok : AreFl
       depth_counted v counts ok i q (low_place i low_i) low_q stands_i,
     )
 
-    pub purge_keeps : (after : BacklogValue) (rotas : Rotas) → after ≡ after_flush v.backlog q →
-        rotas ≡ record v.rotas { lists = all_without v.rotas.lists q } →
-        AreFlowsKept (record v { backlog = after; rotas = rotas }) (set counts i (x - gone))
-    purge_keeps after rotas flush removed =
-        subst (λ (r : Rotas). AreFlowsKept (record v { backlog = after; rotas = r })
-        (set counts i (x - gone))) (sym removed)
-        (kept_lists (record v { backlog = after }) (set counts i (x - gone)) kept
-        (record v.rotas { lists = all_without v.rotas.lists q })
-        (length-map v.rotas.lists (λ r. without_key r q))
-        (λ j k. omega (
-          arith,
-          ap (λ (r : Rotation). on (in_order r) k) (at-without v.rotas.lists q j),
-          on-without_le (lists_at v.rotas.lists j) q k,
-        ))
-        (λ j k some. ap (λ (r : Rotation). on (in_order r) k) (at-without v.rotas.lists q j)
-        ∙ on-without_other (lists_at v.rotas.lists j) q k
-        (λ e. omega (arith, ap (depth after.queues) e, empty)))
-        refl refl ok.sized.low)
-      where
-        changed : after.queues ≡ set v.backlog.queues q []
-        changed = ap (λ (b : BacklogValue). b.queues) flush
+    module _ (cause : Cause) (codel : Codel → Codel) (after : BacklogValue)
+        (emptied : after ≡ after_emptying cause codel v.backlog q) where
+      changed : after.queues ≡ set v.backlog.queues q []
+      changed = ap (λ (b : BacklogValue). b.queues) emptied
 
-        empty : depth after.queues q ≡ 0
-        empty = ap length (changed_at v.backlog after q [] (omega (arith, low_q, ok.sized.queues)) changed)
+      empty : depth after.queues q ≡ 0
+      empty = ap length (changed_at v.backlog after q [] (omega (arith, low_q, ok.sized.queues)) changed)
 
-        kept : AreFlowsKept (record v { backlog = after }) (set counts i (x - gone))
-        kept = kept_frames v counts ok after i q (x - gone) [] changed
-            (ap (λ (b : BacklogValue). b.room) flush) (low_place i low_i) low_q stands_i
-            (omega (arith, purge_fits, count, read i x low_i read_x))
+      pub empty_keeps : AreFlowsKept (record v { backlog = after }) (set counts i (x - gone))
+      empty_keeps = kept_frames v counts ok after i q (x - gone) [] changed
+          (ap (λ (b : BacklogValue). b.room) emptied) (low_place i low_i) low_q stands_i
+          (omega (arith, purge_fits, count, read i x low_i read_x))
+
+      pub purge_keeps : (rotas : Rotas) → rotas ≡ record v.rotas { lists = all_without v.rotas.lists q } →
+          AreFlowsKept (record v { backlog = after; rotas = rotas }) (set counts i (x - gone))
+      purge_keeps rotas removed =
+          subst (λ (r : Rotas). AreFlowsKept (record v { backlog = after; rotas = r })
+          (set counts i (x - gone))) (sym removed)
+          (kept_lists (record v { backlog = after }) (set counts i (x - gone)) empty_keeps
+          (record v.rotas { lists = all_without v.rotas.lists q })
+          (length-map v.rotas.lists (λ r. without_key r q))
+          (λ j k. omega (
+            arith,
+            ap (λ (r : Rotation). on (in_order r) k) (at-without v.rotas.lists q j),
+            on-without_le (lists_at v.rotas.lists j) q k,
+          ))
+          (λ j k some. ap (λ (r : Rotation). on (in_order r) k) (at-without v.rotas.lists q j)
+          ∙ on-without_other (lists_at v.rotas.lists j) q k
+          (λ e. omega (arith, ap (depth after.queues) e, empty)))
+          refl refl ok.sized.low)
 
   -- ---- the queue for a frame: the code reads `flows` from the fields
 

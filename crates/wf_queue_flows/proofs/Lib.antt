@@ -2,6 +2,7 @@
 mod Lanes
 mod CodelBegins
 pub mod Flags
+mod Flushes
 mod Fresh
 mod Holding
 mod Keeps

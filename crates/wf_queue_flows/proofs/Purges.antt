@@ -5,14 +5,17 @@ use Rattle.std.specs.List.{filter}
 use Rattle.std.proofs.lemmas.List.{append-nil, set-get_or, map-set, get_or-map, length-map, get_or-set_same, get_or-set_other, ext_get_or}
 use Rattle.std.proofs.lemmas.List.Elements.{filter-append}
 use Rattle.std.proofs.lemmas.Bool.{cases_eq, cases_lt, cases_Bool, ne_eqb, le-leb, lt-leb}
+use Rattle.wf_frame.specs.declared.classes.Cause.{Cause}
+use Rattle.wf_frame.specs.declared.classes.Cause.TheVariants.{Left}
+use Rattle.wf_def_codel.specs.Codel.{Codel}
 use Rattle.wf_def_lists.specs.Table.{has, count_from, upto}
 use Rattle.wf_def_rotation.specs.Rotation.{Rotation, no_keys, has_key, in_order, without_key}
 use Rattle.wf_def_lists.specs.Lists.{on}
 use Rattle.wf_rotation.specs.Lists.{AreDisjoint, lists_at, on_at}
 use Rattle.wf_law_rules.proofs.Lemmas.Counts.{on-nil, on-first, on-cons_same, on-cons_other, on-append, on-filter_out, listed-none}
 use Rattle.wf_law_rules.proofs.Lemmas.Counts.{on_order-none}
-use Rattle.wf_queue_flows.specs.Backlog.{BacklogValue, after_flush}
-use Rattle.wf_queue_flows.specs.Flows.{FlowsValue, tids, tid_rotation, is_listed, queues, queues_of, all_flushed, after_purge}
+use Rattle.wf_queue_flows.specs.Backlog.{BacklogValue, after_emptying, renewed}
+use Rattle.wf_queue_flows.specs.Flows.{FlowsValue, tids, tid_rotation, is_listed, queues, queues_of, all_emptied, after_purge}
 use Rattle.wf_queue_flows.specs.Kept.{AreFlowsKept, rest_from, without_queue, purged_below}
 use Rattle.wf_queue_flows.proofs.Owners.{on-listed}
 use Rattle.wf_queue_flows.proofs.Leaves.{at-without}
@@ -97,11 +100,36 @@ upto-more p k =
     ap (filter p) (count_from-more 0 k ∙ ap (λ (m : ℕ). upto k ++ m ∷ []) e)
     ∙ filter-append p (upto k) (k ∷ [])
 
-flushed-append : (b : BacklogValue) (xs ys : List ℕ) →
-    all_flushed b (xs ++ ys) ≡ all_flushed (all_flushed b xs) ys
-unfolding all_flushed
-flushed-append b [] ys = refl
-flushed-append b (x ∷ xs) ys = flushed-append (after_flush b x) xs ys
+one_passes : (p : ℕ → Bool) (k : ℕ) → p k ≡ true → filter p (k ∷ []) ≡ k ∷ []
+one_passes p k holds = rw holds refl
+
+one_fails : (p : ℕ → Bool) (k : ℕ) → p k ≡ false → filter p (k ∷ []) ≡ []
+one_fails p k fails = rw fails refl
+
+module _ (cause : Cause) (codel : Codel → Codel) where
+  emptied-append : (b : BacklogValue) (xs ys : List ℕ) →
+      all_emptied cause codel b (xs ++ ys) ≡ all_emptied cause codel (all_emptied cause codel b xs) ys
+  unfolding all_emptied
+  emptied-append b [] ys = refl
+  emptied-append b (x ∷ xs) ys = emptied-append (after_emptying cause codel b x) xs ys
+
+  -- of the queues below k + 1 that pass, the last is queue k
+  module _ (b : BacklogValue) (p : ℕ → Bool) (k : ℕ) where
+    pub emptied-next : p k ≡ true →
+        after_emptying cause codel (all_emptied cause codel b (filter p (upto k))) k
+        ≡ all_emptied cause codel b (filter p (upto (suc k)))
+    unfolding all_emptied
+    emptied-next holds =
+        sym (ap (all_emptied cause codel b) (upto-more p k
+        ∙ ap (λ (t : List ℕ). filter p (upto k) ++ t) (one_passes p k holds))
+        ∙ emptied-append b (filter p (upto k)) (k ∷ []))
+
+    pub emptied-same : p k ≡ false →
+        all_emptied cause codel b (filter p (upto k)) ≡ all_emptied cause codel b (filter p (upto (suc k)))
+    emptied-same fails =
+        ap (all_emptied cause codel b) (sym (upto-more p k
+        ∙ ap (λ (t : List ℕ). filter p (upto k) ++ t) (one_fails p k fails)
+        ∙ append-nil (filter p (upto k))))
 
 -- ---- the walk
 
@@ -117,7 +145,7 @@ module _ (v : FlowsValue) (i : ℕ) (apart : AreDisjoint
       (rest_all r.old)
 
   pub purged-first : v ≡ purged_below v i 0
-  unfolding purged_below all_flushed
+  unfolding purged_below all_emptied
   purged-first = sym (ap (with_lists v.backlog)
       (ap (set v.rotas.lists i) (rest_0 (tid_rotation v i)) ∙ set-get_or v.rotas.lists i no_keys))
 
@@ -207,43 +235,20 @@ module _ (v : FlowsValue) (i : ℕ) (apart : AreDisjoint
         length-set v.rotas.lists i (last k),
       )
 
-  one_passes : (k : ℕ) → is_listed v i k ≡ true → filter (is_listed v i) (k ∷ []) ≡ k ∷ []
-  one_passes k holds = rw holds refl
-
-  one_fails : (k : ℕ) → is_listed v i k ≡ false → filter (is_listed v i) (k ∷ []) ≡ []
-  one_fails k fails = rw fails refl
-
-  flushed-next : (k : ℕ) → is_listed v i k ≡ true →
-      after_flush (all_flushed v.backlog (filter (is_listed v i) (upto k))) k
-      ≡ all_flushed v.backlog (filter (is_listed v i) (upto (suc k)))
-  unfolding all_flushed
-  flushed-next k holds =
-      sym (ap (all_flushed v.backlog) (upto-more (is_listed v i) k
-      ∙ ap (λ (t : List ℕ). filter (is_listed v i) (upto k) ++ t) (one_passes k holds))
-      ∙ flushed-append v.backlog (filter (is_listed v i) (upto k)) (k ∷ []))
-
-  flushed-same : (k : ℕ) → is_listed v i k ≡ false →
-      all_flushed v.backlog (filter (is_listed v i) (upto k))
-      ≡ all_flushed v.backlog (filter (is_listed v i) (upto (suc k)))
-  flushed-same k fails =
-      ap (all_flushed v.backlog) (sym (upto-more (is_listed v i) k
-      ∙ ap (λ (t : List ℕ). filter (is_listed v i) (upto k) ++ t) (one_fails k fails)
-      ∙ append-nil (filter (is_listed v i) (upto k))))
-
   next_gone : (k : ℕ) → is_listed v i k ≡ true →
       without_queue (purged_below v i k) k ≡ purged_below v i (suc k)
   unfolding purged_below
   next_gone k holds =
       ap (λ (b : BacklogValue). with_lists b (map (without k)
-      (set v.rotas.lists i (rest_from k (tid_rotation v i))))) (flushed-next k holds)
-      ∙ ap (with_lists (all_flushed v.backlog (filter (is_listed v i) (upto (suc k))))) (lists-next k holds)
+      (set v.rotas.lists i (rest_from k (tid_rotation v i))))) (emptied-next Left renewed v.backlog (is_listed v i) k holds)
+      ∙ ap (with_lists (all_emptied Left renewed v.backlog (filter (is_listed v i) (upto (suc k))))) (lists-next k holds)
 
   next_same : (k : ℕ) → is_listed v i k ≡ false → purged_below v i k ≡ purged_below v i (suc k)
   unfolding purged_below
   next_same k fails =
       ap (λ (b : BacklogValue). with_lists b (set v.rotas.lists i (rest_from k (tid_rotation v i))))
-      (flushed-same k fails)
-      ∙ ap (λ (r : Rotation). with_lists (all_flushed v.backlog (filter (is_listed v i) (upto (suc k))))
+      (emptied-same Left renewed v.backlog (is_listed v i) k fails)
+      ∙ ap (λ (r : Rotation). with_lists (all_emptied Left renewed v.backlog (filter (is_listed v i) (upto (suc k))))
       (set v.rotas.lists i r)) (same_rotation k (tid_rotation v i)
       (on_order-none (tid_rotation v i) k fails))
 
@@ -327,7 +332,7 @@ module _ (v : FlowsValue) (i : ℕ) (apart : AreDisjoint
   purged_last w k is few empty =
       is ∙ purged-to k (queues v) few (λ m high low. sym (listed_past w k is few m high)
       ∙ ap (λ (r : Rotation). has_key r m) empty)
-      ∙ ap (λ (r : Rotation). with_lists (all_flushed v.backlog (queues_of v i)) (set v.rotas.lists i r))
+      ∙ ap (λ (r : Rotation). with_lists (all_emptied Left renewed v.backlog (queues_of v i)) (set v.rotas.lists i r))
       rest_end
 
 length-without : (k : ℕ) (xs : List ℕ) → length (filter (λ y. not (y == k)) xs) + on xs k ≡ length xs

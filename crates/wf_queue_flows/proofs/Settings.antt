@@ -2,8 +2,11 @@
 use Rattle.std.proofs.Common.{◌≡◌, ℕ, ◌==◌, List, [], ◌∷◌, refl, ap, ◌∙◌}
 use Rattle.std.proofs.lemmas.Bool.{cond_both}
 use Rattle.wf_frame.specs.Frames.{FrameValue}
-use Rattle.wf_queue_flows.specs.Backlog.{BacklogValue, with_calmed, backlog_when_listed, after_flush}
-use Rattle.wf_queue_flows.specs.Flows.{flows_at_limit, FlowsValue, SettingsValue, settings, is_listed, after_limit, queue_for, with_listed_queue, after_put, queues_of, all_flushed, after_purge}
+use Rattle.wf_frame.specs.declared.classes.Cause.{Cause}
+use Rattle.wf_frame.specs.declared.classes.Cause.TheVariants.{Left, Flushed}
+use Rattle.wf_def_codel.specs.Codel.{Codel}
+use Rattle.wf_queue_flows.specs.Backlog.{BacklogValue, with_calmed, backlog_when_listed, after_emptying, unchanged, renewed}
+use Rattle.wf_queue_flows.specs.Flows.{flows_at_limit, FlowsValue, SettingsValue, settings, is_listed, after_limit, queue_for, with_listed_queue, after_put, queues_of, all_emptied, after_purge, after_tid_flush}
 
 settings_within : (v : FlowsValue) → settings (after_limit v) ≡ settings v
 unfolding after_limit
@@ -22,21 +25,19 @@ pub settings_put : (v : FlowsValue) (i : ℕ) (f : FrameValue) → settings (aft
 unfolding after_put
 settings_put v i f = settings_listed _ i (queue_for (after_limit v) i f.flow) ∙ settings_within v
 
-room_flushed : (b : BacklogValue) (qs : List ℕ) → (all_flushed b qs).room ≡ b.room
-unfolding all_flushed
-room_flushed b [] = refl
-room_flushed b (q ∷ qs) = room_flushed (after_flush b q) qs
+room_emptied : (cause : Cause) (codel : Codel → Codel) (b : BacklogValue) (qs : List ℕ) →
+    (all_emptied cause codel b qs).room ≡ b.room
+unfolding all_emptied
+room_emptied cause codel b [] = refl
+room_emptied cause codel b (q ∷ qs) = room_emptied cause codel (after_emptying cause codel b q) qs
+
+abbrev with_room : FlowsValue → ℕ → SettingsValue
+with_room v n = record (settings v) { room = n }
 
 pub settings_purged : (v : FlowsValue) (i : ℕ) → settings (after_purge v i) ≡ settings v
 unfolding after_purge
-settings_purged v i = ap (λ (n : ℕ). let s : SettingsValue =
-    record {
-      flows = v.flows;
-      stations = v.stations;
-      limit = v.limit;
-      flow_quantum = v.flow_quantum;
-      keep_order = v.keep_order;
-      codel_reset = v.codel_reset;
-      room =
-          n;
-    } in s) (room_flushed v.backlog (queues_of v i))
+settings_purged v i = ap (with_room v) (room_emptied Left renewed v.backlog (queues_of v i))
+
+pub settings_flushed : (v : FlowsValue) (i : ℕ) → settings (after_tid_flush v i) ≡ settings v
+unfolding after_tid_flush
+settings_flushed v i = ap (with_room v) (room_emptied Flushed unchanged v.backlog (queues_of v i))

@@ -4,7 +4,8 @@ use Rattle.std.specs.Prelude.{◌≡◌, ◌<◌, ◌≤◌, ◌^◌, ℕ, suc, 
 use Rattle.wf_frame.specs.Frames.{FrameValue}
 use Rattle.wf_frame.specs.declared.classes.Fate.{Fate}
 use Rattle.wf_frame.specs.declared.classes.Fate.TheVariants.{Dropped}
-use Rattle.wf_frame.specs.declared.classes.Cause.TheVariants.{Overlimit, Codel as By_codel, Left}
+use Rattle.wf_frame.specs.declared.classes.Cause.{Cause}
+use Rattle.wf_frame.specs.declared.classes.Cause.TheVariants.{Overlimit, Codel as By_codel}
 use Rattle.wf_def_codel.specs.Codel.{Item, Params, Codel, new_codel, Dequeued, dequeue}
 use Rattle.wf_def_lists.specs.Lengths.{greatest_body}
 use Rattle.wf_def_world.specs.FlowQueues.{calmed}
@@ -92,13 +93,20 @@ after_head_drop v q = record v {
   finished = v.finished ++ map (frame_with_fate (Dropped Overlimit)) (take 1 (frames_at v q));
 }
 
--- all frames of queue q go in order last on the finished list, as dropped since their station left, and its
--- CoDel state is new
-abbrev pub after_flush : BacklogValue → ℕ → BacklogValue
-after_flush v q = record v {
+-- the CoDel state of a queue whose frames are dropped: it stays, or becomes new
+abbrev pub unchanged : Codel → Codel
+unchanged c = c
+
+abbrev pub renewed : Codel → Codel
+renewed c = new_codel
+
+-- all frames of queue q go in order last on the finished list, as dropped for this cause, and its CoDel state
+-- becomes `codel` of it
+abbrev pub after_emptying : Cause → (Codel → Codel) → BacklogValue → ℕ → BacklogValue
+after_emptying cause codel v q = record v {
   queues = slice_set v.queues q [];
-  codels = slice_set v.codels q new_codel;
-  finished = v.finished ++ map (frame_with_fate (Dropped Left)) (frames_at v q);
+  codels = slice_set v.codels q (codel (codel_at v q));
+  finished = v.finished ++ map (frame_with_fate (Dropped cause)) (frames_at v q);
 }
 
 -- CoDel's dequeue on queue q, and the number of frames that it drops

@@ -5,15 +5,17 @@ use Rattle.std.specs.Prelude.{nat_le, ◌≡◌, ◌<◌, ◌≤◌, ℕ, suc, �
 use Rattle.std.specs.List.{list_any}
 use Rattle.wf_frame.specs.Classes.{tid_number}
 use Rattle.wf_frame.specs.Frames.{FrameValue}
+use Rattle.wf_frame.specs.declared.classes.Cause.{Cause}
+use Rattle.wf_frame.specs.declared.classes.Cause.TheVariants.{Left, Flushed}
 use Rattle.wf_def_lists.specs.Table.{upto}
 use Rattle.wf_frame.specs.declared.settings.Config.{Config}
-use Rattle.wf_def_codel.specs.Codel.{Params, new_codel}
+use Rattle.wf_def_codel.specs.Codel.{Params, Codel, new_codel}
 use Rattle.wf_def_rotation.specs.Rotation.{Rotation, no_keys, has_key, in_order, with_new_key, Picked, pick}
 use Rattle.wf_rotation.specs.Lists.{lists_at}
 use Rattle.wf_rotation.specs.Rotas.{Rotas, deficit_at, need_at}
 use Rattle.wf_def_world.specs.World.{Queue}
 use Rattle.wf_def_world.specs.FlowQueues.{longest_of}
-use Rattle.wf_queue_flows.specs.Backlog.{BacklogValue, frames_at, in_queues, first_id, item_of, with_frames, backlog_when_listed, after_head_drop, after_flush, given_at, backlog_after_take}
+use Rattle.wf_queue_flows.specs.Backlog.{BacklogValue, frames_at, in_queues, first_id, item_of, with_frames, backlog_when_listed, after_head_drop, after_emptying, unchanged, renewed, given_at, backlog_after_take}
 
 -- Queues below `flows` are shared by all TIDs; each TID has one more, its overflow queue. Queue q is key q of
 -- the rotations.
@@ -241,14 +243,20 @@ taken_for_tid v i now params = taken_from_picked (after_pick v i) (pick_of_tid v
 abbrev pub queues_of : FlowsValue → ℕ → List ℕ
 queues_of v i = filter (is_listed v i) (upto (queues v))
 
--- all frames of these queues are dropped as Left, and their CoDel states become new
-unfoldable pub all_flushed : BacklogValue → List ℕ → BacklogValue
-all_flushed b [] = b
-all_flushed b (q ∷ qs) = all_flushed (after_flush b q) qs
+-- all frames of these queues are dropped for this cause, and their CoDel states become `codel` of them
+unfoldable pub all_emptied : Cause → (Codel → Codel) → BacklogValue → List ℕ → BacklogValue
+all_emptied cause codel b [] = b
+all_emptied cause codel b (q ∷ qs) = all_emptied cause codel (after_emptying cause codel b q) qs
 
 -- all frames of TID i are dropped, and its queues leave its rotation
 unfoldable pub after_purge : FlowsValue → ℕ → FlowsValue
 after_purge v i = record v {
-  backlog = all_flushed v.backlog (queues_of v i);
+  backlog = all_emptied Left renewed v.backlog (queues_of v i);
   rotas = record v.rotas { lists = slice_set v.rotas.lists i no_keys };
 }
+
+-- ---- a flush
+
+-- all frames of TID i are dropped; its queues stay in its rotation
+unfoldable pub after_tid_flush : FlowsValue → ℕ → FlowsValue
+after_tid_flush v i = record v { backlog = all_emptied Flushed unchanged v.backlog (queues_of v i) }

@@ -7,8 +7,9 @@ use Rattle.wf_def_lists.specs.Table.{upto}
 use Rattle.wf_def_rotation.specs.Rotation.{Rotation, has_key as lists_of, in_order, without_key}
 use Rattle.wf_rotation.specs.Lists.{AreDisjoint, lists_at, on_at}
 use Rattle.wf_rotation.specs.Rotas.{Rotas, deficit_at, quantum_at, picked_at, is_ready as is_ready_of}
-use Rattle.wf_queue_flows.specs.Backlog.{after_flush}
-use Rattle.wf_queue_flows.specs.Flows.{FlowsValue, tid_rotation, is_listed, frames_waiting, all_flushed}
+use Rattle.wf_frame.specs.declared.classes.Cause.TheVariants.{Left, Flushed}
+use Rattle.wf_queue_flows.specs.Backlog.{after_emptying, unchanged, renewed}
+use Rattle.wf_queue_flows.specs.Flows.{FlowsValue, tid_rotation, is_listed, frames_waiting, all_emptied}
 
 -- the number of frames in a queue
 abbrev pub depth : List (List FrameValue) → ℕ → ℕ
@@ -51,7 +52,7 @@ pub record CanList (v : FlowsValue) (i q : ℕ) : Type 0 where
 -- a queue loses its frames and leaves the rotation that lists it
 abbrev pub without_queue : FlowsValue → ℕ → FlowsValue
 without_queue v q = record v {
-  backlog = after_flush v.backlog q;
+  backlog = after_emptying Left renewed v.backlog q;
   rotas =
       record v.rotas { lists = map (λ r. without_key r q) v.rotas.lists };
 }
@@ -63,9 +64,14 @@ rest_from k r = record { new = filter (nat_le k) r.new; old = filter (nat_le k) 
 -- the queues of TID i below k have left
 unfoldable pub purged_below : FlowsValue → ℕ → ℕ → FlowsValue
 purged_below v i k = record v {
-  backlog = all_flushed v.backlog (filter (is_listed v i) (upto k));
+  backlog = all_emptied Left renewed v.backlog (filter (is_listed v i) (upto k));
   rotas = record v.rotas { lists = slice_set v.rotas.lists i (rest_from k (tid_rotation v i)) };
 }
+
+-- the queues of TID i below k are flushed
+unfoldable pub flushed_below : FlowsValue → ℕ → ℕ → FlowsValue
+flushed_below v i k =
+    record v { backlog = all_emptied Flushed unchanged v.backlog (filter (is_listed v i) (upto k)) }
 
 -- a pick of one rotation, as in the contract of `Rota::pick`
 pub record IsPickOfOne (before : Rotas) (ready : List Bool) (list : ℕ) (after : Rotas)

@@ -2,8 +2,9 @@
 
 ghost use Rattle.std.specs.Prelude.{◌≡◌, ◌+◌, true, drop, slice_index, slice_set, ◌<◌, ◌≤◌, ◌↔◌, [], ◌∷◌, ◌++◌, Some, length, replicate, is_some, if◌then◌else◌, IfOk, IfNone, IfSome, IsNone, MatchOption};
 ghost use Rattle.wf_def_codel.specs.Codel.{new_codel};
-ghost use Rattle.wf_queue_flows.specs.Backlog.{frames_at, in_queues, held_in_backlog, spare_of, first_id, frame_with_fate, with_frames, backlog_when_listed, after_head_drop, after_flush, IsLongest};
+ghost use Rattle.wf_queue_flows.specs.Backlog.{frames_at, in_queues, held_in_backlog, spare_of, first_id, frame_with_fate, with_frames, backlog_when_listed, after_head_drop, after_emptying, unchanged, renewed, IsLongest};
 ghost use Rattle.std.specs.List.{list_any};
+ghost use Rattle.wf_frame.specs.declared.classes.Cause.TheVariants.{Left};
 ghost use Rattle.wf_queue_flows.specs.Flows.{longest_queue, is_of_queue};
 
 use crate::codel::Codel;
@@ -193,18 +194,30 @@ impl Backlog {
         id
     }
 
-    /// Drops all frames of a queue, since their station left: from the head on they go last on the finished
-    /// list as `Dropped(Left)`, and the queue's CoDel state becomes new. Returns their number.
-    pub fn flush(&mut self, q: u32) -> u32
+    /// Drops all frames of a queue for this cause: from the head on they go last on the finished list. The
+    /// queue's CoDel state stays. Returns their number.
+    pub fn empty_queue(&mut self, q: u32, cause: Cause) -> u32
         requires { q < length self.old.queues }
         ensures count { result ≡ length (frames_at self.old q) }
-        ensures flushed { self.new ≡ after_flush self.old q }
+        ensures emptied { self.new ≡ after_emptying cause unchanged self.old q }
         ensures held { held_in_backlog self.new ≡ held_in_backlog self.old }
     {
         let count = self.count(q);
         while let Some(parcel) = self.pop(q) {
-            self.finish(settle(parcel, Fate::Dropped(Cause::Left)));
+            self.finish(settle(parcel, Fate::Dropped(cause)));
         }
+        count
+    }
+
+    /// Drops all frames of a queue as `Dropped(Left)`, since their station left, and the queue's CoDel state
+    /// becomes new. Returns their number.
+    pub fn purge(&mut self, q: u32) -> u32
+        requires { q < length self.old.queues }
+        ensures count { result ≡ length (frames_at self.old q) }
+        ensures purged { self.new ≡ after_emptying Left renewed self.old q }
+        ensures held { held_in_backlog self.new ≡ held_in_backlog self.old }
+    {
+        let count = self.empty_queue(q, Cause::Left);
         self.codels[q as usize] = Codel::new();
         count
     }

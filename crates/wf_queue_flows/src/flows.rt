@@ -1,18 +1,18 @@
-//! The flow queues: frames are put in, taken out and purged.
+//! The flow queues: frames are put in and taken out, and those of a TID are purged or flushed.
 
 ghost use Rattle.std.specs.Prelude.{◌≡◌, ℕ, ◌+◌, ◌<◌, ◌≤◌, ◌^◌, ◌↔◌, true, false, length, [], ◌∷◌, ◌++◌, IfOk, IfSome, IfNone, OnSome, IsSome, MatchOption, Some, None, option_map};
 ghost use Rattle.wf_frame.specs.Settings.{first_out_of_range};
 ghost use Rattle.wf_queue_flows.specs.CodelParams.{params_of};
-ghost use Rattle.wf_queue_flows.specs.Backlog.{frames_at, in_queues, held_in_backlog, first_id, after_head_drop, IsLongest};
+ghost use Rattle.wf_queue_flows.specs.Backlog.{frames_at, in_queues, held_in_backlog, first_id, after_head_drop, after_emptying, unchanged, IsLongest};
 ghost use Rattle.wf_frame.specs.Classes.{tid_number};
-ghost use Rattle.wf_queue_flows.specs.Flows.{settings, tids, queues, is_listed, frames_of_tid, flows_at_limit, longest_queue, loses_next, dropped_for_limit, queue_for, after_limit, with_listed_queue, with_appended, after_put, taken_for_tid, after_purge, empty_flows, AreListedOnce, TakeGives};
+ghost use Rattle.wf_queue_flows.specs.Flows.{settings, tids, queues, is_listed, frames_of_tid, flows_at_limit, longest_queue, loses_next, dropped_for_limit, queue_for, after_limit, with_listed_queue, with_appended, after_put, taken_for_tid, after_purge, after_tid_flush, empty_flows, AreListedOnce, TakeGives};
 ghost use Rattle.wf_queue_flows.specs.Kept.{CanList, without_queue};
 
 use crate::backlog::{Backlog, Taken};
 use crate::codel::Params;
 use std::alloc::{AllocError, Global};
 use std::marker::Model;
-use wf_frame::{Config, tid_number};
+use wf_frame::{Cause, Config, tid_number};
 use wf_queue_parts::chain::Parcel;
 use wf_rotation::Rota;
 
@@ -232,6 +232,32 @@ impl Flows {
         count
     }
 
+    /// Drops all frames of a TID that is flushed, and returns their number. They go last on the finished list
+    /// as `Dropped(Flushed)`, in the order of queue numbers and each queue from its head. The TID's queues
+    /// stay in its rotation, with their deficits and CoDel states.
+    ///
+    /// It looks at each queue number once. A TID without frames takes constant time.
+    pub fn flush(&mut self, station: u16, tid: u8) -> u32
+        requires station { station < self.old.stations }
+        requires tid { tid < 8 }
+        ensures flushed { self.new ≡ after_tid_flush self.old (tid_number station tid) }
+        ensures count { result ≡ frames_of_tid self.old (tid_number station tid) }
+        ensures held { held_in_backlog self.new.backlog ≡ held_in_backlog self.old.backlog }
+        ensures settings { settings self.new ≡ settings self.old }
+    {
+        let list = tid_number(station, tid);
+        let count = self.queued[list as usize];
+        if count == 0 {
+            return 0;
+        }
+        for q in 0..self.flows + 8 * self.stations {
+            if self.lists(list, q) {
+                self.empty_queue(list, q, Cause::Flushed);
+            }
+        }
+        count
+    }
+
     /// Puts a frame last on the finished list, unchanged.
     pub fn finish(&mut self, parcel: Parcel)
         requires { held_in_backlog self.old.backlog < self.old.backlog.room }
@@ -358,6 +384,29 @@ impl Flows {
         }
     }
 
+    // Returns whether a TID lists a queue.
+    fn lists(&self, list: u32, q: u32) -> bool
+        requires { q < queues self.now }
+        ensures { result ≡ is_listed self.now list q }
+    {
+        match self.rota.where_is(q) {
+            Some((other, _)) => other == list,
+            None => false,
+        }
+    }
+
+    // Drops the frames of a queue that a TID lists, for this cause.
+    fn empty_queue(&mut self, list: u32, q: u32, cause: Cause)
+        requires list { list < tids self.old }
+        requires queue { q < queues self.old }
+        requires listed { is_listed self.old list q ≡ true }
+        ensures emptied { self.new ≡ record
+            self.old { backlog = after_emptying cause unchanged self.old.backlog q } }
+        ensures held { held_in_backlog self.new.backlog ≡ held_in_backlog self.old.backlog }
+    {
+        self.queued[list as usize] -= self.waiting.empty_queue(q, cause);
+    }
+
     // Drops the frames of a queue that a TID lists, and takes the queue off its rotation.
     fn purge_queue(&mut self, list: u32, q: u32)
         requires list { list < tids self.old }
@@ -366,7 +415,7 @@ impl Flows {
         ensures gone { self.new ≡ without_queue self.old q }
         ensures held { held_in_backlog self.new.backlog ≡ held_in_backlog self.old.backlog }
     {
-        self.queued[list as usize] -= self.waiting.flush(q);
+        self.queued[list as usize] -= self.waiting.purge(q);
         self.rota.remove(q);
     }
 }

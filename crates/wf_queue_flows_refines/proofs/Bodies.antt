@@ -14,12 +14,12 @@ use Rattle.wf_def_lists.specs.Lists.{on}
 use Rattle.wf_law_rules.proofs.Lemmas.Counts.{on-first, on-cons_same}
 use Rattle.wf_def_world.specs.World.{World, accepted_count}
 use Rattle.wf_queue_flows.specs.Backlog.{BacklogValue, frames_at}
-use Rattle.wf_queue_flows.specs.Flows.{FlowsValue, after_put, taken_for_tid, after_purge, empty_flows}
+use Rattle.wf_queue_flows.specs.Flows.{FlowsValue, after_put, taken_for_tid, after_purge, after_tid_flush, empty_flows}
 use Rattle.wf_queue_flows_refines.specs.Standing.{Part, flows_part, ids, Stands, FlowsStandFor}
 use Rattle.wf_queue_flows_refines.specs.Frames.{HasEach, DropsTo, AreAccepted, with_body, IsBody, IsBodySettled, HasFrames}
 use Rattle.wf_queue_flows_refines.proofs.Changes.{times_at}
 use Rattle.wf_queue_flows_refines.proofs.Opening.{no_frames}
-use Rattle.wf_queue_flows_refines.proofs.Each.{each_put, each_take, each_purge}
+use Rattle.wf_queue_flows_refines.proofs.Each.{each_put, each_take, each_purge, each_flush}
 
 -- a property that follows for ids below n, frame by frame
 each_known : (P Q : FrameValue → Type 0) (n : ℕ) (frames : List FrameValue) →
@@ -129,6 +129,10 @@ module _ (v : FlowsValue) (w : World) (bodies : ℕ → FrameValue) (st : FlowsS
   pub frames_purged : (i : ℕ) → HasFrames (after_purge v i).backlog bodies
   frames_purged i = bodies_held (after_purge v i).backlog bodies
       (each_purge (IsHeldBody bodies) (IsBodySettled bodies) (drops_body bodies) v i held_all)
+
+  pub frames_flushed : (i : ℕ) → HasFrames (after_tid_flush v i).backlog bodies
+  frames_flushed i = bodies_held (after_tid_flush v i).backlog bodies
+      (each_flush (IsHeldBody bodies) (IsBodySettled bodies) (drops_body bodies) v i held_all)
 
 pub frames_opening : (c : Config) (bodies : ℕ → FrameValue) → HasFrames (empty_flows c).backlog bodies
 frames_opening c bodies = record {

@@ -7,11 +7,11 @@ use Rattle.std.proofs.lemmas.List.Elements.{All-append, All-drop, All-head, All-
 use Rattle.std.proofs.lemmas.Bool.{cases_lt, cond_both}
 use Rattle.wf_frame.specs.Frames.{FrameValue}
 use Rattle.wf_frame.specs.declared.classes.Cause.{Cause}
-use Rattle.wf_frame.specs.declared.classes.Cause.TheVariants.{Overlimit, Codel as By_codel, Left}
+use Rattle.wf_frame.specs.declared.classes.Cause.TheVariants.{Overlimit, Codel as By_codel, Left, Flushed}
 use Rattle.wf_frame.specs.declared.classes.Fate.TheVariants.{Dropped}
-use Rattle.wf_def_codel.specs.Codel.{Codel, Params, new_codel}
-use Rattle.wf_queue_flows.specs.Backlog.{BacklogValue, frames_at, frame_with_fate, with_calmed, after_head_drop, after_flush, dequeue_at, drops_at}
-use Rattle.wf_queue_flows.specs.Flows.{FlowsValue, flows_at_limit, is_listed, longest_queue, after_limit, queue_for, with_listed_queue, with_appended, after_put, pick_of_tid, after_pick, taken_from_picked, taken_for_tid, queues_of, all_flushed, after_purge}
+use Rattle.wf_def_codel.specs.Codel.{Codel, Params}
+use Rattle.wf_queue_flows.specs.Backlog.{BacklogValue, frames_at, frame_with_fate, with_calmed, codel_at, after_head_drop, after_emptying, unchanged, renewed, dequeue_at, drops_at}
+use Rattle.wf_queue_flows.specs.Flows.{FlowsValue, flows_at_limit, is_listed, longest_queue, after_limit, queue_for, with_listed_queue, with_appended, after_put, pick_of_tid, after_pick, taken_from_picked, taken_for_tid, queues_of, all_emptied, after_purge, after_tid_flush}
 use Rattle.wf_queue_flows_refines.specs.Standing.{with_finished}
 use Rattle.wf_queue_flows_refines.specs.Frames.{HasEach, DropsTo}
 use Rattle.wf_queue_flows_refines.proofs.Changes.{each_set}
@@ -100,17 +100,23 @@ module _ (P R : FrameValue → Type 0) (drops : DropsTo P R) where
   each_take v i now params h = each_taken (after_pick v i) (pick_of_tid v i).winner now params
       (record { queued = h.queued; finished = h.finished })
 
-  -- ---- purge
+  -- ---- purge and flush
 
-  each_flushed : (qs : List ℕ) (b : BacklogValue) → HasEach P R b → HasEach P R (all_flushed b qs)
-  unfolding all_flushed
-  each_flushed [] b h = h
-  each_flushed (q ∷ qs) b h = each_flushed qs (after_flush b q)
-      (each_moved b q (frames_at b q) [] (set b.codels q new_codel) Left h (h.queued q) (All-nil P))
+  each_emptied : (cause : Cause) (codel : Codel → Codel) (qs : List ℕ) (b : BacklogValue) →
+      HasEach P R b → HasEach P R (all_emptied cause codel b qs)
+  unfolding all_emptied
+  each_emptied cause codel [] b h = h
+  each_emptied cause codel (q ∷ qs) b h = each_emptied cause codel qs (after_emptying cause codel b q)
+      (each_moved b q (frames_at b q) [] (set b.codels q (codel (codel_at b q))) cause h (h.queued q)
+      (All-nil P))
 
   pub each_purge : (v : FlowsValue) (i : ℕ) → HasEach P R v.backlog → HasEach P R (after_purge v i).backlog
   unfolding after_purge
-  each_purge v i h = each_flushed (queues_of v i) v.backlog h
+  each_purge v i h = each_emptied Left renewed (queues_of v i) v.backlog h
+
+  pub each_flush : (v : FlowsValue) (i : ℕ) → HasEach P R v.backlog → HasEach P R (after_tid_flush v i).backlog
+  unfolding after_tid_flush
+  each_flush v i h = each_emptied Flushed unchanged (queues_of v i) v.backlog h
 
 -- ---- finish and reap
 

@@ -3,25 +3,26 @@
 use Rattle.std.proofs.Common.{◌≡◌, refl, ap, sym, ◌∙◌, subst, arith, ℕ, suc, ◌==◌, ◌<◌, ◌≤◌, true, List, [], ◌∷◌, ◌++◌, length, get_or, set, drop, Option, Some, None, inl, inr}
 use Rattle.std.proofs.lemmas.List.{set_past, get_or_past}
 use Rattle.std.proofs.lemmas.Bool.{cases_eq, cases_lt, cond_both}
-use Rattle.wf_frame.specs.declared.classes.Cause.TheVariants.{Left}
+use Rattle.wf_frame.specs.declared.classes.Cause.{Cause}
+use Rattle.wf_frame.specs.declared.classes.Cause.TheVariants.{Left, Flushed}
 use Rattle.wf_frame.specs.declared.classes.Fate.{Fate}
 use Rattle.wf_frame.specs.declared.classes.Fate.TheVariants.{Held, Dropped}
 use Rattle.wf_frame.specs.declared.notes.Note.TheVariants.{Enqueue}
 use Rattle.wf_frame.specs.Frames.{FrameValue}
 use Rattle.wf_def_lists.specs.Table.{at}
-use Rattle.wf_def_codel.specs.Codel.{Params}
+use Rattle.wf_def_codel.specs.Codel.{Codel, Params}
 use Rattle.wf_def_lists.specs.Lists.{on}
 use Rattle.wf_def_rotation.specs.Rotation.{Rotation}
 use Rattle.wf_law_rules.proofs.Lemmas.Counts.{on-nil, on-append, on-cons_same, on-cons_other}
 use Rattle.wf_def_world.specs.World.{World, Queue, Frame, no_frame, is_live, session, frame, accepted_count, codel_params, on_queue, with_queues, with_station, on_station, on_tid, with_fate, with_frame_finished, with_frames_finished}
-use Rattle.wf_def_world.specs.FlowQueues.{after_limit as world_after_limit, queue_for as world_queue_for, after_put_in as world_put_in, taken_for_tid as world_take, after_queue_left}
-use Rattle.wf_def_world.specs.Step.{with_frame, next_item, enqueue_outcome, reap_outcome, waiting_ids, after_tid_left}
+use Rattle.wf_def_world.specs.FlowQueues.{after_limit as world_after_limit, queue_for as world_queue_for, after_put_in as world_put_in, taken_for_tid as world_take}
+use Rattle.wf_def_world.specs.Step.{with_frame, next_item, enqueue_outcome, reap_outcome, waiting_ids, after_tid_left, after_tid_flushed}
 use Rattle.wf_law_runs.proofs.Deficits.Books.{put_upd, upd_other}
 use Rattle.wf_law_runs.proofs.Queues.ShelvedStep.{accepted_put}
-use Rattle.wf_queue_flows.specs.Backlog.{BacklogValue, frames_at, with_calmed, after_flush, drops_at}
+use Rattle.wf_queue_flows.specs.Backlog.{BacklogValue, frames_at, with_calmed, after_emptying, unchanged, renewed, drops_at}
 use Rattle.wf_frame.specs.Classes.{tid_number}
-use Rattle.wf_queue_flows.specs.Flows.{FlowsValue, flows_at_limit, is_listed, longest_queue, after_limit, queue_for, with_listed_queue, with_appended, after_put, pick_of_tid, after_pick, taken_from_picked, taken_for_tid, queues_of, all_flushed, after_purge}
-use Rattle.wf_queue_flows_refines.specs.Standing.{ids, times_held, with_finished, FlowsStandFor}
+use Rattle.wf_queue_flows.specs.Flows.{FlowsValue, flows_at_limit, is_listed, longest_queue, after_limit, queue_for, with_listed_queue, with_appended, after_put, pick_of_tid, after_pick, taken_from_picked, taken_for_tid, queues_of, all_emptied, after_purge, after_tid_flush}
+use Rattle.wf_queue_flows_refines.specs.Standing.{ids, times_held, with_finished, queue_emptied, waiting_flushed, FlowsStandFor}
 use Rattle.wf_queue_flows_refines.specs.Frames.{QueuedAreHeld}
 use Rattle.wf_queue_flows_refines.proofs.Parts.{end_is, end_other}
 use Rattle.wf_queue_flows_refines.proofs.Changes.{each_set, times_set, times_at}
@@ -31,7 +32,8 @@ use Rattle.wf_queue_flows_refines.proofs.Limits.{beside_limit}
 use Rattle.wf_queue_flows_refines.proofs.Puts.{stands_put}
 use Rattle.wf_queue_flows_refines.proofs.Takes.{stands_take}
 use Rattle.wf_queue_flows_refines.proofs.Purges.{stands_left}
-use Rattle.wf_queue_flows_refines.proofs.Through.{through_put_in, through_limit, through_take, through_purge_queue, through_purge}
+use Rattle.wf_queue_flows_refines.proofs.Flushes.{stands_tid_flushed}
+use Rattle.wf_queue_flows_refines.proofs.Through.{through_put_in, through_limit, through_take, through_emptied_queue, through_purge, through_flush}
 
 -- ---- the frames that a call finishes
 
@@ -79,6 +81,10 @@ pub finishes_purge : (w : World) (s t : ℕ) → Finishes
     (with_frames_finished w (Dropped Left) (waiting_ids (session w s t).slots)) (after_tid_left w s t)
 finishes_purge = through_purge Finishes nothing both at_queue at_lists at_finish
 
+-- a flush, after the numbers of the session that wait have failed
+finishes_flush : (w : World) (s t : ℕ) → Finishes (waiting_flushed w s t) (after_tid_flushed w s t)
+finishes_flush = through_flush Finishes nothing both at_queue at_lists at_finish
+
 -- ---- the frames that leave the queues
 
 -- one queue has a frame no more often than before
@@ -119,21 +125,26 @@ fewer_take : (v : FlowsValue) (i now : ℕ) (params : Params) →
 unfolding taken_for_tid after_pick
 fewer_take v i now params = fewer_taken (after_pick v i) (pick_of_tid v i).winner now params
 
-fewer_flush : (b : BacklogValue) (k : ℕ) → HasFewer b (after_flush b k)
-fewer_flush b k q id = fewer_set b.queues k [] id (omega (arith, on-nil id)) q
+module _ (cause : Cause) (codel : Codel → Codel) where
+  fewer_emptied_queue : (b : BacklogValue) (k : ℕ) → HasFewer b (after_emptying cause codel b k)
+  fewer_emptied_queue b k q id = fewer_set b.queues k [] id (omega (arith, on-nil id)) q
 
-fewer_flushed : (qs : List ℕ) (b : BacklogValue) → HasFewer b (all_flushed b qs)
-unfolding all_flushed
-fewer_flushed [] b = λ q id. omega arith
-fewer_flushed (k ∷ qs) b = λ q id. omega (
-  arith,
-  fewer_flushed qs (after_flush b k) q id,
-  fewer_flush b k q id,
-)
+  fewer_emptied : (qs : List ℕ) (b : BacklogValue) → HasFewer b (all_emptied cause codel b qs)
+  unfolding all_emptied
+  fewer_emptied [] b = λ q id. omega arith
+  fewer_emptied (k ∷ qs) b = λ q id. omega (
+    arith,
+    fewer_emptied qs (after_emptying cause codel b k) q id,
+    fewer_emptied_queue b k q id,
+  )
 
 fewer_purge : (v : FlowsValue) (i : ℕ) → HasFewer v.backlog (after_purge v i).backlog
 unfolding after_purge
-fewer_purge v i = fewer_flushed (queues_of v i) v.backlog
+fewer_purge v i = fewer_emptied Left renewed (queues_of v i) v.backlog
+
+fewer_flush : (v : FlowsValue) (i : ℕ) → HasFewer v.backlog (after_tid_flush v i).backlog
+unfolding after_tid_flush
+fewer_flush v i = fewer_emptied Flushed unchanged (queues_of v i) v.backlog
 
 listed_same : (v : FlowsValue) (i q : ℕ) → (with_listed_queue v i q).backlog.queues ≡ v.backlog.queues
 unfolding with_listed_queue
@@ -224,6 +235,13 @@ held_left v w s t st h live high low =
     (stands_left v w s t st live high low) h
     (finishes_purge w s t) (fewer_purge v (tid_number s t))
 
+pub held_flushed : (v : FlowsValue) (w : World) (s t : ℕ) → FlowsStandFor v (waiting_flushed w s t) →
+    QueuedAreHeld v (waiting_flushed w s t) → s < w.config.stations → t < 8 →
+    QueuedAreHeld (after_tid_flush v (tid_number s t)) (after_tid_flushed w s t)
+held_flushed v w s t st h high low =
+    still_held v (after_tid_flush v (tid_number s t)) (waiting_flushed w s t) (after_tid_flushed w s t)
+    (stands_tid_flushed v w s t st high low) h (finishes_flush w s t) (fewer_flush v (tid_number s t))
+
 pub held_finish : (v : FlowsValue) (w : World) (f : FrameValue) → FlowsStandFor v w → QueuedAreHeld v w →
     f.id < accepted_count w → times_held v.backlog f.id ≡ 0 →
     QueuedAreHeld (with_finished v (v.backlog.finished ++ f ∷ [])) (with_frame_finished w f.fate f.id)
@@ -265,10 +283,14 @@ held_put v w s t f st h live high low next now q id some =
           ∙ h q id (omega (arith, some, fewer_put v (tid_number s t) f q id (λ e. other (sym e))))
     ]
 
--- one queue of a TID that is purged
-pub held_flush : (v : FlowsValue) (w : World) (q : ℕ) →
-    FlowsStandFor (record v { backlog = after_flush v.backlog q }) (after_queue_left w q) →
-    QueuedAreHeld v w → QueuedAreHeld (record v { backlog = after_flush v.backlog q }) (after_queue_left w q)
-held_flush v w q st h = still_held v (record v { backlog = after_flush v.backlog q }) w
-    (after_queue_left w q) st h (through_purge_queue Finishes nothing both at_queue at_lists at_finish w q)
-    (fewer_flush v.backlog q)
+-- one queue of a TID that is purged or flushed
+pub held_emptied : (cause : Cause) (codel : Codel → Codel) (v : FlowsValue) (w : World) (q : ℕ) →
+    FlowsStandFor (record v { backlog = after_emptying cause codel v.backlog q })
+    (queue_emptied cause codel w q) →
+    QueuedAreHeld v w → QueuedAreHeld (record v { backlog = after_emptying cause codel v.backlog q })
+    (queue_emptied cause codel w q)
+held_emptied cause codel v w q st h =
+    still_held v (record v { backlog = after_emptying cause codel v.backlog q }) w
+    (queue_emptied cause codel w q) st h
+    (through_emptied_queue Finishes nothing both at_queue at_lists at_finish cause codel w q)
+    (fewer_emptied_queue cause codel v.backlog q)

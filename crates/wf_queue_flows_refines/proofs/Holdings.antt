@@ -3,19 +3,20 @@
 use Rattle.std.proofs.Common.{◌≡◌, refl, ap, ◌∙◌, arith, ℕ, zero, suc, ◌+◌, ◌==◌, ◌<◌, true, List, [], ◌∷◌, ◌++◌, map, length, set, take, drop, length-set, Option, Some, None}
 use Rattle.std.specs.Prelude.{slice_get}
 use Rattle.std.proofs.lemmas.Bool.{cond_both}
-use Rattle.wf_frame.specs.declared.classes.Cause.TheVariants.{Overlimit, Codel as By_codel, Left}
+use Rattle.wf_frame.specs.declared.classes.Cause.{Cause}
+use Rattle.wf_frame.specs.declared.classes.Cause.TheVariants.{Overlimit, Codel as By_codel, Left, Flushed}
 use Rattle.wf_frame.specs.declared.classes.Fate.{Fate}
 use Rattle.wf_frame.specs.declared.classes.Fate.TheVariants.{Dropped}
 use Rattle.wf_frame.specs.Frames.{FrameValue}
 use Rattle.wf_def_lists.specs.Table.{has, upto}
-use Rattle.wf_def_codel.specs.Codel.{Params}
+use Rattle.wf_def_codel.specs.Codel.{Codel, Params}
 use Rattle.wf_def_lists.specs.Lists.{on}
 use Rattle.wf_rotation.specs.Rotas.{need_at}
 use Rattle.wf_law_rules.proofs.Lemmas.Counts.{on-nil, on-first}
 use Rattle.wf_law_rules.proofs.Lemmas.Members.{has_filter, has_head, has_tail}
-use Rattle.wf_queue_flows.specs.Backlog.{BacklogValue, frames_at, frame_with_fate, with_calmed, after_head_drop, after_flush, drops_at}
+use Rattle.wf_queue_flows.specs.Backlog.{BacklogValue, frames_at, frame_with_fate, with_calmed, after_head_drop, after_emptying, unchanged, renewed, drops_at}
 use Rattle.wf_frame.specs.Classes.{tid_number}
-use Rattle.wf_queue_flows.specs.Flows.{FlowsValue, queues as queue_count, tid_rotation, is_listed, backlog_has_frames, longest_queue, after_limit, queue_for, with_listed_queue, with_appended, after_put, pick_of_tid, after_pick, taken_from_picked, queues_of, all_flushed, after_purge, taken_for_tid as take_out, flows_at_limit}
+use Rattle.wf_queue_flows.specs.Flows.{FlowsValue, queues as queue_count, tid_rotation, is_listed, backlog_has_frames, longest_queue, after_limit, queue_for, with_listed_queue, with_appended, after_put, pick_of_tid, after_pick, taken_from_picked, queues_of, all_emptied, after_purge, after_tid_flush, taken_for_tid as take_out, flows_at_limit}
 use Rattle.wf_queue_flows.proofs.Flags.{nothing_dropped}
 use Rattle.wf_queue_flows_refines.specs.Standing.{Part, ids, ids_given, times_held, with_finished, Stands}
 use Rattle.wf_queue_flows_refines.proofs.Ends.{on_ids-append, times_finished}
@@ -62,18 +63,21 @@ split_at (suc n) (f ∷ fs) id = omega (
   split_at n fs id,
 )
 
-times_flush : (b : BacklogValue) (q id : ℕ) → q < length b.queues →
-    times_held (after_flush b q) id ≡ times_held b id
-times_flush b q id low = omega (arith, times_moved b q (frames_at b q) [] (Dropped Left) id low, on-nil id)
+module _ (cause : Cause) (codel : Codel → Codel) where
+  times_emptied_queue : (b : BacklogValue) (q id : ℕ) → q < length b.queues →
+      times_held (after_emptying cause codel b q) id ≡ times_held b id
+  times_emptied_queue b q id low =
+      omega (arith, times_moved b q (frames_at b q) [] (Dropped cause) id low, on-nil id)
 
-times_flushed : (b : BacklogValue) (id : ℕ) (qs : List ℕ) →
-    ((q : ℕ) → has qs q ≡ true → q < length b.queues) → times_held (all_flushed b qs) id ≡ times_held b id
-unfolding all_flushed
-times_flushed b id [] low = refl
-times_flushed b id (q ∷ qs) low =
-    times_flushed (after_flush b q) id qs (λ k h.
-    omega (arith, low k (has_tail q qs k h), length-set b.queues q []))
-    ∙ times_flush b q id (low q (has_head q qs))
+  times_emptied : (b : BacklogValue) (id : ℕ) (qs : List ℕ) →
+      ((q : ℕ) → has qs q ≡ true → q < length b.queues) →
+      times_held (all_emptied cause codel b qs) id ≡ times_held b id
+  unfolding all_emptied
+  times_emptied b id [] low = refl
+  times_emptied b id (q ∷ qs) low =
+      times_emptied (after_emptying cause codel b q) id qs (λ k h.
+      omega (arith, low k (has_tail q qs k h), length-set b.queues q []))
+      ∙ times_emptied_queue b q id (low q (has_head q qs))
 
 -- ---- put
 
@@ -180,17 +184,23 @@ module _ (v : FlowsValue) (p : Part) (st : Stands v p) (id : ℕ) where
         st.sized.queues,
       ))
 
-  -- ---- purge
+  -- ---- purge and flush
+
+  low_queues : (i q : ℕ) → has (queues_of v i) q ≡ true → q < length v.backlog.queues
+  low_queues i q h = omega (
+    arith,
+    count_below (queue_count v) 0 q
+        (has_filter (is_listed v i) (upto (queue_count v)) q h),
+    st.sized.queues,
+  )
 
   pub times_purge : (i : ℕ) → times_held (after_purge v i).backlog id ≡ times_held v.backlog id
   unfolding after_purge
-  times_purge i = times_flushed v.backlog id (queues_of v i)
-      (λ q h. omega (
-        arith,
-        count_below (queue_count v) 0 q
-            (has_filter (is_listed v i) (upto (queue_count v)) q h),
-        st.sized.queues,
-      ))
+  times_purge i = times_emptied Left renewed v.backlog id (queues_of v i) (low_queues i)
+
+  pub times_flush : (i : ℕ) → times_held (after_tid_flush v i).backlog id ≡ times_held v.backlog id
+  unfolding after_tid_flush
+  times_flush i = times_emptied Flushed unchanged v.backlog id (queues_of v i) (low_queues i)
 
 -- ---- finish and reap
 

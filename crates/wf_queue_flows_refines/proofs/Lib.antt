@@ -3,8 +3,9 @@
 -- Parts: how each change of a world changes the part that the flow queues represent. Ends: frames are
 -- finished and reaped. Changes: one queue changes, or the lists of one TID, on both sides; all other
 -- calls are composed of these and of Ends. Readers: both sides read the same. Limits and Puts: a frame
--- is put in. Picking and Takes: a frame is taken out. Rising and Purges: the frames of a TID are
--- dropped. Leaves: changes that do not affect the flow queues. Holdings: which frames are queued or
+-- is put in. Picking and Takes: a frame is taken out. Emptied, Rising and Purges: the frames of a
+-- TID are dropped because its station leaves. Leaves: changes that do not affect the flow queues.
+-- Flushes: the frames of a TID are flushed. Holdings: which frames are queued or
 -- finished. Through and Elsewhere: the parts of a world that the calls do not change. Each, Bodies and
 -- Notes: the frames are the accepted ones. Heads: which frames are dropped, and how many. Held, Fates
 -- and Lefts: queued frames are held, and the frames are counted by their fates.
@@ -17,9 +18,11 @@ mod Limits
 pub mod Puts
 mod Picking
 pub mod Takes
+mod Emptied
 mod Rising
 pub mod Purges
 pub mod Leaves
+pub mod Flushes
 pub mod Holdings
 mod Through
 pub mod Elsewhere

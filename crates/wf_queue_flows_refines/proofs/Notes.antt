@@ -7,9 +7,10 @@ use Rattle.wf_frame.specs.declared.notes.Note.{Note}
 use Rattle.wf_frame.specs.declared.notes.Note.TheVariants.{Enqueue}
 use Rattle.wf_frame.specs.Frames.{FrameValue, source_octets}
 use Rattle.wf_def_rotation.specs.Rotation.{Rotation}
-use Rattle.wf_def_world.specs.World.{World, Queue, Frame, no_frame, accepted_count, on_queue, with_queues, with_station, on_station, on_tid, with_fate, with_frame_finished, with_frames_finished}
+use Rattle.wf_def_agreement.specs.Session.{Session, after_flush}
+use Rattle.wf_def_world.specs.World.{World, Queue, Frame, no_frame, accepted_count, on_queue, on_session, with_queues, with_station, on_station, on_tid, with_fate, with_frame_finished, with_frames_finished}
 use Rattle.wf_def_world.specs.FlowQueues.{after_limit, queue_for, after_put_in, taken_for_tid}
-use Rattle.wf_def_world.specs.Step.{with_frame, next_item, enqueue_outcome, reap_outcome, after_tid_left}
+use Rattle.wf_def_world.specs.Step.{with_frame, next_item, enqueue_outcome, reap_outcome, after_tid_left, after_tid_flushed}
 use Rattle.wf_law_runs.proofs.Deficits.Books.{upd_idle, put_upd}
 use Rattle.wf_law_runs.proofs.Queues.ShelvedStep.{accepted_put}
 use Rattle.wf_queue_flows.specs.Flows.{FlowsValue}
@@ -18,7 +19,7 @@ use Rattle.wf_queue_flows_refines.specs.Frames.{notes, IsAccepted, AreAccepted, 
 use Rattle.wf_queue_flows_refines.proofs.Parts.{end_is, end_other}
 use Rattle.wf_queue_flows_refines.proofs.Limits.{beside_limit}
 use Rattle.wf_queue_flows_refines.proofs.Puts.{accepted_enqueued}
-use Rattle.wf_queue_flows_refines.proofs.Through.{stays_finish_all, stays_limit, stays_put_in, stays_take, stays_left}
+use Rattle.wf_queue_flows_refines.proofs.Through.{stays_finish_all, stays_limit, stays_put_in, stays_take, stays_left, stays_flushed}
 use Rattle.wf_queue_flows_refines.proofs.Bodies.{body_other, body_own}
 
 notes_queue : (w : World) (q : ℕ) (f : Queue → Queue) → notes (on_queue w q f) ≡ notes w
@@ -42,6 +43,14 @@ notes_take = stays_take notes notes_queue notes_lists notes_finish
 
 pub notes_left : (w : World) (s t : ℕ) → notes (after_tid_left w s t) ≡ notes w
 notes_left = stays_left notes notes_queue notes_lists notes_finish
+
+notes_session : (w : World) (s t : ℕ) (f : Session → Session) → notes (on_session w s t f) ≡ notes w
+unfolding on_session on_tid on_station with_station
+notes_session w s t f = refl
+
+pub notes_flushed : (w : World) (s t : ℕ) → notes (after_tid_flushed w s t) ≡ notes w
+notes_flushed w s t = stays_flushed notes notes_queue notes_lists notes_finish w s t
+    ∙ notes_session w s t (after_flush w.config.attempts)
 
 pub notes_reaped : (w : World) (l : List ℕ) → notes (reap_outcome w l).world ≡ notes w
 unfolding reap_outcome

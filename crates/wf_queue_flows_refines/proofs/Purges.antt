@@ -4,26 +4,28 @@ use Rattle.std.proofs.Common.{◌≡◌, refl, ap, sym, ◌∙◌, subst, arith,
 use Rattle.std.specs.Prelude.{ℤ, pos}
 use Rattle.std.proofs.lemmas.List.Elements.{All-nil}
 use Rattle.std.proofs.lemmas.List.{append-nil, set-get_or, get_or-set_same, get_or-set_other}
+use Rattle.wf_frame.specs.declared.classes.Cause.{Cause}
 use Rattle.wf_frame.specs.declared.classes.Cause.TheVariants.{Left}
 use Rattle.wf_frame.specs.declared.classes.Fate.{Fate}
 use Rattle.wf_frame.specs.declared.classes.Fate.TheVariants.{Dropped}
 use Rattle.wf_frame.specs.Frames.{FrameValue}
 use Rattle.wf_def_lists.specs.Table.{at, has, upto}
-use Rattle.wf_def_codel.specs.Codel.{Item, new_codel}
+use Rattle.wf_def_codel.specs.Codel.{Item, Codel}
 use Rattle.wf_def_rotation.specs.Rotation.{Rotation, no_keys, has_key, in_order}
 use Rattle.wf_def_lists.specs.Lists.{on}
 use Rattle.wf_rotation.specs.Rotas.{deficit_at}
 use Rattle.wf_law_rules.proofs.Lemmas.Counts.{on-nil}
 use Rattle.wf_law_rules.proofs.Lemmas.Members.{has_head, has_tail, has_filter}
 use Rattle.wf_def_world.specs.World.{World, Station, Queue, with_station, on_station, on_tid, no_station, no_tid, is_live, queue, tid_of, session, accepted_count, on_queue, with_queues, with_fate, with_frame_finished, with_frames_finished}
-use Rattle.wf_def_world.specs.FlowQueues.{after_queue_left, after_queues_left}
+use Rattle.wf_def_world.specs.FlowQueues.{after_queues_left}
 use Rattle.wf_def_world.specs.Step.{waiting_ids, in_rising_order, after_tid_left}
-use Rattle.wf_queue_flows.specs.Backlog.{frames_at, item_of, frame_with_fate, after_flush}
+use Rattle.wf_queue_flows.specs.Backlog.{frames_at, item_of, codel_at, frame_with_fate, after_emptying, renewed}
 use Rattle.wf_frame.specs.Classes.{tid_number}
-use Rattle.wf_queue_flows.specs.Flows.{FlowsValue, SettingsValue, queues as queue_count, tid_rotation, queues_of, all_flushed, after_purge}
-use Rattle.wf_queue_flows_refines.specs.Standing.{Part, flows_part, ids, with_finished, Stands, FlowsStandFor}
+use Rattle.wf_queue_flows.specs.Flows.{FlowsValue, SettingsValue, queues as queue_count, tid_rotation, queues_of, all_emptied, after_purge}
+use Rattle.wf_queue_flows_refines.specs.Standing.{Part, flows_part, ids, with_finished, queue_emptied, queues_emptied, Stands, FlowsStandFor}
 use Rattle.wf_queue_flows_refines.proofs.Parts.{all_finished, accepted_all, part_with_queues}
 use Rattle.wf_queue_flows_refines.proofs.Changes.{with_queue, part_with, out_known, stands_moved, part_moved, stands_list}
+use Rattle.wf_queue_flows_refines.proofs.Emptied.{queues_left}
 use Rattle.wf_queue_flows_refines.proofs.Readers.{count_below}
 use Rattle.wf_queue_flows_refines.proofs.Rising.{rising_listed}
 
@@ -33,46 +35,92 @@ pub item_ids : (frames : List FrameValue) → map (λ (x : Item). x.id) (map ite
 item_ids [] = refl
 item_ids (f ∷ fs) = ap (λ (l : List ℕ). f.id ∷ l) (item_ids fs)
 
-pub stands_flush : (v : FlowsValue) (w : World) (q : ℕ) → FlowsStandFor v w → q < queue_count v →
-    FlowsStandFor (record v { backlog = after_flush v.backlog q }) (after_queue_left w q)
-unfolding after_queue_left
-stands_flush v w q st low =
-    let frames : List FrameValue = frames_at v.backlog q in
-    let d : ℤ = deficit_at v.rotas.deficits q in
-    let change : Queue → Queue = λ y. record y { items = []; codel = new_codel } in
-    let split : frames ≡ frames ++ [] = sym (append-nil frames) in
-    let known : (id : ℕ) → 0 < on (ids frames) id →
-    id < accepted_count w = out_known v (flows_part w) st q low frames [] [] split (λ id. omega arith) in
-    let moved : Stands (with_finished (with_queue v q [] new_codel d)
-    (v.backlog.finished ++ map (frame_with_fate (Dropped Left)) frames))
-    (all_finished (part_with (flows_part w) q (change (queue w q))) (Dropped Left) (ids frames)) =
-    stands_moved v (flows_part w) st q low frames [] [] split (λ id. omega arith)
-    (All-nil (λ (f : FrameValue). (flows_part w).flows f.id ≡ f.flow)) new_codel d
-    (change (queue w q)) (Dropped Left) refl refl (λ i h. st.deficits i q h) in
-    subst (λ (ds : List ℤ). Stands (record v {
-      backlog = after_flush v.backlog q;
-      rotas =
-          record v.rotas { deficits = ds };
-    }) (flows_part
-    (with_frames_finished (on_queue w q change) (Dropped Left) (map (λ x. x.id) (queue w q).items))))
-    (set-get_or v.rotas.deficits q (pos 0))
-    (subst (λ (p : Part). Stands (with_finished (with_queue v q [] new_codel d)
-    (v.backlog.finished ++ map (frame_with_fate (Dropped Left)) frames)) p)
-    (sym (part_moved w q change (Dropped Left) (ids frames) known)
-    ∙ ap (λ (l : List ℕ). flows_part (with_frames_finished (on_queue w q change) (Dropped Left) l))
-    (sym (ap (map (λ (x : Item). x.id)) (st.items q) ∙ item_ids frames)))
-    moved)
+module _ (cause : Cause) (codel : Codel → Codel) where
+  abbrev pub change : Queue → Queue
+  change y = record y { items = []; codel = codel y.codel }
 
--- ---- all queues of a TID
+  pub stands_emptied : (v : FlowsValue) (w : World) (q : ℕ) → FlowsStandFor v w → q < queue_count v →
+      FlowsStandFor (record v { backlog = after_emptying cause codel v.backlog q })
+      (queue_emptied cause codel w q)
+  unfolding queue_emptied
+  stands_emptied v w q st low =
+      let frames : List FrameValue = frames_at v.backlog q in
+      let d : ℤ = deficit_at v.rotas.deficits q in
+      let after : Codel = codel (codel_at v.backlog q) in
+      let split : frames ≡ frames ++ [] = sym (append-nil frames) in
+      let known : (id : ℕ) → 0 < on (ids frames) id →
+      id < accepted_count w = out_known v (flows_part w) st q low frames [] [] split (λ id. omega arith) in
+      let moved : Stands (with_finished (with_queue v q [] after d)
+      (v.backlog.finished ++ map (frame_with_fate (Dropped cause)) frames))
+      (all_finished (part_with (flows_part w) q (change (queue w q))) (Dropped cause) (ids frames)) =
+      stands_moved v (flows_part w) st q low frames [] [] split (λ id. omega arith)
+      (All-nil (λ (f : FrameValue). (flows_part w).flows f.id ≡ f.flow)) after d
+      (change (queue w q)) (Dropped cause) refl (ap codel (st.codels q)) (λ i h. st.deficits i q h) in
+      subst (λ (ds : List ℤ). Stands (record v {
+        backlog = after_emptying cause codel v.backlog q;
+        rotas =
+            record v.rotas { deficits = ds };
+      }) (flows_part
+      (with_frames_finished (on_queue w q change) (Dropped cause) (map (λ x. x.id) (queue w q).items))))
+      (set-get_or v.rotas.deficits q (pos 0))
+      (subst (λ (p : Part). Stands (with_finished (with_queue v q [] after d)
+      (v.backlog.finished ++ map (frame_with_fate (Dropped cause)) frames)) p)
+      (sym (part_moved w q change (Dropped cause) (ids frames) known)
+      ∙ ap (λ (l : List ℕ). flows_part (with_frames_finished (on_queue w q change) (Dropped cause) l))
+      (sym (ap (map (λ (x : Item). x.id)) (st.items q) ∙ item_ids frames)))
+      moved)
 
-stands_flush_all : (qs : List ℕ) (v : FlowsValue) (w : World) → FlowsStandFor v w →
-    ((q : ℕ) → has qs q ≡ true → q < queue_count v) →
-    FlowsStandFor (record v { backlog = all_flushed v.backlog qs }) (after_queues_left w qs)
-unfolding all_flushed after_queues_left
-stands_flush_all [] v w st low = st
-stands_flush_all (q ∷ qs) v w st low =
-    stands_flush_all qs (record v { backlog = after_flush v.backlog q }) (after_queue_left w q)
-    (stands_flush v w q st (low q (has_head q qs))) (λ k h. low k (has_tail q qs k h))
+  accepted_emptied_queue : (v : FlowsValue) (w : World) (q : ℕ) → FlowsStandFor v w → q < queue_count v →
+      accepted_count (queue_emptied cause codel w q) ≡ accepted_count w
+  unfolding queue_emptied
+  accepted_emptied_queue v w q st low =
+      let frames : List FrameValue = frames_at v.backlog q in
+      let known : (id : ℕ) → 0 < on (ids frames) id →
+      id < accepted_count w = out_known v (flows_part w) st q low frames [] [] (sym (append-nil frames))
+      (λ id. omega arith) in
+      ap (λ (l : List ℕ). accepted_count (with_frames_finished (on_queue w q change) (Dropped cause) l))
+      (ap (map (λ (x : Item). x.id)) (st.items q) ∙ item_ids frames)
+      ∙ ap (λ (x : Part). x.accepted) (part_moved w q change (Dropped cause) (ids frames) known)
+      ∙ accepted_all (ids frames) (part_with (flows_part w) q (change (queue w q))) (Dropped cause)
+
+  -- ---- all queues of a TID
+
+  pub stands_emptied_all : (qs : List ℕ) (v : FlowsValue) (w : World) → FlowsStandFor v w →
+      ((q : ℕ) → has qs q ≡ true → q < queue_count v) →
+      FlowsStandFor (record v { backlog = all_emptied cause codel v.backlog qs })
+      (queues_emptied cause codel w qs)
+  unfolding all_emptied queues_emptied
+  stands_emptied_all [] v w st low = st
+  stands_emptied_all (q ∷ qs) v w st low =
+      stands_emptied_all qs (record v { backlog = after_emptying cause codel v.backlog q })
+      (queue_emptied cause codel w q)
+      (stands_emptied v w q st (low q (has_head q qs))) (λ k h. low k (has_tail q qs k h))
+
+  pub accepted_emptied : (qs : List ℕ) (v : FlowsValue) (w : World) → FlowsStandFor v w →
+      ((q : ℕ) → has qs q ≡ true → q < queue_count v) →
+      accepted_count (queues_emptied cause codel w qs) ≡ accepted_count w
+  unfolding queues_emptied
+  accepted_emptied [] v w st low = refl
+  accepted_emptied (q ∷ qs) v w st low =
+      accepted_emptied qs (record v { backlog = after_emptying cause codel v.backlog q })
+      (queue_emptied cause codel w q)
+      (stands_emptied v w q st (low q (has_head q qs))) (λ k h. low k (has_tail q qs k h))
+      ∙ accepted_emptied_queue v w q st (low q (has_head q qs))
+
+-- the queues that a TID lists exist
+pub listed_low : (v : FlowsValue) (i q : ℕ) → has (queues_of v i) q ≡ true → q < queue_count v
+listed_low v i q h = omega (
+  arith,
+  count_below (queue_count v) 0 q
+      (has_filter (has_key (tid_rotation v i)) (upto (queue_count v)) q h),
+)
+
+-- the world's TID lists the same queues
+pub listed_same : (v : FlowsValue) (w : World) (s t : ℕ) → FlowsStandFor v w → s < v.stations → t < 8 →
+    in_rising_order (in_order (tid_of w s t).queues) ≡ queues_of v (tid_number s t)
+listed_same v w s t st low_s low_t =
+    ap (λ (r : Rotation). in_rising_order (in_order r)) (st.lists s t low_s low_t)
+    ∙ rising_listed (tid_rotation v (tid_number s t)) (queue_count v) (st.below (tid_number s t))
 
 pub stations_finish_all : (l : List ℕ) (w : World) (fate : Fate) →
     (with_frames_finished w fate l).stations ≡ w.stations
@@ -80,18 +128,23 @@ unfolding with_frames_finished with_frame_finished with_fate
 stations_finish_all [] w fate = refl
 stations_finish_all (id ∷ l) w fate = stations_finish_all l (with_frame_finished w fate id) fate
 
-stations_config : (l : List ℕ) (w : World) (fate : Fate) →
+pub stations_config : (l : List ℕ) (w : World) (fate : Fate) →
     (with_frames_finished w fate l).config.stations ≡ w.config.stations
 unfolding with_frames_finished with_frame_finished with_fate
 stations_config [] w fate = refl
 stations_config (id ∷ l) w fate = stations_config l (with_frame_finished w fate id) fate
 
-stations_purged : (qs : List ℕ) (w : World) → (after_queues_left w qs).stations ≡ w.stations
-unfolding after_queues_left after_queue_left on_queue
-stations_purged [] w = refl
-stations_purged (q ∷ qs) w = stations_purged qs (after_queue_left w q)
+stations_emptied : (cause : Cause) (codel : Codel → Codel) (qs : List ℕ) (w : World) →
+    (queues_emptied cause codel w qs).stations ≡ w.stations
+unfolding queues_emptied queue_emptied on_queue
+stations_emptied cause codel [] w = refl
+stations_emptied cause codel (q ∷ qs) w = stations_emptied cause codel qs (queue_emptied cause codel w q)
     ∙ stations_finish_all (map (λ x. x.id) (queue w q).items)
-    (on_queue w q (λ y. record y { items = []; codel = new_codel })) (Dropped Left)
+    (on_queue w q (change cause codel)) (Dropped cause)
+
+stations_purged : (qs : List ℕ) (w : World) → (after_queues_left w qs).stations ≡ w.stations
+stations_purged qs w = ap (λ (x : World). x.stations) (sym (queues_left qs w))
+    ∙ stations_emptied Left renewed qs w
 
 pub stands_purged : (v : FlowsValue) (w : World) (s t : ℕ) → FlowsStandFor v w → is_live w s ≡ true →
     s < w.config.stations → t < 8
@@ -103,23 +156,17 @@ stands_purged v w s t st live high low_t =
     let i : ℕ = tid_number s t in
     let qs : List ℕ = queues_of v i in
     let same : in_rising_order (in_order (tid_of w s t).queues) ≡ qs =
-    ap (λ (r : Rotation). in_rising_order (in_order r)) (st.lists s t low_s low_t)
-    ∙ rising_listed (tid_rotation v i) (queue_count v) (st.below i) in
-    let low : (q : ℕ) → has qs q ≡ true → q < queue_count v =
-    λ q h. omega (
-      arith,
-      count_below (queue_count v) 0 q
-          (has_filter (has_key (tid_rotation v i)) (upto (queue_count v)) q h),
-    ) in
-    let u : FlowsValue = record v { backlog = all_flushed v.backlog qs } in
+    listed_same v w s t st low_s low_t in
+    let u : FlowsValue = record v { backlog = all_emptied Left renewed v.backlog qs } in
     let w' : World = after_queues_left w qs in
-    let flushed_all : FlowsStandFor u w' = stands_flush_all qs v w st low in
+    let all_left : FlowsStandFor u w' = subst (FlowsStandFor u) (queues_left qs w)
+    (stands_emptied_all Left renewed qs v w st (listed_low v i)) in
     let live' : is_live w' s ≡ true = ap (λ (xs : List (Option Station)). is_some (at None xs s))
     (stations_purged qs w) ∙ live in
     subst (λ (l : List ℕ). FlowsStandFor (after_purge v i) (with_queues (after_queues_left w l) s t no_keys))
     (sym same)
     (subst (Stands (after_purge v i)) (sym (part_with_queues w' s t no_keys live'))
-    (stands_list u (flows_part w') s t no_keys flushed_all low_s low_t (λ q. omega (arith, on-nil q))
+    (stands_list u (flows_part w') s t no_keys all_left low_s low_t (λ q. omega (arith, on-nil q))
     (λ q h. absurd (cc h)) (λ q h. absurd (cc h))))
 
 -- if v agrees with the world after the waiting frames of the session are finished, then the purged v
@@ -146,30 +193,6 @@ accepted_with_queues : (w : World) (s t : ℕ) (r : Rotation) →
 unfolding with_queues on_tid on_station with_station
 accepted_with_queues w s t r = refl
 
-accepted_purge_queue : (v : FlowsValue) (w : World) (q : ℕ) → FlowsStandFor v w → q < queue_count v →
-    accepted_count (after_queue_left w q) ≡ accepted_count w
-unfolding after_queue_left
-accepted_purge_queue v w q st low =
-    let frames : List FrameValue = frames_at v.backlog q in
-    let change : Queue → Queue = λ y. record y { items = []; codel = new_codel } in
-    let known : (id : ℕ) → 0 < on (ids frames) id →
-    id < accepted_count w = out_known v (flows_part w) st q low frames [] [] (sym (append-nil frames))
-    (λ id. omega arith) in
-    ap (λ (l : List ℕ). accepted_count (with_frames_finished (on_queue w q change) (Dropped Left) l))
-    (ap (map (λ (x : Item). x.id)) (st.items q) ∙ item_ids frames)
-    ∙ ap (λ (x : Part). x.accepted) (part_moved w q change (Dropped Left) (ids frames) known)
-    ∙ accepted_all (ids frames) (part_with (flows_part w) q (change (queue w q))) (Dropped Left)
-
-accepted_purge_queues : (qs : List ℕ) (v : FlowsValue) (w : World) → FlowsStandFor v w →
-    ((q : ℕ) → has qs q ≡ true → q < queue_count v) →
-    accepted_count (after_queues_left w qs) ≡ accepted_count w
-unfolding after_queues_left
-accepted_purge_queues [] v w st low = refl
-accepted_purge_queues (q ∷ qs) v w st low =
-    accepted_purge_queues qs (record v { backlog = after_flush v.backlog q }) (after_queue_left w q)
-    (stands_flush v w q st (low q (has_head q qs))) (λ k h. low k (has_tail q qs k h))
-    ∙ accepted_purge_queue v w q st (low q (has_head q qs))
-
 pub accepted_left : (v : FlowsValue) (w : World) (s t : ℕ) →
     FlowsStandFor v (with_frames_finished w (Dropped Left) (waiting_ids (session w s t).slots)) →
     s < v.stations → t < 8
@@ -184,17 +207,12 @@ accepted_left v w s t st low_s low_t =
     let own : (tid_of w s t).queues ≡ tid_rotation v i =
     ap (λ (xs : List (Option Station)). (at no_tid (unwrap_or (at None xs s) no_station).tids t).queues)
     (sym same) ∙ st.lists s t low_s low_t in
-    let low : (q : ℕ) → has (queues_of v i) q ≡ true →
-    q < queue_count v = λ q h. omega (
-      arith,
-      count_below (queue_count v) 0 q
-          (has_filter (has_key (tid_rotation v i)) (upto (queue_count v)) q h),
-    ) in
     accepted_with_queues (after_queues_left w' (in_rising_order (in_order (tid_of w s t).queues))) s t no_keys
     ∙ ap (λ (l : List ℕ). accepted_count (after_queues_left w' l))
     (ap (λ (r : Rotation). in_rising_order (in_order r)) own
     ∙ rising_listed (tid_rotation v i) (queue_count v) (st.below i))
-    ∙ accepted_purge_queues (queues_of v i) v w' st low
+    ∙ ap accepted_count (sym (queues_left (queues_of v i) w'))
+    ∙ accepted_emptied Left renewed (queues_of v i) v w' st (listed_low v i)
 
 -- a purge empties the lists of the TID and does not change those of other TIDs
 pub purged_lists : (v : FlowsValue) (w : World) (s t : ℕ) → FlowsStandFor v w → s < v.stations → t < 8 →

@@ -1,15 +1,20 @@
 -- Proves that a relation of worlds holds through each call of the flow queues, if it holds for each
 -- elementary change: of a queue, of a TID's lists and of a frame's fate.
-use Rattle.std.proofs.Common.{◌≡◌, refl, ◌∙◌, ℕ, List, [], ◌∷◌, Option, Some, None}
+use Rattle.std.proofs.Common.{◌≡◌, refl, ◌∙◌, subst, ℕ, List, [], ◌∷◌, Option, Some, None}
 use Rattle.std.proofs.lemmas.Bool.{cond_both}
-use Rattle.wf_frame.specs.declared.classes.Cause.TheVariants.{Left}
+use Rattle.wf_frame.specs.declared.classes.Cause.{Cause}
+use Rattle.wf_frame.specs.declared.classes.Cause.TheVariants.{Left, Flushed}
 use Rattle.wf_frame.specs.declared.classes.Fate.{Fate}
 use Rattle.wf_frame.specs.declared.classes.Fate.TheVariants.{Dropped}
-use Rattle.wf_def_codel.specs.Codel.{Item, Dequeued}
+use Rattle.wf_def_codel.specs.Codel.{Item, Codel, Dequeued}
 use Rattle.wf_def_rotation.specs.Rotation.{Rotation, no_keys, has_key, in_order}
-use Rattle.wf_def_world.specs.World.{World, Queue, queue, tid_of, session, on_queue, with_queues, with_frame_finished, with_frames_finished}
-use Rattle.wf_def_world.specs.FlowQueues.{is_at_limit, longest_queue, without_head, after_limit, with_listed_queue, with_appended, after_put_in, with_queues_paid, picked_queue, taken_by_codel, taken_from_picked, taken_for_tid, after_queue_left, after_queues_left}
-use Rattle.wf_def_world.specs.Step.{waiting_ids, after_tid_left}
+use Rattle.wf_def_agreement.specs.Session.{after_flush}
+use Rattle.wf_def_world.specs.World.{World, Queue, queue, tid_of, session, on_queue, on_session, with_queues, with_frame_finished, with_frames_finished}
+use Rattle.wf_def_world.specs.FlowQueues.{is_at_limit, longest_queue, without_head, after_limit, with_listed_queue, with_appended, after_put_in, with_queues_paid, picked_queue, taken_by_codel, taken_from_picked, taken_for_tid, after_queues_left, after_queues_flushed}
+use Rattle.wf_def_world.specs.Step.{waiting_ids, in_rising_order, after_tid_left, after_tid_flushed}
+use Rattle.wf_queue_flows.specs.Backlog.{unchanged, renewed}
+use Rattle.wf_queue_flows_refines.specs.Standing.{queue_emptied, queues_emptied, waiting_flushed}
+use Rattle.wf_queue_flows_refines.proofs.Emptied.{queues_left, queues_flushed}
 
 module _ (R : World → World → Type 0) (same : (w : World) → R w w)
     (join : (u v w : World) → R u v → R v w → R u w)
@@ -64,17 +69,26 @@ module _ (R : World → World → Type 0) (same : (w : World) → R w w)
           (picked_queue w s t).quanta) (join _ _ _ (lists _ s t _)
           (through_taken _ s (picked_queue w s t).winner))
 
-      -- ---- purge
+      -- ---- purge and flush
 
-      pub through_purge_queue : (w : World) (q : ℕ) → R w (after_queue_left w q)
-      unfolding after_queue_left
-      through_purge_queue w q = join _ _ _ (queues w q _) (through_finish_all _ _ _)
+      pub through_emptied_queue : (cause : Cause) (codel : Codel → Codel) (w : World) (q : ℕ) →
+          R w (queue_emptied cause codel w q)
+      unfolding queue_emptied
+      through_emptied_queue cause codel w q = join _ _ _ (queues w q _) (through_finish_all _ _ _)
+
+      through_emptied_queues : (cause : Cause) (codel : Codel → Codel) (qs : List ℕ) (w : World) →
+          R w (queues_emptied cause codel w qs)
+      unfolding queues_emptied
+      through_emptied_queues cause codel [] w = same w
+      through_emptied_queues cause codel (q ∷ qs) w = join _ _ _ (through_emptied_queue cause codel w q)
+          (through_emptied_queues cause codel qs (queue_emptied cause codel w q))
 
       through_purge_queues : (qs : List ℕ) (w : World) → R w (after_queues_left w qs)
-      unfolding after_queues_left
-      through_purge_queues [] w = same w
-      through_purge_queues (q ∷ qs) w = join _ _ _ (through_purge_queue w q)
-          (through_purge_queues qs (after_queue_left w q))
+      through_purge_queues qs w = subst (R w) (queues_left qs w) (through_emptied_queues Left renewed qs w)
+
+      through_flush_queues : (qs : List ℕ) (w : World) → R w (after_queues_flushed w qs)
+      through_flush_queues qs w = subst (R w) (queues_flushed qs w)
+          (through_emptied_queues Flushed unchanged qs w)
 
       -- a leave of a TID, after the waiting frames of its session are finished
       pub through_purge : (w : World) (s t : ℕ) → R
@@ -85,6 +99,17 @@ module _ (R : World → World → Type 0) (same : (w : World) → R w w)
       pub through_left : (w : World) (s t : ℕ) → R w (after_tid_left w s t)
       through_left w s t = join _ _ _ (through_finish_all (waiting_ids (session w s t).slots) w
           (Dropped Left)) (through_purge w s t)
+
+      -- a flush of a TID, after the numbers of its session that wait have failed
+      pub through_flush : (w : World) (s t : ℕ) → R (waiting_flushed w s t) (after_tid_flushed w s t)
+      unfolding after_tid_flushed
+      through_flush w s t = through_flush_queues (in_rising_order (in_order (tid_of w s t).queues))
+          (waiting_flushed w s t)
+
+      pub through_flushed : (w : World) (s t : ℕ) →
+          R (on_session w s t (after_flush w.config.attempts)) (after_tid_flushed w s t)
+      through_flushed w s t = join _ _ _ (through_finish_all (waiting_ids (session w s t).slots)
+          (on_session w s t (after_flush w.config.attempts)) (Dropped Flushed)) (through_flush w s t)
 
 -- ---- a value read from a world that no call changes
 
@@ -117,3 +142,7 @@ module _ {X : Type 0} (read : World → X) (queues : (w : World) (q : ℕ) (f : 
 
         pub stays_left : (w : World) (s t : ℕ) → read (after_tid_left w s t) ≡ read w
         stays_left = through_left Reads (λ w. refl) joined queues lists finish
+
+        pub stays_flushed : (w : World) (s t : ℕ) → read (after_tid_flushed w s t)
+            ≡ read (on_session w s t (after_flush w.config.attempts))
+        stays_flushed = through_flushed Reads (λ w. refl) joined queues lists finish

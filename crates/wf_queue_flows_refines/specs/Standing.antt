@@ -12,7 +12,13 @@ use Rattle.wf_frame.specs.Frames.{FrameValue}
 use Rattle.wf_def_rotation.specs.Rotation.{Rotation, has_key as lists_of, in_order}
 use Rattle.wf_def_lists.specs.Lists.{on}
 use Rattle.wf_rotation.specs.Rotas.{deficit_at, quantum_at}
-use Rattle.wf_def_world.specs.World.{World, Queue, flow_of, tid_of, queue, frame, accepted_count}
+use Rattle.wf_frame.specs.declared.classes.Cause.{Cause}
+use Rattle.wf_frame.specs.declared.classes.Cause.TheVariants.{Flushed}
+use Rattle.wf_frame.specs.declared.classes.Fate.TheVariants.{Dropped}
+use Rattle.wf_def_agreement.specs.Session.{after_flush}
+use Rattle.wf_def_codel.specs.Codel.{Codel}
+use Rattle.wf_def_world.specs.World.{World, Queue, flow_of, tid_of, queue, frame, session, accepted_count, on_queue, on_session, with_frames_finished}
+use Rattle.wf_def_world.specs.Step.{waiting_ids}
 use Rattle.wf_queue_flows.specs.Backlog.{BacklogValue, frames_at, codel_at, item_of}
 use Rattle.wf_frame.specs.Classes.{tid_number}
 use Rattle.wf_queue_flows.specs.Flows.{FlowsValue, SettingsValue, settings, tids, queues as queue_count, tid_rotation}
@@ -107,3 +113,22 @@ pub record Stands (v : FlowsValue) (p : Part) : Type 0 where
 -- The flow queues v agree with those of the world w.
 abbrev pub FlowsStandFor : FlowsValue → World → Type 0
 FlowsStandFor v w = Stands v (flows_part w)
+
+-- ---- the frames of a TID are dropped
+
+-- the world after the frames of queue q were dropped for this cause, with `codel` of its CoDel state
+unfoldable pub queue_emptied : Cause → (Codel → Codel) → World → ℕ → World
+queue_emptied cause codel w q =
+    with_frames_finished (on_queue w q (λ y. record y { items = []; codel = codel y.codel }))
+    (Dropped cause) (map (λ x. x.id) (queue w q).items)
+
+-- the same for each of these queues, in order
+unfoldable pub queues_emptied : Cause → (Codel → Codel) → World → List ℕ → World
+queues_emptied cause codel w [] = w
+queues_emptied cause codel w (q ∷ qs) = queues_emptied cause codel (queue_emptied cause codel w q) qs
+
+-- the world in which the numbers of a TID that wait have failed, with their frames dropped as Flushed
+abbrev pub waiting_flushed : World → ℕ → ℕ → World
+waiting_flushed w s t =
+    with_frames_finished (on_session w s t (after_flush w.config.attempts)) (Dropped Flushed)
+    (waiting_ids (session w s t).slots)

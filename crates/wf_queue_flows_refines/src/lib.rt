@@ -15,26 +15,26 @@ ghost use Rattle.wf_frame.specs.Classes.{all_classes, tid_number};
 ghost use Rattle.wf_frame.specs.Frames.{FrameValue, source_octets};
 ghost use Rattle.wf_frame.specs.declared.settings.Config.{Config};
 ghost use Rattle.wf_frame.specs.declared.classes.Class.{Class};
-ghost use Rattle.wf_frame.specs.declared.classes.Cause.TheVariants.{Overlimit, Codel as By_codel, Left};
+ghost use Rattle.wf_frame.specs.declared.classes.Cause.TheVariants.{Overlimit, Codel as By_codel, Left, Flushed};
 ghost use Rattle.wf_frame.specs.declared.classes.Fate.{Fate};
 ghost use Rattle.wf_frame.specs.declared.classes.Fate.TheVariants.{Held, Dropped};
 ghost use Rattle.wf_frame.specs.declared.notes.ReplyNote.TheVariants.{Accepted as AcceptedReply, Reaped as ReapedReply};
 ghost use Rattle.wf_def_codel.specs.Codel.{Params};
 ghost use Rattle.wf_def_rotation.specs.Rotation.{Rotation, no_keys, in_order};
-ghost use Rattle.wf_def_agreement.specs.Session.{Session};
+ghost use Rattle.wf_def_agreement.specs.Session.{Session, after_flush as session_flushed};
 ghost use Rattle.wf_def_agreement.specs.Receiver.{Receiver};
 ghost use Rattle.wf_def_world.specs.World.{World, Bounds, Station, Share, Exchange, opening, is_live, session, tid_of, frame, accepted_count, codel_params as codel_params, with_station, on_station, on_session, on_receiver, on_share, with_queues, with_rotation, with_exchange, without_exchange, with_bounds, with_frame_finished, with_frames_finished};
-ghost use Rattle.wf_def_world.specs.FlowQueues.{total_queued, after_queues_left};
+ghost use Rattle.wf_def_world.specs.FlowQueues.{total_queued, after_queues_left, after_queues_flushed};
 ghost use Rattle.wf_def_world.specs.FlowQueues.{frames_queued as world_queued, longest_queue as world_longest, dropped_for_limit as world_dropped, is_listed_elsewhere as world_listed_elsewhere, queue_for as world_queue_for, after_limit as world_after_limit, taken_for_tid as world_take};
 ghost use Rattle.wf_def_world.specs.CanSend.{with_listings_of};
 ghost use Rattle.wf_def_world.specs.Exchanges.{after_pick, after_tid_turn};
-ghost use Rattle.wf_def_world.specs.Step.{waiting_ids, in_rising_order, join_outcome, after_tid_left, without_listings, enqueue_outcome, reap_outcome};
+ghost use Rattle.wf_def_world.specs.Step.{waiting_ids, in_rising_order, join_outcome, after_tid_left, after_tid_flushed, without_listings, enqueue_outcome, reap_outcome};
 ghost use Rattle.wf_def_world.specs.Text.{tally};
 ghost use Rattle.wf_def_lists.specs.Lists.{on};
 ghost use Rattle.wf_law_runs.specs.Places.{KeepsPlaces};
 ghost use Rattle.wf_queue_flows.specs.Backlog.{in_queues, item_of};
-ghost use Rattle.wf_queue_flows.specs.Flows.{FlowsValue, empty_flows, tid_rotation, frames_of_tid, longest_queue, dropped_for_limit, is_listed_by_another, queue_for, loses_next, after_limit, after_put, taken_for_tid, after_purge};
-ghost use Rattle.wf_queue_flows_refines.specs.Standing.{flows_part, ids, ids_given, times_held, with_finished, FlowsStandFor};
+ghost use Rattle.wf_queue_flows.specs.Flows.{FlowsValue, empty_flows, tid_rotation, frames_of_tid, longest_queue, dropped_for_limit, is_listed_by_another, queue_for, loses_next, after_limit, after_put, taken_for_tid, after_purge, after_tid_flush};
+ghost use Rattle.wf_queue_flows_refines.specs.Standing.{flows_part, ids, ids_given, times_held, with_finished, waiting_flushed, FlowsStandFor};
 ghost use Rattle.wf_queue_flows_refines.specs.Rest.{rest_of_world};
 ghost use Rattle.wf_queue_flows_refines.specs.Frames.{HasEach, Passes, DropsTo, AreAccepted, IsBody, IsBodySettled, HasFrames, notes, with_body, loses_next_in, counts_as, HaveSettled, AreHeld, QueuedAreHeld};
 
@@ -129,10 +129,24 @@ pub fn a_tid_is_purged()
         tid_rotation (after_purge v i) j ≡ tid_rotation v j }
 {}
 
+/// Both sides still agree after the queued frames of a TID are flushed, in the order of the queue numbers.
+/// If the waiting numbers of its session failed and their frames were finished before, the result is the
+/// machine's world after the flush. The TIDs still list their queues.
+pub fn a_tid_is_flushed()
+    ensures stands { (v : FlowsValue) (w : World) (s t : ℕ) → FlowsStandFor v w → s < w.config.stations →
+        t < 8 →
+        FlowsStandFor (after_tid_flush v (tid_number s t))
+        (after_queues_flushed w (in_rising_order (in_order (tid_of w s t).queues))) }
+    ensures flushed { (v : FlowsValue) (w : World) (s t : ℕ) → FlowsStandFor v (waiting_flushed w s t) →
+        s < w.config.stations → t < 8 →
+        FlowsStandFor (after_tid_flush v (tid_number s t)) (after_tid_flushed w s t) }
+    ensures lists { (v : FlowsValue) (i j : ℕ) → tid_rotation (after_tid_flush v i) j ≡ tid_rotation v j }
+{}
+
 /// How often an id is queued or finished. Each such frame was accepted and is there once; the next id is
 /// not there. A put or a finish adds its frame once, a take or a reap removes it once, and no call
-/// changes the count of any other frame: a drop or a purge only moves frames from the queues to the
-/// finished list.
+/// changes the count of any other frame: a drop, a purge or a flush only moves frames from the queues to
+/// the finished list.
 pub fn each_frame_is_held_once()
     ensures once { (v : FlowsValue) (w : World) (id : ℕ) → FlowsStandFor v w → times_held v.backlog id ≤ 1 }
     ensures accepted { (v : FlowsValue) (w : World) (id : ℕ) → FlowsStandFor v w →
@@ -153,10 +167,12 @@ pub fn each_frame_is_held_once()
         times_held (with_finished v behind).backlog id + on (f.id ∷ []) id ≡ times_held v.backlog id }
     ensures purge { (v : FlowsValue) (w : World) (id i : ℕ) → FlowsStandFor v w →
         times_held (after_purge v i).backlog id ≡ times_held v.backlog id }
+    ensures flush { (v : FlowsValue) (w : World) (id i : ℕ) → FlowsStandFor v w →
+        times_held (after_tid_flush v i).backlog id ≡ times_held v.backlog id }
 {}
 
-/// The number of frames that the world has accepted grows by one in a put. A take, a finish and a leave
-/// do not change it.
+/// The number of frames that the world has accepted grows by one in a put. A take, a finish, a leave and
+/// a flush do not change it.
 pub fn accepted_frames_stay()
     ensures put { (v : FlowsValue) (w : World) (s t flow len : ℕ) → FlowsStandFor v w →
         accepted_count (enqueue_outcome w s t flow len).world ≡ accepted_count w + 1 }
@@ -169,6 +185,9 @@ pub fn accepted_frames_stay()
         FlowsStandFor v (with_frames_finished w (Dropped Left) (waiting_ids (session w s t).slots)) →
         s < v.stations → t < 8 → accepted_count (after_tid_left w s t)
         ≡ accepted_count (with_frames_finished w (Dropped Left) (waiting_ids (session w s t).slots)) }
+    ensures flushed { (v : FlowsValue) (w : World) (s t : ℕ) → FlowsStandFor v (waiting_flushed w s t) →
+        s < v.stations → t < 8 →
+        accepted_count (after_tid_flushed w s t) ≡ accepted_count (waiting_flushed w s t) }
 {}
 
 /// Both sides still agree after a station that was not live joins, and after a station leaves whose TIDs
@@ -224,6 +243,8 @@ pub fn nothing_else_changes()
         rest_of_world (with_frames_finished w fate ids) ≡ rest_of_world w }
     ensures reap { (w : World) → rest_of_world (reap_outcome w w.finished).world ≡ rest_of_world w }
     ensures left { (w : World) (s t : ℕ) → rest_of_world (after_tid_left w s t) ≡ rest_of_world w }
+    ensures flushed { (w : World) (s t : ℕ) → rest_of_world (after_tid_flushed w s t)
+        ≡ rest_of_world (on_session w s t (session_flushed w.config.attempts)) }
     ensures live { (w x : World) (s : ℕ) → rest_of_world x ≡ rest_of_world w → is_live x s ≡ is_live w s }
     ensures params { (w x : World) (s : ℕ) → rest_of_world x ≡ rest_of_world w →
         codel_params x s ≡ codel_params w s }
@@ -245,6 +266,9 @@ pub fn each_frame_keeps_what_it_has()
         IfSome (taken_for_tid v i now params).frame (Passes p) }
     ensures purge { (p r : FrameValue → Bool) (v : FlowsValue) (i : ℕ) → DropsTo (Passes p) (Passes r) →
         HasEach (Passes p) (Passes r) v.backlog → HasEach (Passes p) (Passes r) (after_purge v i).backlog }
+    ensures flush { (p r : FrameValue → Bool) (v : FlowsValue) (i : ℕ) → DropsTo (Passes p) (Passes r) →
+        HasEach (Passes p) (Passes r) v.backlog →
+        HasEach (Passes p) (Passes r) (after_tid_flush v i).backlog }
     ensures finish { (p r : FrameValue → Bool) (v : FlowsValue) (f : FrameValue) →
         HasEach (Passes p) (Passes r) v.backlog → r f ≡ true →
         HasEach (Passes p) (Passes r) (with_finished v (v.backlog.finished ++ f ∷ [])).backlog }
@@ -274,6 +298,8 @@ pub fn the_frames_are_the_accepted_ones()
         IfSome (taken_for_tid v i now params).frame (IsBody bodies) }
     ensures purge { (v : FlowsValue) (w : World) (bodies : ℕ → FrameValue) (i : ℕ) → FlowsStandFor v w →
         AreAccepted w bodies → HasFrames v.backlog bodies → HasFrames (after_purge v i).backlog bodies }
+    ensures flush { (v : FlowsValue) (w : World) (bodies : ℕ → FrameValue) (i : ℕ) → FlowsStandFor v w →
+        AreAccepted w bodies → HasFrames v.backlog bodies → HasFrames (after_tid_flush v i).backlog bodies }
     ensures finish { (v : FlowsValue) (bodies : ℕ → FrameValue) (f : FrameValue) →
         HasFrames v.backlog bodies → IsBodySettled bodies f →
         HasFrames (with_finished v (v.backlog.finished ++ f ∷ [])).backlog bodies }
@@ -297,6 +323,7 @@ pub fn the_accepted_frames_are_kept()
     ensures finish_all { (w : World) (fate : Fate) (ids : List ℕ) →
         notes (with_frames_finished w fate ids) ≡ notes w }
     ensures left { (w : World) (s t : ℕ) → notes (after_tid_left w s t) ≡ notes w }
+    ensures flushed { (w : World) (s t : ℕ) → notes (after_tid_flushed w s t) ≡ notes w }
     ensures reap { (w : World) → notes (reap_outcome w w.finished).world ≡ notes w }
 {}
 
@@ -322,6 +349,9 @@ pub fn queued_frames_are_held()
         QueuedAreHeld v (with_frames_finished w (Dropped Left) (waiting_ids (session w s t).slots)) →
         is_live w s ≡ true → s < w.config.stations → t < 8 →
         QueuedAreHeld (after_purge v (tid_number s t)) (after_tid_left w s t) }
+    ensures flushed { (v : FlowsValue) (w : World) (s t : ℕ) → FlowsStandFor v (waiting_flushed w s t) →
+        QueuedAreHeld v (waiting_flushed w s t) → s < w.config.stations → t < 8 →
+        QueuedAreHeld (after_tid_flush v (tid_number s t)) (after_tid_flushed w s t) }
 {}
 
 /// The number of frames that a take drops, by which the finished list grows: the frames of the TID
@@ -339,10 +369,12 @@ pub fn a_take_drops_what_it_does_not_give()
         (world_take w s t).world s t + 1 ≡ length w.finished + world_queued w s t) }
 {}
 
-/// A purge drops all queued frames of the TID: the finished list grows by their number.
+/// A purge or a flush drops all queued frames of the TID: the finished list grows by their number.
 pub fn a_purge_drops_all_that_is_queued()
-    ensures { (v : FlowsValue) (w : World) (i : ℕ) → FlowsStandFor v w →
+    ensures purge { (v : FlowsValue) (w : World) (i : ℕ) → FlowsStandFor v w →
         length (after_purge v i).backlog.finished ≡ length v.backlog.finished + frames_of_tid v i }
+    ensures flush { (v : FlowsValue) (w : World) (i : ℕ) → FlowsStandFor v w →
+        length (after_tid_flush v i).backlog.finished ≡ length v.backlog.finished + frames_of_tid v i }
 {}
 
 /// The limit drops a frame of the TID that lists the longest queue, in the code as in the world. The
@@ -357,8 +389,8 @@ pub fn the_limit_drops_a_frame_of_one_tid()
 {}
 
 /// How each call changes the number of frames of each fate. Finishing n different held frames moves n
-/// from Held to their fate. This includes the frames that the limit, a take or a leave drops, whose
-/// number is the growth of the finished list. A frame that is put in counts as held.
+/// from Held to their fate. This includes the frames that the limit, a take, a leave or a flush drops,
+/// whose number is the growth of the finished list. A frame that is put in counts as held.
 pub fn the_fates_are_counted()
     ensures finish { (w : World) (fate : Fate) (id : ℕ) → id < accepted_count w → (frame w id).fate ≡ Held →
         HaveSettled w (with_frame_finished w fate id) fate 1 }
@@ -381,4 +413,8 @@ pub fn the_fates_are_counted()
         ≡ length (after_tid_left w s t).finished →
         HaveSettled (with_frames_finished w (Dropped Left) (waiting_ids (session w s t).slots))
         (after_tid_left w s t) (Dropped Left) n }
+    ensures flushed { (v : FlowsValue) (w : World) (s t n : ℕ) → FlowsStandFor v (waiting_flushed w s t) →
+        QueuedAreHeld v (waiting_flushed w s t) → s < v.stations → t < 8 →
+        n + length (waiting_flushed w s t).finished ≡ length (after_tid_flushed w s t).finished →
+        HaveSettled (waiting_flushed w s t) (after_tid_flushed w s t) (Dropped Flushed) n }
 {}

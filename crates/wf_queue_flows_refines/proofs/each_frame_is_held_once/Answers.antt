@@ -1,7 +1,7 @@
 -- The first two clauses are part of the agreement; the others are laws of Puts and Holdings.
 use Rattle.wf_queue_flows_refines.specs.Standing.{flows_part}
 use Rattle.wf_queue_flows_refines.proofs.Puts.{next_nowhere}
-use Rattle.wf_queue_flows_refines.proofs.Holdings.{times_put, times_take, times_finish, times_reap, times_purge}
+use Rattle.wf_queue_flows_refines.proofs.Holdings.{times_put, times_take, times_finish, times_reap, times_purge, times_flush}
 use Rattle.wf_queue_flows_refines.proofs.each_frame_is_held_once.Goals as goal
 
 pub returns-clause-once : goal.returns-clause-once
@@ -27,3 +27,6 @@ returns-clause-reap c = times_reap
 
 pub returns-clause-purge : goal.returns-clause-purge
 returns-clause-purge c = λ v w id i st. times_purge v (flows_part w) st id i
+
+pub returns-clause-flush : goal.returns-clause-flush
+returns-clause-flush c = λ v w id i st. times_flush v (flows_part w) st id i

@@ -1,6 +1,6 @@
 -- Each clause is a law of Each, for the two tests.
 use Rattle.wf_queue_flows_refines.specs.Frames.{Passes}
-use Rattle.wf_queue_flows_refines.proofs.Each.{each_put, each_take, each_purge, each_finish, each_reap}
+use Rattle.wf_queue_flows_refines.proofs.Each.{each_put, each_take, each_purge, each_flush, each_finish, each_reap}
 use Rattle.wf_queue_flows_refines.proofs.each_frame_keeps_what_it_has.Goals as goal
 
 pub returns-clause-put : goal.returns-clause-put
@@ -25,3 +25,6 @@ returns-clause-reap c = λ p r v f behind h e. (each_reap (Passes p) (Passes r) 
 
 pub returns-clause-reaped : goal.returns-clause-reaped
 returns-clause-reaped c = λ p r v f behind h e. (each_reap (Passes p) (Passes r) v f behind h e).1
+
+pub returns-clause-flush : goal.returns-clause-flush
+returns-clause-flush c = λ p r v i drops. each_flush (Passes p) (Passes r) drops v i

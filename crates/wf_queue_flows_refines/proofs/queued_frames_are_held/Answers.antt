@@ -1,6 +1,6 @@
 -- A frame has one place in a run; the other clauses are laws of Held.
 use Rattle.wf_queue_flows_refines.proofs.Heads.{queued_is_held}
-use Rattle.wf_queue_flows_refines.proofs.Held.{held_put, held_take, held_finish, held_reap, held_left}
+use Rattle.wf_queue_flows_refines.proofs.Held.{held_put, held_take, held_finish, held_reap, held_left, held_flushed}
 use Rattle.wf_queue_flows_refines.proofs.queued_frames_are_held.Goals as goal
 
 pub returns-clause-places : goal.returns-clause-places
@@ -20,3 +20,6 @@ returns-clause-reap c = held_reap
 
 pub returns-clause-left : goal.returns-clause-left
 returns-clause-left c = held_left
+
+pub returns-clause-flushed : goal.returns-clause-flushed
+returns-clause-flushed c = held_flushed

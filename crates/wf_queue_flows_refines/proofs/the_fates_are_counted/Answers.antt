@@ -1,5 +1,5 @@
 -- Each clause is a law of Fates or Lefts.
-use Rattle.wf_queue_flows_refines.proofs.Lefts.{settled_left}
+use Rattle.wf_queue_flows_refines.proofs.Lefts.{settled_left, settled_flushed}
 use Rattle.wf_queue_flows_refines.proofs.Fates.{settled_one, settled_all, settled_limit, counted_put, settled_take}
 use Rattle.wf_queue_flows_refines.proofs.the_fates_are_counted.Goals as goal
 
@@ -20,3 +20,6 @@ returns-clause-take c = settled_take
 
 pub returns-clause-left : goal.returns-clause-left
 returns-clause-left c = settled_left
+
+pub returns-clause-flushed : goal.returns-clause-flushed
+returns-clause-flushed c = settled_flushed

@@ -1,7 +1,7 @@
 -- Each clause is a law of Bodies or Each, for the tests of being the accepted frame.
 use Rattle.wf_queue_flows_refines.specs.Frames.{IsBody, IsBodySettled}
 use Rattle.wf_queue_flows_refines.proofs.Each.{each_finish, each_reap}
-use Rattle.wf_queue_flows_refines.proofs.Bodies.{frames_opening, frames_same, frames_put, frames_take, frame_given, frames_purged}
+use Rattle.wf_queue_flows_refines.proofs.Bodies.{frames_opening, frames_same, frames_put, frames_take, frame_given, frames_purged, frames_flushed}
 use Rattle.wf_queue_flows_refines.proofs.the_frames_are_the_accepted_ones.Goals as goal
 
 pub returns-clause-open : goal.returns-clause-open
@@ -32,3 +32,6 @@ returns-clause-reap c = λ v bodies f behind h e.
 pub returns-clause-reaped : goal.returns-clause-reaped
 returns-clause-reaped c = λ v bodies f behind h e.
     (each_reap (IsBody bodies) (IsBodySettled bodies) v f behind h e).1
+
+pub returns-clause-flush : goal.returns-clause-flush
+returns-clause-flush c = λ v w bodies i st ok h. frames_flushed v w bodies st ok h i
