@@ -4,7 +4,7 @@ use Rattle.std.proofs.lemmas.Bool.{leb-false}
 use Rattle.std.proofs.lemmas.Int.{ints}
 use Rattle.wf_frame.specs.declared.settings.Config.{Config}
 use Rattle.wf_frame.specs.declared.classes.Class.{Class}
-use Rattle.wf_frame.specs.declared.notes.Ask.TheVariants.{Join, Leave, Rate, Tick, Pull, Arrive, Answer, Done, Sleep, Wake, Poll, Rx, Reap, Ampdu, Stop, Start}
+use Rattle.wf_frame.specs.declared.notes.Ask.TheVariants.{Join, Leave, Rate, Tick, Pull, Arrive, Answer, Done, Sleep, Wake, Poll, Rx, Reap, Ampdu, Stop, Start, Unsent, GiveUp, Flush}
 use Rattle.wf_frame.specs.declared.notes.Limits.{Limits}
 use Rattle.wf_frame.specs.declared.notes.Note.{Note}
 use Rattle.wf_frame.specs.declared.notes.Note.TheVariants.{Enqueue, Asked}
@@ -15,7 +15,7 @@ use Rattle.wf_def_world.specs.World.{World, Exchange, opening, share, owed, pend
 use Rattle.wf_def_world.specs.CanSend.{is_ready, is_to_list, with_listings_of}
 use Rattle.wf_def_world.specs.Exchanges.{after_pick, bounds_of, picked_station}
 use Rattle.wf_def_world.specs.Refusals.{refusal, refusals}
-use Rattle.wf_def_world.specs.Step.{Outcome, outcome_where_open, done_outcome, arrive_outcome, answer_outcome, pull_outcome, outcome_of, concerned_station, after_refusal, judged_outcome, step}
+use Rattle.wf_def_world.specs.Step.{Outcome, outcome_where_open, done_outcome, arrive_outcome, answer_outcome, unsent_outcome, give_up_outcome, pull_outcome, outcome_of, concerned_station, after_refusal, judged_outcome, step}
 use Rattle.wf_def_world.specs.Run.{Entry}
 use Rattle.wf_def_world.specs.Stretches.{world_at}
 use Rattle.wf_law_runs.specs.Numbers.{least_deficit, greatest_deficit, NumbersFit}
@@ -33,7 +33,7 @@ use Rattle.wf_sched_refines.proofs.Charges.{receive_stands}
 use Rattle.wf_sched_refines.proofs.Members.{join_stands, gone_stands}
 use Rattle.wf_sched_refines.proofs.Listings.{concerned_stands, unconcerned_stands}
 use Rattle.wf_sched_refines.proofs.Picks.{pick_stands}
-use Rattle.wf_sched_refines.proofs.Unchanged.{bounded_leaves, enqueued_leaves, rate_leaves, tick_leaves, arrived_leaves, answered_leaves, slept_leaves, woken_leaves, credited_leaves, reaped_leaves, stated_leaves, stopped_leaves, started_leaves}
+use Rattle.wf_sched_refines.proofs.Unchanged.{bounded_leaves, enqueued_leaves, rate_leaves, tick_leaves, arrived_leaves, answered_leaves, slept_leaves, woken_leaves, credited_leaves, reaped_leaves, stated_leaves, stopped_leaves, started_leaves, unsent_leaves, given_up_leaves, flushed_leaves}
 use Rattle.wf_sched_refines.proofs.Exchanges.{winner_stands, end_stands}
 
 -- ---- a call that is not refused
@@ -100,6 +100,13 @@ done_stands (Asked (Sleep s)) v u w rows rises each h k = to v u _ k (slept_leav
 done_stands (Asked (Ampdu s octets)) v u w rows rises each h k = to v u _ k (stated_leaves w s octets v h)
 done_stands (Asked (Stop s)) v u w rows rises each h k = to v u _ k (stopped_leaves w s v h)
 done_stands (Asked (Start s)) v u w rows rises each h k = to v u _ k (started_leaves w s v h)
+done_stands (Asked (Unsent e i)) v u w rows rises each h k =
+    to v u _ k (open_leaves (exchange w e) w (λ x. unsent_outcome w x i)
+    (λ x is. unsent_leaves w x e i is rises) v h)
+done_stands (Asked (GiveUp e i)) v u w rows rises each h k =
+    to v u _ k (open_leaves (exchange w e) w (λ x. give_up_outcome w x i)
+    (λ x is. given_up_leaves w x e i is rises) v h)
+done_stands (Asked (Flush s t)) v u w rows rises each h k = to v u _ k (flushed_leaves w s t v h)
 done_stands (Asked (Wake s)) v u w rows rises each h k = to v u _ k (woken_leaves w s v h)
 done_stands (Asked (Poll s)) v u w rows rises each h k = to v u _ k (credited_leaves w s v h)
 done_stands (Asked (Rx s c air)) v u w rows rises each h k =

@@ -7,12 +7,12 @@ use Rattle.wf_frame.specs.declared.notes.Note.{Note}
 use Rattle.wf_frame.specs.Classes.{class_number}
 use Rattle.wf_def_lists.specs.Table.{at, put, with_member}
 use Rattle.wf_def_rotation.specs.Rotation.{Rotation, has_key, in_order}
-use Rattle.wf_def_agreement.specs.Session.{Session}
+use Rattle.wf_def_agreement.specs.Session.{Session, End}
 use Rattle.wf_def_agreement.specs.Receiver.{Receiver, score}
 use Rattle.wf_def_world.specs.World.{World, Bounds, Station, Share, Tid, Queue, Exchange, Mpdu, Content, Frames, Request, no_share, is_live, receiver, exchange, on_station, with_station, on_tid, on_session, on_receiver, with_queues, on_share, on_queue, with_fate, with_frame_finished, with_frames_finished, with_exchange, with_bounds}
-use Rattle.wf_def_world.specs.FlowQueues.{taken_for_tid}
+use Rattle.wf_def_world.specs.FlowQueues.{taken_for_tid, after_queue_flushed, after_queues_flushed}
 use Rattle.wf_def_world.specs.Exchanges.{after_arrival, after_tid_turn, without_credit, prepared_exchange, aggregate_of, with_failed_finished, with_settled, with_all_settled, after_done}
-use Rattle.wf_def_world.specs.Step.{after_tids_left, with_frame, rate_outcome, tick_outcome, enqueue_outcome, arrive_outcome, answer_outcome, sleep_outcome, wake_outcome, poll_outcome, reap_outcome, ampdu_outcome, stop_outcome, start_outcome}
+use Rattle.wf_def_world.specs.Step.{after_tids_left, with_frame, rate_outcome, tick_outcome, enqueue_outcome, arrive_outcome, answer_outcome, sleep_outcome, wake_outcome, poll_outcome, reap_outcome, ampdu_outcome, stop_outcome, start_outcome, unsent_outcome, give_up_outcome, flush_outcome, after_tid_flushed}
 use Rattle.wf_def_lists.specs.Lists.{IsOnce}
 use Rattle.wf_law_rules.proofs.Lemmas.Tables.{at_put_same, at_put_other}
 use Rattle.wf_law_runs.proofs.Deficits.Books.{cases_class, account, core, Account, Books, books, with_account, books_with_station, books_on_queue, books_finish, books_finish_all}
@@ -189,18 +189,19 @@ slot_leaves : (w : World) (s t : ℕ) (m : Mpdu) → LeavesRotas w (with_failed_
 unfolding with_failed_finished
 slot_leaves w s t m = leaves_if _ w _ _ (finish_leaves w _ _) (λ v h. h)
 
-settled_leaves : (w : World) (s t : ℕ) (acked : Bool) (m : Mpdu) → LeavesRotas w (with_settled w s t acked m)
+settled_leaves : (w : World) (s t : ℕ) (end : End) (m : Mpdu) → LeavesRotas w (with_settled w s t end m)
 unfolding with_settled
-settled_leaves w s t acked m = leaves_if acked w _ _
-    (leaves_then w _ _ (session_leaves w s t _) (finish_leaves _ _ _))
-    (leaves_then w _ _ (session_leaves w s t _) (slot_leaves _ s t m))
+settled_leaves w s t End.Acknowledged m = leaves_then w _ _ (session_leaves w s t _) (finish_leaves _ _ _)
+settled_leaves w s t End.Missed m = leaves_then w _ _ (session_leaves w s t _) (slot_leaves _ s t m)
+settled_leaves w s t End.GivenUp m = leaves_then w _ _ (session_leaves w s t _) (slot_leaves _ s t m)
+settled_leaves w s t End.Unsent m = leaves_then w _ _ (session_leaves w s t _) (slot_leaves _ s t m)
 
-all_settled_leave : (ms : List Mpdu) (w : World) (s t : ℕ) (acked : ℕ → Bool) →
-    LeavesRotas w (with_all_settled w s t acked ms)
+all_settled_leave : (ms : List Mpdu) (w : World) (s t : ℕ) (ends : ℕ → End) →
+    LeavesRotas w (with_all_settled w s t ends ms)
 unfolding with_all_settled
-all_settled_leave [] w s t acked = λ v h. h
-all_settled_leave (m ∷ ms) w s t acked = leaves_then w _ _ (settled_leaves w s t _ m)
-    (all_settled_leave ms _ s t acked)
+all_settled_leave [] w s t ends = λ v h. h
+all_settled_leave (m ∷ ms) w s t ends = leaves_then w _ _ (settled_leaves w s t _ m)
+    (all_settled_leave ms _ s t ends)
 
 pub after_done_leaves : (w : World) (x : Exchange) (heard : Bool) (content : Content) →
     LeavesRotas w (after_done w x heard content)
@@ -238,6 +239,33 @@ unfolding answer_outcome
 answered_leaves w x e known rises =
     exchange_leaves w x (record x { answer = Some (score (receiver w x.station x.tid)) }) e known rises
     (record { number = refl; station = refl; class = refl; charge = refl })
+
+-- the device marks a transmission
+pub unsent_leaves : (w : World) (x : Exchange) (e i : ℕ) → exchange w e ≡ Some x →
+    OpenRises 0 w.exchanges w.opened → LeavesRotas w (unsent_outcome w x i).world
+unfolding unsent_outcome
+unsent_leaves w x e i known rises =
+    exchange_leaves w x (record x { unsent = with_member i x.unsent }) e known rises
+    (record { number = refl; station = refl; class = refl; charge = refl })
+
+pub given_up_leaves : (w : World) (x : Exchange) (e i : ℕ) → exchange w e ≡ Some x →
+    OpenRises 0 w.exchanges w.opened → LeavesRotas w (give_up_outcome w x i).world
+unfolding give_up_outcome
+given_up_leaves w x e i known rises =
+    exchange_leaves w x (record x { given_up = with_member i x.given_up }) e known rises
+    (record { number = refl; station = refl; class = refl; charge = refl })
+
+-- a TID is flushed
+flushed_queues_leave : (qs : List ℕ) (w : World) → LeavesRotas w (after_queues_flushed w qs)
+unfolding after_queues_flushed after_queue_flushed
+flushed_queues_leave [] w = λ v h. h
+flushed_queues_leave (q ∷ qs) w = leaves_then w _ _
+    (leaves_then w _ _ (queue_leaves w q _) (finish_all_leaves _ _ _)) (flushed_queues_leave qs _)
+
+pub flushed_leaves : (w : World) (s t : ℕ) → LeavesRotas w (flush_outcome w s t).world
+unfolding flush_outcome after_tid_flushed
+flushed_leaves w s t = leaves_then w _ _
+    (leaves_then w _ _ (session_leaves w s t _) (finish_all_leaves _ _ _)) (flushed_queues_leave _ _)
 
 pub slept_leaves : (w : World) (s : ℕ) → LeavesRotas w (sleep_outcome w s).world
 unfolding sleep_outcome

@@ -30,7 +30,7 @@ ghost use Rattle.wf_def_world.specs.Exchanges.{Prepared, picked_station, after_p
 ghost use Rattle.wf_def_world.specs.Refusals.{refusal};
 ghost use Rattle.wf_def_world.specs.Stretches.{world_at};
 ghost use Rattle.wf_def_world.specs.Run.{Entry};
-ghost use Rattle.wf_def_world.specs.Step.{join_outcome as joined_world, outcome_of, concerned_station, step, after_tids_left, without_listings, leave_outcome, rate_outcome, tick_outcome, with_frame, enqueue_outcome, send_outcome, pull_outcome_for, arrive_outcome, answer_outcome, done_outcome, sleep_outcome, wake_outcome, poll_outcome, rx_outcome, reap_outcome, ampdu_outcome, stop_outcome, start_outcome};
+ghost use Rattle.wf_def_world.specs.Step.{join_outcome as joined_world, outcome_of, concerned_station, step, after_tids_left, without_listings, leave_outcome, rate_outcome, tick_outcome, with_frame, enqueue_outcome, send_outcome, pull_outcome_for, arrive_outcome, answer_outcome, done_outcome, sleep_outcome, wake_outcome, poll_outcome, rx_outcome, reap_outcome, ampdu_outcome, stop_outcome, start_outcome, unsent_outcome, give_up_outcome, flush_outcome};
 ghost use Rattle.wf_law_rules.specs.Renamed.{IsSame};
 ghost use Rattle.wf_law_runs.specs.Windows.{OpenRises, EachOpen};
 ghost use Rattle.wf_rotation.specs.Rotas.{is_ready as entry};
@@ -242,6 +242,11 @@ pub fn a_call_that_leaves_the_turns()
     ensures stated { (w : World) (s octets : ℕ) → LeavesRotas w (ampdu_outcome w s octets).world }
     ensures stopped { (w : World) (s : ℕ) → LeavesRotas w (stop_outcome w s).world }
     ensures started { (w : World) (s : ℕ) → LeavesRotas w (start_outcome w s).world }
+    ensures unsent { (w : World) (x : Exchange) (e i : ℕ) → exchange w e ≡ Some x →
+        OpenRises 0 w.exchanges w.opened → LeavesRotas w (unsent_outcome w x i).world }
+    ensures given_up { (w : World) (x : Exchange) (e i : ℕ) → exchange w e ≡ Some x →
+        OpenRises 0 w.exchanges w.opened → LeavesRotas w (give_up_outcome w x i).world }
+    ensures flushed { (w : World) (s t : ℕ) → LeavesRotas w (flush_outcome w s t).world }
     ensures slept { (w : World) (s : ℕ) → LeavesRotas w (sleep_outcome w s).world }
     ensures woken { (w : World) (s : ℕ) → LeavesRotas w (wake_outcome w s).world }
     ensures credited { (w : World) (s : ℕ) → LeavesRotas w (poll_outcome w s).world }

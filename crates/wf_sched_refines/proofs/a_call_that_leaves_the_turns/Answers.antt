@@ -1,5 +1,5 @@
 -- Each clause is a law of Unchanged or Exchanges.
-use Rattle.wf_sched_refines.proofs.Unchanged.{enqueued_leaves, rate_leaves, tick_leaves, arrived_leaves, answered_leaves, slept_leaves, woken_leaves, credited_leaves, reaped_leaves, bounded_leaves, stated_leaves, stopped_leaves, started_leaves}
+use Rattle.wf_sched_refines.proofs.Unchanged.{enqueued_leaves, rate_leaves, tick_leaves, arrived_leaves, answered_leaves, slept_leaves, woken_leaves, credited_leaves, reaped_leaves, bounded_leaves, stated_leaves, stopped_leaves, started_leaves, unsent_leaves, given_up_leaves, flushed_leaves}
 use Rattle.wf_sched_refines.proofs.Exchanges.{winner_stands}
 use Rattle.wf_sched_refines.proofs.a_call_that_leaves_the_turns.Goals as goal
 
@@ -44,3 +44,12 @@ returns-clause-stopped c = stopped_leaves
 
 pub returns-clause-started : goal.returns-clause-started
 returns-clause-started c = started_leaves
+
+pub returns-clause-unsent : goal.returns-clause-unsent
+returns-clause-unsent c = unsent_leaves
+
+pub returns-clause-given_up : goal.returns-clause-given_up
+returns-clause-given_up c = given_up_leaves
+
+pub returns-clause-flushed : goal.returns-clause-flushed
+returns-clause-flushed c = flushed_leaves
