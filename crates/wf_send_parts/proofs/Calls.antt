@@ -3,11 +3,12 @@ use Rattle.std.proofs.Common.{◌≡◌, ℕ, zero, suc, ◌+◌, ◌-◌, ◌%�
 use Rattle.std.proofs.lemmas.List.{append_assoc, map-append}
 use Rattle.std.proofs.lemmas.Bool.Decides.{nat_tests}
 use Rattle.wf_frame.specs.Frames.{FrameValue}
-use Rattle.wf_def_agreement.specs.Session.{Session, Slot, State, slot, on_slot, with_number_given, new_session, start_of, is_settled, request_due, has_room, with_state, after_miss, slot_after_miss}
+use Rattle.wf_def_agreement.specs.Session.{Session, Slot, State, slot, on_slot, with_number_given, new_session, start_of, is_settled, request_due, has_room, End, after_end, slot_after_miss, slot_given_up}
 use Rattle.wf_send_parts.specs.declared.window.place.Place.{Place}
 use Rattle.wf_send_parts.specs.declared.window.place.Place.TheVariants.{Waiting as Waits, Flying as Flies, Failed as Fails}
 use Rattle.wf_send_parts.specs.Places.{state_of_place, slot_place, place_as, slot_state, front, settled_first, since_failed, at_most}
 use Rattle.wf_octets.specs.Distance.{distance}
+use Rattle.wf_send_parts.specs.Answers.{place_ended}
 use Rattle.wf_send_parts.specs.Window.{WindowValue, WindowStandsFor, IsNumber, slots_from_start, moved_on, place_at, may_give, can_take}
 use Rattle.wf_send_parts.proofs.Fronts.{front_rest, at_most_both}
 use Rattle.wf_send_parts.proofs.Due.{request_due_is}
@@ -169,60 +170,31 @@ module _ (w : WindowValue) (s : Session) (bodies : ℕ → FrameValue) (stands :
         let P : WindowValue → Type 0 = λ v. WindowStandsFor v (on_slot n f s) bodies in
         subst P stays (slot_changed w s bodies stands n seq number f p same)
 
-    pub fly_law : (exchange attempts : ℕ) (parcel : FrameValue) →
-        place_at w seq ≡ Some (Waits parcel attempts) →
-        WindowStandsFor (record w {
-          places = set w.places (distance seq w.start)
-              (Some (Flies parcel attempts exchange));
-        }) (with_state (State.Flying exchange) n s) bodies
-    fly_law exchange attempts parcel found =
-        let x = waiting_slot bodies (slot s n) parcel attempts
-        (sym found ∙ place_is w s bodies stands n seq number) in
-        kept_law (λ y. record y { state = State.Flying exchange }) (Some (Flies parcel attempts exchange))
-        (same_flies _ _ _ _ x.parcel_is x.attempts_is) refl
-      where
-        same_flies : (f g : FrameValue) (a b : ℕ) → f ≡ g → a ≡ b →
-            Some (Flies f a exchange) ≡ Some (Flies g b exchange)
-        same_flies f g a b e h = cc
-
     module _ (parcel : FrameValue) (attempts exchange limit : ℕ)
         (found : place_at w seq ≡ Some (Flies parcel attempts exchange)) where
       pub found_slot : IsFlyingSlot bodies (slot s n) parcel attempts exchange
       found_slot = flying_slot bodies (slot s n) parcel attempts exchange
           (sym found ∙ place_is w s bodies stands n seq number)
 
-      pub acked_law : WindowStandsFor (moved_on (record
-          w { places = set w.places (distance seq w.start) None })) (with_state State.Acked n s) bodies
-      acked_law = slot_changed w s bodies stands n seq number
-          (λ y. record y { state = State.Acked }) None refl
-
-      pub failed_law : limit ≤ attempts + 1 → WindowStandsFor
-          (moved_on (record w { places = set w.places (distance seq w.start) (Some Fails) }))
-          (after_miss limit n s) bodies
-      failed_law last =
-          let over : nat_le limit ((slot s n).attempts + 1) ≡ true =
-          is_over _ _ _ last found_slot.attempts_is in
-          slot_changed w s bodies stands n seq number (slot_after_miss limit) (Some Fails)
-          (ap (λ (b : Bool). place_as (if b then State.Failed else State.Waiting) (bodies (slot s n).id)
-          ((slot s n).attempts + 1)) (sym over))
+      -- its exchange ends so for the number
+      pub ended_law : (end : End) (p : Option Place) → p ≡ place_ended end limit parcel attempts →
+          WindowStandsFor (moved_on (record w { places = set w.places (distance seq w.start) p }))
+          (after_end limit end n s) bodies
+      ended_law End.Acknowledged p is = slot_changed w s bodies stands n seq number
+          (λ y. record y { state = State.Acked }) p is
+      ended_law End.Missed p is = slot_changed w s bodies stands n seq number (slot_after_miss limit) p
+          (is ∙ ap (λ (f : FrameValue). place_ended End.Missed limit f attempts) found_slot.parcel_is
+          ∙ ap (λ (a : ℕ). place_ended End.Missed limit (bodies (slot s n).id) a) found_slot.attempts_is
+          ∙ missed_place (nat_le limit ((slot s n).attempts + 1)))
         where
-          is_over : (l a b : ℕ) → l ≤ a + 1 → a ≡ b → nat_le l (b + 1) ≡ true
-          is_over l a b h e = grind (arith, nat_tests)
-
-      pub missed_law : attempts + 1 < limit → WindowStandsFor
-          (record w { places = set w.places (distance seq w.start) (Some (Waits parcel (attempts + 1))) })
-          (after_miss limit n s) bodies
-      missed_law more =
-          let under : nat_le limit ((slot s n).attempts + 1) ≡ false =
-          is_under _ _ _ more found_slot.attempts_is in
-          kept_law (slot_after_miss limit) (Some (Waits parcel (attempts + 1)))
-          (same_waits _ _ _ _ found_slot.parcel_is found_slot.attempts_is
-          ∙ ap (λ (b : Bool). place_as (if b then State.Failed else State.Waiting) (bodies (slot s n).id)
-          ((slot s n).attempts + 1)) (sym under)) refl
-        where
-          is_under : (l a b : ℕ) → a + 1 < l → a ≡ b → nat_le l (b + 1) ≡ false
-          is_under l a b h e = grind (arith, nat_tests)
-
-          same_waits : (f g : FrameValue) (a b : ℕ) → f ≡ g → a ≡ b →
-              Some (Waits f (a + 1)) ≡ Some (Waits g (b + 1))
-          same_waits f g a b e h = cc
+          missed_place : (b : Bool) → (if b then Some Fails
+              else Some (Waits (bodies (slot s n).id) ((slot s n).attempts + 1)))
+              ≡ place_as (if b then State.Failed else State.Waiting) (bodies (slot s n).id)
+              ((slot s n).attempts + 1)
+          missed_place true = refl
+          missed_place false = refl
+      ended_law End.GivenUp p is = slot_changed w s bodies stands n seq number (slot_given_up limit) p is
+      ended_law End.Unsent p is = slot_changed w s bodies stands n seq number
+          (λ y. record y { state = State.Waiting }) p
+          (is ∙ ap (λ (f : FrameValue). Some (Waits f attempts)) found_slot.parcel_is
+          ∙ ap (λ (a : ℕ). Some (Waits (bodies (slot s n).id) a)) found_slot.attempts_is)

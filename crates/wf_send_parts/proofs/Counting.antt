@@ -91,7 +91,7 @@ count_cons : {X : Type 0} (p : X → Bool) (x : X) (xs : List X) →
 count_cons p x xs = sum_by-cons (λ y. cond (p y) 1 0) x xs
 
 -- equally many items pass from the first unsettled one on
-counted_rest : {X : Type 0} (state : X → State) (xs : List X) →
+pub counted_rest : {X : Type 0} (state : X → State) (xs : List X) →
     count_by (λ x. is_waiting (state x)) (rest state xs) ≡ count_by (λ x. is_waiting (state x)) xs
 counted_rest state [] = refl
 counted_rest {X = X} state (x ∷ xs) = elim (is_settled (state x)) as

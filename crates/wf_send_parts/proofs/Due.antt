@@ -87,8 +87,10 @@ module _ (R F : ℕ) where
         | State.Acked ↦ λ is e.
             let rest_of : Option ℕ → Bool = λ d. is_some (at_most (F - R)
             (since_failed slot_state d (front slot_state xs))) in
-            ap (λ (b : Bool). list_any test (numbers_where is_failed (suc m) xs) || b) (acked_step R m since h)
-            ∙ any_failed xs (suc m) (next_since State.Acked since) (past_next State.Acked since h) (omega arith)
+            ap (λ (b : Bool). list_any test (numbers_where is_failed (suc m) xs) || b)
+            (acked_step R m since h)
+            ∙ any_failed xs (suc m) (next_since State.Acked since) (past_next State.Acked since h)
+            (omega arith)
             ∙ ap rest_of (ap (λ (st : State). next_since st since) (sym is))
         | State.Failed ↦ λ is e.
             let rest_of : Option ℕ → Bool = λ d. is_some (at_most (F - R)

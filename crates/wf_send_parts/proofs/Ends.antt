@@ -3,9 +3,9 @@ use Rattle.std.proofs.Common.{◌≡◌, ◌≢◌, ℕ, ◌-◌, ◌%◌, ◌�
 use Rattle.std.proofs.lemmas.Bool.Decides.{nat_tests}
 use Rattle.wf_frame.specs.Frames.{FrameValue}
 use Rattle.wf_def_lists.specs.Table.{has}
-use Rattle.wf_def_agreement.specs.Session.{Session, Slot, State, no_slot, slot, on_slot, is_settled, slot_after_miss}
+use Rattle.wf_def_agreement.specs.Session.{Session, Slot, State, End, no_slot, slot, on_slot, is_settled, slot_after_miss, slot_given_up, after_end}
 use Rattle.wf_law_rules.proofs.Lemmas.Tables.{at_put_other}
-use Rattle.wf_send_parts.specs.Window.{WindowValue, WindowStandsFor, IsNumber, session_settled, is_flying, holds_parcel}
+use Rattle.wf_send_parts.specs.Window.{WindowValue, WindowStandsFor, IsNumber, is_flying, holds_parcel}
 use Rattle.wf_send_parts.proofs.Numbers.{open_number}
 use Rattle.wf_send_parts.proofs.Callers.{state_is, attempts_is}
 use Rattle.wf_send_parts.specs.Ending.{Ending, IsFlyingIn, AreFlying, all_settled, HasLeft, IsSettledNext}
@@ -48,10 +48,14 @@ others_fly s ending n ns f flying =
       once = flying.once.1;
     }
 
-pub still_fly : (acked : Bool) (s : Session) (ending : Ending) (n : ℕ) (ns : List ℕ) →
-    AreFlying s ending (n ∷ ns) → AreFlying (session_settled acked ending.limit n s) ending ns
-still_fly true s ending n ns flying = others_fly s ending n ns (λ x. record x { state = State.Acked }) flying
-still_fly false s ending n ns flying = others_fly s ending n ns (slot_after_miss ending.limit) flying
+pub still_fly : (end : End) (s : Session) (ending : Ending) (n : ℕ) (ns : List ℕ) →
+    AreFlying s ending (n ∷ ns) → AreFlying (after_end ending.limit end n s) ending ns
+still_fly End.Acknowledged s ending n ns flying =
+    others_fly s ending n ns (λ x. record x { state = State.Acked }) flying
+still_fly End.Missed s ending n ns flying = others_fly s ending n ns (slot_after_miss ending.limit) flying
+still_fly End.GivenUp s ending n ns flying = others_fly s ending n ns (slot_given_up ending.limit) flying
+still_fly End.Unsent s ending n ns flying =
+    others_fly s ending n ns (λ x. record x { state = State.Waiting }) flying
 
 -- the loop
 
@@ -83,12 +87,12 @@ module _ (w : WindowValue) (bodies : ℕ → FrameValue) (ending : Ending) (n : 
       }
 
   pub ending_next : (v : WindowValue) → WindowStandsFor v
-      (session_settled (ending.acked n) ending.limit n left.now) bodies → HasLeft v bodies ending ns after
+      (after_end ending.limit (ending.ends n) n left.now) bodies → HasLeft v bodies ending ns after
   ending_next v stands =
       record {
-        now = session_settled (ending.acked n) ending.limit n left.now;
+        now = after_end ending.limit (ending.ends n) n left.now;
         stands = stands;
-        flying = still_fly (ending.acked n) left.now ending n ns left.flying;
+        flying = still_fly (ending.ends n) left.now ending n ns left.flying;
         leads = left.leads;
       }
 

@@ -18,7 +18,8 @@ module _ (bodies others : ℕ → FrameValue) where
   same_place x h = elim x.state as (λ st. (holds_parcel st ≡ true → others x.id ≡ bodies x.id) →
       place_as st (bodies x.id) x.attempts ≡ place_as st (others x.id) x.attempts) [
         | State.Waiting ↦ λ h. ap (λ (f : FrameValue). Some (Waits f x.attempts)) (sym (h refl))
-        | State.Flying exchange ↦ λ h. ap (λ (f : FrameValue). Some (Flies f x.attempts exchange)) (sym (h refl))
+        | State.Flying exchange ↦ λ h. ap (λ (f : FrameValue). Some (Flies f x.attempts exchange)) (sym
+            (h refl))
         | State.Acked ↦ λ _. refl
         | State.Failed ↦ λ _. refl
       ] h

@@ -1,5 +1,6 @@
--- Proves that the list of open exchanges keeps its invariant when an exchange opens and when one ends.
-use Rattle.std.proofs.Common.{◌≡◌, ◌∙◌, ℕ, zero, suc, ◌<◌, ◌≤◌, List, [], ◌∷◌, ◌++◌, length, map, ap, sym, subst, arith}
+-- Proves that the list of open exchanges keeps its invariant when an exchange opens, when one ends, and when
+-- one changes except its number.
+use Rattle.std.proofs.Common.{◌≡◌, ◌∙◌, ℕ, zero, suc, ◌<◌, ◌≤◌, List, [], ◌∷◌, ◌++◌, length, get_or, set, map, refl, ap, sym, subst, arith, length-set}
 use Rattle.std.specs.Prelude.{All}
 use Rattle.std.specs.List.{remove}
 use Rattle.std.proofs.lemmas.List.{length_push}
@@ -33,4 +34,21 @@ kept_remove number xs after i c d kept is roomy = record {
   few = omega (arith, kept.few, ap length is, fewer xs i);
   reserved = omega (arith, kept.reserved, roomy);
   rising = subst (λ zs. IsRising 0 (map number zs)) (sym is) (rising_remove number 0 xs i kept.rising);
+}
+
+-- an item in whose place another of the same number is put
+pub numbers_stay : {X : Type 0} (number : X → ℕ) (xs : List X) (i : ℕ) (y d : X) →
+    number y ≡ number (get_or xs i d) → map number (set xs i y) ≡ map number xs
+numbers_stay number [] i y d same = refl
+numbers_stay number (x ∷ xs) zero y d same = ap (λ (n : ℕ). n ∷ map number xs) same
+numbers_stay number (x ∷ xs) (suc i) y d same = ap (λ (ns : List ℕ). number x ∷ ns)
+    (numbers_stay number xs i y d same)
+
+pub kept_changed : {X : Type 0} (number : X → ℕ) (xs : List X) (capacity i : ℕ) (y d : X) →
+    d ≡ get_or xs i d → number y ≡ number d → AreKept number xs capacity →
+    AreKept number (set xs i y) capacity
+kept_changed number xs capacity i y d here same ok = record {
+  few = omega (arith, length-set xs i y, ok.few);
+  reserved = ok.reserved;
+  rising = subst (IsRising 0) (sym (numbers_stay number xs i y d (same ∙ ap number here))) ok.rising;
 }

@@ -7,11 +7,13 @@ pub mod Counting
 mod Due
 pub mod Ends
 pub mod Expelling
+pub mod Flushing
 mod Finding
 pub mod Fronts
 pub mod Held
 pub mod Laws
 pub mod Listing
+mod Marking
 mod Moving
 pub mod Numbers
 mod Resetting

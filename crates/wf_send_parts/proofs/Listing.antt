@@ -17,7 +17,7 @@ use Rattle.wf_send_parts.proofs.Counting.{settled_waits}
 
 -- the numbers of a rising list at or past n
 
-abbrev since : ℕ → List ℕ → List ℕ
+abbrev pub since : ℕ → List ℕ → List ℕ
 since n xs = filter (λ m. nat_le n m) xs
 
 pub all_since : (xs : List ℕ) (low n : ℕ) → n ≤ low → IsRising low xs → since n xs ≡ xs
@@ -28,9 +28,9 @@ all_since (x ∷ xs) low n h rising =
     ∙ ap (λ (ys : List ℕ). x ∷ ys) (all_since xs (suc x) n (omega (arith, rising.0)) rising.1)
 
 -- r is the first number of the list at or past n
-record IsFirst (n r : ℕ) (xs : List ℕ) : Type 0 where
-  above : n ≤ r
-  rest : since n xs ≡ r ∷ since (r + 1) xs
+pub record IsFirst (n r : ℕ) (xs : List ℕ) : Type 0 where
+  pub above : n ≤ r
+  pub rest : since n xs ≡ r ∷ since (r + 1) xs
 
 found_here : (x : ℕ) (xs : List ℕ) (low n : ℕ) → IsRising low (x ∷ xs) → nat_le n x ≡ true →
     IsFirst n x (x ∷ xs)
@@ -57,7 +57,7 @@ found_later x xs n r fails first =
           ∙ ap (λ (b : Bool). r ∷ cond b (x ∷ since (r + 1) xs) (since (r + 1) xs)) (sym past);
     }
 
-first_since : (xs : List ℕ) (low n r : ℕ) → IsRising low xs → find (λ m. nat_le n m) xs ≡ Some r →
+pub first_since : (xs : List ℕ) (low n r : ℕ) → IsRising low xs → find (λ m. nat_le n m) xs ≡ Some r →
     IsFirst n r xs
 first_since [] low n r rising e = absurd (cc e)
 first_since (x ∷ xs) low n r rising e = pick (nat_le n x) refl (first_since xs (suc x) n r rising.1) e
@@ -68,7 +68,7 @@ first_since (x ∷ xs) low n r rising e = pick (nat_le n x) refl (first_since xs
         subst (λ (k : ℕ). IsFirst n k (x ∷ xs)) same (found_here x xs low n rising t)
     pick false t later e = found_later x xs n r t (later e)
 
-none_since : (xs : List ℕ) (n : ℕ) → find (λ m. nat_le n m) xs ≡ None → since n xs ≡ []
+pub none_since : (xs : List ℕ) (n : ℕ) → find (λ m. nat_le n m) xs ≡ None → since n xs ≡ []
 none_since [] n e = refl
 none_since (x ∷ xs) n e = pick (nat_le n x) (none_since xs n) e
   where
@@ -83,7 +83,7 @@ rising_lower : (xs : List ℕ) (high low : ℕ) → low ≤ high → IsRising hi
 rising_lower [] high low h rising = tt
 rising_lower (x ∷ xs) high low h rising = (omega (arith, rising.0), rising.1)
 
-numbers_rise : (m : ℕ) (xs : List Slot) → IsRising m (numbers_where is_waiting m xs)
+pub numbers_rise : (m : ℕ) (xs : List Slot) → IsRising m (numbers_where is_waiting m xs)
 numbers_rise m [] = tt
 numbers_rise m (x ∷ xs) = elim (is_waiting x.state) as
     (λ b. IsRising m (if b then m ∷ numbers_where is_waiting (suc m) xs

@@ -155,3 +155,12 @@ pub changed_at : {X : Type 0} (key : X → ℕ) (f : X → X) (e : ℕ) (xs : Li
 changed_at key f e xs i d rising is =
     let at = position-Some (λ x. key x == e) xs i d is in
     change_is key f 0 e xs i d rising at.0 (eqb-true (key (get_or xs i d)) e at.1)
+
+-- the same, as the code finds the place and reads the item
+pub changed_where : {X : Type 0} (key : X → ℕ) (f : X → X) (e i : ℕ) (xs now : List X) (d : X) → xs ≡ now →
+    IsRising 0 (map key xs) → Some i ≡ position (λ x. key x == e) now → d ≡ get_or xs i d →
+    set xs i (f d) ≡ map (λ x. if key x == e then f x else x) now
+changed_where {X = X} key f e i xs now d same rising found here =
+    ap (λ (x : X). set xs i (f x)) here
+    ∙ changed_at key f e xs i d rising (ap (position (λ x. key x == e)) same ∙ sym found)
+    ∙ ap (map (λ x. if key x == e then f x else x)) same

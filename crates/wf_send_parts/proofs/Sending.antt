@@ -1,19 +1,20 @@
--- Proves that a waiting number flies and its frame counts an attempt, while all other windows and frames are
--- unchanged.
+-- Proves that a waiting number flies and its frame counts an attempt, or that a flying number's frame takes
+-- one back, while all other windows and frames are unchanged.
 use Rattle.std.proofs.Common.{◌≡◌, ◌≢◌, ℕ, zero, suc, ◌+◌, ◌-◌, ◌<◌, ◌==◌, Bool, true, false, Option, Some, List, [], ◌∷◌, ◌++◌, length, get_or, set, map, refl, ap, sym, ◌∙◌, subst, arith, eq-eqb, inl, inr}
 use Rattle.std.proofs.lemmas.Bool.{cases_eq, ne_eqb, cond-true, cond-false}
 use Rattle.wf_frame.specs.Classes.{tid_number}
 use Rattle.wf_frame.specs.Frames.{FrameValue, sent_again}
-use Rattle.wf_def_agreement.specs.Session.{Session, Slot, State, no_slot, slot, start_of, with_state}
+use Rattle.wf_def_agreement.specs.Session.{Session, Slot, State, no_slot, slot, on_slot, start_of, is_settled, with_state}
+use Rattle.wf_def_lists.specs.Table.{change}
 use Rattle.wf_octets.specs.Distance.{distance}
 use Rattle.wf_send_parts.specs.declared.window.place.Place.{Place}
 use Rattle.wf_send_parts.specs.declared.window.place.Place.TheVariants.{Waiting as Waits, Flying as Flies}
-use Rattle.wf_send_parts.specs.Places.{slot_place, place_as}
-use Rattle.wf_send_parts.specs.Sent.{with_one_sent, with_all_sent}
+use Rattle.wf_send_parts.specs.Places.{state_of_place, slot_place, place_as}
+use Rattle.wf_send_parts.specs.Sent.{with_frame_changed, with_one_sent, with_all_sent}
 use Rattle.wf_send_parts.specs.Window.{WindowValue, WindowStandsFor, IsNumber, HasOwnFrame, holds_parcel, slots_from_start, place_at}
 use Rattle.wf_send_parts.specs.Windows.{window_of, with_window}
 use Rattle.wf_send_parts.specs.Many.{AllStand, IsSameElsewhere, HasSameFrames}
-use Rattle.wf_send_parts.proofs.Calls.{IsWaitingSlot, waiting_slot, fly_law}
+use Rattle.wf_send_parts.proofs.Calls.{IsWaitingSlot, waiting_slot, IsFlyingSlot, flying_slot, kept_law}
 use Rattle.wf_send_parts.proofs.Fronts.{at_is, at_rest}
 use Rattle.wf_send_parts.proofs.Changes.{is_this, window_same, window_other}
 use Rattle.wf_send_parts.proofs.Held.{same_place, held_stand}
@@ -21,23 +22,36 @@ use Rattle.wf_send_parts.proofs.Laws.{start_of_is, next_is, place_is, distance_i
 
 -- ---- the frames by id
 
+module _ (g : FrameValue → FrameValue) where
+  pub frame_other : (bodies : ℕ → FrameValue) (id k : ℕ) → k ≢ id →
+      with_frame_changed g id bodies k ≡ bodies k
+  frame_other bodies id k other = cond-false (k == id) (g (bodies k)) (bodies k) (ne_eqb k id other)
+
+  pub frame_own : (bodies : ℕ → FrameValue) (id : ℕ) → with_frame_changed g id bodies id ≡ g (bodies id)
+  frame_own bodies id = cond-true (id == id) (g (bodies id)) (bodies id) (eq-eqb id id refl)
+
+  -- what the change of a frame keeps
+  pub frame_keeps : {X : Type 0} (h : FrameValue → X) → ((f : FrameValue) → h (g f) ≡ h f) →
+      (bodies : ℕ → FrameValue) (id k : ℕ) → h (with_frame_changed g id bodies k) ≡ h (bodies k)
+  frame_keeps h keeps bodies id k = elim (cases_eq k id) [
+    | inl same ↦
+        ap (λ (n : ℕ). h (with_frame_changed g id bodies n)) same
+        ∙ ap h (frame_own bodies id)
+        ∙ keeps (bodies id)
+        ∙ ap (λ (n : ℕ). h (bodies n)) (sym same)
+    | inr other ↦ ap h (frame_other bodies id k other)
+  ]
+
 pub sent_other : (bodies : ℕ → FrameValue) (id k : ℕ) → k ≢ id → with_one_sent id bodies k ≡ bodies k
-sent_other bodies id k other = cond-false (k == id) (sent_again (bodies k)) (bodies k) (ne_eqb k id other)
+sent_other = frame_other sent_again
 
 pub sent_own : (bodies : ℕ → FrameValue) (id : ℕ) → with_one_sent id bodies id ≡ sent_again (bodies id)
-sent_own bodies id = cond-true (id == id) (sent_again (bodies id)) (bodies id) (eq-eqb id id refl)
+sent_own = frame_own sent_again
 
 -- only the frame's count of attempts changes
-pub sent_keeps : {X : Type 0} (g : FrameValue → X) → ((f : FrameValue) → g (sent_again f) ≡ g f) →
-    (bodies : ℕ → FrameValue) (id k : ℕ) → g (with_one_sent id bodies k) ≡ g (bodies k)
-sent_keeps g keeps bodies id k = elim (cases_eq k id) [
-  | inl same ↦
-      ap (λ (n : ℕ). g (with_one_sent id bodies n)) same
-      ∙ ap g (sent_own bodies id)
-      ∙ keeps (bodies id)
-      ∙ ap (λ (n : ℕ). g (bodies n)) (sym same)
-  | inr other ↦ ap g (sent_other bodies id k other)
-]
+pub sent_keeps : {X : Type 0} (h : FrameValue → X) → ((f : FrameValue) → h (sent_again f) ≡ h f) →
+    (bodies : ℕ → FrameValue) (id k : ℕ) → h (with_one_sent id bodies k) ≡ h (bodies k)
+sent_keeps = frame_keeps sent_again
 
 pub all_sent_keep : {X : Type 0} (g : FrameValue → X) → ((f : FrameValue) → g (sent_again f) ≡ g f) →
     (pairs : List (ℕ × ℕ)) (bodies : ℕ → FrameValue) (k : ℕ) → g (with_all_sent pairs bodies k) ≡ g (bodies k)
@@ -72,12 +86,25 @@ set_but_one f g (x ∷ xs) (suc i) p same =
     ∙ ap (λ (ps : List (Option Place)). g x ∷ ps) (set_but_one f g xs i p (λ k below other.
     same (suc k) (omega (arith, below)) (λ (e : suc k ≡ suc i). other (omega (arith, e)))))
 
-module _ (w : WindowValue) (s : Session) (bodies : ℕ → FrameValue) (stands : WindowStandsFor w s bodies)
-    (n seq : ℕ) (number : IsNumber s n seq) (own : HasOwnFrame s n) where
-  abbrev others : ℕ → FrameValue
-  others = with_one_sent (slot s n).id bodies
+-- a number's slot that is put back
+slot_put_back : (xs : List Slot) (k : ℕ) → k < length xs → change no_slot xs k (λ x. x) ≡ xs
+slot_put_back [] k inside = absurd (omega (arith, inside))
+slot_put_back (x ∷ xs) zero inside = refl
+slot_put_back (x ∷ xs) (suc k) inside = ap (λ (ys : List Slot). x ∷ ys)
+    (slot_put_back xs k (omega (arith, inside)))
 
-  -- the same window, with the frames after the count
+slot_unchanged : (s : Session) (n : ℕ) {seq : ℕ} → IsNumber s n seq → on_slot n (λ x. x) s ≡ s
+slot_unchanged s n number = ap (λ (xs : List Slot). record s { slots = xs })
+    (slot_put_back s.slots (n - s.first)
+    (omega (arith, number.from_start, number.given, start_of_is s)))
+
+module _ (g : FrameValue → FrameValue) (w : WindowValue) (s : Session) (bodies : ℕ → FrameValue)
+    (stands : WindowStandsFor w s bodies) (n seq : ℕ) (number : IsNumber s n seq)
+    (own : HasOwnFrame s n) where
+  abbrev others : ℕ → FrameValue
+  others = with_frame_changed g (slot s n).id bodies
+
+  -- the same window, with the frames after the change
   abbrev counted : WindowValue
   counted = record w { places = map (slot_place others) (slots_from_start s) }
 
@@ -100,37 +127,64 @@ module _ (w : WindowValue) (s : Session) (bodies : ℕ → FrameValue) (stands :
       slot_place bodies (get_or (slots_from_start s) k no_slot)
       ≡ slot_place others (get_or (slots_from_start s) k no_slot)
   others_same k below other = same_place bodies others (get_or (slots_from_start s) k no_slot)
-      (λ held. sent_other bodies (slot s n).id (get_or (slots_from_start s) k no_slot).id (λ same.
+      (λ held. frame_other g bodies (slot s n).id (get_or (slots_from_start s) k no_slot).id (λ same.
       let e : start_of s + k ≡ n = own.sole (start_of s + k) (omega arith) (omega (arith, next_is s, below))
       (ap (λ (x : Slot). holds_parcel x.state) (slot_at k) ∙ held)
       (ap (λ (x : Slot). x.id) (slot_at k) ∙ same) in
       other (omega (arith, e))))
 
-  pub sent_law : (exchange attempts : ℕ) (parcel : FrameValue) →
-      place_at w seq ≡ Some (Waits parcel attempts) →
-      WindowStandsFor (record w {
-        places = set w.places (distance seq w.start)
-            (Some (Flies (sent_again parcel) attempts exchange));
-      }) (with_state (State.Flying exchange) n s) (with_one_sent (slot s n).id bodies)
-  sent_law exchange attempts parcel found =
-      let x : IsWaitingSlot bodies (slot s n) parcel attempts = waiting_slot bodies (slot s n) parcel attempts
-      (sym found ∙ place_is w s bodies stands n seq number) in
-      let p : Option Place = Some (Flies (sent_again parcel) attempts exchange) in
-      let own_is : others (slot s n).id ≡ sent_again parcel =
-      sent_own bodies (slot s n).id ∙ ap sent_again (sym x.parcel_is) in
-      let found_now : place_at counted seq ≡ Some (Waits (sent_again parcel) attempts) =
-      place_is counted s others counted_stands n seq number
-      ∙ ap (λ (st : State). place_as st (others (slot s n).id) (slot s n).attempts) x.state
-      ∙ ap (λ (f : FrameValue). Some (Waits f (slot s n).attempts)) own_is
-      ∙ ap (λ (a : ℕ). Some (Waits (sent_again parcel) a)) (sym x.attempts_is) in
-      let same : set counted.places (distance seq w.start) p ≡ set w.places (distance seq w.start) p =
+  -- the number's place changes, with its slot and its frame
+  pub place_changed : (f : Slot → Slot) (p : Option Place) → p ≡ slot_place others (f (slot s n)) →
+      is_settled (state_of_place p) ≡ false →
+      WindowStandsFor (record w { places = set w.places (distance seq w.start) p }) (on_slot n f s) others
+  place_changed f p same open_still =
+      let places : set counted.places (distance seq w.start) p ≡ set w.places (distance seq w.start) p =
       sym (set_but_one (slot_place bodies) (slot_place others) (slots_from_start s) (distance seq w.start) p
       (λ k below other. others_same k below
       (λ e. other (e ∙ sym (distance_is w s bodies stands n seq number)))))
       ∙ ap (λ (ps : List (Option Place)). set ps (distance seq w.start) p) (sym stands.places) in
-      subst (λ (ps : List (Option Place)). WindowStandsFor (record w { places = ps })
-      (with_state (State.Flying exchange) n s) others) same
-      (fly_law counted s others counted_stands n seq number exchange attempts (sent_again parcel) found_now)
+      subst (λ (ps : List (Option Place)). WindowStandsFor (record w { places = ps }) (on_slot n f s) others)
+      places (kept_law counted s others counted_stands n seq number f p same open_still)
+
+  -- the place of a number that flies, with its changed frame
+  flies_changed : (exchange a b : ℕ) (parcel : FrameValue) → parcel ≡ bodies (slot s n).id → a ≡ b →
+      Some (Flies (g parcel) a exchange) ≡ Some (Flies (others (slot s n).id) b exchange)
+  flies_changed exchange a b parcel same e =
+      ap (λ (k : ℕ). Some (Flies (g parcel) k exchange)) e
+      ∙ ap (λ (f : FrameValue). Some (Flies f b exchange))
+      (ap g same ∙ sym (frame_own g bodies (slot s n).id))
+
+  -- a waiting number flies
+  pub sent_law : (exchange attempts : ℕ) (parcel : FrameValue) →
+      place_at w seq ≡ Some (Waits parcel attempts) →
+      WindowStandsFor (record w {
+        places = set w.places (distance seq w.start)
+            (Some (Flies (g parcel) attempts exchange));
+      }) (with_state (State.Flying exchange) n s) others
+  sent_law exchange attempts parcel found =
+      let x : IsWaitingSlot bodies (slot s n) parcel attempts = waiting_slot bodies (slot s n) parcel attempts
+      (sym found ∙ place_is w s bodies stands n seq number) in
+      place_changed (λ y. record y { state = State.Flying exchange })
+      (Some (Flies (g parcel) attempts exchange))
+      (flies_changed exchange attempts (slot s n).attempts parcel x.parcel_is x.attempts_is) refl
+
+  -- a flying number still flies
+  pub unsent_law : (exchange attempts : ℕ) (parcel : FrameValue) →
+      place_at w seq ≡ Some (Flies parcel attempts exchange) →
+      WindowStandsFor (record w {
+        places = set w.places (distance seq w.start)
+            (Some (Flies (g parcel) attempts exchange));
+      }) s others
+  unsent_law exchange attempts parcel found =
+      let x : IsFlyingSlot bodies (slot s n) parcel attempts exchange =
+      flying_slot bodies (slot s n) parcel attempts exchange
+      (sym found ∙ place_is w s bodies stands n seq number) in
+      let p : Option Place = Some (Flies (g parcel) attempts exchange) in
+      let same : p ≡ slot_place others (slot s n) =
+      flies_changed exchange attempts (slot s n).attempts parcel x.parcel_is x.attempts_is
+      ∙ ap (λ (st : State). place_as st (others (slot s n).id) (slot s n).attempts) (sym x.state) in
+      subst (λ (z : Session). WindowStandsFor (record w { places = set w.places (distance seq w.start) p }) z
+      others) (slot_unchanged s n number) (place_changed (λ y. y) p same refl)
 
 -- ---- one window among all
 

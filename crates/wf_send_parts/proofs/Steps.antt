@@ -1,24 +1,21 @@
 -- Proves what each step of a window's calls does to the window's value, for use in the proofs of the calls.
-use Rattle.std.proofs.Common.{◌≡◌, ℕ, zero, suc, ◌+◌, ◌-◌, ◌%◌, ◌<◌, ◌≤◌, nat_le, Bool, true, false, ◌||◌, if◌then◌else◌, Option, Some, None, List, [], ◌∷◌, length, get_or, set, refl, ap, sym, ◌∙◌, subst, arith, length-set, max}
+use Rattle.std.proofs.Common.{◌≡◌, ℕ, zero, suc, ◌+◌, ◌-◌, ◌%◌, ◌<◌, ◌≤◌, true, false, ◌||◌, Option, Some, None, List, [], ◌∷◌, length, get_or, set, refl, ap, sym, ◌∙◌, subst, arith, length-set, max}
 use Rattle.std.proofs.lemmas.List.{set-set}
-use Rattle.wf_frame.specs.Frames.{FrameValue, sent_again}
-use Rattle.wf_def_agreement.specs.Session.{Session, State, slot, start_of, next_number, is_settled, is_waiting, with_state, after_miss}
+use Rattle.wf_frame.specs.Frames.{FrameValue, sent_again, sent_once_less}
+use Rattle.wf_def_agreement.specs.Session.{Session, State, End, slot, start_of, next_number, is_settled, is_waiting, with_state, after_end}
 use Rattle.wf_send_parts.specs.declared.window.place.Place.{Place}
-use Rattle.wf_send_parts.specs.declared.window.place.Place.TheVariants.{Waiting as Waits, Flying as Flies, Failed as Fails}
+use Rattle.wf_send_parts.specs.declared.window.place.Place.TheVariants.{Waiting as Waits, Flying as Flies}
 use Rattle.wf_send_parts.specs.Ring.{RingValue}
 use Rattle.wf_send_parts.specs.Places.{state_of_place, front, rest, settled_first, since_failed, at_most}
 use Rattle.wf_octets.specs.Distance.{distance}
-use Rattle.wf_send_parts.specs.Window.{WindowValue, WindowStandsFor, IsNumber, IsInOrder, HasOwnFrame, moved_on, session_settled, is_flying, state_at}
-use Rattle.wf_send_parts.specs.Sent.{with_one_sent}
-use Rattle.wf_send_parts.specs.Answers.{settling_answer, with_fate}
-use Rattle.wf_send_parts.specs.declared.window.window.Settled.TheVariants.{Acked as Is_answer_acked, Waiting as Is_answer_waiting, Failed as Is_answer_failed}
-use Rattle.wf_frame.specs.declared.classes.Fate.TheVariants.{Acked as Is_acked, Dropped}
-use Rattle.wf_frame.specs.declared.classes.Cause.TheVariants.{Retries}
+use Rattle.wf_send_parts.specs.Window.{WindowValue, WindowStandsFor, IsNumber, IsInOrder, HasOwnFrame, moved_on, is_flying, state_at}
+use Rattle.wf_send_parts.specs.Sent.{with_one_sent, with_one_unsent}
+use Rattle.wf_send_parts.specs.Answers.{place_ended, answer_ended, settling_answer}
+use Rattle.wf_send_parts.specs.declared.window.window.Settled.{Settled}
 use Rattle.std.specs.List.{list_any}
-use Rattle.std.proofs.lemmas.Bool.Decides.{nat_tests}
 use Rattle.wf_send_parts.proofs.Fronts.{lengths, rest_unsettled}
-use Rattle.wf_send_parts.proofs.Calls.{IsFlyingSlot, found_slot, waiting_slot, settled_set, heard_law, acked_law, failed_law, missed_law}
-use Rattle.wf_send_parts.proofs.Sending.{sent_law}
+use Rattle.wf_send_parts.proofs.Calls.{IsFlyingSlot, found_slot, waiting_slot, settled_set, heard_law, ended_law}
+use Rattle.wf_send_parts.proofs.Sending.{sent_law, unsent_law}
 use Rattle.wf_send_parts.proofs.Moving.{since_bound}
 use Rattle.wf_send_parts.proofs.Numbers.{waiting_is}
 use Rattle.wf_send_parts.proofs.Laws.{slot_changed, place_is, ahead_number, places_length}
@@ -106,14 +103,6 @@ in_window [] i h = absurd (h refl)
 in_window (p ∷ ps) zero h = omega arith
 in_window (p ∷ ps) (suc i) h = omega (arith, in_window ps i h)
 
--- the limit
-
-is_over : (l a b : ℕ) → l ≤ a + 1 → a ≡ b → nat_le l (b + 1) ≡ true
-is_over l a b h e = grind (arith, nat_tests)
-
-is_under : (l a b : ℕ) → a + 1 < l → a ≡ b → nat_le l (b + 1) ≡ false
-is_under l a b h e = grind (arith, nat_tests)
-
 -- the calls
 
 module _ (size start : ℕ) (due : Option ℕ) (r : RingValue) (now : WindowValue)
@@ -140,6 +129,14 @@ module _ (size start : ℕ) (due : Option ℕ) (r r1 r2 : RingValue) (now : Wind
   here s bodies stands = let P : WindowValue → Type 0 = λ v. WindowStandsFor v s bodies in
       subst P (sym is) stands
 
+  -- a place is taken, and put back with another content
+  put_back : (p : Option Place) → r1 ≡ with_items r (set r.items i None) →
+      r2 ≡ with_items r1 (set r1.items i p) → r2 ≡ with_items r (set r.items (distance seq start) p)
+  put_back p a b = replaced_twice r r1 r2 i None p a b ∙ ap (λ (k : ℕ). with_items r (set r.items k p)) i_is
+
+  at_number : (p : Option Place) → p ≡ get_or r.items i None → get_or r.items (distance seq start) None ≡ p
+  at_number p found = ap (λ (k : ℕ). get_or r.items k None) (sym i_is) ∙ sym found
+
   pub fly_step : (exchange attempts : ℕ) (parcel : FrameValue) →
       Some (Waits parcel attempts) ≡ get_or r.items i None → r1 ≡ with_items r (set r.items i None) →
       r2 ≡ with_items r1 (set r1.items i (Some (Flies (sent_again parcel) attempts exchange))) →
@@ -147,83 +144,50 @@ module _ (size start : ℕ) (due : Option ℕ) (r r1 r2 : RingValue) (now : Wind
       HasOwnFrame s n → WindowStandsFor (shown size start due r2) (with_state (State.Flying exchange) n s)
       (with_one_sent (slot s n).id bodies)
   fly_step exchange attempts parcel found a b s bodies n stands number own =
-      let q : Option Place = Some (Flies (sent_again parcel) attempts exchange) in
-      let found_here : get_or r.items (distance seq start) None ≡ Some (Waits parcel attempts) =
-      ap (λ (k : ℕ). get_or r.items k None) (sym i_is) ∙ sym found in
-      let ring_is : r2 ≡ with_items r (set r.items (distance seq start) q) =
-      replaced_twice r r1 r2 i None q a b ∙ ap (λ (k : ℕ). with_items r (set r.items k q)) i_is in
       let P : RingValue → Type 0 = λ v. WindowStandsFor (shown size start due v)
       (with_state (State.Flying exchange) n s) (with_one_sent (slot s n).id bodies) in
-      subst P (sym ring_is) (sent_law (shown size start due r) s bodies
-      (here s bodies stands) n seq number own exchange attempts parcel found_here)
+      subst P (sym (put_back _ a b)) (sent_law sent_again (shown size start due r) s bodies
+      (here s bodies stands) n seq number own exchange attempts parcel (at_number _ found))
+
+  pub unsend_step : (exchange attempts : ℕ) (parcel : FrameValue) →
+      Some (Flies parcel attempts exchange) ≡ get_or r.items i None → r1 ≡ with_items r (set r.items i None) →
+      r2 ≡ with_items r1 (set r1.items i (Some (Flies (sent_once_less parcel) attempts exchange))) →
+      (s : Session) (bodies : ℕ → FrameValue) (n : ℕ) → WindowStandsFor now s bodies → IsNumber s n seq →
+      HasOwnFrame s n → WindowStandsFor (shown size start due r2) s (with_one_unsent (slot s n).id bodies)
+  unsend_step exchange attempts parcel found a b s bodies n stands number own =
+      let P : RingValue → Type 0 = λ v. WindowStandsFor (shown size start due v) s
+      (with_one_unsent (slot s n).id bodies) in
+      subst P (sym (put_back _ a b)) (unsent_law sent_once_less (shown size start due r) s bodies
+      (here s bodies stands) n seq number own exchange attempts parcel (at_number _ found))
 
   module _ (parcel : FrameValue) (attempts exchange limit : ℕ)
       (found : Some (Flies parcel attempts exchange) ≡ get_or r.items i None) (s : Session)
       (bodies : ℕ → FrameValue) (n : ℕ) (stands : WindowStandsFor now s bodies)
       (number : IsNumber s n seq) where
-    found_here : get_or r.items (distance seq start) None ≡ Some (Flies parcel attempts exchange)
-    found_here = ap (λ (k : ℕ). get_or r.items k None) (sym i_is) ∙ sym found
-
-    pub acked_step : (start2 moved : ℕ) (due2 : Option ℕ) → r1 ≡ with_items r (set r.items i None) →
-        r2 ≡ with_items r1 (rest state_of_place r1.items) → moved ≡ length (front state_of_place r1.items) →
+    -- the number's place changes as its exchange ends, and the settled places at the front are dropped
+    pub ended_step : (end : End) (p : Option Place) (r0 : RingValue) (start2 moved : ℕ) (due2 : Option ℕ) →
+        p ≡ place_ended end limit parcel attempts → r0 ≡ with_items r (set r.items i None) →
+        r1 ≡ with_items r0 (set r0.items i p) → r2 ≡ with_items r1 (rest state_of_place r1.items) →
+        moved ≡ length (front state_of_place r1.items) →
         due2 ≡ since_failed state_of_place due (front state_of_place r1.items) →
-        start2 ≡ (start + moved) % 4096 → WindowStandsFor (shown size start2 due2 r2)
-        (session_settled true limit n s) bodies
-    acked_step start2 moved due2 a b m d e =
-        let P : WindowValue → Type 0 = λ v. WindowStandsFor v (with_state State.Acked n s) bodies in
-        let a_here : r1 ≡ with_items r (set r.items (distance seq start) None) =
-        a ∙ ap (λ (k : ℕ). with_items r (set r.items k None)) i_is in
+        start2 ≡ (start + moved) % 4096 →
+        WindowStandsFor (shown size start2 due2 r2) (after_end limit end n s) bodies
+    ended_step end p r0 start2 moved due2 is z a b m d e =
+        let P : WindowValue → Type 0 = λ v. WindowStandsFor v (after_end limit end n s) bodies in
+        let a_here : r1 ≡ with_items r (set r.items (distance seq start) p) =
+        replaced_twice r r0 r1 i None p z a ∙ ap (λ (k : ℕ). with_items r (set r.items k p)) i_is in
         subst P (sym (moved_on_is size start start2 moved due due2 r r1 r2 _ a_here b m d e))
-        (acked_law (shown size start due r) s bodies
-        (here s bodies stands) n seq number parcel attempts exchange limit found_here)
+        (ended_law (shown size start due r) s bodies (here s bodies stands) n seq number parcel attempts
+        exchange limit (at_number _ found) end p is)
 
-    pub failed_step : (r0 : RingValue) (start2 moved : ℕ) (due2 : Option ℕ) → limit ≤ attempts + 1 →
-        r0 ≡ with_items r (set r.items i None) → r1 ≡ with_items r0 (set r0.items i (Some Fails)) →
-        r2 ≡ with_items r1 (rest state_of_place r1.items) → moved ≡ length (front state_of_place r1.items) →
-        due2 ≡ since_failed state_of_place due (front state_of_place r1.items) →
-        start2 ≡ (start + moved) % 4096 → WindowStandsFor (shown size start2 due2 r2)
-        (session_settled false limit n s) bodies
-    failed_step r0 start2 moved due2 last z a b m d e =
-        let P : WindowValue → Type 0 = λ v. WindowStandsFor v (after_miss limit n s) bodies in
-        let a_here : r1 ≡ with_items r (set r.items (distance seq start) (Some Fails)) =
-        replaced_twice r r0 r1 i None (Some Fails) z a
-        ∙ ap (λ (k : ℕ). with_items r (set r.items k (Some Fails))) i_is in
-        subst P (sym (moved_on_is size start start2 moved due due2 r r1 r2 _ a_here b m d e))
-        (failed_law (shown size start due r) s bodies
-        (here s bodies stands) n seq number parcel attempts exchange limit found_here last)
-
-    pub missed_step : attempts + 1 < limit → r1 ≡ with_items r (set r.items i None) →
-        r2 ≡ with_items r1 (set r1.items i (Some (Waits parcel (attempts + 1)))) →
-        WindowStandsFor (shown size start due r2) (session_settled false limit n s) bodies
-    missed_step more a b =
-        let q : Option Place = Some (Waits parcel (attempts + 1)) in
-        let ring_is : r2 ≡ with_items r (set r.items (distance seq start) q) =
-        replaced_twice r r1 r2 i None q a b ∙ ap (λ (k : ℕ). with_items r (set r.items k q)) i_is in
-        let P : RingValue → Type 0 = λ v. WindowStandsFor (shown size start due v)
-        (after_miss limit n s) bodies in
-        subst P (sym ring_is) (missed_law (shown size start due r) s bodies
-        (here s bodies stands) n seq number parcel attempts exchange limit found_here more)
-
-    slot_found : IsFlyingSlot bodies (slot s n) parcel attempts exchange
-    slot_found = found_slot (shown size start due r) s bodies
-        (here s bodies stands) n seq number parcel attempts exchange limit found_here
-
-    pub acked_answer : (new : FrameValue) → new ≡ with_fate Is_acked parcel →
-        Is_answer_acked new ≡ settling_answer true limit bodies (slot s n)
-    acked_answer new e = ap Is_answer_acked (e ∙ ap (with_fate Is_acked) slot_found.parcel_is)
-
-    pub failed_answer : (new : FrameValue) → new ≡ with_fate (Dropped Retries) parcel → limit ≤ attempts + 1 →
-        Is_answer_failed new ≡ settling_answer false limit bodies (slot s n)
-    failed_answer new e last =
-        ap Is_answer_failed (e ∙ ap (with_fate (Dropped Retries)) slot_found.parcel_is)
-        ∙ ap (λ (b : Bool). if b then Is_answer_failed (with_fate (Dropped Retries) (bodies (slot s n).id))
-        else Is_answer_waiting) (sym (is_over limit _ _ last slot_found.attempts_is))
-
-    pub missed_answer : attempts + 1 < limit → Is_answer_waiting
-        ≡ settling_answer false limit bodies (slot s n)
-    missed_answer more = ap (λ (b : Bool). if b then Is_answer_failed
-        (with_fate (Dropped Retries) (bodies (slot s n).id)) else Is_answer_waiting)
-        (sym (is_under limit _ _ more slot_found.attempts_is))
+    pub ended_answer : (end : End) (answer : Settled) → answer ≡ answer_ended end limit parcel attempts →
+        answer ≡ settling_answer end limit bodies (slot s n)
+    ended_answer end answer is =
+        let x : IsFlyingSlot bodies (slot s n) parcel attempts exchange =
+        found_slot (shown size start due r) s bodies (here s bodies stands) n seq number parcel attempts
+        exchange limit (at_number _ found) in
+        is ∙ ap (λ (f : FrameValue). answer_ended end limit f attempts) x.parcel_is
+        ∙ ap (λ (a : ℕ). answer_ended end limit (bodies (slot s n).id) a) x.attempts_is
 
 -- the first place is taken, with its frame
 pub expel_step : (size start start2 moved : ℕ) (due due2 : Option ℕ) (r r1 r2 : RingValue) (now : WindowValue)

@@ -1,15 +1,15 @@
 -- Defines how the numbers of an exchange that ends are settled, one after the other.
-use Rattle.std.specs.Prelude.{◌≡◌, ℕ, ◌<◌, ◌≤◌, Bool, true, List, [], ◌∷◌}
+use Rattle.std.specs.Prelude.{◌≡◌, ℕ, ◌<◌, ◌≤◌, true, List, [], ◌∷◌}
 use Rattle.wf_frame.specs.Frames.{FrameValue}
 use Rattle.wf_def_lists.specs.Lists.{IsOnce}
 use Rattle.wf_def_lists.specs.Table.{has}
-use Rattle.wf_def_agreement.specs.Session.{Session, State, slot}
-use Rattle.wf_send_parts.specs.Window.{WindowValue, WindowStandsFor, session_settled, place_at, state_at, attempts_of, is_flying}
+use Rattle.wf_def_agreement.specs.Session.{Session, State, End, slot, after_end}
+use Rattle.wf_send_parts.specs.Window.{WindowValue, WindowStandsFor, place_at, state_at, attempts_of, is_flying}
 
--- how an exchange ends: its number, which numbers it acknowledged, and how often a frame may be sent
+-- how an exchange ends: its number, how it ends for each of its numbers, and how often a frame may be sent
 pub record Ending : Type 0 where
   pub exchange : ℕ
-  pub acked : ℕ → Bool
+  pub ends : ℕ → End
   pub limit : ℕ
 
 -- number n flies in the exchange, and its attempts in vain are below the limit
@@ -26,7 +26,7 @@ pub record AreFlying (s : Session) (ending : Ending) (numbers : List ℕ) : Type
 -- the session after each of these numbers was settled, in order
 abbrev pub all_settled : Ending → List ℕ → Session → Session
 all_settled ending [] s = s
-all_settled ending (n ∷ ns) s = all_settled ending ns (session_settled (ending.acked n) ending.limit n s)
+all_settled ending (n ∷ ns) s = all_settled ending ns (after_end ending.limit (ending.ends n) n s)
 
 -- The window represents a session in which these numbers still fly. After they are settled it is `after`.
 pub record HasLeft (w : WindowValue) (bodies : ℕ → FrameValue) (ending : Ending) (numbers : List ℕ)

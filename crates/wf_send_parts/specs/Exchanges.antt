@@ -1,6 +1,7 @@
 -- Defines queries of an open exchange.
-use Rattle.std.specs.Prelude.{ℕ, ◌+◌, ◌==◌, Bool, true, false, ◌&&◌, List, [], ◌∷◌, length, Option, None, slice_get, if◌then◌else◌}
-use Rattle.std.specs.List.{list_any}
+use Rattle.std.specs.Prelude.{ℕ, ◌+◌, ◌==◌, Bool, true, false, ◌&&◌, ◌||◌, List, [], ◌∷◌, length, map, Option, None, slice_get, if◌then◌else◌}
+use Rattle.std.specs.List.{list_any, list_all}
+use Rattle.wf_def_lists.specs.Table.{has, with_member, upto}
 use Rattle.wf_frame.specs.declared.classes.Class.{Class}
 use Rattle.wf_frame.specs.Classes.{same_class}
 use Rattle.wf_send_parts.specs.declared.exchanges.opened.Open.{Open}
@@ -44,3 +45,25 @@ airtime_to (x ∷ xs) s c =
 -- whether a BlockAckReq to TID t of station s is open
 abbrev pub asks : List Open → ℕ → ℕ → Bool
 asks opened s t = list_any (is_request_of s t) opened
+
+-- ---- the marks of a device
+
+-- whether transmission i has a mark: it never went on the air, or the device will not try it again
+abbrev pub has_mark : Open → ℕ → Bool
+has_mark x i = has x.unsent i || has x.given_up i
+
+-- whether none of the transmissions went on the air
+abbrev pub has_nothing_sent : Open → Bool
+has_nothing_sent x = list_all (λ i. has x.unsent i) (upto (transmissions_of x.sending))
+
+-- transmission i never went on the air
+abbrev pub with_unsent : ℕ → Open → Open
+with_unsent i x = record x { unsent = with_member i x.unsent }
+
+-- the device will not try transmission i again
+abbrev pub with_given_up : ℕ → Open → Open
+with_given_up i x = record x { given_up = with_member i x.given_up }
+
+-- the exchanges with f applied to the one with this number, and all others unchanged
+abbrev pub with_exchange_changed : ℕ → (Open → Open) → List Open → List Open
+with_exchange_changed number f opened = map (λ x. if x.number == number then f x else x) opened

@@ -3,6 +3,7 @@
 use Rattle.std.specs.Prelude.{◌≡◌, ℕ, Bool, false, List, ◌++◌, map, filter}
 use Rattle.std.specs.List.{list_any}
 use Rattle.wf_frame.specs.Frames.{FrameValue}
+use Rattle.wf_frame.specs.declared.classes.Cause.{Cause}
 use Rattle.wf_frame.specs.declared.classes.Fate.TheVariants.{Dropped}
 use Rattle.wf_frame.specs.declared.classes.Cause.TheVariants.{Left}
 use Rattle.wf_def_agreement.specs.Session.{Session, Slot, is_waiting}
@@ -17,13 +18,21 @@ has_flying s = list_any (λ x. is_flying x.state) s.slots
 abbrev pub waiting_slots : Session → List Slot
 waiting_slots s = filter (λ x. is_waiting x.state) s.slots
 
+-- the frame of a slot, dropped for this cause
+abbrev pub frame_dropped : Cause → (ℕ → FrameValue) → Slot → FrameValue
+frame_dropped cause bodies x = with_fate (Dropped cause) (bodies x.id)
+
+-- the frames of the waiting numbers, dropped for this cause
+abbrev pub frames_dropped : Cause → (ℕ → FrameValue) → Session → List FrameValue
+frames_dropped cause bodies s = map (frame_dropped cause bodies) (waiting_slots s)
+
 -- the frame of a slot, dropped because its station leaves
 abbrev pub frame_left : (ℕ → FrameValue) → Slot → FrameValue
-frame_left bodies x = with_fate (Dropped Left) (bodies x.id)
+frame_left = frame_dropped Left
 
 -- the frames of the waiting numbers, dropped because the station leaves
 abbrev pub frames_left : (ℕ → FrameValue) → Session → List FrameValue
-frames_left bodies s = map (frame_left bodies) (waiting_slots s)
+frames_left = frames_dropped Left
 
 -- A window represented `before` when the expelling began, and has returned these frames. It now represents a
 -- session that holds the others.

@@ -2,6 +2,7 @@
 pub mod Answers
 pub mod Ending
 pub mod Expelling
+pub mod Flushing
 pub mod Listing
 pub mod Many
 pub mod Places

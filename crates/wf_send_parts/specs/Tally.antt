@@ -1,6 +1,6 @@
 -- Defines the counts of the accepted frames, by fate.
 use Rattle.std.specs.Prelude.{ℕ, ◌+◌, ◌-◌}
-use Rattle.wf_frame.specs.declared.classes.Cause.TheVariants.{Overlimit, Codel, Retries, Left}
+use Rattle.wf_frame.specs.declared.classes.Cause.TheVariants.{Overlimit, Codel, Retries, Left, Flushed}
 use Rattle.wf_frame.specs.declared.classes.Fate.{Fate}
 use Rattle.wf_frame.specs.declared.classes.Fate.TheVariants.{Held, Acked, Dropped}
 use Rattle.wf_send_parts.specs.declared.stations.tally.Tally.{Tally}
@@ -12,6 +12,7 @@ pub record Counts : Type 0 where
   pub codel : ℕ
   pub retries : ℕ
   pub left : ℕ
+  pub flushed : ℕ
 
 abbrev pub counts_of : Tally → Counts
 counts_of t = record {
@@ -21,14 +22,23 @@ counts_of t = record {
   codel = t.codel;
   retries = t.retries;
   left = t.left;
+  flushed = t.flushed;
 }
 
 abbrev pub no_counts : Counts
-no_counts = record { accepted = 0; acked = 0; overlimit = 0; codel = 0; retries = 0; left = 0 }
+no_counts = record {
+  accepted = 0;
+  acked = 0;
+  overlimit = 0;
+  codel = 0;
+  retries = 0;
+  left = 0;
+  flushed = 0;
+}
 
 -- frames that have a fate other than Held
 abbrev pub settled_count : Counts → ℕ
-settled_count c = c.acked + c.overlimit + c.codel + c.retries + c.left
+settled_count c = c.acked + c.overlimit + c.codel + c.retries + c.left + c.flushed
 
 -- frames that are still held
 abbrev pub held_in : Counts → ℕ
@@ -46,6 +56,7 @@ settled_as (Dropped Overlimit) c = record c { overlimit = c.overlimit + 1 }
 settled_as (Dropped Codel) c = record c { codel = c.codel + 1 }
 settled_as (Dropped Retries) c = record c { retries = c.retries + 1 }
 settled_as (Dropped Left) c = record c { left = c.left + 1 }
+settled_as (Dropped Flushed) c = record c { flushed = c.flushed + 1 }
 
 -- n more frames have this fate
 abbrev pub many_settled_as : Fate → ℕ → Counts → Counts
@@ -55,3 +66,4 @@ many_settled_as (Dropped Overlimit) n c = record c { overlimit = c.overlimit + n
 many_settled_as (Dropped Codel) n c = record c { codel = c.codel + n }
 many_settled_as (Dropped Retries) n c = record c { retries = c.retries + n }
 many_settled_as (Dropped Left) n c = record c { left = c.left + n }
+many_settled_as (Dropped Flushed) n c = record c { flushed = c.flushed + n }

@@ -6,7 +6,7 @@ use Rattle.wf_send_parts.specs.declared.window.place.Place.{Place}
 use Rattle.wf_send_parts.specs.declared.window.place.Place.TheVariants.{Waiting as Waits, Flying as Flies}
 use Rattle.wf_octets.specs.Distance.{distance}
 use Rattle.wf_send_parts.specs.Places.{settled_first, state_of_place, slot_place, slot_state, front, rest, since_failed, at_most}
-use Rattle.wf_def_agreement.specs.Session.{Session, Slot, State, slot, start_of, next_number, request_due, has_room, waiting_numbers, is_waiting, with_state, after_miss}
+use Rattle.wf_def_agreement.specs.Session.{Session, Slot, State, slot, start_of, next_number, request_due, has_room, waiting_numbers, is_waiting}
 
 -- a window as its callers see it
 pub record WindowValue : Type 0 where
@@ -62,11 +62,6 @@ waiting_from s n = find (λ m. nat_le n m) (waiting_numbers s)
 
 abbrev pub on_air : ℕ → ℕ
 on_air n = n % 4096
-
--- the session after number n was settled: acknowledged, or sent in vain once more
-abbrev pub session_settled : Bool → ℕ → ℕ → Session → Session
-session_settled true limit n s = with_state State.Acked n s
-session_settled false limit n s = after_miss limit n s
 
 -- ---- the window
 

@@ -6,6 +6,7 @@
 //! The modules `sessions` and `many_sessions` have laws for callers' loops over a window, and for many
 //! windows at once.
 
+mod ending;
 pub mod many_sessions;
 mod place;
 mod ring;
@@ -13,5 +14,6 @@ pub mod sessions;
 mod window;
 mod windows;
 
+pub use ending::End;
 pub use window::{Settled, Window};
 pub use windows::Windows;

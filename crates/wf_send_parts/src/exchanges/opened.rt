@@ -4,11 +4,13 @@ ghost use Rattle.std.specs.Prelude.{◌≡◌, ◌<◌, ◌≤◌, ◌==◌, ◌
 ghost use Rattle.wf_frame.specs.Classes.{same_class};
 ghost use Rattle.wf_def_lists.specs.Bounds.{greatest_air};
 ghost use Rattle.wf_def_lists.specs.Lists.{IsRising};
+ghost use Rattle.wf_def_lists.specs.Table.{has};
 ghost use Rattle.wf_send_parts.specs.Counted.{airtime_place};
 
 use std::alloc::{AllocError, Global};
 use std::marker::Model;
 use wf_frame::{Class, FixedList};
+use wf_octets::bits::Bits256;
 use wf_octets::seq12::Seq12;
 
 /// The greatest number of open exchanges: eight for each of the four classes.
@@ -46,10 +48,14 @@ pub struct Open {
     pub sending: Sending,
     /// The More Data bit of its frames (8.2.4.1.8).
     pub more: bool,
+    /// The indices of the transmissions that never went on the air, counted from 0.
+    pub unsent: Bits256,
+    /// The indices of the transmissions that the device will not try again.
+    pub given_up: Bits256,
 }
 
 impl Open {
-    ghost use Rattle.wf_send_parts.specs.Exchanges.{transmissions_of, number_carried, sending_is_request, is_request_of};
+    ghost use Rattle.wf_send_parts.specs.Exchanges.{transmissions_of, number_carried, sending_is_request, is_request_of, has_mark, has_nothing_sent};
 
     /// Returns how many transmissions it has: one for each frame, or one for a request.
     pub fn count(&self) -> u16
@@ -80,6 +86,35 @@ impl Open {
         ensures { result ≡ sending_is_request self.now.sending }
     {
         matches!(&self.sending, Sending::Request(_))
+    }
+
+    /// Returns whether the transmission of this index, 0 to 255, never went on the air.
+    pub fn is_unsent(&self, index: u16) -> bool
+        requires { index < 256 }
+        ensures { result ≡ has self.now.unsent index }
+    {
+        self.unsent.has(index)
+    }
+
+    /// Returns whether the transmission of this index, 0 to 255, has a mark: it never went on the air, or the
+    /// device will not try it again.
+    pub fn is_marked(&self, index: u16) -> bool
+        requires { index < 256 }
+        ensures { result ≡ has_mark self.now index }
+    {
+        self.unsent.has(index) || self.given_up.has(index)
+    }
+
+    /// Returns whether none of its transmissions went on the air. Linear in `count`.
+    pub fn is_wholly_unsent(&self) -> bool
+        ensures { result ≡ has_nothing_sent self.now }
+    {
+        for index in 0..self.count() {
+            if !self.is_unsent(index) {
+                return false;
+            }
+        }
+        true
     }
 
     // Returns whether it is a BlockAckReq to this TID of the station.
@@ -122,7 +157,7 @@ impl Model for Opened {
 }
 
 impl Opened {
-    ghost use Rattle.wf_send_parts.specs.Exchanges.{exchange_number, asks, airtime_of, airtime_to};
+    ghost use Rattle.wf_send_parts.specs.Exchanges.{exchange_number, asks, airtime_of, airtime_to, with_unsent, with_given_up, with_exchange_changed};
 
     /// Creates it with no open exchange. Fails only if memory runs out.
     pub fn new(alloc: Global) -> Result<Opened, AllocError>
@@ -171,6 +206,30 @@ impl Opened {
                 Some(exchange)
             }
             None => None,
+        }
+    }
+
+    /// Records that the transmission of this index, 0 to 255, of the open exchange with this number never
+    /// went on the air. Does nothing if it is not open.
+    pub fn mark_unsent(&mut self, number: u64, index: u16)
+        requires { index < 256 }
+        ensures { self.new ≡ with_exchange_changed number (with_unsent index) self.old }
+    {
+        match self.place_of(number) {
+            Some(place) => self.list[place].unsent.set(index),
+            None => {}
+        }
+    }
+
+    /// Records that the device will not try the transmission of this index, 0 to 255, of the open exchange
+    /// with this number again. Does nothing if it is not open.
+    pub fn mark_given_up(&mut self, number: u64, index: u16)
+        requires { index < 256 }
+        ensures { self.new ≡ with_exchange_changed number (with_given_up index) self.old }
+    {
+        match self.place_of(number) {
+            Some(place) => self.list[place].given_up.set(index),
+            None => {}
         }
     }
 

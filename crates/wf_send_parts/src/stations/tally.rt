@@ -16,11 +16,13 @@ pub struct Tally {
     pub overlimit: u64,
     /// Dropped by CoDel.
     pub codel: u64,
-    /// Dropped after as many attempts as are allowed.
+    /// Dropped after as many attempts as are allowed, or given up.
     pub retries: u64,
     /// Dropped because their station left.
     pub left: u64,
-    ghost counted: { acked + overlimit + codel + retries + left ≤ accepted },
+    /// Dropped because their TID was flushed.
+    pub flushed: u64,
+    ghost counted: { acked + overlimit + codel + retries + left + flushed ≤ accepted },
 }
 
 impl Tally {
@@ -37,6 +39,7 @@ impl Tally {
             codel: 0,
             retries: 0,
             left: 0,
+            flushed: 0,
         }
     }
 
@@ -63,6 +66,7 @@ impl Tally {
             Fate::Dropped(Cause::Codel) => self.codel += 1,
             Fate::Dropped(Cause::Retries) => self.retries += 1,
             Fate::Dropped(Cause::Left) => self.left += 1,
+            Fate::Dropped(Cause::Flushed) => self.flushed += 1,
         }
     }
 
@@ -81,6 +85,7 @@ impl Tally {
             Fate::Dropped(Cause::Codel) => self.codel += count,
             Fate::Dropped(Cause::Retries) => self.retries += count,
             Fate::Dropped(Cause::Left) => self.left += count,
+            Fate::Dropped(Cause::Flushed) => self.flushed += count,
         }
     }
 
@@ -88,9 +93,15 @@ impl Tally {
     pub fn held(&self) -> u64
         ensures held { result ≡ held_in (counts_of self.now) }
 
-        // accepted is the sum of held and the other five counts
+        // accepted is the sum of held and the other six counts
         ensures sum { settled_count (counts_of self.now) + result ≡ self.now.accepted }
     {
-        self.accepted - self.acked - self.overlimit - self.codel - self.retries - self.left
+        self.accepted
+            - self.acked
+            - self.overlimit
+            - self.codel
+            - self.retries
+            - self.left
+            - self.flushed
     }
 }

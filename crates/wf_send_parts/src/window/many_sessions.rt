@@ -3,9 +3,9 @@
 
 ghost use Rattle.std.specs.Prelude.{◌≡◌, ℕ, ◌+◌, ◌%◌, ◌<◌, ◌≤◌, Bool, true, false, is_some, List, [], ◌∷◌, length};
 ghost use Rattle.wf_frame.specs.Frames.{FrameValue};
-ghost use Rattle.wf_def_agreement.specs.Session.{Session, new_session, start_of, next_number, request_due};
+ghost use Rattle.wf_def_agreement.specs.Session.{Session, new_session, after_end, start_of, next_number, request_due};
 ghost use Rattle.wf_octets.specs.Distance.{distance};
-ghost use Rattle.wf_send_parts.specs.Window.{WindowValue, fresh_window, WindowStandsFor, IsNumber, session_settled, may_give, can_take};
+ghost use Rattle.wf_send_parts.specs.Window.{WindowValue, fresh_window, WindowStandsFor, IsNumber, may_give, can_take};
 ghost use Rattle.wf_frame.specs.Classes.{tid_number};
 ghost use Rattle.wf_send_parts.specs.Windows.{window_of, with_window};
 ghost use Rattle.wf_send_parts.specs.Many.{AllStand, IsSameElsewhere, IsSameAtOthers, HasSameFrames};
@@ -92,7 +92,7 @@ pub fn numbers_are_settled_in_order()
     ensures next { (w v : WindowValue) (bodies : ℕ → FrameValue) (ending : Ending) (n : ℕ) (ns : List ℕ)
         (after : Session) →
         (left : HasLeft w bodies ending (n ∷ ns) after) →
-        WindowStandsFor v (session_settled (ending.acked n) ending.limit n left.now) bodies →
+        WindowStandsFor v (after_end ending.limit (ending.ends n) n left.now) bodies →
         HasLeft v bodies ending ns after }
     ensures ends { (w : WindowValue) (bodies : ℕ → FrameValue) (ending : Ending) (after : Session) →
         HasLeft w bodies ending [] after →

@@ -8,13 +8,15 @@ ghost use Rattle.std.specs.List.{list_any};
 ghost use Rattle.wf_frame.specs.Frames.{FrameValue};
 ghost use Rattle.wf_frame.specs.declared.classes.Fate.TheVariants.{Dropped};
 ghost use Rattle.wf_frame.specs.declared.classes.Cause.TheVariants.{Left};
-ghost use Rattle.wf_def_agreement.specs.Session.{Session, State, slot, new_session, with_number_given, with_state, start_of, next_number, request_due, waiting_numbers};
+ghost use Rattle.wf_def_agreement.specs.Session.{Session, State, slot, new_session, with_number_given, with_state, after_end, start_of, next_number, request_due, waiting_numbers};
 ghost use Rattle.wf_octets.specs.Distance.{distance};
 ghost use Rattle.wf_send_parts.specs.Places.{state_of_place, front, rest, since_failed};
-ghost use Rattle.wf_send_parts.specs.Window.{fresh_window, WindowStandsFor, IsNumber, may_give, waiting_from, on_air, session_settled, place_at, state_at, attempts_of, is_flying, holds_parcel, HasOwnFrame, waits, some_fly, can_take};
-ghost use Rattle.wf_send_parts.specs.Sent.{with_one_sent};
-ghost use Rattle.wf_send_parts.specs.Answers.{settling_answer, with_fate};
+ghost use Rattle.wf_send_parts.specs.Window.{fresh_window, WindowStandsFor, IsNumber, may_give, waiting_from, on_air, place_at, state_at, attempts_of, is_flying, holds_parcel, HasOwnFrame, waits, some_fly, can_take};
+ghost use Rattle.wf_send_parts.specs.Sent.{with_one_sent, with_one_unsent};
+ghost use Rattle.wf_send_parts.specs.Answers.{as_end, place_ended, answer_ended, settling_answer, with_fate};
+ghost use Rattle.wf_send_parts.specs.Flushing.{IsFlushed};
 
+use crate::window::ending::End;
 use crate::window::place::{Place, is_waiting};
 use crate::window::ring::Ring;
 use std::alloc::{AllocError, Global};
@@ -30,7 +32,8 @@ pub enum Settled {
     Acked(Parcel),
     /// It waits for another transmission.
     Waiting,
-    /// It was sent as often as the limit allows. Contains its parcel, with the fate Dropped(Retries).
+    /// It was sent as often as the limit allows, or is given up. Contains its parcel, with the fate
+    /// Dropped(Retries).
     Failed(Parcel),
 }
 
@@ -110,23 +113,22 @@ fn take_waiting(ring: &mut Ring, i: usize) -> (Parcel, u8)
 }
 
 // Takes the parcel of a flying place. The place is settled afterwards.
-fn take_flying(ring: &mut Ring, i: usize) -> (Parcel, u8)
+fn take_flying(ring: &mut Ring, i: usize) -> (Parcel, u8, u64)
     requires { is_flying (state_of_place (slice_index_or ring.old.items i None)) ≡ true }
-    ensures found { (exchange : ℕ) × (Some (Place.Flying result.0 result.1 exchange)
-        ≡ slice_index_or ring.old.items i None) }
+    ensures found { Some (Place.Flying result.0 result.1 result.2) ≡ slice_index_or ring.old.items i None }
     ensures changed { ring.new ≡ record ring.old { items = slice_set ring.old.items i None } }
 {
     let Some(
         Place::Flying {
             parcel,
             attempts,
-            ..
+            exchange,
         },
     ) = ring.replace(i, None)
     else {
         unreachable!()
     };
-    (parcel, attempts)
+    (parcel, attempts, exchange)
 }
 
 // Returns the parcel with this fate set in its frame.
@@ -135,6 +137,26 @@ fn finished(mut parcel: Parcel, fate: Fate) -> Parcel
 {
     parcel.frame_mut().settle(fate);
     parcel
+}
+
+// Returns the place of a number that flew, after its exchange ended so for it, and the outcome. `attempts`
+// were in vain before.
+fn ended(parcel: Parcel, attempts: u8, end: End, limit: u8) -> (Option<Place>, Settled)
+    requires { attempts < limit }
+    ensures place { result.0 ≡ place_ended (as_end end) limit parcel attempts }
+    ensures answer { result.1 ≡ answer_ended (as_end end) limit parcel attempts }
+{
+    let attempts = match end {
+        End::Acknowledged => return (None, Settled::Acked(finished(parcel, Fate::Acked))),
+        End::Missed => attempts + 1,
+        End::GivenUp => limit,
+        End::Unsent => attempts,
+    };
+    if attempts < limit {
+        return (Some(Place::Waiting { parcel, attempts }), Settled::Waiting);
+    }
+    let parcel = finished(parcel, Fate::Dropped(Cause::Retries));
+    (Some(Place::Failed), Settled::Failed(parcel))
 }
 
 impl Window {
@@ -280,40 +302,48 @@ impl Window {
         id
     }
 
-    /// Settles a number whose exchange has ended. If it was not acknowledged, its attempts rise by one, and
-    /// it fails if they now equal `limit`; otherwise it waits again.
-    pub fn settle(&mut self, seq: Seq12, acked: bool, limit: u8) -> Settled
-        requires flies { is_flying (state_at self.old seq) ≡ true }
-        requires limit { attempts_of (place_at self.old seq) < limit }
+    /// Takes back one attempt in the frame of a flying number, whose transmission never went on the air. The
+    /// number still flies.
+    pub fn unsend(&mut self, seq: Seq12)
+        requires { is_flying (state_at self.old seq) ≡ true }
         ensures stands { (s : Session) (bodies : ℕ → FrameValue) (n : ℕ) → WindowStandsFor self.old s bodies →
-            IsNumber s n seq → WindowStandsFor self.new (session_settled acked limit n s) bodies }
-        ensures answer { (s : Session) (bodies : ℕ → FrameValue) (n : ℕ) → WindowStandsFor self.old s bodies →
-            IsNumber s n seq → result ≡ settling_answer acked limit bodies (slot s n) }
+            IsNumber s n seq → HasOwnFrame s n → WindowStandsFor self.new s
+            (with_one_unsent (slot s n).id bodies) }
         ensures capacity { self.new.capacity ≡ self.old.capacity }
     {
         let i = usize::from(seq.ahead(self.start));
-        let (parcel, attempts) = take_flying(&mut self.ring, i);
-        if acked {
-            let (moved, due) = advance(&mut self.ring, self.due);
-            self.start = self.start.plus(moved);
-            self.due = due;
-            return Settled::Acked(finished(parcel, Fate::Acked));
-        }
-        if attempts + 1 < limit {
-            let _ = self.ring.replace(
-                i,
-                Some(Place::Waiting {
-                    parcel,
-                    attempts: attempts + 1,
-                }),
-            );
-            return Settled::Waiting;
-        }
-        let _ = self.ring.replace(i, Some(Place::Failed));
+        let (mut parcel, attempts, exchange) = take_flying(&mut self.ring, i);
+        parcel.frame_mut().unsend();
+        let _ = self.ring.replace(
+            i,
+            Some(Place::Flying {
+                parcel,
+                attempts,
+                exchange,
+            }),
+        );
+    }
+
+    /// Settles a number whose exchange has ended so for it. If it was missed, its attempts rise by one, and
+    /// it fails if they now equal `limit`; otherwise it waits again. If it was given up, it fails. If it
+    /// never went on the air, it waits again with the same attempts.
+    pub fn settle(&mut self, seq: Seq12, end: End, limit: u8) -> Settled
+        requires flies { is_flying (state_at self.old seq) ≡ true }
+        requires limit { attempts_of (place_at self.old seq) < limit }
+        ensures stands { (s : Session) (bodies : ℕ → FrameValue) (n : ℕ) → WindowStandsFor self.old s bodies →
+            IsNumber s n seq → WindowStandsFor self.new (after_end limit (as_end end) n s) bodies }
+        ensures answer { (s : Session) (bodies : ℕ → FrameValue) (n : ℕ) → WindowStandsFor self.old s bodies →
+            IsNumber s n seq → result ≡ settling_answer (as_end end) limit bodies (slot s n) }
+        ensures capacity { self.new.capacity ≡ self.old.capacity }
+    {
+        let i = usize::from(seq.ahead(self.start));
+        let (parcel, attempts, _) = take_flying(&mut self.ring, i);
+        let (place, settled) = ended(parcel, attempts, end, limit);
+        let _ = self.ring.replace(i, place);
         let (moved, due) = advance(&mut self.ring, self.due);
         self.start = self.start.plus(moved);
         self.due = due;
-        Settled::Failed(finished(parcel, Fate::Dropped(Cause::Retries)))
+        settled
     }
 
     /// Returns whether some number waits.
@@ -399,5 +429,34 @@ impl Window {
         self.start = self.start.plus(moved);
         self.due = due;
         Some(finished(parcel, Fate::Dropped(Cause::Left)))
+    }
+    /// Takes the parcel of the first waiting number at or past `from`, which is F to N, with the fate
+    /// Dropped(Flushed); the number then fails. Also returns where to search for the next one. None if, and
+    /// only if, there is none.
+    pub fn flush_next(&mut self, from: Seq12) -> Option<(Parcel, Seq12)>
+        requires { distance from self.old.start ≤ length self.old.places }
+        ensures none { IfNone result ((s : Session) (bodies : ℕ → FrameValue) (n : ℕ) →
+            WindowStandsFor self.old s bodies → from ≡ n % 4096 → start_of s ≤ n → n ≤ next_number s →
+            (waiting_from s n ≡ None) × WindowStandsFor self.new s bodies) }
+        ensures some { IfSome result (λ found. (limit : ℕ) (s : Session) (bodies : ℕ → FrameValue) (n : ℕ) →
+            WindowStandsFor self.old s bodies → from ≡ n % 4096 → start_of s ≤ n → n ≤ next_number s →
+            IsFlushed limit s bodies n self.new found.0 found.1) }
+        ensures fewer { IfSome result (λ _. count_by waits self.new.places < count_by waits self.old.places) }
+        ensures capacity { self.new.capacity ≡ self.old.capacity }
+    {
+        let Some(seq) = self.next_waiting(from) else {
+            return None;
+        };
+        let i = usize::from(seq.ahead(self.start));
+        let (parcel, _) = take_waiting(&mut self.ring, i);
+        let _ = self.ring.replace(i, Some(Place::Failed));
+        let (moved, due) = advance(&mut self.ring, self.due);
+        self.start = self.start.plus(moved);
+        self.due = due;
+        let past = (i as u16 + 1).saturating_sub(moved);
+        Some((
+            finished(parcel, Fate::Dropped(Cause::Flushed)),
+            self.start.plus(past),
+        ))
     }
 }

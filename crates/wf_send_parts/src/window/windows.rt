@@ -1,19 +1,20 @@
 //! One window for each TID of each station.
 
-ghost use Rattle.std.specs.Prelude.{◌≡◌, ◌≢◌, ℕ, ◌+◌, ◌*◌, ◌%◌, ◌<◌, ◌≤◌, true, false, [], length, max, is_ok, replicate, IfOk, IfErr, IfSome, IfNone};
+ghost use Rattle.std.specs.Prelude.{◌≡◌, ◌≢◌, ℕ, ◌+◌, ◌*◌, ◌%◌, ◌<◌, ◌≤◌, true, false, [], None, count_by, length, max, is_ok, replicate, IfOk, IfErr, IfSome, IfNone};
 ghost use Rattle.wf_frame.specs.Frames.{FrameValue};
 ghost use Rattle.wf_frame.specs.declared.classes.Fate.TheVariants.{Dropped};
 ghost use Rattle.wf_frame.specs.declared.classes.Cause.TheVariants.{Left};
 ghost use Rattle.wf_def_lists.specs.Bounds.{greatest_window};
-ghost use Rattle.wf_def_agreement.specs.Session.{Session, State, slot, new_session, with_number_given, with_state, start_of, next_number};
+ghost use Rattle.wf_def_agreement.specs.Session.{Session, State, slot, new_session, with_number_given, with_state, after_end, start_of, next_number};
 ghost use Rattle.wf_octets.specs.Distance.{distance};
-ghost use Rattle.wf_send_parts.specs.Window.{fresh_window, WindowStandsFor, IsNumber, session_settled, place_at, state_at, attempts_of, is_flying, HasOwnFrame, some_fly, can_take};
-ghost use Rattle.wf_send_parts.specs.Sent.{with_one_sent};
-ghost use Rattle.wf_send_parts.specs.Answers.{settling_answer, with_fate};
+ghost use Rattle.wf_send_parts.specs.Window.{fresh_window, WindowStandsFor, IsNumber, place_at, state_at, attempts_of, is_flying, HasOwnFrame, waits, waiting_from, some_fly, can_take};
+ghost use Rattle.wf_send_parts.specs.Sent.{with_one_sent, with_one_unsent};
+ghost use Rattle.wf_send_parts.specs.Answers.{as_end, settling_answer, with_fate};
+ghost use Rattle.wf_send_parts.specs.Flushing.{IsFlushed};
 ghost use Rattle.wf_frame.specs.Classes.{tid_number};
 ghost use Rattle.wf_send_parts.specs.Windows.{WindowsHaveRoom, new_window, window_of, with_window};
 
-use crate::window::{Settled, Window};
+use crate::window::{End, Settled, Window};
 use std::alloc::{AllocError, Global};
 use std::marker::Model;
 use wf_frame::tid_number;
@@ -163,9 +164,25 @@ impl Windows {
         self.windows[tid_number(station, tid) as usize].fly(seq, exchange)
     }
 
-    /// Settles a number of a TID whose exchange has ended, as `Window::settle`. `limit` is how often it may
-    /// be sent.
-    pub fn settle(&mut self, station: u16, tid: u8, seq: Seq12, acked: bool, limit: u8) -> Settled
+    /// Takes back one attempt in the frame of a flying number of a TID, as `Window::unsend`.
+    pub fn unsend(&mut self, station: u16, tid: u8, seq: Seq12)
+        requires tid { tid < 8 }
+        requires within { tid_number station tid < length self.old }
+        requires flies { is_flying (state_at (window_of self.old station tid) seq) ≡ true }
+        ensures stands { (s : Session) (bodies : ℕ → FrameValue) (n : ℕ) →
+            WindowStandsFor (window_of self.old station tid) s bodies →
+            IsNumber s n seq → HasOwnFrame s n → WindowStandsFor (window_of self.new station tid) s
+            (with_one_unsent (slot s n).id bodies) }
+        ensures others { self.new ≡ with_window self.old station tid (window_of self.new station tid) }
+        ensures room { WindowsHaveRoom self.new }
+        ensures count { length self.new ≡ length self.old }
+    {
+        self.windows[tid_number(station, tid) as usize].unsend(seq);
+    }
+
+    /// Settles a number of a TID whose exchange has ended so for it, as `Window::settle`. `limit` is how
+    /// often it may be sent.
+    pub fn settle(&mut self, station: u16, tid: u8, seq: Seq12, end: End, limit: u8) -> Settled
         requires tid { tid < 8 }
         requires within { tid_number station tid < length self.old }
         requires flies { is_flying (state_at (window_of self.old station tid) seq) ≡ true }
@@ -173,15 +190,15 @@ impl Windows {
         ensures stands { (s : Session) (bodies : ℕ → FrameValue) (n : ℕ) →
             WindowStandsFor (window_of self.old station tid) s bodies →
             IsNumber s n seq → WindowStandsFor (window_of self.new station tid)
-            (session_settled acked limit n s) bodies }
+            (after_end limit (as_end end) n s) bodies }
         ensures answer { (s : Session) (bodies : ℕ → FrameValue) (n : ℕ) →
             WindowStandsFor (window_of self.old station tid) s bodies →
-            IsNumber s n seq → result ≡ settling_answer acked limit bodies (slot s n) }
+            IsNumber s n seq → result ≡ settling_answer (as_end end) limit bodies (slot s n) }
         ensures others { self.new ≡ with_window self.old station tid (window_of self.new station tid) }
         ensures room { WindowsHaveRoom self.new }
         ensures count { length self.new ≡ length self.old }
     {
-        self.windows[tid_number(station, tid) as usize].settle(seq, acked, limit)
+        self.windows[tid_number(station, tid) as usize].settle(seq, end, limit)
     }
 
     /// Takes the parcel of the lowest number of a TID that holds one, with the fate Dropped(Left), as
@@ -205,5 +222,28 @@ impl Windows {
         ensures count { length self.new ≡ length self.old }
     {
         self.windows[tid_number(station, tid) as usize].expel()
+    }
+    /// Takes the parcel of the first waiting number of a TID at or past `from`, with the fate
+    /// Dropped(Flushed), as `Window::flush_next`. Also returns where to search for the next one.
+    pub fn flush_next(&mut self, station: u16, tid: u8, from: Seq12) -> Option<(Parcel, Seq12)>
+        requires tid { tid < 8 }
+        requires within { tid_number station tid < length self.old }
+        requires near { distance from (window_of self.old station tid).start
+            ≤ length (window_of self.old station tid).places }
+        ensures none { IfNone result ((s : Session) (bodies : ℕ → FrameValue) (n : ℕ) →
+            WindowStandsFor (window_of self.old station tid) s bodies →
+            from ≡ n % 4096 → start_of s ≤ n → n ≤ next_number s → (waiting_from s n ≡ None) ×
+            WindowStandsFor (window_of self.new station tid) s bodies) }
+        ensures some { IfSome result (λ found. (limit : ℕ) (s : Session) (bodies : ℕ → FrameValue) (n : ℕ) →
+            WindowStandsFor (window_of self.old station tid) s bodies →
+            from ≡ n % 4096 → start_of s ≤ n → n ≤ next_number s →
+            IsFlushed limit s bodies n (window_of self.new station tid) found.0 found.1) }
+        ensures fewer { IfSome result (λ _. count_by waits (window_of self.new station tid).places
+            < count_by waits (window_of self.old station tid).places) }
+        ensures others { self.new ≡ with_window self.old station tid (window_of self.new station tid) }
+        ensures room { WindowsHaveRoom self.new }
+        ensures count { length self.new ≡ length self.old }
+    {
+        self.windows[tid_number(station, tid) as usize].flush_next(from)
     }
 }
