@@ -5,15 +5,19 @@ use Rattle.wf_frame.specs.declared.notes.Note.TheVariants.{Asked}
 use Rattle.wf_frame.specs.declared.notes.Ask.TheVariants.{Done}
 use Rattle.wf_frame.specs.declared.notes.ReplyNote.{ReplyNote}
 use Rattle.wf_frame.specs.declared.notes.ReplyNote.TheVariants.{Refused}
-use Rattle.wf_frame.specs.declared.notes.Refusal.TheVariants.{NoExchange, BadAir}
+use Rattle.wf_frame.specs.declared.notes.Refusal.{Refusal}
+use Rattle.wf_frame.specs.declared.notes.Refusal.TheVariants.{NoExchange, NoAnswer, BadAir}
 use Rattle.wf_frame.specs.declared.settings.Config.{Config}
 use Rattle.wf_frame.specs.declared.classes.Class.{Class}
 use Rattle.wf_frame.specs.Classes.{class_of}
 use Rattle.wf_frame.specs.Frames.{FrameValue}
+use Rattle.std.specs.List.{list_all}
 use Rattle.wf_def_agreement.specs.Receiver.{Score, shows}
+use Rattle.wf_def_agreement.specs.Session.{End}
+use Rattle.wf_def_lists.specs.Table.{has, upto}
 use Rattle.wf_def_world.specs.World.{World, Exchange, Mpdu, Content, Frames, Request, exchange, is_live, is_wide}
 use Rattle.wf_def_world.specs.CanSend.{is_request}
-use Rattle.wf_def_world.specs.Exchanges.{mpdus_of, is_acked, charge_of}
+use Rattle.wf_def_world.specs.Exchanges.{mpdus_of, is_acked, numbers_unsent, charge_of}
 use Rattle.wf_def_world.specs.Refusals.{refusal}
 use Rattle.wf_frame.specs.Settings.{is_bad_air}
 use Rattle.wf_def_world.specs.Step.{done_outcome}
@@ -21,11 +25,13 @@ use Rattle.wf_law_runs.specs.Windows.{EachMpdu, EachOpen}
 use Rattle.wf_law_runs.specs.Numbers.{greatest_computed}
 use Rattle.wf_law_runs.proofs.Deficits.Numbers.{number_law}
 use Rattle.wf_send_parts.specs.declared.exchanges.opened.Open.{Open}
+use Rattle.wf_send_parts.specs.Exchanges.{has_nothing_sent as nothing_sent}
 use Rattle.wf_send_parts.specs.declared.stations.members.Member.{Member}
 use Rattle.wf_send_parts.specs.Members.{member, charged_in, on_member, with_charge}
 use Rattle.wf_sched.specs.ClassRotas.{SchedValue, deficit}
 use Rattle.wf_sched_refines.specs.Standing.{SchedulerStandsFor as TurnsStandFor, with_deficit_charged as with_turns_charged, with_paid_back, with_pending_paid_back}
 use Rattle.wf_sched_refines.proofs.Calls.{charge_fits_later, pay_back_fits}
+use Rattle.wf_law_driver.specs.Inferred.{is_wholly_unsent}
 use Rattle.wf_law_driver.proofs.Opened.{found_number, first_refuses}
 use Rattle.wf_send_half_model.specs.Half.{TransmitValue}
 use Rattle.wf_send_half_model.specs.Standing.{open_of, sending_of, numbers_on_air, Parts, StandsFor, Meets}
@@ -33,10 +39,11 @@ use Rattle.wf_send_half_model.specs.Changes.{after_listing_in}
 use Rattle.wf_send_half_model.specs.Ending.{after_close, without_pending_charge}
 use Rattle.wf_send_half_model.proofs.Dones.{done_meets, request_tid}
 use Rattle.wf_send_half_model.proofs.Endings.{found, open_live}
+use Rattle.wf_send_half_model.proofs.FitMarks.{answered_sent, same_transmissions}
 use Rattle.wf_send_half_model.proofs.Meets.{refused_meets}
 use Rattle.wf_send_half_model.proofs.Reached.{now_is, by_law}
 use Rattle.wf_send_half_model.proofs.Readers.{exchange_same}
-use Rattle.wf_send_half.specs.Bits.{is_shown, AreShown, NoneIsShown, GoesBy, IsClosed, IsChargeSmall, has_bad_air, end_refusal, ended_reply}
+use Rattle.wf_send_half.specs.Bits.{is_shown, AreShown, NoneIsShown, GoesBy, IsClosed, IsChargeSmall, has_bad_air, is_answer_impossible, end_refusal, ended_reply}
 use Rattle.wf_send_half.specs.Half.{HasWorld}
 use Rattle.wf_send_half.specs.declared.finish.Ended.{Ended}
 use Rattle.wf_send_half.proofs.Ends.{begun}
@@ -63,7 +70,7 @@ low_tid v w bodies h e x known = by_content x.content refl
     by_content : (c : Content) → x.content ≡ c → x.tid < 8
     by_content (Frames mpdus) is = (begun v w bodies h e x known None (numbers_on_air mpdus)
         (ap sending_of is)
-        (λ n. false)).tid
+        (λ n. End.Missed)).tid
     by_content (Request start) is = request_tid v w bodies h e x known start is
 
 none_by : (found : Option Exchange) → None ≡ option_map open_of found → found ≡ None
@@ -91,26 +98,84 @@ module _ (v : TransmitValue) (w : World) (bodies : ℕ → FrameValue) (h : Stan
   bad_done answered air bad =
       refused_meets v w bodies (Asked (Done e answered air)) BadAir h bad (λ i. cc i)
 
--- the reason of the refusal
+-- ---- the reason of the refusal
 
-pub ends_unknown : (v : TransmitValue) (e : ℕ) (air : Option ℕ) → None ≡ find (λ x. x.number == e) v.opened →
-    end_refusal v e air ≡ Some NoExchange
-ends_unknown v e air none = ap (λ (f : Option Open). if is_none f then Some NoExchange
-    else if is_bad_air v.config air then Some BadAir else None) (sym none)
+-- the reason, by the exchange if it is open
+abbrev reason : Option (ℕ × List ℕ) → Bool → Option Open → Option Refusal
+reason heard bad f = if is_none f then Some NoExchange
+    else if is_some heard && unwrap_or (option_map nothing_sent f) false then Some NoAnswer
+    else if bad then Some BadAir
+    else None
 
-pub ends_bad : (v : TransmitValue) (e : ℕ) (air : Option ℕ) (o : Open) →
-    Some o ≡ find (λ x. x.number == e) v.opened → is_bad_air v.config air ≡ true →
-    end_refusal v e air ≡ Some BadAir
-ends_bad v e air o some bad = ap (λ (f : Option Open). if is_none f then Some NoExchange
-    else if is_bad_air v.config air then Some BadAir else None) (sym some)
-    ∙ ap (λ (b : Bool). if b then Some BadAir else None) bad
+module _ (v : TransmitValue) (e : ℕ) (heard : Option (ℕ × List ℕ)) (air : Option ℕ) where
+  pub ends_unknown : None ≡ find (λ x. x.number == e) v.opened →
+      end_refusal v e heard air ≡ Some NoExchange
+  ends_unknown none = ap (reason heard (is_bad_air v.config air)) (sym none)
 
-pub ends_well : (v : TransmitValue) (e : ℕ) (air : Option ℕ) (o : Open) →
-    Some o ≡ find (λ x. x.number == e) v.opened → is_bad_air v.config air ≡ false →
-    end_refusal v e air ≡ None
-ends_well v e air o some fine = ap (λ (f : Option Open). if is_none f then Some NoExchange
-    else if is_bad_air v.config air then Some BadAir else None) (sym some)
-    ∙ ap (λ (b : Bool). if b then Some BadAir else None) fine
+  module _ (o : Open) (some : Some o ≡ find (λ x. x.number == e) v.opened) where
+    -- the tests of an open exchange
+    by_tests : (unanswered bad : Bool) → is_answer_impossible v e heard ≡ unanswered →
+        is_bad_air v.config air ≡ bad → end_refusal v e heard air
+        ≡ (if unanswered then Some NoAnswer else if bad then Some BadAir else None)
+    by_tests unanswered bad is also =
+        ap (λ (f : Option Open). if is_none f then Some NoExchange
+        else if is_answer_impossible v e heard then Some NoAnswer
+        else if is_bad_air v.config air then Some BadAir else None) (sym some)
+        ∙ ap₂ (λ (a b : Bool). if a then Some NoAnswer else if b then Some BadAir else None) is also
+
+    pub ends_unanswered : is_answer_impossible v e heard ≡ true → end_refusal v e heard air ≡ Some NoAnswer
+    ends_unanswered is = by_tests true (is_bad_air v.config air) is refl
+
+    pub ends_bad : is_answer_impossible v e heard ≡ false → is_bad_air v.config air ≡ true →
+        end_refusal v e heard air ≡ Some BadAir
+    ends_bad answers bad = by_tests false true answers bad
+
+    pub ends_well : is_answer_impossible v e heard ≡ false → is_bad_air v.config air ≡ false →
+        end_refusal v e heard air ≡ None
+    ends_well answers fine = by_tests false false answers fine
+
+-- something was heard for an exchange of which nothing went on the air
+pub record IsUnanswered (v : TransmitValue) (e : ℕ) : Type 0 where
+  pub opened : Open
+  pub some : Some opened ≡ find (λ x. x.number == e) v.opened
+  pub nothing : nothing_sent opened ≡ true
+
+pub unanswered_of : (v : TransmitValue) (e : ℕ) (heard : Option (ℕ × List ℕ)) →
+    is_answer_impossible v e heard ≡ true → (is_some heard ≡ true) × IsUnanswered v e
+unanswered_of v e heard h =
+    let both = and_parts (is_some heard) _ h in (both.0, go (find (λ x. x.number == e) v.opened) refl both.1)
+  where
+    go : (o : Option Open) → find (λ x. x.number == e) v.opened ≡ o →
+        unwrap_or (option_map nothing_sent o) false ≡ true → IsUnanswered v e
+    go None is k = absurd (cc k)
+    go (Some x) is k = record { opened = x; some = sym is; nothing = k }
+
+-- the test of the half, in terms of its fields
+pub answers_then : (v u : TransmitValue) (e : ℕ) (heard : Option (ℕ × List ℕ)) (b : Bool) → u ≡ v →
+    b ≡ is_answer_impossible v e heard → b ≡ false → is_answer_impossible u e heard ≡ false
+answers_then v u e heard b same is none =
+    ap (λ (z : TransmitValue). is_answer_impossible z e heard) same ∙ (sym is ∙ none)
+
+-- both sides ask alike whether something went on the air
+pub nothing_same : (x : Exchange) → nothing_sent (open_of x) ≡ is_wholly_unsent x
+nothing_same x = ap (λ (n : ℕ). list_all (has x.unsent) (upto n)) (same_transmissions x.content)
+
+-- something went on the air of an exchange that was answered
+module _ (v : TransmitValue) (w : World) (bodies : ℕ → FrameValue) (h : StandsFor v w bodies) (e : ℕ)
+    (k : IsUnanswered v e) where
+  pub not_sent : (x : Exchange) → exchange w e ≡ Some x → is_wholly_unsent x ≡ true
+  not_sent x known =
+      let it : IsKnown w e k.opened = known_of v w bodies h e k.opened k.some in
+      let same : it.exchange_is ≡ x = cc (it.known, known) in
+      sym (nothing_same x) ∙ ap (λ (y : Exchange). nothing_sent (open_of y)) (sym same)
+      ∙ ap nothing_sent (sym it.same) ∙ k.nothing
+
+  pub never_answered : (x : Exchange) (b : Score) → exchange w e ≡ Some x → x.answer ≡ Some b → ⊥
+  never_answered x b known kept =
+      let off : is_wholly_unsent x ≡ false = sym (nothing_same x)
+      ∙ answered_sent w h.reached e x b known kept in
+      let on : is_wholly_unsent x ≡ true = not_sent x known in
+      absurd (cc (off, on))
 
 -- the exchange is open, and its airtime is out of range
 pub record IsBad (v : TransmitValue) (e : ℕ) (air : Option ℕ) : Type 0 where
@@ -331,12 +396,16 @@ where_some P (Some s) f = f s refl
 
 -- ---- the BlockAck by which it ends
 
+-- P holds of each of these transmissions that went on the air
+abbrev OfSent : Exchange → (Mpdu → Type 0) → List Mpdu → Type 0
+OfSent x P ms = EachMpdu (λ m. has (numbers_unsent x) m.number ≡ false → P m) ms
+
 shown_numbers : (b : Score) (x : Exchange) (p : ℕ → Bool) → x.answer ≡ Some b → (ms : List Mpdu) →
-    EachMpdu (λ m. shows b m.number ≡ p m.number) ms →
-    EachMpdu (λ m. is_acked true x.answer m.number ≡ p m.number) ms
+    OfSent x (λ m. shows b m.number ≡ p m.number) ms →
+    OfSent x (λ m. is_acked true x.answer m.number ≡ p m.number) ms
 shown_numbers b x p kept [] h = tt
 shown_numbers b x p kept (m ∷ ms) h = (
-  ap (λ (a : Option Score). is_acked true a m.number) kept ∙ h.0,
+  λ sent. ap (λ (a : Option Score). is_acked true a m.number) kept ∙ h.0 sent,
   shown_numbers b x p kept ms h.1,
 )
 
@@ -344,19 +413,19 @@ none_acked : (a : Option Score) (n : ℕ) → is_acked false a n ≡ false
 none_acked None n = refl
 none_acked (Some b) n = refl
 
-lost_numbers : (a : Option Score) (p : ℕ → Bool) (ms : List Mpdu) → EachMpdu (λ m. p m.number ≡ false) ms →
-    EachMpdu (λ m. is_acked false a m.number ≡ p m.number) ms
-lost_numbers a p [] h = tt
-lost_numbers a p (m ∷ ms) h = (none_acked a m.number ∙ sym h.0, lost_numbers a p ms h.1)
+lost_numbers : (x : Exchange) (p : ℕ → Bool) (ms : List Mpdu) → OfSent x (λ m. p m.number ≡ false) ms →
+    OfSent x (λ m. is_acked false x.answer m.number ≡ p m.number) ms
+lost_numbers x p [] h = tt
+lost_numbers x p (m ∷ ms) h =
+    (λ sent. none_acked x.answer m.number ∙ sym (h.0 sent), lost_numbers x p ms h.1)
 
-all_lost : (ms : List Mpdu) → EachMpdu (λ m. false ≡ false) ms
-all_lost [] = tt
-all_lost (m ∷ ms) = (refl, all_lost ms)
+all_lost : (x : Exchange) (ms : List Mpdu) → OfSent x (λ m. false ≡ false) ms
+all_lost x [] = tt
+all_lost x (m ∷ ms) = (λ sent. refl, all_lost x ms)
 
 pub goes_lost : (w : World) (x : Exchange) → GoesBy w x None false
 goes_lost w x = record {
-  numbers = lost_numbers x.answer (λ n. false) (mpdus_of x.content)
-      (all_lost (mpdus_of x.content));
+  numbers = lost_numbers x (λ n. false) (mpdus_of x.content) (all_lost x (mpdus_of x.content));
   request = λ is. refl;
 }
 
@@ -371,8 +440,7 @@ goes_shown w x b score kept shown = record {
 pub goes_unshown : (w : World) (x : Exchange) (heard : Option (ℕ × List ℕ)) → is_request x.content ≡ false →
     NoneIsShown w x heard → GoesBy w x heard false
 goes_unshown w x heard data_is none = record {
-  numbers =
-      lost_numbers x.answer (is_shown (is_wide w x.station x.tid) heard) (mpdus_of x.content) none;
+  numbers = lost_numbers x (is_shown (is_wide w x.station x.tid) heard) (mpdus_of x.content) none;
   request =
       λ is. absurd (cc (is, data_is));
 }

@@ -1,33 +1,37 @@
 -- Proves that a half still represents an unheard world after an exchange ends by a BlockAck that a driver
 -- heard. The calls that the BlockAck implies change nothing of the half, and make it the answer that the
 -- receiver keeps.
-use Rattle.std.proofs.Common.{◌≡◌, refl, ap, sym, ◌∙◌, subst, arith, ℕ, suc, ◌==◌, nat_lt, Bool, true, false, if◌then◌else◌}
-use Rattle.std.proofs.Common.{List, [], ◌∷◌, ◌++◌, length, Option, Some, None, is_none, option_map}
+use Rattle.std.proofs.Common.{◌≡◌, refl, ap, sym, ◌∙◌, subst, arith, ℕ, suc, ◌==◌, ◌&&◌, not, nat_lt, Bool, true, false, if◌then◌else◌}
+use Rattle.std.proofs.Common.{List, [], ◌∷◌, ◌++◌, length, Option, Some, None, is_none, is_some, option_map, unwrap_or}
 use Rattle.std.specs.Prelude.{find, IfSome, Result, Ok, Err, is_ok, IfErr}
 use Rattle.wf_frame.specs.declared.classes.Class.{Class}
 use Rattle.wf_frame.specs.declared.notes.Note.{Note}
 use Rattle.wf_frame.specs.declared.notes.Note.TheVariants.{Asked}
 use Rattle.wf_frame.specs.declared.notes.Ask.TheVariants.{Done}
 use Rattle.wf_frame.specs.declared.notes.Refusal.{Refusal}
-use Rattle.wf_frame.specs.declared.notes.Refusal.TheVariants.{NoExchange, BadAir}
+use Rattle.wf_frame.specs.declared.notes.Refusal.TheVariants.{NoExchange, NoAnswer, BadAir}
 use Rattle.wf_frame.specs.declared.notes.ReplyNote.{ReplyNote}
 use Rattle.wf_frame.specs.declared.notes.ReplyNote.TheVariants.{Refused}
 use Rattle.wf_frame.specs.Classes.{class_of}
 use Rattle.wf_frame.specs.Frames.{FrameValue}
 use Rattle.wf_def_lists.specs.Bounds.{narrow_window}
+use Rattle.wf_def_lists.specs.Table.{has}
 use Rattle.wf_def_agreement.specs.Receiver.{shows}
 use Rattle.wf_def_agreement.specs.Session.{Session}
 use Rattle.wf_law_rules.proofs.Lemmas.Numbers.{yes_lt}
 use Rattle.wf_def_world.specs.World.{World, Exchange, Mpdu, Content, Frames, Request, exchange, is_wide}
 use Rattle.wf_def_world.specs.CanSend.{is_request, is_ready}
-use Rattle.wf_def_world.specs.Exchanges.{mpdus_of}
-use Rattle.wf_def_world.specs.Step.{step}
+use Rattle.wf_def_world.specs.Exchanges.{mpdus_of, numbers_unsent}
+use Rattle.wf_def_world.specs.Refusals.{refusal}
+use Rattle.wf_def_world.specs.Step.{Outcome, step}
 use Rattle.wf_def_world.specs.Run.{world_after}
 use Rattle.wf_law_runs.specs.Windows.{EachMpdu}
 use Rattle.wf_send_parts.specs.declared.exchanges.opened.Open.{Open}
-use Rattle.wf_law_driver.specs.Inferred.{shown_indices, arrivals, answer_inferred, inferred, tells, after_inferred, done_inferred, KeepsAnswer, IsInferred}
+use Rattle.wf_send_parts.specs.Exchanges.{has_nothing_sent as is_wholly_unsent_here}
+use Rattle.wf_law_driver.specs.Inferred.{shown_indices, arrivals, answer_inferred, inferred, tells, after_inferred, done_inferred, KeepsAnswer, IsInferred, ShowsSent, shown_of_sent, is_wholly_unsent}
 use Rattle.wf_law_driver.specs.Transmit.{KeepsTransmit}
-use Rattle.wf_law_driver.specs.Unheard.{unmarked, IsSilent, IsUnheard}
+use Rattle.wf_law_driver.specs.Unheard.{unmarked, IsUnmarked, IsSilent, IsUnheard}
+use Rattle.wf_law_driver.proofs.Opened.{found_each}
 use Rattle.wf_law_driver.proofs.Runs.{inferred_keeps}
 use Rattle.wf_law_driver.proofs.Silent.{silent_law}
 use Rattle.wf_law_driver.proofs.Inferred.{inferred_law}
@@ -35,16 +39,17 @@ use Rattle.wf_law_driver.proofs.Transmit.{transmit_law}
 use Rattle.wf_send_half_model.specs.Half.{TransmitValue, is_ready_of}
 use Rattle.wf_send_half_model.specs.Standing.{IsReached, StandsFor, Meets, open_of}
 use Rattle.wf_send_half_model.proofs.Beyond.{ready_ended}
+use Rattle.wf_send_half_model.proofs.Meets.{refused_meets as refused_in}
 use Rattle.wf_send_half_model.proofs.Readers.{exchange_same, ready_same}
 use Rattle.wf_send_half_model.proofs.Whole.{arrive_stands, answer_stands}
-use Rattle.wf_send_half.specs.Bits.{is_shown, AreShown, end_refusal, ended_reply}
+use Rattle.wf_send_half.specs.Bits.{is_shown, AreShown, is_answer_impossible, end_refusal, ended_reply}
 use Rattle.wf_send_half.specs.Driven.{ended_by, outcome_after_done, world_after_done, IsAfterDone, MeetsUnheard}
 use Rattle.wf_send_half.specs.Replies.{reply_of_result}
 use Rattle.wf_send_half.specs.declared.finish.Ended.{Ended}
-use Rattle.wf_send_half.proofs.Dones.{from_none, refused_done, bad_done, ends_unknown, ends_bad}
+use Rattle.wf_send_half.proofs.Dones.{from_none, refused_done, bad_done, ends_unknown, ends_unanswered, ends_bad, nothing_same}
 use Rattle.wf_send_half.proofs.Worlds.{met_by}
 use Rattle.wf_frame.specs.Settings.{is_bad_air}
-use Rattle.wf_law_driver.proofs.Ended.{bad_lost}
+use Rattle.wf_law_driver.proofs.Ended.{bad_lost, unanswered, refused_step}
 use Rattle.wf_frame.specs.declared.settings.Config.{Config}
 
 -- ---- unheard worlds of runs
@@ -57,11 +62,12 @@ unheard_step w note r silent =
     (silent_law w.config r.history note silent)
 
 told_reached : (w : World) (r : IsReached w) (caller e : ℕ) (shown : ℕ → Bool) (air : Option ℕ)
-    (x : Exchange) → IsUnheard w → exchange w e ≡ Some x → is_bad_air w.config air ≡ false
+    (x : Exchange) → IsUnheard w → exchange w e ≡ Some x → ShowsSent shown x → is_bad_air w.config air ≡ false
     → IsInferred w caller e shown air x
 told_reached w r caller e shown air x =
-    subst (λ (u : World). IsUnheard u → exchange u e ≡ Some x → is_bad_air u.config air ≡ false →
-    IsInferred u caller e shown air x) (sym r.after) (inferred_law w.config r.history caller e shown air x)
+    subst (λ (u : World). IsUnheard u → exchange u e ≡ Some x → ShowsSent shown x →
+    is_bad_air u.config air ≡ false → IsInferred u caller e shown air x) (sym r.after)
+    (inferred_law w.config r.history caller e shown air x)
 
 -- ---- the calls that a BlockAck implies
 
@@ -123,26 +129,66 @@ told_nothing : (w : World) (caller e : ℕ) (shown : ℕ → Bool) (c : Content)
     after_inferred w caller e shown c ≡ w
 told_nothing w caller e shown c n = ap (world_after w) n.nothing ∙ world_after_none w
 
--- the numbers of x, an open exchange of w, that a BlockAck shows
+-- ---- what a BlockAck shows of the numbers that went on the air
+
+-- the numbers of x, an open exchange of w, that a BlockAck shows and that went on the air
 abbrev shown_of : World → Exchange → ℕ × List ℕ → ℕ → Bool
-shown_of w x score = is_shown (is_wide w x.station x.tid) (Some score)
+shown_of w x score = shown_of_sent x (is_shown (is_wide w x.station x.tid) (Some score))
+
+sent_by : (shown unsent : Bool) → (shown && not unsent) ≡ true → unsent ≡ false
+sent_by true true h = absurd (cc h)
+sent_by false true h = absurd (cc h)
+sent_by shown false h = refl
+
+shows_by : (shown unsent : Bool) → unsent ≡ false → (shown && not unsent) ≡ shown
+shows_by shown true h = absurd (cc h)
+shows_by true false h = refl
+shows_by false false h = refl
+
+shows_sent : (x : Exchange) (p : ℕ → Bool) → is_wholly_unsent x ≡ false → ShowsSent (shown_of_sent x p) x
+shows_sent x p some = record { numbers = each (mpdus_of x.content); some = some }
+  where
+    each : (ms : List Mpdu) → EachMpdu (λ m. shown_of_sent x p m.number ≡ true →
+        has (numbers_unsent x) m.number ≡ false) ms
+    each [] = tt
+    each (m ∷ ms) = (sent_by (p m.number) (has (numbers_unsent x) m.number), each ms)
+
+-- what went on the air is shown by the BlockAck alone
+each_of_sent : (un : List ℕ) (p q : ℕ → Bool) (ms : List Mpdu) →
+    EachMpdu (λ m. q m.number ≡ (p m.number && not (has un m.number))) ms →
+    EachMpdu (λ m. has un m.number ≡ false → q m.number ≡ p m.number) ms
+each_of_sent un p q [] h = tt
+each_of_sent un p q (m ∷ ms) h = (
+  λ sent. h.0 ∙ shows_by (p m.number) (has un m.number) sent,
+  each_of_sent un p q ms h.1,
+)
+
+none_of_sent : (un : List ℕ) (p : ℕ → Bool) (ms : List Mpdu) →
+    NoneOf (λ n. p n && not (has un n)) ms → EachMpdu (λ m. has un m.number ≡ false → p m.number ≡ false) ms
+none_of_sent un p [] h = tt
+none_of_sent un p (m ∷ ms) h = (
+  λ sent. sym (shows_by (p m.number) (has un m.number) sent) ∙ h.0,
+  none_of_sent un p ms h.1,
+)
 
 -- the answer that is then kept shows the same as the BlockAck
 kept_shows : (w u : World) (e : ℕ) (score : ℕ × List ℕ) (x : Exchange) →
     is_wide u x.station x.tid ≡ is_wide w x.station x.tid →
     (k : KeepsAnswer u e (shown_of w x score) x) → AreShown u k.marked k.answer (Some score)
 kept_shows w u e score x wide k =
-    subst (λ (z : Exchange). EachMpdu (λ m. shows k.answer m.number ≡ shown_of u z score m.number)
-    (mpdus_of z.content)) (sym k.same)
-    (subst (λ (b : Bool). EachMpdu (λ m. shows k.answer m.number ≡ is_shown b (Some score) m.number)
-    (mpdus_of x.content)) (sym wide) k.shows)
+    subst (λ (z : Exchange). EachMpdu (λ m. has (numbers_unsent z) m.number ≡ false → shows k.answer m.number
+    ≡ is_shown (is_wide u z.station z.tid) (Some score) m.number) (mpdus_of z.content)) (sym k.same)
+    (subst (λ (b : Bool). EachMpdu (λ m. has (numbers_unsent x) m.number ≡ false → shows k.answer m.number
+    ≡ is_shown b (Some score) m.number) (mpdus_of x.content)) (sym wide)
+    (each_of_sent (numbers_unsent x) (is_shown (is_wide w x.station x.tid) (Some score)) (shows k.answer)
+    (mpdus_of x.content) k.shows))
 
--- ---- an open exchange whose BlockAck was heard
+-- ---- an open exchange of which something went on the air, and whose BlockAck was heard
 
 module _ (v : TransmitValue) (w : World) (bodies : ℕ → FrameValue) (h : StandsFor v w bodies)
     (un : IsUnheard w) (e : ℕ) (x : Exchange)
-    (known : exchange w e ≡ Some x) (score : ℕ × List ℕ) (caller : ℕ) (air : Option ℕ)
-    (fine : is_bad_air w.config air ≡ false) where
+    (known : exchange w e ≡ Some x) (some_sent : is_wholly_unsent x ≡ false) (score : ℕ × List ℕ) (caller : ℕ)
+    (air : Option ℕ) (fine : is_bad_air w.config air ≡ false) where
   abbrev shown : ℕ → Bool
   shown = shown_of w x score
 
@@ -150,7 +196,8 @@ module _ (v : TransmitValue) (w : World) (bodies : ℕ → FrameValue) (h : Stan
   after = after_inferred w caller e shown x.content
 
   is_told : IsInferred w caller e shown air x
-  is_told = told_reached w h.reached caller e shown air x un known fine
+  is_told = told_reached w h.reached caller e shown air x un known
+      (shows_sent x (is_shown (is_wide w x.station x.tid) (Some score)) some_sent) fine
 
   pub told_unheard : IsUnheard (step after (done_inferred e shown air x.content)).world
   told_unheard = is_told.unheard
@@ -207,7 +254,9 @@ module _ (v : TransmitValue) (w : World) (bodies : ℕ → FrameValue) (h : Stan
         subst (λ (z : World). Meets z bodies (Asked (Done e false air)) u
         (reply_of_result ended_reply result))
         (sym (told_nothing w caller e shown x.content n))
-        (done.none_shown w bodies x h known n.data_is n.none)
+        (done.none_shown w bodies x h known n.data_is some_sent
+        (none_of_sent (numbers_unsent x) (is_shown (is_wide w x.station x.tid) (Some score))
+        (mpdus_of x.content) n.none))
 
     pub told_meets : Meets after bodies (done_inferred e shown air x.content) u
         (reply_of_result ended_reply result)
@@ -216,12 +265,13 @@ module _ (v : TransmitValue) (w : World) (bodies : ℕ → FrameValue) (h : Stan
 -- ---- whatever was heard
 
 -- a refused end is answered by the refusal, and changes nothing
-refused_result : (v u : TransmitValue) (e : ℕ) (air : Option ℕ) (r : Result Ended Refusal) (why : Refusal) →
-    end_refusal v e air ≡ Some why → is_ok r ≡ is_none (end_refusal v e air) →
-    IfErr r (λ reason. (end_refusal v e air ≡ Some reason) × (u ≡ v)) →
+refused_result : (v u : TransmitValue) (e : ℕ) (heard : Option (ℕ × List ℕ)) (air : Option ℕ)
+    (r : Result Ended Refusal) (why : Refusal) →
+    end_refusal v e heard air ≡ Some why → is_ok r ≡ is_none (end_refusal v e heard air) →
+    IfErr r (λ reason. (end_refusal v e heard air ≡ Some reason) × (u ≡ v)) →
     (reply_of_result ended_reply r ≡ Refused why) × (u ≡ v)
-refused_result v u e air (Ok ended) why is found f = absurd (cc (found, ap is_none is))
-refused_result v u e air (Err reason) why is found f = (ap Refused (cc (f.0, is)), f.1)
+refused_result v u e heard air (Ok ended) why is found f = absurd (cc (found, ap is_none is))
+refused_result v u e heard air (Err reason) why is found f = (ap Refused (cc (f.0, is)), f.1)
 
 module _ (v u : TransmitValue) (w : World) (bodies : ℕ → FrameValue) (h : StandsFor v w bodies)
     (un : IsUnheard w)
@@ -234,8 +284,8 @@ module _ (v u : TransmitValue) (w : World) (bodies : ℕ → FrameValue) (h : St
   none_found none = sym (found ∙ ap (option_map open_of) none)
 
   not_open : exchange w e ≡ None → (reply_of_result ended_reply result ≡ Refused NoExchange) × (u ≡ v)
-  not_open none = refused_result v u e air result NoExchange
-      (ends_unknown v e air (none_found none)) done.found
+  not_open none = refused_result v u e heard air result NoExchange
+      (ends_unknown v e heard air (none_found none)) done.found
       done.refused
 
   refused_meets : exchange w e ≡ None → Meets w bodies (Asked (Done e false air)) u
@@ -246,16 +296,49 @@ module _ (v u : TransmitValue) (w : World) (bodies : ℕ → FrameValue) (h : St
       (met_by v u w bodies (Asked (Done e false air)) (Refused NoExchange) r.1
       (refused_done v w bodies h e false air (none_found none)))
 
-  bad_meets : (x : Exchange) → exchange w e ≡ Some x → is_bad_air w.config air ≡ true →
-      Meets w bodies (Asked (Done e false air)) u (reply_of_result ended_reply result)
-  bad_meets x known bad =
+  -- the open exchange in the half
+  opened_here : (x : Exchange) → exchange w e ≡ Some x → Some (open_of x) ≡ find (λ y. y.number == e) v.opened
+  opened_here x known = sym (found ∙ ap (option_map open_of) known)
+
+  -- whether something was heard of what never went on the air
+  impossible_is : (x : Exchange) → exchange w e ≡ Some x → is_some heard ≡ true → (none : Bool) →
+      is_wholly_unsent x ≡ none → is_answer_impossible v e heard ≡ none
+  impossible_is x known some none is =
+      ap (λ (b : Bool). b && unwrap_or (option_map is_wholly_unsent_here (find (λ y. y.number == e) v.opened))
+      false) some
+      ∙ ap (λ (o : Option Open). unwrap_or (option_map is_wholly_unsent_here o) false)
+      (sym (opened_here x known))
+      ∙ nothing_same x ∙ is
+
+  bad_meets : (x : Exchange) → exchange w e ≡ Some x → is_some heard ≡ true → is_wholly_unsent x ≡ false →
+      is_bad_air w.config air ≡ true → Meets w bodies (Asked (Done e false air)) u
+      (reply_of_result ended_reply result)
+  bad_meets x known some sent bad =
       let here : is_bad_air v.config air ≡ true =
       ap (λ (k : Config). is_bad_air k air) h.parts.others.config ∙ bad in
-      let r = refused_result v u e air result BadAir (ends_bad v e air (open_of x)
-      (sym (found ∙ ap (option_map open_of) known)) here) done.found done.refused in
+      let r = refused_result v u e heard air result BadAir (ends_bad v e heard air (open_of x)
+      (opened_here x known) (impossible_is x known some false sent) here) done.found done.refused in
       subst (λ (z : ReplyNote). Meets w bodies (Asked (Done e false air)) u z) (sym r.0)
       (met_by v u w bodies (Asked (Done e false air)) (Refused BadAir) r.1
       (bad_done v w bodies h e false air (bad_lost w e x air known bad)))
+
+  -- a Done of an exchange of which nothing went on the air, for which something was heard
+  unsent_meets : (x : Exchange) → exchange w e ≡ Some x → is_some heard ≡ true → is_wholly_unsent x ≡ true →
+      MeetsUnheard bodies (step w (Asked (Done e true air))) u (reply_of_result ended_reply result)
+  unsent_meets x known some none =
+      let r = refused_result v u e heard air result NoAnswer (ends_unanswered v e heard air (open_of x)
+      (opened_here x known) (impossible_is x known some true none)) done.found done.refused in
+      let refused : refusal w (Asked (Done e true air)) ≡ Some NoAnswer =
+      unanswered w e x air known (found_each IsUnmarked w e x known un.marks).answer in
+      let m : Meets w bodies (Asked (Done e true air)) u (Refused NoAnswer) =
+      met_by v u w bodies (Asked (Done e true air)) (Refused NoAnswer) r.1
+      (refused_in v w bodies (Asked (Done e true air)) NoAnswer h refused (λ i. cc i)) in
+      record {
+        stands = m.stands;
+        unheard = subst IsUnheard
+            (sym (ap (λ (o : Outcome). o.world) (refused_step w e true air NoAnswer refused))) un;
+        reply = r.0 ∙ m.reply;
+      }
 
   lost_meets : Meets w bodies (Asked (Done e false air)) u (reply_of_result ended_reply result) →
       MeetsUnheard bodies (step w (Asked (Done e false air))) u (reply_of_result ended_reply result)
@@ -269,25 +352,37 @@ module _ (v u : TransmitValue) (w : World) (bodies : ℕ → FrameValue) (h : St
       MeetsUnheard bodies (ended_by w caller e o air x) u (reply_of_result ended_reply result)
   by_case caller None x none known = lost_meets (from_none _ heard none done.lost w bodies h)
   by_case caller (Some score) None some none = lost_meets (refused_meets none)
-  by_case caller (Some score) (Some x) some known = either (is_bad_air w.config air) refl
+  by_case caller (Some score) (Some x) some known = on_air (is_wholly_unsent x) refl
     where
       shown_of_x : ℕ → Bool
-      shown_of_x = is_shown (is_wide w x.station x.tid) (Some score)
+      shown_of_x = shown_of w x score
 
-      either : (bad : Bool) → is_bad_air w.config air ≡ bad →
+      heard_is : is_some heard ≡ true
+      heard_is = ap is_some some
+
+      either : (bad : Bool) → is_bad_air w.config air ≡ bad → is_wholly_unsent x ≡ false →
           MeetsUnheard bodies (if bad then step w (Asked (Done e false air))
           else step (after_inferred w caller e shown_of_x x.content)
           (done_inferred e shown_of_x air x.content)) u
           (reply_of_result ended_reply result)
-      either true bad = lost_meets (bad_meets x known bad)
-      either false fine =
-          let m = told_meets v w bodies h un e x known score caller air fine u result
+      either true bad sent = lost_meets (bad_meets x known heard_is sent bad)
+      either false fine sent =
+          let m = told_meets v w bodies h un e x known sent score caller air fine u result
           (subst (λ o. IsAfterDone v u e o air result) some done) in
           record {
             stands = m.stands;
-            unheard = told_unheard v w bodies h un e x known score caller air fine;
+            unheard = told_unheard v w bodies h un e x known sent score caller air fine;
             reply = m.reply;
           }
+
+      on_air : (none : Bool) → is_wholly_unsent x ≡ none →
+          MeetsUnheard bodies (if none then step w (Asked (Done e true air))
+          else if is_bad_air w.config air then step w (Asked (Done e false air))
+          else step (after_inferred w caller e shown_of_x x.content)
+          (done_inferred e shown_of_x air x.content)) u
+          (reply_of_result ended_reply result)
+      on_air true none = unsent_meets x known heard_is none
+      on_air false sent = either (is_bad_air w.config air) refl sent
 
   pub meets_unheard : (caller : ℕ) → MeetsUnheard bodies (outcome_after_done w caller e heard air) u
       (reply_of_result ended_reply result)
@@ -301,18 +396,27 @@ module _ (v : TransmitValue) (w : World) (bodies : ℕ → FrameValue) (h : Stan
   ready_heard : (heard : Option (ℕ × List ℕ)) (air : Option ℕ) →
       is_ready (ended_by w caller e heard air (Some x)).world c i ≡ is_ready w c i
   ready_heard None air = ready_ended w e false air x h.reached known i c other
-  ready_heard (Some score) air = either (is_bad_air w.config air) refl
+  ready_heard (Some score) air = on_air (is_wholly_unsent x) refl
     where
       shown_of_x : ℕ → Bool
-      shown_of_x = is_shown (is_wide w x.station x.tid) (Some score)
+      shown_of_x = shown_of w x score
 
-      either : (bad : Bool) → is_bad_air w.config air ≡ bad →
+      either : (bad : Bool) → is_bad_air w.config air ≡ bad → is_wholly_unsent x ≡ false →
           is_ready (if bad then step w (Asked (Done e false air))
           else step (after_inferred w caller e shown_of_x x.content)
           (done_inferred e shown_of_x air x.content)).world
           c i ≡ is_ready w c i
-      either true bad = ready_ended w e false air x h.reached known i c other
-      either false fine = told_ready v w bodies h un e x known score caller air fine i c other
+      either true bad sent = ready_ended w e false air x h.reached known i c other
+      either false fine sent = told_ready v w bodies h un e x known sent score caller air fine i c other
+
+      on_air : (none : Bool) → is_wholly_unsent x ≡ none →
+          is_ready (if none then step w (Asked (Done e true air))
+          else if is_bad_air w.config air then step w (Asked (Done e false air))
+          else step (after_inferred w caller e shown_of_x x.content)
+          (done_inferred e shown_of_x air x.content)).world
+          c i ≡ is_ready w c i
+      on_air true none = ready_ended w e true air x h.reached known i c other
+      on_air false sent = either (is_bad_air w.config air) refl sent
 
   pub ready_after_done : (heard : Option (ℕ × List ℕ)) (air : Option ℕ) →
       is_ready (world_after_done w caller e heard air) c i ≡ is_ready w c i

@@ -11,7 +11,7 @@ use Rattle.wf_frame.specs.Settings.{is_bad_air}
 use Rattle.wf_def_world.specs.World.{World, Exchange, exchange, is_wide}
 use Rattle.wf_def_world.specs.Step.{step}
 use Rattle.wf_law_runs.proofs.Deficits.Configs.{config_step, config_run}
-use Rattle.wf_law_driver.specs.Inferred.{inferred, after_inferred, done_inferred}
+use Rattle.wf_law_driver.specs.Inferred.{inferred, after_inferred, done_inferred, shown_of_sent, is_wholly_unsent}
 use Rattle.wf_send_parts.specs.declared.exchanges.opened.Open.{Open}
 use Rattle.wf_send_half.specs.declared.finish.Closed.{Closed}
 use Rattle.wf_send_half.specs.declared.finish.Ended.{Ended}
@@ -33,17 +33,20 @@ config_ended : (w : World) (caller e : ℕ) (heard : Option (ℕ × List ℕ)) (
     (x : Option Exchange) → (ended_by w caller e heard air x).world.config ≡ w.config
 config_ended w caller e None air x = config_step w (Asked (Done e false air))
 config_ended w caller e (Some score) air None = config_step w (Asked (Done e false air))
-config_ended w caller e (Some score) air (Some x) = either (is_bad_air w.config air)
+config_ended w caller e (Some score) air (Some x) =
+    on_air (is_wholly_unsent x) (is_bad_air w.config air)
   where
     shown : ℕ → Bool
-    shown = is_shown (is_wide w x.station x.tid) (Some score)
+    shown = shown_of_sent x (is_shown (is_wide w x.station x.tid) (Some score))
 
-    either : (bad : Bool) → (if bad then step w (Asked (Done e false air))
+    on_air : (none bad : Bool) → (if none then step w (Asked (Done e true air))
+        else if bad then step w (Asked (Done e false air))
         else step (after_inferred w caller e shown x.content)
         (done_inferred e shown air x.content)).world.config
         ≡ w.config
-    either true = config_step w (Asked (Done e false air))
-    either false = config_step _ _ ∙ config_run (inferred caller e shown x.content) w
+    on_air true bad = config_step w (Asked (Done e true air))
+    on_air false true = config_step w (Asked (Done e false air))
+    on_air false false = config_step _ _ ∙ config_run (inferred caller e shown x.content) w
 
 -- x is the half before the end, with the flags r, and u is the half after it
 module _ (x : TransmitValue) (r : Flags) (h : IsTracked x r) (u : TransmitValue) (e : ℕ)

@@ -1,20 +1,20 @@
 -- Proves that an open exchange of the half can end, and that the half then represents the world after
 -- the Done. By cases of the exchange, which sends data or a request.
-use Rattle.std.proofs.Common.{◌≡◌, refl, ap, ap₂, sym, ◌∙◌, subst, arith, ℕ, ◌+◌, ◌-◌, ◌<◌, ◌≤◌, ◌%◌, ◌==◌, Bool, true, false, not, cond, List, [], ◌∷◌, map, length, Option, Some, None, is_some, unwrap_or, max, eq-eqb}
+use Rattle.std.proofs.Common.{◌≡◌, refl, ap, ap₂, sym, ◌∙◌, subst, arith, ℕ, suc, ◌+◌, ◌-◌, ◌<◌, ◌≤◌, ◌%◌, ◌==◌, Bool, true, false, not, if◌then◌else◌, cond, List, [], ◌∷◌, map, length, Option, Some, None, is_some, unwrap_or, max, eq-eqb}
 use Rattle.std.specs.Prelude.{count_by, sum_by}
-use Rattle.std.proofs.lemmas.Bool.{or_left}
+use Rattle.std.proofs.lemmas.Bool.{or_left, ne_eqb}
 use Rattle.std.proofs.lemmas.List.{length-map}
 use Rattle.wf_frame.specs.declared.notes.ReplyNote.TheVariants.{Done as Ends}
 use Rattle.wf_frame.specs.Frames.{FrameValue}
-use Rattle.wf_def_agreement.specs.Session.{Session, Slot, State, no_slot, slot, start_of, next_number, is_settled, is_acknowledged, is_waiting, is_failed}
+use Rattle.wf_def_agreement.specs.Session.{Session, Slot, State, End, no_slot, slot, start_of, next_number, is_settled, is_acknowledged, is_waiting, is_failed}
 use Rattle.wf_def_lists.specs.Table.{at, has}
 use Rattle.wf_law_rules.proofs.Lemmas.Sums.{sum_put, sum_put_within}
 use Rattle.wf_def_world.specs.World.{World, Station, Tid, Exchange, Mpdu, Content, Frames, Request, no_station, no_tid, is_live, session, exchange, without_exchange, is_wide}
 use Rattle.wf_def_world.specs.CanSend.{is_request}
-use Rattle.wf_def_world.specs.Exchanges.{mpdus_of, is_acked, after_charge, with_all_settled, count_in, charge_of}
+use Rattle.wf_def_world.specs.Exchanges.{mpdus_of, no_mpdu, numbers_unsent, numbers_given_up, is_acked, end_of, after_charge, with_all_settled, count_in, charge_of}
 use Rattle.wf_def_world.specs.Step.{done_outcome}
 use Rattle.wf_law_runs.specs.Room.{unsettled_of, in_windows_of, in_windows}
-use Rattle.wf_law_runs.specs.Sent.{HasSome}
+use Rattle.wf_law_runs.specs.Sent.{HasSome, NumbersRise}
 use Rattle.wf_law_runs.specs.Attempts.{IsTried}
 use Rattle.wf_law_runs.specs.Tallies.{AddsUp}
 use Rattle.wf_law_runs.specs.Windows.{EachMpdu, EachOpen, IsPending}
@@ -27,7 +27,7 @@ use Rattle.wf_queue_flows.specs.Flows.{SettingsValue}
 use Rattle.wf_queue_flows_refines.proofs.Readers.{same_total}
 use Rattle.wf_send_parts.proofs.Numbers.{open_number}
 use Rattle.wf_send_parts.proofs.Callers.{heard_near}
-use Rattle.wf_send_parts.specs.Window.{WindowValue, WindowStandsFor as WindowStandsFor}
+use Rattle.wf_send_parts.specs.Window.{WindowValue, WindowStandsFor as WindowStandsFor, on_air}
 use Rattle.wf_octets.specs.Distance.{distance}
 use Rattle.wf_send_parts.specs.Windows.{WindowsHaveRoom, window_of, with_window}
 use Rattle.wf_send_parts.specs.Ending.{Ending, IsFlyingIn, AreFlying}
@@ -41,14 +41,17 @@ use Rattle.wf_send_half_model.specs.Views.{Agreements}
 use Rattle.wf_send_half_model.proofs.Reached.{by_law}
 use Rattle.wf_send_half_model.proofs.Dropping.{held_counted, finished_known}
 use Rattle.wf_send_half_model.proofs.Leavings.{HasPlace, has_place}
-use Rattle.wf_send_half_model.proofs.Endings.{found, begins, of_windows, open_live, closed_agreements}
+use Rattle.wf_send_half_model.proofs.Endings.{found, begins, from_first, open_sent, of_windows, open_live, closed_agreements}
+use Rattle.wf_send_half_model.proofs.FitMarks.{unsent_at, given_up_at}
+use Rattle.wf_send_half_model.proofs.Marking.{each_at}
 use Rattle.wf_send_half_model.proofs.Dones.{data_world, done_reply, pending, request_tid, unheard_parts, heard_parts}
-use Rattle.wf_law_driver.proofs.Shown.{settles_alike}
-use Rattle.wf_send_half.specs.Bits.{is_shown, CanFinish, IsToSettle, ended_reply, GoesBy}
+use Rattle.wf_send_half.specs.Bits.{is_shown, end_of_index, EndAlike, CanFinish, IsToSettle, ended_reply, GoesBy}
 use Rattle.wf_send_half_model.specs.Pulling.{is_wide_of}
 use Rattle.wf_send_half_model.proofs.Pulls.{wide_same}
 use Rattle.wf_send_half.specs.Counts.{AreCounted}
 use Rattle.wf_send_half.specs.declared.finish.Ended.{Ended}
+use Rattle.wf_send_half.specs.declared.finish.Report.{Report}
+use Rattle.wf_send_half.proofs.Settling.{shown_on_air}
 
 -- ---- as many numbers fly as frames are held at them
 
@@ -72,7 +75,7 @@ flown_few (n ∷ ns) y ending flying =
       one,
       sum_put_within f no_slot y.slots (n - y.first)
           (record (slot y n) { state = State.Acked }) below,
-      flown_few ns _ ending (still_fly true y ending n ns flying),
+      flown_few ns _ ending (still_fly End.Acknowledged y ending n ns flying),
     )
 
 of_station : (o : Option Station) → sum_by unsettled_of (unwrap_or o no_station).tids ≡ in_windows_of o
@@ -89,6 +92,63 @@ in_session w s t =
       of_station (at None w.stations s),
       sum_put in_windows_of None w.stations s None refl,
     )
+
+-- ---- how numbers end by their indices
+
+-- the end of each number, by the index of its first transmission
+ends_by : (ℕ → ℕ → End) → ℕ → List Mpdu → ℕ → End
+ends_by f i [] n = End.Missed
+ends_by f i (m ∷ ms) n = if m.number == n then f i (on_air n) else ends_by f (suc i) ms n
+
+alike_as : (f : ℕ → ℕ → End) (p q : ℕ → End) (i : ℕ) (ms : List Mpdu) →
+    EachMpdu (λ m. p m.number ≡ q m.number) ms → EndAlike f p i ms → EndAlike f q i ms
+alike_as f p q i [] same h = tt
+alike_as f p q i (m ∷ ms) same h = (h.0 ∙ same.0, alike_as f p q (suc i) ms same.1 h.1)
+
+by_alike : (f : ℕ → ℕ → End) (i lo : ℕ) (ms : List Mpdu) → NumbersRise lo ms →
+    EndAlike f (ends_by f i ms) i ms
+unfolding ends_by
+by_alike f i lo [] rises = tt
+by_alike f i lo (m ∷ ms) rises = (
+  sym (ap (λ (b : Bool). if b then f i (on_air m.number) else ends_by f (suc i) ms m.number)
+      (eq-eqb m.number m.number refl)),
+  alike_as f (ends_by f (suc i) ms) (ends_by f i (m ∷ ms)) (suc i) ms
+      (later ms (from_first (suc m.number) ms rises.1)) (by_alike f (suc i) (suc m.number) ms rises.1),
+)
+  where
+    later : (ks : List Mpdu) → EachMpdu (λ k. suc m.number ≤ k.number) ks →
+        EachMpdu (λ k. ends_by f (suc i) ms k.number
+        ≡ (if m.number == k.number then f i (on_air k.number) else ends_by f (suc i) ms k.number)) ks
+    later [] past = tt
+    later (k ∷ ks) past = (
+      sym (ap (λ (b : Bool). if b then f i (on_air k.number) else ends_by f (suc i) ms k.number)
+          (ne_eqb m.number k.number (λ e. absurd (omega (arith, e, past.0))))),
+      later ks past.1,
+    )
+
+all_alike : (f : ℕ → ℕ → End) (p : ℕ → End) (i : ℕ) (ms : List Mpdu) →
+    ((j : ℕ) → j < length ms → f (i + j) (on_air (at no_mpdu ms j).number) ≡ p (at no_mpdu ms j).number) →
+    EndAlike f p i ms
+all_alike f p i [] h = tt
+all_alike f p i (m ∷ ms) h =
+    let here : i + 0 ≡ i = omega arith in (
+      subst (λ (j : ℕ). f j (on_air m.number) ≡ p m.number) here (h 0 (omega arith)),
+      all_alike f p (suc i) ms (λ j low.
+          let next : i + suc j ≡ suc i + j = omega arith in
+          subst (λ (k : ℕ). f k (on_air (at no_mpdu ms j).number) ≡ p (at no_mpdu ms j).number) next
+          (h (suc j) (omega (arith, low)))),
+    )
+
+-- the same tests give the same end; whether a number is shown counts only if it went on the air
+by_tests : (a b c d f g : Bool) → a ≡ b → (b ≡ false → c ≡ d) → f ≡ g →
+    (if a then End.Unsent else if c then End.Acknowledged else if f then End.GivenUp else End.Missed)
+    ≡ (if b then End.Unsent else if d then End.Acknowledged else if g then End.GivenUp else End.Missed)
+by_tests true true c d f g first shown last = refl
+by_tests true false c d f g first shown last = absurd (cc first)
+by_tests false true c d f g first shown last = absurd (cc first)
+by_tests false false c d f g first shown last =
+    ap₂ (λ (x y : Bool). if x then End.Acknowledged else if y then End.GivenUp else End.Missed) (shown refl)
+    last
 
 -- ---- an exchange of data
 
@@ -154,17 +214,17 @@ module _ (v : TransmitValue) (w : World) (bodies : ℕ → FrameValue) (h : Stan
         (found HasSome w.opened e x known sent (ap is_request sends.content))
 
     -- the settling of its numbers begins
-    pub begun : (acked : ℕ → Bool) →
+    pub begun : (ends : ℕ → End) →
         IsEnding (after_close v (open_of x) (charge_of air x)) closed bodies x.station x.tid
-        x.number acked ms (with_all_settled closed x.station x.tid acked ms)
-    begun acked =
+        x.number ends ms (with_all_settled closed x.station x.tid ends ms)
+    begun ends =
         let f : HasFirst ms = some_first ms some_sent in
         let both : mpdus_of x.content ≡ f.first ∷ f.behind = content_is ∙ f.is in
         subst (λ (l : List Mpdu). IsEnding
         (after_close v (open_of x) (charge_of air x)) closed bodies x.station x.tid
         x.number
-        acked l (with_all_settled closed x.station x.tid acked l)) (sym f.is)
-        (begins v w bodies h e x known acked f.first f.behind both
+        ends l (with_all_settled closed x.station x.tid ends l)) (sym f.is)
+        (begins v w bodies h e x known ends f.first f.behind both
         (tried (f.first ∷ f.behind) (subst (EachMpdu (λ m. (slot (session w x.station x.tid) m.number).state
         ≡ State.Flying x.number)) both (of_windows v w bodies h e x known).flies)) air)
 
@@ -173,15 +233,16 @@ module _ (v : TransmitValue) (w : World) (bodies : ℕ → FrameValue) (h : Stan
 
     few : length ms ≤ in_windows w
     few =
-        let left = begun (λ n. false) in
-        let flying : AreFlying (session w x.station x.tid) (ending_of closed.config x.number (λ n. false))
+        let left = begun (λ n. End.Missed) in
+        let flying : AreFlying (session w x.station x.tid) (ending_of closed.config x.number
+        (λ n. End.Missed))
         (map (λ m. m.number) ms) =
-        subst (λ (y : Session). AreFlying y (ending_of closed.config x.number (λ n. false))
+        subst (λ (y : Session). AreFlying y (ending_of closed.config x.number (λ n. End.Missed))
         (map (λ m. m.number) ms)) same_session left.flying in
         omega (
           arith,
           flown_few (map (λ m. m.number) ms) (session w x.station x.tid)
-              (ending_of closed.config x.number (λ n. false)) flying,
+              (ending_of closed.config x.number (λ n. End.Missed)) flying,
           in_session w x.station x.tid,
           length-map ms (λ (m : Mpdu). m.number),
         )
@@ -211,25 +272,44 @@ module _ (v : TransmitValue) (w : World) (bodies : ℕ → FrameValue) (h : Stan
               (omega (arith, adds, held_counted w, room.placed, total, few));
         }
 
+    -- each number ends so by its index, by the report on its transmission
+    pub ends_alike : (r : Report) (answered : Bool) → r.unsent ≡ x.unsent → r.given_up ≡ x.given_up →
+        r.wide ≡ is_wide w x.station x.tid → GoesBy w x r.heard answered →
+        EndAlike (end_of_index r) (end_of x answered) 0 ms
+    ends_alike r answered unsent given_up wide goes = all_alike (end_of_index r) (end_of x answered) 0 ms (λ i low.
+        let m : Mpdu = at no_mpdu ms i in
+        let here : 0 + i ≡ i = omega arith in
+        let first : has r.unsent (0 + i) ≡ has (numbers_unsent x) m.number =
+        ap₂ (λ (l : List ℕ) (j : ℕ). has l j) unsent here
+        ∙ sym (unsent_at w h.reached e x ms known sends.content i low) in
+        let last : has r.given_up (0 + i) ≡ has (numbers_given_up x) m.number =
+        ap₂ (λ (l : List ℕ) (j : ℕ). has l j) given_up here
+        ∙ sym (given_up_at w h.reached e x ms known sends.content i low) in
+        let told : has (numbers_unsent x) m.number ≡ false →
+        is_acked answered x.answer m.number ≡ is_shown (is_wide w x.station x.tid) r.heard m.number =
+        each_at (λ k. has (numbers_unsent x) k.number ≡ false →
+        is_acked answered x.answer k.number ≡ is_shown (is_wide w x.station x.tid) r.heard k.number) ms i low
+        (subst (EachMpdu (λ k. has (numbers_unsent x) k.number ≡ false →
+        is_acked answered x.answer k.number ≡ is_shown (is_wide w x.station x.tid) r.heard k.number))
+        content_is goes.numbers) in
+        by_tests (has r.unsent (0 + i)) (has (numbers_unsent x) m.number)
+        (is_shown r.wide r.heard (on_air m.number)) (is_acked answered x.answer m.number)
+        (has r.given_up (0 + i)) (has (numbers_given_up x) m.number) first
+        (λ sent. shown_on_air r.wide r.heard m.number
+        ∙ ap (λ (b : Bool). is_shown b r.heard m.number) wide ∙ sym (told sent)) last)
+
     -- after its numbers are settled, the half represents the world after the Done
-    module _ (z : TransmitValue) (ended : Ended) (heard : Option (ℕ × List ℕ)) (answered : Bool)
-        (alike : EachMpdu (λ m. is_acked answered x.answer m.number
-        ≡ is_shown (is_wide w x.station x.tid) heard m.number) (mpdus_of x.content)) where
-      abbrev shown : ℕ → Bool
-      shown = is_shown (is_wide w x.station x.tid) heard
+    module _ (z : TransmitValue) (ended : Ended) (answered : Bool) where
+      same_world : (done_outcome w x answered air).world
+          ≡ with_all_settled closed x.station x.tid (end_of x answered) ms
+      same_world = data_world w x answered air ms sends.content
 
-      same_world : (done_outcome w x answered air).world ≡ with_all_settled closed x.station x.tid shown ms
-      same_world =
-          data_world w x answered air ms sends.content
-          ∙ settles_alike closed x.station x.tid (is_acked answered x.answer) shown ms
-          (subst (EachMpdu (λ m. is_acked answered x.answer m.number ≡ shown m.number)) content_is alike)
-
-      pub data_parts : Parts z (with_all_settled closed x.station x.tid shown ms) bodies →
+      pub data_parts : Parts z (with_all_settled closed x.station x.tid (end_of x answered) ms) bodies →
           Parts z (done_outcome w x answered air).world bodies
       data_parts parts = subst (λ (u : World). Parts z u bodies) (sym same_world) parts
 
-      pub data_reply : AreCounted (with_all_settled closed x.station x.tid shown ms) x.station x.tid ms
-          ended → ended_reply ended ≡ (done_outcome w x answered air).reply
+      pub data_reply : AreCounted (with_all_settled closed x.station x.tid (end_of x answered) ms) x.station
+          x.tid ms ended → ended_reply ended ≡ (done_outcome w x answered air).reply
       data_reply counted =
           let c : AreCounted (done_outcome w x answered air).world x.station x.tid
           (mpdus_of x.content) ended =
@@ -335,83 +415,78 @@ module _ (v : TransmitValue) (w : World) (bodies : ℕ → FrameValue) (h : Stan
 
       pub data_tid : (numbers : List ℕ) → o.sending ≡ Data numbers → o.tid < 8
       data_tid numbers = carried (λ k z. k.sending ≡ Data numbers → k.tid < 8)
-          (λ is. (begun numbers is (λ n. false)).tid)
+          (λ is. (begun numbers is (λ n. End.Missed)).tid)
 
       pub data_within : (numbers : List ℕ) → o.sending ≡ Data numbers →
           tid_number o.station o.tid < length self.windows
       data_within numbers = carried (λ k z. k.sending ≡ Data numbers →
-          tid_number k.station k.tid < length z.windows) (λ is. within (begun numbers is (λ n. false)).tid)
+          tid_number k.station k.tid < length z.windows) (λ is. within (begun numbers is
+          (λ n. End.Missed)).tid)
 
       pub data_place : (numbers : List ℕ) → o.sending ≡ Data numbers → CanFinish self (length numbers)
       data_place numbers = carried (λ k z. k.sending ≡ Data numbers → CanFinish z (length numbers))
           (place numbers)
 
-      pub data_some : (numbers : List ℕ) (acked : ℕ → Bool) → o.sending ≡ Data numbers →
-          IsToSettle self o.station o.tid numbers acked
-      data_some numbers acked = carried (λ k z. k.sending ≡ Data numbers →
-          IsToSettle z k.station k.tid numbers acked)
-          (λ is. record {
+      pub data_some : (numbers : List ℕ) (r : Report) → o.sending ≡ Data numbers →
+          IsToSettle self o.station o.tid numbers (end_of_index r)
+      data_some numbers r = carried (λ k z. k.sending ≡ Data numbers →
+          IsToSettle z k.station k.tid numbers (end_of_index r))
+          (λ is. let ms : List Mpdu = (sends numbers is).mpdus in
+          let ends : ℕ → End = ends_by (end_of_index r) 0 ms in record {
             world = closed;
             bodies = bodies;
             exchange = x.number;
-            mpdus =
-                (sends numbers is).mpdus;
-            after = with_all_settled closed x.station x.tid acked
-                (sends numbers is).mpdus;
-            ending = begun numbers is acked;
+            ends = ends;
+            mpdus = ms;
+            after = with_all_settled closed x.station x.tid ends ms;
+            ending = begun numbers is ends;
+            alike = by_alike (end_of_index r) 0 (session w x.station x.tid).first ms
+                (subst (λ (c : Content). NumbersRise (session w x.station x.tid).first (mpdus_of c))
+                (sends numbers is).content (open_sent w h.reached e x known).rising);
             numbers_are = (sends numbers is).air;
           })
 
-      module _ (numbers : List ℕ) (wide : Bool) (heard : Option (ℕ × List ℕ)) (answered : Bool)
-          (goes : GoesBy w x heard answered) where
-        wide_is : (is : sending_of x.content ≡ Data numbers) → wide ≡ is_wide_of v x.station x.tid →
-            wide ≡ is_wide w x.station x.tid
+      module _ (numbers : List ℕ) (r : Report) (answered : Bool) (goes : GoesBy w x r.heard answered)
+          (unsent : r.unsent ≡ o.unsent) (given_up : r.given_up ≡ o.given_up) where
+        wide_is : (is : sending_of x.content ≡ Data numbers) → r.wide ≡ is_wide_of v x.station x.tid →
+            r.wide ≡ is_wide w x.station x.tid
         wide_is is told = told ∙ wide_same v w bodies x.station x.tid h.parts there
-            (begun numbers is (λ n. false)).tid
+            (begun numbers is (λ n. End.Missed)).tid
 
-        ends_here : (is : sending_of x.content ≡ Data numbers) → wide ≡ is_wide_of v x.station x.tid →
-            IsEnding (after_close v (open_of x) (charge_of air x)) closed bodies x.station x.tid x.number
-            (is_shown
-            wide heard)
-            (sends numbers is).mpdus (with_all_settled closed x.station x.tid
-            (is_shown (is_wide w x.station x.tid) heard) (sends numbers is).mpdus)
-        ends_here is told =
-            subst (λ (b : Bool). IsEnding
-            (after_close v (open_of x) (charge_of air x)) closed bodies x.station x.tid
-            x.number
-            (is_shown b heard) (sends numbers is).mpdus
-            (with_all_settled closed x.station x.tid (is_shown (is_wide w x.station x.tid) heard)
-            (sends numbers is).mpdus)) (sym (wide_is is told))
-            (begun numbers is (is_shown (is_wide w x.station x.tid) heard))
+        alike : (is : sending_of x.content ≡ Data numbers) → r.wide ≡ is_wide_of v x.station x.tid →
+            EndAlike (end_of_index r) (end_of x answered) 0 (sends numbers is).mpdus
+        alike is told = ends_alike numbers is r answered (unsent ∙ ap (λ (k : Open). k.unsent) same)
+            (given_up ∙ ap (λ (k : Open). k.given_up) same) (wide_is is told) goes
 
         pub data_settled : (z : TransmitValue) → o.sending ≡ Data numbers →
-            wide ≡ is_wide_of self o.station o.tid →
-            ((u after : World) (bs : ℕ → FrameValue) (n : ℕ) (mpdus : List Mpdu) →
-            IsEnding self u bs o.station o.tid n (is_shown wide heard) mpdus after →
+            r.wide ≡ is_wide_of self o.station o.tid →
+            ((u after : World) (bs : ℕ → FrameValue) (n : ℕ) (ends : ℕ → End) (mpdus : List Mpdu) →
+            IsEnding self u bs o.station o.tid n ends mpdus after → EndAlike (end_of_index r) ends 0 mpdus →
             numbers ≡ numbers_on_air mpdus → Parts z after bs) →
             Parts z (done_outcome w x answered air).world bodies
-        data_settled z = carried (λ k y. k.sending ≡ Data numbers → wide ≡ is_wide_of y k.station k.tid →
-            ((u after : World) (bs : ℕ → FrameValue) (n : ℕ) (mpdus : List Mpdu) →
-            IsEnding y u bs k.station k.tid n (is_shown wide heard) mpdus after →
+        data_settled z = carried (λ k y. k.sending ≡ Data numbers → r.wide ≡ is_wide_of y k.station k.tid →
+            ((u after : World) (bs : ℕ → FrameValue) (n : ℕ) (ends : ℕ → End) (mpdus : List Mpdu) →
+            IsEnding y u bs k.station k.tid n ends mpdus after → EndAlike (end_of_index r) ends 0 mpdus →
             numbers ≡ numbers_on_air mpdus → Parts z after bs) →
             Parts z (done_outcome w x answered air).world bodies)
-            (λ is told all. data_parts numbers is z (record { acked = 0; waiting = 0; failed = 0 }) heard
-            answered goes.numbers (all closed _ bodies x.number (sends numbers is).mpdus (ends_here is told)
-            (sends numbers is).air))
+            (λ is told all. data_parts numbers is z (record { acked = 0; waiting = 0; failed = 0 }) answered
+            (all closed _ bodies x.number (end_of x answered) (sends numbers is).mpdus
+            (begun numbers is (end_of x answered)) (alike is told) (sends numbers is).air))
 
-        pub data_told : (ended : Ended) → o.sending ≡ Data numbers → wide ≡ is_wide_of self o.station o.tid →
-            ((u after : World) (bs : ℕ → FrameValue) (n : ℕ) (mpdus : List Mpdu) →
-            IsEnding self u bs o.station o.tid n (is_shown wide heard) mpdus after →
+        pub data_told : (ended : Ended) → o.sending ≡ Data numbers →
+            r.wide ≡ is_wide_of self o.station o.tid →
+            ((u after : World) (bs : ℕ → FrameValue) (n : ℕ) (ends : ℕ → End) (mpdus : List Mpdu) →
+            IsEnding self u bs o.station o.tid n ends mpdus after → EndAlike (end_of_index r) ends 0 mpdus →
             numbers ≡ numbers_on_air mpdus → AreCounted after o.station o.tid mpdus ended) →
             ended_reply ended ≡ (done_outcome w x answered air).reply
-        data_told ended = carried (λ k y. k.sending ≡ Data numbers → wide ≡ is_wide_of y k.station k.tid →
-            ((u after : World) (bs : ℕ → FrameValue) (n : ℕ) (mpdus : List Mpdu) →
-            IsEnding y u bs k.station k.tid n (is_shown wide heard) mpdus after →
+        data_told ended = carried (λ k y. k.sending ≡ Data numbers → r.wide ≡ is_wide_of y k.station k.tid →
+            ((u after : World) (bs : ℕ → FrameValue) (n : ℕ) (ends : ℕ → End) (mpdus : List Mpdu) →
+            IsEnding y u bs k.station k.tid n ends mpdus after → EndAlike (end_of_index r) ends 0 mpdus →
             numbers ≡ numbers_on_air mpdus → AreCounted after k.station k.tid mpdus ended) →
             ended_reply ended ≡ (done_outcome w x answered air).reply)
-            (λ is told all. data_reply numbers is v ended heard answered goes.numbers
-            (all closed _ bodies x.number (sends numbers is).mpdus (ends_here is told)
-            (sends numbers is).air))
+            (λ is told all. data_reply numbers is v ended answered
+            (all closed _ bodies x.number (end_of x answered) (sends numbers is).mpdus
+            (begun numbers is (end_of x answered)) (alike is told) (sends numbers is).air))
 
       -- a request
       pub request_low : (seq : ℕ) → o.sending ≡ Starts_at seq → o.tid < 8

@@ -28,14 +28,16 @@ use Rattle.wf_send_half.specs.Pulls.{size_limits_of, IsSameButFrames, HasTurn, A
 -- ---- an empty aggregate
 
 -- x is the value of the fields of the half v
-pub begun : (x v : TransmitValue) → x ≡ v → (s t : ℕ) (b : Bounds) (m : Member) → member x.members s ≡ Some m →
+pub begun : (x v : TransmitValue) → x ≡ v → (s t : ℕ) (b : Bounds) (m : Member) →
+    member x.members s ≡ Some m →
     (limits : SizeLimits) → IfSome (member v.members s) (λ k. limits ≡ size_limits_of v s b k) → (size : ℕ) →
     size ≡ (window_of x.windows s t).size → (room : AggregateSizeValue) →
     room ≡ empty_size m.rate limits x.config.answers (nat_lt 64 size) → (numbers : List ℕ) → numbers ≡ [] →
     (w : World) (bodies : ℕ → FrameValue) → IsToFill v w bodies s t → w.bounds ≡ b →
     IsChoosing room numbers (window_of v.windows s t).start w s t
 begun x v same s t b m is limits exact size size_is room made numbers none w bodies to bounds =
-    let known : member v.members s ≡ Some m = ap (λ (z : TransmitValue). member z.members s) (sym same) ∙ is in
+    let known : member v.members s ≡ Some m = ap (λ (z : TransmitValue). member z.members s) (sym same)
+    ∙ is in
     let limits_are : limits ≡ size_limits_of v s b m =
     subst (λ (o : Option Member). IfSome o (λ k. limits ≡ size_limits_of v s b k)) known exact in
     let room_is : room ≡ room_for w s t =

@@ -6,6 +6,7 @@ mod Resets
 mod CallSteps
 pub mod Openings
 mod Leaves
+mod Flushes
 mod Enqueues
 mod Settling
 pub mod Ends
@@ -25,6 +26,7 @@ mod Idle
 mod Admissions
 mod Concerned
 mod Endings
+mod Marked
 mod ToSend
 mod Tracked
 pub mod Kept

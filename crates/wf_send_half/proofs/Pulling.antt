@@ -258,7 +258,8 @@ module _ {v u : TransmitValue} {w : World} {bodies : ℕ → FrameValue} {s : �
       part_sent (Data numbers) k = data_sent numbers k
       part_sent (Starts_at start) k = request_sent start k
 
-      pub pull_done : (sending : Sending) → IsPreparedFor y z s t b charge pairs sending → {a : TransmitValue} →
+      pub pull_done : (sending : Sending) → IsPreparedFor y z s t b charge pairs sending →
+          {a : TransmitValue} →
           a ≡ after_listing_in (after_sending z s t c charge sending) s c →
           {brief : Brief} → brief ≡ Send z.exchanges s t charge (start_sent sending)
           (open_next z s t c charge sending).more →

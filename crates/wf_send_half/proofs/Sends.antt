@@ -171,13 +171,16 @@ send_only (brief.Charged deficit) pairs e s t air part more is = absurd (cc is)
 send_only (brief.Reaped id fate) pairs e s t air part more is = absurd (cc is)
 send_only brief.Stopped pairs e s t air part more is = absurd (cc is)
 send_only brief.Started pairs e s t air part more is = absurd (cc is)
+send_only brief.Marked pairs e s t air part more is = absurd (cc is)
+send_only (brief.Flushed dropped) pairs e s t air part more is = absurd (cc is)
 send_only (brief.Refused refusal) pairs e s t air part more is = absurd (cc is)
 
 -- ---- a whole pull
 
 -- x is the half before the pull, with the flags r, and u is the half after it
 module _ (x : TransmitValue) (r : Flags) (h : IsTracked x r) (c : Class) (l : Limits) (b : Brief)
-    (pairs : List (ℕ × ℕ)) (u : TransmitValue) (meets : Leaves x u (bodies_sent (reply_with b pairs [])) (Asked (Pull c l))
+    (pairs : List (ℕ × ℕ)) (u : TransmitValue) (meets : Leaves x u (bodies_sent (reply_with b pairs []))
+    (Asked (Pull c l))
     (reply_with b pairs [])) where
   -- each pulled frame is sent again
   abbrev sent : (ℕ → FrameValue) → ℕ → FrameValue

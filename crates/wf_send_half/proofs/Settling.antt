@@ -1,16 +1,14 @@
 -- Proves the settling of an aggregate, number by number.
-use Rattle.std.proofs.Common.{◌≡◌, ◌≢◌, nat_le, length-append, append_assoc, append-nil, refl, ap, ap₂, sym, ◌∙◌, subst, arith, ℕ, suc, ◌+◌, ◌-◌, ◌<◌, ◌≤◌, nat_lt, Bool, true, false, ◌&&◌, cond, if◌then◌else◌, List, [], ◌∷◌, ◌++◌, map, take, get_or, length, Option, Some, None, inl, inr}
+use Rattle.std.proofs.Common.{◌≡◌, ◌≢◌, nat_le, length-append, append_assoc, append-nil, refl, ap, ap₂, sym, ◌∙◌, subst, arith, ℕ, zero, suc, add-zero, ◌+◌, ◌-◌, ◌<◌, ◌≤◌, nat_lt, Bool, true, false, not, ◌&&◌, cond, if◌then◌else◌, List, [], ◌∷◌, ◌++◌, map, take, length, Option, Some, None}
 use Rattle.std.specs.Prelude.{slice_get, count_by}
-use Rattle.std.proofs.lemmas.Bool.{cases_Bool}
 use Rattle.std.proofs.lemmas.List.{length-map, take_all}
-use Rattle.std.proofs.lemmas.List.Sums.{sum_by-cons, count_by_more_yes, count_by_more_no}
-use Rattle.std.proofs.lemmas.Option.{get_or_from_slice_get}
-use Rattle.wf_frame.specs.declared.classes.Cause.TheVariants.{Overlimit, Codel, Retries, Left}
+use Rattle.std.proofs.lemmas.List.Sums.{sum_by-cons}
+use Rattle.wf_frame.specs.declared.classes.Cause.TheVariants.{Overlimit, Codel, Retries, Left, Flushed}
 use Rattle.wf_frame.specs.declared.classes.Fate.{Fate}
 use Rattle.wf_frame.specs.declared.classes.Fate.TheVariants.{Held, Acked as Is_acked, Dropped}
 use Rattle.wf_frame.specs.declared.settings.Config.{Config}
 use Rattle.wf_frame.specs.Frames.{FrameValue}
-use Rattle.wf_def_agreement.specs.Session.{Session, Slot, State, slot, is_acknowledged, is_waiting, is_failed}
+use Rattle.wf_def_agreement.specs.Session.{Session, Slot, State, End, slot, after_end, is_acknowledged, is_waiting, is_failed}
 use Rattle.wf_def_lists.specs.Table.{has}
 use Rattle.wf_def_world.specs.World.{World, Mpdu, session}
 use Rattle.wf_def_world.specs.Exchanges.{with_settled}
@@ -20,7 +18,7 @@ use Rattle.wf_octets.specs.Distance.{distance}
 use Rattle.wf_send_parts.specs.Answers.{settling_answer, with_fate}
 use Rattle.wf_send_parts.specs.declared.window.window.Settled.{Settled}
 use Rattle.wf_send_parts.specs.declared.window.window.Settled.TheVariants.{Acked, Waiting, Failed}
-use Rattle.wf_send_parts.specs.Window.{WindowValue, WindowStandsFor as WindowStandsFor, IsNumber, session_settled, on_air}
+use Rattle.wf_send_parts.specs.Window.{WindowValue, WindowStandsFor as WindowStandsFor, IsNumber, on_air}
 use Rattle.wf_send_parts.specs.Ending.{Ending, all_settled, HasLeft, IsSettledNext}
 use Rattle.wf_send_parts.specs.Windows.{WindowsHaveRoom, window_of, with_window}
 use Rattle.wf_send_parts.proofs.Ends.{ending_number, ending_flies}
@@ -30,7 +28,8 @@ use Rattle.wf_send_half_model.specs.Ending.{after_finish, after_answer, ending_o
 use Rattle.wf_send_half_model.proofs.Settles.{ending_next_one, ending_done}
 use Rattle.wf_send_half_model.proofs.Ended.{state_at_end}
 use Rattle.wf_send_half.specs.declared.finish.Ended.{Ended}
-use Rattle.wf_send_half.specs.Bits.{is_shown, CanFinish, IsToSettle, with_one_more, all_ended}
+use Rattle.wf_send_half.specs.declared.finish.Report.{Report}
+use Rattle.wf_send_half.specs.Bits.{is_shown, count_shown, without_unsent, end_of_index, EndAlike, CanFinish, IsToSettle, with_one_more, all_ended}
 use Rattle.wf_send_half.specs.Counts.{count_of, AreCounted, HasFate}
 
 -- ---- whether a number is shown depends on it modulo 4096
@@ -60,43 +59,46 @@ next_of [] (m ∷ ms) seq e = record { mpdu = m; behind = ms; first = refl; air 
 next_of (k ∷ ks) left seq e = next_of ks left seq e
 
 -- after i numbers: the transmissions `before` are settled, and `left` are not yet
-pub record HasSettled (v : TransmitValue) (bodies : ℕ → FrameValue) (s t e : ℕ) (acked : ℕ → Bool) (i : ℕ)
-    (mpdus : List Mpdu) (after : World) (ended : Ended) : Type 0 where
+pub record HasSettled (v : TransmitValue) (bodies : ℕ → FrameValue) (s t e : ℕ) (by_index : ℕ → ℕ → End)
+    (ends : ℕ → End) (i : ℕ) (mpdus : List Mpdu) (after : World) (ended : Ended) : Type 0 where
   pub world : World
   pub before : List Mpdu
   pub left : List Mpdu
   pub all : before ++ left ≡ mpdus
   pub count : length before ≡ i
-  pub ending : IsEnding v world bodies s t e acked left after
+  pub ending : IsEnding v world bodies s t e ends left after
+  pub alike : EndAlike by_index ends i left
   pub counted : AreCounted after s t before ended
 
-pub record IsSettling (start v : TransmitValue) (s t : ℕ) (numbers : List ℕ) (acked : ℕ → Bool) (i : ℕ)
+pub record IsSettling (start v : TransmitValue) (s t : ℕ) (numbers : List ℕ) (r : Report) (i : ℕ)
     (ended : Ended) : Type 0 where
   pub low : i ≤ length numbers
   pub config : v.config ≡ start.config
   pub place : CanFinish v (length numbers - i)
   pub few : all_ended ended ≡ i
-  pub shown : ended.acked ≡ count_by acked (take i numbers)
-  pub each : (w after : World) (bodies : ℕ → FrameValue) (e : ℕ) (mpdus : List Mpdu) →
-      IsEnding start w bodies s t e acked mpdus after → numbers ≡ numbers_on_air mpdus →
-      HasSettled v bodies s t e acked i mpdus after ended
+  pub shown : ended.acked ≡ count_shown r.wide r.heard (without_unsent 0 r.unsent (take i numbers))
+  pub each : (w after : World) (bodies : ℕ → FrameValue) (e : ℕ) (ends : ℕ → End) (mpdus : List Mpdu) →
+      IsEnding start w bodies s t e ends mpdus after → EndAlike (end_of_index r) ends 0 mpdus →
+      numbers ≡ numbers_on_air mpdus →
+      HasSettled v bodies s t e (end_of_index r) ends i mpdus after ended
 
-pub settling_begins : (v : TransmitValue) (s t : ℕ) (numbers : List ℕ) (acked : ℕ → Bool) →
-    CanFinish v (length numbers) → IsSettling v v s t numbers acked 0
+pub settling_begins : (v : TransmitValue) (s t : ℕ) (numbers : List ℕ) (r : Report) →
+    CanFinish v (length numbers) → IsSettling v v s t numbers r 0
     (record { acked = 0; waiting = 0; failed = 0 })
-settling_begins v s t numbers acked place = record {
+settling_begins v s t numbers r place = record {
   low = omega arith;
   config = refl;
   place = record { room = omega (arith, place.room); held = omega (arith, place.held) };
   few = refl;
   shown = refl;
-  each = λ w after bodies e mpdus ending is. record {
+  each = λ w after bodies e ends mpdus ending alike is. record {
     world = w;
     before = [];
     left = mpdus;
     all = refl;
     count = refl;
     ending = ending;
+    alike = alike;
     counted = record { acked = refl; waiting = refl; failed = refl };
   };
 }
@@ -104,8 +106,8 @@ settling_begins v s t numbers acked place = record {
 -- ---- one number
 
 -- a window may settle a number, with this result
-module _ (v : TransmitValue) (w : World) (bodies : ℕ → FrameValue) (s t e : ℕ) (acked : ℕ → Bool) (m : Mpdu)
-    (ms : List Mpdu) (after : World) (ending : IsEnding v w bodies s t e acked (m ∷ ms) after) (seq : ℕ)
+module _ (v : TransmitValue) (w : World) (bodies : ℕ → FrameValue) (s t e : ℕ) (ends : ℕ → End) (m : Mpdu)
+    (ms : List Mpdu) (after : World) (ending : IsEnding v w bodies s t e ends (m ∷ ms) after) (seq : ℕ)
     (air : seq ≡ on_air m.number) where
   abbrev window : WindowValue
   window = window_of v.windows s t
@@ -114,7 +116,7 @@ module _ (v : TransmitValue) (w : World) (bodies : ℕ → FrameValue) (s t e : 
   stands = ending.parts.windows.all.stands s t ending.live ending.tid
 
   abbrev ending_e : Ending
-  ending_e = ending_of w.config e acked
+  ending_e = ending_of w.config e ends
 
   abbrev numbers : List ℕ
   numbers = map (λ k. k.number) ms
@@ -185,28 +187,79 @@ counted_more after s t m ms ended a is h =
       failed = omega (arith, z, h.failed);
     }
 
--- a number that is shown is one more acknowledged number
-acked_more : (b : Bool) (limit : ℕ) (bodies : ℕ → FrameValue) (x : Slot) (ended : Ended) →
-    (with_one_more ended (settling_answer b limit bodies x)).acked ≡ ended.acked + as_one b
-unfolding as_one
-acked_more true limit bodies x ended = omega arith
-acked_more false limit bodies x ended = by_limit (nat_le limit (x.attempts + 1))
+-- whether the number is acknowledged
+acks : End → Bool
+acks End.Acknowledged = true
+acks End.Missed = false
+acks End.GivenUp = false
+acks End.Unsent = false
+
+-- an acknowledged number is one more
+acked_more : (end : End) (limit : ℕ) (bodies : ℕ → FrameValue) (x : Slot) (ended : Ended) →
+    (with_one_more ended (settling_answer end limit bodies x)).acked ≡ ended.acked + as_one (acks end)
+unfolding as_one acks
+acked_more End.Acknowledged limit bodies x ended = omega arith
+acked_more End.Missed limit bodies x ended = by_limit (nat_le limit (x.attempts + 1))
   where
     by_limit : (c : Bool) → (with_one_more ended (if c then Failed (with_fate (Dropped Retries) (bodies x.id))
         else Waiting)).acked ≡ ended.acked + as_one false
     by_limit true = omega arith
     by_limit false = omega arith
+acked_more End.GivenUp limit bodies x ended = omega arith
+acked_more End.Unsent limit bodies x ended = omega arith
 
-shown_more : (p : ℕ → Bool) (numbers : List ℕ) (i n : ℕ) → i < length numbers → slice_get numbers i ≡ Some n →
-    count_by p (take (i + 1) numbers) ≡ count_by p (take i numbers) + as_one (p n)
+-- a number is acknowledged if it is shown and went on the air
+acks_at : (r : Report) (i n : ℕ) → acks (end_of_index r i n) ≡ (not (has r.unsent i) && is_shown r.wide r.heard n)
+unfolding acks
+acks_at r i n = go (has r.unsent i) (is_shown r.wide r.heard n) (has r.given_up i)
+  where
+    go : (unsent shown given_up : Bool) → acks (if unsent then End.Unsent else if shown then End.Acknowledged
+        else if given_up then End.GivenUp else End.Missed) ≡ (not unsent && shown)
+    go true shown given_up = refl
+    go false true given_up = refl
+    go false false true = refl
+    go false false false = refl
+
+-- one more number is shown, if it went on the air
+shown_more : (p : ℕ → Bool) (unsent : List ℕ) (k : ℕ) (numbers : List ℕ) (i n : ℕ) →
+    slice_get numbers i ≡ Some n → count_by p (without_unsent k unsent (take (i + 1) numbers))
+    ≡ count_by p (without_unsent k unsent (take i numbers)) + as_one (not (has unsent (k + i)) && p n)
 unfolding as_one
-shown_more p numbers i n below is =
-    let at : p (get_or numbers i 0) ≡ p n = ap p (get_or_from_slice_get numbers i n 0 is) in
-    elim (cases_Bool (p n)) [
-      | inl so ↦ count_by_more_yes p numbers i 0 below (at ∙ so)
-          ∙ ap (λ (b : Bool). count_by p (take i numbers) + as_one b) (sym so)
-      | inr not_so ↦ omega (arith, count_by_more_no p numbers i 0 below (at ∙ not_so), ap as_one not_so)
-    ]
+shown_more p unsent k [] i n is = absurd (cc is)
+shown_more p unsent k (x ∷ xs) zero n is =
+    let same : n ≡ x = sym (cc is) in
+    let here : k + 0 ≡ k = omega arith in
+    let test : as_one (not (has unsent (k + 0)) && p n) ≡ as_one (not (has unsent k) && p x) =
+    ap₂ (λ (j m : ℕ). as_one (not (has unsent j) && p m)) here same in
+    omega (arith, first (has unsent k), test)
+  where
+    first : (off : Bool) → count_by p (if off then [] else x ∷ []) ≡ as_one (not off && p x)
+    first true = refl
+    first false = sum_by-cons (λ (m : ℕ). cond (p m) 1 0) x [] ∙ add-zero _
+shown_more p unsent k (x ∷ xs) (suc i) n is =
+    let later : count_by p (without_unsent (suc k) unsent (take (i + 1) xs))
+    ≡ count_by p (without_unsent (suc k) unsent (take i xs))
+    + as_one (not (has unsent (suc k + i)) && p n) =
+    shown_more p unsent (suc k) xs i n is in
+    let same : suc k + i ≡ k + suc i = omega arith in
+    let more : suc i + 1 ≡ suc (i + 1) = omega arith in
+    ap (λ (j : ℕ). count_by p (without_unsent k unsent (take j (x ∷ xs)))) more
+    ∙ then_later (has unsent k) (without_unsent (suc k) unsent (take (i + 1) xs))
+    (without_unsent (suc k) unsent (take i xs))
+    (later ∙ ap (λ (j : ℕ). count_by p (without_unsent (suc k) unsent (take i xs))
+    + as_one (not (has unsent j) && p n)) same)
+  where
+    then_later : (off : Bool) (ys zs : List ℕ) →
+        count_by p ys ≡ count_by p zs + as_one (not (has unsent (k + suc i)) && p n) →
+        count_by p (if off then ys else x ∷ ys)
+        ≡ count_by p (if off then zs else x ∷ zs) + as_one (not (has unsent (k + suc i)) && p n)
+    then_later true ys zs h = h
+    then_later false ys zs h = omega (
+      arith,
+      h,
+      sum_by-cons (λ (m : ℕ). cond (p m) 1 0) x ys,
+      sum_by-cons (λ (m : ℕ). cond (p m) 1 0) x zs,
+    )
 
 one_more : (ended : Ended) (a : Settled) → all_ended (with_one_more ended a) ≡ all_ended ended + 1
 one_more ended (Acked f) = omega arith
@@ -216,9 +269,9 @@ one_more ended (Failed f) = omega arith
 -- a frame that is finished was outside the queues before
 finish_leaves : (v : TransmitValue) (n : ℕ) (f : FrameValue) → f.fate ≢ Held → CanFinish v (suc n) →
     CanFinish (after_finish v f) n
-finish_leaves v n f session_settled place = record {
+finish_leaves v n f settled place = record {
   room = omega (arith, place.room, length-append v.flows.backlog.finished (f ∷ []));
-  held = one_less f.fate session_settled;
+  held = one_less f.fate settled;
 }
   where
     one_less : (fate : Fate) → fate ≢ Held → n ≤ held_in (settled_as fate v.tally)
@@ -228,6 +281,7 @@ finish_leaves v n f session_settled place = record {
     one_less (Dropped Codel) other = omega (arith, place.held)
     one_less (Dropped Retries) other = omega (arith, place.held)
     one_less (Dropped Left) other = omega (arith, place.held)
+    one_less (Dropped Flushed) other = omega (arith, place.held)
 
 fewer : (v : TransmitValue) (n : ℕ) → CanFinish v (suc n) → CanFinish v n
 fewer v n place = record { room = omega (arith, place.room); held = omega (arith, place.held) }
@@ -244,10 +298,12 @@ same_config v Waiting = refl
 same_config v (Failed f) = refl
 
 -- a window returns no frame that is still held
-answer_fate : (b : Bool) (limit : ℕ) (bodies : ℕ → FrameValue) (x : Slot) →
-    HasFate (settling_answer b limit bodies x)
-answer_fate true limit bodies x = λ e. cc e
-answer_fate false limit bodies x = by_limit (nat_le limit (x.attempts + 1))
+answer_fate : (end : End) (limit : ℕ) (bodies : ℕ → FrameValue) (x : Slot) →
+    HasFate (settling_answer end limit bodies x)
+answer_fate End.Acknowledged limit bodies x = λ e. cc e
+answer_fate End.GivenUp limit bodies x = λ e. cc e
+answer_fate End.Unsent limit bodies x = tt
+answer_fate End.Missed limit bodies x = by_limit (nat_le limit (x.attempts + 1))
   where
     by_limit : (c : Bool) → HasFate (if c then Failed (with_fate (Dropped Retries) (bodies x.id))
         else Waiting)
@@ -256,49 +312,49 @@ answer_fate false limit bodies x = by_limit (nat_le limit (x.attempts + 1))
 
 -- ---- in the loop
 
-module _ {start v : TransmitValue} {s t : ℕ} {numbers : List ℕ} {acked : ℕ → Bool} {i : ℕ}
-    {ended : Ended} where
+module _ {start v : TransmitValue} {s t : ℕ} {numbers : List ℕ} {r : Report} {i : ℕ} {ended : Ended} where
   -- an equal half is settled as far
-  pub settling_at : {u : TransmitValue} → u ≡ v → IsSettling start v s t numbers acked i ended →
-      IsSettling start u s t numbers acked i ended
+  pub settling_at : {u : TransmitValue} → u ≡ v → IsSettling start v s t numbers r i ended →
+      IsSettling start u s t numbers r i ended
   settling_at same so_far =
-      subst (λ (z : TransmitValue). IsSettling start z s t numbers acked i ended) (sym same) so_far
+      subst (λ (z : TransmitValue). IsSettling start z s t numbers r i ended) (sym same) so_far
 
   -- the limit of the half at the start, whose fields are x, is still the setting
-  pub limit_at : {x : TransmitValue} → x ≡ start → IsSettling start v s t numbers acked i ended →
+  pub limit_at : {x : TransmitValue} → x ≡ start → IsSettling start v s t numbers r i ended →
       x.config.attempts ≡ v.config.attempts
   limit_at same so_far = ap (λ (z : TransmitValue). z.config.attempts) same
       ∙ ap (λ (k : Config). k.attempts) (sym so_far.config)
 
-  pub all_shown : IsSettling start v s t numbers acked i ended → length numbers ≤ i →
-      ended.acked ≡ count_by acked numbers
-  all_shown so_far all = so_far.shown ∙ ap (count_by acked) (take_all i numbers all)
+  pub all_shown : IsSettling start v s t numbers r i ended → length numbers ≤ i →
+      ended.acked ≡ count_shown r.wide r.heard (without_unsent 0 r.unsent numbers)
+  all_shown so_far all = so_far.shown
+      ∙ ap (λ (l : List ℕ). count_shown r.wide r.heard (without_unsent 0 r.unsent l)) (take_all i numbers all)
 
-module _ {start v : TransmitValue} {s t : ℕ} {numbers : List ℕ} {acked : ℕ → Bool} {i : ℕ} {ended : Ended}
-    (so_far : IsSettling start v s t numbers acked i ended) {seq : ℕ}
+module _ {start v : TransmitValue} {s t : ℕ} {numbers : List ℕ} {r : Report} {i : ℕ} {ended : Ended}
+    (so_far : IsSettling start v s t numbers r i ended) {seq : ℕ}
     (at_i : slice_get numbers i ≡ Some seq) where
-  next_in : (bodies : ℕ → FrameValue) (e : ℕ) (mpdus : List Mpdu) (after : World) →
-      numbers ≡ numbers_on_air mpdus → (h : HasSettled v bodies s t e acked i mpdus after ended) →
-      IsNext h.left seq
-  next_in bodies e mpdus after is h =
+  next_in : (bodies : ℕ → FrameValue) (e : ℕ) (ends : ℕ → End) (mpdus : List Mpdu) (after : World) →
+      numbers ≡ numbers_on_air mpdus →
+      (h : HasSettled v bodies s t e (end_of_index r) ends i mpdus after ended) → IsNext h.left seq
+  next_in bodies e ends mpdus after is h =
       next_of h.before h.left seq (ap₂ (λ (l : List ℕ) (k : ℕ). slice_get l k)
       (ap numbers_on_air h.all ∙ sym is) h.count ∙ at_i)
 
-  module _ (some : IsToSettle start s t numbers acked) where
-    at_some : HasSettled v some.bodies s t some.exchange acked i some.mpdus some.after ended
-    at_some = so_far.each some.world some.after some.bodies some.exchange some.mpdus some.ending
-        some.numbers_are
+  module _ (some : IsToSettle start s t numbers (end_of_index r)) where
+    at_some : HasSettled v some.bodies s t some.exchange (end_of_index r) some.ends i some.mpdus some.after ended
+    at_some = so_far.each some.world some.after some.bodies some.exchange some.ends some.mpdus some.ending
+        some.alike some.numbers_are
 
     next : IsNext at_some.left seq
-    next = next_in some.bodies some.exchange some.mpdus some.after some.numbers_are at_some
+    next = next_in some.bodies some.exchange some.ends some.mpdus some.after some.numbers_are at_some
 
-    ending_here : IsEnding v at_some.world some.bodies s t some.exchange acked
+    ending_here : IsEnding v at_some.world some.bodies s t some.exchange some.ends
         (next.mpdu ∷ next.behind) some.after
-    ending_here = subst (λ (l : List Mpdu). IsEnding v at_some.world some.bodies s t some.exchange acked l
+    ending_here = subst (λ (l : List Mpdu). IsEnding v at_some.world some.bodies s t some.exchange some.ends l
         some.after) next.first at_some.ending
 
     pub next_settles : IsSettledNext (window_of v.windows s t) seq v.config.attempts
-    next_settles = may_settle v at_some.world some.bodies s t some.exchange acked next.mpdu next.behind
+    next_settles = may_settle v at_some.world some.bodies s t some.exchange some.ends next.mpdu next.behind
         some.after ending_here seq next.air
 
     pub next_within : tid_number s t < length v.windows
@@ -307,83 +363,98 @@ module _ {start v : TransmitValue} {s t : ℕ} {numbers : List ℕ} {acked : ℕ
         omega (arith, parts.windows.sized, parts.others.turns.live s ending_here.live, ending_here.tid)
 
     -- the result of the window
-    module _ {windows : List WindowValue} {a : Settled} {b : Bool} {limit : ℕ} (b_is : b ≡ acked seq)
-        (limit_is : limit ≡ v.config.attempts) (alike : (n : ℕ) → acked (on_air n) ≡ acked n)
+    module _ {windows : List WindowValue} {a : Settled} {end : End} {limit : ℕ}
+        (end_is : end ≡ end_of_index r i seq) (limit_is : limit ≡ v.config.attempts)
         (room : WindowsHaveRoom windows)
         (stands_then : (y : Session) (bodies : ℕ → FrameValue) (n : ℕ) →
         WindowStandsFor (window_of v.windows s t) y bodies → IsNumber y n seq →
-        WindowStandsFor (window_of windows s t) (session_settled b limit n y) bodies)
+        WindowStandsFor (window_of windows s t) (after_end limit end n y) bodies)
         (answer : (y : Session) (bodies : ℕ → FrameValue) (n : ℕ) →
         WindowStandsFor (window_of v.windows s t) y bodies → IsNumber y n seq →
-        a ≡ settling_answer b limit bodies (slot y n))
+        a ≡ settling_answer end limit bodies (slot y n))
         (others : windows ≡ with_window v.windows s t (window_of windows s t)) where
       abbrev slot_here : Slot
       slot_here = slot (session at_some.world s t) next.mpdu.number
 
-      answer_here : a ≡ settling_answer b limit some.bodies slot_here
+      answer_here : a ≡ settling_answer end limit some.bodies slot_here
       answer_here = answer (session at_some.world s t) some.bodies next.mpdu.number
-          (stands v at_some.world some.bodies s t some.exchange acked next.mpdu next.behind some.after
-          ending_here seq next.air) (is_number v at_some.world some.bodies s t some.exchange acked next.mpdu
-          next.behind some.after ending_here seq next.air)
+          (stands v at_some.world some.bodies s t some.exchange some.ends next.mpdu next.behind some.after
+          ending_here seq next.air) (is_number v at_some.world some.bodies s t some.exchange some.ends
+          next.mpdu next.behind some.after ending_here seq next.air)
 
       pub fate_given : HasFate a
-      fate_given = subst HasFate (sym answer_here) (answer_fate b limit some.bodies slot_here)
+      fate_given = subst HasFate (sym answer_here) (answer_fate end limit some.bodies slot_here)
 
-      shown_next : i < length numbers → (with_one_more ended a).acked ≡ count_by acked (take (i + 1) numbers)
-      shown_next below =
-          let one : (with_one_more ended a).acked ≡ ended.acked + as_one b =
-          subst (λ (z : Settled). (with_one_more ended z).acked ≡ ended.acked + as_one b)
-          (sym answer_here) (acked_more b limit some.bodies slot_here ended) in
-          omega (arith, one, shown_more acked numbers i seq below at_i, so_far.shown, ap as_one b_is)
+      shown_next : (with_one_more ended a).acked
+          ≡ count_shown r.wide r.heard (without_unsent 0 r.unsent (take (i + 1) numbers))
+      shown_next =
+          let one : (with_one_more ended a).acked ≡ ended.acked + as_one (acks end) =
+          subst (λ (z : Settled). (with_one_more ended z).acked ≡ ended.acked + as_one (acks end))
+          (sym answer_here) (acked_more end limit some.bodies slot_here ended) in
+          let from_0 : 0 + i ≡ i = omega arith in
+          omega (
+            arith,
+            one,
+            shown_more (is_shown r.wide r.heard) r.unsent 0 numbers i seq at_i,
+            so_far.shown,
+            ap (λ (x : End). as_one (acks x)) end_is ∙ ap as_one (acks_at r i seq)
+                ∙ ap (λ (j : ℕ). as_one (not (has r.unsent j) && is_shown r.wide r.heard seq)) (sym from_0),
+          )
 
       abbrev moved : TransmitValue
       moved = record v { windows = windows }
 
-      settled_next : (bodies : ℕ → FrameValue) (e : ℕ) (mpdus : List Mpdu) (after : World) →
-          numbers ≡ numbers_on_air mpdus → HasSettled v bodies s t e acked i mpdus after ended →
-          HasSettled (after_answer moved a) bodies s t e acked (i + 1) mpdus after (with_one_more ended a)
-      settled_next bodies e mpdus after is h =
-          let k : IsNext h.left seq = next_in bodies e mpdus after is h in
+      settled_next : (bodies : ℕ → FrameValue) (e : ℕ) (ends : ℕ → End) (mpdus : List Mpdu) (after : World) →
+          numbers ≡ numbers_on_air mpdus →
+          HasSettled v bodies s t e (end_of_index r) ends i mpdus after ended →
+          HasSettled (after_answer moved a) bodies s t e (end_of_index r) ends (i + 1) mpdus after
+          (with_one_more ended a)
+      settled_next bodies e ends mpdus after is h =
+          let k : IsNext h.left seq = next_in bodies e ends mpdus after is h in
           let m : Mpdu = k.mpdu in
           let y : Session = session h.world s t in
-          let here : IsEnding v h.world bodies s t e acked (m ∷ k.behind) after =
-          subst (λ (l : List Mpdu). IsEnding v h.world bodies s t e acked l after) k.first h.ending in
+          let here : IsEnding v h.world bodies s t e ends (m ∷ k.behind) after =
+          subst (λ (l : List Mpdu). IsEnding v h.world bodies s t e ends l after) k.first h.ending in
+          let both : EndAlike (end_of_index r) ends i (m ∷ k.behind) =
+          subst (EndAlike (end_of_index r) ends i) k.first h.alike in
           let x : WindowValue = window_of windows s t in
           let standing : WindowStandsFor (window_of v.windows s t) y bodies =
-          stands v h.world bodies s t e acked m k.behind after here seq k.air in
-          let number : IsNumber y m.number seq = is_number v h.world bodies s t e acked m k.behind after here
+          stands v h.world bodies s t e ends m k.behind after here seq k.air in
+          let number : IsNumber y m.number seq = is_number v h.world bodies s t e ends m k.behind after here
           seq k.air in
-          let shown : b ≡ acked m.number = b_is ∙ ap acked k.air ∙ alike m.number in
-          let told : a ≡ settling_answer (acked m.number) v.config.attempts bodies (slot y m.number) =
+          let same : end ≡ ends m.number = end_is ∙ ap (end_of_index r i) k.air ∙ both.0 in
+          let told : a ≡ settling_answer (ends m.number) v.config.attempts bodies (slot y m.number) =
           answer y bodies m.number standing number ∙ ap₂
-          (λ (c : Bool) (l : ℕ). settling_answer c l bodies (slot y m.number)) shown limit_is in
-          let now : WindowStandsFor x (session_settled (acked m.number) v.config.attempts m.number y) bodies =
-          subst (λ (l : ℕ). WindowStandsFor x (session_settled (acked m.number) l m.number y) bodies) limit_is
-          (subst (λ (c : Bool). WindowStandsFor x (session_settled c limit m.number y) bodies) shown
+          (λ (c : End) (l : ℕ). settling_answer c l bodies (slot y m.number)) same limit_is in
+          let now : WindowStandsFor x (after_end v.config.attempts (ends m.number) m.number y) bodies =
+          subst (λ (l : ℕ). WindowStandsFor x (after_end l (ends m.number) m.number y) bodies) limit_is
+          (subst (λ (c : End). WindowStandsFor x (after_end limit c m.number y) bodies) same
           (stands_then y bodies m.number standing number)) in
-          let then_is = ending_next_one v h.world bodies s t e acked m k.behind after x here
+          let then_is = ending_next_one v h.world bodies s t e ends m k.behind after x here
           (subst WindowsHaveRoom others room) now in
           let joined : (h.before ++ m ∷ []) ++ k.behind ≡ mpdus =
           append_assoc h.before (m ∷ []) k.behind ∙ ap (λ (l : List Mpdu). h.before ++ l) (sym k.first)
           ∙ h.all in
+          let next_index : suc i ≡ i + 1 = omega arith in
           record {
-            world = with_settled h.world s t (acked m.number) m;
+            world = with_settled h.world s t (ends m.number) m;
             before = h.before ++ m ∷ [];
             left = k.behind;
             all = joined;
             count = omega (arith, length-append h.before (m ∷ []), h.count);
             ending = subst (λ (l : List WindowValue). IsEnding (after_answer (record v { windows = l }) a)
-                (with_settled h.world s t (acked m.number) m) bodies s t e acked k.behind after) (sym others)
+                (with_settled h.world s t (ends m.number) m) bodies s t e ends k.behind after) (sym others)
                 (subst (λ (z : Settled). IsEnding (after_answer
                 (record v { windows = with_window v.windows s t x }) z)
-                (with_settled h.world s t (acked m.number) m) bodies s t e acked k.behind after)
+                (with_settled h.world s t (ends m.number) m) bodies s t e ends k.behind after)
                 (sym told) then_is);
+            alike = subst (λ (j : ℕ). EndAlike (end_of_index r) ends j k.behind) next_index both.1;
             counted = counted_more after s t m h.before ended a
-                (state_at_end v h.world bodies s t e acked m k.behind after here ∙ ap state_left (sym told))
+                (state_at_end v h.world bodies s t e ends m k.behind after here ∙ ap state_left (sym told))
                 h.counted;
           }
 
-      pub settling_next : i < length numbers → IsSettling start (after_answer moved a) s t numbers acked
+      pub settling_next : i < length numbers → IsSettling start (after_answer moved a) s t numbers r
           (i + 1) (with_one_more ended a)
       settling_next below =
           let rest : length numbers - i ≡ suc (length numbers - (i + 1)) = omega (arith, below) in
@@ -393,9 +464,9 @@ module _ {start v : TransmitValue} {s t : ℕ} {numbers : List ℕ} {acked : ℕ
             place = answer_leaves moved (length numbers - (i + 1)) a fate_given
                 (let p = subst (CanFinish v) rest so_far.place in record { room = p.room; held = p.held });
             few = omega (arith, one_more ended a, so_far.few);
-            shown = shown_next below;
-            each = λ w after bodies e mpdus ending is. settled_next bodies e mpdus after is
-                (so_far.each w after bodies e mpdus ending is);
+            shown = shown_next;
+            each = λ w after bodies e ends mpdus ending alike is. settled_next bodies e ends mpdus after is
+                (so_far.each w after bodies e ends mpdus ending alike is);
           }
 
 -- ---- at the end
@@ -404,12 +475,13 @@ none_behind : (before left : List Mpdu) → length (before ++ left) ≤ length b
 none_behind before [] h = refl
 none_behind before (m ∷ ms) h = absurd (omega (arith, h, length-append before (m ∷ ms)))
 
-module _ {start v : TransmitValue} {s t : ℕ} {numbers : List ℕ} {acked : ℕ → Bool} {i : ℕ} {ended : Ended}
-    (so_far : IsSettling start v s t numbers acked i ended) (all : length numbers ≤ i)
-    {w after : World} {bodies : ℕ → FrameValue} {e : ℕ} {mpdus : List Mpdu}
-    (ending : IsEnding start w bodies s t e acked mpdus after) (is : numbers ≡ numbers_on_air mpdus) where
-  last : HasSettled v bodies s t e acked i mpdus after ended
-  last = so_far.each w after bodies e mpdus ending is
+module _ {start v : TransmitValue} {s t : ℕ} {numbers : List ℕ} {r : Report} {i : ℕ} {ended : Ended}
+    (so_far : IsSettling start v s t numbers r i ended) (all : length numbers ≤ i)
+    {w after : World} {bodies : ℕ → FrameValue} {e : ℕ} {ends : ℕ → End} {mpdus : List Mpdu}
+    (ending : IsEnding start w bodies s t e ends mpdus after) (alike : EndAlike (end_of_index r) ends 0 mpdus)
+    (is : numbers ≡ numbers_on_air mpdus) where
+  last : HasSettled v bodies s t e (end_of_index r) ends i mpdus after ended
+  last = so_far.each w after bodies e ends mpdus ending alike is
 
   none_left : last.left ≡ []
   none_left =
@@ -424,8 +496,8 @@ module _ {start v : TransmitValue} {s t : ℕ} {numbers : List ℕ} {acked : ℕ
       ))
 
   pub all_stand : Parts v after bodies
-  all_stand = ending_done v last.world bodies s t e acked after
-      (subst (λ (l : List Mpdu). IsEnding v last.world bodies s t e acked l after) none_left last.ending)
+  all_stand = ending_done v last.world bodies s t e ends after
+      (subst (λ (l : List Mpdu). IsEnding v last.world bodies s t e ends l after) none_left last.ending)
 
   pub all_counted : AreCounted after s t mpdus ended
   all_counted =

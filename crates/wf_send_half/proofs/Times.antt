@@ -1,5 +1,5 @@
--- Proves that a half at a later time represents the world at this time. By as many ticks of one microsecond as
--- are needed.
+-- Proves that a half at a later time represents the world at this time. By as many ticks of one microsecond
+-- as are needed.
 use Rattle.std.proofs.Common.{◌≡◌, refl, sym, subst, ℕ, zero, suc, ◌+◌, ◌-◌, ◌≤◌, arith, None}
 use Rattle.std.specs.Prelude.{Result, Ok, Err, IfOk, IfErr, OnOk}
 use Rattle.std.proofs.lemmas.Bool.{le-ltb}

@@ -1,15 +1,16 @@
 -- Defines which sequence numbers a BlockAck shows, by its start and its bits, and how an exchange ends by it.
-use Rattle.std.specs.Prelude.{◌≡◌, ℕ, ◌+◌, ◌<◌, ◌≤◌, ◌^◌, ◌==◌, nat_lt, Bool, true, false, is_some, is_none, ◌&&◌, List, [], count_by, find, Option, Some, None, IfSome, if◌then◌else◌}
+use Rattle.std.specs.Prelude.{◌≡◌, ℕ, suc, ◌+◌, ◌<◌, ◌≤◌, ◌^◌, ◌==◌, nat_lt, Bool, true, false, is_some, is_none, ◌&&◌, List, [], ◌∷◌, count_by, find, option_map, unwrap_or, Option, Some, None, IfSome, if◌then◌else◌}
 use Rattle.wf_frame.specs.Classes.{class_of}
 use Rattle.wf_frame.specs.Frames.{FrameValue}
 use Rattle.wf_frame.specs.declared.notes.ReplyNote.{ReplyNote}
 use Rattle.wf_frame.specs.declared.notes.ReplyNote.TheVariants.{Done as Ends}
 use Rattle.wf_def_lists.specs.Bounds.{narrow_window, greatest_window}
 use Rattle.wf_def_agreement.specs.Receiver.{Score, shows}
+use Rattle.wf_def_agreement.specs.Session.{End}
 use Rattle.wf_def_lists.specs.Table.{has}
 use Rattle.wf_def_world.specs.World.{World, Exchange, Mpdu, exchange, is_wide}
 use Rattle.wf_def_world.specs.CanSend.{is_request}
-use Rattle.wf_def_world.specs.Exchanges.{mpdus_of, is_acked, charge_of}
+use Rattle.wf_def_world.specs.Exchanges.{mpdus_of, is_acked, charge_of, numbers_unsent}
 use Rattle.wf_law_runs.specs.Windows.{EachMpdu}
 use Rattle.wf_send_parts.specs.Tally.{held_in}
 use Rattle.wf_queue_flows.specs.Backlog.{held_in_backlog}
@@ -19,16 +20,19 @@ use Rattle.wf_send_parts.specs.declared.window.window.Settled.TheVariants.{Acked
 use Rattle.wf_send_parts.specs.declared.exchanges.opened.Open.{Open}
 use Rattle.wf_send_parts.specs.declared.exchanges.opened.Sending.{Sending}
 use Rattle.wf_send_parts.specs.declared.exchanges.opened.Sending.TheVariants.{Data, Request as Starts_at}
+use Rattle.wf_send_parts.specs.Exchanges.{has_nothing_sent}
 use Rattle.wf_send_parts.specs.Members.{member, charged_in}
+use Rattle.wf_send_parts.specs.Window.{on_air}
 use Rattle.wf_send_half_model.specs.Half.{TransmitValue, is_ready_of}
 use Rattle.wf_send_half_model.specs.Standing.{numbers_on_air, open_of, StandsFor}
 use Rattle.wf_send_half_model.specs.Ending.{after_close, IsEnding}
 use Rattle.wf_send_half_model.specs.Pulling.{is_wide_of}
 use Rattle.wf_send_half.specs.declared.finish.Closed.{Closed}
 use Rattle.wf_send_half.specs.declared.finish.Ended.{Ended}
+use Rattle.wf_send_half.specs.declared.finish.Report.{Report}
 use Rattle.wf_frame.specs.Settings.{is_bad_air}
 use Rattle.wf_frame.specs.declared.notes.Refusal.{Refusal}
-use Rattle.wf_frame.specs.declared.notes.Refusal.TheVariants.{BadAir, NoExchange}
+use Rattle.wf_frame.specs.declared.notes.Refusal.TheVariants.{BadAir, NoExchange, NoAnswer}
 
 -- ---- a BlockAck
 
@@ -50,30 +54,58 @@ is_shown wide (Some score) n = shows_bits wide score.0 score.1 n
 abbrev pub count_shown : Bool → Option (ℕ × List ℕ) → List ℕ → ℕ
 count_shown wide heard numbers = count_by (is_shown wide heard) numbers
 
--- the numbers of a transmission, modulo 4096; a request has none
-abbrev pub numbers_sent : Sending → List ℕ
-numbers_sent (Data numbers) = numbers
-numbers_sent (Starts_at start) = []
+-- the numbers of an exchange, modulo 4096; a request has none
+abbrev pub numbers_carried : Sending → List ℕ
+numbers_carried (Data numbers) = numbers
+numbers_carried (Starts_at start) = []
 
--- how many numbers of an open exchange are shown
+-- those of these numbers that went on the air; i is the index of the first one
+abbrev pub without_unsent : ℕ → List ℕ → List ℕ → List ℕ
+without_unsent i unsent [] = []
+without_unsent i unsent (n ∷ ns) =
+    if has unsent i then without_unsent (suc i) unsent ns else n ∷ without_unsent (suc i) unsent ns
+
+-- the numbers of an exchange that went on the air, modulo 4096
+abbrev pub numbers_sent : Open → List ℕ
+numbers_sent x = without_unsent 0 x.unsent (numbers_carried x.sending)
+
+-- how many of the numbers that went on the air are shown
 abbrev pub count_shown_of : TransmitValue → Option (ℕ × List ℕ) → Open → ℕ
-count_shown_of v heard x = count_shown (is_wide_of v x.station x.tid) heard (numbers_sent x.sending)
+count_shown_of v heard x = count_shown (is_wide_of v x.station x.tid) heard (numbers_sent x)
 
--- for each number of an exchange its receiver's answer shows the same as the bits; a request has no numbers
+-- how an exchange ends for number n, its transmission i, by the report on its transmissions
+abbrev pub end_of_index : Report → ℕ → ℕ → End
+end_of_index r i n =
+    if has r.unsent i then End.Unsent
+    else if is_shown r.wide r.heard n then End.Acknowledged
+    else if has r.given_up i then End.GivenUp
+    else End.Missed
+
+-- each of these transmissions ends so by its index and its number on the air as it ends by its number; i is
+-- the index of the first one
+abbrev pub EndAlike : (ℕ → ℕ → End) → (ℕ → End) → ℕ → List Mpdu → Type 0
+EndAlike by_index ends i [] = Unit {0}
+EndAlike by_index ends i (m ∷ ms) =
+    (by_index i (on_air m.number) ≡ ends m.number) × EndAlike by_index ends (suc i) ms
+
+-- P holds for each transmission of an exchange of data that went on the air; a request has none
+abbrev pub EachSent : (Mpdu → Type 0) → Exchange → Type 0
+EachSent P x = EachMpdu (λ m. has (numbers_unsent x) m.number ≡ false → P m) (mpdus_of x.content)
+
+-- for each number of an exchange that went on the air its receiver's answer shows the same as the bits
 abbrev pub AreShown : World → Exchange → Score → Option (ℕ × List ℕ) → Type 0
-AreShown w x b heard = EachMpdu (λ m. shows b m.number ≡ is_shown (is_wide w x.station x.tid) heard m.number)
-    (mpdus_of x.content)
+AreShown w x b heard =
+    EachSent (λ m. shows b m.number ≡ is_shown (is_wide w x.station x.tid) heard m.number) x
 
--- the bits show no number of an exchange
+-- the bits show no number of an exchange that went on the air
 abbrev pub NoneIsShown : World → Exchange → Option (ℕ × List ℕ) → Type 0
-NoneIsShown w x heard = EachMpdu (λ m. is_shown (is_wide w x.station x.tid) heard m.number ≡ false)
-    (mpdus_of x.content)
+NoneIsShown w x heard = EachSent (λ m. is_shown (is_wide w x.station x.tid) heard m.number ≡ false) x
 
 -- An exchange ends by the BlockAck that was heard as by its receiver's answer, which was heard or not: both
--- show the same for each of its numbers, and a request is heard if anything was.
+-- show the same for each of its numbers that went on the air, and a request is heard if anything was.
 pub record GoesBy (w : World) (x : Exchange) (heard : Option (ℕ × List ℕ)) (answered : Bool) : Type 0 where
-  pub numbers : EachMpdu (λ m. is_acked answered x.answer m.number
-      ≡ is_shown (is_wide w x.station x.tid) heard m.number) (mpdus_of x.content)
+  pub numbers : EachSent (λ m. is_acked answered x.answer m.number
+      ≡ is_shown (is_wide w x.station x.tid) heard m.number) x
   pub request : is_request x.content ≡ true → answered ≡ is_some heard
 
 -- ---- conditions of the calls
@@ -87,9 +119,15 @@ IsChargeSmall v e = IfSome (find (λ x. x.number == e) v.opened)
 abbrev pub has_bad_air : TransmitValue → ℕ → Option ℕ → Bool
 has_bad_air v e air = is_some (find (λ x. x.number == e) v.opened) && is_bad_air v.config air
 
+-- whether something was heard for an exchange that is open, but of which nothing went on the air
+abbrev pub is_answer_impossible : TransmitValue → ℕ → Option (ℕ × List ℕ) → Bool
+is_answer_impossible v e heard =
+    is_some heard && unwrap_or (option_map has_nothing_sent (find (λ x. x.number == e) v.opened)) false
+
 -- why the end of an exchange is refused, if it is
-abbrev pub end_refusal : TransmitValue → ℕ → Option ℕ → Option Refusal
-end_refusal v e air = if is_none (find (λ x. x.number == e) v.opened) then Some NoExchange
+abbrev pub end_refusal : TransmitValue → ℕ → Option (ℕ × List ℕ) → Option ℕ → Option Refusal
+end_refusal v e heard air = if is_none (find (λ x. x.number == e) v.opened) then Some NoExchange
+    else if is_answer_impossible v e heard then Some NoAnswer
     else if is_bad_air v.config air then Some BadAir
     else None
 
@@ -98,14 +136,17 @@ pub record CanFinish (v : TransmitValue) (count : ℕ) : Type 0 where
   pub room : held_in_backlog v.flows.backlog + count ≤ v.flows.backlog.room
   pub held : count ≤ held_in v.tally
 
--- the numbers of an aggregate to TID t of station s, modulo 4096, are not settled yet
-pub record IsToSettle (v : TransmitValue) (s t : ℕ) (numbers : List ℕ) (acked : ℕ → Bool) : Type 0 where
+-- the numbers of an aggregate to TID t of station s, modulo 4096, are not settled yet; `by_index` says how
+-- the exchange ends for each
+pub record IsToSettle (v : TransmitValue) (s t : ℕ) (numbers : List ℕ) (by_index : ℕ → ℕ → End) : Type 0 where
   pub world : World
   pub bodies : ℕ → FrameValue
   pub exchange : ℕ
+  pub ends : ℕ → End
   pub mpdus : List Mpdu
   pub after : World
-  pub ending : IsEnding v world bodies s t exchange acked mpdus after
+  pub ending : IsEnding v world bodies s t exchange ends mpdus after
+  pub alike : EndAlike by_index ends 0 mpdus
   pub numbers_are : numbers ≡ numbers_on_air mpdus
 
 -- exchange o is closed and charged, the given airtime if there was one, and its numbers are not settled yet

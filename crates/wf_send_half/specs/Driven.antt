@@ -10,7 +10,7 @@ use Rattle.wf_def_world.specs.World.{World, Exchange, exchange, is_wide}
 use Rattle.wf_def_world.specs.CanSend.{is_request}
 use Rattle.wf_frame.specs.Settings.{is_bad_air}
 use Rattle.wf_def_world.specs.Step.{Outcome, step}
-use Rattle.wf_law_driver.specs.Inferred.{after_inferred, done_inferred}
+use Rattle.wf_law_driver.specs.Inferred.{after_inferred, done_inferred, shown_of_sent, is_wholly_unsent}
 use Rattle.wf_law_driver.specs.Unheard.{IsUnheard}
 use Rattle.wf_send_half_model.specs.Half.{TransmitValue}
 use Rattle.wf_send_half_model.specs.Standing.{StandsFor, Meets}
@@ -21,15 +21,17 @@ use Rattle.wf_send_half.specs.Replies.{reply_of_result}
 -- ---- in the machine
 
 -- The machine's outcome for w if exchange e ends with this BlockAck or without one. For a BlockAck to x, the
--- open exchange, the calls that it implies come first (`inferred`, wf_law_driver): exactly the numbers that
--- it shows arrive, and their receiver answers. If nothing was heard, the only call is a Done that is not
--- heard. If no exchange is open, or the airtime is out of range, the Done is refused.
+-- open exchange, the calls that it implies come first (`inferred`, wf_law_driver): exactly those numbers
+-- arrive that it shows and that went on the air, and their receiver answers. If nothing was heard, the only
+-- call is a Done that is not heard. The Done is refused if no exchange is open, if something was heard though
+-- nothing of the exchange went on the air, or if the airtime is out of range.
 abbrev pub ended_by : World → ℕ → ℕ → Option (ℕ × List ℕ) → Option ℕ → Option Exchange → Outcome
 ended_by w caller e None air x = step w (Asked (Done e false air))
 ended_by w caller e (Some score) air None = step w (Asked (Done e false air))
 ended_by w caller e (Some score) air (Some x) =
-    let shown : ℕ → Bool = is_shown (is_wide w x.station x.tid) (Some score) in
-    if is_bad_air w.config air then step w (Asked (Done e false air))
+    let shown : ℕ → Bool = shown_of_sent x (is_shown (is_wide w x.station x.tid) (Some score)) in
+    if is_wholly_unsent x then step w (Asked (Done e true air))
+    else if is_bad_air w.config air then step w (Asked (Done e false air))
     else step (after_inferred w caller e shown x.content) (done_inferred e shown air x.content)
 
 -- the same, by the number of the exchange
@@ -53,10 +55,11 @@ pub record IsAfterDone (v u : TransmitValue) (e : ℕ) (heard : Option (ℕ × L
       exchange w e ≡ Some x → x.answer ≡ Some b → AreShown w x b (Some score) →
       Meets w bodies (Asked (Done e true air)) u (reply_of_result ended_reply result))
   pub none_shown : (w : World) (bodies : ℕ → FrameValue) (x : Exchange) → StandsFor v w bodies →
-      exchange w e ≡ Some x → is_request x.content ≡ false → NoneIsShown w x heard →
+      exchange w e ≡ Some x → is_request x.content ≡ false → is_wholly_unsent x ≡ false →
+      NoneIsShown w x heard →
       Meets w bodies (Asked (Done e false air)) u (reply_of_result ended_reply result)
-  pub found : is_ok result ≡ is_none (end_refusal v e air)
-  pub refused : IfErr result (λ reason. (end_refusal v e air ≡ Some reason) × (u ≡ v))
+  pub found : is_ok result ≡ is_none (end_refusal v e heard air)
+  pub refused : IfErr result (λ reason. (end_refusal v e heard air ≡ Some reason) × (u ≡ v))
 
 -- u represents the world that an outcome leads to, that world is unheard, and the reply is the outcome's
 pub record MeetsUnheard (bodies : ℕ → FrameValue) (o : Outcome) (u : TransmitValue)

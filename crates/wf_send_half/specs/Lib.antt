@@ -3,6 +3,8 @@ pub mod Half
 pub mod Pulls
 pub mod Replies
 pub mod Leaving
+pub mod Flushing
+pub mod Marks
 pub mod Enqueues
 pub mod Bits
 pub mod Counts

@@ -227,6 +227,7 @@ pub record IsData (v u : TransmitValue) (s t : ℕ) (b : Bounds) (charge : ℕ) 
       IsPrepared u w bodies s t charge numbers pairs
 
 -- u is v after it prepared this for TID t of station s in a pull with these bounds
-abbrev pub IsPreparedFor : TransmitValue → TransmitValue → ℕ → ℕ → Bounds → ℕ → List (ℕ × ℕ) → Sending → Type 0
+abbrev pub IsPreparedFor : TransmitValue → TransmitValue → ℕ → ℕ → Bounds → ℕ → List (ℕ × ℕ) → Sending →
+    Type 0
 IsPreparedFor v u s t b charge pairs (Data numbers) = IsData v u s t b charge pairs numbers
 IsPreparedFor v u s t b charge pairs (Starts_at start) = IsRequestDue v u s t charge start

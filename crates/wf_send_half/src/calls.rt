@@ -5,11 +5,11 @@ ghost use Rattle.wf_frame.specs.Answers.{reply_with};
 ghost use Rattle.wf_frame.specs.Classes.{same_class};
 ghost use Rattle.wf_frame.specs.Frames.{FrameValue};
 ghost use Rattle.wf_frame.specs.declared.answers.Brief.TheVariants.{Refused as Refuses};
-ghost use Rattle.wf_frame.specs.declared.notes.Ask.TheVariants.{Join, Leave, Rate, Tick, Pull, Sleep, Wake, Poll, Rx, Reap, Ampdu, Stop, Start};
+ghost use Rattle.wf_frame.specs.declared.notes.Ask.TheVariants.{Join, Leave, Rate, Tick, Pull, Sleep, Wake, Poll, Rx, Reap, Ampdu, Stop, Start, Unsent, GiveUp, Flush};
 ghost use Rattle.wf_frame.specs.declared.notes.Note.TheVariants.{Asked};
 ghost use Rattle.wf_frame.specs.declared.notes.Refusal.TheVariants.{Full, Ahead, Idle};
-ghost use Rattle.wf_frame.specs.declared.notes.ReplyNote.TheVariants.{Joined, Left, Set, Now, Slept, Woken, Polled, Charged, Accepted, Stopped, Started, Refused};
-ghost use Rattle.wf_def_world.specs.World.{World};
+ghost use Rattle.wf_frame.specs.declared.notes.ReplyNote.TheVariants.{Joined, Left, Set, Now, Slept, Woken, Polled, Charged, Accepted, Stopped, Started, Marked, Flushed, Refused};
+ghost use Rattle.wf_def_world.specs.World.{World, exchange as exchange_in};
 ghost use Rattle.wf_queue_flows_refines.specs.Frames.{with_body, IsBodySettled};
 ghost use Rattle.wf_send_half_model.specs.Half.{is_ahead_of};
 ghost use Rattle.wf_send_half_model.specs.Standing.{StandsFor, Meets};
@@ -18,6 +18,7 @@ ghost use Rattle.wf_send_half.specs.Bits.{IsChargeSmall, count_shown_of};
 ghost use Rattle.wf_send_half.specs.Driven.{IsAfterDone};
 ghost use Rattle.wf_send_half.specs.Enqueues.{enqueue_of, as_accepted};
 ghost use Rattle.wf_send_half.specs.Half.{HasUnheardWorld, IsReceiptSmall};
+ghost use Rattle.wf_send_half.specs.Marks.{HasNotArrived, bodies_unsent};
 ghost use Rattle.wf_send_half.specs.Replies.{bodies_sent, reaped_reply, reply_of_result};
 
 use crate::enqueue::Admitted;
@@ -99,11 +100,12 @@ impl Transmit {
 
     /// Ends an exchange: its station is charged, and each frame that it sent is settled. `heard` is the start
     /// and the bits of the BlockAck that was heard (IEEE 802.11-2012, 8.3.1.9), if one was; the first 64 bits
-    /// count, or all 256 if the TID's window is above 64. Each number that it shows is acknowledged; each
-    /// other number waits again, or fails if it was sent `attempts` times. A request is heard if anything
-    /// was. If `air` is given, the station is charged `air` microseconds instead of the computed charge.
-    /// Refused as NoExchange if the exchange is not open, then as BadAir if `air` is 0 or above the setting
-    /// `charge`.
+    /// count, or all 256 if the TID's window is above 64. A number that never went on the air waits again,
+    /// whatever the BlockAck shows. Each other number that it shows is acknowledged; each number that it does
+    /// not show fails if it is given up or was sent `attempts` times, else it waits again. A request is heard
+    /// if anything was. If `air` is given, the station is charged `air` microseconds instead of the computed
+    /// charge. Refused as NoExchange if the exchange is not open, as NoAnswer if something was heard though
+    /// nothing of the exchange went on the air, then as BadAir if `air` is 0 or above the setting `charge`.
     pub fn done(
         &mut self,
         exchange: u64,
@@ -121,6 +123,54 @@ impl Transmit {
                 self.ready
                     .set(closed.station, closed.class, closed.is_ready);
                 Ok(closed.ended)
+            }
+            Err(reason) => Err(reason),
+        }
+    }
+
+    /// Records that transmission `index` of an open exchange, counted from 0, never went on the air. Its
+    /// frame counts one transmission less at once. When the exchange ends, its number waits again, and no
+    /// attempt is counted. Refused as NoExchange if the exchange is not open, as BadIndex if it has no such
+    /// transmission, or as Marked if the transmission has a mark already. A caller that knows receivers calls
+    /// it neither for a transmission that arrived nor after the answer.
+    pub fn unsent(&mut self, exchange: u64, index: u16) -> Result<(), Refusal>
+        ensures meets { (w : World) (bodies : ℕ → FrameValue) → StandsFor self.old w bodies →
+            HasNotArrived w exchange index →
+            Meets w (bodies_unsent (exchange_in w exchange) index (reply_of_result (λ _. Marked) result)
+            bodies)
+            (Asked (Unsent exchange index)) self.new (reply_of_result (λ _. Marked) result) }
+        ensures refused { IfErr result (λ _. self.new ≡ self.old) }
+        ensures unheard { HasUnheardWorld self.new }
+    {
+        self.half.unsent(exchange, index)
+    }
+
+    /// Records that the device will not try transmission `index` of an open exchange again, counted from 0.
+    /// When the exchange ends, its number fails, unless the BlockAck shows it. Refused as NoExchange if the
+    /// exchange is not open, as BadIndex if it has no transmission with this index, or as Marked if the
+    /// transmission has a mark already.
+    pub fn give_up(&mut self, exchange: u64, index: u16) -> Result<(), Refusal>
+        ensures meets { (w : World) (bodies : ℕ → FrameValue) → StandsFor self.old w bodies →
+            Meets w bodies (Asked (GiveUp exchange index)) self.new (reply_of_result (λ _. Marked) result) }
+        ensures refused { IfErr result (λ _. self.new ≡ self.old) }
+        ensures unheard { HasUnheardWorld self.new }
+    {
+        self.half.give_up(exchange, index)
+    }
+
+    /// Drops all frames of a TID that are not on the air, as Flushed, and returns how many they were. They go
+    /// last on the finished list: first those of the numbers that wait, by number, which fail; then those of
+    /// the flow queues, by queue. Refused as BadStation, BadTid or NoStation.
+    pub fn flush(&mut self, station: u16, tid: u8) -> Result<u32, Refusal>
+        ensures meets { (w : World) (bodies : ℕ → FrameValue) → StandsFor self.old w bodies →
+            Meets w bodies (Asked (Flush station tid)) self.new (reply_of_result Flushed result) }
+        ensures refused { IfErr result (λ _. self.new ≡ self.old) }
+        ensures unheard { HasUnheardWorld self.new }
+    {
+        match self.half.flush(station, tid) {
+            Ok(dropped) => {
+                self.ready.set_all(&self.half, station);
+                Ok(dropped)
             }
             Err(reason) => Err(reason),
         }

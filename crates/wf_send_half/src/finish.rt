@@ -10,10 +10,13 @@ ghost use Rattle.wf_def_world.specs.Step.{done_outcome};
 ghost use Rattle.wf_send_half_model.specs.Half.{TransmitValue};
 ghost use Rattle.wf_send_half_model.specs.Standing.{StandsFor, Meets, Parts, numbers_on_air, open_of};
 ghost use Rattle.wf_send_half_model.specs.Ending.{IsEnding, after_close, after_finish, after_answer};
-ghost use Rattle.wf_send_half.specs.Bits.{is_shown, has_bad_air, end_refusal, CanFinish, IsToSettle, IsClosed, GoesBy, with_one_more, all_ended, ended_reply, closed_reply, HasClosed, IsChargeSmall, AreShown, NoneIsShown, count_shown, count_shown_of};
+ghost use Rattle.wf_send_half.specs.Bits.{is_shown, end_of_index, without_unsent, EndAlike, has_bad_air, is_answer_impossible, end_refusal, CanFinish, IsToSettle, IsClosed, GoesBy, with_one_more, all_ended, ended_reply, closed_reply, HasClosed, IsChargeSmall, AreShown, NoneIsShown, count_shown, count_shown_of};
 ghost use Rattle.wf_send_half.specs.Half.{HasWorld};
 ghost use Rattle.wf_send_half.specs.Replies.{reply_of_result};
 ghost use Rattle.wf_def_agreement.specs.Receiver.{Score};
+ghost use Rattle.wf_def_agreement.specs.Session.{End as SessionEnd};
+ghost use Rattle.wf_law_driver.specs.Inferred.{is_wholly_unsent};
+ghost use Rattle.wf_send_parts.specs.Answers.{as_end};
 ghost use Rattle.wf_frame.specs.declared.notes.Ask.TheVariants.{Done};
 ghost use Rattle.wf_frame.specs.declared.notes.Note.TheVariants.{Asked};
 ghost use Rattle.wf_send_half.specs.Counts.{AreCounted, HasFate};
@@ -25,7 +28,7 @@ use wf_octets::bits::Bits256;
 use wf_octets::seq12::Seq12;
 use wf_queue_parts::chain::Parcel;
 use wf_send_parts::exchanges::{Numbers, Open, Sending};
-use wf_send_parts::window::Settled;
+use wf_send_parts::window::{End, Settled};
 
 /// The numbers of frames of an exchange that ended, by their fate. They are at most 256 together.
 #[derive(Clone, Copy)]
@@ -34,7 +37,8 @@ pub struct Ended {
     pub acked: u16,
     /// The number of frames that wait for another transmission.
     pub waiting: u16,
-    /// The number of frames that were sent as often as the setting `attempts` allows, and are dropped.
+    /// The number of frames that were sent as often as the setting `attempts` allows or were given up, and
+    /// are dropped.
     pub failed: u16,
 }
 
@@ -48,6 +52,36 @@ pub(crate) struct Closed {
     pub(crate) class: Class,
     /// Whether its station is ready now in this class.
     pub(crate) is_ready: bool,
+}
+
+/// The report on an exchange that ends: the BlockAck that was heard, and the marks of
+/// the device.
+#[derive(Clone, Copy)]
+pub(crate) struct Report {
+    /// Whether BlockAcks of the TID have 256 bits.
+    pub(crate) wide: bool,
+    /// The start and the bits of the BlockAck that was heard, if one was.
+    pub(crate) heard: Option<(Seq12, Bits256)>,
+    /// The indices of the transmissions that never went on the air.
+    pub(crate) unsent: Bits256,
+    /// The indices of those that the device will not try again.
+    pub(crate) given_up: Bits256,
+}
+
+// Returns how an exchange ends for the number of transmission `index`, 0 to 255.
+fn end_at(report: &Report, index: u16, number: Seq12) -> End
+    requires { index < 256 }
+    ensures { as_end result ≡ end_of_index report.now index number }
+{
+    if report.unsent.has(index) {
+        End::Unsent
+    } else if is_shown(report.wide, &report.heard, number) {
+        End::Acknowledged
+    } else if report.given_up.has(index) {
+        End::GivenUp
+    } else {
+        End::Missed
+    }
 }
 
 // Returns whether the BlockAck that was heard, if any, shows a number.
@@ -81,15 +115,19 @@ impl Half {
             Meets w bodies (Asked (Done exchange true air)) self.new (reply_of_result closed_reply result)) }
         ensures none_shown { (w : World) (bodies : ℕ → FrameValue) (x : Exchange) →
             StandsFor self.old w bodies →
-            exchange_in w exchange ≡ Some x → is_request x.content ≡ false → NoneIsShown w x heard →
+            exchange_in w exchange ≡ Some x → is_request x.content ≡ false → is_wholly_unsent x ≡ false →
+            NoneIsShown w x heard →
             Meets w bodies (Asked (Done exchange false air)) self.new (reply_of_result closed_reply result) }
-        ensures found { is_ok result ≡ is_none (end_refusal self.old exchange air) }
-        ensures refused { IfErr result (λ reason. (end_refusal self.old exchange air ≡ Some reason) ×
+        ensures found { is_ok result ≡ is_none (end_refusal self.old exchange heard air) }
+        ensures refused { IfErr result (λ reason. (end_refusal self.old exchange heard air ≡ Some reason) ×
             (self.new ≡ self.old)) }
         ensures acked { IfOk result (λ closed. IfSome (find (λ x. x.number == exchange) self.old.opened) (λ x.
             closed.ended.acked ≡ count_shown_of self.old heard x)) }
         ensures closed { IfOk result (HasClosed self.old self.new exchange) }
     {
+        if self.is_answer_impossible(exchange, &heard) {
+            return Err(Refusal::NoAnswer);
+        }
         if self.has_bad_air(exchange, air) {
             return Err(Refusal::BadAir);
         }
@@ -118,6 +156,17 @@ impl Half {
         })
     }
 
+    // Returns whether something was heard for an exchange that is open, but of which nothing went on the air.
+    fn is_answer_impossible(&self, exchange: u64, heard: &Option<(Seq12, Bits256)>) -> bool
+        ensures { result ≡ is_answer_impossible self.now exchange heard.now }
+    {
+        heard.is_some()
+            && match self.opened.find(exchange) {
+                Some(open) => open.is_wholly_unsent(),
+                None => false,
+            }
+    }
+
     // Returns whether an exchange is open and this airtime is out of range. It looks the exchange up only if
     // the airtime is out of range.
     fn has_bad_air(&self, exchange: u64, air: Option<u32>) -> bool
@@ -127,7 +176,7 @@ impl Half {
     }
 
     // Settles the transmissions of an exchange that is closed and charged: each number of an aggregate by the
-    // BlockAck that was heard, and a request if anything was heard.
+    // BlockAck that was heard and the marks of the device, and a request if anything was heard.
     fn settle(&mut self, open: &Open, heard: &Option<(Seq12, Bits256)>) -> Ended
         requires some { IsClosed self.old open.now }
         ensures settled { (v : TransmitValue) (w : World) (bodies : ℕ → FrameValue) (e : ℕ) (x : Exchange)
@@ -146,7 +195,13 @@ impl Half {
         match &open.sending {
             Sending::Data(numbers) => {
                 let wide = self.windows.at(open.station, open.tid).size() > NARROW_WINDOW;
-                self.settle_all(open.station, open.tid, numbers, wide, heard)
+                let report = Report {
+                    wide,
+                    heard: *heard,
+                    unsent: open.unsent,
+                    given_up: open.given_up,
+                };
+                self.settle_all(open.station, open.tid, numbers, &report)
             }
             Sending::Request(start) => {
                 if heard.is_some() {
@@ -161,24 +216,20 @@ impl Half {
         }
     }
 
-    // Settles each number of an aggregate, in order, by the BlockAck that was heard.
-    fn settle_all(
-        &mut self,
-        station: u16,
-        tid: u8,
-        numbers: &Numbers,
-        wide: bool,
-        heard: &Option<(Seq12, Bits256)>,
-    ) -> Ended
-        requires some { IsToSettle self.old station tid numbers.now (is_shown wide heard.now) }
+    // Settles each number of an aggregate, in order, by the report on its transmission.
+    fn settle_all(&mut self, station: u16, tid: u8, numbers: &Numbers, report: &Report) -> Ended
+        requires some { IsToSettle self.old station tid numbers.now (end_of_index report.now) }
         requires room { CanFinish self.old (length numbers.now) }
-        ensures settled { (w after : World) (bodies : ℕ → FrameValue) (e : ℕ) (mpdus : List Mpdu) →
-            IsEnding self.old w bodies station tid e (is_shown wide heard.now) mpdus after →
+        ensures settled { (w after : World) (bodies : ℕ → FrameValue) (e : ℕ) (ends : ℕ → SessionEnd)
+            (mpdus : List Mpdu) → IsEnding self.old w bodies station tid e ends mpdus after →
+            EndAlike (end_of_index report.now) ends 0 mpdus →
             numbers.now ≡ numbers_on_air mpdus → Parts self.new after bodies }
-        ensures counted { (w after : World) (bodies : ℕ → FrameValue) (e : ℕ) (mpdus : List Mpdu) →
-            IsEnding self.old w bodies station tid e (is_shown wide heard.now) mpdus after →
+        ensures counted { (w after : World) (bodies : ℕ → FrameValue) (e : ℕ) (ends : ℕ → SessionEnd)
+            (mpdus : List Mpdu) → IsEnding self.old w bodies station tid e ends mpdus after →
+            EndAlike (end_of_index report.now) ends 0 mpdus →
             numbers.now ≡ numbers_on_air mpdus → AreCounted after station tid mpdus result }
-        ensures acked { result.acked ≡ count_shown wide heard.now numbers.now }
+        ensures acked { result.acked ≡ count_shown report.now.wide report.now.heard
+            (without_unsent 0 report.now.unsent numbers.now) }
         ensures config { self.new.config ≡ self.old.config }
     {
         let limit = self.config.attempts as u8;
@@ -189,8 +240,8 @@ impl Half {
         };
         for i in 0..numbers.len() {
             let number = numbers.at(i);
-            let acked = is_shown(wide, heard, number);
-            let answer = self.windows.settle(station, tid, number, acked, limit);
+            let end = end_at(report, i as u16, number);
+            let answer = self.windows.settle(station, tid, number, end, limit);
             self.account_for(answer, &mut ended);
         }
         ended
@@ -218,7 +269,7 @@ impl Half {
     }
 
     // Finishes a frame that has its fate.
-    fn finish(&mut self, parcel: Parcel)
+    pub(crate) fn finish(&mut self, parcel: Parcel)
         requires fate { parcel.fate ≢ Held }
         requires room { CanFinish self.old 1 }
         ensures { self.new ≡ after_finish self.old parcel }

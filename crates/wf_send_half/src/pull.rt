@@ -28,6 +28,7 @@ use crate::bounds::Bounds;
 use crate::half::Half;
 use crate::pending::charge_opened;
 use wf_frame::{Brief, Class, Limits, NARROW_WINDOW, Pairs, Refusal};
+use wf_octets::bits::Bits256;
 use wf_send_parts::exchanges::{Numbers, Open, Sending};
 
 /// The outcome of a pull.
@@ -152,6 +153,8 @@ impl Half {
             charge,
             sending,
             more,
+            unsent: Bits256::empty(),
+            given_up: Bits256::empty(),
         });
         self.exchanges += 1;
         let is_on = self.config.pending == 1;

@@ -1,14 +1,16 @@
 -- Proves that a frame which an aggregate sends is held at its number and nowhere else. So the frames of all
--- other ids are unchanged when it counts an attempt.
-use Rattle.std.proofs.Common.{◌≡◌, ◌≢◌, ap, sym, ◌∙◌, subst, arith, ℕ, zero, suc, ◌-◌, ◌<◌, ◌≤◌, ◌==◌, true, false, List, [], ◌∷◌, map, get_or, inl, inr}
-use Rattle.std.specs.Prelude.{All, sum_by}
-use Rattle.std.proofs.lemmas.Bool.{cases_eq, cases_lt, cond_both}
+-- other ids are unchanged when it counts an attempt, or takes one back.
+use Rattle.std.proofs.Common.{◌≡◌, ◌≢◌, refl, ap, sym, ◌∙◌, subst, arith, ℕ, zero, suc, ◌-◌, ◌<◌, ◌≤◌, ◌==◌, true, false, List, [], ◌∷◌, map, get_or, inl, inr}
+use Rattle.std.specs.Prelude.{All, sum_by, length}
+use Rattle.std.proofs.Math.Path.{fun_ext}
+use Rattle.std.proofs.lemmas.Bool.{cases_eq, cases_lt, cond_both, cond-false, ne_eqb}
 use Rattle.std.proofs.lemmas.List.Elements.{All-cons, All-head, All-nil, All-tail, All-weaker}
 use Rattle.std.proofs.lemmas.List.Sums.{sum_by-cons}
-use Rattle.wf_frame.specs.Frames.{FrameValue, sent_again}
+use Rattle.wf_frame.specs.Frames.{FrameValue, sent_again, sent_once_less}
 use Rattle.wf_frame.specs.declared.classes.Fate.{Fate}
 use Rattle.wf_frame.specs.declared.classes.Fate.TheVariants.{Held}
 use Rattle.wf_frame.specs.declared.notes.Note.{Note}
+use Rattle.wf_frame.specs.declared.notes.Note.TheVariants.{Enqueue}
 use Rattle.wf_def_codel.specs.Codel.{Item}
 use Rattle.wf_def_lists.specs.Lists.{IsRising, on}
 use Rattle.wf_def_lists.specs.Table.{has}
@@ -21,17 +23,18 @@ use Rattle.wf_law_runs.proofs.Frames.Fates.{ids_carried}
 use Rattle.wf_law_runs.proofs.Sessions.Starts.{at_change_other, at_change_same}
 use Rattle.wf_queue_flows.specs.Backlog.{BacklogValue, frames_at}
 use Rattle.wf_queue_flows_refines.specs.Frames.{HasFrames, IsAccepted, IsBody, IsBodySettled}
-use Rattle.wf_queue_flows_refines.specs.Standing.{ids, times_held}
+use Rattle.wf_queue_flows_refines.specs.Standing.{ids, times_held, flows_part}
 use Rattle.wf_queue_flows_refines.proofs.Leaves.{stands_same, session_alone}
 use Rattle.wf_queue_flows_refines.proofs.Purges.{item_ids}
+use Rattle.wf_sched_refines.specs.Standing.{LeavesRotas}
 use Rattle.wf_sched_refines.proofs.Unchanged.{session_leaves}
 use Rattle.wf_send_parts.specs.Many.{HasSameFrames}
-use Rattle.wf_send_parts.specs.Sent.{with_one_sent}
+use Rattle.wf_send_parts.specs.Sent.{with_frame_changed, with_one_sent, with_one_unsent}
 use Rattle.wf_send_parts.specs.Window.{WindowValue, WindowStandsFor, HasOwnFrame, holds_parcel}
 use Rattle.wf_send_parts.specs.Windows.{WindowsHaveRoom, no_window, with_window}
 use Rattle.wf_send_parts.proofs.Changes.{is_this, windows_count}
 use Rattle.wf_send_parts.proofs.Laws.{start_of_is}
-use Rattle.wf_send_parts.proofs.Sending.{sent_other, one_sent}
+use Rattle.wf_send_parts.proofs.Sending.{one_sent}
 use Rattle.wf_send_half_model.specs.Half.{TransmitValue}
 use Rattle.wf_send_half_model.specs.Standing.{Parts}
 use Rattle.wf_send_half_model.specs.Filling.{IsWaitingWith, IsAlone}
@@ -173,13 +176,76 @@ frames_but b bodies others id none same h = record {
       (λ f other is. (is.0 ∙ sym (same f.id other), is.1)) (omega (arith, none)) h.finished;
 }
 
-accepted_sent : (id k : ℕ) (brought : Note) (bodies : ℕ → FrameValue) → IsAccepted k brought (bodies k) →
-    IsAccepted k brought (with_one_sent id bodies k)
-accepted_sent id k brought bodies h = cond_both (k == id) (sent_again (bodies k)) (bodies k)
-    (IsAccepted k brought)
-    (λ e. record { id = h.id; source = h.source; fate = h.fate; note = h.note }) (λ e. h)
+-- the call that brings a frame
+abbrev call_of : FrameValue → Note
+call_of f = Enqueue f.station f.tid f.flow (length f.body)
 
--- ---- the number flies
+-- a change of a frame that keeps all but its count of attempts
+pub record KeepsFrame (g : FrameValue → FrameValue) : Type 0 where
+  pub id : (f : FrameValue) → (g f).id ≡ f.id
+  pub source : (f : FrameValue) → (g f).source ≡ f.source
+  pub fate : (f : FrameValue) → (g f).fate ≡ f.fate
+  pub call : (f : FrameValue) → call_of (g f) ≡ call_of f
+
+accepted_changed : (g : FrameValue → FrameValue) → KeepsFrame g → (id k : ℕ) (brought : Note)
+    (bodies : ℕ → FrameValue) → IsAccepted k brought (bodies k) →
+    IsAccepted k brought (with_frame_changed g id bodies k)
+accepted_changed g keeps id k brought bodies h = cond_both (k == id) (g (bodies k)) (bodies k)
+    (IsAccepted k brought)
+    (λ e. record {
+      id = keeps.id (bodies k) ∙ h.id;
+      source = ap length (keeps.source (bodies k)) ∙ h.source;
+      fate = keeps.fate (bodies k) ∙ h.fate;
+      note = h.note ∙ sym (keeps.call (bodies k));
+    }) (λ e. h)
+
+changed_other : (g : FrameValue → FrameValue) (bodies : ℕ → FrameValue) (id k : ℕ) → k ≢ id →
+    with_frame_changed g id bodies k ≡ bodies k
+changed_other g bodies id k other = cond-false (k == id) (g (bodies k)) (bodies k) (ne_eqb k id other)
+
+-- ---- a number's frame changes
+
+-- the session of TID t of station s is y in u; everything else that a half reads is as in w
+pub record IsSessionOnly (w u : World) (s t : ℕ) (y : Session) : Type 0 where
+  pub part : flows_part u ≡ flows_part w
+  pub agreements_are : agreements u ≡ record (agreements w) {
+    sessions =
+        with_session (agreements w).sessions s t y;
+  }
+  pub roster_is : roster u ≡ roster w
+  pub ledger_is : ledger u ≡ ledger w
+  pub leaves : LeavesRotas w u
+
+session_only : (w : World) (s t : ℕ) (f : Session → Session) → is_live w s ≡ true →
+    IsSessionOnly w (on_session w s t f) s t (f (session w s t))
+session_only w s t f live = record {
+  part = session_alone w s t f;
+  agreements_are = agreements_session w s t f live;
+  roster_is = roster_session w s t f;
+  ledger_is = ledger_session w s t f;
+  leaves = session_leaves w s t f;
+}
+
+-- nothing changes
+nothing_only : (w : World) (s t : ℕ) → IsSessionOnly w w s t (session w s t)
+nothing_only w s t = record {
+  part = refl;
+  agreements_are = ap (λ (x : ℕ → ℕ → Session). record (agreements w) { sessions = x })
+      (fun_ext (λ (i : ℕ). fun_ext (λ (j : ℕ). sym (same i j))));
+  roster_is = refl;
+  ledger_is = refl;
+  leaves = λ v h. h;
+}
+  where
+    same : (i j : ℕ) → with_session (λ a b. session w a b) s t (session w s t) i j ≡ session w i j
+    same i j = elim (is_this [] s t no_window i j) [
+      | inl this ↦
+          ap (λ (a : ℕ). with_session (λ x y. session w x y) s t (session w s t) a j) this.0
+          ∙ ap (with_session (λ x y. session w x y) s t (session w s t) s) this.1
+          ∙ session_own (λ x y. session w x y) s t (session w s t)
+          ∙ sym (ap (λ (a : ℕ). session w a j) this.0 ∙ ap (session w s) this.1)
+      | inr other ↦ session_other (λ x y. session w x y) s t (session w s t) i j other
+    ]
 
 module _ (v : TransmitValue) (w : World) (bodies : ℕ → FrameValue) (s t : ℕ) (m : Mpdu)
     (alone : IsAlone v w s t m) where
@@ -199,55 +265,71 @@ module _ (v : TransmitValue) (w : World) (bodies : ℕ → FrameValue) (s t : �
     sole = λ n from below held same. (numbered_is s t n from below held (same ∙ carries)).2;
   }
 
-  frames_same : (i j : ℕ) → (i ≡ s → j ≡ t → ⊥) →
-      HasSameFrames (session w i j) bodies (with_one_sent m.id bodies)
-  frames_same i j other = record {
-    same = λ n from below held. sent_other bodies m.id (slot (session w i j) n).id
-        (λ e. let k = numbered_is i j n from below held e in other k.0 k.1);
-  }
+  module _ (g : FrameValue → FrameValue) (keeps : KeepsFrame g) where
+    frames_same : (i j : ℕ) → (i ≡ s → j ≡ t → ⊥) →
+        HasSameFrames (session w i j) bodies (with_frame_changed g m.id bodies)
+    frames_same i j other = record {
+      same = λ n from below held. changed_other g bodies m.id (slot (session w i j) n).id
+          (λ e. let k = numbered_is i j n from below held e in other k.0 k.1);
+    }
+
+    changed_parts : Parts v w bodies → is_live w s ≡ true → t < 8 → (u : World) (y : Session) →
+        IsSessionOnly w u s t y → (x : WindowValue) → WindowsHaveRoom (with_window v.windows s t x) →
+        WindowStandsFor x y (with_frame_changed g m.id bodies) →
+        Parts (record v { windows = with_window v.windows s t x }) u (with_frame_changed g m.id bodies)
+    changed_parts h live low u y only x room stands =
+        let others : ℕ → FrameValue = with_frame_changed g m.id bodies in
+        let p : Pieces v w bodies = to_pieces v w bodies h in
+        let same : roster w ≡ roster u = sym only.roster_is in
+        let a : Agreements = agreements w in
+        let low_s : s < w.config.stations = h.others.turns.live s live in
+        of_pieces (record v { windows = with_window v.windows s t x }) u others (record {
+          config = p.config ∙ ap (λ (r : Roster). r.config) same;
+          clock = p.clock ∙ ap (λ (r : Roster). r.clock) same;
+          exchanges = p.exchanges ∙ ap (λ (r : Roster). r.exchanges) same;
+          opened = p.opened ∙ ap (λ (r : Roster). r.opened) same;
+          stations = subst (λ (r : Roster). StationsStand v.members v.sleepers r.config.stations r.stations)
+              same p.stations;
+          windows = subst (WindowsStand (with_window v.windows s t x) others) (sym only.agreements_are)
+              (record {
+                sized = windows_count v.windows s t x ∙ p.windows.sized;
+                room = room;
+                all = one_sent v.windows s t x a.live a.sessions (with_session a.sessions s t y) bodies others
+                    p.windows.all live low (omega (arith, p.windows.sized, low_s))
+                    (record { same = λ i j below. session_other a.sessions s t y i j })
+                    (λ i j here below other. frames_same i j other)
+                    (subst (λ (z : Session). WindowStandsFor x z others)
+                    (sym (session_own a.sessions s t y)) stands);
+              });
+          flows = stands_same v.flows w u only.part p.flows;
+          turns = only.leaves v.sched p.turns;
+          ledger = subst (LedgerStands v.inside v.tally others) (sym only.ledger_is) (record {
+            count = p.ledger.count;
+            fates = p.ledger.fates;
+            notes = λ id below.
+                accepted_changed g keeps m.id id ((ledger w).notes id) bodies (p.ledger.notes id below);
+          });
+          frames = frames_but v.flows.backlog bodies others m.id alone.nowhere (changed_other g bodies m.id)
+              p.frames;
+        })
 
   pub sent_parts : Parts v w bodies → is_live w s ≡ true → t < 8 → (f : Session → Session)
       (x : WindowValue) → WindowsHaveRoom (with_window v.windows s t x) →
       WindowStandsFor x (f (session w s t)) (with_one_sent m.id bodies) →
       Parts (record v { windows = with_window v.windows s t x }) (on_session w s t f)
       (with_one_sent m.id bodies)
-  sent_parts h live low f x room stands =
-      let others : ℕ → FrameValue = with_one_sent m.id bodies in
-      let p : Pieces v w bodies = to_pieces v w bodies h in
-      let u : World = on_session w s t f in
-      let same : roster w ≡ roster u = sym (roster_session w s t f) in
-      let a : Agreements = agreements w in
-      let low_s : s < w.config.stations = h.others.turns.live s live in
-      of_pieces (record v { windows = with_window v.windows s t x }) u others (record {
-        config = p.config ∙ ap (λ (r : Roster). r.config) same;
-        clock = p.clock ∙ ap (λ (r : Roster). r.clock) same;
-        exchanges = p.exchanges ∙ ap (λ (r : Roster). r.exchanges) same;
-        opened = p.opened ∙ ap (λ (r : Roster). r.opened) same;
-        stations = subst (λ (r : Roster). StationsStand v.members v.sleepers r.config.stations r.stations)
-            same p.stations;
-        windows = subst (WindowsStand (with_window v.windows s t x) others)
-            (sym (agreements_session w s t f live)) (record {
-              sized = windows_count v.windows s t x ∙ p.windows.sized;
-              room = room;
-              all = one_sent v.windows s t x a.live a.sessions
-                  (with_session a.sessions s t (f (session w s t))) bodies others p.windows.all live low
-                  (omega (arith, p.windows.sized, low_s))
-                  (record { same = λ i j below. session_other a.sessions s t (f (session w s t)) i j })
-                  (λ i j here below other. frames_same i j other)
-                  (subst (λ (y : Session). WindowStandsFor x y others)
-                  (sym (session_own a.sessions s t (f (session w s t)))) stands);
-            });
-        flows = stands_same v.flows w u (session_alone w s t f) p.flows;
-        turns = session_leaves w s t f v.sched p.turns;
-        ledger = subst (LedgerStands v.inside v.tally others) (sym (ledger_session w s t f)) (record {
-          count = p.ledger.count;
-          fates = p.ledger.fates;
-          notes = λ id below.
-              accepted_sent m.id id ((ledger w).notes id) bodies (p.ledger.notes id below);
-        });
-        frames = frames_but v.flows.backlog bodies others m.id alone.nowhere (sent_other bodies m.id)
-            p.frames;
-      })
+  sent_parts h live low f x room stands = changed_parts sent_again
+      (record { id = λ f. refl; source = λ f. refl; fate = λ f. refl; call = λ f. refl }) h live low
+      (on_session w s t f) (f (session w s t)) (session_only w s t f live) x room stands
+
+  -- the frame of a number that never went on the air
+  pub unsent_parts : Parts v w bodies → is_live w s ≡ true → t < 8 → (x : WindowValue) →
+      WindowsHaveRoom (with_window v.windows s t x) →
+      WindowStandsFor x (session w s t) (with_one_unsent m.id bodies) →
+      Parts (record v { windows = with_window v.windows s t x }) w (with_one_unsent m.id bodies)
+  unsent_parts h live low x room stands = changed_parts sent_once_less
+      (record { id = λ f. refl; source = λ f. refl; fate = λ f. refl; call = λ f. refl }) h live low
+      w (session w s t) (nothing_only w s t) x room stands
 
 -- when a number's state changes, the same numbers hold a frame
 module _ (w : World) (s t k : ℕ) (state : State) (live : is_live w s ≡ true)

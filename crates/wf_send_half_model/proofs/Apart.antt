@@ -1,4 +1,5 @@
--- Proves that a pull or a leave of a station takes no frame from a queue that the station does not list.
+-- Proves that a pull, a leave or a flush of a station takes no frame from a queue that the station does not
+-- list.
 use Rattle.std.proofs.Common.{◌≡◌, refl, ap, sym, ◌∙◌, subst, arith, ℕ, zero, suc, ◌-◌, ◌<◌, ◌≤◌, ◌==◌, ◌||◌, Bool, true, false, if◌then◌else◌, List, [], ◌∷◌, length, Option, Some, None}
 use Rattle.wf_frame.specs.declared.classes.Class.{Class}
 use Rattle.wf_frame.specs.Classes.{all_classes}
@@ -8,9 +9,9 @@ use Rattle.wf_def_rotation.specs.Rotation.{Rotation, Picked, in_order, no_keys}
 use Rattle.wf_def_agreement.specs.Session.{request_due}
 use Rattle.wf_def_lists.specs.Lists.{on}
 use Rattle.wf_def_world.specs.World.{World, Queue, Mpdu, session, tid_of, with_queues}
-use Rattle.wf_def_world.specs.FlowQueues.{taken_from_picked, taken_by_codel, taken_for_tid, picked_queue, queue_need, has_frames, with_queues_paid, after_queue_left, after_queues_left}
+use Rattle.wf_def_world.specs.FlowQueues.{taken_from_picked, taken_by_codel, taken_for_tid, picked_queue, queue_need, has_frames, with_queues_paid, after_queue_left, after_queues_left, after_queue_flushed, after_queues_flushed}
 use Rattle.wf_def_world.specs.Exchanges.{Aggregate, Prepared, with_fresh, aggregate_of, prepared_data, prepared_exchange, with_number, most_frames, longest_fitting, waiting_mpdus, after_tid_turn, sending_tid}
-use Rattle.wf_def_world.specs.Step.{pull_outcome_for, in_rising_order, after_tid_left, after_tids_left, without_listings, leave_outcome}
+use Rattle.wf_def_world.specs.Step.{pull_outcome_for, in_rising_order, after_tid_left, after_tids_left, without_listings, leave_outcome, after_tid_flushed, flush_outcome}
 use Rattle.wf_law_rules.proofs.Lemmas.Numbers.{on_if, has_with}
 use Rattle.wf_law_rules.proofs.Lemmas.Counts.{on-nil, on-cons, on-cons_same, on-hasnot, hasnot-on}
 use Rattle.wf_law_rules.proofs.Lemmas.Rotations.{pick_on, IsWinner, pick_winner}
@@ -176,3 +177,23 @@ module _ (T : ℕ → Type 0) (n q s : ℕ) where
       same_shelves _ _ (shelves_off_lists all_classes a s) (apart_all_left (upto 8) w all h) in
       subst (λ (b : Shelves). n ≤ length (b.queues q).items)
       (sym (shelves_with_station (without_listings a s all_classes) s None)) k.long
+
+  -- ---- a flush
+
+  apart_queues_flushed : (qs : List ℕ) (w : World) → on qs q ≡ 0 → IsApart T n q s (shelves w) →
+      IsApart T n q s (shelves (after_queues_flushed w qs))
+  unfolding after_queues_flushed after_queue_flushed
+  apart_queues_flushed [] w none h = h
+  apart_queues_flushed (p ∷ qs) w none h =
+      apart_queues_flushed qs _ (omega (arith, on-cons p q qs, none))
+      (same_shelves _ _ (shelves_finish_all _ _ _ ∙ shelves_on_queue w p _)
+      (another_queue (shelves w) p _ (λ same. let here : on (p ∷ qs) p ≡ 0 =
+      subst (λ (z : ℕ). on (p ∷ qs) z ≡ 0) (sym same) none in omega (arith, here, on-cons_same p qs)) h))
+
+  pub apart_flushed : (w : World) (t : ℕ) → T t → IsApart T n q s (shelves w) →
+      n ≤ length ((shelves (flush_outcome w s t).world).queues q).items
+  unfolding flush_outcome after_tid_flushed
+  apart_flushed w t i h =
+      (apart_queues_flushed (in_rising_order (in_order (tid_of w s t).queues)) _
+      (none_rising (in_order (tid_of w s t).queues) q (h.off t i))
+      (same_shelves _ _ (shelves_finish_all _ _ _ ∙ shelves_on_session w s t _) h)).long

@@ -66,7 +66,8 @@ module _ (v : TransmitValue) (w : World) (bodies : ℕ → FrameValue) (s : ℕ)
   params_read = ap params_at rate_read
 
 -- the member of a live station has its rate, its exponent, and its stated length of aggregates
-member_read : (k : Member) (m : Option Member) (o : Option Station) → AreBoth IsMember m o → is_some o ≡ true →
+member_read : (k : Member) (m : Option Member) (o : Option Station) → AreBoth IsMember m o →
+    is_some o ≡ true →
     m ≡ Some k → IsMember k (unwrap_or o no_station)
 member_read k None None h live e = absurd (cc live)
 member_read k None (Some x) h live e = absurd h
@@ -215,7 +216,8 @@ module _ (v : TransmitValue) (w : World) (bodies : ℕ → FrameValue) (c : Clas
       pub not_refused : (s : ℕ) → (picked_station w c).winner ≡ Some s → refusal w (Asked (Pull c l)) ≡ None
       not_refused s won = by_winner (Some s) won
 
-      idle_only : (o : Option ℕ) → (picked_station w c).winner ≡ o → refusal w (Asked (Pull c l)) ≡ Some Idle →
+      idle_only : (o : Option ℕ) → (picked_station w c).winner ≡ o →
+          refusal w (Asked (Pull c l)) ≡ Some Idle →
           o ≡ None
       idle_only None is idle = refl
       idle_only (Some s) is idle =

@@ -9,12 +9,13 @@ use Rattle.wf_frame.specs.declared.notes.Note.TheVariants.{Asked}
 use Rattle.wf_frame.specs.declared.notes.Ask.TheVariants.{Done}
 use Rattle.wf_frame.specs.Classes.{lower_tid, upper_tid, class_number, class_of}
 use Rattle.wf_def_lists.specs.Table.{at, change}
-use Rattle.wf_def_agreement.specs.Session.{Session}
+use Rattle.wf_def_agreement.specs.Session.{Session, End, after_end}
 use Rattle.wf_def_world.specs.World.{World, Station, Tid, Share, Exchange, Mpdu, Content, Frames, Request, no_tid, no_station, station, tid_of, is_live, owed, exchange, with_station, on_station, on_tid, on_session, on_share, with_fate, with_frame_finished, without_exchange}
 use Rattle.wf_def_world.specs.CanSend.{is_request, has_credit, may_receive, is_ready}
 use Rattle.wf_def_world.specs.Exchanges.{after_charge, with_failed_finished, with_settled, with_all_settled, after_done}
 use Rattle.wf_def_world.specs.Step.{outcome_of, outcome_where_open, station_of, done_outcome, step}
 use Rattle.wf_law_rules.proofs.Lemmas.Tables.{at_put_same, at_put_other}
+use Rattle.wf_law_runs.proofs.Common.Ends.{if_settled}
 use Rattle.wf_law_runs.proofs.Queues.Shelves.{Shelves, shelves_ended}
 use Rattle.wf_law_runs.proofs.Windows.Sides.{live_on}
 use Rattle.wf_law_runs.proofs.Deficits.Books.{books, core, same_number}
@@ -100,19 +101,19 @@ beyond_finish s t w fate id = record { tids = λ j _. refl; live = refl; receive
 
 -- ---- the end of an exchange
 
-beyond_settled : (w : World) (s t : ℕ) (acked : Bool) (m : Mpdu) → IsBeyond s t w (with_settled w s t acked m)
-unfolding with_settled with_failed_finished
-beyond_settled w s t acked m =
-    beyond_if acked s t w _ _ (beyond_then s t w _ _ (beyond_on_session w s t _) (beyond_finish s t _ _ _))
-    (let k = beyond_on_session w s t _ in beyond_if _ s t w _ _
-    (beyond_then s t w _ _ k (beyond_finish s t _ _ _)) k)
+beyond_settled : (w : World) (s t : ℕ) (end : End) (m : Mpdu) → IsBeyond s t w (with_settled w s t end m)
+unfolding with_failed_finished
+beyond_settled w s t end m = if_settled (IsBeyond s t w) w s t end m
+    (beyond_then s t w _ _ (beyond_on_session w s t _) (beyond_finish s t _ _ _))
+    (λ e. let k = beyond_on_session w s t (after_end w.config.attempts e m.number) in
+    beyond_if _ s t w _ _ (beyond_then s t w _ _ k (beyond_finish s t _ _ _)) k)
 
-beyond_all_settled : (ms : List Mpdu) (w : World) (s t : ℕ) (acked : ℕ → Bool) →
-    IsBeyond s t w (with_all_settled w s t acked ms)
+beyond_all_settled : (ms : List Mpdu) (w : World) (s t : ℕ) (ends : ℕ → End) →
+    IsBeyond s t w (with_all_settled w s t ends ms)
 unfolding with_all_settled
-beyond_all_settled [] w s t acked = beyond_here s t w
-beyond_all_settled (m ∷ ms) w s t acked = beyond_then s t w _ _ (beyond_settled w s t _ m)
-    (beyond_all_settled ms _ s t acked)
+beyond_all_settled [] w s t ends = beyond_here s t w
+beyond_all_settled (m ∷ ms) w s t ends = beyond_then s t w _ _ (beyond_settled w s t _ m)
+    (beyond_all_settled ms _ s t ends)
 
 beyond_after_done : (content : Content) (w : World) (x : Exchange) (heard : Bool) →
     IsBeyond x.station x.tid w (after_done w x heard content)

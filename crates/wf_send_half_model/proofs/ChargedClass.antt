@@ -3,7 +3,7 @@
 use Rattle.std.proofs.Common.{◌≡◌, refl, ap, sym, ◌∙◌, subst, arith, ℕ, ◌+◌, ◌==◌, Bool, true, false, not, ◌&&◌, if◌then◌else◌, List, [], ◌∷◌, ◌++◌, filter, map, Option, Some, None, inl, inr}
 use Rattle.std.proofs.lemmas.Bool.{cases_Bool, ne_eqb}
 use Rattle.wf_frame.specs.declared.classes.Class.{Class}
-use Rattle.wf_frame.specs.declared.notes.Ask.TheVariants.{Join, Leave, Rate, Tick, Pull, Arrive, Answer, Done, Sleep, Wake, Poll, Rx, Reap, Ampdu, Stop, Start}
+use Rattle.wf_frame.specs.declared.notes.Ask.TheVariants.{Join, Leave, Rate, Tick, Pull, Arrive, Answer, Done, Sleep, Wake, Poll, Rx, Reap, Ampdu, Stop, Start, Unsent, GiveUp, Flush}
 use Rattle.wf_frame.specs.declared.notes.Note.{Note}
 use Rattle.wf_frame.specs.declared.notes.Limits.{Limits}
 use Rattle.wf_law_runs.proofs.Common.Picked.{picked_world}
@@ -16,13 +16,13 @@ use Rattle.wf_def_world.specs.World.{World, Exchange, share, rotation, owed, exc
 use Rattle.wf_def_world.specs.CanSend.{can_send, is_to_list, with_listing_in, with_listings_in, with_listings_of}
 use Rattle.wf_def_world.specs.Exchanges.{Prepared, picked_station, after_pick, after_tid_turn, first_tid, other_tid, sending_tid, prepared_exchange, exchange_of}
 use Rattle.wf_def_world.specs.Refusals.{refusal}
-use Rattle.wf_def_world.specs.Step.{Outcome, outcome_of, after_refusal, judged_outcome, step, tick_outcome, pull_outcome_for, pull_outcome, outcome_where_open}
+use Rattle.wf_def_world.specs.Step.{Outcome, outcome_of, after_refusal, judged_outcome, step, tick_outcome, pull_outcome_for, pull_outcome, outcome_where_open, unsent_outcome, give_up_outcome}
 use Rattle.wf_def_world.specs.Run.{Entry, world_after}
 use Rattle.wf_law_rules.proofs.Lemmas.Numbers.{on_if}
 use Rattle.wf_law_runs.proofs.Deficits.Books.{Books, books, core}
-use Rattle.wf_law_runs.proofs.Deficits.BookSteps.{books_after_turn, books_prepared, books_sent, books_ended, books_gone, books_enqueued, books_received, books_reaped, books_slept, books_woken, books_credited, books_with_rate, books_joined, books_after_pick, books_stated, books_stopped, books_started}
+use Rattle.wf_law_runs.proofs.Deficits.BookSteps.{books_after_turn, books_prepared, books_sent, books_ended, books_gone, books_enqueued, books_received, books_reaped, books_slept, books_woken, books_credited, books_with_rate, books_joined, books_after_pick, books_stated, books_stopped, books_started, books_flushed}
 use Rattle.wf_law_runs.proofs.Deficits.Kept.{IsKept}
-use Rattle.wf_law_runs.proofs.Deficits.KeptStep.{IsFound, books_arrived, books_answered, kept_step, kept_opening}
+use Rattle.wf_law_runs.proofs.Deficits.KeptStep.{IsFound, books_arrived, books_answered, books_marked, kept_step, kept_opening}
 use Rattle.wf_law_runs.proofs.Deficits.Openings.{Every, every_append, every_filter}
 use Rattle.wf_send_half_model.specs.Standing.{IsReached}
 use Rattle.wf_send_half_model.proofs.OwnClass.{lower_class, upper_class}
@@ -97,7 +97,7 @@ own_open w e (Some x) f k i h = h x k
 
 own_done : (note : Note) (w : World) → IsKept (books w) → Own (books w) →
     Own (books (outcome_of w note).world)
-unfolding outcome_of tick_outcome
+unfolding outcome_of tick_outcome unsent_outcome give_up_outcome
 own_done (Enqueue s t flow len) w k i = own_is _ _ (books_enqueued w s t flow len) i
 own_done (Asked (Join s window start exponent weight)) w k i =
     own_is _ _ (books_joined w s window start exponent weight) i
@@ -116,6 +116,11 @@ own_done (Asked (Sleep s)) w k i = own_is _ _ (books_slept w s) i
 own_done (Asked (Ampdu s octets)) w k i = own_is _ _ (books_stated w s octets) i
 own_done (Asked (Stop s)) w k i = own_is _ _ (books_stopped w s) i
 own_done (Asked (Start s)) w k i = own_is _ _ (books_started w s) i
+own_done (Asked (Unsent e j)) w k i = own_open w e (exchange w e) _ refl i
+    (λ x f. own_is _ _ (books_marked w e x _ _ k f) i)
+own_done (Asked (GiveUp e j)) w k i = own_open w e (exchange w e) _ refl i
+    (λ x f. own_is _ _ (books_marked w e x _ _ k f) i)
+own_done (Asked (Flush s t)) w k i = own_is _ _ (books_flushed w s t) i
 own_done (Asked (Wake s)) w k i = own_is _ _ (books_woken w s) i
 own_done (Asked (Poll s)) w k i = own_is _ _ (books_credited w s) i
 own_done (Asked (Rx s c air)) w k i = own_is _ _ (books_received w s c air) i

@@ -1,6 +1,6 @@
 -- Proves in which classes a call may make its station a debtor: a pull and a Done only in the class of the
--- exchange, a receive charge only in its own class, and an enqueue in none. By the books, which have the
--- deficits and the open exchanges.
+-- exchange, a receive charge only in its own class, and an enqueue and a mark of a device in none. By the
+-- books, which have the deficits and the open exchanges.
 use Rattle.std.proofs.Common.{◌≡◌, refl, ap, sym, ◌∙◌, ℕ, ◌+◌, ◌*◌, ◌==◌, ◌-ℤ◌, pos, Bool, true, false, ◌&&◌, if◌then◌else◌, List, [], ◌∷◌, ◌++◌, map, Option, Some, None, is_some, option_map, unwrap_or}
 use Rattle.std.specs.Prelude.{int_le}
 use Rattle.wf_frame.specs.declared.settings.Config.{Config}
@@ -18,9 +18,10 @@ use Rattle.wf_def_world.specs.Step.{outcome_of, enqueue_outcome, pull_outcome_fo
 use Rattle.wf_def_lists.specs.Lists.{on}
 use Rattle.wf_law_runs.proofs.Deficits.Books.{Account, account, core, Books, books, on_part, same_number, upd_same, updc_other}
 use Rattle.wf_law_runs.proofs.Deficits.BookSteps.{without, after, paid, pay_share, charge_share, receive_share, books_without, books_after_turn, books_prepared, books_sent, books_ended, books_enqueued, books_received, books_after_pick}
+use Rattle.wf_law_runs.proofs.Common.Marks.{marked_world}
 use Rattle.wf_law_runs.proofs.Common.Picked.{picked_world}
 use Rattle.wf_law_runs.proofs.Deficits.Kept.{IsKept}
-use Rattle.wf_law_runs.proofs.Deficits.KeptStep.{IsFound}
+use Rattle.wf_law_runs.proofs.Deficits.KeptStep.{IsFound, books_marked}
 use Rattle.wf_send_half_model.proofs.ChargedClass.{HaveOwnClass, owed_append}
 use Rattle.wf_send_half_model.proofs.Beyond.{own_charge, owed_elsewhere}
 
@@ -151,4 +152,12 @@ debtor_received w s c air d other =
     (upd_same (books w).accounts s changed)
     ∙ other_share w.config ((books w).accounts s) (books w).opened s c d (receive_share air)
     (λ e. other (same_number d c e))
+    ∙ sym (debtor_is w d s)
+
+pub debtor_marked : (w : World) (e : ℕ) (x : Exchange) (unsent given_up : List ℕ) → IsKept (books w) →
+    IsFound w e x → (d : Class) (s : ℕ) →
+    is_debtor (marked_world w x unsent given_up) d s ≡ is_debtor w d s
+debtor_marked w e x unsent given_up kept found d s =
+    debtor_is (marked_world w x unsent given_up) d s
+    ∙ ap (λ (b : Books). debts b d s) (books_marked w e x unsent given_up kept found)
     ∙ sym (debtor_is w d s)

@@ -1,15 +1,17 @@
 -- Proves two stages of a leave: one more frame is finished, and the queues of a TID are purged.
-use Rattle.std.proofs.Common.{◌≡◌, ◌≢◌, refl, ap, ap₂, sym, ◌∙◌, subst, arith, ℕ, suc, ◌+◌, ◌<◌, Bool, true, List, [], ◌∷◌, ◌++◌, length, map, length-append, length-set, inl, inr}
+use Rattle.std.proofs.Common.{◌≡◌, ◌≢◌, refl, ap, ap₂, sym, ◌∙◌, subst, arith, ℕ, suc, ◌+◌, ◌*◌, ◌<◌, Bool, true, List, [], ◌∷◌, ◌++◌, length, map, length-append, length-set, add-zero, mul-zero, mul-one, inl, inr}
 use Rattle.std.specs.Prelude.{count_by}
 use Rattle.std.proofs.Math.Path.{fun_ext}
 use Rattle.std.proofs.lemmas.Bool.{cases_eq}
 use Rattle.std.proofs.lemmas.List.{length-map}
 use Rattle.std.proofs.lemmas.List.Sums.{sum_by-set}
-use Rattle.wf_frame.specs.declared.classes.Cause.TheVariants.{Overlimit, Codel, Retries, Left}
+use Rattle.wf_frame.specs.declared.classes.Cause.{Cause}
+use Rattle.wf_frame.specs.declared.classes.Cause.TheVariants.{Overlimit, Codel, Retries, Left, Flushed}
 use Rattle.wf_frame.specs.declared.classes.Fate.{Fate}
 use Rattle.wf_frame.specs.declared.classes.Fate.TheVariants.{Held, Acked, Dropped}
 use Rattle.wf_frame.specs.declared.notes.Note.{Note}
 use Rattle.wf_frame.specs.Frames.{FrameValue}
+use Rattle.wf_def_codel.specs.Codel.{Codel as CodelState}
 use Rattle.wf_def_lists.specs.Lists.{on}
 use Rattle.wf_def_lists.specs.Table.{has, upto}
 use Rattle.wf_law_rules.proofs.Lemmas.Counts.{on-append, on-cons_same}
@@ -19,10 +21,10 @@ use Rattle.wf_def_world.specs.Step.{waiting_ids, after_tid_left}
 use Rattle.wf_def_world.specs.Text.{same_fate, tally}
 use Rattle.wf_law_runs.proofs.Deficits.Books.{upd_other}
 use Rattle.wf_send_parts.specs.Tally.{Counts, settled_as, many_settled_as}
-use Rattle.wf_queue_flows.specs.Backlog.{BacklogValue, frames_at, frame_with_fate, after_flush, held_in_backlog}
+use Rattle.wf_queue_flows.specs.Backlog.{BacklogValue, frames_at, frame_with_fate, after_emptying, renewed, held_in_backlog}
 use Rattle.wf_frame.specs.Classes.{tid_number}
-use Rattle.wf_queue_flows.specs.Flows.{FlowsValue, SettingsValue, queues as queue_count, is_listed, queues_of, all_flushed, frames_of_tid, tid_rotation, after_purge}
-use Rattle.wf_queue_flows_refines.specs.Frames.{HaveSettled, QueuedAreHeld, IsBodySettled, notes}
+use Rattle.wf_queue_flows.specs.Flows.{FlowsValue, SettingsValue, queues as queue_count, is_listed, queues_of, all_emptied, frames_of_tid, tid_rotation, after_purge}
+use Rattle.wf_queue_flows_refines.specs.Frames.{HaveSettled, QueuedAreHeld, IsBodySettled, counts_as, notes}
 use Rattle.wf_queue_flows_refines.specs.Standing.{Part, flows_part, times_held, with_finished, FlowsStandFor as FlowsStandFor}
 use Rattle.wf_queue_flows_refines.specs.Rest.{Rest, rest_of_world}
 use Rattle.wf_queue_flows_refines.proofs.Bodies.{frames_purged}
@@ -136,40 +138,70 @@ held_alike (Dropped cause) = refl
 pub held_counted : (w : World) → count_by (λ f. is_held f.fate) w.frames ≡ tally w Held
 held_counted w = ap (λ (p : Frame → Bool). count_by p w.frames) (fun_ext (λ (f : Frame). held_alike f.fate))
 
-pub ledger_left : (w u : World) (n : ℕ) → HaveSettled w u (Dropped Left) n →
+-- the counts with n more frames dropped for this cause
+abbrev with_dropped : Cause → ℕ → Counts → Counts
+with_dropped cause n c = record c {
+  acked = c.acked + n * counts_as (Dropped cause) Acked;
+  overlimit = c.overlimit + n * counts_as (Dropped cause) (Dropped Overlimit);
+  codel = c.codel + n * counts_as (Dropped cause) (Dropped Codel);
+  retries = c.retries + n * counts_as (Dropped cause) (Dropped Retries);
+  left = c.left + n * counts_as (Dropped cause) (Dropped Left);
+  flushed = c.flushed + n * counts_as (Dropped cause) (Dropped Flushed);
+}
+
+dropped_is : (cause : Cause) (n : ℕ) (c : Counts) →
+    with_dropped cause n c ≡ many_settled_as (Dropped cause) n c
+dropped_is Overlimit n c = simp (add-zero, mul-zero, mul-one)
+dropped_is Codel n c = simp (add-zero, mul-zero, mul-one)
+dropped_is Retries n c = simp (add-zero, mul-zero, mul-one)
+dropped_is Left n c = simp (add-zero, mul-zero, mul-one)
+dropped_is Flushed n c = simp (add-zero, mul-zero, mul-one)
+
+pub ledger_dropped : (cause : Cause) (w u : World) (n : ℕ) → HaveSettled w u (Dropped cause) n →
     accepted_count u ≡ accepted_count w → notes u ≡ notes w → length u.finished ≡ length w.finished + n →
-    ledger u ≡ record (ledger w) { counts = many_settled_as (Dropped Left) n (counts_in w) }
-ledger_left w u n settled accepted same grown =
-    let counts : counts_in u ≡ many_settled_as (Dropped Left) n (counts_in w) =
-    counts_by (counts_in u) (many_settled_as (Dropped Left) n (counts_in w)) accepted
-    (omega (arith, settled Acked)) (omega (arith, settled (Dropped Overlimit)))
-    (omega (arith, settled (Dropped Codel))) (omega (arith, settled (Dropped Retries)))
-    (omega (arith, settled (Dropped Left))) in
-    let in_all : inside u ≡ inside w = omega (arith, held_counted u, held_counted w, settled Held, grown) in
+    ledger u ≡ record (ledger w) { counts = many_settled_as (Dropped cause) n (counts_in w) }
+ledger_dropped cause w u n settled accepted same grown =
+    let counts : counts_in u ≡ many_settled_as (Dropped cause) n (counts_in w) =
+    counts_by (counts_in u) (with_dropped cause n (counts_in w)) accepted (settled_to Acked refl)
+    (settled_to (Dropped Overlimit) refl) (settled_to (Dropped Codel) refl)
+    (settled_to (Dropped Retries) refl) (settled_to (Dropped Left) refl)
+    (settled_to (Dropped Flushed) refl) ∙ dropped_is cause n (counts_in w) in
+    let in_all : inside u ≡ inside w = omega (arith, held_counted u, held_counted w, held_less, grown) in
     ap₂ (λ (i m : ℕ). record (ledger u) { inside = i; accepted = m }) in_all accepted
     ∙ ap₂ (λ (c : Counts) (f : ℕ → Note). record (ledger w) { counts = c; notes = f }) counts same
+  where
+    nothing : n * 0 ≡ 0
+    nothing = omega arith
+
+    settled_to : (x : Fate) → counts_as Held x ≡ 0 → tally u x ≡ tally w x + n * counts_as (Dropped cause) x
+    settled_to x other = omega (arith, settled x, ap (λ (k : ℕ). n * k) other, nothing)
+
+    held_less : tally u Held + n ≡ tally w Held
+    held_less = let one : n * 1 ≡ n = omega arith in omega (arith, settled Held, one, nothing)
 
 -- ---- the queues of a TID
 
-held_flushed : (b : BacklogValue) (qs : List ℕ) → ((q : ℕ) → has qs q ≡ true → q < length b.queues) →
-    held_in_backlog (all_flushed b qs) ≡ held_in_backlog b
-unfolding all_flushed
-held_flushed b [] low = refl
-held_flushed b (q ∷ qs) low =
+held_emptied : (cause : Cause) (codel : CodelState → CodelState) (b : BacklogValue) (qs : List ℕ) →
+    ((q : ℕ) → has qs q ≡ true → q < length b.queues) →
+    held_in_backlog (all_emptied cause codel b qs) ≡ held_in_backlog b
+unfolding all_emptied
+held_emptied cause codel b [] low = refl
+held_emptied cause codel b (q ∷ qs) low =
     let one = sum_by-set length b.queues q [] [] (low q (has_head q qs)) in
-    let sized : length (after_flush b q).queues ≡ length b.queues = length-set b.queues q [] in
-    held_flushed (after_flush b q) qs (λ k h. omega (arith, low k (has_tail q qs k h), sized))
+    let after : BacklogValue = after_emptying cause codel b q in
+    let sized : length after.queues ≡ length b.queues = length-set b.queues q [] in
+    held_emptied cause codel after qs (λ k h. omega (arith, low k (has_tail q qs k h), sized))
     ∙ omega (
       arith,
       one,
-      length-append b.finished (map (frame_with_fate (Dropped Left)) (frames_at b q)),
-      length-map (frames_at b q) (frame_with_fate (Dropped Left)),
+      length-append b.finished (map (frame_with_fate (Dropped cause)) (frames_at b q)),
+      length-map (frames_at b q) (frame_with_fate (Dropped cause)),
     )
 
 held_purged : (v : FlowsValue) (w : World) (i : ℕ) → FlowsStandFor v w →
     held_in_backlog (after_purge v i).backlog ≡ held_in_backlog v.backlog
 unfolding after_purge
-held_purged v w i st = held_flushed v.backlog (queues_of v i)
+held_purged v w i st = held_emptied Left renewed v.backlog (queues_of v i)
     (λ q h. omega (
       arith,
       count_below (queue_count v) 0 q
@@ -232,7 +264,7 @@ module _ (before : TransmitValue) (w : World) (bodies : ℕ → FrameValue) (s t
     settled = settled_left v.flows x s t count stands h.queued low_station low (omega (arith, world_grown))
 
     book : ledger gone ≡ record (ledger now) { counts = many_settled_as (Dropped Left) count (counts_in now) }
-    book = ledger_left now gone count settled (accepted_left v.flows x s t stands low_station low)
+    book = ledger_dropped Left now gone count settled (accepted_left v.flows x s t stands low_station low)
         (notes_left x s t ∙ sym (notes_finish_all (waiting_ids (session x s t).slots) x (Dropped Left)))
         world_grown
 

@@ -8,7 +8,7 @@ use Rattle.wf_frame.specs.declared.classes.Fate.TheVariants.{Held}
 use Rattle.wf_frame.specs.declared.settings.Config.{Config}
 use Rattle.wf_frame.specs.Frames.{FrameValue}
 use Rattle.wf_def_lists.specs.Lists.{IsOnce, on}
-use Rattle.wf_def_agreement.specs.Session.{Session, State, slot, is_settled}
+use Rattle.wf_def_agreement.specs.Session.{Session, State, End, slot, is_settled}
 use Rattle.wf_def_codel.specs.Codel.{Item}
 use Rattle.wf_def_lists.specs.Table.{at, has}
 use Rattle.wf_law_rules.proofs.Lemmas.Counts.{on-append, on-has}
@@ -86,7 +86,7 @@ both_mpdus P Q R [] h k f = tt
 both_mpdus P Q R (m ∷ ms) h k f = (f m h.0 k.0, both_mpdus P Q R ms h.1 k.1 f)
 
 -- each number is at or past the first one
-from_first : (lo : ℕ) (ms : List Mpdu) → NumbersRise lo ms → EachMpdu (λ m. lo ≤ m.number) ms
+pub from_first : (lo : ℕ) (ms : List Mpdu) → NumbersRise lo ms → EachMpdu (λ m. lo ≤ m.number) ms
 from_first lo [] h = tt
 from_first lo (m ∷ ms) h = (h.0, higher ms (from_first (suc m.number) ms h.1))
   where
@@ -246,30 +246,33 @@ closed_parts v w bodies x air known rises low h =
     (without_exchange w x.number) bodies x air (subst (λ (c : Config). x.station < c.stations)
     (sym (closed_config w x)) low) (close_parts v w bodies x known rises h)
 
+-- what an open exchange of a run sends
+pub open_sent : (w : World) → IsReached w → (e : ℕ) (x : Exchange) → exchange w e ≡ Some x → IsSent w x
+open_sent w r e x known = found (IsSent w) w.opened e x known
+    (by_law (λ u. EachOpen (IsSent u) u.opened) w r (λ m. (sent_law w.config r.history m).opened))
+
 -- each transmission of an exchange of data
 module _ (v : TransmitValue) (w : World) (bodies : ℕ → FrameValue) (h : StandsFor v w bodies) (e : ℕ)
     (x : Exchange) (known : exchange w e ≡ Some x) where
   of_sent : IsSent w x
-  of_sent = found (IsSent w) w.opened e x known
-      (by_law (λ u. EachOpen (IsSent u) u.opened) w h.reached
-      (λ m. (sent_law w.config h.reached.history m).opened))
+  of_sent = open_sent w h.reached e x known
 
   pub of_windows : IsOpenRight (session w x.station x.tid) (receiver w x.station x.tid) x
   of_windows = found (λ y. IsOpenRight (session w y.station y.tid) (receiver w y.station y.tid) y) w.opened e
       x known (by_law KeepsWindows w h.reached (window_law w.config h.reached.history)).opened
 
-  flown : EachMpdu (λ m. ((session w x.station x.tid).first ≤ m.number) ×
+  pub flown_each : EachMpdu (λ m. ((session w x.station x.tid).first ≤ m.number) ×
       ((slot (session w x.station x.tid) m.number).state ≡ State.Flying x.number)) (mpdus_of x.content)
-  flown = both_mpdus (λ m. (session w x.station x.tid).first ≤ m.number)
+  flown_each = both_mpdus (λ m. (session w x.station x.tid).first ≤ m.number)
       (λ m. (slot (session w x.station x.tid) m.number).state ≡ State.Flying x.number) _ (mpdus_of x.content)
       (from_first (session w x.station x.tid).first (mpdus_of x.content) of_sent.rising) of_windows.flies
       (λ m a b. (a, b))
 
-  numbered : EachMpdu (λ m. IsNumbered w m.id x.station x.tid m.number) (mpdus_of x.content)
-  numbered = both_mpdus (λ m. ((session w x.station x.tid).first ≤ m.number) ×
+  pub numbered_each : EachMpdu (λ m. IsNumbered w m.id x.station x.tid m.number) (mpdus_of x.content)
+  numbered_each = both_mpdus (λ m. ((session w x.station x.tid).first ≤ m.number) ×
       ((slot (session w x.station x.tid) m.number).state ≡ State.Flying x.number))
       (λ m. (slot (session w x.station x.tid) m.number).id ≡ m.id)
-      (λ m. IsNumbered w m.id x.station x.tid m.number) (mpdus_of x.content) flown of_sent.ids
+      (λ m. IsNumbered w m.id x.station x.tid m.number) (mpdus_of x.content) flown_each of_sent.ids
       (λ m a b. flown_number w h.reached x.station x.tid m x.number a.0 a.1 b)
 
   -- if a transmission has a number, the exchange's TID is below 8
@@ -287,15 +290,15 @@ module _ (v : TransmitValue) (w : World) (bodies : ℕ → FrameValue) (h : Stan
   closed : Option ℕ → World
   closed air = after_charge (without_exchange w x.number) x air
 
-  pub begins : (acked : ℕ → Bool) (m : Mpdu) (ms : List Mpdu) → mpdus_of x.content ≡ m ∷ ms →
+  pub begins : (ends : ℕ → End) (m : Mpdu) (ms : List Mpdu) → mpdus_of x.content ≡ m ∷ ms →
       EachMpdu (λ k. (slot (session w x.station x.tid) k.number).attempts < w.config.attempts) (m ∷ ms) →
       (air : Option ℕ) →
       IsEnding (after_close v (open_of x) (charge_of air x))
       (after_charge (without_exchange w x.number) x air)
-      bodies x.station x.tid x.number acked (m ∷ ms) (with_all_settled
-      (after_charge (without_exchange w x.number) x air) x.station x.tid acked (m ∷ ms))
+      bodies x.station x.tid x.number ends (m ∷ ms) (with_all_settled
+      (after_charge (without_exchange w x.number) x air) x.station x.tid ends (m ∷ ms))
   unfolding closed
-  begins acked m ms is tried air =
+  begins ends m ms is tried air =
       let y : Session = session w x.station x.tid in
       let a : agreements (closed air) ≡ agreements w = closed_agreements w x air in
       let p : flows_part (closed air) ≡ flows_part w = closed_part w x air in
@@ -304,12 +307,12 @@ module _ (v : TransmitValue) (w : World) (bodies : ℕ → FrameValue) (h : Stan
       let config : (closed air).config ≡ w.config = ap (λ (z : Agreements). z.config) a in
       let live : is_live w x.station ≡ true = open_live w h.reached e x known in
       let each : EachMpdu (λ k. IsNumbered w k.id x.station x.tid k.number) (m ∷ ms) =
-      subst (EachMpdu (λ k. IsNumbered w k.id x.station x.tid k.number)) is numbered in
+      subst (EachMpdu (λ k. IsNumbered w k.id x.station x.tid k.number)) is numbered_each in
       let fly : EachMpdu (λ k. (y.first ≤ k.number) × ((slot y k.number).state ≡ State.Flying x.number))
       (m ∷ ms) = subst (EachMpdu (λ k. (y.first ≤ k.number) ×
-      ((slot y k.number).state ≡ State.Flying x.number))) is flown in
+      ((slot y k.number).state ≡ State.Flying x.number))) is flown_each in
       let rising : NumbersRise y.first (m ∷ ms) = subst (NumbersRise y.first) is of_sent.rising in
-      let ending : Ending = ending_of w.config x.number acked in
+      let ending : Ending = ending_of w.config x.number ends in
       let flying : AreFlying y ending (map (λ k. k.number) (m ∷ ms)) = record {
         each = of_number (IsFlyingIn y ending) (m ∷ ms)
             (both_mpdus (λ k. (y.first ≤ k.number) × ((slot y k.number).state ≡ State.Flying x.number))
@@ -324,7 +327,7 @@ module _ (v : TransmitValue) (w : World) (bodies : ℕ → FrameValue) (h : Stan
         live = ap (λ (z : Agreements). z.live x.station) a ∙ live;
         tid = tid_below m each.0;
         flying = subst (λ (c : Config). AreFlying (session (closed air) x.station x.tid)
-            (ending_of c x.number acked) (map (λ k. k.number) (m ∷ ms))) (sym config)
+            (ending_of c x.number ends) (map (λ k. k.number) (m ∷ ms))) (sym config)
             (subst (λ (z : Session). AreFlying z ending (map (λ k. k.number) (m ∷ ms))) (sym same) flying);
         ids = subst (λ (z : Session). EachMpdu (λ k. (slot z k.number).id ≡ k.id) (m ∷ ms)) (sym same)
             (subst (EachMpdu (λ k. (slot y k.number).id ≡ k.id)) is of_sent.ids);

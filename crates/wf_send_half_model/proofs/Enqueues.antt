@@ -5,7 +5,7 @@ use Rattle.std.specs.Prelude.{nat_lt, count_by}
 use Rattle.std.proofs.lemmas.List.Sums.{sum_by-append}
 use Rattle.std.proofs.lemmas.Bool.{leb-false}
 use Rattle.std.proofs.lemmas.Bool.Decides.{nat_tests}
-use Rattle.wf_frame.specs.declared.classes.Cause.TheVariants.{Overlimit, Codel, Retries, Left}
+use Rattle.wf_frame.specs.declared.classes.Cause.TheVariants.{Overlimit, Codel, Retries, Left, Flushed}
 use Rattle.wf_frame.specs.declared.classes.Fate.{Fate}
 use Rattle.wf_frame.specs.declared.classes.Fate.TheVariants.{Held, Acked, Dropped}
 use Rattle.wf_frame.specs.declared.notes.Note.{Note}
@@ -85,6 +85,7 @@ module _ (w : World) (note : Note) where
       (counted (λ f. same_fate f (Dropped Codel)) ∙ add-zero _)
       (counted (λ f. same_fate f (Dropped Retries)) ∙ add-zero _)
       (counted (λ f. same_fate f (Dropped Left)) ∙ add-zero _)
+      (counted (λ f. same_fate f (Dropped Flushed)) ∙ add-zero _)
 
 accepted_later : (o : Option ℕ) (c : Counts) →
     one_accepted (with_overlimit o c) ≡ with_overlimit o (one_accepted c)

@@ -488,10 +488,12 @@ module _ (v : TransmitValue) (w : World) (bodies : ℕ → FrameValue) (s t : �
   abbrev longer : ℕ → List ℕ
   longer len = lens_of w.config.overhead mpdus ++ (len + v.config.overhead) ∷ []
 
-  adds_same : (m : Mpdu) → fits room.rate room.limits.octets room.limits.frames room.limits.time (longer m.len)
+  adds_same : (m : Mpdu) → fits room.rate room.limits.octets room.limits.frames room.limits.time
+      (longer m.len)
       ≡ fits_in w s (mpdus ++ m ∷ [])
   adds_same m =
-      ap (λ (r : AggregateSizeValue). fits r.rate r.limits.octets r.limits.frames r.limits.time (longer m.len))
+      ap (λ (r : AggregateSizeValue). fits r.rate r.limits.octets r.limits.frames r.limits.time
+      (longer m.len))
       left.room_is.settings
       ∙ ap (fits (station w s).rate
       (most_octets (station w s).rate (station w s).exponent (station w s).ampdu) (most_frames w s)
@@ -526,7 +528,8 @@ module _ (v : TransmitValue) (w : World) (bodies : ℕ → FrameValue) (s t : �
       fewer_than = omega (arith, few, frames_are, count_is)
 
       pub fresh_goes_on : (more : AggregateSizeValue) →
-          fits room.rate room.limits.octets room.limits.frames room.limits.time (longer (length f.body)) ≡ true →
+          fits room.rate room.limits.octets room.limits.frames room.limits.time (longer
+          (length f.body)) ≡ true →
           more ≡ record room { count = more.count; octets = more.octets } →
           SizeStandsFor more (longer (length f.body)) →
           IsFilling (after_giving v s t params x) (with_one_fresh w s t) bodies s t more

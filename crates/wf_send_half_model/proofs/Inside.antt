@@ -139,6 +139,8 @@ asked_accepts (reply.Charged deficit) ask = refl
 asked_accepts (reply.Reaped id fate) ask = refl
 asked_accepts reply.Stopped ask = refl
 asked_accepts reply.Started ask = refl
+asked_accepts reply.Marked ask = refl
+asked_accepts (reply.Flushed dropped) ask = refl
 asked_accepts (reply.Refused reason) ask = refl
 
 accepts_is : (w : World) (note : Note) → (if is_none (refusal w note) then brought note else 0)
@@ -248,6 +250,8 @@ module _ (gone : List ℕ) (w : World) (keeps : KeepsFinished gone w) (id : ℕ)
   by_reply (reply.Reaped out fate) note m more next = goes out m (omega (arith, more))
   by_reply reply.Stopped note m more next = stays m (omega (arith, more))
   by_reply reply.Started note m more next = stays m (omega (arith, more))
+  by_reply reply.Marked note m more next = stays m (omega (arith, more))
+  by_reply (reply.Flushed dropped) note m more next = stays m (omega (arith, more))
   by_reply (reply.Refused reason) note m more next = stays m (omega (arith, more))
 
 module _ (c : Config) (h : List Entry) (note : Note) where

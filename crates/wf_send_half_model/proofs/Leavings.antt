@@ -8,6 +8,7 @@ use Rattle.std.proofs.lemmas.List.{append-nil, length-map, map-append, set-set, 
 use Rattle.std.proofs.lemmas.List.Elements.{All-cons, All-head, All-nil, All-tail}
 use Rattle.std.proofs.lemmas.List.Sums.{sum_by-cons}
 use Rattle.std.proofs.lemmas.Bool.Decides.{nat_tests}
+use Rattle.wf_frame.specs.declared.classes.Cause.{Cause}
 use Rattle.wf_frame.specs.declared.classes.Cause.TheVariants.{Left}
 use Rattle.wf_frame.specs.declared.classes.Fate.TheVariants.{Held, Dropped}
 use Rattle.wf_frame.specs.declared.notes.Ask.TheVariants.{Leave}
@@ -41,7 +42,7 @@ use Rattle.wf_queue_flows_refines.proofs.Heads.{queued_is_held}
 use Rattle.wf_queue_flows_refines.proofs.Readers.{same_total}
 use Rattle.wf_sched_refines.specs.Standing.{SchedulerStandsFor as TurnsStandFor}
 use Rattle.wf_sched_refines.proofs.Unchanged.{left_tids_leave}
-use Rattle.wf_send_parts.specs.Expelling.{frame_left, frames_left, HasExpelled}
+use Rattle.wf_send_parts.specs.Expelling.{frame_dropped, frame_left, frames_left, HasExpelled}
 use Rattle.wf_send_parts.specs.Window.{WindowValue, WindowStandsFor as WindowStandsFor, is_flying, some_fly}
 use Rattle.wf_send_parts.proofs.Callers.{places_none}
 use Rattle.wf_send_parts.proofs.Counting.{some_flies}
@@ -63,7 +64,7 @@ use Rattle.wf_send_half_model.proofs.Dropping.{finished_known, finished_step, pu
 
 -- ---- facts that hold when a leave is allowed
 
-live_of : (b : Bool) → not b ≡ false → b ≡ true
+pub live_of : (b : Bool) → not b ≡ false → b ≡ true
 live_of true e = refl
 live_of false e = absurd (cc e)
 
@@ -236,7 +237,7 @@ module _ (before v : TransmitValue) (w : World) (bodies : ℕ → FrameValue) (s
 
 -- ---- one frame
 
-middle : (P : FrameValue → Type 0) (frames : List FrameValue) (f : FrameValue) (more : List FrameValue) →
+pub middle : (P : FrameValue → Type 0) (frames : List FrameValue) (f : FrameValue) (more : List FrameValue) →
     All P (frames ++ f ∷ more) → P f
 middle P [] f more h = All-head P f more h
 middle P (x ∷ frames) f more h = middle P frames f more (All-tail P x (frames ++ f ∷ more) h)
@@ -245,40 +246,42 @@ middle P (x ∷ frames) f more h = middle P frames f more (All-tail P x (frames 
 abbrev pub AreOwn : (ℕ → FrameValue) → List Slot → Type 0
 AreOwn bodies xs = (id : ℕ) → 0 < on (waiting_ids xs) id → ((bodies id).id ≡ id) × ((bodies id).fate ≡ Held)
 
-abbrev waiting_of : List Slot → List Slot
+abbrev pub waiting_of : List Slot → List Slot
 waiting_of xs = filter (λ x. is_waiting x.state) xs
 
-pub left_ids : (xs : List Slot) (bodies : ℕ → FrameValue) → AreOwn bodies xs →
-    ids (map (frame_left bodies) (waiting_of xs)) ≡ waiting_ids xs
-left_ids [] bodies own = refl
-left_ids (x ∷ xs) bodies own = go (is_waiting x.state) own (left_ids xs bodies)
+pub dropped_ids : (cause : Cause) (xs : List Slot) (bodies : ℕ → FrameValue) → AreOwn bodies xs →
+    ids (map (frame_dropped cause bodies) (waiting_of xs)) ≡ waiting_ids xs
+dropped_ids cause [] bodies own = refl
+dropped_ids cause (x ∷ xs) bodies own = go (is_waiting x.state) own (dropped_ids cause xs bodies)
   where
     go : (b : Bool) → ((id : ℕ) → 0 < on (if b then x.id ∷ waiting_ids xs else waiting_ids xs) id →
         ((bodies id).id ≡ id) × ((bodies id).fate ≡ Held)) →
-        (AreOwn bodies xs → ids (map (frame_left bodies) (waiting_of xs)) ≡ waiting_ids xs) →
-        ids (map (frame_left bodies) (if b then x ∷ waiting_of xs else waiting_of xs))
+        (AreOwn bodies xs → ids (map (frame_dropped cause bodies) (waiting_of xs)) ≡ waiting_ids xs) →
+        ids (map (frame_dropped cause bodies) (if b then x ∷ waiting_of xs else waiting_of xs))
         ≡ (if b then x.id ∷ waiting_ids xs else waiting_ids xs)
     go false own rest = rest own
     go true own rest =
-        ap (λ (k : ℕ). k ∷ ids (map (frame_left bodies) (waiting_of xs)))
+        ap (λ (k : ℕ). k ∷ ids (map (frame_dropped cause bodies) (waiting_of xs)))
         (own x.id (omega (arith, on-cons_same x.id (waiting_ids xs)))).0
         ∙ ap (λ (l : List ℕ). x.id ∷ l) (rest (λ id some.
         own id (omega (arith, some, on-first x.id id (waiting_ids xs)))))
 
-left_bodies : (xs : List Slot) (bodies : ℕ → FrameValue) → AreOwn bodies xs →
-    All (IsBodySettled bodies) (map (frame_left bodies) (waiting_of xs))
-left_bodies [] bodies own = All-nil (IsBodySettled bodies)
-left_bodies (x ∷ xs) bodies own = go (is_waiting x.state) own (left_bodies xs bodies)
+pub dropped_bodies : (cause : Cause) (xs : List Slot) (bodies : ℕ → FrameValue) → AreOwn bodies xs →
+    All (IsBodySettled bodies) (map (frame_dropped cause bodies) (waiting_of xs))
+dropped_bodies cause [] bodies own = All-nil (IsBodySettled bodies)
+dropped_bodies cause (x ∷ xs) bodies own = go (is_waiting x.state) own (dropped_bodies cause xs bodies)
   where
     go : (b : Bool) → ((id : ℕ) → 0 < on (if b then x.id ∷ waiting_ids xs else waiting_ids xs) id →
         ((bodies id).id ≡ id) × ((bodies id).fate ≡ Held)) →
-        (AreOwn bodies xs → All (IsBodySettled bodies) (map (frame_left bodies) (waiting_of xs))) →
-        All (IsBodySettled bodies) (map (frame_left bodies) (if b then x ∷ waiting_of xs else waiting_of xs))
+        (AreOwn bodies xs → All (IsBodySettled bodies) (map (frame_dropped cause bodies) (waiting_of xs))) →
+        All (IsBodySettled bodies) (map (frame_dropped cause bodies) (if b then x
+        ∷ waiting_of xs else waiting_of xs))
     go false own rest = rest own
     go true own rest =
         let mine = own x.id (omega (arith, on-cons_same x.id (waiting_ids xs))) in
-        All-cons (IsBodySettled bodies) (frame_left bodies x) (map (frame_left bodies) (waiting_of xs))
-        (settled_body bodies x.id (Dropped Left) mine.0 mine.1 refl)
+        All-cons (IsBodySettled bodies) (frame_dropped cause bodies x) (map (frame_dropped cause bodies)
+        (waiting_of xs))
+        (settled_body bodies x.id (Dropped cause) mine.0 mine.1 refl)
         (rest (λ id some. own id (omega (arith, some, on-first x.id id (waiting_ids xs)))))
 
 module _ (before v : TransmitValue) (w : World) (bodies : ℕ → FrameValue) (s t dropped : ℕ)
@@ -312,7 +315,7 @@ module _ (before v : TransmitValue) (w : World) (bodies : ℕ → FrameValue) (s
       ap (length {A = FrameValue}) (sym left.expelled.rest) ∙ length-append frames still in
       let same : length given ≡ length (waiting_ids slots) =
       sym (length-map given (λ (g : FrameValue). g.id))
-      ∙ ap (length {A = ℕ}) (left_ids slots bodies own) in
+      ∙ ap (length {A = ℕ}) (dropped_ids Left slots bodies own) in
       let taken : length (earlier ++ ids frames) ≡ length earlier + length frames =
       omega (arith, length-append earlier (ids frames), length-map frames (λ (g : FrameValue). g.id)) in
       let next : length (numbered_ids w s (upto (suc t))) ≡ length earlier + length (waiting_ids slots) =
@@ -356,7 +359,7 @@ module _ (before v : TransmitValue) (w : World) (bodies : ℕ → FrameValue) (s
 
     id_split : ids frames ++ f.id ∷ ids more ≡ waiting_ids slots
     id_split = sym (map-append (λ (g : FrameValue). g.id) frames (f ∷ more)) ∙ ap ids split
-        ∙ left_ids slots bodies own
+        ∙ dropped_ids Left slots bodies own
 
     times_here : on (waiting_ids slots) f.id ≡ on (ids frames) f.id + on (f.id ∷ ids more) f.id
     times_here = ap (λ (l : List ℕ). on l f.id) (sym id_split) ∙ on-append (ids frames) (f.id ∷ ids more) f.id
@@ -424,7 +427,7 @@ module _ (before v : TransmitValue) (w : World) (bodies : ℕ → FrameValue) (s
             let u : World = after_tids_left w s (upto t) in
             let known = known_at w places s f.id t place in
             let body : IsBodySettled bodies f = middle (IsBodySettled bodies) frames f more
-            (subst (All (IsBodySettled bodies)) (sym split) (left_bodies slots bodies own)) in
+            (subst (All (IsBodySettled bodies)) (sym split) (dropped_bodies Left slots bodies own)) in
             let one : HasDropped before w bodies s t after
             (with_frame_finished (with_frames_finished u (Dropped Left) (ids frames)) (Dropped Left) f.id)
             ((earlier ++ ids frames) ++ f.id ∷ []) (dropped + 1) =
@@ -520,7 +523,7 @@ module _ (before v : TransmitValue) (w : World) (bodies : ℕ → FrameValue) (s
       let earlier : List ℕ = numbered_ids w s (upto t) in
       let mine : List ℕ = waiting_ids (session w s t).slots in
       let own_ids : ids (frames_left bodies (session w s t)) ≡ mine =
-      left_ids (session w s t).slots bodies (own before v w bodies s t dropped
+      dropped_ids Left (session w s t).slots bodies (own before v w bodies s t dropped
       (frames_left bodies (session w s t)) it) in
       let sessions : session u s t ≡ session w s t = ap (λ (r : Rest). r.sessions s t) same in
       let as_mine : HasDropped before w bodies s t v (with_frames_finished u (Dropped Left) mine)

@@ -13,7 +13,10 @@ pub mod Ended
 pub mod Endings
 pub mod Enqueues
 pub mod Fills
+pub mod FitMarks
 pub mod Flies
+pub mod Flushed
+pub mod Flushing
 pub mod Frames
 pub mod Gives
 pub mod Gone
@@ -21,6 +24,7 @@ pub mod Inside
 mod Joins
 mod Known
 pub mod Leavings
+pub mod Marking
 mod Ledgers
 mod Listings
 pub mod Meets

@@ -109,7 +109,8 @@ bounded_parts v w bodies b h =
 pub pick_within_parts : (v : TransmitValue) (w : World) (bodies : ℕ → FrameValue) (c : Class)
     (turns : SchedValue) → HasPickedInClass w c v.sched turns → Parts v w bodies → (l : Limits) →
     Parts (record v { sched = turns }) (after_pick_within w c l) bodies
-pick_within_parts v w bodies c turns p h l = bounded_parts (record v { sched = turns }) (after_pick w c) bodies
+pick_within_parts v w bodies c turns p h l = bounded_parts (record v { sched = turns })
+    (after_pick w c) bodies
     (bounds_of w.config c l) (pick_parts v w bodies c turns p h)
 
 idle_picks : (w : World) (c : Class) (l : Limits) → (w.config.pending == 1) ≡ false →

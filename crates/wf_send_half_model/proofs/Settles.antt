@@ -7,7 +7,7 @@ use Rattle.wf_frame.specs.declared.classes.Fate.{Fate}
 use Rattle.wf_frame.specs.declared.classes.Fate.TheVariants.{Held, Acked as Is_acked, Dropped}
 use Rattle.wf_frame.specs.declared.settings.Config.{Config}
 use Rattle.wf_frame.specs.Frames.{FrameValue}
-use Rattle.wf_def_agreement.specs.Session.{Session, Slot, State, no_slot, slot, on_slot, is_failed, with_state, after_miss, slot_after_miss}
+use Rattle.wf_def_agreement.specs.Session.{Session, Slot, State, End, no_slot, slot, on_slot, is_failed, with_state, after_miss, after_end, slot_after_miss, slot_given_up}
 use Rattle.wf_def_lists.specs.Table.{at, has}
 use Rattle.wf_law_rules.proofs.Lemmas.Counts.{on-cons_other, on-nil}
 use Rattle.wf_law_rules.proofs.Lemmas.Tables.{at_put_same, each_put}
@@ -22,7 +22,7 @@ use Rattle.wf_queue_flows_refines.proofs.Holdings.{times_finish}
 use Rattle.wf_queue_flows_refines.proofs.Parts.{part_finish}
 use Rattle.wf_send_parts.specs.Answers.{settling_answer, with_fate}
 use Rattle.wf_send_parts.specs.declared.window.window.Settled.TheVariants.{Waiting, Failed}
-use Rattle.wf_send_parts.specs.Window.{WindowValue, WindowStandsFor as WindowStandsFor, session_settled}
+use Rattle.wf_send_parts.specs.Window.{WindowValue, WindowStandsFor as WindowStandsFor}
 use Rattle.wf_send_parts.specs.Ending.{AreFlying}
 use Rattle.wf_send_parts.specs.Windows.{WindowsHaveRoom, with_window}
 use Rattle.wf_send_parts.proofs.Ends.{still_fly}
@@ -177,59 +177,67 @@ module _ (v : TransmitValue) (w : World) (bodies : ℕ → FrameValue) (s t : �
 
   acked_step : WindowStandsFor x (with_state State.Acked m.number before) bodies →
       IsSettledOne m.id s t (with_state State.Acked m.number before) bodies v w
-      (after_answer moved (settling_answer true w.config.attempts bodies (slot before m.number)))
-      (with_settled w s t true m)
+      (after_answer moved (settling_answer End.Acknowledged w.config.attempts bodies (slot before m.number)))
+      (with_settled w s t End.Acknowledged m)
   unfolding with_settled
   acked_step stands = ends_one (with_state State.Acked m.number) stands Is_acked refl
 
-  -- the number's own slot after an attempt in vain
-  missed_slot : (y : Session) → y ≡ after_miss w.config.attempts m.number before →
-      is_failed (slot y m.number).state ≡ nat_le w.config.attempts ((slot before m.number).attempts + 1)
-  missed_slot y is =
-      ap (λ (z : Session). is_failed (slot z m.number).state) is
-      ∙ ap (λ (z : Slot). is_failed z.state) (at_put_same no_slot before.slots (m.number - before.first)
-      (slot_after_miss w.config.attempts (slot before m.number)))
+  -- the number fails, or waits again
+  left_step : (f : Session → Session) (failed : Bool) →
+      is_failed (slot (f before) m.number).state ≡ failed → WindowStandsFor x (f before) bodies →
+      IsSettledOne m.id s t (f before) bodies v w
+      (after_answer moved (if failed then Failed (with_fate (Dropped Retries)
+      (bodies (slot before m.number).id)) else Waiting)) (with_failed_finished (on_session w s t f) s t m)
+  unfolding with_failed_finished
+  left_step f failed is stands =
+      go (is_failed (slot (session (on_session w s t f) s t) m.number).state) failed
+      (ap (λ (y : Session). is_failed (slot y m.number).state) (session_is w s t f live) ∙ is)
+      (ends_one f stands (Dropped Retries) refl) (waits_one f stands)
+    where
+      go : (fails failed : Bool) → fails ≡ failed →
+          IsSettledOne m.id s t (f before) bodies v w
+          (after_finish moved (with_fate (Dropped Retries) (bodies (slot before m.number).id)))
+          (with_frame_finished (on_session w s t f) (Dropped Retries) m.id) →
+          IsSettledOne m.id s t (f before) bodies v w moved (on_session w s t f) →
+          IsSettledOne m.id s t (f before) bodies v w
+          (after_answer moved (if failed then Failed (with_fate (Dropped Retries)
+          (bodies (slot before m.number).id)) else Waiting))
+          (if fails then with_frame_finished (on_session w s t f) (Dropped Retries) m.id
+          else on_session w s t f)
+      go true true same ends waits = ends
+      go false false same ends waits = waits
+      go true false same ends waits = absurd (cc same)
+      go false true same ends waits = absurd (cc same)
+
+  -- the number's own slot after the end
+  own_slot : (g : Slot → Slot) → slot (on_slot m.number g before) m.number ≡ g (slot before m.number)
+  own_slot g = at_put_same no_slot before.slots (m.number - before.first) (g (slot before m.number))
+
+  missed_fails : is_failed (slot (after_miss w.config.attempts m.number before) m.number).state
+      ≡ nat_le w.config.attempts ((slot before m.number).attempts + 1)
+  missed_fails =
+      ap (λ (z : Slot). is_failed z.state) (own_slot (slot_after_miss w.config.attempts))
       ∙ by_limit (nat_le w.config.attempts ((slot before m.number).attempts + 1))
     where
       by_limit : (b : Bool) → is_failed (if b then State.Failed else State.Waiting) ≡ b
       by_limit true = refl
       by_limit false = refl
 
-  missed_step : WindowStandsFor x (after_miss w.config.attempts m.number before) bodies →
-      IsSettledOne m.id s t (after_miss w.config.attempts m.number before) bodies v w
-      (after_answer moved (settling_answer false w.config.attempts bodies (slot before m.number)))
-      (with_settled w s t false m)
-  unfolding with_settled with_failed_finished
-  missed_step stands =
-      let f : Session → Session = after_miss w.config.attempts m.number in
-      go (is_failed (slot (session (on_session w s t f) s t) m.number).state)
-      (nat_le w.config.attempts ((slot before m.number).attempts + 1))
-      (missed_slot (session (on_session w s t f) s t) (session_is w s t f live))
-      (ends_one f stands (Dropped Retries) refl) (waits_one f stands)
-    where
-      go : (failed limit : Bool) → failed ≡ limit →
-          IsSettledOne m.id s t (after_miss w.config.attempts m.number before) bodies v w
-          (after_finish moved (with_fate (Dropped Retries) (bodies (slot before m.number).id)))
-          (with_frame_finished (on_session w s t (after_miss w.config.attempts m.number))
-          (Dropped Retries) m.id) →
-          IsSettledOne m.id s t (after_miss w.config.attempts m.number before) bodies v w moved
-          (on_session w s t (after_miss w.config.attempts m.number)) →
-          IsSettledOne m.id s t (after_miss w.config.attempts m.number before) bodies v w
-          (after_answer moved (if limit then Failed (with_fate (Dropped Retries)
-          (bodies (slot before m.number).id)) else Waiting))
-          (if failed then with_frame_finished (on_session w s t (after_miss w.config.attempts m.number))
-          (Dropped Retries) m.id else on_session w s t (after_miss w.config.attempts m.number))
-      go true true same ends waits = ends
-      go false false same ends waits = waits
-      go true false same ends waits = absurd (cc same)
-      go false true same ends waits = absurd (cc same)
-
-  one_step : (b : Bool) → WindowStandsFor x (session_settled b w.config.attempts m.number before) bodies →
-      IsSettledOne m.id s t (session_settled b w.config.attempts m.number before) bodies v w
-      (after_answer moved (settling_answer b w.config.attempts bodies (slot before m.number)))
-      (with_settled w s t b m)
-  one_step true stands = acked_step stands
-  one_step false stands = missed_step stands
+  one_step : (end : End) → WindowStandsFor x (after_end w.config.attempts end m.number before) bodies →
+      IsSettledOne m.id s t (after_end w.config.attempts end m.number before) bodies v w
+      (after_answer moved (settling_answer end w.config.attempts bodies (slot before m.number)))
+      (with_settled w s t end m)
+  unfolding with_settled
+  one_step End.Acknowledged stands = acked_step stands
+  one_step End.Missed stands =
+      left_step (after_end w.config.attempts End.Missed m.number)
+      (nat_le w.config.attempts ((slot before m.number).attempts + 1)) missed_fails stands
+  one_step End.GivenUp stands =
+      left_step (after_end w.config.attempts End.GivenUp m.number) true
+      (ap (λ (z : Slot). is_failed z.state) (own_slot (slot_given_up w.config.attempts))) stands
+  one_step End.Unsent stands =
+      left_step (after_end w.config.attempts End.Unsent m.number) false
+      (ap (λ (z : Slot). is_failed z.state) (own_slot (λ z. record z { state = State.Waiting }))) stands
 
 -- ---- the numbers after it
 
@@ -238,10 +246,12 @@ kept_ids : (y : Session) (n k : ℕ) (f : Slot → Slot) → ((z : Slot) → (f 
 kept_ids y n k f keeps = each_put (λ i z. z.id ≡ (at no_slot y.slots i).id) no_slot y.slots (n - y.first)
     (f (slot y n)) (λ i. refl) (keeps (slot y n)) (k - y.first)
 
-settled_ids : (b : Bool) (limit n k : ℕ) (y : Session) →
-    (slot (session_settled b limit n y) k).id ≡ (slot y k).id
-settled_ids true limit n k y = kept_ids y n k (λ z. record z { state = State.Acked }) (λ z. refl)
-settled_ids false limit n k y = kept_ids y n k (slot_after_miss limit) (λ z. refl)
+settled_ids : (end : End) (limit n k : ℕ) (y : Session) →
+    (slot (after_end limit end n y) k).id ≡ (slot y k).id
+settled_ids End.Acknowledged limit n k y = kept_ids y n k (λ z. record z { state = State.Acked }) (λ z. refl)
+settled_ids End.Missed limit n k y = kept_ids y n k (slot_after_miss limit) (λ z. refl)
+settled_ids End.GivenUp limit n k y = kept_ids y n k (slot_given_up limit) (λ z. refl)
+settled_ids End.Unsent limit n k y = kept_ids y n k (λ z. record z { state = State.Waiting }) (λ z. refl)
 
 each_mapped : (P Q : Mpdu → Type 0) (ms : List Mpdu) → ((m : Mpdu) → P m → Q m) → EachMpdu P ms →
     EachMpdu Q ms
@@ -263,55 +273,55 @@ each_but P Q k (m ∷ ms) out f h = (
     behind true e = absurd (cc e)
     behind false e = e
 
-pub ending_next_one : (v : TransmitValue) (w : World) (bodies : ℕ → FrameValue) (s t e : ℕ) (acked : ℕ → Bool)
+pub ending_next_one : (v : TransmitValue) (w : World) (bodies : ℕ → FrameValue) (s t e : ℕ) (ends : ℕ → End)
     (m : Mpdu) (ms : List Mpdu) (after : World) (x : WindowValue) →
-    IsEnding v w bodies s t e acked (m ∷ ms) after → WindowsHaveRoom (with_window v.windows s t x) →
-    WindowStandsFor x (session_settled (acked m.number) v.config.attempts m.number (session w s t)) bodies →
+    IsEnding v w bodies s t e ends (m ∷ ms) after → WindowsHaveRoom (with_window v.windows s t x) →
+    WindowStandsFor x (after_end v.config.attempts (ends m.number) m.number (session w s t)) bodies →
     IsEnding (after_answer (record v { windows = with_window v.windows s t x })
-    (settling_answer (acked m.number) v.config.attempts bodies (slot (session w s t) m.number)))
-    (with_settled w s t (acked m.number) m) bodies s t e acked ms after
+    (settling_answer (ends m.number) v.config.attempts bodies (slot (session w s t) m.number)))
+    (with_settled w s t (ends m.number) m) bodies s t e ends ms after
 unfolding with_all_settled
-ending_next_one v w bodies s t e acked m ms after x left room stands =
+ending_next_one v w bodies s t e ends m ms after x left room stands =
     let y : Session = session w s t in
-    let b : Bool = acked m.number in
+    let b : End = ends m.number in
     let same : v.config.attempts ≡ w.config.attempts =
     ap (λ (c : Config). c.attempts) left.parts.others.config in
-    let z : Session = session_settled b w.config.attempts m.number y in
+    let z : Session = after_end w.config.attempts b m.number y in
     let stands_w : WindowStandsFor x z bodies = subst
-    (λ (limit : ℕ). WindowStandsFor x (session_settled b limit m.number y) bodies) same stands in
+    (λ (limit : ℕ). WindowStandsFor x (after_end limit b m.number y) bodies) same stands in
     subst (λ (limit : ℕ). IsEnding (after_answer (record v { windows = with_window v.windows s t x })
     (settling_answer b limit bodies (slot y m.number)))
-    (with_settled w s t b m) bodies s t e acked ms after) (sym same)
+    (with_settled w s t b m) bodies s t e ends ms after) (sym same)
     (go (one_step v w bodies s t m x left.parts left.live left.tid room left.ids.0 left.loose.0 b stands_w)
-    (still_fly b y (ending_of w.config e acked) m.number (map (λ (k : Mpdu). k.number) ms) left.flying))
+    (still_fly b y (ending_of w.config e ends) m.number (map (λ (k : Mpdu). k.number) ms) left.flying))
   where
-    go : IsSettledOne m.id s t (session_settled (acked m.number) w.config.attempts m.number (session w s t))
+    go : IsSettledOne m.id s t (after_end w.config.attempts (ends m.number) m.number (session w s t))
         bodies v w (after_answer (record v { windows = with_window v.windows s t x })
-        (settling_answer (acked m.number) w.config.attempts bodies (slot (session w s t) m.number)))
-        (with_settled w s t (acked m.number) m) →
-        AreFlying (session_settled (acked m.number) w.config.attempts m.number (session w s t))
-        (ending_of w.config e acked) (map (λ (k : Mpdu). k.number) ms) →
+        (settling_answer (ends m.number) w.config.attempts bodies (slot (session w s t) m.number)))
+        (with_settled w s t (ends m.number) m) →
+        AreFlying (after_end w.config.attempts (ends m.number) m.number (session w s t))
+        (ending_of w.config e ends) (map (λ (k : Mpdu). k.number) ms) →
         IsEnding (after_answer (record v { windows = with_window v.windows s t x })
-        (settling_answer (acked m.number) w.config.attempts bodies (slot (session w s t) m.number)))
-        (with_settled w s t (acked m.number) m) bodies s t e acked ms after
+        (settling_answer (ends m.number) w.config.attempts bodies (slot (session w s t) m.number)))
+        (with_settled w s t (ends m.number) m) bodies s t e ends ms after
     go one flying =
-        let u : World = with_settled w s t (acked m.number) m in
+        let u : World = with_settled w s t (ends m.number) m in
         record {
           parts = one.parts;
           live = one.live;
           tid = left.tid;
-          flying = subst (λ (c : Config). AreFlying (session u s t) (ending_of c e acked)
+          flying = subst (λ (c : Config). AreFlying (session u s t) (ending_of c e ends)
               (map (λ (k : Mpdu). k.number) ms)) (sym one.config)
-              (subst (λ (k : Session). AreFlying k (ending_of w.config e acked)
+              (subst (λ (k : Session). AreFlying k (ending_of w.config e ends)
               (map (λ (k : Mpdu). k.number) ms)) (sym one.session_is) flying);
           ids = each_mapped (λ k. (slot (session w s t) k.number).id ≡ k.id)
               (λ k. (slot (session u s t) k.number).id ≡ k.id) ms
               (λ k is. ap (λ (a : Session). (slot a k.number).id) one.session_is
-              ∙ settled_ids (acked m.number) w.config.attempts m.number k.number (session w s t) ∙ is)
+              ∙ settled_ids (ends m.number) w.config.attempts m.number k.number (session w s t) ∙ is)
               left.ids.1;
           loose = each_but (IsLoose v w) (IsLoose (after_answer
               (record v { windows = with_window v.windows s t x })
-              (settling_answer (acked m.number) w.config.attempts bodies (slot (session w s t) m.number))) u)
+              (settling_answer (ends m.number) w.config.attempts bodies (slot (session w s t) m.number))) u)
               m.id ms left.once.0
               (λ k other is. record {
                 low = omega (arith, is.low, one.others.accepted);
@@ -324,7 +334,7 @@ ending_next_one v w bodies s t e acked m ms after x left room stands =
           leads = left.leads;
         }
 
-pub ending_done : (v : TransmitValue) (w : World) (bodies : ℕ → FrameValue) (s t e : ℕ) (acked : ℕ → Bool)
-    (after : World) → IsEnding v w bodies s t e acked [] after → Parts v after bodies
+pub ending_done : (v : TransmitValue) (w : World) (bodies : ℕ → FrameValue) (s t e : ℕ) (ends : ℕ → End)
+    (after : World) → IsEnding v w bodies s t e ends [] after → Parts v after bodies
 unfolding with_all_settled
-ending_done v w bodies s t e acked after left = subst (λ (u : World). Parts v u bodies) left.leads left.parts
+ending_done v w bodies s t e ends after left = subst (λ (u : World). Parts v u bodies) left.leads left.parts

@@ -1,5 +1,6 @@
--- Proves that some calls change the readiness of no station: a rate, a tick, an Arrive, an Answer, a receive
--- charge and a reap. They change no session, queue or open request, nor which stations may receive.
+-- Proves that some calls change the readiness of no station: a rate, a tick, an Arrive, an Answer, a mark of
+-- a device, a receive charge and a reap. They change no session, queue or open request, nor which stations
+-- may receive.
 use Rattle.std.proofs.Common.{◌≡◌, refl, ap, ap₂, sym, ◌∙◌, ℕ, Bool, true, not, ◌&&◌, ◌||◌, List, [], ◌∷◌, length, Option, Some, None, unwrap_or, option_map, map, sum_by, nat_lt}
 use Rattle.std.specs.Prelude.{◌==◌}
 use Rattle.std.specs.List.{list_any}
@@ -8,19 +9,20 @@ use Rattle.wf_frame.specs.declared.settings.Config.{Config}
 use Rattle.wf_frame.specs.declared.notes.AskedRate.{AskedRate}
 use Rattle.wf_frame.specs.declared.notes.Note.{Note}
 use Rattle.wf_frame.specs.declared.notes.Note.TheVariants.{Enqueue, Asked}
-use Rattle.wf_frame.specs.declared.notes.Ask.TheVariants.{Join, Leave, Rate, Tick, Pull, Arrive, Answer, Done, Sleep, Wake, Poll, Rx, Reap, Ampdu, Stop, Start}
+use Rattle.wf_frame.specs.declared.notes.Ask.TheVariants.{Join, Leave, Rate, Tick, Pull, Arrive, Answer, Done, Sleep, Wake, Poll, Rx, Reap, Ampdu, Stop, Start, Unsent, GiveUp, Flush}
 use Rattle.wf_frame.specs.Classes.{lower_tid, upper_tid}
 use Rattle.wf_def_lists.specs.Table.{at}
 use Rattle.wf_def_rotation.specs.Rotation.{in_order}
 use Rattle.wf_def_agreement.specs.Receiver.{Receiver}
 use Rattle.wf_def_world.specs.World.{World, Station, Exchange, no_station, owed, exchange, on_station, with_station, on_tid, on_receiver, on_share, with_exchange}
 use Rattle.wf_def_world.specs.CanSend.{is_request, request_open, has_credit, is_below_aql, may_receive, is_ready}
-use Rattle.wf_def_world.specs.Step.{Outcome, outcome_of, step, outcome_where_open, rate_outcome, tick_outcome, arrive_outcome, answer_outcome, rx_outcome, reap_outcome, ampdu_outcome}
+use Rattle.wf_def_world.specs.Step.{Outcome, outcome_of, step, outcome_where_open, rate_outcome, tick_outcome, arrive_outcome, answer_outcome, unsent_outcome, give_up_outcome, rx_outcome, reap_outcome, ampdu_outcome}
 use Rattle.wf_law_rules.proofs.Lemmas.Tables.{each_put}
+use Rattle.wf_law_runs.proofs.Common.Marks.{marked_world}
 use Rattle.wf_law_runs.proofs.Deficits.Books.{Books, books, core}
 use Rattle.wf_law_runs.proofs.Deficits.Openings.{owed-core}
 use Rattle.wf_law_runs.proofs.Deficits.Kept.{IsKept}
-use Rattle.wf_law_runs.proofs.Deficits.KeptStep.{IsFound, books_arrived, books_answered}
+use Rattle.wf_law_runs.proofs.Deficits.KeptStep.{IsFound, books_arrived, books_answered, books_marked}
 use Rattle.wf_queue_flows_refines.specs.Standing.{Part, flows_part}
 use Rattle.wf_queue_flows_refines.proofs.Leaves.{station_alone, receiver_alone, exchange_alone}
 use Rattle.wf_send_half_model.specs.Standing.{IsReached}
@@ -30,7 +32,7 @@ use Rattle.wf_send_half_model.proofs.Views.{agreements_station, agreements_recei
 use Rattle.wf_send_half_model.proofs.Spared.{IsSameTid, ready_same_by, ready_stepped, orderly_reached}
 
 -- v has the same flow queues, sessions and open requests as w, and the same stations may receive
-record IsSteady (w v : World) : Type 0 where
+pub record IsSteady (w v : World) : Type 0 where
   part : flows_part v ≡ flows_part w
   agreements : agreements v ≡ agreements w
   requests : (s t : ℕ) → request_open v s t ≡ request_open w s t
@@ -46,7 +48,7 @@ steady_tid w v h s t = record {
   queued = ap (λ (p : Part). sum_by (λ q. length (p.queues q).items) (in_order (p.lists s t))) h.part;
 }
 
-steady_ready : (w v : World) → IsSteady w v → (c : Class) (s : ℕ) → is_ready v c s ≡ is_ready w c s
+pub steady_ready : (w v : World) → IsSteady w v → (c : Class) (s : ℕ) → is_ready v c s ≡ is_ready w c s
 steady_ready w v h c s = ready_same_by w v c s (ap (λ (a : Agreements). a.live s) h.agreements)
     (h.receives s c) (steady_tid w v h s (lower_tid c)) (steady_tid w v h s (upper_tid c))
 
@@ -68,7 +70,8 @@ receives_mapped : (f : Station → Station) → KeepsSleep f → (c : Class) (be
 receives_mapped f h c below None = refl
 receives_mapped f h c below (Some x) =
     ap (λ (b : Bool). not b && ((not (f x).asleep || has_credit (f x).credit c) && below)) (h.stopped x)
-    ∙ ap₂ (λ (b : Bool) (o : Option Class). not x.stopped && ((not b || has_credit o c) && below)) (h.asleep x)
+    ∙ ap₂ (λ (b : Bool) (o : Option Class). not x.stopped && ((not b || has_credit o c)
+    && below)) (h.asleep x)
     (h.credit x)
 
 heard_on_station : (w : World) (i : ℕ) (f : Station → Station) → KeepsSleep f → (s : ℕ) (c : Class)
@@ -184,6 +187,20 @@ steady_answered w e x kept found = record {
       ∙ ap (receives c (at None w.stations s)) (same_below w u (books_answered w e x kept found) s c);
 }
 
+pub steady_marked : (w : World) (e : ℕ) (x : Exchange) (unsent given_up : List ℕ) → IsKept (books w) →
+    IsFound w e x → IsSteady w (marked_world w x unsent given_up)
+steady_marked w e x unsent given_up kept found = record {
+  part = exchange_alone w _;
+  agreements = agreements_marked w _;
+  requests = same_requests w (marked_world w x unsent given_up)
+      (books_marked w e x unsent given_up kept found);
+  receives = λ s c.
+      let u : World = marked_world w x unsent given_up in
+      heard_marked w _ s c (is_below_aql u s c)
+      ∙ ap (receives c (at None w.stations s)) (same_below w u
+      (books_marked w e x unsent given_up kept found) s c);
+}
+
 steady_open : (o : Option Exchange) (w : World) (e : ℕ) (f : Exchange → Outcome) → exchange w e ≡ o →
     ((x : Exchange) → IsFound w e x → IsSteady w (f x).world) → IsSteady w (outcome_where_open w o f).world
 unfolding outcome_where_open
@@ -209,7 +226,7 @@ ready_received w i d air c = steady_ready w (rx_outcome w i d air).world (steady
 
 steady_done : (note : Note) (w : World) → IsReached w → leaves_ready note ≡ true → (c : Class) (s : ℕ) →
     is_ready (outcome_of w note).world c s ≡ is_ready w c s
-unfolding outcome_of
+unfolding outcome_of unsent_outcome give_up_outcome
 steady_done (Asked (Rate i rate)) w r h c s = steady_ready w _ (steady_rated w i rate) c s
 steady_done (Asked (Tick by)) w r h c s = ready_tick w by c s
 steady_done (Asked (Arrive e i)) w r h c s = steady_ready w
@@ -231,6 +248,15 @@ steady_done (Asked (Sleep i)) w r h c s = absurd (cc h)
 steady_done (Asked (Ampdu i octets)) w r h c s = steady_ready w _ (steady_stated w i octets) c s
 steady_done (Asked (Stop i)) w r h c s = absurd (cc h)
 steady_done (Asked (Start i)) w r h c s = absurd (cc h)
+steady_done (Asked (Unsent e i)) w r h c s = steady_ready w
+    (outcome_where_open w (exchange w e) (λ x. unsent_outcome w x i)).world
+    (steady_open (exchange w e) w e (λ x. unsent_outcome w x i) refl
+    (λ x k. steady_marked w e x _ _ (orderly_reached w r).kept k)) c s
+steady_done (Asked (GiveUp e i)) w r h c s = steady_ready w
+    (outcome_where_open w (exchange w e) (λ x. give_up_outcome w x i)).world
+    (steady_open (exchange w e) w e (λ x. give_up_outcome w x i) refl
+    (λ x k. steady_marked w e x _ _ (orderly_reached w r).kept k)) c s
+steady_done (Asked (Flush i t)) w r h c s = absurd (cc h)
 steady_done (Asked (Wake i)) w r h c s = absurd (cc h)
 steady_done (Asked (Poll i)) w r h c s = absurd (cc h)
 

@@ -4,7 +4,7 @@ use Rattle.std.proofs.Common.{◌≡◌, ◌≢◌, refl, ap, ap₂, sym, ◌∙
 use Rattle.std.proofs.lemmas.Bool.{or_left, or_right}
 use Rattle.std.proofs.lemmas.List.{length-map}
 use Rattle.wf_frame.specs.declared.classes.Cause.{Cause}
-use Rattle.wf_frame.specs.declared.classes.Cause.TheVariants.{Overlimit, Codel as By_codel, Retries, Left}
+use Rattle.wf_frame.specs.declared.classes.Cause.TheVariants.{Overlimit, Codel as By_codel, Retries, Left, Flushed}
 use Rattle.wf_frame.specs.declared.classes.Fate.{Fate}
 use Rattle.wf_frame.specs.declared.classes.Fate.TheVariants.{Held, Dropped}
 use Rattle.wf_frame.specs.Frames.{FrameValue}
@@ -44,6 +44,7 @@ none_settled Overlimit c = simp add-zero
 none_settled By_codel c = simp add-zero
 none_settled Retries c = simp add-zero
 none_settled Left c = simp add-zero
+none_settled Flushed c = simp add-zero
 
 one_settled : (cause : Cause) (n : ℕ) (c : Counts) →
     many_settled_as (Dropped cause) n (settled_as (Dropped cause) c)
@@ -52,6 +53,7 @@ one_settled Overlimit n c = ap (λ (k : ℕ). record c { overlimit = k }) (omega
 one_settled By_codel n c = ap (λ (k : ℕ). record c { codel = k }) (omega arith)
 one_settled Retries n c = ap (λ (k : ℕ). record c { retries = k }) (omega arith)
 one_settled Left n c = ap (λ (k : ℕ). record c { left = k }) (omega arith)
+one_settled Flushed n c = ap (λ (k : ℕ). record c { flushed = k }) (omega arith)
 
 -- u is w after `count` held frames were dropped
 pub record HasDropped (cause : Cause) (count : ℕ) (w u : World) : Type 0 where

@@ -11,6 +11,7 @@ use Rattle.wf_def_world.specs.Step.{arrive_outcome, answer_outcome}
 use Rattle.wf_law_runs.specs.Windows.{OpenRises}
 use Rattle.wf_queue_flows_refines.proofs.Leaves.{receiver_alone, exchange_alone}
 use Rattle.wf_send_parts.specs.declared.exchanges.opened.Open.{Open}
+use Rattle.wf_send_parts.specs.Exchanges.{with_exchange_changed}
 use Rattle.wf_sched_refines.proofs.Unchanged.{arrived_leaves, answered_leaves}
 use Rattle.wf_send_half_model.specs.Half.{TransmitValue}
 use Rattle.wf_send_half_model.specs.Standing.{open_of, Parts}
@@ -23,7 +24,7 @@ use Rattle.wf_send_half_model.proofs.Listings.{views_then}
 -- ---- an open exchange is marked
 
 -- the open exchanges with the one of z's number replaced by z
-abbrev marked : Exchange → List Exchange → List Exchange
+abbrev pub marked : Exchange → List Exchange → List Exchange
 marked z xs = map (λ y. if y.number == z.number then z else y) xs
 
 none_marked : (xs : List Exchange) (z : Exchange) (lo hi : ℕ) → z.number < lo → OpenRises lo hi xs →
@@ -35,11 +36,20 @@ none_marked (y ∷ ys) z lo hi low rises =
     ap₂ (λ (b : Bool) (t : List Exchange). (if b then z else y) ∷ t) other
     (none_marked ys z (suc y.number) hi (omega (arith, low, rises.0)) rises.2)
 
-one_marked : (xs : List Exchange) (x z : Exchange) (e lo hi : ℕ) → OpenRises lo hi xs →
-    find (λ y. y.number == e) xs ≡ Some x → z.number ≡ e → open_of z ≡ open_of x →
-    map open_of (marked z xs) ≡ map open_of xs
-one_marked [] x z e lo hi rises found number same = refl
-one_marked (y ∷ ys) x z e lo hi rises found number same = elim (cases_eq y.number e) [
+none_changed : (xs : List Exchange) (e lo hi : ℕ) (f : Open → Open) → e < lo → OpenRises lo hi xs →
+    with_exchange_changed e f (map open_of xs) ≡ map open_of xs
+none_changed [] e lo hi f low rises = refl
+none_changed (y ∷ ys) e lo hi f low rises =
+    let other : (y.number == e) ≡ false = ne_eqb y.number e (λ k. absurd (omega (arith, k, low, rises.0))) in
+    ap₂ (λ (b : Bool) (t : List Open). (if b then f (open_of y) else open_of y) ∷ t) other
+    (none_changed ys e (suc y.number) hi f (omega (arith, low, rises.0)) rises.2)
+
+-- the half's open exchanges are changed alike
+pub one_marked : (xs : List Exchange) (x z : Exchange) (e lo hi : ℕ) (f : Open → Open) → OpenRises lo hi xs →
+    find (λ y. y.number == e) xs ≡ Some x → z.number ≡ e → open_of z ≡ f (open_of x) →
+    map open_of (marked z xs) ≡ with_exchange_changed e f (map open_of xs)
+one_marked [] x z e lo hi f rises found number same = absurd (cc found)
+one_marked (y ∷ ys) x z e lo hi f rises found number same = elim (cases_eq y.number e) [
   | inl here ↦
       let is : (y.number == e) ≡ true = eq-eqb y.number e here in
       let first : (if y.number == e then Some y else find (λ (k : Exchange). k.number == e) ys) ≡ Some y =
@@ -48,7 +58,10 @@ one_marked (y ∷ ys) x z e lo hi rises found number same = elim (cases_eq y.num
       let head : (y.number == z.number) ≡ true = eq-eqb y.number z.number (here ∙ sym number) in
       ap₂ (λ (b : Bool) (t : List Exchange). map open_of ((if b then z else y) ∷ t)) head
       (none_marked ys z (suc y.number) hi (omega (arith, number, here)) rises.2)
-      ∙ ap (λ (k : Open). k ∷ map open_of ys) (same ∙ ap open_of (sym it))
+      ∙ ap₂ (λ (k : Open) (t : List Open). k ∷ t) (same ∙ ap (λ (k : Exchange). f (open_of k)) (sym it))
+      (sym (none_changed ys e (suc y.number) hi f (omega (arith, here)) rises.2))
+      ∙ sym (ap (λ (b : Bool). (if b then f (open_of y) else open_of y)
+      ∷ with_exchange_changed e f (map open_of ys)) is)
   | inr other ↦
       let is : (y.number == e) ≡ false = ne_eqb y.number e other in
       let later : find (λ (k : Exchange). k.number == e) ys ≡ Some x =
@@ -57,14 +70,31 @@ one_marked (y ∷ ys) x z e lo hi rises found number same = elim (cases_eq y.num
       let head : (y.number == z.number) ≡ false = ne_eqb y.number z.number (λ k. other (k ∙ number)) in
       ap (λ (b : Bool). open_of (if b then z else y) ∷ map open_of (marked z ys)) head
       ∙ ap (λ (t : List Open). open_of y ∷ t) (one_marked ys x z e
-      (suc y.number) hi rises.2 later number same)
+      (suc y.number) hi f rises.2 later number same)
+      ∙ sym (ap (λ (b : Bool). (if b then f (open_of y) else open_of y)
+      ∷ with_exchange_changed e f (map open_of ys)) is)
 ]
 
-agreements_exchange : (w : World) (z : Exchange) → agreements (with_exchange w z) ≡ agreements w
+-- what a half keeps of no exchange is changed
+none_new : (xs : List Open) (e : ℕ) → with_exchange_changed e (λ x. x) xs ≡ xs
+none_new [] e = refl
+none_new (x ∷ xs) e = ap₂ (λ (k : Open) (t : List Open). k ∷ t) (either (x.number == e)) (none_new xs e)
+  where
+    either : (b : Bool) → (if b then x else x) ≡ x
+    either true = refl
+    either false = refl
+
+same_marked : (xs : List Exchange) (x z : Exchange) (e lo hi : ℕ) → OpenRises lo hi xs →
+    find (λ y. y.number == e) xs ≡ Some x → z.number ≡ e → open_of z ≡ open_of x →
+    map open_of (marked z xs) ≡ map open_of xs
+same_marked xs x z e lo hi rises found number same =
+    one_marked xs x z e lo hi (λ y. y) rises found number same ∙ none_new (map open_of xs) e
+
+pub agreements_exchange : (w : World) (z : Exchange) → agreements (with_exchange w z) ≡ agreements w
 unfolding with_exchange
 agreements_exchange w z = refl
 
-ledger_exchange : (w : World) (z : Exchange) → ledger (with_exchange w z) ≡ ledger w
+pub ledger_exchange : (w : World) (z : Exchange) → ledger (with_exchange w z) ≡ ledger w
 unfolding with_exchange
 ledger_exchange w z = refl
 
@@ -108,13 +138,13 @@ module _ (v : TransmitValue) (w : World) (bodies : ℕ → FrameValue) (e : ℕ)
       let opened : u.opened ≡ w.opened = receiver_opened w x.station x.tid (after_arrival x.content i) in
       views_then w u (with_exchange u z) (views_receiver w x.station x.tid (after_arrival x.content i))
       (views_exchange u z (subst (λ (xs : List Exchange). map open_of (marked z xs) ≡ map open_of xs)
-      (sym opened) (one_marked w.opened x z e 0 w.exchanges rises known number_is refl)))
+      (sym opened) (same_marked w.opened x z e 0 w.exchanges rises known number_is refl)))
 
   answered_views : HasSameViews w (answer_outcome w x).world
   unfolding answer_outcome
   answered_views =
       let z : Exchange = record x { answer = Some (score (receiver w x.station x.tid)) } in
-      views_exchange w z (one_marked w.opened x z e 0 w.exchanges rises known number_is refl)
+      views_exchange w z (same_marked w.opened x z e 0 w.exchanges rises known number_is refl)
 
   pub arrive_parts : (i : ℕ) → Parts v (arrive_outcome w x i).world bodies
   arrive_parts i = leaves_parts v w (arrive_outcome w x i).world bodies (arrived_views i)

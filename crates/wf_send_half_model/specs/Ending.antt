@@ -1,10 +1,10 @@
 -- Defines the end of an exchange of data, number by number.
-use Rattle.std.specs.Prelude.{◌≡◌, ◌<◌, ℕ, ◌==◌, Bool, true, not, List, [], ◌∷◌, ◌++◌, map, filter}
+use Rattle.std.specs.Prelude.{◌≡◌, ◌<◌, ℕ, ◌==◌, true, not, List, [], ◌∷◌, ◌++◌, map, filter}
 use Rattle.wf_frame.specs.declared.classes.Fate.TheVariants.{Held}
 use Rattle.wf_frame.specs.declared.settings.Config.{Config}
 use Rattle.wf_frame.specs.Frames.{FrameValue}
 use Rattle.wf_def_lists.specs.Lists.{IsOnce}
-use Rattle.wf_def_agreement.specs.Session.{State, slot}
+use Rattle.wf_def_agreement.specs.Session.{State, End, slot}
 use Rattle.wf_def_world.specs.World.{World, Mpdu, is_live, session, frame, accepted_count}
 use Rattle.wf_def_world.specs.Exchanges.{with_all_settled}
 use Rattle.wf_law_runs.specs.Windows.{EachMpdu}
@@ -48,10 +48,10 @@ after_answer v (Acked f) = after_finish v f
 after_answer v Waiting = v
 after_answer v (Failed f) = after_finish v f
 
--- how exchange e ends: `acked` says which numbers were acknowledged, and the settings how often a frame may
--- be sent
-abbrev pub ending_of : Config → ℕ → (ℕ → Bool) → Ending
-ending_of c e acked = record { exchange = e; acked = acked; limit = c.attempts }
+-- how exchange e ends: `ends` says how it ends for each of its numbers, and the settings how often a frame
+-- may be sent
+abbrev pub ending_of : Config → ℕ → (ℕ → End) → Ending
+ending_of c e ends = record { exchange = e; ends = ends; limit = c.attempts }
 
 -- the frame of a transmission is held, in no flow queue and not on the finished list
 pub record IsLoose (v : TransmitValue) (w : World) (m : Mpdu) : Type 0 where
@@ -61,16 +61,16 @@ pub record IsLoose (v : TransmitValue) (w : World) (m : Mpdu) : Type 0 where
 
 -- In the middle of the end of exchange e, which sends to TID t of station s. These transmissions are still to
 -- be settled; after that the world is `after`.
-pub record IsEnding (v : TransmitValue) (w : World) (bodies : ℕ → FrameValue) (s t e : ℕ) (acked : ℕ → Bool)
+pub record IsEnding (v : TransmitValue) (w : World) (bodies : ℕ → FrameValue) (s t e : ℕ) (ends : ℕ → End)
     (mpdus : List Mpdu) (after : World) : Type 0 where
   pub parts : Parts v w bodies
   pub live : is_live w s ≡ true
   pub tid : t < 8
-  pub flying : AreFlying (session w s t) (ending_of w.config e acked) (map (λ m. m.number) mpdus)
+  pub flying : AreFlying (session w s t) (ending_of w.config e ends) (map (λ m. m.number) mpdus)
   pub ids : EachMpdu (λ m. (slot (session w s t) m.number).id ≡ m.id) mpdus
   pub loose : EachMpdu (IsLoose v w) mpdus
   pub once : IsOnce (map (λ m. m.id) mpdus)
-  pub leads : with_all_settled w s t acked mpdus ≡ after
+  pub leads : with_all_settled w s t ends mpdus ≡ after
 
 -- the state in which an answer leaves its number
 abbrev pub state_left : Settled → State

@@ -59,6 +59,8 @@ open_next v s t c charge sending = record {
   charge = charge;
   sending = sending;
   more = (sleeper v.sleepers s).asleep && (not (sending_is_request sending) && has_more_of v s);
+  unsent = [];
+  given_up = [];
 }
 
 -- the half with this exchange opened

@@ -1,7 +1,7 @@
 -- Defines when a transmit half represents a world of a run.
 use Rattle.std.specs.Prelude.{◌≡◌, ℕ, ◌*◌, true, List, Option, Some, None, length, map}
 use Rattle.wf_frame.specs.declared.classes.Class.{Class}
-use Rattle.wf_frame.specs.declared.classes.Cause.TheVariants.{Overlimit, Codel, Retries, Left}
+use Rattle.wf_frame.specs.declared.classes.Cause.TheVariants.{Overlimit, Codel, Retries, Left, Flushed}
 use Rattle.wf_frame.specs.declared.classes.Fate.TheVariants.{Acked, Dropped}
 use Rattle.wf_frame.specs.declared.notes.Note.{Note}
 use Rattle.wf_frame.specs.declared.notes.ReplyNote.{ReplyNote}
@@ -41,7 +41,8 @@ abbrev pub sending_of : Content → Sending
 sending_of (Frames mpdus) = Data (numbers_on_air mpdus)
 sending_of (Request start) = Starts_at (on_air start)
 
--- an open exchange, as the half keeps it: without what arrived and without its answer
+-- an open exchange, as the half keeps it: with the marks of the device, without what arrived and without its
+-- answer
 abbrev pub open_of : Exchange → Open
 open_of x = record {
   number = x.number;
@@ -51,6 +52,8 @@ open_of x = record {
   charge = x.charge;
   sending = sending_of x.content;
   more = x.more;
+  unsent = x.unsent;
+  given_up = x.given_up;
 }
 
 -- ---- stations
@@ -97,6 +100,7 @@ counts_in w = record {
   codel = tally_of w (Dropped Codel);
   retries = tally_of w (Dropped Retries);
   left = tally_of w (Dropped Left);
+  flushed = tally_of w (Dropped Flushed);
 }
 
 -- ---- the parts

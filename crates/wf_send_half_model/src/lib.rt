@@ -19,15 +19,16 @@ ghost use Rattle.wf_frame.specs.Settings.{IsInRange};
 ghost use Rattle.wf_frame.specs.declared.classes.Class.{Class};
 ghost use Rattle.wf_frame.specs.declared.classes.Class.TheVariants.{Bk, Be, Vi, Vo};
 ghost use Rattle.wf_frame.specs.declared.classes.Fate.{Fate};
-ghost use Rattle.wf_frame.specs.declared.classes.Fate.TheVariants.{Held};
-ghost use Rattle.wf_frame.specs.declared.notes.Ask.TheVariants.{Done, Join, Leave, Pull, Rate, Tick, Arrive, Answer, Sleep, Wake, Poll, Rx, Reap, Ampdu, Stop, Start};
+ghost use Rattle.wf_frame.specs.declared.classes.Fate.TheVariants.{Held, Dropped};
+ghost use Rattle.wf_frame.specs.declared.classes.Cause.TheVariants.{Flushed};
+ghost use Rattle.wf_frame.specs.declared.notes.Ask.TheVariants.{Done, Join, Leave, Pull, Rate, Tick, Arrive, Answer, Sleep, Wake, Poll, Rx, Reap, Ampdu, Stop, Start, Unsent, GiveUp, Flush};
 ghost use Rattle.wf_frame.specs.declared.notes.AskedRate.{AskedRate};
 ghost use Rattle.wf_frame.specs.declared.notes.Limits.{Limits};
 ghost use Rattle.wf_frame.specs.declared.notes.Note.{Note};
 ghost use Rattle.wf_frame.specs.declared.notes.Note.TheVariants.{Enqueue, Asked};
 ghost use Rattle.wf_frame.specs.declared.notes.Refusal.{Refusal};
 ghost use Rattle.wf_frame.specs.declared.notes.Refusal.TheVariants.{Idle, Full, Ahead};
-ghost use Rattle.wf_frame.specs.declared.notes.ReplyNote.TheVariants.{Accepted, Left, Joined, Set, Now, Slept, Woken, Polled, Charged, Reaped, Stopped, Started, Refused, Send};
+ghost use Rattle.wf_frame.specs.declared.notes.ReplyNote.TheVariants.{Accepted, Left, Joined, Set, Now, Slept, Woken, Polled, Charged, Reaped, Stopped, Started, Marked, Refused, Send};
 ghost use Rattle.wf_frame.specs.declared.notes.ReplyNote.TheVariants as reply;
 ghost use Rattle.wf_frame.specs.declared.settings.Config.{Config};
 ghost use Rattle.wf_frame.specs.declared.notes.Part.TheVariants.{Mpdus, Request as Starts};
@@ -39,15 +40,15 @@ ghost use Rattle.wf_send_parts.specs.declared.exchanges.opened.Sending.TheVarian
 ghost use Rattle.wf_def_lists.specs.Bounds.{greatest_air};
 ghost use Rattle.wf_def_lists.specs.Lengths.{greatest_body};
 ghost use Rattle.wf_def_lists.specs.Lists.{IsOnce};
-ghost use Rattle.wf_def_agreement.specs.Receiver.{Receiver};
-ghost use Rattle.wf_def_lists.specs.Table.{has, upto};
+ghost use Rattle.wf_def_agreement.specs.Receiver.{Receiver, Score};
+ghost use Rattle.wf_def_lists.specs.Table.{at, has, upto};
 ghost use Rattle.wf_def_rotation.specs.Rotation.{Rotation, has_key};
-ghost use Rattle.wf_def_agreement.specs.Session.{Session, State, slot, start_of, next_number, request_due, with_state, is_acknowledged, is_waiting, is_failed, with_number_given};
+ghost use Rattle.wf_def_agreement.specs.Session.{Session, State, End, after_end, after_flush as session_flushed, slot, start_of, next_number, request_due, with_state, is_acknowledged, is_waiting, is_failed, with_number_given};
 ghost use Rattle.wf_def_world.specs.Rates.{rate_asked};
 ghost use Rattle.wf_def_world.specs.World.{World, Bounds, Station, Tid, Share, Queue, Exchange, Mpdu, frame, accepted_count, is_held, codel_params, with_frame_finished, with_frames_finished, Frames, Request, opening, without_exchange, is_live, session, share, rotation, exchange, owed_by_all, pending_air, on_station, on_tid, on_session, on_receiver, on_share, on_queue, with_queues, with_rotation, is_wide};
 ghost use Rattle.wf_def_world.specs.FlowQueues.{frames_queued as world_queued, after_limit, dropped_for_limit as dropped_for_limit_in};
 ghost use Rattle.wf_def_world.specs.CanSend.{request_open, has_waiting, can_send, can_send_in, is_ready, is_debtor, is_to_list, with_listings_of};
-ghost use Rattle.wf_def_world.specs.Exchanges.{Aggregate, Prepared, picked_station, sending_tid, after_tid_turn, aggregate_of, prepared_data, mpdus_of, is_acked, charge_of, after_charge, with_settled, with_all_settled, count_in, part_of, lens_of, mpdu_of, aggregate_charge};
+ghost use Rattle.wf_def_world.specs.Exchanges.{Aggregate, Prepared, picked_station, sending_tid, after_tid_turn, aggregate_of, prepared_data, mpdus_of, no_mpdu, numbers_unsent, numbers_given_up, end_of, charge_of, after_charge, with_settled, with_all_settled, count_in, part_of, lens_of, mpdu_of, aggregate_charge};
 ghost use Rattle.wf_def_world.specs.Refusals.{has_live_credit, refusal, is_at_aql_total, open_of_station, open_of_class, queued_in_class, can_send_any};
 ghost use Rattle.wf_def_world.specs.Step.{outcome_of, concerned_station, class_to_send, step, done_outcome, rx_outcome, send_outcome};
 ghost use Rattle.wf_law_runs.specs.Queues.{HasLength, IsAtMost};
@@ -63,15 +64,16 @@ ghost use Rattle.wf_queue_flows_refines.specs.Rest.{rest_of_world};
 ghost use Rattle.wf_sched.specs.ClassRotas.{SchedValue, deficit, after_join};
 ghost use Rattle.wf_sched_refines.specs.Standing.{SchedulerStandsFor as TurnsStandFor, LeavesRotas, everywhere, with_deficit_charged};
 ghost use Rattle.wf_send_parts.specs.Answers.{settling_answer};
-ghost use Rattle.wf_send_parts.specs.Window.{WindowValue, WindowStandsFor as WindowStandsFor, session_settled, some_fly, IsNumber, HasOwnFrame, state_at, can_take, on_air, waiting_from};
+ghost use Rattle.wf_send_parts.specs.Window.{WindowValue, WindowStandsFor as WindowStandsFor, some_fly, is_flying, IsNumber, HasOwnFrame, state_at, can_take, on_air, waiting_from};
 ghost use Rattle.wf_send_parts.specs.Expelling.{frame_left};
-ghost use Rattle.wf_send_parts.specs.Sent.{with_one_sent};
+ghost use Rattle.wf_send_parts.specs.Flushing.{HasFlushed, frames_flushed};
+ghost use Rattle.wf_send_parts.specs.Sent.{with_one_sent, with_one_unsent};
 ghost use Rattle.wf_air.specs.Sizes.{AggregateSizeValue, SizeStandsFor as SizeStandsFor, empty_size};
 ghost use Rattle.wf_sched_refines.specs.Calls.{HasPickedInClass};
 ghost use Rattle.wf_octets.specs.Distance.{distance};
 ghost use Rattle.wf_send_parts.specs.Listing.{IsListedNext};
 ghost use Rattle.wf_send_parts.specs.Windows.{WindowsHaveRoom, window_of, with_window};
-ghost use Rattle.wf_send_parts.specs.Exchanges.{asks, airtime_of};
+ghost use Rattle.wf_send_parts.specs.Exchanges.{asks, airtime_of, has_nothing_sent, with_unsent, with_given_up};
 ghost use Rattle.wf_send_parts.specs.Members.{member, on_member, new_member, with_rate, with_ampdu, with_receipt};
 ghost use Rattle.wf_send_parts.specs.Sleepers.{sleeper, with_sleeper, awake, woken};
 ghost use Rattle.wf_send_parts.specs.declared.stations.members.Member.{Member};
@@ -81,6 +83,8 @@ ghost use Rattle.wf_send_half_model.specs.Changes.{after_listing, after_listing_
 ghost use Rattle.wf_send_half_model.specs.Counting.{with_overlimit};
 ghost use Rattle.wf_send_half_model.specs.Ending.{after_close, after_finish, after_answer, IsEnding, state_left};
 ghost use Rattle.wf_send_half_model.specs.Leaving.{after_expelled, after_tid_purged, after_leave, IsLeaving, IsExpelling, IsExpelled};
+ghost use Rattle.wf_send_half_model.specs.Flushing.{IsFlushing, HasNumbersFlushed, with_queues_flushed};
+ghost use Rattle.wf_send_half_model.specs.Marking.{MarksFit, after_mark, with_transmission_unsent};
 ghost use Rattle.wf_send_half_model.specs.Pulling.{sending_tid_of, after_turn, is_wide_of, open_next, after_sending};
 ghost use Rattle.wf_send_half_model.specs.Filling.{after_pick_within, AreWaiting, IsTakingOff, IsUnderway, with_one_fresh, IsFilling, IsFilled, after_giving, fresh_mpdu, room_for, IsToFill, IsChoosing, IsTurned};
 ghost use Rattle.wf_send_half_model.specs.Views.{agreements, roster, ledger, HasSameViews, KeepsView, KeepsSums};
@@ -354,6 +358,64 @@ pub fn a_call_that_it_does_not_hear()
         StandsFor v (step w (Asked (Answer e))).world bodies }
 {}
 
+/// A device marks a transmission of an open exchange. If it never went on the air, its frame counts one
+/// transmission less, which its window shows; a request has no frame. The exchange is changed, and no station
+/// has to be listed. The number of the transmission flies, and no other number has its frame.
+pub fn a_transmission_is_marked()
+    ensures tid { (v : TransmitValue) (w : World) (bodies : ℕ → FrameValue) → StandsFor v w bodies → (e : ℕ)
+        (x : Exchange) (mpdus : List Mpdu) → exchange w e ≡ Some x → x.content ≡ Frames mpdus → (i : ℕ) →
+        i < length mpdus → x.tid < 8 }
+    ensures within { (v : TransmitValue) (w : World) (bodies : ℕ → FrameValue) → StandsFor v w bodies →
+        (e : ℕ)
+        (x : Exchange) (mpdus : List Mpdu) → exchange w e ≡ Some x → x.content ≡ Frames mpdus → (i : ℕ) →
+        i < length mpdus → tid_number x.station x.tid < length v.windows }
+    ensures number { (v : TransmitValue) (w : World) (bodies : ℕ → FrameValue) → StandsFor v w bodies →
+        (e : ℕ)
+        (x : Exchange) (mpdus : List Mpdu) → exchange w e ≡ Some x → x.content ≡ Frames mpdus → (i : ℕ) →
+        i < length mpdus → (seq : ℕ) → seq ≡ on_air (at no_mpdu mpdus i).number →
+        IsNumber (session w x.station x.tid) (at no_mpdu mpdus i).number seq }
+    ensures flies { (v : TransmitValue) (w : World) (bodies : ℕ → FrameValue) → StandsFor v w bodies → (e : ℕ)
+        (x : Exchange) (mpdus : List Mpdu) → exchange w e ≡ Some x → x.content ≡ Frames mpdus → (i : ℕ) →
+        i < length mpdus → (seq : ℕ) → seq ≡ on_air (at no_mpdu mpdus i).number →
+        is_flying (state_at (window_of v.windows x.station x.tid) seq) ≡ true }
+    ensures own { (v : TransmitValue) (w : World) (bodies : ℕ → FrameValue) → StandsFor v w bodies → (e : ℕ)
+        (x : Exchange) (mpdus : List Mpdu) → exchange w e ≡ Some x → x.content ≡ Frames mpdus → (i : ℕ) →
+        i < length mpdus → HasOwnFrame (session w x.station x.tid) (at no_mpdu mpdus i).number }
+    ensures unsent { (v : TransmitValue) (w : World) (bodies : ℕ → FrameValue) → StandsFor v w bodies →
+        (e : ℕ)
+        (x : Exchange) → exchange w e ≡ Some x → (mpdus : List Mpdu) → x.content ≡ Frames mpdus → (i : ℕ) →
+        i < length mpdus → refusal w (Asked (Unsent e i)) ≡ None → (z : WindowValue) →
+        WindowsHaveRoom (with_window v.windows x.station x.tid z) →
+        WindowStandsFor z (session w x.station x.tid)
+        (with_one_unsent (slot (session w x.station x.tid) (at no_mpdu mpdus i).number).id bodies) →
+        Meets w (with_transmission_unsent x.content i bodies) (Asked (Unsent e i))
+        (record (after_mark v e (with_unsent i)) { windows = with_window v.windows x.station x.tid z })
+        Marked }
+    ensures request { (v : TransmitValue) (w : World) (bodies : ℕ → FrameValue) → StandsFor v w bodies →
+        (e : ℕ)
+        (x : Exchange) → exchange w e ≡ Some x → (start : ℕ) → x.content ≡ Request start → (i : ℕ) →
+        refusal w (Asked (Unsent e i)) ≡ None →
+        Meets w (with_transmission_unsent x.content i bodies) (Asked (Unsent e i))
+        (after_mark v e (with_unsent i)) Marked }
+    ensures given_up { (v : TransmitValue) (w : World) (bodies : ℕ → FrameValue) → StandsFor v w bodies →
+        (e : ℕ) (x : Exchange) → exchange w e ≡ Some x → (i : ℕ) → refusal w (Asked (GiveUp e i)) ≡ None →
+        Meets w bodies (Asked (GiveUp e i)) (after_mark v e (with_given_up i)) Marked }
+{}
+
+/// In the world of a run the marks of each open exchange fit its transmissions. So an exchange with an answer
+/// has a transmission that went on the air. A transmission has a mark exactly if its number has.
+pub fn the_marks_fit()
+    ensures fit { (w : World) → IsReached w → (e : ℕ) (x : Exchange) → exchange w e ≡ Some x → MarksFit x }
+    ensures answered { (w : World) → IsReached w → (e : ℕ) (x : Exchange) (b : Score) →
+        exchange w e ≡ Some x → x.answer ≡ Some b → has_nothing_sent (open_of x) ≡ false }
+    ensures unsent { (w : World) → IsReached w → (e : ℕ) (x : Exchange) (mpdus : List Mpdu) →
+        exchange w e ≡ Some x → x.content ≡ Frames mpdus → (i : ℕ) → i < length mpdus →
+        has (numbers_unsent x) (at no_mpdu mpdus i).number ≡ has x.unsent i }
+    ensures given_up { (w : World) → IsReached w → (e : ℕ) (x : Exchange) (mpdus : List Mpdu) →
+        exchange w e ≡ Some x → x.content ≡ Frames mpdus → (i : ℕ) → i < length mpdus →
+        has (numbers_given_up x) (at no_mpdu mpdus i).number ≡ has x.given_up i }
+{}
+
 /// A frame is accepted. It has the next id, the clock as its stamp, a source of six octets, and a body of 1
 /// to 2304 octets. If the queues are at their limit, the head of the longest one is dropped, and the answer
 /// contains its id.
@@ -374,33 +436,33 @@ pub fn an_enqueue()
 pub fn an_exchange_of_data_ends()
     ensures begins { (v : TransmitValue) (w : World) (bodies : ℕ → FrameValue) → StandsFor v w bodies →
         (e : ℕ) (x : Exchange) → exchange w e ≡ Some x →
-        (acked : ℕ → Bool) (m : Mpdu) (ms : List Mpdu) → mpdus_of x.content ≡ m ∷ ms →
+        (ends : ℕ → End) (m : Mpdu) (ms : List Mpdu) → mpdus_of x.content ≡ m ∷ ms →
         EachMpdu (λ k. (slot (session w x.station x.tid) k.number).attempts < w.config.attempts) (m ∷ ms) →
         (air : Option ℕ) →
         IsEnding (after_close v (open_of x) (charge_of air x))
-        (after_charge (without_exchange w x.number) x air) bodies x.station x.tid x.number acked (m ∷ ms)
-        (with_all_settled (after_charge (without_exchange w x.number) x air) x.station x.tid acked (m ∷ ms)) }
-    ensures next { (v : TransmitValue) (w : World) (bodies : ℕ → FrameValue) (s t e : ℕ) (acked : ℕ →
-        Bool) (m : Mpdu) (ms : List Mpdu) (after : World) (x : WindowValue) →
-        IsEnding v w bodies s t e acked (m ∷ ms) after → WindowsHaveRoom (with_window v.windows s t x) →
-        WindowStandsFor x (session_settled (acked m.number) v.config.attempts m.number
+        (after_charge (without_exchange w x.number) x air) bodies x.station x.tid x.number ends (m ∷ ms)
+        (with_all_settled (after_charge (without_exchange w x.number) x air) x.station x.tid ends (m ∷ ms)) }
+    ensures next { (v : TransmitValue) (w : World) (bodies : ℕ → FrameValue) (s t e : ℕ) (ends : ℕ → End)
+        (m : Mpdu) (ms : List Mpdu) (after : World) (x : WindowValue) →
+        IsEnding v w bodies s t e ends (m ∷ ms) after → WindowsHaveRoom (with_window v.windows s t x) →
+        WindowStandsFor x (after_end v.config.attempts (ends m.number) m.number
         (session w s t)) bodies →
         IsEnding (after_answer (record v { windows = with_window v.windows s t x })
-        (settling_answer (acked m.number) v.config.attempts bodies (slot (session w s t) m.number)))
-        (with_settled w s t (acked m.number) m) bodies s t e acked ms after }
-    ensures state { (v : TransmitValue) (w : World) (bodies : ℕ → FrameValue) (s t e : ℕ) (acked : ℕ → Bool)
+        (settling_answer (ends m.number) v.config.attempts bodies (slot (session w s t) m.number)))
+        (with_settled w s t (ends m.number) m) bodies s t e ends ms after }
+    ensures state { (v : TransmitValue) (w : World) (bodies : ℕ → FrameValue) (s t e : ℕ) (ends : ℕ → End)
         (m : Mpdu) (ms : List Mpdu) (after : World) →
-        IsEnding v w bodies s t e acked (m ∷ ms) after →
+        IsEnding v w bodies s t e ends (m ∷ ms) after →
         (slot (session after s t) m.number).state
-        ≡ state_left (settling_answer (acked m.number) v.config.attempts bodies
+        ≡ state_left (settling_answer (ends m.number) v.config.attempts bodies
         (slot (session w s t) m.number)) }
-    ensures done { (v : TransmitValue) (w : World) (bodies : ℕ → FrameValue) (s t e : ℕ) (acked : ℕ → Bool)
+    ensures done { (v : TransmitValue) (w : World) (bodies : ℕ → FrameValue) (s t e : ℕ) (ends : ℕ → End)
         (after : World) →
-        IsEnding v w bodies s t e acked [] after → Parts v after bodies }
+        IsEnding v w bodies s t e ends [] after → Parts v after bodies }
     ensures world { (w : World) (x : Exchange) (heard : Bool) (air : Option ℕ) (mpdus : List Mpdu) →
         x.content ≡ Frames mpdus →
         (done_outcome w x heard air).world ≡ with_all_settled
-        (after_charge (without_exchange w x.number) x air) x.station x.tid (is_acked heard x.answer) mpdus }
+        (after_charge (without_exchange w x.number) x air) x.station x.tid (end_of x heard) mpdus }
 {}
 
 /// An exchange of a request ends: it is closed and charged, and if it was heard, the window of its TID gets
@@ -539,6 +601,49 @@ pub fn a_leave()
     ensures ends { (before v : TransmitValue) (w : World) (bodies : ℕ → FrameValue) (s dropped : ℕ) →
         IsLeaving before w bodies s 8 v dropped → WindowsHaveRoom v.windows →
         Meets w bodies (Asked (Leave s)) (after_leave v s dropped) (Left dropped) }
+{}
+
+/// A TID is flushed. First the waiting numbers fail, one after the other, and the frame of each is finished
+/// as `flushed` and counted. Then the frames of its queues are. `IsFlushing` holds between two numbers, and
+/// `HasNumbersFlushed` between numbers and queues. There is room for each frame, and they are at most the
+/// setting `room`. The answer is their number.
+pub fn a_flush()
+    ensures begins { (v : TransmitValue) (w : World) (bodies : ℕ → FrameValue) (s t : ℕ) →
+        StandsFor v w bodies → refusal w (Asked (Flush s t)) ≡ None →
+        IsFlushing v w bodies s t v [] (window_of v.windows s t).start }
+    ensures within { (before v : TransmitValue) (w : World) (bodies : ℕ → FrameValue) (s t : ℕ)
+        (frames : List FrameValue) (from : ℕ) → IsFlushing before w bodies s t v frames from →
+        tid_number s t < length v.windows }
+    ensures room { (before v : TransmitValue) (w : World) (bodies : ℕ → FrameValue) (s t : ℕ)
+        (frames : List FrameValue) (from : ℕ) → IsFlushing before w bodies s t v frames from →
+        (x : WindowValue) (f : FrameValue) (next : ℕ) →
+        HasFlushed w.config.attempts x (session w s t) bodies (frames ++ f ∷ []) next →
+        (held_in_backlog v.flows.backlog < v.flows.backlog.room) × (1 ≤ held_in v.tally) }
+    ensures next { (before v : TransmitValue) (w : World) (bodies : ℕ → FrameValue) (s t : ℕ)
+        (frames : List FrameValue) (from : ℕ) → IsFlushing before w bodies s t v frames from →
+        (x : WindowValue) (f : FrameValue) (next : ℕ) → WindowsHaveRoom (with_window v.windows s t x) →
+        f.fate ≡ Dropped Flushed →
+        HasFlushed w.config.attempts x (session w s t) bodies (frames ++ f ∷ []) next →
+        IsFlushing before w bodies s t (after_finish (record v { windows = with_window v.windows s t x }) f)
+        (frames ++ f ∷ []) next }
+    ensures ends { (before v : TransmitValue) (w : World) (bodies : ℕ → FrameValue) (s t : ℕ)
+        (frames : List FrameValue) (from : ℕ) → IsFlushing before w bodies s t v frames from →
+        (x : WindowValue) → WindowsHaveRoom (with_window v.windows s t x) →
+        frames ≡ frames_flushed bodies (session w s t) →
+        WindowStandsFor x (session_flushed w.config.attempts (session w s t)) bodies →
+        HasNumbersFlushed before w bodies s t (record v { windows = with_window v.windows s t x })
+        (length frames) }
+    ensures held { (before v : TransmitValue) (w : World) (bodies : ℕ → FrameValue) (s t dropped : ℕ) →
+        HasNumbersFlushed before w bodies s t v dropped →
+        frames_of_tid v.flows (tid_number s t) ≤ held_in v.tally }
+    ensures few { (before v : TransmitValue) (w : World) (bodies : ℕ → FrameValue) (s t dropped : ℕ) →
+        HasNumbersFlushed before w bodies s t v dropped →
+        dropped + frames_of_tid v.flows (tid_number s t) ≤ w.config.room }
+    ensures whole { (before v : TransmitValue) (w : World) (bodies : ℕ → FrameValue) (s t dropped : ℕ) →
+        HasNumbersFlushed before w bodies s t v dropped →
+        Meets w bodies (Asked (Flush s t)) (after_listing
+        (with_queues_flushed v s t (frames_of_tid v.flows (tid_number s t))) s)
+        (reply.Flushed (dropped + frames_of_tid v.flows (tid_number s t))) }
 {}
 
 /// A pull that finds no ready station is refused. Without the setting `pending`, its pick has changed the

@@ -79,7 +79,8 @@ returns-then-not-add-clause-filled c bodies after k =
     (omega (arith, c.fresh.invariant.most, c.len.ensures.count, c.fresh-test.true))
     (both_give c.in-Some.ensures.some
     (ap can_take (sym c.at.ensures) ∙ sym c.if-can_give.ensures.shown)) u c.in-Ok.number
-    c.len-len.result given c.protected.result (c.protected.ensures.exact ∙ ap (λ (n : ℕ). c.len-len.result + n)
+    c.len-len.result given c.protected.result (c.protected.ensures.exact
+    ∙ ap (λ (n : ℕ). c.len-len.result + n)
     (ap (λ (z : TransmitValue). z.config.overhead) c.self.view_is
     ∙ sym (ap (λ (z : TransmitValue). z.config.overhead) c.fresh.invariant.same))) c.if-not-add.ensures.exact)
 
@@ -115,7 +116,8 @@ fresh-preserved c =
           (omega (arith, c.fresh.invariant.most, c.len.ensures.count, c.fresh-test.true))
           (both_give c.in-Some.ensures.some
           (ap can_take (sym c.at.ensures) ∙ sym c.if-can_give.ensures.shown)) u c.in-Ok.number
-          c.len-len.result given c.protected.result (c.protected.ensures.exact ∙ ap (λ (n : ℕ). c.len-len.result + n)
+          c.len-len.result given c.protected.result (c.protected.ensures.exact
+          ∙ ap (λ (n : ℕ). c.len-len.result + n)
           (ap (λ (z : TransmitValue). z.config.overhead) c.self.view_is
           ∙ sym (ap (λ (z : TransmitValue). z.config.overhead) c.fresh.invariant.same)))
           c.add.new.self c.if-not-add.ensures.exact

@@ -1,5 +1,5 @@
--- Proves what `Half::check_ampdu` promises: the tests are the world's, for the station's number, the number of
--- octets, and whether the station is live. By cases of the first test that fails.
+-- Proves what `Half::check_ampdu` promises: the tests are the world's, for the station's number, the number
+-- of octets, and whether the station is live. By cases of the first test that fails.
 use Rattle.std.proofs.Common.{◌∙◌, sym, ap, not}
 use Rattle.std.proofs.lemmas.Result.{err_from_is_err_and}
 use Rattle.wf_send_half.proofs.Rows.{last_row, row_refuses, row_passes, out_of_range, in_range, absent_same}

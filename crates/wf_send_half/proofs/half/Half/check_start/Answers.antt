@@ -1,5 +1,5 @@
--- Proves what `Half::check_start` promises: the tests are the world's, for the station's number, whether it is
--- live, and whether it is not stopped. By cases of the first test that fails.
+-- Proves what `Half::check_start` promises: the tests are the world's, for the station's number, whether it
+-- is live, and whether it is not stopped. By cases of the first test that fails.
 use Rattle.std.proofs.Common.{◌∙◌, sym, ap, not}
 use Rattle.std.proofs.lemmas.Result.{err_from_is_err_and}
 use Rattle.wf_send_parts.specs.Sleepers.{sleeper}

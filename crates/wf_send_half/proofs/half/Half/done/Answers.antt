@@ -1,6 +1,6 @@
 -- Proves what `Half::done` promises: to take the exchange out, charge its station and settle its numbers is
--- the world's Done. By cases: a bad airtime, a number that no exchange has, and then which numbers the
--- BlockAck shows.
+-- the world's Done. By cases: an answer to what never went on the air, a bad airtime, a number that no
+-- exchange has, and then which numbers the BlockAck shows.
 use Rattle.std.proofs.Common.{◌≡◌, refl, sym, ap, ◌∙◌, subst, arith, Option, Some, true, false, List, ℕ, ◌==◌, is_none}
 use Rattle.std.specs.Prelude.{find, IfSome}
 use Rattle.wf_frame.specs.declared.settings.Config.{Config}
@@ -16,8 +16,45 @@ use Rattle.wf_send_half.specs.Bits.{IsChargeSmall, end_refusal, GoesBy, count_sh
 use Rattle.wf_send_half.specs.Half.{HasWorld}
 use Rattle.wf_send_half.proofs.CallSteps.{view_of}
 use Rattle.wf_send_half.proofs.Worlds.{met_by}
-use Rattle.wf_send_half.proofs.Dones.{refused_done, ends_unknown, ends_well, bad_of, fine_then, bad_meets_lost, bad_meets_heard, within_turns, within_members, pay_back_low, paid_is, within_paid, charge_low, charge_small, closes, closed_now, unopened, where_none, where_some, within_config, open_low, goes_lost, goes_shown, goes_unshown, done_met}
+use Rattle.wf_send_half.proofs.Dones.{refused_done, ends_unknown, ends_unanswered, ends_bad, ends_well, unanswered_of, answers_then, not_sent, never_answered, bad_of, fine_then, bad_meets_lost, bad_meets_heard, within_turns, within_members, pay_back_low, paid_is, within_paid, charge_low, charge_small, closes, closed_now, unopened, where_none, where_some, within_config, open_low, goes_lost, goes_shown, goes_unshown, done_met}
 use Rattle.wf_send_half.proofs.half.Half.done.Goals as goal
+
+pub returns-then-is_answer_impossible-clause-lost : goal.returns-then-is_answer_impossible-clause-lost
+returns-then-is_answer_impossible-clause-lost c =
+    where_none _ c.args.heard (λ none w bodies h.
+    let k = unanswered_of c.args.self.now c.args.exchange c.args.heard
+    (sym c.is_answer_impossible.ensures ∙ c.if-is_answer_impossible.true) in absurd (cc (k.0, none)))
+
+pub returns-then-is_answer_impossible-clause-shown : goal.returns-then-is_answer_impossible-clause-shown
+returns-then-is_answer_impossible-clause-shown c =
+    where_some _ c.args.heard (λ score is w bodies x b h known kept shown.
+    let k = unanswered_of c.args.self.now c.args.exchange c.args.heard
+    (sym c.is_answer_impossible.ensures ∙ c.if-is_answer_impossible.true) in
+    absurd (never_answered c.args.self.now w bodies h c.args.exchange k.1 x b known kept))
+
+pub returns-then-is_answer_impossible-clause-none_shown :
+    goal.returns-then-is_answer_impossible-clause-none_shown
+returns-then-is_answer_impossible-clause-none_shown c w bodies x h known data_is some none =
+    let k = unanswered_of c.args.self.now c.args.exchange c.args.heard
+    (sym c.is_answer_impossible.ensures ∙ c.if-is_answer_impossible.true) in
+    let on = not_sent c.args.self.now w bodies h c.args.exchange k.1 x known in
+    absurd (cc (on, some))
+
+pub returns-then-is_answer_impossible-clause-refused :
+    goal.returns-then-is_answer_impossible-clause-refused
+returns-then-is_answer_impossible-clause-refused c =
+    let on = sym c.is_answer_impossible.ensures ∙ c.if-is_answer_impossible.true in
+    let k = unanswered_of c.args.self.now c.args.exchange c.args.heard on in
+    (ends_unanswered c.args.self.now c.args.exchange c.args.heard c.args.air k.1.opened k.1.some on, refl)
+
+pub returns-then-has_bad_air-clause-refused : goal.returns-then-has_bad_air-clause-refused
+returns-then-has_bad_air-clause-refused c =
+    let k = bad_of c.args.self.now c.args.exchange c.args.air
+    (sym c.has_bad_air.ensures ∙ c.if-has_bad_air.true) in (
+      ends_bad c.args.self.now c.args.exchange c.args.heard c.args.air k.opened k.some
+          (sym c.is_answer_impossible.ensures ∙ c.if-is_answer_impossible.false) k.bad,
+      refl,
+    )
 
 pub returns-then-has_bad_air-clause-lost : goal.returns-then-has_bad_air-clause-lost
 returns-then-has_bad_air-clause-lost c =
@@ -33,13 +70,13 @@ returns-then-has_bad_air-clause-shown c =
     x b known kept)
 
 pub returns-then-has_bad_air-clause-none_shown : goal.returns-then-has_bad_air-clause-none_shown
-returns-then-has_bad_air-clause-none_shown c w bodies x h known data_is none =
+returns-then-has_bad_air-clause-none_shown c w bodies x h known data_is some none =
     bad_meets_lost c.args.self.now w bodies h c.args.exchange c.args.air
     (bad_of c.args.self.now c.args.exchange c.args.air (sym c.has_bad_air.ensures ∙ c.if-has_bad_air.true))
 
 pub returns-in_default-clause-refused : goal.returns-in_default-clause-refused
 returns-in_default-clause-refused c = (
-  ends_unknown c.args.self.now c.args.exchange c.args.air
+  ends_unknown c.args.self.now c.args.exchange c.args.heard c.args.air
       (c.in_default.ensures.taken ∙ ap (λ (z : TransmitValue).
       find (λ (k : Open). k.number == c.args.exchange) z.opened) c.self.view_is),
   ap
@@ -67,7 +104,7 @@ returns-in_default-clause-shown c =
     find (λ (k : Open). k.number == c.args.exchange) z.opened) c.self.view_is)))
 
 pub returns-in_default-clause-none_shown : goal.returns-in_default-clause-none_shown
-returns-in_default-clause-none_shown c w bodies x h known data_is none =
+returns-in_default-clause-none_shown c w bodies x h known data_is some none =
     met_by c.args.self.now _ w bodies (Asked (Done c.args.exchange false c.args.air)) (Refused NoExchange)
     ((returns-in_default-clause-refused c).1)
     (refused_done c.args.self.now w bodies h c.args.exchange false c.args.air
@@ -177,7 +214,7 @@ returns-clause-shown c = where_some _ c.args.heard (λ score is w bodies x b h k
     (ap (λ (z : Exchange). z.answer) (let it : k ≡ x = cc (known, there) in it) ∙ kept) fine))
 
 pub returns-clause-none_shown : goal.returns-clause-none_shown
-returns-clause-none_shown c w bodies x h known data_is none =
+returns-clause-none_shown c w bodies x h known data_is some none =
     done_met c.self.view_is c.in-Some.ensures.taken
     (fine_then c.args.self.now (view_of c.self.inside) c.args.exchange c.args.air c.in-Some.open
     c.has_bad_air.result c.self.view_is c.has_bad_air.ensures c.if-has_bad_air.false c.in-Some.ensures.taken)
@@ -193,10 +230,13 @@ returns-clause-none_shown c w bodies x h known data_is none =
     (λ k there fine. may_end_lost w c.args.exchange k c.args.air there fine)
 
 pub returns-clause-found : goal.returns-clause-found
-returns-clause-found c = sym (ap (λ (z : TransmitValue). is_none (end_refusal z c.args.exchange c.args.air))
-    (sym c.self.view_is)
-    ∙ ap is_none (ends_well (view_of c.self.inside) c.args.exchange c.args.air c.in-Some.open
+returns-clause-found c = sym (ap (λ (z : TransmitValue).
+    is_none (end_refusal z c.args.exchange c.args.heard c.args.air)) (sym c.self.view_is)
+    ∙ ap is_none (ends_well (view_of c.self.inside) c.args.exchange c.args.heard c.args.air c.in-Some.open
     c.in-Some.ensures.taken
+    (answers_then c.args.self.now (view_of c.self.inside) c.args.exchange c.args.heard
+    c.is_answer_impossible.result c.self.view_is c.is_answer_impossible.ensures
+    c.if-is_answer_impossible.false)
     (fine_then c.args.self.now (view_of c.self.inside) c.args.exchange c.args.air c.in-Some.open
     c.has_bad_air.result c.self.view_is c.has_bad_air.ensures c.if-has_bad_air.false
     c.in-Some.ensures.taken)))

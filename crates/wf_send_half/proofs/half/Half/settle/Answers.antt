@@ -1,13 +1,13 @@
 -- Proves what `Half::settle` promises. By cases of the exchange: the numbers of an aggregate are settled one
 -- by one, and a request that was heard is recorded in its window.
-use Rattle.std.proofs.Common.{sym, ap, ◌∙◌, subst, arith, ◌+◌, ◌≤◌, nat_lt, Bool, length}
+use Rattle.std.proofs.Common.{refl, sym, ap, ◌∙◌, subst, arith, ◌+◌, ◌≤◌, nat_lt, Bool, length}
 use Rattle.wf_octets.specs.Distance.{distance}
 use Rattle.wf_send_parts.specs.Window.{WindowValue}
 use Rattle.wf_send_parts.specs.Windows.{window_of}
 use Rattle.wf_send_half_model.specs.Half.{TransmitValue}
 use Rattle.wf_send_parts.specs.declared.exchanges.opened.Sending.{Sending}
 use Rattle.wf_send_half_model.specs.Pulling.{is_wide_of}
-use Rattle.wf_send_half.specs.Bits.{is_shown, count_shown, numbers_sent}
+use Rattle.wf_send_half.specs.Bits.{count_shown, numbers_carried, without_unsent}
 use Rattle.wf_send_half.proofs.CallSteps.{view_of}
 use Rattle.wf_send_half.proofs.Ends.{data_tid, data_within, data_place, data_some, data_settled, data_told, request_low, request_within, request_near, request_told, request_lost, request_heard}
 use Rattle.wf_send_half.proofs.half.Half.settle.Goals as goal
@@ -34,7 +34,7 @@ settle_all-requires-clause-some c = data_some c.requires.some.before c.requires.
     c.requires.some.bodies c.requires.some.stands c.requires.some.number c.requires.some.exchange_is
     c.requires.some.known c.requires.some.air c.args.self.now c.args.open.now c.requires.some.same
     c.requires.some.closed
-    c.in-Data.numbers (is_shown (nat_lt 64 c.size-wide.result) c.args.heard.now) c.in-Data.is
+    c.in-Data.numbers _ c.in-Data.is
 
 pub settle_all-requires-clause-room : goal.settle_all-requires-clause-room
 settle_all-requires-clause-room c = data_place c.requires.some.before c.requires.some.world
@@ -50,7 +50,7 @@ returns-in-Data-clause-settled c v w bodies e x answered air h known same closed
     ∙ ap (λ (z : TransmitValue). window_of z.windows c.args.open.now.station c.args.open.now.tid)
     c.self.view_is)) in
     data_settled v w bodies h e x known air c.args.self.now c.args.open.now same closed c.in-Data.numbers
-    (nat_lt 64 c.size-wide.result) c.args.heard.now answered goes c.settle_all.new.self c.in-Data.is told
+    _ answered goes refl refl c.settle_all.new.self c.in-Data.is told
     c.settle_all.ensures.settled
 
 pub returns-in-Data-clause-reply : goal.returns-in-Data-clause-reply
@@ -60,7 +60,7 @@ returns-in-Data-clause-reply c v w bodies e x answered air h known same closed g
     ∙ ap (λ (z : TransmitValue). window_of z.windows c.args.open.now.station c.args.open.now.tid)
     c.self.view_is)) in
     data_told v w bodies h e x known air c.args.self.now c.args.open.now same closed c.in-Data.numbers
-    (nat_lt 64 c.size-wide.result) c.args.heard.now answered goes c.settle_all.result c.in-Data.is told
+    _ answered goes refl refl c.settle_all.result c.in-Data.is told
     c.settle_all.ensures.counted
 
 pub bar_heard-requires-clause-tid : goal.bar_heard-requires-clause-tid
@@ -122,19 +122,21 @@ returns-in-Data-clause-acked c =
     ∙ ap (λ (z : TransmitValue). window_of z.windows c.args.open.now.station c.args.open.now.tid)
     c.self.view_is)) in
     c.settle_all.ensures.acked
-    ∙ ap (λ (b : Bool). count_shown b c.args.heard.now c.in-Data.numbers) told
+    ∙ ap (λ (b : Bool). count_shown b c.args.heard.now
+    (without_unsent 0 c.args.open.now.unsent c.in-Data.numbers)) told
     ∙ ap (λ (z : Sending). count_shown (is_wide_of c.args.self.now c.args.open.now.station
-    c.args.open.now.tid) c.args.heard.now (numbers_sent z)) (sym c.in-Data.is)
+    c.args.open.now.tid) c.args.heard.now (without_unsent 0 c.args.open.now.unsent (numbers_carried z)))
+    (sym c.in-Data.is)
 
 pub returns-then-is_some-clause-acked : goal.returns-then-is_some-clause-acked
 returns-then-is_some-clause-acked c = ap (λ (z : Sending).
     count_shown (is_wide_of c.args.self.now c.args.open.now.station c.args.open.now.tid) c.args.heard.now
-    (numbers_sent z)) (sym c.in-Request.is)
+    (without_unsent 0 c.args.open.now.unsent (numbers_carried z))) (sym c.in-Request.is)
 
 pub returns-else-is_some-clause-acked : goal.returns-else-is_some-clause-acked
 returns-else-is_some-clause-acked c = ap (λ (z : Sending).
     count_shown (is_wide_of c.args.self.now c.args.open.now.station c.args.open.now.tid) c.args.heard.now
-    (numbers_sent z)) (sym c.in-Request.is)
+    (without_unsent 0 c.args.open.now.unsent (numbers_carried z))) (sym c.in-Request.is)
 
 pub returns-in-Data-clause-config : goal.returns-in-Data-clause-config
 returns-in-Data-clause-config c = c.settle_all.ensures.config

@@ -1,5 +1,5 @@
--- Proves what `Transmit::advance` promises: a later time changes no flag, and the half at this time represents
--- the world at this time.
+-- Proves what `Transmit::advance` promises: a later time changes no flag, and the half at this time
+-- represents the world at this time.
 use Rattle.std.proofs.Common.{subst, ℕ}
 use Rattle.std.specs.Prelude.{OnOk}
 use Rattle.wf_frame.specs.Frames.{FrameValue}
@@ -16,7 +16,8 @@ invariant_of-self c = tracked_after c.self.inside.half c.advance.new.self c.args
 
 pub returns-clause-stands : goal.returns-clause-stands
 returns-clause-stands c = subst (λ (v : TransmitValue). OnOk c.advance.result ((w : World)
-    (bodies : ℕ → FrameValue) → StandsFor v w bodies → StandsFor c.advance.new.self (at_time w c.args.now) bodies))
+    (bodies : ℕ → FrameValue) → StandsFor v w bodies → StandsFor c.advance.new.self
+    (at_time w c.args.now) bodies))
     c.self.view_is (stands_after c.self.inside.half c.advance.new.self c.args.now c.advance.result
     c.advance.ensures.later c.advance.ensures.moved)
 

@@ -1,4 +1,5 @@
--- Proves what `Transmit::ampdu` promises: an Ampdu changes the readiness of no station, so the flags stay right.
+-- Proves what `Transmit::ampdu` promises: an Ampdu changes the readiness of no station, so the flags stay
+-- right.
 use Rattle.std.proofs.Common.{refl}
 use Rattle.wf_frame.specs.declared.notes.Ask.TheVariants.{Ampdu}
 use Rattle.wf_send_half.proofs.Kept.{tracked_still}
