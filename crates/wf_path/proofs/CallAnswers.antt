@@ -7,7 +7,8 @@ use Rattle.wf_frame.specs.declared.answers.Brief.{Brief}
 use Rattle.wf_frame.specs.declared.notes.Ask.{Ask}
 use Rattle.wf_frame.specs.declared.notes.Note.TheVariants.{Asked}
 use Rattle.wf_frame.specs.declared.notes.ReplyNote.{ReplyNote}
-use Rattle.wf_frame.specs.declared.notes.ReplyNote.TheVariants.{Joined, Left, Set, Now, Accepted, Send, Released, Ba, Done, Slept, Woken, Polled, Charged, Reaped, Stopped, Started, Refused}
+use Rattle.wf_frame.specs.declared.notes.ReplyNote.TheVariants.{Joined, Left, Set, Now, Accepted, Send, Released, Ba, Done, Slept, Woken, Polled, Charged, Reaped, Stopped, Started, Marked, Flushed, Refused}
+use Rattle.wf_def_world.specs.World.{World}
 use Rattle.wf_send_half_model.specs.Half.{TransmitValue}
 use Rattle.wf_send_half_model.specs.Standing.{StandsFor, Meets}
 use Rattle.wf_path.specs.Addresses.{Addresses}
@@ -37,6 +38,8 @@ refused_so (Charged deficit) is = absurd (cc is)
 refused_so (Reaped id fate) is = absurd (cc is)
 refused_so Stopped is = absurd (cc is)
 refused_so Started is = absurd (cc is)
+refused_so Marked is = absurd (cc is)
+refused_so (Flushed dropped) is = absurd (cc is)
 
 -- x is the half of the path p, a are its addresses, and u is the half after the call
 module _ (x : TransmitValue) (h : IsPath x) (ask : Ask) (reply : ReplyNote) (u : TransmitValue)
@@ -44,14 +47,14 @@ module _ (x : TransmitValue) (h : IsPath x) (ask : Ask) (reply : ReplyNote) (u :
   pub answered_briefly : (a : Addresses) (p : PathValue) →
       ◌≡◌ {A = PathValue} (record { half = x; addresses = a }) p → (brief : Brief) →
       ((pairs : List (ℕ × ℕ)) (ids : List ℕ) → reply_with brief pairs ids ≡ reply) →
-      ((bodies : ℕ → FrameValue) → bodies_after p.half (Call ask) reply bodies ≡ bodies) →
+      ((w : World) (bodies : ℕ → FrameValue) → bodies_after p.half w (Call ask) reply bodies ≡ bodies) →
       (is_refused reply ≡ true → u ≡ x) →
       IsAnsweredBriefly p ask (record { half = u; addresses = a }) brief
   answered_briefly a p same brief says sends stays pairs = record {
-    meets = λ w bodies ids st.
-        subst (λ (z : ReplyNote). Meets w (bodies_after p.half (Call ask) z bodies) (Asked ask) u z)
+    meets = λ w bodies ids st _.
+        subst (λ (z : ReplyNote). Meets w (bodies_after p.half w (Call ask) z bodies) (Asked ask) u z)
         (sym (says pairs ids)) (subst (λ (z : ℕ → FrameValue). Meets w z (Asked ask) u reply)
-        (sym (sends bodies)) (meets w bodies (subst (λ (z : TransmitValue). StandsFor z w bodies)
+        (sym (sends w bodies)) (meets w bodies (subst (λ (z : TransmitValue). StandsFor z w bodies)
         (sym (half_is same)) st)));
     refused = λ ids is. ap (λ (z : TransmitValue). with_half a z)
         (stays (ap is_refused (sym (says pairs ids)) ∙ refused_so (reply_with brief pairs ids) is)) ∙ same;

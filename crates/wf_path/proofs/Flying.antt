@@ -1,12 +1,12 @@
 -- Proves that the number of a data transmission flies in the window of its TID, and that its
 -- frame is the frame with its id. The end of its exchange could begin, so the facts of an ending hold.
-use Rattle.std.proofs.Common.{◌≡◌, refl, ap, sym, ◌∙◌, subst, ℕ, zero, suc, ◌<◌, ◌==◌, Bool, true, false, List, [], ◌∷◌, map, Option, Some, None, option_map, eq-eqb}
+use Rattle.std.proofs.Common.{◌≡◌, refl, ap, sym, ◌∙◌, subst, ℕ, zero, suc, ◌<◌, ◌==◌, Bool, true, List, [], ◌∷◌, map, Option, Some, None, option_map, eq-eqb}
 use Rattle.std.specs.Prelude.{find, option_and_then, slice_get}
 use Rattle.std.proofs.lemmas.Bool.{or_left, or_right}
 use Rattle.std.proofs.lemmas.Option.{slice_get-map}
 use Rattle.wf_frame.specs.Frames.{FrameValue}
 use Rattle.wf_def_lists.specs.Table.{has}
-use Rattle.wf_def_agreement.specs.Session.{Session, slot, is_settled}
+use Rattle.wf_def_agreement.specs.Session.{Session, End, slot, is_settled}
 use Rattle.wf_def_world.specs.World.{World, Exchange, Mpdu, Content, Frames, Request, session, exchange, without_exchange}
 use Rattle.wf_def_world.specs.Exchanges.{mpdus_of, after_charge, with_all_settled, charge_of}
 use Rattle.wf_law_runs.specs.Windows.{EachMpdu}
@@ -82,11 +82,11 @@ module _ (v : TransmitValue) (o : Open) (index : ℕ) (w : World) (bodies : ℕ 
   -- the end of its exchange could begin
   ending : IsEnding (after_close v (open_of x) (charge_of None x))
       (after_charge (without_exchange w x.number) x None) bodies x.station x.tid x.number
-      (λ n. false) sends.mpdus
+      (λ n. End.Missed) sends.mpdus
       (with_all_settled (after_charge (without_exchange w x.number) x None) x.station x.tid
-      (λ n. false) sends.mpdus)
+      (λ n. End.Missed) sends.mpdus)
   ending = begun v w bodies f.stands f.number x f.known None (numbers_on_air mpdus)
-      (data_of x.content index m f.among) (λ n. false)
+      (data_of x.content index m f.among) (λ n. End.Missed)
 
   at : slice_get sends.mpdus index ≡ Some m
   at = ap (λ (c : Content). slice_get (mpdus_of c) index) (sym sends.content) ∙ f.among
@@ -95,7 +95,7 @@ module _ (v : TransmitValue) (o : Open) (index : ℕ) (w : World) (bodies : ℕ 
   same_session = ap (λ (a : Agreements). a.sessions x.station x.tid) (closed_agreements w x None)
 
   flies : IsFlyingIn y (ending_of (after_charge (without_exchange w x.number) x None).config x.number
-      (λ n. false))
+      (λ n. End.Missed))
       m.number
   flies =
       let among : has (map (λ (k : Mpdu). k.number) sends.mpdus) m.number ≡ true =
@@ -103,7 +103,8 @@ module _ (v : TransmitValue) (o : Open) (index : ℕ) (w : World) (bodies : ℕ 
       (slice_get-map (λ (k : Mpdu). k.number) sends.mpdus index
       ∙ ap (option_map (λ (k : Mpdu). k.number)) at) in
       subst (λ (z : Session). IsFlyingIn z (ending_of
-      (after_charge (without_exchange w x.number) x None).config x.number (λ n. false)) m.number) same_session
+      (after_charge (without_exchange w x.number) x None).config x.number (λ n. End.Missed)) m.number)
+      same_session
       (ending.flying.each m.number among)
 
   pub held : holds_parcel (slot y m.number).state ≡ true
@@ -306,7 +307,8 @@ module _ (v : TransmitValue) (w : World) (bodies : ℕ → FrameValue) (h : Stan
       ∙ sym (ap (option_and_then (λ x. transmission_tag bodies x index)) k.known)
 
   pub no_bare : None ≡ find (λ x. x.number == e) v.opened → None ≡ bare_sent w bodies e index
-  no_bare is = sym (ap (option_and_then (λ x. transmission_bare bodies x index)) (none_open v w bodies h e is))
+  no_bare is = sym (ap (option_and_then (λ x. transmission_bare bodies x index))
+      (none_open v w bodies h e is))
 
   pub no_bared : (o : Open) → Some o ≡ find (λ x. x.number == e) v.opened →
       number_carried o.sending index ≡ None → None ≡ bare_sent w bodies e index

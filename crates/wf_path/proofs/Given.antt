@@ -17,7 +17,7 @@ use Rattle.wf_send_half_model.specs.Standing.{StandsFor, Meets}
 use Rattle.wf_send_half.specs.Enqueues.{enqueue_of, as_accepted}
 use Rattle.wf_send_half.specs.Replies.{reaped_reply}
 use Rattle.wf_path.specs.Addresses.{Addresses}
-use Rattle.wf_path.specs.Jobs.{note_of, bodies_after, frame_given_back, is_refused}
+use Rattle.wf_path.specs.Jobs.{note_of, MayCall, bodies_after, frame_given_back, is_refused}
 use Rattle.wf_path.specs.Paths.{PathValue, IsPath, RiseLittle}
 use Rattle.wf_path.specs.declared.job.Job.{Job}
 use Rattle.wf_path.specs.declared.job.Job.TheVariants.{Give, Call}
@@ -32,10 +32,10 @@ module _ (x : TransmitValue) (h : IsPath x) (u : TransmitValue) (a : Addresses) 
     pub accepted_meets : (id : ℕ) (dropped : Option ℕ) → ((w : World) (bodies : ℕ → FrameValue) →
         StandsFor x w bodies →
         Meets w (with_body bodies (as_accepted x f)) (enqueue_of f) u (Accepted id dropped)) →
-        (w : World) (bodies : ℕ → FrameValue) → StandsFor p.half w bodies →
-        Meets w (bodies_after p.half job (Accepted id dropped) bodies) (note_of job) u (Accepted id dropped)
-    accepted_meets id dropped meets w bodies st =
-        subst (λ (j : Job). Meets w (bodies_after p.half j (Accepted id dropped) bodies) (note_of j) u
+        (w : World) (bodies : ℕ → FrameValue) → StandsFor p.half w bodies → MayCall w job →
+        Meets w (bodies_after p.half w job (Accepted id dropped) bodies) (note_of job) u (Accepted id dropped)
+    accepted_meets id dropped meets w bodies st may =
+        subst (λ (j : Job). Meets w (bodies_after p.half w j (Accepted id dropped) bodies) (note_of j) u
         (Accepted id dropped)) (sym is)
         (subst (λ (z : TransmitValue). StandsFor z w bodies →
         Meets w (with_body bodies (as_accepted z f)) (enqueue_of f) u (Accepted id dropped)) (half_is same)
@@ -51,10 +51,10 @@ module _ (x : TransmitValue) (h : IsPath x) (u : TransmitValue) (a : Addresses) 
 
     pub refused_meets : (r : Refusal) → ((w : World) (bodies : ℕ → FrameValue) → StandsFor x w bodies →
         Meets w bodies (enqueue_of f) u (Refused r)) →
-        (w : World) (bodies : ℕ → FrameValue) → StandsFor p.half w bodies →
-        Meets w (bodies_after p.half job (Refused r) bodies) (note_of job) u (Refused r)
-    refused_meets r meets w bodies st =
-        subst (λ (j : Job). Meets w (bodies_after p.half j (Refused r) bodies) (note_of j) u (Refused r))
+        (w : World) (bodies : ℕ → FrameValue) → StandsFor p.half w bodies → MayCall w job →
+        Meets w (bodies_after p.half w job (Refused r) bodies) (note_of job) u (Refused r)
+    refused_meets r meets w bodies st may =
+        subst (λ (j : Job). Meets w (bodies_after p.half w j (Refused r) bodies) (note_of j) u (Refused r))
         (sym is) (meets w bodies (subst (λ (z : TransmitValue). StandsFor z w bodies) (sym (half_is same))
         st))
 
@@ -76,11 +76,11 @@ module _ (x : TransmitValue) (h : IsPath x) (u : TransmitValue) (a : Addresses) 
     before : (w : World) (bodies : ℕ → FrameValue) → StandsFor p.half w bodies → StandsFor x w bodies
     before w bodies st = subst (λ (z : TransmitValue). StandsFor z w bodies) (sym (half_is same)) st
 
-    pub reaped_meets : (w : World) (bodies : ℕ → FrameValue) → StandsFor p.half w bodies →
-        Meets w (bodies_after p.half job (reply_with b pairs ids) bodies) (note_of job) u
+    pub reaped_meets : (w : World) (bodies : ℕ → FrameValue) → StandsFor p.half w bodies → MayCall w job →
+        Meets w (bodies_after p.half w job (reply_with b pairs ids) bodies) (note_of job) u
         (reply_with b pairs ids)
-    reaped_meets w bodies st =
-        subst (λ (j : Job). Meets w (bodies_after p.half j (reply_with b pairs ids) bodies) (note_of j) u
+    reaped_meets w bodies st may =
+        subst (λ (j : Job). Meets w (bodies_after p.half w j (reply_with b pairs ids) bodies) (note_of j) u
         (reply_with b pairs ids)) (sym is)
         (subst (λ (z : ReplyNote). Meets w bodies (Asked Reap) u z) (sym (says pairs ids))
         (meets w bodies (before w bodies st)))

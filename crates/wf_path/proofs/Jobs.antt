@@ -12,9 +12,9 @@ use Rattle.wf_def_world.specs.Step.{step}
 use Rattle.wf_law_driver.specs.Unheard.{IsSilent, IsUnheard}
 use Rattle.wf_send_half_model.specs.Half.{TransmitValue}
 use Rattle.wf_send_half_model.specs.Standing.{StandsFor, Meets}
-use Rattle.wf_path.specs.Jobs.{as_ask, job_of, note_of, bodies_after, frame_given_back}
+use Rattle.wf_path.specs.Jobs.{as_ask, job_of, note_of, MayCall, bodies_after, frame_given_back}
 use Rattle.wf_path.specs.declared.asks.PathAsk.{PathAsk}
-use Rattle.wf_path.specs.declared.asks.PathAsk.TheVariants.{Join, Leave, Rate, Tick, Sleep, Wake, Poll, Rx, Ampdu, Stop, Start}
+use Rattle.wf_path.specs.declared.asks.PathAsk.TheVariants.{Join, Leave, Rate, Tick, Sleep, Wake, Poll, Rx, Ampdu, Stop, Start, Unsent, GiveUp, Flush}
 use Rattle.wf_path.specs.declared.asks.PathJob.{PathJob}
 use Rattle.wf_path.specs.declared.asks.PathJob.TheVariants as path
 use Rattle.wf_path.specs.declared.job.Job.{Job}
@@ -35,6 +35,9 @@ none_for bodies (Rx s c air) reply = refl
 none_for bodies (Ampdu s octets) reply = refl
 none_for bodies (Stop s) reply = refl
 none_for bodies (Start s) reply = refl
+none_for bodies (Unsent e i) reply = refl
+none_for bodies (GiveUp e i) reply = refl
+none_for bodies (Flush s t) reply = refl
 
 pub none_back : (bodies : ℕ → FrameValue) (job : PathJob) (ask : PathAsk) → job ≡ path.Call ask →
     (reply : ReplyNote) → ◌≡◌ {A = Option FrameValue} None (frame_given_back bodies (job_of job) reply)
@@ -44,12 +47,15 @@ none_back bodies job ask is reply = subst
 
 pub asked_meets : (v u : TransmitValue) (job : PathJob) (ask : Ask) → job_of job ≡ Call ask →
     (b : Brief) (pairs : List (ℕ × ℕ)) (ids : List ℕ) (w : World) (bodies : ℕ → FrameValue) →
-    Meets w (bodies_after v (Call ask) (reply_with b pairs ids) bodies) (Asked ask) u
-    (reply_with b pairs ids) →
-    Meets w (bodies_after v (job_of job) (reply_with b pairs ids) bodies) (note_of (job_of job)) u
+    (MayCall w (Call ask) → Meets w (bodies_after v w (Call ask) (reply_with b pairs ids) bodies) (Asked ask)
+    u
+    (reply_with b pairs ids)) →
+    MayCall w (job_of job) →
+    Meets w (bodies_after v w (job_of job) (reply_with b pairs ids) bodies) (note_of (job_of job)) u
     (reply_with b pairs ids)
 asked_meets v u job ask same b pairs ids w bodies m =
-    subst (λ (j : Job). Meets w (bodies_after v j (reply_with b pairs ids) bodies) (note_of j) u
+    subst (λ (j : Job). MayCall w j → Meets w (bodies_after v w j (reply_with b pairs ids) bodies)
+    (note_of j) u
     (reply_with b pairs ids)) (sym same) m
 
 -- ---- no call is about a receiver
@@ -66,6 +72,9 @@ silent_ask (Rx s c air) = tt
 silent_ask (Ampdu s octets) = tt
 silent_ask (Stop s) = tt
 silent_ask (Start s) = tt
+silent_ask (Unsent e i) = tt
+silent_ask (GiveUp e i) = tt
+silent_ask (Flush s t) = tt
 
 silent_job : (job : PathJob) → IsSilent (note_of (job_of job))
 silent_job (path.Give f) = tt

@@ -1,7 +1,7 @@
 -- Proves that a station that is live only since a call has joined by this call, so its airtimes begin at 0.
 -- By cases of the call.
 use Rattle.std.proofs.Common.{◌≡◌, refl, ap, sym, ◌∙◌, ℕ, ◌==◌, ◌&&◌, Bool, true, false, if◌then◌else◌, List, [], ◌∷◌, Option, Some, None, is_none, IfSome}
-use Rattle.wf_frame.specs.declared.notes.Ask.TheVariants.{Join, Leave, Rate, Tick, Pull, Arrive, Answer, Done, Sleep, Wake, Poll, Rx, Reap, Ampdu, Stop, Start}
+use Rattle.wf_frame.specs.declared.notes.Ask.TheVariants.{Join, Leave, Rate, Tick, Pull, Arrive, Answer, Done, Sleep, Wake, Poll, Rx, Reap, Ampdu, Stop, Start, Unsent, GiveUp, Flush}
 use Rattle.wf_frame.specs.declared.notes.Note.{Note}
 use Rattle.wf_frame.specs.declared.notes.Note.TheVariants.{Enqueue, Asked}
 use Rattle.wf_frame.specs.declared.notes.Refusal.{Refusal}
@@ -19,7 +19,7 @@ use Rattle.wf_law_runs.proofs.Windows.Sides.{Same, then_same, same_listed, same_
 use Rattle.wf_law_runs.proofs.Windows.Agreed.{IsLawful, IsFound, found, same_left_tids, same_off_lists}
 use Rattle.wf_law_runs.proofs.Releases.Released.{live_with_station, live_own_station}
 use Rattle.wf_law_runs.proofs.Frames.Delivered.{same_enqueued}
-use Rattle.wf_law_runs.proofs.Kept.Lasting.{Last, last_pulled, last_arrived, last_answered, last_ended}
+use Rattle.wf_law_runs.proofs.Kept.Lasting.{Last, last_pulled, last_arrived, last_answered, last_unsent, last_given_up, last_flushed, last_ended}
 
 -- whether a call is a Join of station s
 abbrev is_join_of : ℕ → Note → Bool
@@ -95,6 +95,13 @@ were_done (Asked (Ampdu s octets)) w i =
     were_same (Asked (Ampdu s octets)) w _ (same_on_station w s _ (λ x t. refl))
 were_done (Asked (Stop s)) w i = were_same (Asked (Stop s)) w _ (same_on_station w s _ (λ x t. refl))
 were_done (Asked (Start s)) w i = were_same (Asked (Start s)) w _ (same_on_station w s _ (λ x t. refl))
+were_done (Asked (Unsent e n)) w i = were_open (Asked (Unsent e n)) (IsFound w i) (exchange w e) w _
+    (found w i e)
+    (λ x f. last_unsent w x n)
+were_done (Asked (GiveUp e n)) w i = were_open (Asked (GiveUp e n)) (IsFound w i) (exchange w e) w _
+    (found w i e)
+    (λ x f. last_given_up w x n)
+were_done (Asked (Flush s t)) w i = were_last (Asked (Flush s t)) w _ (last_flushed w s t)
 
 -- ---- the step
 
@@ -131,6 +138,9 @@ begun (Asked Reap) w s n fine own = absurd (cc own)
 begun (Asked (Ampdu i octets)) w s n fine own = absurd (cc own)
 begun (Asked (Stop i)) w s n fine own = absurd (cc own)
 begun (Asked (Start i)) w s n fine own = absurd (cc own)
+begun (Asked (Unsent e i)) w s n fine own = absurd (cc own)
+begun (Asked (GiveUp e i)) w s n fine own = absurd (cc own)
+begun (Asked (Flush i t)) w s n fine own = absurd (cc own)
 
 new_answer : (r : Option Refusal) (w : World) (note : Note) (s n : ℕ) → refusal w note ≡ r → IsLawful w →
     is_live w s ≡ false → is_live (judged_outcome w note r).world s ≡ true → since_join w s note n ≡ 0

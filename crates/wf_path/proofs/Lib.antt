@@ -3,6 +3,8 @@ mod Advancing
 mod CallAnswers
 mod Counts
 mod Dones
+mod EachShown
+mod Ending
 mod Flying
 mod Given
 mod Identifiers
@@ -10,6 +12,7 @@ mod Inside
 mod Jobs
 mod Joining
 pub mod MadeUp
+mod Marks
 mod Opened
 mod Openings
 mod Pulls

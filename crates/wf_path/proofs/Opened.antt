@@ -1,11 +1,13 @@
 -- Proves that an open exchange of the half agrees with the world's: its station and TID are in range, and its
--- answer and its summary agree.
-use Rattle.std.proofs.Common.{◌≡◌, refl, ap, sym, ◌∙◌, subst, arith, ℕ, ◌<◌, ◌==◌, Bool, true, List, Some, None, option_map}
+-- answer, its summary and its marks agree.
+use Rattle.std.proofs.Common.{◌≡◌, refl, ap, sym, ◌∙◌, subst, arith, ℕ, ◌<◌, ◌==◌, Bool, true, false, List, Option, Some, None, option_map}
 use Rattle.std.specs.Prelude.{find}
 use Rattle.std.specs.Option.{option_map_or}
 use Rattle.std.proofs.lemmas.List.{length-map}
 use Rattle.wf_frame.specs.declared.settings.Config.{Config}
 use Rattle.wf_frame.specs.Frames.{FrameValue}
+use Rattle.wf_def_lists.specs.Table.{has}
+use Rattle.wf_def_world.specs.Refusals.{exchange_has}
 use Rattle.wf_def_world.specs.World.{World, Exchange, Content, Frames, Request, is_live, exchange, is_wide}
 use Rattle.wf_def_world.specs.CanSend.{is_request}
 use Rattle.wf_def_world.specs.Exchanges.{transmissions}
@@ -101,3 +103,18 @@ module _ (v : TransmitValue) (w : World) (bodies : ℕ → FrameValue) (h : Stan
       let same : Some (record { station = o.station; tid = o.tid; count = count; request = request })
       ≡ Some (sent_of x) = cc (station, tid, transmissions_are, asks) in
       same ∙ ap (option_map sent_of) (sym k.known)
+
+-- ---- its marks
+
+module _ (v : TransmitValue) (w : World) (bodies : ℕ → FrameValue) (h : StandsFor v w bodies) (e i : ℕ) where
+  pub none_unsent : None ≡ find (λ x. x.number == e) v.opened →
+      false ≡ exchange_has (exchange w e) (λ x. has x.unsent i)
+  none_unsent is = sym (ap (λ (f : Option Exchange). exchange_has f (λ x. has x.unsent i))
+      (none_open v w bodies h e is))
+
+  pub some_unsent : (o : Open) → Some o ≡ find (λ x. x.number == e) v.opened →
+      has o.unsent i ≡ exchange_has (exchange w e) (λ x. has x.unsent i)
+  some_unsent o is =
+      let k : IsKnown w e o = known_of v w bodies h e o is in
+      ap (λ (z : Open). has z.unsent i) k.same
+      ∙ sym (ap (λ (f : Option Exchange). exchange_has f (λ x. has x.unsent i)) k.known)

@@ -33,7 +33,8 @@ use Rattle.wf_path.proofs.Values.{half_is, addresses_are, with_half}
 -- ---- the answer
 
 -- the answer of a pull has no list of ids
-same_said : (w : World) (c : Class) (l : Limits) (x : ReplyNote) (b : Brief) (pairs : List (ℕ × ℕ)) (ids : List ℕ) →
+same_said : (w : World) (c : Class) (l : Limits) (x : ReplyNote) (b : Brief) (pairs : List (ℕ × ℕ))
+    (ids : List ℕ) →
     Says w c l x → reply_with b pairs [] ≡ x → reply_with b pairs ids ≡ x
 same_said w c l x brief.Joined pairs ids k e = e
 same_said w c l x (brief.Left dropped) pairs ids k e = e
@@ -49,6 +50,8 @@ same_said w c l x brief.Slept pairs ids k e = e
 same_said w c l x brief.Woken pairs ids k e = e
 same_said w c l x brief.Stopped pairs ids k e = e
 same_said w c l x brief.Started pairs ids k e = e
+same_said w c l x brief.Marked pairs ids k e = e
+same_said w c l x (brief.Flushed dropped) pairs ids k e = e
 same_said w c l x (brief.Polled class) pairs ids k e = e
 same_said w c l x (brief.Charged deficit) pairs ids k e = e
 same_said w c l x (brief.Reaped id fate) pairs ids k e = e
@@ -81,7 +84,8 @@ pub may_open : (w : World) (c : Class) (l : Limits) → nat_le w.config.inflight
     is_at_aql_total w ≡ false → changes_nothing (step w (Asked (Pull c l))).reply ≡ false
 may_open w c l off behind = from (says w c l)
   where
-    from : Says w c l (step w (Asked (Pull c l))).reply → changes_nothing (step w (Asked (Pull c l))).reply ≡ false
+    from : Says w c l (step w (Asked (Pull c l))).reply → changes_nothing (step w (Asked (Pull c l))).reply ≡
+        false
     from (Sends sent) = ap changes_nothing sent.is
     from (Refuses r h how) = ap changes_nothing (how ∙ ap Refused (only_idle _ _ _ _ _ r off behind h))
 
@@ -129,6 +133,8 @@ refused_only (brief.Charged deficit) pairs ids r is = absurd (cc is)
 refused_only (brief.Reaped id fate) pairs ids r is = absurd (cc is)
 refused_only brief.Stopped pairs ids r is = absurd (cc is)
 refused_only brief.Started pairs ids r is = absurd (cc is)
+refused_only brief.Marked pairs ids r is = absurd (cc is)
+refused_only (brief.Flushed dropped) pairs ids r is = absurd (cc is)
 refused_only (brief.Refused reason) pairs ids r is = ap brief.Refused (cc is)
 
 -- a pull that is refused neither as Full nor as Ahead is refused as Idle
@@ -185,7 +191,7 @@ module _ (x : TransmitValue) (h : IsPath x) (c : Class) (l : Limits) (b : Brief)
       (x.config.pending ≡ 1 → b ≡ brief.Refused Idle → u ≡ x) →
       IsAnswered p (Pull c l) (record { half = u; addresses = a }) b pairs
   pull_answered a p same full ahead idle = record {
-    meets = λ w bodies ids st. pull_met w bodies c l u b pairs ids
+    meets = λ w bodies ids st _. pull_met w bodies c l u b pairs ids
         (meets w bodies (subst (λ (z : TransmitValue). StandsFor z w bodies) (sym (half_is same)) st));
     refused = λ ids is. ap (λ (z : TransmitValue). with_half a z)
         (closed_or_same x u h.world h.bodies _ c l b pairs ids h.stands

@@ -276,3 +276,29 @@ below_more v n k more h = record {
 -- unchanged counts do not rise
 pub no_rise : (v : TransmitValue) → RiseLittle v v
 no_rise v n = below_more v n (n + greatest_tick) (omega arith)
+
+-- ---- calls that leave all counts as they are
+
+-- u has the stations of w and as many accepted frames, and its clock and its number of exchanges are those of
+-- w
+pub record KeepsCounts (w u : World) : Type 0 where
+  pub clock : u.clock ≡ w.clock
+  pub exchanges : u.exchanges ≡ w.exchanges
+  pub accepted : accepted_count u ≡ accepted_count w
+  pub stations : u.stations ≡ w.stations
+
+below_kept : (n : ℕ) (w u : World) → KeepsCounts w u → AreBelow n w → AreBelow n u
+below_kept n w u k h = record {
+  clock = omega (arith, k.clock, h.clock);
+  exchanges = omega (arith, k.exchanges, h.exchanges);
+  accepted = omega (arith, k.accepted, h.accepted);
+  charged = λ s c. subst (λ (xs : List (Option Station)). is_some (at None xs s) ≡ true →
+      (share_in (unwrap_or (at None xs s) no_station) c).charged < n) (sym k.stations) (h.charged s c);
+  received = λ s c. subst (λ (xs : List (Option Station)). is_some (at None xs s) ≡ true →
+      (share_in (unwrap_or (at None xs s) no_station) c).received < n) (sym k.stations) (h.received s c);
+}
+
+pub counts_kept : (v y : TransmitValue) (w u : World) (bodies after : ℕ → FrameValue) → StandsFor v w bodies →
+    StandsFor y u after → KeepsCounts w u → (n : ℕ) → HasCountsBelow n v → HasCountsBelow n y
+counts_kept v y w u bodies after st later k n h =
+    path_below y u after later n (below_kept n w u k (world_below v w bodies st n h))

@@ -1,5 +1,5 @@
 -- Defines how a path ends an exchange.
-use Rattle.std.specs.Prelude.{◌≡◌, ◌==◌, ℕ, true, false, List, find, Option, None, Some, is_some, IfNone, IfSome, if◌then◌else◌}
+use Rattle.std.specs.Prelude.{◌≡◌, ◌==◌, ℕ, true, false, List, [], find, Option, None, Some, is_some, IfNone, IfSome, if◌then◌else◌}
 use Rattle.wf_frame.specs.Answers.{reply_with}
 use Rattle.wf_frame.specs.Frames.{FrameValue}
 use Rattle.wf_frame.specs.declared.answers.Brief.{Brief}
@@ -11,31 +11,33 @@ use Rattle.wf_frame.specs.declared.notes.Refusal.TheVariants.{NoExchange}
 use Rattle.wf_def_agreement.specs.Receiver.{Score}
 use Rattle.wf_def_world.specs.World.{World, Exchange, exchange, is_wide}
 use Rattle.wf_def_world.specs.CanSend.{is_request}
-use Rattle.wf_law_driver.specs.Inferred.{AreAckedWhere}
+use Rattle.wf_law_driver.specs.Inferred.{AreAckedWhere, is_wholly_unsent, shown_of_sent}
 use Rattle.wf_law_driver.specs.Unheard.{IsUnheard}
 use Rattle.wf_send_half.specs.Bits.{is_shown, AreShown, NoneIsShown, count_shown_of, end_refusal}
 use Rattle.wf_send_half.specs.Driven.{outcome_after_done, world_after_done, MeetsUnheard}
 use Rattle.wf_send_half_model.specs.Standing.{StandsFor, Meets}
 use Rattle.wf_path.specs.Addresses.{Addresses}
 use Rattle.wf_path.specs.Answers.{read_fault}
+use Rattle.wf_path.specs.Jobs.{is_refused}
 use Rattle.wf_path.specs.declared.faults.DoneFault.{DoneFault}
 use Rattle.wf_path.specs.Paths.{PathValue, IsPath, RiseLittle}
-use Rattle.wf_frame.specs.Settings.{is_bad_air}
 use Rattle.wf_frame.specs.declared.notes.Refusal.{Refusal}
 
 -- The end of exchange e makes q of the path p and answers with a brief. `heard` is the start and the
 -- offsets of a BlockAck, if one was heard; `air` is the airtime, if it was given.
 --
 --   lost         if nothing was heard, the end is the machine's Done that was not heard
---   shown        if the bits agree with the receiver's answer about each of its numbers, the end is the Done
---                that was heard
---   none_shown   if they show none of an aggregate's numbers, the end is the Done that was not heard
+--   shown        if the bits agree with the receiver's answer about each of its numbers that went on the air,
+--                the end is the Done that was heard
+-- none_shown   if they show none of an aggregate's numbers that went on the air, of which there are some, the
+--                end is the Done that was not heard
 --   driven       in an unheard world the end is the Done after exactly the calls that the BlockAck implies,
 --                and it leaves an unheard world
---   acked_where  in an unheard world, if the airtime is in range, exactly those numbers of the exchange are
---                acknowledged that the bits show
---   acked        as many frames are acknowledged as the bits show numbers
+--   acked_where  in an unheard world, if the end is not refused, exactly those numbers of the exchange are
+--                acknowledged that went on the air and that the bits show
+--   acked        as many frames are acknowledged as the bits show numbers that went on the air
 --   refused      a refusal is the answer, and changes nothing
+--   answered     without a refusal the answer is none
 --   not_open     an exchange that is not open is refused as NoExchange, which changes nothing
 --   addresses    the addresses are unchanged
 --   path         q represents an unheard world
@@ -51,17 +53,21 @@ pub record IsEnded (p : PathValue) (e : ℕ) (heard : Option (ℕ × List ℕ)) 
       Meets w bodies (Asked (Done e true air)) q.half (reply_with brief pairs ids))
   pub none_shown : (w : World) (bodies : ℕ → FrameValue) (x : Exchange) (pairs : List (ℕ × ℕ))
       (ids : List ℕ) → StandsFor p.half w bodies →
-      exchange w e ≡ Some x → is_request x.content ≡ false → NoneIsShown w x heard →
+      exchange w e ≡ Some x → is_request x.content ≡ false → is_wholly_unsent x ≡ false →
+      NoneIsShown w x heard →
       Meets w bodies (Asked (Done e false air)) q.half (reply_with brief pairs ids)
   pub driven : (w : World) (bodies : ℕ → FrameValue) (caller : ℕ) (pairs : List (ℕ × ℕ)) (ids : List ℕ) →
       StandsFor p.half w bodies → IsUnheard w →
       MeetsUnheard bodies (outcome_after_done w caller e heard air) q.half (reply_with brief pairs ids)
   pub acked_where : (w : World) (bodies : ℕ → FrameValue) (caller : ℕ) (x : Exchange) →
-      StandsFor p.half w bodies → IsUnheard w → exchange w e ≡ Some x → is_bad_air w.config air ≡ false →
-      AreAckedWhere (world_after_done w caller e heard air) (is_shown (is_wide w x.station x.tid) heard) x
+      StandsFor p.half w bodies → IsUnheard w → exchange w e ≡ Some x →
+      end_refusal p.half e heard air ≡ None →
+      AreAckedWhere (world_after_done w caller e heard air)
+      (shown_of_sent x (is_shown (is_wide w x.station x.tid) heard)) x
   pub acked : (acked waiting failed : ℕ) → brief ≡ briefs.Done acked waiting failed →
       IfSome (find (λ x. x.number == e) p.half.opened) (λ x. acked ≡ count_shown_of p.half heard x)
-  pub refused : (why : Refusal) → end_refusal p.half e air ≡ Some why → (brief ≡ Refused why) × (q ≡ p)
+  pub refused : (why : Refusal) → end_refusal p.half e heard air ≡ Some why → (brief ≡ Refused why) × (q ≡ p)
+  pub answered : end_refusal p.half e heard air ≡ None → is_refused (reply_with brief [] []) ≡ false
   pub not_open : find (λ x. x.number == e) p.half.opened ≡ None → (brief ≡ Refused NoExchange) × (q ≡ p)
   pub addresses : q.addresses ≡ p.addresses
   pub path : IsPath q.half

@@ -10,8 +10,10 @@ use Rattle.wf_frame.specs.declared.notes.Part.TheVariants.{Mpdus}
 use Rattle.wf_frame.specs.declared.notes.Refusal.TheVariants.{Idle}
 use Rattle.wf_frame.specs.declared.notes.ReplyNote.{ReplyNote}
 use Rattle.wf_frame.specs.declared.notes.ReplyNote.TheVariants.{Accepted, Send, Reaped, Refused}
+use Rattle.wf_def_world.specs.World.{World, exchange}
 use Rattle.wf_queue_flows_refines.specs.Frames.{with_body}
 use Rattle.wf_send_half.specs.Enqueues.{enqueue_of, as_accepted}
+use Rattle.wf_send_half.specs.Marks.{HasNotArrived, bodies_unsent}
 use Rattle.wf_send_half.specs.Replies.{bodies_sent}
 use Rattle.wf_send_half_model.specs.Half.{TransmitValue}
 use Rattle.wf_path.specs.declared.asks.ExchangeAsk.{ExchangeAsk}
@@ -46,6 +48,9 @@ as_ask (path.Rx station class air) = machine.Rx station class air
 as_ask (path.Ampdu station octets) = machine.Ampdu station octets
 as_ask (path.Stop station) = machine.Stop station
 as_ask (path.Start station) = machine.Start station
+as_ask (path.Unsent exchange index) = machine.Unsent exchange index
+as_ask (path.GiveUp exchange index) = machine.GiveUp exchange index
+as_ask (path.Flush station tid) = machine.Flush station tid
 
 -- the machine's job that a path's job is
 abbrev pub job_of : PathJob → Job
@@ -60,12 +65,22 @@ ask_about (about.Arrive exchange index) = machine.Arrive exchange index
 ask_about (about.Answer exchange) = machine.Answer exchange
 ask_about (about.Done exchange heard air) = machine.Done exchange heard air
 
--- The frame of each id after a call of v, as it was accepted, with the number of its transmissions since. An
--- accepted frame is added; the frames that a pull sends, by its reply, count one more transmission.
-abbrev pub bodies_after : TransmitValue → Job → ReplyNote → (ℕ → FrameValue) → ℕ → FrameValue
-bodies_after v (Give f) (Accepted id dropped) bodies = with_body bodies (as_accepted v f)
-bodies_after v (Call (Pull class limits)) reply bodies = bodies_sent reply bodies
-bodies_after v job reply bodies = bodies
+-- Whether a path answers a call as the machine does in the world w. A path does not know what arrived, so a
+-- caller that knows makes the call Unsent only for a transmission that has not arrived, of an exchange
+-- without an answer.
+abbrev pub MayCall : World → Job → Type 0
+MayCall w (Call (machine.Unsent exchange index)) = HasNotArrived w exchange index
+MayCall w job = Unit {0}
+
+-- The frame of each id after a call of v in the world w, as it was accepted, with the number of its
+-- transmissions since. An accepted frame is added; the frames that a pull sends, by its reply, count one more
+-- transmission, and the frame of a transmission that never went on the air counts one less.
+abbrev pub bodies_after : TransmitValue → World → Job → ReplyNote → (ℕ → FrameValue) → ℕ → FrameValue
+bodies_after v w (Give f) (Accepted id dropped) bodies = with_body bodies (as_accepted v f)
+bodies_after v w (Call (Pull class limits)) reply bodies = bodies_sent reply bodies
+bodies_after v w (Call (machine.Unsent e index)) reply bodies = bodies_unsent (exchange w e) index reply
+    bodies
+bodies_after v w job reply bodies = bodies
 
 -- how often an id is in these pairs
 abbrev pub times_in : List (ℕ × ℕ) → ℕ → ℕ

@@ -2,7 +2,9 @@
 pub mod Addresses
 pub mod Answers
 pub mod Driver
+pub mod Each
 pub mod Flights
+pub mod Heard
 pub mod Jobs
 pub mod Paths
 pub mod Small

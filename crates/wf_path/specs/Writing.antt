@@ -14,8 +14,8 @@ room_fault room None = Some BadIndex
 room_fault room (Some octets) = if nat_lt room (length octets) then Some (SmallBuffer (length octets))
     else None
 
--- the first check that fails, for a transmission of exchange e and a buffer with this room, in octets, if zeros
--- may stand for the body of a bare frame
+-- the first check that fails, for a transmission of exchange e and a buffer with this room, in octets, if
+-- zeros may stand for the body of a bare frame
 abbrev pub write_fault : Addresses → World → (ℕ → FrameValue) → ℕ → ℕ → ℕ → Option PathFault
 write_fault a w bodies e index room = option_map_or
     (λ x. room_fault room (transmission_octets a w bodies x index)) (exchange w e) (Some NoExchange)

@@ -22,7 +22,7 @@ pub enum PathJob {
     Reap,
 }
 
-/// A call of a path that brings and returns no frame, and whose answer has no lists: one of eleven. An
+/// A call of a path that brings and returns no frame, and whose answer has no lists: one of fourteen. An
 /// argument outside its given range is refused.
 #[derive(Clone, Copy, Debug, PartialEq, Eq)]
 pub enum PathAsk {
@@ -80,6 +80,24 @@ pub enum PathAsk {
     /// Pulls may pick the station again. Refused as BadStation, NoStation or Started.
     Start {
         station: u16,
+    },
+    /// A transmission of an open exchange never went on the air: its frame waits again when the exchange
+    /// ends, and this transmission does not count. `index` counts the transmissions from 0. Refused as
+    /// NoExchange, BadIndex or Marked.
+    Unsent {
+        exchange: u64,
+        index: u16,
+    },
+    /// The device will not try a transmission of an open exchange again: if it is not acknowledged, its frame
+    /// is dropped when the exchange ends. Refused as NoExchange, BadIndex or Marked.
+    GiveUp {
+        exchange: u64,
+        index: u16,
+    },
+    /// The frames of a TID that are not on the air are dropped. Refused as BadStation, BadTid or NoStation.
+    Flush {
+        station: u16,
+        tid: u8,
     },
 }
 
@@ -166,6 +184,15 @@ impl PathJob {
             Ask::Ampdu { station, octets } => Ok(PathJob::Call(PathAsk::Ampdu { station, octets })),
             Ask::Stop { station } => Ok(PathJob::Call(PathAsk::Stop { station })),
             Ask::Start { station } => Ok(PathJob::Call(PathAsk::Start { station })),
+            Ask::Unsent { exchange, index } => Ok(PathJob::Call(PathAsk::Unsent {
+                exchange,
+                index,
+            })),
+            Ask::GiveUp { exchange, index } => Ok(PathJob::Call(PathAsk::GiveUp {
+                exchange,
+                index,
+            })),
+            Ask::Flush { station, tid } => Ok(PathJob::Call(PathAsk::Flush { station, tid })),
         }
     }
 }

@@ -3,14 +3,14 @@
 ghost use Rattle.std.specs.Prelude.{◌≡◌, ℕ, true, List, Option};
 ghost use Rattle.wf_frame.specs.Frames.{FrameValue};
 ghost use Rattle.wf_frame.specs.Answers.{reply_of, reply_with};
-ghost use Rattle.wf_frame.specs.declared.notes.Ask.TheVariants.{Join, Leave, Rate, Tick, Sleep, Wake, Poll, Rx, Reap, Ampdu, Stop, Start};
+ghost use Rattle.wf_frame.specs.declared.notes.Ask.TheVariants.{Join, Leave, Rate, Tick, Sleep, Wake, Poll, Rx, Reap, Ampdu, Stop, Start, Unsent, GiveUp, Flush};
 ghost use Rattle.wf_frame.specs.declared.notes.ReplyNote.TheVariants.{Accepted, Refused};
 ghost use Rattle.wf_def_world.specs.World.{World};
 ghost use Rattle.wf_def_world.specs.Step.{step};
 ghost use Rattle.wf_law_driver.specs.Unheard.{IsUnheard};
 ghost use Rattle.wf_send_half.specs.Replies.{reaped_reply};
 ghost use Rattle.wf_send_half_model.specs.Standing.{StandsFor, Meets};
-ghost use Rattle.wf_path.specs.Jobs.{as_ask, job_of, note_of, bodies_after, frame_given_back, changes_nothing, is_refused};
+ghost use Rattle.wf_path.specs.Jobs.{as_ask, job_of, note_of, MayCall, bodies_after, frame_given_back, changes_nothing, is_refused};
 ghost use Rattle.wf_path.specs.Paths.{IsPath, IsSmall, RiseLittle, IsAnsweredBriefly};
 
 use crate::{Path, PathAsk, PathJob};
@@ -24,7 +24,8 @@ impl Path {
     pub fn call(&mut self, job: PathJob, answer: &mut Answer) -> Option<Parcel>
         requires small { IsSmall self.old.half }
         ensures meets { (w : World) (bodies : ℕ → FrameValue) → StandsFor self.old.half w bodies →
-            Meets w (bodies_after self.old.half (job_of job) (reply_of answer.new) bodies)
+            MayCall w (job_of job) →
+            Meets w (bodies_after self.old.half w (job_of job) (reply_of answer.new) bodies)
             (note_of (job_of job)) self.new.half (reply_of answer.new) }
         ensures parcel { (w : World) (bodies : ℕ → FrameValue) → StandsFor self.old.half w bodies →
             result ≡ frame_given_back bodies (job_of job) (reply_of answer.new) }
@@ -91,6 +92,9 @@ impl Path {
             PathAsk::Ampdu { station, octets } => self.ampdu(station, octets),
             PathAsk::Stop { station } => self.stop(station),
             PathAsk::Start { station } => self.start(station),
+            PathAsk::Unsent { exchange, index } => self.unsent(exchange, index),
+            PathAsk::GiveUp { exchange, index } => self.give_up(exchange, index),
+            PathAsk::Flush { station, tid } => self.flush(station, tid),
         }
     }
 
@@ -136,6 +140,33 @@ impl Path {
     {
         match self.half.start(station) {
             Ok(()) => Brief::Started,
+            Err(reason) => Brief::Refused(reason),
+        }
+    }
+
+    fn unsent(&mut self, exchange: u64, index: u16) -> Brief
+        ensures { IsAnsweredBriefly self.old (Unsent exchange index) self.new result }
+    {
+        match self.half.unsent(exchange, index) {
+            Ok(()) => Brief::Marked,
+            Err(reason) => Brief::Refused(reason),
+        }
+    }
+
+    fn give_up(&mut self, exchange: u64, index: u16) -> Brief
+        ensures { IsAnsweredBriefly self.old (GiveUp exchange index) self.new result }
+    {
+        match self.half.give_up(exchange, index) {
+            Ok(()) => Brief::Marked,
+            Err(reason) => Brief::Refused(reason),
+        }
+    }
+
+    fn flush(&mut self, station: u16, tid: u8) -> Brief
+        ensures { IsAnsweredBriefly self.old (Flush station tid) self.new result }
+    {
+        match self.half.flush(station, tid) {
+            Ok(dropped) => Brief::Flushed { dropped },
             Err(reason) => Brief::Refused(reason),
         }
     }

@@ -22,11 +22,13 @@ use wf_octets::seq12::Seq12;
 impl Path {
     /// Ends an exchange: its station is charged, and each frame that it sent is settled. `heard` is the start
     /// and the bits of the BlockAck that was heard (IEEE 802.11-2012, 8.3.1.9), if one was; the first 64 bits
-    /// count, or all 256 if the TID's window is above 64. Each number that it shows is acknowledged; each
-    /// other number waits again, or fails if it was sent `attempts` times. A request is heard if anything
-    /// was. If `air` is given, the station is charged `air` microseconds instead of the computed charge.
-    /// Refused as NoExchange if the exchange is not open, then as BadAir if `air` is 0 or above the setting
-    /// `charge`.
+    /// count, or all 256 if the TID's window is above 64. A number that never went on the air waits again,
+    /// whatever the BlockAck shows. Each other number that it shows is acknowledged; a number that it does
+    /// not show fails if the device will not try it again or if it was sent `attempts` times, else it waits
+    /// again. A request is heard if anything was. If `air` is given, the station is charged `air`
+    /// microseconds instead of the computed charge. Refused as NoExchange if the exchange is not open, as
+    /// NoAnswer if something was heard though nothing of it went on the air, then as BadAir if `air` is 0 or
+    /// above the setting `charge`.
     pub fn done_bits(
         &mut self,
         exchange: u64,
@@ -48,7 +50,7 @@ impl Path {
 
     /// Ends an exchange as `done_bits` does, by the octets of the BlockAck that was heard. Returns the fault
     /// NoExchange if the exchange is not open, else the first check of the octets that fails; a fault changes
-    /// nothing. If the octets pass and `air` is out of range, the answer is the refusal BadAir.
+    /// nothing. If the octets pass, the answer may still be the refusal NoAnswer or BadAir.
     pub fn done_bytes(
         &mut self,
         exchange: u64,

@@ -18,6 +18,7 @@ mod asks;
 mod calls;
 mod clock;
 mod driver;
+mod each;
 mod faults;
 mod flights;
 mod job;
@@ -29,6 +30,7 @@ mod traffic;
 mod writing;
 
 pub use asks::{ExchangeAsk, PathAsk, PathJob};
+pub use each::Outcome;
 pub use faults::{BadAddress, DoneFault, NewFault, PathFault};
 pub use job::{Job, each_time_that_a_frame_is_sent_counts};
 pub use path::Path;

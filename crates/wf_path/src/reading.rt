@@ -1,7 +1,9 @@
 //! What an open exchange sends, without its octets.
 
-ghost use Rattle.std.specs.Prelude.{◌≡◌, ℕ, option_map};
+ghost use Rattle.std.specs.Prelude.{◌≡◌, ◌<◌, ℕ, option_map};
 ghost use Rattle.wf_frame.specs.Frames.{FrameValue};
+ghost use Rattle.wf_def_lists.specs.Table.{has};
+ghost use Rattle.wf_def_world.specs.Refusals.{exchange_has};
 ghost use Rattle.wf_def_world.specs.World.{World, exchange as exchange_in};
 ghost use Rattle.wf_send_half_model.specs.Standing.{StandsFor};
 ghost use Rattle.wf_path.specs.Transmissions.{sent_of, id_sent, tag_sent, bare_sent};
@@ -36,6 +38,19 @@ impl Path {
             count: open.count(),
             request: open.is_request(),
         })
+    }
+
+    /// Returns whether a transmission of an open exchange never went on the air, as the call Unsent says.
+    /// `index` counts the transmissions from 0, and is at most 255. False if the exchange is not open.
+    pub fn is_unsent(&self, exchange: u64, index: u16) -> bool
+        requires { index < 256 }
+        ensures { (w : World) (bodies : ℕ → FrameValue) → StandsFor self.now.half w bodies →
+            result ≡ exchange_has (exchange_in w exchange) (λ x. has x.unsent index) }
+    {
+        match self.half.exchange(exchange) {
+            Some(open) => open.is_unsent(index),
+            None => false,
+        }
     }
 
     /// Returns the id of the frame of a transmission. None if the exchange is not open, is a request, or has

@@ -59,3 +59,20 @@ pub returns-in-Start : goal.returns-in-Start
 returns-in-Start c =
     subst (λ (ask : PathAsk). IsAnsweredBriefly c.args.self.now (as_ask ask) c.start.new.self c.start.result)
     (sym c.in-Start.is) c.start.ensures
+
+pub returns-in-Unsent : goal.returns-in-Unsent
+returns-in-Unsent c =
+    subst (λ (ask : PathAsk). IsAnsweredBriefly c.args.self.now (as_ask ask) c.unsent.new.self
+    c.unsent.result)
+    (sym c.in-Unsent.is) c.unsent.ensures
+
+pub returns-in-GiveUp : goal.returns-in-GiveUp
+returns-in-GiveUp c =
+    subst (λ (ask : PathAsk). IsAnsweredBriefly c.args.self.now (as_ask ask) c.give_up.new.self
+    c.give_up.result)
+    (sym c.in-GiveUp.is) c.give_up.ensures
+
+pub returns-in-Flush : goal.returns-in-Flush
+returns-in-Flush c =
+    subst (λ (ask : PathAsk). IsAnsweredBriefly c.args.self.now (as_ask ask) c.flush.new.self c.flush.result)
+    (sym c.in-Flush.is) c.flush.ensures

@@ -45,7 +45,8 @@ returns-in-Pull c =
     (λ few e. (c.pull-answer.ensures.ahead few e).1) c.pull-answer.ensures.idle in
     record {
       meets = λ w bodies h. asked_meets c.args.self.now.half c.pull-answer.new.self c.args.job
-          (Pull c.in-Pull.class c.in-Pull.limits) is c.pull-answer.result c.pull-answer.new.pairs c.args.answer.now.ids
+          (Pull c.in-Pull.class c.in-Pull.limits) is c.pull-answer.result c.pull-answer.new.pairs
+          c.args.answer.now.ids
           w bodies
           (answered.meets w bodies c.args.answer.now.ids h);
       parcel = λ w bodies h. search rules;
