@@ -1,6 +1,6 @@
 -- Proves which bodies a transmit half has after a call. By cases of the job and of its reply.
 use Rattle.std.proofs.Common.{◌≡◌, refl, ap, sym, ◌∙◌, subst, ℕ, ◌==◌, Bool, true, false, if◌then◌else◌, List, Option, Some, None, IfSome, is_some}
-use Rattle.wf_frame.specs.Frames.{FrameValue}
+use Rattle.wf_frame.specs.Frames.{FrameValue, sent_once_less}
 use Rattle.wf_frame.specs.declared.classes.Fate.{Fate}
 use Rattle.wf_frame.specs.declared.notes.Ask.{Ask}
 use Rattle.wf_frame.specs.declared.notes.Ask.TheVariants as ask
@@ -9,13 +9,16 @@ use Rattle.wf_frame.specs.declared.notes.Part.TheVariants.{Mpdus}
 use Rattle.wf_frame.specs.declared.notes.ReplyNote.{ReplyNote}
 use Rattle.wf_frame.specs.declared.notes.ReplyNote.TheVariants as reply
 use Rattle.wf_law_rules.proofs.Lemmas.Numbers.{on_bool}
-use Rattle.wf_def_lists.specs.Table.{has}
-use Rattle.wf_def_world.specs.World.{World}
+use Rattle.wf_def_lists.specs.Table.{at, has}
+use Rattle.wf_def_world.specs.World.{World, Exchange, Content, Frames, Request, exchange}
+use Rattle.wf_def_world.specs.Exchanges.{no_mpdu}
 use Rattle.wf_def_world.specs.Step.{step}
 use Rattle.wf_send_parts.specs.Tally.{Counts}
 use Rattle.wf_queue_flows_refines.specs.Frames.{with_body}
 use Rattle.wf_send_half.specs.Enqueues.{as_accepted}
+use Rattle.wf_send_half.specs.Marks.{bodies_unsent}
 use Rattle.wf_send_half.specs.Replies.{bodies_sent}
+use Rattle.wf_send_half_model.specs.Marking.{with_transmission_unsent}
 use Rattle.wf_send_half_model.specs.Half.{TransmitValue, body_of}
 use Rattle.wf_send_half_model.specs.Standing.{StandsFor}
 use Rattle.wf_send_half_model.specs.Inside.{is_held_id, is_inside, inside_after, body_inside}
@@ -35,10 +38,26 @@ sent_body (reply.Send exchange station tid air (Mpdus pairs) more) bodies id =
     all_sent_keep (λ (f : FrameValue). f.body) (λ f. refl) pairs bodies id
 sent_body _ bodies id = refl
 
-called_body : (v : TransmitValue) (ask : Ask) (answered : ReplyNote) (bodies : ℕ → FrameValue) (id : ℕ) →
-    (bodies_after v (Call ask) answered bodies id).body ≡ (bodies id).body
-called_body v (ask.Pull class limits) answered bodies id = sent_body answered bodies id
-called_body v _ answered bodies id = refl
+-- nor does it change if the frame counts one transmission less
+unsent_body : (c : Content) (i : ℕ) (bodies : ℕ → FrameValue) (id : ℕ) →
+    (with_transmission_unsent c i bodies id).body ≡ (bodies id).body
+unsent_body (Request start) i bodies id = refl
+unsent_body (Frames ms) i bodies id = either_way (id == (at no_mpdu ms i).id) (bodies id)
+  where
+    either_way : (b : Bool) (f : FrameValue) → (if b then sent_once_less f else f).body ≡ f.body
+    either_way true f = refl
+    either_way false f = refl
+
+marked_body : (o : Option Exchange) (i : ℕ) (answered : ReplyNote) (bodies : ℕ → FrameValue) (id : ℕ) →
+    (bodies_unsent o i answered bodies id).body ≡ (bodies id).body
+marked_body (Some x) i reply.Marked bodies id = unsent_body x.content i bodies id
+marked_body _ i _ bodies id = refl
+
+called_body : (v : TransmitValue) (w : World) (ask : Ask) (answered : ReplyNote) (bodies : ℕ → FrameValue)
+    (id : ℕ) → (bodies_after v w (Call ask) answered bodies id).body ≡ (bodies id).body
+called_body v w (ask.Pull class limits) answered bodies id = sent_body answered bodies id
+called_body v w (ask.Unsent e i) answered bodies id = marked_body (exchange w e) i answered bodies id
+called_body v w _ answered bodies id = refl
 
 module _ (v : TransmitValue) (w : World) (bodies : ℕ → FrameValue) (stands : StandsFor v w bodies) where
   -- an id whose body is unchanged
@@ -92,6 +111,8 @@ module _ (v : TransmitValue) (w : World) (bodies : ℕ → FrameValue) (stands :
   by_call ask reply.Woken id = stays id
   by_call ask reply.Stopped id = stays id
   by_call ask reply.Started id = stays id
+  by_call ask reply.Marked id = stays id
+  by_call ask (reply.Flushed dropped) id = stays id
   by_call ask (reply.Polled class) id = stays id
   by_call ask (reply.Charged deficit) id = stays id
   by_call ask (reply.Reaped gone fate) id = goes gone id
@@ -100,7 +121,7 @@ module _ (v : TransmitValue) (w : World) (bodies : ℕ → FrameValue) (stands :
   by_reply : (job : Job) (answered : ReplyNote) (id : ℕ) →
       ((f : FrameValue) (new : ℕ) (dropped : Option ℕ) → job ≡ Give f →
       answered ≡ reply.Accepted new dropped → new ≡ v.tally.accepted) →
-      (if inside_after w answered (note_of job) id then Some (bodies_after v job answered bodies id).body
+      (if inside_after w answered (note_of job) id then Some (bodies_after v w job answered bodies id).body
       else None) ≡ body_after v answered job id
   by_reply (Give f) reply.Joined id next = stays id
   by_reply (Give f) (reply.Left dropped) id next = stays id
@@ -115,25 +136,27 @@ module _ (v : TransmitValue) (w : World) (bodies : ℕ → FrameValue) (stands :
   by_reply (Give f) reply.Woken id next = stays id
   by_reply (Give f) reply.Stopped id next = stays id
   by_reply (Give f) reply.Started id next = stays id
+  by_reply (Give f) reply.Marked id next = stays id
+  by_reply (Give f) (reply.Flushed dropped) id next = stays id
   by_reply (Give f) (reply.Polled class) id next = stays id
   by_reply (Give f) (reply.Charged deficit) id next = stays id
   by_reply (Give f) (reply.Reaped gone fate) id next = goes gone id
   by_reply (Give f) (reply.Refused reason) id next = stays id
   by_reply (Call ask) answered id next =
       ap (λ (l : List ℕ). if inside_after w answered (Asked ask) id then Some l else None)
-      (called_body v ask answered bodies id) ∙ by_call ask answered id
+      (called_body v w ask answered bodies id) ∙ by_call ask answered id
 
 -- the body of each id after a call
 pub bodies_then : (v u : TransmitValue) (w : World) (bodies : ℕ → FrameValue) (job : Job)
     (answered : ReplyNote) → StandsFor v w bodies → answered ≡ (step w (note_of job)).reply →
-    StandsFor u (step w (note_of job)).world (bodies_after v job answered bodies) →
+    StandsFor u (step w (note_of job)).world (bodies_after v w job answered bodies) →
     (id : ℕ) → body_of u id ≡ body_after v answered job id
 bodies_then v u w bodies job answered stands told after id =
     let inside : is_inside (step w (note_of job)).world id ≡ inside_after w answered (note_of job) id =
     inside_reached w stands.reached (note_of job) id
     ∙ ap (λ (r : ReplyNote). inside_after w r (note_of job) id) (sym told) in
-    bodies_are u (step w (note_of job)).world (bodies_after v job answered bodies) after id
-    ∙ ap (λ (b : Bool). if b then Some (bodies_after v job answered bodies id).body else None) inside
+    bodies_are u (step w (note_of job)).world (bodies_after v w job answered bodies) after id
+    ∙ ap (λ (b : Bool). if b then Some (bodies_after v w job answered bodies id).body else None) inside
     ∙ by_reply v w bodies stands job answered id
     (λ f new dropped is said. next_id w f.station f.tid f.flow _ new dropped
     (ap (λ (j : Job). (step w (note_of j)).reply) (sym is) ∙ sym told ∙ said)
@@ -173,6 +196,9 @@ reaped_body v w bodies job answered back stands told given id fate is =
     of (Call (ask.Ampdu s octets)) e = tt
     of (Call (ask.Stop s)) e = tt
     of (Call (ask.Start s)) e = tt
+    of (Call (ask.Unsent exchange index)) e = tt
+    of (Call (ask.GiveUp exchange index)) e = tt
+    of (Call (ask.Flush s t)) e = tt
 
 -- an id has a body exactly if its frame is inside
 pub ids_inside : (v : TransmitValue) (w : World) (bodies : ℕ → FrameValue) → StandsFor v w bodies → (id : ℕ) →

@@ -34,7 +34,7 @@ use Rattle.wf_path.specs.declared.asks.PathAsk.{PathAsk}
 use Rattle.wf_path.specs.declared.asks.PathAsk.TheVariants as path_ask
 use Rattle.wf_path.specs.declared.asks.PathJob.{PathJob}
 use Rattle.wf_path.specs.declared.asks.PathJob.TheVariants as path_job
-use Rattle.wf_path.specs.Jobs.{as_ask, job_of, note_of, bodies_after, changes_nothing, frame_given_back}
+use Rattle.wf_path.specs.Jobs.{as_ask, job_of, note_of, MayCall, bodies_after, changes_nothing, frame_given_back}
 use Rattle.wf_cell_model.specs.Arriving.{IsUntold}
 use Rattle.wf_cell_model.specs.Hearing.{Hears, HasAddresses, with_peer, peer_of}
 use Rattle.wf_cell.specs.Engines.{EngineValue, EngineIsIn, IsJobDone, EngineMeets}
@@ -47,37 +47,44 @@ use Rattle.wf_cell_model.proofs.Opening.{opened_hears, opened_number, marks_with
 
 pub record PathTakes (before : TransmitValue) (job : Job) (after : TransmitValue) (answered : ReplyNote)
     (back : Option FrameValue) : Type 0 where
-  pub meets : (w : World) (bodies : ℕ → FrameValue) → StandsFor before w bodies →
-      PathMeets w (bodies_after before job answered bodies) (note_of job) after answered
+  pub meets : (w : World) (bodies : ℕ → FrameValue) → StandsFor before w bodies → MayCall w job →
+      PathMeets w (bodies_after before w job answered bodies) (note_of job) after answered
   pub parcel : (w : World) (bodies : ℕ → FrameValue) → StandsFor before w bodies →
       back ≡ frame_given_back bodies job answered
+
+-- a call that changes no receive half and no mark, in its effect on the path
+pub untold_meets : (v : EngineValue) (after : TransmitValue) (note : Note) (answered : ReplyNote) (w : World)
+    (bodies others : ℕ → FrameValue) → EngineIsIn v w bodies → PathMeets w others note after answered →
+    IsUntold note → EngineMeets w others note (record v { half = after }) answered
+untold_meets v after note answered w bodies others i m untold = record {
+  is_in = record {
+    half = m.stands;
+    hears = untold_hears v.peers v.marks w note i.half.reached i.hears untold;
+  };
+  reply = m.reply;
+}
 
 -- A job that changes no receive half and no mark. u is the engine before it, and v has the fields of u.
 pub untold_done : (v u : EngineValue) → v ≡ u → (job : Job) (after : TransmitValue) (answered : ReplyNote)
     (back : Option FrameValue) → PathTakes v.half job after answered back → IsUntold (note_of job) →
-    (w : World) (bodies : ℕ → FrameValue) → EngineIsIn u w bodies →
+    ((w : World) → MayCall w job) → (w : World) (bodies : ℕ → FrameValue) → EngineIsIn u w bodies →
     IsJobDone w bodies job u.half (record v { half = after }) answered back
-untold_done v u same job after answered back path untold w bodies i =
+untold_done v u same job after answered back path untold may w bodies i =
     subst (λ (x : EngineValue). IsJobDone w bodies job x.half (record v { half = after }) answered back) same
     (of (subst (λ (x : EngineValue). EngineIsIn x w bodies) (sym same) i))
   where
     of : EngineIsIn v w bodies → IsJobDone w bodies job v.half (record v { half = after }) answered back
     of j =
-        let m = path.meets w bodies j.half in
-        record {
-          is_in = record {
-            half = m.stands;
-            hears = untold_hears v.peers v.marks w (note_of job) j.half.reached j.hears untold;
-          };
-          reply = m.reply;
-          back = path.parcel w bodies j.half;
-        }
+        let m = untold_meets v after (note_of job) answered w bodies
+        (bodies_after v.half w job answered bodies) j
+        (path.meets w bodies j.half (may w)) untold in
+        record { is_in = m.is_in; reply = m.reply; back = path.parcel w bodies j.half }
 
 -- a job without a frame that returns no frame, from the effect of its call
 pub ask_done : (v u : EngineValue) (a : Ask) (answered : ReplyNote) →
     ((bodies : ℕ → FrameValue) → frame_given_back bodies (Call a) answered ≡ None) →
     ((w : World) (bodies : ℕ → FrameValue) → EngineIsIn v w bodies →
-    EngineMeets w (bodies_after v.half (Call a) answered bodies) (Asked a) u answered) →
+    EngineMeets w (bodies_after v.half w (Call a) answered bodies) (Asked a) u answered) →
     (w : World) (bodies : ℕ → FrameValue) → EngineIsIn v w bodies →
     IsJobDone w bodies (Call a) v.half u answered None
 ask_done v u a answered none meets w bodies i =
@@ -310,6 +317,34 @@ ask_untold (path_ask.Rx s c air) other = tt
 ask_untold (path_ask.Ampdu s octets) other = tt
 ask_untold (path_ask.Stop s) other = tt
 ask_untold (path_ask.Start s) other = tt
+ask_untold (path_ask.Unsent e i) other = tt
+ask_untold (path_ask.GiveUp e i) other = tt
+ask_untold (path_ask.Flush s t) other = tt
+
+-- such a call may be made in any world, except an Unsent
+pub ask_may : (ask : PathAsk) → ((e i : ℕ) → ask ≡ path_ask.Unsent e i → ⊥) → (w : World) →
+    MayCall w (Call (as_ask ask))
+ask_may (path_ask.Unsent e i) other w = absurd (other e i refl)
+ask_may (path_ask.Join s window start exponent weight) other w = tt
+ask_may (path_ask.Leave s) other w = tt
+ask_may (path_ask.Rate s rate) other w = tt
+ask_may (path_ask.Tick by) other w = tt
+ask_may (path_ask.Sleep s) other w = tt
+ask_may (path_ask.Wake s) other w = tt
+ask_may (path_ask.Poll s) other w = tt
+ask_may (path_ask.Rx s c air) other w = tt
+ask_may (path_ask.Ampdu s octets) other w = tt
+ask_may (path_ask.Stop s) other w = tt
+ask_may (path_ask.Start s) other w = tt
+ask_may (path_ask.GiveUp e i) other w = tt
+ask_may (path_ask.Flush s t) other w = tt
+
+pub job_may : (job : PathJob) → ((ask : PathAsk) → job ≡ path_job.Call ask → ⊥) → (w : World) →
+    MayCall w (job_of job)
+job_may (path_job.Give f) no_call w = tt
+job_may path_job.Reap no_call w = tt
+job_may (path_job.Call ask) no_call w = absurd (no_call ask refl)
+job_may (path_job.Pull c l) no_call w = tt
 
 pub job_untold : (job : PathJob) → ((ask : PathAsk) → job ≡ path_job.Call ask → ⊥) →
     ((c : Class) (l : Limits) → job ≡ path_job.Pull c l → ⊥) → IsUntold (note_of (job_of job))
@@ -333,6 +368,9 @@ not_received (path_job.Call (path_ask.Rx s c air)) = refl
 not_received (path_job.Call (path_ask.Ampdu s octets)) = refl
 not_received (path_job.Call (path_ask.Stop s)) = refl
 not_received (path_job.Call (path_ask.Start s)) = refl
+not_received (path_job.Call (path_ask.Unsent e i)) = refl
+not_received (path_job.Call (path_ask.GiveUp e i)) = refl
+not_received (path_job.Call (path_ask.Flush s t)) = refl
 
 -- for a call of the path alone, the reply says whether the path is unchanged
 pub path_kept_by : (job : PathJob) (answered : ReplyNote) →

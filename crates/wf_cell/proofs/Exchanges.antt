@@ -1,25 +1,26 @@
--- Proves the effect of an Arrive, an Answer and a Done on an engine, from its marks and from what its path
--- sends.
+-- Proves the effect of an Arrive, an Unsent, an Answer and a Done on an engine, from its marks and from what
+-- its path sends.
 use Rattle.std.proofs.Common.{◌≡◌, refl, ap, sym, ◌∙◌, subst, ℕ, ◌<◌, ◌≤◌, Bool, true, false, List, Option, Some, None, IfSome, length, arith}
 use Rattle.std.specs.Prelude.{◌==◌, IfNone, not, filter, option_map, option_and_then, is_none, nat_le, nat_lt, ◌&&◌, if◌then◌else◌}
+use Rattle.std.specs.Option.{option_or}
 use Rattle.std.proofs.lemmas.Bool.{leb-false}
 use Rattle.wf_frame.specs.Frames.{FrameValue}
 use Rattle.wf_frame.specs.Answers.{reply_with}
 use Rattle.wf_frame.specs.declared.answers.Brief.{Brief}
-use Rattle.wf_frame.specs.declared.notes.Ask.TheVariants.{Arrive, Answer, Done}
+use Rattle.wf_frame.specs.declared.notes.Ask.TheVariants.{Arrive, Answer, Done, Unsent}
 use Rattle.wf_frame.specs.declared.notes.Note.{Note}
 use Rattle.wf_frame.specs.declared.notes.Note.TheVariants.{Asked}
 use Rattle.wf_frame.specs.declared.notes.Refusal.{Refusal}
-use Rattle.wf_frame.specs.declared.notes.Refusal.TheVariants.{NoExchange, NoAnswer, BadAir, Idle}
+use Rattle.wf_frame.specs.declared.notes.Refusal.TheVariants.{NoExchange, NoAnswer, BadAir, BadIndex, Marked, Idle}
 use Rattle.wf_frame.specs.declared.notes.ReplyNote.{ReplyNote}
 use Rattle.wf_frame.specs.declared.notes.ReplyNote.TheVariants.{Refused, Released, Ba}
 use Rattle.wf_def_agreement.specs.Receiver.{Score}
-use Rattle.wf_def_lists.specs.Table.{bits_word}
+use Rattle.wf_def_lists.specs.Table.{bits_word, has}
 use Rattle.wf_def_world.specs.World.{World, Exchange, Content, Frames, Request, exchange}
 use Rattle.wf_def_world.specs.Exchanges.{transmissions, mpdus_of}
 use Rattle.wf_def_world.specs.Refusals.{refusal, refusals, exchange_has}
 use Rattle.wf_frame.specs.Settings.{is_bad_air}
-use Rattle.wf_def_world.specs.Step.{Outcome, step}
+use Rattle.wf_def_world.specs.Step.{Outcome, after_refusal, step}
 use Rattle.wf_law_runs.specs.Sent.{IsSent}
 use Rattle.wf_law_runs.specs.Windows.{EachOpen}
 use Rattle.wf_law_runs.proofs.Deficits.KeptStep.{no_row}
@@ -39,13 +40,13 @@ use Rattle.wf_path.specs.declared.reading.Sent.{Sent}
 use Rattle.wf_path.specs.Transmissions.{sent_of}
 use Rattle.wf_cell_model.specs.Arriving.{CarriesId, peer_after, buffer_outcome_of_transmission}
 use Rattle.wf_cell_model.specs.Hearing.{with_peer, peer_of, agreement_of, mark_of, kept_of}
-use Rattle.wf_cell_model.specs.Refusing.{mark_in, arrive_refusal, answer_refusal, done_refusal}
-use Rattle.wf_cell.specs.Engines.{EngineValue, EngineIsIn, EngineMeets}
+use Rattle.wf_cell_model.specs.Refusing.{mark_in, told_refusal, answer_refusal, done_refusal}
+use Rattle.wf_cell.specs.Engines.{EngineValue, EngineIsIn, EngineMeets, IsToldBy}
 use Rattle.wf_cell_model.proofs.Keeping.{refused_hears, ended_hears}
 use Rattle.wf_cell_model.proofs.Sent.{station_now, tid_now}
 use Rattle.wf_cell_model.proofs.Arriving.{arrived_hears, arrived_up}
 use Rattle.wf_cell_model.proofs.Answering.{answered_hears, answer_reply}
-use Rattle.wf_cell_model.proofs.Telling.{mark_told, arrive_told, answer_inferred, done_inferred}
+use Rattle.wf_cell_model.proofs.Telling.{mark_told, arrive_told, unsent_told, untold_told, answer_inferred, done_inferred}
 use Rattle.wf_cell_model.proofs.Shown.{kept_shown as score_shown}
 use Rattle.wf_frame.specs.declared.settings.Config.{Config}
 
@@ -101,29 +102,6 @@ refused_in v note r w bodies i stands e = record {
   reply = sym (ap (λ (o : Outcome). o.reply) (step_refused w note r e));
 }
 
--- ---- Arrive
-
-module _ (v : EngineValue) (w : World) (bodies : ℕ → FrameValue) (e k : ℕ) (i : EngineIsIn v w bodies) where
-  pub arrive_not_open : exchange w e ≡ None → Some NoExchange ≡ refusal w (Asked (Arrive e k))
-  arrive_not_open none =
-      sym (arrive_told v.peers v.marks w e k 0 i.hears
-      (subst (λ (o : Option Exchange). IfSome o (λ x. 0 ≡ transmissions x.content)) (sym none) tt)
-      ∙ ap (λ (m : Option Mark). arrive_refusal m 0 k) (no_mark v w bodies e i none))
-
-  pub arrive_open : (sent : Sent) (m : Mark) → Some sent ≡ option_map sent_of (exchange w e) →
-      mark_in v.marks e ≡ Some m → arrive_refusal (Some m) sent.count k ≡ refusal w (Asked (Arrive e k))
-  arrive_open sent m told marked =
-      let o = open_where sent_of (exchange w e) sent (sym told) in
-      sym (arrive_told v.peers v.marks w e k sent.count i.hears
-      (subst (λ (p : Option Exchange). IfSome p (λ x. sent.count ≡ transmissions x.content)) (sym o.1.0)
-      (ap (λ (s : Sent). s.count) (sym o.1.1)))
-      ∙ ap (λ (p : Option Mark). arrive_refusal p sent.count k) marked)
-
-  pub arrive_refused : (r : Refusal) → Some r ≡ refusal w (Asked (Arrive e k)) →
-      EngineMeets w bodies (Asked (Arrive e k)) v (Refused r)
-  arrive_refused r is = refused_in v (Asked (Arrive e k)) r w bodies i
-      (arrive_stands v.half w bodies e k i.half) (sym is)
-
 -- an exchange that the path sends is open
 pub told_open : (w : World) (e : ℕ) (sent : Sent) → option_map sent_of (exchange w e) ≡ Some sent → IsOpen w e
 told_open w e sent told = let o = open_where sent_of (exchange w e) sent told in
@@ -143,6 +121,71 @@ told_few w e sent r told =
       transmissions_few w e o.sending r o.known,
       ap (λ (s : Sent). s.count) (told_is w e sent o.sending told o.known),
     )
+
+-- ---- Arrive
+
+module _ (v : EngineValue) (w : World) (bodies : ℕ → FrameValue) (e k : ℕ) (i : EngineIsIn v w bodies) where
+  -- by what the marks say of the exchange, which has `count` transmissions if it is open
+  told_by : (count : ℕ) (told : Option Refusal) → IfSome (exchange w e)
+      (λ x. count ≡ transmissions x.content) →
+      told ≡ told_refusal (mark_in v.marks e) count k → IsToldBy w e k told
+  told_by count (Some r) counted same = (
+    arrive_told v.peers v.marks w e k count i.hears counted
+        ∙ ap (λ (o : Option Refusal). option_or o
+        (if exchange_has (exchange w e) (λ x. has x.unsent k) then Some Marked else None)) (sym same),
+    unsent_told v.peers v.marks w e k count r i.hears counted (sym same),
+  )
+  told_by count None counted same = (
+    arrive_told v.peers v.marks w e k count i.hears counted
+        ∙ ap (λ (o : Option Refusal). option_or o
+        (if exchange_has (exchange w e) (λ x. has x.unsent k) then Some Marked else None)) (sym same),
+    untold_told v.peers v.marks w e k count i.hears (sym same),
+  )
+
+  pub told_not_open : exchange w e ≡ None → IsToldBy w e k (Some NoExchange)
+  told_not_open none = told_by 0 (Some NoExchange)
+      (subst (λ (o : Option Exchange). IfSome o (λ x. 0 ≡ transmissions x.content)) (sym none) tt)
+      (sym (ap (λ (m : Option Mark). told_refusal m 0 k) (no_mark v w bodies e i none)))
+
+  pub told_if_open : (sent : Sent) (m : Mark) (told : Option Refusal) →
+      Some sent ≡ option_map sent_of (exchange w e) → mark_in v.marks e ≡ Some m →
+      told ≡ told_refusal (Some m) sent.count k → IsToldBy w e k told
+  told_if_open sent m told is marked same =
+      let o = open_where sent_of (exchange w e) sent (sym is) in
+      told_by sent.count told
+      (subst (λ (p : Option Exchange). IfSome p (λ x. sent.count ≡ transmissions x.content)) (sym o.1.0)
+      (ap (λ (s : Sent). s.count) (sym o.1.1)))
+      (same ∙ ap (λ (p : Option Mark). told_refusal p sent.count k) (sym marked))
+
+  -- an index that is not refused is small
+  pub told_low : (sent : Sent) (m : Mark) → Some sent ≡ option_map sent_of (exchange w e) →
+      None ≡ told_refusal (Some m) sent.count k → k < 256
+  told_low sent m is none =
+      let few : sent.count < 257 = told_few w e sent i.half.reached (sym is) in
+      omega (arith, few, within sent.count (first_passes (nat_le sent.count k) _ (sym none)))
+    where
+      first_passes : (b : Bool) (o : Option Refusal) → (if b then Some BadIndex else o) ≡ None → b ≡ false
+      first_passes true o h = absurd (cc h)
+      first_passes false o h = refl
+
+      within : (n : ℕ) → nat_le n k ≡ false → k < n
+      within n above = leb-false n k above
+
+  same_unsent : (r : Refusal) → after_refusal w (Asked (Unsent e k)) r ≡ w
+  unfolding after_refusal
+  same_unsent r = refl
+
+  -- the effect of a refused Unsent
+  pub unsent_refused : (r : Refusal) → refusal w (Asked (Unsent e k)) ≡ Some r →
+      EngineMeets w bodies (Asked (Unsent e k)) v (Refused r)
+  unsent_refused r is = refused_in v (Asked (Unsent e k)) r w bodies i
+      (subst (λ (u : World). StandsFor v.half u bodies) (sym (ap (λ (o : Outcome). o.world)
+      (step_refused w (Asked (Unsent e k)) r is) ∙ same_unsent r)) i.half) is
+
+  pub arrive_refused : (r : Refusal) → Some r ≡ refusal w (Asked (Arrive e k)) →
+      EngineMeets w bodies (Asked (Arrive e k)) v (Refused r)
+  arrive_refused r is = refused_in v (Asked (Arrive e k)) r w bodies i
+      (arrive_stands v.half w bodies e k i.half) (sym is)
 
 pub told_station : (v : EngineValue) (w : World) (bodies : ℕ → FrameValue) (e : ℕ) (sent : Sent) →
     EngineIsIn v w bodies → option_map sent_of (exchange w e) ≡ Some sent → sent.station < length v.peers

@@ -78,6 +78,8 @@ module _ (v : TransmitValue) (w : World) (bodies : ℕ → FrameValue) (stands :
   back_is (Give f) reply.Woken e = refl
   back_is (Give f) reply.Stopped e = refl
   back_is (Give f) reply.Started e = refl
+  back_is (Give f) reply.Marked e = refl
+  back_is (Give f) (reply.Flushed dropped) e = refl
   back_is (Give f) (reply.Polled class) e = refl
   back_is (Give f) (reply.Charged deficit) e = refl
   back_is (Give f) (reply.Reaped id fate) e = refl
@@ -95,6 +97,8 @@ module _ (v : TransmitValue) (w : World) (bodies : ℕ → FrameValue) (stands :
   back_is (Call ask.Reap) reply.Woken e = refl
   back_is (Call ask.Reap) reply.Stopped e = refl
   back_is (Call ask.Reap) reply.Started e = refl
+  back_is (Call ask.Reap) reply.Marked e = refl
+  back_is (Call ask.Reap) (reply.Flushed dropped) e = refl
   back_is (Call ask.Reap) (reply.Polled class) e = refl
   back_is (Call ask.Reap) (reply.Charged deficit) e = refl
   back_is (Call ask.Reap) (reply.Reaped id fate) e = reaped_back id fate e
@@ -114,6 +118,9 @@ module _ (v : TransmitValue) (w : World) (bodies : ℕ → FrameValue) (stands :
   back_is (Call (ask.Ampdu s octets)) answered e = refl
   back_is (Call (ask.Stop s)) answered e = refl
   back_is (Call (ask.Start s)) answered e = refl
+  back_is (Call (ask.Unsent exchange index)) answered e = refl
+  back_is (Call (ask.GiveUp exchange index)) answered e = refl
+  back_is (Call (ask.Flush s t)) answered e = refl
 
 -- an answer is right if its reply is the run's and the returned frame is the path's
 pub is_right : (v : TransmitValue) (p : Past) (bodies : ℕ → FrameValue) (job : Job) (answered : ReplyNote)

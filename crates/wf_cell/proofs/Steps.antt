@@ -99,9 +99,10 @@ module _ (p : Past) (engine : EngineValue) (left : ℕ) (last : Option Entry)
 
   pub still_stands : (bodies : ℕ → FrameValue) → StandsFor engine.half (world_of p) bodies →
       StandsFor after.half (world_of (with_entry (by caller (note_of job)) p))
-      (bodies_after engine.half job answered bodies)
+      (bodies_after engine.half (world_of p) job answered bodies)
   still_stands bodies stands =
-      subst (λ (w : World). StandsFor after.half w (bodies_after engine.half job answered bodies))
+      subst (λ (w : World). StandsFor after.half w (bodies_after engine.half
+      (world_of p) job answered bodies))
       (sym world_next)
       (done (world_of p) bodies (record { half = stands; hears = is.is_in.hears })).is_in.half
 
@@ -112,8 +113,9 @@ module _ (p : Past) (engine : EngineValue) (left : ℕ) (last : Option Entry)
       IsCell (record { config = after.half.config; history = history }) after fewer newest
   next_cell history fewer newest grown one latest some most =
       subst (λ (q : Past). IsCell q after fewer newest) (sym (past_grown history grown)) (record {
-        bodies = bodies_after engine.half job answered is.bodies;
-        is_in = subst (λ (w : World). EngineIsIn after w (bodies_after engine.half job answered is.bodies))
+        bodies = bodies_after engine.half (world_of p) job answered is.bodies;
+        is_in = subst (λ (w : World). EngineIsIn after w (bodies_after engine.half
+            (world_of p) job answered is.bodies))
             (sym world_next) stepped.is_in;
         lengths = has_lengths p.history (by caller (note_of job)) is.lengths some most;
         counted = omega (arith, one, is.counted, length-append p.history (by caller (note_of job) ∷ []));

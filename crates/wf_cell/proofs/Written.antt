@@ -1,6 +1,6 @@
 -- Proves that the octets of a transmission have the fields of its frame or request (`IsSentTo`), and that
 -- they fit in the buffer.
-use Rattle.std.proofs.Common.{◌≡◌, refl, ap, sym, ◌∙◌, subst, ℕ, zero, suc, ◌+◌, ◌*◌, ◌%◌, ◌<◌, ◌≤◌, true, false, lit≤, List, [], ◌∷◌, length, Option, Some, None, length-append, arith}
+use Rattle.std.proofs.Common.{◌≡◌, refl, ap, sym, ◌∙◌, subst, ℕ, zero, suc, ◌+◌, ◌*◌, ◌%◌, ◌<◌, ◌≤◌, true, lit≤, List, [], ◌∷◌, length, Option, Some, None, length-append, arith}
 use Rattle.std.specs.Prelude.{slice_get, option_map, option_and_then, if◌then◌else◌, Result, Ok, Err}
 use Rattle.std.proofs.lemmas.Bool.{le-ltb}
 use Rattle.std.specs.Result.{is_err}
@@ -9,6 +9,7 @@ use Rattle.std.proofs.lemmas.Option.{slice_get-map}
 use Rattle.wf_frame.specs.Frames.{FrameValue}
 use Rattle.wf_def_lists.specs.Lengths.{greatest_body}
 use Rattle.wf_def_lists.specs.Table.{at}
+use Rattle.wf_def_agreement.specs.Session.{End}
 use Rattle.wf_def_world.specs.World.{World, Exchange, Mpdu, Content, Frames, Request, accepted_count, len_of, exchange, without_exchange, on_share, on_station, with_station}
 use Rattle.wf_def_world.specs.Exchanges.{mpdus_of, transmissions, no_mpdu, after_charge, charge_of}
 use Rattle.wf_law_runs.specs.Windows.{EachMpdu}
@@ -154,7 +155,7 @@ module _ (v : TransmitValue) (w : World) (bodies : ℕ → FrameValue) (h : Stan
       data_sent v w bodies h e x known None (numbers_on_air (mpdus_of x.content))
       (data_of x.content k m among) in
       let ending = begun v w bodies h e x known None (numbers_on_air (mpdus_of x.content))
-      (data_of x.content k m among) (λ n. false) in
+      (data_of x.content k m among) (λ n. End.Missed) in
       let there : slice_get sends.mpdus k ≡ Some m =
       ap (λ (c : Content). slice_get (mpdus_of c) k) (sym sends.content) ∙ among in
       let loose : IsLoose (after_close v (open_of x) (charge_of None x))

@@ -1,15 +1,19 @@
 -- Defines an engine, the cell without its history: the transmit path, the receive halves of the stations, and
 -- the marks of the open exchanges.
-use Rattle.std.specs.Prelude.{◌≡◌, ℕ, ◌<◌, List, Option, None, Some, option_map}
+use Rattle.std.specs.Prelude.{◌≡◌, ℕ, ◌<◌, List, Option, None, Some, option_map, if◌then◌else◌}
 use Rattle.wf_frame.specs.Frames.{FrameValue}
 use Rattle.wf_frame.specs.declared.notes.Note.{Note}
 use Rattle.wf_frame.specs.declared.notes.ReplyNote.{ReplyNote}
 use Rattle.wf_frame.specs.declared.notes.Note.TheVariants.{Asked}
-use Rattle.wf_frame.specs.declared.notes.Ask.TheVariants.{Arrive}
+use Rattle.wf_frame.specs.declared.notes.Ask.TheVariants.{Arrive, Unsent}
 use Rattle.wf_def_world.specs.World.{World, Exchange, exchange}
 use Rattle.wf_def_world.specs.Exchanges.{transmissions}
-use Rattle.wf_def_world.specs.Refusals.{refusal}
+use Rattle.wf_def_world.specs.Refusals.{exchange_has, refusal}
 use Rattle.wf_def_world.specs.Step.{step}
+use Rattle.wf_def_lists.specs.Table.{has}
+use Rattle.wf_frame.specs.declared.notes.Refusal.{Refusal}
+use Rattle.wf_frame.specs.declared.notes.Refusal.TheVariants.{Marked}
+use Rattle.wf_send_half.specs.Marks.{HasNotArrived}
 use Rattle.wf_recv_marks.specs.declared.marks.Mark.{Mark}
 use Rattle.wf_recv_peer.specs.Agreements.{PeerValue}
 use Rattle.wf_send_half_model.specs.Half.{TransmitValue}
@@ -48,7 +52,7 @@ pub record EngineMeets (w : World) (bodies : ℕ → FrameValue) (note : Note) (
 -- returned frame is the one that was refused or reaped.
 pub record IsJobDone (w : World) (bodies : ℕ → FrameValue) (job : Job) (before : TransmitValue)
     (v : EngineValue) (answered : ReplyNote) (given : Option FrameValue) : Type 0 where
-  pub is_in : EngineIsIn v (step w (note_of job)).world (bodies_after before job answered bodies)
+  pub is_in : EngineIsIn v (step w (note_of job)).world (bodies_after before w job answered bodies)
   pub reply : answered ≡ (step w (note_of job)).reply
   pub back : given ≡ frame_given_back bodies job answered
 
@@ -69,3 +73,12 @@ pub record IsArriving (v : EngineValue) (e i : ℕ) (sent : Sent) : Type 0 where
   pub arrives : refusal world (Asked (Arrive e i)) ≡ None
   pub told : (w : World) (frames : ℕ → FrameValue) → EngineIsIn v w frames →
       option_map sent_of (exchange w e) ≡ Some sent
+
+-- Whether what arrived of exchange e is against an Arrive and an Unsent of its transmission i. If so, both
+-- are refused for this reason. If not, an Arrive is refused only if the transmission never went on the air,
+-- and the transmission has not arrived, nor was the exchange answered.
+abbrev pub IsToldBy : World → ℕ → ℕ → Option Refusal → Type 0
+IsToldBy w e i (Some reason) = (refusal w (Asked (Arrive e i)) ≡ Some reason)
+    × (refusal w (Asked (Unsent e i)) ≡ Some reason)
+IsToldBy w e i None = (refusal w (Asked (Arrive e i))
+    ≡ (if exchange_has (exchange w e) (λ x. has x.unsent i) then Some Marked else None)) × HasNotArrived w e i

@@ -4,7 +4,7 @@ ghost use Rattle.std.specs.Prelude.{◌≡◌, ◌<◌, ◌≤◌, ◌==◌, nat
 ghost use Rattle.wf_frame.specs.Frames.{FrameValue};
 ghost use Rattle.wf_frame.specs.Answers.{reply_of};
 ghost use Rattle.wf_frame.specs.declared.answers.Brief.TheVariants.{Ba};
-ghost use Rattle.wf_frame.specs.declared.notes.Ask.TheVariants.{Arrive, Answer as Answers, Done};
+ghost use Rattle.wf_frame.specs.declared.notes.Ask.TheVariants.{Arrive, Answer as Answers, Done, Unsent};
 ghost use Rattle.wf_frame.specs.declared.notes.Note.TheVariants.{Asked};
 ghost use Rattle.wf_frame.specs.declared.notes.ReplyNote.TheVariants.{Released};
 ghost use Rattle.wf_def_lists.specs.Table.{bits_word};
@@ -16,12 +16,13 @@ ghost use Rattle.wf_send_half_model.specs.Standing.{StandsFor};
 ghost use Rattle.wf_recv_marks.specs.Marks.{with_answer, with_changed};
 ghost use Rattle.wf_cell_model.specs.Arriving.{CarriesId};
 ghost use Rattle.wf_cell_model.specs.Hearing.{agreement_of};
-ghost use Rattle.wf_cell_model.specs.Refusing.{arrive_refusal, answer_refusal, done_refusal, mark_in};
+ghost use Rattle.wf_cell_model.specs.Refusing.{told_refusal, answer_refusal, done_refusal, mark_in};
 ghost use Rattle.wf_path.specs.Addresses.{made_up};
 ghost use Rattle.wf_path.specs.Transmissions.{sent_of};
 ghost use Rattle.wf_path.specs.Jobs.{changes_nothing};
 ghost use Rattle.wf_path.specs.Paths.{IsSmall};
-ghost use Rattle.wf_cell.specs.Engines.{EngineHasWorld, IsArriving, EngineIsIn, IsOnAir, EngineMeets};
+ghost use Rattle.wf_send_half.specs.Marks.{bodies_unsent};
+ghost use Rattle.wf_cell.specs.Engines.{EngineHasWorld, IsArriving, EngineIsIn, IsOnAir, EngineMeets, IsToldBy};
 ghost use Rattle.wf_cell.specs.Octets.{IsSentTo};
 
 use crate::engine::Engine;
@@ -29,14 +30,14 @@ use wf_frame::{Answer, Brief, Config, Ids, Refusal};
 use wf_octets::bits::Bits256;
 use wf_octets::header::GREATEST_MPDU;
 use wf_octets::seq12::Seq12;
-use wf_path::{Path, Sent};
+use wf_path::{Path, PathAsk, PathJob, Sent};
 use wf_recv_marks::Mark;
 
-// Returns why a transmission does not arrive, if it does not. Its exchange has this mark and `count`
-// transmissions.
-fn arrival_refusal(mark: &Mark, count: u16, index: u16) -> Option<Refusal>
+// Returns why a transmission neither arrives nor turns out not to have been on the air, if so: what arrived
+// of its exchange, which has this mark and `count` transmissions, is against both.
+fn told_refusal(mark: &Mark, count: u16, index: u16) -> Option<Refusal>
     requires { count < 257 }
-    ensures { result ≡ arrive_refusal (Some mark.now) count index }
+    ensures { result ≡ told_refusal (Some mark.now) count index }
 {
     if count <= index {
         Some(Refusal::BadIndex)
@@ -134,15 +135,52 @@ impl Engine {
             EngineIsIn self.now w bodies →
             option_map sent_of (exchange_in w exchange) ≡ Some sent) }
     {
+        match self.check_told(exchange, index) {
+            Err(reason) => Err(reason),
+            Ok(_) if self.path.is_unsent(exchange, index) => Err(Refusal::Marked),
+            Ok(sent) => Ok(sent),
+        }
+    }
+
+    // Returns what an exchange sends, or why this transmission of it neither arrives nor turns out not to
+    // have been on the air, by what arrived of the exchange.
+    fn check_told(&self, exchange: u64, index: u16) -> Result<Sent, Refusal>
+        requires { EngineHasWorld self.now }
+        ensures told { (w : World) (bodies : ℕ → FrameValue) → EngineIsIn self.now w bodies →
+            IsToldBy w exchange index (result_err result) }
+        ensures sent { IfOk result (λ sent. (w : World) (bodies : ℕ → FrameValue) →
+            EngineIsIn self.now w bodies →
+            option_map sent_of (exchange_in w exchange) ≡ Some sent) }
+        ensures index { IfOk result (λ _. index < 256) }
+    {
         match self.marks.find(exchange) {
             None => Err(Refusal::NoExchange),
             Some(mark) => match self.path.sent(exchange) {
                 None => Err(Refusal::NoExchange),
-                Some(sent) => match arrival_refusal(mark, sent.count, index) {
+                Some(sent) => match told_refusal(mark, sent.count, index) {
                     Some(reason) => Err(reason),
                     None => Ok(sent),
                 },
             },
+        }
+    }
+
+    // A transmission of an open exchange never went on the air, or is refused.
+    pub(crate) fn unsent(&mut self, exchange: u64, index: u16, answer: &mut Answer)
+        requires some { EngineHasWorld self.old }
+        requires small { IsSmall self.old.half }
+        ensures meets { (w : World) (bodies : ℕ → FrameValue) → EngineIsIn self.old w bodies →
+            EngineMeets w (bodies_unsent (exchange_in w exchange) index (reply_of answer.new) bodies)
+            (Asked (Unsent exchange index)) self.new (reply_of answer.new) }
+        ensures path_kept { changes_nothing (reply_of answer.new) ≡ true →
+            self.new.half ≡ self.old.half }
+    {
+        match self.check_told(exchange, index) {
+            Err(reason) => answer.brief = Brief::Refused(reason),
+            Ok(_) => {
+                let ask = PathAsk::Unsent { exchange, index };
+                let _ = self.path.call(PathJob::Call(ask), answer);
+            }
         }
     }
 

@@ -124,7 +124,8 @@ impl Cell {
         ensures stands { 0 < calls_left_in self.old.past → (bodies : ℕ → FrameValue) →
             StandsFor self.old.half (world_of self.old.past) bodies →
             StandsFor self.new.half (world_of self.new.past)
-            (bodies_after self.old.half job (reply_of answer.new) bodies) }
+            (bodies_after self.old.half (world_of self.old.past) job (reply_of answer.new)
+            bodies) }
 
         // an accepted frame adds the body of its id, and a reaped frame removes it; all other bodies are
         // unchanged

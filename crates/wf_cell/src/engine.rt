@@ -120,7 +120,8 @@ impl Engine {
         }
     }
 
-    // Makes a call of the path that brings no frame. A station that joins gets a new receive half.
+    // Makes a call of the path that brings no frame. A station that joins gets a new receive half. The marks
+    // say whether a transmission may turn out not to have been on the air.
     fn path_ask(&mut self, ask: PathAsk, answer: &mut Answer) -> Option<Parcel>
         requires some { EngineHasWorld self.old }
         requires small { IsSmall self.old.half }
@@ -138,6 +139,10 @@ impl Engine {
                 weight,
             } => {
                 self.join(station, window, start, exponent, weight, answer);
+                None
+            }
+            PathAsk::Unsent { exchange, index } => {
+                self.unsent(exchange, index, answer);
                 None
             }
             _ => self.path.call(PathJob::Call(ask), answer),

@@ -1,33 +1,35 @@
 -- Proves which calls leave every receive half unchanged, and the effect of a Done on the marks.
-use Rattle.std.proofs.Common.{◌≡◌, ◌≢◌, refl, ap, sym, ◌∙◌, subst, ℕ, ◌==◌, Bool, true, false, not, List, [], ◌∷◌, map, filter, Option, Some, None, is_none, is_some, if◌then◌else◌, length}
+use Rattle.std.proofs.Common.{◌≡◌, ◌≢◌, refl, ap, ap₂, sym, ◌∙◌, subst, ℕ, ◌==◌, Bool, true, false, not, List, [], ◌∷◌, map, filter, Option, Some, None, is_none, is_some, if◌then◌else◌, length}
 use Rattle.wf_frame.specs.declared.settings.Config.{Config}
-use Rattle.wf_frame.specs.declared.notes.Ask.TheVariants.{Join, Leave, Rate, Tick, Pull, Arrive, Answer, Done, Sleep, Wake, Poll, Rx, Reap, Ampdu, Stop, Start}
+use Rattle.wf_frame.specs.declared.notes.Ask.TheVariants.{Join, Leave, Rate, Tick, Pull, Arrive, Answer, Done, Sleep, Wake, Poll, Rx, Reap, Ampdu, Stop, Start, Unsent, GiveUp, Flush}
 use Rattle.wf_frame.specs.declared.notes.Note.{Note}
 use Rattle.wf_frame.specs.declared.notes.Note.TheVariants.{Enqueue, Asked}
 use Rattle.wf_frame.specs.declared.notes.Refusal.{Refusal}
 use Rattle.wf_frame.specs.declared.notes.Refusal.TheVariants.{Idle, NoExchange}
 use Rattle.wf_frame.specs.Classes.{all_classes}
-use Rattle.wf_def_lists.specs.Table.{at, upto}
+use Rattle.wf_def_lists.specs.Table.{at, upto, with_member}
 use Rattle.wf_def_agreement.specs.Receiver.{Receiver}
-use Rattle.wf_def_agreement.specs.Session.{Session}
-use Rattle.wf_def_world.specs.World.{World, Station, Exchange, session, receiver, is_live, exchange, with_station, without_exchange, opening}
+use Rattle.wf_def_agreement.specs.Session.{Session, after_flush}
+use Rattle.wf_def_world.specs.World.{World, Station, Exchange, session, receiver, is_live, exchange, with_exchange, with_station, without_exchange, opening}
 use Rattle.wf_def_world.specs.CanSend.{with_listings_of}
 use Rattle.wf_def_world.specs.Refusals.{refusal}
 use Rattle.wf_def_world.specs.Exchanges.{after_pick}
 use Rattle.wf_frame.specs.declared.classes.Class.{Class}
-use Rattle.wf_def_world.specs.Step.{after_tids_left, without_listings, leave_outcome, rate_outcome, tick_outcome, done_outcome, outcome_where_open, sleep_outcome, wake_outcome, poll_outcome, rx_outcome, reap_outcome, outcome_of, concerned_station, after_refusal, judged_outcome, step}
-use Rattle.wf_law_runs.proofs.Windows.Sides.{Side, Same, sides_of, then_same, same_on_station, same_on_share, same_listed, same_after_pick}
-use Rattle.wf_law_runs.proofs.Windows.Agreed.{IsLawful, lawful, same_left_tids, same_off_lists}
+use Rattle.wf_def_world.specs.Step.{Outcome, after_tids_left, without_listings, leave_outcome, rate_outcome, tick_outcome, done_outcome, outcome_where_open, sleep_outcome, wake_outcome, poll_outcome, rx_outcome, reap_outcome, unsent_outcome, give_up_outcome, flush_outcome, outcome_of, concerned_station, after_refusal, judged_outcome, step}
+use Rattle.wf_law_runs.proofs.Windows.Sides.{Side, Same, sides_of, then_same, same_on_station, same_on_share, same as same_world, same_listed, same_after_pick, same_flushed}
+use Rattle.wf_law_runs.proofs.Windows.Agreed.{IsLawful, lawful, same_left_tids, same_off_lists, opened_on_session}
 use Rattle.wf_law_runs.proofs.Frames.Delivered.{same_enqueued, opened_ended}
-use Rattle.wf_law_runs.proofs.Releases.Kept.{Kept, KeptSession, kept_equal, then_kept, kept_same, keep_ended}
+use Rattle.wf_law_runs.proofs.Releases.Kept.{Kept, KeptSession, kept_equal, then_kept, kept_same, keep_ended, keep_unsent, keep_given_up, keep_flushed}
 use Rattle.wf_law_runs.proofs.Releases.Released.{side_with_station, live_with_station, live_own_station}
 use Rattle.wf_law_runs.proofs.Deficits.Configs.{config_step}
-use Rattle.wf_law_driver.proofs.Opened.{step_done, first_refuses, found_number}
+use Rattle.wf_law_driver.proofs.Opened.{with_replaced, step_done, first_refuses, found_number}
 use Rattle.wf_recv_peer.specs.Agreements.{PeerValue, AgreementValue}
 use Rattle.wf_recv_peer_refines.specs.Half.{ReceiveHalfStandsFor}
 use Rattle.wf_recv_peer_refines.proofs.Halves.{other_ids}
 use Rattle.wf_recv_marks.specs.declared.marks.Mark.{Mark}
 use Rattle.wf_send_half_model.specs.Standing.{IsReached}
+use Rattle.wf_recv_marks.specs.Marks.{with_changed}
+use Rattle.wf_cell_model.proofs.Marks.{rises_now, changed_marks}
 use Rattle.wf_cell_model.specs.Arriving.{IsUntold}
 use Rattle.wf_cell_model.specs.Hearing.{agreement_of, HasAddresses, ArePeers, AreNew, carried, StandsForTid, mark_of, Hears}
 
@@ -158,25 +160,40 @@ unfolding reap_outcome
 left_reaped [] w = left_here w w refl refl
 left_reaped (id ∷ ids) w = left_here w _ refl refl
 
-pub left_untold : (note : Note) (w : World) → IsUntold note → IsLeft w (outcome_of w note).world
+left_flushed : (w : World) (s t : ℕ) → IsLeft w (flush_outcome w s t).world
+left_flushed w s t = record {
+  stays = stays_kept w _ (keep_flushed w s t);
+  opened = (same_flushed w s t).opened ∙ opened_on_session w s t (after_flush w.config.attempts);
+}
+
+-- a call that changes no open exchange either: any other than a mark
+abbrev pub IsQuiet : Note → Type 0
+IsQuiet (Asked (Unsent e i)) = ⊥
+IsQuiet (Asked (GiveUp e i)) = ⊥
+IsQuiet note = IsUntold note
+
+pub left_quiet : (note : Note) (w : World) → IsQuiet note → IsLeft w (outcome_of w note).world
 unfolding outcome_of tick_outcome rate_outcome sleep_outcome wake_outcome poll_outcome rx_outcome
-left_untold (Enqueue s t flow len) w k = left_same w _ (same_enqueued w s t flow len)
-left_untold (Asked (Join s window start exponent weight)) w k = absurd k
-left_untold (Asked (Leave s)) w k = left_gone w s
-left_untold (Asked (Rate s rate)) w k = left_same w _ (same_on_station w s _ (λ x t. refl))
-left_untold (Asked (Tick by)) w k = left_here w _ refl refl
-left_untold (Asked (Pull c l)) w k = absurd k
-left_untold (Asked (Arrive e n)) w k = absurd k
-left_untold (Asked (Answer e)) w k = absurd k
-left_untold (Asked (Done e heard air)) w k = absurd k
-left_untold (Asked (Sleep s)) w k = left_same w _ (same_on_station w s _ (λ x t. refl))
-left_untold (Asked (Wake s)) w k = left_same w _ (same_on_station w s _ (λ x t. refl))
-left_untold (Asked (Poll s)) w k = left_same w _ (same_on_station w s _ (λ x t. refl))
-left_untold (Asked (Rx s c air)) w k = left_same w _ (same_on_share w s c _)
-left_untold (Asked Reap) w k = left_reaped w.finished w
-left_untold (Asked (Ampdu s octets)) w k = left_same w _ (same_on_station w s _ (λ x t. refl))
-left_untold (Asked (Stop s)) w k = left_same w _ (same_on_station w s _ (λ x t. refl))
-left_untold (Asked (Start s)) w k = left_same w _ (same_on_station w s _ (λ x t. refl))
+left_quiet (Enqueue s t flow len) w k = left_same w _ (same_enqueued w s t flow len)
+left_quiet (Asked (Join s window start exponent weight)) w k = absurd k
+left_quiet (Asked (Leave s)) w k = left_gone w s
+left_quiet (Asked (Rate s rate)) w k = left_same w _ (same_on_station w s _ (λ x t. refl))
+left_quiet (Asked (Tick by)) w k = left_here w _ refl refl
+left_quiet (Asked (Pull c l)) w k = absurd k
+left_quiet (Asked (Arrive e n)) w k = absurd k
+left_quiet (Asked (Answer e)) w k = absurd k
+left_quiet (Asked (Done e heard air)) w k = absurd k
+left_quiet (Asked (Sleep s)) w k = left_same w _ (same_on_station w s _ (λ x t. refl))
+left_quiet (Asked (Wake s)) w k = left_same w _ (same_on_station w s _ (λ x t. refl))
+left_quiet (Asked (Poll s)) w k = left_same w _ (same_on_station w s _ (λ x t. refl))
+left_quiet (Asked (Rx s c air)) w k = left_same w _ (same_on_share w s c _)
+left_quiet (Asked Reap) w k = left_reaped w.finished w
+left_quiet (Asked (Ampdu s octets)) w k = left_same w _ (same_on_station w s _ (λ x t. refl))
+left_quiet (Asked (Stop s)) w k = left_same w _ (same_on_station w s _ (λ x t. refl))
+left_quiet (Asked (Start s)) w k = left_same w _ (same_on_station w s _ (λ x t. refl))
+left_quiet (Asked (Unsent e n)) w k = absurd k
+left_quiet (Asked (GiveUp e n)) w k = absurd k
+left_quiet (Asked (Flush s t)) w k = left_flushed w s t
 
 -- An idle pull leaves what receivers have, whether it changes the lists or not.
 left_idle : (b : Bool) (w : World) (c : Class) → IsLeft w (if b then w else after_pick w c)
@@ -205,6 +222,72 @@ refused_hears peers marks w note r reached h e =
     (ap (λ (u : World). u.config) (sym same) ∙ config_step w note)
     (h.kept ∙ ap (map mark_of) (sym k.opened)) h)
 
+-- ---- the marks of a device
+
+no_change : (e : ℕ) (marks : List Mark) → with_changed e (λ m. m) marks ≡ marks
+no_change e [] = refl
+no_change e (m ∷ ms) = ap₂ (λ (k : Mark) (ks : List Mark). k ∷ ks) (same_both (m.number == e) m)
+    (no_change e ms)
+  where
+    same_both : (b : Bool) (m : Mark) → (if b then m else m) ≡ m
+    same_both true m = refl
+    same_both false m = refl
+
+opened_exchange : (w : World) (z : Exchange) → (with_exchange w z).opened ≡ with_replaced z w.opened
+unfolding with_exchange
+opened_exchange w z = refl
+
+-- an open exchange with other marks of the device has the same mark
+same_marks : (w : World) → IsReached w → (e : ℕ) (x z : Exchange) → exchange w e ≡ Some x →
+    z.number ≡ x.number → mark_of z ≡ mark_of x → map mark_of w.opened ≡ map mark_of
+    (with_exchange w z).opened
+same_marks w reached e x z found number same =
+    sym (no_change e (map mark_of w.opened))
+    ∙ changed_marks 0 w.exchanges e w.opened x z (λ m. m) (rises_now w reached) found
+    (number ∙ found_number w e x found) (sym same)
+    ∙ ap (map mark_of) (sym (opened_exchange w z))
+
+module _ (peers : List PeerValue) (marks : List Mark) (w : World) (note : Note) (reached : IsReached w)
+    (h : Hears peers marks w) (fine : refusal w note ≡ None) where
+  -- f is the outcome of a mark of the exchange with number e
+  marked_hears : (e : ℕ) (f : Exchange → Outcome) → (outcome_of w note).world
+      ≡ (outcome_where_open w (exchange w e) f).world → ((x : Exchange) → Kept w (f x).world) →
+      ((x : Exchange) → exchange w e ≡ Some x → map mark_of w.opened ≡ map mark_of (f x).world.opened) →
+      Hears peers marks (step w note).world
+  unfolding outcome_where_open
+  marked_hears e f is keep same = go (exchange w e) refl
+    where
+      go : (o : Option Exchange) → exchange w e ≡ o → Hears peers marks (step w note).world
+      go None none =
+          let here : (outcome_of w note).world ≡ w = is ∙ ap (λ o. (outcome_where_open w o f).world) none in
+          hears_outcome peers marks marks w note (lawful_now w reached) fine
+          (subst (Stays w) (sym here) (stays_kept w w (kept_same w w (same_world w))))
+          (h.kept ∙ ap (λ (u : World). map mark_of u.opened) (sym here)) h
+      go (Some x) found =
+          let here : (outcome_of w note).world ≡ (f x).world =
+          is ∙ ap (λ o. (outcome_where_open w o f).world) found in
+          hears_outcome peers marks marks w note (lawful_now w reached) fine
+          (subst (Stays w) (sym here) (stays_kept w (f x).world (keep x)))
+          (h.kept ∙ same x found ∙ ap (λ (u : World). map mark_of u.opened) (sym here)) h
+
+  left_hears : IsLeft w (outcome_of w note).world → Hears peers marks (step w note).world
+  left_hears left = hears_outcome peers marks marks w note (lawful_now w reached) fine left.stays
+      (h.kept ∙ ap (map mark_of) (sym left.opened)) h
+
+done_hears : (peers : List PeerValue) (marks : List Mark) (w : World) (note : Note) → IsReached w →
+    Hears peers marks w → IsUntold note → refusal w note ≡ None → Hears peers marks (step w note).world
+unfolding outcome_of unsent_outcome give_up_outcome
+done_hears peers marks w (Asked (Unsent e i)) reached h k fine =
+    marked_hears peers marks w (Asked (Unsent e i)) reached h fine e (λ x. unsent_outcome w x i) refl
+    (λ x. keep_unsent w x i)
+    (λ x found. same_marks w reached e x (record x { unsent = with_member i x.unsent }) found refl refl)
+done_hears peers marks w (Asked (GiveUp e i)) reached h k fine =
+    marked_hears peers marks w (Asked (GiveUp e i)) reached h fine e (λ x. give_up_outcome w x i) refl
+    (λ x. keep_given_up w x i)
+    (λ x found. same_marks w reached e x (record x { given_up = with_member i x.given_up }) found refl refl)
+done_hears peers marks w note reached h k fine =
+    left_hears peers marks w note reached h fine (left_quiet note w k)
+
 pub untold_hears : (peers : List PeerValue) (marks : List Mark) (w : World) (note : Note) → IsReached w →
     Hears peers marks w → IsUntold note →
     Hears peers marks (step w note).world
@@ -212,10 +295,7 @@ untold_hears peers marks w note reached h k = go (refusal w note) refl
   where
     go : (o : Option Refusal) → refusal w note ≡ o → Hears peers marks (step w note).world
     go (Some r) e = refused_hears peers marks w note r reached h e
-    go None e =
-        let left : IsLeft w (outcome_of w note).world = left_untold note w k in
-        hears_outcome peers marks marks w note (lawful_now w reached) e left.stays
-        (h.kept ∙ ap (map mark_of) (sym left.opened)) h
+    go None e = done_hears peers marks w note reached h k e
 
 -- ---- the end of an exchange
 

@@ -2,7 +2,7 @@
 -- window, so a BlockAck with 64 or 256 bits has them all.
 use Rattle.std.proofs.Common.{◌≡◌, refl, ap, sym, ◌∙◌, subst, arith, ℕ, ◌+◌, ◌-◌, ◌*◌, ◌%◌, ◌<◌, ◌≤◌, ◌==◌, nat_le, nat_lt, Bool, true, false, not, ◌&&◌, ◌||◌, inl, inr, List, [], ◌∷◌, ◌++◌, map, filter, Option, Some, None, IfSome, option_map, if◌then◌else◌}
 use Rattle.wf_frame.specs.declared.classes.Class.{Class}
-use Rattle.wf_frame.specs.declared.notes.Ask.TheVariants.{Join, Leave, Rate, Tick, Pull, Arrive, Answer, Done, Sleep, Wake, Poll, Rx, Reap, Ampdu, Stop, Start}
+use Rattle.wf_frame.specs.declared.notes.Ask.TheVariants.{Join, Leave, Rate, Tick, Pull, Arrive, Answer, Done, Sleep, Wake, Poll, Rx, Reap, Ampdu, Stop, Start, Unsent, GiveUp, Flush}
 use Rattle.wf_frame.specs.declared.notes.Limits.{Limits}
 use Rattle.wf_frame.specs.declared.notes.Note.{Note}
 use Rattle.wf_frame.specs.declared.notes.Note.TheVariants.{Enqueue, Asked}
@@ -12,10 +12,10 @@ use Rattle.wf_def_agreement.specs.Receiver.{Receiver, Score, score, score_start,
 use Rattle.wf_def_agreement.specs.Session.{Session}
 use Rattle.wf_law_rules.proofs.Lemmas.Numbers.{on_bool, eq_yes, lt_yes, le_yes, yes_le, yes_lt, either, both}
 use Rattle.wf_def_world.specs.World.{World, Exchange, Mpdu, session, receiver, exchange, is_live, is_wide, with_exchange, without_exchange, opening}
-use Rattle.wf_def_world.specs.Exchanges.{mpdus_of, picked_station, sending_tid, Prepared, exchange_of, with_exchange_opened}
+use Rattle.wf_def_world.specs.Exchanges.{mpdus_of, numbers_unsent, picked_station, sending_tid, Prepared, exchange_of, with_exchange_opened}
 use Rattle.wf_def_world.specs.Refusals.{refusal}
 use Rattle.wf_def_world.specs.Run.{Entry, world_after}
-use Rattle.wf_def_world.specs.Step.{Outcome, send_outcome, pull_outcome_for, pull_outcome, answer_outcome, done_outcome, outcome_where_open, outcome_of, concerned_station, step}
+use Rattle.wf_def_world.specs.Step.{Outcome, send_outcome, pull_outcome_for, pull_outcome, answer_outcome, unsent_outcome, give_up_outcome, done_outcome, outcome_where_open, outcome_of, concerned_station, step}
 use Rattle.wf_law_runs.specs.Kept.{KeepsByCall}
 use Rattle.wf_law_runs.specs.Windows.{EachMpdu}
 use Rattle.wf_law_runs.proofs.Common.Picked.{picked_world}
@@ -35,7 +35,7 @@ use Rattle.wf_cell_model.specs.Refusing.{mark_in}
 use Rattle.wf_cell_model.proofs.Telling.{mark_told}
 use Rattle.wf_recv_marks.specs.declared.marks.Mark.{Mark}
 use Rattle.wf_recv_peer.specs.Agreements.{PeerValue}
-use Rattle.wf_cell_model.proofs.Keeping.{IsLeft, left_untold, left_refused, refused_world}
+use Rattle.wf_cell_model.proofs.Keeping.{IsLeft, left_quiet, left_refused, refused_world}
 use Rattle.wf_cell_model.proofs.Opening.{picked_live, ready_sent}
 use Rattle.wf_cell_model.proofs.Joining.{joined_rest}
 use Rattle.wf_cell_model.proofs.Arriving.{arrived_opened}
@@ -139,7 +139,8 @@ pull_below : (w : World) (c : Class) (l : Limits) → IsLawful w → AllBelow w 
 unfolding pull_outcome
 pull_below w c l i h =
     let k : Same w (picked_world w c l) = same_picked w c l in
-    pulled_below (picked_station w c).winner w (picked_world w c l) c (picked_live w c l) (lawful_same _ _ k i)
+    pulled_below (picked_station w c).winner w (picked_world w c l) c (picked_live w c l)
+    (lawful_same _ _ k i)
     (subst (AllBelow w) (sym k.opened) h)
 
 replaced_below : (w : World) (z : Exchange) → KeepsBelow w z → AllBelow w w.opened →
@@ -151,6 +152,12 @@ answered_below : (w : World) (x : Exchange) → IsLawful w → IsOpenIn w x → 
     AllBelow w (answer_outcome w x).world.opened
 unfolding answer_outcome with_exchange
 answered_below w x i o h = replaced_below w _ (below_answered w x i o) h
+
+-- an exchange with other marks of the device, of which the answer stays
+marked_below : (w : World) (z : Exchange) → KeepsBelow w z → AllBelow w w.opened →
+    AllBelow w (with_exchange w z).opened
+unfolding with_exchange
+marked_below w z own h = replaced_below w z own h
 
 ended_below : (w : World) (x : Exchange) (heard : Bool) (air : Option ℕ) → AllBelow w w.opened →
     AllBelow w (done_outcome w x heard air).world.opened
@@ -183,7 +190,7 @@ left_below w v k h = subst (AllBelow w) (sym k.opened) h
 
 done_below : (note : Note) (w : World) → IsLawful w → AllBelow w w.opened →
     AllBelow w (outcome_of w note).world.opened
-unfolding outcome_of
+unfolding outcome_of unsent_outcome give_up_outcome KeepsBelow
 done_below (Asked (Join s window start exponent weight)) w i h =
     subst (AllBelow w) (sym (joined_rest w s window start exponent weight).0) h
 done_below (Asked (Pull c l)) w i h = pull_below w c l i h
@@ -195,19 +202,24 @@ done_below (Asked (Answer e)) w i h = open_below (IsRead w) (exchange w e) w _ (
     (λ x f. answered_below w x i f.open_in h)
 done_below (Asked (Done e heard air)) w i h = open_below (IsRead w) (exchange w e) w _ (read w i h e) h
     (λ x f. ended_below w x heard air h)
-done_below (Enqueue s t flow len) w i h = left_below w _ (left_untold (Enqueue s t flow len) w tt) h
-done_below (Asked (Leave s)) w i h = left_below w _ (left_untold (Asked (Leave s)) w tt) h
+done_below (Enqueue s t flow len) w i h = left_below w _ (left_quiet (Enqueue s t flow len) w tt) h
+done_below (Asked (Leave s)) w i h = left_below w _ (left_quiet (Asked (Leave s)) w tt) h
 done_below (Asked (Rate s rate)) w i h =
-    left_below w _ (left_untold (Asked (Rate s rate)) w tt) h
-done_below (Asked (Tick by)) w i h = left_below w _ (left_untold (Asked (Tick by)) w tt) h
-done_below (Asked (Sleep s)) w i h = left_below w _ (left_untold (Asked (Sleep s)) w tt) h
-done_below (Asked (Wake s)) w i h = left_below w _ (left_untold (Asked (Wake s)) w tt) h
-done_below (Asked (Poll s)) w i h = left_below w _ (left_untold (Asked (Poll s)) w tt) h
-done_below (Asked (Rx s c air)) w i h = left_below w _ (left_untold (Asked (Rx s c air)) w tt) h
-done_below (Asked Reap) w i h = left_below w _ (left_untold (Asked Reap) w tt) h
-done_below (Asked (Ampdu s octets)) w i h = left_below w _ (left_untold (Asked (Ampdu s octets)) w tt) h
-done_below (Asked (Stop s)) w i h = left_below w _ (left_untold (Asked (Stop s)) w tt) h
-done_below (Asked (Start s)) w i h = left_below w _ (left_untold (Asked (Start s)) w tt) h
+    left_below w _ (left_quiet (Asked (Rate s rate)) w tt) h
+done_below (Asked (Tick by)) w i h = left_below w _ (left_quiet (Asked (Tick by)) w tt) h
+done_below (Asked (Sleep s)) w i h = left_below w _ (left_quiet (Asked (Sleep s)) w tt) h
+done_below (Asked (Wake s)) w i h = left_below w _ (left_quiet (Asked (Wake s)) w tt) h
+done_below (Asked (Poll s)) w i h = left_below w _ (left_quiet (Asked (Poll s)) w tt) h
+done_below (Asked (Rx s c air)) w i h = left_below w _ (left_quiet (Asked (Rx s c air)) w tt) h
+done_below (Asked Reap) w i h = left_below w _ (left_quiet (Asked Reap) w tt) h
+done_below (Asked (Ampdu s octets)) w i h = left_below w _ (left_quiet (Asked (Ampdu s octets)) w tt) h
+done_below (Asked (Stop s)) w i h = left_below w _ (left_quiet (Asked (Stop s)) w tt) h
+done_below (Asked (Start s)) w i h = left_below w _ (left_quiet (Asked (Start s)) w tt) h
+done_below (Asked (Unsent e n)) w i h = open_below (IsRead w) (exchange w e) w _ (read w i h e) h
+    (λ x f. marked_below w (record x { unsent = with_member n x.unsent }) f.below h)
+done_below (Asked (GiveUp e n)) w i h = open_below (IsRead w) (exchange w e) w _ (read w i h e) h
+    (λ x f. marked_below w (record x { given_up = with_member n x.given_up }) f.below h)
+done_below (Asked (Flush s t)) w i h = left_below w _ (left_quiet (Asked (Flush s t)) w tt) h
 
 judged_below : (w : World) (note : Note) (o : Option Refusal) → refusal w note ≡ o → IsLawful w →
     AllBelow w w.opened → AllBelow w (step w note).world.opened
@@ -316,9 +328,9 @@ kept_shown w e x b reached known kept =
     let right : EachMpdu (IsRightAt y r b) numbers =
     subst (λ (o : Option Score). IfSome o (λ k. EachMpdu (IsRightAt y r k) numbers)) kept
     (right_now w reached e x known).answer in
-    each_mpdu (IsRightAt y r b) (λ m. shows b m.number
+    each_mpdu (IsRightAt y r b) (λ m. has (numbers_unsent x) m.number ≡ false → shows b m.number
     ≡ is_shown (is_wide w x.station x.tid) (Some (kept_of b)) m.number) numbers
-    (λ m h. number_shown b m.number y.size h.1 h.2 most small.1) right
+    (λ m h sent. number_shown b m.number y.size h.1 h.2 most small.1) right
 
 -- ---- by the mark
 

@@ -2,25 +2,27 @@
 -- a reply has.
 use Rattle.std.proofs.Common.{◌≡◌, refl, ap, sym, ◌∙◌, ℕ, nat_le, ◌==◌, ◌&&◌, Bool, true, false, List, [], ◌∷◌, map, find, Option, Some, None, IfSome, is_some, is_none, option_map, if◌then◌else◌, length}
 use Rattle.wf_frame.specs.declared.classes.Class.{Class}
-use Rattle.wf_frame.specs.declared.notes.Ask.TheVariants.{Join, Leave, Rate, Tick, Pull, Arrive, Answer, Done, Sleep, Wake, Poll, Rx, Reap, Ampdu, Stop, Start}
+use Rattle.wf_frame.specs.declared.notes.Ask.TheVariants.{Join, Leave, Rate, Tick, Pull, Arrive, Answer, Done, Sleep, Wake, Poll, Rx, Reap, Ampdu, Stop, Start, Unsent, GiveUp, Flush}
 use Rattle.wf_frame.specs.declared.notes.Limits.{Limits}
 use Rattle.wf_frame.specs.declared.notes.Note.{Note}
 use Rattle.wf_frame.specs.declared.notes.Note.TheVariants.{Enqueue, Asked}
 use Rattle.wf_frame.specs.declared.notes.Refusal.{Refusal}
-use Rattle.wf_frame.specs.declared.notes.Refusal.TheVariants.{NoExchange, NoAnswer, BadAir, BadIndex, Answered, Arrived, Nothing}
+use Rattle.wf_frame.specs.declared.notes.Refusal.TheVariants.{NoExchange, NoAnswer, BadAir, BadIndex, Answered, Arrived, Marked, Nothing}
 use Rattle.wf_frame.specs.declared.notes.ReplyNote.TheVariants.{Refused}
 use Rattle.wf_def_lists.specs.Table.{has}
 use Rattle.wf_def_agreement.specs.Receiver.{Score}
 use Rattle.wf_def_world.specs.World.{World, Exchange, exchange}
-use Rattle.wf_def_world.specs.Exchanges.{transmissions, picked_station}
+use Rattle.wf_def_world.specs.Exchanges.{transmissions, is_marked, picked_station}
 use Rattle.wf_def_world.specs.Refusals.{first_refusal, exchange_has, refusal}
 use Rattle.wf_frame.specs.Settings.{is_bad_air}
-use Rattle.wf_def_world.specs.Step.{Outcome, join_outcome, leave_outcome, rate_outcome, tick_outcome, enqueue_outcome, send_outcome, pull_outcome_for, pull_outcome, arrive_outcome, answer_outcome, done_outcome, outcome_where_open, sleep_outcome, wake_outcome, poll_outcome, rx_outcome, reap_outcome, outcome_of, judged_outcome, step}
+use Rattle.wf_def_world.specs.Step.{Outcome, join_outcome, leave_outcome, rate_outcome, tick_outcome, enqueue_outcome, send_outcome, pull_outcome_for, pull_outcome, arrive_outcome, answer_outcome, done_outcome, outcome_where_open, sleep_outcome, wake_outcome, poll_outcome, rx_outcome, reap_outcome, unsent_outcome, give_up_outcome, flush_outcome, outcome_of, judged_outcome, step}
 use Rattle.wf_law_runs.proofs.Common.Picked.{picked_world}
+use Rattle.wf_send_half.specs.Marks.{HasNotArrived as IsUntoldOf}
+use Rattle.std.specs.Option.{option_or}
 use Rattle.wf_recv_marks.specs.declared.marks.Mark.{Mark}
 use Rattle.wf_recv_peer.specs.Agreements.{PeerValue}
 use Rattle.wf_cell_model.specs.Hearing.{kept_of, mark_of, Hears}
-use Rattle.wf_cell_model.specs.Refusing.{mark_in, arrive_refusal, answer_refusal, done_refusal}
+use Rattle.wf_cell_model.specs.Refusing.{mark_in, told_refusal, arrive_refusal, answer_refusal, done_refusal}
 use Rattle.wf_frame.specs.declared.settings.Config.{Config}
 
 -- ---- the mark of an exchange
@@ -49,15 +51,22 @@ none_kept : (o : Option Score) → is_none (option_map kept_of o) ≡ is_none o
 none_kept None = refl
 none_kept (Some b) = refl
 
-arrive_rows : (o : Option Exchange) (i count : ℕ) → IfSome o (λ x. count ≡ transmissions x.content) →
-    first_refusal (
-    (is_none o, NoExchange) ∷ (exchange_has o (λ x. nat_le (transmissions x.content) i), BadIndex)
-    ∷ (exchange_has o (λ x. is_some x.answer), Answered) ∷
-    (exchange_has o (λ x. has x.arrived i), Arrived) ∷ [])
-    ≡ arrive_refusal (option_map mark_of o) count i
-unfolding first_refusal
-arrive_rows None i count h = refl
-arrive_rows (Some x) i count h =
+-- the rows of what arrived come before that of the marks of the device
+told_or : (a b c d : Bool) → (if a then Some BadIndex else (if b then Some Answered
+    else (if c then Some Arrived else (if d then Some Marked else None))))
+    ≡ option_or (if a then Some BadIndex else (if b then Some Answered else
+    (if c then Some Arrived else None)))
+    (if d then Some Marked else None)
+told_or true b c d = refl
+told_or false true c d = refl
+told_or false false true d = refl
+told_or false false false d = refl
+
+told_same : (x : Exchange) (i count : ℕ) → count ≡ transmissions x.content →
+    (if nat_le (transmissions x.content) i then Some BadIndex
+    else (if is_some x.answer then Some Answered else (if has x.arrived i then Some Arrived else None)))
+    ≡ told_refusal (Some (mark_of x)) count i
+told_same x i count h =
     ap (λ (n : ℕ). if nat_le n i then Some BadIndex
     else (if is_some x.answer then Some Answered else (if has x.arrived i then Some Arrived else None)))
     (sym h)
@@ -65,13 +74,62 @@ arrive_rows (Some x) i count h =
     else (if b then Some Answered else (if has x.arrived i then Some Arrived else None)))
     (sym (some_kept x.answer))
 
+-- the rows of an Arrive, and of an Unsent, which differ only in the test of the last one
+told_rows : (o : Option Exchange) (p : Exchange → Bool) (i count : ℕ) →
+    IfSome o (λ x. count ≡ transmissions x.content) →
+    first_refusal (
+    (is_none o, NoExchange) ∷ (exchange_has o (λ x. nat_le (transmissions x.content) i), BadIndex)
+    ∷ (exchange_has o (λ x. is_some x.answer), Answered) ∷
+    (exchange_has o (λ x. has x.arrived i), Arrived) ∷ (exchange_has o p, Marked) ∷ [])
+    ≡ option_or (told_refusal (option_map mark_of o) count i) (if exchange_has o p then Some Marked else None)
+unfolding first_refusal
+told_rows None p i count h = refl
+told_rows (Some x) p i count h =
+    told_or (nat_le (transmissions x.content) i) (is_some x.answer) (has x.arrived i) (p x)
+    ∙ ap (λ (o : Option Refusal). option_or o (if p x then Some Marked else None)) (told_same x i count h)
+
 pub arrive_told : (peers : List PeerValue) (marks : List Mark) (w : World) (e i count : ℕ) →
     Hears peers marks w →
     IfSome (exchange w e) (λ x. count ≡ transmissions x.content) →
     refusal w (Asked (Arrive e i)) ≡ arrive_refusal (mark_in marks e) count i
+    (exchange_has (exchange w e) (λ x. has x.unsent i))
 arrive_told peers marks w e i count h n =
-    arrive_rows (exchange w e) i count n ∙ ap (λ (m : Option Mark). arrive_refusal m count i)
+    told_rows (exchange w e) (λ x. has x.unsent i) i count n
+    ∙ ap (λ (m : Option Mark). arrive_refusal m count i (exchange_has (exchange w e) (λ x. has x.unsent i)))
     (sym (mark_told peers marks w e h))
+
+pub unsent_told : (peers : List PeerValue) (marks : List Mark) (w : World) (e i count : ℕ) (r : Refusal) →
+    Hears peers marks w →
+    IfSome (exchange w e) (λ x. count ≡ transmissions x.content) →
+    told_refusal (mark_in marks e) count i ≡ Some r → refusal w (Asked (Unsent e i)) ≡ Some r
+unsent_told peers marks w e i count r h n is =
+    told_rows (exchange w e) (λ x. is_marked x i) i count n
+    ∙ ap (λ (o : Option Refusal). option_or o
+    (if exchange_has (exchange w e) (λ x. is_marked x i) then Some Marked else None))
+    (ap (λ (m : Option Mark). told_refusal m count i) (sym (mark_told peers marks w e h)) ∙ is)
+
+no_score : (o : Option Score) → is_some (option_map kept_of o) ≡ false → o ≡ None
+no_score None h = refl
+no_score (Some b) h = absurd (cc h)
+
+last_two : (a b c : Bool) → (if a then Some BadIndex else (if b then Some Answered
+    else (if c then Some Arrived else None))) ≡ None → (b ≡ false) × (c ≡ false)
+last_two true b c h = absurd (cc h)
+last_two false true c h = absurd (cc h)
+last_two false false true h = absurd (cc h)
+last_two false false false h = (refl, refl)
+
+untold_by : (o : Option Exchange) (i count : ℕ) → told_refusal (option_map mark_of o) count i ≡ None →
+    IfSome o (λ x. (x.answer ≡ None) × (has x.arrived i ≡ false))
+untold_by None i count h = tt
+untold_by (Some x) i count h =
+    let two = last_two (nat_le count i) (is_some (option_map kept_of x.answer)) (has x.arrived i) h in
+    (no_score x.answer two.0, two.1)
+
+pub untold_told : (peers : List PeerValue) (marks : List Mark) (w : World) (e i count : ℕ) →
+    Hears peers marks w → told_refusal (mark_in marks e) count i ≡ None → IsUntoldOf w e i
+untold_told peers marks w e i count h none = untold_by (exchange w e) i count
+    (ap (λ (m : Option Mark). told_refusal m count i) (sym (mark_told peers marks w e h)) ∙ none)
 
 answer_rows : (o : Option Exchange) →
     first_refusal ((is_none o, NoExchange) ∷ (exchange_has o (λ x. is_some x.answer), Answered)
@@ -127,7 +185,8 @@ never_reaped (id ∷ ids) w r h = cc h
 
 never_refused : (note : Note) (w : World) (r : Refusal) → (outcome_of w note).reply ≡ Refused r → ⊥
 unfolding outcome_of enqueue_outcome join_outcome leave_outcome rate_outcome tick_outcome arrive_outcome
-    answer_outcome done_outcome sleep_outcome wake_outcome poll_outcome rx_outcome
+    answer_outcome done_outcome sleep_outcome wake_outcome poll_outcome rx_outcome unsent_outcome
+    give_up_outcome flush_outcome
 never_refused (Enqueue s t flow len) w r h = cc h
 never_refused (Asked (Join s window start exponent weight)) w r h = cc h
 never_refused (Asked (Leave s)) w r h = cc h
@@ -145,6 +204,9 @@ never_refused (Asked Reap) w r h = never_reaped w.finished w r h
 never_refused (Asked (Ampdu s octets)) w r h = cc h
 never_refused (Asked (Stop s)) w r h = cc h
 never_refused (Asked (Start s)) w r h = cc h
+never_refused (Asked (Unsent e n)) w r h = never_open (exchange w e) w _ r (λ x k. cc k) h
+never_refused (Asked (GiveUp e n)) w r h = never_open (exchange w e) w _ r (λ x k. cc k) h
+never_refused (Asked (Flush s t)) w r h = cc h
 
 judged_refused : (o : Option Refusal) (w : World) (note : Note) (r : Refusal) →
     (judged_outcome w note o).reply ≡ Refused r → o ≡ Some r

@@ -1,7 +1,9 @@
--- Defines why an Arrive, an Answer or a Done is refused, by the mark of the exchange, if it is open.
+-- Defines why an Arrive, an Unsent, an Answer or a Done is refused, by the mark of the exchange, if it is
+-- open.
 use Rattle.std.specs.Prelude.{ℕ, nat_le, ◌==◌, ◌&&◌, Bool, List, find, length, Option, Some, None, is_some, is_none, if◌then◌else◌}
+use Rattle.std.specs.Option.{option_or}
 use Rattle.wf_frame.specs.declared.notes.Refusal.{Refusal}
-use Rattle.wf_frame.specs.declared.notes.Refusal.TheVariants.{NoExchange, NoAnswer, BadAir, BadIndex, Answered, Arrived, Nothing}
+use Rattle.wf_frame.specs.declared.notes.Refusal.TheVariants.{NoExchange, NoAnswer, BadAir, BadIndex, Answered, Arrived, Marked, Nothing}
 use Rattle.wf_def_lists.specs.Table.{has}
 use Rattle.wf_recv_marks.specs.declared.marks.Mark.{Mark}
 use Rattle.wf_frame.specs.declared.settings.Config.{Config}
@@ -11,12 +13,17 @@ use Rattle.wf_frame.specs.Settings.{is_bad_air}
 abbrev pub mark_in : List Mark → ℕ → Option Mark
 mark_in marks e = find (λ m. m.number == e) marks
 
--- why an Arrive of index i is refused, if the exchange has `count` transmissions
-abbrev pub arrive_refusal : Option Mark → ℕ → ℕ → Option Refusal
-arrive_refusal None count i = Some NoExchange
-arrive_refusal (Some m) count i =
+-- why an Arrive or an Unsent of index i is refused, if the exchange has `count` transmissions, before the
+-- marks of the device are looked at
+abbrev pub told_refusal : Option Mark → ℕ → ℕ → Option Refusal
+told_refusal None count i = Some NoExchange
+told_refusal (Some m) count i =
     if nat_le count i then Some BadIndex
     else (if is_some m.answer then Some Answered else (if has m.arrived i then Some Arrived else None))
+
+-- why an Arrive is refused: `unsent` is whether the transmission never went on the air
+abbrev pub arrive_refusal : Option Mark → ℕ → ℕ → Bool → Option Refusal
+arrive_refusal m count i unsent = option_or (told_refusal m count i) (if unsent then Some Marked else None)
 
 -- why an Answer is refused
 abbrev pub answer_refusal : Option Mark → Option Refusal

@@ -11,7 +11,7 @@
 
 ghost use Rattle.std.specs.Prelude.{◌≡◌, ◌<◌, ◌≤◌, ℕ, ◌==◌, not, ◌++◌, Bool, List, [], ◌∷◌, Some, None, IfSome, option_map, filter, length, nat_lt, All, Option};
 ghost use Rattle.wf_frame.specs.declared.classes.Class.{Class};
-ghost use Rattle.wf_frame.specs.declared.notes.Ask.TheVariants.{Join, Pull, Arrive, Answer, Done};
+ghost use Rattle.wf_frame.specs.declared.notes.Ask.TheVariants.{Join, Pull, Arrive, Answer, Done, Unsent};
 ghost use Rattle.wf_frame.specs.declared.notes.Limits.{Limits};
 ghost use Rattle.wf_frame.specs.declared.notes.Note.{Note};
 ghost use Rattle.wf_frame.specs.declared.notes.Note.TheVariants.{Asked};
@@ -20,10 +20,10 @@ ghost use Rattle.wf_frame.specs.declared.notes.Refusal.{Refusal};
 ghost use Rattle.wf_frame.specs.declared.notes.ReplyNote.TheVariants.{Ba, Refused, Released, Send};
 ghost use Rattle.wf_frame.specs.declared.settings.Config.{Config};
 ghost use Rattle.wf_def_agreement.specs.Receiver.{Score};
-ghost use Rattle.wf_def_lists.specs.Table.{bits_word};
+ghost use Rattle.wf_def_lists.specs.Table.{bits_word, has};
 ghost use Rattle.wf_def_world.specs.World.{World, Exchange, exchange, is_wide, opening, receiver};
 ghost use Rattle.wf_def_world.specs.Exchanges.{transmissions};
-ghost use Rattle.wf_def_world.specs.Refusals.{refusal};
+ghost use Rattle.wf_def_world.specs.Refusals.{exchange_has, refusal};
 ghost use Rattle.wf_def_world.specs.Step.{step};
 ghost use Rattle.wf_send_parts.specs.declared.exchanges.opened.TheConstants.{MOST_OPEN};
 ghost use Rattle.wf_recv_marks.specs.Marks.{new_mark, with_arrival, with_answer, with_changed};
@@ -31,10 +31,11 @@ ghost use Rattle.wf_recv_marks.specs.declared.marks.Mark.{Mark};
 ghost use Rattle.wf_recv_peer.specs.Agreements.{PeerValue};
 ghost use Rattle.wf_send_half_model.specs.Standing.{IsReached};
 ghost use Rattle.wf_send_half.specs.Bits.{AreShown};
+ghost use Rattle.wf_send_half.specs.Marks.{HasNotArrived as IsUntoldOf};
 ghost use Rattle.wf_cell_model.specs.Answers.{KeepsShown};
 ghost use Rattle.wf_cell_model.specs.Arriving.{peer_after, buffer_outcome_of_transmission, CarriesId, MayReach, IsUntold};
 ghost use Rattle.wf_cell_model.specs.Hearing.{peer_of, agreement_of, with_peer, new_receive_half, AreNew, kept_of, mark_of, Hears};
-ghost use Rattle.wf_cell_model.specs.Refusing.{mark_in, arrive_refusal, answer_refusal, done_refusal};
+ghost use Rattle.wf_cell_model.specs.Refusing.{mark_in, told_refusal, arrive_refusal, answer_refusal, done_refusal};
 
 /// New receive halves without a mark represent the opening world.
 pub fn a_new_cell()
@@ -78,7 +79,8 @@ pub fn an_exchange_opens()
         (limits : Limits) → IsReached w → Hears peers marks w →
         refusal w (Asked (Pull c limits)) ≡ None → Hears peers (marks ++ new_mark w.exchanges ∷ [])
         (step w (Asked (Pull c limits))).world }
-    ensures number { (w : World) (c : Class) (limits : Limits) (e s t charge : ℕ) (part : Part) (more : Bool) →
+    ensures number { (w : World) (c : Class) (limits : Limits) (e s t charge : ℕ) (part : Part)
+        (more : Bool) →
         IsReached w → (step w (Asked (Pull c limits))).reply ≡ Send e s t charge part more → e ≡ w.exchanges }
     ensures room { (peers : List PeerValue) (marks : List Mark) (w : World) (c : Class)
         (limits : Limits) → IsReached w → Hears peers marks w →
@@ -143,15 +145,24 @@ pub fn an_answer_is_made()
 {}
 
 /// The marks determine which exchanges are open, and so why an Arrive, an Answer or a Done is refused, if it
-/// is. An Arrive also depends on the number of transmissions of an open exchange, and a Done on the airtime
-/// that it gives.
+/// is. An Arrive also depends on the number of transmissions of an open exchange and on whether its own never
+/// went on the air, and a Done on the airtime that it gives. An Unsent that they do not refuse is for a
+/// transmission that has not arrived, of an exchange without an answer.
 pub fn the_marks_tell()
     ensures mark { (peers : List PeerValue) (marks : List Mark) (w : World) (e : ℕ) → Hears peers marks w →
         mark_in marks e ≡ option_map mark_of (exchange w e) }
     ensures arrive { (peers : List PeerValue) (marks : List Mark) (w : World) (e i count : ℕ) →
         Hears peers marks w →
         IfSome (exchange w e) (λ x. count ≡ transmissions x.content) →
-        refusal w (Asked (Arrive e i)) ≡ arrive_refusal (mark_in marks e) count i }
+        refusal w (Asked (Arrive e i)) ≡ arrive_refusal (mark_in marks e) count i
+        (exchange_has (exchange w e) (λ x. has x.unsent i)) }
+    ensures unsent { (peers : List PeerValue) (marks : List Mark) (w : World) (e i count : ℕ) (r : Refusal) →
+        Hears peers marks w →
+        IfSome (exchange w e) (λ x. count ≡ transmissions x.content) →
+        told_refusal (mark_in marks e) count i ≡ Some r → refusal w (Asked (Unsent e i)) ≡ Some r }
+    ensures untold { (peers : List PeerValue) (marks : List Mark) (w : World) (e i count : ℕ) →
+        Hears peers marks w →
+        told_refusal (mark_in marks e) count i ≡ None → IsUntoldOf w e i }
     ensures answer { (peers : List PeerValue) (marks : List Mark) (w : World) (e : ℕ) → Hears peers marks w →
         refusal w (Asked (Answer e)) ≡ answer_refusal (mark_in marks e) }
     ensures done { (peers : List PeerValue) (marks : List Mark) (w : World) (e : ℕ) (heard : Bool)

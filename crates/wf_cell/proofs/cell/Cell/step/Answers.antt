@@ -129,9 +129,9 @@ returns-clause-stands c = λ some bodies stands.
     subst (λ (u : CellValue). StandsFor u.half (world_of u.past) bodies) (sym c.self.view_is) stands in
     subst (λ (u : CellValue). StandsFor after.half
     (world_of (record { config = after.half.config; history = history }))
-    (bodies_after u.half c.args.job answered bodies)) c.self.view_is
+    (bodies_after u.half (world_of u.past) c.args.job answered bodies)) c.self.view_is
     (subst (λ (q : Past). StandsFor after.half (world_of q)
-    (bodies_after engine.half c.args.job answered bodies))
+    (bodies_after engine.half (world_of p) c.args.job answered bodies))
     (sym (past_grown p engine c.self.inside.left c.self.inside.last c.self.invariant refl room c.args.caller
     c.args.job after answered c.step.result c.step.ensures.done history grown))
     (still_stands p engine c.self.inside.left c.self.inside.last c.self.invariant refl room c.args.caller

@@ -29,7 +29,7 @@ reset-requires-clause-within c =
     let joined = ap (λ (b : Brief). reply_with b a.pairs a.ids) c.in-Joined.is in
     let x = c.args in
     let done = is_joined w x.station x.window x.start x.exponent x.weight
-    (sym (c.call.ensures.meets w bodies j.half).reply ∙ joined) in
+    (sym (c.call.ensures.meets w bodies j.half tt).reply ∙ joined) in
     omega (arith, station_in_range w x.station x.window x.start x.exponent x.weight done, j.hears.sized.count)
 
 pub reset-requires-clause-size : goal.reset-requires-clause-size
@@ -49,7 +49,7 @@ reset-requires-clause-size c =
     let x = c.args in
     window_in_range w x.station x.window x.start x.exponent x.weight
     (is_joined w x.station x.window x.start x.exponent x.weight
-    (sym (c.call.ensures.meets w bodies j.half).reply ∙ joined))
+    (sym (c.call.ensures.meets w bodies j.half tt).reply ∙ joined))
 
 pub returns-in-Joined-clause-meets : goal.returns-in-Joined-clause-meets
 returns-in-Joined-clause-meets c = λ w bodies i.
@@ -63,7 +63,7 @@ returns-in-Joined-clause-meets c = λ w bodies i.
     (sym c.self.view_is) i in
     let a : Answer = c.call.new.answer in
     let after : TransmitValue = c.call.new.self.half in
-    let m = c.call.ensures.meets w bodies j.half in
+    let m = c.call.ensures.meets w bodies j.half tt in
     let joined = ap (λ (b : Brief). reply_with b a.pairs a.ids) c.in-Joined.is in
     let x = c.args in
     let low = start_in_range w x.station x.window x.start x.exponent x.weight
@@ -87,7 +87,7 @@ returns-in_default-clause-meets c = λ w bodies i.
     (sym c.self.view_is) i in
     let a : Answer = c.call.new.answer in
     let after : TransmitValue = c.call.new.self.half in
-    let m = c.call.ensures.meets w bodies j.half in
+    let m = c.call.ensures.meets w bodies j.half tt in
     let x = c.args in
     refused_meets v after (Asked (Join x.station x.window x.start x.exponent x.weight))
     (reply_of a) w bodies bodies j m

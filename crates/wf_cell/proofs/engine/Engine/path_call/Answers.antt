@@ -7,7 +7,7 @@ use Rattle.wf_path.specs.declared.asks.PathJob.{PathJob}
 use Rattle.wf_path.specs.Jobs.{job_of}
 use Rattle.wf_path.specs.Paths.{PathValue}
 use Rattle.wf_cell.specs.Engines.{EngineValue, IsJobDone}
-use Rattle.wf_cell.proofs.Calls.{ask_done, untold_done, job_untold}
+use Rattle.wf_cell.proofs.Calls.{ask_done, untold_done, job_untold, job_may}
 use Rattle.wf_cell.proofs.engine.Engine.path_call.Goals as goal
 
 pub returns-in-Call-clause-done : goal.returns-in-Call-clause-done
@@ -35,6 +35,7 @@ returns-in_default-clause-done c =
     (reply_of c.call.new.answer) c.call.result
     (record { meets = c.call.ensures.meets; parcel = c.call.ensures.parcel })
     (job_untold c.args.job c.in_default.not-Call c.in_default.not-Pull)
+    (job_may c.args.job c.in_default.not-Call)
 
 pub returns-in_default-clause-path_kept : goal.returns-in_default-clause-path_kept
 returns-in_default-clause-path_kept c = λ is.

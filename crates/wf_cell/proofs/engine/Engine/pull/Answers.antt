@@ -37,7 +37,7 @@ open-requires-clause-room c =
       is = ap (λ (b : Brief). reply_with b a.pairs a.ids) s.is;
     } in
     (mark_fits v after (reply_of a) w bodies (bodies_sent (reply_of a) bodies) c.args.class c.args.limits j
-    (c.call.ensures.meets w bodies j.half) sent).room
+    (c.call.ensures.meets w bodies j.half tt) sent).room
 
 pub open-requires-clause-above : goal.open-requires-clause-above
 open-requires-clause-above c =
@@ -63,7 +63,7 @@ open-requires-clause-above c =
       is = ap (λ (b : Brief). reply_with b a.pairs a.ids) s.is;
     } in
     (mark_fits v after (reply_of a) w bodies (bodies_sent (reply_of a) bodies) c.args.class c.args.limits j
-    (c.call.ensures.meets w bodies j.half) sent).above
+    (c.call.ensures.meets w bodies j.half tt) sent).above
 
 pub returns-in-Send-clause-meets : goal.returns-in-Send-clause-meets
 returns-in-Send-clause-meets c = λ w bodies i.
@@ -91,7 +91,7 @@ returns-in-Send-clause-meets c = λ w bodies i.
     record { half = after; peers = c.self.inside.peers; marks = ms } in
     EngineMeets w (bodies_sent (reply_of a) bodies) (Asked (Pull c.args.class c.args.limits)) u (reply_of a))
     (sym c.open.ensures) (pulled_meets v after (reply_of a) w bodies (bodies_sent (reply_of a) bodies)
-    c.args.class c.args.limits j (c.call.ensures.meets w bodies j.half) sent)
+    c.args.class c.args.limits j (c.call.ensures.meets w bodies j.half tt) sent)
 
 pub returns-in_default-clause-meets : goal.returns-in_default-clause-meets
 returns-in_default-clause-meets c = λ w bodies i.
@@ -105,7 +105,7 @@ returns-in_default-clause-meets c = λ w bodies i.
     (sym c.self.view_is) i in
     let a : Answer = c.call.new.answer in
     let after : TransmitValue = c.call.new.self.half in
-    let m = c.call.ensures.meets w bodies j.half in
+    let m = c.call.ensures.meets w bodies j.half tt in
     refused_meets v after (Asked (Pull c.args.class c.args.limits)) (reply_of a) w bodies
     (bodies_sent (reply_of a) bodies) j m
     (not_pulled w c.args.class c.args.limits (λ sent. send_brief a.brief a.pairs a.ids
