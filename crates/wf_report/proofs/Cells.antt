@@ -42,11 +42,12 @@ new_sampled c config is stands = record {
 pub then_sampled : (old new : CellValue) (job : Job) (answered : ReplyNote) → IsSampled old →
     ((f : FrameValue) → frame_of job ≡ Some f → IsSample f) →
     ((bodies : ℕ → FrameValue) → StandsFor old.half (world_of old.past) bodies →
-    StandsFor new.half (world_of new.past) (bodies_after old.half job answered bodies)) → IsSampled new
+    StandsFor new.half (world_of new.past) (bodies_after old.half (world_of old.past) job answered bodies)) →
+    IsSampled new
 then_sampled old new job answered s brought stands = record {
-  bodies = bodies_after old.half job answered s.bodies;
+  bodies = bodies_after old.half (world_of old.past) job answered s.bodies;
   stands = stands s.bodies s.stands;
-  samples = after_sample old.half job answered s.bodies s.samples brought;
+  samples = after_sample old.half (world_of old.past) job answered s.bodies s.samples brought;
 }
 
 -- The world after one more call.

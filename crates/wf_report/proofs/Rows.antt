@@ -36,6 +36,13 @@ line_of_three word head part more =
     sym (append_assoc ((word ++ spaced head) ++ spaced part) (spaced more) (10 ∷ []))
     ∙ ap (λ l. l ++ 10 ∷ []) (joined_three word head part more)
 
+-- A word and two rows, as a line after other text.
+pub line_of_two : (out word : List ℕ) (head more : List (List ℕ)) →
+    ((out ++ word) ++ spaced head) ++ (spaced more ++ 10 ∷ [])
+    ≡ out ++ (join_with_byte 32 (word ∷ (head ++ more)) ++ 10 ∷ [])
+line_of_two out word head more =
+    rw (join-spaced word (head ++ more), spaced-append head more) (simp append_assoc)
+
 pub joined_last : (out word : List ℕ) (head : List (List ℕ)) (last : List ℕ) →
     ((out ++ (word ++ spaced head)) ++ 32 ∷ []) ++ last ≡ out
     ++ join_with_byte 32 (word ∷ (head ++ last ∷ []))

@@ -2,20 +2,23 @@
 -- bodies.
 use Rattle.std.proofs.Common.{◌≡◌, refl, ap, ap₂, sym, ◌∙◌, ℕ, zero, suc, Bool, true, false, List, [], ◌∷◌, ◌++◌, ◌+◌, ◌%◌, length, map, Option, Some, None, arith, length-append}
 use Rattle.std.specs.Prelude.{◌==◌, slice_get, if◌then◌else◌}
-use Rattle.wf_frame.specs.Frames.{FrameValue, new_frame, sample_body, sent_again}
-use Rattle.wf_frame.specs.declared.notes.Ask.TheVariants.{Pull}
+use Rattle.wf_frame.specs.Frames.{FrameValue, new_frame, sample_body, sent_again, sent_once_less}
+use Rattle.wf_frame.specs.declared.notes.Ask.TheVariants.{Pull, Unsent}
 use Rattle.wf_frame.specs.declared.notes.Note.{Note}
 use Rattle.wf_frame.specs.declared.notes.Part.TheVariants.{Mpdus}
 use Rattle.wf_frame.specs.declared.notes.ReplyNote.{ReplyNote}
 use Rattle.wf_frame.specs.declared.notes.ReplyNote.TheVariants as reply
 use Rattle.wf_def_world.specs.World.{World, Mpdu, Exchange, Content, Frames, Request, exchange}
-use Rattle.wf_def_world.specs.Exchanges.{mpdus_of}
+use Rattle.wf_def_lists.specs.Table.{at}
+use Rattle.wf_def_world.specs.Exchanges.{mpdus_of, no_mpdu}
 use Rattle.wf_octets.specs.HeaderLayout.{header_as_octets}
 use Rattle.wf_queue_flows_refines.specs.Frames.{with_body}
-use Rattle.wf_send_parts.specs.Sent.{with_one_sent, with_all_sent}
+use Rattle.wf_send_parts.specs.Sent.{with_one_sent, with_all_sent, with_one_unsent}
 use Rattle.wf_send_half.specs.Enqueues.{as_accepted}
+use Rattle.wf_send_half.specs.Marks.{bodies_unsent}
 use Rattle.wf_send_half.specs.Replies.{bodies_sent}
 use Rattle.wf_send_half_model.specs.Half.{TransmitValue}
+use Rattle.wf_send_half_model.specs.Marking.{with_transmission_unsent}
 use Rattle.wf_send_half_model.specs.Standing.{StandsFor}
 use Rattle.wf_path.specs.Addresses.{made_up}
 use Rattle.wf_path.specs.Transmissions.{header_of, data_octets, octets_of_content}
@@ -62,24 +65,43 @@ with_sent_sample id bodies all k = of (k == id)
     of true = record { body = (all k).body; source = (all k).source }
     of false = all k
 
+with_unsent_sample : (id : ℕ) (bodies : ℕ → FrameValue) → ((k : ℕ) → IsSample (bodies k)) → (k : ℕ) →
+    IsSample (with_one_unsent id bodies k)
+with_unsent_sample id bodies all k = of (k == id)
+  where
+    of : (b : Bool) → IsSample (if b then sent_once_less (bodies k) else bodies k)
+    of true = record { body = (all k).body; source = (all k).source }
+    of false = all k
+
+unsent_samples : (c : Content) (i : ℕ) (bodies : ℕ → FrameValue) → ((id : ℕ) → IsSample (bodies id)) →
+    (id : ℕ) → IsSample (with_transmission_unsent c i bodies id)
+unsent_samples (Frames mpdus) i bodies all = with_unsent_sample (at no_mpdu mpdus i).id bodies all
+unsent_samples (Request start) i bodies all = all
+
 sent_samples : (pairs : List (ℕ × ℕ)) (bodies : ℕ → FrameValue) → ((id : ℕ) → IsSample (bodies id)) →
     (id : ℕ) → IsSample (with_all_sent pairs bodies id)
 sent_samples [] bodies all = all
 sent_samples (p ∷ pairs) bodies all =
     sent_samples pairs (with_one_sent p.0 bodies) (with_sent_sample p.0 bodies all)
 
-pub after_sample : (v : TransmitValue) (job : Job) (answered : ReplyNote) (bodies : ℕ → FrameValue) →
+pub after_sample : (v : TransmitValue) (w : World) (job : Job) (answered : ReplyNote)
+    (bodies : ℕ → FrameValue) →
     ((id : ℕ) → IsSample (bodies id)) → ((f : FrameValue) → frame_of job ≡ Some f → IsSample f) →
-    (id : ℕ) → IsSample (bodies_after v job answered bodies id)
-after_sample v (Give f) (reply.Accepted given dropped) bodies all brought =
+    (id : ℕ) → IsSample (bodies_after v w job answered bodies id)
+after_sample v w (Give f) (reply.Accepted given dropped) bodies all brought =
     let is : IsSample f = brought f refl in
     with_sample bodies (as_accepted v f) all (record { body = is.body; source = is.source })
-after_sample v (Call (Pull class l)) answered bodies all brought = of answered
+after_sample v w (Call (Pull class l)) answered bodies all brought = of answered
   where
     of : (r : ReplyNote) → (id : ℕ) → IsSample (bodies_sent r bodies id)
     of (reply.Send exchange station tid air (Mpdus pairs) more) = sent_samples pairs bodies all
     of _ = all
-after_sample v _ _ bodies all brought = all
+after_sample v w (Call (Unsent e index)) answered bodies all brought = of (exchange w e) answered
+  where
+    of : (o : Option Exchange) (r : ReplyNote) → (id : ℕ) → IsSample (bodies_unsent o index r bodies id)
+    of (Some x) reply.Marked = unsent_samples x.content index bodies all
+    of o _ = all
+after_sample v w _ _ bodies all brought = all
 
 -- ---- frames on the air
 

@@ -19,7 +19,8 @@ frame_words Other = codes "other" ∷ []
 -- The line of a packet: its time as in its header, its captured length, and the words of its frame.
 abbrev pub packet_line : Captured → List ℕ
 packet_line p =
-    line (decimal p.header.seconds ∷ decimal p.header.fraction ∷ codes "len" ∷ decimal p.header.captured ∷ frame_words (frame_listed p.octets))
+    line (decimal p.header.seconds ∷ decimal p.header.fraction ∷ codes "len" ∷ decimal p.header.captured
+    ∷ frame_words (frame_listed p.octets))
 
 abbrev pub packet_lines : List Captured → List ℕ
 packet_lines packets = flat_map packet_line packets
@@ -33,7 +34,8 @@ kind_word Long = codes "long"
 kind_word TooBig = codes "too-big"
 
 abbrev pub capture_fault_line : Fault → List ℕ
-capture_fault_line fault = line (codes "fault" ∷ codes "packet" ∷ decimal fault.packet ∷ kind_word fault.kind ∷ [])
+capture_fault_line fault =
+    line (codes "fault" ∷ codes "packet" ∷ decimal fault.packet ∷ kind_word fault.kind ∷ [])
 
 abbrev pub count_line : ℕ → List ℕ
 count_line count = line (codes "packets" ∷ decimal count ∷ [])

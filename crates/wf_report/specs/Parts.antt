@@ -8,7 +8,8 @@ use Rattle.wf_def_world.specs.Text.{share_lines, tally_words, traffic_map, with_
 -- The first four lines of a summary, those of one station, those of all stations, and the last line.
 abbrev pub counts_of_summary : World → ℕ → List ℕ
 counts_of_summary w calls =
-    line (codes "calls" ∷ decimal calls ∷ []) ++ line (codes "now" ∷ decimal w.clock ∷ []) ++ line (tally_words w)
+    line (codes "calls" ∷ decimal calls ∷ []) ++ line (codes "now" ∷ decimal w.clock ∷ [])
+    ++ line (tally_words w)
     ++ line (codes "exchanges" ∷ decimal w.exchanges ∷ codes "open" ∷ decimal (length w.opened) ∷ [])
 
 abbrev pub lines_of : World → ℕ → List ℕ

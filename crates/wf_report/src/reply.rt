@@ -3,10 +3,10 @@
 ghost use Rattle.std.specs.Prelude.{◌≡◌, ◌+◌, ◌≤◌, ◌++◌, ◌∷◌, [], length, map, decimal, codes, slice_index, ◌*◌, if◌then◌else◌, true};
 ghost use Rattle.wf_io.specs.Words.{spaced};
 ghost use Rattle.wf_def_world.specs.Text.{answer_line, part_words, score_digits};
-ghost use Rattle.wf_frame.specs.Answers.{part_sent, reply_of};
+ghost use Rattle.wf_frame.specs.Answers.{part_sent, reply_of, reply_with};
 ghost use Rattle.wf_frame.specs.declared.notes.ReplyNote.TheVariants.{Accepted, Done, Reaped, Refused};
 ghost use Rattle.wf_frame.specs.Words.{line};
-ghost use Rattle.wf_report.specs.Replies.{pair_text};
+ghost use Rattle.wf_report.specs.Replies.{is_one_word, pair_text};
 
 use crate::parts::push_hex;
 use wf_frame::{Answer, Brief, Fate, Ids, Pairs, Refusal};
@@ -213,15 +213,32 @@ fn push_released(out: &mut Line, ids: &Ids)
     out.push(b'\n');
 }
 
+// Writes the line of an answer that is one word; there is no other answer here.
+fn push_word(out: &mut Line, brief: Brief)
+    requires empty { out.old ≡ [] }
+    requires word { is_one_word brief ≡ true }
+    ensures { out.new ≡ answer_line (reply_with brief [] []) }
+{
+    match brief {
+        Brief::Joined => out.push_line(b"joined", &[]),
+        Brief::Set => out.push_line(b"set", &[]),
+        Brief::Slept => out.push_line(b"slept", &[]),
+        Brief::Woken => out.push_line(b"woken", &[]),
+        Brief::Stopped => out.push_line(b"stopped", &[]),
+        Brief::Started => out.push_line(b"started", &[]),
+        Brief::Marked => out.push_line(b"marked", &[]),
+        _ => {}
+    }
+}
+
 /// Writes the line of an answer, with its octet 10, to an empty line.
 pub fn print_reply(answer: &Answer, out: &mut Line)
     requires { out.old ≡ [] }
     ensures { out.new ≡ answer_line (reply_of answer.now) }
 {
     match answer.brief {
-        Brief::Joined => out.push_line(b"joined", &[]),
         Brief::Left { dropped } => push_numbered(out, b"left", u64::from(dropped)),
-        Brief::Set => out.push_line(b"set", &[]),
+        Brief::Flushed { dropped } => push_numbered(out, b"flushed", u64::from(dropped)),
         Brief::Now { now } => push_numbered(out, b"now", now),
         Brief::Accepted { id, dropped } => push_accepted(out, id, dropped),
         Brief::Send {
@@ -250,13 +267,10 @@ pub fn print_reply(answer: &Answer, out: &mut Line)
             waiting,
             failed,
         } => push_ended(out, acked, waiting, failed),
-        Brief::Slept => out.push_line(b"slept", &[]),
-        Brief::Woken => out.push_line(b"woken", &[]),
         Brief::Polled { class } => out.push_line(b"polled", &[Word::Text(class.word())]),
         Brief::Charged { deficit } => out.push_line(b"charged", &[Word::Signed(deficit)]),
         Brief::Reaped { id, fate } => push_reaped(out, id, fate),
-        Brief::Stopped => out.push_line(b"stopped", &[]),
-        Brief::Started => out.push_line(b"started", &[]),
         Brief::Refused(refusal) => push_refusal(out, refusal),
+        brief => push_word(out, brief),
     }
 }

@@ -1,14 +1,15 @@
 //! Writes the summary of a cell.
 
-ghost use Rattle.std.specs.Prelude.{◌≡◌, ◌+◌, ◌≤◌, ◌++◌, [], length, map, OnOk, ◌*◌, true};
+ghost use Rattle.std.specs.Prelude.{◌≡◌, ◌+◌, ◌≤◌, ◌==◌, ◌++◌, [], ◌∷◌, codes, decimal, if◌then◌else◌, length, map, OnOk, ◌*◌, true};
 ghost use Rattle.std.specs.List.{concat};
 ghost use Rattle.std.specs.Io.KnownBytes.{append_known};
 ghost use Rattle.wf_io.specs.Faults.{CountsFaults};
 ghost use Rattle.wf_def_world.specs.World.{is_live, share};
 ghost use Rattle.wf_def_world.specs.Run.{world_of};
 ghost use Rattle.wf_frame.specs.Words.{line};
-ghost use Rattle.wf_def_world.specs.Text.{summary as summary_of, share_line, share_lines, hex};
+ghost use Rattle.wf_def_world.specs.Text.{summary as summary_of, tally_words, share_line, share_lines, hex};
 ghost use Rattle.wf_io.specs.Fronts.{HoldsFront};
+ghost use Rattle.wf_io.specs.Words.{spaced};
 ghost use Rattle.wf_report.specs.Parts.{counts_of_summary, lines_of, shares_of, map_line};
 
 use crate::parts::push_hex;
@@ -17,32 +18,53 @@ use wf_cell::Cell;
 use wf_frame::Class;
 use wf_io::{Failed, Line, Sink, Word, write_line};
 
+// Appends how many frames were dropped by flushes, if any, and ends the line.
+fn push_flushed(out: &mut Line, flushed: u64)
+    requires { length out.old ≤ 4096 }
+    ensures text { out.new ≡ out.old
+        ++ (spaced (if flushed == 0 then [] else codes "flushed" ∷ decimal flushed ∷ []) ++ 10 ∷ []) }
+    ensures len { length out.new ≤ length out.old + 30 }
+{
+    if flushed != 0 {
+        out.push_words(&[Word::Text(b"flushed"), Word::Number(flushed)]);
+    }
+    out.push(b'\n');
+}
+
+// Appends the line of the frames: how many were accepted, and how many of them have each fate.
+fn push_frames(cell: &Cell, out: &mut Line)
+    requires { length out.old ≤ 200 }
+    ensures text { out.new ≡ out.old ++ line (tally_words (world_of cell.now.past)) }
+    ensures len { length out.new ≤ length out.old + 300 }
+{
+    let tally = standing::tally(cell);
+    out.push_all(b"frames");
+    out.push_words(&[
+        Word::Number(tally.accepted),
+        Word::Text(b"acked"),
+        Word::Number(tally.acked),
+        Word::Text(b"overlimit"),
+        Word::Number(tally.overlimit),
+        Word::Text(b"codel"),
+        Word::Number(tally.codel),
+        Word::Text(b"retries"),
+        Word::Number(tally.retries),
+        Word::Text(b"left"),
+        Word::Number(tally.left),
+        Word::Text(b"held"),
+        Word::Number(tally.held()),
+    ]);
+    push_flushed(out, tally.flushed);
+}
+
 // Writes the lines of the calls, the clock, the frames and the exchanges.
 fn push_counts(cell: &Cell, out: &mut Line)
     requires { out.old ≡ [] }
     ensures { out.new ≡ counts_of_summary (world_of cell.now.past) (length cell.now.past.history) }
 {
-    let tally = standing::tally(cell);
     out.push_line(b"calls", &[Word::Number(cell.len())]);
     out.push_line(b"now", &[Word::Number(cell.clock())]);
-    out.push_line(
-        b"frames",
-        &[
-            Word::Number(tally.accepted),
-            Word::Text(b"acked"),
-            Word::Number(tally.acked),
-            Word::Text(b"overlimit"),
-            Word::Number(tally.overlimit),
-            Word::Text(b"codel"),
-            Word::Number(tally.codel),
-            Word::Text(b"retries"),
-            Word::Number(tally.retries),
-            Word::Text(b"left"),
-            Word::Number(tally.left),
-            Word::Text(b"held"),
-            Word::Number(tally.held()),
-        ],
-    );
+    push_frames(cell, out);
     out.push_line(
         b"exchanges",
         &[

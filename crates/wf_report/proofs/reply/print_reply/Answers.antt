@@ -10,8 +10,10 @@ pub returns-in-Send : goal.returns-in-Send
 returns-in-Send c =
     rw (c.in-Send.is, c.push_more.ensures, c.push_part.ensures.text, c.push_exchange.ensures.text)
     (line_of_three (codes "send")
-    (decimal c.in-Send.exchange ∷ codes "sta" ∷ decimal c.in-Send.station ∷ codes "tid" ∷ decimal c.in-Send.tid ∷ codes "air" ∷ decimal c.in-Send.air ∷ [])
-    (part_words (part_sent c.in-Send.request c.args.answer.now.pairs)) (cond c.in-Send.more (codes "more" ∷ []) []))
+    (decimal c.in-Send.exchange ∷ codes "sta" ∷ decimal c.in-Send.station
+    ∷ codes "tid" ∷ decimal c.in-Send.tid ∷ codes "air" ∷ decimal c.in-Send.air ∷ [])
+    (part_words (part_sent c.in-Send.request c.args.answer.now.pairs))
+    (cond c.in-Send.more (codes "more" ∷ []) []))
 
 pub returns-in-Ba : goal.returns-in-Ba
 returns-in-Ba c = rw (c.in-Ba.is, c.push_answer.ensures) refl

@@ -41,6 +41,12 @@ returns-clause-left c =
     ap (λ (t : Counts). t.left) (c.tally.ensures.world (world_of c.args.cell.now.past) stands.0
     (rw (c.path.ensures.value) stands.1))
 
+pub returns-clause-flushed : goal.returns-clause-flushed
+returns-clause-flushed c =
+    let stands = c.path.ensures.stands in
+    ap (λ (t : Counts). t.flushed) (c.tally.ensures.world (world_of c.args.cell.now.past) stands.0
+    (rw (c.path.ensures.value) stands.1))
+
 pub returns-clause-held : goal.returns-clause-held
 returns-clause-held c =
     let stands = c.path.ensures.stands in

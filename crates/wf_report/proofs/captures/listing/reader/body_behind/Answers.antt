@@ -109,7 +109,8 @@ returns-then-behind-from-gt-MOST_OCTETS-2-clause-takes g c =
     (omega (arith, c.requires.head)) c.in-Err.ensures.fault in (
       t.0,
       t.1,
-      past form c.args.place c.of-kind.result head t.0 _ _ c.past_limit-then-behind-from-gt-MOST_OCTETS-2.result
+      past form c.args.place c.of-kind.result head t.0 _ _
+          c.past_limit-then-behind-from-gt-MOST_OCTETS-2.result
           (sym c.requires.head)
           (omega (
             arith,
