@@ -7,7 +7,7 @@ use Rattle.wf_frame.specs.Calls.{call_numbered, limits, no_limits}
 use Rattle.wf_frame.specs.Classes.{all_classes, class_among, class_number}
 use Rattle.wf_frame.specs.declared.classes.Class.{Class}
 use Rattle.wf_frame.specs.declared.notes.Note.TheVariants.{Enqueue, Asked}
-use Rattle.wf_frame.specs.declared.notes.Ask.TheVariants.{Join, Leave, Rate, Tick, Pull, Arrive, Answer, Done, Sleep, Wake, Poll, Rx, Reap, Ampdu, Stop, Start}
+use Rattle.wf_frame.specs.declared.notes.Ask.TheVariants.{Join, Leave, Rate, Tick, Pull, Arrive, Answer, Done, Sleep, Wake, Poll, Rx, Reap, Ampdu, Stop, Start, Unsent, GiveUp, Flush}
 use Rattle.wf_frame.specs.declared.notes.AskedRate.TheVariants.{Ht, Vht, He}
 use Rattle.wf_c.specs.CallNumbers.{blank_call, numbers_of_call, asked, call_noted}
 use Rattle.wf_c.specs.Numbers.{flag_of, is_up}
@@ -71,7 +71,8 @@ pub fields_of_enqueue : (station tid flow len : ℕ) →
 fields_of_enqueue station tid flow len = refl
 
 pub fields_of_pull : (class : Class) →
-    numbers_of_call (Asked (Pull class no_limits)) ≡ record blank_call { kind = 5; class = class_number class }
+    numbers_of_call (Asked (Pull class no_limits))
+    ≡ record blank_call { kind = 5; class = class_number class }
 fields_of_pull class = refl
 
 pub fields_of_pull_limited : (class : Class) (frames air : ℕ) →
@@ -131,6 +132,21 @@ pub fields_of_start : (station : ℕ) →
     numbers_of_call (Asked (Start station)) ≡ record blank_call { kind = 16; station = station }
 fields_of_start station = refl
 
+pub fields_of_unsent : (exchange index : ℕ) →
+    numbers_of_call (Asked (Unsent exchange index))
+    ≡ record blank_call { kind = 17; exchange = exchange; index = index }
+fields_of_unsent exchange index = refl
+
+pub fields_of_give_up : (exchange index : ℕ) →
+    numbers_of_call (Asked (GiveUp exchange index))
+    ≡ record blank_call { kind = 18; exchange = exchange; index = index }
+fields_of_give_up exchange index = refl
+
+pub fields_of_flush : (station tid : ℕ) →
+    numbers_of_call (Asked (Flush station tid))
+    ≡ record blank_call { kind = 19; station = station; tid = tid }
+fields_of_flush station tid = refl
+
 -- ---- the call of fields
 
 -- the calls that these fields show, by their kind and some other field
@@ -169,12 +185,15 @@ pub record Rows (c : CallNumbers) : Type 0 where
   pub ampdu : asked (record c { kind = 14 }) ≡ Some (Ampdu c.station c.octets)
   pub stop : asked (record c { kind = 15 }) ≡ Some (Stop c.station)
   pub start : asked (record c { kind = 16 }) ≡ Some (Start c.station)
-  pub no_call : (n : ℕ) → 16 < n → asked (record c { kind = n }) ≡ None
+  pub unsent : asked (record c { kind = 17 }) ≡ Some (Unsent c.exchange c.index)
+  pub give_up : asked (record c { kind = 18 }) ≡ Some (GiveUp c.exchange c.index)
+  pub flush : asked (record c { kind = 19 }) ≡ Some (Flush c.station c.tid)
+  pub no_call : (n : ℕ) → 19 < n → asked (record c { kind = n }) ≡ None
 
 above : (n k : ℕ) → k < n → nat_eq n k ≡ false
 above n k less = grind (arith, nat_tests)
 
-none_numbered : (n : ℕ) → 16 < n → call_numbered n ≡ None
+none_numbered : (n : ℕ) → 19 < n → call_numbered n ≡ None
 none_numbered n less = grind (arith, nat_tests)
 
 is_class : (n : ℕ) → n ≤ 3 → nat_lt 3 n ≡ false
@@ -213,5 +232,8 @@ rows c = record {
   ampdu = refl;
   stop = refl;
   start = refl;
+  unsent = refl;
+  give_up = refl;
+  flush = refl;
   no_call = λ n less. rw (none_numbered n less) refl;
 }

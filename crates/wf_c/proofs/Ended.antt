@@ -1,20 +1,54 @@
--- Proves that an end with a bad airtime changes nothing. By cases of whether the exchange is open.
-use Rattle.std.proofs.Common.{◌≡◌, refl, ℕ, ◌==◌, true, Some, None}
-use Rattle.std.specs.Prelude.{Option, List, find}
+-- Proves which refusal the answer to the end of an exchange shows. By cases of whether the end is refused.
+use Rattle.std.proofs.Common.{◌≡◌, refl, ap, ◌∙◌, inl, inr, ℕ, true, false, Some, None}
+use Rattle.std.proofs.lemmas.Bool.{both_ways}
+use Rattle.std.specs.Prelude.{Option, List, [], ◌⊎◌}
+use Rattle.wf_frame.specs.Answers.{reply_with}
+use Rattle.wf_frame.specs.Refusals.{refusal_number}
 use Rattle.wf_frame.specs.declared.answers.Brief.{Brief}
-use Rattle.wf_frame.specs.declared.notes.Refusal.TheVariants.{NoExchange, BadAir}
-use Rattle.wf_frame.specs.Settings.{is_bad_air}
-use Rattle.wf_send_half.proofs.Dones.{ends_unknown, ends_bad}
+use Rattle.wf_frame.specs.declared.answers.Brief.TheVariants.{Accepted, Send, Refused}
+use Rattle.wf_frame.specs.declared.notes.Refusal.{Refusal}
+use Rattle.wf_frame.specs.declared.notes.Refusal.TheVariants as refusal
+use Rattle.wf_send_half.specs.Bits.{end_refusal}
 use Rattle.wf_path.specs.Driver.{IsEnded}
+use Rattle.wf_path.specs.Jobs.{is_refused}
 use Rattle.wf_path.specs.Paths.{PathValue}
+use Rattle.wf_c.specs.Ends.{refused_code}
+use Rattle.wf_c.specs.Numbers.{numbers_of}
 
-from_both : {A P : Type 0} (f : Option A) → (None ≡ f → P) → ((a : A) → Some a ≡ f → P) → P
-from_both None none some = none refl
-from_both (Some a) none some = some a refl
+-- the field of a refusal has its number; the last line is for all refusals without a count
+shows_why : (why : Refusal) → (numbers_of (Refused why)).refusal ≡ refusal_number why
+shows_why (refusal.Open count) = refl
+shows_why (refusal.Room inside) = refl
+shows_why (refusal.Sleeping queued) = refl
+shows_why (refusal.Full count) = refl
+shows_why (refusal.Debt deficit) = refl
+shows_why (refusal.Ahead owed) = refl
+shows_why _ = refl
 
-pub unchanged_by_bad_air : {p q : PathValue} {e : ℕ} {heard : Option (ℕ × List ℕ)} {air : Option ℕ}
-    {b : Brief} → IsEnded p e heard air q b → is_bad_air p.half.config air ≡ true → q ≡ p
-unchanged_by_bad_air {p = p} {e = e} {air = air} ended bad =
-    from_both (find (λ x. x.number == e) p.half.opened)
-    (λ none. (ended.refused NoExchange (ends_unknown p.half e air none)).1)
-    (λ o some. (ended.refused BadAir (ends_bad p.half e air o some bad)).1)
+-- another answer shows no refusal; the last line is for all answers without an option
+shows_none : (b : Brief) → is_refused (reply_with b [] []) ≡ false → (numbers_of b).refusal ≡ 0
+shows_none (Refused why) is = absurd (both_ways true is refl)
+shows_none (Accepted id None) is = refl
+shows_none (Accepted id (Some dropped)) is = refl
+shows_none (Send exchange station tid air None more) is = refl
+shows_none (Send exchange station tid air (Some start) more) is = refl
+shows_none _ is = refl
+
+module _ {p q : PathValue} {e : ℕ} {heard : Option (ℕ × List ℕ)} {air : Option ℕ} {b : Brief}
+    (ended : IsEnded p e heard air q b) where
+  of_refusal : (o : Option Refusal) → end_refusal p.half e heard air ≡ o →
+      (numbers_of b).refusal ≡ refused_code o
+  of_refusal None fine = shows_none b (ended.answered fine)
+  of_refusal (Some why) is =
+      ap (λ (k : Brief). (numbers_of k).refusal) (ended.refused why is).0 ∙ shows_why why
+
+  pub shows_refusal : (numbers_of b).refusal ≡ refused_code (end_refusal p.half e heard air)
+  shows_refusal = of_refusal (end_refusal p.half e heard air) refl
+
+  stays_if : (o : Option Refusal) → end_refusal p.half e heard air ≡ o →
+      ((numbers_of b).refusal ≡ 0) ⊎ (q ≡ p)
+  stays_if None fine = inl (shows_none b (ended.answered fine))
+  stays_if (Some why) is = inr (ended.refused why is).1
+
+  pub stays : ((numbers_of b).refusal ≡ 0) ⊎ (q ≡ p)
+  stays = stays_if (end_refusal p.half e heard air) refl

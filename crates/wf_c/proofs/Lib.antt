@@ -1,6 +1,7 @@
 -- Lists the modules of proofs/ of wf_c. Other crates use none of them.
 mod Advancing
 mod Bursting
+mod CallLengths
 mod CallRows
 mod Ended
 mod Filled

@@ -70,7 +70,7 @@ pub record IsUntouched {X : Type 0} (old new : X) (before shown : Reply) (code :
 -- The effect of an enqueue of frame f: h before, k after, and the caller's struct.
 pub record IsGivenToC (h : Held) (f : FrameValue) (k : Held) (shown : Reply) : Type 0 where
   pub meets : (w : World) (bodies : ℕ → FrameValue) → StandsFor h.path.half w bodies →
-      Meets w (bodies_after h.path.half (Give f) (reply_of k.answer) bodies) (enqueue_of f) k.path.half
+      Meets w (bodies_after h.path.half w (Give f) (reply_of k.answer) bodies) (enqueue_of f) k.path.half
       (reply_of k.answer)
   pub refused : changes_nothing (reply_of k.answer) ≡ true → k.path ≡ h.path
   pub addresses : k.path.addresses ≡ h.path.addresses

@@ -59,7 +59,8 @@ pub record IsStepped (h : HeldCell) (caller : ℕ) (job : Job) (k : HeldCell) (s
       (note_of job)).reply
   pub stands : 0 < calls_left_in h.cell.past → (bodies : ℕ → FrameValue) →
       StandsFor h.cell.half (world_of h.cell.past) bodies →
-      StandsFor k.cell.half (world_of k.cell.past) (bodies_after h.cell.half job (reply_of k.answer) bodies)
+      StandsFor k.cell.half (world_of k.cell.past)
+      (bodies_after h.cell.half (world_of h.cell.past) job (reply_of k.answer) bodies)
   pub bodies : 0 < calls_left_in h.cell.past → (id : ℕ) →
       body_of k.cell.half id ≡ body_after h.cell.half (reply_of k.answer) job id
   pub full : calls_left_in h.cell.past ≡ 0 → reply_of k.answer ≡ Refused HistoryFull

@@ -1,9 +1,11 @@
 -- Defines the codes and structs of an open exchange, and what its end leaves of a path.
-use Rattle.std.specs.Prelude.{◌≡◌, ◌≤◌, ℕ, List, Bool, true, false, Option, Some, None}
+use Rattle.std.specs.Prelude.{◌≡◌, ◌≤◌, ℕ, List, Option, Some, None}
 use Rattle.wf_octets.specs.declared.block.decoding.BlockFault.TheVariants.{Length, Kind, NotCompressed, MultiTid, Fragment, NotWide}
 use Rattle.wf_frame.specs.Refusals.{refusal_number}
+use Rattle.wf_frame.specs.declared.notes.Refusal.{Refusal}
 use Rattle.wf_frame.specs.declared.notes.Refusal.TheVariants as refusal
 use Rattle.wf_def_world.specs.World.{Exchange}
+use Rattle.wf_send_half.specs.Bits.{end_refusal}
 use Rattle.wf_path.specs.declared.faults.DoneFault.{DoneFault}
 use Rattle.wf_path.specs.declared.faults.DoneFault.TheVariants as done
 use Rattle.wf_path.specs.declared.faults.PathFault.{PathFault}
@@ -48,11 +50,21 @@ end_code (Some (done.Block NotWide)) = 56
 end_code (Some done.NotMine) = 57
 end_code (Some (done.WrongTid found)) = 58
 
--- the code of an end by octets, with a bad airtime or not; a fault of the octets is checked first
-abbrev pub octets_code : Option DoneFault → Bool → ℕ
-octets_code (Some fault) bad_air = end_code (Some fault)
-octets_code None true = refusal_number refusal.BadAir
-octets_code None false = 0
+-- the code of a call that is refused, if it is
+abbrev pub refused_code : Option Refusal → ℕ
+refused_code None = 0
+refused_code (Some reason) = refusal_number reason
+
+-- the code of an end by octets, which have a fault or not, and which is refused or not; a fault of the octets
+-- is checked first
+abbrev pub octets_code : Option DoneFault → Option Refusal → ℕ
+octets_code (Some fault) reason = end_code (Some fault)
+octets_code None reason = refused_code reason
+
+-- why the path that the handle holds refuses to end an exchange by the BlockAck that was heard, if it does
+abbrev pub end_refused : Option Held → ℕ → Option (ℕ × List ℕ) → Option ℕ → Option Refusal
+end_refused None e heard air = None
+end_refused (Some h) e heard air = end_refusal h.path.half e heard air
 
 -- ---- structs
 

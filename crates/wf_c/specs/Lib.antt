@@ -8,6 +8,7 @@ pub mod CellAnswers
 pub mod CellCalls
 pub mod CellLending
 pub mod Clock
+pub mod Each
 pub mod Ends
 pub mod Lending
 pub mod Making

@@ -58,7 +58,8 @@ block_word = word_among block_rows
 abbrev pub own_rows : List (ℕ × List ℕ)
 own_rows =
     (0, codes "ok") ∷ (40, codes "no-memory") ∷ (41, codes "bad-length") ∷ (42, codes "small-buffer") ∷
-    (43, codes "bad-call") ∷ (44, codes "bad-address") ∷ (45, codes "no-body") ∷ (47, codes "bad-class") ∷ []
+    (43, codes "bad-call") ∷ (44, codes "bad-address") ∷ (45, codes "no-body") ∷ (47, codes "bad-class") ∷
+    (48, codes "bad-outcome") ∷ []
 
 -- the word for such a code
 abbrev pub own_word : ℕ → List ℕ
@@ -80,7 +81,8 @@ kind_rows =
     (0, codes "joined") ∷ (1, codes "left") ∷ (2, codes "set") ∷ (3, codes "now") ∷ (4, codes "accepted") ∷
     (5, codes "send") ∷ (6, codes "released") ∷ (7, codes "ba") ∷ (8, codes "done") ∷ (9, codes "slept") ∷
     (10, codes "woken") ∷ (11, codes "polled") ∷ (12, codes "charged") ∷ (13, codes "reaped") ∷
-    (14, codes "refused") ∷ (15, codes "stopped") ∷ (16, codes "started") ∷ []
+    (14, codes "refused") ∷ (15, codes "stopped") ∷ (16, codes "started") ∷
+    (17, codes "marked") ∷ (18, codes "flushed") ∷ []
 
 -- the word for a kind of answer
 abbrev pub answer_word : ℕ → List ℕ

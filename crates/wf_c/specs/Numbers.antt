@@ -3,7 +3,7 @@ use Rattle.std.specs.Prelude.{ℕ, ◌==◌, not, Bool, true, false, Option, Som
 use Rattle.wf_frame.specs.Classes.{all_classes, class_number, fate_number}
 use Rattle.wf_frame.specs.declared.classes.Class.{Class}
 use Rattle.wf_frame.specs.declared.answers.Brief.{Brief}
-use Rattle.wf_frame.specs.declared.answers.Brief.TheVariants.{Joined, Set, Now, Accepted, Send, Released, Ba, Done, Slept, Woken, Polled, Charged, Reaped, Stopped, Started, Refused}
+use Rattle.wf_frame.specs.declared.answers.Brief.TheVariants.{Joined, Set, Now, Accepted, Send, Released, Ba, Done, Slept, Woken, Polled, Charged, Reaped, Stopped, Started, Marked, Refused}
 use Rattle.wf_frame.specs.declared.answers.Brief.TheVariants as brief
 use Rattle.wf_frame.specs.Calls.{limits}
 use Rattle.wf_frame.specs.Refusals.{refusal_number}
@@ -122,6 +122,8 @@ numbers_of (Charged deficit) = record blank { kind = 12; deficit = deficit }
 numbers_of (Reaped id fate) = record blank { kind = 13; id = id; fate = fate_number fate }
 numbers_of Stopped = record blank { kind = 15 }
 numbers_of Started = record blank { kind = 16 }
+numbers_of Marked = record blank { kind = 17 }
+numbers_of (brief.Flushed dropped) = record blank { kind = 18; count = dropped }
 numbers_of (Refused reason) = with_refusal reason
     (record blank { kind = 14; refusal = refusal_number reason })
 

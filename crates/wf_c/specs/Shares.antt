@@ -46,6 +46,7 @@ counts_shown t = record {
   codel = t.codel;
   retries = t.retries;
   left = t.left;
+  flushed = t.flushed;
 }
 
 -- the caller's struct shows the airtime of station s in class c

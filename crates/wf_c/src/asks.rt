@@ -3,7 +3,7 @@
 //! Each writes its answer to the caller's `Reply`, and returns its refusal, or 0 if it was not refused.
 
 ghost use Rattle.std.specs.Prelude.{◌≡◌, true, is_some, pos, IfSome, IfNone, OnSome};
-ghost use Rattle.wf_frame.specs.declared.notes.Ask.TheVariants.{Join, Leave, Rate, Tick, Pull, Sleep, Wake, Poll, Rx, Ampdu, Stop, Start};
+ghost use Rattle.wf_frame.specs.declared.notes.Ask.TheVariants.{Join, Leave, Rate, Tick, Pull, Sleep, Wake, Poll, Rx, Ampdu, Stop, Start, Unsent, GiveUp, Flush};
 ghost use Rattle.wf_frame.specs.declared.notes.AskedRate.TheVariants.{Ht, Vht, He};
 ghost use Rattle.wf_frame.specs.Calls.{no_limits};
 ghost use Rattle.wf_path.specs.Jobs.{as_ask};
@@ -243,6 +243,59 @@ pub extern "C" fn wf_path_start(path: &mut PathSlot, station: u16, reply: &mut R
     ensures code { result ≡ pos reply.new.refusal }
 {
     path.ask(PathAsk::Start { station }, reply)
+}
+
+/// Drops the frames of a TID that are not on the air.
+#[unsafe(no_mangle)]
+pub extern "C" fn wf_path_flush(
+    path: &mut PathSlot,
+    station: u16,
+    tid: u8,
+    reply: &mut Reply,
+) -> i32
+    requires open { is_some path.old.value ≡ true }
+    requires small { HoldsSmall path.old.value }
+    ensures called { Becomes (λ h k. IsCalled h
+        (Flush station tid) k reply.new) path.old.value path.new.value }
+    ensures code { result ≡ pos reply.new.refusal }
+{
+    path.ask(PathAsk::Flush { station, tid }, reply)
+}
+
+/// Says that a transmission of an open exchange never went on the air. `index` counts the transmissions from
+/// 0.
+#[unsafe(no_mangle)]
+pub extern "C" fn wf_path_unsent(
+    path: &mut PathSlot,
+    exchange: u64,
+    index: u16,
+    reply: &mut Reply,
+) -> i32
+    requires open { is_some path.old.value ≡ true }
+    requires small { HoldsSmall path.old.value }
+    ensures called { Becomes (λ h k. IsCalled h
+        (Unsent exchange index) k reply.new) path.old.value path.new.value }
+    ensures code { result ≡ pos reply.new.refusal }
+{
+    path.ask(PathAsk::Unsent { exchange, index }, reply)
+}
+
+/// Says that the device will not try a transmission of an open exchange again. `index` counts the
+/// transmissions from 0.
+#[unsafe(no_mangle)]
+pub extern "C" fn wf_path_give_up(
+    path: &mut PathSlot,
+    exchange: u64,
+    index: u16,
+    reply: &mut Reply,
+) -> i32
+    requires open { is_some path.old.value ≡ true }
+    requires small { HoldsSmall path.old.value }
+    ensures called { Becomes (λ h k. IsCalled h
+        (GiveUp exchange index) k reply.new) path.old.value path.new.value }
+    ensures code { result ≡ pos reply.new.refusal }
+{
+    path.ask(PathAsk::GiveUp { exchange, index }, reply)
 }
 
 /// Charges a station for `air` microseconds that it used to send in a class. Returns 47 if the class is above

@@ -2,7 +2,6 @@
 
 ghost use Rattle.std.specs.Prelude.{◌≡◌, ◌≤◌, ◌⊎◌, ℕ, ◌%◌, true, is_some, pos, Option, Some, None, option_map, take, drop, length, IfOk, OnErr};
 ghost use Rattle.wf_frame.specs.Frames.{FrameValue};
-ghost use Rattle.wf_frame.specs.Settings.{is_bad_air};
 ghost use Rattle.wf_def_world.specs.World.{World, exchange as exchange_in};
 ghost use Rattle.wf_octets.specs.Offsets.{offsets_in};
 ghost use Rattle.wf_send_half_model.specs.Standing.{StandsFor};
@@ -13,7 +12,8 @@ ghost use Rattle.wf_path.specs.Writing.{mpdu_fault, write_header_fault};
 ghost use Rattle.wf_path.specs.Driver.{end_fault};
 ghost use Rattle.wf_path.specs.Paths.{IsSmall};
 ghost use Rattle.wf_c.specs.Calls.{Becomes, HoldsFor, HoldsSmall, addresses_held, reserve_held};
-ghost use Rattle.wf_c.specs.Ends.{IsExchangeEnded, end_code, id_code, needs, octets_code, sent_code, sent_shown, write_code};
+ghost use Rattle.wf_send_half.specs.Bits.{end_refusal};
+ghost use Rattle.wf_c.specs.Ends.{IsExchangeEnded, end_code, end_refused, id_code, needs, octets_code, refused_code, sent_code, sent_shown, write_code};
 ghost use Rattle.wf_c.specs.Numbers.{given_number};
 
 use crate::held::Held;
@@ -213,15 +213,6 @@ impl Held {
         Reply::of(self.answer.brief)
     }
 
-    // Returns whether the end of an exchange may not give this airtime.
-    fn is_bad_air(&self, air: Option<u32>) -> bool
-        ensures value { result ≡ is_bad_air self.now.path.half.config air }
-        ensures world { (w : World) (bodies : ℕ → FrameValue) → StandsFor self.now.path.half w bodies →
-            result ≡ is_bad_air w.config air }
-    {
-        self.path.config().is_bad_air(air)
-    }
-
     // Ends an exchange by the octets of a BlockAck.
     fn end_by(&mut self, exchange: u64, octets: &[u8], air: Option<u32>) -> Result<Reply, DoneFault>
         requires small { IsSmall self.old.path.half }
@@ -230,7 +221,9 @@ impl Held {
         ensures unchanged { OnErr result (self.new.path ≡ self.old.path) }
         ensures ended { IfOk result (λ shown. IsExchangeEnded self.old exchange
             (Some (block_ack_in octets.now)) air self.new shown) }
-        ensures refused { is_bad_air self.old.path.half.config air ≡ true → self.new.path ≡ self.old.path }
+        ensures refused { IfOk result (λ shown. shown.refusal ≡ refused_code (end_refusal self.old.path.half
+            exchange (Some (block_ack_in octets.now)) air)) }
+        ensures stays { IfOk result (λ shown. (shown.refusal ≡ 0) ⊎ (self.new.path ≡ self.old.path)) }
         ensures reserve { self.old.reserve ≤ self.new.reserve }
     {
         self.answer.brief = self.path.done_bytes(exchange, Some(octets), air)?;
@@ -278,8 +271,8 @@ pub extern "C" fn wf_path_done_lost(
 }
 
 /// Ends an exchange by the start and the bitmap of a BlockAck that was heard. The station is charged `air`
-/// microseconds, or the computed charge if `air` is 0. Returns 0; 12 if the exchange is not open; or 8 if
-/// `air` is above the setting `charge`.
+/// microseconds, or the computed charge if `air` is 0. Returns 0; 12 if the exchange is not open; 13 if
+/// nothing of it went on the air; or 8 if `air` is above the setting `charge`.
 #[unsafe(no_mangle)]
 pub extern "C" fn wf_path_done_bits(
     path: &mut PathSlot,
@@ -302,8 +295,8 @@ pub extern "C" fn wf_path_done_bits(
 
 /// Ends an exchange by the octets of a BlockAck that was heard. The station is charged `air` microseconds, or
 /// the computed charge if `air` is 0. Returns 0; 12 if the exchange is not open; 51 to 58 if the octets are
-/// not a BlockAck to it; or else 8 if `air` is above the setting `charge`. After an error the exchange is
-/// still open, and `reply` is unchanged.
+/// not a BlockAck to it; 13 if nothing of it went on the air; or else 8 if `air` is above the setting
+/// `charge`. After an error the exchange is still open, and `reply` is unchanged.
 #[unsafe(no_mangle)]
 pub extern "C" fn wf_path_done_octets(
     path: &mut PathSlot,
@@ -316,7 +309,7 @@ pub extern "C" fn wf_path_done_octets(
     requires small { HoldsSmall path.old.value }
     ensures code { (w : World) (bodies : ℕ → FrameValue) → HoldsFor path.old.value w bodies →
         result ≡ pos (octets_code (end_fault (addresses_held path.old.value) w exchange (Some octets.now))
-        (is_bad_air w.config (given_number air))) }
+        (end_refused path.old.value exchange (Some (block_ack_in octets.now)) (given_number air))) }
     ensures ended { (result ≡ pos 0 → Becomes
         (λ h k. IsExchangeEnded h exchange (Some
         (block_ack_in octets.now)) (given_number air) k reply.new) path.old.value path.new.value) }
@@ -324,11 +317,8 @@ pub extern "C" fn wf_path_done_octets(
     ensures kept { (result ≡ pos 0) ⊎ (reply.new ≡ reply.old) }
     ensures reserve { reserve_held path.old.value ≤ reserve_held path.new.value }
 {
-    let air = given_number(air);
-    let held = path.held();
-    let is_bad = held.is_bad_air(air);
-    match held.end_by(exchange, octets, air) {
-        Ok(_) if is_bad => refusal_code(Refusal::BadAir),
+    match path.held().end_by(exchange, octets, given_number(air)) {
+        Ok(shown) if shown.refusal != 0 => i32::from(shown.refusal),
         Ok(shown) => {
             *reply = shown;
             0

@@ -16,6 +16,7 @@ mod burst;
 mod cell;
 mod clock;
 mod crossing;
+mod each;
 mod exchanges;
 mod frames;
 mod held;
@@ -31,9 +32,10 @@ mod version;
 
 pub use addresses::{wf_path_address, wf_path_base, wf_path_set_address, wf_path_set_base};
 pub use asks::{
-    wf_path_ampdu, wf_path_join, wf_path_leave, wf_path_poll, wf_path_pull, wf_path_pull_limited,
-    wf_path_rate_he, wf_path_rate_ht, wf_path_rate_vht, wf_path_rx, wf_path_sleep, wf_path_start,
-    wf_path_stop, wf_path_tick, wf_path_wake,
+    wf_path_ampdu, wf_path_flush, wf_path_give_up, wf_path_join, wf_path_leave, wf_path_poll,
+    wf_path_pull, wf_path_pull_limited, wf_path_rate_he, wf_path_rate_ht, wf_path_rate_vht,
+    wf_path_rx, wf_path_sleep, wf_path_start, wf_path_stop, wf_path_tick, wf_path_unsent,
+    wf_path_wake,
 };
 pub use bare::{Bare, wf_path_enqueue_bare, wf_path_reserve};
 pub use burst::wf_path_burst;
@@ -46,6 +48,7 @@ pub use cell::make::{wf_cell_free, wf_cell_make};
 pub use cell::readers::{wf_cell_entry, wf_cell_len, wf_cell_room};
 pub use cell::slot::CellSlot;
 pub use clock::wf_path_advance;
+pub use each::{wf_path_cancel, wf_path_done_each};
 pub use exchanges::{
     Sent, wf_path_done_bits, wf_path_done_lost, wf_path_done_octets, wf_path_frame_id,
     wf_path_frame_tag, wf_path_header, wf_path_mpdu, wf_path_sent,

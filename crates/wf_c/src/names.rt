@@ -80,7 +80,7 @@ fn word_of_block(code: u32) -> &'static [u8]
     }
 }
 
-// The word for another code, 0 and 40 to 47.
+// The word for another code, 0 and 40 to 48.
 fn word_of_own(code: u32) -> &'static [u8]
     ensures word { result.now ≡ own_word code }
     ensures short { length result.now ≤ 15 }
@@ -94,11 +94,12 @@ fn word_of_own(code: u32) -> &'static [u8]
         44 => b"bad-address",
         45 => b"no-body",
         47 => b"bad-class",
+        48 => b"bad-outcome",
         _ => UNKNOWN,
     }
 }
 
-/// Writes the word for a kind of answer, 0 to 16, the first word of its line in a trace; `?` for any other
+/// Writes the word for a kind of answer, 0 to 18, the first word of its line in a trace; `?` for any other
 /// number.
 #[unsafe(no_mangle)]
 pub extern "C" fn wf_kind_name(kind: i32, name: &mut [u8; 16])
@@ -135,11 +136,13 @@ fn word_of_kind(kind: u32) -> &'static [u8]
         14 => b"refused",
         15 => b"stopped",
         16 => b"started",
+        17 => b"marked",
+        18 => b"flushed",
         _ => UNKNOWN,
     }
 }
 
-/// Writes the word for a fate, 0 to 5; `?` for any other number.
+/// Writes the word for a fate, 0 to 6; `?` for any other number.
 #[unsafe(no_mangle)]
 pub extern "C" fn wf_fate_name(fate: i32, name: &mut [u8; 16])
     ensures { name.new ≡ name_text (word_at fate_word_at fate) }

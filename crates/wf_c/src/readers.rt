@@ -41,6 +41,8 @@ pub struct Tally {
     pub retries: u64,
     /// Dropped because their station left.
     pub left: u64,
+    /// Dropped because their TID was flushed.
+    pub flushed: u64,
 }
 
 /// A station's airtime in a class since its join, in microseconds.
@@ -115,6 +117,7 @@ pub extern "C" fn wf_path_tally(path: &mut PathSlot, tally: &mut Tally)
         codel: counts.codel,
         retries: counts.retries,
         left: counts.left,
+        flushed: counts.flushed,
     };
 }
 

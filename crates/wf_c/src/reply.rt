@@ -25,7 +25,8 @@ pub struct Reply {
     pub deficit: i64,
     /// The airtime of the exchange to send, in microseconds; for the refusal `Ahead` that in flight.
     pub air: u32,
-    /// The number of frames that a leave dropped; for a refusal, how many are open, inside or queued.
+    /// The number of frames that a leave or a flush dropped; for a refusal, how many are open, inside or
+    /// queued.
     pub count: u32,
     /// The station to send to.
     pub station: u16,
@@ -37,15 +38,15 @@ pub struct Reply {
     pub waiting: u16,
     /// The number of its frames that are dropped.
     pub failed: u16,
-    /// The kind of answer: 0 to 16.
+    /// The kind of answer: 0 to 18.
     pub kind: u8,
-    /// Why the call was refused: 1 to 31, or 0 if it was not.
+    /// Why the call was refused: 1 to 32, or 0 if it was not.
     pub refusal: u8,
     /// The TID to send for: 0 to 7.
     pub tid: u8,
     /// The class of the credit: 0 to 3.
     pub class: u8,
-    /// The fate of the frame that was reaped: 0 to 5.
+    /// The fate of the frame that was reaped: 0 to 6.
     pub fate: u8,
     /// 1 if a frame was dropped because the flow queues were full, else 0.
     pub has_dropped: u8,
@@ -86,10 +87,7 @@ impl Reply {
     {
         match brief {
             Brief::Joined => of_kind(0),
-            Brief::Left { dropped } => Reply {
-                count: dropped,
-                ..of_kind(1)
-            },
+            Brief::Left { dropped } => dropping(1, dropped),
             Brief::Set => of_kind(2),
             Brief::Now { now } => Reply { now, ..of_kind(3) },
             Brief::Accepted { id, dropped } => accepted(id, dropped),
@@ -121,6 +119,8 @@ impl Reply {
             Brief::Reaped { id, fate } => reaped(id, fate),
             Brief::Stopped => of_kind(15),
             Brief::Started => of_kind(16),
+            Brief::Marked => of_kind(17),
+            Brief::Flushed { dropped } => dropping(18, dropped),
             Brief::Refused(refusal) => refused(refusal),
         }
     }
@@ -131,6 +131,16 @@ fn of_kind(kind: u8) -> Reply
     ensures { result ≡ record blank { kind = kind } }
 {
     Reply { kind, ..BLANK }
+}
+
+// An answer of this kind that says how many frames were dropped.
+fn dropping(kind: u8, count: u32) -> Reply
+    ensures { result ≡ record blank { kind = kind; count = count } }
+{
+    Reply {
+        count,
+        ..of_kind(kind)
+    }
 }
 
 // The answer to an enqueue.

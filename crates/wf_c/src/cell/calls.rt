@@ -34,15 +34,15 @@ pub struct CallNumbers {
     pub window: u16,
     /// The first sequence number of a join.
     pub start: u16,
-    /// The index of a transmission that arrives, from 0 on.
+    /// The index of a transmission of the exchange, from 0 on.
     pub index: u16,
     /// The length of a frame's body, in octets.
     pub length: u16,
     /// The guard interval of a rate of HE, in nanoseconds.
     pub guard: u16,
-    /// The kind of call: 0 to 16.
+    /// The kind of call: 0 to 19.
     pub kind: u8,
-    /// The TID of a frame.
+    /// The TID of a frame or of a flush.
     pub tid: u8,
     /// The class of a pull, or of airtime that a station used: 0 to 3.
     pub class: u8,

@@ -3,9 +3,9 @@ use Rattle.std.proofs.Common.{◌≡◌, refl, ℕ, List}
 use Rattle.std.specs.Prelude.{Some, None, pos}
 use Rattle.wf_frame.specs.Answers.{reply_with}
 use Rattle.wf_frame.specs.declared.answers.Brief.{Brief}
-use Rattle.wf_frame.specs.declared.answers.Brief.TheVariants.{Joined, Set, Now, Accepted, Send, Released, Ba, Done, Slept, Woken, Polled, Charged, Reaped, Stopped, Started, Refused}
+use Rattle.wf_frame.specs.declared.answers.Brief.TheVariants.{Joined, Set, Now, Accepted, Send, Released, Ba, Done, Slept, Woken, Polled, Charged, Reaped, Stopped, Started, Marked, Refused}
 use Rattle.wf_frame.specs.declared.answers.Brief.TheVariants as brief
-use Rattle.wf_frame.specs.declared.classes.Cause.TheVariants.{Overlimit, Codel, Retries, Left}
+use Rattle.wf_frame.specs.declared.classes.Cause.TheVariants.{Overlimit, Codel, Retries, Left, Flushed}
 use Rattle.wf_frame.specs.declared.classes.Fate.{Fate}
 use Rattle.wf_frame.specs.declared.classes.Fate.TheVariants.{Held, Acked, Dropped}
 use Rattle.wf_frame.specs.declared.notes.Refusal.{Refusal}
@@ -42,6 +42,8 @@ kinds_are (Charged deficit) pairs ids = refl
 kinds_are (Reaped id fate) pairs ids = refl
 kinds_are Stopped pairs ids = refl
 kinds_are Started pairs ids = refl
+kinds_are Marked pairs ids = refl
+kinds_are (brief.Flushed dropped) pairs ids = refl
 -- begin refusals: tools/tables writes these lines
 kinds_are (Refused (refusal.Open count)) pairs ids = refl
 kinds_are (Refused (refusal.Room inside)) pairs ids = refl
@@ -59,6 +61,7 @@ fates_are (Dropped Overlimit) = refl
 fates_are (Dropped Codel) = refl
 fates_are (Dropped Retries) = refl
 fates_are (Dropped Left) = refl
+fates_are (Dropped Flushed) = refl
 
 pub returns-clause-refusals : goal.returns-clause-refusals
 returns-clause-refusals c = refusals_are

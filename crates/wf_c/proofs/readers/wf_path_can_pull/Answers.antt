@@ -21,5 +21,6 @@ returns-in-Some-clause-world c w bodies h =
     let is : class_shown c.args.class ≡ Some c.in-Some.class = sym c.class_of_number.ensures ∙ c.in-Some.is in
     rw is (λ limits. ap (λ (z : ℤ). to_z w32 (of_z w32 z)) (c.number_of_flag.ensures
     ∙ ap (λ (b : Bool). pos (flag_of b))
-    (c.can_pull.ensures w bodies (subst (λ (o : Option Held). HoldsFor o w bodies) c.held.ensures.value h) limits))
+    (c.can_pull.ensures w bodies (subst (λ (o : Option Held). HoldsFor o w bodies) c.held.ensures.value h)
+    limits))
     ∙ fits (is_none (refusal w (Asked (Pull c.in-Some.class limits)))))
