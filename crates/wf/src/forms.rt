@@ -10,7 +10,7 @@ use wf_run::help::Command;
 use wf_trace::{Arg, next_word};
 
 /// The most forms that a command has.
-const MOST_FORMS: usize = 25;
+const MOST_FORMS: usize = 28;
 
 /// The most arguments that a form has.
 const MOST_ARGS: usize = 6;
@@ -101,8 +101,8 @@ pub fn form_named(command: Command, word: &[u8], rest: &[u8]) -> Option<&'static
     None
 }
 
-// Returns the form of a `done`, or of a `pull` with a limit on frames, that has an airtime, if the line has the
-// word `air` there. Other forms are returned unchanged.
+// Returns the form of a `done`, or of a `pull` with a limit on frames, that has an airtime, if the line has
+// the word `air` there. Other forms are returned unchanged.
 fn with_air(form: &'static [u8], rest: &[u8]) -> &'static [u8] {
     match third_word(rest) {
         Some(b"air") if form == CallForm::Done.line() => return CallForm::DoneAir.line(),

@@ -1,7 +1,7 @@
 -- Proves that an exchange that a reply names has begun by then. By cases of the call.
 use Rattle.std.proofs.Common.{◌≡◌, ℕ, ◌<◌, ◌≤◌, Bool, true, false, if◌then◌else◌, List, [], ◌∷◌, Option, Some, None, refl, sym, ◌∙◌, subst, arith}
 use Rattle.wf_frame.specs.declared.classes.Class.{Class}
-use Rattle.wf_frame.specs.declared.notes.Ask.TheVariants.{Join, Leave, Rate, Tick, Pull, Arrive, Answer, Done, Sleep, Wake, Poll, Rx, Reap, Ampdu, Stop, Start}
+use Rattle.wf_frame.specs.declared.notes.Ask.TheVariants.{Join, Leave, Rate, Tick, Pull, Arrive, Answer, Done, Sleep, Wake, Poll, Rx, Reap, Ampdu, Stop, Start, Unsent, GiveUp, Flush}
 use Rattle.wf_frame.specs.declared.notes.Limits.{Limits}
 use Rattle.wf_frame.specs.declared.notes.Note.{Note}
 use Rattle.wf_frame.specs.declared.notes.Note.TheVariants.{Enqueue, Asked}
@@ -13,7 +13,7 @@ use Rattle.wf_def_world.specs.World.{World, Exchange, exchange, with_bounds, wit
 use Rattle.wf_def_world.specs.CanSend.{with_listing_in, with_listings_in, with_listings_of}
 use Rattle.wf_def_world.specs.Exchanges.{Prepared, picked_station, after_pick, bounds_of, with_exchange_opened, without_credit}
 use Rattle.wf_def_world.specs.Refusals.{refusal}
-use Rattle.wf_def_world.specs.Step.{Outcome, join_outcome, leave_outcome, rate_outcome, tick_outcome, enqueue_outcome, send_outcome, pull_outcome_for, pull_outcome, arrive_outcome, answer_outcome, done_outcome, outcome_where_open, sleep_outcome, wake_outcome, poll_outcome, rx_outcome, reap_outcome, outcome_of, concerned_station, judged_outcome, step}
+use Rattle.wf_def_world.specs.Step.{Outcome, join_outcome, leave_outcome, rate_outcome, tick_outcome, enqueue_outcome, send_outcome, pull_outcome_for, pull_outcome, arrive_outcome, answer_outcome, unsent_outcome, give_up_outcome, flush_outcome, done_outcome, outcome_where_open, sleep_outcome, wake_outcome, poll_outcome, rx_outcome, reap_outcome, outcome_of, concerned_station, judged_outcome, step}
 
 -- If a reply names the exchange that it begins, the number is below n.
 abbrev pub NamesBelow : ℕ → ReplyNote → Type 0
@@ -52,6 +52,14 @@ own_answered : (w : World) (x : Exchange) → NamesOwn (answer_outcome w x)
 unfolding answer_outcome
 own_answered w x = tt
 
+own_unsent : (w : World) (x : Exchange) (i : ℕ) → NamesOwn (unsent_outcome w x i)
+unfolding unsent_outcome
+own_unsent w x i = tt
+
+own_given_up : (w : World) (x : Exchange) (i : ℕ) → NamesOwn (give_up_outcome w x i)
+unfolding give_up_outcome
+own_given_up w x i = tt
+
 own_done : (w : World) (x : Exchange) (heard : Bool) (air : Option ℕ) → NamesOwn (done_outcome w x heard air)
 unfolding done_outcome
 own_done w x heard air = tt
@@ -63,7 +71,7 @@ own_reaped (id ∷ ids) w = tt
 
 own_outcome : (note : Note) (w : World) → NamesOwn (outcome_of w note)
 unfolding outcome_of enqueue_outcome join_outcome leave_outcome rate_outcome tick_outcome sleep_outcome
-    wake_outcome poll_outcome rx_outcome
+    wake_outcome poll_outcome rx_outcome flush_outcome
 own_outcome (Enqueue s t flow len) w = tt
 own_outcome (Asked (Join s window start exponent weight)) w = tt
 own_outcome (Asked (Leave s)) w = tt
@@ -81,6 +89,9 @@ own_outcome (Asked Reap) w = own_reaped w.finished w
 own_outcome (Asked (Ampdu s octets)) w = tt
 own_outcome (Asked (Stop s)) w = tt
 own_outcome (Asked (Start s)) w = tt
+own_outcome (Asked (Unsent e i)) w = own_open (exchange w e) w _ (λ x. own_unsent w x i)
+own_outcome (Asked (GiveUp e i)) w = own_open (exchange w e) w _ (λ x. own_given_up w x i)
+own_outcome (Asked (Flush s t)) w = tt
 
 -- Listing a station begins no exchange.
 same_if : (b : Bool) (u w : World) → u.exchanges ≡ w.exchanges → (if b then u else w).exchanges ≡ w.exchanges

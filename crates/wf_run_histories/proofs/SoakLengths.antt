@@ -86,7 +86,8 @@ followed None k before = before
 followed (Some exchange) k before = played exchange.0 exchange.1 k before
 
 pulled : (c : Class) (k : Soak) → Keeps k → Keeps (after_pull c k)
-pulled c k before = followed (sending (reply_to (Asked (Pull c no_limits)) k)) (call (Asked (Pull c no_limits)) k)
+pulled c k before =
+    followed (sending (reply_to (Asked (Pull c no_limits)) k)) (call (Asked (Pull c no_limits)) k)
     (asked (Pull c no_limits) k before)
 
 reaped : (n : ℕ) (k : Soak) → Keeps k → Keeps (after_reaps n k)

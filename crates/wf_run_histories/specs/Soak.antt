@@ -127,7 +127,8 @@ abbrev pub class_in_round : ℕ → Class
 class_in_round r = at Vo (Bk ∷ Be ∷ Vi ∷ []) (r % 4)
 
 abbrev pub after_pull : Class → Soak → Soak
-after_pull c k = sending_played (sending (reply_to (Asked (Pull c no_limits)) k)) (call (Asked (Pull c no_limits)) k)
+after_pull c k =
+    sending_played (sending (reply_to (Asked (Pull c no_limits)) k)) (call (Asked (Pull c no_limits)) k)
 
 -- Reaps until no finished frame or no call is left, at most n times.
 abbrev pub is_nothing : Option ReplyNote → Bool

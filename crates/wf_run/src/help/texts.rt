@@ -73,6 +73,9 @@ A trace is a head, then calls, then the line end:
   ampdu S OCTETS                  octets, 0..4294967295
   stop S
   start S
+  unsent EXCHANGE INDEX
+  giveup EXCHANGE INDEX
+  flush S TID
   end
 
 Settings: stations=1..256 flows=1..4096 limit=1..65535 room=1..131072 flow_quantum=64..65535

@@ -69,7 +69,8 @@ fn make_calls<R: Wait, T: Turnstile>(
     plan: Plan,
 ) -> Result<(), AllocError>
     requires { IsReady desk.old.gate.now plan.senders plan.frames desk.old.seat }
-    ensures { OnOk result (HasWorked desk.old.gate.now plan.seed plan.senders plan.frames desk.old.seat desk.new.seat) }
+    ensures { OnOk result
+        (HasWorked desk.old.gate.now plan.seed plan.senders plan.frames desk.old.seat desk.new.seat) }
 {
     let number = desk.seat.number();
     if number < plan.senders {
