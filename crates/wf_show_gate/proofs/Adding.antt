@@ -6,7 +6,7 @@ use Rattle.std.proofs.lemmas.List.Sums.{sum_by_push}
 use Rattle.std.proofs.lemmas.Grind.{get_or-set_at}
 use mathlib.Core.Logic.{dite}
 use native.Mathlib.Decide.{ℕ_discrete}
-use Rattle.wf_show_gate.specs.Sums.{octets_if, octets_at, AreSums, AreSmall}
+use Rattle.wf_show_gate.specs.Sums.{octets_if, octets_at, AreSumsOfCalls, AreSmall}
 
 abbrev zeros : List ℕ
 zeros = replicate 256 0
@@ -15,7 +15,7 @@ pub none_yet : (place : ℕ) → place < 256 → get_or zeros place 0 ≡ 0
 none_yet place l = get_or-replicate 256 place 0 0 l
 
 -- one more call, by the caller with this number
-module _ (sums : List ℕ) (entries : List (ℕ × ℕ)) (left caller octets : ℕ) (are : AreSums sums entries)
+module _ (sums : List ℕ) (entries : List (ℕ × ℕ)) (left caller octets : ℕ) (are : AreSumsOfCalls sums entries)
     (small : AreSmall sums left) (some_left : 0 < left) (fits : octets < 2 ^ 32)
     (inside : caller % 256 < length sums) where
   abbrev place : ℕ
@@ -30,7 +30,7 @@ module _ (sums : List ℕ) (entries : List (ℕ × ℕ)) (left caller octets : �
   at_other : (k : ℕ) → k ≢ place → get_or more k 0 ≡ get_or sums k 0
   at_other k other = get_or-set_other sums place k (get_or sums place 0 + octets) 0 other
 
-  pub are_more : AreSums more (entries ++ (caller, octets) ∷ [])
+  pub are_more : AreSumsOfCalls more (entries ++ (caller, octets) ∷ [])
   are_more k l =
       let push : octets_at k (entries ++ (caller, octets) ∷ [])
       ≡ octets_at k entries + octets_if k (caller, octets) =

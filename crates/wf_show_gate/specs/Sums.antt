@@ -11,8 +11,8 @@ abbrev pub octets_at : ℕ → List (ℕ × ℕ) → ℕ
 octets_at place entries = sum_by (octets_if place) entries
 
 -- these are the 256 sums of the entries
-abbrev pub AreSums : List ℕ → List (ℕ × ℕ) → Type 0
-AreSums sums entries = (place : ℕ) → place < 256 → slice_index sums place ≡ octets_at place entries
+abbrev pub AreSumsOfCalls : List ℕ → List (ℕ × ℕ) → Type 0
+AreSumsOfCalls sums entries = (place : ℕ) → place < 256 → slice_index sums place ≡ octets_at place entries
 
 -- this many more calls do not make a sum exceed 64 bits
 abbrev pub AreSmall : List ℕ → ℕ → Type 0

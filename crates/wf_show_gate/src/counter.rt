@@ -21,13 +21,13 @@ pub struct Counter {
 
 impl Model for Counter {
     ghost use Rattle.std.specs.Prelude.{ℕ, List};
-    ghost use Rattle.wf_show_gate.specs.Sums.{AreSums, AreSmall};
+    ghost use Rattle.wf_show_gate.specs.Sums.{AreSumsOfCalls, AreSmall};
 
     ghost Value = { List (ℕ × ℕ) × ℕ };
 
     ghost view = { λ c. (c.history, c.left) };
 
-    ghost invariant = { λ c. AreSums c.sums c.history × AreSmall c.sums c.left };
+    ghost invariant = { λ c. AreSumsOfCalls c.sums c.history × AreSmall c.sums c.left };
 }
 
 impl Counter {
