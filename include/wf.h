@@ -34,9 +34,9 @@
  *
  * Buffers. A pointer must not be null, even if the length is 0. The only exception is `body` of wf_path_reap
  * and wf_cell_reap if `room` is 0. Memory that a function writes to must not overlap any other argument, nor
- * the body of a packet. `length` and `room` are at most the size of the buffer. Every struct and buffer must
- * be initialized, for example by `= {0}`, before it is passed to a function; the `body` of a packet then
- * still has to be set. The library keeps no pointer of the caller's.
+ * the body of a packet. `length`, `count` and `room` are at most the size of the buffer. Every struct and
+ * buffer must be initialized, for example by `= {0}`, before it is passed to a function; the `body` of a
+ * packet then still has to be set. The library keeps no pointer of the caller's.
  *
  * Platform. Pointers and size_t have 64 bits, and each field of a struct has its natural alignment: do not
  * pack structs.
@@ -52,7 +52,7 @@
  *   handle and a copy of it;
  * - to pass a handle of a cell as one of a path, by a cast, or the reverse;
  * - to use one handle in two functions at once, unless both are readers;
- * - a `length` or `room` above the size of the buffer: memory after the buffer is read or written;
+ * - a `length`, `count` or `room` above the size of the buffer: memory after the buffer is read or written;
  * - a struct with another layout, or another kind of platform;
  * - a null pointer, an overlap, a buffer that is not initialized, or a count that is not below its limit.
  *
@@ -99,7 +99,7 @@ extern "C" {
 /* The values that functions of type int32_t return, except wf_path_live, wf_path_can_pull, wf_path_listed and
  * wf_path_has_small_counts. 0 means success. Any other code says why nothing has changed: neither what the
  * handle holds, nor the caller's structs and buffers. There are these exceptions:
- * - `reply` shows the refusal, if the code is 1 to 31, unless the comment of the function says that it is
+ * - `reply` shows the refusal, if the code is 1 to 32, unless the comment of the function says that it is
  *   unchanged;
  * - after a code of wf_path_burst or wf_cell_burst the first `made` calls are made;
  * - WF_FULL, WF_AHEAD and WF_IDLE set the count of `frames` of wf_path_pull and wf_path_pull_limited to 0;
@@ -153,6 +153,8 @@ enum wf_code {
   WF_BAD_AMPDU = 29,    /* the greatest aggregate is not 4,096 to 6,500,631 octets */
   WF_STOPPED = 30,      /* the station is stopped already */
   WF_STARTED = 31,      /* the station is not stopped */
+  WF_MARKED = 32,       /* that transmission has a mark: it never went on the air, or the device
+                         * will not try it again */
   /* end refusals */
   /* other codes */
   WF_NO_MEMORY = 40,    /* out of memory */
@@ -164,6 +166,7 @@ enum wf_code {
   WF_NO_BODY = 45,      /* the frame has no octets: write its header (wf_path_header), and send the
                          * body from its owner's buffer */
   WF_BAD_CLASS = 47,    /* the class is above 3 */
+  WF_BAD_OUTCOME = 48,  /* an outcome is above 3 (enum wf_outcome) */
   /* why octets are not a BlockAck to the exchange */
   WF_BLOCK_LENGTH = 51, /* not 28 octets, nor, if the window is above 64, 52 */
   WF_BLOCK_KIND = 52,   /* not a BlockAck */
@@ -192,10 +195,19 @@ enum wf_fate {
   WF_OVERLIMIT = 2, /* dropped when the flow queues held `limit` frames: it was the head of the
                      * longest */
   WF_CODEL = 3,     /* dropped by CoDel (RFC 8289) */
-  WF_RETRIES = 4,   /* dropped after its last transmission: it was sent `attempts` times and
-                     * never acknowledged */
-  WF_LEFT = 5       /* dropped when its station left */
+  WF_RETRIES = 4,   /* dropped after its last transmission: it was sent `attempts` times or given
+                     * up, and never acknowledged */
+  WF_LEFT = 5,      /* dropped when its station left */
+  WF_FLUSHED = 6    /* dropped when its TID was flushed */
   /* end fates */
+};
+
+/* The outcomes of a transmission, for wf_path_done_each. */
+enum wf_outcome {
+  WF_OUTCOME_ACKED = 0,  /* it was acknowledged */
+  WF_OUTCOME_RETRY = 1,  /* it was not acknowledged, and may be tried again */
+  WF_OUTCOME_UNSENT = 2, /* it never went on the air (wf_path_unsent) */
+  WF_OUTCOME_GAVE_UP = 3 /* it was not acknowledged, and the device will not try it again (wf_path_give_up) */
 };
 
 /* The kinds of answers, each with the fields of `struct wf_reply` that have a meaning; all other fields are
@@ -217,12 +229,15 @@ enum wf_kind {
   WF_KIND_REAPED = 13,   /* id, fate */
   WF_KIND_REFUSED = 14,  /* refusal; count, deficit or air, if the refusal has one */
   WF_KIND_STOPPED = 15,
-  WF_KIND_STARTED = 16
+  WF_KIND_STARTED = 16,
+  WF_KIND_MARKED = 17,   /* the transmission is marked as unsent or as given up */
+  WF_KIND_FLUSHED = 18   /* count: the number of frames that were dropped */
 };
 
 /* The calls of a cell, each with the fields of `struct wf_call` that have a meaning. The other fields are 0
- * in an entry that is read, and are ignored in a call that is made. A call has the number of its answer, but
- * WF_CALL_AMPDU is answered with WF_KIND_SET. */
+ * in an entry that is read, and are ignored in a call that is made. A call has the number of its answer,
+ * except that WF_CALL_AMPDU is answered with WF_KIND_SET, WF_CALL_GIVEUP with WF_KIND_MARKED, and
+ * WF_CALL_FLUSH with WF_KIND_FLUSHED. */
 enum wf_call_kind {
   /* begin calls: tools/tables writes these lines; the comments stay */
   WF_CALL_JOIN = 0,    /* station, window, start, exponent, weight */
@@ -242,7 +257,10 @@ enum wf_call_kind {
   WF_CALL_REAP = 13,   /* made by wf_cell_reap, or in a burst */
   WF_CALL_AMPDU = 14,  /* station, octets */
   WF_CALL_STOP = 15,   /* station */
-  WF_CALL_START = 16   /* station */
+  WF_CALL_START = 16,  /* station */
+  WF_CALL_UNSENT = 17, /* exchange, index */
+  WF_CALL_GIVEUP = 18, /* exchange, index */
+  WF_CALL_FLUSH = 19   /* station, tid */
   /* end calls */
 };
 
@@ -311,14 +329,14 @@ struct wf_reply {
   uint64_t now;         /* the clock */
   int64_t deficit;      /* the deficit after the charge; after WF_DEBT the one that stays */
   uint32_t air;         /* the airtime of the exchange; after WF_AHEAD the airtime in flight */
-  uint32_t count;       /* frames that a leave dropped, or the `count` of a refusal */
+  uint32_t count;       /* frames that a leave or a flush dropped, or the `count` of a refusal */
   uint16_t station;     /* the station to send to */
   uint16_t start;       /* the start of the BlockAckReq: 0 to 4095 */
   uint16_t acked;       /* frames of the exchange that are acknowledged */
   uint16_t waiting;     /* frames of the exchange that wait to be sent again */
   uint16_t failed;      /* frames of the exchange that are dropped */
   uint8_t kind;         /* enum wf_kind */
-  uint8_t refusal;      /* enum wf_code, 0 to 31: what the function returned */
+  uint8_t refusal;      /* enum wf_code, 0 to 32: what the function returned */
   uint8_t tid;          /* the TID to send for */
   uint8_t class_;       /* enum wf_class: the class of the credit */
   uint8_t fate;         /* enum wf_fate */
@@ -373,7 +391,8 @@ struct wf_taken {
   uint8_t source[6]; /* the source of its packet, or 02:00:00:02:00:00 if that was six zeros */
   uint8_t tid;
   uint8_t fate;      /* enum wf_fate, never WF_HELD */
-  uint8_t attempts;  /* how often it was sent, at most the setting `attempts` */
+  uint8_t attempts;  /* how often it was sent, at most the setting `attempts`; a transmission that never
+                      * went on the air (wf_path_unsent) does not count */
   uint8_t bare;      /* 1 if its octets stayed with its owner (wf_path_enqueue_bare), else 0 */
 };
 
@@ -385,6 +404,7 @@ struct wf_tally {
   uint64_t codel;     /* dropped by CoDel */
   uint64_t retries;   /* dropped after their last transmission */
   uint64_t left;      /* dropped because their station left */
+  uint64_t flushed;   /* dropped by wf_path_flush */
 };
 
 /* A station's airtime in a class since its join, in microseconds. */
@@ -585,6 +605,11 @@ int32_t wf_path_stop(struct wf_path *path, uint16_t station, struct wf_reply *re
  * WF_STARTED. */
 int32_t wf_path_start(struct wf_path *path, uint16_t station, struct wf_reply *reply);
 
+/* Drops the frames of a live station's TID that are not on the air, as WF_FLUSHED: first those that have a
+ * sequence number and wait to be sent, then those in flow queues. `count` of the reply is the number of these
+ * frames. Open exchanges go on. Returns WF_OK, WF_BAD_STATION, WF_BAD_TID or WF_NO_STATION. */
+int32_t wf_path_flush(struct wf_path *path, uint16_t station, uint8_t tid, struct wf_reply *reply);
+
 /* Charges a live station for airtime that it used to send in a class: 1 to 65,535 microseconds. `deficit` of
  * the reply is its deficit after the charge. Returns WF_OK; WF_BAD_CLASS exactly if the class is above 3, and
  * then `reply` is unchanged; or else WF_BAD_STATION, WF_BAD_AIR, WF_NO_STATION or WF_DEBT. */
@@ -678,6 +703,17 @@ int32_t wf_path_header(const struct wf_path *path, uint64_t exchange, uint16_t i
  * `size` is the room that is needed, and after the other errors it is unchanged. */
 int32_t wf_path_mpdu(const struct wf_path *path, uint64_t exchange, uint16_t index, uint8_t *out, size_t room, size_t *size);
 
+/* Marks a transmission of an open exchange that never went on the air; `index` counts from 0. When the exchange
+ * ends, the frame waits to be sent again, even if the BlockAck shows it, and this transmission does not count
+ * in its attempts. Returns WF_OK; WF_NO_EXCHANGE; WF_BAD_INDEX if the exchange has no transmission with that
+ * index; or WF_MARKED if the transmission has a mark already, this one or that of wf_path_give_up. */
+int32_t wf_path_unsent(struct wf_path *path, uint64_t exchange, uint16_t index, struct wf_reply *reply);
+
+/* Marks a transmission of an open exchange that the device will not try again; `index` counts from 0. When the
+ * exchange ends and no BlockAck shows the frame, it is dropped as WF_RETRIES, whatever the setting `attempts`
+ * is. Returns what wf_path_unsent returns. */
+int32_t wf_path_give_up(struct wf_path *path, uint64_t exchange, uint16_t index, struct wf_reply *reply);
+
 /* Ends an exchange whose BlockAck was not heard. Its frames wait to be sent again, or are dropped after their
  * last transmission. The station is charged `air`, 1 to `charge` microseconds as the device measured them,
  * or, if `air` is 0, what wf_path_pull answered. Returns WF_OK; WF_NO_EXCHANGE; or WF_BAD_AIR if `air` is
@@ -688,8 +724,8 @@ int32_t wf_path_done_lost(struct wf_path *path, uint64_t exchange, uint32_t air,
  * with the least significant bit of bits[0]; its first 64 bits count, or all 256 if the window is above 64.
  * Frames that it shows are acknowledged; the others wait to be sent again, or are dropped after their last
  * transmission. The station is charged `air`, 1 to `charge` microseconds as the device measured them, or, if
- * `air` is 0, what wf_path_pull answered. Returns WF_OK; WF_NO_EXCHANGE; or WF_BAD_AIR if `air` is above the
- * setting `charge`. */
+ * `air` is 0, what wf_path_pull answered. Returns WF_OK; WF_NO_EXCHANGE; WF_NO_ANSWER if nothing of the
+ * exchange went on the air (wf_path_unsent); or WF_BAD_AIR if `air` is above the setting `charge`. */
 int32_t wf_path_done_bits(struct wf_path *path, uint64_t exchange, uint16_t start, const uint8_t bits[32], uint32_t air,
                           struct wf_reply *reply);
 
@@ -699,10 +735,30 @@ int32_t wf_path_done_bits(struct wf_path *path, uint64_t exchange, uint16_t star
  * transmission. The station is charged `air`, 1 to `charge` microseconds as the device measured them, or, if
  * `air` is 0, what wf_path_pull answered. Returns WF_OK, or the first of these that holds: WF_NO_EXCHANGE;
  * WF_BLOCK_LENGTH, WF_BLOCK_KIND, WF_BLOCK_BASIC, WF_BLOCK_MULTI, WF_BLOCK_NARROW, WF_BLOCK_FRAGMENT,
- * WF_NOT_MINE or WF_WRONG_TID if the octets are not a BlockAck to this exchange; WF_BAD_AIR if `air` is above
- * the setting `charge`. After an error the exchange is still open, and `reply` is unchanged. */
+ * WF_NOT_MINE or WF_WRONG_TID if the octets are not a BlockAck to this exchange; WF_NO_ANSWER if nothing of
+ * the exchange went on the air (wf_path_unsent); WF_BAD_AIR if `air` is above the setting `charge`. After an
+ * error the exchange is still open, and `reply` is unchanged. */
 int32_t wf_path_done_octets(struct wf_path *path, uint64_t exchange, const uint8_t *octets, size_t length, uint32_t air,
                             struct wf_reply *reply);
+
+/* Ends an exchange by what became of each of its transmissions (enum wf_outcome), in their order, for a device
+ * that reports each frame. `count` is the number of outcomes: as many as the exchange has transmissions
+ * (wf_path_sent). For WF_OUTCOME_UNSENT and WF_OUTCOME_GAVE_UP it sets the marks of wf_path_unsent and
+ * wf_path_give_up. Then it does what wf_path_done_bits does with a BlockAck that shows exactly the acknowledged
+ * frames, or, if none is acknowledged, what wf_path_done_lost does. A BlockAckReq has one outcome, which is
+ * WF_OUTCOME_ACKED if it was answered. The station is charged `air`, 1 to `charge` microseconds as the device measured them, or, if `air`
+ * is 0, what wf_path_pull answered. Returns WF_OK, or the first of these that holds: WF_BAD_OUTCOME if an
+ * outcome is above 3, and then `reply` is unchanged; WF_NO_EXCHANGE; WF_BAD_INDEX if the exchange has another
+ * number of transmissions; WF_MARKED if one of them has a mark already; WF_BAD_AIR if `air` is above the
+ * setting `charge`. After an error the exchange is still open, and has no new mark. */
+int32_t wf_path_done_each(struct wf_path *path, uint64_t exchange, const uint8_t *outcomes, size_t count, uint32_t air,
+                          struct wf_reply *reply);
+
+/* Ends an exchange of which nothing went on the air, as wf_path_done_each does if each outcome is
+ * WF_OUTCOME_UNSENT: its frames wait to be sent again. The station is charged 1 microsecond, or, if the setting
+ * `charge` is 0, what wf_path_pull answered. Returns WF_OK; WF_NO_EXCHANGE; or WF_MARKED if one of the
+ * transmissions has a mark already. */
+int32_t wf_path_cancel(struct wf_path *path, uint64_t exchange, struct wf_reply *reply);
 
 /* ---- reading a path */
 
