@@ -89,10 +89,10 @@ static uint64_t some_exchange(void) {
 /* Returns a kind of call that has no frame, common ones more often. */
 static uint8_t some_kind(void) {
   static const uint8_t KINDS[] = {WF_CALL_PULL, WF_CALL_PULL, WF_CALL_PULL, WF_CALL_ARRIVE, WF_CALL_ARRIVE, WF_CALL_ARRIVE, WF_CALL_ARRIVE,
-                                  WF_CALL_ARRIVE, WF_CALL_ARRIVE, WF_CALL_ANSWER, WF_CALL_ANSWER, WF_CALL_DONE, WF_CALL_DONE};
+                                  WF_CALL_ARRIVE, WF_CALL_ARRIVE, WF_CALL_ANSWER, WF_CALL_ANSWER, WF_CALL_DONE, WF_CALL_DONE, WF_CALL_UNSENT, WF_CALL_GIVEUP};
   uint8_t kind;
   if (below(8)) return KINDS[below(sizeof KINDS)];
-  kind = (uint8_t)below(WF_CALL_START);
+  kind = (uint8_t)below(WF_CALL_FLUSH);
   return (uint8_t)(kind < WF_CALL_REAP ? kind : kind + 1);
 }
 
@@ -114,6 +114,7 @@ static void call_ask(uint32_t caller, uint16_t station) {
   call.kind = some_kind();
   if (call.kind == WF_CALL_ENQUEUE) call.kind = WF_CALL_JOIN;
   call.station = station;
+  call.tid = (uint8_t)below(below(50) ? 8 : 10);
   call.class_ = (uint8_t)below(4);
   call.exchange = some_exchange();
   call.index = (uint16_t)below(below(4) ? 4 : 40);
@@ -240,6 +241,9 @@ static void write_entry(uint64_t place) {
     case WF_CALL_AMPDU: fprintf(trace, "ampdu %u %lu\n", s, (unsigned long)c.octets); break;
     case WF_CALL_STOP: fprintf(trace, "stop %u\n", s); break;
     case WF_CALL_START: fprintf(trace, "start %u\n", s); break;
+    case WF_CALL_UNSENT: fprintf(trace, "unsent %llu %u\n", (unsigned long long)c.exchange, (unsigned)c.index); break;
+    case WF_CALL_GIVEUP: fprintf(trace, "giveup %llu %u\n", (unsigned long long)c.exchange, (unsigned)c.index); break;
+    case WF_CALL_FLUSH: fprintf(trace, "flush %u %u\n", s, (unsigned)c.tid); break;
     default: fail("an entry of no kind");
   }
 }

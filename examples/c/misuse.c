@@ -131,6 +131,7 @@ static void misuse_stations(void) {
   want(wf_path_ampdu(&path, none, 4096, &reply), WF_BAD_STATION, "wf_path_ampdu");
   want(wf_path_stop(&path, none, &reply), WF_BAD_STATION, "wf_path_stop");
   want(wf_path_start(&path, none, &reply), WF_BAD_STATION, "wf_path_start");
+  want(wf_path_flush(&path, none, 0, &reply), WF_BAD_STATION, "wf_path_flush");
   want(wf_path_poll(&path, none, &reply), WF_BAD_STATION, "wf_path_poll");
   want(wf_path_rx(&path, none, WF_BE, 100, &reply), WF_BAD_STATION, "wf_path_rx");
   want(wf_path_enqueue(&path, none, &packet, &reply), WF_BAD_STATION, "wf_path_enqueue");
@@ -141,6 +142,8 @@ static void misuse_stations(void) {
   want(wf_path_ampdu(&path, 3, 4096, &reply), WF_NO_STATION, "wf_path_ampdu");
   want(wf_path_stop(&path, 3, &reply), WF_NO_STATION, "wf_path_stop");
   want(wf_path_start(&path, 3, &reply), WF_NO_STATION, "wf_path_start");
+  want(wf_path_flush(&path, 3, 0, &reply), WF_NO_STATION, "wf_path_flush");
+  want(wf_path_flush(&path, 3, 8, &reply), WF_BAD_TID, "a flush of TID 8");
   want(wf_path_poll(&path, 3, &reply), WF_NO_STATION, "wf_path_poll");
   want(wf_path_rx(&path, 3, WF_BE, 100, &reply), WF_NO_STATION, "wf_path_rx");
   want(wf_path_enqueue(&path, 3, &packet, &reply), WF_NO_STATION, "wf_path_enqueue");
@@ -307,7 +310,9 @@ static void misuse_bursts(void) {
   call.heard = 0;
   call.exchange = 1000;
   misuse_burst(call, WF_OK, "the end of no exchange");
-  call.kind = WF_CALL_START + 1;
+  call.kind = WF_CALL_UNSENT;
+  misuse_burst(call, WF_OK, "a mark of no exchange");
+  call.kind = WF_CALL_FLUSH + 1;
   misuse_burst(call, WF_BAD_CALL, "a call of no kind");
   call.kind = WF_CALL_PULL;
   call.class_ = 4;
@@ -379,6 +384,82 @@ static void misuse_answers(uint64_t exchange) {
   want(wf_path_done_octets(&path, exchange, answer, 28, 0, &reply), WF_NO_EXCHANGE, "a second BlockAck");
   want(wf_path_done_bits(&path, exchange, 0, (const uint8_t[32]){0}, 0, &reply), WF_NO_EXCHANGE, "bits of no exchange");
   want(wf_path_done_lost(&path, exchange, 0, &reply), WF_NO_EXCHANGE, "the end of no exchange");
+}
+
+/* Marks of transmissions that do not exist, or that have a mark. The exchange has one transmission. */
+static void misuse_marks(uint64_t exchange) {
+  struct wf_reply before;
+  want(wf_path_unsent(&path, exchange + 1, 0, &reply), WF_NO_EXCHANGE, "a mark of no exchange");
+  want(wf_path_give_up(&path, exchange + 1, 0, &reply), WF_NO_EXCHANGE, "a mark of no exchange");
+  want(wf_path_unsent(&path, exchange, 1, &reply), WF_BAD_INDEX, "a mark of no transmission");
+  want(wf_path_give_up(&path, exchange, 65535, &reply), WF_BAD_INDEX, "a mark of no transmission");
+  want(wf_path_unsent(&path, exchange, 0, &reply), WF_OK, "wf_path_unsent");
+  want(reply.kind, WF_KIND_MARKED, "the answer to a mark");
+  want(wf_path_unsent(&path, exchange, 0, &reply), WF_MARKED, "a second mark");
+  want(wf_path_give_up(&path, exchange, 0, &reply), WF_MARKED, "another mark");
+  want(wf_path_cancel(&path, exchange, &reply), WF_MARKED, "wf_path_cancel after a mark");
+  want(wf_path_done_each(&path, exchange, (const uint8_t[1]){WF_OUTCOME_ACKED}, 1, 0, &reply), WF_MARKED, "outcomes after a mark");
+  want(wf_path_done_bits(&path, exchange, 0, (const uint8_t[32]){1}, CHARGE + 1, &reply), WF_NO_ANSWER, "bits of what was not sent");
+  before = reply;
+  want(wf_path_done_each(&path, exchange, (const uint8_t[1]){WF_OUTCOME_GAVE_UP + 1}, 1, 0, &reply), WF_BAD_OUTCOME, "an outcome of 4");
+  unchanged(&reply, &before, sizeof reply, "an outcome of 4");
+}
+
+/* Outcomes that are not those of an exchange with one transmission. */
+static void misuse_outcomes(uint64_t exchange) {
+  static const uint8_t many[300];
+  struct wf_reply before;
+  want(wf_path_done_each(&path, exchange + 1, many, 1, 0, &reply), WF_NO_EXCHANGE, "outcomes of no exchange");
+  want(wf_path_done_each(&path, exchange + 1, many, 300, 0, &reply), WF_NO_EXCHANGE, "300 outcomes of no exchange");
+  want(wf_path_done_each(&path, exchange, many, 0, 0, &reply), WF_BAD_INDEX, "no outcome");
+  want(wf_path_done_each(&path, exchange, many, 2, CHARGE + 1, &reply), WF_BAD_INDEX, "two outcomes");
+  want(wf_path_done_each(&path, exchange, many, 300, 0, &reply), WF_BAD_INDEX, "300 outcomes");
+  want(wf_path_done_each(&path, exchange, many, 1, CHARGE + 1, &reply), WF_BAD_AIR, "too much airtime");
+  before = reply;
+  want(wf_path_done_each(&path, exchange, (const uint8_t[3]){0, 1, 255}, 3, CHARGE + 1, &reply), WF_BAD_OUTCOME, "an outcome of 255");
+  unchanged(&reply, &before, sizeof reply, "an outcome of 255");
+  want(wf_path_done_each(&path, exchange, (const uint8_t[1]){WF_OUTCOME_ACKED}, 1, CHARGE, &reply), WF_OK, "wf_path_done_each");
+  want(reply.acked, 1, "an acknowledged frame");
+  want(wf_path_done_each(&path, exchange, many, 1, 0, &reply), WF_NO_EXCHANGE, "outcomes of an exchange that is over");
+  want(wf_path_cancel(&path, exchange, &reply), WF_NO_EXCHANGE, "wf_path_cancel of an exchange that is over");
+}
+
+/* A frame whose exchange is marked, then cancelled, then ended by its outcome. */
+static void misuse_ends(void) {
+  static const uint8_t body[100];
+  const struct wf_packet packet = packet_of(0, body, sizeof body);
+  struct wf_taken taken = {0};
+  uint8_t answer[28];
+  want(wf_path_enqueue(&path, 1, &packet, &reply), WF_OK, "wf_path_enqueue");
+  want(wf_path_pull(&path, WF_BE, &reply, &frames), WF_OK, "a pull");
+  make_answer(reply.exchange, answer);
+  misuse_marks(reply.exchange);
+  want(wf_path_done_octets(&path, wf_path_exchanges(&path) - 1, answer, 28, 0, &reply), WF_NO_ANSWER, "a BlockAck to what was not sent");
+  want(wf_path_done_lost(&path, wf_path_exchanges(&path) - 1, 0, &reply), WF_OK, "the end of what was not sent");
+  want(reply.waiting, 1, "a frame that waits again");
+  want(wf_path_pull(&path, WF_BE, &reply, &frames), WF_OK, "a second pull");
+  want(wf_path_cancel(&path, wf_path_exchanges(&path) - 1, &reply), WF_OK, "wf_path_cancel");
+  want(reply.waiting, 1, "a frame that waits again");
+  want(wf_path_pull(&path, WF_BE, &reply, &frames), WF_OK, "a third pull");
+  misuse_outcomes(wf_path_exchanges(&path) - 1);
+  want(wf_path_reap(&path, &reply, &taken, NULL, 0), WF_OK, "wf_path_reap");
+  want(taken.attempts, 1, "the attempts of a frame that was sent once");
+}
+
+/* Flushes a TID: its frames are dropped, and those of others stay. */
+static void misuse_flushes(void) {
+  static const uint8_t body[100];
+  const struct wf_packet packet = packet_of(0, body, sizeof body);
+  struct wf_taken taken = {0};
+  want(wf_path_flush(&path, 1, 0, &reply), WF_OK, "a flush of nothing");
+  want(reply.count == 0 && reply.kind == WF_KIND_FLUSHED, 1, "the answer to a flush");
+  want(wf_path_enqueue(&path, 1, &packet, &reply), WF_OK, "wf_path_enqueue");
+  want(wf_path_flush(&path, 1, 1, &reply), WF_OK, "a flush of another TID");
+  want(wf_path_reap(&path, &reply, &taken, NULL, 0), WF_NOTHING, "wf_path_reap");
+  want(wf_path_flush(&path, 1, 0, &reply), WF_OK, "a flush");
+  want((int32_t)reply.count, 1, "the frames of a flush");
+  want(wf_path_reap(&path, &reply, &taken, NULL, 0), WF_OK, "wf_path_reap");
+  want(taken.fate, WF_FLUSHED, "the fate of a frame that was flushed");
 }
 
 static void misuse_exchanges(void) {
@@ -480,6 +561,8 @@ static void misuse_path(void) {
   want(wf_path_make(&path, &settings), WF_OK, "a path in the same handle");
   want(wf_path_join(&path, 1, 64, 0, 3, 1, &reply), WF_OK, "wf_path_join");
   misuse_stops();
+  misuse_ends();
+  misuse_flushes();
   misuse_sleepers();
   wf_path_free(&path);
 }
@@ -502,7 +585,7 @@ static void misuse_cell(void) {
   want(wf_cell_ask(&cell, 0, &call, &reply), WF_BAD_CALL, "a frame without its body");
   call.kind = WF_CALL_REAP;
   want(wf_cell_ask(&cell, 0, &call, &reply), WF_BAD_CALL, "a reap without its struct");
-  call.kind = WF_CALL_START + 1;
+  call.kind = WF_CALL_FLUSH + 1;
   want(wf_cell_ask(&cell, 0, &call, &reply), WF_BAD_CALL, "a call of no kind");
   call.kind = WF_CALL_RATE;
   call.form = WF_FORM_HE + 1;
@@ -539,7 +622,7 @@ static void misuse_cell(void) {
 
 /* Numbers without a meaning. */
 static void misuse_names(void) {
-  static const int32_t NONE[] = {-1, 32, 39, 46, 48, 50, 59, 100, WF_BAD_SETTING + PLACES + 1, INT32_MAX, INT32_MIN};
+  static const int32_t NONE[] = {-1, 33, 39, 46, 49, 50, 59, 100, WF_BAD_SETTING + PLACES + 1, INT32_MAX, INT32_MIN};
   size_t i;
   for (i = 0; i < sizeof NONE / sizeof *NONE; i++) {
     char name[WF_NAME] = {0};

@@ -141,6 +141,9 @@ class Path {
   [[nodiscard]] std::int32_t start(std::uint16_t station, wf_reply &reply) {
     return wf_path_start(&handle_, station, &reply);
   }
+  [[nodiscard]] std::int32_t flush(std::uint16_t station, std::uint8_t tid, wf_reply &reply) {
+    return wf_path_flush(&handle_, station, tid, &reply);
+  }
   [[nodiscard]] std::int32_t rx(std::uint16_t station, wf_class access, std::uint32_t air,
                                      wf_reply &reply) {
     return wf_path_rx(&handle_, station, static_cast<std::uint8_t>(access), air, &reply);
@@ -190,6 +193,16 @@ class Path {
     return wf_path_mpdu(&handle_, exchange, index, out, room, &size);
   }
 
+  [[nodiscard]] std::int32_t unsent(std::uint64_t exchange, std::uint16_t index, wf_reply &reply) {
+    return wf_path_unsent(&handle_, exchange, index, &reply);
+  }
+  [[nodiscard]] std::int32_t give_up(std::uint64_t exchange, std::uint16_t index, wf_reply &reply) {
+    return wf_path_give_up(&handle_, exchange, index, &reply);
+  }
+  [[nodiscard]] std::int32_t cancel(std::uint64_t exchange, wf_reply &reply) {
+    return wf_path_cancel(&handle_, exchange, &reply);
+  }
+
   /* If the airtime is left out, it is 0, and the computed airtime is charged. */
 
   [[nodiscard]] std::int32_t done_lost(std::uint64_t exchange, wf_reply &reply, std::uint32_t air = 0) {
@@ -203,6 +216,10 @@ class Path {
   [[nodiscard]] std::int32_t done_octets(std::uint64_t exchange, const std::uint8_t *octets,
                                          std::size_t length, wf_reply &reply, std::uint32_t air = 0) {
     return wf_path_done_octets(&handle_, exchange, octets, length, air, &reply);
+  }
+  [[nodiscard]] std::int32_t done_each(std::uint64_t exchange, const std::uint8_t *outcomes, std::size_t count,
+                                       wf_reply &reply, std::uint32_t air = 0) {
+    return wf_path_done_each(&handle_, exchange, outcomes, count, air, &reply);
   }
 
   /* Reading a path. */

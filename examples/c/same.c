@@ -6,8 +6,8 @@
  *   same CALLS SEED TRACE ANSWERS
  *
  * A replay has receivers, and a path does not. So this program keeps what arrives at a station, and passes it
- * to the library in BlockAcks. Only the receivers answer `arrive` and `answer`, so these lines of the answers
- * are `?`.
+ * to the library in BlockAcks, or as an outcome of each transmission. Only the receivers answer `arrive` and
+ * `answer`, so these lines of the answers are `?`. An end by outcomes has a line for each mark that it sets.
  */
 #include <stdint.h>
 #include <stdio.h>
@@ -17,7 +17,7 @@
 #include "words.h"
 #include "wf.h"
 
-enum { STATIONS = 6, NUMBERS = 4096, OPEN = 32, CHARGE = 5000, DEBT = 9000, TICK = 10000000, ATTEMPTS = 4, SETTINGS = 24 };
+enum { STATIONS = 6, NUMBERS = 4096, OPEN = 32, CHARGE = 5000, DEBT = 9000, TICK = 10000000, ATTEMPTS = 4, SETTINGS = 24, IDS = 1 << 20 };
 
 /* An open exchange. */
 struct exchange {
@@ -27,6 +27,8 @@ struct exchange {
   uint8_t request;
   uint16_t start; /* of its BlockAckReq */
   struct wf_frames frames;
+  uint8_t unsent[256]; /* by transmission: 1 if it is marked as one that never went on the air */
+  uint16_t marks;      /* how many transmissions have a mark */
 };
 
 /* A TID of a station: for each sequence number its frame, as id + 1, and whether it arrived. */
@@ -42,6 +44,7 @@ static struct exchange exchanges[OPEN];
 static int open_count;
 static struct session sessions[STATIONS][8];
 static uint16_t windows[STATIONS];
+static uint8_t given_up[IDS]; /* by id: 1 if a transmission of the frame was given up */
 static uint32_t seed;
 static long lines;
 static FILE *trace, *answers;
@@ -211,7 +214,7 @@ static void call_pull(void) {
   int32_t code;
   int can;
   if (open_count == OPEN) return;
-  memset(&x->frames, 0, sizeof x->frames);
+  memset(x, 0, sizeof *x);
   can = wf_path_can_pull(&path, class_);
   if (below(2)) {
     code = wf_path_pull(&path, class_, &reply, &x->frames);
@@ -240,13 +243,44 @@ static void call_pull(void) {
   look_at(x);
 }
 
+/* The number of transmissions of an exchange. */
+static uint16_t transmissions(const struct exchange *x) {
+  return x->request ? 1 : x->frames.count;
+}
+
+/* Writes the line of a mark. */
+static void write_mark(const struct exchange *x, uint16_t index, int is_unsent) {
+  fprintf(trace, "%s %llu %u\n", is_unsent ? "unsent" : "giveup", (unsigned long long)x->number, (unsigned)index);
+}
+
+static void note_mark(struct exchange *x, uint16_t index, int is_unsent) {
+  if (is_unsent) x->unsent[index] = 1;
+  else if (!x->request) given_up[x->frames.ids[index]] = 1;
+  x->marks++;
+}
+
+/* Marks a transmission of an open exchange, or sometimes one that is marked or does not exist. */
+static void call_mark(void) {
+  struct exchange *x;
+  uint16_t index;
+  int32_t code;
+  int is_unsent = below(3) != 0;
+  if (open_count == 0) return;
+  x = &exchanges[below((uint32_t)open_count)];
+  index = (uint16_t)below((uint32_t)transmissions(x) + (below(10) == 0));
+  code = is_unsent ? wf_path_unsent(&path, x->number, index, &reply) : wf_path_give_up(&path, x->number, index, &reply);
+  if (code == WF_OK) note_mark(x, index, is_unsent);
+  write_mark(x, index, is_unsent);
+  write_answer(code, NULL);
+}
+
 /* Lets some transmissions of an exchange arrive, and may let its station answer. Returns whether it answered.
  * */
 static int arrive(const struct exchange *x) {
   struct session *session = &sessions[x->station][x->tid];
-  int i, count = x->request ? 1 : x->frames.count, any = 0;
+  int i, count = transmissions(x), any = 0;
   for (i = 0; i < count; i++) {
-    if (below(4) == 0) continue;
+    if (x->unsent[i] || below(4) == 0) continue;
     receivers_line("arrive", x->number, i);
     if (!x->request) session->arrived[x->frames.numbers[i]] = 1;
     any = 1;
@@ -291,8 +325,16 @@ static int32_t done_octets(const struct exchange *x, uint16_t start, const uint8
   return wf_path_done_octets(&path, x->number, ack, length, air, &reply);
 }
 
-/* Ends an exchange, with an airtime or without one. If the airtime is too large, the function for octets
- * leaves `reply` unchanged, so the function for bits is then called too, for its answer. */
+/* Writes the line of the end of an exchange, and the answer to it. */
+static void write_done(const struct exchange *x, int heard, uint32_t air, int32_t code) {
+  fprintf(trace, "done %llu %s", (unsigned long long)x->number, heard ? "heard" : "lost");
+  if (air) fprintf(trace, " air %lu", (unsigned long)air);
+  fprintf(trace, "\n");
+  write_answer(code, NULL);
+}
+
+/* Ends an exchange, with an airtime or without one. After a refusal the function for octets leaves `reply`
+ * unchanged, so the function for bits is then called too, for its answer. */
 static int32_t end_exchange(const struct exchange *x, int heard, uint32_t air) {
   uint8_t bits[32];
   uint16_t start;
@@ -300,39 +342,101 @@ static int32_t end_exchange(const struct exchange *x, int heard, uint32_t air) {
   if (heard) {
     start = shown(x, bits);
     if (below(2)) code = done_octets(x, start, bits, air);
-    if (code == WF_BAD_AIR) code = wf_path_done_bits(&path, x->number, start, bits, air, &reply);
+    if (code) code = wf_path_done_bits(&path, x->number, start, bits, air, &reply);
   } else {
     code = wf_path_done_lost(&path, x->number, air, &reply);
   }
-  fprintf(trace, "done %llu %s", (unsigned long long)x->number, heard ? "heard" : "lost");
-  if (air) fprintf(trace, " air %lu", (unsigned long)air);
-  fprintf(trace, "\n");
-  write_answer(code, NULL);
+  write_done(x, heard, air, code);
   return code;
+}
+
+/* Draws marks for the transmissions of an exchange, which has none, and writes their lines and answers. Writes
+ * the outcome of each transmission if none is acknowledged. */
+static void draw_marks(struct exchange *x, uint8_t outcomes[256], int none_is_sent) {
+  uint16_t i;
+  for (i = 0; i < transmissions(x); i++) {
+    uint32_t drawn = none_is_sent ? 0 : below(6);
+    outcomes[i] = drawn == 0 ? WF_OUTCOME_UNSENT : drawn == 1 ? WF_OUTCOME_GAVE_UP : WF_OUTCOME_RETRY;
+    if (outcomes[i] == WF_OUTCOME_RETRY) continue;
+    note_mark(x, i, outcomes[i] == WF_OUTCOME_UNSENT);
+    write_mark(x, i, outcomes[i] == WF_OUTCOME_UNSENT);
+    fprintf(answers, "marked\n");
+    lines++;
+  }
+}
+
+/* Ends an exchange without marks by an outcome of each transmission. If the answer was heard, everything that
+ * the station has received, now or before, is acknowledged, unless it never went on the air this time. The
+ * trace has a mark also for an acknowledged frame that would be given up otherwise: this mark has no effect. */
+static void end_by_outcomes(struct exchange *x) {
+  const struct session *session = &sessions[x->station][x->tid];
+  uint8_t outcomes[257] = {0};
+  uint32_t air = below(2) ? 1 + below(CHARGE) : 0;
+  uint16_t i, count = transmissions(x);
+  int heard;
+  draw_marks(x, outcomes, 0);
+  heard = arrive(x) && below(4);
+  for (i = 0; heard && i < count; i++) {
+    if (x->unsent[i]) continue;
+    if (x->request || session->arrived[x->frames.numbers[i]]) outcomes[i] = WF_OUTCOME_ACKED;
+  }
+  if (wf_path_done_each(&path, x->number, outcomes, count + 1u, air, &reply) != WF_BAD_INDEX) fail("one outcome too many");
+  write_done(x, heard, air, wf_path_done_each(&path, x->number, outcomes, count, air, &reply));
+  if (reply.kind != WF_KIND_DONE) fail("outcomes that end no exchange");
+}
+
+/* Cancels an exchange without marks. */
+static void cancel(struct exchange *x) {
+  uint8_t outcomes[256];
+  int32_t code;
+  draw_marks(x, outcomes, 1);
+  code = wf_path_cancel(&path, x->number, &reply);
+  write_done(x, 0, 1, code);
+  if (reply.acked || reply.failed || reply.waiting != x->frames.count) fail("a cancelled exchange whose frames do not wait");
+}
+
+/* Ends an exchange by bits, by octets or as lost. If an exchange has a mark, it does not end by outcomes. */
+static void end_by_answer(const struct exchange *x) {
+  static const uint8_t outcomes[256];
+  int heard = arrive(x) && below(4);
+  if (x->marks && wf_path_done_each(&path, x->number, outcomes, transmissions(x), 0, &reply) != WF_MARKED) fail("outcomes after a mark");
+  if (x->marks && wf_path_cancel(&path, x->number, &reply) != WF_MARKED) fail("a cancelled exchange with a mark");
+  if (below(8) == 0 && end_exchange(x, heard, CHARGE + 1 + below(3)) != WF_BAD_AIR) fail("too great an airtime is taken");
+  if (end_exchange(x, heard, below(2) ? 1 + below(CHARGE) : 0)) fail("an exchange that does not end");
+}
+
+/* Says that a BlockAck to an exchange was heard if nothing of it went on the air, which is refused. */
+static void hear_nothing(const struct exchange *x) {
+  uint16_t i;
+  for (i = 0; i < transmissions(x); i++) {
+    if (!x->unsent[i]) return;
+  }
+  if (end_exchange(x, 1, below(2) ? CHARGE + 1 : 0) != WF_NO_ANSWER) fail("an answer to what was not sent is taken");
 }
 
 static void call_done(void) {
   struct exchange x;
-  int which, heard;
+  int which;
   if (open_count == 0) return;
   which = (int)below((uint32_t)open_count);
   x = exchanges[which];
   exchanges[which] = exchanges[--open_count];
-  heard = arrive(&x) && below(4);
-  if (below(8) == 0 && end_exchange(&x, heard, CHARGE + 1 + below(3)) != WF_BAD_AIR) fail("too great an airtime is taken");
-  if (end_exchange(&x, heard, below(2) ? 1 + below(CHARGE) : 0)) fail("an exchange that does not end");
+  hear_nothing(&x);
+  if (x.marks || below(3)) end_by_answer(&x);
+  else if (below(4)) end_by_outcomes(&x);
+  else cancel(&x);
   if (wf_path_done_lost(&path, x.number, CHARGE + 1, &reply) != WF_NO_EXCHANGE) fail("an exchange that ends twice");
 }
 
 /* Returns whether a reaped frame was sent as often as its fate says: never if a queue dropped it, and
- * `attempts` times if it was dropped after its last transmission. */
+ * `attempts` times if it was dropped after its last transmission, unless that was given up. */
 static int tries_fit(const struct wf_taken *taken) {
   switch (taken->fate) {
   case WF_OVERLIMIT:
   case WF_CODEL: return taken->attempts == 0;
-  case WF_RETRIES: return taken->attempts == ATTEMPTS;
+  case WF_RETRIES: return taken->attempts == ATTEMPTS || (given_up[taken->id] && 0 < taken->attempts && taken->attempts < ATTEMPTS);
   case WF_ACKED: return 0 < taken->attempts && taken->attempts <= ATTEMPTS;
-  default: return taken->attempts <= ATTEMPTS;
+  default: return taken->attempts < ATTEMPTS;
   }
 }
 
@@ -378,10 +482,10 @@ static void call_advance(void) {
 }
 
 static void call_other(uint16_t s) {
-  uint8_t class_ = (uint8_t)below(4);
+  uint8_t class_ = (uint8_t)below(4), tid;
   uint32_t number = below(50) ? below(2000) : 10000000 + below(2);
   int32_t code;
-  switch (below(10)) {
+  switch (below(11)) {
     case 0: code = wf_path_leave(&path, s, &reply), fprintf(trace, "leave %u\n", (unsigned)s); break;
     case 1: code = wf_path_sleep(&path, s, &reply), fprintf(trace, "sleep %u\n", (unsigned)s); break;
     case 2: code = wf_path_wake(&path, s, &reply), fprintf(trace, "wake %u\n", (unsigned)s); break;
@@ -398,6 +502,11 @@ static void call_other(uint16_t s) {
       code = wf_path_ampdu(&path, s, number, &reply);
       fprintf(trace, "ampdu %u %lu\n", (unsigned)s, (unsigned long)number);
       break;
+    case 9:
+      tid = (uint8_t)below(below(50) ? 8 : 10);
+      code = wf_path_flush(&path, s, tid, &reply);
+      fprintf(trace, "flush %u %u\n", (unsigned)s, (unsigned)tid);
+      break;
     default:
       number *= 10;
       code = wf_path_tick(&path, number, &reply);
@@ -411,6 +520,7 @@ static void call(void) {
   uint16_t s = (uint16_t)below(below(100) ? STATIONS : STATIONS + 1);
   uint32_t which = below(100);
   if (below(50) == 0) call_address();
+  if (below(25) == 0) call_mark();
   if (which < 40) call_enqueue(s);
   else if (which < 58) call_pull();
   else if (which < 76) call_done();
@@ -433,9 +543,11 @@ static void summary(void) {
   uint8_t c;
   wf_path_tally(&path, &t);
   fprintf(answers, "calls %ld\nnow %llu\n", lines, (unsigned long long)wf_path_now(&path));
-  fprintf(answers, "frames %llu acked %llu overlimit %llu codel %llu retries %llu left %llu held %llu\n", (unsigned long long)t.accepted,
+  fprintf(answers, "frames %llu acked %llu overlimit %llu codel %llu retries %llu left %llu held %llu", (unsigned long long)t.accepted,
           (unsigned long long)t.acked, (unsigned long long)t.overlimit, (unsigned long long)t.codel, (unsigned long long)t.retries,
-          (unsigned long long)t.left, (unsigned long long)(t.accepted - t.acked - t.overlimit - t.codel - t.retries - t.left));
+          (unsigned long long)t.left, (unsigned long long)(t.accepted - t.acked - t.overlimit - t.codel - t.retries - t.left - t.flushed));
+  if (t.flushed) fprintf(answers, " flushed %llu", (unsigned long long)t.flushed);
+  fprintf(answers, "\n");
   fprintf(answers, "exchanges %llu open %lu\n", (unsigned long long)wf_path_exchanges(&path), (unsigned long)wf_path_open_count(&path));
   for (s = 0; s < STATIONS; s++) {
     for (c = 0; c < 4; c++) {

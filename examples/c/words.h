@@ -54,7 +54,8 @@ static int write_words(FILE *out, const struct wf_reply *reply, const struct wf_
   wf_kind_name(reply->kind, kind);
   fprintf(out, "%s", kind);
   switch (reply->kind) {
-    case WF_KIND_LEFT: fprintf(out, " %lu", (unsigned long)reply->count); break;
+    case WF_KIND_LEFT:
+    case WF_KIND_FLUSHED: fprintf(out, " %lu", (unsigned long)reply->count); break;
     case WF_KIND_NOW: fprintf(out, " %llu", (unsigned long long)reply->now); break;
     case WF_KIND_ACCEPTED: write_accepted(out, reply); break;
     case WF_KIND_SEND: write_send(out, reply, frames); break;
