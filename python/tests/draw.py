@@ -5,7 +5,7 @@ import random
 from collections.abc import Callable
 from typing import Any
 
-from wfpath import RANGES, AccessClass, CallKind, Cell, Exchange, Fate, Path, Rate, Refused, errors, trace
+from wfpath import RANGES, AccessClass, CallKind, Cell, Exchange, Fate, Outcome, Path, Rate, Refused, errors, trace
 from wfpath import _tables as tables
 from wfpath._library import error
 from wfpath._tables import Kind
@@ -19,7 +19,7 @@ SETTINGS["charge"] = CHARGE
 RULES = {"aql_total": 1500, "debt": 20000, "keep_order": 1, "codel_reset": 1, "aql": 1200, "pending": 1}
 OTHERS = {"overhead": 8, "cap_vi": 2000, "cap_vo": 1000, "answers": 1, "credits": 1}
 WORDS = {"join": "joined", "set_rate": "set", "sleep": "slept", "wake": "woken"}
-WORDS |= {"set_ampdu": "set", "stop": "stopped", "start": "started"}
+WORDS |= {"set_ampdu": "set", "stop": "stopped", "start": "started", "unsent": "marked", "give_up": "marked"}
 
 
 def settings_of(seed: int) -> dict[str, int]:
@@ -34,6 +34,8 @@ def answer_of(name: str, value: Any) -> str:
         return WORDS[name]
     if name == "leave":
         return f"left {value}"
+    if name == "flush":
+        return f"flushed {value}"
     if name == "tick":
         return f"now {value}"
     if name == "poll":
@@ -49,6 +51,7 @@ def reply_line(reply: tables.ReplyStruct) -> str:
     """Returns the line of the answer to a call of a burst."""
     said = {
         Kind.LEFT: f"left {reply.count}",
+        Kind.FLUSHED: f"flushed {reply.count}",
         Kind.NOW: f"now {reply.now}",
         Kind.ACCEPTED: f"accepted {reply.id}" + (f" dropped {reply.dropped}" if reply.has_dropped else ""),
         Kind.POLLED: f"polled {AccessClass(reply.class_ % 4).word}",
@@ -140,7 +143,8 @@ class Draw:
 
     def drawn(self, station: int) -> tuple[Call, str]:
         """A call of a burst, and its line."""
-        kind = self.random.choice((CallKind.ENQUEUE, CallKind.REAP, CallKind.TICK, CallKind.RX, CallKind.POLL))
+        kinds = (CallKind.ENQUEUE, CallKind.REAP, CallKind.TICK, CallKind.RX, CallKind.POLL, CallKind.FLUSH)
+        kind = self.random.choice(kinds)
         call, class_ = Call(kind), AccessClass(self.below(4))
         made = call.struct
         made.station, made.tid, made.flow, made.length = station, self.below(9), self.below(20), 1 + self.below(300)
@@ -150,6 +154,7 @@ class Draw:
             CallKind.TICK: f"tick {made.by}",
             CallKind.RX: f"rx {station} {class_.word} {made.air}",
             CallKind.POLL: f"poll {station}",
+            CallKind.FLUSH: f"flush {station} {made.tid}",
         }
         return call, lines.get(kind, "reap")
 
@@ -157,8 +162,12 @@ class Draw:
         """One of the other calls."""
         class_ = AccessClass(self.below(4))
         number = self.below(2000) if self.below(50) else TICK + self.below(2)
-        name = self.random.choice(("leave", "sleep", "wake", "poll", "stop", "start", "start", "ampdu", "rx", "tick"))
-        if name == "rx":
+        words = "leave sleep wake poll stop start start ampdu rx tick flush"
+        name = self.random.choice(words.split())
+        if name == "flush":
+            tid = self.below(8 if self.below(50) else 10)
+            self.call(f"flush {station} {tid}", "flush", station, tid)
+        elif name == "rx":
             self.call(f"rx {station} {class_.word} {number}", "rx", station, class_, number)
         elif name == "tick":
             self.call(f"tick {number * 10}", "tick", number * 10)
@@ -168,6 +177,13 @@ class Draw:
         else:
             self.call(f"{name} {station}", name, station)
 
+    def mark(self, exchange: int, index: int) -> str | None:
+        """A mark of a transmission. Returns its word, or None if it was refused."""
+        word, name = self.random.choice((("unsent", "unsent"), ("giveup", "give_up")))
+        before = len(self.answers)
+        self.call(f"{word} {exchange} {index}", name, exchange, index)
+        return word if self.answers[before] == "marked" else None
+
     def limited_pull(self, class_: AccessClass) -> Any:
         """A pull, half of the time within limits."""
         frames, air = (self.below(9), self.below(3000)) if self.below(2) else (0, 0)
@@ -175,15 +191,15 @@ class Draw:
         return self.call(f"pull {class_.word}{words}", "pull", class_, frames, air)
 
     def common(self, which: int) -> None:
-        """A call that a path and a cell have; `which` is below 70."""
+        """A call that a path and a cell have; `which` is below 66."""
         station = self.station()
-        if which < 40:
+        if which < 36:
             self.enqueue(station)
-        elif which < 60:
+        elif which < 54:
             self.reap()
-        elif which < 64:
+        elif which < 58:
             self.join(station)
-        elif which < 66:
+        elif which < 60:
             self.rate(station)
         else:
             self.other(station)
@@ -197,6 +213,8 @@ class PathDraw(Draw):
         self.open: list[Exchange] = []
         # The id that arrived last, by station, TID and sequence number.
         self.arrived: dict[tuple[int, int, int], int] = {}
+        # The marks of the transmissions of open exchanges, by exchange and index.
+        self.marks: dict[tuple[int, int], str] = {}
         for _ in range(calls):
             self.step()
         self.lines.append("end")
@@ -211,6 +229,12 @@ class PathDraw(Draw):
             self.burst(9)
         elif which < 85:
             self.pull()
+        elif self.open and self.below(5) == 0:
+            exchange = self.random.choice(self.open)
+            index = self.below(exchange.transmissions + (self.below(20) == 0))
+            word = self.mark(exchange.number, index)
+            if word:
+                self.marks[exchange.number, index] = word
         elif self.open:
             self.finish(self.open.pop(self.below(len(self.open))))
 
@@ -235,20 +259,57 @@ class PathDraw(Draw):
             assert header == octets[:26] and tag % 2**16 == len(octets) - 26
 
     def finish(self, exchange: Exchange) -> None:
-        """Lets transmissions arrive, and ends the exchange."""
+        """Ends an exchange: by a BlockAck or without one, or, if it has no mark, by outcomes or as cancelled."""
+        number, indices = exchange.number, range(exchange.transmissions)
+        marked = [index for index in indices if (number, index) in self.marks]
+        air = 1 + self.below(CHARGE) if self.below(2) else 0
+        if not marked and self.below(3) == 0:
+            self.finish_each(exchange, air)
+        elif not marked and self.below(8) == 0:
+            self.lines += [f"unsent {number} {index}" for index in indices]
+            self.answers += ["marked"] * len(indices)
+            self.call(f"done {number} lost air 1", "cancel", number)
+        else:
+            heard = self.arrive(exchange, {index for index in marked if self.marks[number, index] == "unsent"})
+            if self.below(8) == 0:
+                self.end(exchange, heard, CHARGE + 1)
+            self.end(exchange, heard, air)
+
+    def arrive(self, exchange: Exchange, unsent: set[int]) -> bool:
+        """Lets transmissions arrive that went on the air. Returns whether an answer to them is heard."""
         number = exchange.number
-        came = [index for index in range(exchange.transmissions) if self.below(4)]
+        came = [index for index in range(exchange.transmissions) if self.below(4) and index not in unsent]
         self.lines += [f"arrive {number} {index}" for index in came]
         for index in came if exchange.ids else ():
             self.arrived[exchange.station, exchange.tid, exchange.numbers[index]] = exchange.ids[index]
         if came:
             self.lines.append(f"answer {number}")
         self.answers += [None] * (len(came) + bool(came))
-        heard = bool(came) and self.below(4) > 0
-        air = 1 + self.below(CHARGE) if self.below(2) else 0
-        if self.below(8) == 0:
-            self.end(exchange, heard, CHARGE + 1)
-        self.end(exchange, heard, air)
+        return bool(came) and self.below(4) > 0
+
+    def finish_each(self, exchange: Exchange, air: int) -> None:
+        """Ends an exchange by outcomes. The trace marks transmissions instead. A mark of a transmission that is
+        given up has no effect if it is acknowledged."""
+        number = exchange.number
+        choices = (Outcome.UNSENT, Outcome.GAVE_UP, Outcome.RETRY, Outcome.RETRY, Outcome.RETRY)
+        outcomes = [self.random.choice(choices) for _ in range(exchange.transmissions)]
+        words = {Outcome.UNSENT: "unsent", Outcome.GAVE_UP: "giveup"}
+        marks = [f"{words[one]} {number} {index}" for index, one in enumerate(outcomes) if one in words]
+        self.lines += marks
+        self.answers += ["marked"] * len(marks)
+        heard = self.arrive(exchange, {index for index, one in enumerate(outcomes) if one == Outcome.UNSENT})
+        for index, one in enumerate(outcomes):
+            if heard and one != Outcome.UNSENT and self.has_arrived(exchange, index):
+                outcomes[index] = Outcome.ACKED
+        line = f"done {number} {'heard' if heard else 'lost'}" + (f" air {air}" if air else "")
+        self.call(line, "done_each", number, outcomes, air)
+
+    def has_arrived(self, exchange: Exchange, index: int) -> bool:
+        """Whether a transmission's frame is one that its station has received; a request always is."""
+        if exchange.request:
+            return True
+        place = (exchange.station, exchange.tid, exchange.numbers[index])
+        return self.arrived.get(place) == exchange.ids[index]
 
     def end(self, exchange: Exchange, heard: bool, air: int) -> None:
         """Ends an exchange; it stays open if the airtime is too great."""
@@ -259,8 +320,8 @@ class PathDraw(Draw):
             return
         start = exchange.start if exchange.request else exchange.numbers[0]
         bits = 0
-        for frame, at in zip(exchange.ids, exchange.numbers):
-            if self.arrived.get((exchange.station, exchange.tid, at)) == frame:
+        for index, at in enumerate(exchange.numbers):
+            if self.has_arrived(exchange, index):
                 bits |= 1 << ((at - start) % 4096)
         self.call(line, "done_bits", number, start, bits, air)
 
@@ -268,9 +329,10 @@ class PathDraw(Draw):
         """The lines of the summary."""
         path: Path = self.handle
         tally = path.tally()
-        words = " ".join(f"{name} {value}" for name, value in zip(tally._fields[1:], tally[1:]))
+        words = " ".join(f"{name} {value}" for name, value in zip(tally._fields[1:-1], tally[1:-1]))
+        flushed = f" flushed {tally.flushed}" if tally.flushed else ""
         self.answers += [f"calls {len(self.lines) - 2}", f"now {path.now}"]
-        self.answers.append(f"frames {tally.accepted} {words} held {tally.held}")
+        self.answers.append(f"frames {tally.accepted} {words} held {tally.held}{flushed}")
         self.answers.append(f"exchanges {path.exchanges} open {path.open_count}")
         for station in filter(path.live, range(STATIONS)):
             for class_ in AccessClass:
@@ -315,6 +377,8 @@ class CellDraw(Draw):
         if which < 60:
             index = self.below(4 if self.below(4) else 40)
             self.call(f"arrive {number} {index}", "arrive", number, index)
+        elif which < 70:
+            self.mark(number, self.below(4))
         elif which < 80:
             self.call(f"answer {number}", "answer", number)
         else:

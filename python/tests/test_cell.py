@@ -58,6 +58,22 @@ class Calls(unittest.TestCase):
         entries = [str(self.cell.entry(place)) for place in range(3)]
         self.assertEqual(entries, ["done 3 lost", "pull vo", "pull vo"])
 
+    def test_marks_and_a_flush(self) -> None:
+        cell = self.cell
+        cell.join(0)
+        for _ in range(3):
+            cell.enqueue(0, 100)
+        cell.pull(AccessClass.BE, frames=2)
+        cell.unsent(0, 0)
+        cell.give_up(0, 1)
+        with self.assertRaises(errors.Marked):
+            cell.arrive(0, 0)
+        self.assertEqual(cell.done(0, False), (0, 1, 1))
+        self.assertEqual(cell.flush(0, 0), 2)
+        self.assertEqual([frame.fate.word for frame in (cell.reap(), cell.reap())], ["retries", "flushed"])
+        lines = [str(cell.entry(place)) for place in (5, 6, 9)]
+        self.assertEqual(lines, ["unsent 0 0", "giveup 0 1", "flush 0 0"])
+
     def test_numbers_that_do_not_fit_are_errors(self) -> None:
         cell = self.cell
         for call in (lambda: cell.arrive(0, 65536), lambda: cell.done(-1, True), lambda: cell.rx(0, 4, 1)):

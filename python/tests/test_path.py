@@ -14,6 +14,7 @@ from wfpath import (
     BlockError,
     CallKind,
     Fate,
+    Outcome,
     Path,
     Rate,
     Refused,
@@ -128,6 +129,57 @@ class Calls(unittest.TestCase):
             self.path.done_octets(0, bytes(28))
         self.assertEqual(self.path.open_count, 1)
 
+    def test_an_exchange_ends_by_outcomes(self) -> None:
+        path = self.path
+        path.join(0)
+        for tag in range(4):
+            path.enqueue(0, 100, tag=tag)
+        self.assertEqual(path.pull(BE).numbers, [0, 1, 2, 3])
+        outcomes = (Outcome.ACKED, Outcome.RETRY, Outcome.UNSENT, Outcome.GAVE_UP)
+        for given, kind in ((outcomes[:3], errors.BadIndex), ((0, 1, 2, 4), errors.BadOutcome)):
+            with self.assertRaises(kind):
+                path.done_each(0, given)
+        self.assertEqual(path.done_each(0, outcomes, 300), (1, 2, 1))
+        again = path.pull(BE)
+        self.assertEqual((again.number, again.ids), (1, [1, 2]))
+        path.done_each(1, [Outcome.ACKED] * 2)
+        tries = {frame.tag: (frame.fate, frame.attempts) for frame in path.reap_all()}
+        acked = {0: (Fate.ACKED, 1), 1: (Fate.ACKED, 2), 2: (Fate.ACKED, 1)}
+        self.assertEqual(tries, {**acked, 3: (Fate.RETRIES, 1)})
+
+    def test_a_mark_comes_before_the_bits(self) -> None:
+        path = self.path
+        path.join(0)
+        for _ in range(2):
+            path.enqueue(0, 100)
+        path.pull(BE)
+        path.unsent(0, 0)
+        path.give_up(0, 1)
+        for call in (lambda: path.unsent(0, 1), lambda: path.cancel(0), lambda: path.done_each(0, (0, 0))):
+            with self.assertRaises(errors.Marked):
+                call()
+        self.assertEqual(path.done_bits(0, 0, 0b01), (0, 1, 1))
+        self.assertEqual(path.pull(BE).ids, [0])
+        path.unsent(1, 0)
+        with self.assertRaises(errors.NoAnswer):
+            path.done_bits(1, 0, 0b01)
+        self.assertEqual(path.done_lost(1), (0, 1, 0))
+
+    def test_an_exchange_is_cancelled_and_its_tid_flushed(self) -> None:
+        path = self.path
+        path.join(0)
+        for _ in range(3):
+            path.enqueue(0, 100)
+        path.pull(BE, frames=2)
+        self.assertEqual(path.flush(0, 0), 1)
+        self.assertEqual(path.cancel(0), (0, 2, 0))
+        self.assertEqual((path.share(0, BE).charged, path.waiting(0, 0)), (1, 2))
+        self.assertEqual((path.flush(0, 0), path.waiting(0, 0)), (2, 0))
+        self.assertEqual([(frame.fate, frame.attempts) for frame in path.reap_all()], [(Fate.FLUSHED, 0)] * 3)
+        self.assertEqual((path.tally().flushed, path.tally().held), (3, 0))
+        with self.assertRaises(errors.BadTid):
+            path.flush(0, 8)
+
     def test_numbers_that_do_not_fit_are_errors(self) -> None:
         self.path.join(0)
         for call in (
@@ -142,6 +194,9 @@ class Calls(unittest.TestCase):
             lambda: self.path.set_base(b"12345"),
             lambda: self.path.enqueue(0, 1, source=b"1"),
             lambda: self.path.done_bits(0, 0, bytes(33)),
+            lambda: self.path.done_each(0, [256]),
+            lambda: self.path.unsent(0, 65536),
+            lambda: self.path.flush(0, 256),
         ):
             with self.assertRaises(ValueError):
                 call()
@@ -170,7 +225,7 @@ class Calls(unittest.TestCase):
         self.assertIn(path.listed(0, AccessClass.VO), (1, 2))
         path.advance(5_000_000_000)
         self.assertEqual((path.now, path.exchanges, path.has_small_counts), (5_000_000_000, 0, True))
-        self.assertEqual(path.tally(), (1, 0, 0, 0, 0, 0))
+        self.assertEqual(path.tally(), (1, 0, 0, 0, 0, 0, 0))
         self.assertEqual(path.leave(0), 1)
         self.assertEqual([frame.fate.word for frame in path.reap_all()], ["left"])
 

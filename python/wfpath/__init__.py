@@ -25,6 +25,7 @@ from ._tables import (
     CallKind,
     Fate,
     Form,
+    Outcome,
     Settings,
 )
 from .answers import Accepted, Block, Burst, Done, Exchange, Reaped, Sent, Share, Tally
@@ -51,6 +52,7 @@ __all__ = [
     "Form",
     "GREATEST_BODY",
     "GREATEST_MPDU",
+    "Outcome",
     "Path",
     "RANGES",
     "Rate",

@@ -36,11 +36,21 @@ class Fate(enum.IntEnum):
     CODEL = 3
     RETRIES = 4
     LEFT = 5
+    FLUSHED = 6
 
     @property
     def word(self) -> str:
         """The word of a trace."""
         return self.name.lower().replace("_", "-")
+
+
+class Outcome(enum.IntEnum):
+    """What became of a transmission."""
+
+    ACKED = 0
+    RETRY = 1
+    UNSENT = 2
+    GAVE_UP = 3
 
 
 class Kind(enum.IntEnum):
@@ -63,6 +73,8 @@ class Kind(enum.IntEnum):
     REFUSED = 14
     STOPPED = 15
     STARTED = 16
+    MARKED = 17
+    FLUSHED = 18
 
     @property
     def word(self) -> str:
@@ -90,6 +102,9 @@ class CallKind(enum.IntEnum):
     AMPDU = 14
     STOP = 15
     START = 16
+    UNSENT = 17
+    GIVEUP = 18
+    FLUSH = 19
 
     @property
     def word(self) -> str:
@@ -470,8 +485,9 @@ class TallyStruct(ctypes.Structure):
     codel: int
     retries: int
     left: int
+    flushed: int
 
-    LAYOUT = "@QQQQQQ"
+    LAYOUT = "@QQQQQQQ"
     _fields_ = [
         ("accepted", ctypes.c_uint64),
         ("acked", ctypes.c_uint64),
@@ -479,6 +495,7 @@ class TallyStruct(ctypes.Structure):
         ("codel", ctypes.c_uint64),
         ("retries", ctypes.c_uint64),
         ("left", ctypes.c_uint64),
+        ("flushed", ctypes.c_uint64),
     ]
 
 
@@ -741,6 +758,15 @@ FUNCTIONS: dict[str, tuple[Any, tuple[Any, ...]]] = {
             ctypes.POINTER(ReplyStruct),
         ),
     ),
+    "wf_path_flush": (
+        ctypes.c_int32,
+        (
+            ctypes.POINTER(PathStruct),
+            ctypes.c_uint16,
+            ctypes.c_uint8,
+            ctypes.POINTER(ReplyStruct),
+        ),
+    ),
     "wf_path_rx": (
         ctypes.c_int32,
         (
@@ -857,6 +883,24 @@ FUNCTIONS: dict[str, tuple[Any, tuple[Any, ...]]] = {
             ctypes.POINTER(ctypes.c_size_t),
         ),
     ),
+    "wf_path_unsent": (
+        ctypes.c_int32,
+        (
+            ctypes.POINTER(PathStruct),
+            ctypes.c_uint64,
+            ctypes.c_uint16,
+            ctypes.POINTER(ReplyStruct),
+        ),
+    ),
+    "wf_path_give_up": (
+        ctypes.c_int32,
+        (
+            ctypes.POINTER(PathStruct),
+            ctypes.c_uint64,
+            ctypes.c_uint16,
+            ctypes.POINTER(ReplyStruct),
+        ),
+    ),
     "wf_path_done_lost": (
         ctypes.c_int32,
         (
@@ -885,6 +929,25 @@ FUNCTIONS: dict[str, tuple[Any, tuple[Any, ...]]] = {
             ctypes.c_char_p,
             ctypes.c_size_t,
             ctypes.c_uint32,
+            ctypes.POINTER(ReplyStruct),
+        ),
+    ),
+    "wf_path_done_each": (
+        ctypes.c_int32,
+        (
+            ctypes.POINTER(PathStruct),
+            ctypes.c_uint64,
+            ctypes.c_char_p,
+            ctypes.c_size_t,
+            ctypes.c_uint32,
+            ctypes.POINTER(ReplyStruct),
+        ),
+    ),
+    "wf_path_cancel": (
+        ctypes.c_int32,
+        (
+            ctypes.POINTER(PathStruct),
+            ctypes.c_uint64,
             ctypes.POINTER(ReplyStruct),
         ),
     ),

@@ -122,11 +122,12 @@ class Tally(NamedTuple):
     codel: int
     retries: int
     left: int
+    flushed: int
 
     @property
     def held(self) -> int:
         """How many frames are inside."""
-        return self.accepted - self.acked - self.overlimit - self.codel - self.retries - self.left
+        return self.accepted - sum(self[1:])
 
 
 class Share(NamedTuple):

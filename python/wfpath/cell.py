@@ -113,6 +113,15 @@ class Cell(Handle):
         """Starts a station that is stopped: pulls may pick it again."""
         self._of_station(CallKind.START, station)
 
+    def flush(self, station: int, tid: int) -> int:
+        """Drops the frames of a station's TID that are not on the air, and returns how many they are."""
+        if station >> 16 or tid >> 8:
+            raise out_of_range(station=(station, 16), tid=(tid, 8))
+        call = self._calls[CallKind.FLUSH]
+        call.struct.station, call.struct.tid = station, tid
+        self._must(self._code(call))
+        return self._reply.count
+
     def rx(self, station: int, class_: int, air: int) -> int:
         """Charges a station for airtime that it used to send, and returns its deficit."""
         if station >> 16 or class_ >> 2 or air >> 32:
@@ -197,6 +206,16 @@ class Cell(Handle):
         _released(self._at, self._up_at)
         found: list[int] = self._up_ids[: self._up.count].tolist()
         return found
+
+    def unsent(self, exchange: int, index: int) -> None:
+        """Marks a transmission that never went on the air: its frame waits to be sent again when the exchange
+        ends, and this transmission does not count in its attempts."""
+        self._mark(CallKind.UNSENT, exchange, index)
+
+    def give_up(self, exchange: int, index: int) -> None:
+        """Marks a transmission that the device will not try again: its frame is dropped when the exchange ends,
+        unless it is acknowledged."""
+        self._mark(CallKind.GIVEUP, exchange, index)
 
     def answer(self, exchange: int) -> Block:
         """Lets the station answer an exchange, and returns its BlockAck."""
@@ -295,6 +314,14 @@ class Cell(Handle):
             raise out_of_range(station=(station, 16))
         call = self._calls[kind]
         call.struct.station = station
+        self._must(self._code(call))
+
+    def _mark(self, kind: CallKind, exchange: int, index: int) -> None:
+        """Marks a transmission."""
+        if exchange >> 64 or index >> 16:
+            raise out_of_range(exchange=(exchange, 64), index=(index, 16))
+        call = self._calls[kind]
+        call.struct.exchange, call.struct.index = exchange, index
         self._must(self._code(call))
 
     def _pull_code(self, class_: int, frames: int, air: int) -> int:

@@ -279,6 +279,14 @@ class Started(Refused):
     about = "the station is not stopped"
 
 
+class Marked(Refused):
+    """That transmission has a mark: it never went on the air, or the device will not try it again."""
+
+    code = 32
+    word = "marked"
+    about = "that transmission has a mark: it never went on the air, or the device will not try it again"
+
+
 class NoMemory(WfError):
     """Out of memory."""
 
@@ -337,6 +345,14 @@ class BadClass(WfError):
     code = 47
     word = "bad-class"
     about = "the class is above 3"
+
+
+class BadOutcome(WfError):
+    """An outcome is above 3 (enum wf_outcome)."""
+
+    code = 48
+    word = "bad-outcome"
+    about = "an outcome is above 3 (enum wf_outcome)"
 
 
 class BlockLength(BlockError):
@@ -436,6 +452,7 @@ ERRORS: dict[int, type[WfError]] = {
     29: BadAmpdu,
     30: Stopped,
     31: Started,
+    32: Marked,
     40: NoMemory,
     41: BadLength,
     42: SmallBuffer,
@@ -443,6 +460,7 @@ ERRORS: dict[int, type[WfError]] = {
     44: BadAddress,
     45: NoBody,
     47: BadClass,
+    48: BadOutcome,
     51: BlockLength,
     52: BlockKind,
     53: BlockBasic,

@@ -3,7 +3,7 @@ from __future__ import annotations
 
 import ctypes
 import struct
-from collections.abc import Sequence
+from collections.abc import Iterable, Sequence
 
 from . import _tables as tables
 from ._handle import BODY_ROOM, NO_ROOM, NO_SOURCE, QUICK, WAITS, Body, C, Handle, address_octets
@@ -97,6 +97,13 @@ class Path(Handle):
     def start(self, station: int) -> None:
         """Starts a station that is stopped: pulls may pick it again."""
         self._of_station(C.wf_path_start, station)
+
+    def flush(self, station: int, tid: int) -> int:
+        """Drops the frames of a station's TID that are not on the air, and returns how many they are."""
+        if station >> 16 or tid >> 8:
+            raise out_of_range(station=(station, 16), tid=(tid, 8))
+        self._must(C.wf_path_flush(self._at, station, tid, self._reply_at))
+        return self._reply.count
 
     def rx(self, station: int, class_: int, air: int) -> int:
         """Charges a station for airtime that it used to send, and returns its deficit."""
@@ -223,6 +230,19 @@ class Path(Handle):
         given = bytes(octets)
         return self._done(C.wf_path_done_octets(self._at, exchange, given, len(given), air, self._reply_at))
 
+    def done_each(self, exchange: int, outcomes: Iterable[int], air: int = 0) -> Done:
+        """Ends an exchange by what became of each of its transmissions, in their order: numbers of `Outcome`."""
+        if exchange >> 64 or air >> 32:
+            raise out_of_range(exchange=(exchange, 64), air=(air, 32))
+        given = bytes(list(outcomes))
+        return self._done(C.wf_path_done_each(self._at, exchange, given, len(given), air, self._reply_at))
+
+    def cancel(self, exchange: int) -> Done:
+        """Ends an exchange of which nothing went on the air: its frames wait to be sent again."""
+        if exchange >> 64:
+            raise out_of_range(exchange=(exchange, 64))
+        return self._done(C.wf_path_cancel(self._at, exchange, self._reply_at))
+
     def reap(self, body: bool = False) -> Reaped:
         """Takes the first finished frame out of the path, with its octets if `body` is true. Raises Nothing
         if there is none."""
@@ -277,6 +297,18 @@ class Path(Handle):
         size, room = ctypes.c_size_t(), tables.GREATEST_MPDU
         self._must(C.wf_path_mpdu(self._at, exchange, index, self._octets, room, ctypes.byref(size)))
         return bytes(self._octets_view[: size.value])
+
+    def unsent(self, exchange: int, index: int) -> None:
+        """Marks a transmission that never went on the air: its frame waits to be sent again when the exchange
+        ends, and this transmission does not count in its attempts."""
+        self._check_index(exchange, index)
+        self._must(C.wf_path_unsent(self._at, exchange, index, self._reply_at))
+
+    def give_up(self, exchange: int, index: int) -> None:
+        """Marks a transmission that the device will not try again: its frame is dropped when the exchange ends,
+        unless it is acknowledged."""
+        self._check_index(exchange, index)
+        self._must(C.wf_path_give_up(self._at, exchange, index, self._reply_at))
 
     # ---- addresses
 

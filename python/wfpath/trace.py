@@ -25,6 +25,9 @@ FIELDS: dict[CallKind, tuple[str, ...]] = {
     CallKind.AMPDU: ("station", "octets"),
     CallKind.STOP: ("station",),
     CallKind.START: ("station",),
+    CallKind.UNSENT: ("exchange", "index"),
+    CallKind.GIVEUP: ("exchange", "index"),
+    CallKind.FLUSH: ("station", "tid"),
 }
 WORDS = {CallKind.ENQUEUE: "enq"}
 
