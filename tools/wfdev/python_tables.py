@@ -81,10 +81,15 @@ def string(name: str, text: str, indent: str = "    ") -> list[str]:
     return [f"{indent}{name} = (", *(f"{indent}    {json.dumps(part)}" for part in parts), f"{indent})"]
 
 
-def enum_class(name: str, about: str, rows: Iterable[Enumerator], prefix: str = "") -> Iterator[str]:
+def plain_enum(name: str, about: str, rows: Iterable[Enumerator], prefix: str = "") -> Iterator[str]:
     """Yields the lines of an enum."""
     yield from ("", "", f"class {name}(enum.IntEnum):", f'    """{about}"""', "")
     yield from (f"    {row.name.removeprefix(prefix)} = {row.number}" for row in rows)
+
+
+def enum_class(name: str, about: str, rows: Iterable[Enumerator], prefix: str = "") -> Iterator[str]:
+    """Yields the lines of an enum whose members are words of a trace."""
+    yield from plain_enum(name, about, rows, prefix)
     yield from ("", "    @property", "    def word(self) -> str:", '        """The word of a trace."""')
     yield '        return self.name.lower().replace("_", "-")'
 
@@ -226,6 +231,7 @@ def tables_module(wf_h: str, settings: Sequence[Row]) -> str:
     classes = "The access classes, from the lowest priority to the highest."
     lines += enum_class("AccessClass", classes, header.enum(wf_h, "wf_class"))
     lines += enum_class("Fate", "The fates of frames.", header.enum(wf_h, "wf_fate"))
+    lines += plain_enum("Outcome", "What became of a transmission.", header.enum(wf_h, "wf_outcome"), "OUTCOME_")
     lines += enum_class("Kind", "The kinds of answers.", header.enum(wf_h, "wf_kind"), "KIND_")
     lines += enum_class("CallKind", "The kinds of calls.", header.enum(wf_h, "wf_call_kind"), "CALL_")
     lines += enum_class("Form", "The formats of rates.", header.enum(wf_h, "wf_form"), "FORM_")

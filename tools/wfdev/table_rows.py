@@ -263,11 +263,11 @@ def function(text: str, name: str) -> str:
 
 
 def argument_lists(text: str) -> dict[str, list[str]]:
-    """The arguments of each form, by its variant; an arm `_` belongs to a rate without a format."""
+    """The arguments of each form, by its variant; an arm `_` belongs to a pull without limits or a rate without a format."""
     found: dict[str, list[str]] = {}
-    for name in ("arguments", "rate_arguments"):
+    for name, rest in (("arguments", ""), ("pull_arguments", "Pull"), ("rate_arguments", "Rate")):
         for patterns, body in re.findall(r"((?:[\s|]*CallForm::\w+)+|_) => (?:\{\s*)?&\[(.*?)\]", function(text, name), re.S):
-            for variant in re.findall(r"CallForm::(\w+)", patterns) or ["Rate"]:
+            for variant in re.findall(r"CallForm::(\w+)", patterns) or [rest]:
                 found[variant] = re.findall(r"Argument::(\w+)", body)
     return found
 

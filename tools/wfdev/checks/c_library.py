@@ -123,7 +123,7 @@ def read_header() -> None:
 
 def run_programs(bench: Bench) -> None:
     """Builds and runs all programs."""
-    for name in ("driver", "wake", "misuse"):
+    for name in ("driver", "ring", "firmware", "reset", "wake", "misuse"):
         print(run([str(bench.build(SOURCES / f"{name}.c"))]), end="")
         run([str(bench.build(SOURCES / f"{name}.c", SANITIZED, "-sanitized"))])
     run([str(bench.build(SOURCES / "wake.c", THREADS, "-threads"))])

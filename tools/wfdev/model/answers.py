@@ -31,7 +31,7 @@ def refuse(name: str, is_so: bool, number: int | None = None) -> None:
 
 @dataclass(frozen=True)
 class Word:
-    """An answer of one word: joined, set, slept, woken, stopped, started."""
+    """An answer of one word: joined, set, slept, woken, stopped, started, marked."""
 
     word: str
 
@@ -41,7 +41,7 @@ class Word:
 
 @dataclass(frozen=True)
 class Number:
-    """An answer of a word and a number: left, now, charged."""
+    """An answer of a word and a number: left, now, charged, flushed."""
 
     word: str
     number: int

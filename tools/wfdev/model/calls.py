@@ -84,5 +84,8 @@ FORMS = {
     "ampdu": [Form((STATION, LONG_NUMBER))],
     "stop": [Form((STATION,))],
     "start": [Form((STATION,))],
+    "unsent": [Form((EXCHANGE, SHORT_NUMBER))],
+    "giveup": [Form((EXCHANGE, SHORT_NUMBER))],
+    "flush": [Form((STATION, OCTET))],
 }
 LINES = {**FORMS, "end": [Form()]}

@@ -24,6 +24,7 @@ class Fate(enum.StrEnum):
     CODEL = "codel"
     RETRIES = "retries"
     LEFT = "left"
+    FLUSHED = "flushed"
 
 
 CLASS_TIDS = {Class.BK: (1, 2), Class.BE: (0, 3), Class.VI: (4, 5), Class.VO: (6, 7)}

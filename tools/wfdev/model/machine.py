@@ -1,4 +1,4 @@
-"""The seventeen calls: MACHINE.md, from the table of calls to Power save.
+"""The twenty calls: MACHINE.md, from the table of calls to Power save.
 
 The method of a call begins with its refusals in the order of the table. A refused call raises `Refused`. It
 changes nothing, except if it is `idle`.
@@ -111,6 +111,17 @@ class Machine:
             rotation.remove(station)
         del self.stations[station]
         return Number("left", len(frames))
+
+    def flush(self, station: int, tid: int) -> Answer:
+        """The frames of a TID that are not on the air are dropped."""
+        self.numbered(station)
+        refuse("bad-tid", tid >= TIDS)
+        session = self.live(station).sessions[tid]
+        frames = [session.fail(number) for number in session.waiting()]
+        frames += self.queues.flush((station, tid))
+        self.finish(frames, Fate.FLUSHED)
+        self.list_ready(station)
+        return Number("flushed", len(frames))
 
     def rate(self, station: int, rate: Rate) -> Answer:
         """A station is sent to at this rate from now on."""
@@ -317,6 +328,7 @@ class Machine:
         refuse("bad-index", index >= one.transmissions)
         refuse("answered", one.answer is not None)
         refuse("arrived", index in one.arrived)
+        refuse("marked", index in one.unsent)
         one.arrived.add(index)
         held = self.stations[one.station]
         receiver = held.receivers[one.tid]
@@ -338,6 +350,26 @@ class Machine:
         self.list_ready(one.station)
         return Ba(one.answer, held.is_wide)
 
+    def unsent(self, exchange: int, index: int) -> Answer:
+        """One transmission of an exchange never went on the air."""
+        one = self.opened(exchange)
+        refuse("bad-index", index >= one.transmissions)
+        refuse("answered", one.answer is not None)
+        refuse("arrived", index in one.arrived)
+        refuse("marked", one.has_mark(index))
+        one.unsent.add(index)
+        self.list_ready(one.station)
+        return Word("marked")
+
+    def giveup(self, exchange: int, index: int) -> Answer:
+        """The device will not try one transmission of an exchange again."""
+        one = self.opened(exchange)
+        refuse("bad-index", index >= one.transmissions)
+        refuse("marked", one.has_mark(index))
+        one.given_up.add(index)
+        self.list_ready(one.station)
+        return Word("marked")
+
     def done(self, exchange: int, heard: str, air: int | None = None) -> Answer:
         """An exchange ends, with its answer heard or lost."""
         one = self.opened(exchange)
@@ -350,9 +382,9 @@ class Machine:
         if one.request is not None and answer is not None:
             session.hear_request(one.request)
         ended = {Ended.ACKED: 0, Ended.WAITING: 0, Ended.FAILED: 0}
-        for number in one.numbers:
-            frame, is_shown = session.slots[number].frame, answer is not None and number in answer.shown
-            how = session.end(number, is_shown, self.settings.attempts)
+        for index, number in enumerate(one.numbers):
+            frame = session.slots[number].frame
+            how = session.end(number, one.end_of(index, answer), self.settings.attempts)
             ended[how] += 1
             if how is not Ended.WAITING:
                 self.finish([frame], Fate.ACKED if how is Ended.ACKED else Fate.RETRIES)

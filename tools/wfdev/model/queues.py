@@ -80,13 +80,19 @@ class Queues:
 
     def purge(self, owner: Owner) -> list[Frame]:
         """Empties, resets and delists the queues that a TID lists. Returns their frames in order."""
+        frames = self.flush(owner)
+        for number in self.rotations[owner].keys():
+            self.queues[number].codel = State()
+            del self.owners[number]
+        del self.rotations[owner]
+        return frames
+
+    def flush(self, owner: Owner) -> list[Frame]:
+        """Empties the queues that a TID lists. Returns their frames in order."""
         frames: list[Frame] = []
         for number in sorted(self.rotations[owner].keys()):
             queue = self.queues[number]
             while queue.frames:
                 frames.append(queue.pop())
-            queue.codel = State()
-            del self.owners[number]
         self.held -= len(frames)
-        del self.rotations[owner]
         return frames

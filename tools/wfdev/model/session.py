@@ -15,6 +15,15 @@ class State(enum.Enum):
     FLYING = "flying"
 
 
+class End(enum.Enum):
+    """How an exchange ends for one of its numbers."""
+
+    ACKNOWLEDGED = "acknowledged"
+    MISSED = "missed"
+    GIVEN_UP = "given-up"
+    UNSENT = "unsent"
+
+
 class Ended(enum.Enum):
     """The outcome of a transmission for its number."""
 
@@ -78,16 +87,20 @@ class Session:
         """Sends a number."""
         self.slots[number].state = State.FLYING
 
-    def end(self, number: int, is_shown: bool, attempts: int) -> Ended:
+    def fail(self, number: int) -> Frame:
+        """Has a number fail, and returns its frame."""
+        self.failed.add(number)
+        return self.slots.pop(number).frame
+
+    def end(self, number: int, end: End, attempts: int) -> Ended:
         """Ends a transmission of a number; it fails with this many attempts in vain."""
-        slot = self.slots[number]
-        if is_shown:
+        if end is End.ACKNOWLEDGED:
             del self.slots[number]
             return Ended.ACKED
-        slot.attempts += 1
-        if slot.attempts >= attempts:
-            del self.slots[number]
-            self.failed.add(number)
+        slot = self.slots[number]
+        slot.attempts += end is End.MISSED
+        if end is not End.UNSENT and (end is End.GIVEN_UP or slot.attempts >= attempts):
+            self.fail(number)
             return Ended.FAILED
         slot.state = State.WAITING
         return Ended.WAITING

@@ -4,7 +4,7 @@ from dataclasses import dataclass, field
 from wfdev.model.frames import CLASS_TIDS, TIDS, Class
 from wfdev.model.rates import LOWEST, NARROW_WINDOW, Rate
 from wfdev.model.receiver import BlockAck, Receiver
-from wfdev.model.session import Session
+from wfdev.model.session import End, Session
 
 
 def zeros() -> dict[Class, int]:
@@ -52,7 +52,11 @@ class Station:
 
 @dataclass
 class Exchange:
-    """An open exchange: numbers of data, or a request if it has a start; what arrived, and its BlockAck."""
+    """An open exchange: numbers of data, or a request if it has a start; what arrived, and its BlockAck.
+
+    `unsent` and `given_up` have the indices of the transmissions that never went on the air, and of those that the
+    device will not try again.
+    """
 
     station: int
     tid: int
@@ -61,6 +65,20 @@ class Exchange:
     request: int | None = None
     arrived: set[int] = field(default_factory=set)
     answer: BlockAck | None = None
+    unsent: set[int] = field(default_factory=set)
+    given_up: set[int] = field(default_factory=set)
+
+    def has_mark(self, index: int) -> bool:
+        """Returns whether a transmission is marked."""
+        return index in self.unsent or index in self.given_up
+
+    def end_of(self, index: int, heard: BlockAck | None) -> End:
+        """Returns how the exchange ends for the number of a transmission, with the BlockAck that was heard."""
+        if index in self.unsent:
+            return End.UNSENT
+        if heard is not None and self.numbers[index] in heard.shown:
+            return End.ACKNOWLEDGED
+        return End.GIVEN_UP if index in self.given_up else End.MISSED
 
     @property
     def transmissions(self) -> int:

@@ -46,7 +46,8 @@ def summary(machine: Machine) -> Iterator[str]:
     order = (Fate.ACKED, Fate.OVERLIMIT, Fate.CODEL, Fate.RETRIES, Fate.LEFT, Fate.HELD)
     yield f"calls {machine.calls}"
     yield f"now {machine.now}"
-    yield f"frames {len(machine.frames)} " + " ".join(f"{fate} {fates[fate]}" for fate in order)
+    flushed = (Fate.FLUSHED,) if fates[Fate.FLUSHED] else ()
+    yield f"frames {len(machine.frames)} " + " ".join(f"{fate} {fates[fate]}" for fate in (*order, *flushed))
     yield f"exchanges {machine.pulled} open {len(machine.exchanges)}"
     for _, held in sorted(machine.stations.items()):
         yield from station_lines(machine, held)

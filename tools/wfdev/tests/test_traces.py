@@ -112,9 +112,9 @@ class Pairs(unittest.TestCase):
 
 def replies_of(kind: str) -> str:
     """Returns the kind of the answers to a kind of call."""
-    names = "join leave rate tick enq pull arrive answer done sleep wake poll rx reap".split()
+    names = "join leave rate tick enq pull arrive answer done sleep wake poll rx reap unsent giveup flush".split()
     answers = "joined left set now accepted send released ba done slept woken polled charged reaped".split()
-    return dict(zip(names, answers))[kind]
+    return dict(zip(names, [*answers, "marked", "marked", "flushed"]))[kind]
 
 
 class Fields(unittest.TestCase):
@@ -134,6 +134,7 @@ class Fields(unittest.TestCase):
         texts += ["send 0 sta 1 tid 2 air 3 data 4:5 6:7 more", "send 0 sta 1 tid 2 air 80 bar 9"]
         texts += ["ba 100 00000000000000ff", "ba 1 " + "0" * 63 + "5", "done acked 1 waiting 2 failed 3"]
         texts += ["slept", "woken", "polled be", "charged -5", "reaped 3 codel", "stopped", "started"]
+        texts += ["marked", "flushed 3", "reaped 3 flushed", "refused marked"]
         texts += ["refused open 2", "refused debt -7", "refused ahead 3952", "refused idle"]
         nested = {"frames": "wf_frames", "passed_up": "wf_passed_up", "block": "wf_block"}
         for text in texts:
@@ -159,6 +160,7 @@ class Fields(unittest.TestCase):
         texts = ["join 1 64 0 3", "join 1 64 0 3 2", "leave 1", "rate 1 7 20 short", "rate 1 vht 9 80 long 2"]
         texts += ["rate 1 he 11 160 800 2", "tick 5", "@7 enq 1 0 3 100", "pull be", "arrive 0 1", "answer 0"]
         texts += ["done 0 heard", "done 0 lost air 90", "sleep 1", "wake 1", "poll 1", "rx 1 vo 9", "reap"]
+        texts += ["unsent 0 1", "giveup 0 1", "flush 1 0"]
         for text in texts:
             self.assertLessEqual(set(calls.read(text).fields), self.struct("wf_call"), text)
         self.assertEqual(calls.read("join 1 64 0 3").fields["weight"], 1)
@@ -245,12 +247,26 @@ class Explained(unittest.TestCase):
         for refusal in rules.table():
             self.assertNotIn("`", rules.rule(refusal, 1, {}), refusal)
 
+    def test_marks_say_what_follows_from_them(self) -> None:
+        told = explained_row("end-is-unsent-before-shown")
+        self.assertIn("Call: Transmission 0 of exchange 1 never went on the air.", told)
+        self.assertIn("it cannot arrive any more, and its frame waits again when the exchange ends", told)
+        self.assertIn("1 transmission never went on the air: the frame waits again", told)
+        told = explained_row("request-after-a-number-given-up")
+        self.assertIn("its frame fails when the exchange ends, unless the BlockAck shows it", told)
+        self.assertIn("A frame fails after attempts (10) transmissions, or if the device gives it up.", told)
+
+    def test_a_flush_says_how_many_frames_are_dropped(self) -> None:
+        told = explained_row("flush-of-waiting-numbers-then-queues")
+        self.assertIn("The frames of station 0, TID 0, that are not on the air are to be dropped.", told)
+        self.assertIn("is finished: it was dropped because its TID was flushed.", told)
+
     def test_nothing_means_another_thing_for_each_call(self) -> None:
         told = " ".join(explained("sleeping-station").split())
         self.assertNotIn("There is nothing to answer, to send or to reap", told)
 
     def test_the_page_has_each_refusal(self) -> None:
-        self.assertEqual(len(rules.table()), 31)
+        self.assertEqual(len(rules.table()), 32)
         said = rules.rule("room", 9, {"room": 9})
         self.assertEqual(said, "9 frames are accepted and not yet reaped: as many as room (9).")
 

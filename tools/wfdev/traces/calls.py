@@ -23,6 +23,9 @@ FORMS: dict[str, tuple[str, ...]] = {
     "ampdu": ("station", "octets"),
     "stop": ("station",),
     "start": ("station",),
+    "unsent": ("exchange", "index"),
+    "giveup": ("exchange", "index"),
+    "flush": ("station", "tid"),
 }
 RATES: dict[str, tuple[str, ...]] = {
     "ht": ("station", "mcs", "mhz", "short_guard"),

@@ -27,8 +27,9 @@ FATES = {
     "acked": "it was acknowledged",
     "overlimit": "it was dropped because the flow queues held `limit` frames",
     "codel": "CoDel dropped it",
-    "retries": "it was sent `attempts` times and never acknowledged",
+    "retries": "it was never acknowledged, and was sent `attempts` times or given up by the device",
     "left": "it was dropped when its station left",
+    "flushed": "it was dropped because its TID was flushed",
 }
 
 
@@ -94,6 +95,11 @@ def station_of(call: Call) -> str:
     return f"station {call.number('station')}"
 
 
+def transmission_of(call: Call) -> str:
+    """Returns the name of a call's transmission."""
+    return f"Transmission {call.number('index')} of exchange {call.number('exchange')}"
+
+
 def rate_of(call: Call) -> str:
     """Returns a rate in words."""
     form = call.word("form")
@@ -136,7 +142,7 @@ ASKED: dict[str, Callable[[Call], str]] = {
     ),
     "pull": asked_pull,
     "arrive": lambda call: (
-        f"Transmission {call.number('index')} of exchange {call.number('exchange')} reached its station."
+        f"{transmission_of(call)} reached its station."
     ),
     "answer": lambda call: f"The station answers exchange {call.number('exchange')}.",
     "done": asked_done,
@@ -153,6 +159,11 @@ ASKED: dict[str, Callable[[Call], str]] = {
     ),
     "stop": lambda call: f"{station_of(call).capitalize()} is to be picked by no pull.",
     "start": lambda call: f"{station_of(call).capitalize()} is to be picked again.",
+    "unsent": lambda call: f"{transmission_of(call)} never went on the air.",
+    "giveup": lambda call: f"The device will not try {transmission_of(call).lower()} again.",
+    "flush": lambda call: (
+        f"The frames of {station_of(call)}, TID {call.number('tid')}, that are not on the air are to be dropped."
+    ),
 }
 
 
@@ -301,13 +312,35 @@ def said_of_done(_: Call, reply: Reply, book: Ledger, exchange: Exchange | None)
     acked, waiting, failed = (reply.number(name) for name in ("acked", "waiting", "failed"))
     text = f"{count(acked, 'frame')} acknowledged, {waiting} to be sent again, {failed} failed. {charge}"
     if failed:
-        text += f" A frame fails after attempts ({book.settings['attempts']}) transmissions."
+        text += f" A frame fails after attempts ({book.settings['attempts']}) transmissions"
+        text += ", or if the device gives it up." if exchange.given_up else "."
+    if exchange.unsent:
+        text += (
+            f" {count(len(exchange.unsent), 'transmission')} never went on the air: "
+            "the frame waits again, and this is not one of its transmissions."
+        )
     if not exchange.heard and exchange.arrived:
         text += (
             f" {count(len(exchange.arrived), 'transmission')} had arrived: without the answer the sender "
             "does not know."
         )
     return text
+
+
+def said_of_unsent(_: Call, __: Reply, ___: Ledger, exchange: Exchange | None) -> str:
+    """Says what follows from a transmission that never went on the air."""
+    assert exchange is not None
+    if exchange.start is not None:
+        return "It is marked: it cannot arrive any more."
+    return "It is marked: it cannot arrive any more, and its frame waits again when the exchange ends."
+
+
+def said_of_giveup(_: Call, __: Reply, ___: Ledger, exchange: Exchange | None) -> str:
+    """Says what follows from a transmission that the device gives up."""
+    assert exchange is not None
+    if exchange.start is not None:
+        return "It is marked; the request may be sent again nevertheless."
+    return "It is marked: its frame fails when the exchange ends, unless the BlockAck shows it."
 
 
 def said_of_released(_: Call, reply: Reply, __: Ledger, exchange: Exchange | None) -> str:
@@ -366,6 +399,9 @@ ANSWERED: dict[str, Callable[[Call, Reply, Ledger, Exchange | None], str]] = {
     "ampdu": lambda *_: "The most octets are set.",
     "stop": lambda *_: "It is stopped.",
     "start": lambda *_: "It is started.",
+    "unsent": said_of_unsent,
+    "giveup": said_of_giveup,
+    "flush": lambda _, reply, __, ___: f"Frames that it held and that are dropped: {reply.number('count')}.",
 }
 
 
@@ -399,4 +435,5 @@ SUMMED = {
     "codel": "dropped by CoDel",
     "retries": "dropped after their last transmission",
     "left": "dropped when their station left",
+    "flushed": "dropped because their TID was flushed",
 }

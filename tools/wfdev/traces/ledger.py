@@ -29,19 +29,22 @@ NUMBERS = 4096
 
 @dataclasses.dataclass
 class Frame:
-    """An accepted frame: `sent` counts its transmissions, and `fate` is empty while it is held."""
+    """An accepted frame: `sent` counts its transmissions, `is_given_up` says whether the device will not try
+    it again, and `fate` is empty while it is held."""
 
     id: int
     station: int
     tid: int
     length: int
     sent: int = 0
+    is_given_up: bool = False
     fate: str = ""
 
 
 @dataclasses.dataclass
 class Exchange:
-    """An exchange: what the pull answered, what arrived, the BlockAck, and how it ended."""
+    """An exchange: what the pull answered, what arrived, the BlockAck, which transmissions never went on the
+    air or were given up, and how it ended."""
 
     number: int
     station: int
@@ -54,6 +57,8 @@ class Exchange:
     again: int = 0
     arrived: set[int] = dataclasses.field(default_factory=set)
     block: tuple[int, int] | None = None
+    unsent: set[int] = dataclasses.field(default_factory=set)
+    given_up: set[int] = dataclasses.field(default_factory=set)
     heard: bool | None = None
 
     @property
@@ -68,8 +73,8 @@ class Exchange:
 
     @property
     def lost(self) -> int:
-        """How many transmissions did not arrive."""
-        return self.sent - len(self.arrived)
+        """How many transmissions went on the air and did not arrive."""
+        return self.sent - len(self.unsent) - len(self.arrived)
 
     def shows(self, number: int) -> bool:
         """Returns whether the BlockAck shows this sequence number."""
@@ -162,6 +167,13 @@ class Ledger:
             if frame.station == number and not frame.fate:
                 self._finish(frame, "left")
 
+    def _flush(self, call: Call, _: Reply) -> None:
+        number, tid = call.number("station"), call.number("tid")
+        on_air = {id_ for one in self.exchanges_of(number) for id_, _ in one.frames}
+        for frame in self.frames.values():
+            if (frame.station, frame.tid) == (number, tid) and not frame.fate and frame.id not in on_air:
+                self._finish(frame, "flushed")
+
     def _tick(self, _: Call, reply: Reply) -> None:
         self.now = reply.number("now")
 
@@ -199,19 +211,34 @@ class Ledger:
         exchange.block = block["start"], int("".join(block["bits"][::-1]), 16)
         return exchange
 
+    def _unsent(self, call: Call, _: Reply) -> Exchange:
+        exchange = self.open[call.number("exchange")]
+        exchange.unsent.add(call.number("index"))
+        return exchange
+
+    def _giveup(self, call: Call, _: Reply) -> Exchange:
+        exchange = self.open[call.number("exchange")]
+        exchange.given_up.add(call.number("index"))
+        return exchange
+
     def _done(self, call: Call, _: Reply) -> Exchange:
         exchange = self.open.pop(call.number("exchange"))
         exchange.heard = bool(call.fields["heard"])
         exchange.air = call.number("air") or exchange.air
         self._charge(exchange.station, exchange.class_, exchange.air)
-        for id_, number in exchange.frames:
-            self._settle(self.frames[id_], exchange.heard and exchange.shows(number))
+        for index, (id_, number) in enumerate(exchange.frames):
+            frame = self.frames[id_]
+            if index in exchange.unsent:
+                frame.sent -= 1
+                continue
+            frame.is_given_up = index in exchange.given_up
+            self._settle(frame, exchange.heard and exchange.shows(number))
         return exchange
 
     def _settle(self, frame: Frame, is_shown: bool) -> None:
         if is_shown:
             self._finish(frame, "acked")
-        elif frame.sent >= self.settings["attempts"]:
+        elif frame.is_given_up or frame.sent >= self.settings["attempts"]:
             self._finish(frame, "retries")
 
     def _charge(self, station: int, class_: str, air: int) -> None:

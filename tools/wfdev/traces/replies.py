@@ -15,7 +15,7 @@ COUNTED = ("open", "room", "sleeping", "full")
 MEASURED = {"debt": "deficit", "ahead": "air"}
 DIGITS = 16
 WIDE_DIGITS = 64
-TALLY = ("acked", "overlimit", "codel", "retries", "left")
+TALLY = ("acked", "overlimit", "codel", "retries", "left", "flushed")
 
 
 @dataclasses.dataclass(frozen=True)
@@ -78,6 +78,7 @@ def _refused(words: list[str]) -> Fields:
 
 READERS: dict[str, Callable[[list[str]], Fields]] = {
     "left": lambda words: {"count": int(words[0])},
+    "flushed": lambda words: {"count": int(words[0])},
     "now": lambda words: {"now": int(words[0])},
     "accepted": _accepted,
     "send": _send,
@@ -111,7 +112,7 @@ def read_summary(texts: list[str]) -> Fields:
             found[word] = int(words[0])
         elif word == "frames":
             counts = dict(zip(words[1::2], map(int, words[2::2])))
-            found["tally"] = {"accepted": int(words[0]), **{name: counts[name] for name in TALLY}}
+            found["tally"] = {"accepted": int(words[0]), **{name: counts.get(name, 0) for name in TALLY}}
             found["held"] = counts["held"]
         elif word == "exchanges":
             found.update(exchanges=int(words[0]), open=int(words[2]))

@@ -49,12 +49,24 @@ def calls_of(trace: str) -> list[list[str]]:
 
 
 @dataclass
+class Exchange:
+    """An open exchange: its station and TID, its frames, and the indices of those that never went on the air."""
+
+    station: int
+    tid: int
+    frames: list[str] = field(default_factory=list)
+    unsent: set[int] = field(default_factory=set)
+
+
+@dataclass
 class Air:
-    """The run of a trace: the clock, the accepted frames, the open exchanges, and the packets so far."""
+    """The run of a trace: the clock, the accepted frames, the open exchanges, those frames that were sent in an exchange
+    that ended, and the packets so far.
+    """
 
     clock: int = 0
     frames: dict[str, Frame] = field(default_factory=dict)
-    opened: dict[str, tuple[int, int]] = field(default_factory=dict)
+    opened: dict[str, Exchange] = field(default_factory=dict)
     tried: set[str] = field(default_factory=set)
     packets: list[Packet] = field(default_factory=list)
 
@@ -65,13 +77,13 @@ class Air:
     def send(self, answer: Sequence[str]) -> None:
         """Adds the packets of an answer `send`."""
         number, tid, has_more = int(answer[3]), int(answer[5]), answer[-1] == "more"
-        self.opened[answer[1]] = number, tid
+        opened = self.opened[answer[1]] = Exchange(number, tid)
         if answer[8] == "bar":
             self.put(request(number, tid, int(answer[9])))
         for pair in answer[9 : len(answer) - has_more] if answer[8] == "data" else []:
             frame, seq = pair.split(":")
             self.put(data(number, tid, int(seq), frame in self.tried, has_more, self.frames[frame]))
-            self.tried.add(frame)
+            opened.frames.append(frame)
 
     def take(self, call: Sequence[str], answer: Sequence[str]) -> None:
         """Takes a call and its answer."""
@@ -82,7 +94,13 @@ class Air:
         elif answer[0] == "send":
             self.send(answer)
         elif answer[0] == "ba":
-            self.put(block_ack(*self.opened[call[1]], int(answer[1]), answer[2]))
+            opened = self.opened[call[1]]
+            self.put(block_ack(opened.station, opened.tid, int(answer[1]), answer[2]))
+        elif answer[0] == "marked" and call[0] == "unsent":
+            self.opened[call[1]].unsent.add(int(call[2]))
+        elif answer[0] == "done":
+            opened = self.opened.pop(call[1])
+            self.tried.update(frame for at, frame in enumerate(opened.frames) if at not in opened.unsent)
 
 
 def on_air(trace: str, answers: str) -> list[Packet]:

@@ -47,7 +47,9 @@ AIRS = (1, 100, 5000, 65_535)
 OCTETS = (4095, 4096, 8192, 20_000, 65_535, 1_048_575, 6_500_631, 6_500_632)
 FRAMES = (1, 1, 2, 3, 8, 64, 65_535)
 LIMITS = (1, 40, 100, 300, 1000, 3000, 3001, 2**32 - 1)
-KINDS = "join leave rate ampdu tick burst pull arrive answer done play sleep wake poll stop start rx reap wild".split()
+KINDS = (
+    "join leave rate ampdu tick burst pull arrive answer done unsent giveup flush play sleep wake poll stop start rx reap wild"
+).split()
 
 
 def head(draw: random.Random, chances: Mapping[str, float]) -> str:
@@ -109,6 +111,7 @@ class Maker:
         self.weights = [draw.choice((0.05, 0.3, 1, 1, 3)) for _ in KINDS]
         self.set_weights(join=0.1, leave=0.05, rate=0.2, sleep=0.15, wake=0.3, poll=0.4)
         self.set_weights(play=3.0, answer=0.4, rx=0.1, reap=0.3, wild=0.05, ampdu=0.1, stop=0.1, start=0.3)
+        self.set_weights(unsent=0.2, giveup=0.2, flush=0.15)
         count = self.machine.settings.stations
         drawn = [draw.randrange(count) for _ in range(draw.choice((1, 2, 3, 6)))]
         self.stations = sorted({*drawn, count - 1})
@@ -119,6 +122,7 @@ class Maker:
         self.arrives, self.hears = draw.choice((1.0, 0.9, 0.5, 0.1)), draw.choice((1.0, 0.9, 0.5, 0.1))
         self.windows = draw.choice((WINDOWS, (64,), (1, 2, 3), (256, 65)))
         self.exponent = draw.choice((None, 3))
+        self.marks = draw.choice((0.0, 0.05, 0.2, 0.5))
         self.bursts: Sequence[int] = (1, 1, 2, 5, 20)
         self.most_queued = 10_000
         if does_wait:
@@ -134,6 +138,7 @@ class Maker:
         self.lengths = self.draw.choice(((1500,), (1152,), (2304, 1), (768, 1536)))
         self.ticks = self.draw.choice(((1, 1000, 5000), (5000, 20_000, 50_000), (50_000, 100_000)))
         self.arrives = self.hears = 1.0
+        self.marks = 0.0
 
     def set_weights(self, **factors: float) -> None:
         """Multiplies the weights of some kinds."""
@@ -243,10 +248,28 @@ class Maker:
 
     def make_arrive(self) -> Iterator[str]:
         """Yields an arrival."""
+        yield f"arrive {self.transmission()}"
+
+    def transmission(self) -> str:
+        """Returns an exchange and mostly one of its transmissions."""
         number = self.exchange()
         opened = self.machine.exchanges.get(number)
         count = opened.transmissions if opened else 0
-        yield f"arrive {number} {self.draw.randrange(max(1, count + (self.draw.random() < 0.1)))}"
+        return f"{number} {self.draw.randrange(max(1, count + (self.draw.random() < 0.1)))}"
+
+    def make_unsent(self) -> Iterator[str]:
+        """Yields a transmission that never went on the air, mostly of an open exchange."""
+        if self.machine.exchanges or self.draw.random() < 0.1:
+            yield f"unsent {self.transmission()}"
+
+    def make_giveup(self) -> Iterator[str]:
+        """Yields a transmission that the device will not try again, mostly of an open exchange."""
+        if self.machine.exchanges or self.draw.random() < 0.1:
+            yield f"giveup {self.transmission()}"
+
+    def make_flush(self) -> Iterator[str]:
+        """Yields a flush, mostly of a TID that is in use."""
+        yield f"flush {self.station()} {self.draw.choice(self.tids)}"
 
     def make_answer(self) -> Iterator[str]:
         """Yields an answer."""
@@ -270,9 +293,14 @@ class Maker:
             if self.draw.random() < 0.8:
                 opened = self.machine.exchanges[number]
                 for index in range(opened.transmissions):
-                    if self.draw.random() < self.arrives:
+                    if self.draw.random() < self.marks:
+                        yield f"{self.draw.choice(('unsent', 'giveup'))} {number} {index}"
+                    if self.draw.random() < self.arrives and index not in opened.unsent:
                         yield f"arrive {number} {index}"
                 yield f"answer {number}"
+                for index in range(opened.transmissions):
+                    if self.draw.random() < self.marks and not opened.has_mark(index):
+                        yield f"giveup {number} {index}"
                 is_heard = opened.answer is not None and self.draw.random() < self.hears
                 yield f"done {number} {'heard' if is_heard else 'lost'}"
 
