@@ -65,7 +65,8 @@ static struct wf_call some_call(void) {
   static const uint8_t KINDS[] = {WF_CALL_JOIN,    WF_CALL_LEAVE,   WF_CALL_RATE,    WF_CALL_TICK, WF_CALL_TICK, WF_CALL_ENQUEUE,
                                   WF_CALL_ENQUEUE, WF_CALL_ENQUEUE, WF_CALL_ENQUEUE, WF_CALL_PULL, WF_CALL_PULL, WF_CALL_DONE,
                                   WF_CALL_DONE,    WF_CALL_SLEEP,   WF_CALL_WAKE,    WF_CALL_POLL, WF_CALL_RX,   WF_CALL_REAP,
-                                  WF_CALL_REAP,    WF_CALL_REAP,    WF_CALL_AMPDU,   WF_CALL_STOP, WF_CALL_START, WF_CALL_START};
+                                  WF_CALL_REAP,    WF_CALL_REAP,    WF_CALL_AMPDU,   WF_CALL_STOP, WF_CALL_START, WF_CALL_START,
+                                  WF_CALL_UNSENT,  WF_CALL_GIVEUP,  WF_CALL_FLUSH};
   struct wf_call call = {0};
   call.kind = KINDS[below(sizeof KINDS)];
   if (call.kind == WF_CALL_LEAVE && below(8)) call.kind = WF_CALL_JOIN;
@@ -85,6 +86,7 @@ static struct wf_call some_call(void) {
   call.air = call.kind == WF_CALL_RX ? 1 + below(4000) : 0;
   if (call.kind == WF_CALL_PULL && below(2)) call.frames = below(5), call.air = below(2000);
   call.octets = 4000 + below(10000);
+  call.index = (uint16_t)below(4);
   return call;
 }
 
@@ -135,6 +137,9 @@ static int32_t single(struct wf_path *path, const struct wf_call *call, int is_b
     case WF_CALL_AMPDU: return wf_path_ampdu(path, call->station, call->octets, reply);
     case WF_CALL_STOP: return wf_path_stop(path, call->station, reply);
     case WF_CALL_START: return wf_path_start(path, call->station, reply);
+    case WF_CALL_UNSENT: return wf_path_unsent(path, call->exchange, call->index, reply);
+    case WF_CALL_GIVEUP: return wf_path_give_up(path, call->exchange, call->index, reply);
+    case WF_CALL_FLUSH: return wf_path_flush(path, call->station, call->tid, reply);
     default: return reap(path, reply);
   }
 }

@@ -220,6 +220,26 @@ static uint32_t reap(void) {
   }
 }
 
+/* Ends exchanges of a device that reports each frame, and flushes the rest. */
+static void report_each(void) {
+  uint8_t outcomes[256];
+  uint64_t number;
+  uint16_t i;
+  MUST("pull", wf_path_pull(&path, WF_BE, &reply, &frames));
+  MUST("cancel", wf_path_cancel(&path, reply.exchange, &reply));
+  MUST("pull", wf_path_pull(&path, WF_BE, &reply, &frames));
+  number = reply.exchange;
+  outcomes[0] = 0;
+  for (i = 0; i < frames.count; i++) outcomes[i] = (uint8_t)below(4);
+  MUST("done_each", wf_path_done_each(&path, number, outcomes, reply.request ? 1 : frames.count, 0, &reply));
+  MUST("pull", wf_path_pull(&path, WF_BE, &reply, &frames));
+  number = reply.exchange;
+  MUST("unsent", wf_path_unsent(&path, number, 0, &reply));
+  if (frames.count > 1) MUST("give_up", wf_path_give_up(&path, number, 1, &reply));
+  MUST("done_lost", wf_path_done_lost(&path, number, 0, &reply));
+  MUST("flush", wf_path_flush(&path, 0, 0, &reply));
+}
+
 /* Makes the calls that a driver makes seldom. */
 static void other_calls(void) {
   MUST("rate", wf_path_rate_he(&path, 1, 11, 80, 800, 2, &reply));
@@ -262,7 +282,9 @@ static int run(void) {
     exchange();
     count += reap();
   }
+  report_each();
   other_calls();
+  count += reap();
   wf_path_tally(&path, &tally);
   wf_path_free(&path);
   print_number(ROUNDS);
