@@ -64,6 +64,10 @@ bad_place s = place_or (first_out_of_range (config_of s)) (first_set s.reserved)
 abbrev pub no_memory : ℕ
 no_memory = 40
 
+-- the code of a handle that holds something already
+abbrev pub in_use : ℕ
+in_use = 49
+
 -- the code of making a path, by the place of the setting that is out of its range, if any
 abbrev pub IsMadeCode : Option ℕ → ℤ → Type 0
 IsMadeCode (Some place) code = code ≡ pos (bad_setting place)

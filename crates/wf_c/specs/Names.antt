@@ -59,7 +59,7 @@ abbrev pub own_rows : List (ℕ × List ℕ)
 own_rows =
     (0, codes "ok") ∷ (40, codes "no-memory") ∷ (41, codes "bad-length") ∷ (42, codes "small-buffer") ∷
     (43, codes "bad-call") ∷ (44, codes "bad-address") ∷ (45, codes "no-body") ∷ (47, codes "bad-class") ∷
-    (48, codes "bad-outcome") ∷ []
+    (48, codes "bad-outcome") ∷ (49, codes "in-use") ∷ []
 
 -- the word for such a code
 abbrev pub own_word : ℕ → List ℕ

@@ -1,15 +1,18 @@
 //! Bursts: several calls in one.
 
-ghost use Rattle.std.specs.Prelude.{◌≡◌, ◌⊎◌, ◌<◌, ◌≤◌, ◌^◌, true, is_some, ℕ, Some, pos, length, slice_get, IfOk, IfErr, OnOk, OnErr};
+ghost use Rattle.std.specs.Prelude.{◌≡◌, ◌⊎◌, ◌<◌, ◌≤◌, ◌^◌, true, is_some, ℕ, Some, pos, length, slice_get, None, IfErr, OnOk, OnErr};
+ghost use Rattle.wf_frame.specs.Frames.{FrameValue};
 ghost use Rattle.wf_frame.specs.declared.notes.Ask.{Ask};
 ghost use Rattle.wf_frame.specs.declared.notes.Note.TheVariants.{Asked};
+ghost use Rattle.wf_path.specs.Driver.{IsEnded};
 ghost use Rattle.wf_path.specs.Jobs.{job_of};
 ghost use Rattle.wf_path.specs.Paths.{HasCountsBelow, IsSmall, RiseLittle};
-ghost use Rattle.wf_path.specs.declared.job.Job.TheVariants.{Call};
+ghost use Rattle.wf_path.specs.declared.job.Job.TheVariants.{Call, Give};
 ghost use Rattle.wf_c.specs.Bursts.{HoldsBelow, IsBurst, IsBurstEnd, IsMade, RestStays, StopsPath, StopsPathAt, is_of_path, no_call_code};
 ghost use Rattle.wf_c.specs.CallNumbers.{call_noted};
 ghost use Rattle.wf_c.specs.Calls.{Becomes, IsCalled};
-ghost use Rattle.wf_c.specs.Bodies.{small_buffer};
+ghost use Rattle.wf_c.specs.Numbers.{numbers_of};
+ghost use Rattle.wf_c.specs.Bodies.{IsGivenToC, small_buffer};
 
 use crate::cell::calls::CallNumbers;
 use crate::exchanges::SMALL_BUFFER;
@@ -19,8 +22,8 @@ use crate::make::NO_MEMORY;
 use crate::reply::{Reply, refusal_code};
 use crate::slot::PathSlot;
 use std::alloc::Global;
-use wf_frame::{Ask, Frame, GREATEST_BODY, Note, Refusal};
-use wf_path::{ExchangeAsk, PathJob};
+use wf_frame::{Answer, Ask, GREATEST_BODY, Note, Refusal};
+use wf_path::{ExchangeAsk, Path, PathJob};
 
 /// The code of numbers that show no call.
 pub(crate) const BAD_CALL: i32 = 43;
@@ -80,45 +83,74 @@ pub(crate) fn put_reply(replies: &mut [Reply], place: usize, shown: Reply)
     replies[place] = shown;
 }
 
+// Writes an answer at its place.
+#[inline(never)]
+fn put_answer(answer: &Answer, replies: &mut [Reply], place: usize)
+    requires within { place < length replies.old }
+    ensures put { slice_get replies.new place ≡ Some (numbers_of answer.now.brief) }
+    ensures before { (i : ℕ) → i < place → slice_get replies.new i ≡ slice_get replies.old i }
+    ensures after { (i : ℕ) → place < i → slice_get replies.new i ≡ slice_get replies.old i }
+    ensures size { length replies.new ≡ length replies.old }
+{
+    put_reply(replies, place, Reply::of(answer.brief));
+}
+
+// Ends an exchange whose answer was not heard.
+#[inline(never)]
+fn end_unheard(path: &mut Path, answer: &mut Answer, exchange: u64, air: Option<u32>)
+    requires small { IsSmall path.old.half }
+    ensures ended { IsEnded path.old exchange None air path.new answer.new.brief }
+{
+    answer.brief = path.done_bits(exchange, None, air);
+}
+
 impl Held {
     // Makes a call of the path, and frees the frame that it returns, if any; the reserve may keep its node.
-    fn take(&mut self, job: PathJob) -> Reply
+    fn take(&mut self, job: PathJob)
         requires small { IsSmall self.old.path.half }
-        ensures called { (ask : Ask) → job_of job ≡ Call ask → IsCalled self.old ask self.new result }
+        ensures called { (ask : Ask) → job_of job ≡ Call ask →
+            IsCalled self.old ask self.new (numbers_of self.new.answer.brief) }
+        ensures given { (f : FrameValue) → job_of job ≡ Give f →
+            IsGivenToC self.old f self.new (numbers_of self.new.answer.brief) }
         ensures rises { RiseLittle self.old.path.half self.new.path.half }
     {
         let back = self.path.call(job, &mut self.answer);
         self.reserve.keep_any(back);
-        Reply::of(self.answer.brief)
     }
 
     // Makes a call of a burst that brings no frame, if a path takes it.
-    fn make_ask(&mut self, ask: Ask) -> Result<Reply, NoCall>
+    fn make_ask(&mut self, ask: Ask) -> Result<(), NoCall>
         requires small { IsSmall self.old.path.half }
-        ensures made { IfOk result (λ shown. IsMade (Asked ask) self.old self.new shown) }
-        ensures taken { IfOk result (λ _. is_of_path (Asked ask) ≡ true) }
+        ensures made { OnOk result (IsMade (Asked ask) self.old self.new (numbers_of self.new.answer.brief)) }
+        ensures taken { OnOk result (is_of_path (Asked ask) ≡ true) }
         ensures stopped { IfErr result (λ why. StopsPath why (Asked ask) self.old) }
         ensures unchanged { OnErr result (self.new ≡ self.old) }
         ensures rises { OnOk result (RiseLittle self.old.path.half self.new.path.half) }
     {
         match PathJob::of(ask) {
-            Ok(job) => Ok(self.take(job)),
+            Ok(job) => {
+                self.take(job);
+                Ok(())
+            }
             Err(
                 ExchangeAsk::Done {
                     exchange,
                     heard: false,
                     air,
                 },
-            ) => Ok(self.end(exchange, None, air)),
+            ) => {
+                end_unheard(&mut self.path, &mut self.answer, exchange, air);
+                Ok(())
+            }
             Err(_) => Err(NoCall::BadCall),
         }
     }
 
     // Makes a call of a burst, if a path takes it.
-    fn make(&mut self, alloc: Global, note: Note) -> Result<Reply, NoCall>
+    fn make(&mut self, alloc: Global, note: Note) -> Result<(), NoCall>
         requires small { IsSmall self.old.path.half }
-        ensures made { IfOk result (λ shown. IsMade note self.old self.new shown) }
-        ensures taken { IfOk result (λ _. is_of_path note ≡ true) }
+        ensures made { OnOk result (IsMade note self.old self.new (numbers_of self.new.answer.brief)) }
+        ensures taken { OnOk result (is_of_path note ≡ true) }
         ensures stopped { IfErr result (λ why. StopsPath why note self.old) }
         ensures unchanged { OnErr result (self.new ≡ self.old) }
         ensures rises { OnOk result (RiseLittle self.old.path.half self.new.path.half) }
@@ -134,8 +166,11 @@ impl Held {
                 if !is_body_length(len) {
                     return Err(NoCall::BadLength);
                 }
-                match self.give_frame(alloc, Frame::bare(station, tid, flow, len)) {
-                    Some(shown) => Ok(shown),
+                match self.reserve.bare_node(alloc, station, tid, flow, len) {
+                    Some(parcel) => {
+                        self.take(PathJob::Give(parcel));
+                        Ok(())
+                    }
                     None => Err(NoCall::NoMemory),
                 }
             }
@@ -159,7 +194,7 @@ impl Held {
                 };
             };
             match self.make(alloc, note) {
-                Ok(shown) => put_reply(replies, i, shown),
+                Ok(()) => put_answer(&self.answer, replies, i),
                 Err(why) => {
                     return BurstEnd {
                         made: i,

@@ -2,9 +2,9 @@
 //! benches. The header `include/wf.h` documents each function for callers in C.
 //!
 //! A handle, `PathSlot` or `CellSlot`, is a struct of the caller's that is empty or owns a boxed path or
-//! cell. Every export except `wf_path_make` and `wf_cell_make` requires that its handle is not empty, and has
-//! the clauses of the call that it makes. Its `requires` and the header say what a caller in C has to keep. A
-//! struct of numbers shows a call of a cell that has no frame, and an entry of a cell's history.
+//! cell. Every export that neither makes nor frees requires that its handle is not empty, and has the clauses
+//! of the call that it makes. Its `requires` and the header say what a caller in C has to keep. A struct of
+//! numbers shows a call of a cell that has no frame, and an entry of a cell's history.
 //!
 //! In C, a call of a path is one function: `code = wf_path_tick(&path, 1000, &reply);`
 #![tactic(auto)]

@@ -80,7 +80,7 @@ fn word_of_block(code: u32) -> &'static [u8]
     }
 }
 
-// The word for another code, 0 and 40 to 48.
+// The word for another code, 0 and 40 to 49.
 fn word_of_own(code: u32) -> &'static [u8]
     ensures word { result.now ≡ own_word code }
     ensures short { length result.now ≤ 15 }
@@ -95,6 +95,7 @@ fn word_of_own(code: u32) -> &'static [u8]
         45 => b"no-body",
         47 => b"bad-class",
         48 => b"bad-outcome",
+        49 => b"in-use",
         _ => UNKNOWN,
     }
 }

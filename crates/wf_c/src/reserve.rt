@@ -1,6 +1,7 @@
 //! Memory that a path has in reserve: nodes for frames that are accepted later.
 
-ghost use Rattle.std.specs.Prelude.{◌≡◌, ◌≤◌, ◌+◌, ◌-◌, IfSome, IfNone, OnOk, OnErr};
+ghost use Rattle.std.specs.Prelude.{◌≡◌, ◌<◌, ◌≤◌, ◌+◌, ◌-◌, IfSome, IfNone, OnOk, OnErr};
+ghost use Rattle.wf_frame.specs.Frames.{bare_frame};
 
 use std::alloc::{AllocError, Global};
 use std::marker::Model;
@@ -52,6 +53,24 @@ impl Reserve {
         }
     }
 
+    // Puts a frame whose octets stay with their owner into a node, in the same way.
+    #[inline(never)]
+    pub(crate) fn bare_node(
+        &mut self,
+        alloc: Global,
+        station: u16,
+        tid: u8,
+        flow: u32,
+        len: u16,
+    ) -> Option<Parcel>
+        requires within { (0 < len) × (len ≤ 2304) }
+        ensures frame { IfSome result (λ parcel. parcel ≡ bare_frame station tid flow len) }
+        ensures used { self.new ≡ self.old - 1 }
+        ensures empty { IfNone result (self.old ≡ 0) }
+    {
+        self.node(alloc, Frame::bare(station, tid, flow, len))
+    }
+
     // Keeps the node of a frame that left the path, if fewer nodes are here than were reserved; otherwise
     // frees it. It allocates nothing.
     fn keep(&mut self, mut parcel: Parcel)
@@ -65,6 +84,7 @@ impl Reserve {
     }
 
     // Keeps or frees the node of a frame that a call returned, if it returned one.
+    #[inline(never)]
     pub(crate) fn keep_any(&mut self, back: Option<Parcel>)
         ensures kept { self.old ≤ self.new }
         ensures most { self.new ≤ self.old + 1 }

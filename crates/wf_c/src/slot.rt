@@ -1,6 +1,6 @@
 //! The handle of a path.
 
-ghost use Rattle.std.specs.Prelude.{◌≡◌, Option, Some, None, true, is_some};
+ghost use Rattle.std.specs.Prelude.{◌≡◌, Option, Some, None, true, is_some, option_map};
 ghost use Rattle.std.specs.Borrow.{sem};
 ghost use Rattle.wf_c.specs.Slots.{slot_owns};
 ghost use Rattle.wf_c.specs.declared.held.Held.{Held as HeldValue};
@@ -51,15 +51,18 @@ impl PathSlot {
         }
     }
 
-    // The content of a handle.
-    pub(crate) fn into_unboxed(self) -> Unboxed<Held, Global>
-        requires { is_some self.value ≡ true }
-        ensures { self.value ≡ Some result.value }
+    // The content of a handle, if it has one. A handle without content is null.
+    pub(crate) fn into_unboxed(self) -> Option<Unboxed<Held, Global>>
+        ensures { self.value ≡ option_map (λ u. u.value) result }
     {
         let PathSlot { at, alloc } = self;
-        Unboxed {
-            at: at as *mut Held,
-            alloc,
+        if at.is_null() {
+            None
+        } else {
+            Some(Unboxed {
+                at: at as *mut Held,
+                alloc,
+            })
         }
     }
 
@@ -70,15 +73,29 @@ impl PathSlot {
         let PathSlot { at: _, alloc: _ } = self;
     }
 
-    // Takes out the content of a handle.
-    pub(crate) fn take(&mut self, alloc: Global) -> Box<Held, Global>
-        requires { is_some self.old.value ≡ true }
-        ensures taken { self.old.value ≡ Some result.value }
+    // Takes out the content of a handle, if it has one.
+    pub(crate) fn take(&mut self, alloc: Global) -> Option<Box<Held, Global>>
+        ensures taken { self.old.value ≡ option_map (λ boxed. boxed.value) result }
         ensures emptied { self.new.value ≡ None }
     {
-        replace(self, PathSlot::empty(alloc))
-            .into_unboxed()
-            .into_box()
+        match replace(self, PathSlot::empty(alloc)).into_unboxed() {
+            Some(owned) => Some(owned.into_box()),
+            None => None,
+        }
+    }
+
+    // Returns whether a handle has content. It stays as it is.
+    pub(crate) fn is_full(&mut self, alloc: Global) -> bool
+        ensures full { result ≡ is_some self.old.value }
+        ensures kept { self.new.value ≡ self.old.value }
+    {
+        match self.take(alloc) {
+            Some(held) => {
+                self.put(held);
+                true
+            }
+            None => false,
+        }
     }
 
     // Puts a path into an empty handle.

@@ -5,6 +5,7 @@ use Rattle.std.specs.Prelude.{Some, pos}
 use Rattle.wf_c.specs.Bursts.{IsMade, IsMadeAt, StopsPathAt}
 use Rattle.wf_c.specs.CallNumbers.{blank_call, call_noted}
 use Rattle.wf_c.specs.CellCalls.{bad_call}
+use Rattle.wf_c.specs.Numbers.{numbers_of}
 use Rattle.wf_c.specs.declared.burst.NoCall.TheVariants.{BadCall}
 use Rattle.wf_c.specs.declared.held.Held.{Held}
 use Rattle.wf_c.proofs.Bursting.{none_made, call_at, code_read, of_shown, one_more_call, rest_stays, stops_at, stops_path}
@@ -45,16 +46,16 @@ loop-i-preserved c =
     let call = get_or c.args.calls.now c.loop-i.i blank_call in
     let noted_is : call_noted call ≡ Some c.in-Some.note = sym c.call_noted.ensures ∙ c.in-Some.is in (
       one_more_call IsMadeAt c.args.self.now c.loop-i.self c.make.new.self c.args.calls.now c.loop-i.replies
-          c.put_reply.new.replies c.loop-i.i call c.in-Ok.shown c.loop-i.invariant.0
-          (call_at c.args.calls.now c.loop-i.i c.loop-i-test.true) c.put_reply.ensures.put
-          c.put_reply.ensures.before
-          (of_shown (λ note. IsMade note c.loop-i.self c.make.new.self c.in-Ok.shown) (call_noted call)
+          c.put_answer.new.replies c.loop-i.i call (numbers_of c.make.new.self.answer.brief) c.loop-i.invariant.0
+          (call_at c.args.calls.now c.loop-i.i c.loop-i-test.true) c.put_answer.ensures.put
+          c.put_answer.ensures.before
+          (of_shown (λ note. IsMade note c.loop-i.self c.make.new.self (numbers_of c.make.new.self.answer.brief)) (call_noted call)
           c.in-Some.note noted_is c.in-Ok.ensures.made),
       (
-        rest_stays c.args.replies.now c.loop-i.replies c.put_reply.new.replies c.loop-i.i
-            c.loop-i.invariant.1.0 c.put_reply.ensures.after,
+        rest_stays c.args.replies.now c.loop-i.replies c.put_answer.new.replies c.loop-i.i
+            c.loop-i.invariant.1.0 c.put_answer.ensures.after,
         (
-          c.put_reply.ensures.size ∙ c.loop-i.invariant.1.1.0,
+          c.put_answer.ensures.size ∙ c.loop-i.invariant.1.1.0,
           below_after c.loop-i.self.path.half c.make.new.self.path.half c.loop-i.i c.in-Ok.ensures.rises
               c.loop-i.invariant.1.1.1,
         ),

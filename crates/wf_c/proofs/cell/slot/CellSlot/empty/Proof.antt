@@ -1,10 +1,10 @@
--- Proves `empty`: an empty handle owns nothing.
+-- Proves `empty`: the pointer of an empty handle is null.
 use Rattle.std.proofs.Common.{List, [], ◌∷◌, ◌++◌, refl, sym, subst}
 use mir.Val.{Val}
 use base.Logic.{SProp, ent, id⊢}
-use base.Fml.{ftrue}
+use base.Fml.{feq, ftrue}
 use prog.Wp.{WpFn}
-use types.Kit.{‵, ◌⊛◌, ◌$◌, ◌∵◌, !, qed, keep, drop, split, join, fsplit, suffices, done}
+use types.Kit.{‵, ◌⊛◌, ◌$◌, ◌∵◌, !, qed, keep, drop, split, join, fsplit, suffices, feq_i, done}
 use types.Run.{lit, no_more, and_then, returns, enter}
 use types.ByLocal.{alloc_all, pass_all, free_all, look_at, get, sets}
 use types.Part.{agg}
@@ -13,7 +13,7 @@ use denote.Exit.{yes}
 use denote.RattleType.{owns}
 use denote.Signature.{plain}
 use denote.Steps.{nothing}
-use denote.RawPtr.{ptr_val, null_ptr}
+use denote.RawPtr.{Ptr, ptr_val, null_ptr}
 use denote.Triple.Walked.{says, Stays, stay_dropped, Goes-dropped, walk_of, ends_at}
 use Rattle.core.proofs.alloc.Calls.{handle_tells}
 use Rattle.std.specs.Prelude.{None}
@@ -45,7 +45,7 @@ empty_spec 𝓤 𝓛 𝓜 𝓡 wired =
     enter ! 𝓣.C 𝓣.Λ code.function (hv ∷ []) Post $ alloc_all ! (λ l. pass_all ! refl (fits, tt) $
     sets ! (agg ! (and_then ! (lit ! tt) (and_then ! (get ! refl) (no_more !)))) refl
     (words_good null_ptr hv fits) $
-    nothing ! $ words_in ! null_ptr a ftrue hv $
+    feq_i ! Ptr null_ptr null_ptr refl $ words_in ! null_ptr a (feq Ptr null_ptr null_ptr) hv $
     returns ! (look_at ! 0 refl) $ free_all ! refl $
     suffices ! _ (ends_at 𝓛 f.ended stayed c z (both (ptr_val null_ptr) hv) new (tt, tt) (tt, tt)) $ says !
     refl $
