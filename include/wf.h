@@ -8,7 +8,8 @@
  *
  * Handles. A `struct wf_path` belongs to the caller. It is empty while it is all zero. `wf_path_make` puts a
  * path into it, and `wf_path_free` takes the path out and frees it; between these two calls every other
- * function may be called on it. Do not copy a handle, and do not use its field. In C++ `{}` initializes a
+ * function may be called on it. A second `wf_path_make` returns WF_IN_USE, and to free an empty handle does
+ * nothing. Do not copy a handle, and do not use its field. In C++ `{}` initializes a
  * handle, and a handle may be moved by copying its bits if the old one is then zeroed. A `struct wf_cell` is
  * the same for a cell.
  *
@@ -48,8 +49,7 @@
  * does not apply to cells.
  *
  * Breaches. A handle that is never freed leaks what it holds. Every other breach is undefined behaviour:
- * - to use a handle while it is empty, to make one while it holds something, to free one twice, or to use a
- *   handle and a copy of it;
+ * - to use a handle while it is empty, except to make or free it, or to use a handle and a copy of it;
  * - to pass a handle of a cell as one of a path, by a cast, or the reverse;
  * - to use one handle in two functions at once, unless both are readers;
  * - a `length`, `count` or `room` above the size of the buffer: memory after the buffer is read or written;
@@ -167,6 +167,7 @@ enum wf_code {
                          * body from its owner's buffer */
   WF_BAD_CLASS = 47,    /* the class is above 3 */
   WF_BAD_OUTCOME = 48,  /* an outcome is above 3 (enum wf_outcome) */
+  WF_IN_USE = 49,       /* the handle holds something already */
   /* why octets are not a BlockAck to the exchange */
   WF_BLOCK_LENGTH = 51, /* not 28 octets, nor, if the window is above 64, 52 */
   WF_BLOCK_KIND = 52,   /* not a BlockAck */
@@ -506,12 +507,12 @@ void wf_settings_standard(struct wf_settings *settings);
 void wf_settings_device(struct wf_settings *settings);
 
 /* Puts a path with these settings into an empty handle. The settings are copied. No station is live, no frame
- * is inside, the clock is 0, and the addresses are placeholders. Returns WF_OK; WF_BAD_SETTING + n if the nth
- * setting is the first that is out of its range, or the nth number is the first reserved one that is not 0;
- * or WF_NO_MEMORY. After an error the handle is still empty. */
+ * is inside, the clock is 0, and the addresses are placeholders. Returns WF_OK; WF_IN_USE if the handle holds a
+ * path already; WF_BAD_SETTING + n if the nth setting is the first that is out of its range, or the nth number
+ * is the first reserved one that is not 0; or WF_NO_MEMORY. After an error the handle is as before. */
 int32_t wf_path_make(struct wf_path *path, const struct wf_settings *settings);
 
-/* Frees the path of a handle with all frames inside. The handle is then empty. */
+/* Frees the path of a handle with all frames inside. The handle is then empty. If it was, nothing happens. */
 void wf_path_free(struct wf_path *path);
 
 /* ---- addresses. A path has the address of the access point and one for each station number, of six octets
@@ -814,11 +815,13 @@ size_t wf_path_tim(const struct wf_path *path, uint8_t out[256]);
 
 /* Puts a cell with these settings into an empty handle. The settings are copied. It allocates the path, the
  * receive halves, and a history of `calls` entries of 48 octets each. No station is live, and no call was
- * made. Returns WF_OK; WF_BAD_SETTING + n if the nth setting is the first that is out of its range, or the nth
- * number is the first reserved one that is not 0; or WF_NO_MEMORY. After an error the handle is still empty. */
+ * made. Returns WF_OK; WF_IN_USE if the handle holds a cell already; WF_BAD_SETTING + n if the nth setting is
+ * the first that is out of its range, or the nth number is the first reserved one that is not 0; or
+ * WF_NO_MEMORY. After an error the handle is as before. */
 int32_t wf_cell_make(struct wf_cell *cell, const struct wf_settings *settings);
 
-/* Frees the cell of a handle with all frames inside and the history. The handle is then empty. */
+/* Frees the cell of a handle with all frames inside and the history. The handle is then empty. If it was,
+ * nothing happens. */
 void wf_cell_free(struct wf_cell *cell);
 
 /* Makes a call that neither accepts nor reaps a frame: all kinds except WF_CALL_ENQUEUE and WF_CALL_REAP. It
