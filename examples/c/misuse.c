@@ -535,11 +535,22 @@ static void misuse_counts(void) {
   want(wf_path_has_small_counts(&path), 1, "the counts of a new path");
 }
 
+/* A second path in a full handle, even with settings that are out of their ranges. */
+static void misuse_full_handle(void) {
+  struct wf_path before = path;
+  struct wf_settings settings = some_settings();
+  want(wf_path_make(&path, &settings), WF_IN_USE, "a second path");
+  settings.stations = 0;
+  want(wf_path_make(&path, &settings), WF_IN_USE, "a second path of no station");
+  unchanged(&path, &before, sizeof path, "wf_path_make");
+}
+
 /* A path of four stations, three of them live. */
 static void misuse_path(void) {
   struct wf_settings settings = some_settings();
   uint16_t station;
   want(wf_path_make(&path, &settings), WF_OK, "wf_path_make");
+  misuse_full_handle();
   for (station = 0; station < 3; station++) {
     want(wf_path_join(&path, station, 64, 0, 3, 1, &reply), WF_OK, "wf_path_join");
   }
@@ -558,6 +569,8 @@ static void misuse_path(void) {
   misuse_exchanges();
   wf_path_free(&path);
   want(path.at == NULL, 1, "a handle that holds nothing");
+  wf_path_free(&path);
+  want(path.at == NULL, 1, "an empty handle that was freed");
   want(wf_path_make(&path, &settings), WF_OK, "a path in the same handle");
   want(wf_path_join(&path, 1, 64, 0, 3, 1, &reply), WF_OK, "wf_path_join");
   misuse_stops();
@@ -580,6 +593,7 @@ static void misuse_cell(void) {
   size_t made = 7;
   uint32_t caller = 7;
   want(wf_cell_make(&cell, &settings), WF_OK, "wf_cell_make");
+  want(wf_cell_make(&cell, &settings), WF_IN_USE, "a second cell");
   before = reply;
   call.kind = WF_CALL_ENQUEUE;
   want(wf_cell_ask(&cell, 0, &call, &reply), WF_BAD_CALL, "a frame without its body");
@@ -618,11 +632,12 @@ static void misuse_cell(void) {
   want(wf_cell_enqueue(&cell, 0, 0, &packet, &reply), WF_HISTORY_FULL, "a frame too many");
   want(wf_cell_reap(&cell, 0, &reply, &taken, NULL, 0), WF_HISTORY_FULL, "a reap too many");
   wf_cell_free(&cell);
+  wf_cell_free(&cell);
 }
 
 /* Numbers without a meaning. */
 static void misuse_names(void) {
-  static const int32_t NONE[] = {-1, 33, 39, 46, 49, 50, 59, 100, WF_BAD_SETTING + PLACES + 1, INT32_MAX, INT32_MIN};
+  static const int32_t NONE[] = {-1, 33, 39, 46, 50, 59, 100, WF_BAD_SETTING + PLACES + 1, INT32_MAX, INT32_MIN};
   size_t i;
   for (i = 0; i < sizeof NONE / sizeof *NONE; i++) {
     char name[WF_NAME] = {0};

@@ -355,6 +355,14 @@ class BadOutcome(WfError):
     about = "an outcome is above 3 (enum wf_outcome)"
 
 
+class InUse(WfError):
+    """The handle holds something already."""
+
+    code = 49
+    word = "in-use"
+    about = "the handle holds something already"
+
+
 class BlockLength(BlockError):
     """Not 28 octets, nor, if the window is above 64, 52."""
 
@@ -461,6 +469,7 @@ ERRORS: dict[int, type[WfError]] = {
     45: NoBody,
     47: BadClass,
     48: BadOutcome,
+    49: InUse,
     51: BlockLength,
     52: BlockKind,
     53: BlockBasic,
