@@ -2,7 +2,7 @@
 -- the Anomaly" (USENIX ATC 2017), section 3.2, combined with aggregation and block acknowledgement
 -- (IEEE 802.11-2012, 9.12 and 9.21.7). Deficits, quanta and charges are in microseconds of airtime,
 -- lengths in octets.
-use Rattle.std.specs.Prelude.{ℕ, zero, suc, ◌+◌, ◌-◌, ◌*◌, ◌%◌, ◌==◌, min, max, nat_lt, pos, ◌+ℤ◌, ◌-ℤ◌, Bool, false, not, ◌&&◌, ◌||◌, List, [], ◌∷◌, ◌++◌, Option, Some, None, if◌then◌else◌, length, map, count_by, unwrap_or}
+use Rattle.std.specs.Prelude.{ℕ, zero, suc, ◌+◌, ◌-◌, ◌*◌, ◌%◌, ◌==◌, min, max, nat_lt, pos, ◌+ℤ◌, ◌-ℤ◌, Bool, true, false, not, ◌&&◌, ◌||◌, List, [], ◌∷◌, ◌++◌, Option, Some, None, if◌then◌else◌, length, map, count_by, unwrap_or}
 use Rattle.std.specs.List.{list_any}
 use Rattle.wf_frame.specs.declared.classes.Class.{Class}
 use Rattle.wf_frame.specs.declared.classes.Class.TheVariants.{Vi, Vo}
@@ -11,15 +11,15 @@ use Rattle.wf_frame.specs.declared.classes.Fate.TheVariants.{Acked, Dropped}
 use Rattle.wf_frame.specs.declared.settings.Config.{Config}
 use Rattle.wf_frame.specs.declared.notes.Limits.{Limits}
 use Rattle.wf_frame.specs.declared.notes.Part.{Part}
-use Rattle.wf_frame.specs.declared.notes.Part.TheVariants.{Mpdus, Request as Starts_at}
+use Rattle.wf_frame.specs.declared.notes.Part.TheVariants.{Mpdus, Batch, Request as Starts_at}
 use Rattle.wf_def_lists.specs.Table.{upto, at, has, longest_front}
-use Rattle.wf_def_air.specs.Airtime.{data_charge, request_charge}
-use Rattle.wf_def_air.specs.Fit.{aggregate_octets, most_octets, fits}
+use Rattle.wf_def_air.specs.Airtime.{data_charge, request_charge, longest_answer}
+use Rattle.wf_def_air.specs.Fit.{aggregate_octets, most_octets, fits, longest_alone}
 use Rattle.wf_def_codel.specs.Codel.{Item}
 use Rattle.wf_def_rotation.specs.Rotation.{in_order, need_of, Picked, pick}
 use Rattle.wf_def_agreement.specs.Session.{Session, State, End, slot, waiting_numbers, next_number, start_of, request_due, with_state, with_number_given, after_end, is_failed}
 use Rattle.wf_def_agreement.specs.Receiver.{Receiver, with_arrived, with_start, Score, shows}
-use Rattle.wf_def_world.specs.World.{World, Bounds, Station, Share, Mpdu, Content, Frames, Request, Exchange, station, session, share, standing, quantum, rotation, frame, len_of, is_wide, on_station, on_session, on_share, with_rotation, with_frame_finished}
+use Rattle.wf_def_world.specs.World.{World, Bounds, Station, Share, Mpdu, Content, Frames, Request, Exchange, station, session, share, standing, quantum, rotation, frame, len_of, is_wide, is_offloaded, on_station, on_session, on_receiver, on_share, with_rotation, with_frame_finished}
 use Rattle.wf_frame.specs.Classes.{lower_tid, upper_tid}
 use Rattle.wf_def_world.specs.FlowQueues.{frames_queued, Taken, taken_for_tid}
 use Rattle.wf_def_world.specs.CanSend.{can_send, can_give, has_waiting, is_ready, is_request}
@@ -75,6 +75,11 @@ abbrev pub cap_of : Config → Class → ℕ
 cap_of config Vi = if config.cap_vi == 0 then config.cap else config.cap_vi
 cap_of config Vo = if config.cap_vo == 0 then config.cap else config.cap_vo
 cap_of config c = config.cap
+
+-- the greatest computed charge of an exchange of a class, in microseconds: the greatest time of its data, which
+-- a single frame may take in any class, the pause and the longest BlockAck
+abbrev pub longest_computed : Config → Class → ℕ
+longest_computed config c = max (cap_of config c) longest_alone + longest_answer config.answers
 
 -- the lesser of a number and of a limit, if there is one
 abbrev pub limited : Option ℕ → ℕ → ℕ
@@ -214,6 +219,7 @@ exchange_of s t c p =
       class = c;
       charge = p.charge;
       content = p.content;
+      batch = is_offloaded p.world s;
       arrived = [];
       answer = None;
       unsent = [];
@@ -225,10 +231,12 @@ exchange_of s t c p =
 unfoldable pub with_exchange_opened : World → Exchange → World
 with_exchange_opened w x = record w { exchanges = w.exchanges + 1; opened = w.opened ++ x ∷ [] }
 
--- the content of an exchange in a reply: numbers are modulo 4096, as on the air
-abbrev pub part_of : Content → Part
-part_of (Frames mpdus) = Mpdus (map (λ m. (m.id, m.number % 4096)) mpdus)
-part_of (Request start) = Starts_at (start % 4096)
+-- the content of an exchange in a reply: numbers are modulo 4096, as on the air. A batch has only the ids of
+-- its frames, since the device numbers them.
+abbrev pub part_of : Bool → Content → Part
+part_of false (Frames mpdus) = Mpdus (map (λ m. (m.id, m.number % 4096)) mpdus)
+part_of true (Frames mpdus) = Batch (map (λ m. m.id) mpdus)
+part_of batch (Request start) = Starts_at (start % 4096)
 
 -- ---- arrivals
 
@@ -291,14 +299,30 @@ abbrev pub is_acked : Bool → Option Score → ℕ → Bool
 is_acked heard None n = false
 is_acked heard (Some b) n = heard && shows b n
 
--- how an exchange ends for its number n. What never went on the air waits again, even if the BlockAck shows
+-- the numbers of an exchange that arrived
+abbrev pub numbers_arrived : Exchange → List ℕ
+numbers_arrived x = map (number_at x.content) x.arrived
+
+-- how a batch ends for its number n: the device said what became of each frame. It repeats frames itself, so
+-- one that went on the air and was not acknowledged fails.
+abbrev pub end_in_batch : Exchange → ℕ → End
+end_in_batch x n =
+    if has (numbers_unsent x) n then End.Unsent
+    else if has (numbers_arrived x) n then End.Acknowledged
+    else End.GivenUp
+
+-- how an aggregate ends for its number n. What never went on the air waits again, even if the BlockAck shows
 -- it.
-abbrev pub end_of : Exchange → Bool → ℕ → End
-end_of x heard n =
+abbrev pub end_in_aggregate : Exchange → Bool → ℕ → End
+end_in_aggregate x heard n =
     if has (numbers_unsent x) n then End.Unsent
     else if is_acked heard x.answer n then End.Acknowledged
     else if has (numbers_given_up x) n then End.GivenUp
     else End.Missed
+
+-- how an exchange ends for its number n
+abbrev pub end_of : Exchange → Bool → ℕ → End
+end_of x heard n = if x.batch then end_in_batch x n else end_in_aggregate x heard n
 
 -- if the number failed, its frame is dropped as Retries
 unfoldable pub with_failed_finished : World → ℕ → ℕ → Mpdu → World
@@ -323,9 +347,21 @@ with_all_settled w s t ends (m ∷ ms) = with_all_settled (with_settled w s t (e
 abbrev pub with_heard_start : Bool → ℕ → Session → Session
 with_heard_start heard start x = if heard then record x { heard = max x.heard start } else x
 
+-- The device of an offloaded station tells its peer by itself where the window starts: the session counts the
+-- start as heard, and the receiver has it.
+unfoldable pub caught_up : World → ℕ → ℕ → World
+caught_up w s t =
+    let start : ℕ = start_of (session w s t) in
+    on_receiver (on_session w s t (with_heard_start true start)) s t (with_start start)
+
+-- the same if the station is offloaded; otherwise the world does not change
+unfoldable pub with_device_caught_up : World → ℕ → ℕ → World
+with_device_caught_up w s t = if is_offloaded w s then caught_up w s t else w
+
 -- the world after an exchange with this content ended, heard or not
 unfoldable pub after_done : World → Exchange → Bool → Content → World
-after_done w x heard (Frames mpdus) = with_all_settled w x.station x.tid (end_of x heard) mpdus
+after_done w x heard (Frames mpdus) =
+    with_device_caught_up (with_all_settled w x.station x.tid (end_of x heard) mpdus) x.station x.tid
 after_done w x heard (Request start) = on_session w x.station x.tid (with_heard_start heard start)
 
 -- the subframes of an exchange, of which a request has none

@@ -5,7 +5,7 @@ use Rattle.std.specs.List.{list_any}
 use Rattle.wf_frame.specs.Settings.{is_bad_air}
 use Rattle.wf_frame.specs.declared.classes.Class.{Class}
 use Rattle.wf_frame.specs.declared.notes.Ask.{Ask}
-use Rattle.wf_frame.specs.declared.notes.Ask.TheVariants.{Join, Leave, Rate, Tick, Pull, Arrive, Answer, Done, Sleep, Wake, Poll, Rx, Reap, Ampdu, Stop, Start, Unsent, GiveUp, Flush}
+use Rattle.wf_frame.specs.declared.notes.Ask.TheVariants.{Join, Leave, Rate, Tick, Pull, Arrive, Answer, Done, Sleep, Wake, Poll, Rx, Reap, Ampdu, Stop, Start, Unsent, GiveUp, Flush, Offload, Weight}
 use Rattle.wf_frame.specs.declared.notes.Note.{Note}
 use Rattle.wf_frame.specs.declared.notes.Note.TheVariants.{Enqueue, Asked}
 use Rattle.wf_frame.specs.declared.notes.Refusal.{Refusal}
@@ -79,6 +79,12 @@ refusals_of w (Join s window start exponent weight) = (
     ∷ (nat_lt greatest_start start, BadStart) ∷
     (nat_lt greatest_exponent exponent, BadExponent) ∷ (not (is_within 1 greatest_weight weight), BadWeight)
     ∷ (is_live w s, Live) ∷ [])
+refusals_of w (Offload s exponent weight) = (
+    (is_bad_station w s, BadStation) ∷ (nat_lt greatest_exponent exponent, BadExponent)
+    ∷ (not (is_within 1 greatest_weight weight), BadWeight) ∷ (is_live w s, Live) ∷ [])
+refusals_of w (Weight s weight) = (
+    (is_bad_station w s, BadStation) ∷ (not (is_within 1 greatest_weight weight), BadWeight)
+    ∷ (not (is_live w s), NoStation) ∷ [])
 refusals_of w (Leave s) = (
     (is_bad_station w s, BadStation) ∷ (not (is_live w s), NoStation) ∷
     (nat_lt 0 (open_of_station w s), Open (open_of_station w s)) ∷ [])
@@ -99,10 +105,10 @@ refusals_of w (Arrive e i) = (
 refusals_of w (Answer e) = (
     (is_none (exchange w e), NoExchange) ∷
     (exchange_has (exchange w e) (λ x. is_some x.answer), Answered) ∷
-    (exchange_has (exchange w e) (λ x. length x.arrived == 0), Nothing) ∷ [])
+    (exchange_has (exchange w e) (λ x. x.batch || (length x.arrived == 0)), Nothing) ∷ [])
 refusals_of w (Done e heard air) = (
     (is_none (exchange w e), NoExchange) ∷
-    (heard && exchange_has (exchange w e) (λ x. is_none x.answer), NoAnswer) ∷
+    (heard && exchange_has (exchange w e) (λ x. not x.batch && is_none x.answer), NoAnswer) ∷
     (is_bad_air w.config air, BadAir) ∷ [])
 refusals_of w (Sleep s) = (
     (is_bad_station w s, BadStation) ∷ (not (is_live w s), NoStation) ∷

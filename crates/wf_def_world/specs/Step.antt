@@ -1,10 +1,10 @@
 -- Defines one call of the machine: the world that it leaves, and its reply.
-use Rattle.std.specs.Prelude.{ℕ, ◌+◌, ◌-◌, ◌*◌, ◌%◌, ◌==◌, pos, ◌-ℤ◌, Bool, true, false, List, [], ◌∷◌, ◌++◌, Option, Some, None, if◌then◌else◌, length, find, unwrap_or}
+use Rattle.std.specs.Prelude.{ℕ, ◌+◌, ◌-◌, ◌*◌, ◌%◌, ◌==◌, min, ℤ, pos, ◌+ℤ◌, ◌-ℤ◌, int_le, Bool, true, false, List, [], ◌∷◌, ◌++◌, Option, Some, None, if◌then◌else◌, length, find, unwrap_or}
 use Rattle.wf_frame.specs.declared.classes.Class.{Class}
 use Rattle.wf_frame.specs.declared.classes.Class.TheVariants.{Bk, Be, Vi, Vo}
 use Rattle.wf_frame.specs.declared.classes.Cause.TheVariants.{Left, Flushed}
 use Rattle.wf_frame.specs.declared.classes.Fate.TheVariants.{Held, Dropped}
-use Rattle.wf_frame.specs.declared.notes.Ask.TheVariants.{Join, Leave, Rate, Tick, Pull, Arrive, Answer, Done, Sleep, Wake, Poll, Rx, Reap, Ampdu, Stop, Start, Unsent, GiveUp, Flush}
+use Rattle.wf_frame.specs.declared.notes.Ask.TheVariants.{Join, Leave, Rate, Tick, Pull, Arrive, Answer, Done, Sleep, Wake, Poll, Rx, Reap, Ampdu, Stop, Start, Unsent, GiveUp, Flush, Offload, Weight}
 use Rattle.wf_frame.specs.declared.notes.Limits.{Limits}
 use Rattle.wf_frame.specs.declared.notes.AskedRate.{AskedRate}
 use Rattle.wf_frame.specs.declared.notes.Note.{Note}
@@ -15,17 +15,19 @@ use Rattle.wf_frame.specs.declared.notes.ReplyNote.{ReplyNote}
 use Rattle.wf_frame.specs.declared.notes.ReplyNote.TheVariants.{Joined, Set, Now, Accepted, Send, Released, Ba, Slept, Woken, Polled, Charged, Reaped, Marked, Refused}
 use Rattle.wf_frame.specs.declared.notes.ReplyNote.TheVariants as reply
 use Rattle.wf_def_lists.specs.Table.{upto, with_member}
+use Rattle.wf_def_lists.specs.Bounds.{greatest_window}
 use Rattle.wf_def_air.specs.Airtime.{lowest_rate}
 use Rattle.wf_def_codel.specs.Codel.{Item}
 use Rattle.wf_def_rotation.specs.Rotation.{in_order, without_key, no_keys}
 use Rattle.wf_def_agreement.specs.Session.{Slot, State, is_acknowledged, is_waiting, is_failed, after_flush}
 use Rattle.wf_def_agreement.specs.Receiver.{Receiver, Score, score, bitmap_word, released_between}
 use Rattle.wf_def_world.specs.Rates.{rate_asked}
-use Rattle.wf_def_world.specs.World.{World, Exchange, new_share, new_tid, session, receiver, share, tid_of, rotation, frame, accepted_count, is_wide, exchange, with_bounds, with_station, on_station, on_share, on_session, on_receiver, with_rotation, with_queues, with_exchange, without_exchange, with_frames_finished}
+use Rattle.wf_frame.specs.declared.settings.Config.{Config}
+use Rattle.wf_def_world.specs.World.{World, Station, Share, Exchange, new_share, quantum, pending_air, new_tid, session, receiver, share, tid_of, rotation, frame, accepted_count, is_wide, exchange, with_bounds, with_station, on_station, on_share, on_session, on_receiver, with_rotation, with_queues, with_exchange, without_exchange, with_frames_finished}
 use Rattle.wf_frame.specs.Classes.{all_classes}
 use Rattle.wf_def_world.specs.FlowQueues.{dropped_for_limit, after_limit, queue_for, after_put_in, after_queues_left, after_queues_flushed}
 use Rattle.wf_def_world.specs.CanSend.{can_send_in, with_listings_of}
-use Rattle.wf_def_world.specs.Exchanges.{picked_station, after_pick, bounds_of, sending_tid, after_tid_turn, Prepared, prepared_exchange, exchange_of, with_exchange_opened, without_credit, part_of, after_arrival, ids_of, after_charge, after_done, count_in}
+use Rattle.wf_def_world.specs.Exchanges.{picked_station, after_pick, bounds_of, sending_tid, after_tid_turn, Prepared, prepared_exchange, exchange_of, with_exchange_opened, without_credit, part_of, after_arrival, ids_of, after_charge, after_done, with_device_caught_up, longest_computed, count_in}
 use Rattle.wf_def_world.specs.Refusals.{refusal}
 
 -- the outcome of a call: the world after it, and its reply
@@ -41,24 +43,40 @@ unreached w = record { world = w; reply = Released [] }
 
 -- ---- stations and clock
 
--- Join: the station has a quantum of airtime in each class and, on each TID, an agreement with this
+-- a station that joins: it has a quantum of airtime in each class and, on each TID, an agreement with this
 -- window and this first number
-unfoldable pub join_outcome : World → ℕ → ℕ → ℕ → ℕ → ℕ → Outcome
-join_outcome w s window start exponent weight =
-    let share = new_share (w.config.quantum * weight) in
+abbrev pub new_station : Config → ℕ → ℕ → ℕ → ℕ → Bool → Station
+new_station config window start exponent weight offloaded =
+    let share = new_share (config.quantum * weight) in
     let tid = new_tid start window in
     record {
-      world = with_station w s (Some (record {
-        weight = weight;
-        rate = lowest_rate;
-        exponent = exponent;
-        ampdu = None;
-        stopped = false;
-        asleep = false;
-        credit = None;
-        shares = share ∷ share ∷ share ∷ share ∷ [];
-        tids = tid ∷ tid ∷ tid ∷ tid ∷ tid ∷ tid ∷ tid ∷ tid ∷ [];
-      }));
+      weight = weight;
+      weighed = false;
+      rate = lowest_rate;
+      exponent = exponent;
+      ampdu = None;
+      offloaded = offloaded;
+      stopped = false;
+      asleep = false;
+      credit = None;
+      shares = share ∷ share ∷ share ∷ share ∷ [];
+      tids = tid ∷ tid ∷ tid ∷ tid ∷ tid ∷ tid ∷ tid ∷ tid ∷ [];
+    }
+
+-- Join: the station becomes live with this agreement on each TID
+unfoldable pub join_outcome : World → ℕ → ℕ → ℕ → ℕ → ℕ → Outcome
+join_outcome w s window start exponent weight =
+    record {
+      world = with_station w s (Some (new_station w.config window start exponent weight false));
+      reply = Joined;
+    }
+
+-- Offload: the station becomes live, and its device numbers, aggregates and repeats its frames. Its TIDs have
+-- the widest window, which bounds how many of their frames the device has at a time.
+unfoldable pub offload_outcome : World → ℕ → ℕ → ℕ → Outcome
+offload_outcome w s exponent weight =
+    record {
+      world = with_station w s (Some (new_station w.config greatest_window 0 exponent weight true));
       reply = Joined;
     }
 
@@ -104,13 +122,42 @@ unfoldable pub after_tid_flushed : World → ℕ → ℕ → World
 after_tid_flushed w s t =
     let emptied : World = with_frames_finished (on_session w s t (after_flush w.config.attempts))
     (Dropped Flushed) (waiting_ids (session w s t).slots) in
-    after_queues_flushed emptied (in_rising_order (in_order (tid_of w s t).queues))
+    with_device_caught_up (after_queues_flushed emptied (in_rising_order (in_order (tid_of w s t).queues))) s t
 
 -- Flush: the reply says how many frames are dropped
 unfoldable pub flush_outcome : World → ℕ → ℕ → Outcome
 flush_outcome w s t =
     let flushed : World = after_tid_flushed w s t in
     record { world = flushed; reply = reply.Flushed (length flushed.finished - length w.finished) }
+
+-- the greatest deficit of a station in a class after its weight is set: its quantum and, with the setting
+-- `pending`, its airtime in flight, but not more than that of all exchanges of the class but one
+abbrev pub most_kept : World → ℕ → Class → ℕ
+most_kept w s c = quantum w s + min (pending_air w s c) ((w.config.inflight - 1) * longest_computed w.config c)
+
+-- the lesser of an integer and of a number
+abbrev pub at_most : ℕ → ℤ → ℤ
+at_most most x = if int_le x (pos most) then x else pos most
+
+-- a share whose deficit becomes d when its station's quantum becomes this: `base` is such that the deficit
+-- stays base, plus the quanta, less what was charged and received
+abbrev pub share_with_deficit : ℕ → ℤ → Share → Share
+share_with_deficit quantum d y =
+    record y { deficit = d; base = d +ℤ pos (y.charged + y.received) -ℤ pos (quantum * y.quanta) }
+
+-- the deficits of a station in these classes are lowered to what its quantum allows
+unfoldable pub with_deficits_lowered : World → ℕ → List Class → World
+with_deficits_lowered w s [] = w
+with_deficits_lowered w s (c ∷ cs) =
+    let most : ℕ = most_kept w s c in
+    let lowered : World = on_share w s c (λ y. share_with_deficit (quantum w s) (at_most most y.deficit) y) in
+    with_deficits_lowered lowered s cs
+
+-- Weight: the station has this weight from now on, and each of its deficits is at most its new quantum
+unfoldable pub weight_outcome : World → ℕ → ℕ → Outcome
+weight_outcome w s weight =
+    let changed : World = on_station w s (λ x. record x { weight = weight; weighed = true }) in
+    record { world = with_deficits_lowered changed s all_classes; reply = Set }
 
 -- Rate: data to the station has this rate from now on
 unfoldable pub rate_outcome : World → ℕ → AskedRate → Outcome
@@ -166,7 +213,7 @@ send_outcome s t c p =
     let x : Exchange = exchange_of s t c p in
     record {
       world = without_credit (with_exchange_opened p.world x) s;
-      reply = Send x.number s t x.charge (part_of x.content) x.more;
+      reply = Send x.number s t x.charge (part_of x.batch x.content) x.more;
     }
 
 -- the outcome of a pull with this winner
@@ -184,7 +231,8 @@ pull_outcome w c limits =
 
 -- ---- exchanges
 
--- Arrive: transmission i reaches the receiver, which releases the frames that are now in order
+-- Arrive: transmission i reaches the receiver, which releases the frames that are now in order. Of a batch it
+-- is the device that says so, and what its receiver releases is not known.
 unfoldable pub arrive_outcome : World → Exchange → ℕ → Outcome
 arrive_outcome w x i =
     let old : Receiver = receiver w x.station x.tid in
@@ -192,7 +240,8 @@ arrive_outcome w x i =
     let marked : Exchange = record x { arrived = with_member i x.arrived } in
     record {
       world = with_exchange (on_receiver w x.station x.tid (after_arrival x.content i)) marked;
-      reply = Released (ids_of (session w x.station x.tid) (released_between old new));
+      reply =
+          Released (if x.batch then [] else ids_of (session w x.station x.tid) (released_between old new));
     }
 
 -- Answer: the receiver makes its BlockAck. The reply has its start, modulo 4096, and its bitmap (IEEE
@@ -281,6 +330,8 @@ unfoldable pub outcome_of : World → Note → Outcome
 outcome_of w (Enqueue s t flow len) = enqueue_outcome w s t flow len
 outcome_of w (Asked (Join s window start exponent weight)) =
     join_outcome w s window start exponent weight
+outcome_of w (Asked (Offload s exponent weight)) = offload_outcome w s exponent weight
+outcome_of w (Asked (Weight s weight)) = weight_outcome w s weight
 outcome_of w (Asked (Leave s)) = leave_outcome w s
 outcome_of w (Asked (Rate s rate)) = rate_outcome w s rate
 outcome_of w (Asked (Tick by)) = tick_outcome w by
@@ -329,6 +380,8 @@ concerned_station w (Asked (Start s)) = Some s
 concerned_station w (Asked (Unsent e i)) = station_of (exchange w e)
 concerned_station w (Asked (GiveUp e i)) = station_of (exchange w e)
 concerned_station w (Asked (Flush s t)) = Some s
+concerned_station w (Asked (Offload s exponent weight)) = Some s
+concerned_station w (Asked (Weight s weight)) = Some s
 
 -- The world after a refusal. Only Idle without the setting `pending` changes it: the pick found no ready
 -- station, gave the listed ones their quanta, and emptied the lists of the class.

@@ -9,7 +9,7 @@ use Rattle.wf_frame.specs.declared.classes.Cause.TheVariants.{Overlimit, Codel, 
 use Rattle.wf_frame.specs.declared.classes.Fate.{Fate}
 use Rattle.wf_frame.specs.declared.classes.Fate.TheVariants.{Held, Acked, Dropped}
 use Rattle.wf_frame.specs.declared.notes.Part.{Part}
-use Rattle.wf_frame.specs.declared.notes.Part.TheVariants.{Mpdus, Request}
+use Rattle.wf_frame.specs.declared.notes.Part.TheVariants.{Mpdus, Batch, Request}
 use Rattle.wf_frame.specs.declared.notes.Refusal.{Refusal}
 use Rattle.wf_frame.specs.declared.notes.ReplyNote.{ReplyNote}
 use Rattle.wf_frame.specs.declared.notes.ReplyNote.TheVariants.{Joined, Set, Now, Accepted, Send, Released, Ba, Done, Slept, Woken, Polled, Charged, Reaped, Stopped, Started, Marked, Refused}
@@ -44,6 +44,7 @@ refusal_words refusal = refusal_word refusal ∷ told_words (number_told refusal
 -- the words for what an exchange sends: each frame with its sequence number, or the start of a request
 abbrev pub part_words : Part → List (List ℕ)
 part_words (Mpdus pairs) = codes "data" ∷ map (λ p. decimal p.0 ++ codes ":" ++ decimal p.1) pairs
+part_words (Batch ids) = codes "batch" ∷ map decimal ids
 part_words (Request start) = codes "bar" ∷ decimal start ∷ []
 
 -- the words for the frame that was dropped for the limit, if any

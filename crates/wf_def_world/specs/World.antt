@@ -19,10 +19,12 @@ use Rattle.wf_def_rotation.specs.Rotation.{Rotation, no_keys}
 use Rattle.wf_def_agreement.specs.Session.{Session, new_session}
 use Rattle.wf_def_agreement.specs.Receiver.{Receiver, new_receiver, Score}
 
--- a station in one class: its deficit and, since its join, the number of quanta that it was given and
--- the airtime that it was charged, for exchanges (`charged`) and for its own transmissions (`received`)
+-- A station in one class: its deficit and, since its join, the number of quanta that it was given and
+-- the airtime that it was charged, for exchanges (`charged`) and for its own transmissions (`received`).
+-- `base` is the deficit that the station began with; a change of its weight accounts for it anew.
 pub record Share : Type 0 where
   pub deficit : ℤ
+  pub base : ℤ
   pub quanta : ℕ
   pub charged : ℕ
   pub received : ℕ
@@ -31,7 +33,7 @@ pub record Share : Type 0 where
 -- the share of a station that joins, with this deficit
 abbrev pub new_share : ℕ → Share
 new_share deficit =
-    record { deficit = pos deficit; quanta = 0; charged = 0; received = 0; upper = false }
+    record { deficit = pos deficit; base = pos deficit; quanta = 0; charged = 0; received = 0; upper = false }
 
 -- one TID of a station: both sides of its agreement, and the rotation of the queues that it lists
 pub record Tid : Type 0 where
@@ -50,9 +52,11 @@ new_tid first size = record {
 -- a live station
 pub record Station : Type 0 where
   pub weight : ℕ
+  pub weighed : Bool  -- whether its weight was set since it joined
   pub rate : Rate
   pub exponent : ℕ  -- the maximum A-MPDU length exponent (IEEE 802.11-2012, 8.4.2.58.3)
   pub ampdu : Option ℕ  -- the most octets of its aggregates of VHT and HE, if that was stated
+  pub offloaded : Bool  -- whether its device numbers, aggregates and repeats its frames
   pub stopped : Bool  -- whether no pull picks it
   pub asleep : Bool
   pub credit : Option Class  -- the class in which a sleeping station may receive one exchange
@@ -71,9 +75,11 @@ no_tid = new_tid 0 0
 abbrev pub no_station : Station
 no_station = record {
   weight = 1;
+  weighed = false;
   rate = lowest_rate;
   exponent = 0;
   ampdu = None;
+  offloaded = false;
   stopped = false;
   asleep = false;
   credit = None;
@@ -111,6 +117,7 @@ pub record Exchange : Type 0 where
   pub class : Class
   pub charge : ℕ  -- its computed airtime, which is charged unless its Done gives another
   pub content : Content
+  pub batch : Bool  -- whether the station is offloaded, so that its device numbers and repeats the frames
   pub arrived : List ℕ  -- the indices of the transmissions that arrived, rising
   pub answer : Option Score  -- the BlockAck, once the station has answered
   pub unsent : List ℕ  -- the indices of the transmissions that never went on the air, rising
@@ -189,6 +196,10 @@ receiver w s t = (tid_of w s t).receiver
 -- the share of station s in class c
 abbrev pub share : World → ℕ → Class → Share
 share w s c = at no_share (station w s).shares (class_number c)
+
+-- whether station s is offloaded
+abbrev pub is_offloaded : World → ℕ → Bool
+is_offloaded w s = (station w s).offloaded
 
 -- the quantum of airtime of station s: the setting `quantum` times its weight
 abbrev pub quantum : World → ℕ → ℕ

@@ -15,7 +15,7 @@ use Rattle.wf_frame.specs.declared.calls.Value.TheVariants as value
 use Rattle.wf_frame.specs.declared.notes.Note.{Note}
 use Rattle.wf_frame.specs.declared.notes.Note.TheVariants.{Enqueue, Asked}
 use Rattle.wf_frame.specs.declared.notes.Ask.{Ask}
-use Rattle.wf_frame.specs.declared.notes.Ask.TheVariants.{Join, Leave, Rate, Tick, Pull, Arrive, Answer, Done, Sleep, Wake, Poll, Rx, Reap, Ampdu, Stop, Start, Unsent, GiveUp, Flush}
+use Rattle.wf_frame.specs.declared.notes.Ask.TheVariants.{Join, Leave, Rate, Tick, Pull, Arrive, Answer, Done, Sleep, Wake, Poll, Rx, Reap, Ampdu, Stop, Start, Unsent, GiveUp, Flush, Offload, Weight}
 use Rattle.wf_frame.specs.declared.notes.Limits.{Limits}
 use Rattle.wf_frame.specs.declared.notes.AskedRate.{AskedRate}
 use Rattle.wf_frame.specs.declared.notes.AskedRate.TheVariants.{Ht, Vht, He}
@@ -61,6 +61,8 @@ form_row form.Start = row 16 (codes "start") (codes "start S")
 form_row form.Unsent = row 17 (codes "unsent") (codes "unsent EXCHANGE INDEX")
 form_row form.GiveUp = row 18 (codes "giveup") (codes "giveup EXCHANGE INDEX")
 form_row form.Flush = row 19 (codes "flush") (codes "flush S TID")
+form_row form.Offload = row 20 (codes "offload") (codes "offload S X [G]")
+form_row form.Weight = row 21 (codes "weight") (codes "weight S G")
 
 -- the number of a form's call
 abbrev pub form_number : CallForm → ℕ
@@ -107,6 +109,8 @@ arguments_of form.Start = argument.Station ∷ []
 arguments_of form.Unsent = argument.Exchange ∷ argument.Index ∷ []
 arguments_of form.GiveUp = argument.Exchange ∷ argument.Index ∷ []
 arguments_of form.Flush = argument.Station ∷ argument.Tid ∷ []
+arguments_of form.Offload = argument.Station ∷ argument.Exponent ∷ argument.Weight ∷ []
+arguments_of form.Weight = argument.Station ∷ argument.NewWeight ∷ []
 
 -- the greatest number of frames that a line gives to a pull as its limit
 abbrev pub greatest_frames : ℕ
@@ -119,6 +123,7 @@ argument_kind argument.Window = kind.Short
 argument_kind argument.Start = kind.Short
 argument_kind argument.Exponent = kind.Octet
 argument_kind argument.Weight = kind.Weight
+argument_kind argument.NewWeight = kind.Octet
 argument_kind argument.Format = kind.Format
 argument_kind argument.Mcs = kind.Octet
 argument_kind argument.Mhz = kind.Octet
@@ -159,14 +164,14 @@ forms =
     form.Join ∷ form.Leave ∷ form.Rate ∷ form.RateVht ∷ form.RateHe ∷ form.Tick ∷ form.Enqueue ∷ form.Pull
     ∷ form.PullFrames ∷ form.PullAir ∷ form.PullLimited ∷ form.Arrive ∷ form.Answer ∷ form.Done ∷ form.DoneAir
     ∷ form.Sleep ∷ form.Wake ∷ form.Poll ∷ form.Rx ∷ form.Reap ∷ form.Ampdu ∷ form.Stop ∷ form.Start
-    ∷ form.Unsent ∷ form.GiveUp ∷ form.Flush ∷ []
+    ∷ form.Unsent ∷ form.GiveUp ∷ form.Flush ∷ form.Offload ∷ form.Weight ∷ []
 
 -- all calls, in their first forms
 abbrev pub calls : List CallForm
 calls =
     form.Join ∷ form.Leave ∷ form.Rate ∷ form.Tick ∷ form.Enqueue ∷ form.Pull ∷ form.Arrive ∷ form.Answer
     ∷ form.Done ∷ form.Sleep ∷ form.Wake ∷ form.Poll ∷ form.Rx ∷ form.Reap ∷ form.Ampdu ∷ form.Stop
-    ∷ form.Start ∷ form.Unsent ∷ form.GiveUp ∷ form.Flush ∷ []
+    ∷ form.Start ∷ form.Unsent ∷ form.GiveUp ∷ form.Flush ∷ form.Offload ∷ form.Weight ∷ []
 
 -- the first form of the call with this word
 abbrev pub call_named : List ℕ → Option CallForm
@@ -227,6 +232,8 @@ note_form (Asked (Start station)) = form.Start
 note_form (Asked (Unsent exchange index)) = form.Unsent
 note_form (Asked (GiveUp exchange index)) = form.GiveUp
 note_form (Asked (Flush station tid)) = form.Flush
+note_form (Asked (Offload station exponent weight)) = form.Offload
+note_form (Asked (Weight station weight)) = form.Weight
 
 -- the values of a rate's arguments after the station
 abbrev pub values_of_rate : AskedRate → List Value
@@ -273,6 +280,9 @@ note_values (Asked (Start station)) = value.Short station ∷ []
 note_values (Asked (Unsent exchange index)) = value.Exchange exchange ∷ value.Short index ∷ []
 note_values (Asked (GiveUp exchange index)) = value.Exchange exchange ∷ value.Short index ∷ []
 note_values (Asked (Flush station tid)) = value.Short station ∷ value.Octet tid ∷ []
+note_values (Asked (Offload station exponent weight)) =
+    value.Short station ∷ value.Octet exponent ∷ value.Octet weight ∷ []
+note_values (Asked (Weight station weight)) = value.Short station ∷ value.Octet weight ∷ []
 
 -- the Enqueue call with these values; None if they are no values of its arguments
 abbrev pub enqueued : List Value → Option Note
@@ -323,6 +333,9 @@ ask_of form.Start (value.Short station ∷ []) = Some (Start station)
 ask_of form.Unsent (value.Exchange exchange ∷ value.Short index ∷ []) = Some (Unsent exchange index)
 ask_of form.GiveUp (value.Exchange exchange ∷ value.Short index ∷ []) = Some (GiveUp exchange index)
 ask_of form.Flush (value.Short station ∷ value.Octet tid ∷ []) = Some (Flush station tid)
+ask_of form.Offload (value.Short station ∷ value.Octet exponent ∷ value.Octet weight ∷ []) =
+    Some (Offload station exponent weight)
+ask_of form.Weight (value.Short station ∷ value.Octet weight ∷ []) = Some (Weight station weight)
 ask_of _ _ = None
 
 -- the call of a form with these values; None if they are no values of its arguments

@@ -18,7 +18,7 @@ pub enum Brief {
     Left {
         dropped: u32,
     },
-    /// The rate or the greatest aggregate is set.
+    /// The rate, the greatest aggregate or the weight is set.
     Set,
     /// The clock after the tick, in microseconds.
     Now {
@@ -30,14 +30,16 @@ pub enum Brief {
         dropped: Option<u64>,
     },
     /// The exchange to send: its number, station, TID (0 to 7) and charge in microseconds. If `request` is
-    /// given, it sends a BlockAckReq with this start (0 to 4095), otherwise the frames of `Answer::pairs`.
-    /// `more` is the More Data bit.
+    /// given, it sends a BlockAckReq with this start (0 to 4095), otherwise the frames of `Answer::pairs`. If
+    /// `batch`, the station's device numbers these frames, and only their ids have a meaning. `more` is the
+    /// More Data bit.
     Send {
         exchange: u64,
         station: u16,
         tid: u8,
         air: u32,
         request: Option<u16>,
+        batch: bool,
         more: bool,
     },
     /// The receiver released the frames of `Answer::ids`, in order.

@@ -67,6 +67,11 @@ pub enum CallForm {
     GiveUp,
     /// The frames of a TID that are not on the air are dropped.
     Flush,
+    /// A station joins whose device numbers, aggregates and repeats its frames: S, its A-MPDU length exponent
+    /// X, and its weight G (1 if it is left out).
+    Offload,
+    /// A station has the weight G from now on.
+    Weight,
 }
 
 /// The format of a rate, if its line has a word for it. A rate of HT has none.
@@ -89,6 +94,8 @@ pub enum Argument {
     Exponent,
     /// The weight of a station that joins.
     Weight,
+    /// The weight that a station gets.
+    NewWeight,
     /// The format of a rate of VHT or HE.
     Format,
     /// The modulation and coding scheme.
@@ -198,7 +205,7 @@ impl Default for Value {
     }
 }
 
-const CALLS: [CallForm; 20] = [
+const CALLS: [CallForm; 22] = [
     CallForm::Join,
     CallForm::Leave,
     CallForm::Rate,
@@ -219,9 +226,11 @@ const CALLS: [CallForm; 20] = [
     CallForm::Unsent,
     CallForm::GiveUp,
     CallForm::Flush,
+    CallForm::Offload,
+    CallForm::Weight,
 ];
 
-const FORMS: [CallForm; 26] = [
+const FORMS: [CallForm; 28] = [
     CallForm::Join,
     CallForm::Leave,
     CallForm::Rate,
@@ -248,6 +257,8 @@ const FORMS: [CallForm; 26] = [
     CallForm::Unsent,
     CallForm::GiveUp,
     CallForm::Flush,
+    CallForm::Offload,
+    CallForm::Weight,
 ];
 
 impl RateFormat {
@@ -280,8 +291,8 @@ impl CallForm {
         ensures number { result.0 ≡ form_number self }
         ensures word { result.1.now ≡ call_word self }
         ensures line { result.2.now ≡ form_line self }
-        ensures range { result.0 < 20 }
-        ensures short { length result.1.now ≤ 6 }
+        ensures range { result.0 < 22 }
+        ensures short { length result.1.now ≤ 7 }
     {
         match self {
             CallForm::Join => (0, b"join", b"join S W START X [WEIGHT]"),
@@ -310,20 +321,22 @@ impl CallForm {
             CallForm::Unsent => (17, b"unsent", b"unsent EXCHANGE INDEX"),
             CallForm::GiveUp => (18, b"giveup", b"giveup EXCHANGE INDEX"),
             CallForm::Flush => (19, b"flush", b"flush S TID"),
+            CallForm::Offload => (20, b"offload", b"offload S X [G]"),
+            CallForm::Weight => (21, b"weight", b"weight S G"),
         }
     }
 
     /// Returns all forms, in the order of the help.
-    pub fn all() -> [CallForm; 26]
+    pub fn all() -> [CallForm; 28]
         ensures { result ≡ forms }
     {
         FORMS
     }
 
-    /// Returns the number of its call in C: 0 to 19.
+    /// Returns the number of its call in C: 0 to 21.
     pub fn number(self) -> u8
         ensures number { result ≡ form_number self }
-        ensures range { result < 20 }
+        ensures range { result < 22 }
     {
         self.row().0
     }
@@ -338,7 +351,7 @@ impl CallForm {
     /// Returns the word that its line begins with.
     pub fn word(self) -> &'static [u8]
         ensures word { result.now ≡ call_word self }
-        ensures short { length result.now ≤ 6 }
+        ensures short { length result.now ≤ 7 }
     {
         self.row().1
     }
@@ -401,6 +414,8 @@ impl CallForm {
             CallForm::Reap => &[],
             CallForm::Ampdu => &[Argument::Station, Argument::Octets],
             CallForm::Flush => &[Argument::Station, Argument::Tid],
+            CallForm::Offload => &[Argument::Station, Argument::Exponent, Argument::Weight],
+            CallForm::Weight => &[Argument::Station, Argument::NewWeight],
         }
     }
 
@@ -472,6 +487,7 @@ impl Argument {
             | Argument::Mcs
             | Argument::Mhz
             | Argument::Streams
+            | Argument::NewWeight
             | Argument::Tid => Arg::Octet,
             Argument::By | Argument::Flow | Argument::Air | Argument::Octets => Arg::Long,
             Argument::Exchange => Arg::Exchange,

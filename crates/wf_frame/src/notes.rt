@@ -49,7 +49,7 @@ impl Limits {
     };
 }
 
-/// A call that brings no frame: one of nineteen. An argument outside its given range is refused.
+/// A call that brings no frame: one of twenty-one. An argument outside its given range is refused.
 #[derive(Clone, Copy, Debug, PartialEq, Eq)]
 pub enum Ask {
     /// A station joins, with its window size in frames (1 to 256), first sequence number (0 to 4095),
@@ -146,6 +146,18 @@ pub enum Ask {
         station: u16,
         tid: u8,
     },
+    /// A station joins whose device numbers, aggregates and repeats its frames, with its maximum A-MPDU length
+    /// exponent (0 to 3; IEEE 802.11-2012, 8.4.2.58.3) and weight (1 to 16).
+    Offload {
+        station: u16,
+        exponent: u8,
+        weight: u8,
+    },
+    /// A station has this weight (1 to 16) from now on.
+    Weight {
+        station: u16,
+        weight: u8,
+    },
 }
 
 /// A call as numbers.
@@ -163,12 +175,14 @@ pub enum Note {
     Asked(Ask),
 }
 
-/// The content of an exchange: frames with their sequence numbers, or a BlockAckReq with its start.
-/// Sequence numbers are 0 to 4095.
+/// The content of an exchange: frames with their sequence numbers, frames that a device numbers, or a
+/// BlockAckReq with its start. Sequence numbers are 0 to 4095.
 #[derive(Drop)]
 pub enum Part {
     /// The id and the sequence number of each frame of an aggregate.
     Mpdus(Pairs),
+    /// The ids of the frames of a batch, for a station whose device numbers them.
+    Batch(Ids),
     /// The start of a BlockAckReq.
     Request(u16),
 }
@@ -257,7 +271,7 @@ pub enum ReplyNote {
     Left {
         dropped: u32,
     },
-    /// The rate or the greatest aggregate is set.
+    /// The rate, the greatest aggregate or the weight is set.
     Set,
     /// The clock after the tick, in microseconds.
     Now {

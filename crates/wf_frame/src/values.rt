@@ -83,6 +83,8 @@ impl Ask {
             Ask::Unsent { .. } => CallForm::Unsent,
             Ask::GiveUp { .. } => CallForm::GiveUp,
             Ask::Flush { .. } => CallForm::Flush,
+            Ask::Offload { .. } => CallForm::Offload,
+            Ask::Weight { .. } => CallForm::Weight,
         }
     }
 
@@ -127,6 +129,18 @@ impl Ask {
                 listed(&[Value::Short(station), Value::Long(octets)])
             }
             Ask::Flush { station, tid } => listed(&[Value::Short(station), Value::Octet(tid)]),
+            Ask::Offload {
+                station,
+                exponent,
+                weight,
+            } => listed(&[
+                Value::Short(station),
+                Value::Octet(exponent),
+                Value::Octet(weight),
+            ]),
+            Ask::Weight { station, weight } => {
+                listed(&[Value::Short(station), Value::Octet(weight)])
+            }
         }
     }
 }
@@ -323,6 +337,8 @@ fn ask_made(form: CallForm, values: &[Value]) -> Option<Ask>
         CallForm::Reap => reap(values),
         CallForm::Ampdu => ampdu(values),
         CallForm::Flush => flush(values),
+        CallForm::Offload => offload(values),
+        CallForm::Weight => weigh(values),
     }
 }
 
@@ -582,6 +598,35 @@ fn flush(values: &[Value]) -> Option<Ask>
         return None;
     };
     Some(Ask::Flush { station, tid })
+}
+
+// The Offload call with these values.
+fn offload(values: &[Value]) -> Option<Ask>
+    ensures { result ≡ ask_of CallForm.Offload values.now }
+{
+    let [
+        Value::Short(station),
+        Value::Octet(exponent),
+        Value::Octet(weight),
+    ] = *values
+    else {
+        return None;
+    };
+    Some(Ask::Offload {
+        station,
+        exponent,
+        weight,
+    })
+}
+
+// The Weight call with these values.
+fn weigh(values: &[Value]) -> Option<Ask>
+    ensures { result ≡ ask_of CallForm.Weight values.now }
+{
+    let [Value::Short(station), Value::Octet(weight)] = *values else {
+        return None;
+    };
+    Some(Ask::Weight { station, weight })
 }
 
 // The Done call with these values, which include no airtime.
