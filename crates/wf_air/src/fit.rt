@@ -29,7 +29,7 @@ const PADDING: u32 = 4;
 
 /// The data time that a frame alone may take whatever the limit is, in microseconds. At every rate the
 /// greatest body with its encryption fits it.
-const LONGEST_ALONE: u32 = 3_000;
+pub(crate) const LONGEST_ALONE: u32 = 3_000;
 
 /// The limits of an aggregate: its octets, its frames, and its data time in microseconds.
 #[derive(Clone, Copy, Debug, PartialEq, Eq)]

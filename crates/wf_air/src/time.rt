@@ -3,13 +3,14 @@
 //! 27), with convolutional codes. Control frames are sent in OFDM at 6, 12 or 24 Mbit/s. Durations are whole
 //! microseconds, except if a name says tenths; lengths are octets.
 
-ghost use Rattle.std.specs.Prelude.{◌≡◌, ◌+◌, ◌/◌, ◌==◌, ◌≤◌, ◌<◌, if◌then◌else◌, true, false, IfOk, IfErr, IfSome};
+ghost use Rattle.std.specs.Prelude.{◌≡◌, ◌+◌, ◌/◌, ◌==◌, ◌≤◌, ◌<◌, if◌then◌else◌, max, true, false, IfOk, IfErr, IfSome};
 ghost use Rattle.wf_def_lists.specs.Table.{has};
 ghost use Rattle.wf_def_air.specs.Airtime.{Ht, Vht, He, IsRate, is_rate, lowest_rate, carriers_of_312, carriers_of_78, vht_encoders, is_wide_width, are_streams, streams_left_out, streams, modulation, carriers, bits, symbol_tenths, kbps, encoders, preamble_tenths, data_time, control_mbps, slowest_control, control_time, answer_time, longest_answer, data_charge, request_charge};
 ghost use Rattle.wf_def_lists.specs.Bounds.{least_ampdu, greatest_ampdu};
-ghost use Rattle.wf_def_air.specs.Fit.{most_octets};
+ghost use Rattle.wf_def_air.specs.Fit.{most_octets, longest_alone};
 ghost use Rattle.wf_air.specs.Rates.{rate_of, unit_tenths, timing_of, least_kbps, most_kbps, longest_aggregate, longest_single, longest_time, longest_single_time};
 
+use crate::fit::LONGEST_ALONE;
 use std::marker::Model;
 use thiserror::Error;
 
@@ -540,6 +541,17 @@ impl Rate {
             },
         }
     }
+}
+
+/// Returns the greatest charge of an exchange in microseconds, if the data of an aggregate take at most
+/// `time` microseconds: its data, which a frame alone may exceed, SIFS and the longest BlockAck. `answers` is
+/// the setting of that name.
+pub fn longest_charge(time: u32, answers: u32) -> u32
+    requires { time ≤ 65535 }
+    ensures { result ≡ max time longest_alone + longest_answer answers }
+{
+    let slowest = if answers == 0 { FAST_MBPS } else { SLOW_MBPS };
+    time.max(LONGEST_ALONE) + SIFS + answer_time(slowest, true)
 }
 
 // Returns the duration in microseconds of a control frame of at most 64 octets, at a rate in Mbit/s.

@@ -1,6 +1,6 @@
 -- Defines many disjoint rotations of numbered keys, each with a deficit and a quantum, and the pick of one of
 -- them ("Ending the Anomaly", USENIX ATC 2017, algorithms 2 and 3).
-use Rattle.std.specs.Prelude.{◌≡◌, ℕ, Bool, false, List, get_or, ℤ, pos}
+use Rattle.std.specs.Prelude.{◌≡◌, ℕ, Bool, false, List, get_or, ℤ, pos, int_le, if◌then◌else◌}
 use Rattle.wf_def_rotation.specs.Rotation.{Rotation, Picked, has_key, need_of, pick}
 use Rattle.wf_rotation.specs.Lists.{lists_at}
 
@@ -18,6 +18,10 @@ quantum_at quanta key = get_or quanta key 1
 -- the quanta that a key needs
 abbrev pub need_at : Rotas → ℕ → ℕ
 need_at v key = need_of (quantum_at v.quanta key) (deficit_at v.deficits key)
+
+-- the lesser of two integers
+abbrev pub lesser : ℤ → ℤ → ℤ
+lesser x y = if int_le x y then x else y
 
 -- which keys are ready
 abbrev pub is_ready : List Bool → ℕ → Bool

@@ -1,6 +1,6 @@
 ghost use Rattle.std.specs.Prelude.{◌≡◌, ℕ, ◌+◌, ◌-◌, ◌*◌, ◌^◌, ◌<◌, ◌≤◌, Bool, true, List, [], ◌∷◌, ◌++◌, length, map, replicate, slice_set, IfOk, IfSome, IfNone, MatchOption, Some, pos, negsuc, ◌+ℤ◌, ◌-ℤ◌, ◌≤ℤ◌};
 ghost use Rattle.wf_def_rotation.specs.Rotation.{no_keys, with_new_key, with_old_key, without_key, has_key, in_order};
-ghost use Rattle.wf_rotation.specs.Rotas.{Rotas, deficit_at, quantum_at, need_at, is_ready, IsUnlisted, picked_at};
+ghost use Rattle.wf_rotation.specs.Rotas.{Rotas, deficit_at, quantum_at, need_at, is_ready, lesser, IsUnlisted, picked_at};
 ghost use Rattle.wf_rotation.specs.Lists.{lists_at, keys_at, with_keys, has_on, first_of, AreDisjoint};
 ghost use Rattle.wf_rotation.specs.Steps.{most_visits, visits_within};
 ghost use Rattle.wf_rotation.specs.Visits.{first_visit, HasVisited, EndsAs};
@@ -176,10 +176,9 @@ impl Rota {
         self.add_new(list, key);
     }
 
-    /// Sets the quantum, at least 1, of a key that is on no list. Its deficit is unchanged.
+    /// Sets the quantum, at least 1, of a key. Its deficit is unchanged.
     pub fn set_quantum(&mut self, key: u32, quantum: u32)
         requires in_keys { key < length self.old.deficits }
-        requires unlisted { IsUnlisted self.old.lists key }
         requires positive { 1 ≤ quantum }
         ensures { self.new ≡ record self.old { quanta = slice_set self.old.quanta key quantum } }
     {
@@ -206,6 +205,18 @@ impl Rota {
         } }
     {
         self.deficits[key as usize] += i64::from(amount);
+    }
+
+    /// Lowers the deficit of a key to `most`, at least -2^62, if it is above that.
+    pub fn lower(&mut self, key: u32, most: i64)
+        requires in_keys { key < length self.old.deficits }
+        requires low { negsuc (2 ^ 62 - 1) ≤ℤ most }
+        ensures { self.new ≡ record self.old {
+          deficits = slice_set self.old.deficits key (lesser (deficit_at self.old.deficits key) most);
+        } }
+    {
+        let deficit = self.deficits[key as usize];
+        self.deficits[key as usize] = if deficit <= most { deficit } else { most };
     }
 
     /// Sets the deficit of a key to its quantum.

@@ -23,6 +23,13 @@ joined_rota station quantum r = record {
   quanta = set r.quanta station quantum;
 }
 
+abbrev pub weighted_rota : ℕ → ℕ → Rotas → Rotas
+weighted_rota station quantum r = record {
+  lists = r.lists;
+  deficits = r.deficits;
+  quanta = set r.quanta station quantum;
+}
+
 abbrev pub no_rota : Rotas
 no_rota = record { lists = []; deficits = []; quanta = [] }
 
@@ -105,6 +112,18 @@ joined_kept stations station quantum r kept =
       one_list = kept.one_list;
       deficit_keys =
           length-set r.deficits station (pos quantum) ∙ kept.deficit_keys;
+      quanta_keys =
+          length-set r.quanta station quantum ∙ kept.quanta_keys;
+    }
+
+-- ---- a station gets another quantum
+
+pub weighted_kept : (stations station quantum : ℕ) (r : Rotas) → IsOfStations stations r →
+    IsOfStations stations (weighted_rota station quantum r)
+weighted_kept stations station quantum r kept =
+    record {
+      one_list = kept.one_list;
+      deficit_keys = kept.deficit_keys;
       quanta_keys =
           length-set r.quanta station quantum ∙ kept.quanta_keys;
     }

@@ -75,6 +75,10 @@ after_join station quantum t = record t {
       set t.quanta station quantum;
 }
 
+-- a station gets another quantum, and keeps its deficit
+abbrev pub with_quantum : ℕ → ℕ → ClassRota → ClassRota
+with_quantum station quantum t = record t { quanta = set t.quanta station quantum }
+
 -- the station is taken off the lists
 abbrev pub after_station_left : ℕ → ClassRota → ClassRota
 after_station_left station t = record t { rotation = without_key t.rotation station }

@@ -5,9 +5,9 @@ ghost use Rattle.wf_def_lists.specs.Bounds.{deepest_deficit};
 ghost use Rattle.wf_def_rotation.specs.Rotation.{has_key};
 ghost use Rattle.wf_def_lists.specs.Table.{has};
 ghost use Rattle.wf_law_rules.specs.Renamed.{IsIdle};
-ghost use Rattle.wf_rotation.specs.Rotas.{is_ready};
+ghost use Rattle.wf_rotation.specs.Rotas.{is_ready, lesser};
 ghost use Rattle.wf_rotation.specs.Lists.{side_of};
-ghost use Rattle.wf_sched.specs.ClassRotas.{class_rota_of, new_scheduler, class_rota, class_rotation, deficit, IsNowhere, with_class_rota, with_deficit, with_listing, after_join, after_station_left, pick_of_class, IsAfterPick, IsSchedulerSized};
+ghost use Rattle.wf_sched.specs.ClassRotas.{class_rota_of, new_scheduler, class_rota, class_rotation, deficit, IsNowhere, with_class_rota, with_deficit, with_listing, after_join, with_quantum, after_station_left, pick_of_class, IsAfterPick, IsSchedulerSized};
 
 use crate::Debt;
 use std::alloc::{AllocError, Global};
@@ -144,6 +144,36 @@ impl Sched {
             rota.set_quantum(key, quantum);
             rota.reset(key);
         }
+    }
+
+    /// Sets the station's quantum in each class to the quantum times this weight, 1 to 16, and returns it.
+    /// Its deficits are unchanged.
+    pub fn set_weight(&mut self, station: u16, weight: u8) -> u32
+        requires known { station < self.old.stations }
+        requires some { 1 ≤ weight }
+        requires most { weight ≤ 16 }
+        ensures quantum { result ≡ self.old.quantum * weight }
+        ensures changed { self.new ≡ record self.old {
+          classes = map (with_quantum station (self.old.quantum * weight)) self.old.classes;
+        } }
+    {
+        let key = u32::from(station);
+        let weighted = self.quantum * u32::from(weight);
+        for rota in self.rotas.iter_mut() {
+            rota.set_quantum(key, weighted);
+        }
+        weighted
+    }
+
+    /// Lowers the station's deficit in a class to `most` microseconds, at least -2^62, if it is above that.
+    pub fn lower(&mut self, station: u16, class: Class, most: i64)
+        requires known { station < self.old.stations }
+        requires low { negsuc (2 ^ 62 - 1) ≤ℤ most }
+        ensures { self.new ≡ with_deficit self.old class station
+            (lesser (deficit self.old class station) most) }
+    {
+        let rota = &mut self.rotas[class.number()];
+        rota.lower(u32::from(station), most);
     }
 
     /// Takes the station off the lists of each class. Constant time.

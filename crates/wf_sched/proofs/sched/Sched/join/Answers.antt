@@ -1,8 +1,8 @@
 -- One more class has the station's new quantum and deficit in each iteration.
-use Rattle.std.proofs.Common.{◌≡◌, ◌∙◌, ◌*◌, ap, sym, subst, refl, ℕ, map, arith}
-use Rattle.wf_sched.specs.ClassRotas.{SchedValue, IsNowhere, after_join}
+use Rattle.std.proofs.Common.{◌≡◌, ◌∙◌, ◌*◌, ap, subst, refl, ℕ, map, arith}
+use Rattle.wf_sched.specs.ClassRotas.{SchedValue, after_join}
 use Rattle.wf_sched.proofs.Loops.{joined_rota}
-use Rattle.wf_sched.proofs.Views.{view_of, all_changed, still_nowhere}
+use Rattle.wf_sched.proofs.Views.{view_of, all_changed}
 use Rattle.wf_sched.proofs.sched.Sched.join.Goals as goal
 
 pub returns : goal.returns
@@ -32,10 +32,3 @@ returns c =
           (view_of c.self.inside.rotas c.self.inside.stations c.self.inside.quantum).classes;
     } in v)
     c.from.ensures)
-
-pub set_quantum-requires-clause-unlisted : goal.set_quantum-requires-clause-unlisted
-set_quantum-requires-clause-unlisted c = still_nowhere c.self.inside.rotas c.loop-rota.rota-items
-    c.self.inside.stations c.self.inside.quantum c.args.station c.from-key.result c.loop-rota.rota-index
-    c.rota-item.result _ c.self.invariant
-    (subst (λ (v : SchedValue). IsNowhere v c.args.station) (sym c.self.view_is) c.requires.unlisted)
-    c.from-key.ensures c.loop-rota-test.true c.loop-rota.invariant
