@@ -21,6 +21,7 @@ use Rattle.wf_law_runs.proofs.Deficits.Quiet.{quiet}
 use Rattle.wf_law_runs.proofs.Fairness.Law.{fairness}
 use Rattle.wf_law_runs.proofs.Shares.Law.{share_law}
 use Rattle.wf_law_runs.proofs.Shares.Waits.{waiting_law, sparse_law}
+use Rattle.wf_law_runs.proofs.Shares.Weights.{weight_law}
 use Rattle.wf_law_runs.proofs.Rotations.Law.{rotation_law}
 use Rattle.wf_law_runs.proofs.Frames.Places.{place_law}
 use Rattle.wf_law_runs.proofs.Frames.Rooms.{room_law}
@@ -38,6 +39,7 @@ use Rattle.wf_law_runs.proofs.Tries.Law.{tries_law}
 use Rattle.wf_law_runs.proofs.Queues.Law.{queue_law, queue_deficit_law}
 use Rattle.wf_law_runs.proofs.Spent.Computed.{computed_law}
 use Rattle.wf_law_runs.proofs.Spent.Sent.{spent_law}
+use Rattle.wf_law_runs.proofs.Offloads.Law.{offload_law}
 
 pub laws : (config : Config) (history : List Entry) → IsInRange config → Laws config history
 laws config h range = record {
@@ -49,6 +51,7 @@ laws config h range = record {
   flow_releases = flow_release_law config h range;
   flow_sends = flow_send_law config h range;
   delivery = delivery_law config h range;
+  offloads = offload_law config h range;
   fates = fate_law config h;
   kept = kept_law config h;
   finished = finished_law config h;
@@ -57,6 +60,7 @@ laws config h range = record {
   room = room_law config h range;
   limit = limit_law config h range;
   deficits = deficits config h range;
+  weights = weight_law config h range;
   quiet = quiet config h range;
   fairness = fairness config h range;
   computed = computed_law config h;

@@ -4,6 +4,7 @@
 --   law of lib.rt                               proved in
 --   window_law, answer_law, twelve_bit_law      Windows (Law, Answers, TwelveBits)
 --   release_law, once_law                       Releases (Named, Once)
+--   offload_law                                 Offloads (Law)
 --   flow_queue_law, flow_release_law,           Orders (Law, Sends)
 --     flow_send_law
 --   delivery_law, fate_law, finished_law,       Frames (DeliveryLaw, FateLaw, FinishedLaw, Places, Rooms,
@@ -15,7 +16,8 @@
 --   deficit_law, quiet_law, number_law,         Deficits (Law, Quiet, Numbers, InFlight, Delay)
 --     in_flight_law, delay_law
 --   fairness_law                                Fairness (Law)
---   share_law, waiting_law, sparse_law          Shares (Law, Waits), Spent (Law, Awaited)
+--   share_law, waiting_law, sparse_law,         Shares (Law, Waits, Weights), Spent (Law, Awaited)
+--     weight_law
 --   computed_law, spent_law                     Spent (Computed, Sent)
 --   sum_law                                     Sums (Law)
 --   sent_law                                    Sent (Law)
@@ -30,6 +32,7 @@
 pub mod Common
 pub mod Sessions
 pub mod Windows
+pub mod Offloads
 pub mod Releases
 pub mod Frames
 pub mod Kept

@@ -2,7 +2,8 @@
 -- one keeps its place. Turns: how a call changes both. Stretch: the same over entries. Moments: the same
 -- between two moments. Law: the share law. Sends: the station that a Pull sends to, and the charges of open
 -- exchanges. Grants, Covers: when a station that waits gets quanta, and how many. Rounds: whole quanta.
--- Waits: the waiting law and the sparse law.
+-- Waits: the waiting law and the sparse law. Weights: the law of weights. Steady: a station whose weight is
+-- not set is steady.
 pub mod Picks
 pub mod Turns
 pub mod Stretch
@@ -13,3 +14,5 @@ pub mod Sends
 pub mod Grants
 pub mod Covers
 pub mod Waits
+pub mod Weights
+pub mod Steady

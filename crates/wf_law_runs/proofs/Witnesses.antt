@@ -12,3 +12,5 @@ pub mod Places
 pub mod Rotations
 pub mod Kept
 pub mod Tries
+pub mod Weights
+pub mod Offloads

@@ -1,5 +1,5 @@
 -- Defines the law of delivery: each acknowledged frame has reached the receiver for which it was enqueued.
-use Rattle.std.specs.Prelude.{◌≡◌, ℕ, ◌<◌, ◌≤◌, true, List, [], ◌∷◌, ◌++◌, map, Option, None, Some}
+use Rattle.std.specs.Prelude.{◌≡◌, ℕ, ◌<◌, ◌≤◌, Bool, true, false, ◌||◌, List, [], ◌∷◌, ◌++◌, map, Option, None, Some}
 use Rattle.wf_frame.specs.declared.notes.Ask.TheVariants.{Done}
 use Rattle.wf_frame.specs.declared.notes.Note.{Note}
 use Rattle.wf_frame.specs.declared.notes.Note.TheVariants.{Asked}
@@ -32,9 +32,16 @@ abbrev pub ids_sent : Option Exchange → List ℕ
 ids_sent None = []
 ids_sent (Some x) = map (λ m. m.id) (mpdus_of x.content)
 
--- The call is a Done of an exchange that sends the frame, and the answer was heard.
+-- Returns whether an exchange is open and is for an offloaded station.
+abbrev pub is_batch : Option Exchange → Bool
+is_batch None = false
+is_batch (Some x) = x.batch
+
+-- The call is a Done of an exchange that sends the frame, and the answer was heard. A batch has no answer: its
+-- device said before which frames were acknowledged.
 abbrev pub EndsHeard : World → Note → ℕ → Type 0
-EndsHeard w (Asked (Done e true air)) id = has (ids_sent (exchange w e)) id ≡ true
+EndsHeard w (Asked (Done e heard air)) id =
+    (has (ids_sent (exchange w e)) id ≡ true) × (heard || is_batch (exchange w e) ≡ true)
 EndsHeard w note id = ⊥
 
 -- The entries contain a Done of an exchange that sends the frame, and it was heard. The frame's fate was

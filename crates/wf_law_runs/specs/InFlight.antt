@@ -6,7 +6,8 @@ use Rattle.wf_frame.specs.declared.classes.Class.{Class}
 use Rattle.wf_def_world.specs.World.{World, owed, owed_by_all}
 use Rattle.wf_def_world.specs.Run.{Entry}
 use Rattle.wf_def_world.specs.Stretches.{world_at}
-use Rattle.wf_law_runs.specs.Deficits.{longest_computed, longest_of_all}
+use Rattle.wf_law_runs.specs.Deficits.{longest_of_all}
+use Rattle.wf_def_world.specs.Exchanges.{longest_computed}
 
 -- The airtime in flight in a world.
 pub record KeepsInFlight (config : Config) (w : World) : Type 0 where

@@ -16,7 +16,7 @@ use Rattle.wf_law_runs.specs.Places.{PlaceLaw}
 use Rattle.wf_law_runs.specs.Room.{RoomLaw, LimitLaw}
 use Rattle.wf_law_runs.specs.TwelveBits.{TwelveBitLaw}
 use Rattle.wf_law_runs.specs.Queues.{QueueLaw, QueueDeficitLaw}
-use Rattle.wf_law_runs.specs.Deficits.{DeficitLaw, QuietLaw, FairnessLaw}
+use Rattle.wf_law_runs.specs.Deficits.{DeficitLaw, WeightLaw, QuietLaw, FairnessLaw}
 use Rattle.wf_law_runs.specs.Shares.{ComputedLaw, ShareLaw, SpentLaw}
 use Rattle.wf_law_runs.specs.Waiting.{WaitingLaw, SparseLaw}
 use Rattle.wf_law_runs.specs.Ranges.{RangeLaw}
@@ -29,6 +29,7 @@ use Rattle.wf_law_runs.specs.Sent.{SentLaw}
 use Rattle.wf_law_runs.specs.Attempts.{AttemptsLaw}
 use Rattle.wf_law_runs.specs.Tries.{TriesLaw}
 use Rattle.wf_law_runs.specs.Rotations.{RotationLaw}
+use Rattle.wf_law_runs.specs.Offloads.{OffloadLaw}
 
 -- The laws of a history.
 pub record Laws (config : Config) (history : List Entry) : Type 0 where
@@ -47,6 +48,8 @@ pub record Laws (config : Config) (history : List Entry) : Type 0 where
   -- Each flow is first sent in this order.
   pub flow_sends : FlowSendLaw config history
   pub delivery : DeliveryLaw config history
+  -- The device of an offloaded station gets frames and no requests.
+  pub offloads : OffloadLaw config history
   pub fates : FateLaw config history
   -- A number keeps its frame, and stays acknowledged or failed.
   pub kept : KeptLaw config history
@@ -62,6 +65,8 @@ pub record Laws (config : Config) (history : List Entry) : Type 0 where
   pub limit : LimitLaw config history
   -- The deficits of stations, which stations are quiet, and airtime fairness.
   pub deficits : DeficitLaw config history
+  -- A station's weight changes only when it is set.
+  pub weights : WeightLaw config history
   pub quiet : QuietLaw config history
   pub fairness : FairnessLaw config history
   -- If no Done gives an airtime, each charges the computed airtime, and a station spends the computed airtime

@@ -27,3 +27,4 @@ pub mod InFlight
 pub mod Delay
 pub mod Dequeues
 pub mod Tries
+pub mod Offloads

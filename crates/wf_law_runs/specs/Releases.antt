@@ -1,7 +1,7 @@
 -- Defines the laws of released frames, from the replies to arrivals.
 use Rattle.std.specs.Prelude.{◌≡◌, ◌↔◌, ◌<◌, ℕ, ◌==◌, nat_lt, take, Bool, true, false, ◌&&◌, List, [], ◌∷◌, ◌++◌, Option, Some, None, if◌then◌else◌, filter}
 use Rattle.wf_frame.specs.declared.settings.Config.{Config}
-use Rattle.wf_frame.specs.declared.notes.Ask.TheVariants.{Join, Arrive}
+use Rattle.wf_frame.specs.declared.notes.Ask.TheVariants.{Join, Offload, Arrive}
 use Rattle.wf_frame.specs.declared.notes.Note.{Note}
 use Rattle.wf_frame.specs.declared.notes.Note.TheVariants.{Asked}
 use Rattle.wf_frame.specs.declared.notes.ReplyNote.{ReplyNote}
@@ -9,7 +9,7 @@ use Rattle.wf_frame.specs.declared.notes.ReplyNote.TheVariants.{Joined, Released
 use Rattle.wf_def_lists.specs.Table.{has}
 use Rattle.wf_def_agreement.specs.Receiver.{Receiver, release_start}
 use Rattle.wf_def_agreement.specs.Session.{slot}
-use Rattle.wf_def_world.specs.World.{World, Exchange, session, receiver, is_live, frame, exchange, opening}
+use Rattle.wf_def_world.specs.World.{World, Exchange, session, receiver, is_live, is_offloaded, frame, exchange, opening}
 use Rattle.wf_def_world.specs.Exchanges.{ids_of}
 use Rattle.wf_def_world.specs.Step.{Outcome, step}
 use Rattle.wf_def_world.specs.Run.{Entry}
@@ -20,6 +20,7 @@ use Rattle.wf_law_runs.specs.Queues.{IsFor}
 -- Returns whether a call asks that station s joins.
 abbrev pub is_join_of : ℕ → Note → Bool
 is_join_of s (Asked (Join i window start exponent weight)) = i == s
+is_join_of s (Asked (Offload i exponent weight)) = i == s
 is_join_of s note = false
 
 -- Returns whether an exchange is open and is for TID t of station s.
@@ -83,8 +84,10 @@ pub record PassesInOrder (config : Config) (entries : List Entry) (w : World) (s
       (has (named_from (opening config) [] entries) (slot (session w s t) n).id ≡ true) ↔
       (n < release_start (receiver w s t))
 
--- The law of releases: `PassesInOrder` holds after each entry, for each TID of a station that is live then.
--- A session ends when its station leaves, and it releases nothing later.
+-- The law of releases: `PassesInOrder` holds after each entry, for each TID of a station that is live then and
+-- not offloaded. A session ends when its station leaves, and it releases nothing later. What the receiver of an
+-- offloaded station releases is not known, so no reply names it.
 abbrev pub ReleaseLaw : Config → List Entry → Type 0
 ReleaseLaw config history = (m s t : ℕ) → is_live (world_at config history m) s ≡ true →
+    is_offloaded (world_at config history m) s ≡ false →
     PassesInOrder config (take m history) (world_at config history m) s t

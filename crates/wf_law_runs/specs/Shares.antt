@@ -18,7 +18,8 @@ use Rattle.wf_def_world.specs.Refusals.{refusal}
 use Rattle.wf_def_world.specs.Step.{step}
 use Rattle.wf_def_world.specs.Run.{Entry}
 use Rattle.wf_def_world.specs.Stretches.{world_at, charged_between, IsOld, IsQuiet}
-use Rattle.wf_law_runs.specs.Deficits.{longest_computed, most_owed, got_between, IsNear, weight_at}
+use Rattle.wf_def_world.specs.Exchanges.{longest_computed}
+use Rattle.wf_law_runs.specs.Deficits.{most_owed, got_between, IsNear, weight_at, IsSteady}
 use Rattle.wf_law_runs.specs.Sums.{air_by}
 
 -- The airtime that a history charges to a station in a class for what the station sent.
@@ -54,6 +55,11 @@ StaysOld config h s c a b = (m : ℕ) → a ≤ m → m ≤ b → IsOld config h
 -- A station is live at every moment from a to b.
 abbrev pub StaysLive : Config → List Entry → ℕ → ℕ → ℕ → Type 0
 StaysLive config h s a b = (m : ℕ) → a ≤ m → m ≤ b → IsTrue (is_live (world_at config h m) s)
+
+-- A station's weight and base are the same at every moment from a to b. They are if no call sets its weight
+-- between them (WeightLaw).
+abbrev pub StaysSteady : Config → List Entry → ℕ → Class → ℕ → ℕ → Type 0
+StaysSteady config h s c a b = (m : ℕ) → a ≤ m → m ≤ b → IsSteady config h s c a m
 
 -- ---- the airtime that is spent
 
@@ -155,7 +161,9 @@ pub record IsShared (config : Config) (h : List Entry) (s i : ℕ) (c : Class) (
       IsSpent config h s i c a b e
 
 -- No station gets more airtime for its weight than one that stays on the old list, up to a constant. The
--- other station may sleep, leave the list, be charged for what it sent or change its rate.
+-- other station may sleep, leave the list, be charged for what it sent or change its rate. Both keep their
+-- weights.
 abbrev pub ShareLaw : Config → List Entry → Type 0
 ShareLaw config h = (s i : ℕ) (c : Class) (a b : ℕ) → a ≤ b → s ≢ i → StaysOld config h s c a b →
-    StaysLive config h i a b → IsShared config h s i c a b
+    StaysLive config h i a b → StaysSteady config h s c a b → StaysSteady config h i c a b →
+    IsShared config h s i c a b

@@ -3,7 +3,7 @@
 use Rattle.std.specs.Prelude.{◌≡◌, ℕ, ◌+◌, ◌*◌, ◌≤◌, ◌==◌, ◌&&◌, true, List, [], ◌∷◌, is_none, if◌then◌else◌, take}
 use Rattle.wf_frame.specs.declared.settings.Config.{Config}
 use Rattle.wf_frame.specs.declared.classes.Class.{Class}
-use Rattle.wf_frame.specs.declared.notes.Ask.TheVariants.{Join, Rx}
+use Rattle.wf_frame.specs.declared.notes.Ask.TheVariants.{Join, Offload, Rx}
 use Rattle.wf_frame.specs.declared.notes.Note.{Note}
 use Rattle.wf_frame.specs.declared.notes.Note.TheVariants.{Asked}
 use Rattle.wf_frame.specs.Classes.{same_class}
@@ -20,6 +20,8 @@ use Rattle.wf_law_runs.specs.Numbers.{greatest_charge}
 abbrev pub since_join : World → ℕ → Note → ℕ → ℕ
 since_join w s (Asked (Join i window start exponent weight)) n =
     if is_none (refusal w (Asked (Join i window start exponent weight))) && (i == s) then 0 else n
+since_join w s (Asked (Offload i exponent weight)) n =
+    if is_none (refusal w (Asked (Offload i exponent weight))) && (i == s) then 0 else n
 since_join w s _ n = n
 
 -- Returns the airtime of the receive charge that a call makes to a station in a class.

@@ -17,8 +17,9 @@ use Rattle.wf_def_world.specs.CanSend.{is_ready}
 use Rattle.wf_def_world.specs.Step.{step}
 use Rattle.wf_def_world.specs.Run.{Entry}
 use Rattle.wf_def_world.specs.Stretches.{world_at, charged_between, IsQuiet}
-use Rattle.wf_law_runs.specs.Deficits.{longest_computed, most_owed, got_between}
-use Rattle.wf_law_runs.specs.Shares.{received_between, deficit_then, quantum_then, overrun, StaysLive, spent_between, standing_then, AreWithin, error_of, excess}
+use Rattle.wf_def_world.specs.Exchanges.{longest_computed}
+use Rattle.wf_law_runs.specs.Deficits.{most_owed, got_between}
+use Rattle.wf_law_runs.specs.Shares.{received_between, deficit_then, quantum_then, overrun, StaysLive, spent_between, standing_then, AreWithin, error_of, excess, StaysSteady}
 
 -- Whether a reply opens an exchange for a station.
 abbrev pub is_sent_to : ℕ → ReplyNote → Bool
@@ -94,10 +95,11 @@ pub record IsWait (config : Config) (h : List Entry) (s i : ℕ) (c : Class) (a 
       IsAwaited config h s i c a b e
 
 -- Nobody starves: while a station waits, another gets a bounded number of quanta and is charged a bounded
--- airtime.
+-- airtime. Both keep their weights.
 abbrev pub WaitingLaw : Config → List Entry → Type 0
 WaitingLaw config h = (s i : ℕ) (c : Class) (a b : ℕ) → a ≤ b → s ≢ i → StaysReady config h s c a b →
-    sends_between config h s c a b ≡ 0 → StaysLive config h i a b → IsWait config h s i c a b
+    sends_between config h s c a b ≡ 0 → StaysLive config h i a b → StaysSteady config h s c a b →
+    StaysSteady config h i c a b → IsWait config h s i c a b
 
 -- If a ready station with a positive standing is on the new list, a Pull that opens an exchange opens it for
 -- this station, or for one that is before it on the new list. Without the setting `pending` the standing is

@@ -14,11 +14,12 @@ ghost use Rattle.wf_frame.specs.Settings.{IsInRange};
 ghost use Rattle.wf_def_world.specs.Run.{Entry};
 ghost use Rattle.wf_law_runs.specs.Answers.{AnswerLaw};
 ghost use Rattle.wf_law_runs.specs.Attempts.{AttemptsLaw};
-ghost use Rattle.wf_law_runs.specs.Deficits.{DeficitLaw, FairnessLaw, QuietLaw};
+ghost use Rattle.wf_law_runs.specs.Deficits.{DeficitLaw, WeightLaw, FairnessLaw, QuietLaw};
 ghost use Rattle.wf_law_runs.specs.Delay.{DelayLaw};
 ghost use Rattle.wf_law_runs.specs.Dequeues.{CodelLaw};
 ghost use Rattle.wf_law_runs.specs.Flows.{FlowQueueLaw, FlowReleaseLaw, FlowSendLaw};
 ghost use Rattle.wf_law_runs.specs.Delivery.{DeliveryLaw};
+ghost use Rattle.wf_law_runs.specs.Offloads.{OffloadLaw};
 ghost use Rattle.wf_law_runs.specs.Fates.{FateLaw};
 ghost use Rattle.wf_law_runs.specs.Finished.{FinishedLaw};
 ghost use Rattle.wf_law_runs.specs.InFlight.{InFlightLaw};
@@ -86,6 +87,17 @@ pub fn flow_send_law()
 /// reached the receiver of the station and TID for which it was enqueued (specs/Delivery).
 pub fn delivery_law()
     ensures { (config : Config) → (history : List Entry) → IsInRange config → DeliveryLaw config history }
+{}
+
+/// An open exchange is a batch exactly if its station is offloaded; no batch is a request, and no request is due
+/// for an offloaded station (specs/Offloads).
+pub fn offload_law()
+    ensures { (config : Config) → (history : List Entry) → IsInRange config → OffloadLaw config history }
+{}
+
+/// A call that does not set a station's weight keeps it, and the base of its deficits (specs/Deficits).
+pub fn weight_law()
+    ensures { (config : Config) → (history : List Entry) → IsInRange config → WeightLaw config history }
 {}
 
 /// A fate other than Held never changes (specs/Fates).

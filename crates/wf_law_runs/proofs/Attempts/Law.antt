@@ -3,7 +3,7 @@
 use Rattle.std.proofs.Common.{◌≡◌, refl, ap, sym, ◌∙◌, subst, arith, ℕ, zero, suc, ◌+◌, ◌-◌, ◌<◌, ◌≤◌, nat_le, Bool, true, false, if◌then◌else◌, not, ◌==◌, List, [], ◌∷◌, ◌++◌, length, take, Option, Some, None, IfSome}
 use Rattle.wf_frame.specs.declared.settings.Config.{Config}
 use Rattle.wf_frame.specs.declared.classes.Class.{Class}
-use Rattle.wf_frame.specs.declared.notes.Ask.TheVariants.{Join, Leave, Rate, Tick, Pull, Arrive, Answer, Done, Sleep, Wake, Poll, Rx, Reap, Ampdu, Stop, Start, Unsent, GiveUp, Flush}
+use Rattle.wf_frame.specs.declared.notes.Ask.TheVariants.{Join, Leave, Rate, Tick, Pull, Arrive, Answer, Done, Sleep, Wake, Poll, Rx, Reap, Ampdu, Stop, Start, Unsent, GiveUp, Flush, Offload, Weight}
 use Rattle.wf_frame.specs.declared.notes.Limits.{Limits}
 use Rattle.wf_frame.specs.declared.notes.Note.{Note}
 use Rattle.wf_frame.specs.declared.notes.Note.TheVariants.{Enqueue, Asked}
@@ -12,14 +12,16 @@ use Rattle.wf_frame.specs.declared.notes.Refusal.TheVariants.{Idle}
 use Rattle.wf_frame.specs.Classes.{all_classes}
 use Rattle.wf_frame.specs.Settings.{IsInRange}
 use Rattle.wf_def_lists.specs.Table.{at, upto, with_member}
+use Rattle.wf_def_lists.specs.Bounds.{greatest_window}
 use Rattle.wf_def_codel.specs.Codel.{Item}
-use Rattle.wf_def_agreement.specs.Session.{End, Session, Slot, State, no_slot, slot, on_slot, with_state, with_number_given, is_waiting, slot_after_miss, slot_given_up, after_flush, is_failed, request_due}
+use Rattle.wf_def_agreement.specs.Session.{End, Session, Slot, State, no_slot, slot, on_slot, with_state, with_number_given, is_waiting, slot_after_miss, slot_given_up, after_flush, is_failed, request_due, start_of}
+use Rattle.wf_def_agreement.specs.Receiver.{with_start}
 use Rattle.wf_def_world.specs.World.{World, Station, Exchange, Mpdu, Content, Frames, Request, new_tid, session, is_live, exchange, with_station, on_station, on_tid, on_session, on_receiver, on_share, with_exchange, without_exchange, with_fate, with_frame_finished, opening}
 use Rattle.wf_def_world.specs.FlowQueues.{taken_for_tid}
 use Rattle.wf_def_world.specs.CanSend.{can_send_in, can_give}
-use Rattle.wf_def_world.specs.Exchanges.{Aggregate, Prepared, most_frames, end_of, picked_station, sending_tid, waiting_mpdus, longest_fitting, with_number, with_fresh, aggregate_of, with_flying, prepared_data, prepared_exchange, with_exchange_opened, after_tid_turn, after_arrival, after_charge, with_failed_finished, with_settled, with_all_settled, with_heard_start, after_done}
+use Rattle.wf_def_world.specs.Exchanges.{Aggregate, Prepared, most_frames, end_of, picked_station, sending_tid, waiting_mpdus, longest_fitting, with_number, with_fresh, aggregate_of, with_flying, prepared_data, prepared_exchange, with_exchange_opened, after_tid_turn, after_arrival, after_charge, with_failed_finished, with_settled, with_all_settled, with_heard_start, after_done, caught_up, with_device_caught_up}
 use Rattle.wf_def_world.specs.Refusals.{refusal}
-use Rattle.wf_def_world.specs.Step.{Outcome, tick_outcome, rate_outcome, sleep_outcome, wake_outcome, poll_outcome, rx_outcome, join_outcome, leave_outcome, send_outcome, pull_outcome_for, pull_outcome, arrive_outcome, answer_outcome, done_outcome, outcome_where_open, reap_outcome, unsent_outcome, give_up_outcome, flush_outcome, outcome_of, concerned_station, after_refusal, judged_outcome, step}
+use Rattle.wf_def_world.specs.Step.{Outcome, tick_outcome, rate_outcome, sleep_outcome, wake_outcome, poll_outcome, rx_outcome, join_outcome, leave_outcome, send_outcome, pull_outcome_for, pull_outcome, arrive_outcome, answer_outcome, done_outcome, outcome_where_open, reap_outcome, unsent_outcome, give_up_outcome, flush_outcome, outcome_of, concerned_station, after_refusal, judged_outcome, step, offload_outcome, new_station}
 use Rattle.wf_def_world.specs.Run.{Entry, world_after}
 use Rattle.wf_def_world.specs.Stretches.{world_at}
 use Rattle.wf_law_runs.specs.Attempts.{IsTried, AttemptsLaw}
@@ -28,12 +30,12 @@ use Rattle.wf_law_rules.proofs.Lemmas.Tables.{each_put}
 use Rattle.wf_law_runs.proofs.Common.Refused.{after_idle}
 use Rattle.wf_law_runs.proofs.Common.Marks.{marked_world}
 use Rattle.wf_law_runs.proofs.Common.Ends.{slot_after_end, on_settled}
-use Rattle.wf_law_runs.proofs.Common.Flushes.{flush_at, if_flushed}
+use Rattle.wf_law_runs.proofs.Common.Flushes.{flush_at, if_flushed, if_caught}
 use Rattle.wf_law_runs.proofs.Common.Picked.{picked_world}
 use Rattle.wf_law_runs.proofs.Sessions.Flights.{AllIn, Rises, all_in_later}
 use Rattle.wf_law_runs.proofs.Deficits.Configs.{config_step}
 use Rattle.wf_law_runs.proofs.Windows.Opened.{eight}
-use Rattle.wf_law_runs.proofs.Windows.Sides.{Same, sides_of, then_same, each_side_on, same_on_station, same_on_share, same_on_queue, same_finish, same_listed, same_after_pick, same_after_turn, same_spent, same_take, same_charged, same_picked}
+use Rattle.wf_law_runs.proofs.Windows.Sides.{Same, sides_of, then_same, each_side_on, same_on_station, same_on_share, same_on_queue, same_finish, same_listed, same_after_pick, same_after_turn, same_spent, same_take, same_charged, same_picked, same_weighed}
 use Rattle.wf_law_runs.proofs.Windows.Agreed.{IsLawful, IsReady, IsEnding, IsFound, found, ready_filled, ending_settled, ending_of, lawful_same, lawful_step, lawful_at_first, session_same, winner_ready, same_left_tids, same_off_lists}
 use Rattle.wf_law_runs.proofs.Frames.Delivered.{same_enqueued}
 
@@ -252,6 +254,19 @@ tried_heard : (b : Bool) (limit f : ℕ) (y : Session) → AllTried limit y →
 tried_heard true limit f y h = h
 tried_heard false limit f y h = h
 
+tried_caught : (limit : ℕ) (w : World) (s t : ℕ) → Tried limit w → Tried limit (caught_up w s t)
+unfolding caught_up on_receiver
+tried_caught limit w s t h =
+    let start : ℕ = start_of (session w s t) in
+    let u : World = on_session w s t (with_heard_start true start) in
+    let k : Tried limit u = tried_on_session limit w s t (with_heard_start true start)
+    (tried_heard true limit start (session w s t) (h s t)) h in
+    each_side_on (λ _ _ z. AllTried limit z.session) u s t
+    (λ y. record y { receiver = with_start start y.receiver }) k (k s t)
+
+tried_device : (limit : ℕ) (w : World) (s t : ℕ) → Tried limit w → Tried limit (with_device_caught_up w s t)
+tried_device limit w s t h = if_caught (Tried limit) w s t h (λ _. tried_caught limit w s t h)
+
 tried_after : (air : Option ℕ) (c : Content) (limit : ℕ) (w : World) (i : IsLawful w) (x : Exchange)
     (heard : Bool)
     (v : World) → x.content ≡ c
@@ -260,9 +275,10 @@ tried_after : (air : Option ℕ) (c : Content) (limit : ℕ) (w : World) (i : Is
     → Tried limit (after_done v x heard c)
 unfolding after_done
 tried_after air (Frames ms) limit w i x heard v e is same_limit f h =
-    tried_all ms limit x.number x.station x.tid v (end_of x heard) same_limit
+    tried_device limit _ x.station x.tid
+    (tried_all ms limit x.number x.station x.tid v (end_of x heard) same_limit
     (subst (λ (u : World). IsEnding x.number x.station x.tid (end_of x heard) u ms) (sym is)
-    (ending_of air w i x ms heard e f)) h
+    (ending_of air w i x ms heard e f)) h)
 tried_after air (Request g) limit w i x heard v e is same_limit f h =
     tried_on_session limit v x.station x.tid _
     (tried_heard heard limit g (session v x.station x.tid) (h x.station x.tid)) h
@@ -327,16 +343,28 @@ tried_flushed limit w s t same_limit h = if_flushed (Tried limit)
     (record {
       finish = λ u id k. tried_same limit u _ (same_finish u _ id) k;
       empty = λ u q k. tried_same limit u _ (same_on_queue u q _) k;
-    }) w s t
+    }) w s t (λ v k _. tried_caught limit v s t k)
     (tried_on_session limit w s t _ (subst (λ (n : ℕ). AllTried limit (after_flush n (session w s t)))
     (sym same_limit) (tried_flush limit (session w s t) (h s t))) h)
+
+tried_new_station : (limit : ℕ) (w : World) (s window start exponent weight : ℕ) (offloaded : Bool) →
+    1 ≤ limit → Tried limit w → Tried limit (with_station w s
+    (Some (new_station w.config window start exponent weight offloaded)))
+tried_new_station limit w s window start exponent weight offloaded some h =
+    tried_with_station limit w s _ (eight (λ y. AllTried limit y.session) (new_tid start window)
+    (λ _. none_given limit some) (λ _. none_given limit some)) h
 
 tried_joined : (limit : ℕ) (w : World) (s window start exponent weight : ℕ) → 1 ≤ limit → Tried limit w
     → Tried limit (join_outcome w s window start exponent weight).world
 unfolding join_outcome
 tried_joined limit w s window start exponent weight some h =
-    tried_with_station limit w s _ (eight (λ y. AllTried limit y.session) (new_tid start window)
-    (λ _. none_given limit some) (λ _. none_given limit some)) h
+    tried_new_station limit w s window start exponent weight false some h
+
+tried_offloaded : (limit : ℕ) (w : World) (s exponent weight : ℕ) → 1 ≤ limit → Tried limit w
+    → Tried limit (offload_outcome w s exponent weight).world
+unfolding offload_outcome
+tried_offloaded limit w s exponent weight some h =
+    tried_new_station limit w s greatest_window 0 exponent weight true some h
 
 tried_gone : (limit : ℕ) (w : World) (s : ℕ) → 1 ≤ limit → Tried limit w →
     Tried limit (leave_outcome w s).world
@@ -368,6 +396,10 @@ tried_done (Enqueue s t flow len) limit w some same_limit i h =
     tried_same limit w _ (same_enqueued w s t flow len) h
 tried_done (Asked (Join s window start exponent weight)) limit w some same_limit i h =
     tried_joined limit w s window start exponent weight some h
+tried_done (Asked (Offload s exponent weight)) limit w some same_limit i h =
+    tried_offloaded limit w s exponent weight some h
+tried_done (Asked (Weight s weight)) limit w some same_limit i h =
+    tried_same limit w _ (same_weighed w s weight) h
 tried_done (Asked (Leave s)) limit w some same_limit i h = tried_gone limit w s some h
 tried_done (Asked (Rate s rate)) limit w some same_limit i h =
     tried_same limit w _ (same_on_station w s _ (λ x t. refl)) h

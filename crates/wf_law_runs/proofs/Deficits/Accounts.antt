@@ -1,18 +1,19 @@
--- Proves that a station's deficit is its quanta less its charges, in every world of a run. By induction on
--- the run and cases of the call.
+-- Proves that a station's deficit is its base and its quanta, less its charges, in every world of a run. By
+-- induction on the run and cases of the call.
 use Rattle.std.proofs.Common.{◌≡◌, refl, ap, sym, subst, arith, ℕ, zero, suc, ◌+◌, ◌*◌, ◌<◌, ℤ, pos, ◌+ℤ◌, ◌-ℤ◌, Bool, true, false, if◌then◌else◌, List, [], ◌∷◌, Option, Some, None, IfSome, unwrap_or, option_map}
 use Rattle.std.proofs.lemmas.Int.{ints}
 use Rattle.wf_frame.specs.declared.settings.Config.{Config}
 use Rattle.wf_frame.specs.declared.classes.Class.{Class}
 use Rattle.wf_frame.specs.declared.classes.Class.TheVariants.{Bk, Be, Vi, Vo}
 use Rattle.wf_frame.specs.declared.classes.Fate.{Fate}
-use Rattle.wf_frame.specs.declared.notes.Ask.TheVariants.{Join, Leave, Rate, Tick, Pull, Arrive, Answer, Done, Sleep, Wake, Poll, Rx, Reap, Ampdu, Stop, Start, Unsent, GiveUp, Flush}
+use Rattle.wf_frame.specs.declared.notes.Ask.TheVariants.{Join, Leave, Rate, Tick, Pull, Arrive, Answer, Done, Sleep, Wake, Poll, Rx, Reap, Ampdu, Stop, Start, Unsent, GiveUp, Flush, Offload, Weight}
 use Rattle.wf_frame.specs.declared.notes.Limits.{Limits}
 use Rattle.wf_frame.specs.declared.notes.Note.{Note}
 use Rattle.wf_frame.specs.declared.notes.Note.TheVariants.{Enqueue, Asked}
 use Rattle.wf_frame.specs.declared.notes.Refusal.{Refusal}
 use Rattle.wf_frame.specs.declared.notes.Refusal.TheVariants.{Idle}
 use Rattle.wf_def_lists.specs.Table.{at}
+use Rattle.wf_def_lists.specs.Bounds.{greatest_window}
 use Rattle.wf_def_codel.specs.Codel.{Item}
 use Rattle.wf_def_rotation.specs.Rotation.{Rotation}
 use Rattle.wf_def_agreement.specs.Session.{Session, End}
@@ -21,27 +22,29 @@ use Rattle.wf_def_world.specs.World.{World, Station, Share, Tid, Queue, Exchange
 use Rattle.wf_frame.specs.Classes.{class_number}
 use Rattle.wf_def_world.specs.FlowQueues.{without_head, after_limit, with_listed_queue, with_appended, after_put_in, with_queues_paid, taken_by_codel, taken_from_picked, taken_for_tid, after_queue_left, after_queues_left, after_queue_flushed, after_queues_flushed}
 use Rattle.wf_def_world.specs.CanSend.{with_listing_in, with_listings_in, with_listings_of}
-use Rattle.wf_def_world.specs.Exchanges.{Aggregate, Prepared, with_station_paid, with_stations_paid, after_pick, after_tid_turn, with_fresh, aggregate_of, with_number, without_credit, prepared_data, prepared_exchange, with_exchange_opened, after_charge, with_failed_finished, with_settled, with_all_settled, after_done, charge_of}
-use Rattle.wf_def_world.specs.Step.{Outcome, join_outcome, after_tid_left, after_tids_left, without_listings, leave_outcome, after_tid_flushed, flush_outcome, rate_outcome, tick_outcome, with_frame, enqueue_outcome, send_outcome, pull_outcome_for, pull_outcome, arrive_outcome, answer_outcome, unsent_outcome, give_up_outcome, done_outcome, outcome_where_open, sleep_outcome, wake_outcome, poll_outcome, rx_outcome, reap_outcome, outcome_of, after_refusal, judged_outcome, step}
+use Rattle.wf_def_world.specs.Exchanges.{Aggregate, Prepared, with_station_paid, with_stations_paid, after_pick, after_tid_turn, with_fresh, aggregate_of, with_number, without_credit, prepared_data, prepared_exchange, with_exchange_opened, after_charge, with_failed_finished, with_settled, with_all_settled, after_done, charge_of, with_device_caught_up, caught_up}
+use Rattle.wf_def_world.specs.Step.{Outcome, join_outcome, after_tid_left, after_tids_left, without_listings, leave_outcome, after_tid_flushed, flush_outcome, rate_outcome, tick_outcome, with_frame, enqueue_outcome, send_outcome, pull_outcome_for, pull_outcome, arrive_outcome, answer_outcome, unsent_outcome, give_up_outcome, done_outcome, outcome_where_open, sleep_outcome, wake_outcome, poll_outcome, rx_outcome, reap_outcome, outcome_of, after_refusal, judged_outcome, step, offload_outcome, weight_outcome, new_station}
 use Rattle.wf_def_world.specs.Run.{Entry, world_after}
 use Rattle.wf_law_runs.proofs.Common.Refused.{after_idle}
 use Rattle.wf_law_runs.proofs.Deficits.Balance.{IsBalanced, IsFairStation, IsFair}
+use Rattle.wf_law_runs.proofs.Deficits.Books.{Account, account, Books, books, each_upd}
+use Rattle.wf_law_runs.proofs.Deficits.BookSteps.{reweighed, with_weight, books_weighed}
 use Rattle.wf_law_rules.proofs.Lemmas.Tables.{each_put}
 
 -- ---- arithmetic
 
-new_balanced : (q : ℕ) → IsBalanced q (new_share q)
-new_balanced q = record { deficit = omega (arith, ints) }
+new_balanced : (q : ℕ) → IsBalanced q false (new_share q)
+new_balanced q = record { deficit = omega (arith, ints); own = λ _. refl }
 
-paid_number : (q n k m : ℕ) (d : ℤ) → d ≡ pos (q + q * n) -ℤ pos m →
-    d +ℤ pos (k * q) ≡ pos (q + q * (n + k)) -ℤ pos m
-paid_number q n k m d e = omega (arith, ints)
+paid_number : (q n k m : ℕ) (b d : ℤ) → d ≡ b +ℤ pos (q * n) -ℤ pos m →
+    d +ℤ pos (k * q) ≡ b +ℤ pos (q * (n + k)) -ℤ pos m
+paid_number q n k m b d e = omega (arith, ints)
 
-charged_number : (a m r n : ℕ) (d : ℤ) → d ≡ pos a -ℤ pos (m + r) → d -ℤ pos n ≡ pos a -ℤ pos (m + n + r)
-charged_number a m r n d e = omega (arith, ints)
+charged_number : (m r n : ℕ) (a d : ℤ) → d ≡ a -ℤ pos (m + r) → d -ℤ pos n ≡ a -ℤ pos (m + n + r)
+charged_number m r n a d e = omega (arith, ints)
 
-received_number : (a m r n : ℕ) (d : ℤ) → d ≡ pos a -ℤ pos (m + r) → d -ℤ pos n ≡ pos a -ℤ pos (m + (r + n))
-received_number a m r n d e = omega (arith, ints)
+received_number : (m r n : ℕ) (a d : ℤ) → d ≡ a -ℤ pos (m + r) → d -ℤ pos n ≡ a -ℤ pos (m + (r + n))
+received_number m r n a d e = omega (arith, ints)
 
 -- ---- one station changes
 
@@ -93,15 +96,16 @@ unfolding with_queues
 fair_with_queues w s t r h = fair_on_tid w s t _ h
 
 fair_on_share : (w : World) (s : ℕ) (c : Class) (f : Share → Share) → IsFair w →
-    ((x : Share) → IsBalanced (quantum w s) x → IsBalanced (quantum w s) (f x)) → IsFair (on_share w s c f)
+    ((x : Share) (b : Bool) → IsBalanced (quantum w s) b x → IsBalanced (quantum w s) b (f x)) →
+    IsFair (on_share w s c f)
 unfolding on_share
 fair_on_share w s c f h k = fair_on_known w s _ h (λ x e fair.
     let q : quantum w s ≡ w.config.quantum * x.weight =
     ap (λ (o : Option Station). w.config.quantum * (unwrap_or o no_station).weight) e in
-    each_put (λ k y. k < 4 → IsBalanced (w.config.quantum * x.weight) y) no_share x.shares
+    each_put (λ k y. k < 4 → IsBalanced (w.config.quantum * x.weight) x.weighed y) no_share x.shares
     (class_number c) _ fair
-    (λ below. subst (λ (n : ℕ). IsBalanced n (f (at no_share x.shares (class_number c)))) q
-    (k _ (subst (λ (n : ℕ). IsBalanced n (at no_share x.shares (class_number c))) (sym q)
+    (λ below. subst (λ (n : ℕ). IsBalanced n x.weighed (f (at no_share x.shares (class_number c)))) q
+    (k _ _ (subst (λ (n : ℕ). IsBalanced n x.weighed (at no_share x.shares (class_number c))) (sym q)
     (fair (class_number c) below)))))
 
 -- ---- no station changes
@@ -155,9 +159,10 @@ fair_listed w (Some s) h = fair_listed_in_all _ w s h
 fair_pay_station : (w : World) (c : Class) (k s : ℕ) → IsFair w → IsFair (with_station_paid w c k s)
 unfolding with_station_paid
 fair_pay_station w c k s h = fair_on_share w s c _ h
-    (λ x b. record {
+    (λ x weighed b. record {
       deficit = paid_number (quantum w s) x.quanta k
-          (x.charged + x.received) x.deficit b.deficit;
+          (x.charged + x.received) x.base x.deficit b.deficit;
+      own = b.own;
     })
 
 fair_pay_stations : (ss : List ℕ) (w : World) (c : Class) (quanta : ℕ → ℕ) → IsFair w →
@@ -219,7 +224,8 @@ fair_flush_queues (q ∷ qs) w h = fair_flush_queues qs _ (fair_finish_all _ _ _
 
 fair_after_turn : (w : World) (s : ℕ) (c : Class) (t : ℕ) → IsFair w → IsFair (after_tid_turn w s c t)
 unfolding after_tid_turn
-fair_after_turn w s c t h = fair_on_share w s c _ h (λ x b. record { deficit = b.deficit })
+fair_after_turn w s c t h = fair_on_share w s c _ h
+    (λ x weighed b. record { deficit = b.deficit; own = b.own })
 
 fair_with_number : (o : Option Item) (w : World) (s t : ℕ) → IsFair w → IsFair (with_number w s t o)
 unfolding with_number
@@ -287,8 +293,10 @@ fair_answered w x h = fair_with_exchange w _ h
 
 fair_charged : (air : Option ℕ) (w : World) (x : Exchange) → IsFair w → IsFair (after_charge w x air)
 unfolding after_charge
-fair_charged air w x h = fair_on_share w _ _ _ h (λ y b.
-    record { deficit = charged_number _ y.charged y.received (charge_of air x) y.deficit b.deficit })
+fair_charged air w x h = fair_on_share w _ _ _ h (λ y weighed b. record {
+  deficit = charged_number y.charged y.received (charge_of air x) _ y.deficit b.deficit;
+  own = b.own;
+})
 
 fair_unsent : (w : World) (x : Exchange) (i : ℕ) → IsFair w → IsFair (unsent_outcome w x i).world
 unfolding unsent_outcome
@@ -315,10 +323,14 @@ unfolding with_all_settled
 fair_all_settled [] w s t ends h = h
 fair_all_settled (m ∷ ms) w s t ends h = fair_all_settled ms _ s t ends (fair_settled _ w s t m h)
 
+fair_caught_up : (w : World) (s t : ℕ) → IsFair w → IsFair (with_device_caught_up w s t)
+unfolding with_device_caught_up caught_up
+fair_caught_up w s t h = fair_if _ _ _ (fair_on_receiver _ s t _ (fair_on_session w s t _ h)) h
+
 fair_after_done : (content : Content) (w : World) (x : Exchange) (heard : Bool) → IsFair w →
     IsFair (after_done w x heard content)
 unfolding after_done
-fair_after_done (Frames mpdus) w x heard h = fair_all_settled mpdus w _ _ _ h
+fair_after_done (Frames mpdus) w x heard h = fair_caught_up _ _ _ (fair_all_settled mpdus w _ _ _ h)
 fair_after_done (Request start) w x heard h = fair_on_session w _ _ _ h
 
 fair_ended : (air : Option ℕ) (w : World) (x : Exchange) (heard : Bool) → IsFair w →
@@ -328,18 +340,81 @@ fair_ended air w x heard h = fair_after_done _ _ x heard (fair_charged air _ x (
 
 -- ---- stations
 
-fair_joined : (w : World) (s window start exponent weight : ℕ) → IsFair w →
-    IsFair (join_outcome w s window start exponent weight).world
-unfolding join_outcome
-fair_joined w s window start exponent weight h = fair_with_station w s _ h (λ k below. four _ k below)
+fair_new_station : (w : World) (s window start exponent weight : ℕ) (offloaded : Bool) → IsFair w →
+    IsFair (with_station w s (Some (new_station w.config window start exponent weight offloaded)))
+fair_new_station w s window start exponent weight offloaded h =
+    fair_with_station w s _ h (λ k below. four _ k below)
   where
-    four : (q k : ℕ) → k < 4 → IsBalanced q (at no_share
+    four : (q k : ℕ) → k < 4 → IsBalanced q false (at no_share
         (new_share q ∷ new_share q ∷ new_share q ∷ new_share q ∷ []) k)
     four q zero below = new_balanced q
     four q (suc zero) below = new_balanced q
     four q (suc (suc zero)) below = new_balanced q
     four q (suc (suc (suc zero))) below = new_balanced q
     four q (suc (suc (suc (suc k)))) below = absurd (omega arith)
+
+fair_joined : (w : World) (s window start exponent weight : ℕ) → IsFair w →
+    IsFair (join_outcome w s window start exponent weight).world
+unfolding join_outcome
+fair_joined w s window start exponent weight h = fair_new_station w s window start exponent weight false h
+
+fair_offloaded : (w : World) (s exponent weight : ℕ) → IsFair w →
+    IsFair (offload_outcome w s exponent weight).world
+unfolding offload_outcome
+fair_offloaded w s exponent weight h = fair_new_station w s greatest_window 0 exponent weight true h
+
+-- The shares of an account are balanced.
+IsFairAccount : ℕ → Account → Type 0
+IsFairAccount q a = (c : Class) → IsBalanced (q * a.weight) a.weighed (a.shares c)
+
+fair_account : (q : ℕ) (o : Option Station) → IfSome o (IsFairStation q) →
+    IfSome (option_map account o) (IsFairAccount q)
+unfolding IsFairAccount
+fair_account q None h = tt
+fair_account q (Some x) h = λ c.
+    let b = h (class_number c) (below_four c) in record { deficit = b.deficit; own = b.own }
+
+fair_from : (q : ℕ) (o : Option Station) → IfSome (option_map account o) (IsFairAccount q) →
+    IfSome o (IsFairStation q)
+unfolding IsFairAccount
+fair_from q None h = tt
+fair_from q (Some x) h = go
+  where
+    go : IsFairStation q x
+    go zero below = record { deficit = (h Bk).deficit; own = (h Bk).own }
+    go (suc zero) below = record { deficit = (h Be).deficit; own = (h Be).own }
+    go (suc (suc zero)) below = record { deficit = (h Vi).deficit; own = (h Vi).own }
+    go (suc (suc (suc zero))) below = record { deficit = (h Vo).deficit; own = (h Vo).own }
+    go (suc (suc (suc (suc k)))) below = absurd (omega arith)
+
+lowered_number : (q n m : ℕ) (d : ℤ) → d ≡ d +ℤ pos m -ℤ pos (q * n) +ℤ pos (q * n) -ℤ pos m
+lowered_number q n m d = omega (arith, ints)
+
+-- A weight that is set balances each share anew.
+fair_weighed : (w : World) (s weight : ℕ) → IsFair w → IsFair (weight_outcome w s weight).world
+unfolding IsFairAccount
+fair_weighed w s weight h = record {
+  each = λ y. subst
+      (λ (q : ℕ). IfSome (at None (weight_outcome w s weight).world.stations y) (IsFairStation q))
+      (ap (λ (b : Books). b.config.quantum) (sym (books_weighed w s weight)))
+      (fair_from w.config.quantum _ (subst
+      (λ (b : Books). IfSome (b.accounts y) (IsFairAccount w.config.quantum))
+      (sym (books_weighed w s weight)) (all y)));
+}
+  where
+    all : (y : ℕ) → IfSome ((with_weight (books w) s weight).accounts y) (IsFairAccount w.config.quantum)
+    all = each_upd (λ y o. IfSome o (IsFairAccount w.config.quantum)) (books w).accounts s _
+        (λ y. fair_account w.config.quantum (at None w.stations y) (h.each y))
+        (go ((books w).accounts s))
+      where
+        go : (o : Option Account) → IfSome (option_map (reweighed w.config (books w).opened s weight) o)
+            (IsFairAccount w.config.quantum)
+        go None = tt
+        go (Some a) = λ c. record {
+          deficit = lowered_number (w.config.quantum * weight) (a.shares c).quanta
+              ((a.shares c).charged + (a.shares c).received) _;
+          own = λ e. absurd (cc e);
+        }
 
 fair_left_tids : (ts : List ℕ) (w : World) (s : ℕ) → IsFair w → IsFair (after_tids_left w s ts)
 unfolding after_tids_left after_tid_left
@@ -358,7 +433,8 @@ fair_gone w s h = fair_with_station _ s None (fair_off_lists _ _ s (fair_left_ti
 
 fair_flushed : (w : World) (s t : ℕ) → IsFair w → IsFair (flush_outcome w s t).world
 unfolding flush_outcome after_tid_flushed
-fair_flushed w s t h = fair_flush_queues _ _ (fair_finish_all _ _ _ (fair_on_session w s t _ h))
+fair_flushed w s t h = fair_caught_up _ s t
+    (fair_flush_queues _ _ (fair_finish_all _ _ _ (fair_on_session w s t _ h)))
 
 fair_enqueued : (w : World) (s t flow len : ℕ) → IsFair w → IsFair (enqueue_outcome w s t flow len).world
 unfolding enqueue_outcome with_frame
@@ -367,7 +443,10 @@ fair_enqueued w s t flow len h = record { each = (fair_put_in _ s t _ _ (fair_wi
 fair_received : (w : World) (s : ℕ) (c : Class) (air : ℕ) → IsFair w → IsFair (rx_outcome w s c air).world
 unfolding rx_outcome
 fair_received w s c air h = fair_on_share w s c _ h
-    (λ x b. record { deficit = received_number _ x.charged x.received air x.deficit b.deficit })
+    (λ x weighed b. record {
+      deficit = received_number x.charged x.received air _ x.deficit b.deficit;
+      own = b.own;
+    })
 
 fair_reaped : (ids : List ℕ) (w : World) → IsFair w → IsFair (reap_outcome w ids).world
 unfolding reap_outcome
@@ -380,6 +459,8 @@ fair_done : (note : Note) (w : World) → IsFair w → IsFair (outcome_of w note
 unfolding outcome_of tick_outcome rate_outcome sleep_outcome wake_outcome poll_outcome
 fair_done (Enqueue s t flow len) w h = fair_enqueued w s t flow len h
 fair_done (Asked (Join s window start exponent weight)) w h = fair_joined w s window start exponent weight h
+fair_done (Asked (Offload s exponent weight)) w h = fair_offloaded w s exponent weight h
+fair_done (Asked (Weight s weight)) w h = fair_weighed w s weight h
 fair_done (Asked (Leave s)) w h = fair_gone w s h
 fair_done (Asked (Rate s rate)) w h = fair_on_station w s _ h (λ q x k. k)
 fair_done (Asked (Tick by)) w h = record { each = h.each }
@@ -419,7 +500,7 @@ unfolding world_after
 fair_run [] w f = f
 fair_run (e ∷ es) w f = fair_run es _ (fair_step w e.1 f)
 
--- In every world of a run, for each live station and class: deficit = Q g + Q g quanta - charged -
+-- In every world of a run, for each live station and class: deficit = base + Q g quanta - charged -
 -- received, with the quantum Q and the weight g.
 pub accounts : (config : Config) (h : List Entry) → IsFair (world_after (opening config) h)
 accounts config h = fair_run h (opening config) (record { each = λ s. tt })

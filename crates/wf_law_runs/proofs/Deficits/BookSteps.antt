@@ -1,5 +1,5 @@
 -- Proves how each part of a call changes the books, one equation for each.
-use Rattle.std.proofs.Common.{◌≡◌, refl, ap, sym, ◌∙◌, subst, arith, ℕ, zero, suc, ◌+◌, ◌*◌, pos, ◌+ℤ◌, ◌-ℤ◌, Bool, true, false, if◌then◌else◌, List, [], ◌∷◌, ◌++◌, Option, Some, None, unwrap_or, option_map, not, map, filter, ◌==◌, inl, inr}
+use Rattle.std.proofs.Common.{◌≡◌, refl, ap, sym, ◌∙◌, subst, arith, ℕ, zero, suc, ◌+◌, ◌*◌, pos, ◌+ℤ◌, ◌-ℤ◌, Bool, true, false, if◌then◌else◌, List, [], ◌∷◌, ◌++◌, Option, Some, None, unwrap_or, option_map, not, map, filter, ◌==◌, inl, inr, min, ◌-◌, ℤ}
 use Rattle.std.proofs.Math.Path.{fun_ext}
 use Rattle.std.proofs.lemmas.Int.{ints}
 use Rattle.std.proofs.lemmas.Bool.{cases_Bool, cases_eq}
@@ -11,14 +11,17 @@ use Rattle.wf_def_codel.specs.Codel.{Item}
 use Rattle.wf_def_rotation.specs.Rotation.{without_key, in_order, Picked}
 use Rattle.wf_def_agreement.specs.Session.{End}
 use Rattle.wf_def_world.specs.Rates.{rate_asked}
-use Rattle.wf_def_world.specs.World.{World, Station, Share, Exchange, Mpdu, Content, Frames, Request, no_share, no_station, rotation, quantum, with_rotation, without_exchange}
+use Rattle.wf_def_world.specs.World.{World, Station, Share, Exchange, Mpdu, Content, Frames, Request, no_share, no_station, rotation, quantum, with_rotation, without_exchange, owed, on_share, with_station}
 use Rattle.wf_frame.specs.Classes.{class_number}
 use Rattle.wf_frame.specs.declared.notes.AskedRate.{AskedRate}
+use Rattle.wf_frame.specs.declared.settings.Config.{Config}
 use Rattle.wf_def_world.specs.FlowQueues.{without_head, after_limit, with_listed_queue, with_appended, after_put_in, with_queues_paid, taken_by_codel, taken_from_picked, taken_for_tid, after_queue_left, after_queues_left, after_queue_flushed, after_queues_flushed}
-use Rattle.wf_def_world.specs.Exchanges.{Aggregate, Prepared, with_station_paid, with_stations_paid, after_pick, after_tid_turn, with_fresh, aggregate_of, with_number, without_credit, prepared_data, prepared_exchange, with_exchange_opened, after_charge, with_failed_finished, with_settled, with_all_settled, after_done, exchange_of, picked_station, charge_of}
-use Rattle.wf_def_world.specs.Step.{join_outcome, after_tid_left, after_tids_left, without_listings, leave_outcome, rate_outcome, with_frame, enqueue_outcome, send_outcome, done_outcome, sleep_outcome, wake_outcome, poll_outcome, rx_outcome, reap_outcome, ampdu_outcome, stop_outcome, start_outcome, after_tid_flushed, flush_outcome}
-use Rattle.wf_law_runs.proofs.Deficits.Books.{upd, updc, Account, plain, account, core, Books, books, with_account, with_lists, on_part, books_with_station, books_with_rotation, books_on_station, books_hidden, books_on_session, books_with_queues, books_on_share, books_on_queue, books_finish, books_finish_all, books_if, updc_idle, upd_idle, upd_same, upd_other, updc_same}
+use Rattle.wf_def_world.specs.Exchanges.{Aggregate, Prepared, with_station_paid, with_stations_paid, after_pick, after_tid_turn, with_fresh, aggregate_of, with_number, without_credit, prepared_data, prepared_exchange, with_exchange_opened, after_charge, with_failed_finished, with_settled, with_all_settled, after_done, exchange_of, picked_station, charge_of, caught_up, with_device_caught_up, longest_computed}
+use Rattle.wf_def_world.specs.Step.{join_outcome, after_tid_left, after_tids_left, without_listings, leave_outcome, rate_outcome, with_frame, enqueue_outcome, send_outcome, done_outcome, sleep_outcome, wake_outcome, poll_outcome, rx_outcome, reap_outcome, ampdu_outcome, stop_outcome, start_outcome, after_tid_flushed, flush_outcome, offload_outcome, at_most, share_with_deficit, most_kept, with_deficits_lowered, weight_outcome, new_station}
+use Rattle.wf_law_runs.proofs.Deficits.Books.{upd, updc, Account, plain, account, core, Books, books, with_account, with_lists, on_part, books_with_station, books_with_rotation, books_on_station, books_hidden, books_on_session, books_with_queues, books_on_share, books_on_queue, books_finish, books_finish_all, books_if, updc_idle, upd_idle, upd_same, upd_other, updc_same, books_on_receiver}
+use Rattle.wf_law_runs.proofs.Deficits.Openings.{owed-core}
 use Rattle.wf_def_lists.specs.Lists.{on}
+use Rattle.wf_def_lists.specs.Bounds.{greatest_window}
 use Rattle.wf_law_rules.proofs.Lemmas.Counts.{on-nil, on-cons_same, on-cons_other}
 
 -- ---- flow queues
@@ -64,9 +67,14 @@ unfolding after_queues_flushed after_queue_flushed
 books_flush_queues [] w = refl
 books_flush_queues (q ∷ qs) w = books_flush_queues qs _ ∙ (books_finish_all _ _ _ ∙ books_on_queue w q _)
 
+books_caught_up : (w : World) (s t : ℕ) → books (with_device_caught_up w s t) ≡ books w
+unfolding with_device_caught_up caught_up
+books_caught_up w s t = books_if _ (books w) _ _ (books_on_receiver _ s t _ ∙ books_on_session w s t _) refl
+
 pub books_flushed : (w : World) (s t : ℕ) → books (flush_outcome w s t).world ≡ books w
 unfolding flush_outcome after_tid_flushed
-books_flushed w s t = books_flush_queues _ _ ∙ (books_finish_all _ _ _ ∙ books_on_session w s t _)
+books_flushed w s t = books_caught_up _ s t
+    ∙ (books_flush_queues _ _ ∙ (books_finish_all _ _ _ ∙ books_on_session w s t _))
 
 -- ---- pulls
 
@@ -183,7 +191,7 @@ books_all_settled (m ∷ ms) w s t ends = books_all_settled ms _ s t ends ∙ bo
 books_after_done : (content : Content) (w : World) (x : Exchange) (heard : Bool) →
     books (after_done w x heard content) ≡ books w
 unfolding after_done
-books_after_done (Frames mpdus) w x heard = books_all_settled mpdus w _ _ _
+books_after_done (Frames mpdus) w x heard = books_caught_up _ _ _ ∙ books_all_settled mpdus w _ _ _
 books_after_done (Request start) w x heard = books_on_session w _ _ _
 
 pub books_ended : (air : Option ℕ) (w : World) (x : Exchange) (heard : Bool) →
@@ -269,23 +277,24 @@ unfolding rate_outcome
 books_with_rate w s rate = books_on_station w s _ (rated rate) (λ x. refl)
 
 abbrev pub fresh_share : ℕ → Share
-fresh_share q = record { deficit = pos q; quanta = 0; charged = 0; received = 0; upper = false }
+fresh_share q =
+    record { deficit = pos q; base = pos q; quanta = 0; charged = 0; received = 0; upper = false }
 
 abbrev pub fresh_account : ℕ → ℕ → Account
 fresh_account q weight = record {
   weight = weight;
+  weighed = false;
   rate = lowest_rate;
   shares =
       λ c. fresh_share (q * weight);
 }
 
-pub books_joined : (w : World) (s window start exponent weight : ℕ) →
-    books (join_outcome w s window start exponent weight).world
+books_new_station : (w : World) (s window start exponent weight : ℕ) (offloaded : Bool) →
+    books (with_station w s (Some (new_station w.config window start exponent weight offloaded)))
     ≡ with_account (books w) s (Some (fresh_account w.config.quantum weight))
-unfolding join_outcome
-books_joined w s window start exponent weight =
-    books_with_station w s _ ∙ ap (λ (f : Class → Share).
-    with_account (books w) s (Some (record { weight = weight; rate = lowest_rate; shares = f })))
+books_new_station w s window start exponent weight offloaded =
+    books_with_station w s _ ∙ ap (λ (f : Class → Share). with_account (books w) s
+    (Some (record { weight = weight; weighed = false; rate = lowest_rate; shares = f })))
     (fun_ext (four (w.config.quantum * weight)))
   where
     four : (q : ℕ) (c : Class) → plain (at no_share
@@ -294,6 +303,18 @@ books_joined w s window start exponent weight =
     four q Be = refl
     four q Vi = refl
     four q Vo = refl
+
+pub books_joined : (w : World) (s window start exponent weight : ℕ) →
+    books (join_outcome w s window start exponent weight).world
+    ≡ with_account (books w) s (Some (fresh_account w.config.quantum weight))
+unfolding join_outcome
+books_joined w s window start exponent weight = books_new_station w s window start exponent weight false
+
+pub books_offloaded : (w : World) (s exponent weight : ℕ) →
+    books (offload_outcome w s exponent weight).world
+    ≡ with_account (books w) s (Some (fresh_account w.config.quantum weight))
+unfolding offload_outcome
+books_offloaded w s exponent weight = books_new_station w s greatest_window 0 exponent weight true
 
 -- ---- giving quanta
 
@@ -321,6 +342,14 @@ books_pay_station w c n s = books_on_share w s c _ (pay_share (quantum w s) n) (
     known None e = refl
     known (Some x) e = ap (λ (q : ℕ). Some (on_part c (pay_share q n) (account x))) (quantum_of w s x e)
 
+updc_twice : {X : Type 0} (f : Class → X) (c : Class) (x y : X) → updc (updc f c x) c y ≡ updc f c y
+updc_twice {X} f c x y = fun_ext (λ d. go d (class_number d == class_number c) refl)
+  where
+    go : (d : Class) (b : Bool) → (class_number d == class_number c) ≡ b →
+        updc (updc f c x) c y d ≡ updc f c y d
+    go d true e = rw e refl
+    go d false e = rw e refl
+
 -- An account does not change if it gets no quanta.
 paid_none : (q : ℕ) (c : Class) (n : ℕ) (a : Account) → n ≡ 0 → paid q c n a ≡ a
 paid_none q c n a e = ap (λ (z : Class → Share). record a { shares = z })
@@ -329,14 +358,6 @@ paid_none q c n a e = ap (λ (z : Class → Share). record a { shares = z })
     none : (x : Share) → pay_share (q * a.weight) 0 x ≡ x
     none x = let d : x.deficit +ℤ pos (0 * (q * a.weight)) ≡ x.deficit = omega (arith, ints) in
         let n : x.quanta + 0 ≡ x.quanta = omega arith in rw (d, n) refl
-
-updc_twice : {X : Type 0} (f : Class → X) (c : Class) (x y : X) → updc (updc f c x) c y ≡ updc f c y
-updc_twice {X} f c x y = fun_ext (λ d. go d (class_number d == class_number c) refl)
-  where
-    go : (d : Class) (b : Bool) → (class_number d == class_number c) ≡ b →
-        updc (updc f c x) c y d ≡ updc f c y d
-    go d true e = rw e refl
-    go d false e = rw e refl
 
 paid_twice : (q : ℕ) (c : Class) (m n : ℕ) (a : Account) → paid q c m (paid q c n a) ≡ paid q c (n + m) a
 paid_twice q c m n a = ap (λ (z : Class → Share). record a { shares = z })
@@ -406,3 +427,107 @@ unfolding after_pick
 books_after_pick w c = books_with_rotation _ c _
     ∙ ap (λ (b : Books). with_lists b c (picked_station w c).lists)
     (books_pay_stations (in_order (rotation w c)) w c (picked_station w c).quanta)
+
+-- ---- a weight that is set
+
+-- Returns how much airtime in flight a deficit may cover beyond one quantum after the weight is set.
+abbrev pub spare : Config → ℕ → Class → List Exchange → ℕ
+spare config s c opened = min (if config.pending == 1 then owed s c opened else 0)
+    ((config.inflight - 1) * longest_computed config c)
+
+-- The share after its station's quantum became q: its deficit is at most q and n.
+abbrev pub lowered : ℕ → ℕ → Share → Share
+lowered q n x = share_with_deficit q (at_most (q + n) x.deficit) x
+
+-- The account after its weight was set to g.
+abbrev pub reweighed : Config → List Exchange → ℕ → ℕ → Account → Account
+reweighed config opened s g a = record {
+  weight = g;
+  weighed = true;
+  rate = a.rate;
+  shares = λ c. lowered (config.quantum * g) (spare config s c opened) (a.shares c);
+}
+
+abbrev pub with_weight : Books → ℕ → ℕ → Books
+with_weight b s g = with_account b s (option_map (reweighed b.config b.opened s g) (b.accounts s))
+
+abbrev weight_set : ℕ → Account → Account
+weight_set g a = record a { weight = g; weighed = true }
+
+-- One class of the account is lowered.
+abbrev lowered_in : Config → List Exchange → ℕ → Class → Account → Account
+lowered_in config opened s c a = on_part c (lowered (config.quantum * a.weight) (spare config s c opened)) a
+
+books_lowered_in : (w : World) (s : ℕ) (c : Class) → books (on_share w s c
+    (λ y. share_with_deficit (quantum w s) (at_most (most_kept w s c) y.deficit) y))
+    ≡ with_account (books w) s (option_map (lowered_in w.config (books w).opened s c) ((books w).accounts s))
+books_lowered_in w s c =
+    books_on_share w s c _ (lowered (quantum w s) (spare w.config s c w.opened)) (λ x. refl)
+    ∙ ap (with_account (books w) s) (known (at None w.stations s) refl)
+  where
+    same : spare w.config s c w.opened ≡ spare w.config s c (books w).opened
+    same = ap (λ (n : ℕ). min (if w.config.pending == 1 then n else 0)
+        ((w.config.inflight - 1) * longest_computed w.config c)) (sym (owed-core s c w.opened))
+
+    known : (o : Option Station) → at None w.stations s ≡ o →
+        option_map (on_part c (lowered (quantum w s) (spare w.config s c w.opened))) (option_map account o)
+        ≡ option_map (lowered_in w.config (books w).opened s c) (option_map account o)
+    known None e = refl
+    known (Some x) e =
+        ap (λ (q : ℕ). Some (on_part c (lowered q (spare w.config s c w.opened)) (account x)))
+        (quantum_of w s x e)
+        ∙ ap (λ (n : ℕ). Some (on_part c (lowered (w.config.quantum * x.weight) n) (account x))) same
+
+upd_twice : {X : Type 0} (f : ℕ → X) (k : ℕ) (x y : X) → upd (upd f k x) k y ≡ upd f k y
+upd_twice {X} f k x y = fun_ext (λ i. go i (i == k) refl)
+  where
+    go : (i : ℕ) (b : Bool) → (i == k) ≡ b → upd (upd f k x) k y i ≡ upd f k y i
+    go i true e = rw e refl
+    go i false e = rw e refl
+
+map_twice : (f g : Account → Account) (o : Option Account) →
+    option_map g (option_map f o) ≡ option_map (λ a. g (f a)) o
+map_twice f g None = refl
+map_twice f g (Some a) = refl
+
+-- Two changes of an account are one.
+on_twice : (b : Books) (s : ℕ) (f g : Account → Account) →
+    with_account (with_account b s (option_map f (b.accounts s))) s
+    (option_map g ((with_account b s (option_map f (b.accounts s))).accounts s))
+    ≡ with_account b s (option_map (λ a. g (f a)) (b.accounts s))
+on_twice b s f g = ap (λ (z : ℕ → Option Account). record b { accounts = z })
+    (upd_twice b.accounts s _ _ ∙ ap (upd b.accounts s)
+    (ap (option_map g) (upd_same b.accounts s (option_map f (b.accounts s))) ∙ map_twice f g (b.accounts s)))
+
+books_lowered_next : (w v : World) (s : ℕ) (c : Class) (f : Account → Account) →
+    books v ≡ with_account (books w) s (option_map f ((books w).accounts s)) →
+    books (on_share v s c (λ y. share_with_deficit (quantum v s) (at_most (most_kept v s c) y.deficit) y))
+    ≡ with_account (books w) s (option_map (λ a. lowered_in w.config (books w).opened s c (f a))
+    ((books w).accounts s))
+books_lowered_next w v s c f e = books_lowered_in v s c
+    ∙ (ap (λ (b : Books). with_account b s (option_map (lowered_in b.config b.opened s c) (b.accounts s))) e
+    ∙ on_twice (books w) s f (lowered_in w.config (books w).opened s c))
+
+-- The account after its weight is set and each class is lowered.
+abbrev lowered_all : Config → List Exchange → ℕ → ℕ → Account → Account
+lowered_all config opened s g a = lowered_in config opened s Vo (lowered_in config opened s Vi
+    (lowered_in config opened s Be (lowered_in config opened s Bk (weight_set g a))))
+
+lowered_four : (config : Config) (opened : List Exchange) (s g : ℕ) (a : Account) (c : Class) →
+    (lowered_all config opened s g a).shares c ≡ (reweighed config opened s g a).shares c
+lowered_four config opened s g a Bk = refl
+lowered_four config opened s g a Be = refl
+lowered_four config opened s g a Vi = refl
+lowered_four config opened s g a Vo = refl
+
+pub books_weighed : (w : World) (s weight : ℕ) →
+    books (weight_outcome w s weight).world ≡ with_weight (books w) s weight
+unfolding weight_outcome with_deficits_lowered
+books_weighed w s weight =
+    books_lowered_next w _ s Vo _ (books_lowered_next w _ s Vi _ (books_lowered_next w _ s Be _
+    (books_lowered_next w _ s Bk (weight_set weight)
+    (books_on_station w s _ (weight_set weight) (λ x. refl)))))
+    ∙ ap (λ (f : Account → Account). with_account (books w) s (option_map f ((books w).accounts s)))
+    (fun_ext (λ a. ap (λ (z : Class → Share).
+    record { weight = weight; weighed = true; rate = a.rate; shares = z })
+    (fun_ext (lowered_four w.config (books w).opened s weight a))))

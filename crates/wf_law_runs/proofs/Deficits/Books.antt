@@ -120,6 +120,7 @@ put_updc {X} {Y} g d t c v = fun_ext (λ i. ap (λ (f : ℕ → Y). f (class_num
 -- The account of a station: the station without its TIDs, its sleep and its turns.
 pub record Account : Type 0 where
   pub weight : ℕ
+  pub weighed : Bool
   pub rate : Rate
   pub shares : Class → Share
 
@@ -129,6 +130,7 @@ plain x = record x { upper = false }
 abbrev pub account : Station → Account
 account x = record {
   weight = x.weight;
+  weighed = x.weighed;
   rate = x.rate;
   shares =
       λ c. plain (at no_share x.shares (class_number c));
@@ -224,7 +226,7 @@ pub books_on_share : (w : World) (s : ℕ) (c : Class) (f g : Share → Share) �
     books (on_share w s c f) ≡ with_account (books w) s (option_map (on_part c g) ((books w).accounts s))
 unfolding on_share
 books_on_share w s c f g h = books_on_station w s _ (on_part c g) (λ x.
-    ap (λ (z : Class → Share). record { weight = x.weight; rate = x.rate; shares = z })
+    ap (λ (z : Class → Share). record { weight = x.weight; weighed = x.weighed; rate = x.rate; shares = z })
     (put_updc plain no_share x.shares c _ ∙ ap (updc
     (λ (i : Class). plain (at no_share x.shares (class_number i))) c)
     (h (at no_share x.shares (class_number c)))))

@@ -1,6 +1,6 @@
 -- Proves that a deficit stays in its bounds when quanta are given, when an exchange is charged, and when
 -- received airtime is charged.
-use Rattle.std.proofs.Common.{◌≡◌, arith, ℕ, zero, suc, ◌+◌, ◌*◌, ◌/◌, ◌%◌, ◌<◌, ◌≤◌, ℤ, pos, negsuc, ◌+ℤ◌, ◌-ℤ◌, ◌≤ℤ◌, ◌==◌, if◌then◌else◌}
+use Rattle.std.proofs.Common.{◌≡◌, arith, ℕ, zero, suc, ◌+◌, ◌*◌, ◌/◌, ◌%◌, ◌<◌, ◌≤◌, ℤ, pos, negsuc, ◌+ℤ◌, ◌-ℤ◌, ◌≤ℤ◌, ◌==◌, if◌then◌else◌, refl, ◌-◌, Bool, true, false, int_le, inl, inr, ◌⊎◌}
 use Rattle.std.proofs.lemmas.Int.{ints}
 use Rattle.std.proofs.lemmas.Nat.{div-add-mod', mod_below}
 use Rattle.wf_frame.specs.declared.settings.Config.{Config}
@@ -8,8 +8,10 @@ use Rattle.wf_frame.specs.declared.classes.Class.{Class}
 use Rattle.wf_def_rotation.specs.Rotation.{need_of}
 use Rattle.wf_def_lists.specs.Bounds.{deepest_deficit}
 use Rattle.wf_def_world.specs.World.{Share}
-use Rattle.wf_law_runs.specs.Deficits.{longest_computed, most_owed, most_covered}
-use Rattle.wf_law_runs.proofs.Deficits.BookSteps.{pay_share, charge_share, receive_share, fresh_share}
+use Rattle.wf_def_world.specs.Exchanges.{longest_computed}
+use Rattle.wf_def_world.specs.Step.{at_most, share_with_deficit}
+use Rattle.wf_law_runs.specs.Deficits.{most_owed, most_covered}
+use Rattle.wf_law_runs.proofs.Deficits.BookSteps.{pay_share, charge_share, receive_share, fresh_share, lowered}
 
 -- Returns how much of a station's airtime in flight counts against its deficit.
 abbrev pub counted : Config → ℕ → ℕ
@@ -152,4 +154,40 @@ bounded_fresh config c m n weight some w h none =
       quiet = λ r. omega (arith, ints);
       within = λ e. omega (arith, ints);
       backed = λ p e r. omega (arith, ints);
+    }
+
+-- ---- a weight that is set
+
+pub at_most_cases : (n : ℕ) (d : ℤ) → ((at_most n d ≡ d) × (d ≤ℤ pos n)) ⊎ (at_most n d ≡ pos n)
+at_most_cases n d = go (int_le d (pos n)) refl
+  where
+    go : (t : Bool) → int_le d (pos n) ≡ t →
+        (((if t then d else pos n) ≡ d) × (d ≤ℤ pos n)) ⊎ ((if t then d else pos n) ≡ pos n)
+    go true e = inl (refl, omega (arith, ints))
+    go false e = inr refl
+
+-- A deficit is lowered to one quantum and to r of the airtime that is counted, all of it but one exchange.
+pub bounded_lowered : (config : Config) (c : Class) (m n weight g r : ℕ) (x : Share) →
+    1 ≤ config.quantum * g → m ≤ most_owed config c → r ≤ most_covered config c → r ≤ n →
+    n ≤ r + longest_computed config c → IsBounded config c m n weight x →
+    IsBounded config c m n g (lowered (config.quantum * g) r x)
+bounded_lowered config c m n weight g r x one owes covers below short b =
+    go (at_most (config.quantum * g + r) x.deficit) (at_most_cases (config.quantum * g + r) x.deficit)
+  where
+    go : (d : ℤ) → ((d ≡ x.deficit) × (x.deficit ≤ℤ pos (config.quantum * g + r)))
+        ⊎ (d ≡ pos (config.quantum * g + r)) →
+        IsBounded config c m n g (share_with_deficit (config.quantum * g) d x)
+    go d (inl (same, low)) = record {
+      most = omega (arith, ints, same, low, covers);
+      least = omega (arith, ints, same, b.least);
+      quiet = λ z. omega (arith, ints, same, b.quiet z);
+      within = λ e. omega (arith, ints, same, low, below);
+      backed = λ p e z. omega (arith, ints, same, b.backed p e z);
+    }
+    go d (inr same) = record {
+      most = omega (arith, ints, same, covers);
+      least = omega (arith, ints, same, owes);
+      quiet = λ z. omega (arith, ints, same, owes);
+      within = λ e. omega (arith, ints, same, below);
+      backed = λ p e z. omega (arith, ints, same, short);
     }

@@ -1,7 +1,7 @@
 -- Proves that no call changes the settings.
 use Rattle.std.proofs.Common.{◌≡◌, refl, ap, ◌∙◌, ℕ, Bool, true, false, if◌then◌else◌, List, [], ◌∷◌, Option, Some, None}
 use Rattle.wf_frame.specs.declared.classes.Class.{Class}
-use Rattle.wf_frame.specs.declared.notes.Ask.TheVariants.{Join, Leave, Rate, Tick, Pull, Arrive, Answer, Done, Sleep, Wake, Poll, Rx, Reap, Ampdu, Stop, Start, Unsent, GiveUp, Flush}
+use Rattle.wf_frame.specs.declared.notes.Ask.TheVariants.{Join, Leave, Rate, Tick, Pull, Arrive, Answer, Done, Sleep, Wake, Poll, Rx, Reap, Ampdu, Stop, Start, Unsent, GiveUp, Flush, Offload, Weight}
 use Rattle.wf_frame.specs.declared.notes.Limits.{Limits}
 use Rattle.wf_frame.specs.declared.notes.Note.{Note}
 use Rattle.wf_frame.specs.declared.notes.Note.TheVariants.{Enqueue, Asked}
@@ -17,7 +17,7 @@ use Rattle.wf_def_world.specs.Step.{Outcome, tick_outcome, outcome_where_open, p
 use Rattle.wf_def_world.specs.Run.{Entry, world_after}
 use Rattle.wf_law_runs.proofs.Common.Refused.{after_idle}
 use Rattle.wf_law_runs.proofs.Deficits.Books.{Books, books}
-use Rattle.wf_law_runs.proofs.Deficits.BookSteps.{books_after_turn, books_prepared, books_sent, books_ended, books_gone, books_enqueued, books_received, books_reaped, books_slept, books_woken, books_credited, books_with_rate, books_joined, books_after_pick, books_stated, books_stopped, books_started, books_flushed}
+use Rattle.wf_law_runs.proofs.Deficits.BookSteps.{books_after_turn, books_prepared, books_sent, books_ended, books_gone, books_enqueued, books_received, books_reaped, books_slept, books_woken, books_credited, books_with_rate, books_joined, books_after_pick, books_stated, books_stopped, books_started, books_flushed, books_offloaded, books_weighed}
 
 same : (w v : World) (b : Books) → books v ≡ b → b.config ≡ w.config → v.config ≡ w.config
 same w v b e h = ap (λ (z : Books). z.config) e ∙ h
@@ -82,6 +82,9 @@ unfolding outcome_of tick_outcome
 config_done (Enqueue s t flow len) w = ap (λ (z : Books). z.config) (books_enqueued w s t flow len)
 config_done (Asked (Join s window start exponent weight)) w =
     ap (λ (z : Books). z.config) (books_joined w s window start exponent weight)
+config_done (Asked (Offload s exponent weight)) w =
+    ap (λ (z : Books). z.config) (books_offloaded w s exponent weight)
+config_done (Asked (Weight s weight)) w = ap (λ (z : Books). z.config) (books_weighed w s weight)
 config_done (Asked (Leave s)) w = ap (λ (z : Books). z.config) (books_gone w s)
 config_done (Asked (Rate s rate)) w =
     ap (λ (z : Books). z.config) (books_with_rate w s rate)

@@ -1,6 +1,6 @@
 -- Defines an invariant of the books about each class's lists, the open exchanges and the bounds of the
 -- deficits. Proves that each kind of change keeps it.
-use Rattle.std.proofs.Common.{◌≡◌, ◌≢◌, refl, ap, sym, ◌∙◌, subst, arith, ℕ, zero, suc, ◌+◌, ◌*◌, ◌<◌, ◌≤◌, max, ℤ, pos, ◌+ℤ◌, ◌-ℤ◌, ◌≤ℤ◌, Bool, true, false, if◌then◌else◌, List, [], ◌∷◌, ◌++◌, Option, Some, None, is_some, IfSome, option_map, not, ◌&&◌, find, ◌==◌, eq-eqb, inl, inr}
+use Rattle.std.proofs.Common.{◌≡◌, ◌≢◌, refl, ap, sym, ◌∙◌, subst, arith, ℕ, zero, suc, ◌+◌, ◌*◌, ◌<◌, ◌≤◌, max, ℤ, pos, ◌+ℤ◌, ◌-ℤ◌, ◌≤ℤ◌, Bool, true, false, if◌then◌else◌, List, [], ◌∷◌, ◌++◌, Option, Some, None, is_some, IfSome, option_map, not, ◌&&◌, find, ◌==◌, eq-eqb, inl, inr, min, ◌-◌}
 use Rattle.std.proofs.lemmas.Int.{ints}
 use Rattle.std.proofs.Math.Nat.{le-max_left, le-max_right}
 use Rattle.std.proofs.lemmas.Bool.{cases_eq, eqb-true, or_parts, and_parts, not_from_true}
@@ -13,13 +13,14 @@ use Rattle.wf_def_air.specs.Airtime.{IsRate}
 use Rattle.wf_def_world.specs.World.{Exchange, owed, owed_by_all}
 use Rattle.wf_frame.specs.Classes.{class_number, same_class}
 use Rattle.wf_frame.specs.Settings.{IsInRange}
-use Rattle.wf_law_runs.specs.Deficits.{longest_computed, longest_of_all, longest_exchange, most_owed, most_covered}
+use Rattle.wf_def_world.specs.Exchanges.{longest_computed}
+use Rattle.wf_law_runs.specs.Deficits.{longest_of_all, longest_exchange, most_owed, most_covered}
 use Rattle.wf_def_lists.specs.Lists.{on}
 use Rattle.wf_law_rules.proofs.Lemmas.Counts.{on-nil, on-cons_same, on-cons_other, on-append, on-filter_le, on-filter_out, hasnot-on}
 use Rattle.wf_law_runs.proofs.Deficits.Books.{each_upd, others_upd, upd_other, each_updc, others_updc, updc_same, cases_class, same_number, Account, core, Books, with_account, with_lists, on_part}
-use Rattle.wf_law_runs.proofs.Deficits.BookSteps.{with_opened, without, charge_share, with_charge, off, all_off, fresh_account, pay_share, paid, all_paid, after}
-use Rattle.wf_law_runs.proofs.Deficits.Openings.{Every, every_map, every_append, every_filter, Rising, rising_append, rising_filter, many, many-more, many-other, many-filter, part_of, reserved, reserved-append, reserved-filter, reserved-ended, reserved_most, owed-filter, owed-append, owed_of, owed-ended, owed-none, owed_all-filter, owed_all-append}
-use Rattle.wf_law_runs.proofs.Deficits.Bounds.{counted, IsBounded, paid_least, bounded_pay, bounded_open, bounded_less, bounded_charge, bounded_fresh}
+use Rattle.wf_law_runs.proofs.Deficits.BookSteps.{with_opened, without, charge_share, with_charge, off, all_off, fresh_account, pay_share, paid, all_paid, after, spare, reweighed, with_weight}
+use Rattle.wf_law_runs.proofs.Deficits.Openings.{Every, every_map, every_append, every_filter, Rising, rising_append, rising_filter, many, many-more, many-other, many-filter, part_of, reserved, reserved-append, reserved-filter, reserved-ended, reserved_most, owed-filter, owed-append, owed_of, owed-ended, owed-none, owed_all-filter, owed_all-append, owed_most}
+use Rattle.wf_law_runs.proofs.Deficits.Bounds.{counted, IsBounded, paid_least, bounded_pay, bounded_open, bounded_less, bounded_charge, bounded_fresh, bounded_lowered}
 
 -- The invariant of an open exchange.
 pub record IsOpen (b : Books) (x : Exchange) : Type 0 where
@@ -235,6 +236,66 @@ kept_fresh b s weight i some dead = record {
         is_some ((with_account b s (Some (fresh_account b.config.quantum weight))).accounts y) ≡ true
     more = each_upd (λ y o. is_some (b.accounts y) ≡ true → is_some o ≡ true) b.accounts s
         (Some (fresh_account b.config.quantum weight)) (λ y e. e) (λ _. refl)
+
+-- ---- a weight that is set
+
+spare_covered : (config : Config) (s : ℕ) (c : Class) (opened : List Exchange) →
+    spare config s c opened ≤ most_covered config c
+spare_covered config s c opened = go (config.pending == 1) (owed s c opened)
+    ((config.inflight - 1) * longest_computed config c)
+  where
+    go : (t : Bool) (n k : ℕ) → min (if t then n else 0) k ≤ (if t then k else 0)
+    go true n k = omega arith
+    go false n k = omega arith
+
+pub spare_counted : (config : Config) (s : ℕ) (c : Class) (opened : List Exchange) →
+    spare config s c opened ≤ counted_in config s c opened
+spare_counted config s c opened = go (counted_in config s c opened)
+    ((config.inflight - 1) * longest_computed config c)
+  where
+    go : (n k : ℕ) → min n k ≤ n
+    go n k = omega arith
+
+-- All the airtime in flight of a station in a class but that of one exchange is spare.
+pub spare_short : (b : Books) → IsKept b → (s : ℕ) (c : Class) →
+    counted_in b.config s c b.opened ≤ spare b.config s c b.opened + longest_computed b.config c
+spare_short b i s c = go (b.config.pending == 1) (owed s c b.opened) (b.config.inflight - 1)
+    (longest_computed b.config c) (owed_few (omega (arith, i.range.inflight.0)))
+  where
+    times : (m n l k : ℕ) → m ≤ suc n → k ≤ m * l → k ≤ n * l + l
+    times m n l k h e = let more : m * l ≤ suc n * l = times_more m (suc n) l h in omega arith
+      where
+        times_more : (m n l : ℕ) → m ≤ n → m * l ≤ n * l
+        times_more m n l h = grind arith
+
+    owed_few : b.config.inflight ≡ suc (b.config.inflight - 1) → owed s c b.opened
+        ≤ (b.config.inflight - 1) * longest_computed b.config c + longest_computed b.config c
+    owed_few e = times (many c b.opened) (b.config.inflight - 1) (longest_computed b.config c)
+        (owed s c b.opened) (omega (arith, e, i.few c))
+        (owed_most (longest_computed b.config c) s c b.opened
+        (every_map (IsOpen b) (λ x. x.class ≡ c → x.charge ≤ longest_computed b.config c)
+        (λ x o e. subst (λ (d : Class). x.charge ≤ longest_computed b.config d) e o.charge) b.opened i.opens))
+
+    go : (t : Bool) (n k l : ℕ) → n ≤ k * l + l → (if t then n else 0) ≤ min (if t then n else 0) (k * l) + l
+    go true n k l h = least n (k * l) l h
+      where
+        least : (n k l : ℕ) → n ≤ k + l → n ≤ min n k + l
+        least n k l h = omega arith
+    go false n k l h = omega arith
+
+pub kept_weighed : (b : Books) (s g : ℕ) → IsKept b → 0 < g → IsKept (with_weight b s g)
+kept_weighed b s g i some = kept_on b s (reweighed b.config b.opened s g) i (λ a _ good. record {
+  weight = some;
+  rate = good.rate;
+  bounds = λ c. bounded_lowered b.config c (at_stake b.config s c b.opened) (counted_in b.config s c b.opened)
+      a.weight g (spare b.config s c b.opened) (a.shares c)
+      (product b.config.quantum g (omega (arith, i.range.quantum.0)) some) (at_stake_most b i s c)
+      (spare_covered b.config s c b.opened) (spare_counted b.config s c b.opened) (spare_short b i s c)
+      (good.bounds c);
+})
+  where
+    product : (m n : ℕ) → 0 < m → 0 < n → 1 ≤ m * n
+    product m n h k = grind arith
 
 without-on : (r : Rotation) (s y : ℕ) → on (in_order (without_key r s)) y ≤ on (in_order r) y
 without-on r s y = omega (

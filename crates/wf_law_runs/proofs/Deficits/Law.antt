@@ -1,12 +1,13 @@
 -- Proves the law of the deficits in every world of a run, from Shares and Ready.
-use Rattle.std.proofs.Common.{List, take, sym, subst, ◌+◌, pos, ◌-ℤ◌, ◌≤ℤ◌, ◌≡◌}
+use Rattle.std.proofs.Common.{List, take, sym, subst, ◌+◌, pos, ◌-ℤ◌, ◌≤ℤ◌, ◌≡◌, ◌*◌}
 use Rattle.wf_frame.specs.declared.settings.Config.{Config}
 use Rattle.wf_def_world.specs.World.{owed, rotation, share}
 use Rattle.wf_def_world.specs.Run.{Entry}
 use Rattle.wf_def_world.specs.Stretches.{world_at}
 use Rattle.wf_frame.specs.Settings.{IsInRange}
-use Rattle.wf_law_runs.specs.Deficits.{weight_at, DeficitLaw, longest_computed, most_owed, own_quantum}
-use Rattle.wf_law_runs.proofs.Deficits.Shares.{IsMoney}
+use Rattle.wf_def_world.specs.Exchanges.{longest_computed}
+use Rattle.wf_law_runs.specs.Deficits.{weight_at, DeficitLaw, most_owed, own_quantum}
+use Rattle.wf_law_runs.proofs.Deficits.Shares.{IsMoney, own_base}
 use Rattle.wf_law_runs.proofs.Fairness.Law.{share_at, config_at}
 use Rattle.wf_law_runs.proofs.Deficits.MildStep.{lists-on}
 use Rattle.wf_law_runs.proofs.Deficits.Ready.{IsOrderly, orderly, debtor_listed}
@@ -20,6 +21,8 @@ deficits config h range m s c live =
     let order : IsOrderly (world_at config h m) = orderly config (take m h) range in
     record {
       exact = money.exact;
+      own = λ e. subst (λ (z : Config). (share (world_at config h m) s c).base
+          ≡ pos (z.quantum * weight_at config h m s)) same (own_base config (take m h) s c live e);
       most = money.most;
       least = money.least;
       quiet = money.quiet;

@@ -13,8 +13,7 @@ use Rattle.wf_def_world.specs.World.{World, Bounds, Station, Mpdu, no_station, s
 use Rattle.wf_def_world.specs.FlowQueues.{Taken, taken_for_tid}
 use Rattle.wf_def_agreement.specs.Session.{request_due}
 use Rattle.wf_def_world.specs.CanSend.{can_give}
-use Rattle.wf_def_world.specs.Exchanges.{Aggregate, Prepared, cap_of, lens_of, fits_in, most_frames, waiting_mpdus, longest_fitting, fresh_mpdus, with_number, with_fresh, aggregate_of, prepared_data, prepared_request, prepared_exchange}
-use Rattle.wf_law_runs.specs.Deficits.{longest_computed}
+use Rattle.wf_def_world.specs.Exchanges.{Aggregate, Prepared, cap_of, lens_of, fits_in, most_frames, waiting_mpdus, longest_fitting, fresh_mpdus, with_number, with_fresh, aggregate_of, prepared_data, prepared_request, prepared_exchange, longest_computed}
 use Rattle.wf_law_runs.proofs.Common.Limits.{bounds_take, bounds_with_number, bounds_filled}
 use Rattle.wf_law_runs.proofs.Deficits.Books.{Account, account, Books, books}
 use Rattle.wf_law_runs.proofs.Deficits.BookSteps.{books_take, books_with_number, books_filled}

@@ -12,12 +12,12 @@ use Rattle.wf_def_lists.specs.Lengths.{greatest_body}
 use Rattle.wf_def_lists.specs.Bounds.{greatest_weight}
 use Rattle.wf_def_air.specs.Airtime.{slow_mbps, fast_mbps, sifs, answer_time, longest_answer}
 use Rattle.wf_def_air.specs.Fit.{longest_alone}
-use Rattle.wf_def_world.specs.Exchanges.{cap_of}
+use Rattle.wf_def_world.specs.Exchanges.{cap_of, longest_computed}
 use Rattle.wf_def_world.specs.World.{World, Exchange, opening}
 use Rattle.wf_def_world.specs.Run.{Entry}
 use Rattle.wf_def_world.specs.Stretches.{world_at}
 use Rattle.wf_law_runs.specs.Windows.{EachOpen}
-use Rattle.wf_law_runs.specs.Deficits.{IsAccounted, longest_computed, longest_exchange, most_owed, most_covered}
+use Rattle.wf_law_runs.specs.Deficits.{IsAccounted, longest_exchange, most_owed, most_covered}
 use Rattle.wf_law_runs.specs.Numbers.{greatest_computed, greatest_charge, greatest_owed, NumberLaw}
 use Rattle.wf_law_runs.specs.Ranges.{KeepsRanges}
 use Rattle.wf_law_runs.proofs.Deficits.Books.{Books, core, books}

@@ -1,7 +1,7 @@
 -- Proves that two stations that stay on one class's old list are charged alike. The quanta differ by at
 -- most 1 because the order of the stations changes with each quantum, and deficits are between bounds, so
 -- the charges follow the quanta.
-use Rattle.std.proofs.Common.{◌≡◌, refl, ap, sym, ◌∙◌, subst, arith, ℕ, zero, suc, ◌+◌, ◌*◌, ◌-◌, ◌<◌, ◌≤◌, ℤ, pos, ◌-ℤ◌, ◌≤ℤ◌, true, List, [], ◌∷◌, length, take, drop, if◌then◌else◌, ◌==◌, Option, Some, None, unwrap_or, option_map, Bool, false, ◌&&◌, not}
+use Rattle.std.proofs.Common.{◌≡◌, refl, ap, sym, ◌∙◌, subst, arith, ℕ, zero, suc, ◌+◌, ◌*◌, ◌-◌, ◌<◌, ◌≤◌, ℤ, pos, ◌-ℤ◌, ◌≤ℤ◌, true, List, [], ◌∷◌, length, take, drop, if◌then◌else◌, ◌==◌, Option, Some, None, unwrap_or, option_map, Bool, false, ◌&&◌, not, ◌+ℤ◌}
 use Rattle.std.proofs.lemmas.Int.{ints}
 use Rattle.wf_frame.specs.declared.settings.Config.{Config}
 use Rattle.wf_frame.specs.declared.classes.Class.{Class}
@@ -11,7 +11,8 @@ use Rattle.wf_def_world.specs.Step.{step}
 use Rattle.wf_def_world.specs.Run.{Entry, world_after}
 use Rattle.wf_def_world.specs.Stretches.{world_at, charges, charged_between, IsStretch, IsQuiet}
 use Rattle.wf_frame.specs.Settings.{IsInRange}
-use Rattle.wf_law_runs.specs.Deficits.{most_owed, got_between, IsNear, weight_at, IsFairStretch, FairnessLaw, longest_computed, longest_exchange, most_covered, most_uncharged}
+use Rattle.wf_def_world.specs.Exchanges.{longest_computed}
+use Rattle.wf_law_runs.specs.Deficits.{most_owed, got_between, IsNear, weight_at, IsFairStretch, FairnessLaw, longest_exchange, most_covered, most_uncharged, IsSteady}
 use Rattle.wf_def_lists.specs.Lists.{on}
 use Rattle.wf_law_rules.proofs.Lemmas.Counts.{ahead, has-on, on-append}
 use Rattle.wf_law_runs.proofs.Deficits.Books.{Account, account, Books, books}
@@ -59,7 +60,6 @@ length_take (suc d) (x ∷ h) = omega (arith, length_take d h)
 grown_then : (c : Class) (m n : ℕ) (a b d : Account) → IsGrown c m a b → IsGrown c n b d →
     IsGrown c (m + n) a d
 grown_then c m n a b d h k = record {
-  weight = k.weight ∙ h.weight;
   quanta = omega (arith, h.quanta, k.quanta);
   charged = omega (arith, h.charged, k.charged);
   received = omega (arith, h.received, k.received);
@@ -85,8 +85,8 @@ stays_now c i j (e ∷ es) w h = h.0
 turn_nothing : (c : Class) (i j : ℕ) (b : Books) → IsTurn c i j 0 0 b b
 turn_nothing c i j b = record {
   order = omega arith;
-  first = record { weight = refl; quanta = omega arith; charged = omega arith; received = omega arith };
-  second = record { weight = refl; quanta = omega arith; charged = omega arith; received = omega arith };
+  first = record { quanta = omega arith; charged = omega arith; received = omega arith };
+  second = record { quanta = omega arith; charged = omega arith; received = omega arith };
 }
 
 turn_run : (es : List Entry) (w : World) (c : Class) (i j : ℕ) → IsKept (books w) → StaysOn c i j es w →
@@ -144,10 +144,12 @@ record IsSpan (q l got charged : ℕ) : Type 0 where
   up : charged ≤ q * got + q + l
   down : q * got ≤ charged + q + l
 
-span_number : (q qa n ca C l m : ℕ) (x y : ℤ) → x ≡ pos (q + q * qa) -ℤ pos ca →
-    y ≡ pos (q + q * (qa + n)) -ℤ pos (ca + C) → (pos 1 -ℤ pos l) ≤ℤ x → x ≤ℤ pos (q + m) →
+span_number : (q qa qb n ca cb ra rb C l m : ℕ) (z z' x y : ℤ) → z' ≡ z →
+    x ≡ z +ℤ pos (q * qa) -ℤ pos (ca + ra) → y ≡ z' +ℤ pos (q * qb) -ℤ pos (cb + rb) → qb ≡ qa + n →
+    cb ≡ ca + C → ra ≡ 0 → rb ≡ 0 → (pos 1 -ℤ pos l) ≤ℤ x → x ≤ℤ pos (q + m) →
     (pos 1 -ℤ pos l) ≤ℤ y → y ≤ℤ pos (q + m) → IsSpan q (l + m) n C
-span_number q qa n ca C l m x y e f lo hi lo' hi' =
+span_number q qa qb n ca cb ra rb C l m z z' x y same e f is_q is_c none_a none_b lo hi lo' hi' =
+    let whole : q * qb ≡ q * qa + q * n = ap (λ (k : ℕ). q * k) is_q ∙ omega arith in
     record { up = omega (arith, ints); down = omega (arith, ints) }
 
 span_most : (q l m n C : ℕ) → l ≤ m → IsSpan q l n C → IsSpan q m n C
@@ -186,31 +188,19 @@ range_most config c some = go (config.pending == 1) (config.charge == 0) config.
     go false v k l m one h = omega arith
 
 span_of : (config : Config) (c : Class) (m k g C : ℕ) (x y : Share) → 1 ≤ config.inflight →
-    IsMoney config c m g x → IsMoney config c k g y →
+    IsMoney config c m g x → IsMoney config c k g y → y.base ≡ x.base →
     x.quanta ≤ y.quanta → y.charged ≡ x.charged + C → x.received ≤ y.received → y.received ≡ 0
     → IsSpan (config.quantum * g) (most_owed config c + most_uncharged config c) (y.quanta - x.quanta) C
-span_of config c m k g C x y some a b more charge r quiet =
+span_of config c m k g C x y some a b base more charge r quiet =
     span_most (config.quantum * g) (lowest_quiet config c + most_covered config c) _ (y.quanta - x.quanta) C
     (range_most config c some)
-    (span_number (config.quantum * g) x.quanta (y.quanta - x.quanta) x.charged C
-    (lowest_quiet config c) (most_covered config c) x.deficit y.deficit
-    (a.exact ∙ ap (λ (n : ℕ). pos (config.quantum * g + config.quantum * g * x.quanta) -ℤ pos n) none_x)
-    (b.exact ∙ (ap (λ (n : ℕ). pos (config.quantum * g + config.quantum * g * n) -ℤ pos
-    (y.charged + y.received)) grows ∙ ap (λ (n : ℕ).
-    pos (config.quantum * g + config.quantum * g * (x.quanta + (y.quanta - x.quanta))) -ℤ pos n) none_y))
-    (quiet_low config c m g x a quiet_x) a.most (quiet_low config c k g y b quiet) b.most)
+    (span_number (config.quantum * g) x.quanta y.quanta (y.quanta - x.quanta) x.charged y.charged x.received
+    y.received C (lowest_quiet config c) (most_covered config c) x.base y.base x.deficit y.deficit base
+    a.exact b.exact (omega arith) charge quiet_x quiet (quiet_low config c m g x a quiet_x) a.most
+    (quiet_low config c k g y b quiet) b.most)
   where
     quiet_x : x.received ≡ 0
     quiet_x = omega arith
-
-    none_x : x.charged + x.received ≡ x.charged
-    none_x = omega (arith, quiet_x)
-
-    none_y : y.charged + y.received ≡ x.charged + C
-    none_y = omega arith
-
-    grows : y.quanta ≡ x.quanta + (y.quanta - x.quanta)
-    grows = omega arith
 
 times_le : (a b c : ℕ) → a ≤ b → a * c ≤ b * c
 times_le a b c h = grind arith
@@ -279,29 +269,31 @@ share_at config h m s c range live =
 -- The quanta and the charges of one station of a stretch.
 span_at : (config : Config) (h : List Entry) (a b s C : ℕ) (c : Class) → IsInRange config →
     is_live (world_at config h a) s ≡ true → is_live (world_at config h b) s ≡ true
-    → IsGrown c C (account (station (world_at config h a) s)) (account (station (world_at config h b) s)) →
+    → IsSteady config h s c a b →
+    IsGrown c C (account (station (world_at config h a) s)) (account (station (world_at config h b) s)) →
     IsQuiet (world_at config h b) s c
     → IsSpan (config.quantum * weight_at config h b s) (most_owed config c + most_uncharged config c)
     (got_between config h s c a b) C
-span_at config h a b s C c range live_a live_b g quiet =
+span_at config h a b s C c range live_a live_b steady g quiet =
     let at_a : IsMoney config c (owed s c (world_at config h a).opened) (weight_at config h b s)
     (share (world_at config h a) s c) =
     subst (λ (n : ℕ). IsMoney config c (owed s c (world_at config h a).opened) n
-    (share (world_at config h a) s c)) (sym g.weight) (share_at config h a s c range live_a) in
+    (share (world_at config h a) s c)) steady.weight (share_at config h a s c range live_a) in
     span_of config c (owed s c (world_at config h a).opened) (owed s c (world_at config h b).opened)
     (weight_at config h b s) C (share (world_at config h a) s c) (share (world_at config h b) s c)
-    (omega (arith, range.inflight.0)) at_a (share_at config h b s c range live_b) g.quanta g.charged
-    g.received quiet
+    (omega (arith, range.inflight.0)) at_a (share_at config h b s c range live_b)
+    (sym steady.base) g.quanta g.charged g.received quiet
 
 quanta_near : (qi qj qi' qj' n n' : ℕ) → qi' + qj + n ≡ qj' + qi + n' → qi ≤ qi' → qj ≤ qj' → n ≤ 1 → n' ≤ 1 →
     IsNear 1 (qi' - qi) (qj' - qj)
 quanta_near qi qj qi' qj' n n' e hi hj k k' = (omega arith, omega arith)
 
 fair_stretch : (config : Config) (h : List Entry) (i j : ℕ) (c : Class) (a b : ℕ) → IsInRange config →
-    IsStretch config h i j c a b → IsQuiet (world_at config h b) i c → IsQuiet (world_at config h b) j c
+    IsStretch config h i j c a b → IsSteady config h i c a b → IsSteady config h j c a b →
+    IsQuiet (world_at config h b) i c → IsQuiet (world_at config h b) j c
     → IsTurn c i j (charged_between config h i c a b) (charged_between config h j c a b)
     (books (world_at config h a)) (books (world_at config h b)) → IsFairStretch config h i j c a b
-fair_stretch config h i j c a b range s quiet_i quiet_j t =
+fair_stretch config h i j c a b range s steady_i steady_j quiet_i quiet_j t =
     record {
       quanta = near;
       charged = (
@@ -338,13 +330,13 @@ fair_stretch config h i j c a b range s quiet_i quiet_j t =
         (got_between config h i c a b) (charged_between config h i c a b)
     span_i = span_at config h a b i (charged_between config h i c a b) c range
         (on_old_live config h a i c range both_a.first)
-        (on_old_live config h b i c range both_b.first) grown_i quiet_i
+        (on_old_live config h b i c range both_b.first) steady_i grown_i quiet_i
 
     span_j : IsSpan (config.quantum * weight_at config h b j) (most_owed config c + most_uncharged config c)
         (got_between config h j c a b) (charged_between config h j c a b)
     span_j = span_at config h a b j (charged_between config h j c a b) c range
         (on_old_live config h a j c range both_a.second)
-        (on_old_live config h b j c range both_b.second) grown_j quiet_j
+        (on_old_live config h b j c range both_b.second) steady_j grown_j quiet_j
 
     kept_a : IsKept (books (world_at config h a))
     kept_a = kept config (take a h) range
@@ -376,10 +368,10 @@ fair_stretch config h i j c a b range s quiet_i quiet_j t =
         (ahead_one j i (rotation (world_at config h b) c).old (once b i kept_b) (once b j kept_b))
 
 pub fairness : (config : Config) (h : List Entry) → IsInRange config → FairnessLaw config h
-fairness config h range i j c a b s quiet_i quiet_j =
+fairness config h range i j c a b s steady_i steady_j quiet_i quiet_j =
     let e : a + (b - a) ≡ b = let l : a ≤ b = s.order in omega arith in
     let s' : IsStretch config h i j c a (a + (b - a)) = subst (IsStretch config h i j c a) (sym e) s in
-    fair_stretch config h i j c a b range s quiet_i quiet_j
+    fair_stretch config h i j c a b range s steady_i steady_j quiet_i quiet_j
     (subst (λ (n : ℕ). IsTurn c i j (charged_between config h i c a b) (charged_between config h j c a b)
     (books (world_at config h a)) (books (world_at config h n))) e
     (stretch_turn config h i j c a (b - a) range s'))

@@ -3,7 +3,7 @@ use Rattle.std.proofs.Common.{◌≡◌, refl, ap, sym, ◌∙◌, subst, arith,
 use Rattle.std.proofs.lemmas.Bool.{cases_eq, ne_eqb, not_from_true, not_from_false}
 use Rattle.wf_frame.specs.declared.classes.Class.{Class}
 use Rattle.wf_frame.specs.declared.classes.Class.TheVariants.{Bk, Be, Vi, Vo}
-use Rattle.wf_frame.specs.declared.notes.Ask.TheVariants.{Join, Leave, Rate, Tick, Pull, Arrive, Answer, Done, Sleep, Wake, Poll, Rx, Reap, Ampdu, Stop, Start, Unsent, GiveUp, Flush}
+use Rattle.wf_frame.specs.declared.notes.Ask.TheVariants.{Join, Leave, Rate, Tick, Pull, Arrive, Answer, Done, Sleep, Wake, Poll, Rx, Reap, Ampdu, Stop, Start, Unsent, GiveUp, Flush, Offload, Weight}
 use Rattle.wf_frame.specs.declared.notes.AskedRate.{AskedRate}
 use Rattle.wf_frame.specs.declared.notes.Limits.{Limits}
 use Rattle.wf_frame.specs.declared.notes.Note.{Note}
@@ -17,7 +17,7 @@ use Rattle.wf_frame.specs.Classes.{class_number, same_class}
 use Rattle.wf_def_world.specs.CanSend.{is_ready, with_listings_of}
 use Rattle.wf_def_world.specs.Exchanges.{Prepared, station_need, picked_station, after_tid_turn, prepared_exchange, exchange_of, sending_tid, charge_of}
 use Rattle.wf_def_world.specs.Refusals.{refusals, refusal}
-use Rattle.wf_def_world.specs.Step.{Outcome, join_outcome, tick_outcome, rate_outcome, pull_outcome_for, pull_outcome, done_outcome, outcome_where_open, rx_outcome, outcome_of, after_refusal, judged_outcome, step, concerned_station}
+use Rattle.wf_def_world.specs.Step.{Outcome, join_outcome, tick_outcome, rate_outcome, pull_outcome_for, pull_outcome, done_outcome, outcome_where_open, rx_outcome, outcome_of, after_refusal, judged_outcome, step, concerned_station, offload_outcome, weight_outcome}
 use Rattle.wf_def_world.specs.Stretches.{charge_to, charge_by}
 use Rattle.wf_def_lists.specs.Lists.{on}
 use Rattle.wf_law_rules.proofs.Lemmas.Counts.{ahead, on-append, ahead-filter, on-filter_out, on-nil, on-cons_other, ahead-append, ahead-none}
@@ -25,7 +25,7 @@ use Rattle.wf_law_rules.proofs.Lemmas.Rotations.{stay}
 use Rattle.wf_law_runs.proofs.Common.Refused.{after_idle}
 use Rattle.wf_law_runs.proofs.Common.Limits.{with_limits}
 use Rattle.wf_law_runs.proofs.Deficits.Books.{Account, account, core, Books, books, with_account, on_part, upd_same, upd_other, each_upd, updc_same, updc_other, each_updc, cases_class}
-use Rattle.wf_law_runs.proofs.Deficits.BookSteps.{books_after_turn, books_prepared, books_sent, with_opened, charge_share, with_charge, books_ended, books_gone, all_off, books_enqueued, receive_share, books_received, books_reaped, books_slept, books_woken, books_credited, rated, books_with_rate, fresh_account, books_joined, pay_share, paid, after, books_after_pick, books_stated, books_stopped, books_started, books_flushed}
+use Rattle.wf_law_runs.proofs.Deficits.BookSteps.{books_after_turn, books_prepared, books_sent, with_opened, charge_share, with_charge, books_ended, books_gone, all_off, books_enqueued, receive_share, books_received, books_reaped, books_slept, books_woken, books_credited, rated, books_with_rate, fresh_account, books_joined, pay_share, paid, after, books_after_pick, books_stated, books_stopped, books_started, books_flushed, books_offloaded, books_weighed, reweighed}
 use Rattle.wf_law_runs.proofs.Deficits.Openings.{every_find}
 use Rattle.wf_law_runs.proofs.Deficits.Kept.{IsOpen, IsKept}
 use Rattle.wf_law_runs.proofs.Deficits.KeptStep.{NoRow, no_row, live_account, IsFound, at_number, books_arrived, books_unsent, books_given_up, books_answered}
@@ -37,7 +37,6 @@ acc b s = unwrap_or (b.accounts s) (account no_station)
 
 -- The class's share of an account after m more microseconds were charged.
 pub record IsGrown (c : Class) (m : ℕ) (a a' : Account) : Type 0 where
-  pub weight : a'.weight ≡ a.weight
   pub quanta : (a.shares c).quanta ≤ (a'.shares c).quanta
   pub charged : (a'.shares c).charged ≡ (a.shares c).charged + m
   pub received : (a.shares c).received ≤ (a'.shares c).received
@@ -54,7 +53,7 @@ pub record Both (c : Class) (i j : ℕ) (b : Books) : Type 0 where
   pub second : 0 < on (b.rotations c).old j
 
 grown_same : (c : Class) (a : Account) → IsGrown c 0 a a
-grown_same c a = record { weight = refl; quanta = omega arith; charged = omega arith; received = omega arith }
+grown_same c a = record { quanta = omega arith; charged = omega arith; received = omega arith }
 
 pub turn_here : (c : Class) (i j : ℕ) (b : Books) → IsTurn c i j 0 0 b b
 turn_here c i j b = record { order = omega arith; first = grown_same c _; second = grown_same c _ }
@@ -203,7 +202,6 @@ grown_paid q n c d a = elim (cases_class d c) [
       (let at_c : (paid q c n a).shares c ≡ pay_share (q * a.weight) n (a.shares c) =
       updc_same a.shares c (pay_share (q * a.weight) n (a.shares c)) in
       record {
-        weight = refl;
         quanta = rw at_c (omega arith);
         charged = rw at_c (omega arith);
         received =
@@ -213,7 +211,6 @@ grown_paid q n c d a = elim (cases_class d c) [
       let at_d : (paid q c n a).shares d ≡ a.shares d =
       updc_other a.shares c d (pay_share (q * a.weight) n (a.shares c)) other in
       record {
-        weight = refl;
         quanta = rw at_d (omega arith);
         charged = rw at_d (omega arith);
         received =
@@ -314,13 +311,13 @@ turn_pulled w d c l i j k h h' =
 
 -- ---- a join and a leave
 
-turn_joined : (w : World) (s window start exponent weight : ℕ) (c : Class) (i j : ℕ) → is_live w s ≡ false →
+-- A station joins that was not live.
+turn_fresh : (w : World) (s weight : ℕ) (c : Class) (i j : ℕ) → is_live w s ≡ false →
     IsKept (books w) → Both c i j (books w) →
-    IsTurn c i j 0 0 (books w) (books (join_outcome w s window start exponent weight).world)
-turn_joined w s window start exponent weight c i j dead k h =
-    subst (IsTurn c i j 0 0 (books w)) (sym (books_joined w s window start exponent weight))
-    (turn_other c i j s (books w) (Some (fresh_account w.config.quantum weight)) (λ e. away i h.first e)
-    (λ e. away j h.second e))
+    IsTurn c i j 0 0 (books w) (with_account (books w) s (Some (fresh_account w.config.quantum weight)))
+turn_fresh w s weight c i j dead k h =
+    turn_other c i j s (books w) (Some (fresh_account w.config.quantum weight)) (λ e. away i h.first e)
+    (λ e. away j h.second e)
   where
     away : (y : ℕ) → 0 < on (rotation w c).old y → y ≡ s → ⊥
     away y stands e =
@@ -329,6 +326,28 @@ turn_joined w s window start exponent weight c i j dead k h =
         let live' : is_some ((books w).accounts s) ≡ true =
         subst (λ (z : ℕ). is_some ((books w).accounts z) ≡ true) e live in
         cc (live_account (at None w.stations s), live', dead)
+
+turn_joined : (w : World) (s window start exponent weight : ℕ) (c : Class) (i j : ℕ) → is_live w s ≡ false →
+    IsKept (books w) → Both c i j (books w) →
+    IsTurn c i j 0 0 (books w) (books (join_outcome w s window start exponent weight).world)
+turn_joined w s window start exponent weight c i j dead k h =
+    subst (IsTurn c i j 0 0 (books w)) (sym (books_joined w s window start exponent weight))
+    (turn_fresh w s weight c i j dead k h)
+
+turn_offloaded : (w : World) (s exponent weight : ℕ) (c : Class) (i j : ℕ) → is_live w s ≡ false →
+    IsKept (books w) → Both c i j (books w) →
+    IsTurn c i j 0 0 (books w) (books (offload_outcome w s exponent weight).world)
+turn_offloaded w s exponent weight c i j dead k h =
+    subst (IsTurn c i j 0 0 (books w)) (sym (books_offloaded w s exponent weight))
+    (turn_fresh w s weight c i j dead k h)
+
+-- A weight that is set changes no count and no order.
+pub turn_weighed : (w : World) (s weight : ℕ) (c : Class) (i j : ℕ) →
+    IsTurn c i j 0 0 (books w) (books (weight_outcome w s weight).world)
+turn_weighed w s weight c i j = subst (IsTurn c i j 0 0 (books w)) (sym (books_weighed w s weight))
+    (turn_on c i j s (books w) (reweighed w.config (books w).opened s weight) (λ _. 0) (λ _ _. refl)
+    (λ _. refl)
+    (λ a. record { quanta = omega arith; charged = omega arith; received = omega arith }) (λ a. refl))
 
 all_off_old : (b : Books) (s : ℕ) (c : Class) →
     ((all_off b s).rotations c).old ≡ filter (λ z. not (z == s)) (b.rotations c).old
@@ -368,7 +387,6 @@ grown_charge c d n a = elim (cases_class d c) [
       let all : (if same_class d d then n else 0) ≡ n =
       rw (eq-eqb (class_number d) (class_number d) refl) refl in
       record {
-        weight = refl;
         quanta = rw at_d (omega arith);
         charged = rw (at_d, all) refl;
         received =
@@ -380,7 +398,6 @@ grown_charge c d n a = elim (cases_class d c) [
       let none : (if same_class d c then n else 0) ≡ 0 =
       rw (ne_eqb (class_number d) (class_number c) other) refl in
       record {
-        weight = refl;
         quanta = rw at_c (omega arith);
         charged = rw (at_c, none) (omega arith);
         received = rw at_c (omega arith);
@@ -394,7 +411,6 @@ quanta_charge c d n a = each_updc (λ e x. x.quanta ≡ (a.shares e).quanta) a.s
 
 grown_receive : (c d : Class) (n : ℕ) (a : Account) → IsGrown c 0 a (on_part d (receive_share n) a)
 grown_receive c d n a = record {
-  weight = refl;
   quanta = each_updc (λ e x. (a.shares e).quanta ≤ x.quanta) a.shares d (receive_share n (a.shares d))
       (λ e. omega arith) (omega arith) c;
   charged = each_updc (λ e x. x.charged ≡ (a.shares e).charged + 0) a.shares d (receive_share n (a.shares d))
@@ -419,7 +435,7 @@ pub turn_rated : (w : World) (s : ℕ) (rate : AskedRate) (c : Class) (i j : ℕ
 turn_rated w s rate c i j = subst (IsTurn c i j 0 0 (books w))
     (sym (books_with_rate w s rate))
     (turn_on c i j s (books w) (rated rate) (λ _. 0) (λ y _. refl) (λ _. refl)
-    (λ a. record { weight = refl; quanta = omega arith; charged = omega arith; received = omega arith })
+    (λ a. record { quanta = omega arith; charged = omega arith; received = omega arith })
     (λ a. refl))
 
 charge_here : (air : Option ℕ) (x : Exchange) (c : Class) → charge_to x.station c air (Some x)
@@ -489,6 +505,9 @@ unfolding outcome_of tick_outcome
 turn_done (Enqueue s t flow len) w c i j r k h h' = turn_same c i j _ _ (books_enqueued w s t flow len)
 turn_done (Asked (Join s window start exponent weight)) w c i j r k h h' =
     turn_joined w s window start exponent weight c i j r.1.1.1.1.1.0 k h
+turn_done (Asked (Offload s exponent weight)) w c i j r k h h' =
+    turn_offloaded w s exponent weight c i j r.1.1.1.0 k h
+turn_done (Asked (Weight s weight)) w c i j r k h h' = turn_weighed w s weight c i j
 turn_done (Asked (Leave s)) w c i j r k h h' =
     subst (λ (b : Books). Both c i j b → IsTurn c i j 0 0 (books w) b) (sym (books_gone w s))
     (turn_off (books w) s c i j) h'

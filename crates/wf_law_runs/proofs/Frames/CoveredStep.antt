@@ -1,6 +1,4 @@
 -- Proves that each held frame stays in a queue or at an unsettled number, by cases of the call.
-use Rattle.wf_law_runs.proofs.Releases.Placed.{less_left_tids, Placing, Any, placed_less, accepted_with_frame, side_with_frame, IsIdOf, has_ids}
-use Rattle.wf_law_runs.proofs.Releases.Once.{placed_settled, placed_without}
 use Rattle.std.proofs.Common.{◌≡◌, refl, ap, sym, ◌∙◌, subst, arith, ℕ, zero, suc, ◌<◌, ◌-◌, Bool, true, false, if◌then◌else◌, ◌==◌, inl, inr, List, [], ◌∷◌, ◌++◌, length, Option, Some, None, is_some, unwrap_or}
 use Rattle.std.proofs.lemmas.Bool.{cases_eq}
 use Rattle.wf_frame.specs.declared.classes.Class.{Class}
@@ -13,16 +11,16 @@ use Rattle.wf_frame.specs.Classes.{all_classes}
 use Rattle.wf_def_lists.specs.Table.{at, has, upto}
 use Rattle.wf_def_codel.specs.Codel.{Item, new_codel}
 use Rattle.wf_def_rotation.specs.Rotation.{Rotation, has_key, in_order, no_keys}
-use Rattle.wf_def_agreement.specs.Session.{End, Session, Slot, State, no_slot, slot, on_slot, is_settled, is_failed, is_waiting, after_flush, next_number, numbers_where, new_session}
+use Rattle.wf_def_agreement.specs.Session.{End, Session, Slot, State, no_slot, slot, on_slot, is_settled, is_failed, is_waiting, after_flush, next_number, numbers_where, new_session, start_of}
 use Rattle.wf_def_world.specs.World.{World, Station, Queue, Exchange, Mpdu, Content, Frames, Request, Frame, no_frame, no_tid, no_station, new_queue, queue, session, tid_of, is_live, accepted_count, on_queue, on_session, on_tid, on_station, on_share, with_station, with_queues, with_rotation, with_fate, with_frame_finished, with_frames_finished, without_exchange}
 use Rattle.wf_def_world.specs.FlowQueues.{is_at_limit, longest_queue, without_head, after_limit, queue_for, when_listed, with_listed_queue, with_appended, after_put_in, after_queue_left, after_queues_left, after_queue_flushed, after_queues_flushed}
-use Rattle.wf_def_world.specs.Exchanges.{end_of, with_heard_start, mpdus_of, after_charge, with_settled, with_failed_finished, with_all_settled, after_done, ids_of}
-use Rattle.wf_def_world.specs.Step.{with_frame, enqueue_outcome, done_outcome, waiting_ids, in_rising_order, after_tid_left, after_tids_left, without_listings, leave_outcome, after_tid_flushed, flush_outcome, join_outcome}
+use Rattle.wf_def_world.specs.Exchanges.{end_of, with_heard_start, mpdus_of, after_charge, with_settled, with_failed_finished, with_all_settled, after_done, ids_of, caught_up, with_device_caught_up}
+use Rattle.wf_def_world.specs.Step.{with_frame, enqueue_outcome, done_outcome, waiting_ids, in_rising_order, after_tid_left, after_tids_left, without_listings, leave_outcome, after_tid_flushed, flush_outcome, join_outcome, offload_outcome}
 use Rattle.wf_law_rules.proofs.Lemmas.Tables.{each_put}
 use Rattle.wf_law_rules.proofs.Lemmas.Counts.{on-has}
 use Rattle.wf_law_rules.proofs.Lemmas.Numbers.{on_bool, on_if, eq_yes, eq_no, yes_eq, either, or_left, or_right}
 use Rattle.wf_law_runs.proofs.Common.Ends.{slot_after_end, end_id, on_settled}
-use Rattle.wf_law_runs.proofs.Common.Flushes.{waiting_is, slot_flush, flushed_stays, next-flush}
+use Rattle.wf_law_runs.proofs.Common.Flushes.{waiting_is, slot_flush, flushed_stays, next-flush, if_caught}
 use Rattle.wf_law_runs.proofs.Windows.Agreement.{slot_same}
 use Rattle.wf_law_runs.proofs.Windows.Sides.{Side, Same, same_put_in, same_finish, same_finish_all, same_with_queues, same_charged}
 use Rattle.wf_law_runs.proofs.Windows.Settling.{without_same}
@@ -31,12 +29,15 @@ use Rattle.wf_law_runs.proofs.Releases.Kept.{Kept, keep_settled}
 use Rattle.wf_law_runs.proofs.Releases.Released.{side_with_station}
 use Rattle.wf_law_runs.proofs.Frames.Fewer.{carries, queue_on, less_charged, less_drop_all}
 use Rattle.wf_law_runs.proofs.Frames.Delivered.{Labelled, labelled_kept}
-use Rattle.wf_law_runs.proofs.Frames.Fates.{IsHeld, InHand, Carries, bears_carried, ids_in, ids_carried, session_on_queue, fate_with_frame, head_gone, held_ids, waiting_member, IsWaiting, Pend, same_purge_queue, less_purge_queue, same_flush_queue, less_flush_queue, placed_flush_slots}
-use Rattle.wf_law_runs.proofs.Frames.Untouched.{untouched_on_queue, untouched_on_session, untouched_with_queues, untouched_without, untouched_charged, untouched_off_lists, untouched_with_station, untouched_put_in}
+use Rattle.wf_law_runs.proofs.Frames.Fates.{IsHeld, InHand, Carries, bears_carried, ids_in, ids_carried, session_on_queue, fate_with_frame, head_gone, held_ids, waiting_member, IsWaiting, Pend, same_purge_queue, less_purge_queue, same_flush_queue, less_flush_queue, placed_flush_slots, session_on_receiver, queues_on_receiver}
+use Rattle.wf_law_runs.proofs.Frames.Untouched.{untouched_on_queue, untouched_on_session, untouched_with_queues, untouched_without, untouched_charged, untouched_off_lists, untouched_with_station, untouched_put_in, untouched_on_receiver}
 use Rattle.wf_law_runs.proofs.Frames.Owners.{IsOwned}
 use Rattle.wf_law_runs.proofs.Deficits.MildStep.{on_upto}
 use Rattle.wf_law_runs.proofs.Queues.ShelvedStep.{accepted_limit, accepted_put}
 use Rattle.wf_law_runs.proofs.Frames.Covered.{Covers, Full, covers_frames, covers_more, covers_finish, covers_all, hand_same, queue_rest, queue_hand, hand_finish_all, hand_queue, hand_session, carries_other, carries_on_slot, covers_session, covers_calm}
+use Rattle.wf_def_agreement.specs.Receiver.{with_start}
+use Rattle.wf_law_runs.proofs.Releases.Placed.{less_left_tids, Placing, Any, placed_less, accepted_with_frame, side_with_frame, IsIdOf, has_ids}
+use Rattle.wf_law_runs.proofs.Releases.Once.{placed_settled, placed_without}
 
 queue_finish : (w : World) (fate : Fate) (id q k : ℕ) → carries (queue w q).items k ≡ true →
     carries (queue (with_frame_finished w fate id) q).items k ≡ true
@@ -287,6 +288,21 @@ covers_all_settled (m ∷ ms) l e s t ends w n a p c =
     (placed_settled (ends m.number) l e s t ends w m ms n p)
     (covers_settled (ends m.number) l e s t ends w m ms n a.0 p c)
 
+-- The device of an offloaded station catches up.
+covers_caught : (w : World) (s t : ℕ) → Full w → Full (caught_up w s t)
+unfolding caught_up
+covers_caught w s t c =
+    let start : ℕ = start_of (session w s t) in
+    let f : Session → Session = with_heard_start true start in
+    let u : World = on_session w s t f in
+    covers_calm u _ (λ q k h. ap (λ (qs : List Queue). carries (at new_queue qs q).items k)
+    (sym (queues_on_receiver u s t (with_start start))) ∙ h) (session_on_receiver u s t (with_start start))
+    (untouched_on_receiver u s t (with_start start)).frames
+    (covers_session w s t f (λ k n d. carries_heard true start _ k n d) c)
+
+covers_device : (w : World) (s t : ℕ) → Full w → Full (with_device_caught_up w s t)
+covers_device w s t c = if_caught Full w s t c (λ _. covers_caught w s t c)
+
 covers_after : (air : Option ℕ) (c : Content) (l : List ℕ) (w : World) (i : IsLawful w) (x : Exchange)
     (heard : Bool) →
     x.content ≡ c → IsFound w i x → Labelled (session w x.station x.tid) (mpdus_of c) →
@@ -299,8 +315,8 @@ covers_after air (Frames ms) l w i x heard e f a p c =
     let d : session v x.station x.tid ≡ session w x.station x.tid =
     session_same _ _ (same_charged air (without_exchange w x.number) x) x.station x.tid
     ∙ without_same w x.number x.station x.tid in
-    covers_all_settled ms l x.number x.station x.tid (end_of x heard) v
-    (ending_of air w i x ms heard e f) (subst (λ (y : Session). Labelled y ms) (sym d) a) p c
+    covers_device _ x.station x.tid (covers_all_settled ms l x.number x.station x.tid (end_of x heard) v
+    (ending_of air w i x ms heard e f) (subst (λ (y : Session). Labelled y ms) (sym d) a) p c)
 covers_after air (Request g) l w i x heard e f a p c =
     covers_session (after_charge (without_exchange w x.number) x air) x.station x.tid
     (with_heard_start heard g)
@@ -582,18 +598,17 @@ pub covers_flushed : (l : List ℕ) (w : World) (s t : ℕ) → Placing l w → 
     Full (flush_outcome w s t).world
 unfolding flush_outcome after_tid_flushed
 covers_flushed l w s t p c =
-    covers_flush_queues (in_rising_order (in_order (tid_of w s t).queues)) l _ (placed_flush_slots l w s t p)
-    (covers_flush_slots l w s t p c)
+    covers_device _ s t (covers_flush_queues (in_rising_order (in_order (tid_of w s t).queues)) l _
+    (placed_flush_slots l w s t p) (covers_flush_slots l w s t p c))
 
 -- ---- a station joins
 
-pub covers_joined : (w : World) (s window start exponent weight : ℕ) → is_live w s ≡ false → Full w →
-    Full (join_outcome w s window start exponent weight).world
-unfolding join_outcome
-covers_joined w s window start exponent weight dead c =
-    covers_frames (InHand (with_station w s _)) w _ (untouched_with_station w s _).frames
-    (covers_more (InHand w) (InHand (with_station w s _)) w (λ j i. elim i [
-      | inl r ↦ inl (record { place = r.place; there = queues_with_station w s _ r.place j r.there })
+covers_new : (w : World) (s : ℕ) (x : Station) → is_live w s ≡ false → Full w →
+    Full (with_station w s (Some x))
+covers_new w s x dead c =
+    covers_frames (InHand (with_station w s (Some x))) w _ (untouched_with_station w s (Some x)).frames
+    (covers_more (InHand w) (InHand (with_station w s (Some x))) w (λ j i. elim i [
+      | inl r ↦ inl (record { place = r.place; there = queues_with_station w s (Some x) r.place j r.there })
       | inr d ↦ on_bool (s == d.station)
           (λ own.
           let e : s ≡ d.station = eq_yes s d.station own in
@@ -604,7 +619,17 @@ covers_joined w s window start exponent weight dead c =
             tid = d.tid;
             number = d.number;
             slot_of = subst (λ (y : Session). Carries y j d.number)
-                (sym (ap (λ (z : Side). z.session) (side_with_station w s d.station d.tid _
+                (sym (ap (λ (z : Side). z.session) (side_with_station w s d.station d.tid (Some x)
                 (eq_no s d.station other)))) d.slot_of;
           }))
     ]) c)
+
+pub covers_joined : (w : World) (s window start exponent weight : ℕ) → is_live w s ≡ false → Full w →
+    Full (join_outcome w s window start exponent weight).world
+unfolding join_outcome
+covers_joined w s window start exponent weight dead c = covers_new w s _ dead c
+
+pub covers_offloaded : (w : World) (s exponent weight : ℕ) → is_live w s ≡ false → Full w →
+    Full (offload_outcome w s exponent weight).world
+unfolding offload_outcome
+covers_offloaded w s exponent weight dead c = covers_new w s _ dead c

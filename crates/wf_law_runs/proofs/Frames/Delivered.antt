@@ -1,24 +1,24 @@
 -- Proves that each frame that a call acknowledges has arrived at a receiver, and that the call ends an
 -- exchange that sends it. By cases of the call.
-use Rattle.std.proofs.Common.{◌≡◌, ◌≢◌, refl, ap, sym, ◌∙◌, subst, arith, ℕ, zero, suc, ◌+◌, ◌-◌, ◌<◌, ◌≤◌, nat_lt, append-nil, Bool, true, false, if◌then◌else◌, not, ◌==◌, ◌⊎◌, inl, inr, List, [], ◌∷◌, ◌++◌, length, map, Option, Some, None, IfSome, is_some, ◌↔◌}
+use Rattle.std.proofs.Common.{◌≡◌, ◌≢◌, refl, ap, sym, ◌∙◌, subst, arith, ℕ, zero, suc, ◌+◌, ◌-◌, ◌<◌, ◌≤◌, nat_lt, append-nil, Bool, true, false, if◌then◌else◌, not, ◌==◌, ◌⊎◌, inl, inr, List, [], ◌∷◌, ◌++◌, length, map, Option, Some, None, IfSome, ◌↔◌, ◌||◌}
 use Rattle.wf_frame.specs.declared.classes.Class.{Class}
 use Rattle.wf_def_agreement.specs.Receiver.{Score, Receiver, score, shows}
 use Rattle.wf_def_lists.specs.Table.{at, has, with_member, put, upto}
 use Rattle.wf_def_codel.specs.Codel.{Item}
 use Rattle.wf_def_agreement.specs.Session.{End, request_due, waiting_numbers, with_state, Session, State, is_failed, slot, on_slot, with_number_given, next_number, has_room}
-use Rattle.wf_def_world.specs.World.{receiver, World, Station, Exchange, Mpdu, Content, Frames, Request, no_tid, rotation, session, is_live, exchange, with_station, on_station, on_session, on_receiver, on_queue, queue, with_exchange, without_exchange, no_frame, Frame}
+use Rattle.wf_def_world.specs.World.{receiver, World, Station, Exchange, Mpdu, Content, Frames, Request, rotation, session, is_live, exchange, with_station, on_station, on_session, on_receiver, on_queue, queue, with_exchange, without_exchange, no_frame, Frame}
 use Rattle.wf_frame.specs.Classes.{all_classes}
 use Rattle.wf_def_world.specs.FlowQueues.{after_limit, with_appended, after_put_in, taken_for_tid}
 use Rattle.wf_def_world.specs.CanSend.{is_ready, can_give}
 use Rattle.wf_def_world.specs.Exchanges.{end_of, is_acked, station_need, most_frames, picked_station, after_arrival, exchange_of, sending_tid, Prepared, mpdus_of, after_tid_turn, with_fresh, aggregate_of, with_number, fresh_mpdus, with_flying, waiting_mpdus, longest_fitting, without_credit, prepared_data, prepared_exchange, with_exchange_opened, after_charge, with_failed_finished, with_settled, with_all_settled, after_done, fits_in, mpdu_of, Aggregate}
-use Rattle.wf_frame.specs.declared.notes.Ask.TheVariants.{Join, Leave, Rate, Tick, Pull, Arrive, Answer, Done, Sleep, Wake, Poll, Rx, Reap, Ampdu, Stop, Start, Unsent, GiveUp, Flush}
+use Rattle.wf_frame.specs.declared.notes.Ask.TheVariants.{Join, Leave, Rate, Tick, Pull, Arrive, Answer, Done, Sleep, Wake, Poll, Rx, Reap, Ampdu, Stop, Start, Unsent, GiveUp, Flush, Offload, Weight}
 use Rattle.wf_frame.specs.declared.notes.Limits.{Limits}
 use Rattle.wf_frame.specs.declared.notes.Note.{Note}
 use Rattle.wf_frame.specs.declared.notes.Note.TheVariants.{Enqueue, Asked}
 use Rattle.wf_frame.specs.declared.notes.Refusal.{Refusal}
 use Rattle.wf_frame.specs.declared.notes.Refusal.TheVariants.{Idle}
 use Rattle.wf_def_world.specs.Refusals.{open_of_station, refusals, refusal}
-use Rattle.wf_def_world.specs.Step.{Outcome, join_outcome, after_tid_left, after_tids_left, without_listings, leave_outcome, rate_outcome, tick_outcome, with_frame, enqueue_outcome, send_outcome, pull_outcome_for, pull_outcome, arrive_outcome, answer_outcome, done_outcome, outcome_where_open, sleep_outcome, wake_outcome, poll_outcome, rx_outcome, reap_outcome, unsent_outcome, give_up_outcome, flush_outcome, outcome_of, after_refusal, judged_outcome, step, concerned_station}
+use Rattle.wf_def_world.specs.Step.{Outcome, join_outcome, after_tid_left, after_tids_left, without_listings, leave_outcome, rate_outcome, tick_outcome, with_frame, enqueue_outcome, send_outcome, pull_outcome_for, pull_outcome, arrive_outcome, answer_outcome, done_outcome, outcome_where_open, sleep_outcome, wake_outcome, poll_outcome, rx_outcome, reap_outcome, unsent_outcome, give_up_outcome, flush_outcome, outcome_of, after_refusal, judged_outcome, step, concerned_station, offload_outcome, new_station}
 use Rattle.wf_law_rules.proofs.Lemmas.Tables.{at_put_other}
 use Rattle.wf_law_runs.proofs.Common.Refused.{after_idle}
 use Rattle.wf_law_runs.proofs.Common.Marks.{with_marks, marked_world}
@@ -26,20 +26,22 @@ use Rattle.wf_law_runs.proofs.Common.Ends.{slot_after_end, end_backed, on_settle
 use Rattle.wf_law_runs.proofs.Common.Flushes.{if_flushed}
 use Rattle.wf_law_runs.proofs.Sessions.Flights.{Rises}
 use Rattle.wf_law_rules.proofs.Lemmas.Numbers.{on_if, both, yes_eq, or_left, or_right}
-use Rattle.wf_law_runs.proofs.Windows.Sides.{Side, side_of, sides_of, Same, each_side_on, on_opened, then_same, same_on_station, same_on_share, same_finish, same_listed, same_after_pick, same_after_turn, same_spent, same_within_limit, same_put_in, same_take, same_charged, same_picked}
+use Rattle.wf_law_runs.proofs.Windows.Sides.{sided, Side, sides_of, Same, each_side_on, on_opened, then_same, same_on_station, same_on_share, same_finish, same_listed, same_after_pick, same_after_turn, same_spent, same_within_limit, same_put_in, same_take, same_charged, same_picked, same_plain, same_weighed}
 use Rattle.wf_law_runs.proofs.Windows.Opened.{Each, each_map, each_both, each_append, each_filter, each_find, FlyIn, some_along, pick_ready, left_true, can_give-room, none_open, NoRow, no_row}
 use Rattle.std.proofs.Common.{drop, take as take_front}
 use Rattle.std.proofs.lemmas.List.{take-append-drop}
 use Rattle.wf_def_lists.specs.Table.{greatest_upto}
 use Rattle.wf_frame.specs.declared.classes.Fate.TheVariants.{Acked, Held}
 use Rattle.wf_law_runs.specs.Windows.{EachMpdu}
-use Rattle.wf_law_runs.specs.Delivery.{ids_sent, EndsHeard}
+use Rattle.wf_law_runs.specs.Delivery.{ids_sent, EndsHeard, is_batch}
 use Rattle.wf_law_runs.proofs.Common.Picked.{picked_world}
-use Rattle.wf_law_runs.proofs.Releases.Kept.{KeptSession, kept_give, kept_fly, Kept, kept_same, keep_ended, keep_prepared, keep_flushed, opened_flushed}
-use Rattle.wf_law_runs.proofs.Windows.Agreed.{IsLawful, IsOpenIn, IsReady, AllBacked, ready_start, ready_filled, ready_same, longer_number, lawful_same, lawful_done, backed_by, session_same, session_on_session, opened_on_session, exchanges_on_session, same_left_tids, same_off_lists, each_map_if}
-use Rattle.wf_law_runs.proofs.Frames.Fewer.{IsAcked, Less, less, then_less, if_less, less_plain, less_on_station, less_on_session, less_on_queue, fewer_none, less_on_receiver, less_with_queues, less_on_share, less_with_rotation, less_finish, less_drop_all, less_listed, less_after_pick, less_after_turn, less_spent, less_within_limit, less_listed_queue, less_purge_queues, less_charged, less_take, less_picked}
-use Rattle.wf_law_runs.proofs.Windows.Settling.{all_acked, without_same, without_live}
+use Rattle.wf_law_runs.proofs.Releases.Kept.{KeptSession, kept_give, kept_fly, Kept, kept_same, keep_ended, keep_prepared, keep_flushed, opened_flushed, opened_device, exchanges_device}
+use Rattle.wf_law_runs.proofs.Windows.Agreed.{IsLawful, IsOpenIn, IsReady, AllBacked, ready_start, ready_filled, ready_same, longer_number, lawful_same, lawful_done, session_same, session_on_session, opened_on_session, exchanges_on_session, same_left_tids, same_off_lists, each_map_if, backed_of}
+use Rattle.wf_law_runs.proofs.Frames.Fewer.{IsAcked, Less, less, then_less, if_less, less_plain, less_on_station, less_on_session, less_on_queue, fewer_none, less_on_receiver, less_with_queues, less_on_share, less_with_rotation, less_finish, less_drop_all, less_listed, less_after_pick, less_after_turn, less_spent, less_within_limit, less_listed_queue, less_purge_queues, less_charged, less_take, less_picked, less_device, less_caught, less_weighed}
+use Rattle.wf_law_runs.proofs.Windows.Settling.{all_acked, without_same, without_live, acked_device}
 use Rattle.wf_law_runs.proofs.Releases.Placed.{slot_new_id}
+use Rattle.wf_law_runs.proofs.Windows.Agreement.{IsOpen}
+use Rattle.wf_def_lists.specs.Bounds.{greatest_window}
 
 -- ---- the ids in an exchange are the ids of its numbers
 
@@ -327,7 +329,7 @@ opened_all (m ∷ ms) w s t ends = opened_all ms (with_settled w s t (ends m.num
 opened_after : (c : Content) (w : World) (x : Exchange) (heard : Bool) →
     (after_done w x heard c).opened ≡ w.opened
 unfolding after_done
-opened_after (Frames ms) w x heard = opened_all ms w x.station x.tid _
+opened_after (Frames ms) w x heard = opened_device _ x.station x.tid ∙ opened_all ms w x.station x.tid _
 opened_after (Request f) w x heard = opened_on_session w x.station x.tid _
 
 exchanges_settled : (end : End) (w : World) (s t : ℕ) (m : Mpdu) →
@@ -353,7 +355,8 @@ exchanges_all (m ∷ ms) w s t ends = exchanges_all ms (with_settled w s t (ends
 exchanges_after : (c : Content) (w : World) (x : Exchange) (heard : Bool) →
     (after_done w x heard c).exchanges ≡ w.exchanges
 unfolding after_done
-exchanges_after (Frames ms) w x heard = exchanges_all ms w x.station x.tid _
+exchanges_after (Frames ms) w x heard = exchanges_device _ x.station x.tid
+    ∙ exchanges_all ms w x.station x.tid _
 exchanges_after (Request f) w x heard = exchanges_on_session w x.station x.tid _
 
 exchanges_without : (w : World) (e : ℕ) → (without_exchange w e).exchanges ≡ w.exchanges
@@ -408,12 +411,24 @@ labelled_with_station w s o away a = record {
       (sym (at_put_other None w.stations s x.station o ne)) l) a.labels away;
 }
 
+labelled_new : (w : World) (s window start exponent weight : ℕ) (offloaded : Bool) → is_live w s ≡ false →
+    IsLawful w → IsLabelled w →
+    IsLabelled (with_station w s (Some (new_station w.config window start exponent weight offloaded)))
+labelled_new w s window start exponent weight offloaded dead i a =
+    labelled_with_station w s _ (each_map (IsOpenIn w) (λ x. s ≢ x.station) w.opened
+    (λ x f e. cc (ap (is_live w) e, f.live, dead)) i.opened) a
+
 labelled_joined : (w : World) (s window start exponent weight : ℕ) → is_live w s ≡ false → IsLawful w →
     IsLabelled w → IsLabelled (join_outcome w s window start exponent weight).world
 unfolding join_outcome
 labelled_joined w s window start exponent weight dead i a =
-    labelled_with_station w s _ (each_map (IsOpenIn w) (λ x. s ≢ x.station) w.opened
-    (λ x f e. cc (ap (is_live w) e, f.live, dead)) i.opened) a
+    labelled_new w s window start exponent weight false dead i a
+
+labelled_offloaded : (w : World) (s exponent weight : ℕ) → is_live w s ≡ false → IsLawful w →
+    IsLabelled w → IsLabelled (offload_outcome w s exponent weight).world
+unfolding offload_outcome
+labelled_offloaded w s exponent weight dead i a =
+    labelled_new w s greatest_window 0 exponent weight true dead i a
 
 labelled_gone : (w : World) (s : ℕ) → nat_lt 0 (open_of_station w s) ≡ false → IsLawful w → IsLabelled w →
     IsLabelled (leave_outcome w s).world
@@ -456,7 +471,9 @@ less_without P w e = less_plain P w _ refl refl
 less_after : (c : Content) (w : World) (x : Exchange) (heard : Bool) →
     Less (AckedAmong (end_of x heard) (mpdus_of c)) w (after_done w x heard c)
 unfolding after_done
-less_after (Frames ms) w x heard = less_all ms _ w x.station x.tid _ (λ id k. k)
+less_after (Frames ms) w x heard = then_less _ _ _ _
+    (less_all ms (AckedAmong (end_of x heard) ms) w x.station x.tid (end_of x heard) (λ id k. k))
+    (less_device _ _ x.station x.tid)
 less_after (Request f) w x heard = less_on_session _ w x.station x.tid _
 
 pub less_ended : (air : Option ℕ) (w : World) (x : Exchange) (heard : Bool) →
@@ -479,7 +496,7 @@ pub record HasArrived (w : World) (id : ℕ) : Type 0 where
 
 -- An acknowledged number of the ended exchange has arrived at its receiver.
 reached_among : (ms : List Mpdu) (v : World) (y : Session) (r : Receiver) (s t id lo : ℕ) (ends : ℕ → End) →
-    is_live v s ≡ true → KeptSession y (session v s t) → receiver v s t ≡ r → y.first ≤ lo →
+    is_live v s ≡ true → KeptSession y (session v s t) → (receiver v s t).arrived ≡ r.arrived → y.first ≤ lo →
     Rises lo (next_number y) ms → Labelled y ms → AllBacked ends r ms
     → EachMpdu (λ m. ((slot (session v s t) m.number).state ≡ State.Acked)
     ↔ (ends m.number ≡ End.Acknowledged)) ms →
@@ -495,7 +512,7 @@ reached_among (m ∷ ms) v y r s t id lo ends live k e b rises labels backed sta
     below = omega (arith, k.next, rises.1);
     carries = k.ids m.number (omega (arith, b, rises.0)) rises.1 ∙ labels.0 ∙ own.0;
     acked = states.0.1 own.1;
-    arrived = ap (λ (q : Receiver). has q.arrived m.number) e ∙ backed.0 own.1;
+    arrived = ap (λ (q : List ℕ). has q m.number) e ∙ backed.0 own.1;
   }
   | inr rest ↦ reached_among ms v y r s t id (suc m.number) ends live k e
       (omega (arith, b, rises.0)) rises.2 labels.1 backed.1 states.1 rest
@@ -516,15 +533,21 @@ states_after air (Frames ms) w x heard e o =
     ∙ without_same w x.number x.station x.tid in
     let flies : FlyIn x.number ms y = subst (λ (c : Content). FlyIn x.number (mpdus_of c) y) e o.opened.flies
     in
-    all_acked ms v x.station x.tid (end_of x heard) y.first (next_number y)
+    acked_device ms (with_all_settled v x.station x.tid (end_of x heard) ms) x.station x.tid (end_of x heard)
+    (all_acked ms v x.station x.tid (end_of x heard) y.first (next_number y)
     (k.live x.station ∙ without_live w x.number x.station ∙ o.live)
-    (omega (arith, ap (λ (z : Session). z.first) same_y)) flies.rising
+    (omega (arith, ap (λ (z : Session). z.first) same_y)) flies.rising)
 
 states_ended : (air : Option ℕ) (w : World) (x : Exchange) (heard : Bool) → IsOpenIn w x →
     EachMpdu (λ m. ((slot (session (done_outcome w x heard air).world x.station x.tid) m.number).state
     ≡ State.Acked) ↔ (end_of x heard m.number ≡ End.Acknowledged)) (mpdus_of x.content)
 unfolding done_outcome
 states_ended air w x heard o = states_after air x.content w x heard refl o
+
+backed_content : (c : Content) (x : Exchange) (y : Session) (r : Receiver) (heard : Bool) → x.content ≡ c →
+    IsOpen x y r → AllBacked (end_of x heard) r (mpdus_of c)
+backed_content (Frames ms) x y r heard e o = backed_of x y r ms heard e o
+backed_content (Request f) x y r heard e o = tt
 
 reached_ended : (air : Option ℕ) (w : World) (x : Exchange) (heard : Bool) (id : ℕ) → IsOpenIn w x →
     Labelled (session w x.station x.tid) (mpdus_of x.content) →
@@ -535,10 +558,9 @@ reached_ended air w x heard id o l h =
     let y : Session = session w x.station x.tid in
     reached_among (mpdus_of x.content) (done_outcome w x heard air).world y
     (receiver w x.station x.tid) x.station x.tid id y.first (end_of x heard)
-    (k.live x.station ∙ o.live) (k.sessions x.station x.tid) (k.receivers x.station x.tid)
+    (k.live x.station ∙ o.live) (k.sessions x.station x.tid) (k.receivers x.station x.tid).arrived
     (omega arith) o.opened.flies.rising l
-    (backed_by (mpdus_of x.content) heard x.answer (receiver w x.station x.tid) (end_of x heard)
-    (λ n e. (end_backed x heard n e).1) o.opened.kept)
+    (backed_content x.content x (session w x.station x.tid) (receiver w x.station x.tid) heard refl o.opened)
     (states_ended air w x heard o) h
 
 reached_same : (w v : World) (id : ℕ) → Same w v → HasArrived w id → HasArrived v id
@@ -644,6 +666,11 @@ pub less_joined : (P : ℕ → Type 0) (w : World) (s window start exponent weig
 unfolding join_outcome
 less_joined P w s window start exponent weight = less_with_station P w s _
 
+pub less_offloaded : (P : ℕ → Type 0) (w : World) (s exponent weight : ℕ) →
+    Less P w (offload_outcome w s exponent weight).world
+unfolding offload_outcome
+less_offloaded P w s exponent weight = less_with_station P w s _
+
 pub less_arrived : (P : ℕ → Type 0) (w : World) (x : Exchange) (n : ℕ) → Less P w (arrive_outcome w x n).world
 unfolding arrive_outcome with_exchange
 less_arrived P w x n = then_less P w _ _ (less_on_receiver P w x.station x.tid _) (less_plain P _ _ refl refl)
@@ -663,7 +690,7 @@ less_flushed P w s t = if_flushed (Less P w)
       finish = λ u id k. then_less P w u _ k (less_finish P u _ id (λ e. cc e));
       empty = λ u q k. then_less P w u _ k (less_on_queue P u q _ (fewer_none (queue u q).items));
     })
-    w s t (less_on_session P w s t _)
+    w s t (λ v k _. then_less P w v _ k (less_caught P v s t)) (less_on_session P w s t _)
 
 pub less_reaped : (ids : List ℕ) (P : ℕ → Type 0) (w : World) → Less P w (reap_outcome w ids).world
 unfolding reap_outcome
@@ -736,7 +763,7 @@ with_itself None P h = tt
 with_itself (Some x) P h = (refl, h)
 
 delivered_station : (note : Note) (w : World) (s : ℕ) (f : Station → Station) →
-    ((x : Station) (t : ℕ) → side_of (at no_tid (f x).tids t) ≡ side_of (at no_tid x.tids t)) → IsLawful w →
+    ((x : Station) (t : ℕ) → sided (f x) t ≡ sided x t) → IsLawful w →
     IsLabelled w → IsDelivered note w (on_station w s f)
 delivered_station note w s f h i a = record {
   labelled = labelled_same w _ i (same_on_station w s f h) a;
@@ -746,22 +773,14 @@ delivered_station note w s f h i a = record {
 delivered_plain : (note : Note) (w v : World) → w.stations ≡ v.stations → w.opened ≡ v.opened →
     w.exchanges ≡ v.exchanges → OldAcks w v → IsLawful w → IsLabelled w → IsDelivered note w v
 delivered_plain note w v a b c o i l = record {
-  labelled = labelled_same w v i (record {
-    sides =
-        λ s t. ap (λ (x : List (Option Station)). sides_of (at None x s) t) (sym a);
-    live =
-        λ s. ap (λ (x : List (Option Station)). is_some (at None x s)) (sym a);
-    opened = sym b;
-    exchanges =
-        sym c;
-  }) l;
+  labelled = labelled_same w v i (same_plain w v a b c) l;
   acks = acks_old _ w v o;
 }
 
 pub same_enqueued : (w : World) (s t flow len : ℕ) → Same w (enqueue_outcome w s t flow len).world
 unfolding enqueue_outcome with_frame
 same_enqueued w s t flow len = then_same _ _ _ (then_same _ _ _ (same_within_limit w) (same_put_in _ s t _ _))
-    (record { sides = λ i j. refl; live = λ i. refl; opened = refl; exchanges = refl })
+    (record { sides = λ i j. refl; live = λ i. refl; offloaded = λ i. refl; opened = refl; exchanges = refl })
 
 delivered_reaped : (note : Note) (ids : List ℕ) (w : World) → IsLawful w → IsLabelled w →
     IsDelivered note w (reap_outcome w ids).world
@@ -774,10 +793,13 @@ acked_heard heard None n h = absurd (cc h)
 acked_heard heard (Some b) n h = (both heard (shows b n) h).0
 
 heard_among : (ms : List Mpdu) (x : Exchange) (heard : Bool) (id : ℕ) →
-    AckedAmong (end_of x heard) ms id → heard ≡ true
+    AckedAmong (end_of x heard) ms id → heard || x.batch ≡ true
 heard_among [] x heard id h = absurd h
 heard_among (m ∷ ms) x heard id h = elim h [
-  | inl e ↦ acked_heard heard x.answer m.number (end_backed x heard m.number e.1).1
+  | inl e ↦ elim (end_backed x heard m.number e.1).1 [
+    | inl d ↦ or_right heard x.batch d.0
+    | inr a ↦ or_left heard x.batch (acked_heard heard x.answer m.number a.1)
+  ]
   | inr k ↦ heard_among ms x heard id k
 ]
 
@@ -789,11 +811,6 @@ sent_among (m ∷ ms) ends id h = elim h [
   | inr later ↦ or_right (m.id == id) (has (map (λ m. m.id) ms) id) (sent_among ms ends id later)
 ]
 
-ends_heard : (air : Option ℕ) (w : World) (e : ℕ) (heard : Bool) (id : ℕ) → heard ≡ true →
-    has (ids_sent (exchange w e)) id ≡ true → EndsHeard w (Asked (Done e heard air)) id
-ends_heard air w e true id h sent = sent
-ends_heard air w e false id h sent = absurd (cc h)
-
 delivered_ended : (air : Option ℕ) (w : World) (x : Exchange) (e : ℕ) (heard : Bool) → exchange w e ≡ Some x →
     IsRead w x →
     IsLawful w → IsLabelled w → IsDelivered (Asked (Done e heard air)) w (done_outcome w x heard air).world
@@ -803,9 +820,12 @@ delivered_ended air w x e heard at_number r i a = record {
     | inl was ↦ inl was
     | inr now ↦
         inr (
-          ends_heard air w e heard id (heard_among (mpdus_of x.content) x heard id now)
-              (ap (λ (o : Option Exchange). has (ids_sent o) id) at_number
-              ∙ sent_among (mpdus_of x.content) (end_of x heard) id now),
+          (
+            ap (λ (o : Option Exchange). has (ids_sent o) id) at_number
+                ∙ sent_among (mpdus_of x.content) (end_of x heard) id now,
+            ap (λ (o : Option Exchange). heard || is_batch o) at_number
+                ∙ heard_among (mpdus_of x.content) x heard id now,
+          ),
           reached_ended air w x heard id r.open_in r.labels now,
         )
   ];
@@ -897,6 +917,14 @@ delivered_done (Asked (GiveUp x n)) w i a e = delivered_open _ (IsRead w) (excha
 delivered_done (Asked (Flush s t)) w i a e = record {
   labelled = labelled_flushed w s t i a;
   acks = acks_less (Asked (Flush s t)) w _ (less_flushed None_of w s t);
+}
+delivered_done (Asked (Offload s exponent weight)) w i a e = record {
+  labelled = labelled_offloaded w s exponent weight e.1.1.1.0 i a;
+  acks = acks_less (Asked (Offload s exponent weight)) w _ (less_offloaded None_of w s exponent weight);
+}
+delivered_done (Asked (Weight s weight)) w i a e = record {
+  labelled = labelled_same w _ i (same_weighed w s weight) a;
+  acks = acks_less (Asked (Weight s weight)) w _ (less_weighed None_of w s weight);
 }
 
 delivered_refused : (note : Note) (r : Refusal) (w : World) → IsLawful w → IsLabelled w →

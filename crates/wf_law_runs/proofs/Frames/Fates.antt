@@ -9,36 +9,36 @@ use Rattle.wf_def_codel.specs.Codel.{Item, Params, Codel, new_codel, Dequeued, d
 use Rattle.wf_def_codel.specs.CodelLoop.{giving, dropping_first}
 use Rattle.wf_law_rules.proofs.Lemmas.Dequeues.{each_dequeue}
 use Rattle.wf_def_rotation.specs.Rotation.{in_order, no_keys}
-use Rattle.wf_def_agreement.specs.Receiver.{Receiver}
-use Rattle.wf_def_agreement.specs.Session.{End, is_waiting, request_due, waiting_numbers, with_state, Session, Slot, State, is_settled, is_failed, slot_given_up, slot, on_slot, with_number_given, after_flush, new_session, next_number, numbers_where, no_slot}
-use Rattle.wf_def_world.specs.World.{World, Station, Share, Queue, Exchange, Mpdu, Content, Frames, Request, new_tid, no_tid, rotation, session, tid_of, is_live, exchange, with_station, on_station, on_tid, on_session, on_receiver, with_queues, on_share, on_queue, with_fate, with_frame_finished, with_frames_finished, with_exchange, without_exchange, opening, inside, is_held, no_frame, Frame, frame, new_queue, queue, accepted_count, codel_params}
+use Rattle.wf_def_agreement.specs.Receiver.{Receiver, with_start}
+use Rattle.wf_def_agreement.specs.Session.{End, is_waiting, request_due, waiting_numbers, with_state, Session, Slot, State, is_settled, is_failed, slot_given_up, slot, on_slot, with_number_given, after_flush, new_session, next_number, numbers_where, no_slot, start_of}
+use Rattle.wf_def_world.specs.World.{World, Station, Share, Queue, Exchange, Mpdu, Content, Frames, Request, new_tid, rotation, session, tid_of, is_live, exchange, with_station, on_station, on_tid, on_session, on_receiver, with_queues, on_share, on_queue, with_fate, with_frame_finished, with_frames_finished, with_exchange, without_exchange, opening, inside, is_held, no_frame, Frame, frame, new_queue, queue, accepted_count, codel_params}
 use Rattle.wf_frame.specs.Classes.{all_classes}
 use Rattle.wf_def_world.specs.FlowQueues.{without_head, after_limit, with_appended, after_put_in, with_queues_paid, taken_by_codel, taken_from_picked, taken_for_tid, after_queue_left, after_queues_left, after_queue_flushed, after_queues_flushed, len_given, picked_queue, queue_for, longest_queue, is_at_limit}
 use Rattle.wf_def_world.specs.CanSend.{is_ready, with_listings_of, can_give}
-use Rattle.wf_def_world.specs.Exchanges.{end_of, station_need, most_frames, picked_station, after_arrival, exchange_of, sending_tid, with_heard_start, Prepared, mpdus_of, after_pick, after_tid_turn, with_fresh, aggregate_of, with_number, with_flying, waiting_mpdus, longest_fitting, without_credit, prepared_data, prepared_exchange, with_exchange_opened, after_charge, with_failed_finished, with_settled, with_all_settled, after_done, ids_of, Aggregate}
-use Rattle.wf_frame.specs.declared.notes.Ask.TheVariants.{Join, Leave, Rate, Tick, Pull, Arrive, Answer, Done, Sleep, Wake, Poll, Rx, Reap, Ampdu, Stop, Start, Unsent, GiveUp, Flush}
+use Rattle.wf_def_world.specs.Exchanges.{end_of, station_need, most_frames, picked_station, after_arrival, exchange_of, sending_tid, with_heard_start, Prepared, mpdus_of, after_pick, after_tid_turn, with_fresh, aggregate_of, with_number, with_flying, waiting_mpdus, longest_fitting, without_credit, prepared_data, prepared_exchange, with_exchange_opened, after_charge, with_failed_finished, with_settled, with_all_settled, after_done, ids_of, Aggregate, caught_up, with_device_caught_up}
+use Rattle.wf_frame.specs.declared.notes.Ask.TheVariants.{Join, Leave, Rate, Tick, Pull, Arrive, Answer, Done, Sleep, Wake, Poll, Rx, Reap, Ampdu, Stop, Start, Unsent, GiveUp, Flush, Offload, Weight}
 use Rattle.wf_frame.specs.declared.notes.Limits.{Limits}
 use Rattle.wf_frame.specs.declared.notes.Note.{Note}
 use Rattle.wf_frame.specs.declared.notes.Note.TheVariants.{Enqueue, Asked}
 use Rattle.wf_frame.specs.declared.notes.Refusal.{Refusal}
 use Rattle.wf_frame.specs.declared.notes.Refusal.TheVariants.{Idle}
 use Rattle.wf_def_world.specs.Refusals.{refusal, refusals}
-use Rattle.wf_def_world.specs.Step.{Outcome, join_outcome, after_tid_left, after_tids_left, without_listings, leave_outcome, after_tid_flushed, rate_outcome, tick_outcome, with_frame, enqueue_outcome, send_outcome, pull_outcome_for, pull_outcome, arrive_outcome, answer_outcome, done_outcome, outcome_where_open, sleep_outcome, wake_outcome, poll_outcome, rx_outcome, reap_outcome, unsent_outcome, give_up_outcome, flush_outcome, outcome_of, after_refusal, judged_outcome, step, waiting_ids, in_rising_order, concerned_station}
+use Rattle.wf_def_world.specs.Step.{Outcome, join_outcome, after_tid_left, after_tids_left, without_listings, leave_outcome, rate_outcome, tick_outcome, with_frame, enqueue_outcome, send_outcome, pull_outcome_for, pull_outcome, arrive_outcome, answer_outcome, done_outcome, outcome_where_open, sleep_outcome, wake_outcome, poll_outcome, rx_outcome, reap_outcome, unsent_outcome, give_up_outcome, flush_outcome, outcome_of, after_refusal, judged_outcome, step, waiting_ids, in_rising_order, concerned_station, offload_outcome, weight_outcome, new_station}
 use Rattle.wf_def_world.specs.Run.{Entry, world_after}
 use Rattle.std.proofs.lemmas.List.{length-append}
 use Rattle.std.proofs.lemmas.List.Sums.{sum_by-append}
 use Rattle.wf_law_runs.proofs.Common.Refused.{after_idle}
 use Rattle.wf_law_runs.proofs.Common.Marks.{marked_world}
 use Rattle.wf_law_runs.proofs.Common.Ends.{slot_after_end, end_id, on_settled}
-use Rattle.wf_law_runs.proofs.Common.Flushes.{flush_along, slot_flush, flushed_fails, next-flush}
+use Rattle.wf_law_runs.proofs.Common.Flushes.{flush_along, slot_flush, flushed_fails, next-flush, if_caught, emptied_world, flush_is}
 use Rattle.wf_law_runs.proofs.Windows.Opened.{NoRow, no_row, each_find, some_along, pick_ready, left_true, eight}
 use Rattle.wf_law_rules.proofs.Lemmas.Sums.{sum_put_within, length_put}
-use Rattle.wf_law_runs.proofs.Frames.Untouched.{Untouched, untouched, then_untouched, untouched_on_session, untouched_on_queue, untouched_pay_queues, untouched_with_queues, untouched_spent, untouched_after_turn, untouched_after_pick, untouched_without, untouched_charged, untouched_put_in, untouched_off_lists, untouched_with_station, untouched_on_station, untouched_on_receiver, untouched_listed, untouched_picked}
+use Rattle.wf_law_runs.proofs.Frames.Untouched.{Untouched, untouched, then_untouched, untouched_on_session, untouched_on_queue, untouched_pay_queues, untouched_with_queues, untouched_spent, untouched_after_turn, untouched_after_pick, untouched_without, untouched_charged, untouched_put_in, untouched_off_lists, untouched_with_station, untouched_on_station, untouched_on_receiver, untouched_listed, untouched_picked, untouched_device, untouched_weighed}
 use Rattle.wf_law_rules.proofs.Lemmas.Tables.{each_put, at_put_same, at_put_other}
 use Rattle.wf_law_rules.proofs.Lemmas.Joined.{once_append, has_either, has_first, has_second}
 use Rattle.wf_law_runs.proofs.Sessions.Flights.{AllIn, Rises, all_in_later, next-give}
 use Rattle.wf_law_rules.proofs.Lemmas.Numbers.{Climbs, climbs_from, on_bool, on_if, lt_yes, lt_no, eq_yes, eq_no, yes_eq, not_eq, either, or_left, or_right, climbs_at}
-use Rattle.wf_law_runs.proofs.Windows.Sides.{Side, side_of, sides_of, Same, each_side_on, then_same, same_on_station, same_with_queues, same_on_queue, same_finish, same_finish_all, same_listed, same_after_pick, same_after_turn, same_spent, same_put_in, same_pay_queues, same_take, same_charged, same_picked}
+use Rattle.wf_law_runs.proofs.Windows.Sides.{sided, Side, sides_of, Same, each_side_on, then_same, same_on_station, same_with_queues, same_on_queue, same_finish, same_finish_all, same_listed, same_after_pick, same_after_turn, same_spent, same_put_in, same_pay_queues, same_take, same_charged, same_picked, side, same_weighed}
 use Rattle.wf_law_runs.proofs.Windows.Agreement.{slot_give, slot_other, slot_same, next-on_slot}
 use Rattle.wf_frame.specs.declared.classes.Fate.TheVariants.{Held, Dropped}
 use Rattle.wf_frame.specs.declared.classes.Cause.TheVariants.{Codel as By_codel, Left, Overlimit, Flushed}
@@ -49,10 +49,11 @@ use Rattle.wf_law_runs.proofs.Releases.Released.{side_with_station, side_own_sta
 use Rattle.wf_def_lists.specs.Lists.{IsOnce}
 use Rattle.wf_law_runs.specs.Releases.{named_by, named_from}
 use Rattle.wf_law_runs.proofs.Common.Picked.{picked_world}
-use Rattle.wf_law_runs.proofs.Windows.Agreed.{IsLawful, IsReady, IsEnding, IsFound, found, ready_filled, ending_settled, ending_of, lawful_same, lawful_step, lawful_at_first, session_same, session_on_session, same_off_lists}
-use Rattle.wf_law_runs.proofs.Frames.Fewer.{Ordered, carries, carries_from, Fewer, fewer_none, Less, then_less, less_plain, less_on_station, less_on_session, less_on_queue, less_with_queues, less_pay_queues, less_after_pick, less_after_turn, less_spent, less_listed, less_charged, fewer_tail, less_drop_all, less_purge_queues, less_finish, less_take, given_take, less_dequeued, queue_on, queues_dropped, right_dequeue, less_picked}
+use Rattle.wf_law_runs.proofs.Windows.Agreed.{IsLawful, IsReady, IsEnding, IsFound, found, ready_filled, ending_settled, ending_of, lawful_same, lawful_step, lawful_at_first, session_same, session_on_session, same_off_lists, AgreedAt, ending_all, lawful_emptied}
+use Rattle.wf_law_runs.proofs.Frames.Fewer.{Ordered, carries, carries_from, Fewer, fewer_none, Less, then_less, less_plain, less_on_station, less_on_session, less_on_queue, less_with_queues, less_pay_queues, less_after_pick, less_after_turn, less_spent, less_listed, less_charged, fewer_tail, less_drop_all, less_purge_queues, less_finish, less_take, given_take, less_dequeued, queue_on, queues_dropped, right_dequeue, less_picked, less_on_receiver, less_weighed}
 use Rattle.wf_law_runs.proofs.Releases.Placed.{Queued, Numbered, Placing, Any, placed_less, placed_session, next-heard, queue_appended, less_put_in, less_with_frame, side_with_frame, less_with_station, less_off_lists, once_ids, has_ids, IsIdOf, placed_at_first, slot_new_id}
-use Rattle.wf_law_runs.proofs.Releases.Once.{placed_number, placed_frames, placed_without, placed_gone, placed_joined, placed_step}
+use Rattle.wf_law_runs.proofs.Releases.Once.{placed_number, placed_frames, placed_without, placed_gone, placed_joined, placed_step, placed_device, placed_offloaded}
+use Rattle.wf_def_lists.specs.Bounds.{greatest_window}
 
 abbrev pub IsHeld : World → ℕ → Type 0
 IsHeld w k = (frame w k).fate ≡ Held
@@ -902,6 +903,30 @@ pub fresh_without : (w : World) (e : ℕ) → Fresh w → Fresh (without_exchang
 unfolding without_exchange
 fresh_without w e h = fresh_calm w _ (less_plain Any w _ refl refl) (λ s t. refl) refl h
 
+pub session_on_receiver : (w : World) (s t : ℕ) (g : Receiver → Receiver) (i j : ℕ) →
+    session (on_receiver w s t g) i j ≡ session w i j
+unfolding on_receiver
+session_on_receiver w s t g = each_side_on (λ i j y. y.session ≡ session w i j) w s t
+    (λ y. record y { receiver = g y.receiver }) (λ i j. refl) refl
+
+-- The device of an offloaded station catches up.
+fresh_caught : (w : World) (s t : ℕ) → Fresh w → Fresh (caught_up w s t)
+unfolding caught_up
+fresh_caught w s t h =
+    let start : ℕ = start_of (session w s t) in
+    let u : World = on_session w s t (with_heard_start true start) in
+    fresh_calm u _ (less_on_receiver Any u s t (with_start start))
+    (session_on_receiver u s t (with_start start)) (untouched_on_receiver u s t (with_start start)).frames
+    (fresh_session w s t (with_heard_start true start) (unsettles_heard true start (session w s t)) h)
+
+pub safe_device : (l : List ℕ) (w : World) (s t : ℕ) → AgreedAt (side w s t) → Placing l w → Fresh w →
+    Safe l w (with_device_caught_up w s t)
+safe_device l w s t a p h = record {
+  placing = placed_device l w s t a p;
+  fresh = if_caught Fresh w s t h (λ _. fresh_caught w s t h);
+  stays = stays_same w _ (untouched_device w s t);
+}
+
 safe_after : (air : Option ℕ) (c : Content) (l : List ℕ) (w : World) (i : IsLawful w) (x : Exchange)
     (heard : Bool) →
     x.content ≡ c → IsFound w i x → Labelled (session w x.station x.tid) (mpdus_of c) →
@@ -915,8 +940,12 @@ safe_after air (Frames ms) l w i x heard e f a p h =
     let d : session v x.station x.tid ≡ session w x.station x.tid =
     session_same _ _ (same_charged air (without_exchange w x.number) x) x.station x.tid
     ∙ without_same w x.number x.station x.tid in
-    safe_all ms l x.number x.station x.tid (end_of x heard) v (ending_of air w i x ms heard e f)
-    (subst (λ (y : Session). Labelled y ms) (sym d) a) p h
+    let n = ending_of air w i x ms heard e f in
+    let u : World = with_all_settled v x.station x.tid (end_of x heard) ms in
+    let k : Safe l v u = safe_all ms l x.number x.station x.tid (end_of x heard) v n
+    (subst (λ (y : Session). Labelled y ms) (sym d) a) p h in
+    then_safe l v u _ k.stays (safe_device l u x.station x.tid
+    ((ending_all ms x.number x.station x.tid v (end_of x heard) n).agreed x.station x.tid) k.placing k.fresh)
 safe_after air (Request g) l w i x heard e f a p h =
     let v : World = after_charge (without_exchange w x.number) x air in
     record {
@@ -1452,12 +1481,6 @@ gone_kept l w s p h =
           r.held);
     }
 
-pub session_on_receiver : (w : World) (s t : ℕ) (g : Receiver → Receiver) (i j : ℕ) →
-    session (on_receiver w s t g) i j ≡ session w i j
-unfolding on_receiver
-session_on_receiver w s t g = each_side_on (λ i j y. y.session ≡ session w i j) w s t
-    (λ y. record y { receiver = g y.receiver }) (λ i j. refl) refl
-
 safe_gone : (l : List ℕ) (w : World) (s : ℕ) → Placing l w → Fresh w → Safe l w (leave_outcome w s).world
 safe_gone l w s p h = record {
   placing = placed_gone l w s p;
@@ -1591,16 +1614,23 @@ placed_flush_slots l w s t p =
     placed_less l u _ (less_drop_all Any ids u (Dropped Flushed) (λ e. cc e))
     (same_finish_all ids u (Dropped Flushed)).sides (placed_flush l w s t p)
 
-pub safe_flushed : (l : List ℕ) (w : World) (s t : ℕ) → is_live w s ≡ true → Placing l w → Fresh w →
-    Safe l w (flush_outcome w s t).world
-unfolding flush_outcome after_tid_flushed
-safe_flushed l w s t live p h =
+safe_emptied : (l : List ℕ) (w : World) (s t : ℕ) → is_live w s ≡ true → Placing l w → Fresh w →
+    Safe l w (emptied_world w s t)
+safe_emptied l w s t live p h =
     let u : World = on_session w s t (after_flush w.config.attempts) in
     let a : World = with_frames_finished u (Dropped Flushed) (waiting_ids (session w s t).slots) in
     let r : Finished (InHand a) u a = flush_slots l w s t live p h (placed_flush l w s t p) in
     then_safe l w a _ (then_stays w u a (stays_same w u (untouched_on_session w s t _)) r.stays)
     (safe_flush_queues (in_rising_order (in_order (tid_of w s t).queues)) l a (placed_flush_slots l w s t p)
     r.held)
+
+pub safe_flushed : (l : List ℕ) (w : World) (s t : ℕ) → IsLawful w → is_live w s ≡ true → Placing l w →
+    Fresh w → Safe l w (flush_outcome w s t).world
+safe_flushed l w s t i live p h =
+    let v : World = emptied_world w s t in
+    let k : Safe l w v = safe_emptied l w s t live p h in
+    subst (Safe l w) (sym (flush_is w s t)) (then_safe l w v _ k.stays
+    (safe_device l v s t ((lawful_emptied w s t i).agreed s t) k.placing k.fresh))
 
 -- ---- the step
 
@@ -1618,21 +1648,39 @@ fresh_station w i o bare h = held_frames (InHand (with_station w i o)) w _
 bare_new : (first size : ℕ) → next_number (new_session first size) ≡ first
 bare_new first size = omega arith
 
-joined_kept : (w : World) (s window start exponent weight : ℕ) → Fresh w →
-    Finished (InHand (join_outcome w s window start exponent weight).world) w
-    (join_outcome w s window start exponent weight).world
-unfolding join_outcome
-joined_kept w s window start exponent weight h = record {
+new_kept : (w : World) (s window start exponent weight : ℕ) (offloaded : Bool) → Fresh w →
+    Finished (InHand (with_station w s
+    (Some (new_station w.config window start exponent weight offloaded)))) w
+    (with_station w s (Some (new_station w.config window start exponent weight offloaded)))
+new_kept w s window start exponent weight offloaded h = record {
   stays = stays_same w _ (untouched_with_station w s _);
   held = fresh_station w s _ (eight (λ y. next_number y.session ≡ y.session.first) (new_tid start window)
       (bare_new start window) (bare_new 0 0)) h;
 }
+
+joined_kept : (w : World) (s window start exponent weight : ℕ) → Fresh w →
+    Finished (InHand (join_outcome w s window start exponent weight).world) w
+    (join_outcome w s window start exponent weight).world
+unfolding join_outcome
+joined_kept w s window start exponent weight h = new_kept w s window start exponent weight false h
 
 safe_joined : (l : List ℕ) (w : World) (s window start exponent weight : ℕ) → Placing l w → Fresh w →
     Safe l w (join_outcome w s window start exponent weight).world
 safe_joined l w s window start exponent weight p h =
     let r = joined_kept w s window start exponent weight h in
     record { placing = placed_joined l w s window start exponent weight p; fresh = r.held; stays = r.stays }
+
+offloaded_kept : (w : World) (s exponent weight : ℕ) → Fresh w →
+    Finished (InHand (offload_outcome w s exponent weight).world) w
+    (offload_outcome w s exponent weight).world
+unfolding offload_outcome
+offloaded_kept w s exponent weight h = new_kept w s greatest_window 0 exponent weight true h
+
+safe_offloaded : (l : List ℕ) (w : World) (s exponent weight : ℕ) → Placing l w → Fresh w →
+    Safe l w (offload_outcome w s exponent weight).world
+safe_offloaded l w s exponent weight p h =
+    let r = offloaded_kept w s exponent weight h in
+    record { placing = placed_offloaded l w s exponent weight p; fresh = r.held; stays = r.stays }
 
 -- The held frames and the fates after a call that accepts n frames and reaps r, for any released frames.
 record Kept_fates (n r : ℕ) (w v : World) : Type 0 where
@@ -1674,7 +1722,7 @@ fates_plain w v a u d h = of_stays w v (fresh_calm w v (less_plain Any w v a (sy
     (stays_same w v u)
 
 fates_station : (w : World) (s : ℕ) (f : Station → Station) →
-    ((x : Station) (t : ℕ) → side_of (at no_tid (f x).tids t) ≡ side_of (at no_tid x.tids t)) → Fresh w →
+    ((x : Station) (t : ℕ) → sided (f x) t ≡ sided x t) → Fresh w →
     Kept_fates 0 0 w (on_station w s f)
 fates_station w s f g h =
     let u : Untouched w (on_station w s f) = untouched_on_station w s f in
@@ -1699,7 +1747,8 @@ fates_given_up : (w : World) (x : Exchange) (n : ℕ) → Fresh w → Kept_fates
 unfolding give_up_outcome
 fates_given_up w x n h = fates_marked w x x.unsent (with_member n x.given_up) h
 
-queues_on_receiver : (w : World) (s t : ℕ) (g : Receiver → Receiver) → w.queues ≡ (on_receiver w s t g).queues
+pub queues_on_receiver : (w : World) (s t : ℕ) (g : Receiver → Receiver) →
+    w.queues ≡ (on_receiver w s t g).queues
 unfolding on_receiver on_tid on_station with_station
 queues_on_receiver w s t g = refl
 
@@ -1731,6 +1780,12 @@ fates_open : (P : Exchange → Type 0) (o : Option Exchange) (w : World) (f : Ex
 unfolding outcome_where_open
 fates_open P None w f k h g = fates_here w h
 fates_open P (Some x) w f k h g = g x k
+
+fates_weighed : (w : World) (s weight : ℕ) → Fresh w → Kept_fates 0 0 w (weight_outcome w s weight).world
+fates_weighed w s weight h =
+    let u : Untouched w (weight_outcome w s weight).world = untouched_weighed w s weight in
+    of_stays w _ (fresh_calm w _ (less_weighed Any w s weight) (session_same w _ (same_weighed w s weight))
+    u.frames h) (stays_same w _ u)
 
 fates_share : (w : World) (s : ℕ) (c : Class) (f : Share → Share) → Fresh w →
     Kept_fates 0 0 w (on_share w s c f)
@@ -1794,7 +1849,10 @@ fates_done (Asked (Unsent x n)) l w i e a p h =
 fates_done (Asked (GiveUp x n)) l w i e a p h =
     fates_open (IsFoundNamed w i) (exchange w x) w _ (found_named w i a x) h (λ y f. fates_given_up w y n h)
 fates_done (Asked (Flush s t)) l w i e a p h =
-    of_safe l w _ (safe_flushed l w s t (flush_live (is_live w s) e.1.1.0) p h)
+    of_safe l w _ (safe_flushed l w s t i (flush_live (is_live w s) e.1.1.0) p h)
+fates_done (Asked (Offload s exponent weight)) l w i e a p h =
+    of_safe l w _ (safe_offloaded l w s exponent weight p h)
+fates_done (Asked (Weight s weight)) l w i e a p h = fates_weighed w s weight h
 
 fates_refused : (note : Note) (r : Refusal) (w : World) → Fresh w → Kept_fates 0 0 w (after_refusal w note r)
 unfolding after_refusal

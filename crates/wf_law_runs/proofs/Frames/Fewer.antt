@@ -14,7 +14,10 @@ use Rattle.wf_def_agreement.specs.Session.{Session}
 use Rattle.wf_def_world.specs.World.{World, Station, Share, Tid, Queue, Exchange, with_station, on_station, on_tid, on_session, on_receiver, with_queues, on_share, on_queue, with_rotation, with_fate, with_frame_finished, with_frames_finished, Frame, no_frame, frame, new_queue, queue, accepted_count, codel_params}
 use Rattle.wf_def_world.specs.FlowQueues.{without_head, after_limit, with_listed_queue, with_queues_paid, taken_by_codel, taken_from_picked, taken_for_tid, after_queue_left, after_queues_left}
 use Rattle.wf_def_world.specs.CanSend.{with_listing_in, with_listings_in, with_listings_of}
-use Rattle.wf_def_world.specs.Exchanges.{with_station_paid, with_stations_paid, after_pick, after_tid_turn, without_credit, after_charge}
+use Rattle.wf_def_world.specs.Exchanges.{with_station_paid, with_stations_paid, after_pick, after_tid_turn, without_credit, after_charge, caught_up, with_device_caught_up}
+use Rattle.wf_def_world.specs.Step.{with_deficits_lowered, weight_outcome}
+use Rattle.wf_frame.specs.Classes.{all_classes}
+use Rattle.wf_law_runs.proofs.Common.Flushes.{if_caught}
 use Rattle.wf_law_runs.specs.Queues.{EachItem}
 use Rattle.wf_law_rules.proofs.Lemmas.Tables.{each_put, at_put_same}
 use Rattle.wf_law_rules.proofs.Lemmas.Numbers.{on_bool, eq_yes, yes_eq, either, or_left, or_right}
@@ -389,3 +392,24 @@ pub given_take : (w : World) (s t : ℕ) → IfSome (taken_for_tid w s t).item
 unfolding taken_for_tid
 given_take w s t = taken_before _ w _ _ (then_less (λ _. ⊥) _ _ _ (less_pay_queues (λ _. ⊥) _ w _)
     (less_with_queues (λ _. ⊥) _ s t _)) (given_taken_from _ _ s)
+
+-- ---- a station's weight is set
+
+less_lowered : (P : ℕ → Type 0) (cs : List Class) (w : World) (s : ℕ) →
+    Less P w (with_deficits_lowered w s cs)
+unfolding with_deficits_lowered
+less_lowered P [] w s = less P w
+less_lowered P (c ∷ cs) w s = then_less P _ _ _ (less_on_share P w s c _) (less_lowered P cs _ s)
+
+pub less_weighed : (P : ℕ → Type 0) (w : World) (s weight : ℕ) → Less P w (weight_outcome w s weight).world
+unfolding weight_outcome
+less_weighed P w s weight = then_less P _ _ _ (less_on_station P w s _) (less_lowered P all_classes _ s)
+
+-- ---- the device of an offloaded station catches up
+
+pub less_caught : (P : ℕ → Type 0) (w : World) (s t : ℕ) → Less P w (caught_up w s t)
+unfolding caught_up
+less_caught P w s t = then_less P _ _ _ (less_on_session P w s t _) (less_on_receiver P _ s t _)
+
+pub less_device : (P : ℕ → Type 0) (w : World) (s t : ℕ) → Less P w (with_device_caught_up w s t)
+less_device P w s t = if_caught (Less P w) w s t (less P w) (λ _. less_caught P w s t)

@@ -2,7 +2,7 @@
 use Rattle.std.proofs.Common.{◌≡◌, refl, ap, sym, ◌∙◌, subst, ℕ, ◌==◌, false, if◌then◌else◌, ◌⊎◌, inl, inr, List, [], ◌∷◌, ◌++◌, length, append_assoc, append-nil, Option, Some, None, is_none, take}
 use Rattle.wf_frame.specs.declared.settings.Config.{Config}
 use Rattle.wf_frame.specs.declared.classes.Class.{Class}
-use Rattle.wf_frame.specs.declared.notes.Ask.TheVariants.{Join, Leave, Rate, Tick, Pull, Arrive, Answer, Done, Sleep, Wake, Poll, Rx, Reap, Ampdu, Stop, Start, Unsent, GiveUp, Flush}
+use Rattle.wf_frame.specs.declared.notes.Ask.TheVariants.{Join, Leave, Rate, Tick, Pull, Arrive, Answer, Done, Sleep, Wake, Poll, Rx, Reap, Ampdu, Stop, Start, Unsent, GiveUp, Flush, Offload, Weight}
 use Rattle.wf_frame.specs.declared.notes.Note.{Note}
 use Rattle.wf_frame.specs.declared.notes.Note.TheVariants.{Enqueue, Asked}
 use Rattle.wf_frame.specs.declared.notes.Refusal.{Refusal}
@@ -12,7 +12,7 @@ use Rattle.wf_def_world.specs.World.{World, Exchange, exchange, opening}
 use Rattle.wf_def_world.specs.CanSend.{with_listings_of}
 use Rattle.wf_def_world.specs.Exchanges.{picked_station}
 use Rattle.wf_def_world.specs.Refusals.{refusals, refusal}
-use Rattle.wf_def_world.specs.Step.{Outcome, join_outcome, leave_outcome, rate_outcome, tick_outcome, enqueue_outcome, send_outcome, pull_outcome_for, pull_outcome, arrive_outcome, answer_outcome, unsent_outcome, give_up_outcome, flush_outcome, done_outcome, outcome_where_open, sleep_outcome, wake_outcome, poll_outcome, rx_outcome, reap_outcome, outcome_of, judged_outcome, step}
+use Rattle.wf_def_world.specs.Step.{Outcome, join_outcome, leave_outcome, rate_outcome, tick_outcome, enqueue_outcome, send_outcome, pull_outcome_for, pull_outcome, arrive_outcome, answer_outcome, unsent_outcome, give_up_outcome, flush_outcome, done_outcome, outcome_where_open, sleep_outcome, wake_outcome, poll_outcome, rx_outcome, reap_outcome, outcome_of, judged_outcome, step, offload_outcome, weight_outcome}
 use Rattle.wf_def_world.specs.Run.{Entry, world_after}
 use Rattle.wf_law_runs.specs.Finished.{reaped_id, reaped_ids, FinishedLaw}
 use Rattle.wf_law_runs.proofs.Common.Picked.{picked_world}
@@ -38,9 +38,9 @@ record ReapsNone (note : Note) (w : World) : Type 0 where
   call : fetched note ≡ 0
 
 reaps : (note : Note) (w : World) → ReapsNone note w ⊎ (note ≡ Asked Reap)
-unfolding outcome_of enqueue_outcome join_outcome leave_outcome rate_outcome tick_outcome pull_outcome
-    arrive_outcome answer_outcome unsent_outcome give_up_outcome flush_outcome done_outcome
-    sleep_outcome wake_outcome poll_outcome rx_outcome
+unfolding outcome_of enqueue_outcome join_outcome offload_outcome weight_outcome leave_outcome
+    rate_outcome tick_outcome pull_outcome arrive_outcome answer_outcome unsent_outcome give_up_outcome
+    flush_outcome done_outcome sleep_outcome wake_outcome poll_outcome rx_outcome
 reaps (Enqueue s t flow len) w = inl (record { reply = refl; call = refl })
 reaps (Asked (Join s window start exponent weight)) w = inl (record { reply = refl; call = refl })
 reaps (Asked (Leave s)) w = inl (record { reply = refl; call = refl })
@@ -74,6 +74,8 @@ reaps (Asked (Unsent e n)) w =
 reaps (Asked (GiveUp e n)) w =
     inl (record { reply = reaped_open (exchange w e) w _ (λ x. refl); call = refl })
 reaps (Asked (Flush s t)) w = inl (record { reply = refl; call = refl })
+reaps (Asked (Offload s exponent weight)) w = inl (record { reply = refl; call = refl })
+reaps (Asked (Weight s weight)) w = inl (record { reply = refl; call = refl })
 reaps (Asked Reap) w = inr refl
 
 -- ---- the step

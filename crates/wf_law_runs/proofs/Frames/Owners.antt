@@ -1,16 +1,13 @@
 -- Proves that each frame at a number was enqueued for the number's TID. By cases of the call.
-use Rattle.wf_frame.specs.declared.classes.Class.{Class}
-use Rattle.wf_frame.specs.declared.notes.Limits.{Limits}
-use Rattle.wf_frame.specs.declared.classes.Fate.{Fate}
 use Rattle.std.proofs.Common.{nat_lt, ◌+◌, ◌++◌, ◌≡◌, refl, ap, sym, ◌∙◌, subst, arith, ℕ, zero, suc, ◌<◌, ◌≤◌, ◌-◌, Bool, true, false, if◌then◌else◌, ◌==◌, List, [], ◌∷◌, length, Option, Some, None, IfSome}
 use Rattle.wf_def_lists.specs.Table.{at}
 use Rattle.wf_def_codel.specs.Codel.{Params, Codel, Dequeued, dequeue, Item}
 use Rattle.wf_def_rotation.specs.Rotation.{in_order}
-use Rattle.wf_def_agreement.specs.Session.{End, Slot, State, slot, is_settled, next_number, on_slot, with_state, after_flush, request_due, Session, with_number_given}
+use Rattle.wf_def_agreement.specs.Session.{End, Slot, State, slot, is_settled, next_number, on_slot, with_state, after_flush, request_due, Session, with_number_given, start_of}
 use Rattle.wf_def_world.specs.World.{Frame, no_frame, Mpdu, Exchange, Content, Frames, Request, queue, tid_of, is_live, rotation, on_queue, with_queues, on_tid, on_station, with_station, with_frame_finished, without_exchange, World, session, frame, on_session}
 use Rattle.wf_def_world.specs.FlowQueues.{queue_need, has_frames, with_queues_paid, taken_by_codel, taken_from_picked, picked_queue, taken_for_tid}
 use Rattle.wf_def_world.specs.CanSend.{is_ready}
-use Rattle.wf_def_world.specs.Exchanges.{Aggregate, Prepared, with_number, with_fresh, aggregate_of, longest_fitting, waiting_mpdus, most_frames, with_flying, prepared_data, prepared_exchange, sending_tid, after_tid_turn, picked_station, station_need, with_exchange_opened, without_credit, exchange_of, end_of, with_heard_start, after_charge, with_settled, with_failed_finished, with_all_settled, after_done}
+use Rattle.wf_def_world.specs.Exchanges.{Aggregate, Prepared, with_number, with_fresh, aggregate_of, longest_fitting, waiting_mpdus, most_frames, with_flying, prepared_data, prepared_exchange, sending_tid, after_tid_turn, picked_station, station_need, with_exchange_opened, without_credit, exchange_of, end_of, with_heard_start, after_charge, with_settled, with_failed_finished, with_all_settled, after_done, caught_up, with_device_caught_up}
 use Rattle.wf_def_world.specs.Step.{send_outcome, pull_outcome_for, pull_outcome, done_outcome, flush_outcome}
 use Rattle.wf_law_runs.specs.Queues.{EachItem, IsFor}
 use Rattle.wf_law_rules.proofs.Lemmas.Numbers.{on_bool, lt_yes, lt_no}
@@ -18,7 +15,7 @@ use Rattle.wf_law_rules.proofs.Lemmas.Dequeues.{each_dequeue}
 use Rattle.wf_law_rules.proofs.Lemmas.Rotations.{IsWinner, pick_winner}
 use Rattle.wf_law_runs.proofs.Common.Picked.{picked_world}
 use Rattle.wf_law_runs.proofs.Common.Ends.{slot_after_end, end_id, on_settled}
-use Rattle.wf_law_runs.proofs.Common.Flushes.{next-flush, if_flushed}
+use Rattle.wf_law_runs.proofs.Common.Flushes.{next-flush, if_flushed, if_caught}
 use Rattle.wf_law_runs.proofs.Sessions.Flights.{flown, next-give}
 use Rattle.wf_law_runs.proofs.Windows.Agreement.{slot_give, next-on_slot}
 use Rattle.wf_law_runs.proofs.Windows.Sides.{Same, same_take, same_spent, same_after_turn, same_on_queue, same_finish, same_charged, each_side_on, same_picked}
@@ -27,12 +24,16 @@ use Rattle.wf_law_runs.proofs.Windows.Agreed.{IsLawful, IsReady, IsEnding, IsFou
 use Rattle.wf_law_runs.proofs.Windows.Settling.{without_same}
 use Rattle.wf_law_runs.proofs.Releases.Kept.{KeptSession, kept_fly, kept_on_slot, kept_heard, kept_flush}
 use Rattle.wf_law_runs.proofs.Releases.Placed.{slot_new_id, next-heard}
-use Rattle.wf_law_runs.proofs.Frames.Fates.{Bears}
-use Rattle.wf_law_runs.proofs.Frames.Untouched.{untouched_on_queue, untouched_with_queues, untouched_pay_queues, untouched_on_session, untouched_spent, untouched_after_turn, untouched_picked}
+use Rattle.wf_law_runs.proofs.Frames.Fates.{Bears, session_on_receiver}
+use Rattle.wf_law_runs.proofs.Frames.Untouched.{untouched_on_queue, untouched_with_queues, untouched_pay_queues, untouched_on_session, untouched_spent, untouched_after_turn, untouched_picked, untouched_caught}
 use Rattle.wf_law_runs.proofs.Queues.Shelves.{Shelves, shelves, shelves_pay_queues, shelves_finish, shelves_finish_all, shelves_after_turn, shelves_ended, shelves_picked}
 use Rattle.wf_law_runs.proofs.Queues.Shelved.{IsOf, IsShelved, each_item}
 use Rattle.wf_law_runs.proofs.Queues.ShelvedStep.{shelves_number, live_number, shelved_take}
 use Rattle.wf_frame.specs.declared.notes.Note.{Note}
+use Rattle.wf_def_agreement.specs.Receiver.{with_start}
+use Rattle.wf_frame.specs.declared.classes.Class.{Class}
+use Rattle.wf_frame.specs.declared.notes.Limits.{Limits}
+use Rattle.wf_frame.specs.declared.classes.Fate.{Fate}
 
 -- Each number of z was in y, with the same id.
 pub record BearsFrom (y z : Session) : Type 0 where
@@ -322,14 +323,29 @@ slots_all [] e s t ends w n = slots_same w w (λ i j. refl)
 slots_all (m ∷ ms) e s t ends w n = then_slots w _ _ (slots_settled (ends m.number) e s t ends w m ms n)
     (slots_all ms e s t ends _ (ending_settled (ends m.number) e s t ends w m ms refl n))
 
+-- The device of an offloaded station catches up.
+slots_caught : (w : World) (s t : ℕ) → SlotsFrom w (caught_up w s t)
+unfolding caught_up
+slots_caught w s t =
+    let start : ℕ = start_of (session w s t) in
+    let f : Session → Session = with_heard_start true start in
+    let y : Session = session w s t in
+    let u : World = on_session w s t f in
+    then_slots w u _
+    (slots_session w s t f (bears_kept y (f y) (kept_heard true start y) (next-heard true start y)))
+    (slots_same u _ (session_on_receiver u s t (with_start start)))
+
+slots_device : (w : World) (s t : ℕ) → SlotsFrom w (with_device_caught_up w s t)
+slots_device w s t = if_caught (SlotsFrom w) w s t (slots_same w w (λ i j. refl)) (λ _. slots_caught w s t)
+
 slots_after : (air : Option ℕ) (c : Content) (w : World) (i : IsLawful w) (x : Exchange) (heard : Bool) →
     x.content ≡ c →
     IsFound w i x → SlotsFrom (after_charge (without_exchange w x.number) x air)
     (after_done (after_charge (without_exchange w x.number) x air) x heard c)
 unfolding after_done
-slots_after air (Frames ms) w i x heard e f = slots_all ms x.number x.station x.tid
+slots_after air (Frames ms) w i x heard e f = then_slots _ _ _ (slots_all ms x.number x.station x.tid
     (end_of x heard) _
-    (ending_of air w i x ms heard e f)
+    (ending_of air w i x ms heard e f)) (slots_device _ x.station x.tid)
 slots_after air (Request g) w i x heard e f = slots_session _ x.station x.tid (with_heard_start heard g)
     (bears_kept _ _ (kept_heard heard g _) (next-heard heard g _))
 
@@ -360,7 +376,7 @@ slots_flushed w s t =
     (record {
       finish = λ u id k. then_slots w u _ k (slots_finish u _ id);
       empty = λ u q k. then_slots w u _ k (slots_same u _ (session_same u _ (same_on_queue u q _)));
-    }) w s t
+    }) w s t (λ v k _. then_slots w v _ k (slots_caught v s t))
     (slots_session w s t (after_flush w.config.attempts) (bears_kept y _ (kept_flush w.config.attempts y)
     (next-flush w.config.attempts y)))
 
@@ -371,6 +387,7 @@ notes_flushed w s t k = if_flushed (λ u. (frame u k).note ≡ (frame w k).note)
       empty = λ u q h. ap (λ (fs : List Frame). (at no_frame fs k).note) (untouched_on_queue u q _).frames
           ∙ h;
     }) w s t
+    (λ v h _. ap (λ (fs : List Frame). (at no_frame fs k).note) (untouched_caught v s t).frames ∙ h)
     (ap (λ (fs : List Frame). (at no_frame fs k).note) (untouched_on_session w s t _).frames)
 
 pub owned_flushed : (w : World) (s t : ℕ) → IsOwned w → IsOwned (flush_outcome w s t).world

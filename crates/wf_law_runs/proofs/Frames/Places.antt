@@ -1,11 +1,11 @@
 -- Proves the law of places: each held frame is in exactly one place. By induction on the run.
-use Rattle.std.proofs.Common.{◌++◌, ◌≡◌, ◌≢◌, refl, ap, sym, ◌∙◌, subst, arith, ℕ, ◌<◌, nat_lt, true, false, ◌==◌, inl, inr, List, [], ◌∷◌, map, take, Option, Some, None, IfSome}
+use Rattle.std.proofs.Common.{◌++◌, ◌≡◌, ◌≢◌, refl, ap, sym, ◌∙◌, subst, arith, ℕ, ◌<◌, nat_lt, true, false, ◌==◌, inl, inr, List, [], ◌∷◌, map, take, Option, Some, None, IfSome, Bool}
 use Rattle.wf_frame.specs.declared.settings.Config.{Config}
 use Rattle.wf_frame.specs.Settings.{IsInRange}
 use Rattle.wf_frame.specs.declared.classes.Class.{Class}
 use Rattle.wf_frame.specs.declared.classes.Cause.TheVariants.{Overlimit, Left}
 use Rattle.wf_frame.specs.declared.classes.Fate.TheVariants.{Dropped}
-use Rattle.wf_frame.specs.declared.notes.Ask.TheVariants.{Join, Leave, Rate, Tick, Pull, Arrive, Answer, Done, Sleep, Wake, Poll, Rx, Reap, Ampdu, Stop, Start, Unsent, GiveUp, Flush}
+use Rattle.wf_frame.specs.declared.notes.Ask.TheVariants.{Join, Leave, Rate, Tick, Pull, Arrive, Answer, Done, Sleep, Wake, Poll, Rx, Reap, Ampdu, Stop, Start, Unsent, GiveUp, Flush, Offload, Weight}
 use Rattle.wf_frame.specs.declared.notes.Note.{Note}
 use Rattle.wf_frame.specs.declared.notes.Note.TheVariants.{Enqueue, Asked}
 use Rattle.wf_frame.specs.declared.notes.Refusal.{Refusal}
@@ -14,13 +14,13 @@ use Rattle.wf_frame.specs.Classes.{all_classes}
 use Rattle.wf_def_lists.specs.Table.{at, has, upto, with_member}
 use Rattle.wf_def_codel.specs.Codel.{Item}
 use Rattle.wf_def_agreement.specs.Session.{Session, State, slot, is_settled, next_number, new_session}
-use Rattle.wf_def_world.specs.World.{World, Queue, Station, Exchange, Frame, Share, new_queue, on_queue, on_receiver, on_tid, with_queues, with_rotation, rotation, no_frame, no_tid, new_tid, queue, session, frame, accepted_count, exchange, with_station, on_station, on_share, with_exchange, opening}
+use Rattle.wf_def_world.specs.World.{World, Queue, Station, Exchange, Frame, Share, new_queue, on_queue, on_receiver, on_tid, with_queues, with_rotation, rotation, no_frame, new_tid, queue, session, frame, accepted_count, exchange, with_station, on_station, on_share, with_exchange, opening}
 use Rattle.wf_def_world.specs.FlowQueues.{is_at_limit, longest_queue, without_head, after_limit, queue_for, after_put_in, after_queue_left, after_queues_left}
 use Rattle.wf_def_world.specs.Exchanges.{after_arrival, after_pick}
 use Rattle.wf_def_rotation.specs.Rotation.{in_order}
 use Rattle.wf_def_world.specs.CanSend.{with_listing_in, with_listings_in, with_listings_of}
 use Rattle.wf_def_world.specs.Refusals.{refusals, refusal, open_of_station}
-use Rattle.wf_def_world.specs.Step.{Outcome, enqueue_outcome, join_outcome, after_tid_left, after_tids_left, without_listings, leave_outcome, rate_outcome, tick_outcome, sleep_outcome, wake_outcome, poll_outcome, rx_outcome, arrive_outcome, answer_outcome, unsent_outcome, give_up_outcome, reap_outcome, outcome_where_open, concerned_station, outcome_of, after_refusal, judged_outcome, step}
+use Rattle.wf_def_world.specs.Step.{Outcome, enqueue_outcome, join_outcome, after_tid_left, after_tids_left, without_listings, leave_outcome, rate_outcome, tick_outcome, sleep_outcome, wake_outcome, poll_outcome, rx_outcome, arrive_outcome, answer_outcome, unsent_outcome, give_up_outcome, reap_outcome, outcome_where_open, concerned_station, outcome_of, after_refusal, judged_outcome, step, offload_outcome, weight_outcome, new_station, with_deficits_lowered}
 use Rattle.wf_def_world.specs.Run.{Entry, world_after}
 use Rattle.wf_def_world.specs.Stretches.{world_at}
 use Rattle.wf_law_runs.specs.Windows.{SomeOpen, IsSending}
@@ -30,7 +30,7 @@ use Rattle.wf_law_runs.specs.Places.{Place, Queued, Numbered, IsNumbered, Stands
 use Rattle.wf_law_rules.proofs.Lemmas.Numbers.{on_bool, on_if, eq_yes, eq_no, either}
 use Rattle.wf_law_runs.proofs.Common.Refused.{after_idle}
 use Rattle.wf_law_runs.proofs.Common.Marks.{marked_world}
-use Rattle.wf_law_runs.proofs.Windows.Sides.{Side, side_of, sides_of, Same, then_same, same_on_station, same_listed, same_after_pick}
+use Rattle.wf_law_runs.proofs.Windows.Sides.{sided, Side, sides_of, Same, then_same, same_on_station, same_listed, same_after_pick, same_weighed}
 use Rattle.wf_law_runs.proofs.Windows.Opened.{Each, eight, none_open, NoRow, no_row}
 use Rattle.wf_law_runs.proofs.Windows.Agreed.{session_same, same_left_tids, same_off_lists}
 use Rattle.wf_law_runs.proofs.Windows.Flying.{IsFlown_by, all_flown, flown_step}
@@ -39,15 +39,16 @@ use Rattle.wf_law_runs.proofs.Releases.Placed.{Placing}
 use Rattle.wf_law_runs.proofs.Frames.Fewer.{carries}
 use Rattle.wf_law_runs.proofs.Frames.Delivered.{same_enqueued}
 use Rattle.wf_law_runs.proofs.Frames.Fates.{IsHeld, InQueue, AtSlot, InHand, Carries, Bears, bears_carried, ids_carried, Steady, steady_step, steady_first, IsFoundNamed, found_named, session_on_receiver}
-use Rattle.wf_law_runs.proofs.Frames.Untouched.{untouched_on_queue, untouched_put_in, untouched_with_station, untouched_off_lists, untouched_on_station, untouched_on_receiver, untouched_after_pick, untouched_listed}
+use Rattle.wf_law_runs.proofs.Frames.Untouched.{untouched_on_queue, untouched_put_in, untouched_with_station, untouched_off_lists, untouched_on_station, untouched_on_receiver, untouched_after_pick, untouched_listed, untouched_weighed}
 use Rattle.wf_law_runs.proofs.Frames.Owners.{BearsFrom, bears_refl, SlotsFrom, slots_same, then_slots, IsOwned, notes_frames, owned_along, owned_calm, owned_pulled, owned_ended, owned_flushed}
 use Rattle.wf_law_runs.proofs.Frames.Covered.{Full, covers_calm, covers_pulled, queues_pay_stations}
-use Rattle.wf_law_runs.proofs.Frames.CoveredStep.{IsQuiet, covers_enqueued, covers_ended, covers_gone, covers_joined, covers_flushed}
+use Rattle.wf_law_runs.proofs.Frames.CoveredStep.{IsQuiet, covers_enqueued, covers_ended, covers_gone, covers_joined, covers_flushed, covers_offloaded}
 use Rattle.wf_law_runs.proofs.Deficits.Books.{upd_other}
 use Rattle.wf_law_runs.proofs.Queues.Shelves.{Shelves, shelves, shelves_finish, shelves_finish_all, shelves_with_frame}
 use Rattle.wf_law_runs.proofs.Queues.Shelved.{IsOf, IsShelved}
 use Rattle.wf_law_runs.proofs.Queues.ShelvedStep.{accepted_limit, accepted_put, on_listed}
 use Rattle.wf_law_runs.proofs.Queues.Law.{shelved_step, shelved_first, longest_in, within}
+use Rattle.wf_def_lists.specs.Bounds.{greatest_window}
 
 -- ---- the frames at unsettled numbers, in every call
 
@@ -117,13 +118,22 @@ bare_zero = omega arith
 bare_new : (first size : ℕ) → next_number (new_session first size) ≡ first
 bare_new first size = omega arith
 
-owned_joined : (w : World) (s window start exponent weight : ℕ) → IsOwned w →
-    IsOwned (join_outcome w s window start exponent weight).world
-unfolding join_outcome
-owned_joined w s window start exponent weight o =
+owned_new : (w : World) (s window start exponent weight : ℕ) (offloaded : Bool) → IsOwned w →
+    IsOwned (with_station w s (Some (new_station w.config window start exponent weight offloaded)))
+owned_new w s window start exponent weight offloaded o =
     owned_along w (with_station w s _) (slots_station w s _
     (eight (λ y. next_number y.session ≡ y.session.first) (new_tid start window) (bare_new start window)
     (bare_new 0 0))) (notes_frames w (with_station w s _) (untouched_with_station w s _).frames) o
+
+owned_joined : (w : World) (s window start exponent weight : ℕ) → IsOwned w →
+    IsOwned (join_outcome w s window start exponent weight).world
+unfolding join_outcome
+owned_joined w s window start exponent weight o = owned_new w s window start exponent weight false o
+
+owned_offloaded : (w : World) (s exponent weight : ℕ) → IsOwned w →
+    IsOwned (offload_outcome w s exponent weight).world
+unfolding offload_outcome
+owned_offloaded w s exponent weight o = owned_new w s greatest_window 0 exponent weight true o
 
 notes_purge : (qs : List ℕ) (w : World) (k : ℕ) → (frame (after_queues_left w qs) k).note ≡ (frame w k).note
 unfolding after_queues_left after_queue_left on_queue
@@ -191,10 +201,23 @@ unfolding on_station with_station
 queues_on_station w s f = refl
 
 stood_station : (w : World) (s : ℕ) (f : Station → Station) →
-    ((x : Station) (t : ℕ) → side_of (at no_tid (f x).tids t) ≡ side_of (at no_tid x.tids t)) → Stood w →
+    ((x : Station) (t : ℕ) → sided (f x) t ≡ sided x t) → Stood w →
     Stood (on_station w s f)
 stood_station w s f g i = stood_calm w (on_station w s f) (same_on_station w s f g)
     (untouched_on_station w s f).frames (queues_on_station w s f) i
+
+queues_lowered : (cs : List Class) (w : World) (s : ℕ) → (with_deficits_lowered w s cs).queues ≡ w.queues
+unfolding with_deficits_lowered on_share
+queues_lowered [] w s = refl
+queues_lowered (c ∷ cs) w s = queues_lowered cs _ s ∙ queues_on_station w s _
+
+queues_weighed : (w : World) (s weight : ℕ) → (weight_outcome w s weight).world.queues ≡ w.queues
+unfolding weight_outcome
+queues_weighed w s weight = queues_lowered all_classes _ s ∙ queues_on_station w s _
+
+stood_weighed : (w : World) (s weight : ℕ) → Stood w → Stood (weight_outcome w s weight).world
+stood_weighed w s weight i = stood_calm w _ (same_weighed w s weight) (untouched_weighed w s weight).frames
+    (queues_weighed w s weight) i
 
 stood_share : (w : World) (s : ℕ) (c : Class) (f : Share → Share) → Stood w → Stood (on_share w s c f)
 unfolding on_share
@@ -330,6 +353,11 @@ stood_done (Asked (GiveUp x n)) l most w k r f h i =
     (λ y g. stood_given_up w y n i)
 stood_done (Asked (Flush s t)) l most w k r f h i =
     record { owned = owned_flushed w s t i.owned; full = covers_flushed l w s t k.placing i.full }
+stood_done (Asked (Offload s exponent weight)) l most w k r f h i = record {
+  owned = owned_offloaded w s exponent weight i.owned;
+  full = covers_offloaded w s exponent weight r.1.1.1.0 i.full;
+}
+stood_done (Asked (Weight s weight)) l most w k r f h i = stood_weighed w s weight i
 
 stood_refused : (note : Note) (r : Refusal) (w : World) → Stood w → Stood (after_refusal w note r)
 unfolding after_refusal

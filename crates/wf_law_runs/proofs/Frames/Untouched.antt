@@ -10,9 +10,10 @@ use Rattle.wf_def_agreement.specs.Session.{Session}
 use Rattle.wf_def_world.specs.World.{World, Station, Queue, Exchange, rotation, with_station, on_station, on_tid, on_session, on_receiver, with_queues, on_share, on_queue, with_rotation, without_exchange}
 use Rattle.wf_def_world.specs.FlowQueues.{with_listed_queue, with_appended, after_put_in, with_queues_paid}
 use Rattle.wf_def_world.specs.CanSend.{with_listing_in, with_listings_in, with_listings_of}
-use Rattle.wf_def_world.specs.Exchanges.{with_station_paid, with_stations_paid, after_pick, after_tid_turn, without_credit, after_charge}
-use Rattle.wf_def_world.specs.Step.{without_listings}
+use Rattle.wf_def_world.specs.Exchanges.{with_station_paid, with_stations_paid, after_pick, after_tid_turn, without_credit, after_charge, caught_up, with_device_caught_up}
+use Rattle.wf_def_world.specs.Step.{without_listings, with_deficits_lowered, weight_outcome}
 use Rattle.wf_law_runs.proofs.Common.Picked.{picked_world}
+use Rattle.wf_law_runs.proofs.Common.Flushes.{if_caught}
 
 pub record Untouched (w v : World) : Type 0 where
   pub frames : v.frames ≡ w.frames
@@ -127,3 +128,22 @@ untouched_put_in u s t q x =
     then_untouched u _ _ (untouched_on_queue u q _)
     (untouched_if _ _ _ _ (untouched _) (then_untouched _ _ _ (untouched_on_queue _ q _)
     (untouched_with_queues _ s t _)))
+
+-- ---- weights, and a device that catches up
+
+untouched_lowered : (cs : List Class) (w : World) (s : ℕ) → Untouched w (with_deficits_lowered w s cs)
+unfolding with_deficits_lowered on_share
+untouched_lowered [] w s = untouched w
+untouched_lowered (c ∷ cs) w s = then_untouched w _ _ (untouched_on_station w s _) (untouched_lowered cs _ s)
+
+pub untouched_weighed : (w : World) (s weight : ℕ) → Untouched w (weight_outcome w s weight).world
+unfolding weight_outcome
+untouched_weighed w s weight = then_untouched w _ _ (untouched_on_station w s _)
+    (untouched_lowered all_classes _ s)
+
+pub untouched_caught : (w : World) (s t : ℕ) → Untouched w (caught_up w s t)
+unfolding caught_up
+untouched_caught w s t = then_untouched w _ _ (untouched_on_session w s t _) (untouched_on_receiver _ s t _)
+
+pub untouched_device : (w : World) (s t : ℕ) → Untouched w (with_device_caught_up w s t)
+untouched_device w s t = if_caught (Untouched w) w s t (untouched w) (λ _. untouched_caught w s t)

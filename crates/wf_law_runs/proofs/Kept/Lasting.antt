@@ -5,16 +5,16 @@ use Rattle.wf_frame.specs.declared.classes.Class.{Class}
 use Rattle.wf_frame.specs.declared.notes.Limits.{Limits}
 use Rattle.wf_frame.specs.declared.classes.Fate.TheVariants.{Dropped}
 use Rattle.wf_def_lists.specs.Table.{with_member}
-use Rattle.wf_def_agreement.specs.Session.{End, Session, Slot, State, with_state, is_settled, is_failed, slot_given_up, slot, on_slot, with_number_given, after_flush, next_number}
+use Rattle.wf_def_agreement.specs.Session.{End, Session, Slot, State, with_state, is_settled, is_failed, slot_given_up, slot, on_slot, with_number_given, after_flush, next_number, start_of}
 use Rattle.wf_def_world.specs.World.{World, Exchange, Mpdu, Content, Frames, Request, session, is_live, on_session, on_receiver, with_exchange, without_exchange, with_frame_finished}
-use Rattle.wf_def_world.specs.Exchanges.{end_of, with_heard_start, with_flying, with_exchange_opened, after_arrival, after_charge, with_failed_finished, with_settled, with_all_settled, after_done}
+use Rattle.wf_def_world.specs.Exchanges.{end_of, with_heard_start, with_flying, with_exchange_opened, after_arrival, after_charge, with_failed_finished, with_settled, with_all_settled, after_done, caught_up, with_device_caught_up}
 use Rattle.wf_def_world.specs.Step.{pull_outcome, arrive_outcome, answer_outcome, unsent_outcome, give_up_outcome, flush_outcome, done_outcome}
 use Rattle.wf_law_rules.proofs.Lemmas.Numbers.{on_if}
 use Rattle.wf_law_runs.proofs.Common.Marks.{marked_world}
 use Rattle.wf_law_runs.proofs.Common.Ends.{slot_after_end, end_id, on_settled}
-use Rattle.wf_law_runs.proofs.Common.Flushes.{flush_along, if_flushed}
+use Rattle.wf_law_runs.proofs.Common.Flushes.{flush_along, if_flushed, if_caught}
 use Rattle.wf_law_runs.proofs.Sessions.Flights.{AllIn, Rises, all_in_later}
-use Rattle.wf_law_runs.proofs.Windows.Sides.{Side, Same, each_side_on, on_live, same_on_queue, same_finish, same_charged}
+use Rattle.wf_law_runs.proofs.Windows.Sides.{Side, Same, each_side_on, on_live, same_on_queue, same_finish, same_charged, caught_up_is, told_start}
 use Rattle.wf_law_runs.proofs.Windows.Agreement.{slot_give, slot_other}
 use Rattle.wf_law_runs.proofs.Windows.Agreed.{IsLawful, IsReady, IsFound, IsEnding, ending_settled, ending_of}
 use Rattle.wf_law_runs.proofs.Releases.Kept.{KeptSession, kept_refl, then_kept, kept_on_slot, kept_give, kept_heard}
@@ -120,6 +120,20 @@ last_opening w x = record { sessions = λ i j. lasts_refl (session w i j); live 
 pub last_pulled : (w : World) (c : Class) (l : Limits) → IsLawful w → Last w (pull_outcome w c l).world
 last_pulled = along_pull Last last_same then_last last_given last_flown last_opening
 
+-- ---- a device catches up
+
+pub last_caught : (w : World) (s t : ℕ) → Last w (caught_up w s t)
+last_caught w s t =
+    let start : ℕ = start_of (session w s t) in
+    subst (Last w) (sym (caught_up_is w s t)) (record {
+      sessions = each_side_on (λ i j z. Lasts (session w i j) z.session) w s t (told_start start)
+          (λ i j. lasts_refl (session w i j)) (lasts_heard true start (session w s t));
+      live = on_live w s t (told_start start);
+    })
+
+pub last_device : (w : World) (s t : ℕ) → Last w (with_device_caught_up w s t)
+last_device w s t = if_caught (Last w) w s t (last_here w) (λ _. last_caught w s t)
+
 -- ---- exchanges
 
 pub last_marked : (w : World) (x : Exchange) (unsent given_up : List ℕ) →
@@ -145,7 +159,7 @@ last_flushed w s t = if_flushed (Last w)
     (record {
       finish = λ u id k. then_last w u _ k (last_same u _ (same_finish u _ id));
       empty = λ u q k. then_last w u _ k (last_same u _ (same_on_queue u q _));
-    }) w s t
+    }) w s t (λ v k _. then_last w v _ k (last_caught v s t))
     (last_on_session w s t (after_flush w.config.attempts) (lasts_flush w.config.attempts (session w s t)))
 
 pub last_arrived : (w : World) (x : Exchange) (n : ℕ) → Last w (arrive_outcome w x n).world
@@ -198,8 +212,8 @@ last_after_done : (air : Option ℕ) (c : Content) (w : World) (i : IsLawful w) 
     Last w (after_done (after_charge (without_exchange w x.number) x air) x heard c)
 unfolding after_done
 last_after_done air (Frames ms) w i x heard e f h =
-    then_last w _ _ h (last_all_settled ms x.number x.station x.tid _ (end_of x heard)
-    (ending_of air w i x ms heard e f))
+    then_last w _ _ (then_last w _ _ h (last_all_settled ms x.number x.station x.tid _ (end_of x heard)
+    (ending_of air w i x ms heard e f))) (last_device _ x.station x.tid)
 last_after_done air (Request g) w i x heard e f h =
     then_last w _ _ h (last_on_session _ x.station x.tid (with_heard_start heard g) (lasts_heard heard g _))
 

@@ -2,7 +2,7 @@
 -- call and induction on the run.
 use Rattle.std.proofs.Common.{◌≡◌, ◌≢◌, refl, ap, sym, ◌∙◌, subst, arith, ℕ, zero, suc, ◌+◌, ◌-◌, ◌≤◌, true, false, ◌==◌, List, [], ◌∷◌, Option, Some, None, IfSome, take, drop}
 use Rattle.wf_frame.specs.declared.settings.Config.{Config}
-use Rattle.wf_frame.specs.declared.notes.Ask.TheVariants.{Join, Leave, Rate, Tick, Pull, Arrive, Answer, Done, Sleep, Wake, Poll, Rx, Reap, Ampdu, Stop, Start, Unsent, GiveUp, Flush}
+use Rattle.wf_frame.specs.declared.notes.Ask.TheVariants.{Join, Leave, Rate, Tick, Pull, Arrive, Answer, Done, Sleep, Wake, Poll, Rx, Reap, Ampdu, Stop, Start, Unsent, GiveUp, Flush, Offload, Weight}
 use Rattle.wf_frame.specs.declared.notes.Note.{Note}
 use Rattle.wf_frame.specs.declared.notes.Note.TheVariants.{Enqueue, Asked}
 use Rattle.wf_frame.specs.declared.notes.Refusal.{Refusal}
@@ -12,14 +12,14 @@ use Rattle.wf_def_lists.specs.Table.{upto}
 use Rattle.wf_def_agreement.specs.Session.{Session, Slot, is_settled}
 use Rattle.wf_def_world.specs.World.{World, Station, Exchange, session, is_live, exchange, with_station, opening}
 use Rattle.wf_def_world.specs.Refusals.{refusals, refusal}
-use Rattle.wf_def_world.specs.Step.{Outcome, join_outcome, after_tids_left, without_listings, leave_outcome, rate_outcome, tick_outcome, outcome_where_open, sleep_outcome, wake_outcome, poll_outcome, rx_outcome, reap_outcome, concerned_station, outcome_of, after_refusal, judged_outcome, step}
+use Rattle.wf_def_world.specs.Step.{Outcome, join_outcome, after_tids_left, without_listings, leave_outcome, rate_outcome, tick_outcome, outcome_where_open, sleep_outcome, wake_outcome, poll_outcome, rx_outcome, reap_outcome, concerned_station, outcome_of, after_refusal, judged_outcome, step, offload_outcome}
 use Rattle.wf_def_world.specs.Run.{Entry, world_after}
 use Rattle.wf_def_world.specs.Stretches.{world_at}
 use Rattle.wf_law_rules.proofs.Lemmas.Numbers.{on_bool, eq_yes, eq_no}
 use Rattle.wf_law_runs.specs.Kept.{is_leave_of, KeepsNumbers, IsOneStay, KeepsByCall, KeptLaw}
 use Rattle.wf_law_runs.proofs.Common.Refused.{after_idle}
 use Rattle.wf_law_runs.proofs.Common.Moments.{take_parts}
-use Rattle.wf_law_runs.proofs.Windows.Sides.{Side, Same, then_same, same_listed, same_after_pick, same_on_station, same_on_share}
+use Rattle.wf_law_runs.proofs.Windows.Sides.{Side, Same, then_same, same_listed, same_after_pick, same_on_station, same_on_share, same_weighed}
 use Rattle.wf_law_runs.proofs.Windows.Opened.{NoRow, no_row}
 use Rattle.wf_law_runs.proofs.Windows.Agreed.{IsLawful, IsFound, found, same_left_tids, same_off_lists, lawful, lawful_step}
 use Rattle.wf_law_runs.proofs.Releases.Released.{side_with_station, live_with_station, live_own_station}
@@ -86,6 +86,11 @@ stays_join : (note : Note) (w : World) (i window start exponent weight : ℕ) �
 unfolding join_outcome
 stays_join note w i window start exponent weight dead = stays_joined note w i _ dead
 
+stays_offload : (note : Note) (w : World) (i exponent weight : ℕ) → is_live w i ≡ false →
+    Stays note w (offload_outcome w i exponent weight).world
+unfolding offload_outcome
+stays_offload note w i exponent weight dead = stays_joined note w i _ dead
+
 stays_leave : (w : World) (i : ℕ) → Stays (Asked (Leave i)) w (leave_outcome w i).world
 unfolding leave_outcome
 stays_leave w i =
@@ -136,6 +141,8 @@ stays_done (Asked (Unsent e n)) w i r = stays_last _ w _
 stays_done (Asked (GiveUp e n)) w i r = stays_last _ w _
     (last_open (IsFound w i) (exchange w e) w _ (found w i e) (λ x f. last_given_up w x n))
 stays_done (Asked (Flush s t)) w i r = stays_last _ w _ (last_flushed w s t)
+stays_done (Asked (Offload s exponent weight)) w i r = stays_offload _ w s exponent weight r.1.1.1.0
+stays_done (Asked (Weight s weight)) w i r = stays_same _ w _ (same_weighed w s weight)
 
 last_refused : (note : Note) (r : Refusal) (w : World) → Last w (after_refusal w note r)
 unfolding after_refusal

@@ -25,7 +25,7 @@ use Rattle.wf_law_runs.proofs.Queues.Shelved.{IsShelved}
 use Rattle.wf_law_runs.proofs.Queues.Law.{shelved, longest_in, within}
 use Rattle.wf_law_runs.proofs.Releases.Placed.{placed_at_first}
 use Rattle.wf_law_runs.proofs.Releases.Steps.{through_step}
-use Rattle.wf_law_runs.proofs.Orders.Lines.{Lane, lane_of, Agrees, AreLined, InLine, line_less, line_session, line_give, line_release, line_station}
+use Rattle.wf_law_runs.proofs.Orders.Lines.{Lane, lane_of, Agrees, AreLined, InLine, line_less, line_session, line_give, line_release, line_station, line_silent}
 use Rattle.wf_law_runs.proofs.Frames.Fewer.{carries}
 use Rattle.wf_law_runs.proofs.Orders.Puts.{line_enqueued}
 
@@ -98,7 +98,8 @@ module _ (config : Config) (range : IsInRange config) (keeps : config.keep_order
       let next : InLine config.flows (l ++ named_by (step w e.1).reply) (step w e.1).world =
       through_step (InLine config.flows) (IsGood config.flows) (line_less config.flows)
       (line_session config.flows) (line_give config.flows)
-      (λ k u v s t q g. line_release config.flows k u v s t q g.owned) (line_station config.flows)
+      (λ k u v s t q g. line_release config.flows k u v s t q g.owned) (line_silent config.flows)
+      (line_station config.flows)
       (line_call config.flows) l w (lawful config h) e.1 (good h) p in
       let more : InLine config.flows (named_from (opening config) [] (h ++ e ∷ []))
       (world_after (opening config) (h ++ e ∷ [])) =

@@ -21,7 +21,7 @@ use Rattle.wf_law_runs.proofs.Frames.Owners.{IsOwned}
 use Rattle.wf_law_runs.specs.Queues.{IsFor}
 use Rattle.wf_law_runs.proofs.Releases.Kept.{KeptSession}
 use Rattle.wf_law_runs.proofs.Releases.Released.{side_with_station, side_own_station}
-use Rattle.wf_law_runs.proofs.Releases.Placed.{Placing, Any, Grows, IsBare, IsIdOf, has_ids, filter_has, climbs_filter, placed_less, placed_session, placed_give, passes_more, placed_station, less_with_station, slot_new_id}
+use Rattle.wf_law_runs.proofs.Releases.Placed.{Placing, Any, Grows, IsBare, IsIdOf, has_ids, filter_has, climbs_filter, placed_less, placed_session, placed_give, passes_more, placed_station, less_with_station, slot_new_id, passes_silent}
 
 -- The lane of a frame: its station and TID, and the flow queue of its flow.
 pub record Lane : Type 0 where
@@ -319,6 +319,46 @@ same_tid flows lane w o s t i j n m from below from' below' here there e =
         ((lane_of flows note).tid ≡ b)
     of_note (Enqueue c d flow len) a b h = h
     of_note (Asked ask) a b h = absurd h
+
+-- The receiver becomes q, and no id is released.
+pub line_silent : (flows : ℕ) (l : List ℕ) (w v : World) (s t : ℕ) (q : Receiver) → Less Any w v →
+    ((i j : ℕ) → (i ≡ s → j ≡ t → ⊥) → side v i j ≡ side w i j) →
+    side v s t ≡ record { session = session w s t; receiver = q } →
+    Grows (session w s t) (receiver w s t) q → InLine flows l w → InLine flows l v
+line_silent flows l w v s t q h apart own g p = record {
+  placing = passes_silent l w v s t q h apart own g p.placing;
+  lane = p.lane;
+  one = λ q r a b c e. p.one q r a b ((h.queues q).has a c) ((h.queues r).has b e);
+  home = λ q a low c. p.home q a low ((h.queues q).has a c);
+  known = λ q a c. agrees_less flows p.lane w v a h (p.placing.queued q a ((h.queues q).has a c)).old
+      (p.known q a ((h.queues q).has a c));
+  sides = λ i j. on_bool ((i == s) && (j == t))
+      (λ yes.
+      let b = both (i == s) (j == t) yes in
+      let es : s ≡ i = sym (eq_yes i s b.0) in
+      let et : t ≡ j = sym (eq_yes j t b.1) in
+      subst (λ (a : ℕ). Lines flows p.lane l v (side v a j)) es
+      (subst (λ (c : ℕ). Lines flows p.lane l v (side v s c)) et
+      (subst (Lines flows p.lane l v) (sym own) here)))
+      (λ no. subst (Lines flows p.lane l v) (sym (apart i j (λ es et. cc
+      (no, and_true (i == s) (j == t) (yes_eq i s es) (yes_eq j t et)))))
+      (lines_less flows p.lane l w v p.placing i j h (p.sides i j)));
+  released = λ k q j e c. p.released k q j e ((h.queues q).has j c);
+  listed = λ k e. agrees_less flows p.lane w v k h (p.placing.old k e) (p.listed k e);
+  lined = p.lined;
+}
+  where
+    here : Lines flows p.lane l v (record { session = session w s t; receiver = q })
+    here =
+        let i : Lines flows p.lane l v (side w s t) =
+        lines_less flows p.lane l w v p.placing s t h (p.sides s t)
+        in
+        record {
+          known = i.known;
+          rising = i.rising;
+          queued = i.queued;
+          passed = λ n k from below start e. i.passed n k from below (omega (arith, start, g.rises)) e;
+        }
 
 pub line_release : (flows : ℕ) (l : List ℕ) (w v : World) (s t : ℕ) (q : Receiver) → IsOwned w → Less Any
     w v →

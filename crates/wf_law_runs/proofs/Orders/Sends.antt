@@ -1,14 +1,15 @@
 -- Proves the law of sent flows: the ids of each flow increase in the order of their first sends. A frame that
 -- is sent is before all held frames of its flow that were never sent: these are queued, or wait at higher
 -- numbers. By induction on the run.
-use Rattle.std.proofs.Common.{◌≡◌, refl, ap, sym, ◌∙◌, subst, arith, ℕ, suc, ◌+◌, ◌-◌, ◌<◌, ◌≤◌, nat_lt, Bool, true, false, if◌then◌else◌, not, ◌==◌, ◌||◌, ◌⊎◌, inl, inr, List, [], ◌∷◌, ◌++◌, map, filter, append-nil, append_assoc, length, ◌%◌}
+use Rattle.std.proofs.Common.{◌≡◌, refl, ap, sym, ◌∙◌, subst, arith, ℕ, suc, ◌+◌, ◌-◌, ◌<◌, ◌≤◌, nat_lt, Bool, true, false, if◌then◌else◌, not, ◌==◌, ◌||◌, ◌⊎◌, inl, inr, List, [], ◌∷◌, ◌++◌, map, filter, append-nil, append_assoc, length, ◌%◌, count_by}
 use Rattle.std.proofs.Math.Seq.{take-length}
 use Rattle.std.proofs.lemmas.Bool.{not-true}
+use Rattle.std.proofs.lemmas.List.Sums.{sum_by-cons}
 use Rattle.wf_frame.specs.declared.settings.Config.{Config}
 use Rattle.wf_frame.specs.Settings.{IsInRange}
 use Rattle.wf_frame.specs.declared.notes.Note.{Note}
 use Rattle.wf_frame.specs.declared.notes.Note.TheVariants.{Enqueue, Asked}
-use Rattle.wf_frame.specs.declared.notes.Part.TheVariants.{Mpdus, Request as Asks}
+use Rattle.wf_frame.specs.declared.notes.Part.TheVariants.{Mpdus, Request as Asks, Batch}
 use Rattle.wf_frame.specs.declared.notes.ReplyNote.{ReplyNote}
 use Rattle.wf_frame.specs.declared.notes.ReplyNote.TheVariants.{Send}
 use Rattle.wf_def_lists.specs.Table.{has}
@@ -72,6 +73,7 @@ older_step w note i = through_step (λ _ v. Older w v) (λ _. Unit {0}) (λ _ u 
     (λ _ u v s t x _ h _ o. older_less w v _ (less_on_session Any v s t (λ y. with_number_given y x.id))
     (older_less w u v h o))
     (λ _ u v s t q _ h _ _ _ o. older_less w u v h o)
+    (λ _ u v s t q h _ _ _ o. older_less w u v h o)
     (λ _ u j o _ k. older_less w u _ (less_with_station u j o) k)
     (λ _ u s t flow len _ _ o. older_enqueued w u s t flow len o) [] w i note tt
     (record { accepted = omega arith; notes = λ k _. refl })
@@ -192,11 +194,18 @@ unfolding ids_in
 named_ids [] = refl
 named_ids (m ∷ ms) = ap (λ (ids : List ℕ). m.id ∷ ids) (named_ids ms)
 
-sent_ids : (c : Content) (number station tid air : ℕ) (more : Bool) →
-    ids_sent_by (Send number station tid air (part_of c) more) ≡ ids_in (mpdus_of c)
+batch_ids : (ms : List Mpdu) → map (λ (m : Mpdu). m.id) ms ≡ ids_in ms
 unfolding ids_in
-sent_ids (Frames ms) number station tid air more = named_ids ms
-sent_ids (Request start) number station tid air more = refl
+batch_ids [] = refl
+batch_ids (m ∷ ms) = ap (λ (ids : List ℕ). m.id ∷ ids) (batch_ids ms)
+
+sent_ids : (batch : Bool) (c : Content) (number station tid air : ℕ) (more : Bool) →
+    ids_sent_by (Send number station tid air (part_of batch c) more) ≡ ids_in (mpdus_of c)
+unfolding ids_in
+sent_ids false (Frames ms) number station tid air more = named_ids ms
+sent_ids true (Frames ms) number station tid air more = batch_ids ms
+sent_ids false (Request start) number station tid air more = refl
+sent_ids true (Request start) number station tid air more = refl
 
 count_some : (ms : List (ℕ × ℕ)) (k : ℕ) → has (map (λ (m : ℕ × ℕ). m.0) ms) k ≡ true → 1 ≤ count_of k ms
 count_some [] k h = absurd (cc h)
@@ -218,12 +227,36 @@ count_none (m ∷ ms) k h = go (m.0 == k) refl (count_none ms k) h
     go true e f d = absurd (cc (rw e at d))
     go false e f d = rw e (omega (arith, f (rw e at d)))
 
+ids_some : (ids : List ℕ) (k : ℕ) → has ids k ≡ true → 1 ≤ count_by (λ i. i == k) ids
+ids_some [] k h = absurd (cc h)
+ids_some (i ∷ ids) k h = go (i == k) refl (ids_some ids k) h
+    (sum_by-cons (λ (j : ℕ). if j == k then 1 else 0) i ids)
+  where
+    go : (b : Bool) → (i == k) ≡ b → (has ids k ≡ true → 1 ≤ count_by (λ j. j == k) ids) →
+        ((i == k) || has ids k) ≡ true → count_by (λ j. j == k) (i ∷ ids)
+        ≡ (if i == k then 1 else 0) + count_by (λ j. j == k) ids → 1 ≤ count_by (λ j. j == k) (i ∷ ids)
+    go true e f d whole = rw whole (rw e (omega arith))
+    go false e f d whole = rw whole (rw e (omega (arith, f (rw e at d))))
+
+ids_none : (ids : List ℕ) (k : ℕ) → has ids k ≡ false → count_by (λ i. i == k) ids ≡ 0
+ids_none [] k h = refl
+ids_none (i ∷ ids) k h = go (i == k) refl (ids_none ids k) h
+    (sum_by-cons (λ (j : ℕ). if j == k then 1 else 0) i ids)
+  where
+    go : (b : Bool) → (i == k) ≡ b → (has ids k ≡ false → count_by (λ j. j == k) ids ≡ 0) →
+        ((i == k) || has ids k) ≡ false → count_by (λ j. j == k) (i ∷ ids)
+        ≡ (if i == k then 1 else 0) + count_by (λ j. j == k) ids → count_by (λ j. j == k) (i ∷ ids) ≡ 0
+    go true e f d whole = absurd (cc (rw e at d))
+    go false e f d whole = rw whole (rw e (omega (arith, f (rw e at d))))
+
 some_tries : (r : ReplyNote) (k : ℕ) → has (ids_sent_by r) k ≡ true → 1 ≤ tries_by k r
 some_tries (Send exchange station tid air (Mpdus ms) more) k h = count_some ms k h
+some_tries (Send exchange station tid air (Batch ids) more) k h = ids_some ids k h
 some_tries _ k h = absurd (cc h)
 
 no_tries : (r : ReplyNote) (k : ℕ) → has (ids_sent_by r) k ≡ false → tries_by k r ≡ 0
 no_tries (Send exchange station tid air (Mpdus ms) more) k h = count_none ms k h
+no_tries (Send exchange station tid air (Batch ids) more) k h = ids_none ids k h
 no_tries (Send exchange station tid air (Asks start) more) k h = refl
 no_tries _ k h = refl
 
@@ -387,7 +420,7 @@ in_turn_step : (flows : ℕ) (q r l : List ℕ) (w : World) (note : Note) → St
     → InTurn flows l w → InTurn flows (l ++ not_among l (ids_sent_by (step w note).reply)) (step w note).world
 in_turn_step flows q r l w note y p k flying f = elim (first_step w note y.lawful) [
   | inl none ↦ all (λ a e. absurd
-      (let some : 1 ≤ tries_by a (step w note).reply = some_tries _ a (sent a e) in
+      (let some : 1 ≤ tries_by a (step w note).reply = some_tries (step w note).reply a (sent a e) in
       omega (arith, some, none.tries a))) (lined_none none.tries)
   | inr x ↦ all_first x
 ]
@@ -448,7 +481,7 @@ in_turn_step flows q r l w note y p k flying f = elim (first_step w note y.lawfu
 
     lined_none : ((a : ℕ) → tries_by a (step w note).reply ≡ 0) → AreLined (lane_at flows v) new
     lined_none none = lined_nothing (lane_at flows v) new (λ a e.
-        let some : 1 ≤ tries_by a (step w note).reply = some_tries _ a (sent a e) in
+        let some : 1 ≤ tries_by a (step w note).reply = some_tries (step w note).reply a (sent a e) in
         omega (arith, some, none a))
 
     new_frame : (z : Exchange) → IsOpenIn v z → IsAbove z.content (session v z.station z.tid) → (a : ℕ) →
@@ -484,7 +517,7 @@ in_turn_step flows q r l w note y p k flying f = elim (first_step w note y.lawfu
         at_some (λ u. Labelled (session v u.station u.tid) (mpdus_of u.content)) v.opened z
         y'.labelled.labels x.opens.among in
         let named : ids ≡ ids_in ms = ap ids_sent_by x.opens.reply
-        ∙ sent_ids z.content z.number z.station z.tid z.charge z.more in
+        ∙ sent_ids z.batch z.content z.number z.station z.tid z.charge z.more in
         all (λ a e.
         let c : IsSentAt (session v z.station z.tid) ms a =
         sent_at ms (session v z.station z.tid) a labels

@@ -7,7 +7,7 @@ use Rattle.std.specs.Prelude.{sum_by}
 use Rattle.wf_frame.specs.declared.settings.Config.{Config}
 use Rattle.wf_frame.specs.Settings.{IsInRange}
 use Rattle.wf_frame.specs.declared.notes.Ask.{Ask}
-use Rattle.wf_frame.specs.declared.notes.Ask.TheVariants.{Join, Leave, Rate, Tick, Pull, Arrive, Answer, Done, Sleep, Wake, Poll, Rx, Reap, Ampdu, Stop, Start, Unsent, GiveUp, Flush}
+use Rattle.wf_frame.specs.declared.notes.Ask.TheVariants.{Join, Leave, Rate, Tick, Pull, Arrive, Answer, Done, Sleep, Wake, Poll, Rx, Reap, Ampdu, Stop, Start, Unsent, GiveUp, Flush, Offload, Weight}
 use Rattle.wf_frame.specs.declared.notes.Note.{Note}
 use Rattle.wf_frame.specs.declared.notes.Note.TheVariants.{Enqueue, Asked}
 use Rattle.wf_frame.specs.declared.notes.Refusal.{Refusal}
@@ -29,8 +29,8 @@ use Rattle.wf_law_rules.proofs.Lemmas.Sums.{sum_put, sum_below}
 use Rattle.wf_law_rules.proofs.Lemmas.Numbers.{le_yes, le_no}
 use Rattle.wf_law_runs.proofs.Common.Refused.{after_idle}
 use Rattle.wf_law_runs.proofs.Deficits.Configs.{config_step}
-use Rattle.wf_law_runs.proofs.Frames.Fewer.{HasOctets, Less, less, less_plain, less_on_station, less_on_share, less_after_pick, less_listed, less_within_limit}
-use Rattle.wf_law_runs.proofs.Frames.Delivered.{less_joined, less_gone, less_pulled, less_arrived, less_answered, less_marked, less_flushed, less_reaped, less_ended}
+use Rattle.wf_law_runs.proofs.Frames.Fewer.{HasOctets, Less, less, less_plain, less_on_station, less_on_share, less_after_pick, less_listed, less_within_limit, less_weighed}
+use Rattle.wf_law_runs.proofs.Frames.Delivered.{less_joined, less_gone, less_pulled, less_arrived, less_answered, less_marked, less_flushed, less_reaped, less_ended, less_offloaded}
 use Rattle.wf_law_runs.proofs.Queues.Shelved.{each_append}
 use Rattle.wf_law_runs.proofs.Releases.Placed.{Any, less_put_in}
 
@@ -172,6 +172,8 @@ less_asked : (ask : Ask) (w : World) → Less Any w (outcome_of w (Asked ask)).w
 unfolding outcome_of tick_outcome rate_outcome sleep_outcome wake_outcome poll_outcome rx_outcome
     unsent_outcome give_up_outcome
 less_asked (Join s window start exponent weight) w = less_joined Any w s window start exponent weight
+less_asked (Offload s exponent weight) w = less_offloaded Any w s exponent weight
+less_asked (Weight s weight) w = less_weighed Any w s weight
 less_asked (Leave s) w = less_gone Any w s
 less_asked (Rate s rate) w = less_on_station Any w s _
 less_asked (Tick by) w = less_plain Any w _ refl refl

@@ -11,7 +11,7 @@ use Rattle.wf_law_runs.proofs.Windows.Sides.{Same, same_take, on_live, same_afte
 use Rattle.wf_frame.specs.declared.classes.Cause.TheVariants.{Left, Overlimit}
 use Rattle.wf_def_world.specs.World.{on_session, with_frames_finished, Mpdu, new_tid, session, rotation, World, Queue, no_frame, queue, tid_of, is_live, accepted_count, live_stations, codel_params, on_queue, with_queues, with_frame_finished, with_fate, on_tid, on_station, with_station}
 use Rattle.wf_def_world.specs.FlowQueues.{after_queues_left, after_queue_left, after_queues_flushed, after_queue_flushed, longest_queue, without_head, after_limit, is_listed_elsewhere, goes_over, overflow_queue, queue_for, when_listed, with_listed_queue, with_appended, after_put_in, queue_need, has_frames, with_queues_paid, len_given, taken_by_codel, taken_from_picked, picked_queue, taken_for_tid, is_at_limit}
-use Rattle.wf_law_runs.proofs.Queues.Shelves.{spot, shelves_with_station, shelves_on_session, shelves_sent, shelves_after_turn, shelves_off_lists, Spot, Shelves, shelves, with_listed, with_queue, with_note, all_paid, shelves_with_queues, shelves_on_queue, shelves_finish, shelves_finish_all, shelves_pay_queues, shelves_with_frame, shelves_picked}
+use Rattle.wf_law_runs.proofs.Queues.Shelves.{spot, shelves_with_station, shelves_on_session, shelves_sent, shelves_after_turn, shelves_off_lists, Spot, Shelves, shelves, with_listed, with_queue, with_note, all_paid, shelves_with_queues, shelves_on_queue, shelves_finish, shelves_finish_all, shelves_pay_queues, shelves_with_frame, shelves_picked, shelves_caught_up}
 use Rattle.wf_law_rules.proofs.Lemmas.Numbers.{on_bool, lt_yes, lt_no, has_with, has_old, on_if, yes_lt, yes_eq, or_left, or_right, either, eq_yes}
 use Rattle.wf_frame.specs.declared.classes.Class.{Class}
 use Rattle.wf_frame.specs.declared.notes.Limits.{Limits}
@@ -19,7 +19,7 @@ use Rattle.wf_def_agreement.specs.Session.{request_due}
 use Rattle.wf_frame.specs.Classes.{all_classes}
 use Rattle.wf_def_world.specs.CanSend.{is_ready}
 use Rattle.wf_def_world.specs.Exchanges.{Prepared, with_number, with_fresh, aggregate_of, longest_fitting, waiting_mpdus, most_frames, prepared_data, prepared_exchange, sending_tid, after_tid_turn, picked_station, station_need, Aggregate}
-use Rattle.wf_def_world.specs.Step.{pull_outcome_for, pull_outcome, waiting_ids, in_rising_order, after_tid_left, after_tids_left, without_listings, leave_outcome, after_tid_flushed, flush_outcome, join_outcome, enqueue_outcome}
+use Rattle.wf_def_world.specs.Step.{pull_outcome_for, pull_outcome, waiting_ids, in_rising_order, after_tid_left, after_tids_left, without_listings, leave_outcome, after_tid_flushed, flush_outcome, join_outcome, enqueue_outcome, offload_outcome, new_station}
 use Rattle.wf_law_runs.proofs.Windows.Opened.{eight, some_along, left_true, pick_ready}
 use Rattle.wf_law_runs.proofs.Deficits.Books.{each_upd, upd, upd_same, upd_other}
 use Rattle.std.proofs.Math.Path.{fun_ext}
@@ -33,6 +33,7 @@ use Rattle.wf_frame.specs.declared.notes.Note.TheVariants.{Enqueue}
 use Rattle.wf_def_lists.specs.Table.{has, upto}
 use Rattle.wf_law_runs.specs.Queues.{EachItem, IsFor}
 use Rattle.wf_def_lists.specs.Lists.{on}
+use Rattle.wf_def_lists.specs.Bounds.{greatest_window}
 use Rattle.wf_law_runs.proofs.Frames.Fewer.{carries, queue_on, less_within_limit}
 use Rattle.wf_law_runs.proofs.Releases.Placed.{Placing, Any}
 use Rattle.wf_law_rules.proofs.Lemmas.Rotations.{pick_on, pick_keeps, pick_need, IsWinner, pick_winner}
@@ -732,16 +733,17 @@ shelved_flush_queues (q ∷ qs) most w i = shelved_flush_queues qs most _
 pub shelved_flushed : (most : ℕ) (w : World) (s t : ℕ) → IsShelved most (shelves w) →
     IsShelved most (shelves (flush_outcome w s t).world)
 unfolding flush_outcome after_tid_flushed
-shelved_flushed most w s t i = shelved_flush_queues _ most _
-    (subst (IsShelved most) (sym (shelves_finish_all _ _ _ ∙ shelves_on_session w s t _)) i)
+shelved_flushed most w s t i = subst (IsShelved most) (sym (shelves_caught_up _ s t))
+    (shelved_flush_queues _ most _
+    (subst (IsShelved most) (sym (shelves_finish_all _ _ _ ∙ shelves_on_session w s t _)) i))
 
 -- ---- a station joins
 
-pub shelved_joined : (most : ℕ) (w : World) (s window start exponent weight : ℕ) → s < w.config.stations →
-    is_live w s ≡ false → IsShelved most (shelves w) →
-    IsShelved most (shelves (join_outcome w s window start exponent weight).world)
-unfolding join_outcome
-shelved_joined most w s window start exponent weight low dead i =
+shelved_new_station : (most : ℕ) (w : World) (s window start exponent weight : ℕ) (offloaded : Bool) →
+    s < w.config.stations → is_live w s ≡ false → IsShelved most (shelves w) →
+    IsShelved most (shelves (with_station w s
+    (Some (new_station w.config window start exponent weight offloaded))))
+shelved_new_station most w s window start exponent weight offloaded low dead i =
     subst (IsShelved most) (sym (shelves_with_station w s _))
     (restated most (shelves w) s _
     (λ t q. on_bool (nat_lt 0 (on (in_order (tid_of w s t).queues) q))
@@ -749,3 +751,17 @@ shelved_joined most w s window start exponent weight low dead i =
     (λ e. let none : on (in_order (tid_of w s t).queues) q ≤ 0 = lt_no 0 _ e in omega (arith, none)))
     (λ t q. eight (λ y. on (in_order y.queues) q ≡ 0) (new_tid start window) (on-nil q) (on-nil q) t)
     (λ _. low) i)
+
+pub shelved_joined : (most : ℕ) (w : World) (s window start exponent weight : ℕ) → s < w.config.stations →
+    is_live w s ≡ false → IsShelved most (shelves w) →
+    IsShelved most (shelves (join_outcome w s window start exponent weight).world)
+unfolding join_outcome
+shelved_joined most w s window start exponent weight low dead i =
+    shelved_new_station most w s window start exponent weight false low dead i
+
+pub shelved_offloaded : (most : ℕ) (w : World) (s exponent weight : ℕ) → s < w.config.stations →
+    is_live w s ≡ false → IsShelved most (shelves w) →
+    IsShelved most (shelves (offload_outcome w s exponent weight).world)
+unfolding offload_outcome
+shelved_offloaded most w s exponent weight low dead i =
+    shelved_new_station most w s greatest_window 0 exponent weight true low dead i

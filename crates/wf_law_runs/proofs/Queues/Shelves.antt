@@ -17,8 +17,8 @@ use Rattle.wf_def_world.specs.World.{World, Station, Share, Tid, Queue, Exchange
 use Rattle.wf_frame.specs.Classes.{all_classes}
 use Rattle.wf_def_world.specs.CanSend.{with_listing_in, with_listings_in, with_listings_of}
 use Rattle.wf_def_world.specs.FlowQueues.{with_queues_paid}
-use Rattle.wf_def_world.specs.Exchanges.{with_station_paid, with_stations_paid, after_pick, after_tid_turn, without_credit, with_exchange_opened, after_charge, with_failed_finished, with_settled, with_all_settled, after_done, Prepared}
-use Rattle.wf_def_world.specs.Step.{Outcome, with_frame, send_outcome, arrive_outcome, answer_outcome, done_outcome, outcome_where_open, reap_outcome, without_listings}
+use Rattle.wf_def_world.specs.Exchanges.{with_station_paid, with_stations_paid, after_pick, after_tid_turn, without_credit, with_exchange_opened, after_charge, with_failed_finished, with_settled, with_all_settled, after_done, Prepared, caught_up, with_device_caught_up}
+use Rattle.wf_def_world.specs.Step.{Outcome, with_frame, send_outcome, arrive_outcome, answer_outcome, done_outcome, outcome_where_open, reap_outcome, without_listings, with_deficits_lowered, weight_outcome}
 use Rattle.wf_def_lists.specs.Lists.{on}
 use Rattle.wf_law_rules.proofs.Lemmas.Counts.{on-nil, on-cons_same, on-cons_other}
 use Rattle.wf_law_runs.proofs.Common.Marks.{marked_world}
@@ -277,10 +277,15 @@ unfolding with_all_settled
 shelves_all_settled [] w s t ends = refl
 shelves_all_settled (m ∷ ms) w s t ends = shelves_all_settled ms _ s t ends ∙ shelves_settled _ w s t m
 
+pub shelves_caught_up : (w : World) (s t : ℕ) → shelves (with_device_caught_up w s t) ≡ shelves w
+unfolding with_device_caught_up caught_up
+shelves_caught_up w s t = shelves_if _ (shelves w) _ _
+    (shelves_on_receiver _ s t _ ∙ shelves_on_session w s t _) refl
+
 shelves_after_done : (content : Content) (w : World) (x : Exchange) (heard : Bool) →
     shelves (after_done w x heard content) ≡ shelves w
 unfolding after_done
-shelves_after_done (Frames mpdus) w x heard = shelves_all_settled mpdus w _ _ _
+shelves_after_done (Frames mpdus) w x heard = shelves_caught_up _ _ _ ∙ shelves_all_settled mpdus w _ _ _
 shelves_after_done (Request start) w x heard = shelves_on_session w _ _ _
 
 pub shelves_ended : (air : Option ℕ) (w : World) (x : Exchange) (heard : Bool) →
@@ -326,3 +331,12 @@ pub shelves_open : (o : Option Exchange) (w : World) (f : Exchange → Outcome) 
 unfolding outcome_where_open
 shelves_open None w f h = refl
 shelves_open (Some x) w f h = h x
+
+shelves_lowered : (cs : List Class) (w : World) (s : ℕ) → shelves (with_deficits_lowered w s cs) ≡ shelves w
+unfolding with_deficits_lowered
+shelves_lowered [] w s = refl
+shelves_lowered (c ∷ cs) w s = shelves_lowered cs _ s ∙ shelves_on_share w s c _
+
+pub shelves_weighed : (w : World) (s weight : ℕ) → shelves (weight_outcome w s weight).world ≡ shelves w
+unfolding weight_outcome
+shelves_weighed w s weight = shelves_lowered all_classes _ s ∙ shelves_hidden w s _ (λ x. refl)

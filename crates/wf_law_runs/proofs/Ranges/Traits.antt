@@ -5,7 +5,7 @@ use Rattle.std.proofs.lemmas.Bool.{not-false}
 use Rattle.wf_frame.specs.declared.settings.Config.{Config}
 use Rattle.wf_frame.specs.declared.classes.Class.{Class}
 use Rattle.wf_frame.specs.declared.classes.Fate.{Fate}
-use Rattle.wf_frame.specs.declared.notes.Ask.TheVariants.{Join, Leave, Rate, Tick, Pull, Arrive, Answer, Done, Sleep, Wake, Poll, Rx, Reap, Ampdu, Stop, Start, Unsent, GiveUp, Flush}
+use Rattle.wf_frame.specs.declared.notes.Ask.TheVariants.{Join, Leave, Rate, Tick, Pull, Arrive, Answer, Done, Sleep, Wake, Poll, Rx, Reap, Ampdu, Stop, Start, Unsent, GiveUp, Flush, Offload, Weight}
 use Rattle.wf_frame.specs.declared.notes.Limits.{Limits}
 use Rattle.wf_frame.specs.declared.notes.Note.{Note}
 use Rattle.wf_frame.specs.declared.notes.Note.TheVariants.{Enqueue, Asked}
@@ -17,13 +17,13 @@ use Rattle.wf_def_air.specs.Airtime.{Rate as Airtime_rate, IsRate}
 use Rattle.wf_def_codel.specs.Codel.{Item}
 use Rattle.wf_def_rotation.specs.Rotation.{in_order}
 use Rattle.wf_def_agreement.specs.Session.{Session, End, request_due}
-use Rattle.wf_def_lists.specs.Bounds.{greatest_exponent, greatest_weight, least_ampdu, greatest_ampdu}
+use Rattle.wf_def_lists.specs.Bounds.{greatest_exponent, greatest_weight, least_ampdu, greatest_ampdu, greatest_window}
 use Rattle.wf_def_world.specs.World.{World, Station, Share, Tid, Exchange, Mpdu, Content, Frames, Request, no_station, station, session, queue, rotation, exchange, with_station, on_station, on_tid, on_session, on_receiver, with_queues, on_share, on_queue, with_rotation, with_fate, with_frame_finished, with_frames_finished, with_exchange, without_exchange, opening}
 use Rattle.wf_def_world.specs.FlowQueues.{is_at_limit, without_head, after_limit, longest_queue, with_listed_queue, with_appended, after_put_in, with_queues_paid, taken_by_codel, taken_from_picked, taken_for_tid, after_queue_left, after_queues_left, after_queue_flushed, after_queues_flushed}
 use Rattle.wf_def_world.specs.CanSend.{with_listing_in, with_listings_in, with_listings_of, can_give}
-use Rattle.wf_def_world.specs.Exchanges.{picked_station, most_frames, waiting_mpdus, longest_fitting, Aggregate, Prepared, with_station_paid, with_stations_paid, after_pick, after_tid_turn, with_number, with_fresh, aggregate_of, prepared_data, prepared_exchange, without_credit, with_exchange_opened, after_charge, with_failed_finished, with_settled, with_all_settled, after_done}
+use Rattle.wf_def_world.specs.Exchanges.{picked_station, most_frames, waiting_mpdus, longest_fitting, Aggregate, Prepared, with_station_paid, with_stations_paid, after_pick, after_tid_turn, with_number, with_fresh, aggregate_of, prepared_data, prepared_exchange, without_credit, with_exchange_opened, after_charge, with_failed_finished, with_settled, with_all_settled, after_done, caught_up, with_device_caught_up}
 use Rattle.wf_def_world.specs.Refusals.{refusals, refusal, is_within}
-use Rattle.wf_def_world.specs.Step.{Outcome, join_outcome, after_tid_left, after_tids_left, without_listings, leave_outcome, after_tid_flushed, flush_outcome, rate_outcome, ampdu_outcome, tick_outcome, with_frame, enqueue_outcome, send_outcome, pull_outcome_for, pull_outcome, arrive_outcome, answer_outcome, unsent_outcome, give_up_outcome, done_outcome, outcome_where_open, sleep_outcome, wake_outcome, poll_outcome, rx_outcome, reap_outcome, concerned_station, outcome_of, after_refusal, judged_outcome, step}
+use Rattle.wf_def_world.specs.Step.{Outcome, join_outcome, after_tid_left, after_tids_left, without_listings, leave_outcome, after_tid_flushed, flush_outcome, rate_outcome, ampdu_outcome, tick_outcome, with_frame, enqueue_outcome, send_outcome, pull_outcome_for, pull_outcome, arrive_outcome, answer_outcome, unsent_outcome, give_up_outcome, done_outcome, outcome_where_open, sleep_outcome, wake_outcome, poll_outcome, rx_outcome, reap_outcome, concerned_station, outcome_of, after_refusal, judged_outcome, step, offload_outcome, weight_outcome, with_deficits_lowered, new_station}
 use Rattle.wf_def_world.specs.Run.{Entry, world_after}
 use Rattle.wf_law_rules.proofs.Lemmas.Numbers.{both, le_yes, lt_no}
 use Rattle.wf_law_rules.proofs.Lemmas.Tables.{each_put}
@@ -243,10 +243,14 @@ kept_all_settled [] w s t ends h = h
 kept_all_settled (m ∷ ms) w s t ends h = kept_all_settled ms _ s t ends
     (kept_settled (ends m.number) w s t m h)
 
+kept_caught_up : (w : World) (s t : ℕ) → Traits w → Traits (with_device_caught_up w s t)
+unfolding with_device_caught_up caught_up on_receiver
+kept_caught_up w s t h = kept_if _ _ w (kept_tid _ s t _ (kept_session w s t _ h)) h
+
 kept_after_done : (content : Content) (w : World) (x : Exchange) (heard : Bool) → Traits w →
     Traits (after_done w x heard content)
 unfolding after_done
-kept_after_done (Frames mpdus) w x heard h = kept_all_settled mpdus w _ _ _ h
+kept_after_done (Frames mpdus) w x heard h = kept_caught_up _ _ _ (kept_all_settled mpdus w _ _ _ h)
 kept_after_done (Request start) w x heard h = kept_session w _ _ _ h
 
 kept_ended : (air : Option ℕ) (w : World) (x : Exchange) (heard : Bool) → Traits w →
@@ -301,25 +305,59 @@ kept_flush_queues (q ∷ qs) w h = kept_flush_queues qs _ (kept_finish_all _ _ _
 
 kept_flushed : (w : World) (s t : ℕ) → Traits w → Traits (flush_outcome w s t).world
 unfolding flush_outcome after_tid_flushed
-kept_flushed w s t h = kept_flush_queues _ _ (kept_finish_all _ _ _ (kept_session w s t _ h))
+kept_flushed w s t h = kept_caught_up _ s t
+    (kept_flush_queues _ _ (kept_finish_all _ _ _ (kept_session w s t _ h)))
 
 kept_gone : (w : World) (s : ℕ) → Traits w → Traits (leave_outcome w s).world
 unfolding leave_outcome
 kept_gone w s h = put_station _ s None tt (kept_off_lists all_classes _ s (kept_left_tids (upto 8) w s h))
+
+in_weights : (weight : ℕ) → not (is_within 1 greatest_weight weight) ≡ false → (1 ≤ weight) × (weight ≤ 16)
+in_weights weight some =
+    let range = both (nat_le 1 weight) (nat_le weight 16) (not-false _ some) in
+    (le_yes 1 weight range.0, le_yes weight 16 range.1)
+
+kept_new_station : (w : World) (s window start exponent weight : ℕ) (offloaded : Bool) →
+    nat_lt greatest_exponent exponent ≡ false → not (is_within 1 greatest_weight weight) ≡ false → Traits w →
+    Traits (with_station w s (Some (new_station w.config window start exponent weight offloaded)))
+kept_new_station w s window start exponent weight offloaded short some h =
+    put_station w s _ (record {
+      weight = in_weights weight some;
+      rate = refl;
+      exponent = lt_no 3 exponent short;
+      ampdu = tt;
+      credit = tt;
+    }) h
 
 kept_joined : (w : World) (s window start exponent weight : ℕ) → nat_lt greatest_exponent exponent ≡ false →
     not (is_within 1 greatest_weight weight) ≡ false → Traits w →
     Traits (join_outcome w s window start exponent weight).world
 unfolding join_outcome
 kept_joined w s window start exponent weight short some h =
-    let range = both (nat_le 1 weight) (nat_le weight 16) (not-false _ some) in
-    put_station w s _ (record {
-      weight = (le_yes 1 weight range.0, le_yes weight 16 range.1);
-      rate = refl;
-      exponent = lt_no 3 exponent short;
-      ampdu = tt;
-      credit = tt;
-    }) h
+    kept_new_station w s window start exponent weight false short some h
+
+kept_offloaded : (w : World) (s exponent weight : ℕ) → nat_lt greatest_exponent exponent ≡ false →
+    not (is_within 1 greatest_weight weight) ≡ false → Traits w →
+    Traits (offload_outcome w s exponent weight).world
+unfolding offload_outcome
+kept_offloaded w s exponent weight short some h =
+    kept_new_station w s greatest_window 0 exponent weight true short some h
+
+kept_lowered : (cs : List Class) (w : World) (s : ℕ) → Traits w → Traits (with_deficits_lowered w s cs)
+unfolding with_deficits_lowered
+kept_lowered [] w s h = h
+kept_lowered (c ∷ cs) w s h = kept_lowered cs _ s (kept_share w s c _ h)
+
+kept_weighed : (w : World) (s weight : ℕ) → not (is_within 1 greatest_weight weight) ≡ false → Traits w →
+    Traits (weight_outcome w s weight).world
+unfolding weight_outcome
+kept_weighed w s weight some h = kept_lowered all_classes _ s (set_station w s _ (λ x e k. record {
+  weight = in_weights weight some;
+  rate = k.rate;
+  exponent = k.exponent;
+  ampdu = k.ampdu;
+  credit = k.credit;
+}) h)
 
 any_credit : (o : Option Class) → IfSome o (λ _. true ≡ true)
 any_credit None = tt
@@ -358,6 +396,8 @@ unfolding outcome_of tick_outcome rate_outcome sleep_outcome wake_outcome rx_out
 kept_done (Enqueue s t flow len) w e h = kept_enqueued w s t flow len h
 kept_done (Asked (Join s window start exponent weight)) w e h =
     kept_joined w s window start exponent weight e.1.1.1.0 e.1.1.1.1.0 h
+kept_done (Asked (Offload s exponent weight)) w e h = kept_offloaded w s exponent weight e.1.0 e.1.1.0 h
+kept_done (Asked (Weight s weight)) w e h = kept_weighed w s weight e.1.0 h
 kept_done (Asked (Leave s)) w e h = kept_gone w s h
 kept_done (Asked (Rate s rate)) w e h =
     set_station w s _ (λ x _ k. record {

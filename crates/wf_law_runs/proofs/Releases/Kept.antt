@@ -1,23 +1,25 @@
 -- Proves which changes of a world keep the receivers and the ids of the assigned numbers.
-use Rattle.std.proofs.Common.{◌≡◌, refl, ap, sym, ◌∙◌, subst, arith, ℕ, zero, suc, ◌-◌, ◌<◌, ◌≤◌, Bool, true, false, if◌then◌else◌, not, ◌==◌, List, [], ◌∷◌, length, Option, Some, None, is_some}
+use Rattle.std.proofs.Common.{◌≡◌, refl, ap, sym, ◌∙◌, subst, arith, ℕ, zero, suc, ◌-◌, ◌<◌, ◌≤◌, Bool, true, false, if◌then◌else◌, not, ◌==◌, List, [], ◌∷◌, length, Option, Some, None, is_some, unwrap_or}
 use Rattle.wf_frame.specs.declared.classes.Class.{Class}
 use Rattle.wf_frame.specs.declared.notes.Limits.{Limits}
-use Rattle.wf_def_lists.specs.Table.{at, put, with_member}
+use Rattle.wf_def_lists.specs.Table.{at, has, put, with_member}
 use Rattle.wf_def_codel.specs.Codel.{Item}
-use Rattle.wf_def_agreement.specs.Session.{End, request_due, with_state, Session, Slot, State, is_failed, slot_given_up, slot, on_slot, with_number_given, after_flush, next_number, no_slot}
-use Rattle.wf_def_world.specs.World.{receiver, World, Station, Exchange, Mpdu, Content, Frames, Request, session, is_live, on_session, with_exchange, without_exchange}
+use Rattle.wf_def_agreement.specs.Session.{End, start_of, request_due, with_state, Session, Slot, State, is_failed, slot_given_up, slot, on_slot, with_number_given, after_flush, next_number, no_slot}
+use Rattle.wf_def_agreement.specs.Receiver.{Receiver}
+use Rattle.wf_def_world.specs.World.{receiver, World, Station, Tid, no_station, is_offloaded, Exchange, Mpdu, Content, Frames, Request, session, is_live, on_session, with_exchange, without_exchange}
 use Rattle.wf_def_world.specs.FlowQueues.{taken_for_tid}
 use Rattle.wf_def_world.specs.CanSend.{can_give}
-use Rattle.wf_def_world.specs.Exchanges.{most_frames, picked_station, sending_tid, with_heard_start, Aggregate, Prepared, with_fresh, aggregate_of, with_number, with_flying, waiting_mpdus, longest_fitting, prepared_data, prepared_exchange, with_exchange_opened, with_failed_finished, with_settled, with_all_settled, after_done}
+use Rattle.wf_def_world.specs.Exchanges.{most_frames, picked_station, sending_tid, with_heard_start, caught_up, with_device_caught_up, Aggregate, Prepared, with_fresh, aggregate_of, with_number, with_flying, waiting_mpdus, longest_fitting, prepared_data, prepared_exchange, with_exchange_opened, with_failed_finished, with_settled, with_all_settled, after_done}
 use Rattle.wf_def_world.specs.Step.{with_frame, enqueue_outcome, send_outcome, pull_outcome_for, pull_outcome, answer_outcome, done_outcome, unsent_outcome, give_up_outcome, flush_outcome, reap_outcome}
 use Rattle.wf_law_rules.proofs.Lemmas.Tables.{each_put}
 use Rattle.wf_law_runs.proofs.Common.Picked.{picked_world}
 use Rattle.wf_law_runs.proofs.Common.Marks.{marked_world}
 use Rattle.wf_law_runs.proofs.Common.Ends.{slot_after_end, end_id, on_settled}
-use Rattle.wf_law_runs.proofs.Common.Flushes.{flush_along, if_flushed}
+use Rattle.wf_law_runs.proofs.Common.Flushes.{flush_along, if_caught, if_flushed}
 use Rattle.wf_law_runs.proofs.Sessions.Flights.{next-give}
-use Rattle.wf_law_runs.proofs.Windows.Sides.{Side, sides_of, Same, each_side_on, on_live, on_opened, same, then_same, same_on_queue, same_finish, same_after_turn, same_spent, same_within_limit, same_put_in, same_take, same_charged, same_picked}
+use Rattle.wf_law_runs.proofs.Windows.Sides.{Side, sides_of, Same, each_side_on, on_live, on_opened, on_exchanges, on_offloaded, told_start, caught_up_is, same, then_same, same_on_queue, same_finish, same_after_turn, same_spent, same_within_limit, same_put_in, same_take, same_charged, same_picked}
 use Rattle.wf_law_runs.proofs.Windows.Agreement.{slot_give}
+use Rattle.wf_law_rules.proofs.Lemmas.Numbers.{has_old}
 
 -- The session's assigned numbers keep their ids.
 pub record KeptSession (y z : Session) : Type 0 where
@@ -73,17 +75,33 @@ pub kept_heard : (b : Bool) (f : ℕ) (y : Session) → KeptSession y (with_hear
 kept_heard true f y = record { first = refl; size = refl; next = omega arith; ids = λ n l b. refl }
 kept_heard false f y = kept_refl y
 
--- The worlds have the same receivers, and sessions whose numbers keep their ids.
+-- What arrived at the receiver stays. The receiver of a station that is not offloaded does not change.
+pub record KeptReceiver (offloaded : Bool) (r q : Receiver) : Type 0 where
+  pub arrived : q.arrived ≡ r.arrived
+  pub starts : (n : ℕ) → has r.starts n ≡ true → has q.starts n ≡ true
+  pub equal : offloaded ≡ false → q ≡ r
+
+pub same_receiver : (b : Bool) (r q : Receiver) → q ≡ r → KeptReceiver b r q
+same_receiver b r q e = record {
+  arrived = ap (λ (z : Receiver). z.arrived) e;
+  starts = λ n h. ap (λ (z : Receiver). has z.starts n) e ∙ h;
+  equal = λ _. e;
+}
+
+-- The worlds have the same arrivals, and sessions whose numbers keep their ids.
 pub record Kept (w v : World) : Type 0 where
-  pub receivers : (s t : ℕ) → receiver v s t ≡ receiver w s t
+  pub receivers : (s t : ℕ) → KeptReceiver (is_offloaded w s) (receiver w s t) (receiver v s t)
   pub sessions : (s t : ℕ) → KeptSession (session w s t) (session v s t)
   pub live : (s : ℕ) → is_live v s ≡ is_live w s
+  pub offloaded : (s : ℕ) → is_offloaded v s ≡ is_offloaded w s
 
 pub kept_same : (w v : World) → Same w v → Kept w v
 kept_same w v h = record {
-  receivers = λ s t. ap (λ (a : Side). a.receiver) (h.sides s t);
+  receivers = λ s t. same_receiver (is_offloaded w s) (receiver w s t) (receiver v s t)
+      (ap (λ (a : Side). a.receiver) (h.sides s t));
   sessions = λ s t. kept_equal (session w s t) (session v s t) (ap (λ (a : Side). a.session) (h.sides s t));
   live = h.live;
+  offloaded = h.offloaded;
 }
 
 pub kept_here : (w : World) → Kept w w
@@ -91,22 +109,66 @@ kept_here w = kept_same w w (same w)
 
 pub then_keep : (u v w : World) → Kept u v → Kept v w → Kept u w
 then_keep u v w h k = record {
-  receivers = λ s t. k.receivers s t ∙ h.receivers s t;
+  receivers = λ s t.
+      let a = h.receivers s t in
+      let b = k.receivers s t in
+      record {
+        arrived = b.arrived ∙ a.arrived;
+        starts = λ n e. b.starts n (a.starts n e);
+        equal = λ no. b.equal (h.offloaded s ∙ no) ∙ a.equal no;
+      };
   sessions = λ s t. then_kept (session u s t) (session v s t) (session w s t) (h.sessions s t)
       (k.sessions s t);
   live = λ s. k.live s ∙ h.live s;
+  offloaded = λ s. k.offloaded s ∙ h.offloaded s;
 }
 
 pub keep_on_session : (w : World) (s t : ℕ) (f : Session → Session) →
     KeptSession (session w s t) (f (session w s t)) → Kept w (on_session w s t f)
 unfolding on_session
 keep_on_session w s t f h = record {
-  receivers = each_side_on (λ i j z. z.receiver ≡ receiver w i j) w s t
-      (λ y. record y { session = f y.session }) (λ i j. refl) refl;
+  receivers = λ i j. same_receiver (is_offloaded w i) _ _
+      (each_side_on (λ i j z. z.receiver ≡ receiver w i j) w s t
+      (λ y. record y { session = f y.session }) (λ i j. refl) refl i j);
   sessions = each_side_on (λ i j z. KeptSession (session w i j) z.session) w s t
       (λ y. record y { session = f y.session }) (λ i j. kept_refl (session w i j)) h;
   live = on_live w s t (λ y. record y { session = f y.session });
+  offloaded = on_offloaded w s t (λ y. record y { session = f y.session });
 }
+
+-- The device of an offloaded station catches up.
+pub keep_caught : (w : World) (s t : ℕ) → is_offloaded w s ≡ true → Kept w (caught_up w s t)
+keep_caught w s t d =
+    let start : ℕ = start_of (session w s t) in
+    let f : Tid → Tid = told_start start in
+    subst (Kept w) (sym (caught_up_is w s t)) (record {
+      receivers = each_side_on (λ i j z. KeptReceiver (is_offloaded w i) (receiver w i j) z.receiver) w s t f
+          (λ i j. same_receiver (is_offloaded w i) _ _ refl)
+          (record {
+            arrived = refl;
+            starts = λ n h. has_old (receiver w s t).starts start n h;
+            equal = λ no. absurd (cc (no, d));
+          });
+      sessions = each_side_on (λ i j z. KeptSession (session w i j) z.session) w s t f
+          (λ i j. kept_refl (session w i j)) (kept_heard true start (session w s t));
+      live = on_live w s t f;
+      offloaded = on_offloaded w s t f;
+    })
+
+pub keep_device : (w : World) (s t : ℕ) → Kept w (with_device_caught_up w s t)
+keep_device w s t = if_caught (Kept w) w s t (kept_here w) (keep_caught w s t)
+
+pub opened_caught : (w : World) (s t : ℕ) → (caught_up w s t).opened ≡ w.opened
+opened_caught w s t = ap (λ (v : World). v.opened) (caught_up_is w s t) ∙ on_opened w s t _
+
+pub exchanges_caught : (w : World) (s t : ℕ) → (caught_up w s t).exchanges ≡ w.exchanges
+exchanges_caught w s t = ap (λ (v : World). v.exchanges) (caught_up_is w s t) ∙ on_exchanges w s t _
+
+pub opened_device : (w : World) (s t : ℕ) → (with_device_caught_up w s t).opened ≡ w.opened
+opened_device w s t = if_caught (λ u. u.opened ≡ w.opened) w s t refl (λ _. opened_caught w s t)
+
+pub exchanges_device : (w : World) (s t : ℕ) → (with_device_caught_up w s t).exchanges ≡ w.exchanges
+exchanges_device w s t = if_caught (λ u. u.exchanges ≡ w.exchanges) w s t refl (λ _. exchanges_caught w s t)
 
 keep_if : (b : Bool) (w u v : World) → Kept w u → Kept w v → Kept w (if b then u else v)
 keep_if true w u v h k = h
@@ -163,10 +225,11 @@ keep_sent : (w : World) (s t : ℕ) (c : Class) (p : Prepared) → Kept w p.worl
 unfolding send_outcome with_exchange_opened
 keep_sent w s t c p h = then_keep w p.world _ h
     (then_keep p.world _ _ (record {
-      receivers = λ i j. refl;
+      receivers = λ i j. same_receiver (is_offloaded p.world i) _ _ refl;
       sessions =
           λ i j. kept_refl (session p.world i j);
       live = λ i. refl;
+      offloaded = λ i. refl;
     }) (kept_same _ _ (same_spent _ s)))
 
 keep_pulled_by : (o : Option ℕ) (w : World) (c : Class) → Kept w (pull_outcome_for w c o).world
@@ -203,17 +266,19 @@ keep_all_settled (m ∷ ms) w s t ends = then_keep w _ _ (keep_settled (ends m.n
 
 keep_after_done : (c : Content) (w : World) (x : Exchange) (heard : Bool) → Kept w (after_done w x heard c)
 unfolding after_done
-keep_after_done (Frames ms) w x heard = keep_all_settled ms w x.station x.tid _
+keep_after_done (Frames ms) w x heard = then_keep w _ _ (keep_all_settled ms w x.station x.tid _)
+    (keep_device _ x.station x.tid)
 keep_after_done (Request f) w x heard = keep_on_session w x.station x.tid (with_heard_start heard f)
     (kept_heard heard f (session w x.station x.tid))
 
 keep_without : (w : World) (e : ℕ) → Kept w (without_exchange w e)
 unfolding without_exchange
 keep_without w e = record {
-  receivers = λ s t. refl;
+  receivers = λ s t. same_receiver (is_offloaded w s) _ _ refl;
   sessions = λ s t. kept_refl (session w s t);
   live =
       λ s. refl;
+  offloaded = λ s. refl;
 }
 
 pub keep_ended : (air : Option ℕ) (w : World) (x : Exchange) (heard : Bool) →
@@ -226,19 +291,21 @@ keep_ended air w x heard = then_keep w _ _ (keep_without w x.number)
 pub keep_answered : (w : World) (x : Exchange) → Kept w (answer_outcome w x).world
 unfolding answer_outcome with_exchange
 keep_answered w x = record {
-  receivers = λ s t. refl;
+  receivers = λ s t. same_receiver (is_offloaded w s) _ _ refl;
   sessions = λ s t. kept_refl (session w s t);
   live =
       λ s. refl;
+  offloaded = λ s. refl;
 }
 
 pub keep_marked : (w : World) (x : Exchange) (unsent given_up : List ℕ) →
     Kept w (marked_world w x unsent given_up)
 unfolding with_exchange
 keep_marked w x unsent given_up = record {
-  receivers = λ s t. refl;
+  receivers = λ s t. same_receiver (is_offloaded w s) _ _ refl;
   sessions = λ s t. kept_refl (session w s t);
   live = λ s. refl;
+  offloaded = λ s. refl;
 }
 
 pub keep_unsent : (w : World) (x : Exchange) (n : ℕ) → Kept w (unsent_outcome w x n).world
@@ -260,6 +327,7 @@ keep_flushed w s t = if_flushed (Kept w)
       finish = λ u id k. then_keep w u _ k (kept_same u _ (same_finish u _ id));
       empty = λ u q k. then_keep w u _ k (kept_same u _ (same_on_queue u q _));
     }) w s t
+    (λ v k d. then_keep w v _ k (keep_caught v s t d))
     (keep_on_session w s t (after_flush w.config.attempts) (kept_flush w.config.attempts (session w s t)))
 
 opened_on_session : (w : World) (s t : ℕ) (f : Session → Session) → (on_session w s t f).opened ≡ w.opened
@@ -271,14 +339,16 @@ opened_flushed w s t = if_flushed (λ u. u.opened ≡ w.opened)
     (record {
       finish = λ u id k. (same_finish u _ id).opened ∙ k;
       empty = λ u q k. (same_on_queue u q _).opened ∙ k;
-    }) w s t (opened_on_session w s t _)
+    }) w s t (λ v k _. opened_caught v s t ∙ k) (opened_on_session w s t _)
 
 pub keep_plain : (w v : World) → w.stations ≡ v.stations → Kept w v
 keep_plain w v a = record {
-  receivers = λ s t. ap (λ (x : List (Option Station)). (sides_of (at None x s) t).receiver) (sym a);
+  receivers = λ s t. same_receiver (is_offloaded w s) _ _
+      (ap (λ (x : List (Option Station)). (sides_of (at None x s) t).receiver) (sym a));
   sessions = λ s t. kept_equal (session w s t) (session v s t)
       (ap (λ (x : List (Option Station)). (sides_of (at None x s) t).session) (sym a));
   live = λ s. ap (λ (x : List (Option Station)). is_some (at None x s)) (sym a);
+  offloaded = λ s. ap (λ (x : List (Option Station)). (unwrap_or (at None x s) no_station).offloaded) (sym a);
 }
 
 pub keep_enqueued : (w : World) (s t flow len : ℕ) → Kept w (enqueue_outcome w s t flow len).world

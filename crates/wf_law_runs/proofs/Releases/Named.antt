@@ -1,8 +1,7 @@
 -- Proves that exactly those arrived numbers of a session are released so far that are below the release
 -- start. By induction on the run.
-use Rattle.wf_law_runs.specs.Releases.{PassesInOrder, is_join_of, is_arrival_for, passed_by, passed_from, passed, named_by, named_from, numbers_passed, ReleaseLaw}
-use Rattle.std.proofs.Common.{take, ◌≡◌, ap, sym, ◌∙◌, ℕ, ◌<◌, ◌≤◌, nat_lt, Bool, true, ◌==◌, inl, inr, List, [], ◌∷◌, ◌++◌, filter}
-use Rattle.wf_def_world.specs.World.{is_live, receiver, World, session, opening}
+use Rattle.std.proofs.Common.{take, ◌≡◌, ap, sym, ◌∙◌, ℕ, ◌<◌, ◌≤◌, nat_lt, Bool, true, ◌==◌, inl, inr, List, [], ◌∷◌, ◌++◌, filter, false}
+use Rattle.wf_def_world.specs.World.{is_live, is_offloaded, receiver, World, session, opening}
 use Rattle.wf_frame.specs.declared.settings.Config.{Config}
 use Rattle.wf_def_lists.specs.Table.{has}
 use Rattle.wf_def_agreement.specs.Receiver.{Receiver, release_start}
@@ -22,6 +21,7 @@ use Rattle.wf_law_runs.proofs.Releases.Once.{placed}
 use Rattle.wf_frame.specs.Settings.{IsInRange}
 use Rattle.wf_law_runs.proofs.Frames.Owners.{IsOwned}
 use Rattle.wf_law_runs.proofs.Frames.Places.{standing}
+use Rattle.wf_law_runs.specs.Releases.{PassesInOrder, is_join_of, is_arrival_for, passed_by, passed_from, passed, named_by, named_from, numbers_passed, ReleaseLaw}
 
 -- Every number of l is in m.
 record Within (l m : List ℕ) : Type 0 where
@@ -91,14 +91,15 @@ filtered_has p (x ∷ xs) n h = on_if (λ (ys : List ℕ). has ys n ≡ true →
 
 in_order : (config : Config) (h : List Entry) (s t : ℕ) → IsOwned (world_after (opening config) h) →
     is_live (world_after (opening config) h) s ≡ true →
+    is_offloaded (world_after (opening config) h) s ≡ false →
     PassesInOrder config h (world_after (opening config) h) s t
-in_order config h s t owned live =
+in_order config h s t owned live off =
     let w : World = world_after (opening config) h in
     let y : Session = session w s t in
     let r : Receiver = receiver w s t in
     let l : List ℕ = named_from (opening config) [] h in
     let p : Placing l w = placed config h in
-    let all : passed config h s t ≡ ids_of y (numbers_passed r) = passed_all config h s t live in
+    let all : passed config h s t ≡ ids_of y (numbers_passed r) = passed_all config h s t live off in
     let inside : Within (passed config h s t) l =
     all_named h (opening config) s t [] [] (record { each = λ k e. e }) in
     record {
@@ -121,5 +122,5 @@ in_order config h s t owned live =
     }
 
 pub release_law : (config : Config) (h : List Entry) → IsInRange config → ReleaseLaw config h
-release_law config h range m s t live = in_order config (take m h) s t
-    (standing config (take m h) range).stood.owned live
+release_law config h range m s t live off = in_order config (take m h) s t
+    (standing config (take m h) range).stood.owned live off

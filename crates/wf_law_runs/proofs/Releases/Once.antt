@@ -8,17 +8,17 @@ use Rattle.wf_def_codel.specs.Codel.{Item}
 use Rattle.wf_def_agreement.specs.Receiver.{Receiver, released_between}
 use Rattle.wf_def_agreement.specs.Session.{End}
 use Rattle.wf_def_world.specs.World.{World, Mpdu, receiver, session, without_exchange, opening}
-use Rattle.wf_def_world.specs.Exchanges.{Aggregate, ids_of, aggregate_of, prepared_data, with_number, with_settled}
+use Rattle.wf_def_world.specs.Exchanges.{Aggregate, ids_of, aggregate_of, prepared_data, with_number, with_settled, with_device_caught_up}
 use Rattle.wf_def_world.specs.Refusals.{refusals}
-use Rattle.wf_def_world.specs.Step.{enqueue_outcome, join_outcome, leave_outcome, step}
+use Rattle.wf_def_world.specs.Step.{enqueue_outcome, join_outcome, offload_outcome, leave_outcome, step}
 use Rattle.wf_def_world.specs.Run.{Entry, world_after}
 use Rattle.wf_law_runs.specs.Releases.{named_by, named_from, OnceLaw}
 use Rattle.wf_law_runs.proofs.Windows.Sides.{side, Same}
 use Rattle.wf_law_runs.proofs.Windows.Opened.{NoRow}
-use Rattle.wf_law_runs.proofs.Windows.Agreed.{IsLawful, IsReady, IsEnding, lawful_step, lawful_at_first}
+use Rattle.wf_law_runs.proofs.Windows.Agreed.{AgreedAt, IsLawful, IsReady, IsEnding, lawful_step, lawful_at_first}
 use Rattle.wf_law_runs.proofs.Frames.Fewer.{Less, IsTaken}
-use Rattle.wf_law_runs.proofs.Releases.Placed.{Placing, Any, Grows, placed_less, placed_session, placed_give, passes_more, placed_station, placed_enqueued, placed_at_first}
-use Rattle.wf_law_runs.proofs.Releases.Steps.{through_number, through_filled, through_frames, through_settled, through_without, through_joined, through_gone, through_step}
+use Rattle.wf_law_runs.proofs.Releases.Placed.{Placing, Any, Grows, placed_less, placed_session, placed_give, passes_more, passes_silent, placed_station, placed_enqueued, placed_at_first}
+use Rattle.wf_law_runs.proofs.Releases.Steps.{through_number, through_filled, through_frames, through_settled, through_without, through_joined, through_offloaded, through_device, through_gone, through_step}
 
 -- The changes need nothing of the world before them.
 Always : World → Type 0
@@ -40,34 +40,44 @@ enqueued_always l w s t flow len _ _ p = placed_enqueued l w s t flow len p
 pub placed_number : (o : Option Item) (l : List ℕ) (u v : World) (s t : ℕ) → Same u v → Less Any u v →
     IfSome o (IsTaken u v) → Placing l u → Placing l (with_number v s t o)
 placed_number = through_number Placing Always placed_less placed_session placed_give passes_always
-    placed_station enqueued_always
+    passes_silent placed_station enqueued_always
 
 pub placed_filled : (l : List ℕ) (w : World) (s t : ℕ) → Placing l w → Placing l (aggregate_of w s t).world
 placed_filled = through_filled Placing Always placed_less placed_session placed_give passes_always
-    placed_station enqueued_always
+    passes_silent placed_station enqueued_always
 
 pub placed_frames : (l : List ℕ) (s t : ℕ) (f : Aggregate) → IsReady s t f.world f.mpdus →
     Placing l f.world → Placing l (prepared_data s t f).world
 placed_frames = through_frames Placing Always placed_less placed_session placed_give passes_always
-    placed_station enqueued_always
+    passes_silent placed_station enqueued_always
 
 pub placed_settled : (end : End) (l : List ℕ) (e s t : ℕ) (ends : ℕ → End) (w : World) (m : Mpdu)
     (ms : List Mpdu) → IsEnding e s t ends w (m ∷ ms) → Placing l w → Placing l (with_settled w s t end m)
 placed_settled = through_settled Placing Always placed_less placed_session placed_give passes_always
-    placed_station enqueued_always
+    passes_silent placed_station enqueued_always
 
 pub placed_without : (l : List ℕ) (w : World) (e : ℕ) → Placing l w → Placing l (without_exchange w e)
 placed_without = through_without Placing Always placed_less placed_session placed_give passes_always
-    placed_station enqueued_always
+    passes_silent placed_station enqueued_always
 
 pub placed_joined : (l : List ℕ) (w : World) (s window start exponent weight : ℕ) → Placing l w →
     Placing l (join_outcome w s window start exponent weight).world
 placed_joined = through_joined Placing Always placed_less placed_session placed_give passes_always
-    placed_station enqueued_always
+    passes_silent placed_station enqueued_always
+
+pub placed_offloaded : (l : List ℕ) (w : World) (s exponent weight : ℕ) → Placing l w →
+    Placing l (offload_outcome w s exponent weight).world
+placed_offloaded = through_offloaded Placing Always placed_less placed_session placed_give passes_always
+    passes_silent placed_station enqueued_always
+
+pub placed_device : (l : List ℕ) (w : World) (s t : ℕ) → AgreedAt (side w s t) → Placing l w →
+    Placing l (with_device_caught_up w s t)
+placed_device = through_device Placing Always placed_less placed_session placed_give passes_always
+    passes_silent placed_station enqueued_always
 
 pub placed_gone : (l : List ℕ) (w : World) (s : ℕ) → Placing l w → Placing l (leave_outcome w s).world
 placed_gone = through_gone Placing Always placed_less placed_session placed_give passes_always
-    placed_station enqueued_always
+    passes_silent placed_station enqueued_always
 
 -- ---- the run
 
@@ -75,7 +85,7 @@ pub placed_step : (l : List ℕ) (w : World) (i : IsLawful w) (note : Note) → 
     Placing (l ++ named_by (step w note).reply) (step w note).world
 unfolding Always
 placed_step l w i note p = through_step Placing Always placed_less placed_session placed_give passes_always
-    placed_station enqueued_always l w i note tt p
+    passes_silent placed_station enqueued_always l w i note tt p
 
 placed_run : (h : List Entry) (l : List ℕ) (w : World) (i : IsLawful w) → Placing l w →
     Placing (named_from w l h) (world_after w h)

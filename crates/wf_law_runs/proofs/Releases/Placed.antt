@@ -10,10 +10,10 @@ use Rattle.wf_def_agreement.specs.Session.{Session, Slot, slot, with_number_give
 use Rattle.wf_def_world.specs.World.{receiver, World, Station, Tid, Frame, no_frame, Exchange, Content, Frames, Request, new_tid, session, exchange, with_station, on_tid, on_session, on_receiver, on_queue, with_exchange, opening, new_queue, queue, accepted_count}
 use Rattle.wf_def_world.specs.FlowQueues.{after_limit, with_appended, after_put_in, queue_for}
 use Rattle.wf_def_world.specs.Exchanges.{transmissions, no_mpdu, picked_station, after_arrival, with_heard_start, mpdus_of, ids_of}
-use Rattle.wf_frame.specs.declared.notes.Ask.TheVariants.{Join, Leave, Rate, Tick, Pull, Arrive, Answer, Done, Sleep, Wake, Poll, Rx, Reap, Ampdu, Stop, Start, Unsent, GiveUp, Flush}
+use Rattle.wf_frame.specs.declared.notes.Ask.TheVariants.{Join, Leave, Rate, Tick, Pull, Arrive, Answer, Done, Sleep, Wake, Poll, Rx, Reap, Ampdu, Stop, Start, Unsent, GiveUp, Flush, Offload, Weight}
 use Rattle.wf_frame.specs.declared.notes.Note.{Note}
 use Rattle.wf_frame.specs.declared.notes.Note.TheVariants.{Enqueue, Asked}
-use Rattle.wf_def_world.specs.Step.{Outcome, join_outcome, after_tid_left, after_tids_left, without_listings, leave_outcome, rate_outcome, tick_outcome, with_frame, enqueue_outcome, send_outcome, pull_outcome_for, pull_outcome, answer_outcome, unsent_outcome, give_up_outcome, flush_outcome, done_outcome, outcome_where_open, sleep_outcome, wake_outcome, poll_outcome, rx_outcome, reap_outcome, outcome_of}
+use Rattle.wf_def_world.specs.Step.{offload_outcome, weight_outcome, Outcome, join_outcome, after_tid_left, after_tids_left, without_listings, leave_outcome, rate_outcome, tick_outcome, with_frame, enqueue_outcome, send_outcome, pull_outcome_for, pull_outcome, answer_outcome, unsent_outcome, give_up_outcome, flush_outcome, done_outcome, outcome_where_open, sleep_outcome, wake_outcome, poll_outcome, rx_outcome, reap_outcome, outcome_of}
 use Rattle.wf_law_rules.proofs.Lemmas.Joined.{has_append, once_append}
 use Rattle.wf_law_rules.proofs.Lemmas.Tables.{each_put}
 use Rattle.wf_law_runs.proofs.Sessions.Starts.{at_append}
@@ -266,6 +266,43 @@ pub record Grows (y : Session) (r q : Receiver) : Type 0 where
   pub within : (n : ℕ) → has q.arrived n ≡ true → (y.first ≤ n) × (n < next_number y)
   pub rises : release_start r ≤ release_start q
 
+-- The receiver becomes q, and no id is released.
+pub passes_silent : (l : List ℕ) (w v : World) (s t : ℕ) (q : Receiver) → Less Any w v →
+    ((i j : ℕ) → (i ≡ s → j ≡ t → ⊥) → side v i j ≡ side w i j) →
+    side v s t ≡ record { session = session w s t; receiver = q } → Grows (session w s t) (receiver w s t) q →
+    Placing l w → Placing l v
+passes_silent l w v s t q h apart own g p =
+    let y : Session = session w s t in
+    record {
+      home = p.home;
+      ordered = λ c. (h.queues c).ordered 0 (p.ordered c);
+      queued = λ c k e.
+          let i : IsQueued p.home l (accepted_count w) c k = p.queued c k ((h.queues c).has k e) in
+          record { old = omega (arith, i.old, h.accepted); place = i.place; passed = i.passed };
+      numbered = λ i j. on_bool ((i == s) && (j == t))
+          (λ here.
+          let b = both (i == s) (j == t) here in
+          let es : s ≡ i = sym (eq_yes i s b.0) in
+          let et : t ≡ j = sym (eq_yes j t b.1) in
+          subst (λ (a : ℕ). Labels p.home l (accepted_count v) a j (side v a j)) es
+          (subst (λ (c : ℕ). Labels p.home l (accepted_count v) s c (side v s c)) et
+          (subst (Labels p.home l (accepted_count v) s t) (sym own) (λ n from below.
+          let k : IsLabel p.home l (accepted_count w) s t (side w s t) n = p.numbered s t n from below in
+          record {
+            old = omega (arith, k.old, h.accepted);
+            place = k.place;
+            passed = λ d. omega (arith, k.passed d, g.rises);
+          }))))
+          (λ other.
+          let not_here : i ≡ s → j ≡ t → ⊥ = λ es et. cc
+          (other, and_true (i == s) (j == t) (yes_eq i s es) (yes_eq j t et)) in
+          subst (Labels p.home l (accepted_count v) i j) (sym (apart i j not_here))
+          (labels_older p.home l (accepted_count w) (accepted_count v) i j (side w i j) h.accepted
+          (p.numbered i j)));
+      old = λ k e. omega (arith, p.old k e, h.accepted);
+      once = p.once;
+    }
+
 pub passes_more : (l : List ℕ) (w v : World) (s t : ℕ) (q : Receiver) → Less Any w v →
     ((i j : ℕ) → (i ≡ s → j ≡ t → ⊥) → side v i j ≡ side w i j) →
     side v s t ≡ record { session = session w s t; receiver = q } → Grows (session w s t) (receiver w s t) q →
@@ -368,15 +405,19 @@ grows_arrived y r m a l b =
       rises = release_rises r (with_arrived m r) (omega arith) c (λ n h. has_old r.arrived m n h);
     }
 
-grows_start : (y : Session) (r : Receiver) (f : ℕ) → IsAgreed y r → Grows y r (with_start f r)
-grows_start y r f a = record {
-  rising = a.rising;
-  within = a.arrived;
+pub grows_told : (y : Session) (r : Receiver) (f : ℕ) → Climbs 0 r.arrived →
+    ((n : ℕ) → has r.arrived n ≡ true → (y.first ≤ n) × (n < next_number y)) → Grows y r (with_start f r)
+grows_told y r f rising within = record {
+  rising = rising;
+  within = within;
   rises = release_rises r (with_start f r) (greatest_within r.starts r.first
       (greatest (with_start f r).first (with_start f r).starts)
       (greatest_least (with_start f r).starts r.first)
-      (λ k h. greatest_has (with_start f r).starts r.first k (has_old r.starts f k h))) a.rising (λ n h. h);
+      (λ k h. greatest_has (with_start f r).starts r.first k (has_old r.starts f k h))) rising (λ n h. h);
 }
+
+grows_start : (y : Session) (r : Receiver) (f : ℕ) → IsAgreed y r → Grows y r (with_start f r)
+grows_start y r f a = grows_told y r f a.rising a.arrived
 
 pub grows_after : (c : Content) (w : World) (i : IsLawful w) (x : Exchange) (n : ℕ) → x.content ≡ c →
     IsOpenIn w x → n < transmissions c → Grows (session w x.station x.tid) (receiver w x.station x.tid)
@@ -614,9 +655,9 @@ named_reaped (id ∷ ids) w = refl
 -- The reply to a call that is not an arrival releases no id.
 pub named_done : (note : Note) (w : World) → (named_by (outcome_of w note).reply ≡ []) ⊎
     ((e : ℕ) × (n : ℕ) × (note ≡ Asked (Arrive e n)))
-unfolding outcome_of enqueue_outcome join_outcome leave_outcome rate_outcome tick_outcome pull_outcome
-    answer_outcome unsent_outcome give_up_outcome flush_outcome done_outcome sleep_outcome wake_outcome
-    poll_outcome rx_outcome
+unfolding outcome_of enqueue_outcome join_outcome offload_outcome weight_outcome leave_outcome
+    rate_outcome tick_outcome pull_outcome answer_outcome unsent_outcome give_up_outcome flush_outcome
+    done_outcome sleep_outcome wake_outcome poll_outcome rx_outcome
 named_done (Enqueue s t flow len) w = inl refl
 named_done (Asked (Join s window start exponent weight)) w = inl refl
 named_done (Asked (Leave s)) w = inl refl
@@ -637,6 +678,8 @@ named_done (Asked Reap) w = inl (named_reaped w.finished w)
 named_done (Asked (Unsent e n)) w = inl (named_open (exchange w e) w _ (λ x. refl))
 named_done (Asked (GiveUp e n)) w = inl (named_open (exchange w e) w _ (λ x. refl))
 named_done (Asked (Flush s t)) w = inl refl
+named_done (Asked (Offload s exponent weight)) w = inl refl
+named_done (Asked (Weight s weight)) w = inl refl
 
 pub placed_at_first : (config : Config) → Placing [] (opening config)
 placed_at_first config = record {

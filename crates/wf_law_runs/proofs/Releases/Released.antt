@@ -1,27 +1,27 @@
 -- Proves which ids one session releases, in every run. By cases of the call and induction on the run.
-use Rattle.std.proofs.Common.{◌≡◌, ◌≢◌, refl, ap, sym, ◌∙◌, subst, arith, ℕ, suc, ◌<◌, ◌≤◌, nat_lt, ◌*◌, Bool, true, false, if◌then◌else◌, ◌==◌, ◌||◌, inl, inr, List, [], ◌∷◌, ◌++◌, filter, nat_le, Option, Some, None, IfSome, is_some}
+use Rattle.std.proofs.Common.{◌≡◌, ◌≢◌, refl, ap, sym, ◌∙◌, subst, arith, ℕ, suc, ◌<◌, ◌≤◌, nat_lt, Bool, true, false, if◌then◌else◌, ◌==◌, ◌||◌, inl, inr, List, [], ◌∷◌, ◌++◌, filter, nat_le, Option, Some, None, IfSome, is_some, unwrap_or}
 use Rattle.wf_frame.specs.declared.settings.Config.{Config}
 use Rattle.wf_frame.specs.declared.classes.Class.{Class}
 use Rattle.wf_def_lists.specs.Table.{at, has, with_member, upto}
 use Rattle.wf_def_agreement.specs.Receiver.{Receiver, with_arrived, with_start, release_start, greatest, released_between}
 use Rattle.wf_def_agreement.specs.Session.{Session, State, is_settled, slot, next_number}
-use Rattle.wf_def_world.specs.World.{receiver, World, Station, Exchange, Content, Frames, Request, new_tid, no_tid, session, is_live, exchange, with_station, on_station, on_receiver, with_exchange, opening, new_share}
+use Rattle.wf_def_world.specs.World.{receiver, World, Station, Exchange, Content, Frames, Request, new_tid, session, is_live, is_offloaded, no_station, exchange, with_station, on_station, on_receiver, with_exchange, opening}
 use Rattle.wf_frame.specs.Classes.{all_classes}
 use Rattle.wf_def_world.specs.CanSend.{with_listings_of}
 use Rattle.wf_def_world.specs.Exchanges.{transmissions, no_mpdu, after_arrival, mpdus_of, ids_of}
-use Rattle.wf_frame.specs.declared.notes.Ask.TheVariants.{Join, Leave, Rate, Tick, Pull, Arrive, Answer, Done, Sleep, Wake, Poll, Rx, Reap, Ampdu, Stop, Start, Unsent, GiveUp, Flush}
+use Rattle.wf_frame.specs.declared.notes.Ask.TheVariants.{Join, Leave, Rate, Tick, Pull, Arrive, Answer, Done, Sleep, Wake, Poll, Rx, Reap, Ampdu, Stop, Start, Unsent, GiveUp, Flush, Offload, Weight}
 use Rattle.wf_frame.specs.declared.notes.AskedRate.{AskedRate}
 use Rattle.wf_frame.specs.declared.notes.Note.{Note}
 use Rattle.wf_frame.specs.declared.notes.Note.TheVariants.{Enqueue, Asked}
 use Rattle.wf_frame.specs.declared.notes.Refusal.{Refusal}
 use Rattle.wf_frame.specs.declared.notes.Refusal.TheVariants.{Idle}
 use Rattle.wf_def_world.specs.Refusals.{refusals, refusal}
-use Rattle.wf_def_world.specs.Step.{Outcome, join_outcome, after_tids_left, without_listings, leave_outcome, rate_outcome, tick_outcome, enqueue_outcome, pull_outcome, arrive_outcome, answer_outcome, unsent_outcome, give_up_outcome, flush_outcome, done_outcome, outcome_where_open, sleep_outcome, wake_outcome, poll_outcome, rx_outcome, reap_outcome, outcome_of, after_refusal, judged_outcome, step, concerned_station, ampdu_outcome, stop_outcome, start_outcome}
+use Rattle.wf_def_world.specs.Step.{Outcome, new_station, join_outcome, offload_outcome, weight_outcome, after_tids_left, without_listings, leave_outcome, rate_outcome, tick_outcome, enqueue_outcome, pull_outcome, arrive_outcome, answer_outcome, unsent_outcome, give_up_outcome, flush_outcome, done_outcome, outcome_where_open, sleep_outcome, wake_outcome, poll_outcome, rx_outcome, reap_outcome, outcome_of, after_refusal, judged_outcome, step, concerned_station, ampdu_outcome, stop_outcome, start_outcome}
 use Rattle.wf_def_world.specs.Run.{Entry, world_after}
 use Rattle.wf_law_rules.proofs.Lemmas.Tables.{at_put_same, at_put_other}
 use Rattle.wf_law_rules.proofs.Lemmas.Numbers.{Climbs, on_bool, on_if, lt_yes, lt_no, eq_yes, eq_no, yes_eq, either, both, and_true, or_left, or_right, has_old, climbs_with, greatest_least, greatest_has, greatest_within}
 use Rattle.wf_law_runs.proofs.Common.Refused.{after_idle}
-use Rattle.wf_law_runs.proofs.Windows.Sides.{Side, side_of, side, sides_of, Same, each_side_on, side_on, on_live, same, then_same, same_on_station, same_on_share, same_listed, same_after_pick}
+use Rattle.wf_law_runs.proofs.Windows.Sides.{sided, on_offloaded, same_weighed, Side, side_of, side, sides_of, Same, each_side_on, side_on, on_live, same, then_same, same_on_station, same_on_share, same_listed, same_after_pick}
 use Rattle.wf_law_runs.proofs.Windows.Agreement.{unsettled_ge, IsAgreed, released_arrived}
 use Rattle.wf_law_runs.proofs.Windows.Opened.{each_find, FlyIn, eight, NoRow, no_row}
 use Rattle.wf_frame.specs.declared.notes.ReplyNote.{ReplyNote}
@@ -31,7 +31,7 @@ use Rattle.wf_law_runs.specs.Releases.{is_join_of, is_at, is_arrival_for, passed
 use Rattle.wf_law_runs.proofs.Releases.Passing.{filter_split, filter_with, member_known, release_rises}
 use Rattle.wf_law_runs.proofs.Releases.Kept.{KeptSession, Kept, kept_same, keep_pulled, keep_ended, keep_answered, keep_plain, keep_enqueued, keep_unsent, keep_given_up, keep_flushed, keep_reaped}
 use Rattle.wf_law_runs.proofs.Windows.Agreed.{IsLawful, IsOpenIn, all_at, rises_at, if_on, same_left_tids, same_off_lists, lawful_step, lawful, lawful_at_first}
-use Rattle.wf_def_air.specs.Airtime.{lowest_rate}
+use Rattle.wf_def_lists.specs.Bounds.{greatest_window}
 
 -- ---- numbers and their ids
 
@@ -111,21 +111,23 @@ grown (Request f) w i x n e o l = grown_start (session w x.station x.tid) (recei
 
 -- ---- the released ids
 
--- If the station is live, l are the ids of its released numbers.
+-- If the station is live and not offloaded, l are the ids of its released numbers.
 abbrev Passed : World → ℕ → ℕ → List ℕ → Type 0
-Passed w s t l = is_live w s ≡ true → l ≡ ids_of (session w s t) (numbers_passed (receiver w s t))
+Passed w s t l = is_live w s ≡ true → is_offloaded w s ≡ false →
+    l ≡ ids_of (session w s t) (numbers_passed (receiver w s t))
 
-passed_at : (w v : World) (s t : ℕ) (l : List ℕ) → is_live v s ≡ is_live w s → side v s t ≡ side w s t →
-    Passed w s t l → Passed v s t l
-passed_at w v s t l e d h live = h (sym e ∙ live)
+passed_at : (w v : World) (s t : ℕ) (l : List ℕ) → is_live v s ≡ is_live w s →
+    is_offloaded v s ≡ is_offloaded w s → side v s t ≡ side w s t → Passed w s t l → Passed v s t l
+passed_at w v s t l e f d h live off = h (sym e ∙ live) (sym f ∙ off)
     ∙ sym (ap (λ (a : Side). ids_of a.session (numbers_passed a.receiver)) d)
 
 passed_kept : (w v : World) (s t : ℕ) (l : List ℕ) → IsLawful w → Kept w v → Passed w s t l → Passed v s t l
-passed_kept w v s t l i k h live =
-    h (sym (k.live s) ∙ live)
+passed_kept w v s t l i k h live off =
+    let no : is_offloaded w s ≡ false = sym (k.offloaded s) ∙ off in
+    h (sym (k.live s) ∙ live) no
     ∙ sym (ids_kept (numbers_passed (receiver w s t)) (session w s t) (session v s t) (k.sessions s t)
     (λ n e. (i.agreed s t).arrived n (has_filter _ (receiver w s t).arrived n e)))
-    ∙ sym (ap (λ (r : Receiver). ids_of (session v s t) (numbers_passed r)) (k.receivers s t))
+    ∙ sym (ap (λ (r : Receiver). ids_of (session v s t) (numbers_passed r)) ((k.receivers s t).equal no))
 
 -- The session and the receiver after an arrival.
 pub side_taken : (w : World) (x z : Exchange) (g : Receiver → Receiver) → is_live w x.station ≡ true →
@@ -133,6 +135,11 @@ pub side_taken : (w : World) (x z : Exchange) (g : Receiver → Receiver) → is
     ≡ record { session = session w x.station x.tid; receiver = g (receiver w x.station x.tid) }
 unfolding with_exchange on_receiver
 side_taken w x z g live = side_on w x.station x.tid (λ y. record y { receiver = g y.receiver }) live
+
+off_taken : (w : World) (x z : Exchange) (g : Receiver → Receiver) (s : ℕ) →
+    is_offloaded (with_exchange (on_receiver w x.station x.tid g) z) s ≡ is_offloaded w s
+unfolding with_exchange on_receiver
+off_taken w x z g s = on_offloaded w x.station x.tid (λ y. record y { receiver = g y.receiver }) s
 
 pub side_untaken : (w : World) (x z : Exchange) (g : Receiver → Receiver) (s t : ℕ) →
     (s ≡ x.station → t ≡ x.tid → ⊥) → side (with_exchange (on_receiver w x.station x.tid g) z) s t
@@ -163,14 +170,14 @@ passed_taken w x z g s t l live grows h =
     let es : x.station ≡ s = eq_yes _ _ p.0 in
     let et : x.tid ≡ t = eq_yes _ _ p.1 in
     subst (λ (a : ℕ). Passed v a t (l ++ ids_of y (released_between r (g r)))) es
-    (subst (λ (b : ℕ). Passed v x.station b (l ++ ids_of y (released_between r (g r)))) et (λ _.
+    (subst (λ (b : ℕ). Passed v x.station b (l ++ ids_of y (released_between r (g r)))) et (λ _ off.
     let here : l ≡ ids_of y (numbers_passed r) = subst (λ (a : ℕ). Passed w a x.tid l) (sym es)
-    (subst (λ (b : ℕ). Passed w s b l) (sym et) h) live in
+    (subst (λ (b : ℕ). Passed w s b l) (sym et) h) live (sym (off_taken w x z g x.station) ∙ off) in
     ap (λ (k : List ℕ). k ++ ids_of y (released_between r (g r))) here
     ∙ sym (ids_append y (numbers_passed r) (released_between r (g r)))
     ∙ ap (ids_of y) (sym grows)
     ∙ sym (ap (λ (a : Side). ids_of a.session (numbers_passed a.receiver)) (side_taken w x z g live)))))
-    (λ other. passed_at w v s t l (live_taken w x z g s)
+    (λ other. passed_at w v s t l (live_taken w x z g s) (off_taken w x z g s)
     (side_untaken w x z g s t (λ es et. cc (
       other,
       and_true (x.station == s) (x.tid == t) (yes_eq x.station s (sym es)) (yes_eq x.tid t (sym et)),
@@ -179,12 +186,31 @@ passed_taken w x z g s t l live grows h =
 passed_arrived : (w : World) (i : IsLawful w) (x : Exchange) (n s t : ℕ) (l : List ℕ) → IsOpenIn w x →
     nat_le (transmissions x.content) n ≡ false → Passed w s t l
     → Passed (arrive_outcome w x n).world s t (if is_at s t (Some x)
-    then l ++ ids_of (session w x.station x.tid)
+    then l ++ (if x.batch then [] else ids_of (session w x.station x.tid)
     (released_between (receiver w x.station x.tid)
-    (after_arrival x.content n (receiver w x.station x.tid))) else l)
+    (after_arrival x.content n (receiver w x.station x.tid)))) else l)
 unfolding arrive_outcome
-passed_arrived w i x n s t l o few h = passed_taken w x (record x { arrived = with_member n x.arrived })
-    (after_arrival x.content n) s t l o.live (grown x.content w i x n refl o (not_le _ _ few)) h
+passed_arrived w i x n s t l o few h =
+    let z : Exchange = record x { arrived = with_member n x.arrived } in
+    let g : Receiver → Receiver = after_arrival x.content n in
+    let v : World = with_exchange (on_receiver w x.station x.tid g) z in
+    on_if (λ (k : List ℕ). Passed v s t (if is_at s t (Some x) then l ++ k else l)) x.batch []
+    (ids_of (session w x.station x.tid) (released_between (receiver w x.station x.tid)
+    (g (receiver w x.station x.tid))))
+    (λ batch. on_if (Passed v s t) (is_at s t (Some x)) (l ++ []) l
+    (λ own _ off. absurd (cc (
+      off,
+      off_taken w x z g s,
+      ap (is_offloaded w) (eq_yes x.station s (both (x.station == s) (x.tid == t) own).0),
+      o.right.batch,
+      batch,
+    )))
+    (λ other. passed_at w v s t l (live_taken w x z g s) (off_taken w x z g s)
+    (side_untaken w x z g s t (λ es et. cc (
+      other,
+      and_true (x.station == s) (x.tid == t) (yes_eq x.station s (sym es)) (yes_eq x.tid t (sym et)),
+    ))) h))
+    (λ _. passed_taken w x z g s t l o.live (grown x.content w i x n refl o (not_le _ _ few)) h)
   where
     not_le : (a b : ℕ) → nat_le a b ≡ false → b < a
     not_le a b e = grind arith
@@ -199,9 +225,9 @@ passed_arrive None w i e n s t l d f few h = subst
     (λ (o : Option Exchange). Passed w s t (if is_at s t o then l ++ [] else l)) (sym d) h
 passed_arrive (Some x) w i e n s t l d f few h =
     subst (λ (o : Option Exchange). Passed (arrive_outcome w x n).world s t
-    (if is_at s t o then l ++ ids_of (session w x.station x.tid)
+    (if is_at s t o then l ++ (if x.batch then [] else ids_of (session w x.station x.tid)
     (released_between (receiver w x.station x.tid)
-    (after_arrival x.content n (receiver w x.station x.tid))) else l)) (sym d)
+    (after_arrival x.content n (receiver w x.station x.tid)))) else l)) (sym d)
     (passed_arrived w i x n s t l f few h)
 
 -- ---- joining and leaving
@@ -222,6 +248,12 @@ pub live_with_station : (w : World) (i s : ℕ) (o : Option Station) → i ≢ s
 unfolding with_station
 live_with_station w i s o ne = ap is_some (at_put_other None w.stations i s o ne)
 
+off_with_station : (w : World) (i s : ℕ) (o : Option Station) → i ≢ s →
+    is_offloaded (with_station w i o) s ≡ is_offloaded w s
+unfolding with_station
+off_with_station w i s o ne = ap (λ (p : Option Station). (unwrap_or p no_station).offloaded)
+    (at_put_other None w.stations i s o ne)
+
 pub live_own_station : (w : World) (i : ℕ) (o : Option Station) → is_live (with_station w i o) i ≡ is_some o
 unfolding with_station
 live_own_station w i o = ap is_some (at_put_same None w.stations i o)
@@ -230,29 +262,17 @@ live_own_station w i o = ap is_some (at_put_same None w.stations i o)
 abbrev Untouched : Side → Type 0
 Untouched a = ids_of a.session (numbers_passed a.receiver) ≡ []
 
-passed_joined : (w : World) (i window start exponent weight s t : ℕ) (l : List ℕ) → Passed w s t l →
-    Passed (join_outcome w i window start exponent weight).world s t (if i == s then [] else l)
-unfolding join_outcome
-passed_joined w i window start exponent weight s t l h =
-    let o : Option Station = Some (record {
-      weight = weight;
-      rate = lowest_rate;
-      exponent = exponent;
-      ampdu = None;
-      stopped = false;
-      asleep = false;
-      credit = None;
-      shares = new_share (w.config.quantum * weight) ∷ new_share (w.config.quantum * weight)
-          ∷ new_share (w.config.quantum * weight) ∷ new_share (w.config.quantum * weight) ∷ [];
-      tids = new_tid start window ∷ new_tid start window ∷ new_tid start window ∷ new_tid start window
-          ∷ new_tid start window ∷ new_tid start window ∷ new_tid start window ∷ new_tid start window ∷ [];
-    }) in
+passed_new : (w : World) (i window start exponent weight : ℕ) (offloaded : Bool) (s t : ℕ) (l : List ℕ) →
+    Passed w s t l → Passed (with_station w i
+    (Some (new_station w.config window start exponent weight offloaded))) s t (if i == s then [] else l)
+passed_new w i window start exponent weight offloaded s t l h =
+    let o : Option Station = Some (new_station w.config window start exponent weight offloaded) in
     on_if (Passed (with_station w i o) s t) (i == s) [] l
-    (λ own. subst (λ (a : ℕ). Passed (with_station w i o) a t []) (eq_yes i s own) (λ _.
+    (λ own. subst (λ (a : ℕ). Passed (with_station w i o) a t []) (eq_yes i s own) (λ _ _.
     sym (ap (λ (a : Side). ids_of a.session (numbers_passed a.receiver)) (side_own_station w i t o)
     ∙ eight (λ y. Untouched (side_of y)) (new_tid start window) refl refl t)))
     (λ other. passed_at w (with_station w i o) s t l (live_with_station w i s o (eq_no i s other))
-    (side_with_station w i s t o (eq_no i s other)) h)
+    (off_with_station w i s o (eq_no i s other)) (side_with_station w i s t o (eq_no i s other)) h)
 
 passed_gone : (w : World) (i s t : ℕ) (l : List ℕ) → Passed w s t l → Passed (leave_outcome w i).world s t l
 unfolding leave_outcome
@@ -260,13 +280,14 @@ passed_gone w i s t l h =
     let u : World = without_listings (after_tids_left w i (upto 8)) i all_classes in
     let k : Same w u = then_same _ _ _ (same_left_tids (upto 8) w i) (same_off_lists all_classes _ i) in
     on_bool (i == s)
-    (λ own live. absurd (cc (
+    (λ own live _. absurd (cc (
       subst (λ (a : ℕ). is_live (with_station u i None) a ≡ false) (eq_yes i s own)
           (live_own_station u i None),
       live,
     )))
     (λ other. passed_at w (with_station u i None) s t l
     (live_with_station u i s None (eq_no i s other) ∙ k.live s)
+    (off_with_station u i s None (eq_no i s other) ∙ k.offloaded s)
     (side_with_station u i s t None (eq_no i s other) ∙ k.sides s t) h)
 
 -- ---- the step
@@ -290,7 +311,7 @@ keep_open None w f h = kept_same w w (same w)
 keep_open (Some x) w f h = h x
 
 keep_station : (w : World) (s : ℕ) (f : Station → Station) →
-    ((x : Station) (t : ℕ) → side_of (at no_tid (f x).tids t) ≡ side_of (at no_tid x.tids t)) →
+    ((x : Station) (t : ℕ) → sided (f x) t ≡ sided x t) →
     Kept w (on_station w s f)
 keep_station w s f h = kept_same w _ (same_on_station w s f h)
 
@@ -327,6 +348,9 @@ pub keep_received : (w : World) (a : ℕ) (c : Class) (air : ℕ) → Kept w (rx
 unfolding rx_outcome
 keep_received w a c air = kept_same w _ (same_on_share w a c _)
 
+pub keep_weighed : (w : World) (a weight : ℕ) → Kept w (weight_outcome w a weight).world
+keep_weighed w a weight = kept_same w _ (same_weighed w a weight)
+
 pub opened_in : (w : World) (i : IsLawful w) (e : ℕ) → IfSome (exchange w e) (IsOpenIn w)
 opened_in w i e = each_find (IsOpenIn w) (IsOpenIn w) (λ x. x.number == e) w.opened (λ x _ f. f) i.opened
 
@@ -335,7 +359,13 @@ joins_by : (w : World) (a window start exponent weight s t : ℕ) (l : List ℕ)
     (passed_by w s t (Asked (Join a window start exponent weight)) l
     (join_outcome w a window start exponent weight).reply)
 unfolding join_outcome
-joins_by w a window start exponent weight s t l h = passed_joined w a window start exponent weight s t l h
+joins_by w a window start exponent weight s t l h = passed_new w a window start exponent weight false s t l h
+
+offloads_by : (w : World) (a exponent weight s t : ℕ) (l : List ℕ) → Passed w s t l →
+    Passed (offload_outcome w a exponent weight).world s t
+    (passed_by w s t (Asked (Offload a exponent weight)) l (offload_outcome w a exponent weight).reply)
+unfolding offload_outcome
+offloads_by w a exponent weight s t l h = passed_new w a greatest_window 0 exponent weight true s t l h
 
 passed_done : (note : Note) (w : World) (i : IsLawful w) (s t : ℕ) (l : List ℕ) → NoRow (refusals w note) →
     Passed w s t l → Passed (outcome_of w note).world s t (passed_by w s t note l (outcome_of w note).reply)
@@ -395,6 +425,10 @@ passed_done (Asked (GiveUp x n)) w i s t l e h =
 passed_done (Asked (Flush a b)) w i s t l e h =
     passed_quiet w (Asked (Flush a b)) (flush_outcome w a b) s t l refl refl
     (passed_kept w _ s t l i (keep_flushed w a b) h)
+passed_done (Asked (Offload a exponent weight)) w i s t l e h = offloads_by w a exponent weight s t l h
+passed_done (Asked (Weight a weight)) w i s t l e h =
+    passed_quiet w (Asked (Weight a weight)) (weight_outcome w a weight) s t l refl refl
+    (passed_kept w _ s t l i (keep_weighed w a weight) h)
 passed_done (Asked Reap) w i s t l e h = passed_quiet w (Asked Reap)
     (reap_outcome w w.finished) s t l refl refl (passed_kept w _ s t l i (keep_reaped w.finished w) h)
 
@@ -416,7 +450,7 @@ passed_answer None w i note s t l e h =
     let k : Same (outcome_of w note).world (with_listings_of (outcome_of w note).world
     (concerned_station w note)) = same_listed (concerned_station w note) (outcome_of w note).world in
     passed_at (outcome_of w note).world (with_listings_of (outcome_of w note).world
-    (concerned_station w note)) s t _ (k.live s) (k.sides s t)
+    (concerned_station w note)) s t _ (k.live s) (k.offloaded s) (k.sides s t)
     (passed_done note w i s t l (no_row (refusals w note) e) h)
 
 passed_step : (w : World) (i : IsLawful w) (note : Note) (s t : ℕ) (l : List ℕ) → Passed w s t l →
@@ -433,10 +467,11 @@ passed_run (e ∷ es) w i s t l p = passed_run es (step w e.1).world (lawful_ste
 
 pub passed_all : (config : Config) (h : List Entry) (s t : ℕ) →
     is_live (world_after (opening config) h) s ≡ true →
+    is_offloaded (world_after (opening config) h) s ≡ false →
     passed config h s t ≡ ids_of (session (world_after (opening config) h) s t)
     (numbers_passed (receiver (world_after (opening config) h) s t))
-passed_all config h s t live = passed_run h (opening config) (lawful_at_first config) s t []
-    (λ dead. absurd (cc dead)) live
+passed_all config h s t live off = passed_run h (opening config) (lawful_at_first config) s t []
+    (λ dead _. absurd (cc dead)) live off
 
 pub rising_passed : (config : Config) (h : List Entry) (s t : ℕ) →
     IsRising 0 (numbers_passed (receiver (world_after (opening config) h) s t))

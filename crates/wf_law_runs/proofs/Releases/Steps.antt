@@ -4,39 +4,41 @@
 use Rattle.std.proofs.Common.{◌≡◌, refl, ap, sym, ◌∙◌, subst, arith, ℕ, zero, suc, ◌+◌, ◌-◌, ◌<◌, append-nil, Bool, true, false, if◌then◌else◌, not, ◌==◌, inl, inr, List, [], ◌∷◌, ◌++◌, length, nat_le, Option, Some, None, IfSome}
 use Rattle.wf_frame.specs.declared.classes.Class.{Class}
 use Rattle.wf_frame.specs.declared.classes.Fate.{Fate}
-use Rattle.wf_def_lists.specs.Table.{at, with_member, upto}
+use Rattle.wf_def_lists.specs.Table.{with_member, upto}
 use Rattle.wf_def_codel.specs.Codel.{Item}
-use Rattle.wf_def_agreement.specs.Receiver.{Receiver, released_between}
-use Rattle.wf_def_agreement.specs.Session.{End, request_due, Session, Slot, State, is_settled, is_failed, slot, on_slot, with_number_given, after_flush, next_number}
-use Rattle.wf_def_world.specs.World.{receiver, World, Station, Exchange, Mpdu, Content, Frames, Request, new_tid, no_tid, queue, rotation, session, is_live, exchange, with_station, on_station, on_session, on_receiver, with_frame_finished, with_exchange, without_exchange}
+use Rattle.wf_def_lists.specs.Bounds.{greatest_window}
+use Rattle.wf_def_agreement.specs.Receiver.{Receiver, with_start, released_between}
+use Rattle.wf_def_agreement.specs.Session.{End, start_of, request_due, Session, Slot, State, is_settled, is_failed, slot, on_slot, with_number_given, after_flush, next_number}
+use Rattle.wf_def_world.specs.World.{receiver, World, Station, Tid, is_offloaded, on_tid, Exchange, Mpdu, Content, Frames, Request, new_tid, queue, rotation, session, is_live, exchange, with_station, on_station, on_session, on_receiver, with_frame_finished, with_exchange, without_exchange}
 use Rattle.wf_frame.specs.Classes.{all_classes}
 use Rattle.wf_def_world.specs.FlowQueues.{taken_for_tid}
 use Rattle.wf_def_world.specs.CanSend.{is_ready, can_give}
-use Rattle.wf_def_world.specs.Exchanges.{end_of, transmissions, station_need, most_frames, picked_station, after_arrival, sending_tid, with_heard_start, Prepared, after_tid_turn, with_fresh, aggregate_of, with_number, with_flying, waiting_mpdus, longest_fitting, prepared_data, prepared_exchange, with_exchange_opened, after_charge, with_failed_finished, with_settled, with_all_settled, after_done, ids_of, Aggregate}
-use Rattle.wf_frame.specs.declared.notes.Ask.TheVariants.{Join, Leave, Rate, Tick, Pull, Arrive, Answer, Done, Sleep, Wake, Poll, Rx, Reap, Ampdu, Stop, Start, Unsent, GiveUp, Flush}
+use Rattle.wf_def_world.specs.Exchanges.{caught_up, with_device_caught_up, end_of, transmissions, station_need, most_frames, picked_station, after_arrival, sending_tid, with_heard_start, Prepared, after_tid_turn, with_fresh, aggregate_of, with_number, with_flying, waiting_mpdus, longest_fitting, prepared_data, prepared_exchange, with_exchange_opened, after_charge, with_failed_finished, with_settled, with_all_settled, after_done, ids_of, Aggregate}
+use Rattle.wf_frame.specs.declared.notes.Ask.TheVariants.{Join, Leave, Rate, Tick, Pull, Arrive, Answer, Done, Sleep, Wake, Poll, Rx, Reap, Ampdu, Stop, Start, Unsent, GiveUp, Flush, Offload, Weight}
 use Rattle.wf_frame.specs.declared.notes.Limits.{Limits}
 use Rattle.wf_frame.specs.declared.notes.Note.{Note}
 use Rattle.wf_frame.specs.declared.notes.Note.TheVariants.{Enqueue, Asked}
 use Rattle.wf_frame.specs.declared.notes.Refusal.{Refusal}
 use Rattle.wf_frame.specs.declared.notes.Refusal.TheVariants.{Idle}
 use Rattle.wf_def_world.specs.Refusals.{refusals, refusal}
-use Rattle.wf_def_world.specs.Step.{Outcome, join_outcome, leave_outcome, rate_outcome, tick_outcome, enqueue_outcome, send_outcome, pull_outcome_for, pull_outcome, arrive_outcome, answer_outcome, done_outcome, outcome_where_open, sleep_outcome, wake_outcome, poll_outcome, rx_outcome, reap_outcome, unsent_outcome, give_up_outcome, flush_outcome, outcome_of, after_refusal, judged_outcome, step, concerned_station}
+use Rattle.wf_def_world.specs.Step.{Outcome, new_station, offload_outcome, weight_outcome, join_outcome, leave_outcome, rate_outcome, tick_outcome, enqueue_outcome, send_outcome, pull_outcome_for, pull_outcome, arrive_outcome, answer_outcome, done_outcome, outcome_where_open, sleep_outcome, wake_outcome, poll_outcome, rx_outcome, reap_outcome, unsent_outcome, give_up_outcome, flush_outcome, outcome_of, after_refusal, judged_outcome, step, concerned_station}
+use Rattle.wf_law_rules.proofs.Lemmas.Numbers.{on_if}
 use Rattle.wf_law_runs.proofs.Common.Refused.{after_idle}
 use Rattle.wf_law_runs.proofs.Common.Marks.{marked_world}
 use Rattle.wf_law_runs.proofs.Common.Ends.{slot_after_end, end_id, on_settled}
-use Rattle.wf_law_runs.proofs.Common.Flushes.{next-flush, if_flushed}
+use Rattle.wf_law_runs.proofs.Common.Flushes.{next-flush, emptied_world, flush_is, if_emptied, if_caught}
 use Rattle.wf_law_runs.proofs.Sessions.Starts.{length-change}
 use Rattle.wf_law_runs.proofs.Sessions.Flights.{flown}
-use Rattle.wf_law_runs.proofs.Windows.Sides.{side_of, side, sides_of, Same, then_same, same_on_station, same_on_share, same_on_queue, same_finish, same_listed, same_after_pick, same_after_turn, same_spent, same_take, same_charged, same_picked}
+use Rattle.wf_law_runs.proofs.Windows.Sides.{sided, Side, each_side_on, side_on, same_weighed, side_of, side, sides_of, Same, then_same, same_on_station, same_on_share, same_on_queue, same_finish, same_listed, same_after_pick, same_after_turn, same_spent, same_take, same_charged, same_picked}
 use Rattle.wf_law_runs.proofs.Windows.Opened.{some_along, pick_ready, left_true, eight, NoRow, no_row}
 use Rattle.wf_frame.specs.declared.notes.ReplyNote.TheVariants.{Released, Refused}
 use Rattle.wf_law_runs.specs.Releases.{named_by}
 use Rattle.wf_law_runs.proofs.Common.Picked.{picked_world}
 use Rattle.wf_law_runs.proofs.Releases.Kept.{KeptSession, kept_on_slot, kept_fly, kept_heard, kept_flush}
-use Rattle.wf_law_runs.proofs.Windows.Agreed.{IsLawful, IsOpenIn, IsReady, IsEnding, IsFound, found, ready_filled, ending_settled, ending_of, lawful_same, same_left_tids, same_off_lists, if_on}
+use Rattle.wf_law_runs.proofs.Windows.Agreed.{AgreedAt, off_live, side_on_session, live_on_session, ending_all, lawful_emptied, IsLawful, IsOpenIn, IsReady, IsEnding, IsFound, found, ready_filled, ending_settled, ending_of, lawful_same, same_left_tids, same_off_lists, if_on}
 use Rattle.wf_law_runs.proofs.Releases.Released.{side_taken, side_untaken, opened_in}
-use Rattle.wf_law_runs.proofs.Frames.Fewer.{Less, then_less, less_plain, fewer_none, less_on_queue, less_on_station, less_on_share, less_finish, less_listed, less_after_pick, less_after_turn, less_spent, less_charged, less_take, IsTaken, given_take, less_picked}
-use Rattle.wf_law_runs.proofs.Releases.Placed.{Any, next-heard, Grows, grows_after, less_taken, IsBare, new_bare, less_left_tids, less_off_lists, any_some, named_done}
+use Rattle.wf_law_runs.proofs.Frames.Fewer.{less_on_tid, less_weighed, Less, then_less, less_plain, fewer_none, less_on_queue, less_on_station, less_on_share, less_finish, less_listed, less_after_pick, less_after_turn, less_spent, less_charged, less_take, IsTaken, given_take, less_picked}
+use Rattle.wf_law_runs.proofs.Releases.Placed.{Any, next-heard, Grows, grows_told, grows_after, less_taken, IsBare, new_bare, less_left_tids, less_off_lists, any_some, named_done}
 
 module _ (P : List ℕ → World → Type 0) (Good : World → Type 0)
     (plain : (l : List ℕ) (w v : World) → Less Any w v → ((s t : ℕ) → side v s t ≡ side w s t) → P l w →
@@ -52,6 +54,10 @@ module _ (P : List ℕ → World → Type 0) (Good : World → Type 0)
     side v s t ≡ record { session = session w s t; receiver = q } →
     Grows (session w s t) (receiver w s t) q → P l w →
     P (l ++ ids_of (session w s t) (released_between (receiver w s t) q)) v)
+    (silent : (l : List ℕ) (w v : World) (s t : ℕ) (q : Receiver) → Less Any w v →
+    ((i j : ℕ) → (i ≡ s → j ≡ t → ⊥) → side v i j ≡ side w i j) →
+    side v s t ≡ record { session = session w s t; receiver = q } →
+    Grows (session w s t) (receiver w s t) q → P l w → P l v)
     (station_changed : (l : List ℕ) (w : World) (i : ℕ) (o : Option Station) →
     ((t : ℕ) → IsBare (sides_of o t)) → P l w → P l (with_station w i o))
     (enqueue : (l : List ℕ) (w : World) (s t flow len : ℕ) → Good w →
@@ -181,6 +187,29 @@ module _ (P : List ℕ → World → Type 0) (Good : World → Type 0)
       (ending_settled (ends m.number) e s t ends w m ms refl n)
       (through_settled (ends m.number) l e s t ends w m ms n p)
 
+  -- The device of an offloaded station catches up.
+  through_caught : (l : List ℕ) (w : World) (s t : ℕ) → is_offloaded w s ≡ true → AgreedAt (side w s t) →
+      P l w → P l (caught_up w s t)
+  unfolding caught_up on_receiver
+  through_caught l w s t d a p =
+      let start : ℕ = start_of (session w s t) in
+      let f : Session → Session = with_heard_start true start in
+      let u : World = on_session w s t f in
+      let g : Tid → Tid = λ (y : Tid). record y { receiver = with_start start y.receiver } in
+      let live : is_live w s ≡ true = off_live w s d in
+      silent l u (on_tid u s t g) s t (with_start start (receiver u s t)) (less_on_tid Any u s t g)
+      (each_side_on (λ a b z. (a ≡ s → b ≡ t → ⊥) → z ≡ side u a b) u s t g (λ a b _. refl)
+      (λ no. absurd (no refl refl)))
+      (side_on u s t g (live_on_session w s t f s ∙ live))
+      (subst (λ (z : Side). Grows z.session z.receiver (with_start start z.receiver))
+      (sym (side_on_session w s t f live)) (grows_told (f (session w s t)) (receiver w s t) start a.rising
+      a.arrived))
+      (kept l w s t f (kept_heard true start (session w s t)) (next-heard true start (session w s t)) p)
+
+  pub through_device : (l : List ℕ) (w : World) (s t : ℕ) → AgreedAt (side w s t) → P l w →
+      P l (with_device_caught_up w s t)
+  through_device l w s t a p = if_caught (P l) w s t p (λ d. through_caught l w s t d a p)
+
   pub through_without : (l : List ℕ) (w : World) (e : ℕ) → P l w → P l (without_exchange w e)
   unfolding without_exchange
   through_without l w e p = plain l w _ (less_plain Any w _ refl refl) (λ s t. refl) p
@@ -191,8 +220,10 @@ module _ (P : List ℕ → World → Type 0) (Good : World → Type 0)
       P l (after_done (after_charge (without_exchange w x.number) x air) x heard c)
   unfolding after_done
   through_after air (Frames ms) l w i x heard e f p =
-      through_all ms l x.number x.station x.tid (end_of x heard) _ (ending_of air w i x ms heard
-      e f) p
+      let n = ending_of air w i x ms heard e f in
+      through_device l _ x.station x.tid
+      ((ending_all ms x.number x.station x.tid _ (end_of x heard) n).agreed x.station x.tid)
+      (through_all ms l x.number x.station x.tid (end_of x heard) _ n p)
   through_after air (Request g) l w i x heard e f p =
       kept l _ x.station x.tid (with_heard_start heard g) (kept_heard heard g _)
       (next-heard heard g _) p
@@ -212,10 +243,17 @@ module _ (P : List ℕ → World → Type 0) (Good : World → Type 0)
   unfolding arrive_outcome
   through_arrived l w i x n good o few p =
       let g : Receiver → Receiver = after_arrival x.content n in
+      let r : Receiver = receiver w x.station x.tid in
       let z : Exchange = record x { arrived = with_member n x.arrived } in
-      release l w (with_exchange (on_receiver w x.station x.tid g) z) x.station x.tid
-      (g (receiver w x.station x.tid)) good (less_taken w x z g) (side_untaken w x z g)
-      (side_taken w x z g o.live) (grows_after x.content w i x n refl o (not_le _ _ few)) p
+      let v : World = with_exchange (on_receiver w x.station x.tid g) z in
+      let grown = grows_after x.content w i x n refl o (not_le _ _ few) in
+      on_if (λ (k : List ℕ). P (l ++ k) v) x.batch []
+      (ids_of (session w x.station x.tid) (released_between r (g r)))
+      (λ _. subst (λ (k : List ℕ). P k v) (sym (append-nil l))
+      (silent l w v x.station x.tid (g r) (less_taken w x z g) (side_untaken w x z g)
+      (side_taken w x z g o.live) grown p))
+      (λ _. release l w v x.station x.tid (g r) good (less_taken w x z g) (side_untaken w x z g)
+      (side_taken w x z g o.live) grown p)
     where
       not_le : (a b : ℕ) → nat_le a b ≡ false → b < a
       not_le a b e = grind arith
@@ -236,12 +274,25 @@ module _ (P : List ℕ → World → Type 0) (Good : World → Type 0)
 
   -- ---- joining and leaving
 
+  through_new : (l : List ℕ) (w : World) (s window start exponent weight : ℕ) (offloaded : Bool) → P l w →
+      P l (with_station w s (Some (new_station w.config window start exponent weight offloaded)))
+  through_new l w s window start exponent weight offloaded p =
+      station_changed l w s _ (eight (λ y. IsBare (side_of y)) (new_tid start window) (new_bare start window)
+      (new_bare 0 0)) p
+
   pub through_joined : (l : List ℕ) (w : World) (s window start exponent weight : ℕ) → P l w →
       P l (join_outcome w s window start exponent weight).world
   unfolding join_outcome
-  through_joined l w s window start exponent weight p =
-      station_changed l w s _ (eight (λ y. IsBare (side_of y)) (new_tid start window) (new_bare start window)
-      (new_bare 0 0)) p
+  through_joined l w s window start exponent weight p = through_new l w s window start exponent weight false p
+
+  pub through_offloaded : (l : List ℕ) (w : World) (s exponent weight : ℕ) → P l w →
+      P l (offload_outcome w s exponent weight).world
+  unfolding offload_outcome
+  through_offloaded l w s exponent weight p = through_new l w s greatest_window 0 exponent weight true p
+
+  through_weighed : (l : List ℕ) (w : World) (s weight : ℕ) → P l w → P l (weight_outcome w s weight).world
+  through_weighed l w s weight p =
+      through_same l w _ (same_weighed w s weight) (less_weighed Any w s weight) p
 
   pub through_gone : (l : List ℕ) (w : World) (s : ℕ) → P l w → P l (leave_outcome w s).world
   unfolding leave_outcome
@@ -266,15 +317,17 @@ module _ (P : List ℕ → World → Type 0) (Good : World → Type 0)
   unfolding give_up_outcome
   through_given_up l w x n p = through_marked l w x x.unsent (with_member n x.given_up) p
 
-  through_flushed : (l : List ℕ) (w : World) (s t : ℕ) → P l w → P l (flush_outcome w s t).world
-  through_flushed l w s t p = if_flushed (P l)
+  through_flushed : (l : List ℕ) (w : World) (s t : ℕ) → IsLawful w → P l w → P l (flush_outcome w s t).world
+  through_flushed l w s t i p = subst (P l) (sym (flush_is w s t))
+      (through_device l (emptied_world w s t) s t ((lawful_emptied w s t i).agreed s t)
+      (if_emptied (P l)
       (record {
         finish = λ u id h. through_finish l u _ id h;
         empty = λ u q h. through_same l u _ (same_on_queue u q _)
             (less_on_queue Any u q _ (fewer_none (queue u q).items)) h;
       }) w s t
       (kept l w s t (after_flush w.config.attempts) (kept_flush w.config.attempts (session w s t))
-      (next-flush w.config.attempts (session w s t)) p)
+      (next-flush w.config.attempts (session w s t)) p)))
 
   -- ---- the step
 
@@ -291,7 +344,7 @@ module _ (P : List ℕ → World → Type 0) (Good : World → Type 0)
   through_reaped (id ∷ ids) l w p = plain l w _ (less_plain Any w _ refl refl) (λ s t. refl) p
 
   through_on_station : (l : List ℕ) (w : World) (s : ℕ) (f : Station → Station) →
-      ((x : Station) (t : ℕ) → side_of (at no_tid (f x).tids t) ≡ side_of (at no_tid x.tids t)) → P l w →
+      ((x : Station) (t : ℕ) → sided (f x) t ≡ sided x t) → P l w →
       P l (on_station w s f)
   through_on_station l w s f h p = through_same l w _ (same_on_station w s f h) (less_on_station Any w s f) p
 
@@ -336,7 +389,9 @@ module _ (P : List ℕ → World → Type 0) (Good : World → Type 0)
   through_call (Asked (GiveUp x n)) l w i g e p r = through_open (λ _. Unit {0}) (λ _. Unit {0}) (exchange
       w x) l w _
       (any_some (exchange w x)) (λ y _. through_given_up l w y n p) p
-  through_call (Asked (Flush s t)) l w i g e p r = through_flushed l w s t p
+  through_call (Asked (Flush s t)) l w i g e p r = through_flushed l w s t i p
+  through_call (Asked (Offload s exponent weight)) l w i g e p r = through_offloaded l w s exponent weight p
+  through_call (Asked (Weight s weight)) l w i g e p r = through_weighed l w s weight p
 
   through_arrival : (l : List ℕ) (w : World) (i : IsLawful w) (e n : ℕ) → Good w →
       NoRow (refusals w (Asked (Arrive e n))) → P l w →

@@ -7,7 +7,7 @@ use Rattle.wf_frame.specs.declared.settings.Config.{Config}
 use Rattle.wf_frame.specs.declared.classes.Class.{Class}
 use Rattle.wf_frame.specs.declared.classes.Fate.TheVariants.{Dropped}
 use Rattle.wf_frame.specs.declared.classes.Cause.TheVariants.{Left, Overlimit}
-use Rattle.wf_frame.specs.declared.notes.Ask.TheVariants.{Join, Leave, Rate, Tick, Pull, Arrive, Answer, Done, Sleep, Wake, Poll, Rx, Reap, Ampdu, Stop, Start, Unsent, GiveUp, Flush}
+use Rattle.wf_frame.specs.declared.notes.Ask.TheVariants.{Join, Leave, Rate, Tick, Pull, Arrive, Answer, Done, Sleep, Wake, Poll, Rx, Reap, Ampdu, Stop, Start, Unsent, GiveUp, Flush, Offload, Weight}
 use Rattle.wf_frame.specs.declared.notes.Limits.{Limits}
 use Rattle.wf_frame.specs.declared.notes.Note.{Note}
 use Rattle.wf_frame.specs.declared.notes.Note.TheVariants.{Enqueue, Asked}
@@ -20,12 +20,12 @@ use Rattle.wf_def_codel.specs.CodelLoop.{dropping_first}
 use Rattle.wf_def_rotation.specs.Rotation.{Rotation, has_key, with_new_key, in_order, no_keys}
 use Rattle.wf_def_agreement.specs.Receiver.{score}
 use Rattle.wf_def_agreement.specs.Session.{Session, slot, waiting_numbers, next_number, request_due}
-use Rattle.wf_def_world.specs.World.{World, Station, Share, Queue, Exchange, Mpdu, new_queue, no_tid, no_frame, Frame, len_of, session, tid_of, queue, is_live, accepted_count, exchange, codel_params, with_station, on_station, on_tid, on_receiver, on_share, on_queue, with_queues, with_frames_finished, with_exchange, without_exchange, receiver, opening}
+use Rattle.wf_def_world.specs.World.{World, Station, Share, Queue, Exchange, Mpdu, new_queue, no_frame, Frame, len_of, session, tid_of, queue, is_live, accepted_count, exchange, codel_params, with_station, on_station, on_tid, on_receiver, on_share, on_queue, with_queues, with_frames_finished, with_exchange, without_exchange, receiver, opening}
 use Rattle.wf_def_world.specs.FlowQueues.{Taken, after_limit, is_at_limit, longest_queue, without_head, queue_for, with_appended, when_listed, with_listed_queue, after_put_in, with_queues_paid, after_dequeue, taken_by_codel, taken_from_picked, taken_for_tid, picked_queue, after_queue_left, after_queues_left}
 use Rattle.wf_def_world.specs.CanSend.{can_give, can_send_in, with_listings_of}
-use Rattle.wf_def_world.specs.Exchanges.{Aggregate, Prepared, most_frames, mpdus_of, mpdu_of, fits_in, picked_station, sending_tid, waiting_mpdus, longest_fitting, fresh_mpdus, with_number, with_fresh, aggregate_of, prepared_data, prepared_exchange, exchange_of, after_pick, after_tid_turn, with_exchange_opened, after_arrival}
+use Rattle.wf_def_world.specs.Exchanges.{Aggregate, Prepared, most_frames, mpdus_of, mpdu_of, fits_in, picked_station, sending_tid, waiting_mpdus, longest_fitting, fresh_mpdus, with_number, with_fresh, aggregate_of, prepared_data, prepared_exchange, exchange_of, after_pick, after_tid_turn, with_exchange_opened, after_arrival, caught_up}
 use Rattle.wf_def_world.specs.Refusals.{refusals, refusal}
-use Rattle.wf_def_world.specs.Step.{Outcome, tick_outcome, rate_outcome, sleep_outcome, wake_outcome, poll_outcome, rx_outcome, join_outcome, waiting_ids, in_rising_order, after_tid_left, after_tids_left, leave_outcome, next_item, with_frame, enqueue_outcome, send_outcome, pull_outcome_for, pull_outcome, arrive_outcome, answer_outcome, unsent_outcome, give_up_outcome, flush_outcome, done_outcome, outcome_where_open, reap_outcome, outcome_of, concerned_station, after_refusal, judged_outcome, step}
+use Rattle.wf_def_world.specs.Step.{Outcome, tick_outcome, rate_outcome, sleep_outcome, wake_outcome, poll_outcome, rx_outcome, join_outcome, waiting_ids, in_rising_order, after_tid_left, after_tids_left, leave_outcome, next_item, with_frame, enqueue_outcome, send_outcome, pull_outcome_for, pull_outcome, arrive_outcome, answer_outcome, unsent_outcome, give_up_outcome, flush_outcome, done_outcome, outcome_where_open, reap_outcome, outcome_of, concerned_station, after_refusal, judged_outcome, step, offload_outcome, weight_outcome}
 use Rattle.wf_def_world.specs.Run.{Entry, world_after}
 use Rattle.wf_law_runs.specs.Windows.{EachMpdu}
 use Rattle.wf_law_runs.specs.Queues.{EachItem, IsAtMost, AreAtMost}
@@ -45,12 +45,12 @@ use Rattle.wf_law_runs.proofs.Frames.Fewer.{carries, less_within_limit}
 use Rattle.wf_law_runs.proofs.Frames.Untouched.{untouched_put_in}
 use Rattle.wf_law_runs.proofs.Queues.Shelved.{each_append as items_append}
 use Rattle.wf_law_runs.proofs.Queues.ShelvedStep.{live_number, shelves_number, accepted_limit, accepted_put}
-use Rattle.wf_law_runs.proofs.Queues.Shelves.{Shelves, spot, with_note, shelves, shelves_with_station, shelves_hidden, shelves_on_session, shelves_on_receiver, shelves_on_share, shelves_with_queues, shelves_on_queue, shelves_finish, shelves_finish_all, shelves_with_frame, shelves_pay_queues, shelves_after_pick, shelves_after_turn, shelves_sent, shelves_ended, shelves_off_lists, shelves_listed, shelves_picked}
+use Rattle.wf_law_runs.proofs.Queues.Shelves.{Shelves, spot, with_note, shelves, shelves_with_station, shelves_hidden, shelves_on_session, shelves_on_receiver, shelves_on_share, shelves_with_queues, shelves_on_queue, shelves_finish, shelves_finish_all, shelves_with_frame, shelves_pay_queues, shelves_after_pick, shelves_after_turn, shelves_sent, shelves_ended, shelves_off_lists, shelves_listed, shelves_picked, shelves_weighed}
 use Rattle.wf_law_runs.proofs.Releases.Placed.{Any}
 use Rattle.wf_law_runs.proofs.Sessions.Flights.{Rises}
 use Rattle.wf_law_runs.proofs.Windows.Agreed.{IsLawful, IsOpenIn, each_map_if, lawful_same, winner_ready, same_left_tids, same_off_lists}
 use Rattle.wf_law_runs.proofs.Windows.Opened.{Each, each_both, each_append, each_find, NoRow, no_row}
-use Rattle.wf_law_runs.proofs.Windows.Sides.{Same, side_of, then_same, same_on_station, same_on_share, same_with_queues, same_finish_all, same_listed, same_after_pick, same_after_turn, same_spent, same_within_limit, same_put_in, same_pay_queues, same_purge_queues, same_take, same_picked}
+use Rattle.wf_law_runs.proofs.Windows.Sides.{sided, Same, then_same, same_on_station, same_on_share, same_with_queues, same_finish_all, same_listed, same_after_pick, same_after_turn, same_spent, same_within_limit, same_put_in, same_pay_queues, same_purge_queues, same_take, same_picked, same_weighed}
 
 -- The frame has the length of its Enqueue. notes are the calls by id.
 abbrev pub IsMeasured : (ℕ → Note) → Item → Type 0
@@ -407,6 +407,12 @@ unfolding join_outcome
 stocked_joined most w s window start exponent weight i =
     stocked_sifted most (shelves w) _ w.opened _ (sifted_station w s _) (opened_station w s _) i
 
+stocked_offloaded : (most : ℕ) (w : World) (s exponent weight : ℕ) → IsStocked most w
+    → IsStocked most (offload_outcome w s exponent weight).world
+unfolding offload_outcome
+stocked_offloaded most w s exponent weight i =
+    stocked_sifted most (shelves w) _ w.opened _ (sifted_station w s _) (opened_station w s _) i
+
 -- ---- a frame is accepted
 
 sifted_head : (items : List Item) (w : World) (q : ℕ) → (queue w q).items ≡ items →
@@ -622,6 +628,10 @@ stocked_given_up : (most : ℕ) (w : World) (x : Exchange) (n : ℕ) →
 unfolding give_up_outcome
 stocked_given_up most w x n a i = stocked_marked most w x x.unsent (with_member n x.given_up) a i
 
+shelves_caught : (w : World) (s t : ℕ) → shelves (caught_up w s t) ≡ shelves w
+unfolding caught_up
+shelves_caught w s t = shelves_on_receiver _ s t _ ∙ shelves_on_session w s t _
+
 -- A flush removes frames from queues.
 sifted_flushed : (w : World) (s t : ℕ) → Sifted (shelves w) (shelves (flush_outcome w s t).world)
 sifted_flushed w s t = if_flushed (λ u. Sifted (shelves w) (shelves u))
@@ -630,7 +640,7 @@ sifted_flushed w s t = if_flushed (λ u. Sifted (shelves w) (shelves u))
       empty = λ u q k. then_sifted _ _ _ k (sifted_on_queue u q _ (record {
         each = λ notes h. tt;
       }));
-    }) w s t
+    }) w s t (λ v k _. then_sifted _ _ _ k (sifted_is _ _ (shelves_caught v s t)))
     (sifted_is _ _ (shelves_on_session w s t _))
 
 stocked_ended : (air : Option ℕ) (most : ℕ) (w : World) (x : Exchange) (heard : Bool) → IsStocked most w →
@@ -670,7 +680,7 @@ stocked_reaped most (id ∷ ids) w i = record { short = i.short; measured = i.me
 
 stocked_on_station : (most : ℕ) (w : World) (s : ℕ) (f : Station → Station) →
     ((x : Station) → spot (Some (f x)) ≡ spot (Some x))
-    → ((x : Station) (t : ℕ) → side_of (at no_tid (f x).tids t) ≡ side_of (at no_tid x.tids t)) →
+    → ((x : Station) (t : ℕ) → sided (f x) t ≡ sided x t) →
     IsStocked most w
     → IsStocked most (on_station w s f)
 stocked_on_station most w s f h k i = stocked_same most w (on_station w s f) (shelves_hidden w s f h)
@@ -721,6 +731,11 @@ stocked_done most (Asked (GiveUp x n)) l w e a k i =
     (measured_open most w x i) (λ y b. stocked_given_up most w y n b i) i
 stocked_done most (Asked (Flush s t)) l w e a k i =
     stocked_sifted most (shelves w) _ w.opened _ (sifted_flushed w s t) (opened_flushed w s t) i
+stocked_done most (Asked (Offload s exponent weight)) l w e a k i =
+    stocked_offloaded most w s exponent weight i
+stocked_done most (Asked (Weight s weight)) l w e a k i =
+    stocked_same most w (weight_outcome w s weight).world (shelves_weighed w s weight)
+    (same_weighed w s weight).opened i
 
 stocked_refused : (most : ℕ) (note : Note) (r : Refusal) (w : World) → IsStocked most w →
     IsStocked most (after_refusal w note r)

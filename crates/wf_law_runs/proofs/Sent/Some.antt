@@ -4,7 +4,7 @@ use Rattle.std.proofs.Common.{◌≡◌, refl, ap, sym, ◌∙◌, subst, arith,
 use Rattle.std.proofs.lemmas.List.{length-append}
 use Rattle.wf_frame.specs.declared.settings.Config.{Config}
 use Rattle.wf_frame.specs.declared.classes.Class.{Class}
-use Rattle.wf_frame.specs.declared.notes.Ask.TheVariants.{Join, Leave, Rate, Tick, Pull, Arrive, Answer, Done, Sleep, Wake, Poll, Rx, Reap, Ampdu, Stop, Start, Unsent, GiveUp, Flush}
+use Rattle.wf_frame.specs.declared.notes.Ask.TheVariants.{Join, Leave, Rate, Tick, Pull, Arrive, Answer, Done, Sleep, Wake, Poll, Rx, Reap, Ampdu, Stop, Start, Unsent, GiveUp, Flush, Offload, Weight}
 use Rattle.wf_frame.specs.declared.notes.Limits.{Limits}
 use Rattle.wf_frame.specs.declared.notes.Note.{Note}
 use Rattle.wf_frame.specs.declared.notes.Note.TheVariants.{Enqueue, Asked}
@@ -24,7 +24,7 @@ use Rattle.wf_def_world.specs.FlowQueues.{Taken, frames_queued, taken_for_tid}
 use Rattle.wf_def_world.specs.CanSend.{is_request, request_open, has_waiting, can_give, can_send, can_send_in, with_listings_of}
 use Rattle.wf_def_world.specs.Exchanges.{Aggregate, Prepared, mpdus_of, mpdu_of, most_frames, fits_in, picked_station, sending_tid, waiting_mpdus, longest_fitting, fresh_mpdus, with_number, with_fresh, aggregate_of, prepared_data, prepared_exchange, exchange_of, with_station_paid, with_stations_paid, after_pick, after_tid_turn, after_arrival, limited}
 use Rattle.wf_def_world.specs.Refusals.{refusal}
-use Rattle.wf_def_world.specs.Step.{Outcome, tick_outcome, rate_outcome, sleep_outcome, wake_outcome, poll_outcome, rx_outcome, join_outcome, leave_outcome, enqueue_outcome, pull_outcome_for, pull_outcome, arrive_outcome, answer_outcome, unsent_outcome, give_up_outcome, flush_outcome, done_outcome, outcome_where_open, reap_outcome, outcome_of, concerned_station, after_refusal, judged_outcome, step}
+use Rattle.wf_def_world.specs.Step.{Outcome, tick_outcome, rate_outcome, sleep_outcome, wake_outcome, poll_outcome, rx_outcome, join_outcome, leave_outcome, enqueue_outcome, pull_outcome_for, pull_outcome, arrive_outcome, answer_outcome, unsent_outcome, give_up_outcome, flush_outcome, done_outcome, outcome_where_open, reap_outcome, outcome_of, concerned_station, after_refusal, judged_outcome, step, offload_outcome, weight_outcome}
 use Rattle.wf_def_world.specs.Run.{Entry, world_after}
 use Rattle.wf_law_runs.specs.Queues.{AreAtMost}
 use Rattle.wf_law_runs.specs.Releases.{named_by}
@@ -46,7 +46,7 @@ use Rattle.wf_law_runs.proofs.Sent.Given.{some_take}
 use Rattle.wf_law_runs.proofs.Sent.Lengths.{IsMeasured, AreMeasured, AllMeasured, IsStocked, given_take, measured_waiting, opened_sent, opened_station, opened_gone, stocked_step, stocked_first}
 use Rattle.wf_law_runs.proofs.Windows.Agreed.{IsLawful, Unmoved, unmoved_on_share, each_map_if, lawful_same, can_send_same, sends, winner_ready}
 use Rattle.wf_law_runs.proofs.Windows.Opened.{Each, each_append, each_find}
-use Rattle.wf_law_runs.proofs.Windows.Sides.{Same, same_on_station, same_on_share, same_listed, same_after_pick, same_after_turn, same_picked}
+use Rattle.wf_law_runs.proofs.Windows.Sides.{Same, same_on_station, same_on_share, same_listed, same_after_pick, same_after_turn, same_picked, same_weighed}
 use Rattle.wf_law_runs.proofs.Ranges.Traits.{Traits, traits_step, few_station}
 use Rattle.wf_def_lists.specs.Bounds.{least_ampdu}
 use Rattle.std.proofs.Math.Nat.{le-max_left}
@@ -375,6 +375,11 @@ some_joined : (w : World) (s window start exponent weight : ℕ) → AllSome w �
 unfolding join_outcome
 some_joined w s window start exponent weight h = subst (Each HasSome) (sym (opened_station w s _)) h
 
+some_offloaded : (w : World) (s exponent weight : ℕ) → AllSome w →
+    AllSome (offload_outcome w s exponent weight).world
+unfolding offload_outcome
+some_offloaded w s exponent weight h = subst (Each HasSome) (sym (opened_station w s _)) h
+
 -- ---- the step
 
 some_done : (note : Note) (w : World) → IsLawful w → IsFit w → AllSome w → AllSome (outcome_of w note).world
@@ -411,6 +416,9 @@ some_done (Asked (Unsent x n)) w l a h = some_open (exchange w x) w _ (found_som
 some_done (Asked (GiveUp x n)) w l a h = some_open (exchange w x) w _ (found_some w x h)
     (λ y k. some_given_up w y n k h) h
 some_done (Asked (Flush s t)) w l a h = some_opened w (flush_outcome w s t).world (opened_flushed w s t) h
+some_done (Asked (Offload s exponent weight)) w l a h = some_offloaded w s exponent weight h
+some_done (Asked (Weight s weight)) w l a h = some_opened w (weight_outcome w s weight).world
+    (same_weighed w s weight).opened h
 
 some_refused : (note : Note) (r : Refusal) (w : World) → AllSome w → AllSome (after_refusal w note r)
 unfolding after_refusal

@@ -5,7 +5,7 @@ use Rattle.std.proofs.Common.{◌≡◌, refl, ap, sym, ◌∙◌, subst, arith,
 use Rattle.std.proofs.lemmas.Int.{ints}
 use Rattle.wf_frame.specs.declared.settings.Config.{Config}
 use Rattle.wf_frame.specs.declared.classes.Class.{Class}
-use Rattle.wf_frame.specs.declared.notes.Ask.TheVariants.{Join, Leave, Rate, Tick, Pull, Arrive, Answer, Done, Sleep, Wake, Poll, Rx, Reap, Ampdu, Stop, Start, Unsent, GiveUp, Flush}
+use Rattle.wf_frame.specs.declared.notes.Ask.TheVariants.{Join, Leave, Rate, Tick, Pull, Arrive, Answer, Done, Sleep, Wake, Poll, Rx, Reap, Ampdu, Stop, Start, Unsent, GiveUp, Flush, Offload, Weight}
 use Rattle.wf_frame.specs.declared.notes.Limits.{Limits}
 use Rattle.wf_frame.specs.declared.notes.Note.{Note}
 use Rattle.wf_frame.specs.declared.notes.Note.TheVariants.{Enqueue, Asked}
@@ -16,17 +16,17 @@ use Rattle.wf_def_lists.specs.Lists.{on}
 use Rattle.wf_def_rotation.specs.Rotation.{in_order, need_of}
 use Rattle.wf_def_world.specs.World.{World, Share, Exchange, no_station, owed, station, share, rotation, is_live, exchange}
 use Rattle.wf_def_world.specs.CanSend.{with_listings_of}
-use Rattle.wf_def_world.specs.Exchanges.{picked_station, after_pick, charge_of}
+use Rattle.wf_def_world.specs.Exchanges.{picked_station, after_pick, charge_of, longest_computed}
 use Rattle.wf_def_world.specs.Refusals.{refusals, refusal}
 use Rattle.wf_def_world.specs.Step.{Outcome, tick_outcome, pull_outcome, outcome_where_open, outcome_of, concerned_station, after_refusal, judged_outcome, step}
 use Rattle.wf_def_world.specs.Run.{Entry, world_after}
-use Rattle.wf_law_runs.specs.Deficits.{longest_exchange, longest_computed}
+use Rattle.wf_law_runs.specs.Deficits.{longest_exchange}
 use Rattle.wf_law_runs.specs.Shares.{receipts}
 use Rattle.wf_law_runs.specs.Waiting.{sends}
 use Rattle.wf_law_runs.proofs.Common.Refused.{after_idle}
 use Rattle.wf_law_runs.proofs.Common.Limits.{with_limits}
 use Rattle.wf_law_runs.proofs.Deficits.Books.{Account, account, core, Books, books, with_account, on_part, upd_same, upd_other, each_upd, updc_same, updc_other, cases_class}
-use Rattle.wf_law_runs.proofs.Deficits.BookSteps.{with_opened, charge_share, with_charge, receive_share, rated, pay_share, paid, after, books_ended, books_gone, all_off, books_enqueued, books_received, books_reaped, books_slept, books_woken, books_credited, books_with_rate, books_joined, books_after_pick, books_stated, books_stopped, books_started, books_flushed}
+use Rattle.wf_law_runs.proofs.Deficits.BookSteps.{with_opened, charge_share, with_charge, receive_share, rated, pay_share, paid, after, books_ended, books_gone, all_off, books_enqueued, books_received, books_reaped, books_slept, books_woken, books_credited, books_with_rate, books_joined, books_after_pick, books_stated, books_stopped, books_started, books_flushed, books_offloaded, books_weighed, reweighed}
 use Rattle.wf_law_runs.proofs.Deficits.Bounds.{counted, paid_some}
 use Rattle.wf_law_runs.proofs.Deficits.Kept.{IsKept, counted_in, need_in, at_stake, IsOpen}
 use Rattle.wf_law_runs.proofs.Deficits.KeptStep.{NoRow, no_row, live_account, is_pick, IsFound, books_arrived, books_unsent, books_given_up, books_answered}
@@ -167,10 +167,10 @@ unfolding outcome_where_open
 grants_open None w e c s f k h = grants_same c s _ _ refl
 grants_open (Some x) w e c s f k h = h x k
 
-differs : (w : World) (i s : ℕ) → is_live w i ≡ false → is_live w s ≡ true → s ≡ i → ⊥
+pub differs : (w : World) (i s : ℕ) → is_live w i ≡ false → is_live w s ≡ true → s ≡ i → ⊥
 differs w i s dead live e = cc (dead, subst (λ (z : ℕ). is_live w z ≡ true) e live)
 
-gone_other : (b : Books) (i s : ℕ) → is_some ((with_account (all_off b i) i None).accounts s) ≡ true →
+pub gone_other : (b : Books) (i s : ℕ) → is_some ((with_account (all_off b i) i None).accounts s) ≡ true →
     s ≡ i → ⊥
 gone_other b i s live e =
     let none : (with_account (all_off b i) i None).accounts s ≡ None =
@@ -186,6 +186,12 @@ grants_done (Enqueue i t flow len) w c s r k live still = grants_same c s _ _ (b
 grants_done (Asked (Join i window start exponent weight)) w c s r k live still =
     grants_books c s (books w) _ _ (books_joined w i window start exponent weight)
     (grants_other c s i (books w) _ (differs w i s r.1.1.1.1.1.0 live))
+grants_done (Asked (Offload i exponent weight)) w c s r k live still =
+    grants_books c s (books w) _ _ (books_offloaded w i exponent weight)
+    (grants_other c s i (books w) _ (differs w i s r.1.1.1.0 live))
+grants_done (Asked (Weight i weight)) w c s r k live still =
+    grants_books c s (books w) _ _ (books_weighed w i weight)
+    (grants_on c s i (books w) (reweighed w.config (books w).opened i weight) (λ a. refl))
 grants_done (Asked (Leave i)) w c s r k live still = grants_books c s (books w) _ _ (books_gone w i)
     (grants_kept c s (books w) (with_account (books w) i None) _ refl
     (grants_other c s i (books w) None (gone_other (books w) i s
@@ -271,10 +277,10 @@ IsGranted config m c s w es = ((share (world_after w es) s c).quanta ≡ (share 
     (share w s c).quanta)) +ℤ (share w s c).deficit) ≤ℤ
     pos (config.quantum * (station w s).weight + receipts w s c es + m))
 
-granted_number : (u q0 q n0 n r0 r p k l m : ℕ) (d0 d : ℤ) → d0 ≡ pos (u + u * q0) -ℤ pos (n0 + r0) →
-    d ≡ pos (u + u * q) -ℤ pos (n + r) → n ≡ n0 + p → r ≡ r0 + k → q0 ≤ q → d ≤ℤ pos (u + l) → p + l ≤ m →
-    (pos (u * (q - q0)) +ℤ d0) ≤ℤ pos (u + k + m)
-granted_number u q0 q n0 n r0 r p k l m d0 d e f en er more most less =
+granted_number : (u q0 q n0 n r0 r p k l m : ℕ) (z0 z d0 d : ℤ) → z ≡ z0 →
+    d0 ≡ z0 +ℤ pos (u * q0) -ℤ pos (n0 + r0) → d ≡ z +ℤ pos (u * q) -ℤ pos (n + r) → n ≡ n0 + p →
+    r ≡ r0 + k → q0 ≤ q → d ≤ℤ pos (u + l) → p + l ≤ m → (pos (u * (q - q0)) +ℤ d0) ≤ℤ pos (u + k + m)
+granted_number u q0 q n0 n r0 r p k l m z0 z d0 d same e f en er more most less =
     let whole : u * q ≡ u * q0 + u * (q - q0) = parts q (q - q0) (omega arith) in
     omega (arith, ints)
   where
@@ -288,8 +294,8 @@ module _ (config : Config) (t : Bool) (c : Class) (s i m : ℕ) (w : World) (apa
   abbrev pub Stakes : List Entry → Type 0
   Stakes es = charges w s c es + owed s c (world_after w es).opened ≤ m
 
-  granted_more : (es : List Entry) (e : Entry) → Fits t c s i w → Fits t c s i (world_after w es) →
-      Fits t c s i (world_after w (es ++ e ∷ [])) → Held config c s i w es →
+  granted_more : (es : List Entry) (e : Entry) → Fits t c s i w w → Fits t c s i w (world_after w es) →
+      Fits t c s i w (world_after w (es ++ e ∷ [])) → Held config c s i w es →
       Held config c s i w (es ++ e ∷ []) → Stakes es → IsGranted config m c s w es →
       IsGranted config m c s w (es ++ e ∷ [])
   granted_more es e first now next held held' stake before =
@@ -304,8 +310,8 @@ module _ (config : Config) (t : Bool) (c : Class) (s i m : ℕ) (w : World) (apa
             (share (world_after w (es ++ e ∷ [])) s c).charged (share w s c).received
             (share (world_after w (es ++ e ∷ [])) s c).received (charges w s c es)
             (receipts w s c (es ++ e ∷ [])) (owed s c (world_after w es).opened)
-            m (share w s c).deficit
-            (share (world_after w (es ++ e ∷ [])) s c).deficit was.exact is.exact
+            m (share w s c).base (share (world_after w (es ++ e ∷ [])) s c).base (share w s c).deficit
+            (share (world_after w (es ++ e ∷ [])) s c).deficit held'.own_base was.exact is.exact
             (charge gets.1) held'.own_received held'.own_quanta (most gets.0) stake)
       ]
     where
@@ -382,14 +388,15 @@ module _ (config : Config) (t : Bool) (c : Class) (s i m : ℕ) (w : World) (apa
           pos (config.quantum * (station w s).weight + receipts w s c (es ++ e ∷ []) + m)
       stays some none = rw none (omega (arith, ints, receipts_append es w s c e, some))
 
-  pub granted_run : (xs : List Entry) (n : ℕ) → ((d : ℕ) → d ≤ n → Fits t c s i (world_after w (take d xs))) →
+  pub granted_run : (xs : List Entry) (n : ℕ) →
+      ((d : ℕ) → d ≤ n → Fits t c s i w (world_after w (take d xs))) →
       ((d : ℕ) → d ≤ n → Stakes (take d xs)) → IsGranted config m c s w (take n xs)
   unfolding world_after
   granted_run xs zero fits stake = inl refl
   granted_run xs (suc n) fits stake =
       let before : IsGranted config m c s w (take n xs) =
       granted_run xs n (λ d l. fits d (omega arith)) (λ d l. stake d (omega arith)) in
-      next_case xs n (λ (l : List Entry). Fits t c s i (world_after w l) → Held config c s i w l →
+      next_case xs n (λ (l : List Entry). Fits t c s i w (world_after w l) → Held config c s i w l →
       IsGranted config m c s w l)
       (λ _ _. before)
       (λ e next held. granted_more (take n xs) e (fits 0 (omega arith)) (fits n (omega arith)) next

@@ -16,7 +16,7 @@ use Rattle.wf_law_runs.proofs.Deficits.Kept.{at_stake}
 use Rattle.wf_law_runs.proofs.Deficits.Shares.{IsMoney}
 use Rattle.wf_law_runs.proofs.Shares.Picks.{Once, lead_most}
 use Rattle.wf_law_runs.proofs.Shares.Stretch.{Fits, marks_live, IsHeld, ground_money, most_off}
-use Rattle.wf_law_runs.proofs.Shares.Moments.{ground_at, held_between}
+use Rattle.wf_law_runs.proofs.Shares.Moments.{ground_at, held_between, even}
 use Rattle.wf_law_runs.proofs.Spent.Law.{spent_bounds}
 
 -- ---- the bound
@@ -53,10 +53,10 @@ weigh q g h n used charged v d most spent =
         (pos a +ℤ z) ≤ℤ pos m
     joined z a b x y k m l h e f = omega (arith, ints)
 
-covered_number : (u q qa n ch chb rc rcb p r : ℕ) (d db : ℤ) → d ≡ pos (u + u * qa) -ℤ pos (ch + rc) →
-    db ≡ pos (u + u * q) -ℤ pos (chb + rcb) → db ≤ℤ pos u → q ≡ qa + n → chb ≡ ch + p → rcb ≡ rc + r →
-    (pos (u * n) +ℤ d) ≤ℤ pos (p + r + u)
-covered_number u q qa n ch chb rc rcb p r d db e f most is_q is_ch is_rc =
+covered_number : (u q qa n ch chb rc rcb p r : ℕ) (z zb d db : ℤ) → zb ≡ z →
+    d ≡ z +ℤ pos (u * qa) -ℤ pos (ch + rc) → db ≡ zb +ℤ pos (u * q) -ℤ pos (chb + rcb) → db ≤ℤ pos u →
+    q ≡ qa + n → chb ≡ ch + p → rcb ≡ rc + r → (pos (u * n) +ℤ d) ≤ℤ pos (p + r + u)
+covered_number u q qa n ch chb rc rcb p r z zb d db same e f most is_q is_ch is_rc =
     let whole : u * q ≡ u * qa + u * n = ap (λ (z : ℕ). u * z) is_q ∙ omega arith in
     omega (arith, ints)
 
@@ -74,7 +74,8 @@ covered_between config h s i c a b off range live_a live_b k =
     (share (world_at config h a) s c).charged (share (world_at config h b) s c).charged
     (share (world_at config h a) s c).received (share (world_at config h b) s c).received
     (charged_between config h s c a b) (received_between config h s c a b)
-    (deficit_then config h a s c) (deficit_then config h b s c) money_w.exact money_b.exact
+    (share (world_at config h a) s c).base (share (world_at config h b) s c).base
+    (deficit_then config h a s c) (deficit_then config h b s c) k.own_base money_w.exact money_b.exact
     (most_off config c (quantum_then config h b s) (deficit_then config h b s c) off money_b.most)
     (let more = k.own_quanta in omega (arith, more)) k.own_charged k.own_received
   where
@@ -125,13 +126,18 @@ shared config h s i c a b range differs live_a live_b k spends = record {
         k.other_charged (k.held off))
 
 pub share_law : (config : Config) (h : List Entry) → IsInRange config → ShareLaw config h
-share_law config h range s i c a b order differs old live =
+share_law config h range s i c a b order differs old live own other =
     shared config h s i c a b range differs (at_s a (omega arith) order) (at_s b order (omega arith))
     (held_between config h true c s i a b range order differs fits)
     (λ counting e near. spent_bounds config h true c s i a b e range order differs fits counting near)
   where
-    fits : (m : ℕ) → a ≤ m → m ≤ b → Fits true c s i (world_at config h m)
-    fits m l r = record { marks = has-on _ _ (old m l r); live = live m l r }
+    fits : (m : ℕ) → a ≤ m → m ≤ b → Fits true c s i (world_at config h a) (world_at config h m)
+    fits m l r = record {
+      marks = has-on _ _ (old m l r);
+      live = live m l r;
+      own = even config h s c a m (own m l r);
+      other = even config h i c a m (other m l r);
+    }
 
     at_s : (m : ℕ) → a ≤ m → m ≤ b → is_live (world_at config h m) s ≡ true
     at_s m l r = marks_live true c s (world_at config h m) (ground_at config h m range).kept

@@ -1,11 +1,11 @@
 -- Proves how many quanta and charges two stations of a class get over a stretch of entries in which one of
 -- them keeps its place. By induction on the entries.
-use Rattle.std.proofs.Common.{◌≡◌, refl, ap, sym, ◌∙◌, subst, arith, ℕ, zero, suc, ◌+◌, ◌-◌, ◌*◌, ◌<◌, ◌≤◌, ℤ, pos, ◌-ℤ◌, ◌≤ℤ◌, Bool, true, false, if◌then◌else◌, List, [], ◌∷◌, ◌++◌, take, map, Option, Some, None, is_some, is_none, IfSome, unwrap_or, option_map, ◌&&◌, ◌==◌, inl, inr, ◌⊎◌}
+use Rattle.std.proofs.Common.{◌≡◌, refl, ap, sym, ◌∙◌, subst, arith, ℕ, zero, suc, ◌+◌, ◌-◌, ◌*◌, ◌<◌, ◌≤◌, ℤ, pos, ◌-ℤ◌, ◌≤ℤ◌, Bool, true, false, if◌then◌else◌, List, [], ◌∷◌, ◌++◌, take, map, Option, Some, None, is_some, is_none, IfSome, unwrap_or, option_map, ◌&&◌, ◌==◌, inl, inr, ◌⊎◌, ◌+ℤ◌}
 use Rattle.std.proofs.lemmas.Int.{ints}
 use Rattle.std.proofs.lemmas.Bool.{cases_eq, ne_eqb}
 use Rattle.wf_frame.specs.declared.settings.Config.{Config}
 use Rattle.wf_frame.specs.declared.classes.Class.{Class}
-use Rattle.wf_frame.specs.declared.notes.Ask.TheVariants.{Join}
+use Rattle.wf_frame.specs.declared.notes.Ask.TheVariants.{Join, Offload}
 use Rattle.wf_frame.specs.declared.notes.Note.{Note}
 use Rattle.wf_frame.specs.declared.notes.Note.TheVariants.{Asked}
 use Rattle.wf_frame.specs.declared.notes.Refusal.{Refusal}
@@ -54,6 +54,20 @@ join_live (Asked (Join i window start exponent weight)) w s n live =
           cc (dead, live'))
       | inr other ↦ rw (ne_eqb i s other) refl
     ]
+join_live (Asked (Offload i exponent weight)) w s n live =
+    go (refusal w (Asked (Offload i exponent weight))) refl
+  where
+    go : (o : Option Refusal) → refusal w (Asked (Offload i exponent weight)) ≡ o →
+        (if is_none o && (i == s) then 0 else n) ≡ n
+    go (Some r) e = refl
+    go None e = elim (cases_eq i s) [
+      | inl same ↦ absurd (
+          let dead : is_live w i ≡ false =
+          (no_row (refusals w (Asked (Offload i exponent weight))) e).1.1.1.0 in
+          let live' : is_live w i ≡ true = subst (λ (z : ℕ). is_live w z ≡ true) (sym same) live in
+          cc (dead, live'))
+      | inr other ↦ rw (ne_eqb i s other) refl
+    ]
 join_live _ w s n live = refl
 
 own_sum : (o : Option Station) (c : Class) → is_some o ≡ true →
@@ -84,9 +98,17 @@ abbrev pub Marks : Bool → Class → ℕ → World → Type 0
 Marks true c s w = 0 < on (rotation w c).old s
 Marks false c s w = (0 < on (in_order (rotation w c)) s) × (is_ready w c s ≡ true)
 
-pub record Fits (t : Bool) (c : Class) (s i : ℕ) (w : World) : Type 0 where
-  pub marks : Marks t c s w
-  pub live : is_live w i ≡ true
+-- a station's weight and base are in v as in w
+pub record IsEven (c : Class) (s : ℕ) (w v : World) : Type 0 where
+  pub weight : (station v s).weight ≡ (station w s).weight
+  pub base : (share v s c).base ≡ (share w s c).base
+
+-- In v, which follows from w, s has its place and i is live. Both have their weights and bases as in w.
+pub record Fits (t : Bool) (c : Class) (s i : ℕ) (w v : World) : Type 0 where
+  pub marks : Marks t c s v
+  pub live : is_live v i ≡ true
+  pub own : IsEven c s w v
+  pub other : IsEven c i w v
 
 marks_listed : (t : Bool) (c : Class) (s : ℕ) (w : World) → Marks t c s w →
     0 < on (in_order (rotation w c)) s
@@ -103,9 +125,9 @@ pub marks_live : (t : Bool) (c : Class) (s : ℕ) (w : World) → IsKept (books 
     is_live w s ≡ true
 marks_live t c s w k h = sym (live_account (at None w.stations s)) ∙ k.live c s (marks_listed t c s w h)
 
-pub stays_step : (t : Bool) (c : Class) (s i : ℕ) (w v : World) → IsKept (books w) → IsKept (books v) →
-    Fits t c s i w → Fits t c s i v → Stays c s i w (books v)
-stays_step t c s i w v k j h h' = record {
+pub stays_step : (t : Bool) (c : Class) (s i : ℕ) (o w v : World) → IsKept (books w) → IsKept (books v) →
+    Fits t c s i o w → Fits t c s i o v → Stays c s i w (books v)
+stays_step t c s i o w v k j h h' = record {
   place = marks_place t c s w v h.marks h'.marks;
   own = j.live c s (marks_listed t c s v h'.marks);
   before = live_account (at None w.stations i) ∙ h.live;
@@ -120,10 +142,12 @@ pub record IsHeld (config : Config) (c : Class) (s i n p q : ℕ) (w v : World) 
   pub order : (share v i c).quanta + (share w s c).quanta + lead s i (rotation w c)
       ≤ (share v s c).quanta + (share w i c).quanta + lead s i (rotation v c)
   pub own_weight : (station v s).weight ≡ (station w s).weight
+  pub own_base : (share v s c).base ≡ (share w s c).base
   pub own_quanta : (share w s c).quanta ≤ (share v s c).quanta
   pub own_charged : (share v s c).charged ≡ (share w s c).charged + p
   pub own_received : (share v s c).received ≡ (share w s c).received + q
   pub other_weight : (station v i).weight ≡ (station w i).weight
+  pub other_base : (share v i c).base ≡ (share w i c).base
   pub other_quanta : (share w i c).quanta ≤ (share v i c).quanta
   pub other_charged : (share v i c).charged ≡ (share w i c).charged + n
   pub other_received : (share w i c).received ≤ (share v i c).received
@@ -145,10 +169,12 @@ held_first : (config : Config) (c : Class) (s i : ℕ) (w : World) → w.config 
 held_first config c s i w same k live = record {
   order = omega arith;
   own_weight = refl;
+  own_base = refl;
   own_quanta = omega arith;
   own_charged = omega arith;
   own_received = omega arith;
   other_weight = refl;
+  other_base = refl;
   other_quanta = omega arith;
   other_charged = omega arith;
   other_received = omega arith;
@@ -183,18 +209,21 @@ held_less u ch res ch' res' ch0 q q' q0 m h k l =
     times_le u (q - q0 + 1) (q' - q0 + 1) (omega arith) in omega arith
 
 -- the bound holds after a pick that i won
-held_won : (u gi qi0 gs ch rc ch0 rc0 res m : ℕ) → ch + rc + 1 ≤ u + u * (qi0 + gi) → u * qi0 ≤ ch0 + rc0 →
-    rc0 ≤ rc → gi ≤ gs → res ≤ m → ch + res + 1 ≤ ch0 + u * (gs + 1) + m
-held_won u gi qi0 gs ch rc ch0 rc0 res m above below more near stake =
-    let less : u * gi ≤ u * gs = times_le u gi gs near in omega arith
+held_won : (u gi qi0 gs ch rc ch0 rc0 res m : ℕ) (z : ℤ) → pos (ch + rc + 1) ≤ℤ (z +ℤ pos (u * (qi0 + gi))) →
+    (z +ℤ pos (u * qi0)) ≤ℤ pos (u + ch0 + rc0) → rc0 ≤ rc → gi ≤ gs → res ≤ m →
+    ch + res + 1 ≤ ch0 + u * (gs + 1) + m
+held_won u gi qi0 gs ch rc ch0 rc0 res m z above below more near stake =
+    let less : u * gi ≤ u * gs = times_le u gi gs near in
+    let whole : u * (qi0 + gi) ≡ u * qi0 + u * gi = omega arith in
+    let one_more : u * (gs + 1) ≡ u * gs + u = omega arith in omega (arith, ints)
 
-money_above : (u q : ℕ) (d : ℤ) (ch rc : ℕ) → d ≡ pos (u + u * q) -ℤ pos (ch + rc) → pos 1 ≤ℤ d →
-    ch + rc + 1 ≤ u + u * q
-money_above u q d ch rc e h = omega (arith, ints)
+money_above : (u q : ℕ) (z d : ℤ) (ch rc : ℕ) → d ≡ z +ℤ pos (u * q) -ℤ pos (ch + rc) → pos 1 ≤ℤ d →
+    pos (ch + rc + 1) ≤ℤ (z +ℤ pos (u * q))
+money_above u q z d ch rc e h = omega (arith, ints)
 
-money_below : (u q : ℕ) (d : ℤ) (ch rc : ℕ) → d ≡ pos (u + u * q) -ℤ pos (ch + rc) → d ≤ℤ pos u →
-    u * q ≤ ch + rc
-money_below u q d ch rc e h = omega (arith, ints)
+money_below : (u q : ℕ) (z d : ℤ) (ch rc : ℕ) → d ≡ z +ℤ pos (u * q) -ℤ pos (ch + rc) → d ≤ℤ pos u →
+    (z +ℤ pos (u * q)) ≤ℤ pos (u + ch + rc)
+money_below u q z d ch rc e h = omega (arith, ints)
 
 -- without the setting `pending`, a deficit is at most one quantum
 pub most_off : (config : Config) (c : Class) (u : ℕ) (d : ℤ) → config.pending ≡ 0 →
@@ -246,17 +275,19 @@ Spent c i v v' z = ((acc (books v') i).shares c).charged + at_stake z i c (map c
 
 -- the stretch and one more call
 held_step : (config : Config) (t : Bool) (c : Class) (s i n p q : ℕ) (w v : World) (note : Note) →
-    (s ≡ i → ⊥) → IsGround config w → IsGround config v → is_live w i ≡ true → Fits t c s i v →
-    Fits t c s i (step v note).world → IsHeld config c s i n p q w v →
+    (s ≡ i → ⊥) → IsGround config w → IsGround config v → is_live w i ≡ true → Fits t c s i w v →
+    Fits t c s i w (step v note).world → IsHeld config c s i n p q w v →
     IsHeld config c s i (n + charge_by v i c note) (p + charge_by v s c note) (q + air_by v s c note) w
     (step v note).world
 held_step config t c s i n p q w v note differs g gv start h h' k = record {
   order = order;
-  own_weight = m_own.weight ∙ k.own_weight;
+  own_weight = h'.own.weight;
+  own_base = h'.own.base;
   own_quanta = omega (arith, k.own_quanta, m_own.quanta);
   own_charged = omega (arith, k.own_charged, sum_s.charged);
   own_received = omega (arith, k.own_received, sum_s.received);
-  other_weight = m_other.weight ∙ k.other_weight;
+  other_weight = h'.other.weight;
+  other_base = h'.other.base;
   other_quanta = omega (arith, k.other_quanta, m_other.quanta);
   other_charged = omega (arith, k.other_charged, sum_i.charged);
   other_received = omega (arith, k.other_received, sum_i.received);
@@ -272,9 +303,9 @@ held_step config t c s i n p q w v note differs g gv start h h' k = record {
         (share (step v note).world i c).charged (share (step v note).world i c).received
         (share w i c).charged (share w i c).received
         (at_stake config i c (map core (step v note).world.opened)) (most_owed config c)
-        (subst (λ (q : ℕ). (share (step v note).world i c).charged +
-        (share (step v note).world i c).received + 1 ≤ config.quantum * (station w i).weight +
-        config.quantum * (station w i).weight * q) grows (above won.1)) (below off)
+        (share w i c).base (subst (λ (q : ℕ). pos ((share (step v note).world i c).charged +
+        (share (step v note).world i c).received + 1) ≤ℤ ((share w i c).base +ℤ
+        pos (config.quantum * (station w i).weight * q))) grows (above won.1)) (below off)
         (omega (arith, k.other_received, sum_i.received))
         (omega (arith, k.order, ahead won.0, k.own_quanta, m_own.quanta)) stake
   ];
@@ -284,7 +315,8 @@ held_step config t c s i n p q w v note differs g gv start h h' k = record {
     g' = ground_step config v note gv
 
     m : IsMove (longest_exchange v.config c) c s i (books v) (books (step v note).world)
-    m = move_step v note c s i gv.kept differs (stays_step t c s i v (step v note).world gv.kept g'.kept h h')
+    m = move_step v note c s i gv.kept differs
+        (stays_step t c s i w v (step v note).world gv.kept g'.kept h h')
 
     at_i : acc (books v) i ≡ account (station v i)
     at_i = acc_is v i
@@ -335,24 +367,27 @@ held_step config t c s i n p q w v note differs g gv start h h' k = record {
         subst (λ (z : Config). at_stake z i c (map core (step v note).world.opened) ≤ most_owed z c) g'.same
         (at_stake_most (books (step v note).world) g'.kept i c)
 
-    weight : (station (step v note).world i).weight ≡ (station w i).weight
-    weight = m_other.weight ∙ k.other_weight
-
     above : pos 1 ≤ℤ ((acc (books (step v note).world) i).shares c).deficit →
-        (share (step v note).world i c).charged + (share (step v note).world i c).received + 1
-        ≤ config.quantum * (station w i).weight +
-        config.quantum * (station w i).weight * (share (step v note).world i c).quanta
+        pos ((share (step v note).world i c).charged + (share (step v note).world i c).received + 1) ≤ℤ
+        ((share w i c).base +ℤ
+        pos (config.quantum * (station w i).weight * (share (step v note).world i c).quanta))
     above one =
         let now = ground_money config (step v note).world i c g' h'.live in
-        subst (λ (x : ℕ). (share (step v note).world i c).charged +
-        (share (step v note).world i c).received + 1
-        ≤ config.quantum * x + config.quantum * x * (share (step v note).world i c).quanta) weight
-        (money_above _ _ (share (step v note).world i c).deficit _ _ now.exact (rw at_i' at one))
+        subst (λ (z : ℤ). pos ((share (step v note).world i c).charged +
+        (share (step v note).world i c).received + 1) ≤ℤ
+        (z +ℤ pos (config.quantum * (station w i).weight * (share (step v note).world i c).quanta)))
+        h'.other.base
+        (subst (λ (x : ℕ). pos ((share (step v note).world i c).charged +
+        (share (step v note).world i c).received + 1) ≤ℤ ((share (step v note).world i c).base +ℤ
+        pos (config.quantum * x * (share (step v note).world i c).quanta))) h'.other.weight
+        (money_above _ _ (share (step v note).world i c).base (share (step v note).world i c).deficit _ _
+        now.exact (rw at_i' at one)))
 
-    below : config.pending ≡ 0 → config.quantum * (station w i).weight * (share w i c).quanta
-        ≤ (share w i c).charged + (share w i c).received
+    below : config.pending ≡ 0 →
+        ((share w i c).base +ℤ pos (config.quantum * (station w i).weight * (share w i c).quanta)) ≤ℤ
+        pos (config.quantum * (station w i).weight + (share w i c).charged + (share w i c).received)
     below off = let was = ground_money config w i c g start in
-        money_below _ _ (share w i c).deficit _ _ was.exact
+        money_below _ _ (share w i c).base (share w i c).deficit _ _ was.exact
         (most_off config c (config.quantum * (station w i).weight) (share w i c).deficit off was.most)
 
 -- ---- entry by entry
@@ -388,8 +423,9 @@ Held config c s i w es = IsHeld config c s i (charges w i c es) (charges w s c e
     (world_after w es)
 
 held_more : (config : Config) (t : Bool) (c : Class) (s i : ℕ) (w : World) (es : List Entry) (e : Entry) →
-    (s ≡ i → ⊥) → IsGround config w → is_live w i ≡ true → Fits t c s i (world_after w es) →
-    Fits t c s i (world_after w (es ++ e ∷ [])) → Held config c s i w es → Held config c s i w (es ++ e ∷ [])
+    (s ≡ i → ⊥) → IsGround config w → is_live w i ≡ true → Fits t c s i w (world_after w es) →
+    Fits t c s i w (world_after w (es ++ e ∷ [])) → Held config c s i w es →
+    Held config c s i w (es ++ e ∷ [])
 held_more config t c s i w es e differs g start now next before = rw (
   world_append es w e,
   charges_append es w i c e,
@@ -397,18 +433,18 @@ held_more config t c s i w es e differs g start now next before = rw (
   receipts_append es w s c e,
 ) (held_step config t c s i (charges w i c es) (charges w s c es) (receipts w s c es) w (world_after w es) e.1
     differs g (ground_run config es w g) start now
-    (subst (Fits t c s i) (world_append es w e) next) before)
+    (subst (Fits t c s i w) (world_append es w e) next) before)
 
 pub held_run : (config : Config) (t : Bool) (c : Class) (s i : ℕ) (w : World) (xs : List Entry) →
     (s ≡ i → ⊥) → IsGround config w → (n : ℕ) →
-    ((d : ℕ) → d ≤ n → Fits t c s i (world_after w (take d xs))) → Held config c s i w (take n xs)
+    ((d : ℕ) → d ≤ n → Fits t c s i w (world_after w (take d xs))) → Held config c s i w (take n xs)
 unfolding world_after
 held_run config t c s i w xs differs g zero fits =
     held_first config c s i w g.same g.kept (fits 0 (omega arith)).live
 held_run config t c s i w xs differs g (suc n) fits =
     let before : Held config c s i w (take n xs) =
     held_run config t c s i w xs differs g n (λ d l. fits d (omega arith)) in
-    next_case xs n (λ (l : List Entry). Fits t c s i (world_after w l) → Held config c s i w l)
+    next_case xs n (λ (l : List Entry). Fits t c s i w (world_after w l) → Held config c s i w l)
     (λ _. before)
     (λ e next. held_more config t c s i w (take n xs) e differs g (fits 0 (omega arith)).live
     (fits n (omega arith)) next before)

@@ -5,7 +5,7 @@ use Rattle.std.proofs.lemmas.Bool.{cases_eq, ne_eqb, eqb-true, and_parts, not-tr
 use Rattle.wf_frame.specs.declared.settings.Config.{Config}
 use Rattle.wf_frame.specs.declared.classes.Class.{Class}
 use Rattle.wf_frame.specs.declared.classes.Class.TheVariants.{Bk, Be, Vi, Vo}
-use Rattle.wf_frame.specs.declared.notes.Ask.TheVariants.{Join, Leave, Rate, Tick, Pull, Arrive, Answer, Done, Sleep, Wake, Poll, Rx, Reap, Ampdu, Stop, Start, Unsent, GiveUp, Flush}
+use Rattle.wf_frame.specs.declared.notes.Ask.TheVariants.{Join, Leave, Rate, Tick, Pull, Arrive, Answer, Done, Sleep, Wake, Poll, Rx, Reap, Ampdu, Stop, Start, Unsent, GiveUp, Flush, Offload, Weight}
 use Rattle.wf_frame.specs.declared.notes.Limits.{Limits}
 use Rattle.wf_frame.specs.declared.notes.Note.{Note}
 use Rattle.wf_frame.specs.declared.notes.Note.TheVariants.{Enqueue, Asked}
@@ -19,7 +19,7 @@ use Rattle.wf_def_world.specs.World.{World, Exchange, no_station, rotation, is_l
 use Rattle.wf_def_world.specs.CanSend.{is_ready, with_listing_in, with_listings_in, with_listings_of, is_to_list}
 use Rattle.wf_def_world.specs.Exchanges.{Prepared, station_need, picked_station, after_tid_turn, prepared_exchange, exchange_of, sending_tid, charge_of}
 use Rattle.wf_def_world.specs.Refusals.{refusals, refusal}
-use Rattle.wf_def_world.specs.Step.{Outcome, tick_outcome, pull_outcome_for, pull_outcome, done_outcome, outcome_where_open, join_outcome, outcome_of, after_refusal, judged_outcome, step, concerned_station}
+use Rattle.wf_def_world.specs.Step.{Outcome, tick_outcome, pull_outcome_for, pull_outcome, done_outcome, outcome_where_open, join_outcome, outcome_of, after_refusal, judged_outcome, step, concerned_station, offload_outcome}
 use Rattle.wf_def_world.specs.Stretches.{charge_to}
 use Rattle.wf_law_runs.specs.Deficits.{longest_exchange}
 use Rattle.wf_law_rules.proofs.Lemmas.Counts.{ahead, on-append, on-filter, listed-some}
@@ -27,11 +27,11 @@ use Rattle.wf_law_rules.proofs.Lemmas.Rotations.{IsWinner, pick_keeps, pick_winn
 use Rattle.wf_law_runs.proofs.Common.Refused.{after_idle}
 use Rattle.wf_law_runs.proofs.Common.Limits.{with_limits}
 use Rattle.wf_law_runs.proofs.Deficits.Books.{Account, account, core, Books, books, with_account, with_lists, upd_same, updc, updc_same, updc_other, cases_class, same_number, books_with_rotation}
-use Rattle.wf_law_runs.proofs.Deficits.BookSteps.{books_after_turn, books_prepared, books_sent, with_opened, books_ended, books_gone, all_off, books_enqueued, books_received, books_reaped, books_slept, books_woken, books_credited, books_with_rate, fresh_account, books_joined, after, books_after_pick, books_stated, books_stopped, books_started, books_flushed}
+use Rattle.wf_law_runs.proofs.Deficits.BookSteps.{books_after_turn, books_prepared, books_sent, with_opened, books_ended, books_gone, all_off, books_enqueued, books_received, books_reaped, books_slept, books_woken, books_credited, books_with_rate, fresh_account, books_joined, after, books_after_pick, books_stated, books_stopped, books_started, books_flushed, books_offloaded, books_weighed}
 use Rattle.wf_law_runs.proofs.Deficits.Openings.{reserved, reserved-append, reserved-ended, part_of}
 use Rattle.wf_law_runs.proofs.Deficits.Kept.{IsKept, if_same, above_after, listed-on, counted_in, standing_of}
 use Rattle.wf_law_runs.proofs.Deficits.KeptStep.{NoRow, no_row, live_account, need_is, IsFound, at_number, books_arrived, books_unsent, books_given_up, books_answered, charge_within}
-use Rattle.wf_law_runs.proofs.Fairness.OldOrder.{acc, IsGrown, IsTurn, IsCalm, calm_pulled, turn_here, turn_other, turn_received, turn_rated, turn_ended, turn_class_other, grown_option, paid_quanta}
+use Rattle.wf_law_runs.proofs.Fairness.OldOrder.{acc, IsGrown, IsTurn, IsCalm, calm_pulled, turn_here, turn_other, turn_received, turn_rated, turn_ended, turn_class_other, grown_option, paid_quanta, turn_weighed}
 use Rattle.wf_law_runs.proofs.Shares.Picks.{lead, lead_off, Stands, pick_lead, win_lead, lead_listed}
 use Rattle.std.proofs.lemmas.Int.{ints}
 use Rattle.wf_law_runs.proofs.Deficits.Concerned.{old_before}
@@ -39,9 +39,8 @@ use Rattle.wf_law_runs.proofs.Deficits.Listing.{longer_listed}
 
 -- ---- a move
 
--- an account keeps its weight and loses no quantum
+-- an account loses no quantum
 pub record Goes (c : Class) (a a' : Account) : Type 0 where
-  pub weight : a'.weight ≡ a.weight
   pub quanta : (a.shares c).quanta ≤ (a'.shares c).quanta
 
 -- the airtime that a station was charged, and that its open exchanges may be charged, at most l each
@@ -71,8 +70,8 @@ move_turn l c s i m n b b' listed same less t = record {
   order = subst (λ (r : Rotation). ((acc b' i).shares c).quanta + ((acc b s).shares c).quanta +
       lead s i (b.rotations c) ≤ ((acc b' s).shares c).quanta + ((acc b i).shares c).quanta + lead s i r)
       (sym same) (omega (arith, order));
-  own = record { weight = t.second.weight; quanta = t.second.quanta };
-  other = record { weight = t.first.weight; quanta = t.first.quanta };
+  own = record { quanta = t.second.quanta };
+  other = record { quanta = t.first.quanta };
   spends = inl (omega (arith, t.first.charged));
 }
   where
@@ -249,8 +248,8 @@ module _ (l : ℕ) (w : World) (c : Class) (s i : ℕ) (k : IsKept (books w)) (d
       times_most (on (in_order (rotation w c)) i) (picked.quanta i) (k.once c i),
       pick_lead (station_need w c) (is_ready w c) (rotation w c) s i (k.once c) differs stands,
     ));
-    own = record { weight = grown_s.weight; quanta = grown_s.quanta };
-    other = record { weight = grown_i.weight; quanta = grown_i.quanta };
+    own = record { quanta = grown_s.quanta };
+    other = record { quanta = grown_i.quanta };
     spends = inl (omega (arith, grown_i.charged));
   }
     where
@@ -411,24 +410,36 @@ move_pulled l w d c limits s i k differs h = pulled_by (IsMove l c s i (books w)
 
 -- ---- a join and a leave
 
+-- a station joins that was not live
+move_fresh : (l : ℕ) (w : World) (k weight : ℕ) (c : Class) (s i : ℕ) → is_live w k ≡ false →
+    IsKept (books w) → 0 < on (in_order (rotation w c)) s → is_some ((books w).accounts i) ≡ true →
+    IsMove l c s i (books w) (with_account (books w) k (Some (fresh_account w.config.quantum weight)))
+move_fresh l w k weight c s i dead kept listed before =
+    move_turn l c s i 0 0 (books w) _ listed refl (omega arith)
+    (turn_other c i s k (books w) (Some (fresh_account w.config.quantum weight)) (away i before)
+    (away s (kept.live c s listed)))
+  where
+    away : (y : ℕ) → is_some ((books w).accounts y) ≡ true → y ≡ k → ⊥
+    away y live e =
+        let live' : is_some ((books w).accounts k) ≡ true =
+        subst (λ (z : ℕ). is_some ((books w).accounts z) ≡ true) e live in
+        cc (live_account (at None w.stations k), live', dead)
+
 move_joined : (l : ℕ) (w : World) (k window start exponent weight : ℕ) (c : Class) (s i : ℕ) →
     is_live w k ≡ false → IsKept (books w) →
     Stays c s i w (books (join_outcome w k window start exponent weight).world) →
     IsMove l c s i (books w) (books (join_outcome w k window start exponent weight).world)
 move_joined l w k window start exponent weight c s i dead kept h =
     subst (IsMove l c s i (books w)) (sym (books_joined w k window start exponent weight))
-    (move_turn l c s i 0 0 (books w) _ listed refl (omega arith)
-    (turn_other c i s k (books w) (Some (fresh_account w.config.quantum weight)) (away i h.before)
-    (away s (kept.live c s listed))))
-  where
-    listed : 0 < on (in_order (rotation w c)) s
-    listed = stays_listed c s i w _ h
+    (move_fresh l w k weight c s i dead kept (stays_listed c s i w _ h) h.before)
 
-    away : (y : ℕ) → is_some ((books w).accounts y) ≡ true → y ≡ k → ⊥
-    away y live e =
-        let live' : is_some ((books w).accounts k) ≡ true =
-        subst (λ (z : ℕ). is_some ((books w).accounts z) ≡ true) e live in
-        cc (live_account (at None w.stations k), live', dead)
+move_offloaded : (l : ℕ) (w : World) (k exponent weight : ℕ) (c : Class) (s i : ℕ) →
+    is_live w k ≡ false → IsKept (books w) →
+    Stays c s i w (books (offload_outcome w k exponent weight).world) →
+    IsMove l c s i (books w) (books (offload_outcome w k exponent weight).world)
+move_offloaded l w k exponent weight c s i dead kept h =
+    subst (IsMove l c s i (books w)) (sym (books_offloaded w k exponent weight))
+    (move_fresh l w k weight c s i dead kept (stays_listed c s i w _ h) h.before)
 
 all_off_is : (b : Books) (k : ℕ) (c : Class) → (all_off b k).rotations c ≡ without_key (b.rotations c) k
 all_off_is b k Bk = refl
@@ -527,6 +538,15 @@ move_done (Enqueue k t flow len) w c s i r kept differs h =
     move_same _ c s i _ _ (stays_listed c s i w _ h) (books_enqueued w k t flow len)
 move_done (Asked (Join k window start exponent weight)) w c s i r kept differs h =
     move_joined _ w k window start exponent weight c s i r.1.1.1.1.1.0 kept h
+move_done (Asked (Offload k exponent weight)) w c s i r kept differs h =
+    move_offloaded _ w k exponent weight c s i r.1.1.1.0 kept h
+move_done (Asked (Weight k weight)) w c s i r kept differs h =
+    move_turn _ c s i 0 0 (books w) _ (stays_listed c s i w _ h)
+    (ap (λ (b : Books). b.rotations c) (books_weighed w k weight))
+    (subst (λ (b : Books). 0 + reserved (longest_exchange w.config c) i c b.opened
+    ≤ reserved (longest_exchange w.config c) i c (books w).opened) (sym (books_weighed w k weight))
+    (omega arith))
+    (turn_weighed w k weight c i s)
 move_done (Asked (Leave k)) w c s i r kept differs h =
     subst (λ (b : Books). Stays c s i w b → IsMove (longest_exchange w.config c) c s i (books w) b)
     (sym (books_gone w k)) (move_gone _ w k c s i) h

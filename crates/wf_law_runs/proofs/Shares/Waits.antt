@@ -22,7 +22,7 @@ use Rattle.wf_law_runs.proofs.Deficits.Kept.{IsGood, at_stake, at_stake_most}
 use Rattle.wf_law_runs.proofs.Deficits.Ready.{orderly}
 use Rattle.wf_law_runs.proofs.Shares.Stretch.{Fits, marks_live, IsHeld, IsGround, quantum_positive}
 use Rattle.wf_law_runs.proofs.Shares.Law.{shared}
-use Rattle.wf_law_runs.proofs.Shares.Moments.{ground_at, after_moment, held_between}
+use Rattle.wf_law_runs.proofs.Shares.Moments.{ground_at, after_moment, held_between, even}
 use Rattle.wf_law_runs.proofs.Shares.Rounds.{rounds_most, below_is, Covers, none_most}
 use Rattle.wf_law_runs.proofs.Spent.Law.{spent_bounds}
 use Rattle.wf_law_runs.proofs.Spent.Awaited.{awaited}
@@ -93,7 +93,7 @@ quiet_stake config w s c g live none =
     go (Some x) is e h = (h.bounds c).quiet e
 
 pub waiting_law : (config : Config) (h : List Entry) → IsInRange config → WaitingLaw config h
-waiting_law config h range s i c a b order differs ready unsent live = record {
+waiting_law config h range s i c a b order differs ready unsent live own other = record {
   waited = λ counting e near. awaited config h false c s i a b e range order differs fits counting near unsent
       (granted.spending counting e near);
   quanta = granted.quanta;
@@ -121,10 +121,12 @@ waiting_law config h range s i c a b order differs ready unsent live = record {
     start : IsGround config (world_at config h a)
     start = ground_at config h a range
 
-    fits : (m : ℕ) → a ≤ m → m ≤ b → Fits false c s i (world_at config h m)
+    fits : (m : ℕ) → a ≤ m → m ≤ b → Fits false c s i (world_at config h a) (world_at config h m)
     fits m l r = record {
       marks = ((orderly config (take m h) range).listed.all s c (ready m l r), ready m l r);
       live = live m l r;
+      own = even config h s c a m (own m l r);
+      other = even config h i c a m (other m l r);
     }
 
     at_s : (m : ℕ) → a ≤ m → m ≤ b → is_live (world_at config h m) s ≡ true
@@ -145,7 +147,7 @@ waiting_law config h range s i c a b order differs ready unsent live = record {
         (take (b - a) (drop a h))
     got = granted_run config false c s i (at_stake config s c (map core (world_at config h a).opened))
         (world_at config h a) differs start (drop a h) (b - a)
-        (λ d l. subst (Fits false c s i) (after_moment config h a d)
+        (λ d l. subst (Fits false c s i (world_at config h a)) (after_moment config h a d)
         (fits (a + d) (omega arith) (omega arith)))
         (stake_run config (world_at config h a) s c (drop a h) (b - a) start unsent)
 

@@ -7,7 +7,8 @@ use Rattle.wf_frame.specs.Settings.{IsInRange}
 use Rattle.wf_def_world.specs.World.{owed, is_live, opening}
 use Rattle.wf_def_world.specs.Run.{Entry, world_after}
 use Rattle.wf_def_world.specs.Stretches.{world_at, charged_between, charges}
-use Rattle.wf_law_runs.specs.Deficits.{longest_computed, got_between}
+use Rattle.wf_def_world.specs.Exchanges.{longest_computed}
+use Rattle.wf_law_runs.specs.Deficits.{got_between}
 use Rattle.wf_law_runs.specs.Shares.{received_between, deficit_then, quantum_then, standing_then, AreWithin, error_of, IsSpent}
 use Rattle.wf_law_runs.specs.Waiting.{below_one, sends_between, IsAwaited}
 use Rattle.wf_law_runs.proofs.Deficits.Books.{books}
@@ -31,7 +32,8 @@ quiet_number u n r o k m l d some (inl e) z b = none_most u n (l + m) e some
 quiet_number u n r o k m l d some (inr h) z b = omega (arith, ints)
 
 pub awaited : (config : Config) (h : List Entry) (t : Bool) (c : Class) (s i a b e : ℕ) → IsInRange config →
-    a ≤ b → (s ≡ i → ⊥) → ((m : ℕ) → a ≤ m → m ≤ b → Fits t c s i (world_at config h m)) →
+    a ≤ b → (s ≡ i → ⊥) →
+    ((m : ℕ) → a ≤ m → m ≤ b → Fits t c s i (world_at config h a) (world_at config h m)) →
     config.pending ≡ 1 →
     AreWithin e (opening config) (take b h) → sends_between config h s c a b ≡ 0 →
     IsSpent config h s i c a b e →
@@ -81,8 +83,10 @@ awaited config h t c s i a b e range order differs fits counting near unsent spe
     poised_a = poised_station config e s c (world_at config h a) start
         (poised_at config h a e range counting parts.0) live_a
 
-    at_d : (d : ℕ) → d ≤ b - a → Fits t c s i (world_after (world_at config h a) (take d (drop a h)))
-    at_d d l = subst (Fits t c s i) (after_moment config h a d) (fits (a + d) (omega arith) (omega arith))
+    at_d : (d : ℕ) → d ≤ b - a →
+        Fits t c s i (world_at config h a) (world_after (world_at config h a) (take d (drop a h)))
+    at_d d l = subst (Fits t c s i (world_at config h a)) (after_moment config h a d)
+        (fits (a + d) (omega arith) (omega arith))
 
     -- The airtime that s is charged meanwhile, with the computed airtime of its open exchanges, is at most
     -- their computed airtime at first, and the errors.

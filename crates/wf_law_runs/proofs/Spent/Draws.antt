@@ -11,12 +11,12 @@ use Rattle.wf_def_lists.specs.Table.{at}
 use Rattle.wf_def_lists.specs.Lists.{on}
 use Rattle.wf_def_rotation.specs.Rotation.{in_order}
 use Rattle.wf_def_world.specs.World.{World, Exchange, no_station, rotation, is_live}
-use Rattle.wf_def_world.specs.Exchanges.{picked_station}
+use Rattle.wf_def_world.specs.Exchanges.{picked_station, longest_computed}
 use Rattle.wf_def_world.specs.Step.{step}
-use Rattle.wf_law_runs.specs.Deficits.{longest_computed, longest_exchange, IsNear}
+use Rattle.wf_law_runs.specs.Deficits.{longest_exchange, IsNear}
 use Rattle.wf_law_runs.specs.Shares.{ChargesWithin, error_of}
 use Rattle.wf_law_runs.proofs.Deficits.Books.{Account, account, core, Books, books, with_account, on_part, upd_same, upd_other, each_upd, each_updc}
-use Rattle.wf_law_runs.proofs.Deficits.BookSteps.{with_opened, with_charge, without, charge_share, receive_share, rated, all_off, fresh_account, after}
+use Rattle.wf_law_runs.proofs.Deficits.BookSteps.{with_opened, with_charge, without, charge_share, receive_share, rated, all_off, fresh_account, after, reweighed, with_weight}
 use Rattle.wf_law_runs.proofs.Deficits.Openings.{total, part, total-append, total-ended, reserved-append, part_of}
 use Rattle.wf_law_runs.proofs.Deficits.Kept.{IsKept}
 use Rattle.wf_law_runs.proofs.Deficits.KeptStep.{live_account}
@@ -111,6 +111,10 @@ module _ (err : ℕ) (w : World) (kept : IsKept (books w)) (counting : w.config.
       Goal (with_account (books w) k (option_map (rated rate) ((books w).accounts k)))
   draws_rates k rate still = draws_acc err (longest_exchange w.config c) i c (books w) _
       (charged_on c i k (books w) (rated rate) (λ a. refl)) refl
+
+  draws_weighed : (k weight : ℕ) → 0 < weight → Goal (with_weight (books w) k weight)
+  draws_weighed k weight some still = draws_acc err (longest_exchange w.config c) i c (books w) _
+      (charged_on c i k (books w) (reweighed w.config (books w).opened k weight) (λ a. refl)) refl
 
   draws_heard : (k : ℕ) (d : Class) (air : ℕ) → 0 < air →
       Goal (with_account (books w) k (option_map (on_part d (receive_share air)) ((books w).accounts k)))
@@ -215,6 +219,7 @@ module _ (err : ℕ) (w : World) (kept : IsKept (books w)) (counting : w.config.
   draws_changes = record {
     same = λ still. draws_acc err (longest_exchange w.config c) i c (books w) (books w) refl refl;
     joined = draws_joined;
+    weighed = draws_weighed;
     gone = draws_gone;
     rates = draws_rates;
     heard = draws_heard;

@@ -7,7 +7,8 @@ use Rattle.wf_frame.specs.Settings.{IsInRange}
 use Rattle.wf_def_world.specs.World.{World, owed, share, standing, is_live, opening}
 use Rattle.wf_def_world.specs.Run.{Entry}
 use Rattle.wf_def_world.specs.Stretches.{world_at, charged_between, IsQuiet}
-use Rattle.wf_law_runs.specs.Deficits.{longest_computed, got_between, weight_at}
+use Rattle.wf_def_world.specs.Exchanges.{longest_computed}
+use Rattle.wf_law_runs.specs.Deficits.{got_between, weight_at}
 use Rattle.wf_law_runs.specs.Shares.{received_between, quantum_then, spent_between, standing_then, AreWithin, error_of, excess, IsSpent}
 use Rattle.wf_law_runs.proofs.Common.Moments.{take_parts}
 use Rattle.wf_law_runs.proofs.Deficits.Books.{books}
@@ -52,11 +53,12 @@ spent_number p ob oa ch chb k u y d e f h = omega (arith, ints)
 
 -- The airtime that s spends and is charged for frames that it sends covers its quanta, except at most one,
 -- and the errors.
-cover_number : (u q qa n ch chb rc rcb p r oa ob m : ℕ) (d db : ℤ) → d ≡ pos (u + u * qa) -ℤ pos (ch + rc) →
-    db ≡ pos (u + u * q) -ℤ pos (chb + rcb) → db ≤ℤ pos (ob + u + m) → q ≡ qa + n → chb ≡ ch + p →
+cover_number : (u q qa n ch chb rc rcb p r oa ob m : ℕ) (z zb d db : ℤ) → zb ≡ z →
+    d ≡ z +ℤ pos (u * qa) -ℤ pos (ch + rc) → db ≡ zb +ℤ pos (u * q) -ℤ pos (chb + rcb) →
+    db ≤ℤ pos (ob + u + m) → q ≡ qa + n → chb ≡ ch + p →
     rcb ≡ rc + r → (pos (u * n) +ℤ (d -ℤ pos oa)) ≤ℤ
     (((pos (p + ob) -ℤ pos oa) +ℤ pos r) +ℤ pos (u + m))
-cover_number u q qa n ch chb rc rcb p r oa ob m d db e f most is_q is_ch is_rc =
+cover_number u q qa n ch chb rc rcb p r oa ob m z zb d db same e f most is_q is_ch is_rc =
     let whole : u * q ≡ u * qa + u * n = ap (λ (z : ℕ). u * z) is_q ∙ omega arith in
     omega (arith, ints)
 
@@ -109,7 +111,8 @@ even_spent q g h n m r i s d some none above most =
 
 pub spent_bounds : (config : Config) (h : List Entry) (t : Bool) (c : Class) (s i a b e : ℕ) →
     IsInRange config →
-    a ≤ b → (s ≡ i → ⊥) → ((m : ℕ) → a ≤ m → m ≤ b → Fits t c s i (world_at config h m)) →
+    a ≤ b → (s ≡ i → ⊥) →
+    ((m : ℕ) → a ≤ m → m ≤ b → Fits t c s i (world_at config h a) (world_at config h m)) →
     config.pending ≡ 1 →
     AreWithin e (opening config) (take b h) → IsSpent config h s i c a b e
 spent_bounds config h t c s i a b e range order differs fits counting near = record {
@@ -121,7 +124,7 @@ spent_bounds config h t c s i a b e range order differs fits counting near = rec
       (omega arith) (omega (arith, held.own_received, quiet)) (above quiet) weighted;
 }
   where
-    at_a : a ≤ b → Fits t c s i (world_at config h a)
+    at_a : a ≤ b → Fits t c s i (world_at config h a) (world_at config h a)
     at_a l = fits a (omega arith) l
 
     start : IsGround config (world_at config h a)
@@ -147,7 +150,8 @@ spent_bounds config h t c s i a b e range order differs fits counting near = rec
     drawn : IsDrawn config e c s i (world_at config h a) (take (b - a) (drop a h))
     drawn = drawn_run config t c s i e (world_at config h a) differs start counting
         (poised_at config h a e range counting parts.0) (drop a h) (b - a)
-        (λ d l. subst (Fits t c s i) (after_moment config h a d) (fits (a + d) (omega arith) (omega arith)))
+        (λ d l. subst (Fits t c s i (world_at config h a)) (after_moment config h a d)
+        (fits (a + d) (omega arith) (omega arith)))
         parts.1
 
     drawn_b : draw e i c (books (world_at config h b)) + 1
@@ -205,9 +209,10 @@ spent_bounds config h t c s i a b e range order differs fits counting near = rec
         (share (world_at config h a) s c).received (share (world_at config h b) s c).received
         (charged_between config h s c a b) (received_between config h s c a b)
         (owed s c (world_at config h a).opened) (owed s c (world_at config h b).opened) (error_of config e)
-        (share (world_at config h a) s c).deficit (share (world_at config h b) s c).deficit money_a.exact
-        money_b.exact poised_b.most (let more = held.own_quanta in omega (arith, more)) held.own_charged
-        held.own_received)
+        (share (world_at config h a) s c).base (share (world_at config h b) s c).base
+        (share (world_at config h a) s c).deficit (share (world_at config h b) s c).deficit held.own_base
+        money_a.exact money_b.exact poised_b.most (let more = held.own_quanta in omega (arith, more))
+        held.own_charged held.own_received)
 
     weighted : ((pos (weight_at config h b s) *ℤ spent_between config h i c a b) +ℤ
         (pos (weight_at config h b i) *ℤ standing_then config h a s c)) ≤ℤ

@@ -2,7 +2,7 @@
 -- computed airtime: a standing, with the airtime that charges of open exchanges may still return, is at most
 -- one quantum and the errors. Without receive charges, a standing, less the airtime that they may still take,
 -- is above 0 less one exchange and the errors.
-use Rattle.std.proofs.Common.{◌≡◌, refl, ap, sym, ◌∙◌, subst, arith, ℕ, zero, suc, ◌+◌, ◌*◌, ◌<◌, ◌≤◌, min, pos, ◌+ℤ◌, ◌-ℤ◌, ◌≤ℤ◌, Bool, true, false, if◌then◌else◌, List, [], ◌∷◌, ◌++◌, Option, Some, None, is_some, IfSome, option_map, ◌&&◌, ◌==◌, find, eq-eqb}
+use Rattle.std.proofs.Common.{◌≡◌, refl, ap, sym, ◌∙◌, subst, arith, ℕ, zero, suc, ◌+◌, ◌*◌, ◌<◌, ◌≤◌, min, pos, ◌+ℤ◌, ◌-ℤ◌, ◌≤ℤ◌, Bool, true, false, if◌then◌else◌, List, [], ◌∷◌, ◌++◌, Option, Some, None, is_some, IfSome, option_map, ◌&&◌, ◌==◌, find, eq-eqb, ℤ, inl, inr, ◌⊎◌}
 use Rattle.std.proofs.lemmas.Int.{ints}
 use Rattle.std.proofs.lemmas.Bool.{eqb-true, and_parts}
 use Rattle.wf_frame.specs.declared.settings.Config.{Config}
@@ -12,16 +12,16 @@ use Rattle.wf_frame.specs.Classes.{class_number, same_class}
 use Rattle.wf_def_lists.specs.Lists.{on}
 use Rattle.wf_def_rotation.specs.Rotation.{in_order, need_of}
 use Rattle.wf_def_world.specs.World.{World, Share, Exchange, owed, rotation}
-use Rattle.wf_def_world.specs.Exchanges.{picked_station, station_need}
-use Rattle.wf_def_world.specs.Step.{step}
+use Rattle.wf_def_world.specs.Exchanges.{picked_station, station_need, longest_computed}
+use Rattle.wf_def_world.specs.Step.{step, at_most, share_with_deficit}
 use Rattle.wf_def_world.specs.Run.{Entry, world_after}
-use Rattle.wf_law_runs.specs.Deficits.{longest_computed, IsNear}
+use Rattle.wf_law_runs.specs.Deficits.{IsNear}
 use Rattle.wf_law_runs.specs.Shares.{ChargesWithin, AreWithin, error_of}
 use Rattle.wf_law_runs.proofs.Deficits.Books.{Account, core, Books, books, with_account, on_part, each_upd, others_upd, each_updc, others_updc, same_number}
-use Rattle.wf_law_runs.proofs.Deficits.BookSteps.{with_opened, with_charge, without, charge_share, receive_share, pay_share, fresh_share, paid, after, rated, fresh_account}
+use Rattle.wf_law_runs.proofs.Deficits.BookSteps.{with_opened, with_charge, without, charge_share, receive_share, pay_share, fresh_share, paid, after, rated, fresh_account, spare, lowered, reweighed, with_weight}
 use Rattle.wf_law_runs.proofs.Deficits.Openings.{Every, every_map, total, part, total-append, total-ended, total-none, total_most, owed-total, many, total_less}
-use Rattle.wf_law_runs.proofs.Deficits.Bounds.{paid_some}
-use Rattle.wf_law_runs.proofs.Deficits.Kept.{IsOpen, IsKept, counted_in, need_in, standing_of, if_map, if_same, above_after}
+use Rattle.wf_law_runs.proofs.Deficits.Bounds.{paid_some, at_most_cases}
+use Rattle.wf_law_runs.proofs.Deficits.Kept.{IsOpen, IsKept, counted_in, need_in, standing_of, if_map, if_same, above_after, spare_counted, spare_short}
 use Rattle.wf_law_runs.proofs.Deficits.KeptStep.{is_pick, need_is, kept_step}
 use Rattle.wf_law_runs.proofs.Deficits.Configs.{config_step}
 use Rattle.wf_law_runs.proofs.Spent.Changes.{Changes, changes_step}
@@ -107,6 +107,26 @@ poised_fresh : (config : Config) (c : Class) (err o m k weight : ℕ) → 0 < co
 poised_fresh config c err o m k weight some w e f g =
     let one : 1 ≤ config.quantum * weight = grind arith in
     record { most = omega (arith, ints); floor = λ r. omega (arith, ints) }
+
+-- A deficit is lowered to one quantum and to r of the airtime in flight, all of it but one exchange.
+poised_lowered : (config : Config) (c : Class) (err o m k weight g r : ℕ) (x : Share) →
+    1 ≤ config.quantum * g → r ≤ o → o ≤ r + longest_computed config c → m ≤ error_of config err →
+    k ≤ error_of config err → IsPoised config c err o m k weight x →
+    IsPoised config c err o m k g (lowered (config.quantum * g) r x)
+poised_lowered config c err o m k weight g r x one below short less few p =
+    go (at_most (config.quantum * g + r) x.deficit) (at_most_cases (config.quantum * g + r) x.deficit)
+  where
+    go : (d : ℤ) → ((d ≡ x.deficit) × (x.deficit ≤ℤ pos (config.quantum * g + r)))
+        ⊎ (d ≡ pos (config.quantum * g + r)) →
+        IsPoised config c err o m k g (share_with_deficit (config.quantum * g) d x)
+    go d (inl (same, low)) = record {
+      most = omega (arith, ints, same, low, below, less);
+      floor = λ z. omega (arith, ints, same, p.floor z);
+    }
+    go d (inr same) = record {
+      most = omega (arith, ints, same, below, less);
+      floor = λ z. omega (arith, ints, same, short, few);
+    }
 
 -- ---- the books
 
@@ -233,6 +253,29 @@ module _ (err : ℕ) (w : World) (kept : IsKept (books w)) (counting : w.config.
 
       times : (m n k : ℕ) → m ≤ n → k ≤ m * err → k ≤ n * err
       times m n k l z = grind arith
+
+  -- The airtime that the charges may take beyond the computed airtime is at most the errors.
+  all_errors : (y : ℕ) (c : Class) → total (λ _. err) y c (books w).opened ≤ error_of w.config err
+  all_errors y c = times (many c (books w).opened) w.config.inflight _ (kept.few c)
+      (total_most err y c (books w).opened)
+    where
+      times : (m n k : ℕ) → m ≤ n → k ≤ m * err → k ≤ n * err
+      times m n k l z = grind arith
+
+  poised_weighed : (i weight : ℕ) → 0 < weight → ArePoised err (with_weight (books w) i weight)
+  unfolding HasPoise
+  poised_weighed i weight some = poised_on i (reweighed w.config (books w).opened i weight) (λ a z c.
+      poised_lowered w.config c err (total (λ x. x.charge) i c (books w).opened)
+      (total (gives_back err) i c (books w).opened) (total (λ _. err) i c (books w).opened) a.weight weight
+      (spare w.config i c (books w).opened) (a.shares c)
+      (product w.config.quantum weight (omega (arith, kept.range.quantum.0)) some)
+      (subst (λ (n : ℕ). spare w.config i c (books w).opened ≤ n) (counts i c)
+      (spare_counted w.config i c (books w).opened))
+      (subst (λ (n : ℕ). n ≤ spare w.config i c (books w).opened + longest_computed w.config c) (counts i c)
+      (spare_short (books w) kept i c)) (few_errors i c) (all_errors i c) (z c))
+    where
+      product : (m n : ℕ) → 0 < m → 0 < n → 1 ≤ m * n
+      product m n h k = grind arith
 
   once_most : (m n k : ℕ) → m ≤ 1 → n ≤ k → m * n ≤ k
   once_most zero n k l e = omega arith
@@ -377,6 +420,7 @@ unfolding HasPoise
 poised_changes err w kept counting h = record {
   same = h;
   joined = poised_joined err w kept counting h;
+  weighed = poised_weighed err w kept counting h;
   gone = λ i. record {
     each = each_upd (λ y o. IfSome o (HasPoise err w.config (books w).opened y))
         (books w).accounts i None h.each

@@ -4,7 +4,7 @@ use Rattle.std.proofs.Common.{◌≡◌, refl, ap, ◌∙◌, arith, ℕ, ◌+�
 use Rattle.std.proofs.lemmas.Int.{ints}
 use Rattle.wf_frame.specs.declared.settings.Config.{Config}
 use Rattle.wf_frame.specs.declared.classes.Class.{Class}
-use Rattle.wf_frame.specs.declared.notes.Ask.TheVariants.{Join, Leave, Rate, Tick, Pull, Arrive, Answer, Done, Sleep, Wake, Poll, Rx, Reap, Ampdu, Stop, Start, Unsent, GiveUp, Flush}
+use Rattle.wf_frame.specs.declared.notes.Ask.TheVariants.{Join, Leave, Rate, Tick, Pull, Arrive, Answer, Done, Sleep, Wake, Poll, Rx, Reap, Ampdu, Stop, Start, Unsent, GiveUp, Flush, Offload, Weight}
 use Rattle.wf_frame.specs.declared.notes.Limits.{Limits}
 use Rattle.wf_frame.specs.declared.notes.Note.{Note}
 use Rattle.wf_frame.specs.declared.notes.Note.TheVariants.{Enqueue, Asked}
@@ -22,7 +22,7 @@ use Rattle.wf_law_runs.specs.Shares.{airtime_sent_to, airtime_sent_by, airtime_s
 use Rattle.wf_law_runs.proofs.Common.Refused.{after_idle}
 use Rattle.wf_law_runs.proofs.Common.Limits.{with_limits}
 use Rattle.wf_law_runs.proofs.Deficits.Books.{core, Books, books}
-use Rattle.wf_law_runs.proofs.Deficits.BookSteps.{books_after_turn, books_prepared, books_sent, books_ended, books_gone, books_enqueued, books_received, books_reaped, books_slept, books_woken, books_credited, books_with_rate, books_joined, books_after_pick, books_stated, books_stopped, books_started, books_flushed}
+use Rattle.wf_law_runs.proofs.Deficits.BookSteps.{books_after_turn, books_prepared, books_sent, books_ended, books_gone, books_enqueued, books_received, books_reaped, books_slept, books_woken, books_credited, books_with_rate, books_joined, books_after_pick, books_stated, books_stopped, books_started, books_flushed, books_offloaded, books_weighed}
 use Rattle.wf_law_runs.proofs.Deficits.Openings.{owed-append, owed-core, owed-ended}
 use Rattle.wf_law_runs.proofs.Deficits.Kept.{IsKept}
 use Rattle.wf_law_runs.proofs.Deficits.KeptStep.{no_row, IsFound, at_number, books_arrived, books_unsent, books_given_up, books_answered, charge_exact, kept, kept_step}
@@ -119,6 +119,10 @@ paid_done (Enqueue i t flow len) w s c fine kept none =
     paid_same s c (books w) _ (ap (λ (b : Books). b.opened) (books_enqueued w i t flow len))
 paid_done (Asked (Join i window start exponent weight)) w s c fine kept none =
     paid_same s c (books w) _ (ap (λ (b : Books). b.opened) (books_joined w i window start exponent weight))
+paid_done (Asked (Offload i exponent weight)) w s c fine kept none =
+    paid_same s c (books w) _ (ap (λ (b : Books). b.opened) (books_offloaded w i exponent weight))
+paid_done (Asked (Weight i weight)) w s c fine kept none =
+    paid_same s c (books w) _ (ap (λ (b : Books). b.opened) (books_weighed w i weight))
 paid_done (Asked (Leave i)) w s c fine kept none =
     paid_same s c (books w) _ (ap (λ (b : Books). b.opened) (books_gone w i))
 paid_done (Asked (Rate i rate)) w s c fine kept none =

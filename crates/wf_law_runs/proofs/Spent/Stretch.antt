@@ -9,7 +9,8 @@ use Rattle.wf_def_world.specs.World.{World, Station, no_station, owed, station, 
 use Rattle.wf_def_world.specs.Step.{step}
 use Rattle.wf_def_world.specs.Run.{Entry, world_after}
 use Rattle.wf_def_world.specs.Stretches.{charge_by, charges}
-use Rattle.wf_law_runs.specs.Deficits.{longest_computed, longest_exchange}
+use Rattle.wf_def_world.specs.Exchanges.{longest_computed}
+use Rattle.wf_law_runs.specs.Deficits.{longest_exchange}
 use Rattle.wf_law_runs.specs.Shares.{receipts, AreWithin, error_of}
 use Rattle.wf_law_runs.specs.Waiting.{sends}
 use Rattle.wf_law_runs.proofs.Deficits.Books.{Account, account, core, books}
@@ -143,13 +144,14 @@ drawn_less u d d' ch o n q q' q0 h k l =
     times_le u (q - q0 + 1) (q' - q0 + 1) (omega arith) in omega arith
 
 -- The draw after i opened an exchange.
-drawn_won : (u q0 q ch0 ch rc0 rc o0 o k n r gs d : ℕ) (v0 v : ℤ) →
-    v0 ≡ pos (u + u * q0) -ℤ pos (ch0 + rc0) → v ≡ pos (u + u * q) -ℤ pos (ch + rc) →
+drawn_won : (u q0 q ch0 ch rc0 rc o0 o k n r gs d : ℕ) (z0 z v0 v : ℤ) → z ≡ z0 →
+    v0 ≡ z0 +ℤ pos (u * q0) -ℤ pos (ch0 + rc0) → v ≡ z +ℤ pos (u * q) -ℤ pos (ch + rc) →
     v0 ≤ℤ pos (o0 + u + r) → pos (1 + o + k) ≤ℤ (v +ℤ pos (n + r)) → rc0 ≤ rc → q0 ≤ q → q - q0 ≤ gs →
     d ≡ ch + (o + k) → d + 1 ≤ ch0 + o0 + u * (gs + 1) + (n + 2 * r)
-drawn_won u q0 q ch0 ch rc0 rc o0 o k n r gs d v0 v e f most floor more grows near is =
+drawn_won u q0 q ch0 ch rc0 rc o0 o k n r gs d z0 z v0 v same e f most floor more grows near is =
     let whole : u * q ≡ u * q0 + u * (q - q0) = parts q (q - q0) (omega arith) in
     let less : u * (q - q0) ≤ u * gs = times_le u (q - q0) gs near in
+    let one_more : u * (gs + 1) ≡ u * gs + u = omega arith in
     omega (arith, ints)
   where
     parts : (x y : ℕ) → x ≡ q0 + y → u * x ≡ u * q0 + u * y
@@ -163,8 +165,8 @@ module _ (config : Config) (t : Bool) (c : Class) (s i err : ℕ) (w : World) (a
   poise_at : (es : List Entry) → AreWithin err w es → ArePoised err (books (world_after w es))
   poise_at es near = poised_run err es w ground.kept (counts w ground) near poised
 
-  drawn_more : (es : List Entry) (e : Entry) → Fits t c s i w → Fits t c s i (world_after w es) →
-      Fits t c s i (world_after w (es ++ e ∷ [])) → Held config c s i w es →
+  drawn_more : (es : List Entry) (e : Entry) → Fits t c s i w w → Fits t c s i w (world_after w es) →
+      Fits t c s i w (world_after w (es ++ e ∷ [])) → Held config c s i w es →
       Held config c s i w (es ++ e ∷ []) →
       AreWithin err w (es ++ e ∷ []) → IsDrawn config err c s i w es →
       IsDrawn config err c s i w (es ++ e ∷ [])
@@ -194,8 +196,8 @@ module _ (config : Config) (t : Bool) (c : Class) (s i err : ℕ) (w : World) (a
       g' : IsGround config (step v e.1).world
       g' = ground_step config v e.1 gv
 
-      next' : Fits t c s i (step v e.1).world
-      next' = subst (Fits t c s i) after_e next
+      next' : Fits t c s i w (step v e.1).world
+      next' = subst (Fits t c s i w) after_e next
 
       parts : AreWithin err w es × AreWithin err v (e ∷ [])
       parts = within_append err es (e ∷ []) w near
@@ -206,7 +208,7 @@ module _ (config : Config) (t : Bool) (c : Class) (s i err : ℕ) (w : World) (a
 
       moved : IsMove (longest_exchange v.config c) c s i (books v) (books (step v e.1).world)
       moved = move_step v e.1 c s i gv.kept apart
-          (stays_step t c s i v (step v e.1).world gv.kept g'.kept now next')
+          (stays_step t c s i w v (step v e.1).world gv.kept g'.kept now next')
 
       held_next : IsHeld config c s i (charges w i c (es ++ e ∷ [])) (charges w s c (es ++ e ∷ []))
           (receipts w s c (es ++ e ∷ [])) w (step v e.1).world
@@ -256,8 +258,8 @@ module _ (config : Config) (t : Bool) (c : Class) (s i err : ℕ) (w : World) (a
           (share w i c).received (share (step v e.1).world i c).received (owed i c w.opened)
           (owed i c (step v e.1).world.opened) (errors err i c (step v e.1).world) (longest_computed config c)
           (error_of config err) ((share (step v e.1).world s c).quanta - (share w s c).quanta)
-          (draw err i c (books (step v e.1).world)) (share w i c).deficit
-          (share (step v e.1).world i c).deficit
+          (draw err i c (books (step v e.1).world)) (share w i c).base (share (step v e.1).world i c).base
+          (share w i c).deficit (share (step v e.1).world i c).deficit held_next.other_base
           was.exact is.exact start.most floor' held_next.other_received held_next.other_quanta
           (near_quanta rises) (draw_is err (step v e.1).world i c)
         where
@@ -275,7 +277,7 @@ module _ (config : Config) (t : Bool) (c : Class) (s i err : ℕ) (w : World) (a
               pos (longest_computed (step v e.1).world.config c + error_of (step v e.1).world.config err)))
               (owed_is (step v e.1).world i c) floor))
 
-  pub drawn_run : (xs : List Entry) (n : ℕ) → ((d : ℕ) → d ≤ n → Fits t c s i (world_after w (take d xs))) →
+  pub drawn_run : (xs : List Entry) (n : ℕ) → ((d : ℕ) → d ≤ n → Fits t c s i w (world_after w (take d xs))) →
       AreWithin err w (take n xs) → IsDrawn config err c s i w (take n xs)
   unfolding world_after
   drawn_run xs zero fits near = rw (draw_is err w i c) (drawn_first (config.quantum * (station w i).weight)
@@ -285,7 +287,7 @@ module _ (config : Config) (t : Bool) (c : Class) (s i err : ℕ) (w : World) (a
       (quantum_positive config w i ground (fits 0 (omega arith)).live)
       (errors_most config err i c w ground) (omega arith))
   drawn_run xs (suc n) fits near =
-      next_case xs n (λ (l : List Entry). Fits t c s i (world_after w l) → Held config c s i w l →
+      next_case xs n (λ (l : List Entry). Fits t c s i w (world_after w l) → Held config c s i w l →
       AreWithin err w l → IsDrawn config err c s i w l)
       (λ _ _ near. drawn_run xs n below near)
       (λ e next held near. drawn_more (take n xs) e (fits 0 (omega arith)) (fits n (omega arith)) next
@@ -293,13 +295,13 @@ module _ (config : Config) (t : Bool) (c : Class) (s i err : ℕ) (w : World) (a
       (drawn_run xs n below (within_append err (take n xs) (e ∷ []) w near).0))
       (fits (suc n) (omega arith)) (held_run config t c s i w xs apart ground (suc n) fits) near
     where
-      below : (d : ℕ) → d ≤ n → Fits t c s i (world_after w (take d xs))
+      below : (d : ℕ) → d ≤ n → Fits t c s i w (world_after w (take d xs))
       below d l = fits d (omega arith)
 
   -- ---- a station that sends nothing
 
-  falling_more : (es : List Entry) (e : Entry) → Fits t c s i (world_after w es) →
-      Fits t c s i (world_after w (es ++ e ∷ [])) → Held config c s i w es →
+  falling_more : (es : List Entry) (e : Entry) → Fits t c s i w (world_after w es) →
+      Fits t c s i w (world_after w (es ++ e ∷ [])) → Held config c s i w es →
       Held config c s i w (es ++ e ∷ []) →
       AreWithin err w (es ++ e ∷ []) → sends w s c (es ++ e ∷ []) ≡ 0 →
       draw err s c (books (world_after w es)) ≤ draw err s c (books w) →
@@ -333,7 +335,7 @@ module _ (config : Config) (t : Bool) (c : Class) (s i err : ℕ) (w : World) (a
 
       live : is_live (step v e.1).world s ≡ true
       live = marks_live t c s (step v e.1).world (ground_step config v e.1 gv).kept
-          (subst (Fits t c s i) after_e next).marks
+          (subst (Fits t c s i w) after_e next).marks
 
       draws : Draws err (longest_exchange v.config c) s c (books v) (books (step v e.1).world)
       draws = draws_step err v gv.kept (counts v gv) (poise_at es parts.0) s c
@@ -346,13 +348,14 @@ module _ (config : Config) (t : Bool) (c : Class) (s i err : ℕ) (w : World) (a
           ≡ (share w s c).charged + charges w s c (es ++ e ∷ [])
       charged_next = ap (λ (u : World). (share u s c).charged) (sym after_e) ∙ held'.own_charged
 
-  pub falling_run : (xs : List Entry) (n : ℕ) → ((d : ℕ) → d ≤ n → Fits t c s i (world_after w (take d xs))) →
+  pub falling_run : (xs : List Entry) (n : ℕ) →
+      ((d : ℕ) → d ≤ n → Fits t c s i w (world_after w (take d xs))) →
       AreWithin err w (take n xs) → sends w s c (take n xs) ≡ 0 →
       draw err s c (books (world_after w (take n xs))) ≤ draw err s c (books w)
   unfolding world_after
   falling_run xs zero fits near none = omega arith
   falling_run xs (suc n) fits near none =
-      next_case xs n (λ (l : List Entry). Fits t c s i (world_after w l) → Held config c s i w l →
+      next_case xs n (λ (l : List Entry). Fits t c s i w (world_after w l) → Held config c s i w l →
       AreWithin err w l → sends w s c l ≡ 0 → draw err s c (books (world_after w l)) ≤ draw err s c (books w))
       (λ _ _ near none. falling_run xs n below near none)
       (λ e next held near none. falling_more (take n xs) e (fits n (omega arith)) next
@@ -361,5 +364,5 @@ module _ (config : Config) (t : Bool) (c : Class) (s i err : ℕ) (w : World) (a
       (omega (arith, none, sends_append (take n xs) w s c e))))
       (fits (suc n) (omega arith)) (held_run config t c s i w xs apart ground (suc n) fits) near none
     where
-      below : (d : ℕ) → d ≤ n → Fits t c s i (world_after w (take d xs))
+      below : (d : ℕ) → d ≤ n → Fits t c s i w (world_after w (take d xs))
       below d l = fits d (omega arith)

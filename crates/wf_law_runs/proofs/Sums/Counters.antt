@@ -3,7 +3,7 @@
 use Rattle.std.proofs.Common.{◌≡◌, refl, arith, ℕ, zero, suc, ◌+◌, ◌-◌, ◌≤◌, ◌==◌, not, nat_lt, Bool, true, false, if◌then◌else◌, List, [], ◌∷◌, length, Option, Some, None}
 use Rattle.wf_frame.specs.declared.classes.Class.{Class}
 use Rattle.wf_frame.specs.declared.classes.Fate.{Fate}
-use Rattle.wf_frame.specs.declared.notes.Ask.TheVariants.{Join, Leave, Rate, Tick, Pull, Arrive, Answer, Done, Sleep, Wake, Poll, Rx, Reap, Ampdu, Stop, Start, Unsent, GiveUp, Flush}
+use Rattle.wf_frame.specs.declared.notes.Ask.TheVariants.{Join, Leave, Rate, Tick, Pull, Arrive, Answer, Done, Sleep, Wake, Poll, Rx, Reap, Ampdu, Stop, Start, Unsent, GiveUp, Flush, Offload, Weight}
 use Rattle.wf_frame.specs.declared.notes.Limits.{Limits}
 use Rattle.wf_frame.specs.declared.notes.Note.{Note}
 use Rattle.wf_frame.specs.declared.notes.Note.TheVariants.{Enqueue, Asked}
@@ -17,9 +17,9 @@ use Rattle.wf_def_agreement.specs.Session.{Session, End, request_due}
 use Rattle.wf_def_lists.specs.Bounds.{greatest_tick}
 use Rattle.wf_def_world.specs.FlowQueues.{is_at_limit, without_head, after_limit, longest_queue, with_listed_queue, with_appended, after_put_in, with_queues_paid, taken_by_codel, taken_from_picked, taken_for_tid, after_queue_left, after_queues_left, after_queue_flushed, after_queues_flushed}
 use Rattle.wf_def_world.specs.CanSend.{with_listing_in, with_listings_in, with_listings_of, can_give}
-use Rattle.wf_def_world.specs.Exchanges.{picked_station, most_frames, waiting_mpdus, longest_fitting, Aggregate, Prepared, with_station_paid, with_stations_paid, after_pick, after_tid_turn, with_number, with_fresh, aggregate_of, prepared_data, prepared_exchange, without_credit, with_exchange_opened, after_charge, with_failed_finished, with_settled, with_all_settled, after_done}
+use Rattle.wf_def_world.specs.Exchanges.{picked_station, most_frames, waiting_mpdus, longest_fitting, Aggregate, Prepared, with_station_paid, with_stations_paid, after_pick, after_tid_turn, with_number, with_fresh, aggregate_of, prepared_data, prepared_exchange, without_credit, with_exchange_opened, after_charge, with_failed_finished, with_settled, with_all_settled, after_done, caught_up, with_device_caught_up}
 use Rattle.wf_def_world.specs.Refusals.{refusals, refusal}
-use Rattle.wf_def_world.specs.Step.{Outcome, join_outcome, after_tid_left, after_tids_left, without_listings, leave_outcome, after_tid_flushed, flush_outcome, rate_outcome, tick_outcome, with_frame, enqueue_outcome, send_outcome, pull_outcome_for, pull_outcome, arrive_outcome, answer_outcome, unsent_outcome, give_up_outcome, done_outcome, outcome_where_open, sleep_outcome, wake_outcome, poll_outcome, rx_outcome, reap_outcome, concerned_station, outcome_of, after_refusal, judged_outcome, step}
+use Rattle.wf_def_world.specs.Step.{Outcome, join_outcome, after_tid_left, after_tids_left, without_listings, leave_outcome, after_tid_flushed, flush_outcome, rate_outcome, tick_outcome, with_frame, enqueue_outcome, send_outcome, pull_outcome_for, pull_outcome, arrive_outcome, answer_outcome, unsent_outcome, give_up_outcome, done_outcome, outcome_where_open, sleep_outcome, wake_outcome, poll_outcome, rx_outcome, reap_outcome, concerned_station, outcome_of, after_refusal, judged_outcome, step, offload_outcome, weight_outcome, with_deficits_lowered}
 use Rattle.wf_def_world.specs.World.{World, Station, Share, Tid, Exchange, Mpdu, Content, Frames, Request, session, queue, rotation, exchange, with_station, on_station, on_tid, on_session, on_receiver, with_queues, on_share, on_queue, with_rotation, with_fate, with_frame_finished, with_frames_finished, with_exchange, without_exchange}
 use Rattle.wf_law_rules.proofs.Lemmas.Numbers.{lt_no}
 use Rattle.wf_law_runs.proofs.Common.Refused.{after_idle}
@@ -169,10 +169,23 @@ module _ (a b : ℕ) where
   kept_all_settled (m ∷ ms) w s t ends h = kept_all_settled ms _ s t ends
       (kept_settled (ends m.number) w s t m h)
 
+  kept_caught_up : (w : World) (s t : ℕ) → Counts w → Counts (with_device_caught_up w s t)
+  unfolding with_device_caught_up caught_up on_receiver
+  kept_caught_up w s t h = kept_if _ _ w (kept_tid _ s t _ (kept_session w s t _ h)) h
+
+  kept_lowered : (cs : List Class) (w : World) (s : ℕ) → Counts w → Counts (with_deficits_lowered w s cs)
+  unfolding with_deficits_lowered
+  kept_lowered [] w s h = h
+  kept_lowered (c ∷ cs) w s h = kept_lowered cs _ s (kept_share w s c _ h)
+
+  kept_weighed : (w : World) (s weight : ℕ) → Counts w → Counts (weight_outcome w s weight).world
+  unfolding weight_outcome
+  kept_weighed w s weight h = kept_lowered all_classes _ s (set_station w s _ h)
+
   kept_after_done : (content : Content) (w : World) (x : Exchange) (heard : Bool) → Counts w →
       Counts (after_done w x heard content)
   unfolding after_done
-  kept_after_done (Frames mpdus) w x heard h = kept_all_settled mpdus w _ _ _ h
+  kept_after_done (Frames mpdus) w x heard h = kept_caught_up _ _ _ (kept_all_settled mpdus w _ _ _ h)
   kept_after_done (Request start) w x heard h = kept_session w _ _ _ h
 
   kept_ended : (air : Option ℕ) (w : World) (x : Exchange) (heard : Bool) → Counts w →
@@ -225,7 +238,8 @@ module _ (a b : ℕ) where
 
   kept_flushed : (w : World) (s t : ℕ) → Counts w → Counts (flush_outcome w s t).world
   unfolding flush_outcome after_tid_flushed
-  kept_flushed w s t h = kept_flush_queues _ _ (kept_finish_all _ _ _ (kept_session w s t _ h))
+  kept_flushed w s t h = kept_caught_up _ s t
+      (kept_flush_queues _ _ (kept_finish_all _ _ _ (kept_session w s t _ h)))
 
   kept_gone : (w : World) (s : ℕ) → Counts w → Counts (leave_outcome w s).world
   unfolding leave_outcome
@@ -272,9 +286,12 @@ ticked a b by w e h = (omega (arith, h.0, lt_no greatest_tick by e), omega (arit
 
 kept_done : (a b : ℕ) (note : Note) (w : World) → NoRow (refusals w note) → Counts a b w →
     Counts (a + greatest_tick) (b + 1) (outcome_of w note).world
-unfolding outcome_of join_outcome rate_outcome sleep_outcome wake_outcome poll_outcome rx_outcome
+unfolding outcome_of join_outcome offload_outcome rate_outcome sleep_outcome wake_outcome poll_outcome
+    rx_outcome
 kept_done a b (Enqueue s t flow len) w e h = more a b _ _ (kept_enqueued a b w s t flow len h)
 kept_done a b (Asked (Join s window start exponent weight)) w e h = more a b _ _ (put_station a b w s _ h)
+kept_done a b (Asked (Offload s exponent weight)) w e h = more a b _ _ (put_station a b w s _ h)
+kept_done a b (Asked (Weight s weight)) w e h = more a b _ _ (kept_weighed a b w s weight h)
 kept_done a b (Asked (Leave s)) w e h = more a b _ _ (kept_gone a b w s h)
 kept_done a b (Asked (Rate s rate)) w e h = more a b _ _ (set_station a b w s _ h)
 kept_done a b (Asked (Tick by)) w e h = ticked a b by w e.0 h

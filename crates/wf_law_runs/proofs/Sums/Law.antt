@@ -3,7 +3,7 @@ use Rattle.std.proofs.Common.{◌≡◌, refl, arith, ℕ, zero, suc, ◌+◌, �
 use Rattle.std.proofs.lemmas.Bool.{and_parts, not-false}
 use Rattle.wf_frame.specs.declared.settings.Config.{Config}
 use Rattle.wf_frame.specs.declared.classes.Class.{Class}
-use Rattle.wf_frame.specs.declared.notes.Ask.TheVariants.{Join, Done, Rx}
+use Rattle.wf_frame.specs.declared.notes.Ask.TheVariants.{Join, Done, Rx, Offload}
 use Rattle.wf_frame.specs.declared.notes.Note.{Note}
 use Rattle.wf_frame.specs.declared.notes.Note.TheVariants.{Enqueue, Asked}
 use Rattle.wf_frame.specs.declared.notes.Refusal.{Refusal}
@@ -81,6 +81,12 @@ small_run (e ∷ es) l n w k i =
 since_less : (note : Note) (w : World) (s n : ℕ) → since_join w s note n ≤ n
 since_less (Asked (Join i window start exponent weight)) w s n =
     go (is_none (refusal w (Asked (Join i window start exponent weight))) && (i == s))
+  where
+    go : (b : Bool) → (if b then 0 else n) ≤ n
+    go true = omega arith
+    go false = omega arith
+since_less (Asked (Offload i exponent weight)) w s n =
+    go (is_none (refusal w (Asked (Offload i exponent weight))) && (i == s))
   where
     go : (b : Bool) → (if b then 0 else n) ≤ n
     go true = omega arith

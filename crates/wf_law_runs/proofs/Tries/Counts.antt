@@ -5,7 +5,7 @@ use Rattle.std.proofs.lemmas.List.Sums.{sum_by-cons}
 use Rattle.wf_frame.specs.declared.settings.Config.{Config}
 use Rattle.wf_frame.specs.declared.classes.Class.{Class}
 use Rattle.wf_frame.specs.declared.classes.Fate.{Fate}
-use Rattle.wf_frame.specs.declared.notes.Ask.TheVariants.{Join, Leave, Rate, Tick, Pull, Arrive, Answer, Done, Sleep, Wake, Poll, Rx, Reap, Ampdu, Stop, Start, Unsent, GiveUp, Flush}
+use Rattle.wf_frame.specs.declared.notes.Ask.TheVariants.{Join, Leave, Rate, Tick, Pull, Arrive, Answer, Done, Sleep, Wake, Poll, Rx, Reap, Ampdu, Stop, Start, Unsent, GiveUp, Flush, Offload, Weight}
 use Rattle.wf_frame.specs.declared.notes.Limits.{Limits}
 use Rattle.wf_frame.specs.declared.notes.Note.{Note}
 use Rattle.wf_frame.specs.declared.notes.Note.TheVariants.{Enqueue, Asked}
@@ -15,13 +15,13 @@ use Rattle.wf_frame.specs.declared.notes.Refusal.TheVariants.{Idle}
 use Rattle.wf_frame.specs.Classes.{all_classes}
 use Rattle.wf_def_lists.specs.Table.{at, has, upto, with_member}
 use Rattle.wf_def_codel.specs.Codel.{Item}
-use Rattle.wf_def_agreement.specs.Session.{End, Session, Slot, State, no_slot, slot, on_slot, with_state, with_number_given, slot_after_miss, slot_given_up, after_flush, next_number, is_settled, is_waiting, is_failed, request_due, new_session}
-use Rattle.wf_def_world.specs.World.{World, Station, Exchange, Mpdu, Content, Frames, Request, new_tid, no_tid, session, queue, is_live, exchange, accepted_count, with_station, on_station, on_session, on_receiver, with_exchange, without_exchange, with_frame_finished, opening}
+use Rattle.wf_def_agreement.specs.Session.{End, Session, Slot, State, no_slot, slot, on_slot, with_state, with_number_given, slot_after_miss, slot_given_up, after_flush, next_number, is_settled, is_waiting, is_failed, request_due, new_session, start_of}
+use Rattle.wf_def_world.specs.World.{World, Station, Exchange, Mpdu, Content, Frames, Request, new_tid, session, queue, is_live, exchange, accepted_count, with_station, on_station, on_session, on_receiver, with_exchange, without_exchange, with_frame_finished, opening, is_offloaded}
 use Rattle.wf_def_world.specs.FlowQueues.{taken_for_tid, after_limit, after_put_in, with_appended, queue_for}
 use Rattle.wf_def_world.specs.CanSend.{can_send_in, can_give}
-use Rattle.wf_def_world.specs.Exchanges.{Aggregate, Prepared, most_frames, end_of, numbers_unsent, mpdus_of, part_of, picked_station, sending_tid, waiting_mpdus, longest_fitting, with_number, with_fresh, aggregate_of, with_flying, prepared_data, prepared_exchange, with_exchange_opened, after_tid_turn, after_arrival, after_charge, with_failed_finished, with_settled, with_all_settled, with_heard_start, after_done}
+use Rattle.wf_def_world.specs.Exchanges.{Aggregate, Prepared, most_frames, end_of, numbers_unsent, mpdus_of, part_of, picked_station, sending_tid, waiting_mpdus, longest_fitting, with_number, with_fresh, aggregate_of, with_flying, prepared_data, prepared_exchange, with_exchange_opened, after_tid_turn, after_arrival, after_charge, with_failed_finished, with_settled, with_all_settled, with_heard_start, after_done, caught_up, with_device_caught_up}
 use Rattle.wf_def_world.specs.Refusals.{refusal}
-use Rattle.wf_def_world.specs.Step.{Outcome, with_frame, enqueue_outcome, join_outcome, leave_outcome, rate_outcome, tick_outcome, send_outcome, pull_outcome_for, pull_outcome, arrive_outcome, answer_outcome, done_outcome, outcome_where_open, sleep_outcome, wake_outcome, poll_outcome, rx_outcome, reap_outcome, unsent_outcome, give_up_outcome, flush_outcome, outcome_of, concerned_station, after_refusal, judged_outcome, step, ampdu_outcome, stop_outcome, start_outcome}
+use Rattle.wf_def_world.specs.Step.{Outcome, with_frame, enqueue_outcome, join_outcome, leave_outcome, rate_outcome, tick_outcome, send_outcome, pull_outcome_for, pull_outcome, arrive_outcome, answer_outcome, done_outcome, outcome_where_open, sleep_outcome, wake_outcome, poll_outcome, rx_outcome, reap_outcome, unsent_outcome, give_up_outcome, flush_outcome, outcome_of, concerned_station, after_refusal, judged_outcome, step, ampdu_outcome, stop_outcome, start_outcome, offload_outcome, weight_outcome, new_station}
 use Rattle.wf_def_world.specs.Run.{Entry, world_after}
 use Rattle.wf_law_runs.specs.Tries.{count_of, count_in_part, tries_by, tries, count_among, unsent_in, unsent_by, unsent, IsCounted}
 use Rattle.wf_law_rules.proofs.Lemmas.Numbers.{on_bool, on_if, eq_yes, eq_no, yes_eq, not_eq, both, and_true}
@@ -29,20 +29,22 @@ use Rattle.wf_law_rules.proofs.Lemmas.Tables.{each_put}
 use Rattle.wf_law_runs.proofs.Common.Refused.{after_idle}
 use Rattle.wf_law_runs.proofs.Common.Marks.{marked_world}
 use Rattle.wf_law_runs.proofs.Common.Ends.{slot_after_end, end_unsent, end_not_unsent, on_settled}
-use Rattle.wf_law_runs.proofs.Common.Flushes.{flush_at, if_flushed}
+use Rattle.wf_law_runs.proofs.Common.Flushes.{flush_at, if_flushed, if_caught}
 use Rattle.wf_law_runs.proofs.Common.Picked.{picked_world}
 use Rattle.wf_law_runs.proofs.Sessions.Starts.{at_change_same, at_change_other, length-change}
 use Rattle.wf_law_runs.proofs.Sessions.Flights.{AllIn, Rises, rises_weaken, all_in_later}
 use Rattle.wf_law_runs.proofs.Windows.Opened.{eight}
-use Rattle.wf_law_runs.proofs.Windows.Sides.{Side, Same, side_of, sides_of, then_same, each_side_on, same_on_station, same_on_share, same_on_queue, same_finish, same_listed, same_after_pick, same_after_turn, same_spent, same_take, same_charged, same_within_limit, same_put_in, same_picked}
+use Rattle.wf_law_runs.proofs.Windows.Sides.{sided, Side, Same, sides_of, then_same, each_side_on, same_on_station, same_on_share, same_on_queue, same_finish, same_listed, same_after_pick, same_after_turn, same_spent, same_take, same_charged, same_within_limit, same_put_in, same_picked, same_weighed}
 use Rattle.wf_law_runs.proofs.Windows.Agreed.{IsLawful, IsReady, IsEnding, IsFound, found, ready_filled, ending_settled, ending_of, lawful_same, lawful_step, lawful_at_first, session_same, session_on_session, winner_ready, same_left_tids, same_off_lists}
 use Rattle.wf_law_runs.proofs.Releases.Kept.{KeptSession, kept_on_slot, Kept, keep_settled}
 use Rattle.wf_law_runs.proofs.Releases.Placed.{Placing, Numbered, Queued, Place, Any, placed_less, placed_at_first, queue_appended, less_put_in, less_with_frame, less_with_station, less_left_tids, less_off_lists, accepted_appended, accepted_with_frame, side_with_frame}
 use Rattle.wf_law_runs.proofs.Releases.Once.{placed_filled, placed_settled, placed_without, placed_step}
-use Rattle.wf_law_runs.proofs.Frames.Fewer.{carries, Less, then_less, less_plain, fewer_none, less_on_queue, less_on_station, less_on_session, less_on_receiver, less_on_share, less_finish, less_listed, less_after_pick, less_after_turn, less_spent, less_within_limit, less_charged, less_take, IsTaken, given_take, less_picked}
+use Rattle.wf_law_runs.proofs.Frames.Fewer.{carries, Less, then_less, less_plain, fewer_none, less_on_queue, less_on_station, less_on_session, less_on_receiver, less_on_share, less_finish, less_listed, less_after_pick, less_after_turn, less_spent, less_within_limit, less_charged, less_take, IsTaken, given_take, less_picked, less_weighed}
 use Rattle.wf_law_runs.proofs.Frames.Delivered.{Labelled, labelled_kept, labelled_filled, IsLabelled, labelled_step}
-use Rattle.wf_law_runs.proofs.Frames.Fates.{IsFoundNamed, found_named}
+use Rattle.wf_law_runs.proofs.Frames.Fates.{IsFoundNamed, found_named, session_on_receiver}
 use Rattle.wf_law_runs.proofs.Windows.Settling.{without_same}
+use Rattle.wf_def_agreement.specs.Receiver.{with_start}
+use Rattle.wf_def_lists.specs.Bounds.{greatest_window}
 
 -- How often each frame was sent, and how often an exchange that ended was to send it and did not.
 pub record Count : Type 0 where
@@ -456,9 +458,16 @@ times_named : (id : ℕ) (ms : List Mpdu) → count_of id (map (λ m. (m.id, m.n
 times_named id [] = refl
 times_named id (m ∷ ms) = ap (λ (k : ℕ). (if m.id == id then 1 else 0) + k) (times_named id ms)
 
-pub times_part : (id : ℕ) (c : Content) → count_in_part id (part_of c) ≡ times_by id c
-times_part id (Frames ms) = times_named id ms
-times_part id (Request f) = refl
+times_batch : (id : ℕ) (ms : List Mpdu) → count_by (λ i. i == id) (map (λ m. m.id) ms) ≡ times_in id ms
+times_batch id [] = refl
+times_batch id (m ∷ ms) = sum_by-cons (λ (i : ℕ). if i == id then 1 else 0) m.id (map (λ m. m.id) ms)
+    ∙ ap (λ (k : ℕ). (if m.id == id then 1 else 0) + k) (times_batch id ms)
+
+pub times_part : (id : ℕ) (batch : Bool) (c : Content) → count_in_part id (part_of batch c) ≡ times_by id c
+times_part id false (Frames ms) = times_named id ms
+times_part id true (Frames ms) = times_batch id ms
+times_part id false (Request f) = refl
+times_part id true (Request f) = refl
 
 counts_sent : (n : Count) (s t : ℕ) (c : Class) (p : Prepared) →
     Counts (plus n (λ k. times_by k p.content) zeros) p.world →
@@ -466,7 +475,8 @@ counts_sent : (n : Count) (s t : ℕ) (c : Class) (p : Prepared) →
 unfolding send_outcome with_exchange_opened
 counts_sent n s t c p h = counts_same _ _ _ (same_spent _ s) (less_spent Any _ s)
     (counts_less _ p.world _ (λ i j. refl) (less_plain Any p.world _ refl refl)
-    (counts_equal _ _ p.world (λ k. ap (λ (m : ℕ). n.sent k + m) (times_part k p.content)) (λ k. refl) h))
+    (counts_equal _ _ p.world (λ k. ap (λ (m : ℕ). n.sent k + m)
+    (times_part k (is_offloaded p.world s) p.content)) (λ k. refl) h))
 
 counts_pulled_by : (o : Option ℕ) (l : List ℕ) (n : Count) (w : World) (c : Class) →
     IfSome o (λ s. (is_live w s ≡ true) × (can_send_in w s c ≡ true)) → IsLawful w → Placing l w →
@@ -701,6 +711,20 @@ counted_heard : (b : Bool) (n : Count) (f : ℕ) (y : Session) → AllCounted n 
 counted_heard true n f y a = a
 counted_heard false n f y a = a
 
+-- The device of an offloaded station catches up.
+counts_caught : (n : Count) (w : World) (s t : ℕ) → Counts n w → Counts n (caught_up w s t)
+unfolding caught_up
+counts_caught n w s t c =
+    let start : ℕ = start_of (session w s t) in
+    let f : Session → Session = with_heard_start true start in
+    let u : World = on_session w s t f in
+    counts_less n u _ (session_on_receiver u s t (with_start start))
+    (less_on_receiver Any u s t (with_start start))
+    (counts_session n w s t f (counted_heard true n start (session w s t) (c.slots s t)) c)
+
+counts_device : (n : Count) (w : World) (s t : ℕ) → Counts n w → Counts n (with_device_caught_up w s t)
+counts_device n w s t c = if_caught (Counts n) w s t c (λ _. counts_caught n w s t c)
+
 counts_after : (air : Option ℕ) (c : Content) (l : List ℕ) (n : Count) (w : World) (i : IsLawful w)
     (x : Exchange) (heard : Bool) → x.content ≡ c → IsFound w i x →
     Labelled (session w x.station x.tid) (mpdus_of c) →
@@ -714,9 +738,10 @@ counts_after air (Frames ms) l n w i x heard e f a p h =
     let d : session v x.station x.tid ≡ session w x.station x.tid =
     session_same _ _ (same_charged air (without_exchange w x.number) x) x.station x.tid
     ∙ without_same w x.number x.station x.tid in
-    counts_all ms l n x.number x.station x.tid v (end_of x heard) (has (numbers_unsent x))
+    counts_device _ _ x.station x.tid
+    (counts_all ms l n x.number x.station x.tid v (end_of x heard) (has (numbers_unsent x))
     (λ k there. end_unsent x heard k there) (λ k away. end_not_unsent x heard k away)
-    (ending_of air w i x ms heard e f) (subst (λ (y : Session). Labelled y ms) (sym d) a) p h
+    (ending_of air w i x ms heard e f) (subst (λ (y : Session). Labelled y ms) (sym d) a) p h)
 counts_after air (Request g) l n w i x heard e f a p h =
     let v : World = after_charge (without_exchange w x.number) x air in
     counts_equal n _ _ (λ k. add-zero (n.sent k)) (λ k. add-zero (n.unsent k))
@@ -784,7 +809,7 @@ counts_flushed n w s t c = if_flushed (Counts n)
       finish = λ u id k. counts_finish n u _ id k;
       empty = λ u q k. counts_same n u _ (same_on_queue u q _)
           (less_on_queue Any u q _ (fewer_none (queue u q).items)) k;
-    }) w s t
+    }) w s t (λ v k _. counts_caught n v s t k)
     (counts_session n w s t _ (counted_flush n w.config.attempts (session w s t) (c.slots s t)) c)
 
 -- ---- the other calls
@@ -817,12 +842,21 @@ counts_answered n w x c = counts_less n w _ (λ s t. refl) (less_plain Any w _ r
 bare_counted : (n : Count) (first size : ℕ) → AllCounted n (new_session first size)
 bare_counted n first size i = settled_counted n _ refl
 
+counts_new : (n : Count) (w : World) (s window start exponent weight : ℕ) (offloaded : Bool) → Counts n w →
+    Counts n (with_station w s (Some (new_station w.config window start exponent weight offloaded)))
+counts_new n w s window start exponent weight offloaded c =
+    counts_with_station n w s _ (eight (λ y. AllCounted n y.session) (new_tid start window)
+    (bare_counted n start window) (bare_counted n 0 0)) c
+
 counts_joined : (n : Count) (w : World) (s window start exponent weight : ℕ) → Counts n w →
     Counts n (join_outcome w s window start exponent weight).world
 unfolding join_outcome
-counts_joined n w s window start exponent weight c =
-    counts_with_station n w s _ (eight (λ y. AllCounted n y.session) (new_tid start window)
-    (bare_counted n start window) (bare_counted n 0 0)) c
+counts_joined n w s window start exponent weight c = counts_new n w s window start exponent weight false c
+
+counts_offloaded : (n : Count) (w : World) (s exponent weight : ℕ) → Counts n w →
+    Counts n (offload_outcome w s exponent weight).world
+unfolding offload_outcome
+counts_offloaded n w s exponent weight c = counts_new n w s greatest_window 0 exponent weight true c
 
 counts_gone : (n : Count) (w : World) (s : ℕ) → Counts n w → Counts n (leave_outcome w s).world
 unfolding leave_outcome
@@ -878,7 +912,7 @@ counts_open P None n w f p k h = h
 counts_open P (Some x) n w f p k h = k x p
 
 counts_on_station : (n : Count) (w : World) (s : ℕ) (f : Station → Station) →
-    ((x : Station) (t : ℕ) → side_of (at no_tid (f x).tids t) ≡ side_of (at no_tid x.tids t)) → Counts n w →
+    ((x : Station) (t : ℕ) → sided (f x) t ≡ sided x t) → Counts n w →
     Counts n (on_station w s f)
 counts_on_station n w s f h c = counts_same n w _ (same_on_station w s f h) (less_on_station Any w s f) c
 
@@ -929,6 +963,15 @@ none_joined : (w : World) (s window start exponent weight k : ℕ) →
     tries_by k (join_outcome w s window start exponent weight).reply ≡ 0
 unfolding join_outcome
 none_joined w s window start exponent weight k = refl
+
+none_offloaded : (w : World) (s exponent weight k : ℕ) →
+    tries_by k (offload_outcome w s exponent weight).reply ≡ 0
+unfolding offload_outcome
+none_offloaded w s exponent weight k = refl
+
+none_weighed : (w : World) (s weight k : ℕ) → tries_by k (weight_outcome w s weight).reply ≡ 0
+unfolding weight_outcome
+none_weighed w s weight k = refl
 
 none_gone : (w : World) (s k : ℕ) → tries_by k (leave_outcome w s).reply ≡ 0
 unfolding leave_outcome
@@ -994,6 +1037,12 @@ counts_done (Asked (GiveUp e m)) l n w i a p c =
     (counts_open (IsFound w i) (exchange w e) n w _ (found w i e) (λ x _. counts_given_up n w x m c) c)
 counts_done (Asked (Flush s t)) l n w i a p c =
     counts_plain n (flush_outcome w s t) (none_flushed w s t) (counts_flushed n w s t c)
+counts_done (Asked (Offload s exponent weight)) l n w i a p c =
+    counts_plain n (offload_outcome w s exponent weight) (none_offloaded w s exponent weight)
+    (counts_offloaded n w s exponent weight c)
+counts_done (Asked (Weight s weight)) l n w i a p c =
+    counts_plain n (weight_outcome w s weight) (none_weighed w s weight)
+    (counts_same n w _ (same_weighed w s weight) (less_weighed Any w s weight) c)
 
 counts_refused : (note : Note) (r : Refusal) (n : Count) (w : World) → Counts n w →
     Counts n (after_refusal w note r)

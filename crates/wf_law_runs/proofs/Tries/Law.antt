@@ -6,7 +6,7 @@ use Rattle.wf_frame.specs.declared.notes.Ask.TheVariants.{Done}
 use Rattle.wf_frame.specs.declared.notes.Note.{Note}
 use Rattle.wf_frame.specs.declared.notes.Note.TheVariants.{Asked}
 use Rattle.wf_frame.specs.declared.notes.Part.{Part}
-use Rattle.wf_frame.specs.declared.notes.Part.TheVariants.{Mpdus, Request as Asks}
+use Rattle.wf_frame.specs.declared.notes.Part.TheVariants.{Mpdus, Request as Asks, Batch}
 use Rattle.wf_frame.specs.declared.notes.ReplyNote.{ReplyNote}
 use Rattle.wf_frame.specs.declared.notes.ReplyNote.TheVariants.{Send}
 use Rattle.wf_frame.specs.Settings.{IsInRange}
@@ -91,7 +91,8 @@ each_step l n limit w note y c some same a few k = elim (opens_step w note) [
     sent : (x : Opens (step w note)) → (times_in k (mpdus_of x.exchange.content) ≡ 0) ⊎
         AtMost limit (counted_after n w note (step w note).reply) k →
         AtMost limit (counted_after n w note (step w note).reply) k
-    sent x (inl none) = unsent_none (ap (tries_by k) x.reply ∙ times_part k x.exchange.content ∙ none)
+    sent x (inl none) = unsent_none (ap (tries_by k) x.reply
+        ∙ times_part k x.exchange.batch x.exchange.content ∙ none)
     sent x (inr h) = h
 
 each_run : (h : List Entry) (l : List ℕ) (n : Count) (limit : ℕ) (w : World) → Steady l w → Counts n w →
@@ -160,9 +161,36 @@ sum_named (m ∷ ms) c h =
     below = on_bool (nat_lt m.0 c) (λ e. lt_yes m.0 c e) (λ e. absurd
         (omega (arith, h m.0 (lt_no m.0 c e), one_if (m.0 == m.0) (yes_eq m.0 m.0 refl))))
 
+sum_same : (f g : ℕ → ℕ) (c : ℕ) → ((k : ℕ) → f k ≡ g k) → sum_below f c ≡ sum_below g c
+sum_same f g zero h = refl
+sum_same f g (suc c) h = omega (arith, h c, sum_same f g c h)
+
+sum_ids : (ids : List ℕ) (c : ℕ) → ((k : ℕ) → c ≤ k → count_by (λ i. i == k) ids ≡ 0) →
+    length ids ≡ sum_below (λ k. count_by (λ i. i == k) ids) c
+sum_ids [] c h = sym (sum_zero (λ k. 0) c (λ k. refl))
+sum_ids (x ∷ ids) c h =
+    let old : x < c = below in
+    omega (
+      arith,
+      sum_same (λ k. count_by (λ i. i == k) (x ∷ ids))
+          (λ k. (if x == k then 1 else 0) + count_by (λ i. i == k) ids) c one_more,
+      sum_added (λ k. if x == k then 1 else 0) (λ k. count_by (λ i. i == k) ids) c,
+      sum_one x c old,
+      sum_ids ids c (λ k far. omega (arith, h k far, one_more k)),
+    )
+  where
+    one_more : (k : ℕ) → count_by (λ i. i == k) (x ∷ ids)
+        ≡ (if x == k then 1 else 0) + count_by (λ i. i == k) ids
+    one_more k = sum_by-cons (λ (i : ℕ). if i == k then 1 else 0) x ids
+
+    below : x < c
+    below = on_bool (nat_lt x c) (λ e. lt_yes x c e) (λ e. absurd
+        (omega (arith, h x (lt_no x c e), one_more x, one_if (x == x) (yes_eq x x refl))))
+
 sum_part : (part : Part) (c : ℕ) → ((k : ℕ) → c ≤ k → count_in_part k part ≡ 0) →
     frames_in_part part ≡ sum_below (λ k. count_in_part k part) c
 sum_part (Mpdus ms) c h = sum_named ms c h
+sum_part (Batch ids) c h = sum_ids ids c h
 sum_part (Asks start) c h = sym (sum_zero (λ k. 0) c (λ k. refl))
 
 sum_reply : (r : ReplyNote) (c : ℕ) → ((k : ℕ) → c ≤ k → tries_by k r ≡ 0) →
@@ -187,10 +215,6 @@ sum_run (e ∷ es) w c none =
 sum_one_most : (id c : ℕ) → sum_below (λ k. if id == k then 1 else 0) c ≤ 1
 sum_one_most id c = on_bool (nat_lt id c) (λ e. omega (arith, sum_one id c (lt_yes id c e)))
     (λ e. omega (arith, sum_one_other id c (lt_no id c e)))
-
-sum_same : (f g : ℕ → ℕ) (c : ℕ) → ((k : ℕ) → f k ≡ g k) → sum_below f c ≡ sum_below g c
-sum_same f g zero h = refl
-sum_same f g (suc c) h = omega (arith, h c, sum_same f g c h)
 
 and_true_is : (a : Bool) → ◌≡◌ {A = ℕ} (if a && true then 1 else 0) (if a then 1 else 0)
 and_true_is true = refl
@@ -263,21 +287,28 @@ length_named : (ms : List Mpdu) → length {A = ℕ × ℕ} (map (λ m. (m.id, m
 length_named [] = refl
 length_named (m ∷ ms) = omega (arith, length_named ms)
 
-data_sent : (c : Content) (number station tid charge : ℕ) (more : Bool) → (is_request c ≡ false → 1 ≤
-    length (mpdus_of c)) →
-    data_exchanges_by (Send number station tid charge (part_of c) more)
-    ≤ frames_sent_by (Send number station tid charge (part_of c) more)
-data_sent (Frames ms) number station tid charge more some =
+length_batch : (ms : List Mpdu) → length {A = ℕ} (map (λ m. m.id) ms) ≡ length ms
+length_batch [] = refl
+length_batch (m ∷ ms) = omega (arith, length_batch ms)
+
+data_sent : (batch : Bool) (c : Content) (number station tid charge : ℕ) (more : Bool) →
+    (is_request c ≡ false → 1 ≤ length (mpdus_of c)) →
+    data_exchanges_by (Send number station tid charge (part_of batch c) more)
+    ≤ frames_sent_by (Send number station tid charge (part_of batch c) more)
+data_sent false (Frames ms) number station tid charge more some =
     omega (arith, some refl, length_named ms)
-data_sent (Request start) number station tid charge more some = omega arith
+data_sent true (Frames ms) number station tid charge more some =
+    omega (arith, some refl, length_batch ms)
+data_sent false (Request start) number station tid charge more some = omega arith
+data_sent true (Request start) number station tid charge more some = omega arith
 
 data_step : (w : World) (note : Note) → AllSome (step w note).world →
     data_exchanges_by (step w note).reply ≤ frames_sent_by (step w note).reply
 data_step w note a = elim (opens_step w note) [
   | inl none ↦ omega (arith, none.exchanges)
   | inr x ↦ subst (λ (r : ReplyNote). data_exchanges_by r ≤ frames_sent_by r) (sym x.reply)
-      (data_sent x.exchange.content x.exchange.number x.exchange.station x.exchange.tid x.exchange.charge
-      x.exchange.more (at_some HasSome (step w note).world.opened x.exchange a x.among))
+      (data_sent x.exchange.batch x.exchange.content x.exchange.number x.exchange.station x.exchange.tid
+      x.exchange.charge x.exchange.more (at_some HasSome (step w note).world.opened x.exchange a x.among))
 ]
 
 data_run : (h : List Entry) (l : List ℕ) (w : World) → AreAtMost greatest_body h → IsKept (books w) →

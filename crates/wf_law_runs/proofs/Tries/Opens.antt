@@ -2,7 +2,7 @@
 -- none. By cases of the call.
 use Rattle.std.proofs.Common.{◌≡◌, refl, sym, subst, ℕ, ◌⊎◌, inl, inr, List, [], ◌∷◌, ◌++◌, Option, Some, None}
 use Rattle.wf_frame.specs.declared.classes.Class.{Class}
-use Rattle.wf_frame.specs.declared.notes.Ask.TheVariants.{Join, Leave, Rate, Tick, Pull, Arrive, Answer, Done, Sleep, Wake, Poll, Rx, Reap, Ampdu, Stop, Start, Unsent, GiveUp, Flush}
+use Rattle.wf_frame.specs.declared.notes.Ask.TheVariants.{Join, Leave, Rate, Tick, Pull, Arrive, Answer, Done, Sleep, Wake, Poll, Rx, Reap, Ampdu, Stop, Start, Unsent, GiveUp, Flush, Offload, Weight}
 use Rattle.wf_frame.specs.declared.notes.Limits.{Limits}
 use Rattle.wf_frame.specs.declared.notes.Note.{Note}
 use Rattle.wf_frame.specs.declared.notes.Note.TheVariants.{Enqueue, Asked}
@@ -12,7 +12,7 @@ use Rattle.wf_frame.specs.declared.notes.ReplyNote.TheVariants.{Send}
 use Rattle.wf_def_world.specs.World.{World, Exchange, exchange}
 use Rattle.wf_def_world.specs.Exchanges.{Prepared, part_of, exchange_of, picked_station, with_exchange_opened}
 use Rattle.wf_def_world.specs.Refusals.{refusal}
-use Rattle.wf_def_world.specs.Step.{Outcome, enqueue_outcome, join_outcome, leave_outcome, rate_outcome, tick_outcome, send_outcome, pull_outcome_for, pull_outcome, arrive_outcome, answer_outcome, unsent_outcome, give_up_outcome, flush_outcome, done_outcome, outcome_where_open, sleep_outcome, wake_outcome, poll_outcome, rx_outcome, reap_outcome, outcome_of, concerned_station, judged_outcome, step}
+use Rattle.wf_def_world.specs.Step.{Outcome, enqueue_outcome, join_outcome, leave_outcome, rate_outcome, tick_outcome, send_outcome, pull_outcome_for, pull_outcome, arrive_outcome, answer_outcome, unsent_outcome, give_up_outcome, flush_outcome, done_outcome, outcome_where_open, sleep_outcome, wake_outcome, poll_outcome, rx_outcome, reap_outcome, outcome_of, concerned_station, judged_outcome, step, offload_outcome, weight_outcome}
 use Rattle.wf_law_runs.specs.Windows.{SomeOpen}
 use Rattle.wf_law_runs.specs.Tries.{tries_by, frames_sent_by, data_exchanges_by}
 use Rattle.wf_law_runs.proofs.Common.Picked.{picked_world}
@@ -30,7 +30,7 @@ pub record Opens (o : Outcome) : Type 0 where
   pub exchange : Exchange
   pub among : SomeOpen (λ y. y ≡ exchange) o.world.opened
   pub reply : o.reply ≡ Send exchange.number exchange.station exchange.tid exchange.charge
-      (part_of exchange.content) exchange.more
+      (part_of exchange.batch exchange.content) exchange.more
 
 abbrev pub NoneOrOpens : Outcome → Type 0
 NoneOrOpens o = SendsNone o.reply ⊎ Opens o
@@ -84,10 +84,9 @@ abbrev pub PullsOr : Note → ReplyNote → Type 0
 PullsOr note r = ((c : Class) × (l : Limits) × (note ≡ Asked (Pull c l))) ⊎ SendsNone r
 
 none_done : (note : Note) (w : World) → PullsOr note (outcome_of w note).reply
-unfolding outcome_of enqueue_outcome join_outcome leave_outcome tick_outcome rate_outcome sleep_outcome
-    wake_outcome poll_outcome rx_outcome arrive_outcome answer_outcome unsent_outcome give_up_outcome
-    flush_outcome
-    done_outcome
+unfolding outcome_of enqueue_outcome join_outcome offload_outcome weight_outcome leave_outcome
+    tick_outcome rate_outcome sleep_outcome wake_outcome poll_outcome rx_outcome arrive_outcome
+    answer_outcome unsent_outcome give_up_outcome flush_outcome done_outcome
 none_done (Enqueue s t flow len) w = inr (nothing _ (λ k. refl) refl refl)
 none_done (Asked (Join s window start exponent weight)) w = inr (nothing _ (λ k. refl) refl refl)
 none_done (Asked (Leave s)) w = inr (nothing _ (λ k. refl) refl refl)
@@ -109,6 +108,8 @@ none_done (Asked Reap) w = inr (none_reaped w.finished w)
 none_done (Asked (Unsent e n)) w = inr (none_open (exchange w e) w _ (λ x. nothing _ (λ k. refl) refl refl))
 none_done (Asked (GiveUp e n)) w = inr (none_open (exchange w e) w _ (λ x. nothing _ (λ k. refl) refl refl))
 none_done (Asked (Flush s t)) w = inr (nothing _ (λ k. refl) refl refl)
+none_done (Asked (Offload s exponent weight)) w = inr (nothing _ (λ k. refl) refl refl)
+none_done (Asked (Weight s weight)) w = inr (nothing _ (λ k. refl) refl refl)
 
 none_answer : (r : Option Refusal) (w : World) (note : Note) → PullsOr note (judged_outcome w note r).reply
 unfolding judged_outcome

@@ -17,9 +17,9 @@ use Rattle.wf_def_lists.specs.Lists.{IsOnce}
 use Rattle.wf_def_agreement.specs.Session.{End, Session, Slot, State, no_slot, slot, with_state, on_slot, after_flush, next_number, is_settled, is_waiting, is_failed}
 use Rattle.wf_def_world.specs.World.{World, on_tid, on_station, Exchange, Frame, Mpdu, Content, Frames, Request, no_frame, session, frame, is_live, exchange, with_station, on_session, without_exchange, on_queue, with_fate, with_frame_finished, with_frames_finished, opening}
 use Rattle.wf_def_world.specs.CanSend.{is_request, with_listings_of}
-use Rattle.wf_def_world.specs.Exchanges.{mpdus_of, end_of, with_heard_start, after_charge, with_failed_finished, with_settled, with_all_settled, after_done}
+use Rattle.wf_def_world.specs.Exchanges.{mpdus_of, end_of, with_heard_start, after_charge, with_failed_finished, with_settled, with_all_settled, after_done, with_device_caught_up}
 use Rattle.wf_def_world.specs.Refusals.{refusal}
-use Rattle.wf_def_world.specs.Step.{Outcome, done_outcome, outcome_where_open, waiting_ids, after_tid_flushed, flush_outcome, outcome_of, concerned_station, after_refusal, judged_outcome, step}
+use Rattle.wf_def_world.specs.Step.{Outcome, done_outcome, outcome_where_open, waiting_ids, flush_outcome, outcome_of, concerned_station, after_refusal, judged_outcome, step}
 use Rattle.wf_def_world.specs.Run.{Entry, world_after}
 use Rattle.wf_def_world.specs.Text.{same_fate, tally}
 use Rattle.wf_law_rules.proofs.Lemmas.Numbers.{on_bool, on_if, eq_yes, eq_no, yes_eq, not_eq, either, or_left, or_right}
@@ -29,8 +29,8 @@ use Rattle.wf_law_runs.specs.Tries.{requests_heard_by, requests_heard, asks_in}
 use Rattle.wf_law_runs.specs.Releases.{named_by}
 use Rattle.wf_law_runs.proofs.Common.Refused.{after_idle}
 use Rattle.wf_law_runs.proofs.Common.Ends.{slot_after_end, end_id, on_settled}
-use Rattle.wf_law_runs.proofs.Common.Flushes.{slot_flush, flushed_stays, flushed_fails, StaysInFlush, flushed_ids, flushed_queues, if_flushed}
-use Rattle.wf_law_runs.proofs.Windows.Sides.{Side, Same, same, each_side_on, same_on_queue, same_finish, same_listed, same_after_pick, same_charged}
+use Rattle.wf_law_runs.proofs.Common.Flushes.{slot_flush, flushed_stays, flushed_fails, StaysInFlush, flushed_ids, flushed_queues, emptied_world, flush_is}
+use Rattle.wf_law_runs.proofs.Windows.Sides.{Side, Same, same, each_side_on, same_finish, same_listed, same_after_pick, same_charged, same_emptied}
 use Rattle.wf_law_runs.proofs.Windows.Agreement.{within_length, IsUntold, IsAsked, IfRequest, slot_same}
 use Rattle.wf_law_runs.proofs.Windows.Agreed.{live_without, session_same, IsLawful, IsEnding, ending_settled, ending_of, session_on_session}
 use Rattle.wf_law_runs.proofs.Windows.Settling.{without_same}
@@ -42,8 +42,8 @@ use Rattle.std.proofs.Math.Nat.{le-max_left, le-max_right}
 use Rattle.wf_law_runs.proofs.Releases.Placed.{Any}
 use Rattle.wf_law_runs.proofs.Releases.Once.{placed_without}
 use Rattle.wf_law_runs.proofs.Frames.Fewer.{less_charged}
-use Rattle.wf_law_runs.proofs.Frames.Untouched.{untouched_charged, untouched_without, untouched_listed}
-use Rattle.wf_law_runs.proofs.Tries.Still.{Stands, Still, stands_equal, still_same, still_then, still_session, stands_on_slot, still_done}
+use Rattle.wf_law_runs.proofs.Frames.Untouched.{untouched_charged, untouched_without, untouched_listed, untouched_device}
+use Rattle.wf_law_runs.proofs.Tries.Still.{Stands, Still, stands_equal, still_same, still_then, still_session, stands_on_slot, still_done, still_device}
 
 -- ---- the fates of frames at failed numbers
 
@@ -92,7 +92,7 @@ fails_then u v w h k = record {
     | inl b ↦ elim (h.fails s t n (failed_before _ _ n b e)) [
       | inl a ↦ inl (record {
         same_slot = b.same_slot ∙ a.same_slot;
-        same_heard = b.same_heard ∙ a.same_heard;
+        heard_rises = omega (arith, a.heard_rises, b.heard_rises);
         same_first = b.same_first ∙ a.same_first;
       })
       | inr a ↦
@@ -154,7 +154,7 @@ missed w s t m id f own = each_side_on (λ i j a. (n : ℕ) → (slot a.session 
         ((x.id ≡ id) × (is_failed (f (slot y m)).state ≡ true))) no_slot y.slots
         (m - y.first) (f (slot y m)) (λ i _. inl refl)
         (λ d. inr (own, ap is_failed d)) (n - y.first) e) [
-          | inl a ↦ inl (record { same_slot = a; same_heard = refl; same_first = refl })
+          | inl a ↦ inl (record { same_slot = a; heard_rises = omega arith; same_first = refl })
           | inr b ↦ inr b
         ]
 
@@ -264,7 +264,7 @@ spent_later l w v h f = record {
   dropped = λ k e. stays_retried w v k h.remains (f.dropped k e);
   untold = λ s t n from e told. elim (h.fails s t n e) [
     | inl a ↦ ap (λ (x : Slot). has l x.id) a.same_slot ∙ f.untold s t n
-        (omega (arith, from, a.same_first)) (failed_before _ _ n a e) (omega (arith, told, a.same_heard))
+        (omega (arith, from, a.same_first)) (failed_before _ _ n a e) (omega (arith, told, a.heard_rises))
     | inr b ↦ on_bool (has l (slot (session v s t) n).id)
         (λ d. absurd (cc (f.dropped _ d, ap is_lost b.0))) (λ d. d)
   ];
@@ -431,6 +431,10 @@ same_session air w x =
     session_same _ _ (same_charged air (without_exchange w x.number) x) x.station x.tid
     ∙ without_same w x.number x.station x.tid
 
+-- The device of an offloaded station catches up.
+fails_device : (w : World) (s t : ℕ) → Fails w (with_device_caught_up w s t)
+fails_device w s t = fails_still w _ (still_device w s t) (remains_same w _ (untouched_device w s t).frames)
+
 after_content : (c : Content) (heard : Bool) (air : Option ℕ) (r l : List ℕ) (w : World) (i : IsLawful w)
     (x : Exchange) → x.content ≡ c → IsFoundNamed w i x → Placing r w → Fresh w → Spent l w → Fated w →
     After l (if heard && is_request c then 1 else 0)
@@ -442,10 +446,12 @@ after_content (Frames ms) heard air r l w i x e n p h f d =
     let labels : Labelled (session u x.station x.tid) ms =
     subst (λ (y : Session). Labelled y ms) (sym (same_session air w x))
     (subst (λ (c : Content). Labelled (session w x.station x.tid) (mpdus_of c)) e n.labels) in
-    subst (λ (m : ℕ). After l m (with_all_settled u x.station x.tid (end_of x heard) ms))
+    let v : World = with_all_settled u x.station x.tid (end_of x heard) ms in
+    subst (λ (m : ℕ). After l m (with_device_caught_up v x.station x.tid))
     (sym (no_request heard)) (after_fails l w _ (fails_then w u _ (fails_charged air w x)
-    (fails_all ms r x.number x.station x.tid (end_of x heard) u
-    (ending_of air w i x ms heard e n.found_one) labels k.placing k.fresh)) f d)
+    (fails_then u v _ (fails_all ms r x.number x.station x.tid (end_of x heard) u
+    (ending_of air w i x ms heard e n.found_one) labels k.placing k.fresh)
+    (fails_device v x.station x.tid))) f d)
 after_content (Request g) false air r l w i x e n p h f d =
     let u : World = after_charge (without_exchange w x.number) x air in
     after_fails l w _ (fails_then w u _ (fails_charged air w x)
@@ -593,31 +599,24 @@ flush_failed w s t i j n = each_side_on (λ i j a. (slot a.session n).state ≡ 
         ))
         (λ stays. inl (record {
           same_slot = slot_flush limit y n ∙ flushed_stays limit (slot y n) stays;
-          same_heard = refl;
+          heard_rises = omega arith;
           same_first = refl;
         }))
 
-flush_sides : (w : World) (s t i j : ℕ) → session (flush_outcome w s t).world i j
+flush_sides : (w : World) (s t i j : ℕ) → session (emptied_world w s t) i j
     ≡ session (on_session w s t (after_flush w.config.attempts)) i j
-flush_sides w s t i j =
-    let u : World = on_session w s t (after_flush w.config.attempts) in
-    if_flushed (λ v. session v i j ≡ session u i j)
-    (record {
-      finish = λ v id h. session_same v _ (same_finish v _ id) i j ∙ h;
-      empty = λ v q h. session_same v _ (same_on_queue v q _) i j ∙ h;
-    }) w s t refl
+flush_sides w s t i j = session_same _ _ (same_emptied w s t) i j
 
 flush_lost : (w : World) (s t k : ℕ) → has (waiting_ids (session w s t).slots) k ≡ true →
-    WasRetried (flush_outcome w s t).world k
-unfolding flush_outcome after_tid_flushed
+    WasRetried (emptied_world w s t) k
 flush_lost w s t k h = flushed_queues (λ u. WasRetried u k) (lost_stays k) _ _
     (lost_among (waiting_ids (session w s t).slots) (on_session w s t (after_flush w.config.attempts)) k h)
 
-fails_flushed : (w : World) (s t : ℕ) → Fresh w → Remains w (flush_outcome w s t).world →
-    Fails w (flush_outcome w s t).world
-fails_flushed w s t h r = record {
+fails_emptied : (w : World) (s t : ℕ) → Fresh w → Remains w (emptied_world w s t) →
+    Fails w (emptied_world w s t)
+fails_emptied w s t h r = record {
   fails = λ i j n e.
-      let v : World = (flush_outcome w s t).world in
+      let v : World = emptied_world w s t in
       let y : Session = session w s t in
       let d = flush_sides w s t i j in
       subst (λ (z : Session). Stands (session w i j) z n ⊎
@@ -632,6 +631,16 @@ fails_flushed w s t h r = record {
       ]);
   remains = r;
 }
+
+fails_flushed : (w : World) (s t : ℕ) → Fresh w → Remains w (flush_outcome w s t).world →
+    Fails w (flush_outcome w s t).world
+fails_flushed w s t h r =
+    let v : World = emptied_world w s t in
+    let u : World = with_device_caught_up v s t in
+    let calm : u.frames ≡ v.frames = (untouched_device v s t).frames in
+    subst (Fails w) (sym (flush_is w s t)) (fails_then w v u (fails_emptied w s t h
+    (then_remains w u v (subst (Remains w) (flush_is w s t) r) (remains_same u v (sym calm))))
+    (fails_device v s t))
 
 flushed_is : (w : World) (s t : ℕ) → outcome_of w (Asked (Flush s t)) ≡ flush_outcome w s t
 unfolding outcome_of

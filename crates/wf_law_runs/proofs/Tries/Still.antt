@@ -1,36 +1,38 @@
 -- Proves that a number fails only by a Done or a Flush: after any other call, each failed number was there
 -- before and failed. By cases of the call.
-use Rattle.std.proofs.Common.{◌≡◌, ◌≢◌, refl, ap, sym, ◌∙◌, subst, ℕ, zero, suc, ◌-◌, ◌==◌, List, [], ◌∷◌, ◌++◌, Option, Some, None}
+use Rattle.std.proofs.Common.{◌≡◌, ◌≢◌, refl, ap, sym, ◌∙◌, subst, ℕ, zero, suc, ◌-◌, ◌==◌, List, [], ◌∷◌, ◌++◌, Option, Some, None, Bool, true, false, arith, ◌≤◌}
 use Rattle.wf_frame.specs.declared.classes.Class.{Class}
-use Rattle.wf_frame.specs.declared.notes.Ask.TheVariants.{Join, Leave, Rate, Tick, Pull, Arrive, Answer, Done, Sleep, Wake, Poll, Rx, Reap, Ampdu, Stop, Start, Unsent, GiveUp, Flush}
+use Rattle.wf_frame.specs.declared.notes.Ask.TheVariants.{Join, Leave, Rate, Tick, Pull, Arrive, Answer, Done, Sleep, Wake, Poll, Rx, Reap, Ampdu, Stop, Start, Unsent, GiveUp, Flush, Offload, Weight}
 use Rattle.wf_frame.specs.declared.notes.Limits.{Limits}
 use Rattle.wf_frame.specs.declared.notes.Note.{Note}
 use Rattle.wf_frame.specs.declared.notes.Note.TheVariants.{Enqueue, Asked}
 use Rattle.wf_frame.specs.Classes.{all_classes}
 use Rattle.wf_def_lists.specs.Table.{at, upto, with_member}
-use Rattle.wf_def_agreement.specs.Session.{Session, Slot, State, no_slot, slot, on_slot, with_state, with_number_given}
+use Rattle.wf_def_agreement.specs.Session.{Session, Slot, State, no_slot, slot, on_slot, with_state, with_number_given, start_of}
 use Rattle.wf_def_world.specs.World.{World, Station, Exchange, Mpdu, new_tid, session, exchange, with_station, on_session, on_receiver, with_exchange}
-use Rattle.wf_def_world.specs.Exchanges.{with_flying, with_exchange_opened, after_arrival}
-use Rattle.wf_def_world.specs.Step.{Outcome, join_outcome, leave_outcome, rate_outcome, tick_outcome, pull_outcome, arrive_outcome, answer_outcome, unsent_outcome, give_up_outcome, outcome_where_open, sleep_outcome, wake_outcome, poll_outcome, rx_outcome, reap_outcome, outcome_of}
+use Rattle.wf_def_world.specs.Exchanges.{with_flying, with_exchange_opened, after_arrival, caught_up, with_device_caught_up}
+use Rattle.wf_def_world.specs.Step.{Outcome, join_outcome, leave_outcome, rate_outcome, tick_outcome, pull_outcome, arrive_outcome, answer_outcome, unsent_outcome, give_up_outcome, outcome_where_open, sleep_outcome, wake_outcome, poll_outcome, rx_outcome, reap_outcome, outcome_of, offload_outcome, new_station}
 use Rattle.wf_law_rules.proofs.Lemmas.Numbers.{on_bool, eq_yes, eq_no}
 use Rattle.wf_law_rules.proofs.Lemmas.Tables.{each_put}
 use Rattle.wf_law_runs.proofs.Common.Marks.{marked_world}
-use Rattle.wf_law_runs.proofs.Windows.Sides.{Side, Same, side_of, sides_of, same, then_same, each_side_on, same_on_station, same_on_share}
+use Rattle.wf_law_runs.proofs.Windows.Sides.{Side, Same, side_of, sides_of, same, then_same, each_side_on, same_on_station, same_on_share, caught_up_is, told_start, same_weighed}
 use Rattle.wf_law_runs.proofs.Windows.Opened.{eight}
 use Rattle.wf_law_runs.proofs.Windows.Agreed.{IsLawful, IsReady, same_left_tids, same_off_lists}
 use Rattle.wf_law_runs.proofs.Kept.Pulls.{along_pull}
 use Rattle.wf_law_runs.proofs.Releases.Released.{side_with_station, side_own_station}
 use Rattle.wf_law_runs.proofs.Frames.Delivered.{same_enqueued}
+use Rattle.wf_law_runs.proofs.Common.Flushes.{if_caught}
+use Rattle.wf_def_lists.specs.Bounds.{greatest_window}
 
 -- ---- sessions and worlds
 
 -- Number n of session z is what it was in session y before.
 pub record Stands (y z : Session) (n : ℕ) : Type 0 where
   pub same_slot : slot z n ≡ slot y n
-  pub same_heard : z.heard ≡ y.heard
+  pub heard_rises : y.heard ≤ z.heard
   pub same_first : z.first ≡ y.first
 
--- Each failed number of world v was there and failed in world w, and the starts that were heard are the same.
+-- Each failed number of world v was there and failed in world w, and the starts that were heard do not fall.
 pub record Still (w v : World) : Type 0 where
   pub still : (s t n : ℕ) → (slot (session v s t) n).state ≡ State.Failed →
       Stands (session w s t) (session v s t) n
@@ -38,7 +40,7 @@ pub record Still (w v : World) : Type 0 where
 pub stands_equal : (y z : Session) (n : ℕ) → z ≡ y → Stands y z n
 stands_equal y z n e = record {
   same_slot = ap (λ (x : Session). slot x n) e;
-  same_heard = ap (λ (x : Session). x.heard) e;
+  heard_rises = omega (arith, ap (λ (x : Session). x.heard) e);
   same_first = ap (λ (x : Session). x.first) e;
 }
 
@@ -55,7 +57,7 @@ still_then u v w h k = record {
       h.still s t n (ap (λ (x : Slot). x.state) (sym b.same_slot) ∙ e) in
       record {
         same_slot = b.same_slot ∙ a.same_slot;
-        same_heard = b.same_heard ∙ a.same_heard;
+        heard_rises = omega (arith, a.heard_rises, b.heard_rises);
         same_first = b.same_first ∙ a.same_first;
       };
 }
@@ -82,7 +84,7 @@ still_given : (w : World) (s t id : ℕ) → Still w (on_session w s t (λ y. wi
 still_given w s t id = still_session w s t (λ y. with_number_given y id) (λ n h. record {
   same_slot = appended (session w s t).slots (record { id = id; attempts = 0; state = State.Waiting })
       (n - (session w s t).first) (λ e. cc e) h;
-  same_heard = refl;
+  heard_rises = omega arith;
   same_first = refl;
 })
 
@@ -92,7 +94,7 @@ pub stands_on_slot : (y : Session) (m : ℕ) (f : Slot → Slot) → (f (slot y 
 stands_on_slot y m f ne n h = record {
   same_slot = each_put (λ i x. x.state ≡ State.Failed → x ≡ at no_slot y.slots i) no_slot y.slots
       (m - y.first) (f (slot y m)) (λ i _. refl) (λ e. absurd (ne e)) (n - y.first) h;
-  same_heard = refl;
+  heard_rises = omega arith;
   same_first = refl;
 }
 
@@ -106,7 +108,7 @@ stands_flown (m ∷ ms) y e n h =
     (ap (λ (x : Slot). x.state) (sym b.same_slot) ∙ h) in
     record {
       same_slot = b.same_slot ∙ a.same_slot;
-      same_heard = b.same_heard ∙ a.same_heard;
+      heard_rises = omega (arith, a.heard_rises, b.heard_rises);
       same_first = b.same_first ∙ a.same_first;
     }
 
@@ -140,11 +142,32 @@ still_station w i o none = record {
       (side_with_station w i s t o (eq_no i s other))));
 }
 
+still_new : (w : World) (s window start exponent weight : ℕ) (offloaded : Bool) →
+    Still w (with_station w s (Some (new_station w.config window start exponent weight offloaded)))
+still_new w s window start exponent weight offloaded = still_station w s _
+    (eight (λ y. NoneFails (side_of y)) (new_tid start window) (none_fails start window) (none_fails 0 0))
+
 still_joined : (w : World) (s window start exponent weight : ℕ) →
     Still w (join_outcome w s window start exponent weight).world
 unfolding join_outcome
-still_joined w s window start exponent weight = still_station w s _
-    (eight (λ y. NoneFails (side_of y)) (new_tid start window) (none_fails start window) (none_fails 0 0))
+still_joined w s window start exponent weight = still_new w s window start exponent weight false
+
+still_offloaded : (w : World) (s exponent weight : ℕ) →
+    Still w (offload_outcome w s exponent weight).world
+unfolding offload_outcome
+still_offloaded w s exponent weight = still_new w s greatest_window 0 exponent weight true
+
+-- The device of an offloaded station catches up.
+still_caught : (w : World) (s t : ℕ) → Still w (caught_up w s t)
+still_caught w s t = subst (Still w) (sym (caught_up_is w s t)) (record {
+  still = each_side_on (λ i j a. (k : ℕ) → (slot a.session k).state ≡ State.Failed →
+      Stands (session w i j) a.session k) w s t (told_start (start_of (session w s t)))
+      (λ i j k _. stands_equal _ _ k refl)
+      (λ k _. record { same_slot = refl; heard_rises = omega arith; same_first = refl });
+})
+
+pub still_device : (w : World) (s t : ℕ) → Still w (with_device_caught_up w s t)
+still_device w s t = if_caught (Still w) w s t (still_same w w (same w)) (λ _. still_caught w s t)
 
 still_gone : (w : World) (s : ℕ) → Still w (leave_outcome w s).world
 unfolding leave_outcome
@@ -218,3 +241,5 @@ still_done (Asked Reap) w i d = still_reaped w.finished w
 still_done (Asked (Unsent e n)) w i d = still_open (exchange w e) w _ (λ x. still_unsent w x n)
 still_done (Asked (GiveUp e n)) w i d = still_open (exchange w e) w _ (λ x. still_given_up w x n)
 still_done (Asked (Flush s t)) w i d = absurd (d tt)
+still_done (Asked (Offload s exponent weight)) w i d = still_offloaded w s exponent weight
+still_done (Asked (Weight s weight)) w i d = still_same w _ (same_weighed w s weight)

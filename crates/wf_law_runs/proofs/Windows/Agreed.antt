@@ -1,39 +1,41 @@
 -- Proves that the invariant of each agreement and of each open exchange holds in every world of a run. By
 -- cases of the call and induction on the run.
-use Rattle.std.proofs.Common.{◌≡◌, ◌≢◌, refl, ap, sym, ◌∙◌, subst, arith, ℕ, zero, suc, ◌+◌, ◌-◌, ◌<◌, ◌≤◌, nat_lt, append-nil, max, pos, ◌+ℤ◌, ◌*◌, Bool, true, false, if◌then◌else◌, not, ◌&&◌, ◌==◌, ◌||◌, inl, inr, is_none, sum_by, List, [], ◌∷◌, ◌++◌, length, map, filter, nat_le, Option, Some, None, IfSome, is_some, unwrap_or, option_map}
+use Rattle.std.proofs.Common.{◌≡◌, ◌≢◌, refl, ap, sym, ◌∙◌, subst, arith, ℕ, zero, suc, ◌+◌, ◌-◌, ◌<◌, ◌≤◌, nat_lt, append-nil, max, pos, ◌+ℤ◌, ◌*◌, Bool, true, false, if◌then◌else◌, not, ◌&&◌, ◌==◌, ◌||◌, ◌⊎◌, inl, inr, is_none, sum_by, List, [], ◌∷◌, ◌++◌, length, map, filter, nat_le, Option, Some, None, IfSome, is_some, unwrap_or, option_map}
 use Rattle.wf_frame.specs.declared.settings.Config.{Config}
 use Rattle.wf_frame.specs.declared.classes.Class.{Class}
 use Rattle.wf_def_lists.specs.Table.{at, has, with_member, put, change, upto}
+use Rattle.wf_def_lists.specs.Bounds.{greatest_window}
+use Rattle.wf_law_runs.specs.Offloads.{IsOffloadRight}
 use Rattle.wf_def_codel.specs.Codel.{Item}
 use Rattle.wf_def_rotation.specs.Rotation.{in_order}
 use Rattle.wf_def_agreement.specs.Receiver.{Receiver, with_arrived, with_start, Score, score, shows}
-use Rattle.wf_def_agreement.specs.Session.{request_due, waiting_numbers, Session, Slot, State, End, is_settled, is_failed, slot_after_miss, slot_given_up, slot, on_slot, with_number_given, after_flush, next_number, has_room}
-use Rattle.wf_def_world.specs.World.{quantum, new_queue, no_share, receiver, share, World, Station, Share, Tid, Queue, Exchange, Mpdu, Content, Frames, Request, new_tid, no_tid, no_station, rotation, session, tid_of, is_live, exchange, with_station, on_station, on_tid, on_session, on_receiver, on_share, with_rotation, with_exchange, without_exchange, opening}
+use Rattle.wf_def_agreement.specs.Session.{request_due, start_of, waiting_numbers, Session, Slot, State, End, is_settled, is_failed, slot_after_miss, slot_given_up, slot, on_slot, with_number_given, after_flush, next_number, has_room}
+use Rattle.wf_def_world.specs.World.{quantum, new_queue, no_share, receiver, share, World, Station, Share, Tid, Queue, Exchange, Mpdu, Content, Frames, Request, new_tid, no_tid, no_station, rotation, session, tid_of, is_live, is_offloaded, exchange, with_station, on_station, on_tid, on_session, on_receiver, on_share, with_rotation, with_exchange, without_exchange, opening}
 use Rattle.wf_frame.specs.Classes.{lower_tid, upper_tid, class_number, all_classes}
 use Rattle.wf_def_world.specs.FlowQueues.{taken_for_tid}
 use Rattle.wf_def_world.specs.CanSend.{is_request, request_open, can_send, can_send_in, is_ready, can_give}
-use Rattle.wf_def_world.specs.Exchanges.{is_acked, end_of, transmissions, no_mpdu, station_need, most_frames, picked_station, after_arrival, exchange_of, sending_tid, with_heard_start, Aggregate, Prepared, mpdus_of, with_station_paid, with_stations_paid, after_pick, after_tid_turn, with_fresh, aggregate_of, with_number, fresh_mpdus, with_flying, waiting_mpdus, longest_fitting, prepared_data, prepared_exchange, with_exchange_opened, after_charge, with_failed_finished, with_settled, with_all_settled, after_done}
-use Rattle.wf_frame.specs.declared.notes.Ask.TheVariants.{Join, Leave, Rate, Tick, Pull, Arrive, Answer, Done, Sleep, Wake, Poll, Rx, Reap, Ampdu, Stop, Start, Unsent, GiveUp, Flush}
+use Rattle.wf_def_world.specs.Exchanges.{number_at, caught_up, with_device_caught_up, is_acked, end_of, transmissions, no_mpdu, station_need, most_frames, picked_station, after_arrival, exchange_of, sending_tid, with_heard_start, Aggregate, Prepared, mpdus_of, with_station_paid, with_stations_paid, after_pick, after_tid_turn, with_fresh, aggregate_of, with_number, fresh_mpdus, with_flying, waiting_mpdus, longest_fitting, prepared_data, prepared_exchange, with_exchange_opened, after_charge, with_failed_finished, with_settled, with_all_settled, after_done}
+use Rattle.wf_frame.specs.declared.notes.Ask.TheVariants.{Join, Leave, Rate, Tick, Pull, Arrive, Answer, Done, Sleep, Wake, Poll, Rx, Reap, Ampdu, Stop, Start, Unsent, GiveUp, Flush, Offload, Weight}
 use Rattle.wf_frame.specs.declared.notes.Limits.{Limits}
 use Rattle.wf_frame.specs.declared.notes.Note.{Note}
 use Rattle.wf_frame.specs.declared.notes.Note.TheVariants.{Enqueue, Asked}
 use Rattle.wf_frame.specs.declared.notes.Refusal.{Refusal}
 use Rattle.wf_frame.specs.declared.notes.Refusal.TheVariants.{Idle}
 use Rattle.wf_def_world.specs.Refusals.{exchange_has, open_of_station, refusals, refusal}
-use Rattle.wf_def_world.specs.Step.{Outcome, join_outcome, after_tid_left, after_tids_left, without_listings, leave_outcome, rate_outcome, tick_outcome, with_frame, enqueue_outcome, send_outcome, pull_outcome_for, pull_outcome, arrive_outcome, answer_outcome, done_outcome, outcome_where_open, sleep_outcome, wake_outcome, poll_outcome, rx_outcome, reap_outcome, unsent_outcome, give_up_outcome, flush_outcome, outcome_of, after_refusal, judged_outcome, step}
+use Rattle.wf_def_world.specs.Step.{Outcome, new_station, join_outcome, offload_outcome, after_tid_left, after_tids_left, without_listings, leave_outcome, rate_outcome, tick_outcome, with_frame, enqueue_outcome, send_outcome, pull_outcome_for, pull_outcome, arrive_outcome, answer_outcome, done_outcome, outcome_where_open, sleep_outcome, wake_outcome, poll_outcome, rx_outcome, reap_outcome, unsent_outcome, give_up_outcome, flush_outcome, outcome_of, after_refusal, judged_outcome, step}
 use Rattle.wf_def_world.specs.Run.{Entry, world_after}
 use Rattle.std.specs.List.{list_any}
 use Rattle.wf_law_rules.proofs.Lemmas.Tables.{each_put, at_put_other}
 use Rattle.wf_law_runs.proofs.Common.Refused.{after_idle}
 use Rattle.wf_law_runs.proofs.Common.Marks.{with_marks, marked_world}
 use Rattle.wf_law_runs.proofs.Common.Ends.{missed_not_acked, end_backed}
-use Rattle.wf_law_runs.proofs.Common.Flushes.{flush_along, if_flushed}
+use Rattle.wf_law_runs.proofs.Common.Flushes.{flush_along, emptied_world, flush_is, if_emptied}
 use Rattle.wf_law_runs.proofs.Sessions.Starts.{start_ge, length-change}
 use Rattle.wf_law_runs.proofs.Sessions.Flights.{AllIn, Rises, rises_weaken, all_in_later, IsFlown, flown, IsChosen, chosen_fitting, chosen_waiting, chosen_give, chosen_fresh}
-use Rattle.wf_law_rules.proofs.Lemmas.Numbers.{on_bool, on_if, eq_yes, eq_no, yes_eq, either, both, and_true, has_new}
+use Rattle.wf_law_rules.proofs.Lemmas.Numbers.{or_left, or_right, has_old, on_bool, on_if, eq_yes, eq_no, yes_eq, either, both, and_true, has_new}
 use Rattle.wf_law_runs.proofs.Common.Picked.{picked_world}
-use Rattle.wf_law_runs.proofs.Windows.Sides.{Side, side_of, side, sides_of, Same, each_side_on, at_side_on, side_on, on_live, on_opened, on_exchanges, same, then_same, same_on_station, same_with_queues, same_on_share, same_on_queue, same_with_rotation, same_finish, same_finish_all, same_listed, same_after_pick, same_after_turn, same_spent, same_within_limit, same_put_in, same_take, same_purge_queues, same_charged, same_picked}
-use Rattle.wf_law_runs.proofs.Windows.Agreement.{IsAgreed, due_at, agreed_on_slot, not_due_give, agreed_give, agreed_heard, agreed_arrived, agreed_start, agreed_new, IsAsked, IsOpen, request_map, open_on_slot, open_flies, open_arrived, open_start, open_heard, agreed_fly, answer_right, AllRight, IfRequest}
+use Rattle.wf_law_runs.proofs.Windows.Sides.{sided, caught_up_is, told_start, on_offloaded, same_plain, same_weighed, Side, side_of, side, sides_of, Same, each_side_on, at_side_on, side_on, on_live, on_opened, on_exchanges, same, then_same, same_on_station, same_with_queues, same_on_share, same_on_queue, same_with_rotation, same_finish, same_finish_all, same_listed, same_after_pick, same_after_turn, same_spent, same_within_limit, same_put_in, same_take, same_purge_queues, same_charged, same_picked}
+use Rattle.wf_law_runs.proofs.Windows.Agreement.{quiet_on_slot, agreed_told, told_quiet, quiet_heard, IsAgreed, due_at, agreed_on_slot, not_due_give, agreed_give, agreed_heard, agreed_arrived, agreed_start, agreed_new, IsAsked, IsOpen, request_map, open_on_slot, open_flies, open_arrived, open_start, open_heard, agreed_fly, answer_right, AllRight, IfRequest}
 use Rattle.wf_law_runs.proofs.Windows.Opened.{Each, each_map, each_both, each_append, each_filter, each_find, FlyIn, fly_give, differ, some_along, pick_ready, can_give-room, eight, none_open, NoRow, no_row}
 
 -- ---- worlds in which the invariant holds for each agreement and each open exchange
@@ -47,6 +49,8 @@ OpenAt x a = IsOpen x a.session a.receiver
 pub record IsOpenIn (w : World) (x : Exchange) : Type 0 where
   pub live : is_live w x.station ≡ true
   pub below : x.number < w.exchanges
+  -- It is a batch exactly if its station is offloaded, and then it is no request.
+  pub right : IsOffloadRight w x
   pub opened : OpenAt x (side w x.station x.tid)
 
 abbrev pub asks : ℕ → ℕ → Exchange → Bool
@@ -57,50 +61,100 @@ pub record IsSole (xs : List Exchange) (s t : ℕ) : Type 0 where
   pub who : ℕ
   pub only : Each (λ x. asks s t x ≡ true → x.number ≡ who) xs
 
-pub record IsLawful (w : World) : Type 0 where
+-- The invariant. No request is due for the TIDs of an offloaded station, except for those that the test
+-- passes.
+pub record IsLawfulBut (but : ℕ → ℕ → Bool) (w : World) : Type 0 where
   pub agreed : (s t : ℕ) → AgreedAt (side w s t)
   pub opened : Each (IsOpenIn w) w.opened
   pub sole : (s t : ℕ) → IsSole w.opened s t
+  pub quiet : (s t : ℕ) → but s t ≡ false → is_offloaded w s ≡ true → request_due (side w s t).session ≡ false
+
+-- No TID is excepted.
+abbrev pub IsLawful : World → Type 0
+IsLawful w = IsLawfulBut (λ s t. false) w
+
+-- Only this TID is excepted.
+abbrev pub is_tid : ℕ → ℕ → ℕ → ℕ → Bool
+is_tid s t i j = (i == s) && (j == t)
+
+pub lawful_but : (p : ℕ → ℕ → Bool) (w : World) → IsLawful w → IsLawfulBut p w
+lawful_but p w i = record {
+  agreed = i.agreed;
+  opened = i.opened;
+  sole = i.sole;
+  quiet = λ s t _ d. i.quiet s t refl d;
+}
 
 pub open_same : (w v : World) (x : Exchange) → Same w v → IsOpenIn w x → IsOpenIn v x
 open_same w v x h o = record {
   live = h.live x.station ∙ o.live;
   below = subst (λ (n : ℕ). x.number < n) (sym h.exchanges) o.below;
+  right = record { batch = o.right.batch ∙ sym (h.offloaded x.station); frames = o.right.frames };
   opened = subst (OpenAt x) (sym (h.sides x.station x.tid)) o.opened;
 }
 
-pub lawful_same : (w v : World) → Same w v → IsLawful w → IsLawful v
+pub lawful_same : {p : ℕ → ℕ → Bool} (w v : World) → Same w v → IsLawfulBut p w → IsLawfulBut p v
 lawful_same w v h i = record {
   agreed = λ s t. subst AgreedAt (sym (h.sides s t)) (i.agreed s t);
   opened = subst (Each (IsOpenIn v)) (sym h.opened)
       (each_map (IsOpenIn w) (IsOpenIn v) w.opened (λ x o. open_same w v x h o) i.opened);
   sole = λ s t. subst (λ (xs : List Exchange). IsSole xs s t) (sym h.opened) (i.sole s t);
+  quiet = λ s t n d. ap (λ (a : Side). request_due a.session) (h.sides s t)
+      ∙ i.quiet s t n (sym (h.offloaded s) ∙ d);
 }
 
+-- An offloaded station is live.
+pub off_live : (w : World) (s : ℕ) → is_offloaded w s ≡ true → is_live w s ≡ true
+off_live w s = go (at None w.stations s)
+  where
+    go : (o : Option Station) → (unwrap_or o no_station).offloaded ≡ true → is_some o ≡ true
+    go None h = absurd (cc h)
+    go (Some x) h = refl
+
 -- One TID changes.
-pub lawful_on_tid : (N : Exchange → Type 0) (w : World) (s t : ℕ) (f : Tid → Tid) → Each N w.opened →
-    AgreedAt (side_of (f (tid_of w s t)))
+pub lawful_on_tid : {p q : ℕ → ℕ → Bool} (N : Exchange → Type 0) (w : World) (s t : ℕ) (f : Tid → Tid) →
+    Each N w.opened → AgreedAt (side_of (f (tid_of w s t)))
+    → (q s t ≡ false → is_offloaded w s ≡ true → request_due (f (tid_of w s t)).session ≡ false)
+    → ((i j : ℕ) → q i j ≡ false → (p i j ≡ false) ⊎ ((s ≡ i) × (t ≡ j)))
     → ((x : Exchange) → x.number < w.exchanges → N x → s ≡ x.station → t ≡ x.tid → OpenAt x (side w s t) →
     OpenAt x (side_of (f (tid_of w s t))))
-    → IsLawful w → IsLawful (on_tid w s t f)
-lawful_on_tid N w s t f n a k i = record {
+    → IsLawfulBut p w → IsLawfulBut q (on_tid w s t f)
+lawful_on_tid {p} {q} N w s t f n a d but k i = record {
   agreed = each_side_on (λ _ _ z. AgreedAt z) w s t f i.agreed a;
   opened = subst (Each (IsOpenIn (on_tid w s t f))) (sym (on_opened w s t f))
       (each_both (IsOpenIn w) N (IsOpenIn (on_tid w s t f)) w.opened (λ x o m. record {
         live = on_live w s t f x.station ∙ o.live;
         below = subst (λ (c : ℕ). x.number < c) (sym (on_exchanges w s t f)) o.below;
+        right = record {
+          batch = o.right.batch ∙ sym (on_offloaded w s t f x.station);
+          frames = o.right.frames;
+        };
         opened = at_side_on (OpenAt x) w s t f x.station x.tid o.opened (λ e d. k x o.below m e d);
       }) i.opened n);
   sole = λ a b. subst (λ (xs : List Exchange). IsSole xs a b) (sym (on_opened w s t f)) (i.sole a b);
+  quiet = λ a b n o.
+      let off : is_offloaded w a ≡ true = sym (on_offloaded w s t f a) ∙ o in
+      elim (but a b n) [
+        | inl old ↦ at_side_on (λ z. request_due z.session ≡ false) w s t f a b (i.quiet a b old off)
+            (λ e c _. d (let k : q a b ≡ false = n in cc) (ap (is_offloaded w) e ∙ off))
+        | inr own ↦
+            let off_s : is_offloaded w s ≡ true = ap (is_offloaded w) own.0 ∙ off in
+            let here : q s t ≡ false = let e = own.0 in let c = own.1 in cc in
+            subst (λ (j : ℕ). request_due (side (on_tid w s t f) a j).session ≡ false) own.1
+            (subst (λ (i : ℕ). request_due (side (on_tid w s t f) i t).session ≡ false) own.0
+            (ap (λ (z : Side). request_due z.session) (side_on w s t f (off_live w s off_s)) ∙ d here off_s))
+      ];
 }
 
-pub lawful_on_session : (N : Exchange → Type 0) (w : World) (s t : ℕ) (f : Session → Session) →
-    Each N w.opened → IsAgreed (f (session w s t)) (receiver w s t)
+pub lawful_on_session : {p : ℕ → ℕ → Bool} (N : Exchange → Type 0) (w : World) (s t : ℕ)
+    (f : Session → Session) → Each N w.opened → IsAgreed (f (session w s t)) (receiver w s t)
+    → (p s t ≡ false → is_offloaded w s ≡ true → request_due (f (session w s t)) ≡ false)
     → ((x : Exchange) → x.number < w.exchanges → N x → s ≡ x.station → t ≡ x.tid →
     IsOpen x (session w s t) (receiver w s t) → IsOpen x (f (session w s t)) (receiver w s t))
-    → IsLawful w → IsLawful (on_session w s t f)
+    → IsLawfulBut p w → IsLawfulBut p (on_session w s t f)
 unfolding on_session
-lawful_on_session N w s t f n a k i = lawful_on_tid N w s t (λ y. record y { session = f y.session }) n a k i
+lawful_on_session N w s t f n a d k i =
+    lawful_on_tid N w s t (λ y. record y { session = f y.session }) n a d (λ a b h. inl h) k i
 
 pub any_exchange : (xs : List Exchange) → Each (λ _. Unit {0}) xs
 any_exchange [] = tt
@@ -159,6 +213,7 @@ pub lawful_give : (w : World) (s t id : ℕ) → has_room (session w s t) ≡ tr
 lawful_give w s t id room quiet i =
     lawful_on_session (λ _. Unit {0}) w s t (λ y. with_number_given y id) (any_exchange w.opened)
     (agreed_give (session w s t) (receiver w s t) id room quiet (i.agreed s t))
+    (λ _ _. not_due_give (session w s t) id quiet)
     (λ x b n e d o. open_flies x (session w s t) (with_number_given (session w s t) id) (receiver w s t) quiet
     (λ f. fly_give (session w s t) id x.number _ f) o) i
 
@@ -242,6 +297,16 @@ ready_filled w s t i live quiet =
 
 -- ---- the chosen numbers are sent
 
+-- No request becomes due.
+pub quiet_fly : (ms : List Mpdu) (y : Session) (e lo hi : ℕ) → y.first ≤ lo → Rises lo hi ms →
+    AllIn y State.Waiting ms → request_due y ≡ false → request_due (with_flying e ms y) ≡ false
+quiet_fly [] y e lo hi b c a k = k
+quiet_fly (m ∷ ms) y e lo hi b c a k =
+    let f : Slot → Slot = λ x. record x { state = State.Flying e } in
+    quiet_fly ms (on_slot m.number f y) e (suc m.number) hi (omega (arith, c.0)) c.2
+    (all_in_later y State.Waiting m.number hi f ms (omega (arith, c.0)) c.2 a.1)
+    (quiet_on_slot y m.number f (omega (arith, c.0)) (ap is_settled a.0) refl k)
+
 pub record IsAloft (s t : ℕ) (p : Prepared) : Type 0 where
   pub lawful : IsLawful p.world
   pub live : is_live p.world s ≡ true
@@ -269,6 +334,8 @@ aloft_frames s t f r =
           (any_exchange f.world.opened)
           (agreed_fly f.mpdus y (receiver f.world s t) e y.first (next_number y)
           (omega arith) r.chosen.rising r.chosen.waiting (r.lawful.agreed s t))
+          (λ _ _. quiet_fly f.mpdus y e y.first (next_number y) (omega arith) r.chosen.rising r.chosen.waiting
+          r.quiet)
           (λ x b n _ _ o. open_flies x y (with_flying e f.mpdus y) (receiver f.world s t) r.quiet
           (λ g. fly x.number _ g (z.others x.number _ g.flying)) o) r.lawful;
       live = live_on_session f.world s t _ s ∙ r.live;
@@ -359,10 +426,11 @@ sole_opened (Request f) w x s t e alone k = sole_append w.opened x s t k (λ h.
     (none_asks x.station x.tid w.opened alone)))
 
 pub lawful_opening : (w : World) (x : Exchange) → x.number ≡ w.exchanges → IsLawful w →
-    is_live w x.station ≡ true → IsOpen x (session w x.station x.tid) (receiver w x.station x.tid) →
+    is_live w x.station ≡ true → IsOffloadRight w x →
+    IsOpen x (session w x.station x.tid) (receiver w x.station x.tid) →
     IfRequest x.content (λ f. request_open w x.station x.tid ≡ false) → IsLawful (with_exchange_opened w x)
 unfolding with_exchange_opened
-lawful_opening w x e i live o alone = record {
+lawful_opening w x e i live fit o alone = record {
   agreed = i.agreed;
   opened = each_append (IsOpenIn (record w { exchanges = w.exchanges + 1; opened = w.opened ++ x ∷ [] }))
       w.opened x
@@ -373,16 +441,33 @@ lawful_opening w x e i live o alone = record {
       })) w.opened (λ y g. record {
         live = g.live;
         below = omega (arith, g.below);
+        right = record { batch = g.right.batch; frames = g.right.frames };
         opened = g.opened;
       }) i.opened)
-      (record { live = live; below = omega (arith, e); opened = o });
+      (record {
+        live = live;
+        below = omega (arith, e);
+        right = record { batch = fit.batch; frames = fit.frames };
+        opened = o;
+      });
   sole = λ s t. sole_opened x.content w x s t refl alone (i.sole s t);
+  quiet = i.quiet;
 }
+
+-- While no request is due, none is prepared.
+pub calm_frames : (c : Content) (y : Session) → request_due y ≡ false → IfRequest c (λ f. IsAsked f y) →
+    is_request c ≡ false
+calm_frames (Frames ms) y none a = refl
+calm_frames (Request f) y none a = absurd (cc (a.due, none))
 
 pub lawful_sent : (s t : ℕ) (c : Class) (p : Prepared) → IsAloft s t p → IsLawful (send_outcome s t c p).world
 unfolding send_outcome
 lawful_sent s t c p a = lawful_same _ _ (same_spent _ s)
     (lawful_opening p.world (exchange_of s t c p) refl a.lawful a.live
+    (record {
+      batch = refl;
+      frames = λ d. calm_frames p.content (session p.world s t) (a.lawful.quiet s t refl d) a.asked;
+    })
     (record {
       flies = a.flies;
       kept = tt;
@@ -392,6 +477,8 @@ lawful_sent s t c p a = lawful_same _ _ (same_spent _ s)
           (λ f. (length {A = ℕ} [] == 0) ≡ false → has (receiver p.world s t).starts f ≡ true)
           (λ f h none. absurd (cc none)) a.asked;
       marked = λ h. absurd (cc h);
+      unbatched = λ h. absurd (cc h);
+      reached = λ _ n h. absurd (cc h);
     }) a.alone)
 
 -- The TID that sends can send.
@@ -531,8 +618,12 @@ sole_replaced w i x z s t n a f = record {
       (λ h. n ∙ f.only s t (sym a ∙ h)) (λ y _ h. h) (i.sole s t).only;
 }
 
+pub none_of : (a b : Bool) → (a || b) ≡ false → (a ≡ false) × (b ≡ false)
+none_of true b h = absurd (cc h)
+none_of false b h = (refl, h)
+
 pub lawful_answered : (w : World) (i : IsLawful w) (x : Exchange) → IsFound w i x →
-    (length x.arrived == 0) ≡ false → IsLawful (answer_outcome w x).world
+    x.batch || (length x.arrived == 0) ≡ false → IsLawful (answer_outcome w x).world
 unfolding answer_outcome with_exchange
 lawful_answered w i x f some =
     let b : Score = score (receiver w x.station x.tid) in
@@ -544,6 +635,7 @@ lawful_answered w i x f some =
       opened = each_map_if (IsOpenIn w) (IsOpenIn v) (λ y. y.number == z.number) z w.opened (record {
         live = o.live;
         below = o.below;
+        right = record { batch = o.right.batch; frames = o.right.frames };
         opened = record {
           flies = o.opened.flies;
           kept = answer_right (mpdus_of x.content) (session w x.station x.tid)
@@ -552,10 +644,18 @@ lawful_answered w i x f some =
               (omega arith) o.opened.flies.rising o.opened.flies.flying (i.agreed x.station x.tid);
           asked = o.opened.asked;
           told = o.opened.told;
-          marked = λ _. some;
+          marked = λ _. (none_of x.batch (length x.arrived == 0) some).1;
+          unbatched = λ _. (none_of x.batch (length x.arrived == 0) some).0;
+          reached = o.opened.reached;
         };
-      }) (λ y _ g. record { live = g.live; below = g.below; opened = g.opened }) i.opened;
+      }) (λ y _ g. record {
+        live = g.live;
+        below = g.below;
+        right = record { batch = g.right.batch; frames = g.right.frames };
+        opened = g.opened;
+      }) i.opened;
       sole = λ s t. sole_replaced w i x z s t refl refl f;
+      quiet = i.quiet;
     }
 
 -- A device marks transmissions of the exchange.
@@ -571,15 +671,24 @@ lawful_marked w i x unsent given_up f =
       opened = each_map_if (IsOpenIn w) (IsOpenIn v) (λ y. y.number == z.number) z w.opened (record {
         live = o.live;
         below = o.below;
+        right = record { batch = o.right.batch; frames = o.right.frames };
         opened = record {
           flies = o.opened.flies;
           kept = o.opened.kept;
           asked = o.opened.asked;
           told = o.opened.told;
           marked = o.opened.marked;
+          unbatched = o.opened.unbatched;
+          reached = o.opened.reached;
         };
-      }) (λ y _ g. record { live = g.live; below = g.below; opened = g.opened }) i.opened;
+      }) (λ y _ g. record {
+        live = g.live;
+        below = g.below;
+        right = record { batch = g.right.batch; frames = g.right.frames };
+        opened = g.opened;
+      }) i.opened;
       sole = λ s t. sole_replaced w i x z s t refl refl f;
+      quiet = i.quiet;
     }
 
 pub with_member_some : (xs : List ℕ) (n : ℕ) → (length (with_member n xs) == 0) ≡ false
@@ -622,18 +731,52 @@ lawful_taken w i x n g f a o k =
           (record {
             live = on_live w x.station x.tid h x.station ∙ f.open_in.live;
             below = subst (λ (c : ℕ). x.number < c) (sym (on_exchanges w x.station x.tid h)) f.open_in.below;
+            right = record {
+              batch = f.open_in.right.batch ∙ sym (on_offloaded w x.station x.tid h x.station);
+              frames = f.open_in.right.frames;
+            };
             opened = subst (OpenAt z) (sym at_own) o;
           })
           (λ y other p. record {
             live = on_live w x.station x.tid h y.station ∙ p.live;
             below = subst (λ (c : ℕ). y.number < c) (sym (on_exchanges w x.station x.tid h)) p.below;
+            right = record {
+              batch = p.right.batch ∙ sym (on_offloaded w x.station x.tid h y.station);
+              frames = p.right.frames;
+            };
             opened = at_side_on (OpenAt y) w x.station x.tid h y.station y.tid p.opened
                 (λ e d q. k y (eq_no _ _ other) q);
           }) i.opened);
       sole = λ s t. subst (λ (xs : List Exchange). IsSole
           (map (λ y. if y.number == z.number then z else y) xs) s t) (sym (on_opened w x.station x.tid h))
           (sole_replaced w i x z s t refl refl f);
+      quiet = λ s t n o. at_side_on (λ a. request_due a.session ≡ false) w x.station x.tid h s t
+          (i.quiet s t n (sym (on_offloaded w x.station x.tid h s) ∙ o)) (λ e d q. q);
     }
+
+-- A number of a set with a new member is the new one's or an old one's.
+pub has_map_with : (g : ℕ → ℕ) (xs : List ℕ) (n k : ℕ) → has (map g (with_member n xs)) k ≡ true →
+    (g n ≡ k) ⊎ (has (map g xs) k ≡ true)
+has_map_with g [] n k h = elim (either (g n == k) false h) [
+  | inl d ↦ inl (eq_yes (g n) k d)
+  | inr d ↦ absurd (cc d)
+]
+has_map_with g (x ∷ xs) n k h =
+    on_if (λ (ys : List ℕ). has (map g ys) k ≡ true → (g n ≡ k) ⊎ (has (map g (x ∷ xs)) k ≡ true))
+    (nat_lt n x) (n ∷ x ∷ xs) (if x == n then x ∷ xs else x ∷ with_member n xs)
+    (λ _ e. elim (either (g n == k) (has (map g (x ∷ xs)) k) e) [
+      | inl d ↦ inl (eq_yes (g n) k d)
+      | inr d ↦ inr d
+    ])
+    (λ _. on_if (λ (ys : List ℕ). has (map g ys) k ≡ true → (g n ≡ k) ⊎ (has (map g (x ∷ xs)) k ≡ true))
+    (x == n) (x ∷ xs) (x ∷ with_member n xs) (λ _ e. inr e)
+    (λ _ e. elim (either (g x == k) (has (map g (with_member n xs)) k) e) [
+      | inl d ↦ inr (or_left (g x == k) (has (map g xs) k) d)
+      | inr d ↦ elim (has_map_with g xs n k d) [
+        | inl own ↦ inl own
+        | inr old ↦ inr (or_right (g x == k) (has (map g xs) k) old)
+      ]
+    ])) h
 
 pub all_at : (y : Session) (st : State) (ms : List Mpdu) (i : ℕ) → i < length ms → AllIn y st ms →
     (slot y (at no_mpdu ms i).number).state ≡ st
@@ -673,6 +816,12 @@ taken_by (Frames ms) w i x n e f none l =
       told = subst (λ (c : Content). IfRequest c (λ g. (length (with_member n x.arrived) == 0) ≡ false →
           has (with_arrived m r).starts g ≡ true)) (sym e) tt;
       marked = λ h. absurd (cc (h, none));
+      unbatched = λ h. absurd (cc (h, none));
+      reached = λ c k h. elim (has_map_with (number_at x.content) x.arrived n k h) [
+        | inl own ↦ subst (λ (j : ℕ). has (with_arrived m r).arrived j ≡ true)
+            (ap (λ (c : Content). number_at c n) (sym e) ∙ own) (has_new r.arrived m)
+        | inr old ↦ has_old r.arrived m k (f.open_in.opened.reached c k old)
+      ];
     })
     (λ z other o. open_arrived z y r x.number m (all_at y (State.Flying x.number) ms n l flies.flying) other
     o)
@@ -690,6 +839,8 @@ taken_by (Request g) w i x n e f none l =
       told = subst (λ (c : Content). IfRequest c (λ k. (length (with_member n x.arrived) == 0) ≡ false →
           has (with_start g r).starts k ≡ true)) (sym e) (λ _. has_new r.starts g);
       marked = λ h. absurd (cc (h, none));
+      unbatched = λ h. absurd (cc (h, none));
+      reached = λ c k h. absurd (cc (c, ap is_request e));
     })
     (λ z other o. open_start z y r g o)
 
@@ -712,7 +863,7 @@ AllBacked ends r (m ∷ ms) =
 
 -- The exchange e has ended in this world, and its numbers are still on the air.
 pub record IsEnding (e s t : ℕ) (ends : ℕ → End) (w : World) (ms : List Mpdu) : Type 0 where
-  pub lawful : IsLawful w
+  pub lawful : IsLawfulBut (is_tid s t) w
   pub others : Each (λ x. x.number ≢ e) w.opened
   pub flies : FlyIn e ms (session w s t)
   pub backed : AllBacked ends (receiver w s t) ms
@@ -733,6 +884,9 @@ pub if_ending : (b : Bool) (e s t : ℕ) (ends : ℕ → End) (w v : World) (ms 
 if_ending true e s t ends w v ms h k = h
 if_ending false e s t ends w v ms h k = k
 
+pub not_own : (s t : ℕ) → is_tid s t s t ≡ false → ⊥
+not_own s t h = cc (and_true (s == s) (t == t) (yes_eq s s refl) (yes_eq t t refl), h)
+
 -- One of its numbers leaves the air.
 pub ending_slot : (e s t : ℕ) (ends : ℕ → End) (w : World) (m : Mpdu) (ms : List Mpdu) (f : Slot → Slot) →
     ((f (slot (session w s t) m.number)).state ≡ State.Acked → ends m.number ≡ End.Acknowledged) →
@@ -747,6 +901,7 @@ ending_slot e s t ends w m ms f k n =
       lawful = lawful_on_session (λ x. x.number ≢ e) w s t (on_slot m.number f) n.others
           (agreed_on_slot y r m.number f n.flies.rising.0 unsettled (λ h. n.backed.0 (k h))
           (n.lawful.agreed s t))
+          (λ h. absurd (not_own s t h))
           (λ x b other _ _ o. open_on_slot x y r m.number f n.flies.rising.0 unsettled
           (λ h. absurd (other (cc (h, n.flies.flying.0)))) o) n.lawful;
       others = subst (Each (λ x. x.number ≢ e)) (sym (opened_on_session w s t _)) n.others;
@@ -789,7 +944,7 @@ ending_settled End.Unsent e s t ends w m ms h n =
     ending_failing e s t ends w m ms (λ x. record x { state = State.Waiting }) (λ k. absurd (cc k)) n
 
 pub ending_all : (ms : List Mpdu) (e s t : ℕ) (w : World) (ends : ℕ → End) → IsEnding e s t ends w ms →
-    IsLawful (with_all_settled w s t ends ms)
+    IsLawfulBut (is_tid s t) (with_all_settled w s t ends ms)
 unfolding with_all_settled
 ending_all [] e s t w ends n = n.lawful
 ending_all (m ∷ ms) e s t w ends n = ending_all ms e s t _ ends
@@ -802,7 +957,12 @@ lawful_without w i e =
     record {
       agreed = i.agreed;
       opened = each_map (IsOpenIn w) (IsOpenIn v) v.opened
-          (λ y g. record { live = g.live; below = g.below; opened = g.opened })
+          (λ y g. record {
+            live = g.live;
+            below = g.below;
+            right = record { batch = g.right.batch; frames = g.right.frames };
+            opened = g.opened;
+          })
           (each_filter (IsOpenIn w) (IsOpenIn w) (λ y. not (y.number == e)) w.opened (λ y _ g. g) i.opened);
       sole = λ s t. record {
         who = (i.sole s t).who;
@@ -811,6 +971,7 @@ lawful_without w i e =
             (λ y. asks s t y ≡ true → y.number ≡ (i.sole s t).who) (λ y. not (y.number == e)) w.opened
             (λ y _ h. h) (i.sole s t).only;
       };
+      quiet = i.quiet;
     }
 
 pub sole_without : (w : World) (i : IsLawful w) (e s t : ℕ) →
@@ -834,18 +995,41 @@ pub live_without : (w : World) (e s : ℕ) → is_live (without_exchange w e) s 
 unfolding without_exchange
 live_without w e s = refl
 
-pub backed_by : (ms : List Mpdu) (heard : Bool) (o : Option Score) (r : Receiver) (ends : ℕ → End) →
-    ((n : ℕ) → ends n ≡ End.Acknowledged → is_acked heard o n ≡ true) → IfSome o (λ b. AllRight b r ms) →
+-- A number of the exchange that its answer shows has arrived.
+shown_arrived : (ms : List Mpdu) (b : Score) (r : Receiver) (n : ℕ) → AllRight b r ms →
+    has (map (λ m. m.number) ms) n ≡ true → shows b n ≡ true → has r.arrived n ≡ true
+shown_arrived [] b r n k h e = absurd (cc h)
+shown_arrived (m ∷ ms) b r n k h e = elim (either (m.number == n) (has (map (λ m. m.number) ms) n) h) [
+  | inl d ↦ let same : m.number ≡ n = eq_yes m.number n d in
+      subst (λ (i : ℕ). has r.arrived i ≡ true) same (sym k.0.shown ∙ (ap (shows b) same ∙ e))
+  | inr d ↦ shown_arrived ms b r n k.1 d e
+]
+
+answer_arrived : (heard : Bool) (o : Option Score) (r : Receiver) (ms : List Mpdu) (n : ℕ) →
+    IfSome o (λ b. AllRight b r ms) → has (map (λ m. m.number) ms) n ≡ true → is_acked heard o n ≡ true →
+    has r.arrived n ≡ true
+answer_arrived heard None r ms n k h e = absurd (cc e)
+answer_arrived heard (Some b) r ms n k h e = shown_arrived ms b r n k h (both heard (shows b n) e).1
+
+backed_along : (ms : List Mpdu) (r : Receiver) (ends : ℕ → End) →
+    ((n : ℕ) → has (map (λ m. m.number) ms) n ≡ true → ends n ≡ End.Acknowledged → has r.arrived n ≡ true) →
     AllBacked ends r ms
-backed_by [] heard o r ends h k = tt
-backed_by (m ∷ ms) heard None r ends h k = (
-  (λ e. absurd (let d = h m.number e in cc)),
-  backed_by ms heard None r ends h tt,
+backed_along [] r ends h = tt
+backed_along (m ∷ ms) r ends h = (
+  h m.number (or_left (m.number == m.number) _ (yes_eq m.number m.number refl)),
+  backed_along ms r ends (λ n k. h n (or_right (m.number == n) _ k)),
 )
-backed_by (m ∷ ms) heard (Some b) r ends h k = (
-  (λ e. sym k.0.shown ∙ (both heard (shows b m.number) (h m.number e)).1),
-  backed_by ms heard (Some b) r ends h k.1,
-)
+
+-- The numbers that an exchange of frames leaves acknowledged have arrived.
+pub backed_of : (x : Exchange) (y : Session) (r : Receiver) (ms : List Mpdu) (heard : Bool) →
+    x.content ≡ Frames ms → IsOpen x y r → AllBacked (end_of x heard) r ms
+backed_of x y r ms heard e o =
+    let kept : IfSome x.answer (λ b. AllRight b r ms) =
+    subst (λ (c : Content). IfSome x.answer (λ b. AllRight b r (mpdus_of c))) e o.kept in
+    backed_along ms r (end_of x heard) (λ n among ends. elim (end_backed x heard n ends).1 [
+      | inl d ↦ o.reached (ap is_request e) n d.1
+      | inr a ↦ answer_arrived heard x.answer r ms n kept among a.1
+    ])
 
 -- Another exchange than e, which is not a request of this TID.
 pub record IsApart (s t e : ℕ) (x : Exchange) : Type 0 where
@@ -874,50 +1058,73 @@ pub open_heard_start : (b : Bool) (x : Exchange) (y : Session) (r : Receiver) (f
 open_heard_start true x y r f h o = open_heard x y r (max y.heard f) h o
 open_heard_start false x y r f h o = o
 
+-- The world after the exchange has ended.
+pub ending_found : (w : World) (i : IsLawful w) (x : Exchange) (ms : List Mpdu) (heard : Bool) →
+    x.content ≡ Frames ms → IsFound w i x →
+    IsEnding x.number x.station x.tid (end_of x heard) (without_exchange w x.number) ms
+ending_found w i x ms heard e f = record {
+  lawful = lawful_but (is_tid x.station x.tid) (without_exchange w x.number) (lawful_without w i x.number);
+  others = others_without w i x.number;
+  flies = subst (λ (a : Side). FlyIn x.number ms a.session)
+      (sym (same_sides_without w x.number x.station x.tid))
+      (subst (λ (c : Content). FlyIn x.number (mpdus_of c) (session w x.station x.tid)) e
+      f.open_in.opened.flies);
+  backed = subst (λ (a : Side). AllBacked (end_of x heard) a.receiver ms)
+      (sym (same_sides_without w x.number x.station x.tid))
+      (backed_of x (session w x.station x.tid) (receiver w x.station x.tid) ms heard e f.open_in.opened);
+  live = live_without w x.number x.station ∙ f.open_in.live;
+}
+
 -- The world after the exchange has ended and its charge is made.
 pub ending_of : (air : Option ℕ) (w : World) (i : IsLawful w) (x : Exchange) (ms : List Mpdu) (heard : Bool) →
     x.content ≡ Frames ms → IsFound w i x → IsEnding x.number x.station x.tid (end_of x heard)
     (after_charge (without_exchange w x.number) x air) ms
 ending_of air w i x ms heard e f =
     ending_same x.number x.station x.tid (end_of x heard) (without_exchange w x.number) _ ms
-    (same_charged air (without_exchange w x.number) x) (record {
-      lawful = lawful_without w i x.number;
-      others = others_without w i x.number;
-      flies = subst (λ (a : Side). FlyIn x.number ms a.session)
-          (sym (same_sides_without w x.number x.station x.tid))
-          (subst (λ (c : Content). FlyIn x.number (mpdus_of c) (session w x.station x.tid)) e
-          f.open_in.opened.flies);
-      backed = subst (λ (a : Side). AllBacked (end_of x heard) a.receiver ms)
-          (sym (same_sides_without w x.number x.station x.tid))
-          (backed_by ms heard x.answer (receiver w x.station x.tid) (end_of x heard)
-          (λ n h. (end_backed x heard n h).1)
-          (subst (λ (c : Content). IfSome x.answer (λ b.
-          AllRight b (receiver w x.station x.tid) (mpdus_of c))) e f.open_in.opened.kept));
-      live = live_without w x.number x.station ∙ f.open_in.live;
+    (same_charged air (without_exchange w x.number) x) (ending_found w i x ms heard e f)
+
+-- The device of an offloaded station catches up.
+pub no_requests : (xs : List Exchange) (w : World) (s t : ℕ) → is_offloaded w s ≡ true →
+    Each (IsOpenIn w) xs → Each (λ x. asks s t x ≡ false) xs
+no_requests xs w s t d e = each_map (IsOpenIn w) (λ x. asks s t x ≡ false) xs
+    (λ x o. on_bool (asks s t x) (λ h.
+    let k = asks_is s t x h in
+    absurd (cc (k.2, o.right.frames (o.right.batch ∙ (ap (is_offloaded w) k.0 ∙ d))))) (λ h. h)) e
+
+lawful_told : (w : World) (s t : ℕ) → is_offloaded w s ≡ true → IsLawfulBut (is_tid s t) w →
+    IsLawful (caught_up w s t)
+lawful_told w s t d i =
+    let y : Session = session w s t in
+    let r : Receiver = receiver w s t in
+    subst IsLawful (sym (caught_up_is w s t))
+    (lawful_on_tid (λ x. asks s t x ≡ false) w s t (told_start (start_of y))
+    (no_requests w.opened w s t d i.opened) (agreed_told y r (i.agreed s t)) (λ _ _. told_quiet y)
+    (λ a b _. on_bool (is_tid s t a b)
+    (λ h. let k = both (a == s) (b == t) h in inr (sym (eq_yes a s k.0), sym (eq_yes b t k.1))) (λ h. inl h))
+    (λ x b silent e c o. open_heard x y (with_start (start_of y) r) (max y.heard (start_of y))
+    (silent_of s t x e c silent) (open_start x y r (start_of y) o)) i)
+
+pub lawful_caught : (w : World) (s t : ℕ) → IsLawfulBut (is_tid s t) w →
+    IsLawful (with_device_caught_up w s t)
+unfolding with_device_caught_up
+lawful_caught w s t i = on_if IsLawful (is_offloaded w s) (caught_up w s t) w (λ d. lawful_told w s t d i)
+    (λ no. record {
+      agreed = i.agreed;
+      opened = i.opened;
+      sole = i.sole;
+      quiet = λ a b _ d. i.quiet a b (on_bool (is_tid s t a b)
+          (λ h. absurd (cc (ap (is_offloaded w) (eq_yes a s (both (a == s) (b == t) h).0), d, no)))
+          (λ h. h)) d;
     })
 
 pub ended_by : (c : Content) (w : World) (i : IsLawful w) (x : Exchange) (heard : Bool) (v : World) →
-    x.content ≡ c → IsFound w i x → (heard ≡ true → is_some x.answer ≡ true) →
+    x.content ≡ c → IsFound w i x → (heard ≡ true → x.batch ≡ false → is_some x.answer ≡ true) →
     Same (without_exchange w x.number) v → IsLawful (after_done v x heard c)
 unfolding after_done
 ended_by (Frames ms) w i x heard v e f told k =
-    ending_all ms x.number x.station x.tid v (end_of x heard)
+    lawful_caught _ x.station x.tid (ending_all ms x.number x.station x.tid v (end_of x heard)
     (ending_same x.number x.station x.tid (end_of x heard) (without_exchange w x.number) v ms k
-    (record {
-      lawful = lawful_without w i x.number;
-      others = others_without w i x.number;
-      flies = subst (λ (a : Side). FlyIn x.number ms a.session)
-          (sym (same_sides_without w x.number x.station x.tid))
-          (subst (λ (c : Content). FlyIn x.number (mpdus_of c) (session w x.station x.tid)) e
-          f.open_in.opened.flies);
-      backed = subst (λ (a : Side). AllBacked (end_of x heard) a.receiver ms)
-          (sym (same_sides_without w x.number x.station x.tid))
-          (backed_by ms heard x.answer (receiver w x.station x.tid) (end_of x heard)
-          (λ n h. (end_backed x heard n h).1)
-          (subst (λ (c : Content). IfSome x.answer (λ b.
-          AllRight b (receiver w x.station x.tid) (mpdus_of c))) e f.open_in.opened.kept));
-      live = live_without w x.number x.station ∙ f.open_in.live;
-    }))
+    (ending_found w i x ms heard e f)))
 ended_by (Request g) w i x heard v e f told k =
     let same_side : side v x.station x.tid ≡ side w x.station x.tid =
     k.sides x.station x.tid ∙ same_sides_without w x.number x.station x.tid in
@@ -935,20 +1142,23 @@ ended_by (Request g) w i x heard v e f told k =
     (subst (Each (λ y. asks x.station x.tid y ≡ true → y.number ≡ (i.sole x.station x.tid).who))
     (sym k.opened) (sole_without w i x.number x.station x.tid))
     in
-    let told_start : (length x.arrived == 0) ≡ false →
+    let unbatched : x.batch ≡ false =
+    on_bool x.batch (λ h. absurd (cc (f.open_in.right.frames h, ap is_request e))) (λ h. h) in
+    let arrived_start : (length x.arrived == 0) ≡ false →
     has (receiver w x.station x.tid).starts g ≡ true =
     subst (λ (c : Content). IfRequest c (λ k. (length x.arrived == 0) ≡ false →
     has (receiver w x.station x.tid).starts k ≡ true)) e f.open_in.opened.told in
     lawful_on_session (λ y. asks x.station x.tid y ≡ false) v x.station x.tid (with_heard_start heard g) apart
     (agreed_heard_start heard (session v x.station x.tid) (receiver v x.station x.tid) g
     (λ h. ap (λ (a : Side). has a.receiver.starts g) same_side
-    ∙ told_start (f.open_in.opened.marked (told h))) (lawful.agreed x.station x.tid))
+    ∙ arrived_start (f.open_in.opened.marked (told h unbatched))) (lawful.agreed x.station x.tid))
+    (λ n d. quiet_heard heard g (session v x.station x.tid) (lawful.quiet x.station x.tid refl d))
     (λ y b silent s t o. open_heard_start heard y (session v x.station x.tid) (receiver v x.station x.tid) g
     (silent_of x.station x.tid y s t silent) o) lawful
 
 pub lawful_ended : (air : Option ℕ) (w : World) (i : IsLawful w) (x : Exchange) (heard : Bool) →
     IsFound w i x →
-    (heard ≡ true → is_some x.answer ≡ true) → IsLawful (done_outcome w x heard air).world
+    (heard ≡ true → x.batch ≡ false → is_some x.answer ≡ true) → IsLawful (done_outcome w x heard air).world
 unfolding done_outcome
 lawful_ended air w i x heard f told = ended_by x.content w i x heard _ refl f told (same_charged air _ x)
 
@@ -965,41 +1175,65 @@ open_flush limit x y r o = flush_along (λ z. IsOpen x z r) limit y
     (λ z n e l b waits k. open_on_slot x z r n (slot_given_up limit) l (ap is_settled waits)
     (λ flies. absurd (cc (flies, waits))) k) o
 
-pub lawful_flushed : (w : World) (s t : ℕ) → IsLawful w → IsLawful (flush_outcome w s t).world
-lawful_flushed w s t i =
-    if_flushed IsLawful
-    (record {
-      finish = λ u id k. lawful_same u _ (same_finish u _ id) k;
-      empty = λ u q k. lawful_same u _ (same_on_queue u q _) k;
-    }) w s t
+pub lawful_emptied : (w : World) (s t : ℕ) → IsLawful w → IsLawfulBut (is_tid s t) (emptied_world w s t)
+lawful_emptied w s t i = if_emptied (IsLawfulBut (is_tid s t)) (record {
+  finish = λ u id k. lawful_same u _ (same_finish u _ id) k;
+  empty = λ u q k. lawful_same u _ (same_on_queue u q _) k;
+}) w s t
     (lawful_on_session (λ _. Unit {0}) w s t (after_flush w.config.attempts) (any_exchange w.opened)
     (agreed_flush w.config.attempts (session w s t) (receiver w s t) (i.agreed s t))
-    (λ x b n e d o. open_flush w.config.attempts x (session w s t) (receiver w s t) o) i)
+    (λ h. absurd (not_own s t h))
+    (λ x b n e d o. open_flush w.config.attempts x (session w s t) (receiver w s t) o)
+    (lawful_but (is_tid s t) w i))
+
+pub lawful_flushed : (w : World) (s t : ℕ) → IsLawful w → IsLawful (flush_outcome w s t).world
+lawful_flushed w s t i = subst IsLawful (sym (flush_is w s t))
+    (lawful_caught (emptied_world w s t) s t (lawful_emptied w s t i))
 
 -- ---- joining and leaving
 
 pub lawful_with_station : (w : World) (s : ℕ) (o : Option Station) → Each (λ x. s ≢ x.station) w.opened →
-    ((t : ℕ) → AgreedAt (sides_of o t)) → IsLawful w → IsLawful (with_station w s o)
+    ((t : ℕ) → AgreedAt (sides_of o t)) → ((t : ℕ) → request_due (sides_of o t).session ≡ false) →
+    IsLawful w → IsLawful (with_station w s o)
 unfolding with_station
-lawful_with_station w s o away new i = record {
+lawful_with_station w s o away new calm i = record {
   agreed = each_put (λ i o. (t : ℕ) → AgreedAt (sides_of o t)) None w.stations s o i.agreed new;
   opened = each_both (IsOpenIn w) (λ x. s ≢ x.station)
       (IsOpenIn (record w { stations = put None w.stations s o })) w.opened (λ x f ne. record {
         live = ap is_some (at_put_other None w.stations s x.station o ne) ∙ f.live;
         below = f.below;
+        right = record {
+          batch = f.right.batch ∙ ap (λ (p : Option Station). (unwrap_or p no_station).offloaded)
+              (sym (at_put_other None w.stations s x.station o ne));
+          frames = f.right.frames;
+        };
         opened = subst (λ (p : Option Station). OpenAt x (sides_of p x.tid))
             (sym (at_put_other None w.stations s x.station o ne)) f.opened;
       }) i.opened away;
   sole = i.sole;
+  quiet = each_put (λ i o. (t : ℕ) → false ≡ false → (unwrap_or o no_station).offloaded ≡ true →
+      request_due (sides_of o t).session ≡ false) None w.stations s o i.quiet (λ t _ _. calm t);
 }
+
+pub lawful_new : (w : World) (s window start exponent weight : ℕ) (offloaded : Bool) → is_live w s ≡ false →
+    IsLawful w →
+    IsLawful (with_station w s (Some (new_station w.config window start exponent weight offloaded)))
+lawful_new w s window start exponent weight offloaded dead i =
+    lawful_with_station w s _ (each_map (IsOpenIn w) (λ x. s ≢ x.station) w.opened
+    (λ x f e. cc (ap (is_live w) e, f.live, dead)) i.opened)
+    (eight (λ y. AgreedAt (side_of y)) (new_tid start window) (agreed_new start window) (agreed_new 0 0))
+    (eight (λ y. request_due (side_of y).session ≡ false) (new_tid start window) refl refl) i
 
 pub lawful_joined : (w : World) (s window start exponent weight : ℕ) → is_live w s ≡ false → IsLawful w →
     IsLawful (join_outcome w s window start exponent weight).world
 unfolding join_outcome
 lawful_joined w s window start exponent weight dead i =
-    lawful_with_station w s _ (each_map (IsOpenIn w) (λ x. s ≢ x.station) w.opened
-    (λ x f e. cc (ap (is_live w) e, f.live, dead)) i.opened)
-    (eight (λ y. AgreedAt (side_of y)) (new_tid start window) (agreed_new start window) (agreed_new 0 0)) i
+    lawful_new w s window start exponent weight false dead i
+
+pub lawful_offloaded : (w : World) (s exponent weight : ℕ) → is_live w s ≡ false → IsLawful w →
+    IsLawful (offload_outcome w s exponent weight).world
+unfolding offload_outcome
+lawful_offloaded w s exponent weight dead i = lawful_new w s greatest_window 0 exponent weight true dead i
 
 pub same_left_tids : (ts : List ℕ) (w : World) (s : ℕ) → Same w (after_tids_left w s ts)
 unfolding after_tids_left after_tid_left
@@ -1019,7 +1253,7 @@ unfolding leave_outcome
 lawful_gone w s h i =
     let k = then_same _ _ _ (same_left_tids (upto 8) w s) (same_off_lists all_classes _ s) in
     lawful_with_station _ s None (subst (Each (λ x. s ≢ x.station)) (sym k.opened) (none_open w.opened s h))
-    (λ t. agreed_new 0 0) (lawful_same _ _ k i)
+    (λ t. agreed_new 0 0) (λ t. refl) (lawful_same _ _ k i)
 
 -- ---- the step
 
@@ -1073,32 +1307,26 @@ both_some P Q None h k = tt
 both_some P Q (Some x) h k = (h, k)
 
 pub heard_told : (o : Option Exchange) (heard : Bool) →
-    (heard && exchange_has o (λ x. is_none x.answer)) ≡ false →
-    IfSome o (λ x. heard ≡ true → is_some x.answer ≡ true)
+    (heard && exchange_has o (λ x. not x.batch && is_none x.answer)) ≡ false →
+    IfSome o (λ x. heard ≡ true → x.batch ≡ false → is_some x.answer ≡ true)
 heard_told None heard h = tt
-heard_told (Some x) heard h = go heard x.answer h
+heard_told (Some x) heard h = go heard x.batch x.answer h
   where
-    go : (b : Bool) (a : Option Score) → (b && is_none a) ≡ false → b ≡ true → is_some a ≡ true
-    go true None h e = absurd (cc h)
-    go true (Some s) h e = refl
-    go false a h e = absurd (cc e)
+    go : (b c : Bool) (a : Option Score) → (b && (not c && is_none a)) ≡ false → b ≡ true → c ≡ false →
+        is_some a ≡ true
+    go true true a h e d = absurd (cc d)
+    go true false None h e d = absurd (cc h)
+    go true false (Some s) h e d = refl
+    go false c a h e d = absurd (cc e)
 
 pub lawful_on_station : (w : World) (s : ℕ) (f : Station → Station) →
-    ((x : Station) (t : ℕ) → side_of (at no_tid (f x).tids t) ≡ side_of (at no_tid x.tids t)) → IsLawful w →
+    ((x : Station) (t : ℕ) → sided (f x) t ≡ sided x t) → IsLawful w →
     IsLawful (on_station w s f)
 lawful_on_station w s f h i = lawful_same w _ (same_on_station w s f h) i
 
 pub lawful_plain : (w v : World) → w.stations ≡ v.stations → w.opened ≡ v.opened → w.exchanges ≡ v.exchanges →
     IsLawful w → IsLawful v
-lawful_plain w v a b c i = lawful_same w v (record {
-  sides =
-      λ s t. ap (λ (x : List (Option Station)). sides_of (at None x s) t) (sym a);
-  live =
-      λ s. ap (λ (x : List (Option Station)). is_some (at None x s)) (sym a);
-  opened = sym b;
-  exchanges =
-      sym c;
-}) i
+lawful_plain w v a b c i = lawful_same w v (same_plain w v a b c) i
 
 pub lawful_reaped : (ids : List ℕ) (w : World) → IsLawful w → IsLawful (reap_outcome w ids).world
 unfolding reap_outcome
@@ -1129,11 +1357,12 @@ lawful_done (Asked (Arrive e n)) w r i = lawful_on_open (IsFound w i)
     (exchange w e) (if_on (exchange w e) (λ x. is_some x.answer) r.1.1.0)
     (if_on (exchange w e) (λ x. nat_le (transmissions x.content) n) r.1.0)) i
     (λ x f g. lawful_arrived w i x n f g.0 g.1)
-lawful_done (Asked (Answer e)) w r i = lawful_on_open (IsFound w i) (λ x. (length x.arrived == 0) ≡ false)
-    (exchange w e) w _ (found w i e) (if_on (exchange w e) (λ x. length x.arrived == 0) r.1.1.0) i
+lawful_done (Asked (Answer e)) w r i = lawful_on_open (IsFound w i)
+    (λ x. x.batch || (length x.arrived == 0) ≡ false) (exchange w e) w _ (found w i e)
+    (if_on (exchange w e) (λ x. x.batch || (length x.arrived == 0)) r.1.1.0) i
     (λ x f g. lawful_answered w i x f g)
 lawful_done (Asked (Done e heard air)) w r i = lawful_on_open (IsFound w i)
-    (λ x. heard ≡ true → is_some x.answer ≡ true) (exchange w e) w _ (found w i e)
+    (λ x. heard ≡ true → x.batch ≡ false → is_some x.answer ≡ true) (exchange w e) w _ (found w i e)
     (heard_told (exchange w e) heard r.1.0) i (λ x f g. lawful_ended air w i x heard f g)
 lawful_done (Asked (Sleep s)) w e i = lawful_on_station w s _ (λ x t. refl) i
 lawful_done (Asked (Ampdu s octets)) w e i = lawful_on_station w s _ (λ x t. refl) i
@@ -1148,6 +1377,8 @@ lawful_done (Asked (Unsent e n)) w r i = lawful_on_open (IsFound w i) (λ _. Uni
 lawful_done (Asked (GiveUp e n)) w r i = lawful_on_open (IsFound w i) (λ _. Unit {0}) (exchange w e) w _
     (found w i e) (any_some (exchange w e)) i (λ x f _. lawful_given_up w i x n f)
 lawful_done (Asked (Flush s t)) w e i = lawful_flushed w s t i
+lawful_done (Asked (Offload s exponent weight)) w e i = lawful_offloaded w s exponent weight e.1.1.1.0 i
+lawful_done (Asked (Weight s weight)) w e i = lawful_same w _ (same_weighed w s weight) i
 
 pub lawful_refused : (note : Note) (r : Refusal) (w : World) → IsLawful w → IsLawful (after_refusal w note r)
 unfolding after_refusal
@@ -1177,6 +1408,7 @@ lawful_at_first config = record {
   opened = tt;
   sole =
       λ s t. record { who = 0; only = tt };
+  quiet = λ s t _ d. absurd (cc d);
 }
 
 pub lawful : (config : Config) (h : List Entry) → IsLawful (world_after (opening config) h)

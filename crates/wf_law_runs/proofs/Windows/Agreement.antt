@@ -2,15 +2,16 @@
 -- from it at one moment, and that each kind of change keeps it.
 use Rattle.std.proofs.Common.{◌≡◌, ◌≢◌, refl, ap, sym, ◌∙◌, subst, arith, ℕ, zero, suc, ◌+◌, ◌-◌, ◌*◌, ◌<◌, ◌≤◌, ◌==◌, max, nat_lt, nat_le, Bool, true, false, if◌then◌else◌, ◌&&◌, ◌⊎◌, inl, inr, List, [], ◌∷◌, ◌++◌, length, Option, Some, None, IfSome, is_some}
 use Rattle.std.specs.List.{list_any}
-use Rattle.wf_def_lists.specs.Table.{at, has}
+use Rattle.wf_def_lists.specs.Table.{at, has, change}
 use Rattle.wf_def_agreement.specs.Session.{Session, Slot, State, no_slot, slot, on_slot, with_number_given, is_settled, is_failed, first_unsettled, start_of, next_number, has_room, request_due, numbers_where}
 use Rattle.wf_def_agreement.specs.Receiver.{Receiver, with_arrived, with_start, greatest, release_start, score_start, Score, score, shows}
 use Rattle.wf_def_world.specs.World.{Mpdu, Content, Frames, Request, Exchange}
-use Rattle.wf_def_world.specs.Exchanges.{mpdus_of, with_flying}
+use Rattle.wf_def_world.specs.Exchanges.{mpdus_of, with_flying, numbers_arrived, with_heard_start}
+use Rattle.wf_def_world.specs.CanSend.{is_request}
 use Rattle.wf_law_runs.proofs.Sessions.Starts.{IsWithin, start_ge, start_le, start_change, length-change, within_on_slot, within_give, at_change_other, at_change_same, at_append}
 use Rattle.wf_law_runs.proofs.Sessions.Flights.{AllIn, Rises, next-give, all_in_change, all_in_later}
 use Rattle.wf_law_runs.proofs.Windows.Opened.{FlyIn}
-use Rattle.wf_law_rules.proofs.Lemmas.Numbers.{Climbs, on_bool, on_if, lt_yes, lt_no, le_yes, yes_le, yes_lt, eq_yes, eq_no, either, both, and_true, or_left, or_right, has_old, has_other, has_one, climbs_with, greatest_least, greatest_has, greatest_within, missing_ge, missing_below, missing_not, score_past, score_within, shows_has}
+use Rattle.wf_law_rules.proofs.Lemmas.Numbers.{Climbs, on_bool, on_if, lt_yes, lt_no, le_yes, yes_le, yes_lt, eq_yes, eq_no, either, both, and_true, or_left, or_right, has_old, has_new, has_other, has_one, climbs_with, greatest_least, greatest_has, greatest_within, missing_ge, missing_below, missing_not, score_past, score_within, shows_has}
 
 -- ---- the session's start, and the settled numbers below it
 
@@ -400,6 +401,35 @@ agreed_start y r m l b a = record {
   failed = a.failed;
 }
 
+-- A device that repeats frames tells its peer where the window starts.
+pub agreed_told : (y : Session) (r : Receiver) → IsAgreed y r →
+    IsAgreed (with_heard_start true (start_of y) y) (with_start (start_of y) r)
+agreed_told y r a = agreed_heard y (with_start (start_of y) r) (start_of y) (has_new r.starts (start_of y))
+    (agreed_start y r (start_of y) (start_ge y.slots y.first) (omega arith) a)
+
+-- No request is due after it.
+pub told_quiet : (y : Session) → request_due (with_heard_start true (start_of y) y) ≡ false
+told_quiet y = on_bool (request_due (with_heard_start true (start_of y) y))
+    (λ d.
+    let u = due_at (with_heard_start true (start_of y) y) d in
+    absurd (omega (arith, u.1.told, u.1.below)))
+    (λ e. e)
+
+-- A heard start makes no request due.
+pub quiet_heard : (b : Bool) (f : ℕ) (y : Session) → request_due y ≡ false →
+    request_due (with_heard_start b f y) ≡ false
+quiet_heard false f y h = h
+quiet_heard true f y h = on_bool (request_due (with_heard_start true f y))
+    (λ d. let u = due_at (with_heard_start true f y) d in absurd (cc (
+      at_due y u.0 (record {
+        from = u.1.from;
+        failed = u.1.failed;
+        told = omega (arith, u.1.told);
+        below = u.1.below;
+      }),
+      h,
+    ))) (λ e. e)
+
 pub agreed_new : (first size : ℕ) → IsAgreed (record {
   first = first;
   size = size;
@@ -449,6 +479,10 @@ pub record IsOpen (x : Exchange) (y : Session) (r : Receiver) : Type 0 where
   pub asked : IfRequest x.content (λ f. IsAsked f y)
   pub told : IfRequest x.content (λ f. (length x.arrived == 0) ≡ false → has r.starts f ≡ true)
   pub marked : is_some x.answer ≡ true → (length x.arrived == 0) ≡ false
+  -- No batch is answered. The frames that arrived are at the receiver.
+  pub unbatched : is_some x.answer ≡ true → x.batch ≡ false
+  pub reached : is_request x.content ≡ false → (n : ℕ) → has (numbers_arrived x) n ≡ true →
+      has r.arrived n ≡ true
 
 pub request_map : (c : Content) (P Q : ℕ → Type 0) → ((f : ℕ) → P f → Q f) → IfRequest c P → IfRequest c Q
 request_map (Frames ms) P Q h k = tt
@@ -516,7 +550,44 @@ open_on_slot x y r m f l h k o =
       }) o.asked;
       told = o.told;
       marked = o.marked;
+      unbatched = o.unbatched;
+      reached = o.reached;
     }
+
+start_unsettled : (xs : List Slot) (n k : ℕ) (f : Slot → Slot) → is_settled (at no_slot xs k).state ≡ false →
+    is_settled (f (at no_slot xs k)).state ≡ false →
+    first_unsettled n (change no_slot xs k f) ≡ first_unsettled n xs
+start_unsettled [] n k f h e = absurd (cc h)
+start_unsettled (x ∷ xs) n zero f h e = ap (λ (b : Bool). if b then first_unsettled (suc n) xs else n) e
+    ∙ sym (ap (λ (b : Bool). if b then first_unsettled (suc n) xs else n) h)
+start_unsettled (x ∷ xs) n (suc k) f h e = ap (λ (i : ℕ). if is_settled x.state then i else n)
+    (start_unsettled xs (suc n) k f h e)
+
+-- The changed slot neither fails nor was settled: no request becomes due.
+pub quiet_on_slot : (y : Session) (m : ℕ) (f : Slot → Slot) → y.first ≤ m →
+    is_settled (slot y m).state ≡ false → is_settled (f (slot y m)).state ≡ false → request_due y ≡ false →
+    request_due (on_slot m f y) ≡ false
+quiet_on_slot y m f l h k none = on_bool (request_due (on_slot m f y))
+    (λ d.
+    let u = due_at (on_slot m f y) d in
+    let z : Session = on_slot m f y in
+    let here : slot z m ≡ f (slot y m) = slot_same y m f in
+    let stays : is_settled (slot z m).state ≡ false = ap (λ (x : Slot). is_settled x.state) here ∙ k in
+    let ne : m ≢ u.0 =
+    λ e. cc (ap is_settled u.1.failed, ap (λ (i : ℕ). is_settled (slot z i).state) e, stays) in
+    let back : slot y u.0 ≡ slot z u.0 = sym (slot_other y m u.0 f l u.1.from ne) in
+    let failed : (slot y u.0).state ≡ State.Failed = ap (λ (x : Slot). x.state) back ∙ u.1.failed in
+    let start : start_of z ≡ start_of y = start_unsettled y.slots y.first (m - y.first) f h k in
+    absurd (cc (
+      at_due y u.0 (record {
+        from = u.1.from;
+        failed = failed;
+        told = u.1.told;
+        below = omega (arith, u.1.below, start);
+      }),
+      none,
+    )))
+    (λ e. e)
 
 -- While no request is due, none is open.
 pub not_asked : (x : Exchange) (y z : Session) → request_due y ≡ false →
@@ -533,6 +604,8 @@ open_flies x y z r none f o = record {
   asked = not_asked x y z none o.asked;
   told = o.told;
   marked = o.marked;
+  unbatched = o.unbatched;
+  reached = o.reached;
 }
 
 pub open_arrived : (x : Exchange) (y : Session) (r : Receiver) (e n : ℕ) → (slot y n).state ≡ State.Flying e →
@@ -545,6 +618,8 @@ open_arrived x y r e n f ne o = record {
   asked = o.asked;
   told = o.told;
   marked = o.marked;
+  unbatched = o.unbatched;
+  reached = λ c k h. has_old r.arrived n k (o.reached c k h);
 }
 
 pub open_start : (x : Exchange) (y : Session) (r : Receiver) (n : ℕ) → IsOpen x y r →
@@ -559,6 +634,8 @@ open_start x y r n o = record {
       (λ f. (length x.arrived == 0) ≡ false → has (with_start n r).starts f ≡ true)
       (λ f h e. has_old r.starts n f (h e)) o.told;
   marked = o.marked;
+  unbatched = o.unbatched;
+  reached = o.reached;
 }
 
 -- An exchange that is not a request stays right if another exchange ends as heard.
@@ -574,6 +651,8 @@ open_heard x y r h none o = record {
   asked = request_map x.content (λ f. ⊥) (λ f. IsAsked f (record y { heard = h })) (λ f k. absurd k) none;
   told = o.told;
   marked = o.marked;
+  unbatched = o.unbatched;
+  reached = o.reached;
 }
 
 -- Waiting numbers of an aggregate are sent.

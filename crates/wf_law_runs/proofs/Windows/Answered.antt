@@ -1,16 +1,17 @@
 -- Proves the bounds on the start of an open exchange's answer. An exchange is answered only after one of its
 -- transmissions arrived, so the window of the answer's scoreboard contains one of its numbers, and this
 -- number is on the air as long as the exchange is open.
-use Rattle.std.proofs.Common.{◌≡◌, ◌≢◌, refl, ap, sym, ◌∙◌, subst, arith, ℕ, zero, suc, ◌+◌, ◌-◌, ◌<◌, ◌≤◌, nat_lt, nat_le, Bool, true, false, if◌then◌else◌, ◌==◌, ◌⊎◌, inl, inr, List, [], ◌∷◌, ◌++◌, length, map, Option, Some, None, IfSome, is_some}
+use Rattle.std.proofs.Common.{◌≡◌, ◌≢◌, refl, ap, sym, ◌∙◌, subst, arith, ℕ, zero, suc, ◌+◌, ◌-◌, ◌<◌, ◌≤◌, nat_lt, nat_le, Bool, true, false, if◌then◌else◌, ◌==◌, ◌||◌, ◌⊎◌, inl, inr, List, [], ◌∷◌, ◌++◌, length, map, Option, Some, None, IfSome, is_some}
 use Rattle.wf_frame.specs.declared.settings.Config.{Config}
 use Rattle.wf_frame.specs.declared.classes.Class.{Class}
-use Rattle.wf_frame.specs.declared.notes.Ask.TheVariants.{Join, Leave, Rate, Tick, Pull, Arrive, Answer, Done, Sleep, Wake, Poll, Rx, Reap, Ampdu, Stop, Start, Unsent, GiveUp, Flush}
+use Rattle.wf_frame.specs.declared.notes.Ask.TheVariants.{Join, Leave, Rate, Tick, Pull, Arrive, Answer, Done, Sleep, Wake, Poll, Rx, Reap, Ampdu, Stop, Start, Unsent, GiveUp, Flush, Offload, Weight}
 use Rattle.wf_frame.specs.declared.notes.Limits.{Limits}
 use Rattle.wf_frame.specs.declared.notes.Note.{Note}
 use Rattle.wf_frame.specs.declared.notes.Note.TheVariants.{Enqueue, Asked}
 use Rattle.wf_frame.specs.declared.notes.Refusal.{Refusal}
 use Rattle.wf_frame.specs.declared.notes.Refusal.TheVariants.{Idle}
 use Rattle.wf_frame.specs.Classes.{all_classes}
+use Rattle.wf_def_lists.specs.Bounds.{greatest_window}
 use Rattle.wf_def_lists.specs.Table.{at, has, with_member, upto}
 use Rattle.wf_def_agreement.specs.Receiver.{Receiver, Score, greatest, score, score_start}
 use Rattle.wf_def_agreement.specs.Session.{Session, State, is_settled, start_of, next_number}
@@ -18,7 +19,7 @@ use Rattle.wf_def_world.specs.World.{World, Station, Exchange, Mpdu, Content, Fr
 use Rattle.wf_def_world.specs.CanSend.{is_ready}
 use Rattle.wf_def_world.specs.Exchanges.{transmissions, no_mpdu, mpdus_of, station_need, picked_station, sending_tid, exchange_of, Prepared, after_tid_turn, with_exchange_opened, after_arrival}
 use Rattle.wf_def_world.specs.Refusals.{open_of_station, refusals, refusal}
-use Rattle.wf_def_world.specs.Step.{Outcome, join_outcome, leave_outcome, rate_outcome, tick_outcome, send_outcome, pull_outcome_for, pull_outcome, arrive_outcome, answer_outcome, unsent_outcome, give_up_outcome, done_outcome, outcome_where_open, sleep_outcome, wake_outcome, poll_outcome, rx_outcome, reap_outcome, concerned_station, outcome_of, after_refusal, judged_outcome, step}
+use Rattle.wf_def_world.specs.Step.{Outcome, new_station, offload_outcome, join_outcome, leave_outcome, rate_outcome, tick_outcome, send_outcome, pull_outcome_for, pull_outcome, arrive_outcome, answer_outcome, unsent_outcome, give_up_outcome, done_outcome, outcome_where_open, sleep_outcome, wake_outcome, poll_outcome, rx_outcome, reap_outcome, concerned_station, outcome_of, after_refusal, judged_outcome, step}
 use Rattle.wf_def_world.specs.Run.{Entry, world_after}
 use Rattle.wf_law_rules.proofs.Lemmas.Numbers.{has_new, has_old, greatest_least, greatest_has, score_past, le_no}
 use Rattle.wf_law_runs.proofs.Common.Refused.{after_idle}
@@ -26,10 +27,10 @@ use Rattle.wf_law_runs.proofs.Common.Marks.{marked_world}
 use Rattle.wf_law_runs.proofs.Common.Picked.{picked_world}
 use Rattle.wf_law_runs.proofs.Sessions.Starts.{start_le}
 use Rattle.wf_law_runs.proofs.Sessions.Flights.{AllIn, Rises}
-use Rattle.wf_law_runs.proofs.Windows.Sides.{Side, side, Same, each_side_on, then_same, same_listed, same_after_pick, same_after_turn, same_spent, same_on_station, same_on_share, same_picked}
+use Rattle.wf_law_runs.proofs.Windows.Sides.{same_weighed, Side, side, Same, each_side_on, then_same, same_listed, same_after_pick, same_after_turn, same_spent, same_on_station, same_on_share, same_picked}
 use Rattle.wf_law_runs.proofs.Windows.Agreement.{IsAgreed, IsAsked, IfRequest, option_along, unsettled_ge, score_kept}
 use Rattle.wf_law_runs.proofs.Windows.Opened.{Each, each_map, each_both, each_append, each_find, FlyIn, some_along, pick_ready, left_true, none_open, NoRow, no_row}
-use Rattle.wf_law_runs.proofs.Windows.Agreed.{IsLawful, IsOpenIn, each_map_if, both_some, if_on, no_answer, lawful_same, lawful_step, lawful_at_first, same_left_tids, same_off_lists}
+use Rattle.wf_law_runs.proofs.Windows.Agreed.{IsLawful, IsOpenIn, none_of, each_map_if, both_some, if_on, no_answer, lawful_same, lawful_step, lawful_at_first, same_left_tids, same_off_lists}
 use Rattle.wf_law_runs.proofs.Releases.Kept.{KeptSession, kept_refl, Kept, kept_same, keep_prepared, keep_ended, keep_flushed, opened_flushed, keep_plain}
 use Rattle.wf_law_runs.proofs.Releases.Released.{side_taken, side_with_station}
 use Rattle.wf_law_runs.proofs.Frames.Delivered.{IsPrepared, prepared_right, opened_ended, opened_on_receiver, same_enqueued, filtered}
@@ -85,8 +86,10 @@ grows r = record { arrived = λ n h. h; starts = λ n h. h }
 
 grown_kept : (w v : World) → Kept w v → Grown w v
 grown_kept w v k = record {
-  receivers = λ s t.
-      subst (Grows (receiver w s t)) (sym (k.receivers s t)) (grows (receiver w s t));
+  receivers = λ s t. record {
+    arrived = λ n h. ap (λ (l : List ℕ). has l n) (k.receivers s t).arrived ∙ h;
+    starts = (k.receivers s t).starts;
+  };
   sessions = k.sessions;
 }
 
@@ -293,12 +296,23 @@ marked_station w s o away h = record {
       away;
 }
 
+marked_new : (w : World) (s window start exponent weight : ℕ) (offloaded : Bool) → is_live w s ≡ false →
+    IsLawful w → Marked w →
+    Marked (with_station w s (Some (new_station w.config window start exponent weight offloaded)))
+marked_new w s window start exponent weight offloaded dead i h =
+    marked_station w s _ (each_map (IsOpenIn w) (λ x. s ≢ x.station) w.opened
+    (λ x f e. cc (ap (is_live w) e, f.live, dead)) i.opened) h
+
 marked_joined : (w : World) (s window start exponent weight : ℕ) → is_live w s ≡ false → IsLawful w →
     Marked w → Marked (join_outcome w s window start exponent weight).world
 unfolding join_outcome
 marked_joined w s window start exponent weight dead i h =
-    marked_station w s _ (each_map (IsOpenIn w) (λ x. s ≢ x.station) w.opened
-    (λ x f e. cc (ap (is_live w) e, f.live, dead)) i.opened) h
+    marked_new w s window start exponent weight false dead i h
+
+marked_offloaded : (w : World) (s exponent weight : ℕ) → is_live w s ≡ false → IsLawful w →
+    Marked w → Marked (offload_outcome w s exponent weight).world
+unfolding offload_outcome
+marked_offloaded w s exponent weight dead i h = marked_new w s greatest_window 0 exponent weight true dead i h
 
 marked_gone : (w : World) (s : ℕ) → nat_lt 0 (open_of_station w s) ≡ false → Marked w →
     Marked (leave_outcome w s).world
@@ -350,11 +364,12 @@ marked_done (Asked (Arrive e n)) w i r h = marked_open
     (exchange w e) (if_on (exchange w e) (λ x. is_some x.answer) r.1.1.0)
     (if_on (exchange w e) (λ x. nat_le (transmissions x.content) n) r.1.0)))
     h (λ x f. marked_arrived w x n f.0.open_in.live f.1.0 (le_no _ _ f.1.1) h)
-marked_done (Asked (Answer e)) w i r h = marked_open (λ x. IsRead w x × ((length x.arrived == 0) ≡ false))
+marked_done (Asked (Answer e)) w i r h =
+    marked_open (λ x. IsRead w x × (x.batch || (length x.arrived == 0) ≡ false))
     (exchange w e) w _
-    (both_some (IsRead w) (λ x. (length x.arrived == 0) ≡ false) (exchange w e) (read w i h e)
-    (if_on (exchange w e) (λ x. length x.arrived == 0) r.1.1.0))
-    h (λ x f. marked_answered w i x f.0.marked f.1 h)
+    (both_some (IsRead w) (λ x. x.batch || (length x.arrived == 0) ≡ false) (exchange w e) (read w i h e)
+    (if_on (exchange w e) (λ x. x.batch || (length x.arrived == 0)) r.1.1.0))
+    h (λ x f. marked_answered w i x f.0.marked (none_of x.batch (length x.arrived == 0) f.1).1 h)
 marked_done (Asked (Done e heard air)) w i r h = marked_open (IsRead w) (exchange w e) w _ (read w i h e) h
     (λ x f. marked_ended air w x heard h)
 marked_done (Asked (Sleep s)) w i r h = marked_same w _ (same_on_station w s _ (λ x t. refl)) h
@@ -370,6 +385,8 @@ marked_done (Asked (Unsent e n)) w i r h = marked_open (IsRead w) (exchange w e)
 marked_done (Asked (GiveUp e n)) w i r h = marked_open (IsRead w) (exchange w e) w _ (read w i h e) h
     (λ x f. marked_given_up w x n f.marked h)
 marked_done (Asked (Flush s t)) w i r h = marked_kept w _ (keep_flushed w s t) (opened_flushed w s t) h
+marked_done (Asked (Offload s exponent weight)) w i r h = marked_offloaded w s exponent weight r.1.1.1.0 i h
+marked_done (Asked (Weight s weight)) w i r h = marked_same w _ (same_weighed w s weight) h
 
 marked_refused : (note : Note) (r : Refusal) (w : World) → Marked w → Marked (after_refusal w note r)
 unfolding after_refusal

@@ -3,27 +3,27 @@
 use Rattle.std.proofs.Common.{◌≡◌, ◌≢◌, refl, ap, sym, ◌∙◌, subst, arith, ℕ, ◌<◌, Bool, true, false, if◌then◌else◌, ◌==◌, List, [], ◌∷◌, ◌++◌, map, Option, Some, None, IfSome, is_some}
 use Rattle.wf_frame.specs.declared.settings.Config.{Config}
 use Rattle.wf_frame.specs.declared.classes.Class.{Class}
-use Rattle.wf_def_lists.specs.Table.{at, has, with_member, upto}
+use Rattle.wf_def_lists.specs.Table.{has, with_member, upto}
 use Rattle.wf_def_agreement.specs.Receiver.{Receiver, Score, score}
 use Rattle.wf_def_agreement.specs.Session.{next_number}
-use Rattle.wf_def_world.specs.World.{receiver, World, Station, Exchange, Mpdu, Content, no_tid, rotation, session, is_live, exchange, with_station, on_station, on_receiver, with_exchange, opening}
+use Rattle.wf_def_world.specs.World.{receiver, World, Station, Exchange, Mpdu, Content, rotation, session, is_live, exchange, with_station, on_station, on_receiver, with_exchange, opening}
 use Rattle.wf_frame.specs.Classes.{all_classes}
 use Rattle.wf_def_world.specs.CanSend.{is_ready}
 use Rattle.wf_def_world.specs.Exchanges.{station_need, picked_station, after_arrival, exchange_of, sending_tid, Prepared, mpdus_of, after_tid_turn, with_exchange_opened}
-use Rattle.wf_frame.specs.declared.notes.Ask.TheVariants.{Join, Leave, Rate, Tick, Pull, Arrive, Answer, Done, Sleep, Wake, Poll, Rx, Reap, Ampdu, Stop, Start, Unsent, GiveUp, Flush}
+use Rattle.wf_frame.specs.declared.notes.Ask.TheVariants.{Join, Leave, Rate, Tick, Pull, Arrive, Answer, Done, Sleep, Wake, Poll, Rx, Reap, Ampdu, Stop, Start, Unsent, GiveUp, Flush, Offload, Weight}
 use Rattle.wf_frame.specs.declared.notes.Limits.{Limits}
 use Rattle.wf_frame.specs.declared.notes.Note.{Note}
 use Rattle.wf_frame.specs.declared.notes.Note.TheVariants.{Enqueue, Asked}
 use Rattle.wf_frame.specs.declared.notes.Refusal.{Refusal}
 use Rattle.wf_frame.specs.declared.notes.Refusal.TheVariants.{Idle}
 use Rattle.wf_def_world.specs.Refusals.{refusals, refusal}
-use Rattle.wf_def_world.specs.Step.{Outcome, join_outcome, leave_outcome, rate_outcome, tick_outcome, send_outcome, pull_outcome_for, pull_outcome, arrive_outcome, answer_outcome, unsent_outcome, give_up_outcome, flush_outcome, done_outcome, outcome_where_open, sleep_outcome, wake_outcome, poll_outcome, rx_outcome, reap_outcome, outcome_of, after_refusal, judged_outcome, step, concerned_station}
+use Rattle.wf_def_world.specs.Step.{Outcome, join_outcome, leave_outcome, rate_outcome, tick_outcome, send_outcome, pull_outcome_for, pull_outcome, arrive_outcome, answer_outcome, unsent_outcome, give_up_outcome, flush_outcome, done_outcome, outcome_where_open, sleep_outcome, wake_outcome, poll_outcome, rx_outcome, reap_outcome, outcome_of, after_refusal, judged_outcome, step, concerned_station, offload_outcome}
 use Rattle.wf_def_world.specs.Run.{Entry, world_after, by}
 use Rattle.wf_law_rules.proofs.Lemmas.Numbers.{eq_yes, eq_no}
 use Rattle.wf_law_runs.proofs.Common.Refused.{after_idle}
 use Rattle.wf_law_runs.proofs.Common.Marks.{with_marks, marked_world}
 use Rattle.wf_law_runs.proofs.Common.Flushes.{if_flushed}
-use Rattle.wf_law_runs.proofs.Windows.Sides.{side_of, Same, on_exchanges, then_same, same_on_station, same_on_share, same_on_queue, same_finish, same_listed, same_after_pick, same_after_turn, same_spent, same_picked}
+use Rattle.wf_law_runs.proofs.Windows.Sides.{sided, Same, on_exchanges, then_same, same_on_station, same_on_share, same_on_queue, same_finish, same_listed, same_after_pick, same_after_turn, same_spent, same_picked, same_weighed}
 use Rattle.wf_law_runs.proofs.Windows.Agreement.{answer_right, AllRight}
 use Rattle.wf_law_runs.proofs.Windows.Opened.{Each, each_both, each_append, each_find, some_along, pick_ready, left_true, NoRow, no_row}
 use Rattle.wf_law_runs.specs.Windows.{EachMpdu}
@@ -31,6 +31,7 @@ use Rattle.wf_law_runs.specs.Answers.{IsBa, StandsAsThen, AnswerLaw}
 use Rattle.wf_law_runs.proofs.Common.Picked.{picked_world}
 use Rattle.wf_law_runs.proofs.Windows.Agreed.{IsLawful, IsOpenIn, lawful, lawful_step, lawful_run, lawful_same, opened_on_session, exchanges_on_session, same_left_tids, same_off_lists, if_on, each_map_if}
 use Rattle.wf_law_runs.proofs.Frames.Delivered.{IsPrepared, prepared_right, opened_ended, exchanges_ended, opened_on_receiver, same_enqueued, filtered}
+use Rattle.wf_law_runs.proofs.Releases.Kept.{opened_caught, exchanges_caught}
 
 record Stands (b : Score) (s t : ℕ) (c : Content) (x : Exchange) : Type 0 where
   answer : x.answer ≡ Some b
@@ -157,7 +158,8 @@ module _ (e : ℕ) (b : Score) (s t : ℕ) (c : Content) where
         finish = λ u id k. standing_same u _ (same_finish u _ id) k;
         empty = λ u q k. standing_same u _ (same_on_queue u q _) k;
       })
-      w i j (standing_plain w _ (opened_on_session w i j _) (exchanges_on_session w i j _) h)
+      w i j (λ v k _. standing_plain v _ (opened_caught v i j) (exchanges_caught v i j) k)
+      (standing_plain w _ (opened_on_session w i j _) (exchanges_on_session w i j _) h)
 
   standing_ended : (air : Option ℕ) (w : World) (x : Exchange) (heard : Bool) → IsStanding e b s t c w →
       IsStanding e b s t c (done_outcome w x heard air).world
@@ -177,6 +179,11 @@ module _ (e : ℕ) (b : Score) (s t : ℕ) (c : Content) where
   unfolding join_outcome
   standing_joined w i window start exponent weight h = standing_with_station w i _ h
 
+  standing_offloaded : (w : World) (i exponent weight : ℕ) → IsStanding e b s t c w →
+      IsStanding e b s t c (offload_outcome w i exponent weight).world
+  unfolding offload_outcome
+  standing_offloaded w i exponent weight h = standing_with_station w i _ h
+
   standing_gone : (w : World) (i : ℕ) → IsStanding e b s t c w →
       IsStanding e b s t c (leave_outcome w i).world
   unfolding leave_outcome
@@ -190,7 +197,7 @@ module _ (e : ℕ) (b : Score) (s t : ℕ) (c : Content) where
   standing_reaped (id ∷ ids) w h = standing_plain w _ refl refl h
 
   standing_station : (w : World) (i : ℕ) (f : Station → Station) →
-      ((x : Station) (t : ℕ) → side_of (at no_tid (f x).tids t) ≡ side_of (at no_tid x.tids t)) →
+      ((x : Station) (t : ℕ) → sided (f x) t ≡ sided x t) →
       IsStanding e b s t c w → IsStanding e b s t c (on_station w i f)
   standing_station w i f g h = standing_same w _ (same_on_station w i f g) h
 
@@ -239,6 +246,8 @@ module _ (e : ℕ) (b : Score) (s t : ℕ) (c : Content) where
       standing_open AsThen AsThen (exchange w x) w _ (found_then w x h) (found_then w x h) h
       (λ y f g. standing_given_up w y n f h)
   standing_done (Asked (Flush i j)) w l r h = standing_flushed w i j h
+  standing_done (Asked (Offload i exponent weight)) w l r h = standing_offloaded w i exponent weight h
+  standing_done (Asked (Weight i weight)) w l r h = standing_same w _ (same_weighed w i weight) h
 
   standing_refused : (note : Note) (r : Refusal) (w : World) → IsStanding e b s t c w →
       IsStanding e b s t c (after_refusal w note r)

@@ -1,43 +1,45 @@
 -- Proves that each number on the air is sent by an open exchange, and that a TID has at most one open
 -- request. By cases of the call.
-use Rattle.std.proofs.Common.{◌≡◌, refl, ap, sym, ◌∙◌, subst, arith, ℕ, zero, suc, ◌+◌, ◌-◌, ◌<◌, ◌≤◌, nat_lt, Bool, true, false, if◌then◌else◌, not, ◌==◌, ◌⊎◌, inl, inr, List, [], ◌∷◌, ◌++◌, length, map, filter, find, count_by, Option, Some, None, IfSome, is_some}
+use Rattle.std.proofs.Common.{◌≡◌, refl, ap, sym, ◌∙◌, subst, arith, ℕ, zero, suc, ◌+◌, ◌-◌, ◌<◌, ◌≤◌, nat_lt, Bool, true, false, if◌then◌else◌, not, ◌==◌, ◌⊎◌, inl, inr, List, [], ◌∷◌, ◌++◌, length, map, filter, find, count_by, Option, Some, None, IfSome}
 use Rattle.wf_frame.specs.declared.settings.Config.{Config}
 use Rattle.wf_frame.specs.declared.classes.Class.{Class}
 use Rattle.wf_def_lists.specs.Table.{at, has, with_member, upto}
 use Rattle.wf_def_codel.specs.Codel.{Item}
 use Rattle.wf_def_agreement.specs.Receiver.{Receiver, score}
-use Rattle.wf_def_agreement.specs.Session.{End, request_due, with_state, Session, Slot, State, is_failed, slot_given_up, slot, on_slot, with_number_given, after_flush, new_session, next_number, no_slot}
-use Rattle.wf_def_world.specs.World.{receiver, World, Station, Tid, Exchange, Mpdu, Content, Frames, Request, new_tid, no_tid, rotation, session, is_live, exchange, with_station, on_station, on_tid, on_session, on_receiver, with_exchange, without_exchange, opening}
+use Rattle.wf_def_agreement.specs.Session.{End, request_due, with_state, Session, Slot, State, is_failed, slot_given_up, slot, on_slot, with_number_given, after_flush, new_session, next_number, no_slot, start_of}
+use Rattle.wf_def_world.specs.World.{receiver, World, Station, Tid, Exchange, Mpdu, Content, Frames, Request, new_tid, rotation, session, is_live, exchange, with_station, on_station, on_tid, on_session, on_receiver, with_exchange, without_exchange, opening}
 use Rattle.wf_frame.specs.Classes.{all_classes}
 use Rattle.wf_def_world.specs.FlowQueues.{taken_for_tid}
 use Rattle.wf_def_world.specs.CanSend.{is_ready, can_give}
-use Rattle.wf_def_world.specs.Exchanges.{end_of, station_need, most_frames, picked_station, after_arrival, exchange_of, sending_tid, with_heard_start, Aggregate, Prepared, mpdus_of, after_tid_turn, with_fresh, aggregate_of, with_number, with_flying, waiting_mpdus, longest_fitting, prepared_data, prepared_exchange, with_exchange_opened, after_charge, with_failed_finished, with_settled, with_all_settled, after_done}
-use Rattle.wf_frame.specs.declared.notes.Ask.TheVariants.{Join, Leave, Rate, Tick, Pull, Arrive, Answer, Done, Sleep, Wake, Poll, Rx, Reap, Ampdu, Stop, Start, Unsent, GiveUp, Flush}
+use Rattle.wf_def_world.specs.Exchanges.{end_of, station_need, most_frames, picked_station, after_arrival, exchange_of, sending_tid, with_heard_start, Aggregate, Prepared, mpdus_of, after_tid_turn, with_fresh, aggregate_of, with_number, with_flying, waiting_mpdus, longest_fitting, prepared_data, prepared_exchange, with_exchange_opened, after_charge, with_failed_finished, with_settled, with_all_settled, after_done, caught_up, with_device_caught_up}
+use Rattle.wf_frame.specs.declared.notes.Ask.TheVariants.{Join, Leave, Rate, Tick, Pull, Arrive, Answer, Done, Sleep, Wake, Poll, Rx, Reap, Ampdu, Stop, Start, Unsent, GiveUp, Flush, Offload, Weight}
 use Rattle.wf_frame.specs.declared.notes.Limits.{Limits}
 use Rattle.wf_frame.specs.declared.notes.Note.{Note}
 use Rattle.wf_frame.specs.declared.notes.Note.TheVariants.{Enqueue, Asked}
 use Rattle.wf_frame.specs.declared.notes.Refusal.{Refusal}
 use Rattle.wf_frame.specs.declared.notes.Refusal.TheVariants.{Idle}
 use Rattle.wf_def_world.specs.Refusals.{refusal}
-use Rattle.wf_def_world.specs.Step.{Outcome, join_outcome, leave_outcome, rate_outcome, tick_outcome, send_outcome, pull_outcome_for, pull_outcome, arrive_outcome, answer_outcome, done_outcome, outcome_where_open, sleep_outcome, wake_outcome, poll_outcome, rx_outcome, reap_outcome, unsent_outcome, give_up_outcome, flush_outcome, outcome_of, after_refusal, judged_outcome, step}
+use Rattle.wf_def_world.specs.Step.{Outcome, join_outcome, leave_outcome, rate_outcome, tick_outcome, send_outcome, pull_outcome_for, pull_outcome, arrive_outcome, answer_outcome, done_outcome, outcome_where_open, sleep_outcome, wake_outcome, poll_outcome, rx_outcome, reap_outcome, unsent_outcome, give_up_outcome, flush_outcome, outcome_of, after_refusal, judged_outcome, step, offload_outcome, new_station}
 use Rattle.wf_def_world.specs.Run.{Entry, world_after}
 use Rattle.std.proofs.lemmas.List.Sums.{sum_by-cons}
 use Rattle.wf_law_rules.proofs.Lemmas.Tables.{each_put}
 use Rattle.wf_law_runs.proofs.Common.Refused.{after_idle}
 use Rattle.wf_law_runs.proofs.Common.Marks.{with_marks, marked_world}
 use Rattle.wf_law_runs.proofs.Common.Ends.{slot_after_end, end_not_flying, on_settled}
-use Rattle.wf_law_runs.proofs.Common.Flushes.{flush_along, if_flushed}
+use Rattle.wf_law_runs.proofs.Common.Flushes.{flush_along, if_flushed, if_caught}
 use Rattle.wf_law_runs.proofs.Sessions.Flights.{Rises, flown, next-give}
 use Rattle.wf_law_rules.proofs.Lemmas.Numbers.{on_bool, on_if, lt_yes, lt_no, eq_yes, eq_no, either, or_left, or_right}
-use Rattle.wf_law_runs.proofs.Windows.Sides.{side_of, sides_of, Same, each_side_on, on_exchanges, same, then_same, same_on_station, same_on_share, same_on_queue, same_finish, same_listed, same_after_pick, same_after_turn, same_spent, same_take, same_charged, same_picked}
+use Rattle.wf_law_runs.proofs.Windows.Sides.{sided, sides_of, Same, each_side_on, on_exchanges, same, then_same, same_on_station, same_on_share, same_on_queue, same_finish, same_listed, same_after_pick, same_after_turn, same_spent, same_take, same_charged, same_picked, same_weighed, same_plain, slot_device, caught_up_is, told_start}
 use Rattle.wf_law_runs.proofs.Windows.Agreement.{below_next, slot_give, slot_new, slot_other, slot_same}
 use Rattle.wf_law_runs.proofs.Windows.Opened.{Each, each_map, each_find, FlyIn, some_along, pick_ready, left_true, eight}
 use Rattle.wf_law_runs.specs.Windows.{EachMpdu, SomeOpen, IsSending, OpenRises}
 use Rattle.wf_law_runs.proofs.Common.Picked.{picked_world}
 use Rattle.wf_law_runs.proofs.Windows.Agreed.{IsLawful, IsOpenIn, IsReady, ready_filled, lawful_same, lawful_step, lawful_at_first, session_same, opened_on_session, exchanges_on_session, same_left_tids, same_off_lists}
-use Rattle.wf_law_runs.proofs.Windows.Settling.{all_landed, without_same, without_live}
+use Rattle.wf_law_runs.proofs.Windows.Settling.{all_landed, without_same, without_live, each_along}
 use Rattle.wf_law_runs.proofs.Frames.Delivered.{IsPrepared, prepared_right, opened_ended, exchanges_ended, opened_on_receiver, same_enqueued}
 use Rattle.wf_law_runs.proofs.Windows.Answers.{exchanges_on_receiver}
+use Rattle.wf_law_runs.proofs.Releases.Kept.{opened_caught, exchanges_caught}
+use Rattle.wf_def_lists.specs.Bounds.{greatest_window}
 
 -- ---- no number is sent
 
@@ -160,9 +162,20 @@ landing_all [] w s t ends = landing_here w
 landing_all (m ∷ ms) w s t ends = then_landing w _ _ (landing_settled (ends m.number) w s t m)
     (landing_all ms _ s t ends)
 
+landing_caught : (w : World) (s t : ℕ) → Landing w (caught_up w s t)
+landing_caught w s t = subst (Landing w) (sym (caught_up_is w s t)) (record {
+  lands = each_side_on (λ i j a. Lands (session w i j) a.session) w s t
+      (told_start (start_of (session w s t))) (λ i j. lands_refl (session w i j))
+      (lands_heard true (start_of (session w s t)) (session w s t));
+})
+
+landing_device : (w : World) (s t : ℕ) → Landing w (with_device_caught_up w s t)
+landing_device w s t = if_caught (Landing w) w s t (landing_here w) (λ _. landing_caught w s t)
+
 landing_after : (c : Content) (w : World) (x : Exchange) (heard : Bool) → Landing w (after_done w x heard c)
 unfolding after_done
-landing_after (Frames ms) w x heard = landing_all ms w x.station x.tid _
+landing_after (Frames ms) w x heard = then_landing w _ _ (landing_all ms w x.station x.tid _)
+    (landing_device _ x.station x.tid)
 landing_after (Request f) w x heard = landing_on_session w x.station x.tid (with_heard_start heard f)
     (lands_heard heard f (session w x.station x.tid))
 
@@ -523,9 +536,12 @@ landed_after air (Frames ms) w x heard e o =
     ∙ without_same w x.number x.station x.tid in
     let flies : FlyIn x.number ms y = subst (λ (c : Content). FlyIn x.number (mpdus_of c) y) e o.opened.flies
     in
-    all_landed ms v x.station x.tid (end_of x heard) y.first (next_number y)
+    let u : World = with_all_settled v x.station x.tid (end_of x heard) ms in
+    each_along _ _ ms (λ m h d f. h d (ap (λ (z : Slot). z.state)
+    (sym (slot_device u x.station x.tid x.station x.tid m.number)) ∙ f))
+    (all_landed ms v x.station x.tid (end_of x heard) y.first (next_number y)
     (k.live x.station ∙ without_live w x.number x.station ∙ o.live)
-    (omega (arith, ap (λ (z : Session). z.first) same_y)) flies.rising
+    (omega (arith, ap (λ (z : Session). z.first) same_y)) flies.rising)
 
 landed_ended : (air : Option ℕ) (w : World) (x : Exchange) (heard : Bool) → IsOpenIn w x →
     EachMpdu (λ m. (e : ℕ) → (slot
@@ -587,6 +603,7 @@ flown_flushed w s t k =
       finish = λ u id h. flown_same u _ (same_finish u _ id) h;
       empty = λ u q h. flown_same u _ (same_on_queue u q _) h;
     }) w s t
+    (λ v h _. flown_landing v _ (landing_caught v s t) (opened_caught v s t) (exchanges_caught v s t) h)
     (flown_landing w _ (landing_on_session w s t (after_flush w.config.attempts)
     (lands_flush w.config.attempts (session w s t))) (opened_on_session w s t _)
     (exchanges_on_session w s t _) k)
@@ -627,12 +644,21 @@ flown_with_station w i o bare k = flown_landing w _ (landing_with_station w i o 
 new_bare : (first size : ℕ) → next_number (new_session first size) ≡ first
 new_bare first size = omega arith
 
+flown_new : (w : World) (s window start exponent weight : ℕ) (offloaded : Bool) → IsFlown_by w →
+    IsFlown_by (with_station w s (Some (new_station w.config window start exponent weight offloaded)))
+flown_new w s window start exponent weight offloaded k =
+    flown_with_station w s _ (eight (λ y. next_number y.session ≡ y.session.first) (new_tid start window)
+    (new_bare start window) (new_bare 0 0)) k
+
 flown_joined : (w : World) (s window start exponent weight : ℕ) → IsFlown_by w →
     IsFlown_by (join_outcome w s window start exponent weight).world
 unfolding join_outcome
-flown_joined w s window start exponent weight k =
-    flown_with_station w s _ (eight (λ y. next_number y.session ≡ y.session.first) (new_tid start window)
-    (new_bare start window) (new_bare 0 0)) k
+flown_joined w s window start exponent weight k = flown_new w s window start exponent weight false k
+
+flown_offloaded : (w : World) (s exponent weight : ℕ) → IsFlown_by w →
+    IsFlown_by (offload_outcome w s exponent weight).world
+unfolding offload_outcome
+flown_offloaded w s exponent weight k = flown_new w s greatest_window 0 exponent weight true k
 
 flown_gone : (w : World) (s : ℕ) → IsFlown_by w → IsFlown_by (leave_outcome w s).world
 unfolding leave_outcome
@@ -643,18 +669,10 @@ flown_gone w s k = flown_with_station _ s None (λ t. new_bare 0 0)
 
 flown_plain : (w v : World) → w.stations ≡ v.stations → w.opened ≡ v.opened → w.exchanges ≡ v.exchanges →
     IsFlown_by w → IsFlown_by v
-flown_plain w v a b c k = flown_same w v (record {
-  sides =
-      λ s t. ap (λ (x : List (Option Station)). sides_of (at None x s) t) (sym a);
-  live =
-      λ s. ap (λ (x : List (Option Station)). is_some (at None x s)) (sym a);
-  opened = sym b;
-  exchanges =
-      sym c;
-}) k
+flown_plain w v a b c k = flown_same w v (same_plain w v a b c) k
 
 flown_station : (w : World) (s : ℕ) (f : Station → Station) →
-    ((x : Station) (t : ℕ) → side_of (at no_tid (f x).tids t) ≡ side_of (at no_tid x.tids t)) → IsFlown_by w →
+    ((x : Station) (t : ℕ) → sided (f x) t ≡ sided x t) → IsFlown_by w →
     IsFlown_by (on_station w s f)
 flown_station w s f h k = flown_same w _ (same_on_station w s f h) k
 
@@ -698,6 +716,8 @@ flown_done (Asked (Unsent x n)) w i k = flown_open (IsOnly w) (exchange w x) w _
 flown_done (Asked (GiveUp x n)) w i k = flown_open (IsOnly w) (exchange w x) w _ (only_found w x i k) k
     (λ y u. flown_given_up w y n u k)
 flown_done (Asked (Flush s t)) w i k = flown_flushed w s t k
+flown_done (Asked (Offload s exponent weight)) w i k = flown_offloaded w s exponent weight k
+flown_done (Asked (Weight s weight)) w i k = flown_same w _ (same_weighed w s weight) k
 
 flown_refused : (note : Note) (r : Refusal) (w : World) → IsFlown_by w → IsFlown_by (after_refusal w note r)
 unfolding after_refusal

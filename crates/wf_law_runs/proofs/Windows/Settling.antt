@@ -1,11 +1,11 @@
 -- Proves how the end of an exchange changes the states of its numbers. By induction on the numbers.
-use Rattle.std.proofs.Common.{◌≡◌, ◌≢◌, refl, ap, sym, ◌∙◌, subst, arith, ℕ, suc, ◌<◌, ◌≤◌, Bool, true, false, if◌then◌else◌, not, ◌&&◌, ◌==◌, is_none, List, [], ◌∷◌, Option, Some, None, IfSome, ◌↔◌}
+use Rattle.std.proofs.Common.{◌≡◌, ◌≢◌, refl, ap, sym, ◌∙◌, subst, arith, ℕ, suc, ◌<◌, ◌≤◌, Bool, true, false, if◌then◌else◌, not, ◌&&◌, ◌==◌, is_none, List, [], ◌∷◌, Option, Some, None, is_some, IfSome, ◌↔◌}
 use Rattle.wf_def_lists.specs.Table.{has}
 use Rattle.wf_def_agreement.specs.Receiver.{Receiver, Score, shows}
 use Rattle.wf_def_agreement.specs.Session.{End, with_state, Session, Slot, State, is_failed, slot, on_slot, next_number}
 use Rattle.wf_def_world.specs.World.{receiver, World, Exchange, Mpdu, Content, Frames, Request, session, is_live, exchange, on_session, without_exchange}
 use Rattle.wf_def_world.specs.CanSend.{with_listings_of}
-use Rattle.wf_def_world.specs.Exchanges.{end_of, numbers_unsent, mpdus_of, after_charge, with_failed_finished, with_settled, with_all_settled, after_done}
+use Rattle.wf_def_world.specs.Exchanges.{end_of, numbers_unsent, mpdus_of, after_charge, with_failed_finished, with_settled, with_all_settled, with_device_caught_up, after_done}
 use Rattle.wf_frame.specs.declared.notes.Ask.TheVariants.{Done}
 use Rattle.wf_frame.specs.declared.notes.Note.TheVariants.{Asked}
 use Rattle.wf_frame.specs.declared.notes.Refusal.{Refusal}
@@ -14,7 +14,7 @@ use Rattle.wf_frame.specs.Settings.{is_bad_air}
 use Rattle.wf_def_world.specs.Step.{done_outcome, outcome_where_open, outcome_of, judged_outcome, step, station_of}
 use Rattle.wf_law_runs.proofs.Common.Ends.{slot_after_end, end_acked, end_not_flying, end_shown, on_settled}
 use Rattle.wf_law_runs.proofs.Sessions.Flights.{Rises}
-use Rattle.wf_law_runs.proofs.Windows.Sides.{Same, same_finish, same_listed, same_charged}
+use Rattle.wf_law_runs.proofs.Windows.Sides.{slot_device, Same, same_finish, same_listed, same_charged}
 use Rattle.wf_law_runs.proofs.Windows.Agreement.{slot_other, slot_same, AllRight}
 use Rattle.wf_law_runs.proofs.Windows.Opened.{each_find, FlyIn}
 use Rattle.wf_frame.specs.declared.notes.Refusal.TheVariants.{NoExchange, NoAnswer, BadAir}
@@ -131,16 +131,31 @@ all_landed (m ∷ ms) w s t ends lo hi live from r =
 
 -- ---- a Done that was heard
 
+pub each_along : (P Q : Mpdu → Type 0) (ms : List Mpdu) → ((m : Mpdu) → P m → Q m) → EachMpdu P ms →
+    EachMpdu Q ms
+each_along P Q [] h e = tt
+each_along P Q (m ∷ ms) h e = (h m e.0, each_along P Q ms h e.1)
+
+-- The device of an offloaded station catches up: the states stay.
+pub acked_device : (ms : List Mpdu) (w : World) (s t : ℕ) (ends : ℕ → End) →
+    EachMpdu (λ m. ((slot (session w s t) m.number).state ≡ State.Acked) ↔
+    (ends m.number ≡ End.Acknowledged)) ms →
+    EachMpdu (λ m. ((slot (session (with_device_caught_up w s t) s t) m.number).state ≡ State.Acked) ↔
+    (ends m.number ≡ End.Acknowledged)) ms
+acked_device ms w s t ends = each_along _ _ ms (λ m e.
+    let d = ap (λ (x : Slot). x.state) (slot_device w s t s t m.number) in
+    ((λ h. e.0 (sym d ∙ h)), (λ h. d ∙ e.1 h)))
+
 same_acked : (ms : List Mpdu) (v u : World) (s t : ℕ) (x : Exchange) (b : Score) (r : Receiver) →
-    x.answer ≡ Some b → Same v u →
+    x.batch ≡ false → x.answer ≡ Some b → Same v u →
     AllRight b r ms → EachMpdu (λ m. ((slot (session v s t) m.number).state ≡ State.Acked) ↔
     (end_of x true m.number ≡ End.Acknowledged)) ms →
     EachMpdu (λ m. ((slot (session u s t) m.number).state ≡ State.Acked) ↔
     (has r.arrived m.number && not (has (numbers_unsent x) m.number) ≡ true)) ms
-same_acked [] v u s t x b r o k a e = tt
-same_acked (m ∷ ms) v u s t x b r o k a e =
+same_acked [] v u s t x b r p o k a e = tt
+same_acked (m ∷ ms) v u s t x b r p o k a e =
     let d : session u s t ≡ session v s t = session_same v u k s t in
-    let shown = end_shown x b m.number o in
+    let shown = end_shown x b m.number p o in
     let arrived : shows b m.number && not (has (numbers_unsent x) m.number)
     ≡ has r.arrived m.number && not (has (numbers_unsent x) m.number) =
     ap (λ (c : Bool). c && not (has (numbers_unsent x) m.number)) a.0.shown in (
@@ -148,7 +163,7 @@ same_acked (m ∷ ms) v u s t x b r o k a e =
         (λ h. sym arrived ∙ shown.0 (e.0.0 (ap (λ (z : Session). (slot z m.number).state) (sym d) ∙ h))),
         (λ h. ap (λ (z : Session). (slot z m.number).state) d ∙ e.0.1 (shown.1 (arrived ∙ h))),
       ),
-      same_acked ms v u s t x b r o k a.1 e.1,
+      same_acked ms v u s t x b r p o k a.1 e.1,
     )
 
 pub without_same : (w : World) (e s t : ℕ) → session (without_exchange w e) s t ≡ session w s t
@@ -173,9 +188,10 @@ heard_frames air (Frames ms) w x e o =
     ∙ without_same w x.number x.station x.tid in
     let flies : FlyIn x.number ms y = subst (λ (c : Content). FlyIn x.number (mpdus_of c) y) e o.opened.flies
     in
-    all_acked ms v x.station x.tid (end_of x true) y.first (next_number y)
+    acked_device ms (with_all_settled v x.station x.tid (end_of x true) ms) x.station x.tid (end_of x true)
+    (all_acked ms v x.station x.tid (end_of x true) y.first (next_number y)
     (k.live x.station ∙ without_live w x.number x.station ∙ o.live)
-    (omega (arith, ap (λ (z : Session). z.first) same_y)) flies.rising
+    (omega (arith, ap (λ (z : Session). z.first) same_y)) flies.rising)
 
 heard_ended : (air : Option ℕ) (w : World) (x : Exchange) (b : Score) (u : World) → x.answer ≡ Some b →
     IsOpenIn w x →
@@ -185,23 +201,31 @@ heard_ended : (air : Option ℕ) (w : World) (x : Exchange) (b : Score) (u : Wor
     (mpdus_of x.content)
 unfolding done_outcome
 heard_ended air w x b u d o k =
-    same_acked (mpdus_of x.content) _ u x.station x.tid x b (receiver w x.station x.tid) d k
+    same_acked (mpdus_of x.content) _ u x.station x.tid x b (receiver w x.station x.tid)
+    (o.opened.unbatched (ap is_some d)) d k
     (subst (λ (a : Option Score). IfSome a (λ b. AllRight b (receiver w x.station x.tid)
     (mpdus_of x.content))) d o.opened.kept)
     (heard_frames air x.content w x refl o)
 
 done_heard : (o : Option Exchange) (w : World) (x : Exchange) (b : Score) (air : Option ℕ) → o ≡ Some x →
     x.answer ≡ Some b → is_bad_air w.config air ≡ false → first_refusal ((is_none o, NoExchange)
-    ∷ (true && exchange_has o (λ x. is_none x.answer), NoAnswer) ∷ (is_bad_air w.config air, BadAir) ∷ [])
-    ≡ None
+    ∷ (true && exchange_has o (λ x. not x.batch && is_none x.answer), NoAnswer)
+    ∷ (is_bad_air w.config air, BadAir) ∷ []) ≡ None
 unfolding first_refusal
 done_heard o w x b air h d fine =
     subst (λ (o : Option Exchange). (if is_none o then Some NoExchange
-    else (if true && exchange_has o (λ x. is_none x.answer) then Some NoAnswer
+    else (if true && exchange_has o (λ x. not x.batch && is_none x.answer) then Some NoAnswer
     else (if is_bad_air w.config air then Some BadAir else None))) ≡ None) (sym h)
-    (subst (λ (a : Option Score). (if is_none a then Some NoAnswer
-    else (if is_bad_air w.config air then Some BadAir else None)) ≡ None) (sym d)
+    (subst (λ (z : Bool). (if z then Some NoAnswer
+    else (if is_bad_air w.config air then Some BadAir else None)) ≡ None) (sym told)
     (subst (λ (z : Bool). (if z then Some BadAir else None) ≡ None) (sym fine) refl))
+  where
+    and_no : (a : Bool) → (a && false) ≡ false
+    and_no true = refl
+    and_no false = refl
+
+    told : (not x.batch && is_none x.answer) ≡ false
+    told = ap (λ (a : Option Score). not x.batch && is_none a) d ∙ and_no (not x.batch)
 
 step_heard : (w : World) (e : ℕ) (x : Exchange) (b : Score) (air : Option ℕ) → exchange w e ≡ Some x →
     x.answer ≡ Some b → is_bad_air w.config air ≡ false

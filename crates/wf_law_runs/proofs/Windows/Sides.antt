@@ -1,21 +1,23 @@
 -- Defines both sides of each agreement, and proves which changes of a world affect neither them nor the
 -- open exchanges.
-use Rattle.std.proofs.Common.{◌≡◌, refl, ap, sym, ◌∙◌, subst, ℕ, Bool, true, false, if◌then◌else◌, List, [], ◌∷◌, Option, Some, None, is_some, unwrap_or, option_map}
+use Rattle.std.proofs.Common.{◌≡◌, refl, ap, sym, ◌∙◌, subst, ℕ, zero, suc, Bool, true, false, if◌then◌else◌, List, [], ◌∷◌, Option, Some, None, is_some, unwrap_or, option_map}
 use Rattle.wf_frame.specs.declared.classes.Class.{Class}
 use Rattle.wf_frame.specs.declared.notes.Limits.{Limits}
 use Rattle.wf_frame.specs.declared.classes.Fate.{Fate}
-use Rattle.wf_def_lists.specs.Table.{at, change}
+use Rattle.wf_def_lists.specs.Table.{at, put, change}
 use Rattle.wf_def_codel.specs.Codel.{Item}
 use Rattle.wf_def_rotation.specs.Rotation.{Rotation}
-use Rattle.wf_def_agreement.specs.Receiver.{Receiver}
-use Rattle.wf_def_agreement.specs.Session.{Session, after_flush}
-use Rattle.wf_def_world.specs.World.{World, Station, Share, Tid, Queue, Exchange, no_tid, no_station, tid_of, is_live, with_station, on_station, on_tid, on_session, with_queues, on_share, on_queue, with_rotation, with_fate, with_frame_finished, with_frames_finished}
+use Rattle.wf_def_agreement.specs.Receiver.{Receiver, with_start}
+use Rattle.wf_def_agreement.specs.Session.{Session, slot, after_flush, start_of}
+use Rattle.wf_def_world.specs.World.{World, Station, Share, Tid, Queue, Exchange, no_tid, no_station, tid_of, session, is_live, is_offloaded, with_station, on_station, on_tid, on_session, on_receiver, with_queues, on_share, on_queue, with_rotation, with_fate, with_frame_finished, with_frames_finished}
 use Rattle.wf_def_world.specs.FlowQueues.{without_head, after_limit, with_listed_queue, with_appended, after_put_in, with_queues_paid, taken_by_codel, taken_from_picked, taken_for_tid, after_queue_left, after_queues_left, after_queue_flushed, after_queues_flushed}
 use Rattle.wf_def_world.specs.CanSend.{with_listing_in, with_listings_in, with_listings_of}
-use Rattle.wf_def_world.specs.Exchanges.{with_station_paid, with_stations_paid, after_pick, after_tid_turn, without_credit, after_charge}
-use Rattle.wf_def_world.specs.Step.{after_tid_flushed, flush_outcome}
+use Rattle.wf_def_world.specs.Exchanges.{with_station_paid, with_stations_paid, after_pick, after_tid_turn, without_credit, after_charge, with_heard_start, caught_up, with_device_caught_up}
+use Rattle.wf_def_world.specs.Step.{with_deficits_lowered, weight_outcome}
+use Rattle.wf_frame.specs.Classes.{all_classes}
 use Rattle.wf_law_rules.proofs.Lemmas.Tables.{each_put, at_put_same}
 use Rattle.wf_law_runs.proofs.Common.Picked.{picked_world}
+use Rattle.wf_law_runs.proofs.Common.Flushes.{emptied_world, if_caught}
 
 -- ---- the session of a TID after one session changes
 
@@ -32,6 +34,10 @@ side w s t = side_of (tid_of w s t)
 
 abbrev pub sides_of : Option Station → ℕ → Side
 sides_of o t = side_of (at no_tid (unwrap_or o no_station).tids t)
+
+-- Both sides of a station's TID, and whether its device repeats frames.
+abbrev pub sided : Station → ℕ → Side × Bool
+sided x t = (side_of (at no_tid x.tids t), x.offloaded)
 
 abbrev pub on_tids : ℕ → (Tid → Tid) → Station → Station
 on_tids t f x = record x { tids = change no_tid x.tids t f }
@@ -84,6 +90,23 @@ pub on_live : (w : World) (s t : ℕ) (f : Tid → Tid) (i : ℕ) → is_live (o
 unfolding on_tid
 on_live w s t f i = live_on w s _ i
 
+pub offloaded_on : (w : World) (s : ℕ) (f : Station → Station) →
+    ((x : Station) → (f x).offloaded ≡ x.offloaded) → (i : ℕ) →
+    is_offloaded (on_station w s f) i ≡ is_offloaded w i
+unfolding on_station with_station
+offloaded_on w s f h = each_put (λ i o. (unwrap_or o no_station).offloaded ≡ is_offloaded w i) None w.stations
+    s _ (λ i. refl) (go (at None w.stations s))
+  where
+    go : (o : Option Station) →
+        (unwrap_or (option_map f o) no_station).offloaded ≡ (unwrap_or o no_station).offloaded
+    go None = refl
+    go (Some x) = h x
+
+pub on_offloaded : (w : World) (s t : ℕ) (f : Tid → Tid) (i : ℕ) →
+    is_offloaded (on_tid w s t f) i ≡ is_offloaded w i
+unfolding on_tid
+on_offloaded w s t f i = offloaded_on w s _ (λ x. refl) i
+
 pub on_opened : (w : World) (s t : ℕ) (f : Tid → Tid) → (on_tid w s t f).opened ≡ w.opened
 unfolding on_tid on_station with_station
 on_opened w s t f = refl
@@ -97,16 +120,35 @@ on_exchanges w s t f = refl
 pub record Same (w v : World) : Type 0 where
   pub sides : (s t : ℕ) → side v s t ≡ side w s t
   pub live : (s : ℕ) → is_live v s ≡ is_live w s
+  pub offloaded : (s : ℕ) → is_offloaded v s ≡ is_offloaded w s
   pub opened : v.opened ≡ w.opened
   pub exchanges : v.exchanges ≡ w.exchanges
 
 pub same : (w : World) → Same w w
-same w = record { sides = λ s t. refl; live = λ s. refl; opened = refl; exchanges = refl }
+same w = record {
+  sides = λ s t. refl;
+  live = λ s. refl;
+  offloaded = λ s. refl;
+  opened = refl;
+  exchanges = refl;
+}
+
+-- Two worlds with the same stations and open exchanges.
+pub same_plain : (w v : World) → w.stations ≡ v.stations → w.opened ≡ v.opened → w.exchanges ≡ v.exchanges →
+    Same w v
+same_plain w v a b c = record {
+  sides = λ s t. ap (λ (x : List (Option Station)). sides_of (at None x s) t) (sym a);
+  live = λ s. ap (λ (x : List (Option Station)). is_some (at None x s)) (sym a);
+  offloaded = λ s. ap (λ (x : List (Option Station)). (unwrap_or (at None x s) no_station).offloaded) (sym a);
+  opened = sym b;
+  exchanges = sym c;
+}
 
 pub then_same : (u v w : World) → Same u v → Same v w → Same u w
 then_same u v w h k = record {
   sides = λ s t. k.sides s t ∙ h.sides s t;
   live = λ s. k.live s ∙ h.live s;
+  offloaded = λ s. k.offloaded s ∙ h.offloaded s;
   opened = k.opened ∙ h.opened;
   exchanges = k.exchanges ∙ h.exchanges;
 }
@@ -116,19 +158,20 @@ if_same true w u v h k = h
 if_same false w u v h k = k
 
 pub known_sessions : (f : Station → Station) →
-    ((x : Station) (t : ℕ) → side_of (at no_tid (f x).tids t) ≡ side_of (at no_tid x.tids t)) →
+    ((x : Station) (t : ℕ) → sided (f x) t ≡ sided x t) →
     (o : Option Station) (t : ℕ) → sides_of (option_map f o) t ≡ sides_of o t
 known_sessions f h None t = refl
-known_sessions f h (Some x) t = h x t
+known_sessions f h (Some x) t = ap (λ (p : Side × Bool). p.0) (h x t)
 
 pub same_on_station : (w : World) (s : ℕ) (f : Station → Station) →
-    ((x : Station) (t : ℕ) → side_of (at no_tid (f x).tids t) ≡ side_of (at no_tid x.tids t)) →
+    ((x : Station) (t : ℕ) → sided (f x) t ≡ sided x t) →
     Same w (on_station w s f)
 unfolding on_station with_station
 same_on_station w s f h = record {
   sides = each_put (λ i o. (j : ℕ) → sides_of o j ≡ side w i j) None w.stations s _ (λ i j. refl)
       (known_sessions f h (at None w.stations s));
   live = live_on w s f;
+  offloaded = offloaded_on w s f (λ x. ap (λ (p : Side × Bool). p.1) (h x 0));
   opened = refl;
   exchanges = refl;
 }
@@ -137,8 +180,8 @@ pub same_on_tid : (w : World) (s t : ℕ) (f : Tid → Tid) → ((y : Tid) → s
     Same w (on_tid w s t f)
 unfolding on_tid
 same_on_tid w s t f h = same_on_station w s _
-    (λ x. each_put (λ j y. side_of y ≡ side_of (at no_tid x.tids j)) no_tid x.tids t _ (λ j. refl)
-    (h (at no_tid x.tids t)))
+    (λ x j. ap (λ (a : Side). (a, x.offloaded)) (each_put (λ j y. side_of y ≡ side_of (at no_tid x.tids j))
+    no_tid x.tids t _ (λ j. refl) (h (at no_tid x.tids t)) j))
 
 pub same_with_queues : (w : World) (s t : ℕ) (r : Rotation) → Same w (with_queues w s t r)
 unfolding with_queues
@@ -150,15 +193,15 @@ same_on_share w s c f = same_on_station w s _ (λ x t. refl)
 
 pub same_on_queue : (w : World) (q : ℕ) (f : Queue → Queue) → Same w (on_queue w q f)
 unfolding on_queue
-same_on_queue w q f = record { sides = λ s t. refl; live = λ s. refl; opened = refl; exchanges = refl }
+same_on_queue w q f = same_plain w _ refl refl refl
 
 pub same_with_rotation : (w : World) (c : Class) (r : Rotation) → Same w (with_rotation w c r)
 unfolding with_rotation
-same_with_rotation w c r = record { sides = λ s t. refl; live = λ s. refl; opened = refl; exchanges = refl }
+same_with_rotation w c r = same_plain w _ refl refl refl
 
 pub same_finish : (w : World) (fate : Fate) (id : ℕ) → Same w (with_frame_finished w fate id)
 unfolding with_frame_finished with_fate
-same_finish w fate id = record { sides = λ s t. refl; live = λ s. refl; opened = refl; exchanges = refl }
+same_finish w fate id = same_plain w _ refl refl refl
 
 pub same_finish_all : (ids : List ℕ) (w : World) (fate : Fate) → Same w (with_frames_finished w fate ids)
 unfolding with_frames_finished
@@ -190,7 +233,13 @@ same_after_pick w c = then_same _ _ _ (same_pay_stations _ w c _) (same_with_rot
 pub same_picked : (w : World) (c : Class) (l : Limits) → Same w (picked_world w c l)
 same_picked w c l =
     let k : Same w (after_pick w c) = same_after_pick w c in
-    record { sides = k.sides; live = k.live; opened = k.opened; exchanges = k.exchanges }
+    record {
+      sides = k.sides;
+      live = k.live;
+      offloaded = k.offloaded;
+      opened = k.opened;
+      exchanges = k.exchanges;
+    }
 
 pub same_after_turn : (w : World) (s : ℕ) (c : Class) (t : ℕ) → Same w (after_tid_turn w s c t)
 unfolding after_tid_turn
@@ -241,12 +290,74 @@ same_flush_queues [] w = same w
 same_flush_queues (q ∷ qs) w = then_same _ _ _ (then_same _ _ _ (same_on_queue w q _) (same_finish_all _ _ _))
     (same_flush_queues qs _)
 
--- After the waiting numbers are given up, a flush changes no side.
-pub same_flushed : (w : World) (s t : ℕ) →
-    Same (on_session w s t (after_flush w.config.attempts)) (flush_outcome w s t).world
-unfolding flush_outcome after_tid_flushed
-same_flushed w s t = then_same _ _ _ (same_finish_all _ _ _) (same_flush_queues _ _)
+-- After the waiting numbers are given up, the queues of a flush change no side.
+pub same_emptied : (w : World) (s t : ℕ) → Same (on_session w s t (after_flush w.config.attempts))
+    (emptied_world w s t)
+same_emptied w s t = then_same _ _ _ (same_finish_all _ _ _) (same_flush_queues _ _)
 
 pub same_charged : (air : Option ℕ) (w : World) (x : Exchange) → Same w (after_charge w x air)
 unfolding after_charge
 same_charged air w x = same_on_share w _ _ _
+
+-- The deficits of a station are lowered.
+pub same_lowered : (cs : List Class) (w : World) (s : ℕ) → Same w (with_deficits_lowered w s cs)
+unfolding with_deficits_lowered
+same_lowered [] w s = same w
+same_lowered (c ∷ cs) w s = then_same _ _ _ (same_on_share w s c _) (same_lowered cs _ s)
+
+pub same_weighed : (w : World) (s weight : ℕ) → Same w (weight_outcome w s weight).world
+unfolding weight_outcome
+same_weighed w s weight = then_same _ _ _ (same_on_station w s _ (λ x t. refl)) (same_lowered all_classes _ s)
+
+-- ---- a device that repeats frames catches up
+
+put_twice : {X : Type 0} (d : X) (t : List X) (k : ℕ) (a b : X) → put d (put d t k a) k b ≡ put d t k b
+put_twice d [] zero a b = refl
+put_twice d [] (suc k) a b = ap (λ (l : List _). d ∷ l) (put_twice d [] k a b)
+put_twice d (x ∷ xs) zero a b = refl
+put_twice d (x ∷ xs) (suc k) a b = ap (λ (l : List _). x ∷ l) (put_twice d xs k a b)
+
+change_twice : (xs : List Tid) (t : ℕ) (f g : Tid → Tid) →
+    change no_tid (change no_tid xs t f) t g ≡ change no_tid xs t (λ y. g (f y))
+change_twice xs t f g = put_twice no_tid xs t _ _
+    ∙ ap (λ (y : Tid). put no_tid xs t (g y)) (at_put_same no_tid xs t _)
+
+on_tids_twice : (t : ℕ) (f g : Tid → Tid) (o : Option Station) →
+    option_map (on_tids t g) (option_map (on_tids t f) o) ≡ option_map (on_tids t (λ y. g (f y))) o
+on_tids_twice t f g None = refl
+on_tids_twice t f g (Some x) =
+    ap (λ (l : List Tid). Some (record x { tids = l })) (change_twice x.tids t f g)
+
+pub on_tid_twice : (w : World) (s t : ℕ) (f g : Tid → Tid) →
+    on_tid (on_tid w s t f) s t g ≡ on_tid w s t (λ y. g (f y))
+unfolding on_tid on_station with_station
+on_tid_twice w s t f g =
+    ap (λ (l : List (Option Station)). record w { stations = l })
+    (put_twice None w.stations s _ _
+    ∙ ap (λ (o : Option Station). put None w.stations s o)
+    (ap (option_map (on_tids t g)) (at_put_same None w.stations s _)
+    ∙ on_tids_twice t f g (at None w.stations s)))
+
+-- Returns a TID whose receiver has a start, which the session counts as heard.
+abbrev pub told_start : ℕ → Tid → Tid
+told_start start y =
+    record y { session = with_heard_start true start y.session; receiver = with_start start y.receiver }
+
+pub caught_up_is : (w : World) (s t : ℕ) →
+    caught_up w s t ≡ on_tid w s t (told_start (start_of (session w s t)))
+unfolding caught_up on_session on_receiver
+caught_up_is w s t = on_tid_twice w s t
+    (λ y. record y { session = with_heard_start true (start_of (session w s t)) y.session })
+    (λ y. record y { receiver = with_start (start_of (session w s t)) y.receiver })
+
+-- No slot changes.
+pub slot_caught : (w : World) (s t i j n : ℕ) →
+    slot (session (caught_up w s t) i j) n ≡ slot (session w i j) n
+slot_caught w s t i j n = ap (λ (v : World). slot (session v i j) n) (caught_up_is w s t)
+    ∙ each_side_on (λ a b z. slot z.session n ≡ slot (session w a b) n) w s t
+    (told_start (start_of (session w s t))) (λ a b. refl) refl i j
+
+pub slot_device : (w : World) (s t i j n : ℕ) →
+    slot (session (with_device_caught_up w s t) i j) n ≡ slot (session w i j) n
+slot_device w s t i j n = if_caught (λ v. slot (session v i j) n ≡ slot (session w i j) n) w s t refl
+    (λ _. slot_caught w s t i j n)

@@ -1,10 +1,10 @@
 -- Proves that each window of a live station is 1 to 256.
-use Rattle.std.proofs.Common.{◌≡◌, ◌≢◌, refl, ap, sym, ◌∙◌, subst, arith, ℕ, zero, suc, ◌<◌, ◌≤◌, ◌==◌, not, nat_le, true, false, List, [], ◌∷◌, Option, Some, None, is_some}
+use Rattle.std.proofs.Common.{◌≡◌, ◌≢◌, refl, ap, sym, ◌∙◌, subst, arith, ℕ, zero, suc, ◌<◌, ◌≤◌, ◌==◌, not, nat_le, true, false, List, [], ◌∷◌, Option, Some, None, is_some, Bool}
 use Rattle.std.proofs.lemmas.Bool.{not-false}
 use Rattle.wf_frame.specs.declared.settings.Config.{Config}
 use Rattle.wf_frame.specs.declared.notes.Note.{Note}
 use Rattle.wf_frame.specs.declared.notes.Note.TheVariants.{Enqueue, Asked}
-use Rattle.wf_frame.specs.declared.notes.Ask.TheVariants.{Join, Leave, Rate, Tick, Pull, Arrive, Answer, Done, Sleep, Wake, Poll, Rx, Reap, Ampdu, Stop, Start, Unsent, GiveUp, Flush}
+use Rattle.wf_frame.specs.declared.notes.Ask.TheVariants.{Join, Leave, Rate, Tick, Pull, Arrive, Answer, Done, Sleep, Wake, Poll, Rx, Reap, Ampdu, Stop, Start, Unsent, GiveUp, Flush, Offload, Weight}
 use Rattle.wf_frame.specs.declared.notes.Refusal.{Refusal}
 use Rattle.wf_frame.specs.Classes.{all_classes}
 use Rattle.wf_def_lists.specs.Table.{at, upto}
@@ -14,14 +14,14 @@ use Rattle.wf_def_lists.specs.Bounds.{greatest_window}
 use Rattle.wf_def_world.specs.World.{with_exchange, on_receiver, World, Station, Exchange, Tid, no_tid, is_live, new_tid, session, exchange, with_station, opening}
 use Rattle.wf_def_world.specs.Exchanges.{after_arrival}
 use Rattle.wf_def_world.specs.Refusals.{refusals, refusal, is_within}
-use Rattle.wf_def_world.specs.Step.{Outcome, join_outcome, leave_outcome, arrive_outcome, outcome_where_open, concerned_station, outcome_of, judged_outcome, step}
+use Rattle.wf_def_world.specs.Step.{Outcome, join_outcome, leave_outcome, arrive_outcome, outcome_where_open, concerned_station, outcome_of, judged_outcome, step, offload_outcome, new_station}
 use Rattle.wf_def_world.specs.Run.{Entry, world_after}
 use Rattle.wf_law_rules.proofs.Lemmas.Numbers.{on_bool, eq_yes, eq_no, both, le_yes}
 use Rattle.wf_law_runs.proofs.Windows.Sides.{each_side_on, on_live, Side, sides_of, same_listed}
 use Rattle.wf_law_runs.proofs.Windows.Opened.{eight, NoRow, no_row}
 use Rattle.wf_law_runs.proofs.Windows.Agreed.{same_left_tids, same_off_lists}
 use Rattle.wf_law_runs.proofs.Releases.Kept.{Kept, kept_same, then_keep, keep_pulled, keep_ended, keep_answered, keep_enqueued, keep_unsent, keep_given_up, keep_flushed, keep_reaped}
-use Rattle.wf_law_runs.proofs.Releases.Released.{side_with_station, side_own_station, keep_rate, keep_tick, keep_slept, keep_woken, keep_credited, keep_received, refused_kept, keep_stated, keep_stopped, keep_started}
+use Rattle.wf_law_runs.proofs.Releases.Released.{side_with_station, side_own_station, keep_rate, keep_tick, keep_slept, keep_woken, keep_credited, keep_received, refused_kept, keep_stated, keep_stopped, keep_started, keep_weighed}
 
 pub record IsSized (w : World) : Type 0 where
   pub size : (s t : ℕ) → (session w s t).size ≤ 256
@@ -85,15 +85,26 @@ each_eight P y h (suc (suc (suc (suc (suc (suc zero)))))) b = h
 each_eight P y h (suc (suc (suc (suc (suc (suc (suc zero))))))) b = h
 each_eight P y h (suc (suc (suc (suc (suc (suc (suc (suc j)))))))) b = absurd (omega (arith, b))
 
+sized_new : (w : World) (s window start exponent weight : ℕ) (offloaded : Bool) →
+    (1 ≤ window) × (window ≤ 256) → IsSized w →
+    IsSized (with_station w s (Some (new_station w.config window start exponent weight offloaded)))
+sized_new w s window start exponent weight offloaded h i =
+    sized_station w s _ (eight (λ y. y.session.size ≤ 256) (new_tid start window) h.1
+    (omega arith)) (λ _. each_eight (λ y. 1 ≤ y.session.size) (new_tid start window) h.0) i
+
 sized_joined : (w : World) (s window start exponent weight : ℕ) →
     not (is_within 1 greatest_window window) ≡ false → IsSized w →
     IsSized (join_outcome w s window start exponent weight).world
 unfolding join_outcome
 sized_joined w s window start exponent weight h i =
     let range = both (nat_le 1 window) (nat_le window 256) (not-false _ h) in
-    sized_station w s _ (eight (λ y. y.session.size ≤ 256) (new_tid start window) (le_yes window 256 range.1)
-    (omega arith)) (λ _. each_eight (λ y. 1 ≤ y.session.size) (new_tid start window)
-    (le_yes 1 window range.0)) i
+    sized_new w s window start exponent weight false (le_yes 1 window range.0, le_yes window 256 range.1) i
+
+sized_offloaded : (w : World) (s exponent weight : ℕ) → IsSized w →
+    IsSized (offload_outcome w s exponent weight).world
+unfolding offload_outcome
+sized_offloaded w s exponent weight i =
+    sized_new w s greatest_window 0 exponent weight true (omega arith, omega arith) i
 
 sized_gone : (w : World) (s : ℕ) → IsSized w → IsSized (leave_outcome w s).world
 unfolding leave_outcome
@@ -148,6 +159,8 @@ sized_done (Asked (Unsent x n)) w e i = sized_open (exchange w x) w _
 sized_done (Asked (GiveUp x n)) w e i = sized_open (exchange w x) w _
     (λ y. sized_kept w _ (keep_given_up w y n) i) i
 sized_done (Asked (Flush s t)) w e i = sized_kept w _ (keep_flushed w s t) i
+sized_done (Asked (Offload s exponent weight)) w e i = sized_offloaded w s exponent weight i
+sized_done (Asked (Weight s weight)) w e i = sized_kept w _ (keep_weighed w s weight) i
 sized_done (Asked Reap) w e i = sized_kept w _ (keep_reaped w.finished w) i
 
 sized_answer : (r : Option Refusal) (w : World) (note : Note) → refusal w note ≡ r → IsSized w →

@@ -10,7 +10,8 @@ use Rattle.wf_def_world.specs.CanSend.{is_ready}
 use Rattle.wf_def_world.specs.Run.{Entry, by}
 use Rattle.wf_def_world.specs.Stretches.{world_at}
 use Rattle.wf_def_world.specs.Computed.{the_machine}
-use Rattle.wf_law_runs.specs.Deficits.{longest_computed, longest_of_all}
+use Rattle.wf_def_world.specs.Exchanges.{longest_computed}
+use Rattle.wf_law_runs.specs.Deficits.{longest_of_all}
 use Rattle.wf_law_runs.specs.Delay.{airtime_ended, entries_between, IsInDevice}
 use Rattle.wf_frame.specs.Calls.{no_limits}
 
