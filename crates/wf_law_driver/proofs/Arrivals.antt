@@ -1,6 +1,6 @@
 -- Proves what the inferred calls leave: transmissions of one exchange arrive, one after another, and then
 -- the receiver answers. By induction over the transmissions.
-use Rattle.std.proofs.Common.{◌≡◌, ◌≢◌, refl, ap, sym, ◌∙◌, subst, arith, ℕ, suc, ◌<◌, ◌≤◌, ◌==◌, nat_le, true, false, ◌⊎◌, inl, inr, List, [], ◌∷◌, ◌++◌, length, find, Option, Some, None, is_some, is_none}
+use Rattle.std.proofs.Common.{◌≡◌, ◌≢◌, refl, ap, sym, ◌∙◌, subst, arith, ℕ, suc, ◌<◌, ◌≤◌, ◌==◌, nat_le, Bool, true, false, ◌||◌, ◌⊎◌, inl, inr, List, [], ◌∷◌, ◌++◌, append-nil, length, find, Option, Some, None, is_some, is_none}
 use Rattle.wf_frame.specs.declared.notes.Ask.TheVariants.{Arrive, Answer}
 use Rattle.wf_frame.specs.declared.notes.Note.TheVariants.{Asked}
 use Rattle.wf_def_lists.specs.Table.{at, has, with_member}
@@ -39,6 +39,11 @@ AreIndices lo hi (i ∷ is) = (lo ≤ i) × (i < hi) × AreIndices (suc i) hi is
 abbrev pub AreNotIn : List ℕ → List ℕ → Type 0
 AreNotIn xs [] = Unit {0}
 AreNotIn xs (i ∷ is) = (has xs i ≡ false) × AreNotIn xs is
+
+-- all of these transmissions are in a list
+abbrev pub AreIn : List ℕ → List ℕ → Type 0
+AreIn xs [] = Unit {0}
+AreIn xs (i ∷ is) = (has xs i ≡ true) × AreIn xs is
 
 -- an exchange with another number has no mark
 abbrev pub IsOther : ℕ → Exchange → Type 0
@@ -234,6 +239,8 @@ pub record AllArrive (caller e : ℕ) (x : Exchange) (is : List ℕ) (v : World)
   pub silent : last.answer ≡ None
   pub still : (length x.arrived == 0) ≡ false → (length last.arrived == 0) ≡ false
   pub marked : is ≢ [] → (length last.arrived == 0) ≡ false
+  pub stays : (k : ℕ) → has x.arrived k ≡ true → has last.arrived k ≡ true
+  pub reached : AreIn last.arrived is
 
 pub all_arrive : (is : List ℕ) (lo caller e : ℕ) (v : World) (x : Exchange) → exchange v e ≡ Some x →
     x.answer ≡ None → ((k : ℕ) → has x.arrived k ≡ true → k < lo) →
@@ -255,6 +262,8 @@ all_arrive [] lo caller e v x found none below r sent = record {
   silent = none;
   still = λ h. h;
   marked = λ some. absurd (some refl);
+  stays = λ k h. h;
+  reached = tt;
 }
 all_arrive (i ∷ is) lo caller e v x found none below r sent =
     let z : Exchange = with_arrival i x in
@@ -276,6 +285,8 @@ all_arrive (i ∷ is) lo caller e v x found none below r sent =
       silent = rest.silent;
       still = λ _. rest.still (with_member_some x.arrived i);
       marked = λ _. rest.still (with_member_some x.arrived i);
+      stays = λ k h. rest.stays k (has_old x.arrived i k h);
+      reached = (rest.stays i (has_new x.arrived i), rest.reached);
     }
 
 -- ---- the answer
@@ -298,14 +309,15 @@ answered_world v e x found =
       new = λ live n k. absurd k;
     }
 
-pub may_answer : (v : World) (e : ℕ) (x : Exchange) → exchange v e ≡ Some x → x.answer ≡ None →
-    (length x.arrived == 0) ≡ false → refusal v (Asked (Answer e)) ≡ None
-may_answer v e x found none marked = none_refuses _ (
+pub may_answer : (v : World) (e : ℕ) (x : Exchange) → exchange v e ≡ Some x → x.batch ≡ false →
+    x.answer ≡ None → (length x.arrived == 0) ≡ false → refusal v (Asked (Answer e)) ≡ None
+may_answer v e x found unbatched none marked = none_refuses _ (
   ap is_none found,
   (
     ap (λ (o : Option Exchange). exchange_has o (λ y. is_some y.answer)) found ∙ ap is_some none,
     (
-      ap (λ (o : Option Exchange). exchange_has o (λ y. length y.arrived == 0)) found ∙ marked,
+      ap (λ (o : Option Exchange). exchange_has o (λ y. y.batch || (length y.arrived == 0))) found
+          ∙ (ap (λ (b : Bool). b || (length x.arrived == 0)) unbatched ∙ marked),
       tt,
     ),
   ),
@@ -332,19 +344,35 @@ unfolding world_after
 answered_append [] ys w a b = b
 answered_append (x ∷ xs) ys w a b = (a.0, answered_append xs ys (step w x.1).world a.1 b)
 
--- after the arrivals of these transmissions, and an answer
-pub record AllInferred (caller e : ℕ) (x : Exchange) (is : List ℕ) (w : World) : Type 0 where
+-- after the arrivals of these transmissions and, if the exchange is no batch, an answer
+pub record AllInferred (batch : Bool) (caller e : ℕ) (x : Exchange) (is : List ℕ) (w : World) : Type 0 where
   pub last : Exchange
   pub answer : Score
-  pub answered : AreAnswered w (arrivals caller e is ++ answer_inferred caller e is)
+  pub answered : AreAnswered w (arrivals caller e is ++ answer_inferred batch caller e is)
   pub after : IsAfter e x last (IsAmong x.content is) w
-      (world_after w (arrivals caller e is ++ answer_inferred caller e is))
-  pub kept : last.answer ≡ Some answer
+      (world_after w (arrivals caller e is ++ answer_inferred batch caller e is))
+  pub kept : batch ≡ false → last.answer ≡ Some answer
+  pub reached : AreIn last.arrived is
 
-pub all_inferred : (i : ℕ) (is : List ℕ) (caller e : ℕ) (w : World) (x : Exchange) → exchange w e ≡ Some x →
-    IsUnmarked x → AreIndices 0 (transmissions x.content) (i ∷ is) → AreNotIn x.unsent (i ∷ is) →
-    AllInferred caller e x (i ∷ is) w
-all_inferred i is caller e w x found un r sent =
+pub all_inferred : (batch : Bool) (i : ℕ) (is : List ℕ) (caller e : ℕ) (w : World) (x : Exchange) →
+    exchange w e ≡ Some x → x.batch ≡ batch → IsUnmarked x → AreIndices 0 (transmissions x.content) (i ∷ is) →
+    AreNotIn x.unsent (i ∷ is) → AllInferred batch caller e x (i ∷ is) w
+all_inferred true i is caller e w x found batch un r sent =
+    let entries : List Entry = arrivals caller e (i ∷ is) in
+    let first : AllArrive caller e x (i ∷ is) w =
+    all_arrive (i ∷ is) 0 caller e w x found un.answer
+    (λ k h. absurd (cc (h, ap (λ (xs : List ℕ). has xs k) un.arrived))) r sent in
+    let only : entries ≡ entries ++ [] = sym (append-nil entries) in
+    record {
+      last = first.last;
+      answer = answer_now w x;
+      answered = subst (AreAnswered w) only first.answered;
+      after = subst (λ (es : List Entry). IsAfter e x first.last (IsAmong x.content (i ∷ is)) w
+          (world_after w es)) only first.after;
+      kept = λ h. absurd (cc h);
+      reached = first.reached;
+    }
+all_inferred false i is caller e w x found batch un r sent =
     let entries : List Entry = arrivals caller e (i ∷ is) in
     let v : World = world_after w entries in
     let first : AllArrive caller e x (i ∷ is) w =
@@ -352,21 +380,24 @@ all_inferred i is caller e w x found un r sent =
     (λ k h. absurd (cc (h, ap (λ (xs : List ℕ). has xs k) un.arrived))) r sent in
     let z : Exchange = first.last in
     let marked : (length z.arrived == 0) ≡ false = first.marked (λ none. cc none) in
-    let fine : refusal v (Asked (Answer e)) ≡ None = may_answer v e z first.after.found first.silent marked in
+    let unbatched : z.batch ≡ false = ap (λ (y : Exchange). y.batch) first.after.same ∙ batch in
+    let fine : refusal v (Asked (Answer e)) ≡ None =
+    may_answer v e z first.after.found unbatched first.silent marked in
     let second = answered_step v e z first.after.found fine in
     let b : Score = answer_now v z in
-    let inferred_world : world_after w (entries ++ answer_inferred caller e (i ∷ is))
-    ≡ (step v (Asked (Answer e))).world = world_after-append entries w (answer_inferred caller e (i ∷ is))
-    ∙ one_entry v (by caller (Asked (Answer e))) in
+    let last_entries : List Entry = by caller (Asked (Answer e)) ∷ [] in
+    let inferred_world : world_after w (entries ++ last_entries) ≡ (step v (Asked (Answer e))).world =
+    world_after-append entries w last_entries ∙ one_entry v (by caller (Asked (Answer e))) in
     record {
       last = with_answer b z;
       answer = b;
-      answered = answered_append entries (answer_inferred caller e (i ∷ is)) w first.answered (fine, tt);
+      answered = answered_append entries last_entries w first.answered (fine, tt);
       after = subst (IsAfter e x (with_answer b z) (IsAmong x.content (i ∷ is)) w) (sym inferred_world)
           (after_of e x (with_answer b z) (λ n. IsAmong x.content (i ∷ is) n ⊎ ⊥)
           (IsAmong x.content (i ∷ is)) w _ (λ n k. elim k [ inl g ↦ g | inr never ↦ absurd never ])
           (λ n k. inl k)
           (after_then e x z (with_answer b z) (IsAmong x.content (i ∷ is))
           (λ n. ⊥) w v _ first.after second));
-      kept = refl;
+      kept = λ _. refl;
+      reached = first.reached;
     }

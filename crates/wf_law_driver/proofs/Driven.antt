@@ -25,8 +25,16 @@ and_false true true h = absurd (cc h)
 and_false false true h = absurd (cc h)
 and_false a false h = refl
 
+not_first : (a b : Bool) → (not a && b) ≡ true → a ≡ false
+not_first true b h = absurd (cc h)
+not_first false b h = refl
+
+not_second : (a b : Bool) → (not a && b) ≡ false → a ≡ false → b ≡ false
+not_second true b h k = absurd (cc k)
+not_second false b h k = h
+
 -- each number that is believed to be shown went on the air
-shows_sent : (x : Exchange) (shown : ℕ → Bool) → is_wholly_unsent x ≡ false →
+shows_sent : (x : Exchange) (shown : ℕ → Bool) → (x.batch ≡ false → is_wholly_unsent x ≡ false) →
     ShowsSent (shown_of_sent x shown) x
 shows_sent x shown some = record { numbers = each (mpdus_of x.content); some = some }
   where
@@ -49,30 +57,32 @@ module _ (config : Config) where
 
   -- a Done of an exchange of which nothing was answered
   refused : (h : List Entry) (caller e : ℕ) (air : Option ℕ) (x : Exchange) → exchange (after h) e ≡ Some x →
-      IsUnheard (after h) → IsUnheard (world_after (after h) (by caller (Asked (Done e true air)) ∷ []))
-  refused h caller e air x at_e un =
+      x.batch ≡ false → IsUnheard (after h) →
+      IsUnheard (world_after (after h) (by caller (Asked (Done e true air)) ∷ []))
+  refused h caller e air x at_e unbatched un =
       let w : World = after h in
       let none : x.answer ≡ None = (found_each IsUnmarked w e x at_e un.marks).answer in
       let same : (step w (Asked (Done e true air))).world ≡ w = ap (λ (o : Outcome). o.world)
-      (refused_step w e true air NoAnswer (unanswered w e x air at_e none)) in
+      (refused_step w e true air NoAnswer (unanswered w e x air at_e unbatched none)) in
       subst IsUnheard (sym (one_entry w (by caller (Asked (Done e true air))) ∙ same)) un
 
   ended : (o : Option Exchange) (h : List Entry) (caller e : ℕ) (shown : ℕ → Bool) (air : Option ℕ) →
       exchange (after h) e ≡ o → IsUnheard (after h) →
       IsUnheard (world_after (after h) (ending (after h) caller e shown air o))
   ended None h caller e shown air at_e un = lost h caller e air un
-  ended (Some x) h caller e shown air at_e un = on_air (is_wholly_unsent x) refl
+  ended (Some x) h caller e shown air at_e un = on_air (not x.batch && is_wholly_unsent x) refl
     where
       sent : ℕ → Bool
       sent = shown_of_sent x shown
 
       es : List Entry
-      es = inferred caller e sent x.content
+      es = inferred caller e sent x.batch x.content
 
       last : Entry
       last = by caller (done_inferred e sent air x.content)
 
-      either : (bad : Bool) → is_bad_air (after h).config air ≡ bad → is_wholly_unsent x ≡ false →
+      either : (bad : Bool) → is_bad_air (after h).config air ≡ bad →
+          (x.batch ≡ false → is_wholly_unsent x ≡ false) →
           IsUnheard (world_after (after h)
           (if bad then by caller (Asked (Done e false air)) ∷ [] else es ++ last ∷ []))
       either true is some = lost h caller e air un
@@ -80,12 +90,13 @@ module _ (config : Config) where
           ∙ one_entry (world_after (after h) es) last))
           (inferred_law config h caller e sent air x un at_e (shows_sent x shown some) is).unheard
 
-      on_air : (none : Bool) → is_wholly_unsent x ≡ none →
+      on_air : (none : Bool) → (not x.batch && is_wholly_unsent x) ≡ none →
           IsUnheard (world_after (after h) (if none then by caller (Asked (Done e true air)) ∷ []
           else if is_bad_air (after h).config air then by caller (Asked (Done e false air)) ∷ []
           else es ++ last ∷ []))
-      on_air true is = refused h caller e air x at_e un
-      on_air false is = either (is_bad_air (after h).config air) refl is
+      on_air true is = refused h caller e air x at_e (not_first x.batch (is_wholly_unsent x) is) un
+      on_air false is = either (is_bad_air (after h).config air) refl
+          (not_second x.batch (is_wholly_unsent x) is)
 
   one_deed : (d : Deed) (h : List Entry) (caller : ℕ) → IsSilentDeed d → IsUnheard (after h) →
       IsUnheard (world_after (after h) (entries_of (after h) caller d))

@@ -1,6 +1,6 @@
 -- Applies laws of runs to the world after a history, and proves what the end of an exchange leaves of
 -- receivers and sessions.
-use Rattle.std.proofs.Common.{◌≡◌, refl, ap, sym, ◌∙◌, subst, arith, ℕ, ◌<◌, ◌≤◌, ◌==◌, Bool, true, false, not, List, [], length, Option, Some, None, is_some, is_none}
+use Rattle.std.proofs.Common.{◌≡◌, refl, ap, ap₂, sym, ◌∙◌, subst, arith, ℕ, if◌then◌else◌, ◌<◌, ◌≤◌, ◌==◌, Bool, true, false, not, ◌&&◌, List, [], length, Option, Some, None, is_some, is_none, ◌↔◌}
 use Rattle.std.proofs.Math.Seq.{take-length}
 use Rattle.wf_frame.specs.declared.settings.Config.{Config}
 use Rattle.wf_frame.specs.declared.notes.Ask.TheVariants.{Done}
@@ -11,21 +11,24 @@ use Rattle.wf_frame.specs.declared.notes.Refusal.{Refusal}
 use Rattle.wf_frame.specs.declared.notes.ReplyNote.TheVariants.{Refused}
 use Rattle.wf_def_lists.specs.Table.{at, has}
 use Rattle.wf_def_agreement.specs.Receiver.{Score}
-use Rattle.wf_def_agreement.specs.Session.{Session, State, slot, next_number}
-use Rattle.wf_def_world.specs.World.{World, Station, Exchange, session, receiver, is_live, exchange, without_exchange, opening}
+use Rattle.wf_def_agreement.specs.Session.{Session, State, End, slot, next_number}
+use Rattle.wf_def_world.specs.World.{World, Station, Exchange, Content, Frames, Request, session, receiver, is_live, exchange, without_exchange, opening}
 use Rattle.wf_def_world.specs.CanSend.{with_listings_of}
+use Rattle.wf_def_world.specs.Exchanges.{end_in_aggregate, end_of, numbers_arrived, numbers_unsent, mpdus_of, after_charge, after_done, with_all_settled}
 use Rattle.wf_def_world.specs.Refusals.{refusal, exchange_has}
 use Rattle.wf_frame.specs.Settings.{is_bad_air}
 use Rattle.wf_def_world.specs.Step.{done_outcome, outcome_where_open, outcome_of, station_of, after_refusal, judged_outcome, step}
 use Rattle.wf_def_world.specs.Run.{Entry, world_after}
 use Rattle.wf_law_runs.specs.Kept.{KeepsNumbers, KeepsByCall}
 use Rattle.wf_law_runs.specs.Sent.{IsSent}
-use Rattle.wf_law_runs.specs.Windows.{EachOpen, KeepsWindows}
+use Rattle.wf_law_runs.specs.Windows.{EachMpdu, EachOpen, KeepsWindows}
 use Rattle.wf_law_runs.proofs.Kept.Law.{kept_law}
 use Rattle.wf_law_runs.proofs.Sent.Law.{sent_law}
 use Rattle.wf_law_runs.proofs.Windows.Law.{window_law}
-use Rattle.wf_law_runs.proofs.Windows.Sides.{Side, Same, same_listed, sides_of}
-use Rattle.wf_law_runs.proofs.Windows.Opened.{Each, each_filter, differ}
+use Rattle.wf_law_runs.proofs.Windows.Sides.{Side, Same, same_charged, same_listed, sides_of}
+use Rattle.wf_law_runs.proofs.Windows.Opened.{Each, FlyIn, each_filter, differ}
+use Rattle.wf_law_runs.proofs.Windows.Agreed.{IsOpenIn, session_same}
+use Rattle.wf_law_runs.proofs.Windows.Settling.{each_along, all_acked, acked_device, without_same, without_live}
 use Rattle.wf_law_runs.proofs.Frames.Delivered.{opened_ended}
 use Rattle.wf_law_runs.proofs.Releases.Kept.{Kept, keep_ended}
 use Rattle.wf_law_driver.specs.Unheard.{IsUnmarked, HasAcked}
@@ -86,7 +89,7 @@ kept_acked y z n k h = record {
 -- ---- the end of an exchange
 
 pub record IsEnded (e : ℕ) (w v : World) : Type 0 where
-  pub receivers : (i j : ℕ) → receiver v i j ≡ receiver w i j
+  pub arrived : (i j : ℕ) → (receiver v i j).arrived ≡ (receiver w i j).arrived
   pub live : (i : ℕ) → is_live v i ≡ is_live w i
   pub marks : Each (IsOther e) w.opened → Each IsUnmarked v.opened
 
@@ -101,7 +104,7 @@ ended_world : (w : World) (e : ℕ) (x : Exchange) (heard : Bool) (air : Option 
 ended_world w e x heard air n =
     let k : Kept w (done_outcome w x heard air).world = keep_ended air w x heard in
     record {
-      receivers = k.receivers;
+      arrived = λ i j. (k.receivers i j).arrived;
       live = k.live;
       marks = λ h. subst (Each IsUnmarked) (sym (opened_ended air w x heard))
           (unmarked_without w x.number (subst (λ (i : ℕ). Each (IsOther i) w.opened) (sym n) h));
@@ -109,44 +112,135 @@ ended_world w e x heard air n =
 
 ended_same : (e : ℕ) (w u v : World) → Same u v → IsEnded e w u → IsEnded e w v
 ended_same e w u v h d = record {
-  receivers = λ i j. ap (λ (s : Side). s.receiver) (h.sides i j) ∙ d.receivers i j;
+  arrived = λ i j. ap (λ (s : Side). s.receiver.arrived) (h.sides i j) ∙ d.arrived i j;
   live = λ i. h.live i ∙ d.live i;
   marks = λ o. subst (Each IsUnmarked) (sym h.opened) (d.marks o);
 }
 
-pub ended_step : (w : World) (e : ℕ) (x : Exchange) (heard : Bool) (air : Option ℕ) → exchange w e ≡ Some x →
-    refusal w (Asked (Done e heard air)) ≡ None → IsEnded e w (step w (Asked (Done e heard air))).world
+same_done : (w : World) (e : ℕ) (x : Exchange) (heard : Bool) (air : Option ℕ) → exchange w e ≡ Some x →
+    refusal w (Asked (Done e heard air)) ≡ None →
+    Same (done_outcome w x heard air).world (step w (Asked (Done e heard air))).world
 unfolding outcome_of outcome_where_open
-ended_step w e x heard air found fine =
+same_done w e x heard air found fine =
     let u : World = (done_outcome w x heard air).world in
     let same_step : (step w (Asked (Done e heard air))).world ≡ with_listings_of u (Some x.station) =
     step_done w (Asked (Done e heard air)) fine ∙ ap
     (λ (o : Option Exchange). with_listings_of
     (outcome_where_open w o (λ y. done_outcome w y heard air)).world (station_of o)) found in
-    subst (IsEnded e w) (sym same_step) (ended_same e w u _ (same_listed (Some x.station) u)
-    (ended_world w e x heard air (found_number w e x found)))
+    subst (Same u) (sym same_step) (same_listed (Some x.station) u)
+
+pub ended_step : (w : World) (e : ℕ) (x : Exchange) (heard : Bool) (air : Option ℕ) → exchange w e ≡ Some x →
+    refusal w (Asked (Done e heard air)) ≡ None → IsEnded e w (step w (Asked (Done e heard air))).world
+ended_step w e x heard air found fine =
+    ended_same e w (done_outcome w x heard air).world _ (same_done w e x heard air found fine)
+    (ended_world w e x heard air (found_number w e x found))
+
+-- ---- the end of a batch
+
+end_arrived : (x : Exchange) (heard : Bool) (n : ℕ) → x.batch ≡ true → (end_of x heard n ≡ End.Acknowledged) ↔
+    (has (numbers_arrived x) n && not (has (numbers_unsent x) n) ≡ true)
+end_arrived x heard n = go x.batch (has (numbers_unsent x) n) (has (numbers_arrived x) n)
+    (end_in_aggregate x heard n)
+  where
+    go : (b u r : Bool) (other : End) → b ≡ true → ((if b
+        then (if u then End.Unsent else if r then End.Acknowledged else End.GivenUp)
+        else other) ≡ End.Acknowledged) ↔ (r && not u ≡ true)
+    go true true true other h = ((λ a. absurd (cc a)), (λ a. absurd (cc a)))
+    go true true false other h = ((λ a. absurd (cc a)), (λ a. absurd (cc a)))
+    go true false true other h = ((λ _. refl), (λ _. refl))
+    go true false false other h = ((λ a. absurd (cc a)), (λ a. absurd (cc a)))
+    go false u r other h = absurd (cc h)
+
+-- each number is acknowledged exactly if the exchange ends so for it
+frames_ended : (c : Content) (w : World) (x : Exchange) (heard : Bool) (air : Option ℕ) → x.content ≡ c →
+    IsOpenIn w x → EachMpdu (λ m. ((slot (session
+    (after_done (after_charge (without_exchange w x.number) x air) x heard c) x.station x.tid) m.number).state
+    ≡ State.Acked) ↔ (end_of x heard m.number ≡ End.Acknowledged)) (mpdus_of c)
+unfolding after_done
+frames_ended (Request f) w x heard air e o = tt
+frames_ended (Frames ms) w x heard air e o =
+    let v : World = after_charge (without_exchange w x.number) x air in
+    let k : Same (without_exchange w x.number) v = same_charged air (without_exchange w x.number) x in
+    let y : Session = session w x.station x.tid in
+    let same_y : session v x.station x.tid ≡ y = session_same _ _ k x.station x.tid
+    ∙ without_same w x.number x.station x.tid in
+    let flies : FlyIn x.number ms y = subst (λ (c : Content). FlyIn x.number (mpdus_of c) y) e o.opened.flies
+    in
+    acked_device ms (with_all_settled v x.station x.tid (end_of x heard) ms) x.station x.tid (end_of x heard)
+    (all_acked ms v x.station x.tid (end_of x heard) y.first (next_number y)
+    (k.live x.station ∙ without_live w x.number x.station ∙ o.live)
+    (omega (arith, ap (λ (z : Session). z.first) same_y)) flies.rising)
+
+batch_ended : (w u : World) (x : Exchange) (heard : Bool) (air : Option ℕ) → x.batch ≡ true → IsOpenIn w x →
+    Same (done_outcome w x heard air).world u →
+    EachMpdu (λ m. ((slot (session u x.station x.tid) m.number).state ≡ State.Acked) ↔
+    (has (numbers_arrived x) m.number && not (has (numbers_unsent x) m.number) ≡ true)) (mpdus_of x.content)
+unfolding done_outcome
+batch_ended w u x heard air batch o k =
+    let v : World = after_done (after_charge (without_exchange w x.number) x air) x heard x.content in
+    let d : session u x.station x.tid ≡ session v x.station x.tid = session_same _ u k x.station x.tid in
+    each_along (λ m. ((slot (session v x.station x.tid) m.number).state ≡ State.Acked) ↔
+    (end_of x heard m.number ≡ End.Acknowledged))
+    (λ m. ((slot (session u x.station x.tid) m.number).state ≡ State.Acked) ↔
+    (has (numbers_arrived x) m.number && not (has (numbers_unsent x) m.number) ≡ true)) (mpdus_of x.content)
+    (λ m e.
+    let ends = end_arrived x heard m.number batch in (
+      (λ h. ends.0 (e.0 (ap (λ (z : Session). (slot z m.number).state) (sym d) ∙ h))),
+      (λ h. ap (λ (z : Session). (slot z m.number).state) d ∙ e.1 (ends.1 h)),
+    ))
+    (frames_ended x.content w x heard air refl o)
+
+-- the Done of a batch acknowledges those of its numbers that arrived and went on the air
+pub batch_settled : (w : World) (e : ℕ) (x : Exchange) (heard : Bool) (air : Option ℕ) →
+    exchange w e ≡ Some x → x.batch ≡ true → IsOpenIn w x → refusal w (Asked (Done e heard air)) ≡ None →
+    EachMpdu (λ m. ((slot (session (step w (Asked (Done e heard air))).world x.station x.tid) m.number).state
+    ≡ State.Acked) ↔ (has (numbers_arrived x) m.number && not (has (numbers_unsent x) m.number) ≡ true))
+    (mpdus_of x.content)
+batch_settled w e x heard air found batch o fine =
+    batch_ended w (step w (Asked (Done e heard air))).world x heard air batch o
+    (same_done w e x heard air found fine)
 
 pub may_end_lost : (w : World) (e : ℕ) (x : Exchange) (air : Option ℕ) → exchange w e ≡ Some x →
     is_bad_air w.config air ≡ false → refusal w (Asked (Done e false air)) ≡ None
 may_end_lost w e x air found fine = none_refuses _ (ap is_none found, (refl, (fine, tt)))
 
-pub may_end_heard : (w : World) (e : ℕ) (x : Exchange) (b : Score) (air : Option ℕ) → exchange w e ≡ Some x →
-    x.answer ≡ Some b → is_bad_air w.config air ≡ false → refusal w (Asked (Done e true air)) ≡ None
-may_end_heard w e x b air found kept fine = none_refuses _ (
+-- the exchange is no batch, and nothing was answered
+abbrev pub lacks_answer : Exchange → Bool
+lacks_answer y = not y.batch && is_none y.answer
+
+-- a batch needs no answer
+pub batch_lacks_none : (x : Exchange) → x.batch ≡ true → lacks_answer x ≡ false
+batch_lacks_none x batch = ap (λ (b : Bool). not b && is_none x.answer) batch
+
+pub answered_lacks_none : (x : Exchange) (b : Score) → x.answer ≡ Some b → lacks_answer x ≡ false
+answered_lacks_none x b kept = ap (λ (o : Option Score). not x.batch && is_none o) kept ∙ never (not x.batch)
+  where
+    never : (a : Bool) → (a && false) ≡ false
+    never true = refl
+    never false = refl
+
+-- a Done that is heard needs an answer, or a batch
+pub may_end_told : (w : World) (e : ℕ) (x : Exchange) (air : Option ℕ) → exchange w e ≡ Some x →
+    lacks_answer x ≡ false → is_bad_air w.config air ≡ false → refusal w (Asked (Done e true air)) ≡ None
+may_end_told w e x air found told fine = none_refuses _ (
   ap is_none found,
   (
-    ap (λ (o : Option Exchange). exchange_has o (λ y. is_none y.answer)) found
-        ∙ ap is_none kept,
+    ap (λ (o : Option Exchange). exchange_has o lacks_answer) found ∙ told,
     (fine, tt),
   ),
 )
 
+pub may_end_heard : (w : World) (e : ℕ) (x : Exchange) (b : Score) (air : Option ℕ) → exchange w e ≡ Some x →
+    x.answer ≡ Some b → is_bad_air w.config air ≡ false → refusal w (Asked (Done e true air)) ≡ None
+may_end_heard w e x b air found kept fine = may_end_told w e x air found (answered_lacks_none x b kept) fine
+
 -- nothing was answered
 pub unanswered : (w : World) (e : ℕ) (x : Exchange) (air : Option ℕ) → exchange w e ≡ Some x →
-    x.answer ≡ None → refusal w (Asked (Done e true air)) ≡ Some NoAnswer
-unanswered w e x air found none = passes (is_none (exchange w e), NoExchange) _ (ap is_none found)
-    ∙ first_refuses (exchange_has (exchange w e) (λ y. is_none y.answer), NoAnswer) _
-    (ap (λ (o : Option Exchange). exchange_has o (λ y. is_none y.answer)) found ∙ ap is_none none)
+    x.batch ≡ false → x.answer ≡ None → refusal w (Asked (Done e true air)) ≡ Some NoAnswer
+unanswered w e x air found unbatched none = passes (is_none (exchange w e), NoExchange) _ (ap is_none found)
+    ∙ first_refuses (exchange_has (exchange w e) lacks_answer, NoAnswer) _
+    (ap (λ (o : Option Exchange). exchange_has o lacks_answer) found
+    ∙ ap₂ (λ (b : Bool) (o : Option Score). not b && is_none o) unbatched none)
 
 -- a Done that is refused changes nothing
 pub refused_step : (w : World) (e : ℕ) (heard : Bool) (air : Option ℕ) (r : Refusal) →
@@ -156,6 +250,13 @@ unfolding step judged_outcome after_refusal
 refused_step w e heard air r bad = ap (judged_outcome w (Asked (Done e heard air))) bad
 
 -- an airtime that may not be given is the last fault of a Done
+pub bad_told : (w : World) (e : ℕ) (x : Exchange) (air : Option ℕ) → exchange w e ≡ Some x →
+    lacks_answer x ≡ false → is_bad_air w.config air ≡ true → refusal w (Asked (Done e true air)) ≡ Some BadAir
+bad_told w e x air found told bad = passes (is_none (exchange w e), NoExchange) _ (ap is_none found)
+    ∙ (passes (exchange_has (exchange w e) lacks_answer, NoAnswer) _
+    (ap (λ (o : Option Exchange). exchange_has o lacks_answer) found ∙ told)
+    ∙ first_refuses (is_bad_air w.config air, BadAir) [] bad)
+
 pub bad_lost : (w : World) (e : ℕ) (x : Exchange) (air : Option ℕ) → exchange w e ≡ Some x →
     is_bad_air w.config air ≡ true → refusal w (Asked (Done e false air)) ≡ Some BadAir
 bad_lost w e x air found bad = passes (is_none (exchange w e), NoExchange) _ (ap is_none found)
@@ -163,7 +264,4 @@ bad_lost w e x air found bad = passes (is_none (exchange w e), NoExchange) _ (ap
 
 pub bad_heard : (w : World) (e : ℕ) (x : Exchange) (b : Score) (air : Option ℕ) → exchange w e ≡ Some x →
     x.answer ≡ Some b → is_bad_air w.config air ≡ true → refusal w (Asked (Done e true air)) ≡ Some BadAir
-bad_heard w e x b air found kept bad = passes (is_none (exchange w e), NoExchange) _ (ap is_none found)
-    ∙ (passes (exchange_has (exchange w e) (λ y. is_none y.answer), NoAnswer) _
-    (ap (λ (o : Option Exchange). exchange_has o (λ y. is_none y.answer)) found ∙ ap is_none kept)
-    ∙ first_refuses (is_bad_air w.config air, BadAir) [] bad)
+bad_heard w e x b air found kept bad = bad_told w e x air found (answered_lacks_none x b kept) bad

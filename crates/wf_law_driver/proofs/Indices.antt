@@ -5,10 +5,11 @@ use Rattle.std.specs.List.{list_all}
 use Rattle.wf_def_lists.specs.Table.{at, has, upto}
 use Rattle.wf_law_rules.proofs.Lemmas.Numbers.{on_if, on_bool, eq_yes, yes_eq, either, or_left, or_right}
 use Rattle.wf_def_world.specs.World.{Mpdu, Content, Frames, Request}
+use Rattle.wf_def_world.specs.CanSend.{is_request}
 use Rattle.wf_def_world.specs.Exchanges.{transmissions, no_mpdu, number_at, mpdus_of}
 use Rattle.wf_law_runs.specs.Windows.{EachMpdu}
 use Rattle.wf_law_driver.specs.Inferred.{shown_indices, indices_inferred}
-use Rattle.wf_law_driver.proofs.Arrivals.{IsAmong, AreIndices, AreNotIn}
+use Rattle.wf_law_driver.proofs.Arrivals.{IsNumber, IsAmong, AreIndices, AreIn, AreNotIn}
 
 pub each_mpdu : (P Q : Mpdu → Type 0) (ms : List Mpdu) → ((m : Mpdu) → P m → Q m) → EachMpdu P ms →
     EachMpdu Q ms
@@ -100,6 +101,20 @@ has_map f (x ∷ xs) i h = elim (either (x == i) (has xs i) h) [
   | inr later ↦ or_right (f x == f i) (has (map f xs) (f i)) (has_map f xs i later)
 ]
 
+number_is : (c : Content) (i n : ℕ) → IsNumber c i n → number_at c i ≡ n
+number_is (Frames ms) i n h = h
+number_is (Request f) i n h = absurd h
+
+-- the number of one of these transmissions is among the numbers of a list that has them all
+pub among_in : (c : Content) (xs is : List ℕ) (n : ℕ) → AreIn xs is → IsAmong c is n →
+    has (map (number_at c) xs) n ≡ true
+among_in c xs [] n h a = absurd a
+among_in c xs (i ∷ is) n h a = elim a [
+  | inl here ↦ subst (λ (k : ℕ). has (map (number_at c) xs) k ≡ true) (number_is c i n here)
+      (has_map (number_at c) xs i h.0)
+  | inr later ↦ among_in c xs is n h.1 later
+]
+
 -- the number is not that of a transmission in the list, if it is shown
 abbrev IsNotIn : List ℕ → (ℕ → Bool) → Content → Mpdu → Type 0
 IsNotIn xs shown c m = shown m.number ≡ true → has (map (number_at c) xs) m.number ≡ false
@@ -127,11 +142,12 @@ first_false true h = absurd (cc h)
 first_false false h = refl
 
 pub inferred_not_in : (xs : List ℕ) (shown : ℕ → Bool) (c : Content) →
-    EachMpdu (IsNotIn xs shown c) (mpdus_of c) → list_all (has xs) (upto (transmissions c)) ≡ false →
+    EachMpdu (IsNotIn xs shown c) (mpdus_of c) →
+    (is_request c ≡ true → list_all (has xs) (upto (transmissions c)) ≡ false) →
     AreNotIn xs (indices_inferred shown c)
 inferred_not_in xs shown (Frames ms) k some =
     shown_not_in xs shown 0 ms ms (λ n. ap (at no_mpdu ms) (omega arith)) k
-inferred_not_in xs shown (Request f) k some = (first_false (has xs 0) some, tt)
+inferred_not_in xs shown (Request f) k some = (first_false (has xs 0) (some refl), tt)
 
 -- ---- what holds for each number of an exchange holds for those that are inferred to arrive
 

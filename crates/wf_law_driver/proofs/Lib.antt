@@ -2,7 +2,7 @@
 -- leave. Indices: which transmissions they are about. Ended: what the end of an exchange leaves. Inferred:
 -- the law of inferred calls. Silent: calls that report nothing of a receiver. Transmit: what a transmit
 -- path keeps. Runs: inferred calls continue a history. Driven: whole runs of a driver. Shown: which part of
--- an answer matters. Witnesses: one run of a driver, computed.
+-- an answer matters. Witnesses: two runs of a driver, computed.
 pub mod Opened
 mod Arrivals
 pub mod Indices

@@ -11,7 +11,7 @@ use Rattle.wf_def_agreement.specs.Receiver.{Score, shows}
 use Rattle.wf_def_agreement.specs.Session.{End, is_acknowledged, is_waiting, is_failed}
 use Rattle.wf_def_world.specs.World.{World, Exchange, Mpdu, Content, Frames, Request, exchange, without_exchange}
 use Rattle.wf_def_world.specs.CanSend.{is_request, with_listings_of}
-use Rattle.wf_def_world.specs.Exchanges.{is_acked, numbers_unsent, numbers_given_up, end_of, mpdus_of, after_charge, with_settled, with_all_settled, after_done, count_in}
+use Rattle.wf_def_world.specs.Exchanges.{is_acked, numbers_unsent, numbers_given_up, end_in_batch, end_of, mpdus_of, after_charge, with_settled, with_all_settled, with_device_caught_up, after_done, count_in}
 use Rattle.wf_def_world.specs.Refusals.{refusal}
 use Rattle.wf_frame.specs.Settings.{is_bad_air}
 use Rattle.wf_def_world.specs.Step.{Outcome, done_outcome, outcome_where_open, outcome_of, after_refusal, judged_outcome, station_of, step}
@@ -33,7 +33,8 @@ settles_alike w s t p q mpdus h = settled_alike mpdus w s t p q h
 -- how an exchange ends for its number n, which the answer shows or not
 abbrev end_where : Exchange → ℕ → Bool → End
 end_where x n acked =
-    if has (numbers_unsent x) n then End.Unsent
+    if x.batch then end_in_batch x n
+    else if has (numbers_unsent x) n then End.Unsent
     else if acked then End.Acknowledged
     else if has (numbers_given_up x) n then End.GivenUp
     else End.Missed
@@ -44,10 +45,11 @@ after_none : (c : Content) (v : World) (x : Exchange) (b : Score) → x.answer �
 unfolding after_done
 after_none (Request f) v x b kept frames h = absurd (cc frames)
 after_none (Frames ms) v x b kept frames h =
-    settled_alike ms v x.station x.tid (end_of x true) (end_of x false)
+    ap (λ (u : World). with_device_caught_up u x.station x.tid)
+    (settled_alike ms v x.station x.tid (end_of x true) (end_of x false)
     (each_mpdu (λ m. shows b m.number ≡ false) (λ m. end_of x true m.number ≡ end_of x false m.number) ms
     (λ m none. ap (end_where x m.number) (subst
-    (λ (o : Option Score). is_acked true o m.number ≡ is_acked false o m.number) (sym kept) none)) h)
+    (λ (o : Option Score). is_acked true o m.number ≡ is_acked false o m.number) (sym kept) none)) h))
 
 done_none : (w : World) (x : Exchange) (b : Score) (air : Option ℕ) → x.answer ≡ Some b →
     is_request x.content ≡ false →

@@ -2,8 +2,7 @@
 use Rattle.std.proofs.Common.{◌≡◌, refl, ap, sym, ◌∙◌, subst, ℕ, ◌==◌, Bool, true, false, not, List, [], ◌∷◌, Option, Some, None, IfSome}
 use Rattle.wf_frame.specs.declared.settings.Config.{Config}
 use Rattle.wf_frame.specs.declared.classes.Class.{Class}
-use Rattle.wf_frame.specs.declared.classes.Fate.{Fate}
-use Rattle.wf_frame.specs.declared.notes.Ask.TheVariants.{Join, Leave, Rate, Tick, Pull, Arrive, Answer, Done, Sleep, Wake, Poll, Rx, Reap, Ampdu, Stop, Start, Unsent, GiveUp, Flush}
+use Rattle.wf_frame.specs.declared.notes.Ask.TheVariants.{Join, Leave, Rate, Tick, Pull, Arrive, Answer, Done, Sleep, Wake, Poll, Rx, Reap, Ampdu, Stop, Start, Unsent, GiveUp, Flush, Offload, Weight}
 use Rattle.wf_frame.specs.declared.notes.Limits.{Limits}
 use Rattle.wf_frame.specs.declared.notes.Note.{Note}
 use Rattle.wf_frame.specs.declared.notes.Note.TheVariants.{Enqueue, Asked}
@@ -11,24 +10,23 @@ use Rattle.wf_frame.specs.declared.notes.Refusal.{Refusal}
 use Rattle.wf_frame.specs.declared.notes.Refusal.TheVariants.{Idle}
 use Rattle.wf_frame.specs.Classes.{all_classes}
 use Rattle.wf_def_lists.specs.Table.{has, upto}
-use Rattle.wf_def_agreement.specs.Session.{Session, after_flush}
+use Rattle.wf_def_lists.specs.Bounds.{greatest_window}
 use Rattle.wf_law_rules.proofs.Lemmas.Numbers.{on_if}
 use Rattle.wf_law_rules.proofs.Lemmas.Tables.{each_put}
-use Rattle.wf_def_world.specs.World.{World, Station, Queue, Exchange, new_tid, session, receiver, rotation, is_live, exchange, with_station, on_station, on_tid, on_session, on_queue, with_fate, with_frame_finished, with_exchange, without_exchange, opening}
+use Rattle.wf_def_world.specs.World.{World, Station, Exchange, new_tid, session, receiver, rotation, is_live, exchange, with_station, with_exchange, without_exchange, opening}
 use Rattle.wf_def_world.specs.CanSend.{is_ready}
 use Rattle.wf_def_world.specs.Exchanges.{station_need, picked_station, after_tid_turn, sending_tid, Prepared, exchange_of, with_exchange_opened}
 use Rattle.wf_def_world.specs.Refusals.{refusal}
-use Rattle.wf_def_world.specs.Step.{Outcome, join_outcome, leave_outcome, rate_outcome, tick_outcome, send_outcome, pull_outcome_for, pull_outcome, done_outcome, outcome_where_open, sleep_outcome, wake_outcome, poll_outcome, rx_outcome, reap_outcome, unsent_outcome, give_up_outcome, flush_outcome, outcome_of, concerned_station, after_refusal, judged_outcome, step}
+use Rattle.wf_def_world.specs.Step.{Outcome, new_station, join_outcome, offload_outcome, leave_outcome, rate_outcome, tick_outcome, send_outcome, pull_outcome_for, pull_outcome, done_outcome, outcome_where_open, sleep_outcome, wake_outcome, poll_outcome, rx_outcome, reap_outcome, unsent_outcome, give_up_outcome, flush_outcome, outcome_of, concerned_station, after_refusal, judged_outcome, step}
 use Rattle.wf_def_world.specs.Run.{Entry, world_after}
 use Rattle.wf_law_runs.proofs.Common.Picked.{picked_world}
 use Rattle.wf_law_runs.proofs.Common.Refused.{after_idle}
 use Rattle.wf_law_runs.proofs.Common.Marks.{with_marks, marked_world}
-use Rattle.wf_law_runs.proofs.Common.Flushes.{StaysInFlush, if_flushed}
-use Rattle.wf_law_runs.proofs.Windows.Sides.{Side, Same, sides_of, each_side_on, then_same, same_on_station, same_on_share, same_listed, same_after_pick, same_picked, same_after_turn, same_spent}
+use Rattle.wf_law_runs.proofs.Windows.Sides.{Side, Same, sides_of, then_same, same_on_station, same_on_share, same_weighed, same_listed, same_after_pick, same_picked, same_after_turn, same_spent}
 use Rattle.wf_law_runs.proofs.Windows.Opened.{Each, each_append, each_filter, eight, left_true, pick_ready, some_along}
 use Rattle.wf_law_runs.proofs.Windows.Agreed.{IsLawful, lawful, lawful_same, same_left_tids, same_off_lists}
 use Rattle.wf_law_runs.proofs.Frames.Delivered.{prepared_right, opened_ended, same_enqueued}
-use Rattle.wf_law_runs.proofs.Releases.Kept.{Kept, keep_ended, keep_pulled}
+use Rattle.wf_law_runs.proofs.Releases.Kept.{Kept, keep_ended, keep_pulled, keep_flushed, opened_flushed}
 use Rattle.wf_law_driver.specs.Unheard.{IsUnmarked, HasAcked, IsUnheard, IsSilent, SilentLaw}
 use Rattle.wf_law_driver.proofs.Opened.{with_replaced, found_each, to_each, of_each}
 use Rattle.wf_law_driver.proofs.Ended.{kept_after, live_acked, live_arrived, kept_acked}
@@ -56,7 +54,7 @@ silence_same w v h = record {
 
 silence_kept : (w v : World) → Kept w v → (Each IsUnmarked w.opened → Each IsUnmarked v.opened) → Silence w v
 silence_kept w v k m = record {
-  arrived = λ i j n a. ap (λ r. has r.arrived n) (sym (k.receivers i j)) ∙ a;
+  arrived = λ i j n a. ap (λ (xs : List ℕ). has xs n) (sym (k.receivers i j).arrived) ∙ a;
   marks = m;
 }
 
@@ -71,12 +69,20 @@ silence_station w s o new = record {
   marks = λ m. m;
 }
 
+silence_new : (w : World) (s window start exponent weight : ℕ) (offloaded : Bool) →
+    Silence w (with_station w s (Some (new_station w.config window start exponent weight offloaded)))
+silence_new w s window start exponent weight offloaded =
+    silence_station w s _ (λ j n. eight (λ y. has y.receiver.arrived n ≡ true → ⊥) (new_tid start window)
+    (λ h. cc h) (λ h. cc h) j)
+
 silence_joined : (w : World) (s window start exponent weight : ℕ) →
     Silence w (join_outcome w s window start exponent weight).world
 unfolding join_outcome
-silence_joined w s window start exponent weight =
-    silence_station w s _ (λ j n. eight (λ y. has y.receiver.arrived n ≡ true → ⊥) (new_tid start window)
-    (λ h. cc h) (λ h. cc h) j)
+silence_joined w s window start exponent weight = silence_new w s window start exponent weight false
+
+silence_offloaded : (w : World) (s exponent weight : ℕ) → Silence w (offload_outcome w s exponent weight).world
+unfolding offload_outcome
+silence_offloaded w s exponent weight = silence_new w s greatest_window 0 exponent weight true
 
 silence_gone : (w : World) (s : ℕ) → Silence w (leave_outcome w s).world
 unfolding leave_outcome
@@ -156,29 +162,9 @@ silence_open (Some x) w f h = h x refl
 
 -- ---- a flush
 
-silence_session : (w : World) (s t : ℕ) (f : Session → Session) → Silence w (on_session w s t f)
-unfolding on_session on_tid on_station with_station
-silence_session w s t f = record {
-  arrived = λ i j n a. ap (λ r. has r.arrived n) (sym (each_side_on (λ i j z. z.receiver ≡ receiver w i j)
-      w s t (λ y. record y { session = f y.session }) (λ i j. refl) refl i j)) ∙ a;
-  marks = λ m. m;
-}
-
-silence_finished : (w : World) (fate : Fate) (id : ℕ) → Silence w (with_frame_finished w fate id)
-unfolding with_frame_finished with_fate
-silence_finished w fate id = record { arrived = λ i j n h. h; marks = λ m. m }
-
-silence_queue : (w : World) (q : ℕ) (f : Queue → Queue) → Silence w (on_queue w q f)
-unfolding on_queue
-silence_queue w q f = record { arrived = λ i j n h. h; marks = λ m. m }
-
 silence_flushed : (w : World) (s t : ℕ) → Silence w (flush_outcome w s t).world
-silence_flushed w s t =
-    let stays : StaysInFlush (Silence w) = record {
-      finish = λ v id h. then_silence w v _ h (silence_finished v _ id);
-      empty = λ v q h. then_silence w v _ h (silence_queue v q _);
-    } in
-    if_flushed (Silence w) stays w s t (silence_session w s t (after_flush w.config.attempts))
+silence_flushed w s t = silence_kept w _ (keep_flushed w s t)
+    (λ m. subst (Each IsUnmarked) (sym (opened_flushed w s t)) m)
 
 -- ---- the step
 
@@ -192,6 +178,8 @@ unfolding outcome_of tick_outcome rate_outcome sleep_outcome wake_outcome poll_o
 silence_done (Enqueue s t flow len) w k i = silence_same w _ (same_enqueued w s t flow len)
 silence_done (Asked (Join s window start exponent weight)) w k i =
     silence_joined w s window start exponent weight
+silence_done (Asked (Offload s exponent weight)) w k i = silence_offloaded w s exponent weight
+silence_done (Asked (Weight s weight)) w k i = silence_same w _ (same_weighed w s weight)
 silence_done (Asked (Leave s)) w k i = silence_gone w s
 silence_done (Asked (Rate s rate)) w k i = silence_same w _ (same_on_station w s _ (λ x t. refl))
 silence_done (Asked (Tick by)) w k i = record { arrived = λ i j n h. h; marks = λ h. h }

@@ -393,16 +393,18 @@ tells_run (e ∷ es) config h range k =
     (subst (λ (v : World). HasSameTransmit v (world_after v es)) one_more
     (tells_run es config (h ++ e ∷ []) range k.1))
 
-inferred_tell : (is js : List ℕ) (caller e : ℕ) → AllTell
-    (arrivals caller e is ++ answer_inferred caller e js)
-inferred_tell [] [] caller e = tt
-inferred_tell [] (j ∷ js) caller e = (tt, tt)
-inferred_tell (i ∷ is) js caller e = (tt, inferred_tell is js caller e)
+inferred_tell : (batch : Bool) (is js : List ℕ) (caller e : ℕ) → AllTell
+    (arrivals caller e is ++ answer_inferred batch caller e js)
+inferred_tell true [] [] caller e = tt
+inferred_tell true [] (j ∷ js) caller e = tt
+inferred_tell false [] [] caller e = tt
+inferred_tell false [] (j ∷ js) caller e = (tt, tt)
+inferred_tell batch (i ∷ is) js caller e = (tt, inferred_tell batch is js caller e)
 
 pub transmit_law : (config : Config) (h : List Entry) → IsInRange config → TransmitLaw config h
 transmit_law config h range = record {
   arrive = λ e i. tells_step (Asked (Arrive e i)) config h range tt;
   answer = λ e. tells_step (Asked (Answer e)) config h range tt;
-  inferred = λ caller e shown content. tells_run (inferred caller e shown content) config h range
-      (inferred_tell (indices_inferred shown content) (indices_inferred shown content) caller e);
+  inferred = λ caller e shown batch content. tells_run (inferred caller e shown batch content) config h range
+      (inferred_tell batch (indices_inferred shown content) (indices_inferred shown content) caller e);
 }

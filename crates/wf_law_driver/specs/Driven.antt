@@ -1,6 +1,6 @@
 -- Defines the runs of a driver that reports receivers only by BlockAcks, and the history of the machine for
 -- each.
-use Rattle.std.specs.Prelude.{ℕ, Bool, true, false, List, [], ◌∷◌, ◌++◌, Option, None, Some, if◌then◌else◌}
+use Rattle.std.specs.Prelude.{ℕ, Bool, true, false, not, ◌&&◌, List, [], ◌∷◌, ◌++◌, Option, None, Some, if◌then◌else◌}
 use Rattle.wf_frame.specs.declared.settings.Config.{Config}
 use Rattle.wf_frame.specs.declared.notes.Ask.TheVariants.{Done}
 use Rattle.wf_frame.specs.declared.notes.Note.{Note}
@@ -19,14 +19,15 @@ pub data Deed : Type 0 where
 
 -- The calls for the end of exchange e: the inferred calls and the Done or, if the Done is refused, only the
 -- Done. A number that never went on the air did not arrive: a BlockAck that shows it is not believed. A
--- BlockAck for an exchange of which nothing went on the air is refused, as nothing was answered.
+-- BlockAck for an exchange of which nothing went on the air is refused, as nothing was answered; a batch has
+-- no answer, so its Done is not.
 abbrev pub ending : World → ℕ → ℕ → (ℕ → Bool) → Option ℕ → Option Exchange → List Entry
 ending w caller e shown air None = by caller (Asked (Done e false air)) ∷ []
 ending w caller e shown air (Some x) =
-    if is_wholly_unsent x then by caller (Asked (Done e true air)) ∷ []
+    if not x.batch && is_wholly_unsent x then by caller (Asked (Done e true air)) ∷ []
     else if is_bad_air w.config air then by caller (Asked (Done e false air)) ∷ []
     else let sent : ℕ → Bool = shown_of_sent x shown in
-    inferred caller e sent x.content ++ by caller (done_inferred e sent air x.content) ∷ []
+    inferred caller e sent x.batch x.content ++ by caller (done_inferred e sent air x.content) ∷ []
 
 -- the calls of the machine for a deed
 abbrev pub entries_of : World → ℕ → Deed → List Entry

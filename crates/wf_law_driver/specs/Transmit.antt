@@ -35,8 +35,8 @@ pub record HasSameTransmit (w u : World) : Type 0 where
 pub record KeepsTransmit (w : World) : Type 0 where
   pub arrive : (e i : ℕ) → HasSameTransmit w (step w (Asked (Arrive e i))).world
   pub answer : (e : ℕ) → HasSameTransmit w (step w (Asked (Answer e))).world
-  pub inferred : (caller e : ℕ) (shown : ℕ → Bool) (content : Content) →
-      HasSameTransmit w (after_inferred w caller e shown content)
+  pub inferred : (caller e : ℕ) (shown : ℕ → Bool) (batch : Bool) (content : Content) →
+      HasSameTransmit w (after_inferred w caller e shown batch content)
 
 -- this holds in the world after a history
 abbrev pub TransmitLaw : Config → List Entry → Type 0

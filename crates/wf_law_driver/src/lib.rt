@@ -28,11 +28,12 @@ ghost use Rattle.wf_law_driver.specs.Transmit.{TransmitLaw};
 ghost use Rattle.wf_law_driver.specs.Unheard.{IsUnheard, SilentLaw};
 
 /// In an unheard world of a run, take an open exchange of which something went on the air, and a BlockAck
-/// for it that shows only such numbers. The calls that are inferred are all answered. If there are any, the
-/// exchange then keeps an answer that shows exactly those of its numbers that the BlockAck shows. After the
-/// Done, with any airtime that it may give, exactly these numbers are acknowledged, and the world is
-/// unheard. If the BlockAck shows none of an aggregate's numbers, no calls are inferred, and the Done is not
-/// heard.
+/// for it that shows only such numbers; or a batch, and what its device said of each frame that went on the
+/// air. The calls that are inferred are all answered. If there are any, the exchange then keeps an answer
+/// that shows exactly those of its numbers that the BlockAck shows; of a batch exactly those have arrived.
+/// After the Done, with any airtime that it may give, exactly these numbers are acknowledged, and the world
+/// is unheard. If the BlockAck shows none of an aggregate's numbers, no calls are inferred, and the Done is
+/// not heard.
 pub fn inferred_law()
     ensures inferred { (config : Config) (history : List Entry) → InferredLaw config history }
 {}
@@ -61,8 +62,8 @@ pub fn transmit_law()
 
 /// For any calls of a driver, in any order, there is a history of the machine with these calls and, just
 /// before each Done, the calls that are inferred from its BlockAck. A BlockAck is not believed for numbers
-/// that never went on the air, and the Done of an exchange of which nothing went on the air is refused. This
-/// history leaves the machine in an unheard world.
+/// that never went on the air, and the Done of an exchange of which nothing went on the air is refused unless
+/// it is a batch. This history leaves the machine in an unheard world.
 pub fn driven_law()
     ensures driven { (config : Config) (deeds : List (ℕ × Deed)) → DrivenLaw config deeds }
 {}
