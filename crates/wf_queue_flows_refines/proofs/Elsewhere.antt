@@ -12,8 +12,9 @@ use Rattle.wf_def_agreement.specs.Session.{Session, after_flush}
 use Rattle.wf_def_agreement.specs.Receiver.{Receiver}
 use Rattle.wf_def_world.specs.World.{World, Station, Tid, Queue, no_station, no_tid, is_live, codel_params, with_station, on_station, on_tid, with_queues, on_queue, on_session, with_fate, with_frame_finished, with_frames_finished}
 use Rattle.wf_def_world.specs.FlowQueues.{after_limit, taken_for_tid}
-use Rattle.wf_def_world.specs.Step.{with_frame, enqueue_outcome, reap_outcome, after_tid_left, after_tid_flushed}
+use Rattle.wf_def_world.specs.Step.{with_frame, enqueue_outcome, reap_outcome, after_tid_left}
 use Rattle.wf_law_runs.proofs.Deficits.Books.{upd_idle, put_upd}
+use Rattle.wf_queue_flows_refines.specs.Standing.{tid_emptied}
 use Rattle.wf_queue_flows_refines.specs.Rest.{Rest, rest_of_world, bare, session_in, receiver_in}
 use Rattle.wf_queue_flows_refines.proofs.Through.{stays_finish_all, stays_limit, stays_put_in, stays_take, stays_left, stays_flushed}
 
@@ -95,7 +96,7 @@ rest_take = stays_take rest_of_world rest_on_queue rest_with_queues rest_finish
 pub rest_left : (w : World) (s t : ℕ) → rest_of_world (after_tid_left w s t) ≡ rest_of_world w
 rest_left = stays_left rest_of_world rest_on_queue rest_with_queues rest_finish
 
-pub rest_flushed : (w : World) (s t : ℕ) → rest_of_world (after_tid_flushed w s t)
+pub rest_flushed : (w : World) (s t : ℕ) → rest_of_world (tid_emptied w s t)
     ≡ rest_of_world (on_session w s t (after_flush w.config.attempts))
 rest_flushed = stays_flushed rest_of_world rest_on_queue rest_with_queues rest_finish
 

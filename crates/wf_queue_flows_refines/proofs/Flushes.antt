@@ -8,10 +8,10 @@ use Rattle.wf_def_rotation.specs.Rotation.{Rotation, in_order}
 use Rattle.wf_def_agreement.specs.Session.{Session, after_flush as session_flushed}
 use Rattle.wf_def_world.specs.World.{World, Station, no_station, no_tid, tid_of, session, accepted_count, with_station, on_station, on_tid, on_session}
 use Rattle.wf_def_world.specs.FlowQueues.{after_queues_flushed}
-use Rattle.wf_def_world.specs.Step.{waiting_ids, in_rising_order, after_tid_flushed}
+use Rattle.wf_def_world.specs.Step.{waiting_ids, in_rising_order}
 use Rattle.wf_queue_flows.specs.Backlog.{unchanged}
 use Rattle.wf_queue_flows.specs.Flows.{FlowsValue, SettingsValue, tid_rotation, queues_of, all_emptied, after_tid_flush}
-use Rattle.wf_queue_flows_refines.specs.Standing.{Part, waiting_flushed, FlowsStandFor}
+use Rattle.wf_queue_flows_refines.specs.Standing.{Part, waiting_flushed, FlowsStandFor, tid_emptied}
 use Rattle.wf_queue_flows_refines.proofs.Emptied.{queues_flushed}
 use Rattle.wf_queue_flows_refines.proofs.Leaves.{session_alone}
 use Rattle.wf_queue_flows_refines.proofs.Purges.{stands_emptied_all, accepted_emptied, listed_low, listed_same, stations_finish_all, stations_config}
@@ -52,8 +52,7 @@ lists_waiting w s t =
 -- if v agrees with the world after the waiting numbers of the session have failed, then the flushed v
 -- agrees with the world after the flush
 pub stands_tid_flushed : (v : FlowsValue) (w : World) (s t : ℕ) → FlowsStandFor v (waiting_flushed w s t) →
-    s < w.config.stations → t < 8 → FlowsStandFor (after_tid_flush v (tid_number s t)) (after_tid_flushed w s t)
-unfolding after_tid_flushed
+    s < w.config.stations → t < 8 → FlowsStandFor (after_tid_flush v (tid_number s t)) (tid_emptied w s t)
 stands_tid_flushed v w s t st high low_t =
     subst (λ (r : Rotation). FlowsStandFor (after_tid_flush v (tid_number s t))
     (after_queues_flushed (waiting_flushed w s t) (in_rising_order (in_order r)))) (lists_waiting w s t)
@@ -68,8 +67,7 @@ queues_waiting v w s t st low_s low_t =
     ∙ listed_same v (waiting_flushed w s t) s t st low_s low_t
 
 pub accepted_flushed : (v : FlowsValue) (w : World) (s t : ℕ) → FlowsStandFor v (waiting_flushed w s t) →
-    s < v.stations → t < 8 → accepted_count (after_tid_flushed w s t) ≡ accepted_count (waiting_flushed w s t)
-unfolding after_tid_flushed
+    s < v.stations → t < 8 → accepted_count (tid_emptied w s t) ≡ accepted_count (waiting_flushed w s t)
 accepted_flushed v w s t st low_s low_t =
     let i : ℕ = tid_number s t in
     let x : World = waiting_flushed w s t in

@@ -16,13 +16,13 @@ use Rattle.wf_def_rotation.specs.Rotation.{Rotation}
 use Rattle.wf_law_rules.proofs.Lemmas.Counts.{on-nil, on-append, on-cons_same, on-cons_other}
 use Rattle.wf_def_world.specs.World.{World, Queue, Frame, no_frame, is_live, session, frame, accepted_count, codel_params, on_queue, with_queues, with_station, on_station, on_tid, with_fate, with_frame_finished, with_frames_finished}
 use Rattle.wf_def_world.specs.FlowQueues.{after_limit as world_after_limit, queue_for as world_queue_for, after_put_in as world_put_in, taken_for_tid as world_take}
-use Rattle.wf_def_world.specs.Step.{with_frame, next_item, enqueue_outcome, reap_outcome, waiting_ids, after_tid_left, after_tid_flushed}
+use Rattle.wf_def_world.specs.Step.{with_frame, next_item, enqueue_outcome, reap_outcome, waiting_ids, after_tid_left}
 use Rattle.wf_law_runs.proofs.Deficits.Books.{put_upd, upd_other}
 use Rattle.wf_law_runs.proofs.Queues.ShelvedStep.{accepted_put}
 use Rattle.wf_queue_flows.specs.Backlog.{BacklogValue, frames_at, with_calmed, after_emptying, unchanged, renewed, drops_at}
 use Rattle.wf_frame.specs.Classes.{tid_number}
 use Rattle.wf_queue_flows.specs.Flows.{FlowsValue, flows_at_limit, is_listed, longest_queue, after_limit, queue_for, with_listed_queue, with_appended, after_put, pick_of_tid, after_pick, taken_from_picked, taken_for_tid, queues_of, all_emptied, after_purge, after_tid_flush}
-use Rattle.wf_queue_flows_refines.specs.Standing.{ids, times_held, with_finished, queue_emptied, waiting_flushed, FlowsStandFor}
+use Rattle.wf_queue_flows_refines.specs.Standing.{ids, times_held, with_finished, queue_emptied, waiting_flushed, FlowsStandFor, tid_emptied}
 use Rattle.wf_queue_flows_refines.specs.Frames.{QueuedAreHeld}
 use Rattle.wf_queue_flows_refines.proofs.Parts.{end_is, end_other}
 use Rattle.wf_queue_flows_refines.proofs.Changes.{each_set, times_set, times_at}
@@ -82,7 +82,7 @@ pub finishes_purge : (w : World) (s t : ℕ) → Finishes
 finishes_purge = through_purge Finishes nothing both at_queue at_lists at_finish
 
 -- a flush, after the numbers of the session that wait have failed
-finishes_flush : (w : World) (s t : ℕ) → Finishes (waiting_flushed w s t) (after_tid_flushed w s t)
+finishes_flush : (w : World) (s t : ℕ) → Finishes (waiting_flushed w s t) (tid_emptied w s t)
 finishes_flush = through_flush Finishes nothing both at_queue at_lists at_finish
 
 -- ---- the frames that leave the queues
@@ -237,9 +237,9 @@ held_left v w s t st h live high low =
 
 pub held_flushed : (v : FlowsValue) (w : World) (s t : ℕ) → FlowsStandFor v (waiting_flushed w s t) →
     QueuedAreHeld v (waiting_flushed w s t) → s < w.config.stations → t < 8 →
-    QueuedAreHeld (after_tid_flush v (tid_number s t)) (after_tid_flushed w s t)
+    QueuedAreHeld (after_tid_flush v (tid_number s t)) (tid_emptied w s t)
 held_flushed v w s t st h high low =
-    still_held v (after_tid_flush v (tid_number s t)) (waiting_flushed w s t) (after_tid_flushed w s t)
+    still_held v (after_tid_flush v (tid_number s t)) (waiting_flushed w s t) (tid_emptied w s t)
     (stands_tid_flushed v w s t st high low) h (finishes_flush w s t) (fewer_flush v (tid_number s t))
 
 pub held_finish : (v : FlowsValue) (w : World) (f : FrameValue) → FlowsStandFor v w → QueuedAreHeld v w →

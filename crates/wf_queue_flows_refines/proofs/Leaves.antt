@@ -4,6 +4,7 @@ use Rattle.std.proofs.Math.Path.{fun_ext}
 use Rattle.std.proofs.lemmas.Bool.{cases_eq}
 use Rattle.wf_frame.specs.Classes.{all_classes, tid_number}
 use Rattle.wf_frame.specs.declared.classes.Class.{Class}
+use Rattle.wf_def_lists.specs.Bounds.{greatest_window}
 use Rattle.wf_def_lists.specs.Table.{at}
 use Rattle.wf_def_rotation.specs.Rotation.{Rotation, no_keys}
 use Rattle.wf_def_agreement.specs.Session.{Session}
@@ -11,7 +12,7 @@ use Rattle.wf_def_agreement.specs.Receiver.{Receiver}
 use Rattle.wf_def_world.specs.World.{World, Bounds, Station, Share, Tid, Exchange, no_tid, new_tid, is_live, with_station, on_station, on_session, on_receiver, on_share, with_rotation, with_exchange, without_exchange, with_bounds}
 use Rattle.wf_def_world.specs.CanSend.{with_listing_in, with_listings_in, with_listings_of}
 use Rattle.wf_def_world.specs.Exchanges.{with_station_paid, with_stations_paid, after_pick, after_tid_turn}
-use Rattle.wf_def_world.specs.Step.{join_outcome, without_listings}
+use Rattle.wf_def_world.specs.Step.{join_outcome, offload_outcome, without_listings}
 use Rattle.wf_queue_flows.specs.Flows.{FlowsValue, tid_rotation}
 use Rattle.wf_law_runs.proofs.Deficits.Books.{upd, upd_same, upd_other}
 use Rattle.wf_queue_flows_refines.specs.Standing.{Part, flows_part, Stands, FlowsStandFor}
@@ -96,6 +97,18 @@ pub stands_joined : (v : FlowsValue) (w : World) (s window start exponent weight
     FlowsStandFor v w → FlowsStandFor v (join_outcome w s window start exponent weight).world
 stands_joined v w s window start exponent weight off st =
     subst (Stands v) (sym (join_alone w s window start exponent weight off)) st
+
+pub offload_alone : (w : World) (s exponent weight : ℕ) → is_live w s ≡ false →
+    flows_part (offload_outcome w s exponent weight).world ≡ flows_part w
+unfolding offload_outcome
+offload_alone w s exponent weight off =
+    part_same_lists w s _ (fun_ext (λ t. (eight_new 0 greatest_window).each t
+    ∙ sym (no_lists (at None w.stations s) t off)))
+
+pub stands_offloaded : (v : FlowsValue) (w : World) (s exponent weight : ℕ) → is_live w s ≡ false →
+    FlowsStandFor v w → FlowsStandFor v (offload_outcome w s exponent weight).world
+stands_offloaded v w s exponent weight off st =
+    subst (Stands v) (sym (offload_alone w s exponent weight off)) st
 
 pub off_lists_alone : (cs : List Class) (w : World) (s : ℕ) →
     flows_part (without_listings w s cs) ≡ flows_part w

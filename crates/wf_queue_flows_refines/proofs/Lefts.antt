@@ -17,13 +17,13 @@ use Rattle.wf_law_rules.proofs.Lemmas.Counts.{on-nil, on-cons_same, on-cons_othe
 use Rattle.wf_law_rules.proofs.Lemmas.Members.{has_head, has_tail, has_filter}
 use Rattle.wf_def_world.specs.World.{World, Station, no_tid, no_station, queue, tid_of, session, on_queue, with_queues, with_frames_finished}
 use Rattle.wf_def_world.specs.FlowQueues.{after_queues_left, after_queues_flushed}
-use Rattle.wf_def_world.specs.Step.{waiting_ids, in_rising_order, after_tid_left, after_tid_flushed}
+use Rattle.wf_def_world.specs.Step.{waiting_ids, in_rising_order, after_tid_left}
 use Rattle.wf_queue_flows.specs.Backlog.{BacklogValue, frames_at, frame_with_fate, after_emptying, unchanged, renewed}
 use Rattle.wf_frame.specs.Classes.{tid_number}
 use Rattle.wf_queue_flows.specs.Flows.{FlowsValue, queues as queue_count, tid_rotation, is_listed, frames_waiting, frames_of_tid, queues_of, all_emptied, after_purge, after_tid_flush}
 use Rattle.wf_queue_flows.proofs.Owners.{on-listed}
 use Rattle.wf_queue_flows.proofs.Waiting.{waiting-set, waiting_same}
-use Rattle.wf_queue_flows_refines.specs.Standing.{Part, ids, queue_emptied, queues_emptied, waiting_flushed, Stands, FlowsStandFor}
+use Rattle.wf_queue_flows_refines.specs.Standing.{Part, ids, queue_emptied, queues_emptied, waiting_flushed, Stands, FlowsStandFor, tid_emptied}
 use Rattle.wf_queue_flows_refines.specs.Frames.{HaveSettled, AreHeld, QueuedAreHeld}
 use Rattle.wf_queue_flows_refines.proofs.Readers.{count_below}
 use Rattle.wf_queue_flows_refines.proofs.Rising.{rising_listed}
@@ -127,8 +127,7 @@ tid_settles v w s t st h low_s low_t =
 
 flush_settles : (v : FlowsValue) (w : World) (s t : ℕ) → FlowsStandFor v (waiting_flushed w s t) →
     QueuedAreHeld v (waiting_flushed w s t) → s < v.stations → t < 8 →
-    SettlesAll (waiting_flushed w s t) (after_tid_flushed w s t) (Dropped Flushed)
-unfolding after_tid_flushed
+    SettlesAll (waiting_flushed w s t) (tid_emptied w s t) (Dropped Flushed)
 flush_settles v w s t st h low_s low_t =
     let x : World = waiting_flushed w s t in
     let qs : List ℕ = queues_of v (tid_number s t) in
@@ -151,8 +150,8 @@ settled_left v w s t n st h low_s low_t count x =
 
 pub settled_flushed : (v : FlowsValue) (w : World) (s t n : ℕ) → FlowsStandFor v (waiting_flushed w s t) →
     QueuedAreHeld v (waiting_flushed w s t) → s < v.stations → t < 8 →
-    n + length (waiting_flushed w s t).finished ≡ length (after_tid_flushed w s t).finished →
-    HaveSettled (waiting_flushed w s t) (after_tid_flushed w s t) (Dropped Flushed) n
+    n + length (waiting_flushed w s t).finished ≡ length (tid_emptied w s t).finished →
+    HaveSettled (waiting_flushed w s t) (tid_emptied w s t) (Dropped Flushed) n
 settled_flushed v w s t n st h low_s low_t count x =
     let all = flush_settles v w s t st h low_s low_t in
     let same : n ≡ all.count = omega (arith, count, all.grown) in

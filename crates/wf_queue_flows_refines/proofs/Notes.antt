@@ -10,11 +10,11 @@ use Rattle.wf_def_rotation.specs.Rotation.{Rotation}
 use Rattle.wf_def_agreement.specs.Session.{Session, after_flush}
 use Rattle.wf_def_world.specs.World.{World, Queue, Frame, no_frame, accepted_count, on_queue, on_session, with_queues, with_station, on_station, on_tid, with_fate, with_frame_finished, with_frames_finished}
 use Rattle.wf_def_world.specs.FlowQueues.{after_limit, queue_for, after_put_in, taken_for_tid}
-use Rattle.wf_def_world.specs.Step.{with_frame, next_item, enqueue_outcome, reap_outcome, after_tid_left, after_tid_flushed}
+use Rattle.wf_def_world.specs.Step.{with_frame, next_item, enqueue_outcome, reap_outcome, after_tid_left}
 use Rattle.wf_law_runs.proofs.Deficits.Books.{upd_idle, put_upd}
 use Rattle.wf_law_runs.proofs.Queues.ShelvedStep.{accepted_put}
 use Rattle.wf_queue_flows.specs.Flows.{FlowsValue}
-use Rattle.wf_queue_flows_refines.specs.Standing.{FlowsStandFor}
+use Rattle.wf_queue_flows_refines.specs.Standing.{FlowsStandFor, tid_emptied}
 use Rattle.wf_queue_flows_refines.specs.Frames.{notes, IsAccepted, AreAccepted, with_body}
 use Rattle.wf_queue_flows_refines.proofs.Parts.{end_is, end_other}
 use Rattle.wf_queue_flows_refines.proofs.Limits.{beside_limit}
@@ -48,7 +48,7 @@ notes_session : (w : World) (s t : ℕ) (f : Session → Session) → notes (on_
 unfolding on_session on_tid on_station with_station
 notes_session w s t f = refl
 
-pub notes_flushed : (w : World) (s t : ℕ) → notes (after_tid_flushed w s t) ≡ notes w
+pub notes_flushed : (w : World) (s t : ℕ) → notes (tid_emptied w s t) ≡ notes w
 notes_flushed w s t = stays_flushed notes notes_queue notes_lists notes_finish w s t
     ∙ notes_session w s t (after_flush w.config.attempts)
 

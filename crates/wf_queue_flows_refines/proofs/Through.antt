@@ -11,9 +11,9 @@ use Rattle.wf_def_rotation.specs.Rotation.{Rotation, no_keys, has_key, in_order}
 use Rattle.wf_def_agreement.specs.Session.{after_flush}
 use Rattle.wf_def_world.specs.World.{World, Queue, queue, tid_of, session, on_queue, on_session, with_queues, with_frame_finished, with_frames_finished}
 use Rattle.wf_def_world.specs.FlowQueues.{is_at_limit, longest_queue, without_head, after_limit, with_listed_queue, with_appended, after_put_in, with_queues_paid, picked_queue, taken_by_codel, taken_from_picked, taken_for_tid, after_queues_left, after_queues_flushed}
-use Rattle.wf_def_world.specs.Step.{waiting_ids, in_rising_order, after_tid_left, after_tid_flushed}
+use Rattle.wf_def_world.specs.Step.{waiting_ids, in_rising_order, after_tid_left}
 use Rattle.wf_queue_flows.specs.Backlog.{unchanged, renewed}
-use Rattle.wf_queue_flows_refines.specs.Standing.{queue_emptied, queues_emptied, waiting_flushed}
+use Rattle.wf_queue_flows_refines.specs.Standing.{queue_emptied, queues_emptied, waiting_flushed, tid_emptied}
 use Rattle.wf_queue_flows_refines.proofs.Emptied.{queues_left, queues_flushed}
 
 module _ (R : World → World → Type 0) (same : (w : World) → R w w)
@@ -101,13 +101,12 @@ module _ (R : World → World → Type 0) (same : (w : World) → R w w)
           (Dropped Left)) (through_purge w s t)
 
       -- a flush of a TID, after the numbers of its session that wait have failed
-      pub through_flush : (w : World) (s t : ℕ) → R (waiting_flushed w s t) (after_tid_flushed w s t)
-      unfolding after_tid_flushed
+      pub through_flush : (w : World) (s t : ℕ) → R (waiting_flushed w s t) (tid_emptied w s t)
       through_flush w s t = through_flush_queues (in_rising_order (in_order (tid_of w s t).queues))
           (waiting_flushed w s t)
 
       pub through_flushed : (w : World) (s t : ℕ) →
-          R (on_session w s t (after_flush w.config.attempts)) (after_tid_flushed w s t)
+          R (on_session w s t (after_flush w.config.attempts)) (tid_emptied w s t)
       through_flushed w s t = join _ _ _ (through_finish_all (waiting_ids (session w s t).slots)
           (on_session w s t (after_flush w.config.attempts)) (Dropped Flushed)) (through_flush w s t)
 
@@ -143,6 +142,6 @@ module _ {X : Type 0} (read : World → X) (queues : (w : World) (q : ℕ) (f : 
         pub stays_left : (w : World) (s t : ℕ) → read (after_tid_left w s t) ≡ read w
         stays_left = through_left Reads (λ w. refl) joined queues lists finish
 
-        pub stays_flushed : (w : World) (s t : ℕ) → read (after_tid_flushed w s t)
+        pub stays_flushed : (w : World) (s t : ℕ) → read (tid_emptied w s t)
             ≡ read (on_session w s t (after_flush w.config.attempts))
         stays_flushed = through_flushed Reads (λ w. refl) joined queues lists finish

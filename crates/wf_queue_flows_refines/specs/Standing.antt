@@ -18,7 +18,8 @@ use Rattle.wf_frame.specs.declared.classes.Fate.TheVariants.{Dropped}
 use Rattle.wf_def_agreement.specs.Session.{after_flush}
 use Rattle.wf_def_codel.specs.Codel.{Codel}
 use Rattle.wf_def_world.specs.World.{World, Queue, flow_of, tid_of, queue, frame, session, accepted_count, on_queue, on_session, with_frames_finished}
-use Rattle.wf_def_world.specs.Step.{waiting_ids}
+use Rattle.wf_def_world.specs.FlowQueues.{after_queues_flushed}
+use Rattle.wf_def_world.specs.Step.{waiting_ids, in_rising_order}
 use Rattle.wf_queue_flows.specs.Backlog.{BacklogValue, frames_at, codel_at, item_of}
 use Rattle.wf_frame.specs.Classes.{tid_number}
 use Rattle.wf_queue_flows.specs.Flows.{FlowsValue, SettingsValue, settings, tids, queues as queue_count, tid_rotation}
@@ -132,3 +133,8 @@ abbrev pub waiting_flushed : World → ℕ → ℕ → World
 waiting_flushed w s t =
     with_frames_finished (on_session w s t (after_flush w.config.attempts)) (Dropped Flushed)
     (waiting_ids (session w s t).slots)
+
+-- the world in which the waiting numbers of a TID failed and its queues are empty
+abbrev pub tid_emptied : World → ℕ → ℕ → World
+tid_emptied w s t =
+    after_queues_flushed (waiting_flushed w s t) (in_rising_order (in_order (tid_of w s t).queues))

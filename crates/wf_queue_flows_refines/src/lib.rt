@@ -28,13 +28,13 @@ ghost use Rattle.wf_def_world.specs.FlowQueues.{total_queued, after_queues_left,
 ghost use Rattle.wf_def_world.specs.FlowQueues.{frames_queued as world_queued, longest_queue as world_longest, dropped_for_limit as world_dropped, is_listed_elsewhere as world_listed_elsewhere, queue_for as world_queue_for, after_limit as world_after_limit, taken_for_tid as world_take};
 ghost use Rattle.wf_def_world.specs.CanSend.{with_listings_of};
 ghost use Rattle.wf_def_world.specs.Exchanges.{after_pick, after_tid_turn};
-ghost use Rattle.wf_def_world.specs.Step.{waiting_ids, in_rising_order, join_outcome, after_tid_left, after_tid_flushed, without_listings, enqueue_outcome, reap_outcome};
+ghost use Rattle.wf_def_world.specs.Step.{waiting_ids, in_rising_order, join_outcome, offload_outcome, after_tid_left, without_listings, enqueue_outcome, reap_outcome};
 ghost use Rattle.wf_def_world.specs.Text.{tally};
 ghost use Rattle.wf_def_lists.specs.Lists.{on};
 ghost use Rattle.wf_law_runs.specs.Places.{KeepsPlaces};
 ghost use Rattle.wf_queue_flows.specs.Backlog.{in_queues, item_of};
 ghost use Rattle.wf_queue_flows.specs.Flows.{FlowsValue, empty_flows, tid_rotation, frames_of_tid, longest_queue, dropped_for_limit, is_listed_by_another, queue_for, loses_next, after_limit, after_put, taken_for_tid, after_purge, after_tid_flush};
-ghost use Rattle.wf_queue_flows_refines.specs.Standing.{flows_part, ids, ids_given, times_held, with_finished, waiting_flushed, FlowsStandFor};
+ghost use Rattle.wf_queue_flows_refines.specs.Standing.{flows_part, ids, ids_given, times_held, with_finished, waiting_flushed, FlowsStandFor, tid_emptied};
 ghost use Rattle.wf_queue_flows_refines.specs.Rest.{rest_of_world};
 ghost use Rattle.wf_queue_flows_refines.specs.Frames.{HasEach, Passes, DropsTo, AreAccepted, IsBody, IsBodySettled, HasFrames, notes, with_body, loses_next_in, counts_as, HaveSettled, AreHeld, QueuedAreHeld};
 
@@ -131,7 +131,8 @@ pub fn a_tid_is_purged()
 
 /// Both sides still agree after the queued frames of a TID are flushed, in the order of the queue numbers.
 /// If the waiting numbers of its session failed and their frames were finished before, the result is the
-/// machine's world after the flush. The TIDs still list their queues.
+/// machine's world after the flush, before the device of an offloaded station catches up. The TIDs still list
+/// their queues.
 pub fn a_tid_is_flushed()
     ensures stands { (v : FlowsValue) (w : World) (s t : ℕ) → FlowsStandFor v w → s < w.config.stations →
         t < 8 →
@@ -139,7 +140,7 @@ pub fn a_tid_is_flushed()
         (after_queues_flushed w (in_rising_order (in_order (tid_of w s t).queues))) }
     ensures flushed { (v : FlowsValue) (w : World) (s t : ℕ) → FlowsStandFor v (waiting_flushed w s t) →
         s < w.config.stations → t < 8 →
-        FlowsStandFor (after_tid_flush v (tid_number s t)) (after_tid_flushed w s t) }
+        FlowsStandFor (after_tid_flush v (tid_number s t)) (tid_emptied w s t) }
     ensures lists { (v : FlowsValue) (i j : ℕ) → tid_rotation (after_tid_flush v i) j ≡ tid_rotation v j }
 {}
 
@@ -187,15 +188,17 @@ pub fn accepted_frames_stay()
         ≡ accepted_count (with_frames_finished w (Dropped Left) (waiting_ids (session w s t).slots)) }
     ensures flushed { (v : FlowsValue) (w : World) (s t : ℕ) → FlowsStandFor v (waiting_flushed w s t) →
         s < v.stations → t < 8 →
-        accepted_count (after_tid_flushed w s t) ≡ accepted_count (waiting_flushed w s t) }
+        accepted_count (tid_emptied w s t) ≡ accepted_count (waiting_flushed w s t) }
 {}
 
-/// Both sides still agree after a station that was not live joins, and after a station leaves whose TIDs
-/// list no queue.
+/// Both sides still agree after a station that was not live joins, offloaded or not, and after a station leaves
+/// whose TIDs list no queue.
 pub fn stations_come_and_go()
     ensures joins { (v : FlowsValue) (w : World) (s window start exponent weight : ℕ) → is_live w s ≡ false →
         FlowsStandFor v w →
         FlowsStandFor v (join_outcome w s window start exponent weight).world }
+    ensures offloads { (v : FlowsValue) (w : World) (s exponent weight : ℕ) → is_live w s ≡ false →
+        FlowsStandFor v w → FlowsStandFor v (offload_outcome w s exponent weight).world }
     ensures goes { (v : FlowsValue) (w : World) (s : ℕ) → FlowsStandFor v w →
         ((t : ℕ) → t < 8 → tid_rotation v (tid_number s t) ≡ no_keys) →
         FlowsStandFor v (with_station (without_listings w s all_classes) s None) }
@@ -243,7 +246,7 @@ pub fn nothing_else_changes()
         rest_of_world (with_frames_finished w fate ids) ≡ rest_of_world w }
     ensures reap { (w : World) → rest_of_world (reap_outcome w w.finished).world ≡ rest_of_world w }
     ensures left { (w : World) (s t : ℕ) → rest_of_world (after_tid_left w s t) ≡ rest_of_world w }
-    ensures flushed { (w : World) (s t : ℕ) → rest_of_world (after_tid_flushed w s t)
+    ensures flushed { (w : World) (s t : ℕ) → rest_of_world (tid_emptied w s t)
         ≡ rest_of_world (on_session w s t (session_flushed w.config.attempts)) }
     ensures live { (w x : World) (s : ℕ) → rest_of_world x ≡ rest_of_world w → is_live x s ≡ is_live w s }
     ensures params { (w x : World) (s : ℕ) → rest_of_world x ≡ rest_of_world w →
@@ -323,7 +326,7 @@ pub fn the_accepted_frames_are_kept()
     ensures finish_all { (w : World) (fate : Fate) (ids : List ℕ) →
         notes (with_frames_finished w fate ids) ≡ notes w }
     ensures left { (w : World) (s t : ℕ) → notes (after_tid_left w s t) ≡ notes w }
-    ensures flushed { (w : World) (s t : ℕ) → notes (after_tid_flushed w s t) ≡ notes w }
+    ensures flushed { (w : World) (s t : ℕ) → notes (tid_emptied w s t) ≡ notes w }
     ensures reap { (w : World) → notes (reap_outcome w w.finished).world ≡ notes w }
 {}
 
@@ -351,7 +354,7 @@ pub fn queued_frames_are_held()
         QueuedAreHeld (after_purge v (tid_number s t)) (after_tid_left w s t) }
     ensures flushed { (v : FlowsValue) (w : World) (s t : ℕ) → FlowsStandFor v (waiting_flushed w s t) →
         QueuedAreHeld v (waiting_flushed w s t) → s < w.config.stations → t < 8 →
-        QueuedAreHeld (after_tid_flush v (tid_number s t)) (after_tid_flushed w s t) }
+        QueuedAreHeld (after_tid_flush v (tid_number s t)) (tid_emptied w s t) }
 {}
 
 /// The number of frames that a take drops, by which the finished list grows: the frames of the TID
@@ -415,6 +418,6 @@ pub fn the_fates_are_counted()
         (after_tid_left w s t) (Dropped Left) n }
     ensures flushed { (v : FlowsValue) (w : World) (s t n : ℕ) → FlowsStandFor v (waiting_flushed w s t) →
         QueuedAreHeld v (waiting_flushed w s t) → s < v.stations → t < 8 →
-        n + length (waiting_flushed w s t).finished ≡ length (after_tid_flushed w s t).finished →
-        HaveSettled (waiting_flushed w s t) (after_tid_flushed w s t) (Dropped Flushed) n }
+        n + length (waiting_flushed w s t).finished ≡ length (tid_emptied w s t).finished →
+        HaveSettled (waiting_flushed w s t) (tid_emptied w s t) (Dropped Flushed) n }
 {}

@@ -4,7 +4,7 @@ use Rattle.std.proofs.lemmas.Bool.{leb-false}
 use Rattle.std.proofs.lemmas.Int.{ints}
 use Rattle.wf_frame.specs.declared.settings.Config.{Config}
 use Rattle.wf_frame.specs.declared.classes.Class.{Class}
-use Rattle.wf_frame.specs.declared.notes.Ask.TheVariants.{Join, Leave, Rate, Tick, Pull, Arrive, Answer, Done, Sleep, Wake, Poll, Rx, Reap, Ampdu, Stop, Start, Unsent, GiveUp, Flush}
+use Rattle.wf_frame.specs.declared.notes.Ask.TheVariants.{Join, Offload, Weight, Leave, Rate, Tick, Pull, Arrive, Answer, Done, Sleep, Wake, Poll, Rx, Reap, Ampdu, Stop, Start, Unsent, GiveUp, Flush}
 use Rattle.wf_frame.specs.declared.notes.Limits.{Limits}
 use Rattle.wf_frame.specs.declared.notes.Note.{Note}
 use Rattle.wf_frame.specs.declared.notes.Note.TheVariants.{Enqueue, Asked}
@@ -25,12 +25,13 @@ use Rattle.wf_law_runs.proofs.Deficits.Configs.{config_run}
 use Rattle.wf_law_runs.proofs.Deficits.KeptStep.{NoRow, no_row}
 use Rattle.wf_law_runs.proofs.Deficits.Numbers.{number_law}
 use Rattle.wf_sched.specs.ClassRotas.{SchedValue, deficit, after_join, after_station_left}
-use Rattle.wf_sched_refines.specs.Standing.{SchedulerStandsFor, LeavesRotas, everywhere, with_deficit_charged, with_paid_back, with_pending_paid_back}
+use Rattle.wf_sched_refines.specs.Standing.{SchedulerStandsFor, LeavesRotas, everywhere, with_deficit_charged, with_paid_back, with_pending_paid_back, with_weight, uncovered_air}
 use Rattle.wf_sched_refines.specs.Calls.{HasPickedInClass, HasPulled, with_charge_of, IsCallDone, IsIdlePull, IsRefused, with_concerned}
 use Rattle.wf_sched_refines.proofs.Owed.{part, part_own, found_number, owed_part, none_owed}
 use Rattle.wf_sched_refines.proofs.Changes.{deficit_same}
 use Rattle.wf_sched_refines.proofs.Charges.{receive_stands}
-use Rattle.wf_sched_refines.proofs.Members.{join_stands, gone_stands}
+use Rattle.wf_sched_refines.proofs.Members.{join_stands, offload_stands, gone_stands}
+use Rattle.wf_sched_refines.proofs.Weights.{weight_stands}
 use Rattle.wf_sched_refines.proofs.Listings.{concerned_stands, unconcerned_stands}
 use Rattle.wf_sched_refines.proofs.Picks.{pick_stands}
 use Rattle.wf_sched_refines.proofs.Unchanged.{bounded_leaves, enqueued_leaves, rate_leaves, tick_leaves, arrived_leaves, answered_leaves, slept_leaves, woken_leaves, credited_leaves, reaped_leaves, stated_leaves, stopped_leaves, started_leaves, unsent_leaves, given_up_leaves, flushed_leaves}
@@ -82,6 +83,11 @@ done_stands (Asked (Join s window start exponent weight)) v u w rows rises each 
     to (everywhere (after_join s (v.quantum * weight)) v) u _ k
     (join_stands v w s window start exponent weight h (leb-false _ _ rows.0)
     (none_open w s each rows.1.1.1.1.1.0))
+done_stands (Asked (Offload s exponent weight)) v u w rows rises each h k =
+    to (everywhere (after_join s (v.quantum * weight)) v) u _ k
+    (offload_stands v w s exponent weight h (leb-false _ _ rows.0) (none_open w s each rows.1.1.1.0))
+done_stands (Asked (Weight s weight)) v u w rows rises each h k =
+    to (with_weight (uncovered_air w s) s weight v) u _ k (weight_stands v w s weight h)
 done_stands (Asked (Leave s)) v u w rows rises each h k =
     to (everywhere (after_station_left s) v) u _ k (gone_stands v w s h)
 done_stands (Asked (Rate s rate)) v u w rows rises each h k = to v u _ k (rate_leaves w s rate v h)

@@ -8,6 +8,7 @@ pub mod Stands
 pub mod Readings
 pub mod Charges
 pub mod Members
+pub mod Weights
 pub mod Listings
 mod Quanta
 pub mod Picks

@@ -8,10 +8,10 @@ use Rattle.wf_frame.specs.declared.classes.Class.TheVariants.{Bk, Be, Vi, Vo}
 use Rattle.wf_frame.specs.Classes.{all_classes}
 use Rattle.wf_def_rotation.specs.Rotation.{Rotation, in_order, without_key}
 use Rattle.wf_def_world.specs.World.{World, owed, with_station, with_rotation, rotation as world_rotation}
-use Rattle.wf_def_world.specs.Step.{without_listings, leave_outcome, join_outcome as joined_world}
+use Rattle.wf_def_world.specs.Step.{without_listings, leave_outcome, join_outcome as joined_world, offload_outcome}
 use Rattle.wf_def_lists.specs.Lists.{on}
 use Rattle.wf_law_runs.proofs.Deficits.Books.{Books, books, with_account, books_with_station, books_with_rotation}
-use Rattle.wf_law_runs.proofs.Deficits.BookSteps.{fresh_account, off, all_off, books_joined, books_gone}
+use Rattle.wf_law_runs.proofs.Deficits.BookSteps.{fresh_account, off, all_off, books_joined, books_offloaded, books_gone}
 use Rattle.wf_rotation.specs.Rotas.{deficit_at, quantum_at}
 use Rattle.wf_sched.specs.ClassRotas.{ClassRota, SchedValue, class_rota, deficit, quantum_of, after_join, after_station_left}
 use Rattle.wf_sched_refines.specs.Standing.{SchedulerStandsFor, everywhere}
@@ -63,15 +63,28 @@ none_pending : (b : Bool) (n : ℕ) → n ≡ 0 → (if b then n else 0) ≡ 0
 none_pending true n e = e
 none_pending false n e = refl
 
+stands_fresh : (v : SchedValue) (w : World) (s weight : ℕ) → SchedulerStandsFor v w →
+    s < w.config.stations → ((c : Class) → owed s c w.opened ≡ 0) →
+    Stands (everywhere (after_join s (v.quantum * weight)) v)
+    (with_account (books w) s (Some (fresh_account w.config.quantum weight)))
+stands_fresh v w s weight h low none =
+    stands_joined v (books w) s (v.quantum * weight) (to_books v w h) weight
+    (ap (λ (q : ℕ). q * weight) h.quantum) low
+    (λ c. pending_books w s c ∙ none_pending (w.config.pending == 1) (owed s c w.opened) (none c))
+
 pub join_stands : (v : SchedValue) (w : World) (s window start exponent weight : ℕ) → SchedulerStandsFor v w →
     s < w.config.stations → ((c : Class) → owed s c w.opened ≡ 0) →
     SchedulerStandsFor (everywhere (after_join s (v.quantum * weight)) v)
     (joined_world w s window start exponent weight).world
 join_stands v w s window start exponent weight h low none =
-    with_books _ _ _ (books_joined w s window start exponent weight)
-    (stands_joined v (books w) s (v.quantum * weight) (to_books v w h) weight
-    (ap (λ (q : ℕ). q * weight) h.quantum) low
-    (λ c. pending_books w s c ∙ none_pending (w.config.pending == 1) (owed s c w.opened) (none c)))
+    with_books _ _ _ (books_joined w s window start exponent weight) (stands_fresh v w s weight h low none)
+
+pub offload_stands : (v : SchedValue) (w : World) (s exponent weight : ℕ) → SchedulerStandsFor v w →
+    s < w.config.stations → ((c : Class) → owed s c w.opened ≡ 0) →
+    SchedulerStandsFor (everywhere (after_join s (v.quantum * weight)) v)
+    (offload_outcome w s exponent weight).world
+offload_stands v w s exponent weight h low none =
+    with_books _ _ _ (books_offloaded w s exponent weight) (stands_fresh v w s weight h low none)
 
 -- ---- a leave
 

@@ -9,9 +9,9 @@ use Rattle.wf_def_lists.specs.Table.{at, put, with_member}
 use Rattle.wf_def_rotation.specs.Rotation.{Rotation, has_key, in_order}
 use Rattle.wf_def_agreement.specs.Session.{Session, End}
 use Rattle.wf_def_agreement.specs.Receiver.{Receiver, score}
-use Rattle.wf_def_world.specs.World.{World, Bounds, Station, Share, Tid, Queue, Exchange, Mpdu, Content, Frames, Request, no_share, is_live, receiver, exchange, on_station, with_station, on_tid, on_session, on_receiver, with_queues, on_share, on_queue, with_fate, with_frame_finished, with_frames_finished, with_exchange, with_bounds}
+use Rattle.wf_def_world.specs.World.{World, Bounds, Station, Share, Tid, Queue, Exchange, Mpdu, Content, Frames, Request, no_share, is_live, is_offloaded, receiver, exchange, on_station, with_station, on_tid, on_session, on_receiver, with_queues, on_share, on_queue, with_fate, with_frame_finished, with_frames_finished, with_exchange, with_bounds}
 use Rattle.wf_def_world.specs.FlowQueues.{taken_for_tid, after_queue_flushed, after_queues_flushed}
-use Rattle.wf_def_world.specs.Exchanges.{after_arrival, after_tid_turn, without_credit, prepared_exchange, aggregate_of, with_failed_finished, with_settled, with_all_settled, after_done}
+use Rattle.wf_def_world.specs.Exchanges.{after_arrival, after_tid_turn, without_credit, prepared_exchange, aggregate_of, with_failed_finished, with_settled, with_all_settled, caught_up, with_device_caught_up, after_done}
 use Rattle.wf_def_world.specs.Step.{after_tids_left, with_frame, rate_outcome, tick_outcome, enqueue_outcome, arrive_outcome, answer_outcome, sleep_outcome, wake_outcome, poll_outcome, reap_outcome, ampdu_outcome, stop_outcome, start_outcome, unsent_outcome, give_up_outcome, flush_outcome, after_tid_flushed}
 use Rattle.wf_def_lists.specs.Lists.{IsOnce}
 use Rattle.wf_law_rules.proofs.Lemmas.Tables.{at_put_same, at_put_other}
@@ -203,10 +203,17 @@ all_settled_leave [] w s t ends = λ v h. h
 all_settled_leave (m ∷ ms) w s t ends = leaves_then w _ _ (settled_leaves w s t _ m)
     (all_settled_leave ms _ s t ends)
 
+-- the device of an offloaded station catches up
+caught_up_leaves : (w : World) (s t : ℕ) → LeavesRotas w (with_device_caught_up w s t)
+unfolding with_device_caught_up caught_up
+caught_up_leaves w s t = leaves_if (is_offloaded w s) w _ _
+    (leaves_then w _ _ (session_leaves w s t _) (receiver_leaves _ s t _)) (λ v h. h)
+
 pub after_done_leaves : (w : World) (x : Exchange) (heard : Bool) (content : Content) →
     LeavesRotas w (after_done w x heard content)
 unfolding after_done
-after_done_leaves w x heard (Frames mpdus) = all_settled_leave mpdus w _ _ _
+after_done_leaves w x heard (Frames mpdus) = leaves_then w _ _ (all_settled_leave mpdus w _ _ _)
+    (caught_up_leaves _ x.station x.tid)
 after_done_leaves w x heard (Request start) = session_leaves w _ _ _
 
 -- ---- whole calls
@@ -265,7 +272,8 @@ flushed_queues_leave (q ∷ qs) w = leaves_then w _ _
 pub flushed_leaves : (w : World) (s t : ℕ) → LeavesRotas w (flush_outcome w s t).world
 unfolding flush_outcome after_tid_flushed
 flushed_leaves w s t = leaves_then w _ _
-    (leaves_then w _ _ (session_leaves w s t _) (finish_all_leaves _ _ _)) (flushed_queues_leave _ _)
+    (leaves_then w _ _ (leaves_then w _ _ (session_leaves w s t _) (finish_all_leaves _ _ _))
+    (flushed_queues_leave _ _)) (caught_up_leaves _ s t)
 
 pub slept_leaves : (w : World) (s : ℕ) → LeavesRotas w (sleep_outcome w s).world
 unfolding sleep_outcome

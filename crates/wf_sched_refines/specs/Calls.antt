@@ -2,7 +2,7 @@
 use Rattle.std.specs.Prelude.{◌≡◌, ℕ, ◌*◌, ◌==◌, Bool, true, false, List, Option, Some, None}
 use Rattle.wf_frame.specs.declared.settings.Config.{Config}
 use Rattle.wf_frame.specs.declared.classes.Class.{Class}
-use Rattle.wf_frame.specs.declared.notes.Ask.TheVariants.{Join, Leave, Pull, Done, Rx}
+use Rattle.wf_frame.specs.declared.notes.Ask.TheVariants.{Join, Offload, Weight, Leave, Pull, Done, Rx}
 use Rattle.wf_frame.specs.declared.notes.Limits.{Limits}
 use Rattle.wf_frame.specs.declared.notes.Note.{Note}
 use Rattle.wf_frame.specs.declared.notes.Note.TheVariants.{Asked}
@@ -13,7 +13,7 @@ use Rattle.wf_def_world.specs.World.{World, Exchange, exchange, with_bounds}
 use Rattle.wf_def_world.specs.CanSend.{is_ready, is_to_list}
 use Rattle.wf_def_world.specs.Exchanges.{charge_of, picked_station, after_pick, bounds_of, sending_tid, after_tid_turn, prepared_exchange}
 use Rattle.wf_sched.specs.ClassRotas.{SchedValue, class_rota, with_class_rota, after_join, after_station_left, pick_of_class, IsAfterPick}
-use Rattle.wf_sched_refines.specs.Standing.{everywhere, with_deficit_charged, with_pending_charged, with_pending_paid_back, with_listed_where, TellsReady}
+use Rattle.wf_sched_refines.specs.Standing.{everywhere, with_deficit_charged, with_pending_charged, with_pending_paid_back, with_listed_where, with_weight, uncovered_air, TellsReady}
 
 -- u is v after a pick in the class, by a list that says which listed stations are ready
 pub record HasPickedInClass (w : World) (c : Class) (v u : SchedValue) : Type 0 where
@@ -50,6 +50,8 @@ with_charge_of config v air (Some x) = with_deficit_charged
 abbrev pub IsCallDone : World → Note → SchedValue → SchedValue → Type 0
 IsCallDone w (Asked (Join s window start exponent weight)) v u =
     u ≡ everywhere (after_join s (v.quantum * weight)) v
+IsCallDone w (Asked (Offload s exponent weight)) v u = u ≡ everywhere (after_join s (v.quantum * weight)) v
+IsCallDone w (Asked (Weight s weight)) v u = u ≡ with_weight (uncovered_air w s) s weight v
 IsCallDone w (Asked (Leave s)) v u = u ≡ everywhere (after_station_left s) v
 IsCallDone w (Asked (Pull c l)) v u = HasPulled w c l v u
 IsCallDone w (Asked (Done e heard air)) v u = u ≡ with_charge_of w.config v air (exchange w e)

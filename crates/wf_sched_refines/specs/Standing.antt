@@ -1,15 +1,16 @@
 -- Defines when the station scheduler agrees with ("stands for") the rotations and deficits of a world.
-use Rattle.std.specs.Prelude.{◌≡◌, ℕ, ◌<◌, ◌==◌, pos, ◌+ℤ◌, ◌-ℤ◌, Bool, true, List, [], ◌∷◌, map, if◌then◌else◌}
+use Rattle.std.specs.Prelude.{◌≡◌, ℕ, ◌-◌, ◌*◌, ◌<◌, ◌==◌, ℤ, pos, ◌+ℤ◌, ◌-ℤ◌, Bool, true, List, [], ◌∷◌, map, if◌then◌else◌}
 use Rattle.wf_frame.specs.declared.settings.Config.{Config}
 use Rattle.wf_frame.specs.declared.classes.Class.{Class}
 use Rattle.wf_def_rotation.specs.Rotation.{has_key, in_order}
-use Rattle.wf_frame.specs.Classes.{class_number}
+use Rattle.wf_frame.specs.Classes.{all_classes, class_number}
 use Rattle.wf_def_lists.specs.Table.{at}
-use Rattle.wf_def_world.specs.World.{World, Station, Share, Exchange, no_share, station, standing, quantum as own_quantum, rotation, is_live}
+use Rattle.wf_def_world.specs.World.{World, Station, Share, Exchange, no_share, station, standing, pending_air, quantum as own_quantum, rotation, is_live}
 use Rattle.wf_def_world.specs.CanSend.{is_ready}
+use Rattle.wf_def_world.specs.Exchanges.{longest_computed}
 use Rattle.wf_def_lists.specs.Lists.{IsOnce}
-use Rattle.wf_rotation.specs.Rotas.{is_ready as entry}
-use Rattle.wf_sched.specs.ClassRotas.{ClassRota, SchedValue, IsSchedulerSized, class_rota, with_class_rota, with_deficit, deficit, quantum_of, with_listing, class_rotation as rotation_of}
+use Rattle.wf_rotation.specs.Rotas.{lesser, is_ready as entry}
+use Rattle.wf_sched.specs.ClassRotas.{ClassRota, SchedValue, IsSchedulerSized, class_rota, with_class_rota, with_deficit, with_quantum, deficit, quantum_of, with_listing, class_rotation as rotation_of}
 
 -- The scheduler v agrees with the world w: each class lists the same stations. For each live station the
 -- scheduler's deficit is the standing, and has the same quantum. The values that the scheduler has for a
@@ -49,6 +50,29 @@ with_pending_charged config v s c air = if config.pending == 1 then with_deficit
 -- an exchange with this computed airtime closes: with the setting `pending` it is paid back
 abbrev pub with_pending_paid_back : Config → SchedValue → ℕ → Class → ℕ → SchedValue
 with_pending_paid_back config v s c air = if config.pending == 1 then with_paid_back v s c air else v
+
+-- the deficit of a station in a class is lowered to `most`, if it is above that
+abbrev pub with_deficit_lowered : SchedValue → ℕ → Class → ℤ → SchedValue
+with_deficit_lowered v s c most = with_deficit v c s (lesser (deficit v c s) most)
+
+-- the deficits of a station in these classes are lowered to this quantum, less `uncovered` of the class
+abbrev pub with_each_lowered : ℕ → (Class → ℕ) → ℕ → List Class → SchedValue → SchedValue
+with_each_lowered quantum uncovered s [] v = v
+with_each_lowered quantum uncovered s (c ∷ cs) v =
+    with_each_lowered quantum uncovered s cs
+    (with_deficit_lowered v s c (pos quantum -ℤ pos (uncovered c)))
+
+-- a station gets another weight: its quantum in each class is the quantum times this weight, and its deficits
+-- are lowered to that, less `uncovered` of the class
+abbrev pub with_weight : (Class → ℕ) → ℕ → ℕ → SchedValue → SchedValue
+with_weight uncovered s weight v =
+    with_each_lowered (v.quantum * weight) uncovered s all_classes
+    (everywhere (with_quantum s (v.quantum * weight)) v)
+
+-- the airtime in flight of a station in a class that counts against its deficit, as far as it is above that
+-- of all exchanges of the class but one, each with the greatest charge that is computed
+abbrev pub uncovered_air : World → ℕ → Class → ℕ
+uncovered_air w s c = pending_air w s c - (w.config.inflight - 1) * longest_computed w.config c
 
 -- a station is put on a list of one class: on the new list if it is ready, otherwise on the old list
 abbrev pub with_listed : Bool → SchedValue → ℕ → Class → SchedValue

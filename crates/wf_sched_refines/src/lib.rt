@@ -30,13 +30,13 @@ ghost use Rattle.wf_def_world.specs.Exchanges.{Prepared, picked_station, after_p
 ghost use Rattle.wf_def_world.specs.Refusals.{refusal};
 ghost use Rattle.wf_def_world.specs.Stretches.{world_at};
 ghost use Rattle.wf_def_world.specs.Run.{Entry};
-ghost use Rattle.wf_def_world.specs.Step.{join_outcome as joined_world, outcome_of, concerned_station, step, after_tids_left, without_listings, leave_outcome, rate_outcome, tick_outcome, with_frame, enqueue_outcome, send_outcome, pull_outcome_for, arrive_outcome, answer_outcome, done_outcome, sleep_outcome, wake_outcome, poll_outcome, rx_outcome, reap_outcome, ampdu_outcome, stop_outcome, start_outcome, unsent_outcome, give_up_outcome, flush_outcome};
+ghost use Rattle.wf_def_world.specs.Step.{join_outcome as joined_world, offload_outcome, weight_outcome, outcome_of, concerned_station, step, after_tids_left, without_listings, leave_outcome, rate_outcome, tick_outcome, with_frame, enqueue_outcome, send_outcome, pull_outcome_for, arrive_outcome, answer_outcome, done_outcome, sleep_outcome, wake_outcome, poll_outcome, rx_outcome, reap_outcome, ampdu_outcome, stop_outcome, start_outcome, unsent_outcome, give_up_outcome, flush_outcome};
 ghost use Rattle.wf_law_rules.specs.Renamed.{IsSame};
 ghost use Rattle.wf_law_runs.specs.Windows.{OpenRises, EachOpen};
 ghost use Rattle.wf_rotation.specs.Rotas.{is_ready as entry};
 ghost use Rattle.wf_sched.specs.ClassRotas.{SchedValue, new_scheduler, class_rota, class_rotation as rotation_of, deficit, with_class_rota, IsNowhere, after_join, after_station_left, pick_of_class, IsAfterPick};
 ghost use Rattle.wf_sched_refines.specs.Calls.{IsCallDone, IsRefused, with_winner_sent, with_concerned};
-ghost use Rattle.wf_sched_refines.specs.Standing.{SchedulerStandsFor, everywhere, with_deficit_charged, with_pending_charged, with_pending_paid_back, with_listed, with_listed_where, TellsReady, HasSameRotas, KeepsRotas, HasSameAir, LeavesRotas};
+ghost use Rattle.wf_sched_refines.specs.Standing.{SchedulerStandsFor, everywhere, with_deficit_charged, with_pending_charged, with_pending_paid_back, with_listed, with_listed_where, with_weight, uncovered_air, TellsReady, HasSameRotas, KeepsRotas, HasSameAir, LeavesRotas};
 
 /// A new scheduler agrees with the opening world: no station is live, and none is listed.
 pub fn a_new_scheduler()
@@ -104,13 +104,26 @@ pub fn a_receive_charge()
         int_lt ((share w s c).deficit -ℤ pos air) (deepest_deficit w.config.debt) ≡ true) }
 {}
 
-/// Both sides still agree after a station joins to which no exchange is open. Its deficit and its quantum in
-/// each class are the setting `quantum` times its weight.
+/// Both sides still agree after a station joins to which no exchange is open, offloaded or not. Its deficit
+/// and its quantum in each class are the setting `quantum` times its weight.
 pub fn a_join()
-    ensures { (v : SchedValue) (w : World) (s window start exponent weight : ℕ) → SchedulerStandsFor v w →
+    ensures joined { (v : SchedValue) (w : World) (s window start exponent weight : ℕ) →
+        SchedulerStandsFor v w →
         s < w.config.stations → ((c : Class) → owed s c w.opened ≡ 0) →
         SchedulerStandsFor (everywhere (after_join s (v.quantum * weight)) v)
         (joined_world w s window start exponent weight).world }
+    ensures offloaded { (v : SchedValue) (w : World) (s exponent weight : ℕ) → SchedulerStandsFor v w →
+        s < w.config.stations → ((c : Class) → owed s c w.opened ≡ 0) →
+        SchedulerStandsFor (everywhere (after_join s (v.quantum * weight)) v)
+        (offload_outcome w s exponent weight).world }
+{}
+
+/// Both sides still agree after a station gets another weight: its quantum in each class becomes another one,
+/// and each of its deficits is lowered to it. With the setting `pending` the scheduler's deficit is lowered
+/// further, by the airtime in flight that the world's deficit does not cover.
+pub fn a_weight()
+    ensures weighed { (v : SchedValue) (w : World) (s weight : ℕ) → SchedulerStandsFor v w →
+        SchedulerStandsFor (with_weight (uncovered_air w s) s weight v) (weight_outcome w s weight).world }
 {}
 
 /// Both sides still agree after a station leaves, which removes it from the lists of each class.

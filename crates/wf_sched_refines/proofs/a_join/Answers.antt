@@ -1,6 +1,9 @@
--- The clause is a law of Members.
-use Rattle.wf_sched_refines.proofs.Members.{join_stands}
+-- Each clause is a law of Members.
+use Rattle.wf_sched_refines.proofs.Members.{join_stands, offload_stands}
 use Rattle.wf_sched_refines.proofs.a_join.Goals as goal
 
-pub returns : goal.returns
-returns c = join_stands
+pub returns-clause-joined : goal.returns-clause-joined
+returns-clause-joined c = join_stands
+
+pub returns-clause-offloaded : goal.returns-clause-offloaded
+returns-clause-offloaded c = offload_stands
