@@ -16,7 +16,7 @@ use Rattle.wf_law_rules.proofs.Lemmas.Numbers.{on_if, has_with}
 use Rattle.wf_law_rules.proofs.Lemmas.Counts.{on-nil, on-cons, on-cons_same, on-hasnot, hasnot-on}
 use Rattle.wf_law_rules.proofs.Lemmas.Rotations.{pick_on, IsWinner, pick_winner}
 use Rattle.wf_law_runs.proofs.Deficits.Books.{upd, each_upd, upd_same, upd_other}
-use Rattle.wf_law_runs.proofs.Queues.Shelves.{Spot, Shelves, shelves, with_listed, with_queue, shelves_with_station, shelves_with_queues, shelves_on_queue, shelves_on_session, shelves_finish_all, shelves_pay_queues, shelves_after_turn, shelves_sent, shelves_off_lists}
+use Rattle.wf_law_runs.proofs.Queues.Shelves.{Spot, Shelves, shelves, with_listed, with_queue, shelves_with_station, shelves_with_queues, shelves_on_queue, shelves_on_session, shelves_finish_all, shelves_pay_queues, shelves_after_turn, shelves_sent, shelves_off_lists, shelves_caught_up}
 use Rattle.wf_law_runs.proofs.Queues.ShelvedStep.{shelves_number}
 
 -- sorting a list keeps the same numbers in it
@@ -194,6 +194,7 @@ module _ (T : ℕ → Type 0) (n q s : ℕ) where
       n ≤ length ((shelves (flush_outcome w s t).world).queues q).items
   unfolding flush_outcome after_tid_flushed
   apart_flushed w t i h =
+      (same_shelves _ _ (shelves_caught_up _ s t)
       (apart_queues_flushed (in_rising_order (in_order (tid_of w s t).queues)) _
       (none_rising (in_order (tid_of w s t).queues) q (h.off t i))
-      (same_shelves _ _ (shelves_finish_all _ _ _ ∙ shelves_on_session w s t _) h)).long
+      (same_shelves _ _ (shelves_finish_all _ _ _ ∙ shelves_on_session w s t _) h))).long

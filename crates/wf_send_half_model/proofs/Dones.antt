@@ -9,7 +9,7 @@ use Rattle.wf_frame.specs.Classes.{class_of}
 use Rattle.wf_frame.specs.Frames.{FrameValue}
 use Rattle.wf_def_agreement.specs.Session.{Session, Slot, slot, is_acknowledged, is_waiting, is_failed, numbers_where}
 use Rattle.wf_def_world.specs.World.{World, Exchange, Mpdu, Content, Frames, Request, is_live, session, exchange, on_session, without_exchange}
-use Rattle.wf_def_world.specs.Exchanges.{end_of, with_all_settled, with_heard_start, after_charge, after_done, count_in, charge_of}
+use Rattle.wf_def_world.specs.Exchanges.{end_of, with_all_settled, with_device_caught_up, with_heard_start, after_charge, after_done, count_in, charge_of}
 use Rattle.wf_def_world.specs.Refusals.{refusal}
 use Rattle.wf_def_world.specs.Step.{Outcome, outcome_of, outcome_where_open, station_of, done_outcome}
 use Rattle.wf_law_runs.specs.Windows.{IfAsks, IsPending}
@@ -38,8 +38,9 @@ use Rattle.wf_send_half_model.proofs.Endings.{closed_agreements, closed_parts, o
 
 pub data_world : (w : World) (x : Exchange) (heard : Bool) (air : Option ℕ) (mpdus : List Mpdu) →
     x.content ≡ Frames mpdus →
-    (done_outcome w x heard air).world ≡ with_all_settled
-    (after_charge (without_exchange w x.number) x air) x.station x.tid (end_of x heard) mpdus
+    (done_outcome w x heard air).world ≡ with_device_caught_up (with_all_settled
+    (after_charge (without_exchange w x.number) x air) x.station x.tid (end_of x heard) mpdus)
+    x.station x.tid
 unfolding done_outcome after_done
 data_world w x heard air mpdus is = ap
     (after_done (after_charge (without_exchange w x.number) x air) x heard) is

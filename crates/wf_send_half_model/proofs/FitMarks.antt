@@ -7,7 +7,7 @@ use Rattle.std.proofs.lemmas.Bool.{leb-false, cases_eq, cases_lt, ne_eqb, or_lef
 use Rattle.std.proofs.lemmas.List.{length-map}
 use Rattle.std.proofs.lemmas.List.Folds.{list_all-append}
 use Rattle.wf_frame.specs.declared.classes.Class.{Class}
-use Rattle.wf_frame.specs.declared.notes.Ask.TheVariants.{Join, Leave, Rate, Tick, Pull, Arrive, Answer, Done, Sleep, Wake, Poll, Rx, Reap, Ampdu, Stop, Start, Unsent, GiveUp, Flush}
+use Rattle.wf_frame.specs.declared.notes.Ask.TheVariants.{Join, Leave, Rate, Tick, Pull, Arrive, Answer, Done, Sleep, Wake, Poll, Rx, Reap, Ampdu, Stop, Start, Unsent, GiveUp, Flush, Offload, Weight}
 use Rattle.wf_frame.specs.declared.notes.Limits.{Limits}
 use Rattle.wf_frame.specs.declared.notes.Note.{Note}
 use Rattle.wf_frame.specs.declared.notes.Note.TheVariants.{Enqueue, Asked}
@@ -21,7 +21,7 @@ use Rattle.wf_def_world.specs.World.{World, Station, Exchange, Mpdu, Content, Fr
 use Rattle.wf_def_world.specs.CanSend.{is_ready}
 use Rattle.wf_def_world.specs.Exchanges.{station_need, picked_station, after_tid_turn, sending_tid, transmissions, mpdus_of, no_mpdu, number_at, numbers_unsent, numbers_given_up, after_arrival, Prepared, exchange_of, with_exchange_opened}
 use Rattle.wf_def_world.specs.Refusals.{refusal, refusals, exchange_has}
-use Rattle.wf_def_world.specs.Step.{Outcome, join_outcome, leave_outcome, rate_outcome, tick_outcome, send_outcome, pull_outcome_for, pull_outcome, arrive_outcome, answer_outcome, unsent_outcome, give_up_outcome, flush_outcome, outcome_where_open, sleep_outcome, wake_outcome, poll_outcome, rx_outcome, reap_outcome, outcome_of, concerned_station, after_refusal, judged_outcome, step}
+use Rattle.wf_def_world.specs.Step.{Outcome, join_outcome, offload_outcome, leave_outcome, rate_outcome, tick_outcome, send_outcome, pull_outcome_for, pull_outcome, arrive_outcome, answer_outcome, unsent_outcome, give_up_outcome, flush_outcome, outcome_where_open, sleep_outcome, wake_outcome, poll_outcome, rx_outcome, reap_outcome, outcome_of, concerned_station, after_refusal, judged_outcome, step}
 use Rattle.wf_def_world.specs.Run.{Entry, world_after}
 use Rattle.wf_law_runs.specs.Sent.{NumbersRise}
 use Rattle.wf_law_runs.proofs.Common.Flushes.{if_flushed}
@@ -29,9 +29,10 @@ use Rattle.wf_law_runs.proofs.Common.Picked.{picked_world}
 use Rattle.wf_law_runs.proofs.Common.Refused.{after_idle}
 use Rattle.wf_law_runs.proofs.Deficits.KeptStep.{NoRow, no_row}
 use Rattle.wf_law_runs.proofs.Frames.Delivered.{prepared_right, opened_ended, same_enqueued}
+use Rattle.wf_law_runs.proofs.Releases.Kept.{opened_caught}
 use Rattle.wf_law_runs.proofs.Windows.Agreed.{IsLawful, lawful_same, lawful_step, lawful_at_first, same_left_tids, same_off_lists}
 use Rattle.wf_law_runs.proofs.Windows.Opened.{Each, each_append, each_filter, each_find, left_true, pick_ready, some_along}
-use Rattle.wf_law_runs.proofs.Windows.Sides.{Same, then_same, same_on_share, same_listed, same_after_pick, same_picked, same_after_turn, same_spent}
+use Rattle.wf_law_runs.proofs.Windows.Sides.{Same, then_same, same_on_share, same_listed, same_after_pick, same_picked, same_after_turn, same_spent, same_weighed}
 use Rattle.wf_send_parts.specs.Exchanges.{transmissions_of, has_nothing_sent}
 use Rattle.wf_send_parts.specs.Window.{on_air}
 use Rattle.wf_send_half_model.specs.Marking.{MarksFit}
@@ -173,6 +174,10 @@ unfolding outcome_where_open
 fit_open w e None f known all h = all
 fit_open w e (Some x) f known all h = h x known (fit_found w e x known all)
 
+or_false : (a b : Bool) → a || b ≡ false → b ≡ false
+or_false true b e = absurd (cc e)
+or_false false b e = e
+
 none_of : {X : Type 0} (o : Option X) → is_some o ≡ false → o ≡ None
 none_of None e = refl
 none_of (Some x) e = absurd (cc e)
@@ -211,7 +216,7 @@ fit_marked_given_up w x i all fit = fit_exchange w (record x { given_up = with_m
 flush_opened : (w : World) (s t : ℕ) → (flush_outcome w s t).world.opened ≡ w.opened
 unfolding flush_outcome with_frame_finished with_fate on_queue on_session on_tid on_station with_station
 flush_opened w s t = if_flushed (λ v. v.opened ≡ w.opened)
-    (record { finish = λ v id h. h; empty = λ v q h. h }) w s t refl
+    (record { finish = λ v id h. h; empty = λ v q h. h }) w s t (λ v k _. opened_caught v s t ∙ k) refl
 
 fit_reaped : (ids : List ℕ) (w : World) → AllFit w → AllFit (reap_outcome w ids).world
 unfolding reap_outcome
@@ -226,6 +231,11 @@ joined_opened : (w : World) (s window start exponent weight : ℕ) →
     (join_outcome w s window start exponent weight).world.opened ≡ w.opened
 unfolding join_outcome with_station
 joined_opened w s window start exponent weight = refl
+
+offloaded_opened : (w : World) (s exponent weight : ℕ) →
+    (offload_outcome w s exponent weight).world.opened ≡ w.opened
+unfolding offload_outcome with_station
+offloaded_opened w s exponent weight = refl
 
 set_opened : (w : World) (s : ℕ) (o : Option Station) → (with_station w s o).opened ≡ w.opened
 unfolding with_station
@@ -242,6 +252,9 @@ unfolding outcome_of tick_outcome rate_outcome sleep_outcome wake_outcome poll_o
 fit_done (Enqueue s t flow len) w rows i all = fit_same (same_enqueued w s t flow len).opened all
 fit_done (Asked (Join s window start exponent weight)) w rows i all =
     fit_same (joined_opened w s window start exponent weight) all
+fit_done (Asked (Offload s exponent weight)) w rows i all =
+    fit_same (offloaded_opened w s exponent weight) all
+fit_done (Asked (Weight s weight)) w rows i all = fit_same (same_weighed w s weight).opened all
 fit_done (Asked (Leave s)) w rows i all = fit_same (gone_opened w s) all
 fit_done (Asked (Rate s rate)) w rows i all = fit_same (station_opened w s _) all
 fit_done (Asked (Tick by)) w rows i all = all
@@ -252,7 +265,8 @@ fit_done (Asked (Arrive e n)) w rows i all = fit_open w e (exchange w e) _ refl 
     (tested w e x (λ y. has y.unsent n) known rows.1.1.1.1.0)
     (none_of x.answer (tested w e x (λ y. is_some y.answer) known rows.1.1.0))))
 fit_done (Asked (Answer e)) w rows i all = fit_open w e (exchange w e) _ refl all
-    (λ x known fit. fit_answers w x all fit (tested w e x (λ y. length y.arrived == 0) known rows.1.1.0))
+    (λ x known fit. fit_answers w x all fit (or_false x.batch _
+    (tested w e x (λ y. y.batch || (length y.arrived == 0)) known rows.1.1.0)))
 fit_done (Asked (Done e heard air)) w rows i all = fit_open w e (exchange w e) _ refl all
     (λ x known fit. fit_same (opened_ended air w x heard)
     (fit_without w x.number all))

@@ -1,6 +1,6 @@
 -- Proves the end of a flush: after the waiting numbers have failed, the queues of the TID are emptied, and
 -- the half represents the world after the call.
-use Rattle.std.proofs.Common.{◌≡◌, refl, ap, sym, ◌∙◌, subst, arith, ℕ, ◌+◌, ◌-◌, ◌*◌, ◌<◌, ◌≤◌, length}
+use Rattle.std.proofs.Common.{◌≡◌, refl, ap, sym, ◌∙◌, subst, arith, ℕ, ◌+◌, ◌-◌, ◌*◌, ◌<◌, ◌≤◌, Bool, true, false, if◌then◌else◌, List, [], ◌∷◌, length}
 use Rattle.wf_frame.specs.declared.classes.Cause.TheVariants.{Flushed}
 use Rattle.wf_frame.specs.declared.classes.Fate.TheVariants.{Held, Dropped}
 use Rattle.wf_frame.specs.declared.notes.Ask.TheVariants.{Flush}
@@ -10,7 +10,9 @@ use Rattle.wf_frame.specs.declared.notes.ReplyNote.TheVariants as reply
 use Rattle.wf_frame.specs.Classes.{tid_number}
 use Rattle.wf_frame.specs.Frames.{FrameValue}
 use Rattle.wf_def_agreement.specs.Session.{Session, after_flush as session_flushed}
-use Rattle.wf_def_world.specs.World.{World, session, inside, on_session, on_tid, on_station, with_station}
+use Rattle.wf_def_world.specs.World.{World, session, inside, is_offloaded, on_session, on_receiver, on_tid, on_station, with_station}
+use Rattle.wf_def_world.specs.FlowQueues.{after_queue_flushed, after_queues_flushed}
+use Rattle.wf_def_world.specs.Exchanges.{caught_up, with_device_caught_up}
 use Rattle.wf_def_world.specs.Step.{outcome_of, waiting_ids, after_tid_flushed, flush_outcome}
 use Rattle.wf_def_world.specs.Text.{tally}
 use Rattle.wf_law_runs.specs.Tallies.{AddsUp}
@@ -18,15 +20,15 @@ use Rattle.wf_law_runs.proofs.Frames.Tallies.{tally_law}
 use Rattle.wf_queue_flows.specs.Flows.{SettingsValue, frames_of_tid, after_tid_flush}
 use Rattle.wf_queue_flows_refines.specs.Frames.{HaveSettled, notes}
 use Rattle.wf_queue_flows_refines.specs.Rest.{rest_of_world}
-use Rattle.wf_queue_flows_refines.specs.Standing.{flows_part, waiting_flushed, FlowsStandFor}
+use Rattle.wf_queue_flows_refines.specs.Standing.{flows_part, waiting_flushed, tid_emptied, FlowsStandFor}
 use Rattle.wf_queue_flows_refines.proofs.Bodies.{frames_flushed}
 use Rattle.wf_queue_flows_refines.proofs.Elsewhere.{rest_flushed, rest_finish_all}
 use Rattle.wf_queue_flows_refines.proofs.Lefts.{settled_flushed, flush_grows}
 use Rattle.wf_queue_flows_refines.proofs.Notes.{notes_flushed, notes_finish_all}
 use Rattle.wf_queue_flows_refines.proofs.Flushes.{stands_tid_flushed, accepted_flushed}
-use Rattle.wf_sched_refines.specs.Standing.{SchedulerStandsFor as TurnsStandFor}
+use Rattle.wf_sched_refines.specs.Standing.{SchedulerStandsFor as TurnsStandFor, LeavesRotas}
 use Rattle.wf_sched.specs.ClassRotas.{SchedValue}
-use Rattle.wf_sched_refines.proofs.Unchanged.{flushed_leaves}
+use Rattle.wf_sched_refines.proofs.Unchanged.{leaves_then, session_leaves, queue_leaves, finish_all_leaves}
 use Rattle.wf_send_parts.specs.Tally.{Counts, held_in, many_settled_as}
 use Rattle.wf_send_half_model.specs.Half.{TransmitValue}
 use Rattle.wf_send_half_model.specs.Changes.{after_listing}
@@ -44,14 +46,36 @@ session_notes : (w : World) (s t : ℕ) (f : Session → Session) → notes (on_
 unfolding on_session on_tid on_station with_station
 session_notes w s t f = refl
 
-flush_world : (w : World) (s t : ℕ) → (flush_outcome w s t).world ≡ after_tid_flushed w s t
-unfolding flush_outcome
+flush_world : (w : World) (s t : ℕ) →
+    (flush_outcome w s t).world ≡ with_device_caught_up (tid_emptied w s t) s t
+unfolding flush_outcome after_tid_flushed
 flush_world w s t = refl
 
+-- the device of a station finishes no frame when it catches up
+caught_finished : (w : World) (s t : ℕ) → (with_device_caught_up w s t).finished ≡ w.finished
+unfolding with_device_caught_up caught_up on_receiver on_session on_tid on_station with_station
+caught_finished w s t = go (is_offloaded w s)
+  where
+    go : (b : Bool) → (if b then caught_up w s t else w).finished ≡ w.finished
+    go true = refl
+    go false = refl
+
 flush_reply : (w : World) (s t : ℕ) → (flush_outcome w s t).reply
-    ≡ reply.Flushed (length (after_tid_flushed w s t).finished - length w.finished)
-unfolding flush_outcome
-flush_reply w s t = refl
+    ≡ reply.Flushed (length (tid_emptied w s t).finished - length w.finished)
+unfolding flush_outcome after_tid_flushed
+flush_reply w s t = ap (λ (l : List ℕ). reply.Flushed (length l - length w.finished))
+    (caught_finished (tid_emptied w s t) s t)
+
+-- emptying the queues of a TID does not change the turns
+queues_leave : (qs : List ℕ) (w : World) → LeavesRotas w (after_queues_flushed w qs)
+unfolding after_queues_flushed after_queue_flushed
+queues_leave [] w = λ v h. h
+queues_leave (q ∷ qs) w = leaves_then w _ _
+    (leaves_then w _ _ (queue_leaves w q _) (finish_all_leaves _ _ _)) (queues_leave qs _)
+
+emptied_leaves : (w : World) (s t : ℕ) → LeavesRotas w (tid_emptied w s t)
+emptied_leaves w s t = leaves_then w _ _
+    (leaves_then w _ _ (session_leaves w s t _) (finish_all_leaves _ _ _)) (queues_leave _ _)
 
 module _ (before v : TransmitValue) (w : World) (bodies : ℕ → FrameValue) (s t dropped : ℕ)
     (so_far : HasNumbersFlushed before w bodies s t v dropped) where
@@ -59,7 +83,7 @@ module _ (before v : TransmitValue) (w : World) (bodies : ℕ → FrameValue) (s
   now = waiting_flushed w s t
 
   abbrev gone : World
-  gone = after_tid_flushed w s t
+  gone = tid_emptied w s t
 
   abbrev count : ℕ
   count = frames_of_tid v.flows (tid_number s t)
@@ -134,12 +158,11 @@ module _ (before v : TransmitValue) (w : World) (bodies : ℕ → FrameValue) (s
       omega (arith, place.within, held_counted w, all_held)
 
   flushed_turns : TurnsStandFor v.sched gone
-  flushed_turns = subst (TurnsStandFor v.sched) (flush_world w s t)
-      (flushed_leaves w s t v.sched
+  flushed_turns = emptied_leaves w s t v.sched
       (subst (λ (z : SchedValue). TurnsStandFor z w)
-      (sym (ap (λ (z : TransmitValue). z.sched) so_far.rest)) h.parts.others.turns))
+      (sym (ap (λ (z : TransmitValue). z.sched) so_far.rest)) h.parts.others.turns)
 
-  flushed_parts : Parts (with_queues_flushed v s t count) gone bodies
+  pub flushed_parts : Parts (with_queues_flushed v s t count) gone bodies
   flushed_parts =
       let p : Pieces v now bodies = to_pieces v now bodies so_far.parts in
       let same : roster now ≡ roster gone = sym (roster_rest now gone same_rest) in
@@ -169,13 +192,10 @@ module _ (before v : TransmitValue) (w : World) (bodies : ℕ → FrameValue) (s
       omega (arith, grown, so_far.grown) in
       flush_reply w s t ∙ ap (λ (k : ℕ). reply.Flushed k) n
 
-  pub flush_meets : Meets w bodies (Asked (Flush s t)) (after_listing (with_queues_flushed v s t count) s)
-      (reply.Flushed (dropped + count))
+  pub flush_meets : (u : TransmitValue) → Parts u (with_device_caught_up gone s t) bodies →
+      Meets w bodies (Asked (Flush s t)) (after_listing u s) (reply.Flushed (dropped + count))
   unfolding outcome_of
-  flush_meets =
-      subst (λ (x : ReplyNote). Meets w bodies (Asked (Flush s t))
-      (after_listing (with_queues_flushed v s t count) s) x) count_is
-      (listed_meets (with_queues_flushed v s t count) w bodies (Asked (Flush s t)) h.reached tt tt
-      so_far.may.allowed
-      (subst (λ (u : World). Parts (with_queues_flushed v s t count) u bodies) (sym (flush_world w s t))
-      flushed_parts) s refl)
+  flush_meets u parts =
+      subst (λ (x : ReplyNote). Meets w bodies (Asked (Flush s t)) (after_listing u s) x) count_is
+      (listed_meets u w bodies (Asked (Flush s t)) h.reached tt tt so_far.may.allowed
+      (subst (λ (z : World). Parts u z bodies) (sym (flush_world w s t)) parts) s refl)

@@ -1,20 +1,22 @@
 -- Proves that the parts represent the world after a join: the station's member and sleeper, its eight
 -- windows, and its new deficits on both sides.
-use Rattle.std.proofs.Common.{◌≡◌, refl, ap, sym, ◌∙◌, subst, arith, ℕ, zero, suc, ◌*◌, ◌<◌, true, false, List, [], ◌∷◌, Some, None, set, replicate}
+use Rattle.std.proofs.Common.{◌≡◌, refl, ap, sym, ◌∙◌, subst, arith, ℕ, zero, suc, ◌*◌, ◌<◌, Bool, true, false, List, Some, set, replicate}
+use Rattle.wf_frame.specs.declared.settings.Config.{Config}
 use Rattle.wf_frame.specs.declared.classes.Class.{Class}
 use Rattle.wf_frame.specs.declared.classes.Class.TheVariants.{Bk, Be, Vi, Vo}
 use Rattle.wf_frame.specs.Frames.{FrameValue}
-use Rattle.wf_def_air.specs.Airtime.{lowest_rate}
+use Rattle.wf_def_lists.specs.Bounds.{greatest_window}
 use Rattle.wf_def_agreement.specs.Session.{Session, new_session}
 use Rattle.wf_def_lists.specs.Table.{at}
-use Rattle.wf_def_world.specs.World.{World, Station, Tid, no_tid, new_tid, new_share, is_live, owed, with_station}
-use Rattle.wf_def_world.specs.Step.{join_outcome}
+use Rattle.wf_def_world.specs.World.{World, Station, Tid, no_tid, new_tid, is_live, owed, with_station}
+use Rattle.wf_def_world.specs.Step.{new_station, join_outcome, offload_outcome}
 use Rattle.wf_law_runs.proofs.Deficits.Books.{upd, upd_same, upd_other}
 use Rattle.wf_sched.specs.ClassRotas.{after_join}
-use Rattle.wf_sched_refines.specs.Standing.{everywhere, share_in}
-use Rattle.wf_sched_refines.proofs.Members.{join_stands}
+use Rattle.wf_sched_refines.specs.Standing.{SchedulerStandsFor as TurnsStandFor, everywhere, share_in}
+use Rattle.wf_sched_refines.proofs.Members.{join_stands, offload_stands}
+use Rattle.wf_queue_flows_refines.specs.Standing.{FlowsStandFor as FlowsStandFor}
 use Rattle.wf_queue_flows_refines.specs.Rest.{session_in}
-use Rattle.wf_queue_flows_refines.proofs.Leaves.{stands_joined}
+use Rattle.wf_queue_flows_refines.proofs.Leaves.{stands_joined, stands_offloaded}
 use Rattle.wf_send_parts.specs.Window.{WindowValue, WindowStandsFor as WindowStandsFor}
 use Rattle.wf_send_parts.specs.Windows.{window_of}
 use Rattle.wf_send_parts.proofs.Changes.{station_joins}
@@ -30,60 +32,44 @@ use Rattle.wf_send_half_model.proofs.Stations.{station_replaced}
 
 -- ---- the station
 
--- the station that joins
-abbrev pub joining : ℕ → ℕ → ℕ → ℕ → ℕ → Station
-joining airtime window start exponent weight =
-    let share = new_share airtime in
-    let tid = new_tid start window in
-    record {
-      weight = weight;
-      rate = lowest_rate;
-      exponent = exponent;
-      ampdu = None;
-      stopped = false;
-      asleep = false;
-      credit = None;
-      shares = share ∷ share ∷ share ∷ share ∷ [];
-      tids = tid ∷ tid ∷ tid ∷ tid ∷ tid ∷ tid ∷ tid ∷ tid ∷ [];
-    }
-
 at_many : (n t : ℕ) (x : Tid) → t < n → at no_tid (replicate n x) t ≡ x
 at_many zero t x low = absurd (omega arith)
 at_many (suc n) zero x low = refl
 at_many (suc n) (suc t) x low = at_many n t x (omega arith)
 
-module _ (airtime window start exponent weight : ℕ) where
-  new_sessions : (t : ℕ) → t < 8 → session_in (Some (joining airtime window start exponent weight)) t
+module _ (config : Config) (window start exponent weight : ℕ) (offloaded : Bool) where
+  new_sessions : (t : ℕ) → t < 8 → session_in (Some (new_station config window start exponent weight offloaded)) t
       ≡ new_session start window
   new_sessions t low = ap (λ (y : Tid). y.session) (at_many 8 t (new_tid start window) low)
 
-  no_turn : (c : Class) → upper_in (new_member exponent) c
-      ≡ (share_in (joining airtime window start exponent weight) c).upper
+  no_turn : (c : Class) → upper_in (new_member exponent offloaded) c
+      ≡ (share_in (new_station config window start exponent weight offloaded) c).upper
   no_turn Bk = refl
   no_turn Be = refl
   no_turn Vi = refl
   no_turn Vo = refl
 
-  no_charge : (c : Class) → charged_in (new_member exponent) c
-      ≡ (share_in (joining airtime window start exponent weight) c).charged
+  no_charge : (c : Class) → charged_in (new_member exponent offloaded) c
+      ≡ (share_in (new_station config window start exponent weight offloaded) c).charged
   no_charge Bk = refl
   no_charge Be = refl
   no_charge Vi = refl
   no_charge Vo = refl
 
-  no_receipt : (c : Class) → received_in (new_member exponent) c
-      ≡ (share_in (joining airtime window start exponent weight) c).received
+  no_receipt : (c : Class) → received_in (new_member exponent offloaded) c
+      ≡ (share_in (new_station config window start exponent weight offloaded) c).received
   no_receipt Bk = refl
   no_receipt Be = refl
   no_receipt Vi = refl
   no_receipt Vo = refl
 
-  fresh_member : IsOfView (new_member exponent) (view_of (joining airtime window start exponent weight))
+  fresh_member : IsOfView (new_member exponent offloaded) (view_of (new_station config window start exponent weight offloaded))
   fresh_member = record {
     four = record { upper = refl; charged = refl; received = refl };
     rate = refl;
     exponent = refl;
     ampdu = refl;
+    offloaded = refl;
     upper = no_turn;
     charged = no_charge;
     received = no_receipt;
@@ -114,44 +100,71 @@ windows_reset before after bodies a s first size f h reset new = record {
 
 -- ---- the call
 
-pub join_parts : (v : TransmitValue) (w : World) (bodies : ℕ → FrameValue) (after : List WindowValue)
-    (s window start exponent weight : ℕ) → s < w.config.stations → is_live w s ≡ false →
-    ((c : Class) → owed s c w.opened ≡ 0) → AreReset v.windows after s start window → Parts v w bodies →
-    Parts (record v {
-      sched = everywhere (after_join s (v.sched.quantum * weight)) v.sched;
-      windows = after;
-      members = set v.members s (Some (new_member exponent));
-      sleepers = with_sleeper v.sleepers s awake;
-    }) (join_outcome w s window start exponent weight).world bodies
-unfolding join_outcome with_station
-join_parts v w bodies after s window start exponent weight low off nothing reset h =
+-- a station joins: its turns, its windows, its member and its sleeper are new
+abbrev pub admitted : TransmitValue → List WindowValue → ℕ → ℕ → ℕ → Bool → TransmitValue
+admitted v windows s exponent weight offloaded = record v {
+  sched = everywhere (after_join s (v.sched.quantum * weight)) v.sched;
+  windows = windows;
+  members = set v.members s (Some (new_member exponent offloaded));
+  sleepers = with_sleeper v.sleepers s awake;
+}
+
+-- the world in which it joined
+abbrev with_new : World → ℕ → ℕ → ℕ → ℕ → ℕ → Bool → World
+with_new w s window start exponent weight offloaded =
+    with_station w s (Some (new_station w.config window start exponent weight offloaded))
+
+admitted_parts : (v : TransmitValue) (w : World) (bodies : ℕ → FrameValue) (after : List WindowValue)
+    (s window start exponent weight : ℕ) (offloaded : Bool) → s < w.config.stations →
+    FlowsStandFor v.flows (with_new w s window start exponent weight offloaded) →
+    TurnsStandFor (everywhere (after_join s (v.sched.quantum * weight)) v.sched)
+    (with_new w s window start exponent weight offloaded) →
+    AreReset v.windows after s start window → Parts v w bodies →
+    Parts (admitted v after s exponent weight offloaded)
+    (with_new w s window start exponent weight offloaded) bodies
+unfolding with_station
+admitted_parts v w bodies after s window start exponent weight offloaded low flows turns reset h =
     let p : Pieces v w bodies = to_pieces v w bodies h in
-    let x : Station = joining (w.config.quantum * weight) window start exponent weight in
-    let r : with_view (roster w) s (Some (view_of x))
-    ≡ roster (join_outcome w s window start exponent weight).world =
+    let x : Station = new_station w.config window start exponent weight offloaded in
+    let r : with_view (roster w) s (Some (view_of x)) ≡ roster (with_station w s (Some x)) =
     sym (roster_with_station w s (Some x)) in
-    of_pieces (record v {
-      sched = everywhere (after_join s (v.sched.quantum * weight)) v.sched;
-      windows = after;
-      members = set v.members s (Some (new_member exponent));
-      sleepers = with_sleeper v.sleepers s awake;
-    }) (join_outcome w s window start exponent weight).world bodies (record {
+    of_pieces (admitted v after s exponent weight offloaded) (with_station w s (Some x)) bodies (record {
       config = p.config ∙ ap (λ (z : Roster). z.config) r;
       clock = p.clock ∙ ap (λ (z : Roster). z.clock) r;
       exchanges = p.exchanges ∙ ap (λ (z : Roster). z.exchanges) r;
       opened = p.opened ∙ ap (λ (z : Roster). z.opened) r;
-      stations = subst (λ (z : Roster). StationsStand (set v.members s (Some (new_member exponent)))
+      stations = subst (λ (z : Roster). StationsStand (set v.members s (Some (new_member exponent offloaded)))
           (with_sleeper v.sleepers s awake) z.config.stations z.stations) r
           (station_replaced v.members v.sleepers w.config.stations (roster w).stations s
-          (Some (new_member exponent)) awake (Some (view_of x)) p.stations low
-          (fresh_member (w.config.quantum * weight) window start exponent weight)
+          (Some (new_member exponent offloaded)) awake (Some (view_of x)) p.stations low
+          (fresh_member w.config window start exponent weight offloaded)
           (record { asleep = refl; credit = refl; stopped = refl }));
       windows = subst (WindowsStand after bodies) (sym (agreements_with_station w s (Some x)))
           (windows_reset v.windows after bodies (agreements w) s start window
-          (session_in (Some x)) p.windows reset (new_sessions
-          (w.config.quantum * weight) window start exponent weight));
-      flows = stands_joined v.flows w s window start exponent weight off p.flows;
-      turns = join_stands v.sched w s window start exponent weight p.turns low nothing;
+          (session_in (Some x)) p.windows reset
+          (new_sessions w.config window start exponent weight offloaded));
+      flows = flows;
+      turns = turns;
       ledger = p.ledger;
       frames = p.frames;
     })
+
+pub join_parts : (v : TransmitValue) (w : World) (bodies : ℕ → FrameValue) (after : List WindowValue)
+    (s window start exponent weight : ℕ) → s < w.config.stations → is_live w s ≡ false →
+    ((c : Class) → owed s c w.opened ≡ 0) → AreReset v.windows after s start window → Parts v w bodies →
+    Parts (admitted v after s exponent weight false) (join_outcome w s window start exponent weight).world bodies
+unfolding join_outcome
+join_parts v w bodies after s window start exponent weight low off nothing reset h =
+    admitted_parts v w bodies after s window start exponent weight false low
+    (stands_joined v.flows w s window start exponent weight off h.others.flows)
+    (join_stands v.sched w s window start exponent weight h.others.turns low nothing) reset h
+
+pub offload_parts : (v : TransmitValue) (w : World) (bodies : ℕ → FrameValue) (after : List WindowValue)
+    (s exponent weight : ℕ) → s < w.config.stations → is_live w s ≡ false →
+    ((c : Class) → owed s c w.opened ≡ 0) → AreReset v.windows after s 0 greatest_window → Parts v w bodies →
+    Parts (admitted v after s exponent weight true) (offload_outcome w s exponent weight).world bodies
+unfolding offload_outcome
+offload_parts v w bodies after s exponent weight low off nothing reset h =
+    admitted_parts v w bodies after s greatest_window 0 exponent weight true low
+    (stands_offloaded v.flows w s exponent weight off h.others.flows)
+    (offload_stands v.sched w s exponent weight h.others.turns low nothing) reset h

@@ -7,6 +7,7 @@ mod Calls
 mod ChargedClass
 mod Closes
 mod Debts
+pub mod Devices
 pub mod Dones
 pub mod Dropping
 pub mod Ended
@@ -49,4 +50,5 @@ pub mod Steady
 pub mod Takes
 mod Unheard
 mod Views
+pub mod Weights
 pub mod Whole

@@ -35,7 +35,7 @@ use Rattle.wf_send_parts.specs.Windows.{window_of}
 use Rattle.wf_send_parts.specs.declared.exchanges.opened.Open.{Open}
 use Rattle.wf_send_parts.specs.Exchanges.{sending_is_request}
 use Rattle.wf_send_parts.specs.declared.stations.members.Member.{Member}
-use Rattle.wf_send_parts.specs.Members.{member, on_member, upper_in, with_upper}
+use Rattle.wf_send_parts.specs.Members.{member, is_offloaded_in, on_member, upper_in, with_upper}
 use Rattle.wf_send_parts.specs.Sleepers.{sleeper, with_sleeper}
 use Rattle.wf_send_half_model.specs.Half.{TransmitValue, can_send_of, some_wait}
 use Rattle.wf_send_half_model.specs.Standing.{IsMember, AreBoth, sending_of, open_of, Parts, StandsFor, Meets}
@@ -43,6 +43,7 @@ use Rattle.wf_send_half_model.specs.Pulling.{has_upper_turn, sending_tid_of, aft
 use Rattle.wf_send_half_model.specs.Views.{view_of, roster, HasSameViews}
 use Rattle.wf_send_half_model.proofs.Views.{agreements_share, roster_share, ledger_share, reshared, view_reshared}
 use Rattle.wf_send_half_model.specs.Filling.{after_pick_within}
+use Rattle.wf_send_half_model.proofs.Devices.{offloaded_same}
 use Rattle.wf_send_half_model.proofs.Stands.{Pieces, to_pieces, of_pieces, same_views}
 use Rattle.wf_send_half_model.proofs.Stations.{member_changed, sleeper_changed, turned, resting, station_parts}
 use Rattle.wf_send_half_model.proofs.Listings.{views_here, views_then, views_rotation}
@@ -296,6 +297,10 @@ module _ (v : TransmitValue) (bodies : ℕ → FrameValue) (s t : ℕ) (c : Clas
   open_same =
       ap (λ (n : ℕ). record (open_next v s t c p.charge (sending_of p.content)) { number = n })
       h.others.exchanges
+      ∙ ap (λ (b : Bool). record (open_next v s t c p.charge (sending_of p.content)) {
+        number = p.world.exchanges;
+        batch = b;
+      }) (offloaded_same v p.world bodies s h)
       ∙ ap (λ (b : Bool). record (open_of (exchange_of s t c p)) { more = b })
       (ap₂ (λ (a b : Bool). a && b) (h.others.stations.asleep s live)
       (ap₂ (λ (a b : Bool). not a && b) (request_same p.content) (more_same v p.world bodies s h live)))
@@ -315,7 +320,7 @@ module _ (v : TransmitValue) (bodies : ℕ → FrameValue) (s t : ℕ) (c : Clas
       (with_exchange_opened p.world x) bodies s (opened_low x)
       (open_parts v p.world bodies x h))
 
-  pub send_reply : Send v.exchanges s t p.charge (part_of p.content)
+  pub send_reply : Send v.exchanges s t p.charge (part_of (is_offloaded_in v.members s) p.content)
       (open_next v s t c p.charge (sending_of p.content)).more ≡ (send_outcome s t c p).reply
   unfolding send_outcome
-  send_reply = ap (λ (o : Open). Send o.number s t p.charge (part_of p.content) o.more) open_same
+  send_reply = ap (λ (o : Open). Send o.number s t p.charge (part_of o.batch p.content) o.more) open_same

@@ -1,12 +1,12 @@
 -- Proves a whole pull: the picked station sends a request or an aggregate, and the half represents the world
 -- after the step.
-use Rattle.std.proofs.Common.{◌≡◌, refl, ap, ap₂, sym, ◌∙◌, subst, arith, ℕ, ◌%◌, ◌<◌, Bool, true, false, if◌then◌else◌, List, [], map, Option, Some, None, is_some, unwrap_or}
+use Rattle.std.proofs.Common.{◌≡◌, refl, ap, ap₂, sym, ◌∙◌, subst, arith, ℕ, ◌<◌, Bool, true, false, if◌then◌else◌, List, [], Option, Some, None, is_some, unwrap_or}
 use Rattle.std.specs.Prelude.{IfSome}
 use Rattle.wf_frame.specs.declared.classes.Class.{Class}
 use Rattle.wf_frame.specs.declared.notes.Note.TheVariants.{Asked}
 use Rattle.wf_frame.specs.declared.notes.Ask.TheVariants.{Pull}
 use Rattle.wf_frame.specs.declared.notes.Limits.{Limits}
-use Rattle.wf_frame.specs.declared.notes.Part.TheVariants.{Mpdus, Request as Starts}
+use Rattle.wf_frame.specs.declared.notes.Part.TheVariants.{Request as Starts}
 use Rattle.wf_frame.specs.declared.notes.ReplyNote.{ReplyNote}
 use Rattle.wf_frame.specs.declared.notes.ReplyNote.TheVariants.{Send}
 use Rattle.wf_frame.specs.Frames.{FrameValue}
@@ -14,7 +14,7 @@ use Rattle.wf_def_air.specs.Airtime.{Rate, data_charge, request_charge}
 use Rattle.wf_def_lists.specs.Table.{at}
 use Rattle.wf_def_air.specs.Fit.{aggregate_octets}
 use Rattle.wf_def_agreement.specs.Session.{request_due}
-use Rattle.wf_def_world.specs.World.{World, Station, no_station, is_live, is_wide, station, session}
+use Rattle.wf_def_world.specs.World.{World, Station, Frames, no_station, is_live, is_wide, station, session}
 use Rattle.wf_def_world.specs.CanSend.{can_send_in}
 use Rattle.wf_def_world.specs.Exchanges.{picked_station, sending_tid, after_tid_turn, lens_of, Aggregate, aggregate_of, with_flying, Prepared, aggregate_charge, prepared_data, prepared_request, prepared_exchange, part_of}
 use Rattle.wf_def_world.specs.Refusals.{refusal}
@@ -26,7 +26,7 @@ use Rattle.wf_sched_refines.specs.Calls.{HasPickedInClass}
 use Rattle.wf_send_parts.specs.declared.exchanges.opened.Sending.TheVariants.{Data, Request as Starts_at}
 use Rattle.wf_send_parts.proofs.Calls.{due_is}
 use Rattle.wf_send_parts.specs.declared.stations.members.Member.{Member}
-use Rattle.wf_send_parts.specs.Members.{member}
+use Rattle.wf_send_parts.specs.Members.{member, is_offloaded_in}
 use Rattle.wf_send_parts.specs.Windows.{window_of}
 use Rattle.wf_send_half_model.specs.Half.{TransmitValue}
 use Rattle.wf_send_half_model.specs.Standing.{IsMember, AreBoth, numbers_on_air, sending_of, Parts, StandsFor, Meets}
@@ -151,7 +151,7 @@ module _ (v : TransmitValue) (w : World) (bodies : ℕ → FrameValue) (h : Stan
       is_live p.world s ≡ true →
       Meets w sent (Asked (Pull c l)) (after_listing_in
       (after_sending x s t c p.charge (sending_of p.content)) s c)
-      (Send x.exchanges s t p.charge (part_of p.content)
+      (Send x.exchanges s t p.charge (part_of (is_offloaded_in x.members s) p.content)
       (open_next x s t c p.charge (sending_of p.content)).more)
   sent_meets sent p is x parts live =
       let all : outcome_of w (Asked (Pull c l)) ≡ send_outcome s t c p =
@@ -196,7 +196,7 @@ module _ (v : TransmitValue) (w : World) (bodies : ℕ → FrameValue) (h : Stan
       is_live (prepared_data s t a).world s ≡ true →
       Meets w sent (Asked (Pull c l)) (after_listing_in
       (after_sending x s t c (aggregate_charge s t a) (Data (numbers_on_air a.mpdus))) s c)
-      (Send x.exchanges s t (aggregate_charge s t a) (Mpdus (map (λ m. (m.id, m.number % 4096)) a.mpdus))
+      (Send x.exchanges s t (aggregate_charge s t a) (part_of (is_offloaded_in x.members s) (Frames a.mpdus))
       (open_next x s t c (aggregate_charge s t a) (Data (numbers_on_air a.mpdus))).more)
   unfolding prepared_data
   data_sent a is quiet x sent parts live = sent_meets sent (prepared_data s t a)
@@ -207,7 +207,7 @@ module _ (v : TransmitValue) (w : World) (bodies : ℕ → FrameValue) (h : Stan
       (prepared_data s t a).world →
       (charge : ℕ) (numbers : List ℕ) → charge ≡ aggregate_charge s t a → numbers ≡ numbers_on_air a.mpdus →
       Meets w sent (Asked (Pull c l)) (after_listing_in (after_sending x s t c charge (Data numbers)) s c)
-      (Send x.exchanges s t charge (Mpdus (map (λ m. (m.id, m.number % 4096)) a.mpdus))
+      (Send x.exchanges s t charge (part_of (is_offloaded_in x.members s) (Frames a.mpdus))
       (open_next x s t c charge (Data numbers)).more)
   data_meets a is quiet x u sent left charge numbers charge_is numbers_is =
       let live : is_live (prepared_data s t a).world s ≡ true =
@@ -218,11 +218,11 @@ module _ (v : TransmitValue) (w : World) (bodies : ℕ → FrameValue) (h : Stan
       (prepared_data s t a).world left) live in
       subst (λ (n : ℕ). Meets w sent (Asked (Pull c l))
       (after_listing_in (after_sending x s t c n (Data numbers)) s c)
-      (Send x.exchanges s t n (Mpdus (map (λ m. (m.id, m.number % 4096)) a.mpdus))
+      (Send x.exchanges s t n (part_of (is_offloaded_in x.members s) (Frames a.mpdus))
       (open_next x s t c n (Data numbers)).more)) (sym charge_is)
       (subst (λ (ns : List ℕ). Meets w sent (Asked (Pull c l))
       (after_listing_in (after_sending x s t c (aggregate_charge s t a) (Data ns)) s c)
-      (Send x.exchanges s t (aggregate_charge s t a) (Mpdus (map (λ m. (m.id, m.number % 4096)) a.mpdus))
+      (Send x.exchanges s t (aggregate_charge s t a) (part_of (is_offloaded_in x.members s) (Frames a.mpdus))
       (open_next x s t c (aggregate_charge s t a) (Data ns)).more)) (sym numbers_is) meets)
 
 -- ---- its charge

@@ -10,7 +10,7 @@ use Rattle.wf_frame.specs.declared.notes.Note.{Note}
 use Rattle.wf_frame.specs.declared.notes.Limits.{Limits}
 use Rattle.wf_law_runs.proofs.Common.Picked.{picked_world}
 use Rattle.wf_frame.specs.declared.notes.Note.TheVariants.{Enqueue, Asked}
-use Rattle.wf_frame.specs.declared.notes.Ask.TheVariants.{Join, Leave, Rate, Tick, Pull, Arrive, Answer, Done, Sleep, Wake, Poll, Rx, Reap, Ampdu, Stop, Start, Unsent, GiveUp, Flush}
+use Rattle.wf_frame.specs.declared.notes.Ask.TheVariants.{Join, Leave, Rate, Tick, Pull, Arrive, Answer, Done, Sleep, Wake, Poll, Rx, Reap, Ampdu, Stop, Start, Unsent, GiveUp, Flush, Offload, Weight}
 use Rattle.wf_frame.specs.declared.notes.Refusal.{Refusal}
 use Rattle.wf_frame.specs.declared.notes.Refusal.TheVariants.{Idle}
 use Rattle.wf_frame.specs.Classes.{lower_tid, upper_tid, all_classes}
@@ -24,13 +24,13 @@ use Rattle.wf_def_world.specs.FlowQueues.{frames_queued, is_at_limit, longest_qu
 use Rattle.wf_def_world.specs.CanSend.{request_open, can_send, can_send_in, has_credit, may_receive, is_ready, with_listing_in, with_listings_in, with_listings_of}
 use Rattle.wf_def_world.specs.Exchanges.{after_pick, picked_station, station_need}
 use Rattle.wf_def_world.specs.Refusals.{refusal, refusals}
-use Rattle.wf_def_world.specs.Step.{Outcome, outcome_of, concerned_station, after_refusal, step, next_item, with_frame, enqueue_outcome, join_outcome, rate_outcome, tick_outcome, pull_outcome_for, pull_outcome, outcome_where_open, sleep_outcome, wake_outcome, poll_outcome, rx_outcome, reap_outcome, arrive_outcome, answer_outcome, unsent_outcome, give_up_outcome, done_outcome}
+use Rattle.wf_def_world.specs.Step.{Outcome, outcome_of, concerned_station, after_refusal, step, next_item, with_frame, enqueue_outcome, join_outcome, offload_outcome, weight_outcome, rate_outcome, tick_outcome, pull_outcome_for, pull_outcome, outcome_where_open, sleep_outcome, wake_outcome, poll_outcome, rx_outcome, reap_outcome, arrive_outcome, answer_outcome, unsent_outcome, give_up_outcome, done_outcome}
 use Rattle.wf_law_rules.proofs.Lemmas.Numbers.{on_if}
 use Rattle.wf_law_rules.proofs.Lemmas.Counts.{on-cons, on-cons_same, listed-some}
 use Rattle.wf_law_rules.proofs.Lemmas.Tables.{each_put}
 use Rattle.wf_law_runs.specs.Queues.{KeepsQueues}
 use Rattle.wf_law_runs.proofs.Queues.Law.{queue_law}
-use Rattle.wf_law_runs.proofs.Queues.Shelves.{Shelves, shelves, shelves_after_pick, shelves_picked, shelves_open, shelves_ended, shelves_arrived, shelves_answered, shelves_marked, shelves_reaped}
+use Rattle.wf_law_runs.proofs.Queues.Shelves.{Shelves, shelves, shelves_after_pick, shelves_picked, shelves_open, shelves_ended, shelves_arrived, shelves_answered, shelves_marked, shelves_reaped, shelves_weighed}
 use Rattle.wf_law_runs.proofs.Windows.Opened.{left_true, pick_ready}
 use Rattle.wf_law_runs.proofs.Deficits.KeptStep.{NoRow, no_row}
 use Rattle.wf_law_runs.proofs.Deficits.Mild.{sends, Lists, IsMild}
@@ -358,10 +358,13 @@ long_done : (note : Note) (w : World) (s t q : ℕ) → NoRow (refusals w note) 
     (concerned_station w note ≡ Some s → ⊥) → spares w note s t ≡ true → Lists w s t q →
     length (queue w q).items ≤ length (queue (outcome_of w note).world q).items
 unfolding spares outcome_of tick_outcome rate_outcome sleep_outcome wake_outcome poll_outcome rx_outcome
-    unsent_outcome give_up_outcome on_share join_outcome with_station pull_outcome
+    unsent_outcome give_up_outcome on_share join_outcome offload_outcome with_station pull_outcome
 long_done (Enqueue i j flow len) w s t q r keeps other spared k =
     long_enqueued w i j flow len q (not_the_longest w s t q (not_true _ spared) k)
 long_done (Asked (Join i window start exponent weight)) w s t q r keeps other spared k = omega arith
+long_done (Asked (Offload i exponent weight)) w s t q r keeps other spared k = omega arith
+long_done (Asked (Weight i weight)) w s t q r keeps other spared k =
+    long_by w (weight_outcome w i weight).world q (shelves_weighed w i weight)
 long_done (Asked (Leave i)) w s t q r keeps other spared k =
     apart_gone (λ _. Unit {0}) (length (queue w q).items) q i w (λ _. tt)
     (apart_other w i s t q keeps (λ h. other (ap (λ (z : ℕ). Some z) (sym h))) (not-false _ r.1.0) k)

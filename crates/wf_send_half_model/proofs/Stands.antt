@@ -50,6 +50,7 @@ pub record IsOfView (m : Member) (x : StationView) : Type 0 where
   pub rate : m.rate ≡ x.rate
   pub exponent : m.exponent ≡ x.exponent
   pub ampdu : m.ampdu ≡ x.ampdu
+  pub offloaded : m.offloaded ≡ x.offloaded
   pub upper : (c : Class) → upper_in m c ≡ x.upper c
   pub charged : (c : Class) → charged_in m c ≡ x.charged c
   pub received : (c : Class) → received_in m c ≡ x.received c
@@ -77,8 +78,8 @@ member_view (Some m) (Some x) h = record {
   rate = h.rate;
   exponent = h.exponent;
   ampdu = h.ampdu;
-  upper =
-      h.upper;
+  offloaded = h.offloaded;
+  upper = h.upper;
   charged = h.charged;
   received = h.received;
 }
@@ -93,8 +94,8 @@ view_member (Some m) (Some x) h = record {
   rate = h.rate;
   exponent = h.exponent;
   ampdu = h.ampdu;
-  upper =
-      h.upper;
+  offloaded = h.offloaded;
+  upper = h.upper;
   charged = h.charged;
   received = h.received;
 }

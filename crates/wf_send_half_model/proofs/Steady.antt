@@ -1,4 +1,4 @@
--- Proves that some calls change the readiness of no station: a rate, a tick, an Arrive, an Answer, a mark of
+-- Proves that some calls change the readiness of no station: a rate, a weight, a tick, an Arrive, an Answer, a mark of
 -- a device, a receive charge and a reap. They change no session, queue or open request, nor which stations
 -- may receive.
 use Rattle.std.proofs.Common.{◌≡◌, refl, ap, ap₂, sym, ◌∙◌, ℕ, Bool, true, not, ◌&&◌, ◌||◌, List, [], ◌∷◌, length, Option, Some, None, unwrap_or, option_map, map, sum_by, nat_lt}
@@ -9,14 +9,14 @@ use Rattle.wf_frame.specs.declared.settings.Config.{Config}
 use Rattle.wf_frame.specs.declared.notes.AskedRate.{AskedRate}
 use Rattle.wf_frame.specs.declared.notes.Note.{Note}
 use Rattle.wf_frame.specs.declared.notes.Note.TheVariants.{Enqueue, Asked}
-use Rattle.wf_frame.specs.declared.notes.Ask.TheVariants.{Join, Leave, Rate, Tick, Pull, Arrive, Answer, Done, Sleep, Wake, Poll, Rx, Reap, Ampdu, Stop, Start, Unsent, GiveUp, Flush}
-use Rattle.wf_frame.specs.Classes.{lower_tid, upper_tid}
+use Rattle.wf_frame.specs.declared.notes.Ask.TheVariants.{Join, Leave, Rate, Tick, Pull, Arrive, Answer, Done, Sleep, Wake, Poll, Rx, Reap, Ampdu, Stop, Start, Unsent, GiveUp, Flush, Offload, Weight}
+use Rattle.wf_frame.specs.Classes.{all_classes, lower_tid, upper_tid}
 use Rattle.wf_def_lists.specs.Table.{at}
 use Rattle.wf_def_rotation.specs.Rotation.{in_order}
 use Rattle.wf_def_agreement.specs.Receiver.{Receiver}
-use Rattle.wf_def_world.specs.World.{World, Station, Exchange, no_station, owed, exchange, on_station, with_station, on_tid, on_receiver, on_share, with_exchange}
+use Rattle.wf_def_world.specs.World.{World, Station, Share, Exchange, no_station, owed, exchange, on_station, with_station, on_tid, on_receiver, on_share, with_exchange}
 use Rattle.wf_def_world.specs.CanSend.{is_request, request_open, has_credit, is_below_aql, may_receive, is_ready}
-use Rattle.wf_def_world.specs.Step.{Outcome, outcome_of, step, outcome_where_open, rate_outcome, tick_outcome, arrive_outcome, answer_outcome, unsent_outcome, give_up_outcome, rx_outcome, reap_outcome, ampdu_outcome}
+use Rattle.wf_def_world.specs.Step.{Outcome, outcome_of, step, outcome_where_open, rate_outcome, tick_outcome, arrive_outcome, answer_outcome, unsent_outcome, give_up_outcome, rx_outcome, reap_outcome, ampdu_outcome, with_deficits_lowered, weight_outcome}
 use Rattle.wf_law_rules.proofs.Lemmas.Tables.{each_put}
 use Rattle.wf_law_runs.proofs.Common.Marks.{marked_world}
 use Rattle.wf_law_runs.proofs.Deficits.Books.{Books, books, core}
@@ -40,6 +40,14 @@ pub record IsSteady (w v : World) : Type 0 where
 
 steady_here : (w : World) → IsSteady w w
 steady_here w = record { part = refl; agreements = refl; requests = λ s t. refl; receives = λ s c. refl }
+
+steady_then : (w u v : World) → IsSteady w u → IsSteady u v → IsSteady w v
+steady_then w u v h k = record {
+  part = k.part ∙ h.part;
+  agreements = k.agreements ∙ h.agreements;
+  requests = λ s t. k.requests s t ∙ h.requests s t;
+  receives = λ s c. k.receives s c ∙ h.receives s c;
+}
 
 steady_tid : (w v : World) → IsSteady w v → (s t : ℕ) → IsSameTid w v s t
 steady_tid w v h s t = record {
@@ -124,6 +132,30 @@ steady_received w i d air = record {
   requests = requests_on_station w i _;
   receives = receives_on_station w i _ (record { asleep = λ x. refl; credit = λ x. refl; stopped = λ x. refl });
 }
+
+steady_shared : (w : World) (i : ℕ) (d : Class) (f : Share → Share) → IsSteady w (on_share w i d f)
+unfolding on_share
+steady_shared w i d f = record {
+  part = station_alone w i _ (λ x. refl);
+  agreements = agreements_station w i _ (λ x. refl);
+  requests = requests_on_station w i _;
+  receives = receives_on_station w i _ (record { asleep = λ x. refl; credit = λ x. refl; stopped = λ x. refl });
+}
+
+steady_lowered : (cs : List Class) (w : World) (i : ℕ) → IsSteady w (with_deficits_lowered w i cs)
+unfolding with_deficits_lowered
+steady_lowered [] w i = steady_here w
+steady_lowered (c ∷ cs) w i = steady_then w _ _ (steady_shared w i c _) (steady_lowered cs _ i)
+
+steady_weighed : (w : World) (i weight : ℕ) → IsSteady w (weight_outcome w i weight).world
+unfolding weight_outcome
+steady_weighed w i weight = steady_then w _ _ (record {
+  part = station_alone w i _ (λ x. refl);
+  agreements = agreements_station w i _ (λ x. refl);
+  requests = requests_on_station w i _;
+  receives = receives_on_station w i _
+      (record { asleep = λ x. refl; credit = λ x. refl; stopped = λ x. refl });
+}) (steady_lowered all_classes _ i)
 
 -- ---- an open exchange is marked
 
@@ -241,6 +273,9 @@ steady_done (Asked (Rx i d air)) w r h c s = steady_ready w _ (steady_received w
 steady_done (Asked Reap) w r h c s = ready_reap w.finished w c s
 steady_done (Enqueue i t flow len) w r h c s = absurd (cc h)
 steady_done (Asked (Join i window start exponent weight)) w r h c s = absurd (cc h)
+steady_done (Asked (Offload i exponent weight)) w r h c s = absurd (cc h)
+steady_done (Asked (Weight i weight)) w r h c s =
+    steady_ready w (weight_outcome w i weight).world (steady_weighed w i weight) c s
 steady_done (Asked (Leave i)) w r h c s = absurd (cc h)
 steady_done (Asked (Pull d l)) w r h c s = absurd (cc h)
 steady_done (Asked (Done e heard air)) w r h c s = absurd (cc h)

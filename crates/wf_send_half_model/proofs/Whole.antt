@@ -1,43 +1,43 @@
 -- Proves whole calls that move no frame, except that a reap takes one from the finished list: if the machine
 -- does not refuse them, the half with the call's changes represents the world after the step, and the reply
 -- is the step's.
-use Rattle.std.proofs.Common.{◌≡◌, refl, ap, sym, ◌∙◌, subst, arith, ℕ, ◌+◌, ◌-◌, ◌*◌, ◌<◌, ◌==◌, pos, Bool, true, false, ◌&&◌, ◌||◌, List, ◌∷◌, length, set, Option, Some, None, is_some, option_map, inl, inr}
+use Rattle.std.proofs.Common.{◌≡◌, refl, ap, sym, ◌∙◌, subst, arith, ℕ, ◌+◌, ◌-◌, ◌<◌, ◌==◌, pos, Bool, true, false, ◌&&◌, ◌||◌, List, ◌∷◌, length, Option, Some, None, is_some, option_map, inl, inr}
 use Rattle.std.specs.Prelude.{nat_le, int_le}
 use Rattle.std.proofs.lemmas.Bool.{and_parts, leb-false}
 use Rattle.std.proofs.lemmas.List.{get_or-set_same}
 use Rattle.wf_frame.specs.declared.classes.Class.{Class}
 use Rattle.wf_frame.specs.declared.notes.AskedRate.{AskedRate}
 use Rattle.wf_frame.specs.declared.notes.Note.TheVariants.{Asked}
-use Rattle.wf_frame.specs.declared.notes.Ask.TheVariants.{Join, Rate, Tick, Arrive, Answer, Sleep, Wake, Poll, Reap, Ampdu, Stop, Start}
+use Rattle.wf_frame.specs.declared.notes.Ask.TheVariants.{Join, Offload, Rate, Tick, Arrive, Answer, Sleep, Wake, Poll, Reap, Ampdu, Stop, Start}
 use Rattle.wf_frame.specs.declared.notes.Refusal.{Refusal}
 use Rattle.wf_frame.specs.declared.notes.ReplyNote.{ReplyNote}
 use Rattle.wf_frame.specs.declared.notes.ReplyNote.TheVariants.{Joined, Set, Now, Slept, Woken, Polled, Reaped, Stopped, Started}
 use Rattle.wf_frame.specs.Classes.{lower_tid, upper_tid}
 use Rattle.wf_frame.specs.Frames.{FrameValue}
 use Rattle.wf_def_rotation.specs.Rotation.{Rotation, has_key}
+use Rattle.wf_def_lists.specs.Bounds.{greatest_window}
 use Rattle.wf_def_world.specs.Rates.{rate_asked}
 use Rattle.wf_def_world.specs.World.{World, Exchange, rotation, is_live, exchange, on_station, on_tid, on_receiver, on_share, with_station, with_exchange}
 use Rattle.wf_def_world.specs.CanSend.{is_ready, is_debtor, is_to_list, with_listings_of}
 use Rattle.wf_def_world.specs.Refusals.{refusal, refusals}
-use Rattle.wf_def_world.specs.Step.{outcome_of, outcome_where_open, station_of, after_refusal, judged_outcome, step, arrive_outcome, answer_outcome, class_to_send, tick_outcome, rate_outcome, sleep_outcome, wake_outcome, poll_outcome, rx_outcome, join_outcome, ampdu_outcome}
+use Rattle.wf_def_world.specs.Step.{outcome_of, outcome_where_open, station_of, after_refusal, judged_outcome, step, arrive_outcome, answer_outcome, class_to_send, tick_outcome, rate_outcome, sleep_outcome, wake_outcome, poll_outcome, rx_outcome, join_outcome, offload_outcome, ampdu_outcome}
 use Rattle.wf_law_rules.proofs.Lemmas.Numbers.{either}
 use Rattle.wf_law_runs.proofs.Deficits.KeptStep.{NoRow, no_row}
 use Rattle.wf_law_runs.proofs.Deficits.Law.{deficits}
-use Rattle.wf_sched.specs.ClassRotas.{deficit, after_join}
-use Rattle.wf_sched_refines.specs.Standing.{everywhere}
+use Rattle.wf_sched.specs.ClassRotas.{deficit}
 use Rattle.wf_queue_flows_refines.specs.Standing.{with_finished}
 use Rattle.wf_queue_flows_refines.proofs.Ends.{reply_reaped}
 use Rattle.wf_send_parts.specs.Window.{WindowValue}
 use Rattle.wf_send_parts.specs.declared.stations.members.Member.{Member}
-use Rattle.wf_send_parts.specs.Members.{member, on_member, new_member, with_rate, with_ampdu}
-use Rattle.wf_send_parts.specs.Sleepers.{sleeper, with_sleeper, awake, woken}
+use Rattle.wf_send_parts.specs.Members.{member, on_member, with_rate, with_ampdu}
+use Rattle.wf_send_parts.specs.Sleepers.{sleeper, with_sleeper, woken}
 use Rattle.wf_send_half_model.specs.Half.{TransmitValue, can_send_of, may_receive_of, is_to_list_of}
 use Rattle.wf_send_half_model.specs.Standing.{Parts, IsReached, StandsFor, Meets}
-use Rattle.wf_send_half_model.specs.Changes.{after_listing, AreReset}
+use Rattle.wf_send_half_model.specs.Changes.{after_listing, AreReset, after_admission}
 use Rattle.wf_send_half_model.proofs.Reached.{by_law, reached_step, rises, owes_nothing}
 use Rattle.wf_send_half_model.proofs.Readers.{to_list_same}
 use Rattle.wf_send_half_model.proofs.Calls.{tick_parts, rate_parts, sleep_parts, wake_parts, poll_parts, reap_parts, ampdu_parts, stop_parts, start_parts}
-use Rattle.wf_send_half_model.proofs.Joins.{join_parts}
+use Rattle.wf_send_half_model.proofs.Joins.{admitted, join_parts, offload_parts}
 use Rattle.wf_send_half_model.proofs.Meets.{listed_none, listed_meets, unlisted_meets, idle_meets}
 use Rattle.wf_send_half_model.proofs.Listings.{nobody_new}
 use Rattle.wf_send_half_model.proofs.Unheard.{arrive_parts, answer_parts}
@@ -258,24 +258,31 @@ module _ (v : TransmitValue) (w : World) (bodies : ℕ → FrameValue) (h : Stan
   pub join_meets : (windows : List WindowValue) (s window start exponent weight : ℕ) →
       refusal w (Asked (Join s window start exponent weight)) ≡ None →
       AreReset v.windows windows s start window →
-      Meets w bodies (Asked (Join s window start exponent weight)) (after_listing (record v {
-        sched = everywhere (after_join s (v.sched.quantum * weight)) v.sched;
-        windows = windows;
-        members = set v.members s (Some (new_member exponent));
-        sleepers = with_sleeper v.sleepers s awake;
-      }) s) Joined
+      Meets w bodies (Asked (Join s window start exponent weight))
+      (after_admission v windows s exponent weight false) Joined
   unfolding outcome_of join_outcome
   join_meets windows s window start exponent weight done reset =
       let rows : NoRow (refusals w (Asked (Join s window start exponent weight))) =
       no_row (refusals w (Asked (Join s window start exponent weight))) done in
-      listed_meets (record v {
-        sched = everywhere (after_join s (v.sched.quantum * weight)) v.sched;
-        windows = windows;
-        members = set v.members s (Some (new_member exponent));
-        sleepers = with_sleeper v.sleepers s awake;
-      }) w bodies (Asked (Join s window start exponent weight)) h.reached tt tt done
+      listed_meets (admitted v windows s exponent weight false) w bodies
+      (Asked (Join s window start exponent weight)) h.reached tt tt done
       (join_parts v w bodies windows s window start exponent weight
       (below w s rows.0) rows.1.1.1.1.1.0 (λ c. owes_nothing w h.reached s c rows.1.1.1.1.1.0) reset h.parts)
+      s refl
+
+  pub offload_meets : (windows : List WindowValue) (s exponent weight : ℕ) →
+      refusal w (Asked (Offload s exponent weight)) ≡ None →
+      AreReset v.windows windows s 0 greatest_window →
+      Meets w bodies (Asked (Offload s exponent weight))
+      (after_admission v windows s exponent weight true) Joined
+  unfolding outcome_of offload_outcome
+  offload_meets windows s exponent weight done reset =
+      let rows : NoRow (refusals w (Asked (Offload s exponent weight))) =
+      no_row (refusals w (Asked (Offload s exponent weight))) done in
+      listed_meets (admitted v windows s exponent weight true) w bodies
+      (Asked (Offload s exponent weight)) h.reached tt tt done
+      (offload_parts v w bodies windows s exponent weight
+      (below w s rows.0) rows.1.1.1.0 (λ c. owes_nothing w h.reached s c rows.1.1.1.0) reset h.parts)
       s refl
 
 -- ---- Arrive and Answer

@@ -1,16 +1,19 @@
 -- Defines changes that calls make to a transmit half: listings, new windows, and an enqueue.
-use Rattle.std.specs.Prelude.{◌≡◌, ◌≢◌, ◌<◌, ℕ, ◌+◌, if◌then◌else◌, List, length}
+use Rattle.std.specs.Prelude.{◌≡◌, ◌≢◌, ◌<◌, ℕ, ◌+◌, ◌*◌, if◌then◌else◌, Bool, List, length, set, Some}
 use Rattle.wf_frame.specs.Classes.{all_classes, tid_number}
 use Rattle.wf_frame.specs.declared.classes.Class.{Class}
 use Rattle.wf_frame.specs.Frames.{FrameValue}
 use Rattle.wf_def_agreement.specs.Session.{new_session}
 use Rattle.wf_send_parts.specs.Tally.{one_accepted}
 use Rattle.wf_queue_flows.specs.Flows.{dropped_for_limit, after_put}
-use Rattle.wf_sched_refines.specs.Standing.{with_listed, with_listed_where}
+use Rattle.wf_sched.specs.ClassRotas.{after_join}
+use Rattle.wf_sched_refines.specs.Standing.{everywhere, with_listed, with_listed_where, with_weight}
+use Rattle.wf_send_parts.specs.Members.{new_member}
+use Rattle.wf_send_parts.specs.Sleepers.{awake, with_sleeper}
 use Rattle.wf_send_parts.specs.Window.{WindowValue, WindowStandsFor}
 use Rattle.wf_send_parts.specs.Windows.{WindowsHaveRoom, window_of}
 use Rattle.wf_send_half_model.specs.Counting.{with_overlimit}
-use Rattle.wf_send_half_model.specs.Half.{TransmitValue, is_ready_of, is_to_list_of}
+use Rattle.wf_send_half_model.specs.Half.{TransmitValue, is_ready_of, is_to_list_of, uncovered_air_of}
 
 -- a station is listed in each class in which it belongs on a list
 abbrev pub after_listing : TransmitValue → ℕ → TransmitValue
@@ -41,3 +44,20 @@ after_enqueue v f =
       flows = after_put v.flows (tid_number f.station f.tid) f;
       tally = with_overlimit (dropped_for_limit v.flows) (one_accepted v.tally);
     }
+
+-- station s joins with these windows: it has its quantum in each class, is awake and not stopped, and is
+-- listed where it belongs on a list
+abbrev pub after_admission : TransmitValue → List WindowValue → ℕ → ℕ → ℕ → Bool → TransmitValue
+after_admission v windows s exponent weight offloaded =
+    after_listing (record v {
+      sched = everywhere (after_join s (v.sched.quantum * weight)) v.sched;
+      windows = windows;
+      members = set v.members s (Some (new_member exponent offloaded));
+      sleepers = with_sleeper v.sleepers s awake;
+    }) s
+
+-- station s has this weight: its quantum in each class becomes another one, and each of its deficits is
+-- lowered to what the quantum allows
+abbrev pub after_weight : TransmitValue → ℕ → ℕ → TransmitValue
+after_weight v s weight =
+    after_listing (record v { sched = with_weight (uncovered_air_of v s) s weight v.sched }) s

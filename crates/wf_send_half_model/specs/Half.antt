@@ -1,12 +1,13 @@
 -- Defines what a transmit half of an access point keeps, as its callers see it; what stations received is no
 -- part of it. Times, deficits and airtime are in microseconds.
-use Rattle.std.specs.Prelude.{ℕ, ◌*◌, ◌==◌, nat_lt, nat_le, pos, int_le, Bool, false, not, ◌&&◌, ◌||◌, List, [], ◌∷◌, ◌++◌, Option, Some, None, is_some, option_map, if◌then◌else◌, map, find, replicate}
+use Rattle.std.specs.Prelude.{ℕ, ◌-◌, ◌*◌, ◌==◌, nat_lt, nat_le, pos, int_le, Bool, false, not, ◌&&◌, ◌||◌, List, [], ◌∷◌, ◌++◌, Option, Some, None, is_some, option_map, if◌then◌else◌, map, find, replicate}
 use Rattle.std.specs.List.{list_any}
 use Rattle.wf_frame.specs.declared.settings.Config.{Config}
 use Rattle.wf_frame.specs.declared.classes.Class.{Class}
 use Rattle.wf_frame.specs.Classes.{lower_tid, upper_tid, tid_number}
 use Rattle.wf_frame.specs.Frames.{FrameValue}
 use Rattle.wf_def_world.specs.CanSend.{has_credit}
+use Rattle.wf_def_world.specs.Exchanges.{longest_computed}
 use Rattle.wf_queue_flows.specs.Flows.{FlowsValue, empty_flows, frames_of_tid}
 use Rattle.wf_sched.specs.ClassRotas.{SchedValue, deficit, new_scheduler as empty_sched}
 use Rattle.wf_send_parts.specs.declared.window.place.Place.{Place}
@@ -87,6 +88,11 @@ is_ready_of v c s =
 -- `pending`
 abbrev pub pending_air_of : TransmitValue → ℕ → Class → ℕ
 pending_air_of v s c = if v.config.pending == 1 then airtime_to v.opened s c else 0
+
+-- the same airtime, as far as it is above that of all exchanges of the class but one, each with the greatest
+-- charge that is computed
+abbrev pub uncovered_air_of : TransmitValue → ℕ → Class → ℕ
+uncovered_air_of v s c = pending_air_of v s c - (v.config.inflight - 1) * longest_computed v.config c
 
 -- whether a credit blocks a poll: with the setting `credits`, only one in whose class the station can send
 abbrev pub is_live_credit_of : TransmitValue → ℕ → Option Class → Bool

@@ -52,6 +52,7 @@ open_of x = record {
   charge = x.charge;
   sending = sending_of x.content;
   more = x.more;
+  batch = x.batch;
   unsent = x.unsent;
   given_up = x.given_up;
 }
@@ -64,12 +65,14 @@ pub record HasFour (m : Member) : Type 0 where
   pub charged : length m.charged ≡ 4
   pub received : length m.received ≡ 4
 
--- a member represents a live station: rate, exponent, stated length of aggregates, turns, and sums of airtime
+-- a member represents a live station: rate, exponent, stated length of aggregates, whether it is offloaded,
+-- turns, and sums of airtime
 pub record IsMember (m : Member) (x : Station) : Type 0 where
   pub four : HasFour m
   pub rate : m.rate ≡ x.rate
   pub exponent : m.exponent ≡ x.exponent
   pub ampdu : m.ampdu ≡ x.ampdu
+  pub offloaded : m.offloaded ≡ x.offloaded
   pub upper : (c : Class) → upper_in m c ≡ (share_in x c).upper
   pub charged : (c : Class) → charged_in m c ≡ (share_in x c).charged
   pub received : (c : Class) → received_in m c ≡ (share_in x c).received

@@ -29,6 +29,7 @@ pub record StationView : Type 0 where
   pub rate : Rate
   pub exponent : ℕ
   pub ampdu : Option ℕ
+  pub offloaded : Bool
   pub stopped : Bool
   pub asleep : Bool
   pub credit : Option Class
@@ -41,6 +42,7 @@ view_of x = record {
   rate = x.rate;
   exponent = x.exponent;
   ampdu = x.ampdu;
+  offloaded = x.offloaded;
   stopped = x.stopped;
   asleep = x.asleep;
   credit = x.credit;

@@ -11,7 +11,7 @@
 //! half has: those that were accepted and are not reaped, each with its body.
 #![tactic(auto)]
 
-ghost use Rattle.std.specs.Prelude.{◌≡◌, ◌<◌, ◌≤◌, ℕ, suc, ◌+◌, ◌-◌, ◌*◌, ◌==◌, ◌||◌, ◌++◌, pos, ◌+ℤ◌, ◌-ℤ◌, Bool, true, false, List, [], ◌∷◌, Some, None, is_some, option_map, map, find, count_by, set, length, max, unwrap_or, ◌%◌, ◌&&◌, nat_lt, nat_le, if◌then◌else◌, All, Option, IfSome};
+ghost use Rattle.std.specs.Prelude.{◌≡◌, ◌<◌, ◌≤◌, ℕ, suc, ◌+◌, ◌-◌, ◌==◌, ◌||◌, ◌++◌, pos, ◌+ℤ◌, ◌-ℤ◌, Bool, true, false, List, [], ◌∷◌, Some, None, is_some, option_map, map, find, count_by, length, max, unwrap_or, ◌%◌, ◌&&◌, nat_lt, nat_le, if◌then◌else◌, All, Option, IfSome};
 ghost use Rattle.std.specs.List.{list_any};
 ghost use Rattle.wf_frame.specs.Classes.{lower_tid, upper_tid, same_class, class_of, tid_number};
 ghost use Rattle.wf_frame.specs.Frames.{FrameValue, source_octets};
@@ -21,7 +21,7 @@ ghost use Rattle.wf_frame.specs.declared.classes.Class.TheVariants.{Bk, Be, Vi, 
 ghost use Rattle.wf_frame.specs.declared.classes.Fate.{Fate};
 ghost use Rattle.wf_frame.specs.declared.classes.Fate.TheVariants.{Held, Dropped};
 ghost use Rattle.wf_frame.specs.declared.classes.Cause.TheVariants.{Flushed};
-ghost use Rattle.wf_frame.specs.declared.notes.Ask.TheVariants.{Done, Join, Leave, Pull, Rate, Tick, Arrive, Answer, Sleep, Wake, Poll, Rx, Reap, Ampdu, Stop, Start, Unsent, GiveUp, Flush};
+ghost use Rattle.wf_frame.specs.declared.notes.Ask.TheVariants.{Done, Join, Offload, Weight, Leave, Pull, Rate, Tick, Arrive, Answer, Sleep, Wake, Poll, Rx, Reap, Ampdu, Stop, Start, Unsent, GiveUp, Flush};
 ghost use Rattle.wf_frame.specs.declared.notes.AskedRate.{AskedRate};
 ghost use Rattle.wf_frame.specs.declared.notes.Limits.{Limits};
 ghost use Rattle.wf_frame.specs.declared.notes.Note.{Note};
@@ -31,13 +31,13 @@ ghost use Rattle.wf_frame.specs.declared.notes.Refusal.TheVariants.{Idle, Full, 
 ghost use Rattle.wf_frame.specs.declared.notes.ReplyNote.TheVariants.{Accepted, Left, Joined, Set, Now, Slept, Woken, Polled, Charged, Reaped, Stopped, Started, Marked, Refused, Send};
 ghost use Rattle.wf_frame.specs.declared.notes.ReplyNote.TheVariants as reply;
 ghost use Rattle.wf_frame.specs.declared.settings.Config.{Config};
-ghost use Rattle.wf_frame.specs.declared.notes.Part.TheVariants.{Mpdus, Request as Starts};
+ghost use Rattle.wf_frame.specs.declared.notes.Part.TheVariants.{Request as Starts};
 ghost use Rattle.wf_def_air.specs.Airtime.{Rate as RateValue, data_charge, request_charge};
 ghost use Rattle.wf_def_codel.specs.Codel.{Params};
 ghost use Rattle.wf_def_codel.specs.Parameters.{params_at};
 ghost use Rattle.wf_def_air.specs.Fit.{fits, most_octets, aggregate_octets};
 ghost use Rattle.wf_send_parts.specs.declared.exchanges.opened.Sending.TheVariants.{Data, Request as Starts_at};
-ghost use Rattle.wf_def_lists.specs.Bounds.{greatest_air};
+ghost use Rattle.wf_def_lists.specs.Bounds.{greatest_air, greatest_window};
 ghost use Rattle.wf_def_lists.specs.Lengths.{greatest_body};
 ghost use Rattle.wf_def_lists.specs.Lists.{IsOnce};
 ghost use Rattle.wf_def_agreement.specs.Receiver.{Receiver, Score};
@@ -45,10 +45,10 @@ ghost use Rattle.wf_def_lists.specs.Table.{at, has, upto};
 ghost use Rattle.wf_def_rotation.specs.Rotation.{Rotation, has_key};
 ghost use Rattle.wf_def_agreement.specs.Session.{Session, State, End, after_end, after_flush as session_flushed, slot, start_of, next_number, request_due, with_state, is_acknowledged, is_waiting, is_failed, with_number_given};
 ghost use Rattle.wf_def_world.specs.Rates.{rate_asked};
-ghost use Rattle.wf_def_world.specs.World.{World, Bounds, Station, Tid, Share, Queue, Exchange, Mpdu, frame, accepted_count, is_held, codel_params, with_frame_finished, with_frames_finished, Frames, Request, opening, without_exchange, is_live, session, share, rotation, exchange, owed_by_all, pending_air, on_station, on_tid, on_session, on_receiver, on_share, on_queue, with_queues, with_rotation, is_wide};
+ghost use Rattle.wf_def_world.specs.World.{World, Bounds, Station, Tid, Share, Queue, Exchange, Mpdu, frame, accepted_count, is_held, is_offloaded, codel_params, with_frame_finished, with_frames_finished, Frames, Request, opening, without_exchange, is_live, session, share, rotation, exchange, owed_by_all, pending_air, on_station, on_tid, on_session, on_receiver, on_share, on_queue, with_queues, with_rotation, is_wide};
 ghost use Rattle.wf_def_world.specs.FlowQueues.{frames_queued as world_queued, after_limit, dropped_for_limit as dropped_for_limit_in};
 ghost use Rattle.wf_def_world.specs.CanSend.{request_open, has_waiting, can_send, can_send_in, is_ready, is_debtor, is_to_list, with_listings_of};
-ghost use Rattle.wf_def_world.specs.Exchanges.{Aggregate, Prepared, picked_station, sending_tid, after_tid_turn, aggregate_of, prepared_data, mpdus_of, no_mpdu, numbers_unsent, numbers_given_up, end_of, charge_of, after_charge, with_settled, with_all_settled, count_in, part_of, lens_of, mpdu_of, aggregate_charge};
+ghost use Rattle.wf_def_world.specs.Exchanges.{Aggregate, Prepared, picked_station, sending_tid, after_tid_turn, aggregate_of, prepared_data, mpdus_of, no_mpdu, numbers_unsent, numbers_given_up, end_of, charge_of, after_charge, with_settled, with_all_settled, count_in, part_of, with_device_caught_up, lens_of, mpdu_of, aggregate_charge};
 ghost use Rattle.wf_def_world.specs.Refusals.{has_live_credit, refusal, is_at_aql_total, open_of_station, open_of_class, queued_in_class, can_send_any};
 ghost use Rattle.wf_def_world.specs.Step.{outcome_of, concerned_station, class_to_send, step, done_outcome, rx_outcome, send_outcome};
 ghost use Rattle.wf_law_runs.specs.Queues.{HasLength, IsAtMost};
@@ -58,11 +58,11 @@ ghost use Rattle.wf_law_runs.specs.Places.{IsNumbered, KeepsPlaces};
 ghost use Rattle.wf_law_runs.specs.Windows.{EachMpdu, IsPending};
 ghost use Rattle.wf_queue_flows.specs.Flows.{frames_of_tid, dropped_for_limit, taken_for_tid};
 ghost use Rattle.wf_queue_flows_refines.specs.Frames.{with_body, IsBodySettled};
-ghost use Rattle.wf_queue_flows_refines.specs.Standing.{with_finished, times_held};
+ghost use Rattle.wf_queue_flows_refines.specs.Standing.{with_finished, times_held, tid_emptied};
 ghost use Rattle.wf_queue_flows.specs.Backlog.{held_in_backlog};
 ghost use Rattle.wf_queue_flows_refines.specs.Rest.{rest_of_world};
-ghost use Rattle.wf_sched.specs.ClassRotas.{SchedValue, deficit, after_join};
-ghost use Rattle.wf_sched_refines.specs.Standing.{SchedulerStandsFor as TurnsStandFor, LeavesRotas, everywhere, with_deficit_charged};
+ghost use Rattle.wf_sched.specs.ClassRotas.{SchedValue, deficit};
+ghost use Rattle.wf_sched_refines.specs.Standing.{SchedulerStandsFor as TurnsStandFor, LeavesRotas, with_deficit_charged};
 ghost use Rattle.wf_send_parts.specs.Answers.{settling_answer};
 ghost use Rattle.wf_send_parts.specs.Window.{WindowValue, WindowStandsFor as WindowStandsFor, some_fly, is_flying, IsNumber, HasOwnFrame, state_at, can_take, on_air, waiting_from};
 ghost use Rattle.wf_send_parts.specs.Expelling.{frame_left};
@@ -74,12 +74,12 @@ ghost use Rattle.wf_octets.specs.Distance.{distance};
 ghost use Rattle.wf_send_parts.specs.Listing.{IsListedNext};
 ghost use Rattle.wf_send_parts.specs.Windows.{WindowsHaveRoom, window_of, with_window};
 ghost use Rattle.wf_send_parts.specs.Exchanges.{asks, airtime_of, has_nothing_sent, with_unsent, with_given_up};
-ghost use Rattle.wf_send_parts.specs.Members.{member, on_member, new_member, with_rate, with_ampdu, with_receipt};
-ghost use Rattle.wf_send_parts.specs.Sleepers.{sleeper, with_sleeper, awake, woken};
+ghost use Rattle.wf_send_parts.specs.Members.{member, is_offloaded_in, on_member, with_rate, with_ampdu, with_receipt};
+ghost use Rattle.wf_send_parts.specs.Sleepers.{sleeper, with_sleeper, woken};
 ghost use Rattle.wf_send_parts.specs.declared.stations.members.Member.{Member};
 ghost use Rattle.wf_send_half_model.specs.Half.{TransmitValue, opening_half, some_wait, can_send_of, has_live_credit_of, is_ready_of, pending_air_of, is_to_list_of, is_ahead_of};
 ghost use Rattle.wf_send_half_model.specs.Standing.{open_of, counts_in, HasWindows, Parts, IsReached, StandsFor, Meets, sending_of, numbers_on_air};
-ghost use Rattle.wf_send_half_model.specs.Changes.{after_listing, after_listing_in, AreReset, after_enqueue};
+ghost use Rattle.wf_send_half_model.specs.Changes.{after_listing, after_listing_in, AreReset, after_enqueue, after_admission, after_weight};
 ghost use Rattle.wf_send_half_model.specs.Counting.{with_overlimit};
 ghost use Rattle.wf_send_half_model.specs.Ending.{after_close, after_finish, after_answer, IsEnding, state_left};
 ghost use Rattle.wf_send_half_model.specs.Leaving.{after_expelled, after_tid_purged, after_leave, IsLeaving, IsExpelling, IsExpelled};
@@ -332,19 +332,45 @@ pub fn a_call_that_moves_no_frame()
         }) s) Started }
 {}
 
-/// A station joins. In each class it gets its quantum of airtime, and on each TID a new window.
+/// A station joins. In each class it gets its quantum of airtime, and on each TID a new window. One whose
+/// device numbers its frames has the widest windows, from number 0 on.
 pub fn a_join()
-    ensures { (v : TransmitValue) (w : World) (bodies : ℕ → FrameValue) → StandsFor v w bodies →
+    ensures joined { (v : TransmitValue) (w : World) (bodies : ℕ → FrameValue) → StandsFor v w bodies →
         (windows : List WindowValue) (s window start exponent weight : ℕ) →
         refusal w (Asked (Join s window start exponent weight)) ≡ None →
         AreReset v.windows windows s start window →
         Meets w bodies (Asked (Join s window start exponent weight))
-        (after_listing (record v {
-          sched = everywhere (after_join s (v.sched.quantum * weight)) v.sched;
-          windows = windows;
-          members = set v.members s (Some (new_member exponent));
-          sleepers = with_sleeper v.sleepers s awake;
-        }) s) Joined }
+        (after_admission v windows s exponent weight false) Joined }
+    ensures offloaded { (v : TransmitValue) (w : World) (bodies : ℕ → FrameValue) → StandsFor v w bodies →
+        (windows : List WindowValue) (s exponent weight : ℕ) →
+        refusal w (Asked (Offload s exponent weight)) ≡ None →
+        AreReset v.windows windows s 0 greatest_window →
+        Meets w bodies (Asked (Offload s exponent weight))
+        (after_admission v windows s exponent weight true) Joined }
+{}
+
+/// A station gets another weight. Its quantum in each class becomes another one, its deficits are lowered to
+/// what this allows, and it is listed where it becomes a debtor.
+pub fn a_weight()
+    ensures { (v : TransmitValue) (w : World) (bodies : ℕ → FrameValue) → StandsFor v w bodies →
+        (s weight : ℕ) → refusal w (Asked (Weight s weight)) ≡ None →
+        Meets w bodies (Asked (Weight s weight)) (after_weight v s weight) Set }
+{}
+
+/// The device of an offloaded station tells its peer where the window of a TID starts: the window gets its
+/// own start as heard, and the receiver has it. Nothing changes for another station.
+pub fn a_device_catches_up()
+    ensures offloaded { (v : TransmitValue) (w : World) (bodies : ℕ → FrameValue) (s t : ℕ)
+        (x : WindowValue) → Parts v w bodies → is_live w s ≡ true → t < 8 → is_offloaded w s ≡ true →
+        WindowsHaveRoom (with_window v.windows s t x) →
+        WindowStandsFor x (record (session w s t) {
+          heard = max (session w s t).heard (start_of (session w s t));
+        }) bodies →
+        Parts (record v { windows = with_window v.windows s t x }) (with_device_caught_up w s t) bodies }
+    ensures others { (v : TransmitValue) (w : World) (bodies : ℕ → FrameValue) (s t : ℕ) → Parts v w bodies →
+        is_offloaded w s ≡ false → Parts v (with_device_caught_up w s t) bodies }
+    ensures member { (v : TransmitValue) (w : World) (bodies : ℕ → FrameValue) (s : ℕ) → Parts v w bodies →
+        is_offloaded_in v.members s ≡ is_offloaded w s }
 {}
 
 /// Arrive and Answer change no part of the half: if it represents a world, it represents the world after such
@@ -461,8 +487,9 @@ pub fn an_exchange_of_data_ends()
         IsEnding v w bodies s t e ends [] after → Parts v after bodies }
     ensures world { (w : World) (x : Exchange) (heard : Bool) (air : Option ℕ) (mpdus : List Mpdu) →
         x.content ≡ Frames mpdus →
-        (done_outcome w x heard air).world ≡ with_all_settled
-        (after_charge (without_exchange w x.number) x air) x.station x.tid (end_of x heard) mpdus }
+        (done_outcome w x heard air).world ≡ with_device_caught_up (with_all_settled
+        (after_charge (without_exchange w x.number) x air) x.station x.tid (end_of x heard) mpdus)
+        x.station x.tid }
 {}
 
 /// An exchange of a request ends: it is closed and charged, and if it was heard, the window of its TID gets
@@ -606,7 +633,7 @@ pub fn a_leave()
 /// A TID is flushed. First the waiting numbers fail, one after the other, and the frame of each is finished
 /// as `flushed` and counted. Then the frames of its queues are. `IsFlushing` holds between two numbers, and
 /// `HasNumbersFlushed` between numbers and queues. There is room for each frame, and they are at most the
-/// setting `room`. The answer is their number.
+/// setting `room`. The answer is their number. At last the device of an offloaded station catches up.
 pub fn a_flush()
     ensures begins { (v : TransmitValue) (w : World) (bodies : ℕ → FrameValue) (s t : ℕ) →
         StandsFor v w bodies → refusal w (Asked (Flush s t)) ≡ None →
@@ -639,10 +666,14 @@ pub fn a_flush()
     ensures few { (before v : TransmitValue) (w : World) (bodies : ℕ → FrameValue) (s t dropped : ℕ) →
         HasNumbersFlushed before w bodies s t v dropped →
         dropped + frames_of_tid v.flows (tid_number s t) ≤ w.config.room }
-    ensures whole { (before v : TransmitValue) (w : World) (bodies : ℕ → FrameValue) (s t dropped : ℕ) →
+    ensures emptied { (before v : TransmitValue) (w : World) (bodies : ℕ → FrameValue) (s t dropped : ℕ) →
         HasNumbersFlushed before w bodies s t v dropped →
-        Meets w bodies (Asked (Flush s t)) (after_listing
-        (with_queues_flushed v s t (frames_of_tid v.flows (tid_number s t))) s)
+        Parts (with_queues_flushed v s t (frames_of_tid v.flows (tid_number s t))) (tid_emptied w s t)
+        bodies }
+    ensures whole { (before v u : TransmitValue) (w : World) (bodies : ℕ → FrameValue) (s t dropped : ℕ) →
+        HasNumbersFlushed before w bodies s t v dropped →
+        Parts u (with_device_caught_up (tid_emptied w s t) s t) bodies →
+        Meets w bodies (Asked (Flush s t)) (after_listing u s)
         (reply.Flushed (dropped + frames_of_tid v.flows (tid_number s t))) }
 {}
 
@@ -755,7 +786,7 @@ pub fn an_exchange_is_sent()
         Parts (after_sending v s t c p.charge (sending_of p.content)) (send_outcome s t c p).world bodies }
     ensures reply { (v : TransmitValue) (bodies : ℕ → FrameValue) (s t : ℕ) (c : Class) (p : Prepared) →
         Parts v p.world bodies → is_live p.world s ≡ true →
-        Send v.exchanges s t p.charge (part_of p.content)
+        Send v.exchanges s t p.charge (part_of (is_offloaded_in v.members s) p.content)
         (open_next v s t c p.charge (sending_of p.content)).more ≡ (send_outcome s t c p).reply }
     ensures wide { (v : TransmitValue) (w : World) (bodies : ℕ → FrameValue) (s t : ℕ) → Parts v w bodies →
         is_live w s ≡ true → t < 8 →
@@ -946,7 +977,7 @@ pub fn a_pull()
         IsTakingOff x u sent s t a.world.exchanges [] (prepared_data s t a).world →
         (charge : ℕ) (numbers : List ℕ) → charge ≡ aggregate_charge s t a → numbers ≡ numbers_on_air a.mpdus →
         Meets w sent (Asked (Pull c l)) (after_listing_in (after_sending x s t c charge (Data numbers)) s c)
-        (Send x.exchanges s t charge (Mpdus (map (λ m. (m.id, m.number % 4096)) a.mpdus))
+        (Send x.exchanges s t charge (part_of (is_offloaded_in x.members s) (Frames a.mpdus))
         (open_next x s t c charge (Data numbers)).more) }
 {}
 

@@ -1,5 +1,5 @@
 -- Defines the state that is kept of each live station, by number. Airtime is in microseconds.
-use Rattle.std.specs.Prelude.{ℕ, ◌+◌, Bool, false, List, [], ◌∷◌, Option, Some, None, option_map, slice_index, slice_index_or, slice_set}
+use Rattle.std.specs.Prelude.{ℕ, ◌+◌, Bool, false, List, [], ◌∷◌, Option, Some, None, option_map, unwrap_or, slice_index, slice_index_or, slice_set}
 use Rattle.wf_frame.specs.declared.classes.Class.{Class}
 use Rattle.wf_frame.specs.Classes.{class_number}
 use Rattle.wf_def_air.specs.Airtime.{Rate, lowest_rate}
@@ -7,11 +7,12 @@ use Rattle.wf_send_parts.specs.declared.stations.members.Member.{Member}
 
 -- a station that joins: it has the lowest rate, no stated length of aggregates, the lower TID's turn in each
 -- class, and no airtime charged
-abbrev pub new_member : ℕ → Member
-new_member exponent = record {
+abbrev pub new_member : ℕ → Bool → Member
+new_member exponent offloaded = record {
   rate = lowest_rate;
   exponent = exponent;
   ampdu = None;
+  offloaded = offloaded;
   upper = false ∷ false ∷ false ∷ false ∷ [];
   charged = 0 ∷ 0 ∷ 0 ∷ 0 ∷ [];
   received = 0 ∷ 0 ∷ 0 ∷ 0 ∷ [];
@@ -20,6 +21,10 @@ new_member exponent = record {
 -- the state of a station; None if it is not live
 abbrev pub member : List (Option Member) → ℕ → Option Member
 member members s = slice_index_or members s None
+
+-- whether a station is live and offloaded
+abbrev pub is_offloaded_in : List (Option Member) → ℕ → Bool
+is_offloaded_in members s = unwrap_or (option_map (λ m. m.offloaded) (member members s)) false
 
 -- the stations with the state of station s changed, if it is live
 abbrev pub on_member : List (Option Member) → ℕ → (Member → Member) → List (Option Member)

@@ -1,6 +1,6 @@
 -- Proves the law `a_flush` by the lemmas of Flushing and Flushed.
 use Rattle.wf_send_half_model.proofs.Flushing.{flush_begins, flush_within, flush_room, flush_next, flush_ends}
-use Rattle.wf_send_half_model.proofs.Flushed.{flush_held, flush_few, flush_meets}
+use Rattle.wf_send_half_model.proofs.Flushed.{flush_held, flush_few, flushed_parts, flush_meets}
 use Rattle.wf_send_half_model.proofs.a_flush.Goals as goal
 
 pub returns-clause-begins : goal.returns-clause-begins
@@ -25,5 +25,9 @@ returns-clause-held c = flush_held
 pub returns-clause-few : goal.returns-clause-few
 returns-clause-few c = flush_few
 
+pub returns-clause-emptied : goal.returns-clause-emptied
+returns-clause-emptied c = flushed_parts
+
 pub returns-clause-whole : goal.returns-clause-whole
-returns-clause-whole c = flush_meets
+returns-clause-whole c before v u w bodies s t dropped so_far parts =
+    flush_meets before v w bodies s t dropped so_far u parts

@@ -1,6 +1,9 @@
 -- Proves the law `a_join` by the lemmas of Whole.
-use Rattle.wf_send_half_model.proofs.Whole.{join_meets}
+use Rattle.wf_send_half_model.proofs.Whole.{join_meets, offload_meets}
 use Rattle.wf_send_half_model.proofs.a_join.Goals as goal
 
-pub returns : goal.returns
-returns c = join_meets
+pub returns-clause-joined : goal.returns-clause-joined
+returns-clause-joined c = join_meets
+
+pub returns-clause-offloaded : goal.returns-clause-offloaded
+returns-clause-offloaded c = offload_meets

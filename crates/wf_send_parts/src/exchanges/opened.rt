@@ -48,6 +48,8 @@ pub struct Open {
     pub sending: Sending,
     /// The More Data bit of its frames (8.2.4.1.8).
     pub more: bool,
+    /// Whether the station's device numbers, aggregates and repeats its frames.
+    pub batch: bool,
     /// The indices of the transmissions that never went on the air, counted from 0.
     pub unsent: Bits256,
     /// The indices of the transmissions that the device will not try again.

@@ -17,6 +17,8 @@ pub struct Member {
     /// The most octets of an aggregate of VHT or HE to it, if that was stated: 4,096 to 6,500,631 (IEEE
     /// 802.11ax-2021, 26.6.1).
     pub ampdu: Option<u32>,
+    /// Whether its device numbers, aggregates and repeats its frames.
+    pub offloaded: bool,
     /// By class, from background to voice: whether it is the turn of the upper of the class's two TIDs.
     pub upper: [bool; 4],
     /// By class: the airtime charged for its exchanges since its join, in microseconds.
@@ -42,7 +44,7 @@ impl Model for Members {
 }
 
 impl Members {
-    ghost use Rattle.wf_send_parts.specs.Members.{new_member, member, on_member, with_rate, with_ampdu, with_upper, charged_in, with_charge, received_in, with_receipt};
+    ghost use Rattle.wf_send_parts.specs.Members.{new_member, member, is_offloaded_in, on_member, with_rate, with_ampdu, with_upper, charged_in, with_charge, received_in, with_receipt};
 
     /// Creates `stations` stations, 1 to 256, of which none is live. Fails only if memory runs out.
     pub fn new(alloc: Global, stations: u32) -> Result<Members, AllocError>
@@ -55,15 +57,16 @@ impl Members {
     }
 
     /// Makes a station live, at the lowest rate, with no stated length of aggregates, the lower TID's turn in
-    /// each class and no airtime charged.
-    pub fn join(&mut self, station: u16, exponent: u8)
+    /// each class and no airtime charged. `offloaded` is whether its device numbers its frames.
+    pub fn join(&mut self, station: u16, exponent: u8, offloaded: bool)
         requires { station < length self.old }
-        ensures { self.new ≡ slice_set self.old station (Some (new_member exponent)) }
+        ensures { self.new ≡ slice_set self.old station (Some (new_member exponent offloaded)) }
     {
         self.stations[usize::from(station)] = Some(Member {
             rate: Rate::lowest(),
             exponent,
             ampdu: None,
+            offloaded,
             upper: [false; 4],
             charged: [0; 4],
             received: [0; 4],
@@ -84,6 +87,18 @@ impl Members {
         ensures { result ≡ is_some (member self.now station) }
     {
         self.stations[usize::from(station)].is_some()
+    }
+
+    /// Returns whether a station is live and offloaded: its device numbers, aggregates and repeats its
+    /// frames.
+    pub fn is_offloaded(&self, station: u16) -> bool
+        requires { station < length self.now }
+        ensures { result ≡ is_offloaded_in self.now station }
+    {
+        match &self.stations[usize::from(station)] {
+            Some(member) => member.offloaded,
+            None => false,
+        }
     }
 
     /// Returns the state of a live station.

@@ -245,6 +245,15 @@ impl Window {
         }
     }
 
+    /// Records that the peer knows F: no request is due, as if a BlockAckReq with this start was heard.
+    pub fn catch_up(&mut self)
+        ensures stands { (s : Session) (bodies : ℕ → FrameValue) → WindowStandsFor self.old s bodies →
+            WindowStandsFor self.new (record s { heard = max s.heard (start_of s) }) bodies }
+        ensures capacity { self.new.capacity ≡ self.old.capacity }
+    {
+        self.bar_heard(self.start);
+    }
+
     /// Returns whether `give` accepts a parcel: no request is due, and N is below F + w.
     pub fn can_give(&self) -> bool
         ensures shown { result ≡ can_take self.now }

@@ -127,6 +127,21 @@ impl Windows {
         self.windows[tid_number(station, tid) as usize].bar_heard(start);
     }
 
+    /// Records that the peer knows the first number of a TID that is not settled, as `Window::catch_up`.
+    pub fn catch_up(&mut self, station: u16, tid: u8)
+        requires tid { tid < 8 }
+        requires within { tid_number station tid < length self.old }
+        ensures stands { (s : Session) (bodies : ℕ → FrameValue) →
+            WindowStandsFor (window_of self.old station tid) s bodies →
+            WindowStandsFor (window_of self.new station tid)
+            (record s { heard = max s.heard (start_of s) }) bodies }
+        ensures others { self.new ≡ with_window self.old station tid (window_of self.new station tid) }
+        ensures room { WindowsHaveRoom self.new }
+        ensures count { length self.new ≡ length self.old }
+    {
+        self.windows[tid_number(station, tid) as usize].catch_up();
+    }
+
     /// Gives the parcel the next fresh number of a TID, as `Window::give`. If the window's `can_give` is
     /// false, returns the parcel as the error.
     pub fn give(&mut self, station: u16, tid: u8, parcel: Parcel) -> Result<Seq12, Parcel>
