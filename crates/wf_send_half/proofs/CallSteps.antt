@@ -8,8 +8,8 @@ use Rattle.wf_frame.specs.declared.settings.Config.{Config}
 use Rattle.wf_frame.specs.declared.classes.Class.{Class}
 use Rattle.wf_frame.specs.declared.notes.AskedRate.{AskedRate}
 use Rattle.wf_frame.specs.declared.notes.Note.TheVariants.{Asked}
-use Rattle.wf_frame.specs.declared.notes.Ask.TheVariants.{Join, Rate as Rates, Tick, Sleep, Wake, Poll, Rx, Reap, Ampdu, Stop, Start}
-use Rattle.wf_frame.specs.declared.notes.ReplyNote.TheVariants.{Joined, Set, Now, Slept, Woken, Polled, Charged, Reaped, Stopped, Started, Refused}
+use Rattle.wf_frame.specs.declared.notes.Ask.TheVariants.{Rate as Rates, Tick, Sleep, Wake, Poll, Rx, Reap, Ampdu, Stop, Start}
+use Rattle.wf_frame.specs.declared.notes.ReplyNote.TheVariants.{Set, Now, Slept, Woken, Polled, Charged, Reaped, Stopped, Started, Refused}
 use Rattle.wf_frame.specs.declared.notes.Refusal.TheVariants.{Debt, Nothing}
 use Rattle.wf_frame.specs.Frames.{FrameValue}
 use Rattle.wf_def_air.specs.Airtime.{Rate}
@@ -31,10 +31,10 @@ use Rattle.wf_send_parts.specs.declared.stations.sleepers.Sleeper.{Sleeper}
 use Rattle.wf_send_parts.specs.Sleepers.{sleeper, with_sleeper, awake, woken}
 use Rattle.wf_send_half_model.specs.Half.{TransmitValue, pending_air_of}
 use Rattle.wf_send_half_model.specs.Standing.{StandsFor, Meets}
-use Rattle.wf_send_half_model.specs.Changes.{after_listing, after_listing_in, AreReset}
+use Rattle.wf_send_half_model.specs.Changes.{after_listing, after_listing_in, after_admission}
 use Rattle.wf_send_half_model.proofs.Readers.{pending_same, deficit_same}
 use Rattle.wf_send_half_model.proofs.Receipts.{after_receipt, rx_meets}
-use Rattle.wf_send_half_model.proofs.Whole.{tick_meets, reap_meets, rate_meets, ampdu_meets, stop_meets, start_meets, sleep_meets, wake_meets, poll_meets, join_meets}
+use Rattle.wf_send_half_model.proofs.Whole.{tick_meets, reap_meets, rate_meets, ampdu_meets, stop_meets, start_meets, sleep_meets, wake_meets, poll_meets}
 use Rattle.wf_send_half.specs.declared.half.Half.TheInside.{Inside}
 use Rattle.wf_send_half.proofs.Rows.{last_row, live_of, refused_call}
 use Rattle.wf_send_half.proofs.Worlds.{met_by}
@@ -242,47 +242,40 @@ module _ (v x : TransmitValue) (same : x ≡ v) (w : World) (bodies : ℕ → Fr
       (last_row true (length w.finished == 0) Nothing
       (ap (λ (l : List ℕ). length l == 0) (finished_is ∙ ap ids none))))
 
-  pub join_done : (s window start exponent weight : ℕ) (turns : SchedValue) (windows : List WindowValue)
-      (members : List (Option Member)) (sleepers : List Sleeper) (y : TransmitValue) →
-      turns ≡ everywhere (after_join s (x.sched.quantum * weight)) x.sched →
-      members ≡ set x.members s (Some (new_member exponent)) →
-      sleepers ≡ with_sleeper x.sleepers s awake → AreReset x.windows windows s start window →
-      y ≡ after_listing (record x {
-        sched = turns;
-        windows = windows;
-        members = members;
-        sleepers =
-            sleepers;
-      }) s → None ≡ refusal w (Asked (Join s window start exponent weight)) →
-      Meets w bodies (Asked (Join s window start exponent weight)) y Joined
-  join_done s window start exponent weight turns windows members sleepers y e f g reset listed done =
-      met_by (after_listing (record x {
-        sched = everywhere (after_join s (x.sched.quantum * weight)) x.sched;
-        windows = windows;
-        members = set x.members s (Some (new_member exponent));
-        sleepers = with_sleeper x.sleepers s awake;
-      }) s) y w bodies (Asked (Join s window start exponent weight)) Joined
-      (listed ∙ ap (λ (z : TransmitValue). after_listing z s)
-      (ap (λ (t : SchedValue). record x {
-        sched = t;
-        windows = windows;
-        members = members;
-        sleepers =
-            sleepers;
-      }) e
-      ∙ ap (λ (m : List (Option Member)). record x {
-        sched =
-            everywhere (after_join s (x.sched.quantum * weight)) x.sched;
-        windows = windows;
-        members = m;
-        sleepers = sleepers;
-      }) f
-      ∙ ap (λ (l : List Sleeper). record x {
-        sched =
-            everywhere (after_join s (x.sched.quantum * weight)) x.sched;
-        windows = windows;
-        members =
-            set x.members s (Some (new_member exponent));
-        sleepers = l;
-      }) g))
-      (join_meets x w bodies at_x windows s window start exponent weight (sym done) reset)
+-- the half after a station joined, by what each part does; x is the value of the fields of the half v
+pub admitted_is : (v x : TransmitValue) → x ≡ v → (s exponent weight : ℕ) (offloaded : Bool)
+    (turns : SchedValue) (windows : List WindowValue) (members : List (Option Member))
+    (sleepers : List Sleeper) (y : TransmitValue) →
+    turns ≡ everywhere (after_join s (x.sched.quantum * weight)) x.sched →
+    members ≡ set x.members s (Some (new_member exponent offloaded)) →
+    sleepers ≡ with_sleeper x.sleepers s awake →
+    y ≡ after_listing (record x {
+      sched = turns;
+      windows = windows;
+      members = members;
+      sleepers = sleepers;
+    }) s → y ≡ after_admission v y.windows s exponent weight offloaded
+admitted_is v x same s exponent weight offloaded turns windows members sleepers y e f g listed =
+    let is : y ≡ after_admission x windows s exponent weight offloaded =
+    listed ∙ ap (λ (z : TransmitValue). after_listing z s)
+    (ap (λ (t : SchedValue). let z : TransmitValue = record x {
+      sched = t;
+      windows = windows;
+      members = members;
+      sleepers = sleepers;
+    } in z) e
+    ∙ ap (λ (m : List (Option Member)). let z : TransmitValue = record x {
+      sched = everywhere (after_join s (x.sched.quantum * weight)) x.sched;
+      windows = windows;
+      members = m;
+      sleepers = sleepers;
+    } in z) f
+    ∙ ap (λ (l : List Sleeper). let z : TransmitValue = record x {
+      sched = everywhere (after_join s (x.sched.quantum * weight)) x.sched;
+      windows = windows;
+      members = set x.members s (Some (new_member exponent offloaded));
+      sleepers = l;
+    } in z) g) in
+    is ∙ ap (λ (l : List WindowValue). after_admission x l s exponent weight offloaded)
+    (sym (ap (λ (z : TransmitValue). z.windows) is))
+    ∙ ap (λ (z : TransmitValue). after_admission z y.windows s exponent weight offloaded) same

@@ -18,6 +18,7 @@ use Rattle.wf_def_lists.specs.Table.{has, upto}
 use Rattle.wf_def_world.specs.World.{World, Exchange, Mpdu, Content, Frames, Request, exchange, is_live, is_wide}
 use Rattle.wf_def_world.specs.CanSend.{is_request}
 use Rattle.wf_def_world.specs.Exchanges.{mpdus_of, is_acked, numbers_unsent, charge_of}
+use Rattle.wf_law_runs.specs.Delivery.{is_batch}
 use Rattle.wf_def_world.specs.Refusals.{refusal}
 use Rattle.wf_frame.specs.Settings.{is_bad_air}
 use Rattle.wf_def_world.specs.Step.{done_outcome}
@@ -43,12 +44,12 @@ use Rattle.wf_send_half_model.proofs.FitMarks.{answered_sent, same_transmissions
 use Rattle.wf_send_half_model.proofs.Meets.{refused_meets}
 use Rattle.wf_send_half_model.proofs.Reached.{now_is, by_law}
 use Rattle.wf_send_half_model.proofs.Readers.{exchange_same}
-use Rattle.wf_send_half.specs.Bits.{is_shown, AreShown, NoneIsShown, GoesBy, IsClosed, IsChargeSmall, has_bad_air, is_answer_impossible, end_refusal, ended_reply}
+use Rattle.wf_send_half.specs.Bits.{is_shown, is_unanswered, IsNoBatch, IsToldAs, AreShown, AreArrived, NoneIsShown, GoesBy, IsClosed, IsChargeSmall, has_bad_air, is_answer_impossible, end_refusal, ended_reply}
 use Rattle.wf_send_half.specs.Half.{HasWorld}
 use Rattle.wf_send_half.specs.declared.finish.Ended.{Ended}
 use Rattle.wf_send_half.proofs.Ends.{begun}
 use Rattle.std.proofs.lemmas.Bool.{and_parts, eqb-true, leb-true, not-false}
-use Rattle.wf_law_driver.proofs.Ended.{bad_lost, bad_heard}
+use Rattle.wf_law_driver.proofs.Ended.{bad_lost, bad_heard, bad_told, batch_lacks_none, may_end_lost, may_end_told}
 
 -- ---- the exchange that is open
 
@@ -103,7 +104,7 @@ module _ (v : TransmitValue) (w : World) (bodies : ℕ → FrameValue) (h : Stan
 -- the reason, by the exchange if it is open
 abbrev reason : Option (ℕ × List ℕ) → Bool → Option Open → Option Refusal
 reason heard bad f = if is_none f then Some NoExchange
-    else if is_some heard && unwrap_or (option_map nothing_sent f) false then Some NoAnswer
+    else if is_some heard && unwrap_or (option_map is_unanswered f) false then Some NoAnswer
     else if bad then Some BadAir
     else None
 
@@ -134,11 +135,16 @@ module _ (v : TransmitValue) (e : ℕ) (heard : Option (ℕ × List ℕ)) (air :
         end_refusal v e heard air ≡ None
     ends_well answers fine = by_tests false false answers fine
 
--- something was heard for an exchange of which nothing went on the air
+-- something was heard for an exchange that is no batch and of which nothing went on the air
 pub record IsUnanswered (v : TransmitValue) (e : ℕ) : Type 0 where
   pub opened : Open
   pub some : Some opened ≡ find (λ x. x.number == e) v.opened
+  pub unbatched : opened.batch ≡ false
   pub nothing : nothing_sent opened ≡ true
+
+pub not_true : (a : Bool) → not a ≡ true → a ≡ false
+not_true true e = sym e
+not_true false e = refl
 
 pub unanswered_of : (v : TransmitValue) (e : ℕ) (heard : Option (ℕ × List ℕ)) →
     is_answer_impossible v e heard ≡ true → (is_some heard ≡ true) × IsUnanswered v e
@@ -146,9 +152,11 @@ unanswered_of v e heard h =
     let both = and_parts (is_some heard) _ h in (both.0, go (find (λ x. x.number == e) v.opened) refl both.1)
   where
     go : (o : Option Open) → find (λ x. x.number == e) v.opened ≡ o →
-        unwrap_or (option_map nothing_sent o) false ≡ true → IsUnanswered v e
+        unwrap_or (option_map is_unanswered o) false ≡ true → IsUnanswered v e
     go None is k = absurd (cc k)
-    go (Some x) is k = record { opened = x; some = sym is; nothing = k }
+    go (Some x) is k =
+        let two = and_parts (not x.batch) (nothing_sent x) k in
+        record { opened = x; some = sym is; unbatched = not_true x.batch two.0; nothing = two.1 }
 
 -- the test of the half, in terms of its fields
 pub answers_then : (v u : TransmitValue) (e : ℕ) (heard : Option (ℕ × List ℕ)) (b : Bool) → u ≡ v →
@@ -169,6 +177,12 @@ module _ (v : TransmitValue) (w : World) (bodies : ℕ → FrameValue) (h : Stan
       let same : it.exchange_is ≡ x = cc (it.known, known) in
       sym (nothing_same x) ∙ ap (λ (y : Exchange). nothing_sent (open_of y)) (sym same)
       ∙ ap nothing_sent (sym it.same) ∙ k.nothing
+
+  pub not_batch : (x : Exchange) → exchange w e ≡ Some x → x.batch ≡ false
+  not_batch x known =
+      let it : IsKnown w e k.opened = known_of v w bodies h e k.opened k.some in
+      let same : it.exchange_is ≡ x = cc (it.known, known) in
+      ap (λ (y : Exchange). y.batch) (sym same) ∙ (ap (λ (o : Open). o.batch) (sym it.same) ∙ k.unbatched)
 
   pub never_answered : (x : Exchange) (b : Score) → exchange w e ≡ Some x → x.answer ≡ Some b → ⊥
   never_answered x b known kept =
@@ -213,6 +227,20 @@ module _ (v : TransmitValue) (w : World) (bodies : ℕ → FrameValue) (h : Stan
       Meets w bodies (Asked (Done e true air)) v (Refused BadAir)
   bad_meets_heard x b known kept =
       bad_done v w bodies h e true air (bad_heard w e x b air known kept bad_there)
+
+  pub bad_meets_told : (told : Bool) (x : Exchange) → exchange w e ≡ Some x → x.batch ≡ true →
+      Meets w bodies (Asked (Done e told air)) v (Refused BadAir)
+  bad_meets_told false x known batch = bad_meets_lost
+  bad_meets_told true x known batch =
+      bad_done v w bodies h e true air (bad_told w e x air known (batch_lacks_none x batch) bad_there)
+
+-- a batch may end, whether the call says that something was heard or not
+pub may_end_batch : (told : Bool) (w : World) (e : ℕ) (x : Exchange) (air : Option ℕ) →
+    exchange w e ≡ Some x → x.batch ≡ true → is_bad_air w.config air ≡ false →
+    refusal w (Asked (Done e told air)) ≡ None
+may_end_batch false w e x air known batch fine = may_end_lost w e x air known fine
+may_end_batch true w e x air known batch fine =
+    may_end_told w e x air known (batch_lacks_none x batch) fine
 
 -- ---- its charge
 
@@ -381,6 +409,10 @@ unopened e (x ∷ xs) h = go (x.number == e) h (unopened e xs)
 
 -- ---- a BlockAck was heard, or not
 
+pub not_both : {X : Type 0} (o : Option X) → is_some o ≡ true → o ≡ None → ⊥
+not_both None some none = absurd (cc some)
+not_both (Some s) some none = absurd (cc none)
+
 pub where_none : {X : Type 0} (P : Type 0) (heard : Option X) → (heard ≡ None → P) → IfNone heard P
 where_none P None f = f refl
 where_none P (Some s) f = tt
@@ -423,26 +455,42 @@ all_lost : (x : Exchange) (ms : List Mpdu) → OfSent x (λ m. false ≡ false) 
 all_lost x [] = tt
 all_lost x (m ∷ ms) = (λ sent. refl, all_lost x ms)
 
-pub goes_lost : (w : World) (x : Exchange) → GoesBy w x None false
-goes_lost w x = record {
-  numbers = lost_numbers x (λ n. false) (mpdus_of x.content) (all_lost x (mpdus_of x.content));
+unbatched_here : (w : World) (e : ℕ) (x : Exchange) → exchange w e ≡ Some x → IsNoBatch w e → x.batch ≡ false
+unbatched_here w e x known none = sym (ap is_batch known) ∙ none
+
+pub goes_lost : (w : World) (e : ℕ) (x : Exchange) → exchange w e ≡ Some x → IsNoBatch w e →
+    GoesBy w x None false
+goes_lost w e x known none = record {
+  numbers = λ no. lost_numbers x (λ n. false) (mpdus_of x.content) (all_lost x (mpdus_of x.content));
+  arrived = λ yes. absurd (cc (yes, unbatched_here w e x known none));
   request = λ is. refl;
 }
 
-pub goes_shown : (w : World) (x : Exchange) (b : Score) (score : ℕ × List ℕ) → x.answer ≡ Some b →
-    AreShown w x b (Some score) → GoesBy w x (Some score) true
-goes_shown w x b score kept shown = record {
-  numbers =
+pub goes_shown : (w : World) (x : Exchange) (b : Score) (score : ℕ × List ℕ) → x.batch ≡ false →
+    x.answer ≡ Some b → AreShown w x b (Some score) → GoesBy w x (Some score) true
+goes_shown w x b score unbatched kept shown = record {
+  numbers = λ no.
       shown_numbers b x (is_shown (is_wide w x.station x.tid) (Some score)) kept (mpdus_of x.content) shown;
+  arrived = λ yes. absurd (cc (yes, unbatched));
   request = λ is. refl;
 }
 
-pub goes_unshown : (w : World) (x : Exchange) (heard : Option (ℕ × List ℕ)) → is_request x.content ≡ false →
-    NoneIsShown w x heard → GoesBy w x heard false
-goes_unshown w x heard data_is none = record {
-  numbers = lost_numbers x (is_shown (is_wide w x.station x.tid) heard) (mpdus_of x.content) none;
-  request =
-      λ is. absurd (cc (is, data_is));
+pub goes_unshown : (w : World) (x : Exchange) (heard : Option (ℕ × List ℕ)) → x.batch ≡ false →
+    is_request x.content ≡ false → NoneIsShown w x heard → GoesBy w x heard false
+goes_unshown w x heard unbatched data_is none = record {
+  numbers = λ no.
+      lost_numbers x (is_shown (is_wide w x.station x.tid) heard) (mpdus_of x.content) none;
+  arrived = λ yes. absurd (cc (yes, unbatched));
+  request = λ is. absurd (cc (is, data_is));
+}
+
+-- a batch ends by what arrived
+pub goes_arrived : (w : World) (x : Exchange) (heard : Option (ℕ × List ℕ)) (told : Bool) →
+    x.batch ≡ true → IsToldAs x heard told → AreArrived w x heard → GoesBy w x heard told
+goes_arrived w x heard told batch request there = record {
+  numbers = λ no. absurd (cc (no, batch));
+  arrived = λ yes. there;
+  request = request;
 }
 
 -- ---- the whole call

@@ -1,5 +1,5 @@
 -- Proves that after the end of an exchange the half represents an unheard world, and that one flag is set.
-use Rattle.std.proofs.Common.{◌≡◌, ap, sym, ◌∙◌, subst, arith, ℕ, ◌<◌, ◌==◌, Bool, true, false, List, length, Option, Some, None, if◌then◌else◌}
+use Rattle.std.proofs.Common.{◌≡◌, ap, sym, ◌∙◌, subst, arith, ℕ, ◌<◌, ◌==◌, Bool, true, false, not, ◌&&◌, List, length, Option, Some, None, if◌then◌else◌}
 use Rattle.std.specs.Prelude.{find, IfSome, Result}
 use Rattle.wf_frame.specs.Classes.{class_of}
 use Rattle.wf_frame.specs.declared.classes.Class.{Class}
@@ -34,19 +34,19 @@ config_ended : (w : World) (caller e : ℕ) (heard : Option (ℕ × List ℕ)) (
 config_ended w caller e None air x = config_step w (Asked (Done e false air))
 config_ended w caller e (Some score) air None = config_step w (Asked (Done e false air))
 config_ended w caller e (Some score) air (Some x) =
-    on_air (is_wholly_unsent x) (is_bad_air w.config air)
+    on_air (not x.batch && is_wholly_unsent x) (is_bad_air w.config air)
   where
     shown : ℕ → Bool
     shown = shown_of_sent x (is_shown (is_wide w x.station x.tid) (Some score))
 
     on_air : (none bad : Bool) → (if none then step w (Asked (Done e true air))
         else if bad then step w (Asked (Done e false air))
-        else step (after_inferred w caller e shown x.content)
+        else step (after_inferred w caller e shown x.batch x.content)
         (done_inferred e shown air x.content)).world.config
         ≡ w.config
     on_air true bad = config_step w (Asked (Done e true air))
     on_air false true = config_step w (Asked (Done e false air))
-    on_air false false = config_step _ _ ∙ config_run (inferred caller e shown x.content) w
+    on_air false false = config_step _ _ ∙ config_run (inferred caller e shown x.batch x.content) w
 
 -- x is the half before the end, with the flags r, and u is the half after it
 module _ (x : TransmitValue) (r : Flags) (h : IsTracked x r) (u : TransmitValue) (e : ℕ)

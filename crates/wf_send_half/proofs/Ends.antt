@@ -1,17 +1,19 @@
 -- Proves that an open exchange of the half can end, and that the half then represents the world after
 -- the Done. By cases of the exchange, which sends data or a request.
-use Rattle.std.proofs.Common.{◌≡◌, refl, ap, ap₂, sym, ◌∙◌, subst, arith, ℕ, suc, ◌+◌, ◌-◌, ◌<◌, ◌≤◌, ◌%◌, ◌==◌, Bool, true, false, not, if◌then◌else◌, cond, List, [], ◌∷◌, map, length, Option, Some, None, is_some, unwrap_or, max, eq-eqb}
+use Rattle.std.proofs.Common.{◌≡◌, refl, ap, ap₂, sym, ◌∙◌, subst, arith, ℕ, suc, ◌+◌, ◌-◌, ◌<◌, ◌≤◌, ◌%◌, ◌==◌, Bool, true, false, not, ◌||◌, if◌then◌else◌, cond, List, [], ◌∷◌, map, length, Option, Some, None, is_some, unwrap_or, max, eq-eqb}
 use Rattle.std.specs.Prelude.{count_by, sum_by}
 use Rattle.std.proofs.lemmas.Bool.{or_left, ne_eqb}
 use Rattle.std.proofs.lemmas.List.{length-map}
+use Rattle.std.proofs.lemmas.List.Sums.{sum_by-cons}
 use Rattle.wf_frame.specs.declared.notes.ReplyNote.TheVariants.{Done as Ends}
+use Rattle.wf_frame.specs.declared.settings.Config.{Config}
 use Rattle.wf_frame.specs.Frames.{FrameValue}
 use Rattle.wf_def_agreement.specs.Session.{Session, Slot, State, End, no_slot, slot, start_of, next_number, is_settled, is_acknowledged, is_waiting, is_failed}
 use Rattle.wf_def_lists.specs.Table.{at, has}
 use Rattle.wf_law_rules.proofs.Lemmas.Sums.{sum_put, sum_put_within}
 use Rattle.wf_def_world.specs.World.{World, Station, Tid, Exchange, Mpdu, Content, Frames, Request, no_station, no_tid, is_live, session, exchange, without_exchange, is_wide}
 use Rattle.wf_def_world.specs.CanSend.{is_request}
-use Rattle.wf_def_world.specs.Exchanges.{mpdus_of, no_mpdu, numbers_unsent, numbers_given_up, is_acked, end_of, after_charge, with_all_settled, count_in, charge_of}
+use Rattle.wf_def_world.specs.Exchanges.{mpdus_of, no_mpdu, numbers_unsent, numbers_given_up, numbers_arrived, is_acked, end_of, after_charge, with_all_settled, with_device_caught_up, count_in, charge_of}
 use Rattle.wf_def_world.specs.Step.{done_outcome}
 use Rattle.wf_law_runs.specs.Room.{unsettled_of, in_windows_of, in_windows}
 use Rattle.wf_law_runs.specs.Sent.{HasSome, NumbersRise}
@@ -21,6 +23,8 @@ use Rattle.wf_law_runs.specs.Windows.{EachMpdu, EachOpen, IsPending}
 use Rattle.wf_law_runs.proofs.Attempts.Law.{attempts_law}
 use Rattle.wf_law_runs.proofs.Frames.Tallies.{tally_law}
 use Rattle.wf_law_runs.proofs.Sent.Law.{sent_law}
+use Rattle.wf_law_runs.proofs.Releases.Kept.{keep_ended, keep_device}
+use Rattle.wf_law_runs.proofs.Windows.Sides.{slot_device}
 use Rattle.wf_send_parts.specs.Tally.{Counts, held_in}
 use Rattle.wf_frame.specs.Classes.{tid_number}
 use Rattle.wf_queue_flows.specs.Flows.{SettingsValue}
@@ -45,10 +49,10 @@ use Rattle.wf_send_half_model.proofs.Endings.{found, begins, from_first, open_se
 use Rattle.wf_send_half_model.proofs.FitMarks.{unsent_at, given_up_at}
 use Rattle.wf_send_half_model.proofs.Marking.{each_at}
 use Rattle.wf_send_half_model.proofs.Dones.{data_world, done_reply, pending, request_tid, unheard_parts, heard_parts}
-use Rattle.wf_send_half.specs.Bits.{is_shown, end_of_index, EndAlike, CanFinish, IsToSettle, ended_reply, GoesBy}
+use Rattle.wf_send_half.specs.Bits.{is_shown, end_of_index, report_of, EndAlike, CanFinish, IsToSettle, ended_reply, GoesBy}
 use Rattle.wf_send_half_model.specs.Pulling.{is_wide_of}
 use Rattle.wf_send_half_model.proofs.Pulls.{wide_same}
-use Rattle.wf_send_half.specs.Counts.{AreCounted}
+use Rattle.wf_send_half.specs.Counts.{count_of, AreCounted}
 use Rattle.wf_send_half.specs.declared.finish.Ended.{Ended}
 use Rattle.wf_send_half.specs.declared.finish.Report.{Report}
 use Rattle.wf_send_half.proofs.Settling.{shown_on_air}
@@ -139,16 +143,49 @@ all_alike f p i (m ∷ ms) h =
           (h (suc j) (omega (arith, low)))),
     )
 
--- the same tests give the same end; whether a number is shown counts only if it went on the air
-by_tests : (a b c d f g : Bool) → a ≡ b → (b ≡ false → c ≡ d) → f ≡ g →
-    (if a then End.Unsent else if c then End.Acknowledged else if f then End.GivenUp else End.Missed)
-    ≡ (if b then End.Unsent else if d then End.Acknowledged else if g then End.GivenUp else End.Missed)
-by_tests true true c d f g first shown last = refl
-by_tests true false c d f g first shown last = absurd (cc first)
-by_tests false true c d f g first shown last = absurd (cc first)
-by_tests false false c d f g first shown last =
-    ap₂ (λ (x y : Bool). if x then End.Acknowledged else if y then End.GivenUp else End.Missed) (shown refl)
-    last
+-- the same tests give the same end; what shows a number counts only if it went on the
+-- air, and of a batch it is what arrived
+by_tests : (batch a b c d k f g : Bool) → a ≡ b → (batch ≡ false → b ≡ false → c ≡ d) →
+    (batch ≡ true → b ≡ false → c ≡ k) → f ≡ g →
+    (if a then End.Unsent else if c then End.Acknowledged else if batch || f then End.GivenUp else End.Missed)
+    ≡ (if batch then (if b then End.Unsent else if k then End.Acknowledged else End.GivenUp)
+    else (if b then End.Unsent else if d then End.Acknowledged else if g then End.GivenUp else End.Missed))
+by_tests true true true c d k f g first shown there last = refl
+by_tests true true false c d k f g first shown there last = absurd (cc first)
+by_tests true false true c d k f g first shown there last = absurd (cc first)
+by_tests true false false c d k f g first shown there last =
+    ap (λ (x : Bool). if x then End.Acknowledged else End.GivenUp) (there refl refl)
+by_tests false true true c d k f g first shown there last = refl
+by_tests false true false c d k f g first shown there last = absurd (cc first)
+by_tests false false true c d k f g first shown there last = absurd (cc first)
+by_tests false false false c d k f g first shown there last =
+    ap₂ (λ (x y : Bool). if x then End.Acknowledged else if y then End.GivenUp else End.Missed)
+    (shown refl refl) last
+
+-- ---- the numbers after the device caught up
+
+count_caught : (p : State → Bool) (w : World) (s t : ℕ) (ms : List Mpdu) →
+    count_of w s t ms p ≡ count_of (with_device_caught_up w s t) s t ms p
+count_caught p w s t [] = refl
+count_caught p w s t (m ∷ ms) =
+    let u : World = with_device_caught_up w s t in
+    let f : Mpdu → ℕ = λ k. cond (p (slot (session w s t) k.number).state) 1 0 in
+    let g : Mpdu → ℕ = λ k. cond (p (slot (session u s t) k.number).state) 1 0 in
+    omega (
+      arith,
+      sum_by-cons f m ms,
+      sum_by-cons g m ms,
+      count_caught p w s t ms,
+      ap {B = ℕ} (λ (y : Slot). cond (p y.state) 1 0) (slot_device w s t s t m.number),
+    )
+
+counted_caught : (w : World) (s t : ℕ) (ms : List Mpdu) (ended : Ended) → AreCounted w s t ms ended →
+    AreCounted (with_device_caught_up w s t) s t ms ended
+counted_caught w s t ms ended h = record {
+  acked = h.acked ∙ count_caught is_acknowledged w s t ms;
+  waiting = h.waiting ∙ count_caught is_waiting w s t ms;
+  failed = h.failed ∙ count_caught is_failed w s t ms;
+}
 
 -- ---- an exchange of data
 
@@ -273,10 +310,11 @@ module _ (v : TransmitValue) (w : World) (bodies : ℕ → FrameValue) (h : Stan
         }
 
     -- each number ends so by its index, by the report on its transmission
-    pub ends_alike : (r : Report) (answered : Bool) → r.unsent ≡ x.unsent → r.given_up ≡ x.given_up →
-        r.wide ≡ is_wide w x.station x.tid → GoesBy w x r.heard answered →
+    pub ends_alike : (r : Report) (answered : Bool) → r.batch ≡ x.batch → r.unsent ≡ x.unsent →
+        r.given_up ≡ x.given_up → r.wide ≡ is_wide w x.station x.tid → GoesBy w x r.heard answered →
         EndAlike (end_of_index r) (end_of x answered) 0 ms
-    ends_alike r answered unsent given_up wide goes = all_alike (end_of_index r) (end_of x answered) 0 ms (λ i low.
+    ends_alike r answered batch unsent given_up wide goes =
+        all_alike (end_of_index r) (end_of x answered) 0 ms (λ i low.
         let m : Mpdu = at no_mpdu ms i in
         let here : 0 + i ≡ i = omega arith in
         let first : has r.unsent (0 + i) ≡ has (numbers_unsent x) m.number =
@@ -285,37 +323,59 @@ module _ (v : TransmitValue) (w : World) (bodies : ℕ → FrameValue) (h : Stan
         let last : has r.given_up (0 + i) ≡ has (numbers_given_up x) m.number =
         ap₂ (λ (l : List ℕ) (j : ℕ). has l j) given_up here
         ∙ sym (given_up_at w h.reached e x ms known sends.content i low) in
-        let told : has (numbers_unsent x) m.number ≡ false →
+        let alike : has (numbers_unsent x) m.number ≡ false →
+        is_shown r.wide r.heard (on_air m.number) ≡ is_shown (is_wide w x.station x.tid) r.heard m.number =
+        λ _. shown_on_air r.wide r.heard m.number
+        ∙ ap (λ (b : Bool). is_shown b r.heard m.number) wide in
+        let told : x.batch ≡ false → has (numbers_unsent x) m.number ≡ false →
         is_acked answered x.answer m.number ≡ is_shown (is_wide w x.station x.tid) r.heard m.number =
-        each_at (λ k. has (numbers_unsent x) k.number ≡ false →
+        λ no. each_at (λ k. has (numbers_unsent x) k.number ≡ false →
         is_acked answered x.answer k.number ≡ is_shown (is_wide w x.station x.tid) r.heard k.number) ms i low
         (subst (EachMpdu (λ k. has (numbers_unsent x) k.number ≡ false →
         is_acked answered x.answer k.number ≡ is_shown (is_wide w x.station x.tid) r.heard k.number))
-        content_is goes.numbers) in
-        by_tests (has r.unsent (0 + i)) (has (numbers_unsent x) m.number)
+        content_is (goes.numbers no)) in
+        let there : x.batch ≡ true → has (numbers_unsent x) m.number ≡ false →
+        has (numbers_arrived x) m.number ≡ is_shown (is_wide w x.station x.tid) r.heard m.number =
+        λ yes. each_at (λ k. has (numbers_unsent x) k.number ≡ false →
+        has (numbers_arrived x) k.number ≡ is_shown (is_wide w x.station x.tid) r.heard k.number) ms i low
+        (subst (EachMpdu (λ k. has (numbers_unsent x) k.number ≡ false →
+        has (numbers_arrived x) k.number ≡ is_shown (is_wide w x.station x.tid) r.heard k.number))
+        content_is (goes.arrived yes)) in
+        ap (λ (b : Bool). if has r.unsent (0 + i) then End.Unsent
+        else if is_shown r.wide r.heard (on_air m.number) then End.Acknowledged
+        else if b || has r.given_up (0 + i) then End.GivenUp
+        else End.Missed) batch
+        ∙ by_tests x.batch (has r.unsent (0 + i)) (has (numbers_unsent x) m.number)
         (is_shown r.wide r.heard (on_air m.number)) (is_acked answered x.answer m.number)
-        (has r.given_up (0 + i)) (has (numbers_given_up x) m.number) first
-        (λ sent. shown_on_air r.wide r.heard m.number
-        ∙ ap (λ (b : Bool). is_shown b r.heard m.number) wide ∙ sym (told sent)) last)
+        (has (numbers_arrived x) m.number) (has r.given_up (0 + i)) (has (numbers_given_up x) m.number) first
+        (λ no sent. alike sent ∙ sym (told no sent)) (λ yes sent. alike sent ∙ sym (there yes sent)) last)
 
     -- after its numbers are settled, the half represents the world after the Done
     module _ (z : TransmitValue) (ended : Ended) (answered : Bool) where
-      same_world : (done_outcome w x answered air).world
-          ≡ with_all_settled closed x.station x.tid (end_of x answered) ms
+      abbrev settled_all : World
+      settled_all = with_all_settled closed x.station x.tid (end_of x answered) ms
+
+      same_world : (done_outcome w x answered air).world ≡ with_device_caught_up settled_all x.station x.tid
       same_world = data_world w x answered air ms sends.content
 
-      pub data_parts : Parts z (with_all_settled closed x.station x.tid (end_of x answered) ms) bodies →
+      pub live_settled : is_live settled_all x.station ≡ true
+      live_settled = sym ((keep_device settled_all x.station x.tid).live x.station)
+          ∙ (sym (ap (λ (u : World). is_live u x.station) same_world)
+          ∙ ((keep_ended air w x answered).live x.station ∙ open_live w h.reached e x known))
+
+      pub data_parts : Parts z (with_device_caught_up settled_all x.station x.tid) bodies →
           Parts z (done_outcome w x answered air).world bodies
       data_parts parts = subst (λ (u : World). Parts z u bodies) (sym same_world) parts
 
-      pub data_reply : AreCounted (with_all_settled closed x.station x.tid (end_of x answered) ms) x.station
-          x.tid ms ended → ended_reply ended ≡ (done_outcome w x answered air).reply
+      pub data_reply : AreCounted settled_all x.station x.tid ms ended →
+          ended_reply ended ≡ (done_outcome w x answered air).reply
       data_reply counted =
           let c : AreCounted (done_outcome w x answered air).world x.station x.tid
           (mpdus_of x.content) ended =
           subst (λ (l : List Mpdu). AreCounted (done_outcome w x answered air).world x.station x.tid l ended)
           (sym content_is)
-          (subst (λ (u : World). AreCounted u x.station x.tid ms ended) (sym same_world) counted) in
+          (subst (λ (u : World). AreCounted u x.station x.tid ms ended) (sym same_world)
+          (counted_caught settled_all x.station x.tid ms ended counted)) in
           ap₂ (λ (i j : ℕ). Ends i j ended.failed) c.acked c.waiting
           ∙ ap (λ (k : ℕ). Ends (count_in (done_outcome w x answered air).world x is_acknowledged)
           (count_in (done_outcome w x answered air).world x is_waiting) k) c.failed
@@ -410,6 +470,13 @@ module _ (v : TransmitValue) (w : World) (bodies : ℕ → FrameValue) (h : Stan
       there : is_live w x.station ≡ true
       there = open_live w h.reached e x known
 
+      pub station_within : o.station < self.config.stations
+      station_within = carried (λ k z. k.station < z.config.stations) (omega (
+        arith,
+        h.parts.others.turns.live x.station there,
+        ap (λ (k : Config). k.stations) h.parts.others.config,
+      ))
+
       within : x.tid < 8 → tid_number x.station x.tid < length v.windows
       within low = omega (arith, h.parts.windows.sized, h.parts.others.turns.live x.station there, low)
 
@@ -446,8 +513,15 @@ module _ (v : TransmitValue) (w : World) (bodies : ℕ → FrameValue) (h : Stan
             numbers_are = (sends numbers is).air;
           })
 
-      module _ (numbers : List ℕ) (r : Report) (answered : Bool) (goes : GoesBy w x r.heard answered)
-          (unsent : r.unsent ≡ o.unsent) (given_up : r.given_up ≡ o.given_up) where
+      module _ (numbers : List ℕ) (r : Report) (heard : Option (ℕ × List ℕ)) (answered : Bool)
+          (goes : GoesBy w x heard answered) (is_report : r ≡ report_of self o heard) where
+        told_wide : r.wide ≡ is_wide_of self o.station o.tid
+        told_wide = ap (λ (k : Report). k.wide) is_report
+
+        goes_here : GoesBy w x r.heard answered
+        goes_here = subst (λ (k : Option (ℕ × List ℕ)). GoesBy w x k answered)
+            (sym (ap (λ (k : Report). k.heard) is_report)) goes
+
         wide_is : (is : sending_of x.content ≡ Data numbers) → r.wide ≡ is_wide_of v x.station x.tid →
             r.wide ≡ is_wide w x.station x.tid
         wide_is is told = told ∙ wide_same v w bodies x.station x.tid h.parts there
@@ -455,31 +529,42 @@ module _ (v : TransmitValue) (w : World) (bodies : ℕ → FrameValue) (h : Stan
 
         alike : (is : sending_of x.content ≡ Data numbers) → r.wide ≡ is_wide_of v x.station x.tid →
             EndAlike (end_of_index r) (end_of x answered) 0 (sends numbers is).mpdus
-        alike is told = ends_alike numbers is r answered (unsent ∙ ap (λ (k : Open). k.unsent) same)
-            (given_up ∙ ap (λ (k : Open). k.given_up) same) (wide_is is told) goes
+        alike is told = ends_alike numbers is r answered
+            (ap (λ (k : Report). k.batch) is_report ∙ ap (λ (k : Open). k.batch) same)
+            (ap (λ (k : Report). k.unsent) is_report ∙ ap (λ (k : Open). k.unsent) same)
+            (ap (λ (k : Report). k.given_up) is_report ∙ ap (λ (k : Open). k.given_up) same)
+            (wide_is is told) goes_here
 
-        pub data_settled : (z : TransmitValue) → o.sending ≡ Data numbers →
-            r.wide ≡ is_wide_of self o.station o.tid →
+        pub data_settled : (z y : TransmitValue) → o.sending ≡ Data numbers →
             ((u after : World) (bs : ℕ → FrameValue) (n : ℕ) (ends : ℕ → End) (mpdus : List Mpdu) →
             IsEnding self u bs o.station o.tid n ends mpdus after → EndAlike (end_of_index r) ends 0 mpdus →
             numbers ≡ numbers_on_air mpdus → Parts z after bs) →
-            Parts z (done_outcome w x answered air).world bodies
-        data_settled z = carried (λ k y. k.sending ≡ Data numbers → r.wide ≡ is_wide_of y k.station k.tid →
+            ((u : World) (bs : ℕ → FrameValue) → Parts z u bs → is_live u o.station ≡ true →
+            Parts y (with_device_caught_up u o.station o.tid) bs) →
+            Parts y (done_outcome w x answered air).world bodies
+        data_settled z y sends_data = carried (λ k c. k.sending ≡ Data numbers →
+            r.wide ≡ is_wide_of c k.station k.tid →
             ((u after : World) (bs : ℕ → FrameValue) (n : ℕ) (ends : ℕ → End) (mpdus : List Mpdu) →
-            IsEnding y u bs k.station k.tid n ends mpdus after → EndAlike (end_of_index r) ends 0 mpdus →
+            IsEnding c u bs k.station k.tid n ends mpdus after → EndAlike (end_of_index r) ends 0 mpdus →
             numbers ≡ numbers_on_air mpdus → Parts z after bs) →
-            Parts z (done_outcome w x answered air).world bodies)
-            (λ is told all. data_parts numbers is z (record { acked = 0; waiting = 0; failed = 0 }) answered
-            (all closed _ bodies x.number (end_of x answered) (sends numbers is).mpdus
-            (begun numbers is (end_of x answered)) (alike is told) (sends numbers is).air))
+            ((u : World) (bs : ℕ → FrameValue) → Parts z u bs → is_live u k.station ≡ true →
+            Parts y (with_device_caught_up u k.station k.tid) bs) →
+            Parts y (done_outcome w x answered air).world bodies)
+            (λ is told all caught.
+            let none : Ended = record { acked = 0; waiting = 0; failed = 0 } in
+            data_parts numbers is y none answered
+            (caught _ bodies (all closed _ bodies x.number (end_of x answered) (sends numbers is).mpdus
+            (begun numbers is (end_of x answered)) (alike is told) (sends numbers is).air)
+            (live_settled numbers is y none answered)))
+            sends_data told_wide
 
         pub data_told : (ended : Ended) → o.sending ≡ Data numbers →
-            r.wide ≡ is_wide_of self o.station o.tid →
             ((u after : World) (bs : ℕ → FrameValue) (n : ℕ) (ends : ℕ → End) (mpdus : List Mpdu) →
             IsEnding self u bs o.station o.tid n ends mpdus after → EndAlike (end_of_index r) ends 0 mpdus →
             numbers ≡ numbers_on_air mpdus → AreCounted after o.station o.tid mpdus ended) →
             ended_reply ended ≡ (done_outcome w x answered air).reply
-        data_told ended = carried (λ k y. k.sending ≡ Data numbers → r.wide ≡ is_wide_of y k.station k.tid →
+        data_told ended sends_data = carried (λ k y. k.sending ≡ Data numbers →
+            r.wide ≡ is_wide_of y k.station k.tid →
             ((u after : World) (bs : ℕ → FrameValue) (n : ℕ) (ends : ℕ → End) (mpdus : List Mpdu) →
             IsEnding y u bs k.station k.tid n ends mpdus after → EndAlike (end_of_index r) ends 0 mpdus →
             numbers ≡ numbers_on_air mpdus → AreCounted after k.station k.tid mpdus ended) →
@@ -487,6 +572,7 @@ module _ (v : TransmitValue) (w : World) (bodies : ℕ → FrameValue) (h : Stan
             (λ is told all. data_reply numbers is v ended answered
             (all closed _ bodies x.number (end_of x answered) (sends numbers is).mpdus
             (begun numbers is (end_of x answered)) (alike is told) (sends numbers is).air))
+            sends_data told_wide
 
       -- a request
       pub request_low : (seq : ℕ) → o.sending ≡ Starts_at seq → o.tid < 8

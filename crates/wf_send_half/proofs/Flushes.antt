@@ -1,5 +1,5 @@
 -- Proves the steps of a flush of a TID from what each does to the parts of the half.
-use Rattle.std.proofs.Common.{◌≡◌, ◌≢◌, refl, ap, sym, ◌∙◌, subst, arith, ℕ, ◌+◌, ◌%◌, ◌<◌, ◌≤◌, ◌^◌, List, [], ◌∷◌, ◌++◌, length, length-append, None}
+use Rattle.std.proofs.Common.{◌≡◌, ◌≢◌, refl, ap, sym, ◌∙◌, subst, arith, ℕ, ◌+◌, ◌%◌, ◌<◌, ◌≤◌, ◌^◌, true, is_some, List, [], ◌∷◌, ◌++◌, length, length-append, Option, None}
 use Rattle.wf_frame.specs.declared.classes.Cause.TheVariants.{Flushed}
 use Rattle.wf_frame.specs.declared.classes.Fate.TheVariants.{Held, Dropped}
 use Rattle.wf_frame.specs.declared.notes.Ask.TheVariants.{Flush}
@@ -9,11 +9,15 @@ use Rattle.wf_frame.specs.declared.settings.Config.{Config}
 use Rattle.wf_frame.specs.Classes.{tid_number}
 use Rattle.wf_frame.specs.Frames.{FrameValue}
 use Rattle.wf_def_agreement.specs.Session.{Session, start_of, next_number}
-use Rattle.wf_def_world.specs.World.{World, session}
+use Rattle.wf_def_world.specs.World.{World, is_live, session}
+use Rattle.wf_def_world.specs.Exchanges.{with_device_caught_up}
 use Rattle.wf_def_world.specs.Refusals.{refusal}
 use Rattle.wf_octets.specs.Distance.{distance}
 use Rattle.wf_queue_flows.specs.Backlog.{held_in_backlog}
 use Rattle.wf_queue_flows.specs.Flows.{SettingsValue, frames_of_tid}
+use Rattle.wf_queue_flows_refines.specs.Standing.{tid_emptied}
+use Rattle.wf_send_parts.specs.declared.stations.members.Member.{Member}
+use Rattle.wf_send_parts.specs.Members.{member}
 use Rattle.wf_send_parts.specs.Flushing.{IsFlushed, HasFlushed}
 use Rattle.wf_send_parts.specs.Tally.{held_in}
 use Rattle.wf_send_parts.specs.Window.{WindowValue, WindowStandsFor, waiting_from}
@@ -23,9 +27,10 @@ use Rattle.wf_send_half_model.specs.Half.{TransmitValue}
 use Rattle.wf_send_half_model.specs.Ending.{after_finish}
 use Rattle.wf_send_half_model.specs.Changes.{after_listing}
 use Rattle.wf_send_half_model.specs.Flushing.{IsFlushing, HasNumbersFlushed, with_queues_flushed}
-use Rattle.wf_send_half_model.specs.Standing.{StandsFor, Meets}
-use Rattle.wf_send_half_model.proofs.Flushed.{flush_held, flush_few, flush_meets}
+use Rattle.wf_send_half_model.specs.Standing.{Parts, StandsFor, Meets}
+use Rattle.wf_send_half_model.proofs.Flushed.{flush_held, flush_few, flushed_parts, flush_meets}
 use Rattle.wf_send_half_model.proofs.Flushing.{flush_begins, flush_within, flush_room, flush_next, flush_ends, flushing_few}
+use Rattle.wf_send_half_model.proofs.Readers.{live_same}
 use Rattle.wf_send_half.specs.Bits.{CanFinish}
 use Rattle.wf_send_half.specs.Flushing.{GivesFlushed, SomeFlushes}
 use Rattle.wf_send_half.proofs.Worlds.{met_by}
@@ -168,13 +173,29 @@ module _ (before v x : TransmitValue) (same : x ≡ v) (w : World) (bodies : ℕ
         ∙ ap (λ (z : TransmitValue). z.config) left_at.rest ∙ left.may.stood.parts.others.config),
   )
 
-  pub flush_done : (after : TransmitValue) (queued : ℕ) →
-      queued ≡ frames_of_tid x.flows (tid_number s t) →
-      after ≡ after_listing (with_queues_flushed x s t queued) s →
-      Meets w bodies (Asked (Flush s t)) after (reply.Flushed (dropped + queued))
-  flush_done after queued count is =
+  -- its station is live as long as it has a member
+  live_then : (y : TransmitValue) → y.members ≡ x.members → Parts y (tid_emptied w s t) bodies →
+      is_live (tid_emptied w s t) s ≡ true
+  live_then y same parts =
+      sym (live_same y (tid_emptied w s t) bodies s parts)
+      ∙ ap (λ (l : List (Option Member)). is_some (member l s))
+      (same ∙ ap (λ (z : TransmitValue). z.members) left_at.rest)
+      ∙ live_same before w bodies s left.may.stood.parts ∙ left.may.live
+
+  -- u is the half after the queues are emptied and the device caught up
+  pub flush_done : (queued : ℕ) → queued ≡ frames_of_tid x.flows (tid_number s t) → {y : TransmitValue} →
+      y ≡ with_queues_flushed x s t queued → (u after : TransmitValue) →
+      ((z : World) → Parts y z bodies → is_live z s ≡ true → Parts u (with_device_caught_up z s t) bodies) →
+      after ≡ after_listing u s → Meets w bodies (Asked (Flush s t)) after (reply.Flushed (dropped + queued))
+  flush_done queued count {y} y_is u after caught is =
+      let parts : Parts y (tid_emptied w s t) bodies =
+      subst (λ (z : TransmitValue). Parts z (tid_emptied w s t) bodies)
+      (sym (y_is ∙ ap (with_queues_flushed x s t) count))
+      (flushed_parts before x w bodies s t dropped left_at)
+      in
       subst (λ (n : ℕ). Meets w bodies (Asked (Flush s t)) after (reply.Flushed (dropped + n))) (sym count)
-      (met_by (after_listing (with_queues_flushed x s t (frames_of_tid x.flows (tid_number s t))) s) after w bodies
-      (Asked (Flush s t)) (reply.Flushed (dropped + frames_of_tid x.flows (tid_number s t)))
-      (is ∙ ap (λ (n : ℕ). after_listing (with_queues_flushed x s t n) s) count)
-      (flush_meets before x w bodies s t dropped left_at))
+      (met_by (after_listing u s) after w bodies (Asked (Flush s t))
+      (reply.Flushed (dropped + frames_of_tid x.flows (tid_number s t))) is
+      (flush_meets before x w bodies s t dropped left_at u
+      (caught (tid_emptied w s t) parts
+      (live_then y (ap (λ (z : TransmitValue). z.members) y_is) parts))))

@@ -7,8 +7,10 @@ mod CallSteps
 pub mod Openings
 mod Leaves
 mod Flushes
+mod Weighing
 mod Enqueues
 mod Settling
+mod Catching
 pub mod Ends
 pub mod Dones
 pub mod Driven

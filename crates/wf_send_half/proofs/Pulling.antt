@@ -1,5 +1,5 @@
 -- Proves the clauses of a pull: the station that is picked sends a request, or an aggregate.
-use Rattle.std.proofs.Common.{◌≡◌, refl, ap, sym, ◌∙◌, subst, arith, ℕ, ◌-◌, ◌^◌, ◌<◌, ◌≤◌, ◌==◌, ℤ, pos, negsuc, ◌+ℤ◌, ◌-ℤ◌, ◌≤ℤ◌, ◌↔◌, Bool, true, false, not, ◌&&◌, ◌||◌, if◌then◌else◌, List, [], ◌∷◌, ◌++◌, length, Option, Some, None, IfSome, is_some, option_map, unwrap_or}
+use Rattle.std.proofs.Common.{◌≡◌, refl, ap, sym, ◌∙◌, subst, arith, ℕ, ◌-◌, ◌^◌, ◌<◌, ◌≤◌, ◌==◌, ℤ, pos, negsuc, ◌+ℤ◌, ◌-ℤ◌, ◌≤ℤ◌, ◌↔◌, Bool, true, false, not, ◌&&◌, ◌||◌, if◌then◌else◌, List, [], ◌∷◌, ◌++◌, length, map, Option, Some, None, IfSome, is_some, option_map, unwrap_or}
 use Rattle.std.specs.Prelude.{All, nat_le, count_by}
 use Rattle.std.proofs.lemmas.Bool.{and_parts}
 use Rattle.std.proofs.lemmas.Bool.Decides.{nat_tests}
@@ -13,11 +13,12 @@ use Rattle.wf_frame.specs.declared.classes.Class.{Class}
 use Rattle.wf_frame.specs.declared.notes.Ask.TheVariants.{Pull}
 use Rattle.wf_frame.specs.declared.notes.Limits.{Limits}
 use Rattle.wf_frame.specs.declared.notes.Note.TheVariants.{Asked}
-use Rattle.wf_frame.specs.declared.notes.Part.TheVariants.{Mpdus, Request as Starts}
+use Rattle.wf_frame.specs.declared.notes.Part.{Part}
+use Rattle.wf_frame.specs.declared.notes.Part.TheVariants.{Batch, Request as Starts}
 use Rattle.wf_frame.specs.declared.notes.ReplyNote.TheVariants.{Send as Sends, Refused as Refuses}
 use Rattle.wf_frame.specs.declared.notes.Refusal.TheVariants.{Idle, Full, Ahead}
 use Rattle.wf_frame.specs.Calls.{no_limits}
-use Rattle.wf_frame.specs.Answers.{reply_with}
+use Rattle.wf_frame.specs.Answers.{part_sent, reply_with}
 use Rattle.wf_frame.specs.Classes.{lower_tid, same_class}
 use Rattle.wf_frame.specs.Frames.{FrameValue}
 use Rattle.wf_def_lists.specs.Bounds.{greatest_air, least_ampdu, greatest_ampdu}
@@ -25,12 +26,12 @@ use Rattle.wf_def_lists.specs.Lengths.{greatest_body}
 use Rattle.wf_def_rotation.specs.Rotation.{Rotation, has_key}
 use Rattle.wf_def_agreement.specs.Session.{request_due}
 use Rattle.wf_def_lists.specs.Table.{at}
-use Rattle.wf_def_world.specs.World.{World, Bounds, Station, opening, no_station, is_live, station, session, on_station, with_station, on_share}
+use Rattle.wf_def_world.specs.World.{World, Bounds, Mpdu, Frames, Station, opening, no_station, is_live, station, session, on_station, with_station, on_share}
 use Rattle.wf_def_world.specs.CanSend.{can_give, can_send, has_waiting, request_open}
 use Rattle.wf_frame.specs.declared.settings.Config.{Config}
 use Rattle.wf_def_world.specs.Run.{Entry, world_after}
 use Rattle.wf_def_world.specs.Step.{step}
-use Rattle.wf_def_world.specs.Exchanges.{aggregate_of, picked_station, after_pick, bounds_of, sending_tid, after_tid_turn}
+use Rattle.wf_def_world.specs.Exchanges.{aggregate_of, picked_station, after_pick, bounds_of, sending_tid, after_tid_turn, part_of}
 use Rattle.wf_law_runs.specs.Rotations.{NoneReady}
 use Rattle.wf_law_runs.proofs.Deficits.Books.{books}
 use Rattle.wf_law_runs.proofs.Deficits.Kept.{IsKept}
@@ -49,7 +50,7 @@ use Rattle.wf_send_parts.specs.declared.exchanges.opened.Sending.TheVariants.{Da
 use Rattle.wf_send_parts.proofs.Calls.{due_is}
 use Rattle.wf_send_parts.specs.declared.stations.members.Member.{Member}
 use Rattle.wf_send_parts.specs.Exchanges.{airtime_of}
-use Rattle.wf_send_parts.specs.Members.{member, with_upper}
+use Rattle.wf_send_parts.specs.Members.{member, is_offloaded_in, with_upper}
 use Rattle.wf_send_parts.specs.Windows.{window_of}
 use Rattle.wf_send_half_model.specs.Half.{TransmitValue, can_send_of, is_ahead_of}
 use Rattle.wf_send_half_model.specs.Standing.{IsMember, AreBoth, IsReached, Parts, StandsFor, Meets}
@@ -63,9 +64,9 @@ use Rattle.wf_send_half_model.proofs.Pulls.{pick_parts, pick_within_parts, idle_
 use Rattle.wf_send_half_model.proofs.Reached.{by_law, now_is}
 use Rattle.wf_send_half_model.proofs.Readers.{can_send_same, live_same, ready_same}
 use Rattle.wf_send_half_model.proofs.Sends.{winner_live, turn_tid, turned, request_meets, data_meets}
-use Rattle.wf_send_parts.specs.Sent.{with_all_sent}
+use Rattle.wf_send_parts.specs.Sent.{with_all_sent, with_one_sent}
 use Rattle.wf_send_half.specs.Replies.{bodies_sent}
-use Rattle.wf_send_half.specs.Pulls.{HasLengths, TakesAggregates, IsSameButFrames, IsPreparedAs, TellsWhoIsReady, IsPickedInClass, HasToPrepare, IsRequestDue, IsData, IsPreparedFor, start_sent}
+use Rattle.wf_send_half.specs.Pulls.{HasLengths, TakesAggregates, IsSameButFrames, IsPreparedAs, TellsWhoIsReady, IsPickedInClass, HasToPrepare, IsRequestDue, IsData, IsPreparedFor, pairs_of, start_sent}
 
 -- ---- facts about the worlds of a run
 
@@ -125,6 +126,30 @@ last_small : (xs : List Open) (y : Open) → All (λ o. o.charge ≤ greatest_ai
 last_small [] y h = All-head (λ (o : Open). o.charge ≤ greatest_air) y [] h
 last_small (x ∷ xs) y h = last_small xs y (All-tail (λ (o : Open). o.charge ≤ greatest_air) x (xs ++ y ∷
     []) h)
+
+-- ---- frames, each with its number or, in a batch, without
+
+-- the ids of an aggregate are those of its pairs
+ids_of_pairs : (ms : List Mpdu) → map (λ m. m.id) ms ≡ map (λ p. p.0) (pairs_of ms)
+ids_of_pairs [] = refl
+ids_of_pairs (m ∷ ms) = ap (λ (l : List ℕ). m.id ∷ l) (ids_of_pairs ms)
+
+-- the machine replies with the frames that the half wrote, as a batch or not
+part_same : (batch : Bool) (ms : List Mpdu) → part_of batch (Frames ms) ≡ part_sent None batch (pairs_of ms)
+part_same false ms = refl
+part_same true ms = ap (λ (l : List ℕ). Batch l) (ids_of_pairs ms)
+
+-- the bodies after frames are sent do not depend on their numbers
+ids_sent : (pairs : List (ℕ × ℕ)) (bodies : ℕ → FrameValue) →
+    with_all_sent (map (λ id. (id, 0)) (map (λ p. p.0) pairs)) bodies ≡ with_all_sent pairs bodies
+ids_sent [] bodies = refl
+ids_sent (p ∷ pairs) bodies = ids_sent pairs (with_one_sent p.0 bodies)
+
+-- the frames of a batch are sent again as others
+sent_same : (batch : Bool) (e s t air : ℕ) (more : Bool) (pairs : List (ℕ × ℕ)) (bodies : ℕ → FrameValue) →
+    bodies_sent (Sends e s t air (part_sent None batch pairs) more) bodies ≡ with_all_sent pairs bodies
+sent_same false e s t air more pairs bodies = refl
+sent_same true e s t air more pairs bodies = ids_sent pairs bodies
 
 -- ---- the station that is picked
 
@@ -233,7 +258,8 @@ module _ {v u : TransmitValue} {w : World} {bodies : ℕ → FrameValue} {s : �
       data_sent : (numbers : List ℕ) → IsData y z s t b charge pairs numbers →
           Meets w (with_all_sent pairs bodies) (Asked (Pull c l))
           (after_listing_in (after_sending z s t c charge (Data numbers)) s c)
-          (Sends z.exchanges s t charge (Mpdus pairs) (open_next z s t c charge (Data numbers)).more)
+          (Sends z.exchanges s t charge (part_sent None (is_offloaded_in z.members s) pairs)
+          (open_next z s t c charge (Data numbers)).more)
       data_sent numbers k =
           let quiet : request_due (session turned_world s t) ≡ false =
           sym (due_is (window_of y.windows s t) (session turned_world s t) bodies
@@ -241,28 +267,35 @@ module _ {v u : TransmitValue} {w : World} {bodies : ℕ → FrameValue} {s : �
           let p : IsPreparedAs z (aggregate_of turned_world s t) bodies s t charge numbers pairs =
           k.prepared turned_world bodies (record { turned = turned_half; quiet = quiet })
           (bounds_turned b b_is) in
-          subst (λ (ps : List (ℕ × ℕ)). Meets w (with_all_sent pairs bodies) (Asked (Pull c l))
+          subst (λ (part : Part). Meets w (with_all_sent pairs bodies) (Asked (Pull c l))
           (after_listing_in (after_sending z s t c charge (Data numbers)) s c)
-          (Sends z.exchanges s t charge (Mpdus ps) (open_next z s t c charge (Data numbers)).more))
-          (sym p.pairs_are)
+          (Sends z.exchanges s t charge part (open_next z s t c charge (Data numbers)).more))
+          (part_same (is_offloaded_in z.members s) (aggregate_of turned_world s t).mpdus
+          ∙ ap (part_sent None (is_offloaded_in z.members s)) (sym p.pairs_are))
           (data_meets v w bodies h.stands c l s h.passes h.won t (t_is ∙ tid_of)
           (aggregate_of turned_world s t) refl quiet z p.world (with_all_sent pairs bodies) p.off charge
           numbers p.charge_is p.numbers_are)
 
-      part_sent : (sending : Sending) → IsPreparedFor y z s t b charge pairs sending →
+      all_sent : (sending : Sending) → IsPreparedFor y z s t b charge pairs sending →
           Meets w (bodies_sent (reply_with (Send z.exchanges s t charge (start_sent sending)
-          (open_next z s t c charge sending).more) pairs []) bodies) (Asked (Pull c l))
-          (after_listing_in (after_sending z s t c charge sending) s c)
-          (reply_with (Send z.exchanges s t charge (start_sent sending)
+          (is_offloaded_in z.members s) (open_next z s t c charge sending).more) pairs []) bodies)
+          (Asked (Pull c l)) (after_listing_in (after_sending z s t c charge sending) s c)
+          (reply_with (Send z.exchanges s t charge (start_sent sending) (is_offloaded_in z.members s)
           (open_next z s t c charge sending).more) pairs [])
-      part_sent (Data numbers) k = data_sent numbers k
-      part_sent (Starts_at start) k = request_sent start k
+      all_sent (Data numbers) k =
+          let batch : Bool = is_offloaded_in z.members s in
+          let more : Bool = (open_next z s t c charge (Data numbers)).more in
+          subst (λ (f : ℕ → FrameValue). Meets w f (Asked (Pull c l))
+          (after_listing_in (after_sending z s t c charge (Data numbers)) s c)
+          (Sends z.exchanges s t charge (part_sent None batch pairs) more))
+          (sym (sent_same batch z.exchanges s t charge more pairs bodies)) (data_sent numbers k)
+      all_sent (Starts_at start) k = request_sent start k
 
       pub pull_done : (sending : Sending) → IsPreparedFor y z s t b charge pairs sending →
           {a : TransmitValue} →
           a ≡ after_listing_in (after_sending z s t c charge sending) s c →
           {brief : Brief} → brief ≡ Send z.exchanges s t charge (start_sent sending)
-          (open_next z s t c charge sending).more →
+          (is_offloaded_in z.members s) (open_next z s t c charge sending).more →
           Meets w (bodies_sent (reply_with brief pairs []) bodies) (Asked (Pull c l)) a
           (reply_with brief pairs [])
       pull_done sending k {a} a_is {brief} brief_is =
@@ -271,7 +304,7 @@ module _ {v u : TransmitValue} {w : World} {bodies : ℕ → FrameValue} {s : �
           (subst (λ (b : Brief). Meets w (bodies_sent (reply_with b pairs []) bodies) (Asked (Pull c l))
           (after_listing_in (after_sending z s t c charge sending) s c) (reply_with b pairs []))
           (sym brief_is)
-          (part_sent sending k))
+          (all_sent sending k))
 
       -- its charge is small, as that of each open exchange in the world of a run
       pub charge_small : (sending : Sending) → IsPreparedFor y z s t b charge pairs sending →

@@ -68,7 +68,7 @@ sent_for w c (Some s) e =
       exchange = x.number;
       tid = t;
       air = x.charge;
-      part = part_of x.content;
+      part = part_of x.batch x.content;
       more = x.more;
       is = refl;
     }
@@ -149,8 +149,9 @@ pub record IsSend (b : Brief) : Type 0 where
   pub tid : ℕ
   pub air : ℕ
   pub request : Option ℕ
+  pub batch : Bool
   pub more : Bool
-  pub is : b ≡ brief.Send exchange station tid air request more
+  pub is : b ≡ brief.Send exchange station tid air request batch more
 
 send_only : (b : Brief) (pairs : List (ℕ × ℕ)) (e s t air : ℕ) (part : Part) (more : Bool) →
     reply_with b pairs [] ≡ Send e s t air part more → IsSend b
@@ -159,8 +160,16 @@ send_only (brief.Left dropped) pairs e s t air part more is = absurd (cc is)
 send_only brief.Set pairs e s t air part more is = absurd (cc is)
 send_only (brief.Now now) pairs e s t air part more is = absurd (cc is)
 send_only (brief.Accepted id dropped) pairs e s t air part more is = absurd (cc is)
-send_only (brief.Send a i j n request k) pairs e s t air part more is =
-    record { exchange = a; station = i; tid = j; air = n; request = request; more = k; is = refl }
+send_only (brief.Send a i j n request batch k) pairs e s t air part more is = record {
+  exchange = a;
+  station = i;
+  tid = j;
+  air = n;
+  request = request;
+  batch = batch;
+  more = k;
+  is = refl;
+}
 send_only brief.Released pairs e s t air part more is = absurd (cc is)
 send_only (brief.Ba start b0 b1 b2 b3 wide) pairs e s t air part more is = absurd (cc is)
 send_only (brief.Done acked waiting failed) pairs e s t air part more is = absurd (cc is)
@@ -193,8 +202,8 @@ module _ (x : TransmitValue) (r : Flags) (h : IsTracked x r) (c : Class) (l : Li
   pulled_unheard = kept_unheard x u sent (Asked (Pull c l)) (reply_with b pairs []) meets tt h.some
 
   -- a station sends
-  module _ (e s t air : ℕ) (request : Option ℕ) (more : Bool)
-      (is : b ≡ brief.Send e s t air request more) where
+  module _ (e s t air : ℕ) (request : Option ℕ) (batch more : Bool)
+      (is : b ≡ brief.Send e s t air request batch more) where
     won : (picked_station h.some.world c).winner ≡ Some s
     won = sender_won h.some.world c l e s t air _ more
         (sym (ap (λ (z : Brief). reply_with z pairs []) is) ∙ met.reply)

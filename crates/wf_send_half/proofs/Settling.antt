@@ -1,5 +1,5 @@
 -- Proves the settling of an aggregate, number by number.
-use Rattle.std.proofs.Common.{◌≡◌, ◌≢◌, nat_le, length-append, append_assoc, append-nil, refl, ap, ap₂, sym, ◌∙◌, subst, arith, ℕ, zero, suc, add-zero, ◌+◌, ◌-◌, ◌<◌, ◌≤◌, nat_lt, Bool, true, false, not, ◌&&◌, cond, if◌then◌else◌, List, [], ◌∷◌, ◌++◌, map, take, length, Option, Some, None}
+use Rattle.std.proofs.Common.{◌≡◌, ◌≢◌, nat_le, length-append, append_assoc, append-nil, refl, ap, ap₂, sym, ◌∙◌, subst, arith, ℕ, zero, suc, add-zero, ◌+◌, ◌-◌, ◌<◌, ◌≤◌, nat_lt, Bool, true, false, not, ◌&&◌, ◌||◌, cond, if◌then◌else◌, List, [], ◌∷◌, ◌++◌, map, take, length, Option, Some, None}
 use Rattle.std.specs.Prelude.{slice_get, count_by}
 use Rattle.std.proofs.lemmas.List.{length-map, take_all}
 use Rattle.std.proofs.lemmas.List.Sums.{sum_by-cons}
@@ -211,7 +211,7 @@ acked_more End.Unsent limit bodies x ended = omega arith
 -- a number is acknowledged if it is shown and went on the air
 acks_at : (r : Report) (i n : ℕ) → acks (end_of_index r i n) ≡ (not (has r.unsent i) && is_shown r.wide r.heard n)
 unfolding acks
-acks_at r i n = go (has r.unsent i) (is_shown r.wide r.heard n) (has r.given_up i)
+acks_at r i n = go (has r.unsent i) (is_shown r.wide r.heard n) (r.batch || has r.given_up i)
   where
     go : (unsent shown given_up : Bool) → acks (if unsent then End.Unsent else if shown then End.Acknowledged
         else if given_up then End.GivenUp else End.Missed) ≡ (not unsent && shown)

@@ -1,13 +1,17 @@
 -- Proves that deficits and the airtime in flight that counts against them are small, in the worlds of a run.
-use Rattle.std.proofs.Common.{◌≡◌, ap, ap₂, sym, ◌∙◌, subst, arith, ℕ, ◌<◌, ◌≤◌, ◌^◌, ℤ, pos, negsuc, ◌+ℤ◌, ◌-ℤ◌, ◌≤ℤ◌, true, w64, SFits}
+use Rattle.std.proofs.Common.{◌≡◌, ap, ap₂, sym, ◌∙◌, subst, arith, ℕ, ◌<◌, ◌≤◌, ◌^◌, ◌-◌, ℤ, pos, negsuc, ◌+ℤ◌, ◌-ℤ◌, ◌≤ℤ◌, true, false, Option, None, length, option_map, unwrap_or, w64, SFits}
 use Rattle.std.proofs.lemmas.Int.{ints, to_z-of_z}
+use Rattle.std.proofs.lemmas.List.{get_or_past}
 use mir.Val.{to_z, of_z}
 use Rattle.wf_frame.specs.declared.classes.Class.{Class}
 use Rattle.wf_frame.specs.Frames.{FrameValue}
+use Rattle.wf_frame.specs.declared.settings.Config.{Config}
 use Rattle.wf_def_world.specs.World.{World, is_live, share, standing, pending_air}
 use Rattle.wf_law_runs.specs.Numbers.{least_deficit, greatest_deficit}
 use Rattle.wf_law_runs.proofs.Deficits.Numbers.{number_law}
 use Rattle.wf_sched.specs.ClassRotas.{deficit}
+use Rattle.wf_send_parts.specs.declared.stations.members.Member.{Member}
+use Rattle.wf_send_parts.specs.Members.{is_offloaded_in}
 use Rattle.wf_send_half_model.specs.Half.{TransmitValue, pending_air_of}
 use Rattle.wf_send_half_model.specs.Standing.{StandsFor, IsReached}
 use Rattle.wf_send_half_model.proofs.Reached.{by_law}
@@ -73,6 +77,34 @@ module _ (d e : ℤ) (n : ℕ) (low : negsuc (2 ^ 33) ≤ℤ d) (high : d ≤ℤ
 
   added_plain : to_z w64 (of_z w64 added) ≡ d +ℤ pos n
   added_plain = to_z-of_z w64 added added_fits ∙ added_is
+
+-- the difference of two numbers of 32 bits
+module _ (d e : ℤ) (m n : ℕ) (first : m < 2 ^ 32) (second : n < 2 ^ 32) (d_is : d ≡ pos m)
+    (e_is : e ≡ pos n) where
+  abbrev difference : ℤ
+  difference = to_z w64 (of_z w64 d) -ℤ to_z w64 (of_z w64 e)
+
+  -- a number of 32 bits is the same as one of 64 bits
+  plain : (z : ℤ) (k : ℕ) → k < 2 ^ 32 → z ≡ pos k → to_z w64 (of_z w64 z) ≡ pos k
+  plain z k small is = to_z-of_z w64 z (subst (SFits w64) (sym is) (small_fits (pos k) (omega (arith, ints))
+      (omega (arith, ints, small)))) ∙ is
+
+  difference_is : difference ≡ pos m -ℤ pos n
+  difference_is = ap₂ (λ (a b : ℤ). a -ℤ b) (plain d m first d_is) (plain e n second e_is)
+
+  -- the difference fits in 64 bits
+  pub difference_fits : SFits w64 difference
+  difference_fits = subst (SFits w64) (sym difference_is)
+      (small_fits (pos m -ℤ pos n) (omega (arith, ints, first, second)) (omega (arith, ints, first, second)))
+
+  -- the difference is exact
+  pub difference_plain : to_z w64 (of_z w64 difference) ≡ pos m -ℤ pos n
+  difference_plain = to_z-of_z w64 difference difference_fits ∙ difference_is
+
+  -- the difference is not too low for a deficit
+  pub difference_low : negsuc (2 ^ 62 - 1) ≤ℤ to_z w64 (of_z w64 difference)
+  difference_low = subst (λ (z : ℤ). negsuc (2 ^ 62 - 1) ≤ℤ z) (sym difference_plain)
+      (omega (arith, ints, first, second))
 
 -- ---- the half in some world of a run
 
@@ -142,3 +174,17 @@ module _ (v u : TransmitValue) (same : v ≡ u) (some : HasUnheardWorld v) (s : 
   pub read_world : (w : World) (bodies : ℕ → FrameValue) → StandsFor u w bodies →
       to_z w64 (of_z w64 (to_z w64 (of_z w64 d) +ℤ to_z w64 (of_z w64 e))) ≡ (share w s c).deficit
   read_world w bodies h = read_is ∙ deficit_same u w bodies s c h.parts (live_of u w bodies h s live)
+
+-- a station whose number is too great is not offloaded
+pub none_offloaded : (x v : TransmitValue) → x ≡ v → HasUnheardWorld x → (s : ℕ) → x.config.stations ≤ s →
+    false ≡ is_offloaded_in v.members s
+none_offloaded x v same some s past =
+    let sized : length x.members ≤ s = omega (
+      arith,
+      past,
+      some.stands.parts.others.stations.sized.0,
+      ap (λ (z : Config). z.stations) some.stands.parts.others.config,
+    ) in
+    sym (ap (λ (z : TransmitValue). is_offloaded_in z.members s) (sym same)
+    ∙ ap (λ (o : Option Member). unwrap_or (option_map (λ m. m.offloaded) o) false)
+    (get_or_past x.members s None sized))

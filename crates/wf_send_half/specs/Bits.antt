@@ -1,5 +1,5 @@
 -- Defines which sequence numbers a BlockAck shows, by its start and its bits, and how an exchange ends by it.
-use Rattle.std.specs.Prelude.{◌≡◌, ℕ, suc, ◌+◌, ◌<◌, ◌≤◌, ◌^◌, ◌==◌, nat_lt, Bool, true, false, is_some, is_none, ◌&&◌, List, [], ◌∷◌, count_by, find, option_map, unwrap_or, Option, Some, None, IfSome, if◌then◌else◌}
+use Rattle.std.specs.Prelude.{◌≡◌, ℕ, suc, ◌+◌, ◌<◌, ◌≤◌, ◌^◌, ◌==◌, nat_lt, Bool, true, false, is_some, is_none, not, ◌&&◌, ◌||◌, List, [], ◌∷◌, count_by, find, option_map, unwrap_or, Option, Some, None, IfSome, if◌then◌else◌}
 use Rattle.wf_frame.specs.Classes.{class_of}
 use Rattle.wf_frame.specs.Frames.{FrameValue}
 use Rattle.wf_frame.specs.declared.notes.ReplyNote.{ReplyNote}
@@ -10,7 +10,8 @@ use Rattle.wf_def_agreement.specs.Session.{End}
 use Rattle.wf_def_lists.specs.Table.{has}
 use Rattle.wf_def_world.specs.World.{World, Exchange, Mpdu, exchange, is_wide}
 use Rattle.wf_def_world.specs.CanSend.{is_request}
-use Rattle.wf_def_world.specs.Exchanges.{mpdus_of, is_acked, charge_of, numbers_unsent}
+use Rattle.wf_def_world.specs.Exchanges.{mpdus_of, is_acked, charge_of, numbers_unsent, numbers_arrived}
+use Rattle.wf_law_runs.specs.Delivery.{is_batch}
 use Rattle.wf_law_runs.specs.Windows.{EachMpdu}
 use Rattle.wf_send_parts.specs.Tally.{held_in}
 use Rattle.wf_queue_flows.specs.Backlog.{held_in_backlog}
@@ -73,13 +74,24 @@ numbers_sent x = without_unsent 0 x.unsent (numbers_carried x.sending)
 abbrev pub count_shown_of : TransmitValue → Option (ℕ × List ℕ) → Open → ℕ
 count_shown_of v heard x = count_shown (is_wide_of v x.station x.tid) heard (numbers_sent x)
 
--- how an exchange ends for number n, its transmission i, by the report on its transmissions
+-- how an exchange ends for number n, its transmission i, by the report on its transmissions; the device
+-- repeats the frames of a batch itself
 abbrev pub end_of_index : Report → ℕ → ℕ → End
 end_of_index r i n =
     if has r.unsent i then End.Unsent
     else if is_shown r.wide r.heard n then End.Acknowledged
-    else if has r.given_up i then End.GivenUp
+    else if r.batch || has r.given_up i then End.GivenUp
     else End.Missed
+
+-- the report on an open exchange, by the BlockAck that was heard
+abbrev pub report_of : TransmitValue → Open → Option (ℕ × List ℕ) → Report
+report_of v x heard = record {
+  batch = x.batch;
+  wide = is_wide_of v x.station x.tid;
+  heard = heard;
+  unsent = x.unsent;
+  given_up = x.given_up;
+}
 
 -- each of these transmissions ends so by its index and its number on the air as it ends by its number; i is
 -- the index of the first one
@@ -101,12 +113,27 @@ AreShown w x b heard =
 abbrev pub NoneIsShown : World → Exchange → Option (ℕ × List ℕ) → Type 0
 NoneIsShown w x heard = EachSent (λ m. is_shown (is_wide w x.station x.tid) heard m.number ≡ false) x
 
+-- exactly those numbers of a batch arrived that went on the air and that the bits show
+abbrev pub AreArrived : World → Exchange → Option (ℕ × List ℕ) → Type 0
+AreArrived w x heard = EachSent (λ m. has (numbers_arrived x) m.number
+    ≡ is_shown (is_wide w x.station x.tid) heard m.number) x
+
+-- a request is heard if anything was
+abbrev pub IsToldAs : Exchange → Option (ℕ × List ℕ) → Bool → Type 0
+IsToldAs x heard told = is_request x.content ≡ true → told ≡ is_some heard
+
+-- if exchange e is open, it is no batch
+abbrev pub IsNoBatch : World → ℕ → Type 0
+IsNoBatch w e = is_batch (exchange w e) ≡ false
+
 -- An exchange ends by the BlockAck that was heard as by its receiver's answer, which was heard or not: both
--- show the same for each of its numbers that went on the air, and a request is heard if anything was.
+-- show the same for each of its numbers that went on the air, and a request is heard if anything was. A batch
+-- ends by what arrived.
 pub record GoesBy (w : World) (x : Exchange) (heard : Option (ℕ × List ℕ)) (answered : Bool) : Type 0 where
-  pub numbers : EachSent (λ m. is_acked answered x.answer m.number
+  pub numbers : x.batch ≡ false → EachSent (λ m. is_acked answered x.answer m.number
       ≡ is_shown (is_wide w x.station x.tid) heard m.number) x
-  pub request : is_request x.content ≡ true → answered ≡ is_some heard
+  pub arrived : x.batch ≡ true → AreArrived w x heard
+  pub request : IsToldAs x heard answered
 
 -- ---- conditions of the calls
 
@@ -119,10 +146,14 @@ IsChargeSmall v e = IfSome (find (λ x. x.number == e) v.opened)
 abbrev pub has_bad_air : TransmitValue → ℕ → Option ℕ → Bool
 has_bad_air v e air = is_some (find (λ x. x.number == e) v.opened) && is_bad_air v.config air
 
--- whether something was heard for an exchange that is open, but of which nothing went on the air
+-- whether an open exchange has no answer: it is no batch, and nothing of it went on the air
+abbrev pub is_unanswered : Open → Bool
+is_unanswered x = not x.batch && has_nothing_sent x
+
+-- whether something was heard for an exchange that is open, but has no answer
 abbrev pub is_answer_impossible : TransmitValue → ℕ → Option (ℕ × List ℕ) → Bool
 is_answer_impossible v e heard =
-    is_some heard && unwrap_or (option_map has_nothing_sent (find (λ x. x.number == e) v.opened)) false
+    is_some heard && unwrap_or (option_map is_unanswered (find (λ x. x.number == e) v.opened)) false
 
 -- why the end of an exchange is refused, if it is
 abbrev pub end_refusal : TransmitValue → ℕ → Option (ℕ × List ℕ) → Option ℕ → Option Refusal

@@ -185,8 +185,8 @@ pub record TellsWhoIsReady (v : TransmitValue) (c : Class) (ready : List Bool) :
 
 -- if a station sends, the result says whether it is ready in the class afterwards
 abbrev pub IsSenderTold : TransmitValue → Class → Pulled → Type 0
-IsSenderTold v c p = (e s t air : ℕ) (request : Option ℕ) (more : Bool) →
-    p.brief ≡ Send e s t air request more → p.is_ready ≡ is_ready_of v c s
+IsSenderTold v c p = (e s t air : ℕ) (request : Option ℕ) (batch more : Bool) →
+    p.brief ≡ Send e s t air request batch more → p.is_ready ≡ is_ready_of v c s
 
 -- u is v after a pull with these limits picked station s in a class, and v represents w
 pub record IsPickedInClass (v u : TransmitValue) (w : World) (bodies : ℕ → FrameValue) (s : ℕ)

@@ -47,7 +47,7 @@ impl Half {
 
     // Returns the greatest data time of an aggregate of a class, in microseconds: its own setting, if that is
     // not 0, otherwise the setting `cap`.
-    fn cap(&self, class: Class) -> u32
+    pub(crate) fn cap(&self, class: Class) -> u32
         ensures { result ≡ cap_of self.now.config class }
     {
         let own = match class {

@@ -5,7 +5,7 @@ ghost use Rattle.wf_frame.specs.Answers.{reply_with};
 ghost use Rattle.wf_frame.specs.Classes.{same_class};
 ghost use Rattle.wf_frame.specs.Frames.{FrameValue};
 ghost use Rattle.wf_frame.specs.declared.answers.Brief.TheVariants.{Refused as Refuses};
-ghost use Rattle.wf_frame.specs.declared.notes.Ask.TheVariants.{Join, Leave, Rate, Tick, Pull, Sleep, Wake, Poll, Rx, Reap, Ampdu, Stop, Start, Unsent, GiveUp, Flush};
+ghost use Rattle.wf_frame.specs.declared.notes.Ask.TheVariants.{Join, Offload, Weight, Leave, Rate, Tick, Pull, Sleep, Wake, Poll, Rx, Reap, Ampdu, Stop, Start, Unsent, GiveUp, Flush};
 ghost use Rattle.wf_frame.specs.declared.notes.Note.TheVariants.{Asked};
 ghost use Rattle.wf_frame.specs.declared.notes.Refusal.TheVariants.{Full, Ahead, Idle};
 ghost use Rattle.wf_frame.specs.declared.notes.ReplyNote.TheVariants.{Joined, Left, Set, Now, Slept, Woken, Polled, Charged, Accepted, Stopped, Started, Marked, Flushed, Refused};
@@ -102,10 +102,11 @@ impl Transmit {
     /// and the bits of the BlockAck that was heard (IEEE 802.11-2012, 8.3.1.9), if one was; the first 64 bits
     /// count, or all 256 if the TID's window is above 64. A number that never went on the air waits again,
     /// whatever the BlockAck shows. Each other number that it shows is acknowledged; each number that it does
-    /// not show fails if it is given up or was sent `attempts` times, else it waits again. A request is heard
-    /// if anything was. If `air` is given, the station is charged `air` microseconds instead of the computed
-    /// charge. Refused as NoExchange if the exchange is not open, as NoAnswer if something was heard though
-    /// nothing of the exchange went on the air, then as BadAir if `air` is 0 or above the setting `charge`.
+    /// not show fails if it is given up or was sent `attempts` times, or if the exchange is a batch, else it
+    /// waits again. A request is heard if anything was. If `air` is given, the station is charged `air`
+    /// microseconds instead of the computed charge. Refused as NoExchange if the exchange is not open, as
+    /// NoAnswer if something was heard though nothing of the exchange went on the air and it is no batch,
+    /// then as BadAir if `air` is 0 or above the setting `charge`.
     pub fn done(
         &mut self,
         exchange: u64,
@@ -200,6 +201,37 @@ impl Transmit {
             }
             Err(reason) => Err(reason),
         }
+    }
+
+    /// A station joins whose device numbers, aggregates and repeats its frames: its maximum A-MPDU length
+    /// exponent, 0 to 3 (IEEE 802.11-2012, 8.4.2.58.3), and its weight, 1 to 16. Refused as BadStation,
+    /// BadExponent, BadWeight or Live.
+    pub fn offload(&mut self, station: u16, exponent: u8, weight: u8) -> Result<(), Refusal>
+        ensures meets { (w : World) (bodies : ℕ → FrameValue) → StandsFor self.old w bodies →
+            Meets w bodies (Asked (Offload station exponent weight)) self.new
+            (reply_of_result (λ _. Joined) result) }
+        ensures refused { IfErr result (λ _. self.new ≡ self.old) }
+        ensures unheard { HasUnheardWorld self.new }
+    {
+        match self.half.offload(station, exponent, weight) {
+            Ok(()) => {
+                self.ready.set_all(&self.half, station);
+                Ok(())
+            }
+            Err(reason) => Err(reason),
+        }
+    }
+
+    /// Sets the weight of a station, 1 to 16. Its quantum is the setting `quantum` times its weight from now
+    /// on, and each of its deficits is at most this, and the airtime in flight that it covers. Refused as
+    /// BadStation, BadWeight or NoStation.
+    pub fn weight(&mut self, station: u16, weight: u8) -> Result<(), Refusal>
+        ensures meets { (w : World) (bodies : ℕ → FrameValue) → StandsFor self.old w bodies →
+            Meets w bodies (Asked (Weight station weight)) self.new (reply_of_result (λ _. Set) result) }
+        ensures refused { IfErr result (λ _. self.new ≡ self.old) }
+        ensures unheard { HasUnheardWorld self.new }
+    {
+        self.half.weight(station, weight)
     }
 
     /// A station leaves, and its frames are dropped as Left. Returns how many they were. They go last on the

@@ -1,6 +1,7 @@
 //! The end of an exchange.
 
 ghost use Rattle.std.specs.Prelude.{◌≡◌, ◌≢◌, ◌<◌, ◌==◌, ℕ, Bool, true, false, Some, length, find, is_ok, is_none, is_some, Option, IfOk, IfErr, IfNone, IfSome, List};
+ghost use Rattle.wf_frame.specs.Classes.{tid_number};
 ghost use Rattle.wf_frame.specs.Frames.{FrameValue};
 ghost use Rattle.wf_frame.specs.declared.classes.Fate.TheVariants.{Held};
 ghost use Rattle.wf_def_world.specs.World.{World, Mpdu, Exchange, exchange as exchange_in};
@@ -10,7 +11,7 @@ ghost use Rattle.wf_def_world.specs.Step.{done_outcome};
 ghost use Rattle.wf_send_half_model.specs.Half.{TransmitValue};
 ghost use Rattle.wf_send_half_model.specs.Standing.{StandsFor, Meets, Parts, numbers_on_air, open_of};
 ghost use Rattle.wf_send_half_model.specs.Ending.{IsEnding, after_close, after_finish, after_answer};
-ghost use Rattle.wf_send_half.specs.Bits.{is_shown, end_of_index, without_unsent, EndAlike, has_bad_air, is_answer_impossible, end_refusal, CanFinish, IsToSettle, IsClosed, GoesBy, with_one_more, all_ended, ended_reply, closed_reply, HasClosed, IsChargeSmall, AreShown, NoneIsShown, count_shown, count_shown_of};
+ghost use Rattle.wf_send_half.specs.Bits.{is_shown, end_of_index, without_unsent, EndAlike, report_of, has_bad_air, is_answer_impossible, end_refusal, CanFinish, IsToSettle, IsClosed, GoesBy, with_one_more, all_ended, ended_reply, closed_reply, HasClosed, IsChargeSmall, IsNoBatch, IsToldAs, AreShown, AreArrived, NoneIsShown, count_shown, count_shown_of};
 ghost use Rattle.wf_send_half.specs.Half.{HasWorld};
 ghost use Rattle.wf_send_half.specs.Replies.{reply_of_result};
 ghost use Rattle.wf_def_agreement.specs.Receiver.{Score};
@@ -54,10 +55,11 @@ pub(crate) struct Closed {
     pub(crate) is_ready: bool,
 }
 
-/// The report on an exchange that ends: the BlockAck that was heard, and the marks of
-/// the device.
+/// The report on an exchange that ends: the BlockAck that was heard, and the marks of the device.
 #[derive(Clone, Copy)]
 pub(crate) struct Report {
+    /// Whether the device repeats the frames itself.
+    pub(crate) batch: bool,
     /// Whether BlockAcks of the TID have 256 bits.
     pub(crate) wide: bool,
     /// The start and the bits of the BlockAck that was heard, if one was.
@@ -77,7 +79,7 @@ fn end_at(report: &Report, index: u16, number: Seq12) -> End
         End::Unsent
     } else if is_shown(report.wide, &report.heard, number) {
         End::Acknowledged
-    } else if report.given_up.has(index) {
+    } else if report.batch || report.given_up.has(index) {
         End::GivenUp
     } else {
         End::Missed
@@ -108,16 +110,22 @@ impl Half {
         requires some { HasWorld self.old }
         requires small { IsChargeSmall self.old exchange }
         ensures lost { IfNone heard ((w : World) (bodies : ℕ → FrameValue) → StandsFor self.old w bodies →
+            IsNoBatch w exchange →
             Meets w bodies (Asked (Done exchange false air)) self.new (reply_of_result closed_reply result)) }
         ensures shown { IfSome heard (λ score. (w : World) (bodies : ℕ → FrameValue) (x : Exchange)
             (b : Score) → StandsFor self.old w bodies →
-            exchange_in w exchange ≡ Some x → x.answer ≡ Some b → AreShown w x b (Some score) →
+            exchange_in w exchange ≡ Some x → x.batch ≡ false → x.answer ≡ Some b →
+            AreShown w x b (Some score) →
             Meets w bodies (Asked (Done exchange true air)) self.new (reply_of_result closed_reply result)) }
         ensures none_shown { (w : World) (bodies : ℕ → FrameValue) (x : Exchange) →
             StandsFor self.old w bodies →
-            exchange_in w exchange ≡ Some x → is_request x.content ≡ false → is_wholly_unsent x ≡ false →
-            NoneIsShown w x heard →
+            exchange_in w exchange ≡ Some x → x.batch ≡ false → is_request x.content ≡ false →
+            is_wholly_unsent x ≡ false → NoneIsShown w x heard →
             Meets w bodies (Asked (Done exchange false air)) self.new (reply_of_result closed_reply result) }
+        ensures arrived { (w : World) (bodies : ℕ → FrameValue) (x : Exchange) (told : Bool) →
+            StandsFor self.old w bodies →
+            exchange_in w exchange ≡ Some x → x.batch ≡ true → IsToldAs x heard told → AreArrived w x heard →
+            Meets w bodies (Asked (Done exchange told air)) self.new (reply_of_result closed_reply result) }
         ensures found { is_ok result ≡ is_none (end_refusal self.old exchange heard air) }
         ensures refused { IfErr result (λ reason. (end_refusal self.old exchange heard air ≡ Some reason) ×
             (self.new ≡ self.old)) }
@@ -156,13 +164,14 @@ impl Half {
         })
     }
 
-    // Returns whether something was heard for an exchange that is open, but of which nothing went on the air.
+    // Returns whether something was heard for an exchange that is open, but that has no answer: it is no
+    // batch, and nothing of it went on the air.
     fn is_answer_impossible(&self, exchange: u64, heard: &Option<(Seq12, Bits256)>) -> bool
         ensures { result ≡ is_answer_impossible self.now exchange heard.now }
     {
         heard.is_some()
             && match self.opened.find(exchange) {
-                Some(open) => open.is_wholly_unsent(),
+                Some(open) => !open.batch && open.is_wholly_unsent(),
                 None => false,
             }
     }
@@ -194,14 +203,10 @@ impl Half {
     {
         match &open.sending {
             Sending::Data(numbers) => {
-                let wide = self.windows.at(open.station, open.tid).size() > NARROW_WINDOW;
-                let report = Report {
-                    wide,
-                    heard: *heard,
-                    unsent: open.unsent,
-                    given_up: open.given_up,
-                };
-                self.settle_all(open.station, open.tid, numbers, &report)
+                let report = self.report_on(open, heard);
+                let ended = self.settle_all(open.station, open.tid, numbers, &report);
+                self.catch_up(open.station, open.tid);
+                ended
             }
             Sending::Request(start) => {
                 if heard.is_some() {
@@ -213,6 +218,21 @@ impl Half {
                     failed: 0,
                 }
             }
+        }
+    }
+
+    // Returns the report on an exchange that ends.
+    fn report_on(&self, open: &Open, heard: &Option<(Seq12, Bits256)>) -> Report
+        requires tid { open.now.tid < 8 }
+        requires within { tid_number open.now.station open.now.tid < length self.now.windows }
+        ensures { result ≡ report_of self.now open.now heard.now }
+    {
+        Report {
+            batch: open.batch,
+            wide: self.windows.at(open.station, open.tid).size() > NARROW_WINDOW,
+            heard: *heard,
+            unsent: open.unsent,
+            given_up: open.given_up,
         }
     }
 

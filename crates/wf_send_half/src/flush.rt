@@ -34,6 +34,7 @@ impl Half {
         let numbered = self.flush_numbers(station, tid);
         let queued = self.flows.flush(station, tid);
         self.tally.settle_all(Fate::Dropped(Cause::Flushed), queued);
+        self.catch_up(station, tid);
         self.list(station);
         Ok(numbered + queued)
     }

@@ -20,6 +20,7 @@ mod frames;
 mod half;
 mod leave;
 mod marks;
+mod offload;
 mod pending;
 mod pull;
 mod readers;
@@ -28,6 +29,7 @@ mod refuse;
 mod stations;
 mod transmit;
 pub mod unheard;
+mod weigh;
 
 pub use enqueue::Admission;
 pub use finish::Ended;

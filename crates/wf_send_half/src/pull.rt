@@ -13,6 +13,7 @@ ghost use Rattle.wf_def_lists.specs.Bounds.{greatest_air};
 ghost use Rattle.wf_law_runs.specs.Rotations.{NoneReady};
 ghost use Rattle.wf_sched.specs.ClassRotas.{deficit};
 ghost use Rattle.wf_send_parts.specs.Exchanges.{airtime_of};
+ghost use Rattle.wf_send_parts.specs.Members.{is_offloaded_in};
 ghost use Rattle.wf_send_parts.specs.Windows.{window_of};
 ghost use Rattle.wf_def_world.specs.World.{World, Mpdu};
 ghost use Rattle.wf_send_half_model.specs.Half.{some_wait, is_ready_of, is_ahead_of};
@@ -134,7 +135,7 @@ impl Half {
         ensures opened { self.new ≡ after_listing_in
             (after_sending self.old station tid class prepared.charge prepared.sending) station class }
         ensures brief { result.brief ≡ Send self.old.exchanges station tid prepared.charge
-            (start_sent prepared.sending)
+            (start_sent prepared.sending) (is_offloaded_in self.old.members station)
             (open_next self.old station tid class prepared.charge prepared.sending).more }
         ensures ready { result.is_ready ≡ is_ready_of self.new class station }
     {
@@ -145,6 +146,7 @@ impl Half {
             request,
         } = prepared;
         let more = self.sleepers.asleep(station) && request.is_none() && self.has_more(station);
+        let batch = self.members.is_offloaded(station);
         self.opened.push(Open {
             number: exchange,
             station,
@@ -153,6 +155,7 @@ impl Half {
             charge,
             sending,
             more,
+            batch,
             unsent: Bits256::empty(),
             given_up: Bits256::empty(),
         });
@@ -167,6 +170,7 @@ impl Half {
             tid,
             air: charge,
             request,
+            batch,
             more,
         };
         Pulled { brief, is_ready }

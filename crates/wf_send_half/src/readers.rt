@@ -7,11 +7,11 @@ ghost use Rattle.wf_frame.specs.declared.notes.Ask.TheVariants.{Pull};
 ghost use Rattle.wf_frame.specs.declared.notes.Limits.{Limits};
 ghost use Rattle.wf_frame.specs.declared.notes.Note.TheVariants.{Asked};
 ghost use Rattle.wf_def_world.specs.Refusals.{refusal};
-ghost use Rattle.wf_def_world.specs.World.{World, is_live, share, rotation, inside, owed};
+ghost use Rattle.wf_def_world.specs.World.{World, is_live, is_offloaded, share, rotation, inside, owed};
 ghost use Rattle.wf_queue_flows.specs.Flows.{frames_of_tid};
 ghost use Rattle.wf_sched.specs.ClassRotas.{deficit};
 ghost use Rattle.wf_send_parts.specs.Exchanges.{airtime_to};
-ghost use Rattle.wf_send_parts.specs.Members.{member, charged_in, received_in};
+ghost use Rattle.wf_send_parts.specs.Members.{member, is_offloaded_in, charged_in, received_in};
 ghost use Rattle.wf_send_parts.specs.Sleepers.{sleeper};
 ghost use Rattle.wf_send_parts.specs.Tally.{counts_of};
 ghost use Rattle.wf_send_parts.specs.Windows.{window_of};
@@ -90,6 +90,16 @@ impl Transmit {
             result ≡ is_live w station }
     {
         u32::from(station) < self.half.config.stations && self.half.members.is_live(station)
+    }
+
+    /// Returns whether a station is live and offloaded: its device numbers, aggregates and repeats its
+    /// frames.
+    pub fn is_offloaded(&self, station: u16) -> bool
+        ensures value { result ≡ is_offloaded_in self.now.members station }
+        ensures world { (w : World) (bodies : ℕ → FrameValue) → StandsFor self.now w bodies →
+            result ≡ is_offloaded w station }
+    {
+        u32::from(station) < self.half.config.stations && self.half.members.is_offloaded(station)
     }
 
     /// Returns the deficit of a live station in a class, in microseconds.

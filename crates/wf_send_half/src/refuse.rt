@@ -2,7 +2,7 @@
 
 ghost use Rattle.std.specs.Prelude.{◌≡◌, ◌<◌, ◌≤◌, ℕ, ◌-ℤ◌, pos, int_lt, true, false, [], ◌∷◌, None, Some, is_some, not, find, IfOk, IfErr, if◌then◌else◌, nat_le};
 ghost use Rattle.wf_frame.specs.Frames.{FrameValue};
-ghost use Rattle.wf_frame.specs.declared.notes.Ask.TheVariants.{Join, Rate as Rates, Tick, Sleep, Wake, Poll, Rx, Ampdu, Stop, Start};
+ghost use Rattle.wf_frame.specs.declared.notes.Ask.TheVariants.{Join, Offload, Weight, Rate as Rates, Tick, Sleep, Wake, Poll, Rx, Ampdu, Stop, Start};
 ghost use Rattle.wf_frame.specs.declared.notes.Note.TheVariants.{Asked};
 ghost use Rattle.wf_frame.specs.declared.notes.Refusal.TheVariants.{BadRate, BadStation, NoStation, Debt};
 ghost use Rattle.wf_frame.specs.declared.classes.Class.TheVariants.{Bk, Be, Vi, Vo};
@@ -111,6 +111,43 @@ impl Half {
             Refusal::BadWeight,
         )?;
         refuse_where(self.members.is_live(station), Refusal::Live)
+    }
+
+    // Checks a join of a station whose device numbers its frames.
+    pub(crate) fn check_offload(
+        &self,
+        station: u16,
+        exponent: u8,
+        weight: u8,
+    ) -> Result<(), Refusal>
+        ensures refused { (w : World) (bodies : ℕ → FrameValue) → StandsFor self.now w bodies →
+            result_err result ≡ refusal w (Asked (Offload station exponent weight)) }
+        ensures within { IfOk result (λ _. station < self.now.config.stations) }
+        ensures weight { IfOk result (λ _. (1 ≤ weight) × (weight ≤ 16)) }
+        ensures absent { IfOk result (λ _. is_some (member self.now.members station) ≡ false) }
+    {
+        self.in_range(station)?;
+        refuse_where(GREATEST_EXPONENT < exponent, Refusal::BadExponent)?;
+        refuse_where(
+            !is_within(1, GREATEST_WEIGHT as u32, u32::from(weight)),
+            Refusal::BadWeight,
+        )?;
+        refuse_where(self.members.is_live(station), Refusal::Live)
+    }
+
+    // Checks a change of a station's weight.
+    pub(crate) fn check_weight(&self, station: u16, weight: u8) -> Result<(), Refusal>
+        ensures refused { (w : World) (bodies : ℕ → FrameValue) → StandsFor self.now w bodies →
+            result_err result ≡ refusal w (Asked (Weight station weight)) }
+        ensures within { IfOk result (λ _. station < self.now.config.stations) }
+        ensures weight { IfOk result (λ _. (1 ≤ weight) × (weight ≤ 16)) }
+    {
+        self.in_range(station)?;
+        refuse_where(
+            !is_within(1, GREATEST_WEIGHT as u32, u32::from(weight)),
+            Refusal::BadWeight,
+        )?;
+        self.live(station)
     }
 
     // Checks that a station may go to sleep.

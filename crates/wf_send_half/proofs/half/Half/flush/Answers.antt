@@ -6,7 +6,6 @@ use Rattle.wf_frame.specs.Classes.{tid_number}
 use Rattle.wf_queue_flows.specs.Flows.{FlowsValue, after_tid_flush}
 use Rattle.wf_send_parts.specs.Tally.{Counts, counts_of}
 use Rattle.wf_send_half_model.specs.Half.{TransmitValue}
-use Rattle.wf_send_half_model.specs.Changes.{after_listing}
 use Rattle.wf_send_half.proofs.Rows.{refused_call}
 use Rattle.wf_send_half.proofs.CallSteps.{view_of}
 use Rattle.wf_send_half.proofs.Flushes.{queues_held, flush_fits, flush_done}
@@ -41,12 +40,12 @@ returns-clause-meets c w bodies h =
     flush_done c.args.self.now c.flush_numbers-numbered.new.self (view_of c.self.inside) c.self.view_is w bodies
     c.args.station c.args.tid c.flush_numbers-numbered.result
     (c.flush_numbers-numbered.ensures.flushed w bodies h (sym (c.in_ok-check_flush.ensures.refused w bodies h)))
-    c.list.new.self c.flush-queued.result c.flush-queued.ensures.count
-    (c.list.ensures ∙ ap (λ (z : TransmitValue). after_listing z c.args.station)
+    c.flush-queued.result c.flush-queued.ensures.count
     (ap (λ (f : FlowsValue). let t : TransmitValue =
     record (view_of c.self.inside) { flows = f; tally = counts_of c.settle_all.new.self } in t)
     c.flush-queued.ensures.flushed
     ∙ ap (λ (k : Counts). let t : TransmitValue = record (view_of c.self.inside) {
       flows = after_tid_flush c.self.inside.flows (tid_number c.args.station c.args.tid);
       tally = k;
-    } in t) c.settle_all.ensures.counted))
+    } in t) c.settle_all.ensures.counted)
+    c.catch_up.new.self c.list.new.self (λ z. c.catch_up.ensures.caught_up z bodies) c.list.ensures

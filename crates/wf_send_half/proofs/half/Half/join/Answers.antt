@@ -1,12 +1,14 @@
 -- Proves what `Half::join` promises. By cases of the checks: the call is refused, or the changes of the parts
 -- make the half represent the world after the Join.
-use Rattle.std.proofs.Common.{◌∙◌, sym, ap, subst, ℕ, ◌%◌}
+use Rattle.std.proofs.Common.{sym, false}
 use Rattle.std.proofs.lemmas.Result.{err_from_is_err_and}
-use Rattle.wf_send_parts.specs.Windows.{WindowsHaveRoom}
-use Rattle.wf_send_half_model.specs.Half.{TransmitValue}
-use Rattle.wf_send_half.proofs.Resets.{reset}
+use Rattle.wf_frame.specs.declared.notes.Ask.TheVariants.{Join}
+use Rattle.wf_frame.specs.declared.notes.Note.TheVariants.{Asked}
+use Rattle.wf_frame.specs.declared.notes.ReplyNote.TheVariants.{Joined}
+use Rattle.wf_send_half_model.specs.Changes.{after_admission}
+use Rattle.wf_send_half_model.proofs.Whole.{join_meets}
 use Rattle.wf_send_half.proofs.Rows.{refused_call}
-use Rattle.wf_send_half.proofs.CallSteps.{view_of, join_done}
+use Rattle.wf_send_half.proofs.Worlds.{met_by}
 use Rattle.wf_send_half.proofs.half.Half.join.Goals as goal
 
 pub returns-in_err-check_join-clause-meets : goal.returns-in_err-check_join-clause-meets
@@ -20,14 +22,9 @@ returns-in_err-check_join-clause-meets c w bodies h =
 
 pub returns-clause-meets : goal.returns-clause-meets
 returns-clause-meets c w bodies h =
-    join_done c.args.self.now (view_of c.self.inside) c.self.view_is w bodies h c.args.station c.args.window
-    c.args.start c.args.exponent c.args.weight c.join.new.self c.reset_all.new.self c.join-2.new.self
-    c.reset.new.self c.list.new.self
-    c.join.ensures c.join-2.ensures c.reset.ensures
-    (reset c.self.inside.windows c.reset_all.new.self c.args.station c.args.window c.of.result
-    c.reset_all.ensures.count c.reset_all.ensures.fresh c.reset_all.ensures.others
-    (subst (λ (v : TransmitValue). WindowsHaveRoom v.windows) (sym c.self.view_is) h.parts.windows.room)
-    c.args.start
-    (λ t others low. c.reset_all.ensures.stands t others c.args.start low
-    (c.of.ensures ∙ ap (λ (n : ℕ). n % 4096) c.from.ensures)))
-    c.list.ensures (c.in_ok-check_join.ensures.refused w bodies h)
+    met_by (after_admission c.args.self.now c.admit.new.self.windows c.args.station c.args.exponent
+    c.args.weight false) c.admit.new.self w bodies
+    (Asked (Join c.args.station c.args.window c.args.start c.args.exponent c.args.weight)) Joined
+    c.admit.ensures.rest
+    (join_meets c.args.self.now w bodies h c.admit.new.self.windows c.args.station c.args.window c.args.start
+    c.args.exponent c.args.weight (sym (c.in_ok-check_join.ensures.refused w bodies h)) c.admit.ensures.reset)

@@ -15,6 +15,7 @@ set-requires c = record {
         lost = c.in-Ok.ensures.lost;
         shown = c.in-Ok.ensures.shown;
         none_shown = c.in-Ok.ensures.none_shown;
+        arrived = c.in-Ok.ensures.arrived;
         found = c.in-Ok.ensures.found;
         refused = c.in-Ok.ensures.refused;
       }) c.in-Ok.closed c.in-Ok.ensures.closed;
@@ -26,6 +27,7 @@ invariant_of-self c = tracked_ended c.self.inside.half c.self.inside.ready c.sel
       lost = c.in-Ok.ensures.lost;
       shown = c.in-Ok.ensures.shown;
       none_shown = c.in-Ok.ensures.none_shown;
+      arrived = c.in-Ok.ensures.arrived;
       found = c.in-Ok.ensures.found;
       refused = c.in-Ok.ensures.refused;
     }) c.in-Ok.closed c.in-Ok.ensures.closed c.set.new.self c.set.ensures
@@ -37,6 +39,7 @@ returns-in-Ok-clause-ended c = subst (λ (v : TransmitValue).
       lost = c.in-Ok.ensures.lost;
       shown = c.in-Ok.ensures.shown;
       none_shown = c.in-Ok.ensures.none_shown;
+      arrived = c.in-Ok.ensures.arrived;
       found = c.in-Ok.ensures.found;
       refused = c.in-Ok.ensures.refused;
     })
@@ -52,6 +55,7 @@ returns-in-Ok-clause-unheard c = ended_unheard c.self.inside.half c.self.inside.
       lost = c.in-Ok.ensures.lost;
       shown = c.in-Ok.ensures.shown;
       none_shown = c.in-Ok.ensures.none_shown;
+      arrived = c.in-Ok.ensures.arrived;
       found = c.in-Ok.ensures.found;
       refused = c.in-Ok.ensures.refused;
     })
@@ -63,6 +67,7 @@ returns-in-Err-clause-ended c = subst (λ (v : TransmitValue).
       lost = c.in-Err.ensures.lost;
       shown = c.in-Err.ensures.shown;
       none_shown = c.in-Err.ensures.none_shown;
+      arrived = c.in-Err.ensures.arrived;
       found = c.in-Err.ensures.found;
       refused = c.in-Err.ensures.refused;
     })
