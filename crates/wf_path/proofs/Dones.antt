@@ -15,7 +15,7 @@ use Rattle.wf_frame.specs.declared.notes.Refusal.TheVariants.{NoExchange, NoAnsw
 use Rattle.wf_frame.specs.declared.notes.ReplyNote.{ReplyNote}
 use Rattle.wf_frame.specs.declared.settings.Config.{Config}
 use Rattle.wf_def_lists.specs.Table.{has}
-use Rattle.wf_def_agreement.specs.Receiver.{Receiver, Score}
+use Rattle.wf_def_agreement.specs.Receiver.{Score}
 use Rattle.wf_def_agreement.specs.Session.{Session, State, slot, next_number}
 use Rattle.wf_def_world.specs.World.{World, Exchange, Mpdu, Content, session, exchange, is_live, is_wide, opening}
 use Rattle.wf_def_world.specs.Exchanges.{mpdus_of, numbers_unsent}
@@ -31,10 +31,9 @@ use Rattle.wf_law_driver.proofs.Opened.{one_entry}
 use Rattle.wf_law_driver.proofs.Runs.{inferred_keeps}
 use Rattle.wf_law_driver.proofs.Inferred.{inferred_law}
 use Rattle.wf_send_parts.specs.declared.exchanges.opened.Open.{Open}
-use Rattle.wf_send_parts.specs.Exchanges.{has_nothing_sent as nothing_sent}
 use Rattle.wf_send_parts.specs.Members.{member, charged_in}
 use Rattle.wf_send_half.specs.declared.finish.Ended.{Ended}
-use Rattle.wf_send_half.specs.Bits.{AreShown, is_shown, ended_reply, end_refusal, count_shown_of, IsChargeSmall}
+use Rattle.wf_send_half.specs.Bits.{AreShown, IsNoBatch, is_shown, ended_reply, end_refusal, count_shown_of, is_unanswered, IsChargeSmall}
 use Rattle.wf_send_half.specs.Driven.{ended_by, outcome_after_done, world_after_done, IsAfterDone, MeetsUnheard}
 use Rattle.wf_send_half.specs.Replies.{reply_of_result}
 use Rattle.wf_send_half.proofs.Driven.{meets_unheard}
@@ -64,9 +63,9 @@ charge_small v x same e small = subst (λ (z : TransmitValue). IsChargeSmall z e
 
 -- ---- an end that is not refused
 
--- something went on the air if anything was heard, and the airtime is in range
+-- something went on the air if anything was heard and the exchange is no batch, and the airtime is in range
 pub record IsAllowed (w : World) (x : Exchange) (heard : Option (ℕ × List ℕ)) (air : Option ℕ) : Type 0 where
-  pub sent : is_some heard ≡ true → is_wholly_unsent x ≡ false
+  pub sent : is_some heard ≡ true → (not x.batch && is_wholly_unsent x) ≡ false
   pub fine : is_bad_air w.config air ≡ false
 
 tests_none : (a b : Bool) → (if a then Some NoAnswer else if b then Some BadAir else None) ≡ None →
@@ -81,13 +80,13 @@ pub allowed : (v : TransmitValue) (w : World) (bodies : ℕ → FrameValue) → 
 allowed v w bodies st e x known heard air none =
     let found : find (λ y. y.number == e) v.opened ≡ Some (open_of x) =
     exchange_same v w bodies e st.parts ∙ ap (option_map open_of) known in
-    let both = tests_none (is_some heard && nothing_sent (open_of x)) (is_bad_air v.config air)
+    let both = tests_none (is_some heard && is_unanswered (open_of x)) (is_bad_air v.config air)
     (sym (ap (λ (f : Option Open). if is_none f then Some NoExchange
-    else if is_some heard && unwrap_or (option_map nothing_sent f) false then Some NoAnswer
+    else if is_some heard && unwrap_or (option_map is_unanswered f) false then Some NoAnswer
     else if is_bad_air v.config air then Some BadAir else None) found) ∙ none) in
     record {
-      sent = λ some. sym (nothing_same x) ∙ (sym (ap (λ (b : Bool). b && nothing_sent (open_of x)) some)
-          ∙ both.0);
+      sent = λ some. ap (λ (b : Bool). not x.batch && b) (sym (nothing_same x))
+          ∙ sym (ap (λ (b : Bool). b && is_unanswered (open_of x)) some) ∙ both.0;
       fine = ap (λ (c : Config). is_bad_air c air) (sym st.parts.others.config) ∙ both.1;
     }
 
@@ -102,8 +101,12 @@ told_at w r caller e shown air x =
     (inferred_law w.config r.history caller e shown air x)
 
 -- what is believed to be shown went on the air
-pub shows_sent : (x : Exchange) (p : ℕ → Bool) → is_wholly_unsent x ≡ false → ShowsSent (shown_of_sent x p) x
-shows_sent x p some = record { numbers = each (mpdus_of x.content); some = some }
+pub shows_sent : (x : Exchange) (p : ℕ → Bool) → (not x.batch && is_wholly_unsent x) ≡ false →
+    ShowsSent (shown_of_sent x p) x
+shows_sent x p some = record {
+  numbers = each (mpdus_of x.content);
+  some = λ unbatched. ap (λ (b : Bool). not b && is_wholly_unsent x) (sym unbatched) ∙ some;
+}
   where
     sent_by : (a b : Bool) → (a && not b) ≡ true → b ≡ false
     sent_by true true h = absurd (cc h)
@@ -151,7 +154,7 @@ module _ (config : Config) (h : List Entry) (e : ℕ) (x : Exchange) (air : Opti
         (
           (λ a. absurd (cc (
             (un.acked x.station x.tid m.number
-                (ap (λ (r : Receiver). has r.arrived m.number) (sym (ended.receivers x.station x.tid))
+                (ap (λ (xs : List ℕ). has xs m.number) (sym (ended.arrived x.station x.tid))
                 ∙ (windows.known x.station x.tid).acked m.number (omega (arith, fly.0.0, numbers.first))
                 (omega (arith, below, numbers.next)) a)).acked,
             fly.0.1,
@@ -183,13 +186,13 @@ module _ (half : TransmitValue) (w : World) (bodies : ℕ → FrameValue) (st : 
   acked_open None may = lost_acks_none half w bodies st un e x known air may.fine
   acked_open (Some score) may =
       let shown : ℕ → Bool = shown_by w x (Some score) in
-      let some : is_wholly_unsent x ≡ false = may.sent refl in
+      let some : (not x.batch && is_wholly_unsent x) ≡ false = may.sent refl in
       subst (λ (none : Bool). AreAckedWhere (if none then step w (Asked (Done e true air))
       else if is_bad_air w.config air then step w (Asked (Done e false air))
-      else step (after_inferred w caller e shown x.content)
+      else step (after_inferred w caller e shown x.batch x.content)
       (done_inferred e shown air x.content)).world shown x) (sym some)
       (subst (λ (bad : Bool). AreAckedWhere (if bad then step w (Asked (Done e false air))
-      else step (after_inferred w caller e shown x.content)
+      else step (after_inferred w caller e shown x.batch x.content)
       (done_inferred e shown air x.content)).world shown x)
       (sym may.fine) (told_at w st.reached caller e shown air x un known
       (shows_sent x (is_shown (is_wide w x.station x.tid) (Some score)) some) may.fine).acked)
@@ -204,11 +207,11 @@ module _ (half : TransmitValue) (w : World) (bodies : ℕ → FrameValue) (st : 
 
 -- the calls that a BlockAck implies change nothing of the half
 told_stands : (v : TransmitValue) (w : World) (bodies : ℕ → FrameValue) → StandsFor v w bodies →
-    (caller e : ℕ) (shown : ℕ → Bool) (content : Content) →
-    StandsFor v (after_inferred w caller e shown content) bodies
-told_stands v w bodies h caller e shown content =
+    (caller e : ℕ) (shown : ℕ → Bool) (batch : Bool) (content : Content) →
+    StandsFor v (after_inferred w caller e shown batch content) bodies
+told_stands v w bodies h caller e shown batch content =
     inferred_keeps (λ u. StandsFor v u bodies) (λ u d i k. arrive_stands v u bodies d i k)
-    (λ u d k. answer_stands v u bodies d k) w caller e shown content h
+    (λ u d k. answer_stands v u bodies d k) w caller e shown batch content h
 
 rise_ended : (v u : TransmitValue) (w : World) (bodies : ℕ → FrameValue) → StandsFor v w bodies →
     (caller e : ℕ) (heard : Option (ℕ × List ℕ)) (air : Option ℕ) (x : Option Exchange) →
@@ -217,24 +220,25 @@ rise_ended v u w bodies h caller e None air x st =
     rise_little v u w bodies bodies (Asked (Done e false air)) h st
 rise_ended v u w bodies h caller e (Some score) air None st =
     rise_little v u w bodies bodies (Asked (Done e false air)) h st
-rise_ended v u w bodies h caller e (Some score) air (Some x) st = on_air (is_wholly_unsent x) st
+rise_ended v u w bodies h caller e (Some score) air (Some x) st =
+    on_air (not x.batch && is_wholly_unsent x) st
   where
     shown : ℕ → Bool
     shown = shown_by w x (Some score)
 
     either : (bad : Bool) → StandsFor u (if bad then step w (Asked (Done e false air))
-        else step (after_inferred w caller e shown x.content)
+        else step (after_inferred w caller e shown x.batch x.content)
         (done_inferred e shown air x.content)).world bodies →
         RiseLittle v u
     either true there = rise_little v u w bodies bodies (Asked (Done e false air)) h there
     either false there =
-        rise_little v u (after_inferred w caller e shown x.content) bodies bodies
+        rise_little v u (after_inferred w caller e shown x.batch x.content) bodies bodies
         (done_inferred e shown air x.content)
-        (told_stands v w bodies h caller e shown x.content) there
+        (told_stands v w bodies h caller e shown x.batch x.content) there
 
     on_air : (none : Bool) → StandsFor u (if none then step w (Asked (Done e true air))
         else if is_bad_air w.config air then step w (Asked (Done e false air))
-        else step (after_inferred w caller e shown x.content)
+        else step (after_inferred w caller e shown x.batch x.content)
         (done_inferred e shown air x.content)).world bodies →
         RiseLittle v u
     on_air true there = rise_little v u w bodies bodies (Asked (Done e true air)) h there
@@ -264,13 +268,14 @@ module _ (x : TransmitValue) (h : IsPath x) (u : TransmitValue) (unheard : IsPat
     before w bodies st = subst (λ (z : TransmitValue). StandsFor z w bodies) (sym (half_is same)) st
 
     lost_if : (o : Option (ℕ × List ℕ)) → IfNone o
-        ((w : World) (bodies : ℕ → FrameValue) → StandsFor x w bodies →
+        ((w : World) (bodies : ℕ → FrameValue) → StandsFor x w bodies → IsNoBatch w e →
         Meets w bodies (Asked (Done e false air)) u (reply_of_result ended_reply result)) →
         IfNone o ((w : World) (bodies : ℕ → FrameValue) (pairs : List (ℕ × ℕ)) (ids : List ℕ) →
-        StandsFor p.half w bodies → Meets w bodies (Asked (Done e false air)) u (reply_with b pairs ids))
-    lost_if None f = λ w bodies pairs ids st. subst
+        StandsFor p.half w bodies → IsNoBatch w e →
+        Meets w bodies (Asked (Done e false air)) u (reply_with b pairs ids))
+    lost_if None f = λ w bodies pairs ids st unbatched. subst
         (λ (z : ReplyNote). Meets w bodies (Asked (Done e false air)) u z) (says pairs ids)
-        (f w bodies (before w bodies st))
+        (f w bodies (before w bodies st) unbatched)
     lost_if (Some score) f = tt
 
     pub is_ended : ((why : Refusal) → end_refusal x e heard air ≡ Some why → (b ≡ brief.Refused why) ×
@@ -279,9 +284,12 @@ module _ (x : TransmitValue) (h : IsPath x) (u : TransmitValue) (unheard : IsPat
     is_ended refuses = record {
       lost = lost_if heard done.lost;
       shown = shown_if heard done.shown;
-      none_shown = λ w bodies y pairs ids st known plain some hidden.
+      none_shown = λ w bodies y pairs ids st known unbatched plain some hidden.
           subst (λ (z : ReplyNote). Meets w bodies (Asked (Done e false air)) u z) (says pairs ids)
-          (done.none_shown w bodies y (before w bodies st) known plain some hidden);
+          (done.none_shown w bodies y (before w bodies st) known unbatched plain some hidden);
+      arrived = λ w bodies y told pairs ids st known batched as_told all.
+          subst (λ (z : ReplyNote). Meets w bodies (Asked (Done e told air)) u z) (says pairs ids)
+          (done.arrived w bodies y told (before w bodies st) known batched as_told all);
       driven = λ w bodies caller pairs ids st un.
           subst (λ (z : ReplyNote). MeetsUnheard bodies (outcome_after_done w caller e heard air) u z)
           (says pairs ids)
@@ -313,14 +321,14 @@ module _ (x : TransmitValue) (h : IsPath x) (u : TransmitValue) (unheard : IsPat
 
         shown_if : (o : Option (ℕ × List ℕ)) → IfSome o
             (λ score. (w : World) (bodies : ℕ → FrameValue) (y : Exchange) (answer : Score) →
-            StandsFor x w bodies → exchange w e ≡ Some y → y.answer ≡ Some answer →
+            StandsFor x w bodies → exchange w e ≡ Some y → y.batch ≡ false → y.answer ≡ Some answer →
             AreShown w y answer (Some score) → Meets w bodies (Asked (Done e true air)) u
             (reply_of_result ended_reply result)) →
             IfSome o (λ score. (w : World) (bodies : ℕ → FrameValue) (y : Exchange) (answer : Score)
             (pairs : List (ℕ × ℕ)) (ids : List ℕ) → StandsFor p.half w bodies → exchange w e ≡ Some y →
-            y.answer ≡ Some answer → AreShown w y answer (Some score) →
+            y.batch ≡ false → y.answer ≡ Some answer → AreShown w y answer (Some score) →
             Meets w bodies (Asked (Done e true air)) u (reply_with b pairs ids))
         shown_if None f = tt
-        shown_if (Some score) f = λ w bodies y answer pairs ids st known kept shows.
+        shown_if (Some score) f = λ w bodies y answer pairs ids st known unbatched kept shows.
             subst (λ (z : ReplyNote). Meets w bodies (Asked (Done e true air)) u z) (says pairs ids)
-            (f w bodies y answer (before w bodies st) known kept shows)
+            (f w bodies y answer (before w bodies st) known unbatched kept shows)

@@ -24,6 +24,7 @@ use Rattle.wf_def_world.specs.Run.{Entry, world_after}
 use Rattle.wf_def_world.specs.Step.{Outcome as MachineOutcome, step}
 use Rattle.wf_def_world.specs.World.{World, Exchange, Mpdu, Content, Frames, Request, exchange, session, is_wide}
 use Rattle.wf_law_rules.proofs.Lemmas.Numbers.{on_bool, lt_no, yes_lt, has_other, eq_yes}
+use Rattle.wf_law_runs.specs.Delivery.{is_batch}
 use Rattle.wf_law_runs.specs.Sent.{NumbersRise}
 use Rattle.wf_law_runs.specs.Windows.{EachMpdu, KeepsWindows}
 use Rattle.wf_law_runs.proofs.Deficits.Configs.{config_run}
@@ -130,6 +131,16 @@ one_acked (Unsent ∷ []) long on = absurd (cc on)
 one_acked (GaveUp ∷ []) long on = absurd (cc on)
 one_acked (a ∷ b ∷ outcomes) long on = absurd (omega (arith, long))
 
+-- no answer is inferred if nothing arrived
+no_answer : (batch : Bool) (caller e : ℕ) → answer_inferred batch caller e [] ≡ []
+no_answer true caller e = refl
+no_answer false caller e = refl
+
+-- an exchange of which something went on the air may be answered
+and_sent : (batch unsent : Bool) → unsent ≡ false → (not batch && unsent) ≡ false
+and_sent true unsent h = refl
+and_sent false unsent h = h
+
 world_after_none : (w : World) → world_after w [] ≡ w
 unfolding world_after
 world_after_none w = refl
@@ -228,9 +239,12 @@ module _ (v : TransmitValue) (w : World) (bodies : ℕ → FrameValue) (st : Sta
   some_went on = subst (λ (n : ℕ). list_all (has x.unsent) (upto n) ≡ false) long
       (not_wholly x.unsent outcomes sent on)
 
+  may_answer : some_acked outcomes ≡ true → (not x.batch && is_wholly_unsent x) ≡ false
+  may_answer on = and_sent x.batch (is_wholly_unsent x) (some_went on)
+
   pub may_end : IsAllowed w x heard air
   may_end = record {
-    sent = λ some. on_bool (some_acked outcomes) some_went
+    sent = λ some. on_bool (some_acked outcomes) may_answer
         (λ off. absurd (let no : false ≡ true = ap is_some (sym (heard_none off)) ∙ some in cc no));
     fine = fine;
   }
@@ -247,10 +261,10 @@ module _ (v : TransmitValue) (w : World) (bodies : ℕ → FrameValue) (st : Sta
 
   -- the calls that the acknowledgements imply
   abbrev implied : ℕ → List ℕ → List Entry
-  implied caller is = arrivals caller e is ++ answer_inferred caller e is
+  implied caller is = arrivals caller e is ++ answer_inferred x.batch caller e is
 
   none_implied : (caller : ℕ) → some_acked outcomes ≡ false → implied caller (indices_acked 0 outcomes) ≡ []
-  none_implied caller off = ap (implied caller) (no_indices 0 outcomes off)
+  none_implied caller off = ap (implied caller) (no_indices 0 outcomes off) ∙ no_answer x.batch caller e
 
   -- the exchange ends as the machine's does after these calls
   pub outcome_is : (caller : ℕ) → ended_by w caller e heard air (Some x)
@@ -276,10 +290,11 @@ module _ (v : TransmitValue) (w : World) (bodies : ℕ → FrameValue) (st : Sta
           ap (λ (h : Option (ℕ × List ℕ)). ended_by w caller e h air (Some x)) (heard_some on)
           ∙ ap (λ (none : Bool). if none then step w (Asked (Done e true air))
           else if is_bad_air w.config air then step w (Asked (Done e false air))
-          else step (after_inferred w caller e shown x.content) (done_inferred e shown air x.content))
-          (some_went on)
+          else step (after_inferred w caller e shown x.batch x.content) (done_inferred e shown air x.content))
+          (may_answer on)
           ∙ ap (λ (bad : Bool). if bad then step w (Asked (Done e false air))
-          else step (after_inferred w caller e shown x.content) (done_inferred e shown air x.content)) fine
+          else step (after_inferred w caller e shown x.batch x.content) (done_inferred e shown air x.content))
+          fine
           ∙ ap (λ (js : List ℕ). step (world_after w (implied caller js))
           (Asked (Done e (nat_lt 0 (length js)) air))) is
           ∙ ap (λ (b : Bool). step (world_after w (implied caller (indices_acked 0 outcomes)))
@@ -289,7 +304,7 @@ module _ (v : TransmitValue) (w : World) (bodies : ℕ → FrameValue) (st : Sta
   implied_answered caller = on_bool (some_acked outcomes)
       (λ on. subst (λ (js : List ℕ). AreAnswered w (implied caller js)) (indices on)
       (told_at w st.reached caller e (shown_by w x heard) air x un known
-      (shows_sent x (is_shown wide heard) (some_went on)) fine).answered)
+      (shows_sent x (is_shown wide heard) (may_answer on)) fine).answered)
       (λ off. subst (AreAnswered w) (sym (none_implied caller off)) tt)
 
   pub acked_each : (u : World) → AreAckedWhere u (shown_by w x heard) x →
@@ -527,8 +542,11 @@ module _ (p r q : PathValue) (e : ℕ) (outcomes : List Outcome) (air : Option �
     abbrev z : Exchange
     z = all_marked 0 outcomes x
 
-    abbrev rest : List Entry
-    rest = arrivals caller e (indices_acked 0 outcomes) ++ answer_inferred caller e (indices_acked 0 outcomes)
+    -- the calls that the acknowledgements imply, if the exchange is a batch or not
+    abbrev rest : Bool → List Entry
+    rest batch =
+        arrivals caller e (indices_acked 0 outcomes) ++ answer_inferred batch caller e
+        (indices_acked 0 outcomes)
 
     open_here : IsOpenEach w outcomes air x
     open_here = open_each p.half w bodies st e x known outcomes air none
@@ -541,6 +559,9 @@ module _ (p r q : PathValue) (e : ℕ) (outcomes : List Outcome) (air : Option �
 
     same : IsSameElse z x
     same = marked_else outcomes 0 x
+
+    batch_is : z.batch ≡ is_batch (exchange w e)
+    batch_is = same.batch ∙ sym (ap is_batch known)
 
     long : length outcomes ≡ transmissions z.content
     long = open_here.long ∙ sym (ap transmissions same.content)
@@ -566,7 +587,9 @@ module _ (p r q : PathValue) (e : ℕ) (outcomes : List Outcome) (air : Option �
         sent air
         fine caller
         ∙ ap (λ (o : World). step o (done_by e outcomes air))
-        (sym (world_after-append (marks caller e 0 outcomes) w rest))
+        (sym (world_after-append (marks caller e 0 outcomes) w (rest z.batch)))
+        ∙ ap (λ (batch : Bool). step (world_after w (calls_before_done batch caller e outcomes))
+        (done_by e outcomes air)) batch_is
 
     driven_each : (pairs : List (ℕ × ℕ)) (ids : List ℕ) →
         MeetsUnheard (bodies_each x 0 outcomes bodies) (outcome_each w caller e outcomes air) q.half
@@ -576,12 +599,13 @@ module _ (p r q : PathValue) (e : ℕ) (outcomes : List Outcome) (air : Option �
         (reply_with b pairs ids)) outcome_same
         (ended.driven after (bodies_each x 0 outcomes bodies) caller pairs ids now k.unheard)
 
-    answered_each : AreAnswered w (calls_before_done caller e outcomes)
-    answered_each = answered_both (marks caller e 0 outcomes) rest w
+    answered_each : AreAnswered w (calls_before_done (is_batch (exchange w e)) caller e outcomes)
+    answered_each = subst (λ (batch : Bool). AreAnswered w (calls_before_done batch caller e outcomes))
+        batch_is (answered_both (marks caller e 0 outcomes) (rest z.batch) w
         (taken p.half r.half e outcomes air none are w bodies caller x st un known)
         (implied_answered r.half after (bodies_each x 0 outcomes bodies) now k.unheard e z k.known outcomes
         long sent
-        air fine caller)
+        air fine caller))
 
     may : IsAllowed after z heard air
     may = subst (λ (h : Option (ℕ × List ℕ)). IsAllowed after z h air) (sym heard_is)
@@ -653,7 +677,8 @@ module _ (p r q : PathValue) (e : ℕ) (outcomes : List Outcome) (air : Option �
   }
     where
       by_open : (w : World) (bodies : ℕ → FrameValue) (caller : ℕ) → StandsFor p.half w bodies → IsUnheard w →
-          (o : Option Exchange) → exchange w e ≡ o → AreAnswered w (calls_before_done caller e outcomes)
+          (o : Option Exchange) → exchange w e ≡ o →
+          AreAnswered w (calls_before_done (is_batch (exchange w e)) caller e outcomes)
       by_open w bodies caller st un None is = absurd (refused_unknown p.half e outcomes air none
           (exchange_same p.half w bodies e st.parts ∙ ap (option_map open_of) is))
       by_open w bodies caller st un (Some x) is = answered_each w bodies caller x st un is

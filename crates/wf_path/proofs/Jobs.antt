@@ -14,7 +14,7 @@ use Rattle.wf_send_half_model.specs.Half.{TransmitValue}
 use Rattle.wf_send_half_model.specs.Standing.{StandsFor, Meets}
 use Rattle.wf_path.specs.Jobs.{as_ask, job_of, note_of, MayCall, bodies_after, frame_given_back}
 use Rattle.wf_path.specs.declared.asks.PathAsk.{PathAsk}
-use Rattle.wf_path.specs.declared.asks.PathAsk.TheVariants.{Join, Leave, Rate, Tick, Sleep, Wake, Poll, Rx, Ampdu, Stop, Start, Unsent, GiveUp, Flush}
+use Rattle.wf_path.specs.declared.asks.PathAsk.TheVariants.{Join, Leave, Rate, Tick, Sleep, Wake, Poll, Rx, Ampdu, Stop, Start, Unsent, GiveUp, Flush, Offload, Weight}
 use Rattle.wf_path.specs.declared.asks.PathJob.{PathJob}
 use Rattle.wf_path.specs.declared.asks.PathJob.TheVariants as path
 use Rattle.wf_path.specs.declared.job.Job.{Job}
@@ -38,6 +38,8 @@ none_for bodies (Start s) reply = refl
 none_for bodies (Unsent e i) reply = refl
 none_for bodies (GiveUp e i) reply = refl
 none_for bodies (Flush s t) reply = refl
+none_for bodies (Offload s exponent weight) reply = refl
+none_for bodies (Weight s weight) reply = refl
 
 pub none_back : (bodies : ℕ → FrameValue) (job : PathJob) (ask : PathAsk) → job ≡ path.Call ask →
     (reply : ReplyNote) → ◌≡◌ {A = Option FrameValue} None (frame_given_back bodies (job_of job) reply)
@@ -75,6 +77,8 @@ silent_ask (Start s) = tt
 silent_ask (Unsent e i) = tt
 silent_ask (GiveUp e i) = tt
 silent_ask (Flush s t) = tt
+silent_ask (Offload s exponent weight) = tt
+silent_ask (Weight s weight) = tt
 
 silent_job : (job : PathJob) → IsSilent (note_of (job_of job))
 silent_job (path.Give f) = tt

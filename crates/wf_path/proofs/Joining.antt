@@ -1,7 +1,7 @@
 -- Proves that a station that is live only since a call has joined by this call, so its airtimes begin at 0.
 -- By cases of the call.
 use Rattle.std.proofs.Common.{◌≡◌, refl, ap, sym, ◌∙◌, ℕ, ◌==◌, ◌&&◌, Bool, true, false, if◌then◌else◌, List, [], ◌∷◌, Option, Some, None, is_none, IfSome}
-use Rattle.wf_frame.specs.declared.notes.Ask.TheVariants.{Join, Leave, Rate, Tick, Pull, Arrive, Answer, Done, Sleep, Wake, Poll, Rx, Reap, Ampdu, Stop, Start, Unsent, GiveUp, Flush}
+use Rattle.wf_frame.specs.declared.notes.Ask.TheVariants.{Join, Leave, Rate, Tick, Pull, Arrive, Answer, Done, Sleep, Wake, Poll, Rx, Reap, Ampdu, Stop, Start, Unsent, GiveUp, Flush, Offload, Weight}
 use Rattle.wf_frame.specs.declared.notes.Note.{Note}
 use Rattle.wf_frame.specs.declared.notes.Note.TheVariants.{Enqueue, Asked}
 use Rattle.wf_frame.specs.declared.notes.Refusal.{Refusal}
@@ -12,18 +12,19 @@ use Rattle.wf_def_world.specs.World.{World, Exchange, is_live, exchange, with_st
 use Rattle.wf_def_world.specs.Refusals.{refusal}
 use Rattle.wf_frame.specs.declared.classes.Class.{Class}
 use Rattle.wf_def_world.specs.Exchanges.{after_pick}
-use Rattle.wf_def_world.specs.Step.{Outcome, join_outcome, after_tids_left, without_listings, leave_outcome, rate_outcome, tick_outcome, outcome_where_open, sleep_outcome, wake_outcome, poll_outcome, rx_outcome, reap_outcome, concerned_station, outcome_of, after_refusal, judged_outcome, step}
+use Rattle.wf_def_world.specs.Step.{Outcome, join_outcome, offload_outcome, after_tids_left, without_listings, leave_outcome, rate_outcome, tick_outcome, outcome_where_open, sleep_outcome, wake_outcome, poll_outcome, rx_outcome, reap_outcome, concerned_station, outcome_of, after_refusal, judged_outcome, step}
 use Rattle.wf_law_rules.proofs.Lemmas.Numbers.{on_bool, eq_yes, eq_no}
 use Rattle.wf_law_runs.specs.Sums.{since_join}
-use Rattle.wf_law_runs.proofs.Windows.Sides.{Same, then_same, same_listed, same_after_pick, same_on_station, same_on_share}
+use Rattle.wf_law_runs.proofs.Windows.Sides.{Same, then_same, same_listed, same_after_pick, same_on_station, same_on_share, same_weighed}
 use Rattle.wf_law_runs.proofs.Windows.Agreed.{IsLawful, IsFound, found, same_left_tids, same_off_lists}
 use Rattle.wf_law_runs.proofs.Releases.Released.{live_with_station, live_own_station}
 use Rattle.wf_law_runs.proofs.Frames.Delivered.{same_enqueued}
 use Rattle.wf_law_runs.proofs.Kept.Lasting.{Last, last_pulled, last_arrived, last_answered, last_unsent, last_given_up, last_flushed, last_ended}
 
--- whether a call is a Join of station s
+-- whether a call is a Join or an Offload of station s
 abbrev is_join_of : ℕ → Note → Bool
 is_join_of s (Asked (Join i window start exponent weight)) = i == s
+is_join_of s (Asked (Offload i exponent weight)) = i == s
 is_join_of s note = false
 
 -- each station that is live in v was live in w, except the station that the call joins
@@ -42,6 +43,12 @@ were_joined : (w : World) (i window start exponent weight : ℕ) →
     Were (Asked (Join i window start exponent weight)) w (join_outcome w i window start exponent weight).world
 unfolding join_outcome
 were_joined w i window start exponent weight s other live =
+    sym (live_with_station w i s _ (eq_no i s other)) ∙ live
+
+were_offloaded : (w : World) (i exponent weight : ℕ) →
+    Were (Asked (Offload i exponent weight)) w (offload_outcome w i exponent weight).world
+unfolding offload_outcome
+were_offloaded w i exponent weight s other live =
     sym (live_with_station w i s _ (eq_no i s other)) ∙ live
 
 were_left : (w u : World) (i : ℕ) → Same w u → Were (Asked (Leave i)) w (with_station u i None)
@@ -102,6 +109,8 @@ were_done (Asked (GiveUp e n)) w i = were_open (Asked (GiveUp e n)) (IsFound w i
     (found w i e)
     (λ x f. last_given_up w x n)
 were_done (Asked (Flush s t)) w i = were_last (Asked (Flush s t)) w _ (last_flushed w s t)
+were_done (Asked (Offload s exponent weight)) w i = were_offloaded w s exponent weight
+were_done (Asked (Weight s weight)) w i = were_same (Asked (Weight s weight)) w _ (same_weighed w s weight)
 
 -- ---- the step
 
@@ -120,6 +129,9 @@ were_refused _ _ w s live = live
 begun : (note : Note) (w : World) (s n : ℕ) → refusal w note ≡ None → is_join_of s note ≡ true →
     since_join w s note n ≡ 0
 begun (Asked (Join i window start exponent weight)) w s n fine own =
+    ap (λ (o : Option Refusal). if is_none o && (i == s) then 0 else n) fine
+    ∙ ap (λ (b : Bool). if b then 0 else n) own
+begun (Asked (Offload i exponent weight)) w s n fine own =
     ap (λ (o : Option Refusal). if is_none o && (i == s) then 0 else n) fine
     ∙ ap (λ (b : Bool). if b then 0 else n) own
 begun (Enqueue i t flow len) w s n fine own = absurd (cc own)
@@ -141,6 +153,7 @@ begun (Asked (Start i)) w s n fine own = absurd (cc own)
 begun (Asked (Unsent e i)) w s n fine own = absurd (cc own)
 begun (Asked (GiveUp e i)) w s n fine own = absurd (cc own)
 begun (Asked (Flush i t)) w s n fine own = absurd (cc own)
+begun (Asked (Weight i weight)) w s n fine own = absurd (cc own)
 
 new_answer : (r : Option Refusal) (w : World) (note : Note) (s n : ℕ) → refusal w note ≡ r → IsLawful w →
     is_live w s ≡ false → is_live (judged_outcome w note r).world s ≡ true → since_join w s note n ≡ 0

@@ -1,5 +1,6 @@
 -- Lists the modules of proofs/ of wf_path. Other crates may use those that are `pub`.
 mod Advancing
+mod Batches
 mod CallAnswers
 mod Counts
 mod Dones

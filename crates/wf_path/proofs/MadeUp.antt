@@ -1,6 +1,6 @@
 -- Proves that the transmissions of a path with the placeholder addresses are those that a definition with
 -- fixed addresses gives.
-use Rattle.std.proofs.Common.{◌≡◌, refl, ap, ap₂, arith, ℕ, List, [], ◌∷◌, ◌++◌, map, length, inl, inr, Option, Some, None}
+use Rattle.std.proofs.Common.{◌≡◌, refl, ap, ap₂, arith, ℕ, List, [], ◌∷◌, ◌++◌, map, inl, inr, Option, Some, None}
 use Rattle.std.specs.Prelude.{option_and_then, slice_get}
 use Rattle.std.specs.List.{range_with_len}
 use Rattle.std.specs.Option.{option_map_or}

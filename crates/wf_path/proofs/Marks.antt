@@ -391,22 +391,23 @@ bodies_same x z same i (Unsent ∷ ys) bodies =
     bodies_same x z same (suc i) ys (with_transmission_unsent z.content i bodies)
     ∙ ap (λ (c : Content). bodies_each x (suc i) ys (with_transmission_unsent c i bodies)) same
 
--- marks change neither what an exchange sends nor to whom
+-- marks change neither what an exchange sends nor to whom, nor whether it is a batch
 pub record IsSameElse (z x : Exchange) : Type 0 where
   pub content : z.content ≡ x.content
   pub station : z.station ≡ x.station
   pub tid : z.tid ≡ x.tid
+  pub batch : z.batch ≡ x.batch
 
 pub marked_else : (outcomes : List Outcome) (i : ℕ) (x : Exchange) → IsSameElse (all_marked i outcomes x) x
-marked_else [] i x = record { content = refl; station = refl; tid = refl }
+marked_else [] i x = record { content = refl; station = refl; tid = refl; batch = refl }
 marked_else (Acked ∷ outcomes) i x = marked_else outcomes (suc i) x
 marked_else (Retry ∷ outcomes) i x = marked_else outcomes (suc i) x
 marked_else (Unsent ∷ outcomes) i x =
     let k = marked_else outcomes (suc i) (marked i Unsent x) in
-    record { content = k.content; station = k.station; tid = k.tid }
+    record { content = k.content; station = k.station; tid = k.tid; batch = k.batch }
 marked_else (GaveUp ∷ outcomes) i x =
     let k = marked_else outcomes (suc i) (marked i GaveUp x) in
-    record { content = k.content; station = k.station; tid = k.tid }
+    record { content = k.content; station = k.station; tid = k.tid; batch = k.batch }
 
 answered_parts : (xs ys : List Entry) (w : World) → AreAnswered w (xs ++ ys) →
     AreAnswered w xs × AreAnswered (world_after w xs) ys

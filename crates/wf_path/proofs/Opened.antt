@@ -1,5 +1,5 @@
 -- Proves that an open exchange of the half agrees with the world's: its station and TID are in range, and its
--- answer, its summary and its marks agree.
+-- answer, its summary and its marks agree, and whether it is a batch.
 use Rattle.std.proofs.Common.{◌≡◌, refl, ap, sym, ◌∙◌, subst, arith, ℕ, ◌<◌, ◌==◌, Bool, true, false, List, Option, Some, None, option_map}
 use Rattle.std.specs.Prelude.{find}
 use Rattle.std.specs.Option.{option_map_or}
@@ -11,6 +11,7 @@ use Rattle.wf_def_world.specs.Refusals.{exchange_has}
 use Rattle.wf_def_world.specs.World.{World, Exchange, Content, Frames, Request, is_live, exchange, is_wide}
 use Rattle.wf_def_world.specs.CanSend.{is_request}
 use Rattle.wf_def_world.specs.Exchanges.{transmissions}
+use Rattle.wf_law_runs.specs.Delivery.{is_batch}
 use Rattle.wf_send_parts.specs.Window.{on_air}
 use Rattle.wf_send_parts.specs.declared.exchanges.opened.Open.{Open}
 use Rattle.wf_send_parts.specs.Exchanges.{transmissions_of, sending_is_request as asks_for}
@@ -118,3 +119,15 @@ module _ (v : TransmitValue) (w : World) (bodies : ℕ → FrameValue) (h : Stan
       let k : IsKnown w e o = known_of v w bodies h e o is in
       ap (λ (z : Open). has z.unsent i) k.same
       ∙ sym (ap (λ (f : Option Exchange). exchange_has f (λ x. has x.unsent i)) k.known)
+
+-- ---- whether it is a batch
+
+module _ (v : TransmitValue) (w : World) (bodies : ℕ → FrameValue) (h : StandsFor v w bodies) (e : ℕ) where
+  pub none_batch : None ≡ find (λ x. x.number == e) v.opened → false ≡ is_batch (exchange w e)
+  none_batch is = ap is_batch (sym (none_open v w bodies h e is))
+
+  pub some_batch : (o : Open) → Some o ≡ find (λ x. x.number == e) v.opened →
+      o.batch ≡ is_batch (exchange w e)
+  some_batch o is =
+      let k : IsKnown w e o = known_of v w bodies h e o is in
+      ap (λ (z : Open). z.batch) k.same ∙ ap is_batch (sym k.known)

@@ -1,5 +1,5 @@
 -- Proves the clauses of a pull from those of the half. By cases of the reply, which sends or refuses.
-use Rattle.std.proofs.Common.{◌≡◌, refl, ap, ap₂, sym, ◌∙◌, subst, ℕ, Bool, true, false, List, [], ◌∷◌, Some, None}
+use Rattle.std.proofs.Common.{◌≡◌, refl, ap, ap₂, sym, ◌∙◌, subst, ℕ, Bool, true, false, List, [], ◌∷◌, Some}
 use Rattle.std.specs.Prelude.{nat_le, count_by}
 use Rattle.wf_frame.specs.Answers.{reply_with}
 use Rattle.wf_frame.specs.Classes.{same_class}
@@ -13,7 +13,7 @@ use Rattle.wf_frame.specs.declared.notes.Note.TheVariants.{Asked}
 use Rattle.wf_frame.specs.declared.notes.Refusal.{Refusal}
 use Rattle.wf_frame.specs.declared.notes.Refusal.TheVariants.{Idle}
 use Rattle.wf_frame.specs.declared.notes.ReplyNote.{ReplyNote}
-use Rattle.wf_frame.specs.declared.notes.ReplyNote.TheVariants.{Send, Refused}
+use Rattle.wf_frame.specs.declared.notes.ReplyNote.TheVariants.{Refused}
 use Rattle.wf_frame.specs.declared.settings.Config.{Config}
 use Rattle.wf_def_world.specs.World.{World}
 use Rattle.wf_def_world.specs.Refusals.{refusal, first_refusal, open_of_class, is_at_aql_total}
@@ -41,7 +41,7 @@ same_said w c l x (brief.Left dropped) pairs ids k e = e
 same_said w c l x brief.Set pairs ids k e = e
 same_said w c l x (brief.Now now) pairs ids k e = e
 same_said w c l x (brief.Accepted id dropped) pairs ids k e = e
-same_said w c l x (brief.Send exchange station tid air request more) pairs ids k e = e
+same_said w c l x (brief.Send exchange station tid air request batch more) pairs ids k e = e
 same_said w c l x brief.Released pairs ids (Sends sent) e = absurd (let k = e ∙ sent.is in cc k)
 same_said w c l x brief.Released pairs ids (Refuses r is how) e = absurd (let k = e ∙ how in cc k)
 same_said w c l x (brief.Ba start b0 b1 b2 b3 wide) pairs ids k e = e
@@ -121,8 +121,7 @@ refused_only (brief.Left dropped) pairs ids r is = absurd (cc is)
 refused_only brief.Set pairs ids r is = absurd (cc is)
 refused_only (brief.Now now) pairs ids r is = absurd (cc is)
 refused_only (brief.Accepted id dropped) pairs ids r is = absurd (cc is)
-refused_only (brief.Send exchange station tid air None more) pairs ids r is = absurd (cc is)
-refused_only (brief.Send exchange station tid air (Some start) more) pairs ids r is = absurd (cc is)
+refused_only (brief.Send exchange station tid air request batch more) pairs ids r is = absurd (cc is)
 refused_only brief.Released pairs ids r is = absurd (cc is)
 refused_only (brief.Ba start b0 b1 b2 b3 wide) pairs ids r is = absurd (cc is)
 refused_only (brief.Done acked waiting failed) pairs ids r is = absurd (cc is)

@@ -20,6 +20,7 @@ use Rattle.wf_def_world.specs.World.{World, Exchange, Mpdu, exchange, session}
 use Rattle.wf_def_world.specs.Exchanges.{mpdus_of}
 use Rattle.wf_def_world.specs.Run.{Entry, by, world_after}
 use Rattle.wf_def_world.specs.Step.{Outcome as MachineOutcome, step}
+use Rattle.wf_law_runs.specs.Delivery.{is_batch}
 use Rattle.wf_law_driver.specs.Inferred.{arrivals, answer_inferred, AreAnswered}
 use Rattle.wf_law_driver.specs.Unheard.{IsUnheard}
 use Rattle.wf_send_parts.specs.declared.exchanges.opened.Open.{Open}
@@ -61,11 +62,11 @@ marks caller e i (GaveUp ∷ outcomes) =
 marks caller e i (other ∷ outcomes) = marks caller e (suc i) outcomes
 
 -- The calls before the Done: the marks; then exactly the transmissions that were acknowledged arrive, and if
--- there are any, their receiver answers.
-abbrev pub calls_before_done : ℕ → ℕ → List Outcome → List Entry
-calls_before_done caller e outcomes =
+-- there are any and the exchange is no batch, their receiver answers.
+abbrev pub calls_before_done : Bool → ℕ → ℕ → List Outcome → List Entry
+calls_before_done batch caller e outcomes =
     let acked : List ℕ = indices_acked 0 outcomes in
-    marks caller e 0 outcomes ++ (arrivals caller e acked ++ answer_inferred caller e acked)
+    marks caller e 0 outcomes ++ (arrivals caller e acked ++ answer_inferred batch caller e acked)
 
 -- the Done, which is heard if any transmission was acknowledged
 abbrev pub done_by : ℕ → List Outcome → Option ℕ → Note
@@ -73,7 +74,8 @@ done_by e outcomes air = Asked (Done e (some_acked outcomes) air)
 
 -- the machine's outcome for w if exchange e ends so
 abbrev pub outcome_each : World → ℕ → ℕ → List Outcome → Option ℕ → MachineOutcome
-outcome_each w caller e outcomes air = step (world_after w (calls_before_done caller e outcomes))
+outcome_each w caller e outcomes air =
+    step (world_after w (calls_before_done (is_batch (exchange w e)) caller e outcomes))
     (done_by e outcomes air)
 
 -- the frame of each id after the marks: each frame of x that never went on the air counts one transmission
@@ -139,7 +141,7 @@ pub record IsEndedEach (p : PathValue) (e : ℕ) (outcomes : List Outcome) (air 
       (reply_with brief pairs ids)
   pub answered : (w : World) (bodies : ℕ → FrameValue) (caller : ℕ) → StandsFor p.half w bodies →
       IsUnheard w → each_refusal p.half e outcomes air ≡ None →
-      AreAnswered w (calls_before_done caller e outcomes)
+      AreAnswered w (calls_before_done (is_batch (exchange w e)) caller e outcomes)
   pub acked : (w : World) (bodies : ℕ → FrameValue) (caller : ℕ) (x : Exchange) → StandsFor p.half w bodies →
       IsUnheard w → exchange w e ≡ Some x → each_refusal p.half e outcomes air ≡ None →
       AreAckedBy (outcome_each w caller e outcomes air).world x.station x.tid (mpdus_of x.content) outcomes

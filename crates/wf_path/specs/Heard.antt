@@ -1,12 +1,13 @@
 -- Defines the BlockAck by which a path ends an exchange of which a device reported each transmission.
-use Rattle.std.specs.Prelude.{◌≡◌, ◌<◌, ℕ, List, [], ◌∷◌, All, Option, Some, None, if◌then◌else◌}
+use Rattle.std.specs.Prelude.{◌≡◌, ◌<◌, ◌==◌, ℕ, suc, length, List, [], ◌∷◌, All, Option, Some, None, if◌then◌else◌}
 use Rattle.wf_frame.specs.Frames.{FrameValue}
-use Rattle.wf_def_lists.specs.Table.{with_member}
+use Rattle.wf_def_lists.specs.Table.{has, with_member}
 use Rattle.wf_def_world.specs.Run.{world_after}
 use Rattle.wf_def_world.specs.World.{World, Exchange, exchange}
 use Rattle.wf_law_driver.specs.Inferred.{AreAnswered}
 use Rattle.wf_law_driver.specs.Unheard.{IsUnheard}
 use Rattle.wf_octets.specs.Distance.{distance}
+use Rattle.wf_send_parts.specs.declared.exchanges.opened.Open.{Open}
 use Rattle.wf_send_parts.specs.declared.exchanges.opened.Sending.{Sending}
 use Rattle.wf_send_parts.specs.declared.exchanges.opened.Sending.TheVariants.{Data, Request}
 use Rattle.wf_send_half_model.specs.Half.{TransmitValue}
@@ -46,6 +47,26 @@ abbrev pub IsNarrow : Sending → Type 0
 IsNarrow (Data []) = Unit {0}
 IsNarrow (Data (first ∷ numbers)) = AreNumbersNear first (first ∷ numbers)
 IsNarrow (Request start) = Unit {0}
+
+-- ---- a batch
+
+-- these offsets, and the distances from `first` of those of these numbers whose indices are given; i is the
+-- index of the first number
+abbrev pub offsets_at : ℕ → List ℕ → ℕ → List ℕ → List ℕ → List ℕ
+offsets_at first offsets i [] indices = offsets
+offsets_at first offsets i (n ∷ numbers) indices = offsets_at first
+    (if has indices i then with_member (distance n first) offsets else offsets) (suc i) numbers indices
+
+-- the BlockAck that shows exactly the numbers with these indices; none for a request
+abbrev pub score_at : Sending → List ℕ → Option (ℕ × List ℕ)
+score_at (Data []) indices = None
+score_at (Data (first ∷ numbers)) indices = Some (first, offsets_at first [] 0 (first ∷ numbers) indices)
+score_at (Request start) indices = None
+
+-- the same for an exchange, if it is open and there are any indices
+abbrev pub shown_at : Option Open → List ℕ → Option (ℕ × List ℕ)
+shown_at None indices = None
+shown_at (Some x) indices = if length indices == 0 then None else score_at x.sending indices
 
 -- ---- the marks
 

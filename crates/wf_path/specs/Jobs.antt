@@ -1,12 +1,12 @@
 -- Defines the calls of a path, and the frames that they bring and return.
-use Rattle.std.specs.Prelude.{ℕ, ◌+◌, ◌==◌, Bool, true, false, if◌then◌else◌, List, [], ◌∷◌, Option, Some, None}
+use Rattle.std.specs.Prelude.{ℕ, ◌+◌, ◌==◌, Bool, true, false, if◌then◌else◌, List, [], ◌∷◌, count_by, Option, Some, None}
 use Rattle.wf_frame.specs.Frames.{FrameValue}
 use Rattle.wf_frame.specs.declared.notes.Ask.{Ask}
 use Rattle.wf_frame.specs.declared.notes.Ask.TheVariants as machine
 use Rattle.wf_frame.specs.declared.notes.Ask.TheVariants.{Pull, Reap}
 use Rattle.wf_frame.specs.declared.notes.Note.{Note}
 use Rattle.wf_frame.specs.declared.notes.Note.TheVariants.{Asked}
-use Rattle.wf_frame.specs.declared.notes.Part.TheVariants.{Mpdus}
+use Rattle.wf_frame.specs.declared.notes.Part.TheVariants.{Mpdus, Batch}
 use Rattle.wf_frame.specs.declared.notes.Refusal.TheVariants.{Idle}
 use Rattle.wf_frame.specs.declared.notes.ReplyNote.{ReplyNote}
 use Rattle.wf_frame.specs.declared.notes.ReplyNote.TheVariants.{Accepted, Send, Reaped, Refused}
@@ -51,6 +51,8 @@ as_ask (path.Start station) = machine.Start station
 as_ask (path.Unsent exchange index) = machine.Unsent exchange index
 as_ask (path.GiveUp exchange index) = machine.GiveUp exchange index
 as_ask (path.Flush station tid) = machine.Flush station tid
+as_ask (path.Offload station exponent weight) = machine.Offload station exponent weight
+as_ask (path.Weight station weight) = machine.Weight station weight
 
 -- the machine's job that a path's job is
 abbrev pub job_of : PathJob → Job
@@ -90,6 +92,7 @@ times_in (pair ∷ pairs) id = (if id == pair.0 then 1 else 0) + times_in pairs 
 -- how often a reply sends the frame of an id
 abbrev pub times_sent : ReplyNote → ℕ → ℕ
 times_sent (Send exchange station tid air (Mpdus pairs) more) id = times_in pairs id
+times_sent (Send exchange station tid air (Batch ids) more) id = count_by (λ i. i == id) ids
 times_sent reply id = 0
 
 -- The frame that a call returns: its own frame if it is refused; the frame of the reaped id, with its fate;

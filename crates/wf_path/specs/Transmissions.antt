@@ -2,17 +2,17 @@
 --
 -- The world `w` has the exchange, `bodies` has the frame of each id as it was accepted, and `a` has the
 -- addresses.
-use Rattle.std.specs.Prelude.{ℕ, ◌+◌, nat_lt, Bool, true, false, List, [], ◌∷◌, ◌++◌, map, slice_get, Option, option_and_then, option_map}
+use Rattle.std.specs.Prelude.{ℕ, ◌+◌, nat_lt, Bool, true, false, List, [], ◌∷◌, ◌++◌, map, slice_get, Option, Some, None, option_and_then, option_map, if◌then◌else◌}
 use Rattle.wf_frame.specs.Frames.{FrameValue}
 use Rattle.wf_def_air.specs.Airtime.{fast_mbps, sifs, answer_time}
-use Rattle.wf_def_agreement.specs.Session.{slot}
+use Rattle.wf_def_agreement.specs.Session.{slot, start_of}
 use Rattle.wf_octets.specs.HeaderLayout.{header_as_octets}
 use Rattle.wf_octets.specs.declared.header.header.Header.{Header}
 use Rattle.wf_octets.specs.declared.header.header.Kind.TheVariants.{QosData}
 use Rattle.wf_octets.specs.BlockLayout.{head_octets, request, narrow_fragment}
 use Rattle.wf_octets.specs.declared.block.frames.Bar.{Bar}
 use Rattle.wf_send_parts.specs.Window.{on_air}
-use Rattle.wf_def_world.specs.World.{World, Mpdu, Content, Frames, Request, Exchange, session, exchange}
+use Rattle.wf_def_world.specs.World.{World, Mpdu, Content, Frames, Request, Exchange, session, exchange, is_offloaded}
 use Rattle.wf_def_world.specs.CanSend.{is_request}
 use Rattle.wf_def_world.specs.Exchanges.{mpdus_of, transmissions}
 use Rattle.wf_path.specs.Addresses.{Addresses, address_in}
@@ -124,3 +124,10 @@ tag_sent w bodies e index = option_and_then (λ x. transmission_tag bodies x ind
 
 abbrev pub bare_sent : World → (ℕ → FrameValue) → ℕ → ℕ → Option Bool
 bare_sent w bodies e index = option_and_then (λ x. transmission_bare bodies x index) (exchange w e)
+
+-- ---- offloaded stations
+
+-- the start of a TID's window, modulo 4096, that an offloaded station's device tells its peer by itself; none
+-- if the station is not offloaded
+abbrev pub start_told : World → ℕ → ℕ → Option ℕ
+start_told w s t = if is_offloaded w s then Some (on_air (start_of (session w s t))) else None

@@ -2,7 +2,7 @@
 
 ghost use Rattle.std.specs.Prelude.{◌≡◌, IfOk, IfErr};
 ghost use Rattle.wf_path.specs.Jobs.{job_of, ask_about};
-ghost use Rattle.wf_path.specs.declared.asks.PathAsk.TheVariants.{Join};
+ghost use Rattle.wf_path.specs.declared.asks.PathAsk.TheVariants.{Join, Offload};
 ghost use Rattle.wf_path.specs.declared.job.Job.TheVariants.{Call};
 
 use wf_frame::{Ask, AskedRate, Class, Limits};
@@ -22,7 +22,7 @@ pub enum PathJob {
     Reap,
 }
 
-/// A call of a path that brings and returns no frame, and whose answer has no lists: one of fourteen. An
+/// A call of a path that brings and returns no frame, and whose answer has no lists: one of sixteen. An
 /// argument outside its given range is refused.
 #[derive(Clone, Copy, Debug, PartialEq, Eq)]
 pub enum PathAsk {
@@ -99,6 +99,20 @@ pub enum PathAsk {
         station: u16,
         tid: u8,
     },
+    /// A station joins whose device numbers, aggregates and repeats its frames: each exchange to it is a
+    /// batch, and `Path::done_each` says what became of its frames. It has a maximum A-MPDU length exponent
+    /// (0 to 3; IEEE 802.11-2012, 8.4.2.58.3) and a weight (1 to 16). Refused as BadStation, BadExponent,
+    /// BadWeight or Live.
+    Offload {
+        station: u16,
+        exponent: u8,
+        weight: u8,
+    },
+    /// A station has this weight from now on, 1 to 16. Refused as BadStation, BadWeight or NoStation.
+    Weight {
+        station: u16,
+        weight: u8,
+    },
 }
 
 /// A call of the machine about an open exchange. A path does not take it: it has no receivers, and
@@ -132,6 +146,17 @@ impl PathAsk {
             station,
             window,
             start,
+            exponent,
+            weight,
+        }
+    }
+
+    // Returns the call by which a station joins whose device numbers its frames.
+    fn offload(station: u16, exponent: u8, weight: u8) -> PathAsk
+        ensures value { result ≡ Offload station exponent weight }
+    {
+        PathAsk::Offload {
+            station,
             exponent,
             weight,
         }
@@ -193,6 +218,15 @@ impl PathJob {
                 index,
             })),
             Ask::Flush { station, tid } => Ok(PathJob::Call(PathAsk::Flush { station, tid })),
+            Ask::Offload {
+                station,
+                exponent,
+                weight,
+            } => Ok(PathJob::Call(PathAsk::offload(station, exponent, weight))),
+            Ask::Weight { station, weight } => Ok(PathJob::Call(PathAsk::Weight {
+                station,
+                weight,
+            })),
         }
     }
 }

@@ -3,7 +3,7 @@
 ghost use Rattle.std.specs.Prelude.{◌≡◌, ℕ, true, List, Option};
 ghost use Rattle.wf_frame.specs.Frames.{FrameValue};
 ghost use Rattle.wf_frame.specs.Answers.{reply_of, reply_with};
-ghost use Rattle.wf_frame.specs.declared.notes.Ask.TheVariants.{Join, Leave, Rate, Tick, Sleep, Wake, Poll, Rx, Reap, Ampdu, Stop, Start, Unsent, GiveUp, Flush};
+ghost use Rattle.wf_frame.specs.declared.notes.Ask.TheVariants.{Join, Leave, Rate, Tick, Sleep, Wake, Poll, Rx, Reap, Ampdu, Stop, Start, Unsent, GiveUp, Flush, Offload, Weight};
 ghost use Rattle.wf_frame.specs.declared.notes.ReplyNote.TheVariants.{Accepted, Refused};
 ghost use Rattle.wf_def_world.specs.World.{World};
 ghost use Rattle.wf_def_world.specs.Step.{step};
@@ -95,6 +95,12 @@ impl Path {
             PathAsk::Unsent { exchange, index } => self.unsent(exchange, index),
             PathAsk::GiveUp { exchange, index } => self.give_up(exchange, index),
             PathAsk::Flush { station, tid } => self.flush(station, tid),
+            PathAsk::Offload {
+                station,
+                exponent,
+                weight,
+            } => self.offload(station, exponent, weight),
+            PathAsk::Weight { station, weight } => self.weight(station, weight),
         }
     }
 
@@ -167,6 +173,24 @@ impl Path {
     {
         match self.half.flush(station, tid) {
             Ok(dropped) => Brief::Flushed { dropped },
+            Err(reason) => Brief::Refused(reason),
+        }
+    }
+
+    fn offload(&mut self, station: u16, exponent: u8, weight: u8) -> Brief
+        ensures { IsAnsweredBriefly self.old (Offload station exponent weight) self.new result }
+    {
+        match self.half.offload(station, exponent, weight) {
+            Ok(()) => Brief::Joined,
+            Err(reason) => Brief::Refused(reason),
+        }
+    }
+
+    fn weight(&mut self, station: u16, weight: u8) -> Brief
+        ensures { IsAnsweredBriefly self.old (Weight station weight) self.new result }
+    {
+        match self.half.weight(station, weight) {
+            Ok(()) => Brief::Set,
             Err(reason) => Brief::Refused(reason),
         }
     }

@@ -27,8 +27,11 @@ impl Path {
     /// not show fails if the device will not try it again or if it was sent `attempts` times, else it waits
     /// again. A request is heard if anything was. If `air` is given, the station is charged `air`
     /// microseconds instead of the computed charge. Refused as NoExchange if the exchange is not open, as
-    /// NoAnswer if something was heard though nothing of it went on the air, then as BadAir if `air` is 0 or
-    /// above the setting `charge`.
+    /// NoAnswer if something was heard though nothing of it went on the air and it is no batch, then as
+    /// BadAir if `air` is 0 or above the setting `charge`.
+    ///
+    /// The numbers of a batch are not those on the air, so `done_each` ends it. Here the bits would have to
+    /// show its own numbers, and each of these that they do not show fails.
     pub fn done_bits(
         &mut self,
         exchange: u64,

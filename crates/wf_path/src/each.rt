@@ -7,7 +7,7 @@ ghost use Rattle.wf_def_lists.specs.Table.{with_member};
 ghost use Rattle.wf_send_parts.specs.Exchanges.{transmissions_of};
 ghost use Rattle.wf_path.specs.Each.{is_outcome_acked, IsEndedEach, each_refusal, each_fault, some_acked, none_sent, air_of_none};
 ghost use Rattle.wf_path.specs.Heard.{AreNumbersNear, IsNarrow, IsMarked, offsets_acked, heard_of};
-ghost use Rattle.wf_path.specs.Paths.{IsSmall};
+ghost use Rattle.wf_path.specs.Paths.{IsPath, IsSmall};
 
 use crate::Path;
 use wf_frame::{Brief, Config, Refusal};
@@ -20,7 +20,8 @@ use wf_send_parts::exchanges::{Numbers, Open, Sending};
 pub enum Outcome {
     /// It was acknowledged.
     Acked,
-    /// It was not acknowledged, and may be tried again.
+    /// It was not acknowledged, and may be tried again. Of a batch this is the same as `GaveUp`, since the
+    /// device has repeated it.
     Retry,
     /// It never went on the air.
     Unsent,
@@ -111,14 +112,14 @@ impl Path {
     /// Ends an exchange by what became of each of its transmissions, in their order. Those that never went on
     /// the air and those that the device will not try again are marked first. Then the exchange ends as by
     /// `done_bits` with a BlockAck that shows exactly the acknowledged numbers, or without one if there are
-    /// none; a request is heard if it was acknowledged. Refused, with nothing changed, as NoExchange if the
-    /// exchange is not open, BadIndex if it has another number of transmissions, Marked if one of them has a
-    /// mark already, or BadAir if `air` is 0 or above the setting `charge`.
+    /// none; a request is heard if it was acknowledged. So a batch ends, whose device reports each frame: one
+    /// that went on the air and was not acknowledged fails. Refused, with nothing changed, as NoExchange if
+    /// the exchange is not open, BadIndex if it has another number of transmissions, Marked if one of them
+    /// has a mark already, or BadAir if `air` is 0 or above the setting `charge`.
     pub fn done_each(&mut self, exchange: u64, outcomes: &[Outcome], air: Option<u32>) -> Brief
         requires small { IsSmall self.old.half }
         ensures { IsEndedEach self.old exchange outcomes.now air self.new result }
     {
-        let _ = &self.half;
         match self.check_each(exchange, outcomes, air) {
             Ok(heard) => {
                 self.mark_each(exchange, outcomes);
@@ -163,6 +164,7 @@ impl Path {
         ensures refused { result_err result ≡ each_refusal self.now.half exchange outcomes.now air }
         ensures heard { IfOk result (λ heard. IfSome (find (λ x. x.number == exchange) self.now.half.opened)
             (λ x. heard ≡ heard_of x.sending outcomes.now)) }
+        ensures path { IsPath self.now.half }
     {
         let Some(open) = self.half.exchange(exchange) else {
             return Err(Refusal::NoExchange);

@@ -1,15 +1,20 @@
 //! What an open exchange sends, without its octets.
 
-ghost use Rattle.std.specs.Prelude.{◌≡◌, ◌<◌, ℕ, option_map};
+ghost use Rattle.std.specs.Prelude.{◌≡◌, ◌<◌, ◌==◌, ℕ, [], find, option_map};
 ghost use Rattle.wf_frame.specs.Frames.{FrameValue};
 ghost use Rattle.wf_def_lists.specs.Table.{has};
 ghost use Rattle.wf_def_world.specs.Refusals.{exchange_has};
 ghost use Rattle.wf_def_world.specs.World.{World, exchange as exchange_in};
+ghost use Rattle.wf_law_runs.specs.Delivery.{is_batch};
 ghost use Rattle.wf_send_half_model.specs.Standing.{StandsFor};
-ghost use Rattle.wf_path.specs.Transmissions.{sent_of, id_sent, tag_sent, bare_sent};
+ghost use Rattle.wf_path.specs.Heard.{AreNumbersNear, offsets_at, shown_at};
+ghost use Rattle.wf_path.specs.Transmissions.{sent_of, id_sent, tag_sent, bare_sent, start_told};
 
 use crate::Path;
 use crate::flights::frame_of;
+use wf_octets::bits::Bits256;
+use wf_octets::seq12::Seq12;
+use wf_send_parts::exchanges::{Numbers, Sending};
 
 /// The transmissions of an open exchange.
 #[derive(Clone, Copy, Debug, PartialEq, Eq)]
@@ -22,6 +27,20 @@ pub struct Sent {
     pub count: u16,
     /// Whether the exchange sends a BlockAckReq (IEEE 802.11-2012, 8.3.1.8).
     pub request: bool,
+}
+
+/// Returns the distances from `first` of the numbers with these indices.
+fn offsets_of(first: Seq12, numbers: &Numbers, indices: &Bits256) -> Bits256
+    requires near { AreNumbersNear first numbers.now }
+    ensures { result ≡ offsets_at first [] 0 numbers.now indices.now }
+{
+    let mut offsets = Bits256::empty();
+    for i in 0..numbers.len() {
+        if indices.has(i as u16) {
+            offsets.set(numbers.at(i).ahead(first));
+        }
+    }
+    offsets
 }
 
 impl Path {
@@ -38,6 +57,47 @@ impl Path {
             count: open.count(),
             request: open.is_request(),
         })
+    }
+
+    /// Returns whether an exchange is open and is a batch: the station's device numbers, aggregates and
+    /// repeats its frames.
+    pub fn is_batch(&self, exchange: u64) -> bool
+        ensures { (w : World) (bodies : ℕ → FrameValue) → StandsFor self.now.half w bodies →
+            result ≡ is_batch (exchange_in w exchange) }
+    {
+        match self.half.exchange(exchange) {
+            Some(open) => open.batch,
+            None => false,
+        }
+    }
+
+    /// Returns the BlockAck that shows exactly the numbers of these transmissions of an open exchange, by
+    /// their indices. None if there are none, if the exchange sends a BlockAckReq, or if it is not open.
+    pub fn shown_at(&self, exchange: u64, indices: &Bits256) -> Option<(Seq12, Bits256)>
+        ensures { result ≡ shown_at (find (λ x. x.number == exchange) self.now.half.opened) indices.now }
+    {
+        let open = self.half.exchange(exchange)?;
+        match &open.sending {
+            Sending::Data(numbers) if indices.count() != 0 && numbers.len() != 0 => {
+                let first = numbers.at(0);
+                Some((first, offsets_of(first, numbers, indices)))
+            }
+            _ => None,
+        }
+    }
+
+    /// Returns the start of a TID's window, 0 to 7, that an offloaded station's device tells its peer by
+    /// itself. None if the station is not live or not offloaded.
+    pub fn start_told(&self, station: u16, tid: u8) -> Option<Seq12>
+        requires { tid < 8 }
+        ensures { (w : World) (bodies : ℕ → FrameValue) → StandsFor self.now.half w bodies →
+            result ≡ start_told w station tid }
+    {
+        if self.half.is_offloaded(station) {
+            Some(self.half.window(station, tid).start())
+        } else {
+            None
+        }
     }
 
     /// Returns whether a transmission of an open exchange never went on the air, as the call Unsent says.

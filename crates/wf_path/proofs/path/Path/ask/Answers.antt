@@ -76,3 +76,15 @@ pub returns-in-Flush : goal.returns-in-Flush
 returns-in-Flush c =
     subst (λ (ask : PathAsk). IsAnsweredBriefly c.args.self.now (as_ask ask) c.flush.new.self c.flush.result)
     (sym c.in-Flush.is) c.flush.ensures
+
+pub returns-in-Offload : goal.returns-in-Offload
+returns-in-Offload c =
+    subst (λ (ask : PathAsk). IsAnsweredBriefly c.args.self.now (as_ask ask) c.offload.new.self
+    c.offload.result)
+    (sym c.in-Offload.is) c.offload.ensures
+
+pub returns-in-Weight : goal.returns-in-Weight
+returns-in-Weight c =
+    subst (λ (ask : PathAsk). IsAnsweredBriefly c.args.self.now (as_ask ask) c.weight.new.self
+    c.weight.result)
+    (sym c.in-Weight.is) c.weight.ensures

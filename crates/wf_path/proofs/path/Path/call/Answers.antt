@@ -1,7 +1,7 @@
 -- Proves what `Path::call` promises from the clauses of the half's calls. By cases of the job: a frame, a
 -- pull, a call whose answer has no lists, or a reap.
 use Rattle.std.proofs.Common.{◌≡◌, ◌∙◌, ap, sym, subst, rules}
-use Rattle.wf_path.specs.declared.job.Job.TheVariants.{Give, Call}
+use Rattle.wf_path.specs.declared.job.Job.TheVariants.{Call}
 use Rattle.wf_frame.specs.declared.notes.Ask.TheVariants.{Pull, Reap}
 use Rattle.wf_path.specs.Jobs.{as_ask, job_of}
 use Rattle.wf_path.specs.Paths.{IsAnswered, RiseLittle}

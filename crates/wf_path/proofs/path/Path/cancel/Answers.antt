@@ -1,7 +1,7 @@
 -- Proves what `Path::cancel` promises: it is the end in which no transmission went on the air.
 use Rattle.std.proofs.Common.{◌∙◌, ap, subst, ℕ, List, Option, take, replicate}
 use Rattle.std.proofs.lemmas.List.{take-replicate}
-use Rattle.wf_path.specs.Each.{IsEndedEach, none_sent, air_of_none}
+use Rattle.wf_path.specs.Each.{IsEndedEach, air_of_none}
 use Rattle.wf_path.specs.declared.each.Outcome.{Outcome}
 use Rattle.wf_path.specs.declared.each.Outcome.TheVariants.{Unsent}
 use Rattle.wf_path.proofs.path.Path.cancel.Goals as goal

@@ -1,0 +1,25 @@
+-- Proves what `Path::offload` promises from the clauses of `Transmit::offload`. By cases of its result.
+use Rattle.std.proofs.Common.{refl, ap}
+use Rattle.wf_frame.specs.Answers.{reply_with}
+use Rattle.wf_frame.specs.declared.answers.Brief.{Brief}
+use Rattle.wf_frame.specs.declared.notes.Ask.TheVariants.{Offload}
+use Rattle.wf_frame.specs.declared.notes.ReplyNote.TheVariants as reply
+use Rattle.wf_path.proofs.CallAnswers.{answered_briefly}
+use Rattle.wf_path.proofs.path.Path.offload.Goals as goal
+use Rattle.wf_path.proofs.path.Path.offload.Goals.{in-Ok, in-Err}
+
+pub returns : goal.returns
+returns c = elim c.match-offload.branch [
+  | in-Ok w ↦ answered_briefly c.self.inside.half c.self.invariant (Offload c.args.station
+      c.args.exponent c.args.weight) reply.Joined
+      c.offload.new.self w.in-Ok.ensures.meets c.offload.ensures.unheard c.self.inside.addresses
+      c.args.self.now
+      c.self.view_is c.match-offload.result (λ pairs ids. ap (λ (b : Brief). reply_with b pairs ids)
+      w.result-is) (λ _ _. refl) (λ e. absurd (cc e))
+  | in-Err w ↦ answered_briefly c.self.inside.half c.self.invariant (Offload c.args.station
+      c.args.exponent c.args.weight)
+      (reply.Refused w.in-Err.reason) c.offload.new.self w.in-Err.ensures.meets c.offload.ensures.unheard
+      c.self.inside.addresses c.args.self.now c.self.view_is c.match-offload.result
+      (λ pairs ids. ap (λ (b : Brief). reply_with b pairs ids) w.result-is) (λ _ _. refl)
+      (λ _. w.in-Err.ensures.refused)
+]
