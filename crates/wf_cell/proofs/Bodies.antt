@@ -1,11 +1,11 @@
 -- Proves which bodies a transmit half has after a call. By cases of the job and of its reply.
-use Rattle.std.proofs.Common.{◌≡◌, refl, ap, sym, ◌∙◌, subst, ℕ, ◌==◌, Bool, true, false, if◌then◌else◌, List, Option, Some, None, IfSome, is_some}
+use Rattle.std.proofs.Common.{◌≡◌, refl, ap, sym, ◌∙◌, subst, ℕ, ◌==◌, Bool, true, false, if◌then◌else◌, List, map, Option, Some, None, IfSome, is_some}
 use Rattle.wf_frame.specs.Frames.{FrameValue, sent_once_less}
 use Rattle.wf_frame.specs.declared.classes.Fate.{Fate}
 use Rattle.wf_frame.specs.declared.notes.Ask.{Ask}
 use Rattle.wf_frame.specs.declared.notes.Ask.TheVariants as ask
 use Rattle.wf_frame.specs.declared.notes.Note.TheVariants.{Asked}
-use Rattle.wf_frame.specs.declared.notes.Part.TheVariants.{Mpdus}
+use Rattle.wf_frame.specs.declared.notes.Part.TheVariants.{Mpdus, Batch}
 use Rattle.wf_frame.specs.declared.notes.ReplyNote.{ReplyNote}
 use Rattle.wf_frame.specs.declared.notes.ReplyNote.TheVariants as reply
 use Rattle.wf_law_rules.proofs.Lemmas.Numbers.{on_bool}
@@ -36,6 +36,8 @@ sent_body : (answered : ReplyNote) (bodies : ℕ → FrameValue) (id : ℕ) →
     (bodies_sent answered bodies id).body ≡ (bodies id).body
 sent_body (reply.Send exchange station tid air (Mpdus pairs) more) bodies id =
     all_sent_keep (λ (f : FrameValue). f.body) (λ f. refl) pairs bodies id
+sent_body (reply.Send exchange station tid air (Batch ids) more) bodies id =
+    all_sent_keep (λ (f : FrameValue). f.body) (λ f. refl) (map (λ k. (k, 0)) ids) bodies id
 sent_body _ bodies id = refl
 
 -- nor does it change if the frame counts one transmission less
@@ -199,6 +201,8 @@ reaped_body v w bodies job answered back stands told given id fate is =
     of (Call (ask.Unsent exchange index)) e = tt
     of (Call (ask.GiveUp exchange index)) e = tt
     of (Call (ask.Flush s t)) e = tt
+    of (Call (ask.Offload s exponent weight)) e = tt
+    of (Call (ask.Weight s weight)) e = tt
 
 -- an id has a body exactly if its frame is inside
 pub ids_inside : (v : TransmitValue) (w : World) (bodies : ℕ → FrameValue) → StandsFor v w bodies → (id : ℕ) →

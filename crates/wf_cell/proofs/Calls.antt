@@ -15,10 +15,11 @@ use Rattle.wf_frame.specs.declared.notes.Part.{Part}
 use Rattle.wf_frame.specs.declared.notes.Refusal.{Refusal}
 use Rattle.wf_frame.specs.declared.notes.ReplyNote.{ReplyNote}
 use Rattle.wf_frame.specs.declared.notes.ReplyNote.TheVariants as reply
+use Rattle.wf_def_lists.specs.Bounds.{greatest_window}
 use Rattle.wf_def_world.specs.World.{World, Exchange, exchange}
 use Rattle.wf_def_world.specs.Exchanges.{picked_station, after_tid_turn, sending_tid, prepared_exchange, exchange_of, Prepared, part_of as world_part_of}
 use Rattle.wf_def_world.specs.Refusals.{refusal, refusals}
-use Rattle.wf_def_world.specs.Step.{Outcome, outcome_of, outcome_where_open, join_outcome, done_outcome, pull_outcome, pull_outcome_for, send_outcome, step}
+use Rattle.wf_def_world.specs.Step.{Outcome, outcome_of, outcome_where_open, join_outcome, offload_outcome, flush_outcome, done_outcome, pull_outcome, pull_outcome_for, send_outcome, step}
 use Rattle.wf_law_runs.proofs.Common.Picked.{picked_world}
 use Rattle.wf_law_runs.proofs.Deficits.KeptStep.{no_row}
 use Rattle.wf_recv_marks.specs.declared.marks.Mark.{Mark}
@@ -36,11 +37,13 @@ use Rattle.wf_path.specs.declared.asks.PathJob.{PathJob}
 use Rattle.wf_path.specs.declared.asks.PathJob.TheVariants as path_job
 use Rattle.wf_path.specs.Jobs.{as_ask, job_of, note_of, MayCall, bodies_after, changes_nothing, frame_given_back}
 use Rattle.wf_cell_model.specs.Arriving.{IsUntold}
-use Rattle.wf_cell_model.specs.Hearing.{Hears, HasAddresses, with_peer, peer_of}
+use Rattle.wf_cell_model.specs.Catching.{peers_caught_up}
+use Rattle.wf_cell_model.specs.Hearing.{Hears, HasAddresses, new_receive_half, with_peer, peer_of}
 use Rattle.wf_cell.specs.Engines.{EngineValue, EngineIsIn, IsJobDone, EngineMeets}
 use Rattle.wf_cell.specs.Cells.{is_received}
 use Rattle.wf_cell_model.proofs.Keeping.{untold_hears, refused_hears}
-use Rattle.wf_cell_model.proofs.Joining.{joined_hears, station_in_range}
+use Rattle.wf_cell_model.proofs.Catching.{flushed_hears}
+use Rattle.wf_cell_model.proofs.Joining.{joined_hears, offloaded_hears, offloaded_in_range, station_in_range}
 use Rattle.wf_cell_model.proofs.Opening.{opened_hears, opened_number, marks_within, marks_below}
 
 -- ---- the path's effect of a job, and the returned frame
@@ -114,6 +117,11 @@ refused_else w note other = of (refusal w note) refl
     of None e = absurd (other e)
     of (Some r) e = record { reason = r; refused = e }
 
+-- the reply of a Flush
+pub record IsFlushed (answered : ReplyNote) : Type 0 where
+  pub dropped : ℕ
+  pub is : answered ≡ reply.Flushed dropped
+
 done_reply : (w : World) (note : Note) → refusal w note ≡ None →
     (step w note).reply ≡ (outcome_of w note).reply
 done_reply w note e = ap (λ (o : Outcome). o.reply) (step_done w note e)
@@ -146,54 +154,114 @@ refused_meets v after note answered w bodies others i m r = record {
   reply = m.reply;
 }
 
--- ---- a join
+-- ---- a station joins
 
-module _ (w : World) (s window start exponent weight : ℕ) where
-  pub joined_reply : refusal w (Asked (ask.Join s window start exponent weight)) ≡ None →
-      (step w (Asked (ask.Join s window start exponent weight))).reply ≡ reply.Joined
-  unfolding outcome_of join_outcome
-  joined_reply e = done_reply w (Asked (ask.Join s window start exponent weight)) e
+-- a call after which a station has joined: a Join or an Offload
+pub is_joined : (w : World) (note : Note) → (step w note).reply ≡ reply.Joined → refusal w note ≡ None
+is_joined w note e = not_refused w note
+    (λ r other. let two : reply.Joined ≡ reply.Refused r = sym e ∙ other in cc)
 
-  pub is_joined : (step w (Asked (ask.Join s window start exponent weight))).reply ≡ reply.Joined →
-      refusal w (Asked (ask.Join s window start exponent weight)) ≡ None
-  is_joined e = not_refused w (Asked (ask.Join s window start exponent weight))
-      (λ r other. let two : reply.Joined ≡ reply.Refused r = sym e ∙ other in cc)
+pub not_joined : (w : World) (note : Note) → (refusal w note ≡ None → (step w note).reply ≡ reply.Joined) →
+    ((step w note).reply ≡ reply.Joined → ⊥) → IsRefused w note
+not_joined w note joins other = refused_else w note (λ e. other (joins e))
 
-  pub not_joined : ((step w (Asked (ask.Join s window start exponent weight))).reply ≡ reply.Joined → ⊥) →
-      IsRefused w (Asked (ask.Join s window start exponent weight))
-  not_joined other = refused_else w (Asked (ask.Join s window start exponent weight))
-      (λ e. other (joined_reply e))
+pub joined_reply : (w : World) (s window start exponent weight : ℕ) →
+    refusal w (Asked (ask.Join s window start exponent weight)) ≡ None →
+    (step w (Asked (ask.Join s window start exponent weight))).reply ≡ reply.Joined
+unfolding outcome_of join_outcome
+joined_reply w s window start exponent weight e = done_reply w (Asked (ask.Join s window start exponent weight)) e
 
--- a station that joins has a new receive half
-pub joined_meets : (v : EngineValue) (after : TransmitValue) (answered : ReplyNote) (w : World)
-    (bodies : ℕ → FrameValue) (s window start exponent weight number : ℕ) →
-    EngineIsIn v w bodies → PathMeets w bodies (Asked (ask.Join s window start exponent weight)) after
-    answered → answered ≡ reply.Joined → number ≡ start →
-    EngineMeets w bodies (Asked (ask.Join s window start exponent weight))
+pub offloaded_reply : (w : World) (s exponent weight : ℕ) →
+    refusal w (Asked (ask.Offload s exponent weight)) ≡ None →
+    (step w (Asked (ask.Offload s exponent weight))).reply ≡ reply.Joined
+unfolding outcome_of offload_outcome
+offloaded_reply w s exponent weight e = done_reply w (Asked (ask.Offload s exponent weight)) e
+
+-- a station that joins has a new receive half, if that is what the machine's receivers are then
+new_half_meets : (v : EngineValue) (after : TransmitValue) (answered : ReplyNote) (w : World)
+    (bodies : ℕ → FrameValue) (note : Note) (s start window : ℕ) → EngineIsIn v w bodies →
+    PathMeets w bodies note after answered → s < w.config.stations →
+    Hears (with_peer s (new_receive_half s start window) v.peers) v.marks (step w note).world →
+    EngineMeets w bodies note
     (record v {
       half = after;
       peers = with_peer s
-          (new_peer (peer_of v.peers s).own (peer_of v.peers s).base number window) v.peers;
+          (new_peer (peer_of v.peers s).own (peer_of v.peers s).base start window) v.peers;
     }) answered
-joined_meets v after answered w bodies s window start exponent weight number i m is same =
-    let done : refusal w (Asked (ask.Join s window start exponent weight)) ≡ None =
-    is_joined w s window start exponent weight (sym m.reply ∙ is) in
+new_half_meets v after answered w bodies note s start window i m low hears =
     let p : PeerValue = peer_of v.peers s in
-    let its : HasAddresses s p = i.hears.sized.addresses s
-    (station_in_range w s window start exponent weight done) in
+    let its : HasAddresses s p = i.hears.sized.addresses s low in
     record {
       is_in = record {
         half = m.stands;
         hears =
-            subst (λ (q : PeerValue). Hears (with_peer s q v.peers) v.marks
-            (step w (Asked (ask.Join s window start exponent weight))).world)
+            subst (λ (q : PeerValue). Hears (with_peer s q v.peers) v.marks (step w note).world)
             (ap (λ a. new_peer a base start window) (sym its.own)
-            ∙ (ap (λ a. new_peer p.own a start window) (sym its.base)
-            ∙ ap (λ k. new_peer p.own p.base k window) (sym same)))
-            (joined_hears v.peers v.marks w s window start exponent weight i.half.reached i.hears done);
+            ∙ ap (λ a. new_peer p.own a start window) (sym its.base)) hears;
       };
       reply = m.reply;
     }
+
+module _ (v : EngineValue) (after : TransmitValue) (answered : ReplyNote) (w : World)
+    (bodies : ℕ → FrameValue) (i : EngineIsIn v w bodies) where
+  pub joined_meets : (s window start exponent weight : ℕ) →
+      PathMeets w bodies (Asked (ask.Join s window start exponent weight)) after answered →
+      refusal w (Asked (ask.Join s window start exponent weight)) ≡ None →
+      EngineMeets w bodies (Asked (ask.Join s window start exponent weight))
+      (record v {
+        half = after;
+        peers = with_peer s
+            (new_peer (peer_of v.peers s).own (peer_of v.peers s).base start window) v.peers;
+      }) answered
+  joined_meets s window start exponent weight m done =
+      new_half_meets v after answered w bodies (Asked (ask.Join s window start exponent weight)) s start window
+      i m (station_in_range w s window start exponent weight done)
+      (joined_hears v.peers v.marks w s window start exponent weight i.half.reached i.hears done)
+
+  pub offloaded_meets : (s exponent weight : ℕ) →
+      PathMeets w bodies (Asked (ask.Offload s exponent weight)) after answered →
+      refusal w (Asked (ask.Offload s exponent weight)) ≡ None →
+      EngineMeets w bodies (Asked (ask.Offload s exponent weight))
+      (record v {
+        half = after;
+        peers = with_peer s
+            (new_peer (peer_of v.peers s).own (peer_of v.peers s).base 0 greatest_window) v.peers;
+      }) answered
+  offloaded_meets s exponent weight m done =
+      new_half_meets v after answered w bodies (Asked (ask.Offload s exponent weight)) s 0 greatest_window i m
+      (offloaded_in_range w s exponent weight done)
+      (offloaded_hears v.peers v.marks w s exponent weight i.half.reached i.hears done)
+
+-- ---- a flush
+
+pub flushed_reply : (w : World) (s t : ℕ) → refusal w (Asked (ask.Flush s t)) ≡ None →
+    IsFlushed (step w (Asked (ask.Flush s t))).reply
+unfolding outcome_of flush_outcome
+flushed_reply w s t e =
+    subst IsFlushed (sym (done_reply w (Asked (ask.Flush s t)) e)) (record { dropped = _; is = refl })
+
+module _ (w : World) (s t : ℕ) where
+  pub is_flushed : IsFlushed (step w (Asked (ask.Flush s t))).reply → refusal w (Asked (ask.Flush s t)) ≡ None
+  is_flushed f = not_refused w (Asked (ask.Flush s t))
+      (λ r other. let two : reply.Flushed f.dropped ≡ reply.Refused r = sym f.is ∙ other in cc)
+
+  pub not_flushed : (IsFlushed (step w (Asked (ask.Flush s t))).reply → ⊥) → IsRefused w (Asked (ask.Flush s t))
+  not_flushed other = refused_else w (Asked (ask.Flush s t)) (λ e. other (flushed_reply w s t e))
+
+-- the receive half of an offloaded station catches up
+pub flushed_meets : (v : EngineValue) (after : TransmitValue) (answered : ReplyNote) (w : World)
+    (bodies : ℕ → FrameValue) (s t : ℕ) → EngineIsIn v w bodies →
+    PathMeets w bodies (Asked (ask.Flush s t)) after answered → refusal w (Asked (ask.Flush s t)) ≡ None →
+    (peers : List PeerValue) → peers ≡ peers_caught_up (step w (Asked (ask.Flush s t))).world s t v.peers →
+    EngineMeets w bodies (Asked (ask.Flush s t)) (record v { half = after; peers = peers }) answered
+flushed_meets v after answered w bodies s t i m done peers are = record {
+  is_in = record {
+    half = m.stands;
+    hears = subst (λ (ps : List PeerValue). Hears ps v.marks (step w (Asked (ask.Flush s t))).world) (sym are)
+        (flushed_hears v.peers v.marks w s t i.half.reached i.hears done);
+  };
+  reply = m.reply;
+}
 
 -- ---- a pull
 
@@ -216,7 +284,7 @@ send_is s t c p =
       station = s;
       tid = t;
       charge = x.charge;
-      part = world_part_of x.content;
+      part = world_part_of x.batch x.content;
       more = x.more;
       is = refl;
     }
@@ -291,35 +359,51 @@ mark_fits v after answered w bodies others c l i m sent = record {
 
 -- ---- briefs
 
+-- a reply without lists is the same for all lists
+pub same_flushed : (b : Brief) (dropped : ℕ) (pairs : List (ℕ × ℕ)) (ids up : List ℕ) →
+    b ≡ brief.Flushed dropped → reply_with b pairs up ≡ reply_with b pairs ids
+same_flushed b dropped pairs ids up is = ap (λ (k : Brief). reply_with k pairs up) is
+    ∙ sym (ap (λ (k : Brief). reply_with k pairs ids) is)
+
+pub flushed_brief : (b : Brief) (pairs : List (ℕ × ℕ)) (ids : List ℕ) → IsFlushed (reply_with b pairs ids) →
+    ((dropped : ℕ) → b ≡ brief.Flushed dropped → ⊥) → ⊥
+flushed_brief (brief.Flushed dropped) pairs ids f other = other dropped refl
+flushed_brief _ pairs ids f other = cc (f.is)
+
 pub joined_brief : (b : Brief) (pairs : List (ℕ × ℕ)) (ids : List ℕ) → reply_with b pairs ids ≡ reply.Joined →
     b ≡ brief.Joined
 joined_brief brief.Joined pairs ids e = refl
 joined_brief _ pairs ids e = cc
 
 pub send_brief : (b : Brief) (pairs : List (ℕ × ℕ)) (ids : List ℕ) → IsSend (reply_with b pairs ids) →
-    ((e s t a : ℕ) (r : Option ℕ) (m : Bool) → b ≡ brief.Send e s t a r m → ⊥) → ⊥
-send_brief (brief.Send e s t a r m) pairs ids sent other = other e s t a r m refl
+    ((e s t a : ℕ) (r : Option ℕ) (k m : Bool) → b ≡ brief.Send e s t a r k m → ⊥) → ⊥
+send_brief (brief.Send e s t a r k m) pairs ids sent other = other e s t a r k m refl
 send_brief _ pairs ids sent other = cc (sent.is)
 
 -- ---- calls of the path that change neither a receive half nor a mark
 
 pub ask_untold : (ask : PathAsk) →
     ((s window start exponent weight : ℕ) → ask ≡ path_ask.Join s window start exponent weight → ⊥) →
-    IsUntold (Asked (as_ask ask))
-ask_untold (path_ask.Join s window start exponent weight) other = other s window start exponent weight refl
-ask_untold (path_ask.Leave s) other = tt
-ask_untold (path_ask.Rate s rate) other = tt
-ask_untold (path_ask.Tick by) other = tt
-ask_untold (path_ask.Sleep s) other = tt
-ask_untold (path_ask.Wake s) other = tt
-ask_untold (path_ask.Poll s) other = tt
-ask_untold (path_ask.Rx s c air) other = tt
-ask_untold (path_ask.Ampdu s octets) other = tt
-ask_untold (path_ask.Stop s) other = tt
-ask_untold (path_ask.Start s) other = tt
-ask_untold (path_ask.Unsent e i) other = tt
-ask_untold (path_ask.GiveUp e i) other = tt
-ask_untold (path_ask.Flush s t) other = tt
+    ((s exponent weight : ℕ) → ask ≡ path_ask.Offload s exponent weight → ⊥) →
+    ((s t : ℕ) → ask ≡ path_ask.Flush s t → ⊥) → IsUntold (Asked (as_ask ask))
+ask_untold (path_ask.Join s window start exponent weight) no_join no_offload no_flush =
+    no_join s window start exponent weight refl
+ask_untold (path_ask.Offload s exponent weight) no_join no_offload no_flush =
+    no_offload s exponent weight refl
+ask_untold (path_ask.Flush s t) no_join no_offload no_flush = no_flush s t refl
+ask_untold (path_ask.Leave s) no_join no_offload no_flush = tt
+ask_untold (path_ask.Rate s rate) no_join no_offload no_flush = tt
+ask_untold (path_ask.Tick by) no_join no_offload no_flush = tt
+ask_untold (path_ask.Sleep s) no_join no_offload no_flush = tt
+ask_untold (path_ask.Wake s) no_join no_offload no_flush = tt
+ask_untold (path_ask.Poll s) no_join no_offload no_flush = tt
+ask_untold (path_ask.Rx s c air) no_join no_offload no_flush = tt
+ask_untold (path_ask.Ampdu s octets) no_join no_offload no_flush = tt
+ask_untold (path_ask.Stop s) no_join no_offload no_flush = tt
+ask_untold (path_ask.Start s) no_join no_offload no_flush = tt
+ask_untold (path_ask.Unsent e i) no_join no_offload no_flush = tt
+ask_untold (path_ask.GiveUp e i) no_join no_offload no_flush = tt
+ask_untold (path_ask.Weight s weight) no_join no_offload no_flush = tt
 
 -- such a call may be made in any world, except an Unsent
 pub ask_may : (ask : PathAsk) → ((e i : ℕ) → ask ≡ path_ask.Unsent e i → ⊥) → (w : World) →
@@ -338,6 +422,8 @@ ask_may (path_ask.Stop s) other w = tt
 ask_may (path_ask.Start s) other w = tt
 ask_may (path_ask.GiveUp e i) other w = tt
 ask_may (path_ask.Flush s t) other w = tt
+ask_may (path_ask.Offload s exponent weight) other w = tt
+ask_may (path_ask.Weight s weight) other w = tt
 
 pub job_may : (job : PathJob) → ((ask : PathAsk) → job ≡ path_job.Call ask → ⊥) → (w : World) →
     MayCall w (job_of job)
@@ -371,6 +457,8 @@ not_received (path_job.Call (path_ask.Start s)) = refl
 not_received (path_job.Call (path_ask.Unsent e i)) = refl
 not_received (path_job.Call (path_ask.GiveUp e i)) = refl
 not_received (path_job.Call (path_ask.Flush s t)) = refl
+not_received (path_job.Call (path_ask.Offload s exponent weight)) = refl
+not_received (path_job.Call (path_ask.Weight s weight)) = refl
 
 -- for a call of the path alone, the reply says whether the path is unchanged
 pub path_kept_by : (job : PathJob) (answered : ReplyNote) →

@@ -1,7 +1,7 @@
 -- Proves the effect of an Arrive, an Unsent, an Answer and a Done on an engine, from its marks and from what
 -- its path sends.
-use Rattle.std.proofs.Common.{◌≡◌, refl, ap, sym, ◌∙◌, subst, ℕ, ◌<◌, ◌≤◌, Bool, true, false, List, Option, Some, None, IfSome, length, arith}
-use Rattle.std.specs.Prelude.{◌==◌, IfNone, not, filter, option_map, option_and_then, is_none, nat_le, nat_lt, ◌&&◌, if◌then◌else◌}
+use Rattle.std.proofs.Common.{◌≡◌, refl, ap, sym, ◌∙◌, subst, ℕ, ◌<◌, ◌≤◌, Bool, true, false, List, [], Option, Some, None, IfSome, length, arith}
+use Rattle.std.specs.Prelude.{◌==◌, find, IfNone, not, filter, option_map, is_none, nat_le, nat_lt, ◌&&◌, if◌then◌else◌}
 use Rattle.std.specs.Option.{option_or}
 use Rattle.std.proofs.lemmas.Bool.{leb-false}
 use Rattle.wf_frame.specs.Frames.{FrameValue}
@@ -21,6 +21,8 @@ use Rattle.wf_def_world.specs.Exchanges.{transmissions, mpdus_of}
 use Rattle.wf_def_world.specs.Refusals.{refusal, refusals, exchange_has}
 use Rattle.wf_frame.specs.Settings.{is_bad_air}
 use Rattle.wf_def_world.specs.Step.{Outcome, after_refusal, step}
+use Rattle.wf_law_rules.proofs.Lemmas.Numbers.{on_bool}
+use Rattle.wf_law_runs.specs.Delivery.{is_batch}
 use Rattle.wf_law_runs.specs.Sent.{IsSent}
 use Rattle.wf_law_runs.specs.Windows.{EachOpen}
 use Rattle.wf_law_runs.proofs.Deficits.KeptStep.{no_row}
@@ -29,25 +31,31 @@ use Rattle.wf_recv_marks.specs.declared.marks.Mark.{Mark}
 use Rattle.wf_recv_marks.specs.Marks.{with_arrival, with_answer, with_changed}
 use Rattle.wf_recv_peer.specs.Board.{Board}
 use Rattle.wf_recv_peer.specs.Agreements.{PeerValue}
-use Rattle.wf_send_half.specs.Bits.{AreShown}
+use Rattle.wf_send_half.specs.Bits.{AreShown, AreArrived, IsToldAs, IsNoBatch}
 use Rattle.wf_send_half_model.specs.Half.{TransmitValue}
 use Rattle.wf_send_half_model.specs.Standing.{StandsFor, IsReached, Meets as PathMeets}
 use Rattle.wf_send_half_model.proofs.Reached.{by_law, step_refused}
 use Rattle.wf_send_half_model.proofs.Endings.{found}
 use Rattle.wf_send_half_model.proofs.Meets.{refused_meets}
 use Rattle.wf_send_half_model.proofs.Whole.{arrive_stands, answer_stands}
+use Rattle.wf_law_driver.proofs.Opened.{found_number}
 use Rattle.wf_path.specs.declared.reading.Sent.{Sent}
+use Rattle.wf_path.specs.Heard.{shown_at}
 use Rattle.wf_path.specs.Transmissions.{sent_of}
 use Rattle.wf_cell_model.specs.Arriving.{CarriesId, peer_after, buffer_outcome_of_transmission}
-use Rattle.wf_cell_model.specs.Hearing.{with_peer, peer_of, agreement_of, mark_of, kept_of}
+use Rattle.wf_cell_model.specs.Answers.{KeepsShown}
+use Rattle.wf_cell_model.specs.Catching.{peers_caught_up}
+use Rattle.wf_cell_model.specs.Hearing.{with_peer, peer_of, agreement_of, mark_of, Hears}
 use Rattle.wf_cell_model.specs.Refusing.{mark_in, told_refusal, answer_refusal, done_refusal}
-use Rattle.wf_cell.specs.Engines.{EngineValue, EngineIsIn, EngineMeets, IsToldBy}
-use Rattle.wf_cell_model.proofs.Keeping.{refused_hears, ended_hears}
-use Rattle.wf_cell_model.proofs.Sent.{station_now, tid_now}
+use Rattle.wf_cell.specs.Engines.{EngineValue, EngineIsIn, EngineMeets, IsToldBy, heard_by}
+use Rattle.wf_cell_model.proofs.Keeping.{refused_hears}
+use Rattle.wf_cell_model.proofs.Catching.{ended_hears}
+use Rattle.wf_cell_model.proofs.Sent.{open_now, station_now, tid_now}
 use Rattle.wf_cell_model.proofs.Arriving.{arrived_hears, arrived_up}
 use Rattle.wf_cell_model.proofs.Answering.{answered_hears, answer_reply}
 use Rattle.wf_cell_model.proofs.Telling.{mark_told, arrive_told, unsent_told, untold_told, answer_inferred, done_inferred}
-use Rattle.wf_cell_model.proofs.Shown.{kept_shown as score_shown}
+use Rattle.wf_cell_model.proofs.Shown.{mark_shown}
+use Rattle.wf_cell.proofs.Batches.{shown_arrived}
 use Rattle.wf_frame.specs.declared.settings.Config.{Config}
 
 -- ---- open exchanges
@@ -230,8 +238,8 @@ pub arrived_meets : (v : EngineValue) (w : World) (bodies : ℕ → FrameValue) 
           v.peers;
       marks = with_changed e (with_arrival k) v.marks;
     })
-    (Released (buffer_outcome_of_transmission k id x.content
-    (agreement_of v.peers x.station x.tid).buffer).up)
+    (Released (if x.batch then [] else (buffer_outcome_of_transmission k id x.content
+    (agreement_of v.peers x.station x.tid).buffer).up))
 arrived_meets v w bodies e k id x i known done carries = record {
   is_in = record {
     half = arrive_stands v.half w bodies e k i.half;
@@ -246,11 +254,13 @@ arrived_meets v w bodies e k id x i known done carries = record {
 module _ (v : EngineValue) (w : World) (bodies : ℕ → FrameValue) (e : ℕ) (i : EngineIsIn v w bodies) where
   pub answer_not_open : exchange w e ≡ None → Some NoExchange ≡ refusal w (Asked (Answer e))
   answer_not_open none = sym (answer_inferred v.peers v.marks w e i.hears
-      ∙ ap answer_refusal (no_mark v w bodies e i none))
+      ∙ ap (λ (m : Option Mark). answer_refusal m (is_batch (exchange w e))) (no_mark v w bodies e i none))
 
-  pub answer_open : (m : Mark) → mark_in v.marks e ≡ Some m →
-      answer_refusal (Some m) ≡ refusal w (Asked (Answer e))
-  answer_open m marked = sym (answer_inferred v.peers v.marks w e i.hears ∙ ap answer_refusal marked)
+  pub answer_open : (m : Mark) (batch : Bool) → mark_in v.marks e ≡ Some m →
+      batch ≡ is_batch (exchange w e) → answer_refusal (Some m) batch ≡ refusal w (Asked (Answer e))
+  answer_open m batch marked is = ap (answer_refusal (Some m)) is
+      ∙ sym (answer_inferred v.peers v.marks w e i.hears
+      ∙ ap (λ (k : Option Mark). answer_refusal k (is_batch (exchange w e))) marked)
 
   pub answer_refused : (r : Refusal) → Some r ≡ refusal w (Asked (Answer e)) →
       EngineMeets w bodies (Asked (Answer e)) v (Refused r)
@@ -284,14 +294,11 @@ module _ (v : EngineValue) (w : World) (bodies : ℕ → FrameValue) (e : ℕ) (
 
 -- ---- Done
 
--- the answer that is kept of an exchange, if it was heard
-abbrev pub kept_answer : List Mark → ℕ → Bool → Option (ℕ × List ℕ)
-kept_answer marks e heard = if heard then option_and_then (λ m. m.answer) (mark_in marks e) else None
-
-not_idle : (config : Config) (m : Option Mark) (heard : Bool) (air : Option ℕ) →
-    done_refusal config m heard air ≡ Some Idle → ⊥
-not_idle config None heard air e = absurd (cc)
-not_idle config (Some m) heard air e = of (heard && is_none m.answer) (is_bad_air config air) e
+not_idle : (config : Config) (m : Option Mark) (batch heard : Bool) (air : Option ℕ) →
+    done_refusal config m batch heard air ≡ Some Idle → ⊥
+not_idle config None batch heard air e = absurd (cc)
+not_idle config (Some m) batch heard air e =
+    of (heard && (not batch && is_none m.answer)) (is_bad_air config air) e
   where
     of : (a b : Bool) → (if a then Some NoAnswer else (if b then Some BadAir else None)) ≡ Some Idle → ⊥
     of true b k = absurd (cc)
@@ -300,19 +307,27 @@ not_idle config (Some m) heard air e = of (heard && is_none m.answer) (is_bad_ai
 
 module _ (v : EngineValue) (w : World) (bodies : ℕ → FrameValue) (e : ℕ) (heard : Bool) (air : Option ℕ)
     (i : EngineIsIn v w bodies) where
-  pub done_marked : (config : Config) → config ≡ v.half.config → (m : Option Mark) → mark_in v.marks e ≡ m →
-      done_refusal config m heard air ≡ refusal w (Asked (Done e heard air))
-  done_marked config same m marked =
-      ap (λ (c : Config). done_refusal c m heard air) (same ∙ i.half.parts.others.config)
+  pub done_not_open : exchange w e ≡ None → Some NoExchange ≡ refusal w (Asked (Done e heard air))
+  done_not_open none = sym (done_inferred v.peers v.marks w e heard air i.hears
+      ∙ ap (λ (m : Option Mark). done_refusal w.config m (is_batch (exchange w e)) heard air)
+      (no_mark v w bodies e i none))
+
+  pub done_marked : (config : Config) → config ≡ v.half.config → (m : Option Mark) (batch : Bool) →
+      mark_in v.marks e ≡ m → batch ≡ is_batch (exchange w e) →
+      done_refusal config m batch heard air ≡ refusal w (Asked (Done e heard air))
+  done_marked config same m batch marked is =
+      ap (λ (c : Config). done_refusal c m batch heard air) (same ∙ i.half.parts.others.config)
+      ∙ ap (λ (b : Bool). done_refusal w.config m b heard air) is
       ∙ sym (done_inferred v.peers v.marks w e heard air i.hears
-      ∙ ap (λ (p : Option Mark). done_refusal w.config p heard air) marked)
+      ∙ ap (λ (p : Option Mark). done_refusal w.config p (is_batch (exchange w e)) heard air) marked)
 
   pub done_refused : (r : Refusal) → Some r ≡ refusal w (Asked (Done e heard air)) →
       EngineMeets w bodies (Asked (Done e heard air)) v (Refused r)
   done_refused r is =
       let m = refused_meets v.half w bodies (Asked (Done e heard air)) r i.half (sym is)
-      (λ idle. not_idle v.half.config (mark_in v.marks e) heard air
-      (done_marked v.half.config refl (mark_in v.marks e) refl ∙ sym is ∙ ap Some idle)) in
+      (λ idle. not_idle v.half.config (mark_in v.marks e) (is_batch (exchange w e)) heard air
+      (done_marked v.half.config refl (mark_in v.marks e) (is_batch (exchange w e)) refl refl
+      ∙ sym is ∙ ap Some idle)) in
       record {
         is_in = record {
           half = m.stands;
@@ -323,84 +338,132 @@ module _ (v : EngineValue) (w : World) (bodies : ℕ → FrameValue) (e : ℕ) (
             m.reply;
       }
 
-  pub ended_meets : (after : TransmitValue) (answered : ReplyNote) →
-      refusal w (Asked (Done e heard air)) ≡ None →
+  -- the effect of a Done, after which the receive half of an offloaded station catches up
+  pub ended_meets : (after : TransmitValue) (answered : ReplyNote) (sent : Sent) →
+      option_map sent_of (exchange w e) ≡ Some sent → refusal w (Asked (Done e heard air)) ≡ None →
       PathMeets w bodies (Asked (Done e heard air)) after answered →
-      EngineMeets w bodies (Asked (Done e heard air)) (record
-      v { half = after; marks = filter (λ m. not (m.number == e)) v.marks }) answered
-  ended_meets after answered done m = record {
-    is_in = record {
-      half = m.stands;
-      hears = ended_hears v.peers v.marks w e heard air i.half.reached i.hears
-          done;
-    };
-    reply = m.reply;
-  }
+      (peers : List PeerValue) (marks : List Mark) →
+      peers ≡ peers_caught_up (step w (Asked (Done e heard air))).world sent.station sent.tid v.peers →
+      marks ≡ filter (λ m. not (m.number == e)) v.marks →
+      EngineMeets w bodies (Asked (Done e heard air)) (record { half = after; peers = peers; marks = marks })
+      answered
+  ended_meets after answered sent told done m peers marks are closed =
+      let o = told_open w e sent told in
+      let x : Exchange = o.sending in
+      let u : World = (step w (Asked (Done e heard air))).world in
+      let at_x : peers_caught_up u x.station x.tid v.peers ≡ peers = sym (are
+      ∙ ap (λ (k : Sent). peers_caught_up u k.station k.tid v.peers) (told_is w e sent x told o.known)) in
+      record {
+        is_in = record {
+          half = m.stands;
+          hears = subst (λ (ms : List Mark). Hears peers ms u) (sym closed)
+              (subst (λ (ps : List PeerValue). Hears ps (filter (λ k. not (k.number == e)) v.marks) u) at_x
+              (ended_hears v.peers v.marks w e heard air x i.half.reached i.hears o.known done));
+        };
+        reply = m.reply;
+      }
 
--- the exchange is open and has this answer
-pub record IsAnswered (w : World) (e : ℕ) (kept : ℕ × List ℕ) : Type 0 where
-  pub sending : Exchange
-  pub answer : Score
-  pub known : exchange w e ≡ Some sending
-  pub answered : sending.answer ≡ Some answer
-  pub shown : AreShown w sending answer (Some kept)
+-- an open exchange has this mark
+marked_is : (v : EngineValue) (w : World) (bodies : ℕ → FrameValue) (e : ℕ) (m : Mark) →
+    EngineIsIn v w bodies → mark_in v.marks e ≡ Some m →
+    (x : Exchange) × ((exchange w e ≡ Some x) × (mark_of x ≡ m))
+marked_is v w bodies e m i marked =
+    open_where mark_of (exchange w e) m (sym (mark_told v.peers v.marks w e i.hears) ∙ marked)
 
-pub kept_shown : (v : EngineValue) (w : World) (bodies : ℕ → FrameValue) (e : ℕ) (kept : ℕ × List ℕ) →
-    EngineIsIn v w bodies → option_and_then (λ m. m.answer) (mark_in v.marks e) ≡ Some kept →
-    IsAnswered w e kept
-kept_shown v w bodies e kept i is = of (exchange w e) refl
-    (subst (λ (m : Option Mark). option_and_then (λ k. k.answer) m ≡ Some kept)
-    (mark_told v.peers v.marks w e i.hears) is)
+-- how a path ends exchange e, by the BlockAck that was heard, if any
+pub record PathEnds (v : TransmitValue) (e : ℕ) (kept : Option (ℕ × List ℕ)) (air : Option ℕ)
+    (after : TransmitValue) (b : Brief) : Type 0 where
+  pub lost : IfNone kept ((u : World) (frames : ℕ → FrameValue) (ps : List (ℕ × ℕ)) (is : List ℕ) →
+      StandsFor v u frames → IsNoBatch u e →
+      PathMeets u frames (Asked (Done e false air)) after (reply_with b ps is))
+  pub shown : IfSome kept (λ score. (u : World) (frames : ℕ → FrameValue) (x : Exchange) (a : Score)
+      (ps : List (ℕ × ℕ)) (is : List ℕ) → StandsFor v u frames → exchange u e ≡ Some x → x.batch ≡ false →
+      x.answer ≡ Some a → AreShown u x a (Some score) →
+      PathMeets u frames (Asked (Done e true air)) after (reply_with b ps is))
+  pub arrived : (u : World) (frames : ℕ → FrameValue) (x : Exchange) (told : Bool) (ps : List (ℕ × ℕ))
+      (is : List ℕ) → StandsFor v u frames → exchange u e ≡ Some x → x.batch ≡ true →
+      IsToldAs x kept told → AreArrived u x kept →
+      PathMeets u frames (Asked (Done e told air)) after (reply_with b ps is)
+
+-- an exchange without an answer does not end as heard, unless it is a batch
+no_answer : (config : Config) (m : Mark) (air : Option ℕ) → m.answer ≡ None →
+    done_refusal config (Some m) false true air ≡ None → ⊥
+no_answer config m air none ends = of m.answer none ends
   where
-    of_answer : (x : Exchange) → exchange w e ≡ Some x → (b : Option Score) → x.answer ≡ b →
-        option_map kept_of b ≡ Some kept → IsAnswered w e kept
-    of_answer x known None answered k = absurd (cc)
-    of_answer x known (Some b) answered k =
-        let same : kept_of b ≡ kept = cc in
-        record {
-          sending = x;
-          answer = b;
-          known = known;
-          answered = answered;
-          shown = subst (λ (s : ℕ × List ℕ). AreShown w x b (Some s)) same
-              (score_shown w e x b i.half.reached known answered);
-        }
-
-    of : (o : Option Exchange) → exchange w e ≡ o →
-        option_and_then (λ m. m.answer) (option_map mark_of o) ≡ Some kept → IsAnswered w e kept
-    of None none k = absurd (cc)
-    of (Some x) known k = of_answer x known x.answer refl k
-
-no_answer : (config : Config) (m : Option Mark) (air : Option ℕ) →
-    option_and_then (λ k. k.answer) m ≡ None → done_refusal config m true air ≡ None → ⊥
-no_answer config None air none ends = absurd (cc)
-no_answer config (Some m) air none ends = of m.answer none ends
-  where
-    of : (b : Option (ℕ × List ℕ)) → b ≡ None → (if true && is_none b then Some NoAnswer
+    of : (b : Option (ℕ × List ℕ)) → b ≡ None → (if true && (true && is_none b) then Some NoAnswer
         else (if is_bad_air config air then Some BadAir else None)) ≡ None → ⊥
     of None n k = absurd (cc)
     of (Some x) n k = absurd (cc n)
 
--- the path's end of an exchange, by its kept answer, is the end of a Done
-pub end_met : (v : EngineValue) (w : World) (bodies : ℕ → FrameValue) (e : ℕ) (heard : Bool)
-    (air : Option ℕ) (i : EngineIsIn v w bodies) (kept : Option (ℕ × List ℕ)) (after : TransmitValue)
-    (b : Brief)
-    (pairs : List (ℕ × ℕ)) (ids : List ℕ) →
-    kept ≡ kept_answer v.marks e heard → refusal w (Asked (Done e heard air)) ≡ None →
-    IfNone kept ((u : World) (frames : ℕ → FrameValue) (ps : List (ℕ × ℕ)) (is : List ℕ) →
-    StandsFor v.half u frames → PathMeets u frames (Asked (Done e false air)) after (reply_with b ps is)) →
-    IfSome kept (λ score. (u : World) (frames : ℕ → FrameValue) (x : Exchange) (a : Score) (ps : List (ℕ × ℕ))
-    (is : List ℕ) → StandsFor v.half u frames → exchange u e ≡ Some x → x.answer ≡ Some a →
-    AreShown u x a (Some score) → PathMeets u frames (Asked (Done e true air)) after (reply_with b ps is)) →
+module _ (v : EngineValue) (w : World) (bodies : ℕ → FrameValue) (e : ℕ) (air : Option ℕ)
+    (i : EngineIsIn v w bodies) (m : Mark) (marked : mark_in v.marks e ≡ Some m) (after : TransmitValue)
+    (b : Brief) (pairs : List (ℕ × ℕ)) (ids : List ℕ) where
+  -- an exchange that is no batch, by its kept answer
+  end_unbatched : (heard : Bool) → is_batch (exchange w e) ≡ false →
+      refusal w (Asked (Done e heard air)) ≡ None →
+      PathEnds v.half e (heard_by v.half m false heard) air after b →
+      PathMeets w bodies (Asked (Done e heard air)) after (reply_with b pairs ids)
+  end_unbatched false plain done ends = ends.lost w bodies pairs ids i.half plain
+  end_unbatched true plain done ends = by_answer m.answer refl ends
+    where
+      by_answer : (o : Option (ℕ × List ℕ)) → m.answer ≡ o → PathEnds v.half e o air after b →
+          PathMeets w bodies (Asked (Done e true air)) after (reply_with b pairs ids)
+      by_answer None none k = absurd (no_answer v.half.config m air none
+          (done_marked v w bodies e true air i v.half.config refl (Some m) false marked (sym plain) ∙ done))
+      by_answer (Some score) kept k =
+          let s : KeepsShown w e score =
+          mark_shown v.peers v.marks w e m score i.half.reached i.hears marked kept in
+          k.shown w bodies s.open_now s.answer pairs ids i.half s.found
+          (sym (ap is_batch s.found) ∙ plain) s.is s.shown
+
+  -- a batch, by what arrived
+  end_batched : (heard : Bool) → is_batch (exchange w e) ≡ true →
+      PathEnds v.half e (heard_by v.half m true heard) air after b →
+      PathMeets w bodies (Asked (Done e heard air)) after (reply_with b pairs ids)
+  end_batched heard batched ends =
+      let o = marked_is v w bodies e m i marked in
+      let x : Exchange = o.0 in
+      let batch : x.batch ≡ true = sym (ap is_batch o.1.0) ∙ batched in
+      let number : m.number ≡ e = sym (ap (λ (k : Mark). k.number) o.1.1) ∙ found_number w e x o.1.0 in
+      let same : shown_at (find (λ y. y.number == m.number) v.half.opened) m.arrived
+      ≡ shown_at (find (λ y. y.number == e) v.half.opened) x.arrived =
+      ap (λ (n : ℕ). shown_at (find (λ y. y.number == n) v.half.opened) m.arrived) number
+      ∙ ap (λ (k : Mark). shown_at (find (λ y. y.number == e) v.half.opened) k.arrived) (sym o.1.1) in
+      ends.arrived w bodies x heard pairs ids i.half o.1.0 batch
+      (λ asks. absurd (cc (asks, (open_now w i.half.reached e x o.1.0).right.frames batch)))
+      (subst (AreArrived w x) (sym same) (shown_arrived v.half w bodies e x i.half o.1.0 batch))
+
+  -- the path's end of an exchange is the end of a Done
+  pub end_met : (heard : Bool) (kept : Option (ℕ × List ℕ)) →
+      kept ≡ heard_by v.half m (is_batch (exchange w e)) heard →
+      refusal w (Asked (Done e heard air)) ≡ None → PathEnds v.half e kept air after b →
+      PathMeets w bodies (Asked (Done e heard air)) after (reply_with b pairs ids)
+  end_met heard kept is done ends = on_bool (is_batch (exchange w e))
+      (λ batched. end_batched heard batched (subst (λ (k : Option (ℕ × List ℕ)). PathEnds v.half e k air after b)
+      (is ∙ ap (λ (c : Bool). heard_by v.half m c heard) batched) ends))
+      (λ plain. end_unbatched heard plain done
+      (subst (λ (k : Option (ℕ × List ℕ)). PathEnds v.half e k air after b)
+      (is ∙ ap (λ (c : Bool). heard_by v.half m c heard) plain) ends))
+
+-- the same for an exchange with a mark, of which the path tells what it sends
+pub done_met : (v : EngineValue) (w : World) (bodies : ℕ → FrameValue) (e : ℕ) (heard : Bool)
+    (air : Option ℕ) → EngineIsIn v w bodies → (sent : Sent) → option_map sent_of (exchange w e) ≡ Some sent →
+    (kept : Option (ℕ × List ℕ)) → IfSome (mark_in v.marks e) (λ m. (u : World) (frames : ℕ → FrameValue) →
+    StandsFor v.half u frames → kept ≡ heard_by v.half m (is_batch (exchange u e)) heard) →
+    refusal w (Asked (Done e heard air)) ≡ None → (after : TransmitValue) (b : Brief) →
+    PathEnds v.half e kept air after b → (pairs : List (ℕ × ℕ)) (ids : List ℕ) →
     PathMeets w bodies (Asked (Done e heard air)) after (reply_with b pairs ids)
-end_met v w bodies e false air i None after b pairs ids is done lost shown = lost w bodies pairs ids i.half
-end_met v w bodies e false air i (Some score) after b pairs ids is done lost shown = absurd (cc)
-end_met v w bodies e true air i None after b pairs ids is done lost shown =
-    absurd (no_answer v.half.config (mark_in v.marks e) air (sym is)
-    (done_marked v w bodies e true air i v.half.config refl (mark_in v.marks e) refl ∙ done))
-end_met v w bodies e true air i (Some score) after b pairs ids is done lost shown =
-    let k = kept_shown v w bodies e score i (sym is) in
-    shown w bodies k.sending k.answer pairs ids i.half k.known k.answered k.shown
+done_met v w bodies e heard air i sent told kept by_mark done after b ends pairs ids =
+    let o = told_open w e sent told in
+    let x : Exchange = o.sending in
+    let marked : mark_in v.marks e ≡ Some (mark_of x) =
+    mark_told v.peers v.marks w e i.hears ∙ ap (option_map mark_of) o.known in
+    end_met v w bodies e air i (mark_of x) marked after b pairs ids heard kept
+    (subst (λ (k : Option Mark). IfSome k (λ m. (u : World) (frames : ℕ → FrameValue) →
+    StandsFor v.half u frames → kept ≡ heard_by v.half m (is_batch (exchange u e)) heard)) marked by_mark
+    w bodies i.half) done ends
+
+-- ---- the receive halves after an Arrive
 
 -- the effect of an Arrive, for receive halves, marks and passed-up frames that are equal to these
 pub passed_on : (v : EngineValue) (w : World) (bodies : ℕ → FrameValue) (e k id : ℕ) (x : Exchange) →
@@ -409,17 +472,20 @@ pub passed_on : (v : EngineValue) (w : World) (bodies : ℕ → FrameValue) (e k
     peers ≡ with_peer x.station (peer_after x.tid k id x.content (peer_of v.peers x.station)) v.peers →
     marks ≡ with_changed e (with_arrival k) v.marks →
     up ≡ (buffer_outcome_of_transmission k id x.content (agreement_of v.peers x.station x.tid).buffer).up →
-    EngineMeets w bodies (Asked (Arrive e k)) (record v { peers = peers; marks = marks }) (Released up)
+    EngineMeets w bodies (Asked (Arrive e k)) (record v { peers = peers; marks = marks })
+    (Released (if is_batch (exchange w e) then [] else up))
 passed_on v w bodies e k id x i known done carries peers marks up peers_are marks_are up_is =
+    let out : List ℕ = (buffer_outcome_of_transmission k id x.content
+    (agreement_of v.peers x.station x.tid).buffer).up in
+    let is : (if x.batch then [] else out) ≡ (if is_batch (exchange w e) then [] else up) =
+    ap (λ (us : List ℕ). if x.batch then [] else us) (sym up_is)
+    ∙ ap (λ (o : Option Exchange). if is_batch o then [] else up) (sym known) in
     subst (λ (us : List ℕ). EngineMeets w bodies (Asked (Arrive e k))
-    (record v { peers = peers; marks = marks }) (Released us)) (sym up_is)
+    (record v { peers = peers; marks = marks }) (Released us)) is
     (subst (λ (ms : List Mark). let u : EngineValue = record v { peers = peers; marks = ms } in
-    EngineMeets w bodies (Asked (Arrive e k)) u
-    (Released (buffer_outcome_of_transmission k id x.content
-    (agreement_of v.peers x.station x.tid).buffer).up)) (sym marks_are)
+    EngineMeets w bodies (Asked (Arrive e k)) u (Released (if x.batch then [] else out))) (sym marks_are)
     (subst (λ (ps : List PeerValue). let u : EngineValue =
     record v { peers = ps; marks = with_changed e (with_arrival k) v.marks } in
-    EngineMeets w bodies (Asked (Arrive e k)) u (Released
-    (buffer_outcome_of_transmission k id x.content (agreement_of v.peers x.station x.tid).buffer).up))
+    EngineMeets w bodies (Asked (Arrive e k)) u (Released (if x.batch then [] else out)))
     (sym peers_are)
     (arrived_meets v w bodies e k id x i known done carries)))

@@ -121,6 +121,8 @@ module _ (v : TransmitValue) (w : World) (bodies : ℕ → FrameValue) (stands :
   back_is (Call (ask.Unsent exchange index)) answered e = refl
   back_is (Call (ask.GiveUp exchange index)) answered e = refl
   back_is (Call (ask.Flush s t)) answered e = refl
+  back_is (Call (ask.Offload s exponent weight)) answered e = refl
+  back_is (Call (ask.Weight s weight)) answered e = refl
 
 -- an answer is right if its reply is the run's and the returned frame is the path's
 pub is_right : (v : TransmitValue) (p : Past) (bodies : ℕ → FrameValue) (job : Job) (answered : ReplyNote)

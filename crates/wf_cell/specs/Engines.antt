@@ -1,6 +1,6 @@
 -- Defines an engine, the cell without its history: the transmit path, the receive halves of the stations, and
 -- the marks of the open exchanges.
-use Rattle.std.specs.Prelude.{◌≡◌, ℕ, ◌<◌, List, Option, None, Some, option_map, if◌then◌else◌}
+use Rattle.std.specs.Prelude.{◌≡◌, ℕ, ◌<◌, ◌==◌, Bool, true, false, find, List, Option, None, Some, option_map, if◌then◌else◌}
 use Rattle.wf_frame.specs.Frames.{FrameValue}
 use Rattle.wf_frame.specs.declared.notes.Note.{Note}
 use Rattle.wf_frame.specs.declared.notes.ReplyNote.{ReplyNote}
@@ -21,6 +21,7 @@ use Rattle.wf_send_half_model.specs.Standing.{StandsFor}
 use Rattle.wf_cell_model.specs.Hearing.{Hears}
 use Rattle.wf_path.specs.declared.job.Job.{Job}
 use Rattle.wf_path.specs.declared.reading.Sent.{Sent}
+use Rattle.wf_path.specs.Heard.{shown_at}
 use Rattle.wf_path.specs.Transmissions.{sent_of}
 use Rattle.wf_path.specs.Jobs.{note_of, bodies_after, frame_given_back}
 
@@ -82,3 +83,9 @@ IsToldBy w e i (Some reason) = (refusal w (Asked (Arrive e i)) ≡ Some reason)
     × (refusal w (Asked (Unsent e i)) ≡ Some reason)
 IsToldBy w e i None = (refusal w (Asked (Arrive e i))
     ≡ (if exchange_has (exchange w e) (λ x. has x.unsent i) then Some Marked else None)) × HasNotArrived w e i
+
+-- the BlockAck by which an exchange with this mark ends, if any: the answer that the mark keeps, if it was
+-- heard, or of a batch one that shows exactly the numbers that arrived
+abbrev pub heard_by : TransmitValue → Mark → Bool → Bool → Option (ℕ × List ℕ)
+heard_by v m true heard = shown_at (find (λ x. x.number == m.number) v.opened) m.arrived
+heard_by v m false heard = if heard then m.answer else None

@@ -1,6 +1,6 @@
 //! Transmissions that arrive at stations, and the BlockAcks that answer them.
 
-ghost use Rattle.std.specs.Prelude.{◌≡◌, ◌<◌, ◌≤◌, ◌==◌, nat_lt, ℕ, true, Some, None, length, position, take, option_map, option_and_then, if◌then◌else◌, IfOk};
+ghost use Rattle.std.specs.Prelude.{◌≡◌, ◌<◌, ◌≤◌, ◌==◌, nat_lt, ℕ, true, Some, None, [], length, position, take, option_map, IfOk, IfSome, if◌then◌else◌};
 ghost use Rattle.wf_frame.specs.Frames.{FrameValue};
 ghost use Rattle.wf_frame.specs.Answers.{reply_of};
 ghost use Rattle.wf_frame.specs.declared.answers.Brief.TheVariants.{Ba};
@@ -22,7 +22,9 @@ ghost use Rattle.wf_path.specs.Transmissions.{sent_of};
 ghost use Rattle.wf_path.specs.Jobs.{changes_nothing};
 ghost use Rattle.wf_path.specs.Paths.{IsSmall};
 ghost use Rattle.wf_send_half.specs.Marks.{bodies_unsent};
-ghost use Rattle.wf_cell.specs.Engines.{EngineHasWorld, IsArriving, EngineIsIn, IsOnAir, EngineMeets, IsToldBy};
+ghost use Rattle.wf_law_runs.specs.Delivery.{is_batch};
+ghost use Rattle.wf_cell_model.specs.Catching.{peers_caught_up};
+ghost use Rattle.wf_cell.specs.Engines.{EngineHasWorld, IsArriving, EngineIsIn, IsOnAir, EngineMeets, IsToldBy, heard_by};
 ghost use Rattle.wf_cell.specs.Octets.{IsSentTo};
 
 use crate::engine::Engine;
@@ -50,24 +52,30 @@ fn told_refusal(mark: &Mark, count: u16, index: u16) -> Option<Refusal>
     }
 }
 
-// Returns why a station does not answer an exchange with this mark, if it does not.
-fn answering_refusal(mark: &Mark) -> Option<Refusal>
-    ensures { result ≡ answer_refusal (Some mark.now) }
+// Returns why a station does not answer an exchange with this mark, if it does not. A batch has no answer.
+fn answering_refusal(mark: &Mark, batch: bool) -> Option<Refusal>
+    ensures { result ≡ answer_refusal (Some mark.now) batch }
 {
     if mark.answer.is_some() {
         Some(Refusal::Answered)
-    } else if !mark.has_any() {
+    } else if batch || !mark.has_any() {
         Some(Refusal::Nothing)
     } else {
         None
     }
 }
 
-// Returns why an exchange with this mark does not end, if it does not.
-fn ending_refusal(settings: &Config, mark: &Mark, heard: bool, air: Option<u32>) -> Option<Refusal>
-    ensures { result ≡ done_refusal settings.now (Some mark.now) heard air }
+// Returns why an exchange with this mark does not end, if it does not. A batch needs no answer.
+fn ending_refusal(
+    settings: &Config,
+    mark: &Mark,
+    batch: bool,
+    heard: bool,
+    air: Option<u32>,
+) -> Option<Refusal>
+    ensures { result ≡ done_refusal settings.now (Some mark.now) batch heard air }
 {
-    if heard && mark.answer.is_none() {
+    if heard && (!batch && mark.answer.is_none()) {
         Some(Refusal::NoAnswer)
     } else if settings.is_bad_air(air) {
         Some(Refusal::BadAir)
@@ -81,8 +89,10 @@ fn ending_refusal(settings: &Config, mark: &Mark, heard: bool, air: Option<u32>)
 struct Found {
     // Its place among the marks.
     place: usize,
-    // The BlockAck that was heard, if any.
+    // The BlockAck that was heard, if any; of a batch, one that shows exactly the numbers that arrived.
     heard: Option<(Seq12, Bits256)>,
+    // What the exchange sends.
+    sent: Sent,
 }
 
 // Writes a transmission of an open exchange, and returns its length in octets.
@@ -121,6 +131,9 @@ impl Engine {
             Err(reason) => answer.brief = Brief::Refused(reason),
             Ok(sent) => {
                 self.pass_on(sent, exchange, index, &mut answer.ids);
+                if self.path.is_batch(exchange) {
+                    answer.ids.clear();
+                }
                 answer.brief = Brief::Released;
             }
         }
@@ -185,12 +198,13 @@ impl Engine {
     }
 
     // A transmission of an open exchange arrives at its station. `up` gets the frames that the station passes
-    // up.
+    // up, of which the reply has none for a batch.
     fn pass_on(&mut self, sent: Sent, exchange: u64, index: u16, up: &mut Ids)
         requires { IsArriving self.old exchange index sent }
         ensures meets { (w : World) (bodies : ℕ → FrameValue) → EngineIsIn self.old w bodies →
             refusal w (Asked (Arrive exchange index)) ≡ None →
-            EngineMeets w bodies (Asked (Arrive exchange index)) self.new (Released up.new) }
+            EngineMeets w bodies (Asked (Arrive exchange index)) self.new
+            (Released (if is_batch (exchange_in w exchange) then [] else up.new)) }
         ensures path_kept { self.new.half ≡ self.old.half }
     {
         let id = carried_id(&self.path, exchange, index);
@@ -227,7 +241,7 @@ impl Engine {
             None => Err(Refusal::NoExchange),
             Some(mark) => match self.path.sent(exchange) {
                 None => Err(Refusal::NoExchange),
-                Some(sent) => match answering_refusal(mark) {
+                Some(sent) => match answering_refusal(mark, self.path.is_batch(exchange)) {
                     Some(reason) => Err(reason),
                     None => Ok(sent),
                 },
@@ -275,7 +289,24 @@ impl Engine {
             Ok(found) => {
                 self.marks.close_at(found.place);
                 answer.brief = self.path.done_bits(exchange, found.heard, air);
+                self.catch_up(found.sent.station, found.sent.tid, &mut answer.ids);
             }
+        }
+    }
+
+    // The device of an offloaded station tells its peer by itself where the window of a TID starts, and the
+    // receive half moves there. `up` is for the frames that it passes up, which no answer shows.
+    pub(crate) fn catch_up(&mut self, station: u16, tid: u8, up: &mut Ids)
+        requires tid { tid < 8 }
+        requires within { station < length self.old.peers }
+        ensures path_kept { self.new.half ≡ self.old.half }
+        ensures marks_kept { self.new.marks ≡ self.old.marks }
+        ensures peers { (w : World) (bodies : ℕ → FrameValue) → StandsFor self.old.half w bodies →
+            self.new.peers ≡ peers_caught_up w station tid self.old.peers }
+    {
+        if let Some(start) = self.path.start_told(station, tid) {
+            up.clear();
+            self.peers.move_to(station, tid, start, up);
         }
     }
 
@@ -283,22 +314,45 @@ impl Engine {
     fn check_done(&self, exchange: u64, heard: bool, air: Option<u32>) -> Result<Found, Refusal>
         ensures refused { (w : World) (bodies : ℕ → FrameValue) → EngineIsIn self.now w bodies →
             result_err result ≡ refusal w (Asked (Done exchange heard air)) }
-        ensures heard { IfOk result (λ found. found.heard
-            ≡ (if heard then option_and_then (λ m. m.answer) (mark_in self.now.marks exchange) else None)) }
+        ensures heard { IfOk result (λ found. IfSome (mark_in self.now.marks exchange) (λ m.
+            (w : World) (bodies : ℕ → FrameValue) → StandsFor self.now.half w bodies →
+            found.heard ≡ heard_by self.now.half m (is_batch (exchange_in w exchange)) heard)) }
+        ensures sent { IfOk result (λ found. (w : World) (bodies : ℕ → FrameValue) →
+            EngineIsIn self.now w bodies →
+            option_map sent_of (exchange_in w exchange) ≡ Some found.sent) }
         ensures place { IfOk result (λ found. position (λ m. m.number == exchange) self.now.marks
             ≡ Some found.place) }
         ensures within { IfOk result (λ found. found.place < length self.now.marks) }
     {
         let settings = self.path.config();
-        match self.marks.find_at(exchange) {
-            None => Err(Refusal::NoExchange),
-            Some((place, mark)) => match ending_refusal(&settings, mark, heard, air) {
-                Some(reason) => Err(reason),
-                None => {
-                    let heard = if heard { mark.answer } else { None };
-                    Ok(Found { place, heard })
-                }
-            },
+        let Some((place, mark)) = self.marks.find_at(exchange) else {
+            return Err(Refusal::NoExchange);
+        };
+        let Some(sent) = self.path.sent(exchange) else {
+            return Err(Refusal::NoExchange);
+        };
+        let batch = self.path.is_batch(exchange);
+        match ending_refusal(&settings, mark, batch, heard, air) {
+            Some(reason) => Err(reason),
+            None => Ok(Found {
+                place,
+                heard: self.heard_of(mark, batch, heard),
+                sent,
+            }),
+        }
+    }
+
+    // Returns the BlockAck by which an exchange ends, if any: the answer that its mark keeps, if it was
+    // heard, or of a batch one that shows exactly the numbers that arrived.
+    fn heard_of(&self, mark: &Mark, batch: bool, heard: bool) -> Option<(Seq12, Bits256)>
+        ensures { result ≡ heard_by self.now.half mark.now batch heard }
+    {
+        if batch {
+            self.path.shown_at(mark.number, &mark.arrived)
+        } else if heard {
+            mark.answer
+        } else {
+            None
         }
     }
 }

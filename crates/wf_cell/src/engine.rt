@@ -4,7 +4,7 @@ ghost use Rattle.std.specs.Prelude.{◌≡◌, ◌||◌, ℕ, true, None, IfOk};
 ghost use Rattle.wf_frame.specs.Frames.{FrameValue};
 ghost use Rattle.wf_frame.specs.Answers.{reply_of};
 ghost use Rattle.wf_frame.specs.Settings.{first_out_of_range};
-ghost use Rattle.wf_frame.specs.declared.notes.Ask.TheVariants.{Join, Pull};
+ghost use Rattle.wf_frame.specs.declared.notes.Ask.TheVariants.{Join, Offload, Flush, Pull};
 ghost use Rattle.wf_frame.specs.declared.notes.Note.TheVariants.{Asked};
 ghost use Rattle.wf_def_world.specs.World.{World, opening};
 ghost use Rattle.wf_send_half.specs.Replies.{bodies_sent};
@@ -16,7 +16,7 @@ ghost use Rattle.wf_cell.specs.Cells.{is_received};
 use crate::peers::Peers;
 use std::alloc::{AllocError, Global};
 use std::marker::Model;
-use wf_frame::{Answer, Ask, Brief, Class, Config, Limits};
+use wf_frame::{Answer, Ask, Brief, Class, Config, GREATEST_WINDOW, Limits};
 use wf_octets::header::GREATEST_MPDU;
 use wf_octets::seq12::Seq12;
 use wf_path::{ExchangeAsk, Job, Path, PathAsk, PathJob};
@@ -145,6 +145,18 @@ impl Engine {
                 self.unsent(exchange, index, answer);
                 None
             }
+            PathAsk::Offload {
+                station,
+                exponent,
+                weight,
+            } => {
+                self.offload(station, exponent, weight, answer);
+                None
+            }
+            PathAsk::Flush { station, tid } => {
+                self.flush(station, tid, answer);
+                None
+            }
             _ => self.path.call(PathJob::Call(ask), answer),
         }
     }
@@ -201,6 +213,45 @@ impl Engine {
             Brief::Joined => self
                 .peers
                 .reset(station, Seq12::of(u64::from(start)), window),
+            _ => {}
+        }
+    }
+
+    // Makes a station join whose device numbers its frames, with a new receive half.
+    fn offload(&mut self, station: u16, exponent: u8, weight: u8, answer: &mut Answer)
+        requires some { EngineHasWorld self.old }
+        requires small { IsSmall self.old.half }
+        ensures meets { (w : World) (bodies : ℕ → FrameValue) → EngineIsIn self.old w bodies →
+            EngineMeets w bodies (Asked (Offload station exponent weight)) self.new (reply_of answer.new) }
+        ensures path_kept { changes_nothing (reply_of answer.new) ≡ true →
+            self.new.half ≡ self.old.half }
+    {
+        let ask = PathAsk::Offload {
+            station,
+            exponent,
+            weight,
+        };
+        let _ = self.path.call(PathJob::Call(ask), answer);
+        match answer.brief {
+            Brief::Joined => self.peers.reset(station, Seq12::of(0), GREATEST_WINDOW),
+            _ => {}
+        }
+    }
+
+    // Drops the frames of a TID that are not on the air. The receive half of an offloaded station moves to
+    // the start of the window.
+    fn flush(&mut self, station: u16, tid: u8, answer: &mut Answer)
+        requires some { EngineHasWorld self.old }
+        requires small { IsSmall self.old.half }
+        ensures meets { (w : World) (bodies : ℕ → FrameValue) → EngineIsIn self.old w bodies →
+            EngineMeets w bodies (Asked (Flush station tid)) self.new (reply_of answer.new) }
+        ensures path_kept { changes_nothing (reply_of answer.new) ≡ true →
+            self.new.half ≡ self.old.half }
+    {
+        let ask = PathAsk::Flush { station, tid };
+        let _ = self.path.call(PathJob::Call(ask), answer);
+        match answer.brief {
+            Brief::Flushed { .. } => self.catch_up(station, tid, &mut answer.ids),
             _ => {}
         }
     }

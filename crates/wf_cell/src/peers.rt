@@ -2,7 +2,7 @@
 
 ghost use Rattle.std.specs.Prelude.{◌≡◌, ℕ, ◌<◌, ◌≤◌, [], length, nat_lt, IfOk};
 ghost use Rattle.wf_recv_peer.specs.Agreements.{new_peer};
-ghost use Rattle.wf_cell_model.specs.Arriving.{buffer_outcome_of_transmission, peer_after};
+ghost use Rattle.wf_cell_model.specs.Arriving.{buffer_outcome_of_transmission, peer_after, peer_requested};
 ghost use Rattle.wf_def_world.specs.World.{Content};
 ghost use Rattle.wf_cell_model.specs.Hearing.{AreNew, HasAddresses, agreement_of, peer_of, with_peer};
 ghost use Rattle.wf_cell.specs.Octets.{IsForStation, IsSentTo};
@@ -96,6 +96,18 @@ impl Peers {
         {
             unreachable!();
         }
+    }
+
+    /// The window of a TID below 8 of a station's receive half moves to this start, as by a BlockAckReq.
+    /// `up`, which must be empty, gets the ids of the frames that it passes up.
+    pub(crate) fn move_to(&mut self, station: u16, tid: u8, start: Seq12, up: &mut Ids)
+        requires within { station < length self.old }
+        requires tid { tid < 8 }
+        requires empty { up.old ≡ [] }
+        ensures { self.new ≡ with_peer station
+            (peer_requested tid start (peer_of self.old station)) self.old }
+    {
+        self.list[usize::from(station)].move_to(tid, start, up);
     }
 
     /// A station's BlockAck for a TID below 8, written as octets and read back.

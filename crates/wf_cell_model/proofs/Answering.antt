@@ -20,6 +20,7 @@ use Rattle.wf_send_half_model.specs.Standing.{IsReached}
 use Rattle.wf_cell_model.specs.Hearing.{agreement_of, mark_of, Hears}
 use Rattle.wf_cell_model.proofs.Keeping.{Stays, reply_done, lawful_now, stays_kept, hears_outcome}
 use Rattle.wf_cell_model.proofs.Marks.{changed_marks, rises_now}
+use Rattle.wf_cell_model.proofs.Receivers.{SameReceivers, receivers_exchange}
 use Rattle.wf_cell_model.proofs.Sent.{open_now, tid_now}
 
 -- ---- the answer
@@ -38,6 +39,10 @@ answered_opened : (w : World) (x : Exchange) →
 unfolding answer_outcome with_exchange
 answered_opened w x = refl
 
+receivers_answered : (w : World) (x : Exchange) → SameReceivers w (answer_outcome w x).world
+unfolding answer_outcome
+receivers_answered w x = receivers_exchange w (record x { answer = Some (score (receiver w x.station x.tid)) })
+
 pub answered_hears : (peers : List PeerValue) (marks : List Mark) (w : World) (e : ℕ) (x : Exchange) →
     IsReached w → Hears peers marks w →
     exchange w e ≡ Some x → refusal w (Asked (Answer e)) ≡ None →
@@ -55,7 +60,8 @@ answered_hears peers marks w e x reached h found fine =
     ap (λ (k : Board). with_answer k.start k.offsets (mark_of x))
     (board_now peers marks w e x reached h found) in
     hears_outcome peers marks _ w (Asked (Answer e)) (lawful_now w reached) fine
-    (subst (λ (v : World). Stays w v) (sym same) (stays_kept w u (keep_answered w x)))
+    (subst (λ (v : World). Stays w v) (sym same) (stays_kept w u (keep_answered w x)
+    (receivers_answered w x)))
     (ap (with_changed e (with_answer b.start b.offsets)) h.kept
     ∙ (changed_marks 0 w.exchanges e w.opened x z (with_answer b.start b.offsets) (rises_now w reached) found
     (found_number w e x found) it

@@ -1,7 +1,6 @@
 -- Proves the effect of an Arrive on the receive halves and the marks. The agreement of the exchange's TID
 -- changes, and all others are unchanged.
-use Rattle.std.proofs.Common.{◌≡◌, refl, ap, sym, ◌∙◌, subst, arith, ℕ, ◌<◌, ◌==◌, nat_le, true, false, List, map, length, Option, Some, None, is_some}
-use Rattle.wf_frame.specs.declared.settings.Config.{Config}
+use Rattle.std.proofs.Common.{◌≡◌, refl, ap, sym, ◌∙◌, subst, ℕ, ◌<◌, nat_le, true, false, List, [], map, Option, Some, None, is_some, if◌then◌else◌}
 use Rattle.wf_frame.specs.declared.notes.Ask.TheVariants.{Arrive}
 use Rattle.wf_frame.specs.declared.notes.Note.{Note}
 use Rattle.wf_frame.specs.declared.notes.Note.TheVariants.{Asked}
@@ -9,7 +8,6 @@ use Rattle.wf_frame.specs.declared.notes.ReplyNote.TheVariants.{Released}
 use Rattle.wf_def_lists.specs.Table.{at, with_member}
 use Rattle.wf_def_agreement.specs.Receiver.{Receiver, released_between}
 use Rattle.wf_def_agreement.specs.Session.{Session, slot}
-use Rattle.wf_law_rules.proofs.Lemmas.Numbers.{on_bool, eq_yes, eq_no}
 use Rattle.wf_def_world.specs.World.{World, Exchange, Content, Frames, Request, session, receiver, exchange, is_live, on_receiver, on_tid, on_station, with_station, with_exchange}
 use Rattle.wf_def_world.specs.CanSend.{with_listings_of}
 use Rattle.wf_def_world.specs.Exchanges.{transmissions, no_mpdu, mpdus_of, after_arrival, ids_of}
@@ -30,12 +28,11 @@ use Rattle.wf_recv_peer_refines.specs.Half.{ReceiveHalfStandsFor}
 use Rattle.wf_recv_peer_refines.proofs.Halves.{stands_data, up_data, stands_request, up_request}
 use Rattle.wf_send_half_model.specs.Standing.{IsReached}
 use Rattle.wf_cell_model.specs.Arriving.{buffer_outcome_of_transmission, agreement_after_transmission, peer_after, CarriesId, MayReach}
-use Rattle.wf_cell_model.specs.Hearing.{peer_of, agreement_of, with_peer, HasAddresses, ArePeers, carried, StandsForTid, mark_of, Hears}
+use Rattle.wf_cell_model.specs.Hearing.{peer_of, agreement_of, with_peer, carried, StandsForTid, mark_of, Hears}
 use Rattle.wf_cell_model.proofs.Marks.{changed_marks, rises_now}
-use Rattle.wf_cell_model.proofs.Keeping.{lawful_now, reply_done, config_done, stays_same, stays_stand, hears_stays}
-use Rattle.wf_cell_model.proofs.Peers.{peer_own, peer_other, sized_with, agreement_own, agreement_other}
+use Rattle.wf_cell_model.proofs.Keeping.{lawful_now, reply_done, config_done, stays_same, hears_stays}
+use Rattle.wf_cell_model.proofs.Changing.{StaysBut, changed_hears}
 use Rattle.wf_cell_model.proofs.Sent.{open_now, sent_now, station_now, tid_now, index_below, reach_now, each_at}
-use Rattle.std.proofs.lemmas.List.{length-set}
 
 -- ---- the agreement of the exchange's TID
 
@@ -109,7 +106,8 @@ arrived_live w x i s = live_taken w x _ (after_arrival x.content i) s
 
 arrived_reply : (w : World) (x : Exchange) (i : ℕ) →
     (arrive_outcome w x i).reply ≡
-    Released (ids_of (session w x.station x.tid) (released_between (receiver w x.station x.tid)
+    Released (if x.batch then [] else ids_of (session w x.station x.tid)
+    (released_between (receiver w x.station x.tid)
     (after_arrival x.content i (receiver w x.station x.tid))))
 unfolding arrive_outcome
 arrived_reply w x i = refl
@@ -118,9 +116,6 @@ module _ (peers : List PeerValue) (marks : List Mark) (w : World) (e i id : ℕ)
     (reached : IsReached w)
     (h : Hears peers marks w) (known : exchange w e ≡ Some x) (fine : refusal w (Asked (Arrive e i)) ≡ None)
     (same_id : CarriesId id i x.content) where
-  after_it : PeerValue
-  after_it = peer_after x.tid i id x.content (peer_of peers x.station)
-
   arrived_world : World
   arrived_world = (arrive_outcome w x i).world
 
@@ -131,85 +126,40 @@ module _ (peers : List PeerValue) (marks : List Mark) (w : World) (e i id : ℕ)
   stood : StandsForTid w x.station x.tid (agreement_of peers x.station x.tid)
   stood = h.agreements x.station x.tid (open_now w reached e x known).live (tid_now w reached e x known)
 
-  own_peer : peer_of (with_peer x.station after_it peers) x.station ≡ after_it
-  own_peer = peer_own peers x.station after_it (omega (arith, h.sized.count, station_now w e x reached known))
-
-  own_eight : x.tid < length (peer_of peers x.station).agreements
-  own_eight = omega (
-    arith,
-    h.sized.eight x.station (station_now w e x reached known),
-    tid_now w reached e x known,
-  )
-
   -- the agreement of the exchange's TID
   stands_own : StandsForTid arrived_world x.station x.tid
-      (agreement_of (with_peer x.station after_it peers) x.station x.tid)
-  unfolding arrived_world after_it
+      (agreement_after_transmission i id x.content (agreement_of peers x.station x.tid))
+  unfolding arrived_world
   stands_own =
       let a : AgreementValue = agreement_of peers x.station x.tid in
       let b : AgreementValue = agreement_after_transmission i id x.content a in
-      let is : agreement_of (with_peer x.station after_it peers) x.station x.tid ≡ b =
-      ap (λ (p : PeerValue). agreement p x.tid) own_peer
-      ∙ agreement_own (peer_of peers x.station) x.tid b own_eight in
-      subst (StandsForTid (arrive_outcome w x i).world x.station x.tid) (sym is)
-      (subst (λ (z : Side). ReceiveHalfStandsFor (carried z.session) z.receiver b.board b.buffer)
+      subst (λ (z : Side). ReceiveHalfStandsFor (carried z.session) z.receiver b.board b.buffer)
       (sym (arrived_own w x i (open_now w reached e x known).live))
       (stands_after x.content (carried (session w x.station x.tid)) (receiver w x.station x.tid) a i id
-      (reach_now w e i x reached known fine) carries stood))
+      (reach_now w e i x reached known fine) carries stood)
 
   -- any other agreement
-  stands_other : (s t : ℕ) → (s ≡ x.station → t ≡ x.tid → ⊥) → is_live arrived_world s ≡ true → t < 8 →
-      StandsForTid arrived_world s t (agreement_of peers s t)
+  stays_other : StaysBut x.station x.tid w arrived_world
   unfolding arrived_world
-  stands_other s t other live low =
-      let z : side (arrive_outcome w x i).world s t ≡ side w s t = arrived_other w x i s t other in
-      stays_stand w (arrive_outcome w x i).world s t (agreement_of peers s t) (lawful_now w reached)
-      (ap (λ (k : Side). k.receiver) z)
-      (kept_equal (session w s t) (session (arrive_outcome w x i).world s t) (ap (λ (k : Side). k.session) z))
-      (h.agreements s t (sym (arrived_live w x i s) ∙ live) low)
-
-  stands_each : (s t : ℕ) → is_live arrived_world s ≡ true → t < 8 →
-      StandsForTid arrived_world s t (agreement_of (with_peer x.station after_it peers) s t)
-  unfolding after_it
-  stands_each s t live low = on_bool (s == x.station)
-      (λ here. on_bool (t == x.tid)
-      (λ there. subst (λ (k : ℕ). StandsForTid arrived_world k t
-      (agreement_of (with_peer x.station after_it peers) k t)) (sym (eq_yes s x.station here))
-      (subst (λ (k : ℕ). StandsForTid arrived_world x.station k
-      (agreement_of (with_peer x.station after_it peers) x.station k))
-      (sym (eq_yes t x.tid there)) stands_own))
-      (λ apart.
-      let at_s : agreement_of (with_peer x.station after_it peers) s t ≡ agreement_of peers s t =
-      ap (λ (k : ℕ). agreement_of (with_peer x.station after_it peers) k t) (eq_yes s x.station here)
-      ∙ (ap (λ (p : PeerValue). agreement p t) own_peer
-      ∙ (agreement_other (peer_of peers x.station) x.tid t
-      (agreement_after_transmission i id x.content (agreement_of peers x.station x.tid))
-      (eq_no t x.tid apart)
-      ∙ ap (λ (k : ℕ). agreement_of peers k t) (sym (eq_yes s x.station here)))) in
-      subst (StandsForTid arrived_world s t) (sym at_s)
-      (stands_other s t (λ _ k. eq_no t x.tid apart k) live low)))
-      (λ away. subst (λ (p : PeerValue). StandsForTid arrived_world s t (agreement p t))
-      (sym (peer_other peers x.station s after_it (eq_no s x.station away)))
-      (stands_other s t (λ k _. eq_no s x.station away k) live low))
-
-  addressed : HasAddresses x.station (peer_of peers x.station)
-  addressed = h.sized.addresses x.station (station_now w e x reached known)
-
-  now_hears : Hears (with_peer x.station after_it peers) (with_changed e (with_arrival i) marks) arrived_world
-  unfolding arrived_world after_it
-  now_hears = record {
-    sized = subst (λ (c : Config). ArePeers c.stations (with_peer x.station after_it peers))
-        (sym (arrived_config w x i))
-        (sized_with w.config.stations x.station peers after_it (station_now w e x reached known)
-        (record { own = addressed.own; base = addressed.base })
-        (length-set (peer_of peers x.station).agreements x.tid _
-        ∙ h.sized.eight x.station (station_now w e x reached known)) h.sized);
-    agreements = stands_each;
-    kept = ap (with_changed e (with_arrival i)) h.kept
-        ∙ (changed_marks 0 w.exchanges e w.opened x (record x { arrived = with_member i x.arrived })
-        (with_arrival i) (rises_now w reached) known (found_number w e x known) refl
-        ∙ ap (map mark_of) (sym (arrived_opened w x i)));
+  stays_other = record {
+    live = λ s l. sym (arrived_live w x i s) ∙ l;
+    receivers = λ s t _ other. ap (λ (k : Side). k.receiver) (arrived_other w x i s t other);
+    sessions = λ s t _ other. kept_equal (session w s t) (session (arrive_outcome w x i).world s t)
+        (ap (λ (k : Side). k.session) (arrived_other w x i s t other));
   }
+
+  now_hears : Hears (with_peer x.station (peer_after x.tid i id x.content (peer_of peers x.station)) peers)
+      (with_changed e (with_arrival i) marks) arrived_world
+  unfolding arrived_world
+  now_hears = changed_hears peers marks w (arrive_outcome w x i).world x.station x.tid
+      (agreement_after_transmission i id x.content (agreement_of peers x.station x.tid)) h
+      (station_now w e x reached known) (tid_now w reached e x known)
+      (with_changed e (with_arrival i) marks) (lawful_now w reached) stays_other (arrived_config w x i)
+      (λ _. stands_own)
+      (ap (with_changed e (with_arrival i)) h.kept
+      ∙ (changed_marks 0 w.exchanges e w.opened x (record x { arrived = with_member i x.arrived })
+      (with_arrival i) (rises_now w reached) known (found_number w e x known) refl
+      ∙ ap (map mark_of) (sym (arrived_opened w x i))))
 
   lawful_then : IsLawful arrived_world
   unfolding arrived_world
@@ -225,7 +175,7 @@ module _ (peers : List PeerValue) (marks : List Mark) (w : World) (e i id : ℕ)
   pub arrived_hears : Hears (with_peer x.station
       (peer_after x.tid i id x.content (peer_of peers x.station)) peers)
       (with_changed e (with_arrival i) marks) (step w (Asked (Arrive e i))).world
-  unfolding arrived_world after_it outcome_of outcome_where_open
+  unfolding arrived_world outcome_of outcome_where_open
   arrived_hears =
       let note : Note = Asked (Arrive e i) in
       let peers' : List PeerValue = with_peer x.station
@@ -244,13 +194,13 @@ module _ (peers : List PeerValue) (marks : List Mark) (w : World) (e i id : ℕ)
       (now_hears.kept ∙ ap (map mark_of) (sym same.opened)) now_hears)
 
   pub arrived_up : (step w (Asked (Arrive e i))).reply
-      ≡ Released (buffer_outcome_of_transmission i id x.content
-      (agreement_of peers x.station x.tid).buffer).up
+      ≡ Released (if x.batch then [] else (buffer_outcome_of_transmission i id x.content
+      (agreement_of peers x.station x.tid).buffer).up)
   unfolding outcome_of outcome_where_open
   arrived_up =
       let y : Session = session w x.station x.tid in
       reply_done w (Asked (Arrive e i)) fine
       ∙ (ap (λ (k : Option Exchange). (outcome_where_open w k (λ z. arrive_outcome w z i)).reply) known
       ∙ (arrived_reply w x i
-      ∙ ap Released (sym (up_after x.content (carried y) (receiver w x.station x.tid)
+      ∙ ap (λ (ids : List ℕ). Released (if x.batch then [] else ids)) (sym (up_after x.content (carried y) (receiver w x.station x.tid)
       (agreement_of peers x.station x.tid) i id (reach_now w e i x reached known fine) carries stood))))

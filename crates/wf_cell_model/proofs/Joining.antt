@@ -1,11 +1,12 @@
--- Proves the effect of a Join on the receive halves. The station gets a new one, and all others are
--- unchanged.
-use Rattle.std.proofs.Common.{◌≡◌, ◌≢◌, refl, ap, sym, ◌∙◌, subst, arith, ℕ, zero, suc, ◌<◌, ◌≤◌, ◌==◌, nat_le, Bool, true, false, not, ◌&&◌, List, [], ◌∷◌, map, Some, None}
+-- Proves the effect of a Join and of an Offload on the receive halves. The station gets a new one, and all
+-- others are unchanged.
+use Rattle.std.proofs.Common.{◌≡◌, ◌≢◌, refl, ap, sym, ◌∙◌, subst, arith, ℕ, zero, suc, ◌<◌, ◌≤◌, ◌==◌, nat_le, Bool, true, false, not, ◌&&◌, List, [], ◌∷◌, map, Option, Some, None}
 use Rattle.std.proofs.lemmas.List.{get_or-replicate}
 use Rattle.wf_frame.specs.declared.settings.Config.{Config}
-use Rattle.wf_frame.specs.declared.notes.Ask.TheVariants.{Join}
+use Rattle.wf_frame.specs.declared.notes.Ask.TheVariants.{Join, Offload}
 use Rattle.wf_frame.specs.declared.notes.Note.{Note}
 use Rattle.wf_frame.specs.declared.notes.Note.TheVariants.{Asked}
+use Rattle.wf_def_lists.specs.Bounds.{greatest_window}
 use Rattle.wf_def_lists.specs.Table.{at}
 use Rattle.wf_def_agreement.specs.Receiver.{new_receiver}
 use Rattle.wf_def_agreement.specs.Session.{new_session}
@@ -13,10 +14,10 @@ use Rattle.wf_law_rules.proofs.Lemmas.Numbers.{on_bool, eq_yes, eq_no, le_no, le
 use Rattle.wf_def_world.specs.World.{World, Tid, no_tid, new_tid, session, is_live, with_station}
 use Rattle.wf_def_world.specs.CanSend.{with_listings_of}
 use Rattle.wf_def_world.specs.Refusals.{refusals, refusal}
-use Rattle.wf_def_world.specs.Step.{join_outcome, outcome_of, step}
+use Rattle.wf_def_world.specs.Step.{new_station, join_outcome, offload_outcome, outcome_of, concerned_station, step}
 use Rattle.wf_law_runs.proofs.Windows.Sides.{Side, side, Same, same_listed}
 use Rattle.wf_law_runs.proofs.Windows.Opened.{no_row}
-use Rattle.wf_law_runs.proofs.Windows.Agreed.{IsLawful, lawful_joined}
+use Rattle.wf_law_runs.proofs.Windows.Agreed.{IsLawful, lawful_new}
 use Rattle.wf_law_runs.proofs.Releases.Kept.{kept_equal}
 use Rattle.wf_law_runs.proofs.Releases.Released.{side_with_station, side_own_station, live_with_station}
 use Rattle.wf_law_driver.proofs.Opened.{step_done}
@@ -72,29 +73,34 @@ eight_alike y (suc (suc (suc (suc (suc (suc zero)))))) h = refl
 eight_alike y (suc (suc (suc (suc (suc (suc (suc zero))))))) h = refl
 eight_alike y (suc (suc (suc (suc (suc (suc (suc (suc j)))))))) h = absurd (omega (arith, h))
 
-joined_side : (w : World) (s window start exponent weight t : ℕ) → t < 8 →
-    side (join_outcome w s window start exponent weight).world s t ≡
+-- the world in which station s is new
+abbrev pub joined_world : World → ℕ → ℕ → ℕ → ℕ → ℕ → Bool → World
+joined_world w s window start exponent weight off =
+    with_station w s (Some (new_station w.config window start exponent weight off))
+
+joined_side : (w : World) (s window start exponent weight t : ℕ) (off : Bool) → t < 8 →
+    side (joined_world w s window start exponent weight off) s t ≡
     record { session = new_session start window; receiver = new_receiver start window }
-unfolding join_outcome
-joined_side w s window start exponent weight t low =
+joined_side w s window start exponent weight t off low =
     side_own_station w s t _ ∙ ap (λ (y : Tid). record { session = y.session; receiver = y.receiver })
     (eight_alike (new_tid start window) t low)
 
-joined_other : (w : World) (s window start exponent weight i t : ℕ) → s ≢ i →
-    side (join_outcome w s window start exponent weight).world i t ≡ side w i t
-unfolding join_outcome
-joined_other w s window start exponent weight i t other = side_with_station w s i t _ other
+joined_rest : (w : World) (s window start exponent weight : ℕ) (off : Bool) →
+    ((joined_world w s window start exponent weight off).opened ≡ w.opened) ×
+    ((joined_world w s window start exponent weight off).config ≡ w.config)
+unfolding with_station
+joined_rest w s window start exponent weight off = (refl, refl)
 
-joined_live : (w : World) (s window start exponent weight i : ℕ) → s ≢ i →
-    is_live (join_outcome w s window start exponent weight).world i ≡ is_live w i
+-- A Join and an Offload leave the open exchanges unchanged.
+pub join_opened : (w : World) (s window start exponent weight : ℕ) →
+    (join_outcome w s window start exponent weight).world.opened ≡ w.opened
 unfolding join_outcome
-joined_live w s window start exponent weight i other = live_with_station w s i _ other
+join_opened w s window start exponent weight = (joined_rest w s window start exponent weight false).0
 
-pub joined_rest : (w : World) (s window start exponent weight : ℕ) →
-    ((join_outcome w s window start exponent weight).world.opened ≡ w.opened) ×
-    ((join_outcome w s window start exponent weight).world.config ≡ w.config)
-unfolding join_outcome with_station
-joined_rest w s window start exponent weight = (refl, refl)
+pub offload_opened : (w : World) (s exponent weight : ℕ) →
+    (offload_outcome w s exponent weight).world.opened ≡ w.opened
+unfolding offload_outcome
+offload_opened w s exponent weight = (joined_rest w s 256 0 exponent weight true).0
 
 new_stands : (ids : ℕ → ℕ) (start window : ℕ) → 1 ≤ window → window ≤ 256 → start < 4096 →
     ReceiveHalfStandsFor ids (new_receiver start window) (new_agreement start window).board
@@ -112,14 +118,14 @@ own_stands w v s start window t new least most low =
     (new_agreement start window).board (new_agreement start window).buffer) (sym new)
     (new_stands (carried (new_session start window)) start window least most low)
 
-joined_stand : (peers : List PeerValue) (marks : List Mark) (w : World) (s window start exponent weight : ℕ) →
-    IsLawful w → Hears peers marks w →
-    s < w.config.stations → (1 ≤ window) × (window ≤ 256) → start < 4096 → (i t : ℕ) → is_live
-    (join_outcome w s window start exponent weight).world i ≡ true → t < 8 →
-    StandsForTid (join_outcome w s window start exponent weight).world i t
+joined_stand : (peers : List PeerValue) (marks : List Mark) (w : World) (s window start exponent weight : ℕ)
+    (off : Bool) → IsLawful w → Hears peers marks w →
+    s < w.config.stations → 1 ≤ window → window ≤ 256 → start < 4096 → (i t : ℕ) → is_live
+    (joined_world w s window start exponent weight off) i ≡ true → t < 8 →
+    StandsForTid (joined_world w s window start exponent weight off) i t
     (agreement_of (with_peer s (new_receive_half s start window) peers) i t)
-joined_stand peers marks w s window start exponent weight lawful h low size small i t live below =
-    let v : World = (join_outcome w s window start exponent weight).world in
+joined_stand peers marks w s window start exponent weight off lawful h low least most small i t live below =
+    let v : World = joined_world w s window start exponent weight off in
     let p : PeerValue = new_receive_half s start window in
     let own : peer_of (with_peer s p peers) s ≡ p = peer_own peers s p (omega (arith, h.sized.count, low)) in
     on_bool (s == i)
@@ -127,42 +133,71 @@ joined_stand peers marks w s window start exponent weight lawful h low size smal
     (subst (StandsForTid v s t)
     (sym (ap (λ (q : PeerValue). agreement q t) own
     ∙ get_or-replicate 8 t (new_agreement start window) (new_agreement 0 256) below))
-    (own_stands w v s start window t (joined_side w s window start exponent weight t below) size.0 size.1
+    (own_stands w v s start window t (joined_side w s window start exponent weight t off below) least most
     small)))
     (λ no.
     let other : s ≢ i = eq_no s i no in
-    let same : side v i t ≡ side w i t = joined_other w s window start exponent weight i t other in
+    let same : side v i t ≡ side w i t = side_with_station w s i t _ other in
     subst (StandsForTid v i t) (sym (ap (λ (q : PeerValue). agreement q t)
     (peer_other peers s i p (λ e. other (sym e)))))
     (stays_stand w v i t (agreement_of peers i t) lawful (ap (λ (a : Side). a.receiver) same)
     (kept_equal (session w i t) (session v i t) (ap (λ (a : Side). a.session) same))
-    (h.agreements i t (sym (joined_live w s window start exponent weight i other) ∙ live) below)))
+    (h.agreements i t (sym (live_with_station w s i _ other) ∙ live) below)))
+
+-- Station s joins by a call that is not refused.
+new_station_hears : (peers : List PeerValue) (marks : List Mark) (w : World) (note : Note)
+    (s window start exponent weight : ℕ) (off : Bool) → IsReached w → Hears peers marks w →
+    refusal w note ≡ None → (outcome_of w note).world ≡ joined_world w s window start exponent weight off →
+    s < w.config.stations → is_live w s ≡ false → 1 ≤ window → window ≤ 256 → start < 4096 →
+    Hears (with_peer s (new_receive_half s start window) peers) marks (step w note).world
+new_station_hears peers marks w note s window start exponent weight off reached h fine is low dead least most small =
+    let i : IsLawful w = lawful_now w reached in
+    let u : World = joined_world w s window start exponent weight off in
+    let o : Option ℕ = concerned_station w note in
+    let v : World = with_listings_of u o in
+    let rest = joined_rest w s window start exponent weight off in
+    let same : Same u v = same_listed o u in
+    let p : PeerValue = new_receive_half s start window in
+    let listed : with_listings_of (outcome_of w note).world o ≡ v =
+    ap (λ (k : World). with_listings_of k o) is in
+    let now : Hears (with_peer s p peers) marks u = record {
+      sized = subst (λ (c : Config). ArePeers c.stations (with_peer s p peers)) (sym rest.1)
+          (sized_with w.config.stations s peers p low (record { own = refl; base = refl }) refl h.sized);
+      agreements = joined_stand peers marks w s window start exponent weight off i h low least most small;
+      kept = h.kept ∙ ap (map mark_of) (sym rest.0);
+    } in
+    subst (Hears (with_peer s p peers) marks) (sym (step_done w note fine ∙ listed))
+    (hears_stays _ marks marks u v (lawful_new w s window start exponent weight off dead i)
+    (stays_same u v same)
+    (ap (λ (k : World). k.config) (sym listed) ∙ config_done w note fine ∙ sym rest.1)
+    (now.kept ∙ ap (map mark_of) (sym same.opened)) now)
 
 pub joined_hears : (peers : List PeerValue) (marks : List Mark) (w : World)
     (s window start exponent weight : ℕ) → IsReached w → Hears peers marks w →
     refusal w (Asked (Join s window start exponent weight)) ≡ None →
     Hears (with_peer s (new_receive_half s start window) peers) marks
     (step w (Asked (Join s window start exponent weight))).world
-unfolding outcome_of
+unfolding outcome_of join_outcome
 joined_hears peers marks w s window start exponent weight reached h fine =
     let note : Note = Asked (Join s window start exponent weight) in
-    let i : IsLawful w = lawful_now w reached in
-    let u : World = (join_outcome w s window start exponent weight).world in
-    let v : World = with_listings_of u (Some s) in
-    let dead : is_live w s ≡ false = (no_row (refusals w note) fine).1.1.1.1.1.0 in
-    let low : s < w.config.stations = station_in_range w s window start exponent weight fine in
-    let rest = joined_rest w s window start exponent weight in
-    let same : Same u v = same_listed (Some s) u in
-    let p : PeerValue = new_receive_half s start window in
-    let now : Hears (with_peer s p peers) marks u = record {
-      sized = subst (λ (c : Config). ArePeers c.stations (with_peer s p peers)) (sym rest.1)
-          (sized_with w.config.stations s peers p low (record { own = refl; base = refl }) refl h.sized);
-      agreements = joined_stand peers marks w s window start exponent weight i h low
-          (window_in_range w s window start exponent weight fine)
-          (start_in_range w s window start exponent weight fine);
-      kept = h.kept ∙ ap (map mark_of) (sym rest.0);
-    } in
-    subst (Hears (with_peer s (new_receive_half s start window) peers) marks) (sym (step_done w note fine))
-    (hears_stays _ marks marks u v (lawful_joined w s window start exponent weight dead i)
-    (stays_same u v same)
-    (config_done w note fine ∙ sym rest.1) (now.kept ∙ ap (map mark_of) (sym same.opened)) now)
+    let range = window_in_range w s window start exponent weight fine in
+    new_station_hears peers marks w note s window start exponent weight false reached h fine refl
+    (station_in_range w s window start exponent weight fine)
+    (no_row (refusals w note) fine).1.1.1.1.1.0 range.0 range.1
+    (start_in_range w s window start exponent weight fine)
+
+pub offloaded_in_range : (w : World) (s exponent weight : ℕ) →
+    refusal w (Asked (Offload s exponent weight)) ≡ None → s < w.config.stations
+offloaded_in_range w s exponent weight fine =
+    le_no w.config.stations s (no_row (refusals w (Asked (Offload s exponent weight))) fine).0
+
+pub offloaded_hears : (peers : List PeerValue) (marks : List Mark) (w : World) (s exponent weight : ℕ) →
+    IsReached w → Hears peers marks w → refusal w (Asked (Offload s exponent weight)) ≡ None →
+    Hears (with_peer s (new_receive_half s 0 greatest_window) peers) marks
+    (step w (Asked (Offload s exponent weight))).world
+unfolding outcome_of offload_outcome
+offloaded_hears peers marks w s exponent weight reached h fine =
+    let note : Note = Asked (Offload s exponent weight) in
+    new_station_hears peers marks w note s greatest_window 0 exponent weight true reached h fine refl
+    (offloaded_in_range w s exponent weight fine) (no_row (refusals w note) fine).1.1.1.0
+    (omega arith) (omega arith) (omega arith)

@@ -1,28 +1,28 @@
--- Proves which calls leave every receive half unchanged, and the effect of a Done on the marks.
-use Rattle.std.proofs.Common.{◌≡◌, ◌≢◌, refl, ap, ap₂, sym, ◌∙◌, subst, ℕ, ◌==◌, Bool, true, false, not, List, [], ◌∷◌, map, filter, Option, Some, None, is_none, is_some, if◌then◌else◌, length}
+-- Proves which calls leave every receive half unchanged.
+use Rattle.std.proofs.Common.{◌≡◌, ◌≢◌, refl, ap, ap₂, sym, ◌∙◌, subst, ℕ, ◌==◌, Bool, true, false, List, [], ◌∷◌, map, Option, Some, None, is_some, if◌then◌else◌, length}
 use Rattle.wf_frame.specs.declared.settings.Config.{Config}
-use Rattle.wf_frame.specs.declared.notes.Ask.TheVariants.{Join, Leave, Rate, Tick, Pull, Arrive, Answer, Done, Sleep, Wake, Poll, Rx, Reap, Ampdu, Stop, Start, Unsent, GiveUp, Flush}
+use Rattle.wf_frame.specs.declared.notes.Ask.TheVariants.{Join, Leave, Rate, Tick, Pull, Arrive, Answer, Done, Sleep, Wake, Poll, Rx, Reap, Ampdu, Stop, Start, Unsent, GiveUp, Flush, Offload, Weight}
 use Rattle.wf_frame.specs.declared.notes.Note.{Note}
 use Rattle.wf_frame.specs.declared.notes.Note.TheVariants.{Enqueue, Asked}
 use Rattle.wf_frame.specs.declared.notes.Refusal.{Refusal}
-use Rattle.wf_frame.specs.declared.notes.Refusal.TheVariants.{Idle, NoExchange}
+use Rattle.wf_frame.specs.declared.notes.Refusal.TheVariants.{Idle}
 use Rattle.wf_frame.specs.Classes.{all_classes}
 use Rattle.wf_def_lists.specs.Table.{at, upto, with_member}
 use Rattle.wf_def_agreement.specs.Receiver.{Receiver}
-use Rattle.wf_def_agreement.specs.Session.{Session, after_flush}
-use Rattle.wf_def_world.specs.World.{World, Station, Exchange, session, receiver, is_live, exchange, with_exchange, with_station, without_exchange, opening}
+use Rattle.wf_def_agreement.specs.Session.{Session}
+use Rattle.wf_def_world.specs.World.{World, Station, Exchange, session, receiver, is_live, exchange, with_exchange, with_station, opening}
 use Rattle.wf_def_world.specs.CanSend.{with_listings_of}
 use Rattle.wf_def_world.specs.Refusals.{refusal}
 use Rattle.wf_def_world.specs.Exchanges.{after_pick}
 use Rattle.wf_frame.specs.declared.classes.Class.{Class}
-use Rattle.wf_def_world.specs.Step.{Outcome, after_tids_left, without_listings, leave_outcome, rate_outcome, tick_outcome, done_outcome, outcome_where_open, sleep_outcome, wake_outcome, poll_outcome, rx_outcome, reap_outcome, unsent_outcome, give_up_outcome, flush_outcome, outcome_of, concerned_station, after_refusal, judged_outcome, step}
-use Rattle.wf_law_runs.proofs.Windows.Sides.{Side, Same, sides_of, then_same, same_on_station, same_on_share, same as same_world, same_listed, same_after_pick, same_flushed}
-use Rattle.wf_law_runs.proofs.Windows.Agreed.{IsLawful, lawful, same_left_tids, same_off_lists, opened_on_session}
-use Rattle.wf_law_runs.proofs.Frames.Delivered.{same_enqueued, opened_ended}
-use Rattle.wf_law_runs.proofs.Releases.Kept.{Kept, KeptSession, kept_equal, then_kept, kept_same, keep_ended, keep_unsent, keep_given_up, keep_flushed}
+use Rattle.wf_def_world.specs.Step.{Outcome, after_tids_left, without_listings, leave_outcome, rate_outcome, tick_outcome, outcome_where_open, sleep_outcome, wake_outcome, poll_outcome, rx_outcome, reap_outcome, unsent_outcome, give_up_outcome, outcome_of, concerned_station, after_refusal, judged_outcome, step}
+use Rattle.wf_law_runs.proofs.Windows.Sides.{Side, Same, sides_of, then_same, same_on_station, same_on_share, same as same_world, same_listed, same_after_pick, same_weighed}
+use Rattle.wf_law_runs.proofs.Windows.Agreed.{IsLawful, lawful, same_left_tids, same_off_lists}
+use Rattle.wf_law_runs.proofs.Frames.Delivered.{same_enqueued}
+use Rattle.wf_law_runs.proofs.Releases.Kept.{Kept, KeptSession, kept_equal, then_kept, kept_same, keep_unsent, keep_given_up}
 use Rattle.wf_law_runs.proofs.Releases.Released.{side_with_station, live_with_station, live_own_station}
 use Rattle.wf_law_runs.proofs.Deficits.Configs.{config_step}
-use Rattle.wf_law_driver.proofs.Opened.{with_replaced, step_done, first_refuses, found_number}
+use Rattle.wf_law_driver.proofs.Opened.{with_replaced, step_done, found_number}
 use Rattle.wf_recv_peer.specs.Agreements.{PeerValue, AgreementValue}
 use Rattle.wf_recv_peer_refines.specs.Half.{ReceiveHalfStandsFor}
 use Rattle.wf_recv_peer_refines.proofs.Halves.{other_ids}
@@ -30,6 +30,7 @@ use Rattle.wf_recv_marks.specs.declared.marks.Mark.{Mark}
 use Rattle.wf_send_half_model.specs.Standing.{IsReached}
 use Rattle.wf_recv_marks.specs.Marks.{with_changed}
 use Rattle.wf_cell_model.proofs.Marks.{rises_now, changed_marks}
+use Rattle.wf_cell_model.proofs.Receivers.{SameReceivers, receivers_same, receivers_exchange}
 use Rattle.wf_cell_model.specs.Arriving.{IsUntold}
 use Rattle.wf_cell_model.specs.Hearing.{agreement_of, HasAddresses, ArePeers, AreNew, carried, StandsForTid, mark_of, Hears}
 
@@ -45,15 +46,15 @@ pub record Stays (w v : World) : Type 0 where
   pub receivers : (s t : ℕ) → is_live v s ≡ true → receiver v s t ≡ receiver w s t
   pub sessions : (s t : ℕ) → is_live v s ≡ true → KeptSession (session w s t) (session v s t)
 
-pub stays_kept : (w v : World) → Kept w v → Stays w v
-stays_kept w v k = record {
+pub stays_kept : (w v : World) → Kept w v → SameReceivers w v → Stays w v
+stays_kept w v k r = record {
   live = λ s l. sym (k.live s) ∙ l;
-  receivers = λ s t _. k.receivers s t;
+  receivers = λ s t _. r.each s t;
   sessions = λ s t _. k.sessions s t;
 }
 
 pub stays_same : (w v : World) → Same w v → Stays w v
-stays_same w v h = stays_kept w v (kept_same w v h)
+stays_same w v h = stays_kept w v (kept_same w v h) (receivers_same w v h)
 
 pub then_stays : (u v w : World) → Stays u v → Stays v w → Stays u w
 then_stays u v w h k = record {
@@ -160,12 +161,6 @@ unfolding reap_outcome
 left_reaped [] w = left_here w w refl refl
 left_reaped (id ∷ ids) w = left_here w _ refl refl
 
-left_flushed : (w : World) (s t : ℕ) → IsLeft w (flush_outcome w s t).world
-left_flushed w s t = record {
-  stays = stays_kept w _ (keep_flushed w s t);
-  opened = (same_flushed w s t).opened ∙ opened_on_session w s t (after_flush w.config.attempts);
-}
-
 -- a call that changes no open exchange either: any other than a mark
 abbrev pub IsQuiet : Note → Type 0
 IsQuiet (Asked (Unsent e i)) = ⊥
@@ -193,7 +188,9 @@ left_quiet (Asked (Stop s)) w k = left_same w _ (same_on_station w s _ (λ x t. 
 left_quiet (Asked (Start s)) w k = left_same w _ (same_on_station w s _ (λ x t. refl))
 left_quiet (Asked (Unsent e n)) w k = absurd k
 left_quiet (Asked (GiveUp e n)) w k = absurd k
-left_quiet (Asked (Flush s t)) w k = left_flushed w s t
+left_quiet (Asked (Flush s t)) w k = absurd k
+left_quiet (Asked (Offload s exponent weight)) w k = absurd k
+left_quiet (Asked (Weight s weight)) w k = left_same w _ (same_weighed w s weight)
 
 -- An idle pull leaves what receivers have, whether it changes the lists or not.
 left_idle : (b : Bool) (w : World) (c : Class) → IsLeft w (if b then w else after_pick w c)
@@ -247,11 +244,21 @@ same_marks w reached e x z found number same =
     (number ∙ found_number w e x found) (sym same)
     ∙ ap (map mark_of) (sym (opened_exchange w z))
 
+stays_unsent : (w : World) (x : Exchange) (i : ℕ) → Stays w (unsent_outcome w x i).world
+unfolding unsent_outcome
+stays_unsent w x i = stays_kept w _ (keep_unsent w x i)
+    (receivers_exchange w (record x { unsent = with_member i x.unsent }))
+
+stays_given_up : (w : World) (x : Exchange) (i : ℕ) → Stays w (give_up_outcome w x i).world
+unfolding give_up_outcome
+stays_given_up w x i = stays_kept w _ (keep_given_up w x i)
+    (receivers_exchange w (record x { given_up = with_member i x.given_up }))
+
 module _ (peers : List PeerValue) (marks : List Mark) (w : World) (note : Note) (reached : IsReached w)
     (h : Hears peers marks w) (fine : refusal w note ≡ None) where
   -- f is the outcome of a mark of the exchange with number e
   marked_hears : (e : ℕ) (f : Exchange → Outcome) → (outcome_of w note).world
-      ≡ (outcome_where_open w (exchange w e) f).world → ((x : Exchange) → Kept w (f x).world) →
+      ≡ (outcome_where_open w (exchange w e) f).world → ((x : Exchange) → Stays w (f x).world) →
       ((x : Exchange) → exchange w e ≡ Some x → map mark_of w.opened ≡ map mark_of (f x).world.opened) →
       Hears peers marks (step w note).world
   unfolding outcome_where_open
@@ -261,13 +268,13 @@ module _ (peers : List PeerValue) (marks : List Mark) (w : World) (note : Note) 
       go None none =
           let here : (outcome_of w note).world ≡ w = is ∙ ap (λ o. (outcome_where_open w o f).world) none in
           hears_outcome peers marks marks w note (lawful_now w reached) fine
-          (subst (Stays w) (sym here) (stays_kept w w (kept_same w w (same_world w))))
+          (subst (Stays w) (sym here) (stays_same w w (same_world w)))
           (h.kept ∙ ap (λ (u : World). map mark_of u.opened) (sym here)) h
       go (Some x) found =
           let here : (outcome_of w note).world ≡ (f x).world =
           is ∙ ap (λ o. (outcome_where_open w o f).world) found in
           hears_outcome peers marks marks w note (lawful_now w reached) fine
-          (subst (Stays w) (sym here) (stays_kept w (f x).world (keep x)))
+          (subst (Stays w) (sym here) (keep x))
           (h.kept ∙ same x found ∙ ap (λ (u : World). map mark_of u.opened) (sym here)) h
 
   left_hears : IsLeft w (outcome_of w note).world → Hears peers marks (step w note).world
@@ -279,11 +286,11 @@ done_hears : (peers : List PeerValue) (marks : List Mark) (w : World) (note : No
 unfolding outcome_of unsent_outcome give_up_outcome
 done_hears peers marks w (Asked (Unsent e i)) reached h k fine =
     marked_hears peers marks w (Asked (Unsent e i)) reached h fine e (λ x. unsent_outcome w x i) refl
-    (λ x. keep_unsent w x i)
+    (λ x. stays_unsent w x i)
     (λ x found. same_marks w reached e x (record x { unsent = with_member i x.unsent }) found refl refl)
 done_hears peers marks w (Asked (GiveUp e i)) reached h k fine =
     marked_hears peers marks w (Asked (GiveUp e i)) reached h fine e (λ x. give_up_outcome w x i) refl
-    (λ x. keep_given_up w x i)
+    (λ x. stays_given_up w x i)
     (λ x found. same_marks w reached e x (record x { given_up = with_member i x.given_up }) found refl refl)
 done_hears peers marks w note reached h k fine =
     left_hears peers marks w note reached h fine (left_quiet note w k)
@@ -296,49 +303,6 @@ untold_hears peers marks w note reached h k = go (refusal w note) refl
     go : (o : Option Refusal) → refusal w note ≡ o → Hears peers marks (step w note).world
     go (Some r) e = refused_hears peers marks w note r reached h e
     go None e = done_hears peers marks w note reached h k e
-
--- ---- the end of an exchange
-
-kept_if : (b : Bool) (x : Exchange) (ms : List Mark) (ys : List Exchange) → ms ≡ map mark_of ys →
-    (if b then mark_of x ∷ ms else ms) ≡ map mark_of (if b then x ∷ ys else ys)
-kept_if true x ms ys e = ap (λ (rest : List Mark). mark_of x ∷ rest) e
-kept_if false x ms ys e = e
-
-marks_without : (xs : List Exchange) (e : ℕ) →
-    filter (λ m. not (m.number == e)) (map mark_of xs) ≡ map mark_of (filter (λ y. not (y.number == e)) xs)
-marks_without [] e = refl
-marks_without (x ∷ xs) e = kept_if (not (x.number == e)) x _ (filter (λ y. not (y.number == e)) xs)
-    (marks_without xs e)
-
-opened_without : (w : World) (e : ℕ) → (without_exchange w e).opened
-    ≡ filter (λ y. not (y.number == e)) w.opened
-unfolding without_exchange
-opened_without w e = refl
-
-pub ended_hears : (peers : List PeerValue) (marks : List Mark) (w : World) (e : ℕ) (heard : Bool)
-    (air : Option ℕ) → IsReached w → Hears peers marks w →
-    refusal w (Asked (Done e heard air)) ≡ None → Hears peers (filter (λ m. not (m.number == e)) marks)
-    (step w (Asked (Done e heard air))).world
-unfolding outcome_of outcome_where_open
-ended_hears peers marks w e heard air reached h fine = go (exchange w e) refl
-  where
-    go : (o : Option Exchange) → exchange w e ≡ o →
-        Hears peers (filter (λ m. not (m.number == e)) marks) (step w (Asked (Done e heard air))).world
-    go None none = absurd (cc (sym fine ∙ first_refuses (is_none (exchange w e), NoExchange) _
-        (ap is_none none)))
-    go (Some x) found =
-        let u : World = (done_outcome w x heard air).world in
-        let same : (outcome_of w (Asked (Done e heard air))).world ≡ u =
-        ap (λ (o : Option Exchange). (outcome_where_open w o (λ y. done_outcome w y heard air)).world) found
-        in
-        let opened : u.opened ≡ filter (λ y. not (y.number == e)) w.opened =
-        opened_ended air w x heard ∙ (ap (λ (n : ℕ). (without_exchange w n).opened) (found_number w e x found)
-        ∙ opened_without w e) in
-        hears_outcome peers marks _ w (Asked (Done e heard air)) (lawful_now w reached) fine
-        (subst (Stays w) (sym same) (stays_kept w u (keep_ended air w x heard)))
-        (ap (filter (λ m. not (m.number == e))) h.kept
-        ∙ (marks_without w.opened e ∙ ap (map mark_of)
-        (sym (ap (λ (v : World). v.opened) same ∙ opened)))) h
 
 -- ---- new receive halves
 

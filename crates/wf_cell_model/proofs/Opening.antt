@@ -35,6 +35,7 @@ use Rattle.wf_send_half_model.specs.Standing.{IsReached}
 use Rattle.wf_send_half_model.proofs.Reached.{by_law}
 use Rattle.wf_cell_model.specs.Hearing.{mark_of, Hears}
 use Rattle.wf_cell_model.proofs.Keeping.{lawful_now, stays_kept, hears_outcome}
+use Rattle.wf_cell_model.proofs.Receivers.{receivers_pulled}
 
 -- ---- the exchange that opens
 
@@ -104,7 +105,8 @@ opened_hears peers marks w c l reached h fine =
     let i : IsLawful w = lawful_now w reached in
     let some : is_none (picked_station w c).winner ≡ false =
     (no_row (refusals w (Asked (Pull c l))) fine).1.1.0 in
-    hears_outcome peers marks _ w (Asked (Pull c l)) i fine (stays_kept w _ (keep_pulled w c l))
+    hears_outcome peers marks _ w (Asked (Pull c l)) i fine
+    (stays_kept w _ (keep_pulled w c l) (receivers_pulled w c l i))
     (ap (λ (ms : List Mark). ms ++ new_mark w.exchanges ∷ []) h.kept ∙ sym (opened_marks w c l i some)) h
 
 sent_number : (w : World) (c : Class) (l : Limits) (e s t charge : ℕ) (part : Part) (more : Bool) →

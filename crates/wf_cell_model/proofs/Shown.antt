@@ -2,7 +2,7 @@
 -- window, so a BlockAck with 64 or 256 bits has them all.
 use Rattle.std.proofs.Common.{◌≡◌, refl, ap, sym, ◌∙◌, subst, arith, ℕ, ◌+◌, ◌-◌, ◌*◌, ◌%◌, ◌<◌, ◌≤◌, ◌==◌, nat_le, nat_lt, Bool, true, false, not, ◌&&◌, ◌||◌, inl, inr, List, [], ◌∷◌, ◌++◌, map, filter, Option, Some, None, IfSome, option_map, if◌then◌else◌}
 use Rattle.wf_frame.specs.declared.classes.Class.{Class}
-use Rattle.wf_frame.specs.declared.notes.Ask.TheVariants.{Join, Leave, Rate, Tick, Pull, Arrive, Answer, Done, Sleep, Wake, Poll, Rx, Reap, Ampdu, Stop, Start, Unsent, GiveUp, Flush}
+use Rattle.wf_frame.specs.declared.notes.Ask.TheVariants.{Join, Leave, Rate, Tick, Pull, Arrive, Answer, Done, Sleep, Wake, Poll, Rx, Reap, Ampdu, Stop, Start, Unsent, GiveUp, Flush, Offload, Weight}
 use Rattle.wf_frame.specs.declared.notes.Limits.{Limits}
 use Rattle.wf_frame.specs.declared.notes.Note.{Note}
 use Rattle.wf_frame.specs.declared.notes.Note.TheVariants.{Enqueue, Asked}
@@ -24,6 +24,7 @@ use Rattle.wf_law_runs.proofs.Windows.Sides.{Same, same_listed, same_picked, sam
 use Rattle.wf_law_runs.proofs.Windows.Opened.{Each, each_both, each_append, each_filter, each_find}
 use Rattle.wf_law_runs.proofs.Windows.Agreed.{IsLawful, IsOpenIn, each_map_if, lawful_same, lawful_step, lawful_at_first}
 use Rattle.wf_law_runs.proofs.Frames.Delivered.{IsPrepared, opened_ended}
+use Rattle.wf_law_runs.proofs.Releases.Kept.{opened_flushed}
 use Rattle.wf_law_driver.proofs.Opened.{step_done, some_at}
 use Rattle.wf_law_driver.proofs.Indices.{each_mpdu}
 use Rattle.wf_octets.specs.Distance.{distance}
@@ -37,7 +38,7 @@ use Rattle.wf_recv_marks.specs.declared.marks.Mark.{Mark}
 use Rattle.wf_recv_peer.specs.Agreements.{PeerValue}
 use Rattle.wf_cell_model.proofs.Keeping.{IsLeft, left_quiet, left_refused, refused_world}
 use Rattle.wf_cell_model.proofs.Opening.{picked_live, ready_sent}
-use Rattle.wf_cell_model.proofs.Joining.{joined_rest}
+use Rattle.wf_cell_model.proofs.Joining.{join_opened, offload_opened}
 use Rattle.wf_cell_model.proofs.Arriving.{arrived_opened}
 use Rattle.wf_cell_model.proofs.Sent.{open_now, right_now, ranges_now, tid_now}
 
@@ -192,7 +193,9 @@ done_below : (note : Note) (w : World) → IsLawful w → AllBelow w w.opened �
     AllBelow w (outcome_of w note).world.opened
 unfolding outcome_of unsent_outcome give_up_outcome KeepsBelow
 done_below (Asked (Join s window start exponent weight)) w i h =
-    subst (AllBelow w) (sym (joined_rest w s window start exponent weight).0) h
+    subst (AllBelow w) (sym (join_opened w s window start exponent weight)) h
+done_below (Asked (Offload s exponent weight)) w i h =
+    subst (AllBelow w) (sym (offload_opened w s exponent weight)) h
 done_below (Asked (Pull c l)) w i h = pull_below w c l i h
 done_below (Asked (Arrive e n)) w i h =
     open_below (IsRead w) (exchange w e) w _ (read w i h e) h
@@ -219,7 +222,9 @@ done_below (Asked (Unsent e n)) w i h = open_below (IsRead w) (exchange w e) w _
     (λ x f. marked_below w (record x { unsent = with_member n x.unsent }) f.below h)
 done_below (Asked (GiveUp e n)) w i h = open_below (IsRead w) (exchange w e) w _ (read w i h e) h
     (λ x f. marked_below w (record x { given_up = with_member n x.given_up }) f.below h)
-done_below (Asked (Flush s t)) w i h = left_below w _ (left_quiet (Asked (Flush s t)) w tt) h
+done_below (Asked (Flush s t)) w i h = subst (AllBelow w) (sym (opened_flushed w s t)) h
+done_below (Asked (Weight s weight)) w i h =
+    left_below w _ (left_quiet (Asked (Weight s weight)) w tt) h
 
 judged_below : (w : World) (note : Note) (o : Option Refusal) → refusal w note ≡ o → IsLawful w →
     AllBelow w w.opened → AllBelow w (step w note).world.opened
@@ -269,14 +274,14 @@ below_now w r = subst (λ (u : World). AllBelow u u.opened) (sym r.after)
 
 -- ---- the numbers that it shows
 
-sized_now : (w : World) → IsReached w → (x : Exchange) → x.tid < 8 → is_live w x.station ≡ true →
+pub sized_now : (w : World) → IsReached w → (x : Exchange) → x.tid < 8 → is_live w x.station ≡ true →
     (1 ≤ (session w x.station x.tid).size) × ((session w x.station x.tid).size ≤ 256)
 sized_now w reached x low live = ((ranges_now w reached).stations x.station live).window x.tid low
 
 same_distance : (n b : ℕ) → b ≤ n → n < b + 512 → distance n (b % 4096) ≡ n - b
 same_distance n b low high = omega arith
 
-spans : (size d : ℕ) → size ≤ 256 → d < size → d < span_of (nat_lt 64 size)
+pub spans : (size d : ℕ) → size ≤ 256 → d < size → d < span_of (nat_lt 64 size)
 spans size d most low = on_bool (nat_lt 64 size)
     (λ yes. subst (λ (k : Bool). d < span_of k) (sym yes) (omega (arith, most, low)))
     (λ no. subst (λ (k : Bool). d < span_of k) (sym no) (omega (arith, narrow no, low)))

@@ -1,8 +1,8 @@
 -- Proves which marks the open exchanges have, which refusals follow from a mark, and which refusal
 -- a reply has.
-use Rattle.std.proofs.Common.{◌≡◌, refl, ap, sym, ◌∙◌, ℕ, nat_le, ◌==◌, ◌&&◌, Bool, true, false, List, [], ◌∷◌, map, find, Option, Some, None, IfSome, is_some, is_none, option_map, if◌then◌else◌, length}
+use Rattle.std.proofs.Common.{◌≡◌, refl, ap, sym, ◌∙◌, ℕ, nat_le, ◌==◌, not, ◌&&◌, ◌||◌, Bool, true, false, List, [], ◌∷◌, map, find, Option, Some, None, IfSome, is_some, is_none, option_map, if◌then◌else◌, length}
 use Rattle.wf_frame.specs.declared.classes.Class.{Class}
-use Rattle.wf_frame.specs.declared.notes.Ask.TheVariants.{Join, Leave, Rate, Tick, Pull, Arrive, Answer, Done, Sleep, Wake, Poll, Rx, Reap, Ampdu, Stop, Start, Unsent, GiveUp, Flush}
+use Rattle.wf_frame.specs.declared.notes.Ask.TheVariants.{Join, Leave, Rate, Tick, Pull, Arrive, Answer, Done, Sleep, Wake, Poll, Rx, Reap, Ampdu, Stop, Start, Unsent, GiveUp, Flush, Offload, Weight}
 use Rattle.wf_frame.specs.declared.notes.Limits.{Limits}
 use Rattle.wf_frame.specs.declared.notes.Note.{Note}
 use Rattle.wf_frame.specs.declared.notes.Note.TheVariants.{Enqueue, Asked}
@@ -15,7 +15,8 @@ use Rattle.wf_def_world.specs.World.{World, Exchange, exchange}
 use Rattle.wf_def_world.specs.Exchanges.{transmissions, is_marked, picked_station}
 use Rattle.wf_def_world.specs.Refusals.{first_refusal, exchange_has, refusal}
 use Rattle.wf_frame.specs.Settings.{is_bad_air}
-use Rattle.wf_def_world.specs.Step.{Outcome, join_outcome, leave_outcome, rate_outcome, tick_outcome, enqueue_outcome, send_outcome, pull_outcome_for, pull_outcome, arrive_outcome, answer_outcome, done_outcome, outcome_where_open, sleep_outcome, wake_outcome, poll_outcome, rx_outcome, reap_outcome, unsent_outcome, give_up_outcome, flush_outcome, outcome_of, judged_outcome, step}
+use Rattle.wf_def_world.specs.Step.{Outcome, join_outcome, leave_outcome, rate_outcome, tick_outcome, enqueue_outcome, send_outcome, pull_outcome_for, pull_outcome, arrive_outcome, answer_outcome, done_outcome, outcome_where_open, sleep_outcome, wake_outcome, poll_outcome, rx_outcome, reap_outcome, unsent_outcome, give_up_outcome, flush_outcome, offload_outcome, weight_outcome, outcome_of, judged_outcome, step}
+use Rattle.wf_law_runs.specs.Delivery.{is_batch}
 use Rattle.wf_law_runs.proofs.Common.Picked.{picked_world}
 use Rattle.wf_send_half.specs.Marks.{HasNotArrived as IsUntoldOf}
 use Rattle.std.specs.Option.{option_or}
@@ -133,31 +134,32 @@ untold_told peers marks w e i count h none = untold_by (exchange w e) i count
 
 answer_rows : (o : Option Exchange) →
     first_refusal ((is_none o, NoExchange) ∷ (exchange_has o (λ x. is_some x.answer), Answered)
-    ∷ (exchange_has o (λ x. length x.arrived == 0), Nothing) ∷ [])
-    ≡ answer_refusal (option_map mark_of o)
+    ∷ (exchange_has o (λ x. x.batch || (length x.arrived == 0)), Nothing) ∷ [])
+    ≡ answer_refusal (option_map mark_of o) (is_batch o)
 unfolding first_refusal
 answer_rows None = refl
 answer_rows (Some x) = ap (λ (b : Bool). if b then Some Answered
-    else (if length x.arrived == 0 then Some Nothing else None)) (sym (some_kept x.answer))
+    else (if x.batch || (length x.arrived == 0) then Some Nothing else None)) (sym (some_kept x.answer))
 
 pub answer_inferred : (peers : List PeerValue) (marks : List Mark) (w : World) (e : ℕ) → Hears peers marks w →
-    refusal w (Asked (Answer e)) ≡ answer_refusal (mark_in marks e)
+    refusal w (Asked (Answer e)) ≡ answer_refusal (mark_in marks e) (is_batch (exchange w e))
 answer_inferred peers marks w e h = answer_rows (exchange w e)
-    ∙ ap answer_refusal (sym (mark_told peers marks w e h))
+    ∙ ap (λ (m : Option Mark). answer_refusal m (is_batch (exchange w e))) (sym (mark_told peers marks w e h))
 
 done_rows : (o : Option Exchange) (config : Config) (heard : Bool) (air : Option ℕ) →
-    first_refusal ((is_none o, NoExchange) ∷ (heard && exchange_has o (λ x. is_none x.answer), NoAnswer)
-    ∷ (is_bad_air config air, BadAir) ∷ []) ≡ done_refusal config (option_map mark_of o) heard air
+    first_refusal ((is_none o, NoExchange) ∷ (heard && exchange_has o (λ x. not x.batch && is_none x.answer), NoAnswer)
+    ∷ (is_bad_air config air, BadAir) ∷ []) ≡ done_refusal config (option_map mark_of o) (is_batch o) heard air
 unfolding first_refusal
 done_rows None config heard air = refl
-done_rows (Some x) config heard air = ap (λ (b : Bool). if heard && b then Some NoAnswer
+done_rows (Some x) config heard air = ap (λ (b : Bool). if heard && (not x.batch && b) then Some NoAnswer
     else (if is_bad_air config air then Some BadAir else None)) (sym (none_kept x.answer))
 
 pub done_inferred : (peers : List PeerValue) (marks : List Mark) (w : World) (e : ℕ) (heard : Bool)
     (air : Option ℕ) → Hears peers marks w →
-    refusal w (Asked (Done e heard air)) ≡ done_refusal w.config (mark_in marks e) heard air
+    refusal w (Asked (Done e heard air))
+    ≡ done_refusal w.config (mark_in marks e) (is_batch (exchange w e)) heard air
 done_inferred peers marks w e heard air h = done_rows (exchange w e) w.config heard air
-    ∙ ap (λ (m : Option Mark). done_refusal w.config m heard air) (sym (mark_told peers marks w e h))
+    ∙ ap (λ (m : Option Mark). done_refusal w.config m (is_batch (exchange w e)) heard air) (sym (mark_told peers marks w e h))
 
 -- ---- replies
 
@@ -186,7 +188,7 @@ never_reaped (id ∷ ids) w r h = cc h
 never_refused : (note : Note) (w : World) (r : Refusal) → (outcome_of w note).reply ≡ Refused r → ⊥
 unfolding outcome_of enqueue_outcome join_outcome leave_outcome rate_outcome tick_outcome arrive_outcome
     answer_outcome done_outcome sleep_outcome wake_outcome poll_outcome rx_outcome unsent_outcome
-    give_up_outcome flush_outcome
+    give_up_outcome flush_outcome offload_outcome weight_outcome
 never_refused (Enqueue s t flow len) w r h = cc h
 never_refused (Asked (Join s window start exponent weight)) w r h = cc h
 never_refused (Asked (Leave s)) w r h = cc h
@@ -207,6 +209,8 @@ never_refused (Asked (Start s)) w r h = cc h
 never_refused (Asked (Unsent e n)) w r h = never_open (exchange w e) w _ r (λ x k. cc k) h
 never_refused (Asked (GiveUp e n)) w r h = never_open (exchange w e) w _ r (λ x k. cc k) h
 never_refused (Asked (Flush s t)) w r h = cc h
+never_refused (Asked (Offload s exponent weight)) w r h = cc h
+never_refused (Asked (Weight s weight)) w r h = cc h
 
 judged_refused : (o : Option Refusal) (w : World) (note : Note) (r : Refusal) →
     (judged_outcome w note o).reply ≡ Refused r → o ≡ Some r

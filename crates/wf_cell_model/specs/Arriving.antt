@@ -2,7 +2,7 @@
 use Rattle.std.specs.Prelude.{◌≡◌, ℕ, ◌%◌, slice_set}
 use Rattle.wf_frame.specs.declared.notes.Note.{Note}
 use Rattle.wf_frame.specs.declared.notes.Note.TheVariants.{Asked}
-use Rattle.wf_frame.specs.declared.notes.Ask.TheVariants.{Join, Pull, Arrive, Answer, Done}
+use Rattle.wf_frame.specs.declared.notes.Ask.TheVariants.{Join, Offload, Flush, Pull, Arrive, Answer, Done}
 use Rattle.wf_def_lists.specs.Table.{at}
 use Rattle.wf_def_agreement.specs.Receiver.{Receiver}
 use Rattle.wf_def_world.specs.World.{Content, Frames, Request}
@@ -39,6 +39,10 @@ peer_after t i id content p = record p {
       slice_set p.agreements t (agreement_after_transmission i id content (agreement p t));
 }
 
+-- the receive half after its window of TID t moved to this start, modulo 4096, as by a request
+abbrev pub peer_requested : ℕ → ℕ → PeerValue → PeerValue
+peer_requested t start p = peer_after t 0 0 (Request start) p
+
 -- the frame of transmission i has this id; a request has none
 abbrev pub CarriesId : ℕ → ℕ → Content → Type 0
 CarriesId id i (Frames mpdus) = id ≡ (at no_mpdu mpdus i).id
@@ -49,9 +53,11 @@ abbrev pub MayReach : Receiver → ℕ → Content → Type 0
 MayReach r i (Frames mpdus) = IsInReach r (at no_mpdu mpdus i).number
 MayReach r i (Request start) = IsRequestInReach r start
 
--- a call that changes neither a receive half nor a mark: any call except these five
+-- a call that changes neither a receive half nor a mark: any call except these seven
 abbrev pub IsUntold : Note → Type 0
 IsUntold (Asked (Join s window start exponent weight)) = ⊥
+IsUntold (Asked (Offload s exponent weight)) = ⊥
+IsUntold (Asked (Flush s t)) = ⊥
 IsUntold (Asked (Pull c limits)) = ⊥
 IsUntold (Asked (Arrive e i)) = ⊥
 IsUntold (Asked (Answer e)) = ⊥

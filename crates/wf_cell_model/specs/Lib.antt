@@ -3,3 +3,4 @@ pub mod Hearing
 pub mod Arriving
 pub mod Refusing
 pub mod Answers
+pub mod Catching

@@ -1,6 +1,6 @@
 -- Defines why an Arrive, an Unsent, an Answer or a Done is refused, by the mark of the exchange, if it is
 -- open.
-use Rattle.std.specs.Prelude.{ℕ, nat_le, ◌==◌, ◌&&◌, Bool, List, find, length, Option, Some, None, is_some, is_none, if◌then◌else◌}
+use Rattle.std.specs.Prelude.{ℕ, nat_le, ◌==◌, not, ◌&&◌, ◌||◌, Bool, List, find, length, Option, Some, None, is_some, is_none, if◌then◌else◌}
 use Rattle.std.specs.Option.{option_or}
 use Rattle.wf_frame.specs.declared.notes.Refusal.{Refusal}
 use Rattle.wf_frame.specs.declared.notes.Refusal.TheVariants.{NoExchange, NoAnswer, BadAir, BadIndex, Answered, Arrived, Marked, Nothing}
@@ -25,15 +25,15 @@ told_refusal (Some m) count i =
 abbrev pub arrive_refusal : Option Mark → ℕ → ℕ → Bool → Option Refusal
 arrive_refusal m count i unsent = option_or (told_refusal m count i) (if unsent then Some Marked else None)
 
--- why an Answer is refused
-abbrev pub answer_refusal : Option Mark → Option Refusal
-answer_refusal None = Some NoExchange
-answer_refusal (Some m) = if is_some m.answer then Some Answered
-    else (if length m.arrived == 0 then Some Nothing else None)
+-- why an Answer is refused; a batch has no answer
+abbrev pub answer_refusal : Option Mark → Bool → Option Refusal
+answer_refusal None batch = Some NoExchange
+answer_refusal (Some m) batch = if is_some m.answer then Some Answered
+    else (if batch || (length m.arrived == 0) then Some Nothing else None)
 
--- why a Done is refused, heard or not, with this airtime or none
-abbrev pub done_refusal : Config → Option Mark → Bool → Option ℕ → Option Refusal
-done_refusal config None heard air = Some NoExchange
-done_refusal config (Some m) heard air =
-    if heard && is_none m.answer then Some NoAnswer
+-- why a Done is refused, heard or not, with this airtime or none; that of a batch needs no answer
+abbrev pub done_refusal : Config → Option Mark → Bool → Bool → Option ℕ → Option Refusal
+done_refusal config None batch heard air = Some NoExchange
+done_refusal config (Some m) batch heard air =
+    if heard && (not batch && is_none m.answer) then Some NoAnswer
     else (if is_bad_air config air then Some BadAir else None)

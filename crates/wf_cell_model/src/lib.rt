@@ -9,9 +9,9 @@
 //! without a mark represent the opening world.
 #![tactic(auto)]
 
-ghost use Rattle.std.specs.Prelude.{◌≡◌, ◌<◌, ◌≤◌, ℕ, ◌==◌, not, ◌++◌, Bool, List, [], ◌∷◌, Some, None, IfSome, option_map, filter, length, nat_lt, All, Option};
+ghost use Rattle.std.specs.Prelude.{◌≡◌, ◌<◌, ◌≤◌, if◌then◌else◌, ℕ, ◌==◌, not, ◌++◌, Bool, List, [], ◌∷◌, Some, None, IfSome, option_map, filter, length, nat_lt, All, Option};
 ghost use Rattle.wf_frame.specs.declared.classes.Class.{Class};
-ghost use Rattle.wf_frame.specs.declared.notes.Ask.TheVariants.{Join, Pull, Arrive, Answer, Done, Unsent};
+ghost use Rattle.wf_frame.specs.declared.notes.Ask.TheVariants.{Join, Offload, Flush, Pull, Arrive, Answer, Done, Unsent};
 ghost use Rattle.wf_frame.specs.declared.notes.Limits.{Limits};
 ghost use Rattle.wf_frame.specs.declared.notes.Note.{Note};
 ghost use Rattle.wf_frame.specs.declared.notes.Note.TheVariants.{Asked};
@@ -20,11 +20,13 @@ ghost use Rattle.wf_frame.specs.declared.notes.Refusal.{Refusal};
 ghost use Rattle.wf_frame.specs.declared.notes.ReplyNote.TheVariants.{Ba, Refused, Released, Send};
 ghost use Rattle.wf_frame.specs.declared.settings.Config.{Config};
 ghost use Rattle.wf_def_agreement.specs.Receiver.{Score};
+ghost use Rattle.wf_def_lists.specs.Bounds.{greatest_window};
 ghost use Rattle.wf_def_lists.specs.Table.{bits_word, has};
 ghost use Rattle.wf_def_world.specs.World.{World, Exchange, exchange, is_wide, opening, receiver};
 ghost use Rattle.wf_def_world.specs.Exchanges.{transmissions};
 ghost use Rattle.wf_def_world.specs.Refusals.{exchange_has, refusal};
 ghost use Rattle.wf_def_world.specs.Step.{step};
+ghost use Rattle.wf_law_runs.specs.Delivery.{is_batch};
 ghost use Rattle.wf_send_parts.specs.declared.exchanges.opened.TheConstants.{MOST_OPEN};
 ghost use Rattle.wf_recv_marks.specs.Marks.{new_mark, with_arrival, with_answer, with_changed};
 ghost use Rattle.wf_recv_marks.specs.declared.marks.Mark.{Mark};
@@ -34,6 +36,7 @@ ghost use Rattle.wf_send_half.specs.Bits.{AreShown};
 ghost use Rattle.wf_send_half.specs.Marks.{HasNotArrived as IsUntoldOf};
 ghost use Rattle.wf_cell_model.specs.Answers.{KeepsShown};
 ghost use Rattle.wf_cell_model.specs.Arriving.{peer_after, buffer_outcome_of_transmission, CarriesId, MayReach, IsUntold};
+ghost use Rattle.wf_cell_model.specs.Catching.{peers_caught_up};
 ghost use Rattle.wf_cell_model.specs.Hearing.{peer_of, agreement_of, with_peer, new_receive_half, AreNew, kept_of, mark_of, Hears};
 ghost use Rattle.wf_cell_model.specs.Refusing.{mark_in, told_refusal, arrive_refusal, answer_refusal, done_refusal};
 
@@ -42,8 +45,8 @@ pub fn a_new_cell()
     ensures { (c : Config) (peers : List PeerValue) → AreNew c.stations peers → Hears peers [] (opening c) }
 {}
 
-/// Any call except a Join, a Pull, an Arrive, an Answer or a Done leaves the receive halves and the marks
-/// unchanged; so does a refused call.
+/// Any call except a Join, an Offload, a Flush, a Pull, an Arrive, an Answer or a Done leaves the receive
+/// halves and the marks unchanged; so does a refused call.
 pub fn a_call_that_no_receiver_hears()
     ensures untold { (peers : List PeerValue) (marks : List Mark) (w : World) (note : Note) → IsReached w →
         Hears peers marks w →
@@ -54,13 +57,20 @@ pub fn a_call_that_no_receiver_hears()
 {}
 
 /// A station that joins has new agreements, with this window and from this number on. Both are in their
-/// ranges.
+/// ranges. An offloaded one has the widest windows, from number 0 on.
 pub fn a_station_joins()
     ensures hears { (peers : List PeerValue) (marks : List Mark) (w : World)
         (s window start exponent weight : ℕ) → IsReached w → Hears peers marks w →
         refusal w (Asked (Join s window start exponent weight)) ≡ None →
         Hears (with_peer s (new_receive_half s start window) peers) marks
         (step w (Asked (Join s window start exponent weight))).world }
+    ensures offloaded { (peers : List PeerValue) (marks : List Mark) (w : World) (s exponent weight : ℕ) →
+        IsReached w → Hears peers marks w →
+        refusal w (Asked (Offload s exponent weight)) ≡ None →
+        Hears (with_peer s (new_receive_half s 0 greatest_window) peers) marks
+        (step w (Asked (Offload s exponent weight))).world }
+    ensures offloaded_station { (w : World) (s exponent weight : ℕ) →
+        refusal w (Asked (Offload s exponent weight)) ≡ None → s < w.config.stations }
     ensures station { (w : World) (s window start exponent weight : ℕ) →
         refusal w (Asked (Join s window start exponent weight)) ≡ None →
         s < w.config.stations }
@@ -90,18 +100,28 @@ pub fn an_exchange_opens()
         All (λ m. m.number < w.exchanges) marks }
 {}
 
-/// The end of an exchange removes its mark.
+/// The end of an exchange removes its mark. If its station is offloaded, the receive half catches up with the
+/// window of its TID.
 pub fn an_exchange_ends()
     ensures { (peers : List PeerValue) (marks : List Mark) (w : World) (e : ℕ) (heard : Bool)
-        (air : Option ℕ) → IsReached w →
-        Hears peers marks w →
+        (air : Option ℕ) (x : Exchange) → IsReached w →
+        Hears peers marks w → exchange w e ≡ Some x →
         refusal w (Asked (Done e heard air)) ≡ None →
-        Hears peers (filter (λ m. not (m.number == e)) marks) (step w (Asked (Done e heard air))).world }
+        Hears (peers_caught_up (step w (Asked (Done e heard air))).world x.station x.tid peers)
+        (filter (λ m. not (m.number == e)) marks) (step w (Asked (Done e heard air))).world }
+{}
+
+/// A TID is flushed. If its station is offloaded, the receive half catches up with its window.
+pub fn a_tid_is_flushed()
+    ensures { (peers : List PeerValue) (marks : List Mark) (w : World) (s t : ℕ) → IsReached w →
+        Hears peers marks w → refusal w (Asked (Flush s t)) ≡ None →
+        Hears (peers_caught_up (step w (Asked (Flush s t))).world s t peers) marks
+        (step w (Asked (Flush s t))).world }
 {}
 
 /// Transmission i of an open exchange arrives at its station, within the reach of its receiver. The agreement
 /// of its TID gets its 12-bit number or start, the mark gets the index, and the ids that are passed up are
-/// exactly those of the reply.
+/// exactly those of the reply, which has none for a batch.
 pub fn a_transmission_arrives()
     ensures station { (w : World) (e : ℕ) (x : Exchange) → IsReached w → exchange w e ≡ Some x →
         x.station < w.config.stations }
@@ -118,8 +138,8 @@ pub fn a_transmission_arrives()
     ensures up { (peers : List PeerValue) (marks : List Mark) (w : World) (e i id : ℕ) (x : Exchange) →
         IsReached w → Hears peers marks w →
         exchange w e ≡ Some x → refusal w (Asked (Arrive e i)) ≡ None → CarriesId id i x.content →
-        (step w (Asked (Arrive e i))).reply ≡ Released
-        (buffer_outcome_of_transmission i id x.content (agreement_of peers x.station x.tid).buffer).up }
+        (step w (Asked (Arrive e i))).reply ≡ Released (if x.batch then [] else
+        (buffer_outcome_of_transmission i id x.content (agreement_of peers x.station x.tid).buffer).up) }
 {}
 
 /// A station answers an open exchange: the mark keeps the start and the offsets of its scoreboard, and the
@@ -146,8 +166,9 @@ pub fn an_answer_is_made()
 
 /// The marks determine which exchanges are open, and so why an Arrive, an Answer or a Done is refused, if it
 /// is. An Arrive also depends on the number of transmissions of an open exchange and on whether its own never
-/// went on the air, and a Done on the airtime that it gives. An Unsent that they do not refuse is for a
-/// transmission that has not arrived, of an exchange without an answer.
+/// went on the air, an Answer and a Done on whether it is a batch, and a Done on the airtime that it gives.
+/// An Unsent that they do not refuse is for a transmission that has not arrived, of an exchange without an
+/// answer.
 pub fn the_marks_tell()
     ensures mark { (peers : List PeerValue) (marks : List Mark) (w : World) (e : ℕ) → Hears peers marks w →
         mark_in marks e ≡ option_map mark_of (exchange w e) }
@@ -164,10 +185,11 @@ pub fn the_marks_tell()
         Hears peers marks w →
         told_refusal (mark_in marks e) count i ≡ None → IsUntoldOf w e i }
     ensures answer { (peers : List PeerValue) (marks : List Mark) (w : World) (e : ℕ) → Hears peers marks w →
-        refusal w (Asked (Answer e)) ≡ answer_refusal (mark_in marks e) }
+        refusal w (Asked (Answer e)) ≡ answer_refusal (mark_in marks e) (is_batch (exchange w e)) }
     ensures done { (peers : List PeerValue) (marks : List Mark) (w : World) (e : ℕ) (heard : Bool)
         (air : Option ℕ) → Hears peers marks w →
-        refusal w (Asked (Done e heard air)) ≡ done_refusal w.config (mark_in marks e) heard air }
+        refusal w (Asked (Done e heard air))
+        ≡ done_refusal w.config (mark_in marks e) (is_batch (exchange w e)) heard air }
 {}
 
 /// A kept answer shows the same numbers of its exchange as the answer: no offset is lost in a BlockAck with

@@ -12,7 +12,7 @@ ghost use Rattle.wf_recv_peer.specs.Answering.{answer_size, IsAnswer};
 
 use crate::PeerFault;
 use crate::agreement::Agreement;
-use crate::reading::read;
+use crate::reading::{Reading, read};
 use std::alloc::{AllocError, Global};
 use std::marker::Model;
 use wf_frame::Ids;
@@ -124,6 +124,19 @@ impl Peer {
         let reading = read(self.own, self.base, octets)?;
         let agreement = &mut self.agreements[usize::from(reading.tid())];
         Ok(agreement.hear(reading, id, up))
+    }
+
+    /// The window of a TID, 0 to 7, moves to this start, as by a BlockAckReq. `up` must be empty, and gets
+    /// the items that the buffer passes up.
+    pub fn move_to(&mut self, tid: u8, start: Seq12, up: &mut Ids)
+        requires tid { tid < 8 }
+        requires empty { up.old ≡ [] }
+        ensures after { self.new ≡ after_frame (Request tid start) 0 self.old }
+        ensures up { up.new ≡ (outcome_of_frame (Request tid start) 0 self.old).up }
+        ensures eight { length self.new.agreements ≡ 8 }
+    {
+        let request = Reading::Request { tid, start };
+        let _ = self.agreements[usize::from(tid)].hear(request, 0, up);
     }
 
     /// Writes the BlockAck of a TID, 0 to 7, and returns its size in octets: 52 if the window is above 64,

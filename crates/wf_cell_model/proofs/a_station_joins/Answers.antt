@@ -1,10 +1,12 @@
--- Proves the effect and the ranges of a Join.
-use Rattle.wf_cell_model.proofs.Joining.{joined_hears, station_in_range, window_in_range, start_in_range}
+-- Proves the effect and the ranges of a Join and of an Offload.
+use Rattle.wf_cell_model.proofs.Joining.{joined_hears, offloaded_hears, offloaded_in_range, station_in_range, window_in_range, start_in_range}
 use Rattle.wf_cell_model.proofs.a_station_joins.Goals as goal
 
 pub returns : goal.returns
 returns c = record {
   hears = joined_hears;
+  offloaded = offloaded_hears;
+  offloaded_station = offloaded_in_range;
   station = station_in_range;
   window = window_in_range;
   start =

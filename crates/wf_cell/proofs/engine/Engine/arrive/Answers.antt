@@ -16,7 +16,3 @@ pass_on-requires c = record {
   arrives = sym (c.in-Ok.ensures.refused c.requires.world c.requires.bodies c.requires.is_in);
   told = c.in-Ok.ensures.sent;
 }
-
-pub returns-in-Ok-clause-meets : goal.returns-in-Ok-clause-meets
-returns-in-Ok-clause-meets c = λ w bodies i.
-    c.pass_on.ensures.meets w bodies i (sym (c.in-Ok.ensures.refused w bodies i))

@@ -8,23 +8,17 @@ use Rattle.wf_recv_peer.specs.Agreements.{PeerValue}
 use Rattle.wf_path.specs.declared.reading.Sent.{Sent}
 use Rattle.wf_cell_model.specs.Arriving.{peer_after, buffer_outcome_of_transmission}
 use Rattle.wf_cell_model.specs.Hearing.{peer_of, with_peer, agreement_of}
-use Rattle.wf_cell.specs.Engines.{EngineValue, EngineIsIn}
+use Rattle.wf_cell.specs.Engines.{EngineValue}
 use Rattle.wf_cell.specs.Octets.{IsSentTo}
 use Rattle.wf_cell.proofs.Exchanges.{IsOpen, told_open, told_is, told_station, arrives_within, transmissions_few, passed_on}
+use Rattle.wf_cell.proofs.Inside.{inside}
 use Rattle.wf_cell.proofs.engine.Engine.pass_on.Goals as goal
 
 pub written-len-requires-clause-on_air : goal.written-len-requires-clause-on_air
 written-len-requires-clause-on_air c =
     let w : World = c.requires.world in let bodies : ℕ → FrameValue = c.requires.bodies in
     let i = c.requires.is_in in let done = c.requires.arrives in
-    let v : EngineValue = record {
-      half = c.self.inside.path.half;
-      peers = c.self.inside.peers;
-      marks =
-          c.self.inside.marks;
-    } in
-    let j : EngineIsIn v w bodies = subst (λ (u : EngineValue). EngineIsIn u w bodies)
-    (sym c.self.view_is) i in
+    let j = inside c.self.view_is w bodies i in
     let e : ℕ = c.args.exchange in let k : ℕ = c.args.index in let sent : Sent = c.args.sent in
     let told = c.requires.told w bodies i in
     let o : IsOpen w e = told_open w e sent told in
@@ -37,34 +31,20 @@ pub receive-requires-clause-within : goal.receive-requires-clause-within
 receive-requires-clause-within c =
     let w : World = c.requires.world in let bodies : ℕ → FrameValue = c.requires.bodies in
     let i = c.requires.is_in in let done = c.requires.arrives in
-    let v : EngineValue = record {
-      half = c.self.inside.path.half;
-      peers = c.self.inside.peers;
-      marks =
-          c.self.inside.marks;
-    } in
-    let j : EngineIsIn v w bodies = subst (λ (u : EngineValue). EngineIsIn u w bodies)
-    (sym c.self.view_is) i in
+    let j = inside c.self.view_is w bodies i in
     let e : ℕ = c.args.exchange in let k : ℕ = c.args.index in let sent : Sent = c.args.sent in
     let told = c.requires.told w bodies i in
     let o : IsOpen w e = told_open w e sent told in
     let x : Exchange = o.sending in
     let here : sent.station ≡ x.station = ap (λ (s : Sent). s.station) (told_is w e sent x told o.known) in
     let within : k < transmissions x.content = arrives_within w e k x o.known done in
-    told_station v w bodies e sent j told
+    told_station _ w bodies e sent j told
 
 pub receive-requires-clause-addresses : goal.receive-requires-clause-addresses
 receive-requires-clause-addresses c =
     let w : World = c.requires.world in let bodies : ℕ → FrameValue = c.requires.bodies in
     let i = c.requires.is_in in let done = c.requires.arrives in
-    let v : EngineValue = record {
-      half = c.self.inside.path.half;
-      peers = c.self.inside.peers;
-      marks =
-          c.self.inside.marks;
-    } in
-    let j : EngineIsIn v w bodies = subst (λ (u : EngineValue). EngineIsIn u w bodies)
-    (sym c.self.view_is) i in
+    let j = inside c.self.view_is w bodies i in
     let e : ℕ = c.args.exchange in let k : ℕ = c.args.index in let sent : Sent = c.args.sent in
     let told = c.requires.told w bodies i in
     let o : IsOpen w e = told_open w e sent told in
@@ -72,20 +52,13 @@ receive-requires-clause-addresses c =
     let here : sent.station ≡ x.station = ap (λ (s : Sent). s.station) (told_is w e sent x told o.known) in
     let within : k < transmissions x.content = arrives_within w e k x o.known done in
     j.hears.sized.addresses sent.station
-    (omega (arith, told_station v w bodies e sent j told, j.hears.sized.count))
+    (omega (arith, told_station _ w bodies e sent j told, j.hears.sized.count))
 
 pub receive-requires-clause-sent : goal.receive-requires-clause-sent
 receive-requires-clause-sent c =
     let w : World = c.requires.world in let bodies : ℕ → FrameValue = c.requires.bodies in
     let i = c.requires.is_in in let done = c.requires.arrives in
-    let v : EngineValue = record {
-      half = c.self.inside.path.half;
-      peers = c.self.inside.peers;
-      marks =
-          c.self.inside.marks;
-    } in
-    let j : EngineIsIn v w bodies = subst (λ (u : EngineValue). EngineIsIn u w bodies)
-    (sym c.self.view_is) i in
+    let j = inside c.self.view_is w bodies i in
     let e : ℕ = c.args.exchange in let k : ℕ = c.args.index in let sent : Sent = c.args.sent in
     let told = c.requires.told w bodies i in
     let o : IsOpen w e = told_open w e sent told in
@@ -102,14 +75,7 @@ pub arrive-requires : goal.arrive-requires
 arrive-requires c =
     let w : World = c.requires.world in let bodies : ℕ → FrameValue = c.requires.bodies in
     let i = c.requires.is_in in let done = c.requires.arrives in
-    let v : EngineValue = record {
-      half = c.self.inside.path.half;
-      peers = c.self.inside.peers;
-      marks =
-          c.self.inside.marks;
-    } in
-    let j : EngineIsIn v w bodies = subst (λ (u : EngineValue). EngineIsIn u w bodies)
-    (sym c.self.view_is) i in
+    let j = inside c.self.view_is w bodies i in
     let e : ℕ = c.args.exchange in let k : ℕ = c.args.index in let sent : Sent = c.args.sent in
     let told = c.requires.told w bodies i in
     let o : IsOpen w e = told_open w e sent told in
@@ -120,14 +86,7 @@ arrive-requires c =
 
 pub returns-clause-meets : goal.returns-clause-meets
 returns-clause-meets c = λ w bodies i done.
-    let v : EngineValue = record {
-      half = c.self.inside.path.half;
-      peers = c.self.inside.peers;
-      marks =
-          c.self.inside.marks;
-    } in
-    let j : EngineIsIn v w bodies = subst (λ (u : EngineValue). EngineIsIn u w bodies)
-    (sym c.self.view_is) i in
+    let j = inside c.self.view_is w bodies i in
     let e : ℕ = c.args.exchange in let k : ℕ = c.args.index in let sent : Sent = c.args.sent in
     let told = c.requires.told w bodies i in
     let o : IsOpen w e = told_open w e sent told in
@@ -140,7 +99,7 @@ returns-clause-meets c = λ w bodies i done.
     (c.written-len.ensures.says w bodies x j.half o.known within) in
     let id : ℕ = c.carried_id-id.result in
     let peers : List PeerValue = c.self.inside.peers in
-    passed_on v w bodies e k id x j o.known done (c.carried_id-id.ensures w bodies x j.half o.known within)
+    passed_on _ w bodies e k id x j o.known done (c.carried_id-id.ensures w bodies x j.half o.known within)
     c.receive.new.self c.arrive.new.self c.receive.new.up
     (subst (λ s. c.receive.new.self ≡ with_peer s (peer_after x.tid k id x.content (peer_of peers s)) peers)
     here (c.receive.ensures.heard x.tid k x.content at_own))

@@ -11,9 +11,10 @@ use Rattle.wf_frame.specs.declared.notes.ReplyNote.TheVariants.{Refused}
 use Rattle.wf_def_world.specs.World.{Exchange, exchange}
 use Rattle.wf_send_half.specs.Marks.{bodies_unsent}
 use Rattle.wf_path.specs.Paths.{PathValue}
-use Rattle.wf_cell.specs.Engines.{EngineValue, EngineIsIn, EngineMeets}
+use Rattle.wf_cell.specs.Engines.{EngineValue, EngineMeets}
 use Rattle.wf_cell.proofs.Calls.{untold_meets}
 use Rattle.wf_cell.proofs.Exchanges.{unsent_refused}
+use Rattle.wf_cell.proofs.Inside.{inside}
 use Rattle.wf_cell.proofs.engine.Engine.unsent.Goals as goal
 use Rattle.wf_cell.proofs.engine.Engine.unsent.Goals.{in-Some-1, in-None-1}
 
@@ -33,19 +34,17 @@ returns-in-Err-clause-meets c = λ w bodies i.
 
 pub returns-in-Ok-clause-meets : goal.returns-in-Ok-clause-meets
 returns-in-Ok-clause-meets c = λ w bodies i.
-    let v : EngineValue = record {
-      half = c.self.inside.path.half;
-      peers = c.self.inside.peers;
-      marks =
-          c.self.inside.marks;
-    } in
-    let j : EngineIsIn v w bodies = subst (λ (u : EngineValue). EngineIsIn u w bodies)
-    (sym c.self.view_is) i in
+    let j = inside c.self.view_is w bodies i in
     let a : Answer = c.call.new.answer in
     let x = c.args in
+    let u : EngineValue = record {
+      half = c.call.new.self.half;
+      peers = c.self.inside.peers;
+      marks = c.self.inside.marks;
+    } in
     let meets : EngineMeets w (bodies_unsent (exchange w x.exchange) x.index (reply_of a) bodies)
-    (Asked (Unsent x.exchange x.index)) (record v { half = c.call.new.self.half }) (reply_of a) =
-    untold_meets v c.call.new.self.half (Asked (Unsent x.exchange x.index)) (reply_of a) w bodies
+    (Asked (Unsent x.exchange x.index)) u (reply_of a) =
+    untold_meets _ c.call.new.self.half (Asked (Unsent x.exchange x.index)) (reply_of a) w bodies
     (bodies_unsent (exchange w x.exchange) x.index (reply_of a) bodies) j
     (c.call.ensures.meets w bodies j.half (c.in-Ok.ensures.told w bodies i).1) tt in
     elim c.match-call.branch [
