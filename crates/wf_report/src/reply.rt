@@ -72,13 +72,29 @@ fn push_ids(out: &mut Line, ids: &Ids)
     }
 }
 
+// Appends the ids of the frames of a batch.
+fn push_batch(out: &mut Line, pairs: &Pairs)
+    requires { length out.old ≤ 200 }
+    ensures text { out.new ≡ out.old ++ spaced (map decimal (map (λ p. p.0) pairs.now)) }
+    ensures len { length out.new ≤ length out.old + 21 * 256 }
+{
+    for i in 0..pairs.len() {
+        out.push(b' ');
+        out.push_number(pairs.at(i).0);
+    }
+}
+
 // Appends the frames or the request of an exchange.
-fn push_part(out: &mut Line, request: Option<u16>, pairs: &Pairs)
+fn push_part(out: &mut Line, request: Option<u16>, batch: bool, pairs: &Pairs)
     requires { length out.old ≤ 190 }
-    ensures text { out.new ≡ out.old ++ spaced (part_words (part_sent request pairs.now)) }
+    ensures text { out.new ≡ out.old ++ spaced (part_words (part_sent request batch pairs.now)) }
     ensures len { length out.new ≤ 7200 }
 {
     match request {
+        None if batch => {
+            out.push_words(&[Word::Text(b"batch")]);
+            push_batch(out, pairs);
+        }
         None => {
             out.push_words(&[Word::Text(b"data")]);
             push_pairs(out, pairs);
@@ -247,10 +263,11 @@ pub fn print_reply(answer: &Answer, out: &mut Line)
             tid,
             air,
             request,
+            batch,
             more,
         } => {
             push_exchange(out, exchange, station, tid, air);
-            push_part(out, request, &answer.pairs);
+            push_part(out, request, batch, &answer.pairs);
             push_more(out, more);
         }
         Brief::Released => push_released(out, &answer.ids),

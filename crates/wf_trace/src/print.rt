@@ -83,7 +83,7 @@ fn push_value(out: &mut Line, arg: Arg, value: Value)
 
 // Appends the words of the values of arguments, each after a space.
 fn push_values(out: &mut Line, arguments: &[Argument], values: &[Value])
-    requires room { length out.old ≤ 28 }
+    requires room { length out.old ≤ 29 }
     requires same { length arguments.now ≡ length values.now }
     requires few { length values.now ≤ 6 }
     ensures text { out.new ≡ out.old

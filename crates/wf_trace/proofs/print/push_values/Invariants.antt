@@ -10,4 +10,4 @@ use Rattle.wf_trace.proofs.print.push_values.Given as goal
 abbrev pub invariant-loop-i : goal.invariant-loop-i
 invariant-loop-i l = (l.fn.out ++ spaced (words_of_values (map argument_kind l.arguments) l.values)
     ≡ l.out ++ spaced (words_of_values (map argument_kind (drop l.i l.arguments)) (drop l.i l.values)))
-    × (length l.out ≤ 28 + 21 * l.i) × (l.i ≤ length l.values)
+    × (length l.out ≤ 29 + 21 * l.i) × (l.i ≤ length l.values)
