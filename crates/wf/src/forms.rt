@@ -10,7 +10,7 @@ use wf_run::help::Command;
 use wf_trace::{Arg, next_word};
 
 /// The most forms that a command has.
-const MOST_FORMS: usize = 28;
+const MOST_FORMS: usize = 30;
 
 /// The most arguments that a form has.
 const MOST_ARGS: usize = 6;
@@ -148,6 +148,7 @@ pub fn name_of(form: &'static [u8], place: usize) -> &'static [u8] {
     }
     match name {
         b"[WEIGHT]" => b"WEIGHT",
+        b"[G]" => b"G",
         _ => name,
     }
 }

@@ -1,6 +1,6 @@
 -- Proves that a soak writes the summary of its history, and that this history obeys all laws and
 -- has frames of valid length.
-use Rattle.std.proofs.Common.{◌≡◌, ℕ, List, [], ◌∷◌, length, ap, ap₂, arith, ◌∙◌}
+use Rattle.std.proofs.Common.{◌≡◌, ℕ, Bool, List, [], ◌∷◌, length, ap, ap₂, arith, ◌∙◌}
 use Rattle.wf_frame.specs.declared.notes.Note.{Note}
 use Rattle.wf_frame.specs.declared.notes.Note.TheVariants.{Enqueue, Asked}
 use Rattle.wf_def_lists.specs.Lengths.{greatest_body}
@@ -17,16 +17,16 @@ use Rattle.wf_law_runs.specs.Lengths.{HasLengths}
 use Rattle.wf_run.specs.Outcome.{soak_text}
 use Rattle.wf_trace_laws.proofs.Ranges.{standard_in}
 
-pub is_soak_text : (p : Past) (seed calls : ℕ) →
-    p ≡ record { config = standard; history = soak_history seed calls } →
-    length (soak_history seed calls) ≡ calls →
-    summary (world_of p) (length p.history) ≡ soak_text seed calls
+pub is_soak_text : (p : Past) (seed calls : ℕ) (device : Bool) →
+    p ≡ record { config = standard; history = soak_history seed calls device } →
+    length (soak_history seed calls device) ≡ calls →
+    summary (world_of p) (length p.history) ≡ soak_text seed calls device
 unfolding soak_text
-is_soak_text p seed calls played counted = ap₂ summary (ap world_of played)
+is_soak_text p seed calls device played counted = ap₂ summary (ap world_of played)
     (ap (λ (q : Past). length q.history) played ∙ counted)
 
-pub soak_laws : (seed calls : ℕ) → Laws standard (soak_history seed calls)
-soak_laws seed calls = laws standard (soak_history seed calls) standard_in
+pub soak_laws : (seed calls : ℕ) (device : Bool) → Laws standard (soak_history seed calls device)
+soak_laws seed calls device = laws standard (soak_history seed calls device) standard_in
 
 -- The frames of a soak have 64 to 1500 octets: at least one, and at most the greatest length of a body.
 sized : (note : Note) → HasSoakLength note → HasLength note × IsAtMost greatest_body note
@@ -40,5 +40,5 @@ lengths_of (e ∷ es) have =
     let others = lengths_of es have.1 in
     ((one.0, others.0), (one.1, others.1))
 
-pub soak_lengths : (seed calls : ℕ) → HasLengths (soak_history seed calls)
-soak_lengths seed calls = lengths_of (soak_history seed calls) (of_soak seed calls)
+pub soak_lengths : (seed calls : ℕ) (device : Bool) → HasLengths (soak_history seed calls device)
+soak_lengths seed calls device = lengths_of (soak_history seed calls device) (of_soak seed calls device)

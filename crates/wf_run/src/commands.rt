@@ -1,6 +1,6 @@
 //! Runs the command that the words of a command line ask for.
 
-ghost use Rattle.std.specs.Prelude.{◌≡◌, ◌≤◌, ◌↔◌, ℕ, IfSome, Some, None, map, string_bytes};
+ghost use Rattle.std.specs.Prelude.{◌≡◌, ◌≤◌, ◌↔◌, ℕ, Bool, IfSome, Some, None, map, string_bytes};
 ghost use Rattle.wf_trace.specs.CommandEnds.{CommandEnds, CommandWrites, TellsFault};
 ghost use Rattle.wf_run.specs.Commands.{command_of, HasCallsInRange};
 ghost use Rattle.wf_run.specs.Telling.{TellingStatusSays};
@@ -31,16 +31,16 @@ use wf_run_replay::replay;
 use wf_run_scripts::session::session;
 use wf_run_scripts::uplink::uplink;
 
-/// Runs the soak of a seed and a number of calls, 1 to 1,000,000, and writes its summary.
+/// Runs the soak of a seed and a number of calls, 1 to 1,000,000, of devices or not, and writes its summary.
 ///
 /// `Status::NoMemory` means that memory ran out, and `Status::WriteFault` that the sink failed.
 #[inline(never)]
-pub fn soaked<K: Sink>(alloc: Global, seed: u64, calls: u32, sink: &mut K) -> Status
+pub fn soaked<K: Sink>(alloc: Global, seed: u64, calls: u32, device: bool, sink: &mut K) -> Status
     requires { (1 ≤ calls) × (calls ≤ 1000000) }
-    ensures ends { CommandWrites K.held K.faults (λ status written. SoakStatusSays status seed calls written)
-        sink.old sink.new result }
+    ensures ends { CommandWrites K.held K.faults (λ status written.
+        SoakStatusSays status seed calls device written) sink.old sink.new result }
 {
-    let Ok(cell) = soak(alloc, seed, calls) else {
+    let Ok(cell) = soak(alloc, seed, calls, device) else {
         return Status::NoMemory;
     };
     match summary(&cell, sink) {
@@ -51,8 +51,8 @@ pub fn soaked<K: Sink>(alloc: Global, seed: u64, calls: u32, sink: &mut K) -> St
 
 /// Runs the command that the words ask for, on this source and sink.
 ///
-/// The commands are `replay`, `replay --pcap`, `soak SEED CALLS`, `live SEED SENDERS FRAMES`, `session`,
-/// `uplink` and `frames`. `help` and `help COMMAND`, or `--help` or `-h` anywhere, write the help, and
+/// The commands are `replay`, `replay --pcap`, `soak SEED CALLS`, also with the word `device`,
+/// `live SEED SENDERS FRAMES`, `session`, `uplink` and `frames`. `help` and `help COMMAND`, or `--help` or `-h` anywhere, write the help, and
 /// `--version` writes the version. Only `live` creates threads and may wait; it calls the turnstile around
 /// each call at its gate.
 pub fn run<R: Threads + Wait + Sync, S: Source, K: Sink, T: Turnstile + Sync>(
@@ -84,10 +84,10 @@ pub fn run<R: Threads + Wait + Sync, S: Source, K: Sink, T: Turnstile + Sync>(
         source.old source.new sink.old sink.new result }
 
     // the commands that do not read it
-    ensures soak { (seed calls : ℕ) →
-        command_of (map string_bytes words.now) ≡ Some (Command.Soak seed calls) →
+    ensures soak { (seed calls : ℕ) (device : Bool) →
+        command_of (map string_bytes words.now) ≡ Some (Command.Soak seed calls device) →
         (source.new ≡ source.old) × CommandWrites K.held K.faults
-        (λ status written. SoakStatusSays status seed calls written) sink.old sink.new result }
+        (λ status written. SoakStatusSays status seed calls device written) sink.old sink.new result }
     ensures live { (seed senders frames : ℕ) →
         command_of (map string_bytes words.now) ≡ Some (Command.Live seed senders frames) →
         (source.new ≡ source.old) × CommandWrites K.held K.faults
@@ -134,7 +134,13 @@ fn carry_out<R: Threads + Wait + Sync, S: Source, K: Sink, T: Turnstile + Sync>(
         None => Status::Usage,
         Some(Command::Replay) => replay(alloc, source, sink),
         Some(Command::Capture) => capture(alloc, source, sink),
-        Some(Command::Soak { seed, calls }) => soaked(alloc, seed, calls, sink),
+        Some(
+            Command::Soak {
+                seed,
+                calls,
+                device,
+            },
+        ) => soaked(alloc, seed, calls, device, sink),
         Some(
             Command::Live {
                 seed,

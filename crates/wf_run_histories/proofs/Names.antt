@@ -1,7 +1,7 @@
 -- Proves that an exchange that a reply names has begun by then. By cases of the call.
 use Rattle.std.proofs.Common.{◌≡◌, ℕ, ◌<◌, ◌≤◌, Bool, true, false, if◌then◌else◌, List, [], ◌∷◌, Option, Some, None, refl, sym, ◌∙◌, subst, arith}
 use Rattle.wf_frame.specs.declared.classes.Class.{Class}
-use Rattle.wf_frame.specs.declared.notes.Ask.TheVariants.{Join, Leave, Rate, Tick, Pull, Arrive, Answer, Done, Sleep, Wake, Poll, Rx, Reap, Ampdu, Stop, Start, Unsent, GiveUp, Flush}
+use Rattle.wf_frame.specs.declared.notes.Ask.TheVariants.{Join, Leave, Rate, Tick, Pull, Arrive, Answer, Done, Sleep, Wake, Poll, Rx, Reap, Ampdu, Stop, Start, Unsent, GiveUp, Flush, Offload, Weight}
 use Rattle.wf_frame.specs.declared.notes.Limits.{Limits}
 use Rattle.wf_frame.specs.declared.notes.Note.{Note}
 use Rattle.wf_frame.specs.declared.notes.Note.TheVariants.{Enqueue, Asked}
@@ -13,7 +13,7 @@ use Rattle.wf_def_world.specs.World.{World, Exchange, exchange, with_bounds, wit
 use Rattle.wf_def_world.specs.CanSend.{with_listing_in, with_listings_in, with_listings_of}
 use Rattle.wf_def_world.specs.Exchanges.{Prepared, picked_station, after_pick, bounds_of, with_exchange_opened, without_credit}
 use Rattle.wf_def_world.specs.Refusals.{refusal}
-use Rattle.wf_def_world.specs.Step.{Outcome, join_outcome, leave_outcome, rate_outcome, tick_outcome, enqueue_outcome, send_outcome, pull_outcome_for, pull_outcome, arrive_outcome, answer_outcome, unsent_outcome, give_up_outcome, flush_outcome, done_outcome, outcome_where_open, sleep_outcome, wake_outcome, poll_outcome, rx_outcome, reap_outcome, outcome_of, concerned_station, judged_outcome, step}
+use Rattle.wf_def_world.specs.Step.{Outcome, join_outcome, leave_outcome, rate_outcome, tick_outcome, enqueue_outcome, send_outcome, pull_outcome_for, pull_outcome, arrive_outcome, answer_outcome, unsent_outcome, give_up_outcome, flush_outcome, done_outcome, outcome_where_open, sleep_outcome, wake_outcome, poll_outcome, rx_outcome, reap_outcome, outcome_of, concerned_station, judged_outcome, step, offload_outcome, weight_outcome}
 
 -- If a reply names the exchange that it begins, the number is below n.
 abbrev pub NamesBelow : ℕ → ReplyNote → Type 0
@@ -71,7 +71,7 @@ own_reaped (id ∷ ids) w = tt
 
 own_outcome : (note : Note) (w : World) → NamesOwn (outcome_of w note)
 unfolding outcome_of enqueue_outcome join_outcome leave_outcome rate_outcome tick_outcome sleep_outcome
-    wake_outcome poll_outcome rx_outcome flush_outcome
+    wake_outcome poll_outcome rx_outcome flush_outcome offload_outcome weight_outcome
 own_outcome (Enqueue s t flow len) w = tt
 own_outcome (Asked (Join s window start exponent weight)) w = tt
 own_outcome (Asked (Leave s)) w = tt
@@ -92,6 +92,8 @@ own_outcome (Asked (Start s)) w = tt
 own_outcome (Asked (Unsent e i)) w = own_open (exchange w e) w _ (λ x. own_unsent w x i)
 own_outcome (Asked (GiveUp e i)) w = own_open (exchange w e) w _ (λ x. own_given_up w x i)
 own_outcome (Asked (Flush s t)) w = tt
+own_outcome (Asked (Offload s exponent weight)) w = tt
+own_outcome (Asked (Weight s weight)) w = tt
 
 -- Listing a station begins no exchange.
 same_if : (b : Bool) (u w : World) → u.exchanges ≡ w.exchanges → (if b then u else w).exchanges ≡ w.exchanges

@@ -1,17 +1,17 @@
 -- Proves that each frame of a soak has 64 to 1500 octets, which every step of a round preserves.
-use Rattle.std.proofs.Common.{◌==◌, ◌-◌, ◌+◌, ◌/◌, ◌%◌, ℕ, zero, suc, Bool, true, false, List, [], ◌∷◌, ◌++◌, arith, if◌then◌else◌}
+use Rattle.std.proofs.Common.{◌==◌, ◌&&◌, ◌-◌, ◌+◌, ◌/◌, ◌%◌, ℕ, zero, suc, Bool, true, false, List, [], ◌∷◌, ◌++◌, arith, if◌then◌else◌}
 use Rattle.std.specs.Prelude.{Option, Some, None}
 use Rattle.wf_frame.specs.declared.classes.Class.{Class}
 use Rattle.wf_frame.specs.declared.notes.Ask.{Ask}
-use Rattle.wf_frame.specs.Calls.{no_limits}
-use Rattle.wf_frame.specs.declared.notes.Ask.TheVariants.{Tick, Pull, Arrive, Answer, Sleep, Wake, Poll, Rx, Reap}
+use Rattle.wf_frame.specs.declared.notes.Limits.{Limits}
+use Rattle.wf_frame.specs.declared.notes.Ask.TheVariants.{Tick, Pull, Arrive, Answer, Sleep, Wake, Poll, Rx, Reap, Unsent, GiveUp}
 use Rattle.wf_frame.specs.declared.classes.Class.TheVariants.{Be}
 use Rattle.wf_frame.specs.declared.notes.Note.{Note}
 use Rattle.wf_frame.specs.declared.notes.Note.TheVariants.{Asked}
 use Rattle.wf_def_world.specs.Run.{Entry, by}
-use Rattle.wf_run_histories.specs.Stations.{standard_join, standard_rate}
+use Rattle.wf_run_histories.specs.Stations.{standard_rate}
 use Rattle.wf_run_histories.specs.Lengths.{HasSoakLength, HaveSoakLengths}
-use Rattle.wf_run_histories.specs.Soak.{Soak, call, reply_to, stations_join, station_joins, frame_for, frame_put, word, drawn, air_used, sleeper_called, lets_arrive, transmission_sent, all_sent, some_arrive, after_answer_if, exchange_ended, exchange_played, sending, sending_played, class_in_round, after_pull, is_nothing, after_reaps, round_played, rounds_played, soak_begun, soak_history}
+use Rattle.wf_run_histories.specs.Soak.{Soak, call, reply_to, stations_join, station_joins, frame_for, frame_put, word, drawn, air_used, sleeper_called, join_of, limits_in, device_call, device_called, missed, lets_arrive, transmission_sent, all_sent, some_arrive, after_answer_if, exchange_ended, exchange_played, sending, sending_played, class_in_round, after_pull, is_nothing, after_reaps, round_played, rounds_played, soak_begun, soak_history}
 
 -- The frames of the calls so far have such lengths.
 abbrev pub Keeps : Soak → Type 0
@@ -40,8 +40,8 @@ joined : (s n : ℕ) (k : Soak) → Keeps k → Keeps (stations_join s n k)
 unfolding stations_join
 joined s zero k before = before
 joined s (suc n) k before =
-    joined (suc s) n (station_joins s k) (asked (standard_rate s)
-    (call (Asked (standard_join s (4080 + s))) k) (asked (standard_join s (4080 + s)) k before))
+    let join : Ask = join_of (k.device && (s % 2 == 1)) s (4080 + s) in
+    joined (suc s) n (station_joins s k) (asked (standard_rate s) (call (Asked join) k) (asked join k before))
 
 within : (station w : ℕ) → HasSoakLength (frame_for station w)
 within station w = (omega arith, omega arith)
@@ -60,9 +60,16 @@ slept r k before =
     (either_way (r % 64 == 16) (call (Asked (Poll station)) k) _ (asked (Poll station) k before)
     (either_way (r % 64 == 32) (call (Asked (Wake station)) k) k (asked (Wake station) k before) before))
 
+marked : (device : Bool) (w e i : ℕ) (k : Soak) → Keeps k → Keeps (missed device w e i k)
+marked false w e i k before = before
+marked true w e i k before =
+    either_way ((w / 10) % 3 == 0) (call (Asked (Unsent e i)) k) _ (asked (Unsent e i) k before)
+    (either_way ((w / 10) % 3 == 1) (call (Asked (GiveUp e i)) k) k (asked (GiveUp e i) k before) before)
+
 transmitted : (e i : ℕ) (k : Soak) → Keeps k → Keeps (transmission_sent e i k)
-transmitted e i k before = either_way (lets_arrive k) (call (Asked (Arrive e i)) (drawn k)) (drawn k)
-    (asked (Arrive e i) (drawn k) before) before
+transmitted e i k before =
+    either_way (lets_arrive k) (call (Asked (Arrive e i)) (drawn k)) (missed k.device (word k) e i (drawn k))
+    (asked (Arrive e i) (drawn k) before) (marked k.device (word k) e i (drawn k) before)
 
 sent : (e i n : ℕ) (k : Soak) → Keeps k → Keeps (all_sent e i n k)
 unfolding all_sent
@@ -85,10 +92,16 @@ followed : (exchange : Option (ℕ × ℕ)) (k : Soak) → Keeps k → Keeps (se
 followed None k before = before
 followed (Some exchange) k before = played exchange.0 exchange.1 k before
 
-pulled : (c : Class) (k : Soak) → Keeps k → Keeps (after_pull c k)
-pulled c k before =
-    followed (sending (reply_to (Asked (Pull c no_limits)) k)) (call (Asked (Pull c no_limits)) k)
-    (asked (Pull c no_limits) k before)
+device : (k : Soak) → Keeps k → Keeps (device_called k)
+unfolding device_called
+device k before = either_way k.device (call (Asked (device_call (word k))) (drawn k)) k
+    (asked (device_call (word k)) (drawn k) before) before
+
+pulled : (c : Class) (limits : Limits) (k : Soak) → Keeps k → Keeps (after_pull c limits k)
+unfolding after_pull
+pulled c limits k before =
+    followed (sending (reply_to (Asked (Pull c limits)) k)) (device_called (call (Asked (Pull c limits)) k))
+    (device (call (Asked (Pull c limits)) k) (asked (Pull c limits) k before))
 
 reaped : (n : ℕ) (k : Soak) → Keeps k → Keeps (after_reaps n k)
 unfolding after_reaps
@@ -113,8 +126,8 @@ round : (r : ℕ) (k : Soak) → Keeps k → Keeps (round_played r k)
 unfolding round_played
 round r k before =
     let air : Soak = air_used r (begun k) in
-    let pull : Soak = after_pull (class_in_round r) (sleeper_called r air) in
-    reaped pull.left pull (pulled (class_in_round r) (sleeper_called r air)
+    let pull : Soak = after_pull (class_in_round r) (limits_in k.device r) (sleeper_called r air) in
+    reaped pull.left pull (pulled (class_in_round r) (limits_in k.device r) (sleeper_called r air)
     (slept r air (used r (begun k) (begins k before))))
 
 rounds : (n r : ℕ) (k : Soak) → Keeps k → Keeps (rounds_played n r k)
@@ -123,7 +136,7 @@ rounds zero r k before = before
 rounds (suc n) r k before = either_way (k.left == 0) k (rounds_played n (suc r) (round_played r k)) before
     (rounds n (suc r) (round_played r k) (round r k before))
 
-pub soak_lengths : (seed calls : ℕ) → HaveSoakLengths (soak_history seed calls)
+pub soak_lengths : (seed calls : ℕ) (device : Bool) → HaveSoakLengths (soak_history seed calls device)
 unfolding soak_history
-soak_lengths seed calls = rounds calls 0 (stations_join 0 16 (soak_begun seed calls))
-    (joined 0 16 (soak_begun seed calls) tt)
+soak_lengths seed calls device = rounds calls 0 (stations_join 0 16 (soak_begun seed calls device))
+    (joined 0 16 (soak_begun seed calls device) tt)

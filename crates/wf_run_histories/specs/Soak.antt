@@ -1,18 +1,20 @@
 -- Defines the soak: a long random history. A draw is the next 32-bit word of the PCG generator XSH RR 64/32
 -- with this seed and stream 0. The calls depend on the machine's replies, so the history is a function of the
--- seed and of the number of calls.
+-- seed and of the number of calls. A soak of devices draws the calls of drivers and of offloaded stations too.
 use Rattle.std.specs.Prelude.{◌≡◌, ◌≤◌, ℕ, zero, suc, ◌+◌, ◌-◌, ◌/◌, ◌%◌, ◌==◌, Bool, true, false, not, ◌&&◌, ◌||◌, List, [], ◌∷◌, ◌++◌, Option, Some, None, if◌then◌else◌, length}
 use Rattle.rand_pcg.specs.Lcg.{Lcg, started, increment_of}
 use Rattle.rand_pcg.specs.Pcg.{pcg32, multiplier_64}
 use Rattle.wf_frame.specs.Settings.{standard}
 use Rattle.wf_frame.specs.declared.classes.Class.{Class}
 use Rattle.wf_frame.specs.declared.classes.Class.TheVariants.{Bk, Be, Vi, Vo}
-use Rattle.wf_frame.specs.Calls.{no_limits}
-use Rattle.wf_frame.specs.declared.notes.Ask.TheVariants.{Tick, Pull, Arrive, Answer, Done, Sleep, Wake, Poll, Rx, Reap}
+use Rattle.wf_frame.specs.declared.notes.Limits.{Limits}
+use Rattle.wf_frame.specs.declared.notes.Ask.{Ask}
+use Rattle.wf_frame.specs.declared.notes.Ask.TheVariants.{Leave, Rate, Tick, Pull, Arrive, Answer, Done, Sleep, Wake, Poll, Rx, Reap, Ampdu, Stop, Start, Unsent, GiveUp, Flush, Offload, Weight}
+use Rattle.wf_frame.specs.declared.notes.AskedRate.TheVariants.{Vht}
 use Rattle.wf_frame.specs.declared.notes.Note.{Note}
 use Rattle.wf_frame.specs.declared.notes.Note.TheVariants.{Enqueue, Asked}
 use Rattle.wf_frame.specs.declared.notes.Part.{Part}
-use Rattle.wf_frame.specs.declared.notes.Part.TheVariants.{Mpdus, Request}
+use Rattle.wf_frame.specs.declared.notes.Part.TheVariants.{Mpdus, Batch, Request}
 use Rattle.wf_frame.specs.declared.notes.Refusal.TheVariants.{Nothing}
 use Rattle.wf_frame.specs.declared.notes.ReplyNote.{ReplyNote}
 use Rattle.wf_frame.specs.declared.notes.ReplyNote.TheVariants.{Send, Refused}
@@ -22,8 +24,10 @@ use Rattle.wf_def_world.specs.Step.{step}
 use Rattle.wf_def_world.specs.Run.{Entry, by, world_after}
 use Rattle.wf_run_histories.specs.Stations.{standard_join, standard_rate}
 
--- A soak in progress: the calls so far, the random words to come, and the number of calls that are left.
+-- A soak in progress: whether it is one of devices, the calls so far, the random words to come, and the number
+-- of calls that are left.
 pub record Soak : Type 0 where
+  pub device : Bool
   pub past : List Entry
   pub words : Lcg
   pub left : ℕ
@@ -52,9 +56,14 @@ reply_to note k = if k.left == 0 then None else Some (step (machine_of k) note).
 
 -- ---- the stations
 
--- A standard station joins, with a window from the number 4080 + s on, and its rate is set.
+-- The join of a station: one that is offloaded, or a standard one with a window from this number on.
+abbrev pub join_of : Bool → ℕ → ℕ → Ask
+join_of offloaded s start = if offloaded then Offload s 3 1 else standard_join s start
+
+-- A station joins, and its rate is set. In a soak of devices the odd ones are offloaded.
 abbrev pub station_joins : ℕ → Soak → Soak
-station_joins s k = call (Asked (standard_rate s)) (call (Asked (standard_join s (4080 + s))) k)
+station_joins s k =
+    call (Asked (standard_rate s)) (call (Asked (join_of (k.device && (s % 2 == 1)) s (4080 + s))) k)
 
 -- n stations join, from station s on.
 unfoldable pub stations_join : ℕ → ℕ → Soak → Soak
@@ -85,8 +94,17 @@ sleeper_called r k =
 abbrev pub lets_arrive : Soak → Bool
 lets_arrive k = not (word k % 10 == 0)
 
+-- A transmission that does not arrive. In a soak of devices, one of three never went on the air, and one of
+-- three is given up.
+abbrev pub missed : Bool → ℕ → ℕ → ℕ → Soak → Soak
+missed false w e i k = k
+missed true w e i k =
+    if (w / 10) % 3 == 0 then call (Asked (Unsent e i)) k
+    else (if (w / 10) % 3 == 1 then call (Asked (GiveUp e i)) k else k)
+
 abbrev pub transmission_sent : ℕ → ℕ → Soak → Soak
-transmission_sent e i k = if lets_arrive k then call (Asked (Arrive e i)) (drawn k) else drawn k
+transmission_sent e i k =
+    if lets_arrive k then call (Asked (Arrive e i)) (drawn k) else missed k.device (word k) e i (drawn k)
 
 -- n transmissions, from index i on, and whether one of them arrived.
 unfoldable pub all_sent : ℕ → ℕ → ℕ → Soak → Soak
@@ -106,6 +124,7 @@ exchange_ended answered e k = call (Asked (Done e (answered && not (word k % 20 
 
 abbrev pub transmissions_in : Part → ℕ
 transmissions_in (Mpdus pairs) = length pairs
+transmissions_in (Batch ids) = length ids
 transmissions_in (Request start) = 1
 
 unfoldable pub exchange_played : ℕ → ℕ → Soak → Soak
@@ -126,9 +145,36 @@ sending_played (Some exchange) k = exchange_played exchange.0 exchange.1 k
 abbrev pub class_in_round : ℕ → Class
 class_in_round r = at Vo (Bk ∷ Be ∷ Vi ∷ []) (r % 4)
 
-abbrev pub after_pull : Class → Soak → Soak
-after_pull c k =
-    sending_played (sending (reply_to (Asked (Pull c no_limits)) k)) (call (Asked (Pull c no_limits)) k)
+-- The limits of a round's pull: none, except in a soak of devices.
+abbrev pub limit_if : Bool → ℕ → Option ℕ
+limit_if limited most = if limited then Some most else None
+
+abbrev pub limits_in : Bool → ℕ → Limits
+limits_in device r = record {
+  frames = limit_if (device && (r % 3 == 0)) (1 + r % 8);
+  air =
+      limit_if (device && (r % 5 == 0)) (100 + r % 2000);
+}
+
+-- The call for a station and its device that a word determines, by the table of these calls.
+abbrev pub device_calls : ℕ → ℕ → List Ask
+device_calls s w =
+    Weight s (1 + w % 16) ∷ Weight s (1 + w % 16) ∷ Stop s ∷ Start s ∷ Start s ∷ Flush s (w % 8)
+    ∷ Flush s (w % 8) ∷ Leave s ∷ join_of true s 0 ∷ join_of false s (w % 4096)
+    ∷ Rate s (Vht (w % 10) 80 false 2) ∷ []
+
+unfoldable pub device_call : ℕ → Ask
+device_call w =
+    at (Ampdu ((w / 12) % 16) (4096 + (w / 192) % 65536)) (device_calls ((w / 12) % 16) (w / 192)) (w % 12)
+
+-- In a soak of devices each pull is followed by such a call, before its exchange is played.
+unfoldable pub device_called : Soak → Soak
+device_called k = if k.device then call (Asked (device_call (word k))) (drawn k) else k
+
+unfoldable pub after_pull : Class → Limits → Soak → Soak
+after_pull c limits k =
+    sending_played (sending (reply_to (Asked (Pull c limits)) k))
+    (device_called (call (Asked (Pull c limits)) k))
 
 -- Reaps until no finished frame or no call is left, at most n times.
 abbrev pub is_nothing : Option ReplyNote → Bool
@@ -145,7 +191,7 @@ after_all_reaps k = after_reaps k.left k
 
 unfoldable pub round_played : ℕ → Soak → Soak
 round_played r k =
-    after_all_reaps (after_pull (class_in_round r)
+    after_all_reaps (after_pull (class_in_round r) (limits_in k.device r)
     (sleeper_called r (air_used r (call (Asked (Tick 1000))
     (frame_put (frame_put (frame_put (frame_put k))))))))
 
@@ -154,14 +200,17 @@ unfoldable pub rounds_played : ℕ → ℕ → Soak → Soak
 rounds_played zero r k = k
 rounds_played (suc n) r k = if k.left == 0 then k else rounds_played n (suc r) (round_played r k)
 
-abbrev pub soak_begun : ℕ → ℕ → Soak
-soak_begun seed calls = record {
-  past = [];
+abbrev pub soak_begun : ℕ → ℕ → Bool → Soak
+soak_begun seed calls device = record {
+  device = device;
+  past =
+      [];
   words = started 64 multiplier_64 seed (increment_of 64 0);
   left =
       calls;
 }
 
--- The history of a seed and a number of calls.
-unfoldable pub soak_history : ℕ → ℕ → List Entry
-soak_history seed calls = (rounds_played calls 0 (stations_join 0 16 (soak_begun seed calls))).past
+-- The history of a seed and a number of calls, of devices or not.
+unfoldable pub soak_history : ℕ → ℕ → Bool → List Entry
+soak_history seed calls device =
+    (rounds_played calls 0 (stations_join 0 16 (soak_begun seed calls device))).past

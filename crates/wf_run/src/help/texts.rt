@@ -10,7 +10,7 @@ pub const USAGE: &str = "usage: wf replay [--pcap] < TRACE
        wf frames < CAPTURE
        wf session < SCRIPT
        wf uplink < SCRIPT
-       wf soak SEED CALLS
+       wf soak SEED CALLS [device]
        wf live SEED SENDERS FRAMES
        wf help [COMMAND]
        wf --version
@@ -76,6 +76,8 @@ A trace is a head, then calls, then the line end:
   unsent EXCHANGE INDEX
   giveup EXCHANGE INDEX
   flush S TID
+  offload S X [G]                 S, 0..65535; X, 0..255; G, 0..255
+  weight S G                      S, 0..65535; G, 0..255
   end
 
 Settings: stations=1..256 flows=1..4096 limit=1..65535 room=1..131072 flow_quantum=64..65535
@@ -94,10 +96,11 @@ docs/TRACE.md describes traces, docs/MACHINE.md the calls, and docs/CAPTURES.md 
 ";
 
 /// The help on `soak`.
-pub const SOAK: &[u8] = b"wf soak SEED CALLS
+pub const SOAK: &[u8] = b"wf soak SEED CALLS [device]
 
-Reads nothing. Runs a random history of CALLS calls, and writes its summary. The same SEED
-and CALLS always give the same history.
+Reads nothing. Runs a random history of CALLS calls, and writes its summary. The same words
+always give the same history. With the word device, some stations are offloaded, pulls have
+limits, transmissions get marks, and stations leave, join, stop, start and change weights.
 
   SEED     0..18446744073709551615
   CALLS    1..1000000

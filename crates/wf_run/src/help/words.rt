@@ -2,7 +2,7 @@
 
 ghost use Rattle.std.specs.Prelude.{◌≡◌, ◌≤◌, IfSome, map, string_bytes};
 ghost use Rattle.std.specs.List.{list_any};
-ghost use Rattle.wf_run.specs.Commands.{number_within, soak_of, live_of, asks_help, topic_among, help_on, word_command, two_words_command, soak_command, live_command, played_command_of, command_of, HasCallsInRange};
+ghost use Rattle.wf_run.specs.Commands.{number_within, soak_of, live_of, asks_help, topic_among, help_on, word_command, two_words_command, soak_command, live_command, four_words_command, played_command_of, command_of, HasCallsInRange};
 
 use crate::help::Topic;
 use wf_io::value_of;
@@ -15,10 +15,11 @@ pub enum Command {
     Replay,
     /// Replay the trace on standard input, and write a capture file.
     Capture,
-    /// Run the soak of this seed with `calls` calls, 1 to 1,000,000.
+    /// Run the soak of this seed with `calls` calls, 1 to 1,000,000, of devices or not.
     Soak {
         seed: u64,
         calls: u32,
+        device: bool,
     },
     /// Run `senders` senders, 1 to 8, each with `frames` frames, 1 to 10,000, and four drivers on threads.
     Live {
@@ -60,15 +61,16 @@ fn number_within(low: u64, high: u64, word: &[u8]) -> Option<u64>
 }
 
 #[tactic(auto, unfolding(crate::specs::Commands::soak_of))]
-fn soak_of(seed: Option<u64>, calls: Option<u64>) -> Option<Command>
+fn soak_of(seed: Option<u64>, calls: Option<u64>, device: bool) -> Option<Command>
     requires { IfSome calls (λ n. (1 ≤ n) × (n ≤ 1000000)) }
-    ensures command { result ≡ soak_of seed calls }
+    ensures command { result ≡ soak_of seed calls device }
     ensures calls { IfSome result HasCallsInRange }
 {
     match (seed, calls) {
         (Some(seed), Some(calls)) => Some(Command::Soak {
             seed,
             calls: calls as u32,
+            device,
         }),
         _ => None,
     }
@@ -153,12 +155,17 @@ fn played_command_from(words: &[String]) -> Option<Command>
     match words {
         [word] => word_command(word.as_bytes()),
         [word, option] => two_words_command(word.as_bytes(), option.as_bytes()),
-        [word, seed, calls] => soak_command(word.as_bytes(), seed.as_bytes(), calls.as_bytes()),
-        [word, seed, senders, frames] => live_command(
+        [word, seed, calls] => soak_command(
             word.as_bytes(),
             seed.as_bytes(),
-            senders.as_bytes(),
-            frames.as_bytes(),
+            calls.as_bytes(),
+            false,
+        ),
+        [word, one, two, three] => four_words_command(
+            word.as_bytes(),
+            one.as_bytes(),
+            two.as_bytes(),
+            three.as_bytes(),
         ),
         _ => None,
     }
@@ -202,16 +209,17 @@ fn two_words_command(word: &[u8], option: &[u8]) -> Option<Command>
     }
 }
 
-// Returns the command of three words.
+// Returns the command of three words, and of these and the word `device`.
 #[tactic(auto, unfolding(crate::specs::Commands::soak_command))]
-fn soak_command(word: &[u8], seed: &[u8], calls: &[u8]) -> Option<Command>
-    ensures command { result ≡ soak_command word.now seed.now calls.now }
+fn soak_command(word: &[u8], seed: &[u8], calls: &[u8], device: bool) -> Option<Command>
+    ensures command { result ≡ soak_command word.now seed.now calls.now device }
     ensures calls { IfSome result HasCallsInRange }
 {
     if word == b"soak".as_slice() {
         soak_of(
             number_within(0, u64::MAX, seed),
             number_within(1, 1_000_000, calls),
+            device,
         )
     } else {
         None
@@ -219,6 +227,19 @@ fn soak_command(word: &[u8], seed: &[u8], calls: &[u8]) -> Option<Command>
 }
 
 // Returns the command of four words.
+#[tactic(auto, unfolding(crate::specs::Commands::four_words_command))]
+fn four_words_command(word: &[u8], one: &[u8], two: &[u8], three: &[u8]) -> Option<Command>
+    ensures command { result ≡ four_words_command word.now one.now two.now three.now }
+    ensures calls { IfSome result HasCallsInRange }
+{
+    if three == b"device".as_slice() {
+        soak_command(word, one, two, true)
+    } else {
+        live_command(word, one, two, three)
+    }
+}
+
+// Returns the command of four words, of which the last is not `device`.
 #[tactic(auto, unfolding(crate::specs::Commands::live_command))]
 fn live_command(word: &[u8], seed: &[u8], senders: &[u8], frames: &[u8]) -> Option<Command>
     ensures command { result ≡ live_command word.now seed.now senders.now frames.now }

@@ -1,14 +1,14 @@
 //! The soak: a long random history, which is a function of a seed and a number of calls.
 
-ghost use Rattle.std.specs.Prelude.{◌≡◌, ◌-◌, ◌%◌, ◌≤◌, ◌<◌, IfOk, OnOk, Some, None, length, if◌then◌else◌};
+ghost use Rattle.std.specs.Prelude.{◌≡◌, ◌-◌, ◌%◌, ◌≤◌, ◌<◌, false, IfOk, OnOk, Some, None, length, if◌then◌else◌};
 ghost use Rattle.wf_frame.specs.Answers.{reply_of};
-ghost use Rattle.wf_frame.specs.Calls.{no_limits};
 ghost use Rattle.wf_frame.specs.Settings.{standard};
-ghost use Rattle.wf_frame.specs.declared.notes.Ask.TheVariants.{Pull, Reap};
+ghost use Rattle.wf_frame.specs.declared.notes.Ask.TheVariants.{Pull, Rate, Reap};
+ghost use Rattle.wf_frame.specs.declared.notes.AskedRate.TheVariants.{Vht};
 ghost use Rattle.wf_frame.specs.declared.notes.Note.TheVariants.{Asked};
 ghost use Rattle.wf_path.specs.Jobs.{note_of};
 ghost use Rattle.wf_run_histories.specs.Lengths.{HaveSoakLengths};
-ghost use Rattle.wf_run_histories.specs.Soak.{IsLater, frame_for, soak_begun, call, reply_to, stations_join, station_joins, frame_put, air_used, sleeper_called, transmission_sent, lets_arrive, all_sent, some_arrive, exchange_ended, after_answer_if, exchange_played, sending, sending_played, class_in_round, after_pull, after_all_reaps, round_played, rounds_played, soak_history, drawn, word, is_nothing};
+ghost use Rattle.wf_run_histories.specs.Soak.{IsLater, frame_for, soak_begun, call, reply_to, stations_join, station_joins, frame_put, air_used, sleeper_called, transmission_sent, lets_arrive, missed, all_sent, some_arrive, exchange_ended, after_answer_if, exchange_played, sending, sending_played, class_in_round, join_of, limit_if, limits_in, device_call, device_called, after_pull, after_all_reaps, round_played, rounds_played, soak_history, drawn, word, is_nothing};
 
 use crate::soak::workers::{standard_join, standard_rate};
 use rand_core::utils::NextWord;
@@ -16,14 +16,15 @@ use rand_pcg::Lcg64Xsh32;
 use std::alloc::{AllocError, Global};
 use std::marker::Model;
 use wf_cell::{Cell, Job};
-use wf_frame::{Answer, Ask, Brief, Class, Config, Frame, Limits, Refusal};
+use wf_frame::{Answer, Ask, AskedRate, Brief, Class, Config, Frame, Limits, Refusal};
 use wf_queue_parts::chain::Parcel;
 
-/// A soak in progress: the cell with the calls so far, the generator of random words, and the number of calls
-/// that are left.
+/// A soak in progress: whether it is one of devices, the cell with the calls so far, the generator of random
+/// words, and the number of calls that are left.
 #[derive(Drop)]
 struct SoakRun {
     alloc: Global,
+    device: bool,
     cell: Cell,
     words: Lcg64Xsh32,
     left: u32,
@@ -36,7 +37,12 @@ impl Model for SoakRun {
 
     ghost Value = { Soak };
 
-    ghost view = { λ k. record { past = k.cell.past.history; words = k.words; left = k.left } };
+    ghost view = { λ k. record {
+      device = k.device;
+      past = k.cell.past.history;
+      words = k.words;
+      left = k.left;
+    } };
 
     ghost invariant = { λ k. (k.cell.past.config ≡ standard)
         × (length k.cell.past.history + k.left ≤ 1000000) };
@@ -44,17 +50,18 @@ impl Model for SoakRun {
 
 /// Returns the cell after the soak of a seed and a number of calls, 1 to 1,000,000: the standard settings,
 /// sixteen stations, and rounds of enqueues, pulls, losses and reaps until that number of calls was made.
-/// Fails only if memory runs out.
+/// A soak of devices (`device`) has offloaded stations, limits of pulls and marks of transmissions, and each of
+/// its pulls is followed by a call for a station and its device. Fails only if memory runs out.
 #[inline(never)]
 #[tactic(auto, unfolding(crate::specs::Soak::soak_history), using(crate::proofs::SoakLengths::soak_lengths))]
-pub fn soak(alloc: Global, seed: u64, calls: u32) -> Result<Cell, AllocError>
+pub fn soak(alloc: Global, seed: u64, calls: u32, device: bool) -> Result<Cell, AllocError>
     requires { (1 ≤ calls) × (calls ≤ 1000000) }
     ensures made { IfOk result
-        (λ c. c.past ≡ record { config = standard; history = soak_history seed calls }) }
-    ensures counted { IfOk result (λ c. length (soak_history seed calls) ≡ calls) }
-    ensures lengths { HaveSoakLengths (soak_history seed calls) }
+        (λ c. c.past ≡ record { config = standard; history = soak_history seed calls device }) }
+    ensures counted { IfOk result (λ c. length (soak_history seed calls device) ≡ calls) }
+    ensures lengths { HaveSoakLengths (soak_history seed calls device) }
 {
-    let mut soak = SoakRun::new(alloc, seed, calls)?;
+    let mut soak = SoakRun::new(alloc, seed, calls, device)?;
     let mut answer = Answer::new();
     soak.stations_join(&mut answer);
     soak.rounds_played(calls, &mut answer)?;
@@ -63,13 +70,14 @@ pub fn soak(alloc: Global, seed: u64, calls: u32) -> Result<Cell, AllocError>
 
 impl SoakRun {
     #[inline(never)]
-    fn new(alloc: Global, seed: u64, calls: u32) -> Result<SoakRun, AllocError>
+    fn new(alloc: Global, seed: u64, calls: u32, device: bool) -> Result<SoakRun, AllocError>
         requires { calls ≤ 1000000 }
-        ensures { IfOk result (λ k. k ≡ soak_begun seed calls) }
+        ensures { IfOk result (λ k. k ≡ soak_begun seed calls device) }
     {
         let cell = Cell::of(alloc, Config::standard())?;
         Ok(SoakRun {
             alloc,
+            device,
             cell,
             words: Lcg64Xsh32::new(seed, 0),
             left: calls,
@@ -116,7 +124,8 @@ impl SoakRun {
         ensures made { self.new ≡ station_joins station self.old }
         ensures later { IsLater self.old self.new }
     {
-        self.ask(standard_join(station, 4080 + station), answer);
+        let offloaded = self.device && station % 2 == 1;
+        self.ask(join_of(offloaded, station, 4080 + station), answer);
         self.ask(standard_rate(station), answer);
     }
 
@@ -181,13 +190,35 @@ impl SoakRun {
         }
     }
 
+    /// Marks a transmission that does not arrive, in a soak of devices: one of three never went on the air, and
+    /// one of three is given up.
+    fn missed(&mut self, word: u32, exchange: u64, index: u16, answer: &mut Answer)
+        ensures made { self.new ≡ missed self.old.device word exchange index self.old }
+        ensures later { IsLater self.old self.new }
+    {
+        if !self.device {
+            return;
+        }
+        match word / 10 % 3 {
+            0 => {
+                self.ask(Ask::Unsent { exchange, index }, answer);
+            }
+            1 => {
+                self.ask(Ask::GiveUp { exchange, index }, answer);
+            }
+            _ => {}
+        }
+    }
+
     /// Plays one transmission, and returns whether it arrives: it does for nine of ten words.
     fn transmission_sent(&mut self, exchange: u64, index: u16, answer: &mut Answer) -> bool
         ensures made { self.new ≡ transmission_sent exchange index self.old }
         ensures arrived { result ≡ lets_arrive self.old }
         ensures later { IsLater self.old self.new }
     {
-        if self.draw() % 10 == 0 {
+        let word = self.draw();
+        if word % 10 == 0 {
+            self.missed(word, exchange, index, answer);
             return false;
         }
         self.ask(Ask::Arrive { exchange, index }, answer);
@@ -256,12 +287,11 @@ impl SoakRun {
 
     /// Pulls a class if a call is left. Returns the number of the exchange that this begins, and its number
     /// of transmissions.
-    fn pull(&mut self, class: Class, answer: &mut Answer) -> Option<(u64, u16)>
-        ensures made { self.new ≡ call (Asked (Pull class no_limits)) self.old }
-        ensures sending { result ≡ sending (reply_to (Asked (Pull class no_limits)) self.old) }
+    fn pull(&mut self, class: Class, limits: Limits, answer: &mut Answer) -> Option<(u64, u16)>
+        ensures made { self.new ≡ call (Asked (Pull class limits)) self.old }
+        ensures sending { result ≡ sending (reply_to (Asked (Pull class limits)) self.old) }
         ensures later { IsLater self.old self.new }
     {
-        let limits = Limits::NONE;
         if self.ask(Ask::Pull { class, limits }, answer) {
             sending(answer)
         } else {
@@ -269,12 +299,26 @@ impl SoakRun {
         }
     }
 
-    /// Pulls a class, and plays the exchange that this begins.
-    fn pulled(&mut self, class: Class, answer: &mut Answer)
-        ensures made { self.new ≡ after_pull class self.old }
+    /// In a soak of devices, makes the call for a station and its device that the next word determines.
+    #[tactic(auto, unfolding(crate::specs::Soak::device_called))]
+    fn device_called(&mut self, answer: &mut Answer)
+        ensures made { self.new ≡ device_called self.old }
         ensures later { IsLater self.old self.new }
     {
-        let sending = self.pull(class, answer);
+        if self.device {
+            let word = self.draw();
+            self.ask(device_call(word), answer);
+        }
+    }
+
+    /// Pulls a class, and plays the exchange that this begins.
+    #[tactic(auto, unfolding(crate::specs::Soak::after_pull))]
+    fn pulled(&mut self, class: Class, limits: Limits, answer: &mut Answer)
+        ensures made { self.new ≡ after_pull class limits self.old }
+        ensures later { IsLater self.old self.new }
+    {
+        let sending = self.pull(class, limits, answer);
+        self.device_called(answer);
         self.sending_played(sending, answer);
     }
 
@@ -306,6 +350,7 @@ impl SoakRun {
         ensures later { OnOk result (IsLater self.old self.new) }
         ensures left { OnOk result (self.new.left ≤ self.old.left - 1) }
     {
+        let limits = limits_in(self.device, round);
         self.frame_put(answer)?;
         self.frame_put(answer)?;
         self.frame_put(answer)?;
@@ -313,7 +358,7 @@ impl SoakRun {
         self.ask(Ask::Tick { by: 1000 }, answer);
         self.air_used(round, answer);
         self.sleeper_called(round, answer);
-        self.pulled(class_in_round(round), answer);
+        self.pulled(class_in_round(round), limits, answer);
         self.all_reaped(answer);
         Ok(())
     }
@@ -359,6 +404,82 @@ fn class_in_round(round: u32) -> Class
         1 => Class::Be,
         2 => Class::Vi,
         _ => Class::Vo,
+    }
+}
+
+/// Returns the join of a station that is offloaded, or a standard one with this first number.
+fn join_of(offloaded: bool, station: u16, start: u16) -> Ask
+    ensures { result ≡ join_of offloaded station start }
+{
+    if offloaded {
+        Ask::Offload {
+            station,
+            exponent: 3,
+            weight: 1,
+        }
+    } else {
+        standard_join(station, start)
+    }
+}
+
+/// Returns the call for a station and its device that a word determines.
+#[tactic(auto, unfolding(crate::specs::Soak::device_call))]
+fn device_call(word: u32) -> Ask
+    ensures { result ≡ device_call word }
+{
+    let station = (word / 12 % 16) as u16;
+    let rest = word / 192;
+    match word % 12 {
+        0 | 1 => Ask::Weight {
+            station,
+            weight: (1 + rest % 16) as u8,
+        },
+        2 => Ask::Stop { station },
+        3 | 4 => Ask::Start { station },
+        5 | 6 => Ask::Flush {
+            station,
+            tid: (rest % 8) as u8,
+        },
+        7 => Ask::Leave { station },
+        8 => join_of(true, station, 0),
+        9 => join_of(false, station, (rest % 4096) as u16),
+        10 => vht_rate(station, (rest % 10) as u8),
+        _ => Ask::Ampdu {
+            station,
+            octets: 4096 + rest % 65536,
+        },
+    }
+}
+
+/// Returns a rate of VHT on 80 MHz with two streams.
+fn vht_rate(station: u16, mcs: u8) -> Ask
+    ensures { result ≡ Rate station (Vht mcs 80 false 2) }
+{
+    Ask::Rate {
+        station,
+        rate: AskedRate::Vht {
+            mcs,
+            mhz: 80,
+            short: false,
+            streams: 2,
+        },
+    }
+}
+
+/// Returns the limit of a pull, if it is limited.
+fn limit_if(limited: bool, most: u32) -> Option<u32>
+    ensures { result ≡ limit_if limited most }
+{
+    if limited { Some(most) } else { None }
+}
+
+/// Returns the limits of a round's pull: none, except in a soak of devices.
+fn limits_in(device: bool, round: u32) -> Limits
+    ensures { result ≡ limits_in device round }
+{
+    Limits {
+        frames: limit_if(device && round % 3 == 0, 1 + round % 8),
+        air: limit_if(device && round % 5 == 0, 100 + round % 2000),
     }
 }
 

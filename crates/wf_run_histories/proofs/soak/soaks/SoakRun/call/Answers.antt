@@ -36,7 +36,12 @@ returns-clause-made c =
     let some : 0 < c.self.inside.left = omega (arith, c.if-self-eq0.false) in
     let room : 0 < calls_left_in p = has_room p c.self.inside.left c.self.invariant.0 c.self.invariant.1
     some in
-    ap (λ (x : Past). record { past = x.history; words = c.self.inside.words; left = c.self.inside.left - 1 })
+    ap (λ (x : Past). record {
+      device = c.self.inside.device;
+      past = x.history;
+      words = c.self.inside.words;
+      left = c.self.inside.left - 1;
+    })
     (c.step.ensures.past room)
     ∙ sym (call_one (note_of c.args.job) _ some) ∙ ap (call (note_of c.args.job)) c.self.view_is
 
