@@ -206,7 +206,7 @@ enum wf_fate {
 /* The outcomes of a transmission, for wf_path_done_each. */
 enum wf_outcome {
   WF_OUTCOME_ACKED = 0,  /* it was acknowledged */
-  WF_OUTCOME_RETRY = 1,  /* it was not acknowledged, and may be tried again */
+  WF_OUTCOME_RETRY = 1,  /* it was not acknowledged, and may be tried again, unless it is of a batch */
   WF_OUTCOME_UNSENT = 2, /* it never went on the air (wf_path_unsent) */
   WF_OUTCOME_GAVE_UP = 3 /* it was not acknowledged, and the device will not try it again (wf_path_give_up) */
 };
@@ -216,10 +216,10 @@ enum wf_outcome {
 enum wf_kind {
   WF_KIND_JOINED = 0,
   WF_KIND_LEFT = 1,      /* count: the number of frames that were dropped */
-  WF_KIND_SET = 2,       /* the rate or the greatest aggregate is set */
+  WF_KIND_SET = 2,       /* the rate, the greatest aggregate or the weight is set */
   WF_KIND_NOW = 3,       /* now */
   WF_KIND_ACCEPTED = 4,  /* id; dropped, if has_dropped is 1 */
-  WF_KIND_SEND = 5,      /* exchange, station, tid, air, more; start, if request is 1 */
+  WF_KIND_SEND = 5,      /* exchange, station, tid, air, more, batch; start, if request is 1 */
   WF_KIND_RELEASED = 6,  /* only from a cell: wf_cell_released writes the frames */
   WF_KIND_BA = 7,        /* only from a cell: wf_cell_block writes the BlockAck */
   WF_KIND_DONE = 8,      /* acked, waiting, failed */
@@ -237,31 +237,33 @@ enum wf_kind {
 
 /* The calls of a cell, each with the fields of `struct wf_call` that have a meaning. The other fields are 0
  * in an entry that is read, and are ignored in a call that is made. A call has the number of its answer,
- * except that WF_CALL_AMPDU is answered with WF_KIND_SET, WF_CALL_GIVEUP with WF_KIND_MARKED, and
- * WF_CALL_FLUSH with WF_KIND_FLUSHED. */
+ * except that WF_CALL_AMPDU and WF_CALL_WEIGHT are answered with WF_KIND_SET, WF_CALL_GIVEUP with
+ * WF_KIND_MARKED, WF_CALL_FLUSH with WF_KIND_FLUSHED, and WF_CALL_OFFLOAD with WF_KIND_JOINED. */
 enum wf_call_kind {
   /* begin calls: tools/tables writes these lines; the comments stay */
-  WF_CALL_JOIN = 0,    /* station, window, start, exponent, weight */
-  WF_CALL_LEAVE = 1,   /* station */
-  WF_CALL_RATE = 2,    /* station, form, mcs, mhz; HT: short_guard; VHT: short_guard and streams;
-                        * HE: guard and streams */
-  WF_CALL_TICK = 3,    /* by */
-  WF_CALL_ENQUEUE = 4, /* station, tid, flow, length; made by wf_cell_enqueue, or in a burst */
-  WF_CALL_PULL = 5,    /* class_; frames and air, each 0 if it limits nothing */
-  WF_CALL_ARRIVE = 6,  /* exchange, index */
-  WF_CALL_ANSWER = 7,  /* exchange */
-  WF_CALL_DONE = 8,    /* exchange, heard; air, or 0 if no airtime is given */
-  WF_CALL_SLEEP = 9,   /* station */
-  WF_CALL_WAKE = 10,   /* station */
-  WF_CALL_POLL = 11,   /* station */
-  WF_CALL_RX = 12,     /* station, class_, air */
-  WF_CALL_REAP = 13,   /* made by wf_cell_reap, or in a burst */
-  WF_CALL_AMPDU = 14,  /* station, octets */
-  WF_CALL_STOP = 15,   /* station */
-  WF_CALL_START = 16,  /* station */
-  WF_CALL_UNSENT = 17, /* exchange, index */
-  WF_CALL_GIVEUP = 18, /* exchange, index */
-  WF_CALL_FLUSH = 19   /* station, tid */
+  WF_CALL_JOIN = 0,     /* station, window, start, exponent, weight */
+  WF_CALL_LEAVE = 1,    /* station */
+  WF_CALL_RATE = 2,     /* station, form, mcs, mhz; HT: short_guard; VHT: short_guard and
+                         * streams; HE: guard and streams */
+  WF_CALL_TICK = 3,     /* by */
+  WF_CALL_ENQUEUE = 4,  /* station, tid, flow, length; made by wf_cell_enqueue, or in a burst */
+  WF_CALL_PULL = 5,     /* class_; frames and air, each 0 if it limits nothing */
+  WF_CALL_ARRIVE = 6,   /* exchange, index */
+  WF_CALL_ANSWER = 7,   /* exchange */
+  WF_CALL_DONE = 8,     /* exchange, heard; air, or 0 if no airtime is given */
+  WF_CALL_SLEEP = 9,    /* station */
+  WF_CALL_WAKE = 10,    /* station */
+  WF_CALL_POLL = 11,    /* station */
+  WF_CALL_RX = 12,      /* station, class_, air */
+  WF_CALL_REAP = 13,    /* made by wf_cell_reap, or in a burst */
+  WF_CALL_AMPDU = 14,   /* station, octets */
+  WF_CALL_STOP = 15,    /* station */
+  WF_CALL_START = 16,   /* station */
+  WF_CALL_UNSENT = 17,  /* exchange, index */
+  WF_CALL_GIVEUP = 18,  /* exchange, index */
+  WF_CALL_FLUSH = 19,   /* station, tid */
+  WF_CALL_OFFLOAD = 20, /* station, exponent, weight */
+  WF_CALL_WEIGHT = 21   /* station, weight */
   /* end calls */
 };
 
@@ -344,10 +346,12 @@ struct wf_reply {
   uint8_t has_dropped;  /* 1 if `dropped` is set, else 0 */
   uint8_t request;      /* 1 if the exchange is a BlockAckReq, else 0 */
   uint8_t more;         /* 1 if the station has more to be sent (the More Data bit), else 0 */
+  uint8_t batch;        /* 1 if the frames are for a device that numbers them (wf_path_join_offload), else 0 */
 };
 
-/* The frames of an aggregate: the first `count` ids and sequence numbers (0 to 4095). The entries after them
- * have no meaning: no contract says what a function leaves there. */
+/* The frames of an aggregate: the first `count` ids and sequence numbers (0 to 4095). Those of a batch have no
+ * sequence numbers: these are 0. The entries after them have no meaning: no contract says what a function
+ * leaves there. */
 struct wf_frames {
   uint64_t ids[256];
   uint16_t numbers[256];
@@ -550,6 +554,18 @@ int32_t wf_path_address(const struct wf_path *path, uint16_t station, uint8_t ou
 int32_t wf_path_join(struct wf_path *path, uint16_t station, uint16_t window, uint16_t start, uint8_t exponent, uint8_t weight,
                      struct wf_reply *reply);
 
+/* Makes a station live whose device numbers, aggregates and repeats its frames: its A-MPDU length exponent (0
+ * to 3) and its weight (1 to 16). Each exchange to it is a batch, never a BlockAckReq, and ends by
+ * wf_path_done_each, since the device numbers its frames. A frame of it that went on the air and was not
+ * acknowledged is dropped as WF_RETRIES, because the device has repeated it. Of each TID at most 256 frames
+ * are in the device. Returns WF_OK, WF_BAD_STATION, WF_BAD_EXPONENT, WF_BAD_WEIGHT or WF_LIVE. */
+int32_t wf_path_join_offload(struct wf_path *path, uint16_t station, uint8_t exponent, uint8_t weight, struct wf_reply *reply);
+
+/* Sets the weight of a live station in airtime, 1 to 16. Its deficit in a class is then at most its new
+ * quantum and, with the setting `pending`, its airtime in flight. Returns WF_OK, WF_BAD_STATION,
+ * WF_BAD_WEIGHT or WF_NO_STATION. */
+int32_t wf_path_weight(struct wf_path *path, uint16_t station, uint8_t weight, struct wf_reply *reply);
+
 /* Makes a station leave: it is no longer live, and its frames are dropped as WF_LEFT. `count` of the reply is
  * the number of these frames. Returns WF_OK, WF_BAD_STATION, WF_NO_STATION or WF_OPEN. */
 int32_t wf_path_leave(struct wf_path *path, uint16_t station, struct wf_reply *reply);
@@ -640,8 +656,8 @@ int32_t wf_path_reserve(struct wf_path *path, uint32_t frames);
 int32_t wf_path_enqueue_bare(struct wf_path *path, uint16_t station, const struct wf_bare *packet, struct wf_reply *reply);
 
 /* Opens the next exchange of a class, which the driver then sends: `exchange` of the reply is its number. If it
- * is an aggregate, `frames` gets its frames. If it is a BlockAckReq, or after an error, their count is 0. `air`
- * of the reply is the time of the transmissions and of the BlockAck, in microseconds. Returns WF_OK;
+ * is an aggregate or a batch, `frames` gets its frames. If it is a BlockAckReq, or after an error, their count
+ * is 0. `air` of the reply is the time of the transmissions and of the BlockAck, in microseconds. Returns WF_OK;
  * WF_BAD_CLASS exactly if the class is above 3, and then `reply` and `frames` are unchanged; or else WF_FULL,
  * WF_AHEAD or WF_IDLE. After WF_FULL, pull again when an exchange of the class has ended; after WF_AHEAD, when
  * any exchange has ended; after WF_IDLE, also after an enqueue, a wake, a poll or a start. */
@@ -693,8 +709,9 @@ int32_t wf_path_frame_tag(const struct wf_path *path, uint64_t exchange, uint16_
 
 /* Writes only the header of a data transmission (a QoS data frame of IEEE 802.11-2012): WF_HEADER octets. It
  * is for a driver that gathers, and sends the body from its own buffer. wf_path_mpdu writes a BlockAckReq,
- * which has no body. Returns WF_OK; WF_NO_EXCHANGE; or WF_BAD_INDEX if the exchange has no data frame with
- * that index. After an error `out` is unchanged. */
+ * which has no body. The header of a frame of a batch has a number of the path, which the device replaces.
+ * Returns WF_OK; WF_NO_EXCHANGE; or WF_BAD_INDEX if the exchange has no data frame with that index. After an
+ * error `out` is unchanged. */
 int32_t wf_path_header(const struct wf_path *path, uint64_t exchange, uint16_t index, uint8_t out[WF_HEADER]);
 
 /* Writes the octets of a transmission (a QoS data frame or a BlockAckReq of IEEE 802.11-2012), and to `size`
@@ -716,42 +733,46 @@ int32_t wf_path_unsent(struct wf_path *path, uint64_t exchange, uint16_t index, 
 int32_t wf_path_give_up(struct wf_path *path, uint64_t exchange, uint16_t index, struct wf_reply *reply);
 
 /* Ends an exchange whose BlockAck was not heard. Its frames wait to be sent again, or are dropped after their
- * last transmission. The station is charged `air`, 1 to `charge` microseconds as the device measured them,
- * or, if `air` is 0, what wf_path_pull answered. Returns WF_OK; WF_NO_EXCHANGE; or WF_BAD_AIR if `air` is
- * above the setting `charge`, which is 0 in the standard settings. */
+ * last transmission; those of a batch are dropped unless they are marked by wf_path_unsent. The station is
+ * charged `air`, 1 to `charge` microseconds as the device measured them, or, if `air` is 0, what wf_path_pull
+ * answered. Returns WF_OK; WF_NO_EXCHANGE; or WF_BAD_AIR if `air` is above the setting `charge`, which is 0
+ * in the standard settings. */
 int32_t wf_path_done_lost(struct wf_path *path, uint64_t exchange, uint32_t air, struct wf_reply *reply);
 
-/* Ends an exchange by the start (modulo 4096) and the bitmap of a BlockAck that was heard. The bitmap begins
- * with the least significant bit of bits[0]; its first 64 bits count, or all 256 if the window is above 64.
- * Frames that it shows are acknowledged; the others wait to be sent again, or are dropped after their last
- * transmission. The station is charged `air`, 1 to `charge` microseconds as the device measured them, or, if
- * `air` is 0, what wf_path_pull answered. Returns WF_OK; WF_NO_EXCHANGE; WF_NO_ANSWER if nothing of the
- * exchange went on the air (wf_path_unsent); or WF_BAD_AIR if `air` is above the setting `charge`. */
+/* Ends an exchange by the start (modulo 4096) and the bitmap of a BlockAck that was heard. A batch ends by
+ * wf_path_done_each, since its frames have other numbers on the air. The bitmap begins with the least
+ * significant bit of bits[0]; its first 64 bits count, or all 256 if the window is above 64. Frames that it
+ * shows are acknowledged; the others wait to be sent again, or are dropped after their last transmission. The
+ * station is charged `air`, 1 to `charge` microseconds as the device measured them, or, if `air` is 0, what
+ * wf_path_pull answered. Returns WF_OK; WF_NO_EXCHANGE; WF_NO_ANSWER if nothing of the exchange went on the
+ * air (wf_path_unsent); or WF_BAD_AIR if `air` is above the setting `charge`. */
 int32_t wf_path_done_bits(struct wf_path *path, uint64_t exchange, uint16_t start, const uint8_t bits[32], uint32_t air,
                           struct wf_reply *reply);
 
 /* Ends an exchange by the octets of a BlockAck that was heard, without its check sequence: 28 octets, with a
  * bitmap of 64 bits, or, if the window is above 64, also 52, with one of 256 (IEEE 802.11ax-2021, 9.3.1.8.2).
  * Frames that it shows are acknowledged; the others wait to be sent again, or are dropped after their last
- * transmission. The station is charged `air`, 1 to `charge` microseconds as the device measured them, or, if
- * `air` is 0, what wf_path_pull answered. Returns WF_OK, or the first of these that holds: WF_NO_EXCHANGE;
- * WF_BLOCK_LENGTH, WF_BLOCK_KIND, WF_BLOCK_BASIC, WF_BLOCK_MULTI, WF_BLOCK_NARROW, WF_BLOCK_FRAGMENT,
- * WF_NOT_MINE or WF_WRONG_TID if the octets are not a BlockAck to this exchange; WF_NO_ANSWER if nothing of
- * the exchange went on the air (wf_path_unsent); WF_BAD_AIR if `air` is above the setting `charge`. After an
- * error the exchange is still open, and `reply` is unchanged. */
+ * transmission. A batch ends by wf_path_done_each. The station is charged `air`, 1 to `charge` microseconds
+ * as the device measured them, or, if `air` is 0, what wf_path_pull answered. Returns WF_OK, or the first of
+ * these that holds: WF_NO_EXCHANGE; WF_BLOCK_LENGTH, WF_BLOCK_KIND, WF_BLOCK_BASIC, WF_BLOCK_MULTI,
+ * WF_BLOCK_NARROW, WF_BLOCK_FRAGMENT, WF_NOT_MINE or WF_WRONG_TID if the octets are not a BlockAck to this
+ * exchange; WF_NO_ANSWER if nothing of the exchange went on the air (wf_path_unsent); WF_BAD_AIR if `air` is
+ * above the setting `charge`. After an error the exchange is still open, and `reply` is unchanged. */
 int32_t wf_path_done_octets(struct wf_path *path, uint64_t exchange, const uint8_t *octets, size_t length, uint32_t air,
                             struct wf_reply *reply);
 
-/* Ends an exchange by what became of each of its transmissions (enum wf_outcome), in their order, for a device
- * that reports each frame. `count` is the number of outcomes: as many as the exchange has transmissions
- * (wf_path_sent). For WF_OUTCOME_UNSENT and WF_OUTCOME_GAVE_UP it sets the marks of wf_path_unsent and
- * wf_path_give_up. Then it does what wf_path_done_bits does with a BlockAck that shows exactly the acknowledged
- * frames, or, if none is acknowledged, what wf_path_done_lost does. A BlockAckReq has one outcome, which is
- * WF_OUTCOME_ACKED if it was answered. The station is charged `air`, 1 to `charge` microseconds as the device measured them, or, if `air`
- * is 0, what wf_path_pull answered. Returns WF_OK, or the first of these that holds: WF_BAD_OUTCOME if an
- * outcome is above 3, and then `reply` is unchanged; WF_NO_EXCHANGE; WF_BAD_INDEX if the exchange has another
- * number of transmissions; WF_MARKED if one of them has a mark already; WF_BAD_AIR if `air` is above the
- * setting `charge`. After an error the exchange is still open, and has no new mark. */
+/* Ends an exchange by what became of each of its transmissions (enum wf_outcome), in their order, for a
+ * device that reports each frame. `count` is the number of outcomes: as many as the exchange has
+ * transmissions (wf_path_sent). For WF_OUTCOME_UNSENT and WF_OUTCOME_GAVE_UP it sets the marks of
+ * wf_path_unsent and wf_path_give_up. Then it does what wf_path_done_bits does with a BlockAck that shows
+ * exactly the acknowledged frames, or, if none is acknowledged, what wf_path_done_lost does. In a batch
+ * WF_OUTCOME_RETRY does what WF_OUTCOME_GAVE_UP does. A BlockAckReq has one outcome, which is
+ * WF_OUTCOME_ACKED if it was answered. The station is charged `air`, 1 to `charge` microseconds as the device
+ * measured them, or, if `air` is 0, what wf_path_pull answered. Returns WF_OK, or the first of these that
+ * holds: WF_BAD_OUTCOME if an outcome is above 3, and then `reply` is unchanged; WF_NO_EXCHANGE; WF_BAD_INDEX
+ * if the exchange has another number of transmissions; WF_MARKED if one of them has a mark already;
+ * WF_BAD_AIR if `air` is above the setting `charge`. After an error the exchange is still open, and has no
+ * new mark. */
 int32_t wf_path_done_each(struct wf_path *path, uint64_t exchange, const uint8_t *outcomes, size_t count, uint32_t air,
                           struct wf_reply *reply);
 
@@ -875,13 +896,13 @@ int32_t wf_cell_reap(struct wf_cell *cell, uint32_t caller, struct wf_reply *rep
 int32_t wf_cell_burst(struct wf_cell *cell, uint32_t caller, const struct wf_call *calls, size_t count, struct wf_reply *replies,
                       size_t room, size_t *made);
 
-/* Writes the frames of the aggregate, if the answer to the last call sends one; otherwise their count is 0. A
- * call that was refused with WF_HISTORY_FULL counts as the last call; one that returned WF_BAD_CALL,
- * WF_BAD_LENGTH, WF_NO_MEMORY or WF_SMALL_BUFFER does not. */
+/* Writes the frames of the aggregate or batch, if the answer to the last call sends one; otherwise their
+ * count is 0. A call that was refused with WF_HISTORY_FULL counts as the last call; one that returned
+ * WF_BAD_CALL, WF_BAD_LENGTH, WF_NO_MEMORY or WF_SMALL_BUFFER does not. */
 void wf_cell_frames(const struct wf_cell *cell, struct wf_frames *frames);
 
-/* Writes the frames that the station passed up, if a transmission arrived by the last call; otherwise their
- * count is 0. The last call is defined at wf_cell_frames. */
+/* Writes the frames that the station passed up, if a transmission arrived by the last call; otherwise, and if
+ * it is of a batch, their count is 0. The last call is defined at wf_cell_frames. */
 void wf_cell_released(const struct wf_cell *cell, struct wf_passed_up *up);
 
 /* Writes the BlockAck of the station, if it answered by the last call; otherwise all fields are 0. The last

@@ -7,7 +7,7 @@ use Rattle.wf_frame.specs.Calls.{call_numbered, limits, no_limits}
 use Rattle.wf_frame.specs.Classes.{all_classes, class_among, class_number}
 use Rattle.wf_frame.specs.declared.classes.Class.{Class}
 use Rattle.wf_frame.specs.declared.notes.Note.TheVariants.{Enqueue, Asked}
-use Rattle.wf_frame.specs.declared.notes.Ask.TheVariants.{Join, Leave, Rate, Tick, Pull, Arrive, Answer, Done, Sleep, Wake, Poll, Rx, Reap, Ampdu, Stop, Start, Unsent, GiveUp, Flush}
+use Rattle.wf_frame.specs.declared.notes.Ask.TheVariants.{Join, Leave, Rate, Tick, Pull, Arrive, Answer, Done, Sleep, Wake, Poll, Rx, Reap, Ampdu, Stop, Start, Unsent, GiveUp, Flush, Offload, Weight}
 use Rattle.wf_frame.specs.declared.notes.AskedRate.TheVariants.{Ht, Vht, He}
 use Rattle.wf_c.specs.CallNumbers.{blank_call, numbers_of_call, asked, call_noted}
 use Rattle.wf_c.specs.Numbers.{flag_of, is_up}
@@ -147,6 +147,16 @@ pub fields_of_flush : (station tid : ℕ) →
     ≡ record blank_call { kind = 19; station = station; tid = tid }
 fields_of_flush station tid = refl
 
+pub fields_of_offload : (station exponent weight : ℕ) →
+    numbers_of_call (Asked (Offload station exponent weight))
+    ≡ record blank_call { kind = 20; station = station; exponent = exponent; weight = weight }
+fields_of_offload station exponent weight = refl
+
+pub fields_of_weight : (station weight : ℕ) →
+    numbers_of_call (Asked (Weight station weight))
+    ≡ record blank_call { kind = 21; station = station; weight = weight }
+fields_of_weight station weight = refl
+
 -- ---- the call of fields
 
 -- the calls that these fields show, by their kind and some other field
@@ -188,12 +198,14 @@ pub record Rows (c : CallNumbers) : Type 0 where
   pub unsent : asked (record c { kind = 17 }) ≡ Some (Unsent c.exchange c.index)
   pub give_up : asked (record c { kind = 18 }) ≡ Some (GiveUp c.exchange c.index)
   pub flush : asked (record c { kind = 19 }) ≡ Some (Flush c.station c.tid)
-  pub no_call : (n : ℕ) → 19 < n → asked (record c { kind = n }) ≡ None
+  pub offload : asked (record c { kind = 20 }) ≡ Some (Offload c.station c.exponent c.weight)
+  pub weight : asked (record c { kind = 21 }) ≡ Some (Weight c.station c.weight)
+  pub no_call : (n : ℕ) → 21 < n → asked (record c { kind = n }) ≡ None
 
 above : (n k : ℕ) → k < n → nat_eq n k ≡ false
 above n k less = grind (arith, nat_tests)
 
-none_numbered : (n : ℕ) → 19 < n → call_numbered n ≡ None
+none_numbered : (n : ℕ) → 21 < n → call_numbered n ≡ None
 none_numbered n less = grind (arith, nat_tests)
 
 is_class : (n : ℕ) → n ≤ 3 → nat_lt 3 n ≡ false
@@ -235,5 +247,7 @@ rows c = record {
   unsent = refl;
   give_up = refl;
   flush = refl;
+  offload = refl;
+  weight = refl;
   no_call = λ n less. rw (none_numbered n less) refl;
 }

@@ -30,8 +30,8 @@ shows_none : (b : Brief) → is_refused (reply_with b [] []) ≡ false → (numb
 shows_none (Refused why) is = absurd (both_ways true is refl)
 shows_none (Accepted id None) is = refl
 shows_none (Accepted id (Some dropped)) is = refl
-shows_none (Send exchange station tid air None more) is = refl
-shows_none (Send exchange station tid air (Some start) more) is = refl
+shows_none (Send exchange station tid air None batch more) is = refl
+shows_none (Send exchange station tid air (Some start) batch more) is = refl
 shows_none _ is = refl
 
 module _ {p q : PathValue} {e : ℕ} {heard : Option (ℕ × List ℕ)} {air : Option ℕ} {b : Brief}

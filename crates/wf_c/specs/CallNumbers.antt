@@ -63,6 +63,7 @@ value_in c argument.Window = value.Short c.window
 value_in c argument.Start = value.Short c.start
 value_in c argument.Exponent = value.Octet c.exponent
 value_in c argument.Weight = value.Octet c.weight
+value_in c argument.NewWeight = value.Octet c.weight
 value_in c argument.Format = value.Format (format_shown c.form)
 value_in c argument.Mcs = value.Octet c.mcs
 value_in c argument.Mhz = value.Octet c.mhz
@@ -91,6 +92,7 @@ with_argument c argument.Window (value.Short n) = record c { window = n }
 with_argument c argument.Start (value.Short n) = record c { start = n }
 with_argument c argument.Exponent (value.Octet n) = record c { exponent = n }
 with_argument c argument.Weight (value.Octet n) = record c { weight = n }
+with_argument c argument.NewWeight (value.Octet n) = record c { weight = n }
 with_argument c argument.Format (value.Format f) = record c { form = format_number f }
 with_argument c argument.Mcs (value.Octet n) = record c { mcs = n }
 with_argument c argument.Mhz (value.Octet n) = record c { mhz = n }

@@ -70,6 +70,7 @@ blank = record {
   has_dropped = 0;
   request = 0;
   more = 0;
+  batch = 0;
 }
 
 -- with the frame that was dropped, if any
@@ -103,13 +104,14 @@ numbers_of (brief.Left dropped) = record blank { kind = 1; count = dropped }
 numbers_of Set = record blank { kind = 2 }
 numbers_of (Now now) = record blank { kind = 3; now = now }
 numbers_of (Accepted id dropped) = with_dropped dropped (record blank { kind = 4; id = id })
-numbers_of (Send exchange station tid air request more) =
+numbers_of (Send exchange station tid air request batch more) =
     record (with_request_start request (record blank { kind = 5 })) {
       exchange = exchange;
       station = station;
       tid = tid;
       air = air;
       more = flag_of more;
+      batch = flag_of batch;
     }
 numbers_of Released = record blank { kind = 6 }
 numbers_of (Ba start b0 b1 b2 b3 wide) = record blank { kind = 7 }

@@ -3,7 +3,7 @@
 //! Each writes its answer to the caller's `Reply`, and returns its refusal, or 0 if it was not refused.
 
 ghost use Rattle.std.specs.Prelude.{◌≡◌, true, is_some, pos, IfSome, IfNone, OnSome};
-ghost use Rattle.wf_frame.specs.declared.notes.Ask.TheVariants.{Join, Leave, Rate, Tick, Pull, Sleep, Wake, Poll, Rx, Ampdu, Stop, Start, Unsent, GiveUp, Flush};
+ghost use Rattle.wf_frame.specs.declared.notes.Ask.TheVariants.{Join, Leave, Rate, Tick, Pull, Sleep, Wake, Poll, Rx, Ampdu, Stop, Start, Unsent, GiveUp, Flush, Offload, Weight};
 ghost use Rattle.wf_frame.specs.declared.notes.AskedRate.TheVariants.{Ht, Vht, He};
 ghost use Rattle.wf_frame.specs.Calls.{no_limits};
 ghost use Rattle.wf_path.specs.Jobs.{as_ask};
@@ -73,6 +73,47 @@ pub extern "C" fn wf_path_join(
         weight,
     };
     path.ask(ask, reply)
+}
+
+/// Makes a station live whose device numbers, aggregates and repeats its frames: its A-MPDU length exponent
+/// and weight.
+#[unsafe(no_mangle)]
+pub extern "C" fn wf_path_join_offload(
+    path: &mut PathSlot,
+    station: u16,
+    exponent: u8,
+    weight: u8,
+    reply: &mut Reply,
+) -> i32
+    requires open { is_some path.old.value ≡ true }
+    requires small { HoldsSmall path.old.value }
+    ensures called { Becomes (λ h k. IsCalled h
+        (Offload station exponent weight) k reply.new) path.old.value path.new.value }
+    ensures code { result ≡ pos reply.new.refusal }
+{
+    let ask = PathAsk::Offload {
+        station,
+        exponent,
+        weight,
+    };
+    path.ask(ask, reply)
+}
+
+/// Sets a station's weight.
+#[unsafe(no_mangle)]
+pub extern "C" fn wf_path_weight(
+    path: &mut PathSlot,
+    station: u16,
+    weight: u8,
+    reply: &mut Reply,
+) -> i32
+    requires open { is_some path.old.value ≡ true }
+    requires small { HoldsSmall path.old.value }
+    ensures called { Becomes (λ h k. IsCalled h (Weight station weight) k reply.new) path.old.value
+        path.new.value }
+    ensures code { result ≡ pos reply.new.refusal }
+{
+    path.ask(PathAsk::Weight { station, weight }, reply)
 }
 
 /// Makes a station leave. Its frames are dropped.
@@ -328,8 +369,8 @@ pub extern "C" fn wf_path_rx(
     }
 }
 
-/// Opens the next exchange of a class. If it sends an aggregate, `frames` gets its frames; otherwise their
-/// count is 0. Returns 47 if the class is above 3, and then nothing has changed.
+/// Opens the next exchange of a class. If it sends an aggregate or a batch, `frames` gets its frames;
+/// otherwise their count is 0. Returns 47 if the class is above 3, and then nothing has changed.
 #[unsafe(no_mangle)]
 pub extern "C" fn wf_path_pull(
     path: &mut PathSlot,

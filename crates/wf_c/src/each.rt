@@ -94,10 +94,10 @@ impl Held {
 
 /// Ends an exchange by the outcomes of its transmissions, in their order: 0 for an acknowledged one, 1 for
 /// one that may be tried again, 2 for one that never went on the air, and 3 for one that the device will not
-/// try again. The station is charged `air` microseconds, or the computed charge if `air` is 0. Returns 0; 48
-/// if an outcome is above 3, and then nothing has changed; 12 if the exchange is not open; 9 if it has
-/// another number of transmissions; 32 if one of them has a mark already; or 8 if `air` is above the setting
-/// `charge`.
+/// try again. For a batch 1 is the same as 3, since the device has repeated its frames. The station is
+/// charged `air` microseconds, or the computed charge if `air` is 0. Returns 0; 48 if an outcome is above 3,
+/// and then nothing has changed; 12 if the exchange is not open; 9 if it has another number of transmissions;
+/// 32 if one of them has a mark already; or 8 if `air` is above the setting `charge`.
 #[unsafe(no_mangle)]
 pub extern "C" fn wf_path_done_each(
     path: &mut PathSlot,

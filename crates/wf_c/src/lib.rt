@@ -32,10 +32,10 @@ mod version;
 
 pub use addresses::{wf_path_address, wf_path_base, wf_path_set_address, wf_path_set_base};
 pub use asks::{
-    wf_path_ampdu, wf_path_flush, wf_path_give_up, wf_path_join, wf_path_leave, wf_path_poll,
-    wf_path_pull, wf_path_pull_limited, wf_path_rate_he, wf_path_rate_ht, wf_path_rate_vht,
-    wf_path_rx, wf_path_sleep, wf_path_start, wf_path_stop, wf_path_tick, wf_path_unsent,
-    wf_path_wake,
+    wf_path_ampdu, wf_path_flush, wf_path_give_up, wf_path_join, wf_path_join_offload,
+    wf_path_leave, wf_path_poll, wf_path_pull, wf_path_pull_limited, wf_path_rate_he,
+    wf_path_rate_ht, wf_path_rate_vht, wf_path_rx, wf_path_sleep, wf_path_start, wf_path_stop,
+    wf_path_tick, wf_path_unsent, wf_path_wake, wf_path_weight,
 };
 pub use bare::{Bare, wf_path_enqueue_bare, wf_path_reserve};
 pub use burst::wf_path_burst;

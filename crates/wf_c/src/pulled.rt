@@ -1,11 +1,12 @@
 //! The frames of an aggregate, in a struct of the caller's.
 
-ghost use Rattle.std.specs.Prelude.{◌<◌, ℕ};
-ghost use Rattle.wf_c.specs.Pulled.{ShowsPair, ShowsPairs, ShowsAggregate};
+ghost use Rattle.std.specs.Prelude.{◌≡◌, ◌<◌, ℕ};
+ghost use Rattle.wf_c.specs.Pulled.{ShowsPair, ShowsPairs, ShowsAggregate, pair_shown, pairs_shown};
 
 use wf_frame::{Answer, Brief, Pairs};
 
-/// The frames of an aggregate: the first `count` ids and sequence numbers.
+/// The frames of an aggregate: the first `count` ids and sequence numbers. Those of a batch have no sequence
+/// numbers: these are 0.
 #[repr(C)]
 #[derive(Drop)]
 pub struct Frames {
@@ -18,23 +19,27 @@ pub struct Frames {
 }
 
 impl Frames {
-    // Shows the frames of an answer that sends an aggregate; otherwise sets the count to 0.
+    // Shows the frames of an answer that sends an aggregate or a batch; otherwise sets the count to 0.
     pub(crate) fn show(&mut self, answer: &Answer)
         ensures { ShowsAggregate self.new answer.now.brief answer.now.pairs }
     {
         match answer.brief {
-            Brief::Send { request: None, .. } => self.show_pairs(&answer.pairs),
+            Brief::Send {
+                request: None,
+                batch,
+                ..
+            } => self.show_pairs(&answer.pairs, batch),
             _ => self.count = 0,
         }
     }
 
-    // Shows these frames.
-    fn show_pairs(&mut self, pairs: &Pairs)
-        ensures { ShowsPairs self.new pairs.now }
+    // Shows these frames; those of a batch without their numbers.
+    fn show_pairs(&mut self, pairs: &Pairs, batch: bool)
+        ensures { ShowsPairs self.new (pairs_shown batch pairs.now) }
     {
         let count = pairs.len();
         for i in 0..count {
-            self.show_pair(i, pairs.at(i));
+            self.show_pair(i, pair_shown(batch, pairs.at(i)));
         }
         self.count = count as u16;
     }
@@ -48,4 +53,11 @@ impl Frames {
         self.ids[i] = pair.0;
         self.numbers[i] = pair.1;
     }
+}
+
+// Returns the id and the number of a frame, or 0 for the number of a frame of a batch.
+fn pair_shown(batch: bool, pair: (u64, u16)) -> (u64, u16)
+    ensures { result ≡ pair_shown batch pair }
+{
+    if batch { (pair.0, 0) } else { pair }
 }

@@ -1,6 +1,6 @@
 //! The answer to a call, as numbers in a struct of the caller's.
 
-ghost use Rattle.std.specs.Prelude.{◌≡◌, pos};
+ghost use Rattle.std.specs.Prelude.{◌≡◌, pos, false};
 ghost use Rattle.wf_frame.specs.Classes.{class_number};
 ghost use Rattle.wf_frame.specs.Refusals.{refusal_number};
 ghost use Rattle.wf_frame.specs.declared.answers.Brief.TheVariants.{Send, Done, Reaped};
@@ -54,6 +54,8 @@ pub struct Reply {
     pub request: u8,
     /// 1 if the station has more to be sent (the More Data bit), else 0.
     pub more: u8,
+    /// 1 if the exchange sends frames that the station's device numbers, else 0.
+    pub batch: u8,
 }
 
 /// All fields 0.
@@ -78,6 +80,7 @@ const BLANK: Reply = Reply {
     has_dropped: 0,
     request: 0,
     more: 0,
+    batch: 0,
 };
 
 impl Reply {
@@ -97,8 +100,12 @@ impl Reply {
                 tid,
                 air,
                 request,
+                batch,
                 more,
-            } => sending(exchange, station, tid, air, request, more),
+            } => Reply {
+                batch: u8::from(batch),
+                ..sending(exchange, station, tid, air, request, more)
+            },
             Brief::Released => of_kind(6),
             Brief::Ba { .. } => of_kind(7),
             Brief::Done {
@@ -172,7 +179,7 @@ fn requested(request: Option<u16>) -> Reply
     }
 }
 
-// The answer to a pull.
+// The answer to a pull that is no batch.
 fn sending(
     exchange: u64,
     station: u16,
@@ -181,7 +188,7 @@ fn sending(
     request: Option<u16>,
     more: bool,
 ) -> Reply
-    ensures { result ≡ numbers_of (Send exchange station tid air request more) }
+    ensures { result ≡ numbers_of (Send exchange station tid air request false more) }
 {
     Reply {
         exchange,

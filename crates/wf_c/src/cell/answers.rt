@@ -91,7 +91,8 @@ impl Block {
     }
 }
 
-/// Shows the frames of the aggregate that the last call sends; if it sends none, their count is 0.
+/// Shows the frames of the aggregate or the batch that the last call sends; if it sends none, their count is
+/// 0.
 #[unsafe(no_mangle)]
 pub extern "C" fn wf_cell_frames(cell: &mut CellSlot, frames: &mut Frames)
     requires open { is_some cell.old.value ≡ true }

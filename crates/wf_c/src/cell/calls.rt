@@ -40,7 +40,7 @@ pub struct CallNumbers {
     pub length: u16,
     /// The guard interval of a rate of HE, in nanoseconds.
     pub guard: u16,
-    /// The kind of call: 0 to 19.
+    /// The kind of call: 0 to 21.
     pub kind: u8,
     /// The TID of a frame or of a flush.
     pub tid: u8,
@@ -48,7 +48,7 @@ pub struct CallNumbers {
     pub class: u8,
     /// The A-MPDU length exponent of a join.
     pub exponent: u8,
-    /// The weight of a join.
+    /// The weight of a station.
     pub weight: u8,
     /// The format of a rate: 0 for HT, 1 for VHT, 2 for HE.
     pub form: u8,
@@ -175,7 +175,7 @@ impl CallNumbers {
             Argument::Window => Value::Short(self.window),
             Argument::Start => Value::Short(self.start),
             Argument::Exponent => Value::Octet(self.exponent),
-            Argument::Weight => Value::Octet(self.weight),
+            Argument::Weight | Argument::NewWeight => Value::Octet(self.weight),
             Argument::Format => Value::Format(format_of_number(self.form)),
             Argument::Mcs => Value::Octet(self.mcs),
             Argument::Mhz => Value::Octet(self.mhz),
@@ -207,7 +207,7 @@ impl CallNumbers {
             (Argument::Window, Value::Short(number)) => self.window = number,
             (Argument::Start, Value::Short(number)) => self.start = number,
             (Argument::Exponent, Value::Octet(number)) => self.exponent = number,
-            (Argument::Weight, Value::Octet(number)) => self.weight = number,
+            (Argument::Weight | Argument::NewWeight, Value::Octet(number)) => self.weight = number,
             (Argument::Format, Value::Format(format)) => self.form = number_of_format(format),
             (Argument::Mcs, Value::Octet(number)) => self.mcs = number,
             (Argument::Mhz, Value::Octet(number)) => self.mhz = number,
