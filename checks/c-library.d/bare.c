@@ -66,7 +66,7 @@ static struct wf_call some_call(void) {
                                   WF_CALL_ENQUEUE, WF_CALL_ENQUEUE, WF_CALL_ENQUEUE, WF_CALL_PULL, WF_CALL_PULL, WF_CALL_DONE,
                                   WF_CALL_DONE,    WF_CALL_SLEEP,   WF_CALL_WAKE,    WF_CALL_POLL, WF_CALL_RX,   WF_CALL_REAP,
                                   WF_CALL_REAP,    WF_CALL_REAP,    WF_CALL_AMPDU,   WF_CALL_STOP, WF_CALL_START, WF_CALL_START,
-                                  WF_CALL_UNSENT,  WF_CALL_GIVEUP,  WF_CALL_FLUSH};
+                                  WF_CALL_UNSENT,  WF_CALL_GIVEUP,  WF_CALL_FLUSH,   WF_CALL_OFFLOAD, WF_CALL_WEIGHT};
   struct wf_call call = {0};
   call.kind = KINDS[below(sizeof KINDS)];
   if (call.kind == WF_CALL_LEAVE && below(8)) call.kind = WF_CALL_JOIN;
@@ -140,6 +140,8 @@ static int32_t single(struct wf_path *path, const struct wf_call *call, int is_b
     case WF_CALL_UNSENT: return wf_path_unsent(path, call->exchange, call->index, reply);
     case WF_CALL_GIVEUP: return wf_path_give_up(path, call->exchange, call->index, reply);
     case WF_CALL_FLUSH: return wf_path_flush(path, call->station, call->tid, reply);
+    case WF_CALL_OFFLOAD: return wf_path_join_offload(path, call->station, call->exponent, call->weight, reply);
+    case WF_CALL_WEIGHT: return wf_path_weight(path, call->station, call->weight, reply);
     default: return reap(path, reply);
   }
 }

@@ -246,6 +246,9 @@ static void other_calls(void) {
   MUST("sleep", wf_path_sleep(&path, 1, &reply));
   MUST("wake", wf_path_wake(&path, 1, &reply));
   MUST("rx", wf_path_rx(&path, 1, WF_BE, 100, &reply));
+  MUST("weight", wf_path_weight(&path, 1, 2, &reply));
+  MUST("leave", wf_path_leave(&path, 1, &reply));
+  MUST("join_offload", wf_path_join_offload(&path, 1, 3, 1, &reply));
   MUST("leave", wf_path_leave(&path, 1, &reply));
 }
 

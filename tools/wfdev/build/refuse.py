@@ -22,6 +22,13 @@ def are_numbers(words: list[str], wanted: list[tuple[str, int, int]]) -> bool:
     return len(numbers) == len(words) == len(wanted) and all(low <= number <= high for number, (_, low, high) in zip(numbers, wanted))
 
 
+def without_option(word: str, rest: list[str]) -> list[str]:
+    """Returns the words after a word without the last one, if that is one that may follow its numbers: `soak SEED CALLS [device]`."""
+    forms = [form for form in texts.program_forms() if form.split()[0] == word]
+    known = [option for form in forms for option in re.findall(r"\[([a-z]+)\]", form)]
+    return rest[:-1] if rest[-1:] and rest[-1] in known else rest
+
+
 def nearest(word: str) -> str | None:
     """Returns the word that a mistyped one is most like."""
     found = difflib.get_close_matches(word, [*texts.program_words(), *BY_NAME, "help"], 1, NEAR)
@@ -33,7 +40,7 @@ def why_refused(words: list[str]) -> str | None:
     word, *rest = words
     if word in texts.program_words():
         wanted = ranges(word)
-        if are_numbers(rest, wanted):
+        if are_numbers(without_option(word, rest), wanted):
             return None
         *first, last = [f"{name}, {low}..{high}" for name, low, high in wanted]
         return f"{word} takes {', '.join(first)}, and {last}"

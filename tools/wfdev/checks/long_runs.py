@@ -62,9 +62,11 @@ class Watch:
 
 
 def soak(watch: Watch, draws: random.Random) -> None:
-    """Two soaks of one seed write the same text."""
+    """Two soaks of one seed, of devices or not, write the same text."""
     words = ["soak", str(draws.getrandbits(64)), str(draws.choice([1, 100, 5000, 100000, 1000000]))]
-    if watch.run(f"soak of {words[2]}", words) != watch.run(f"soak of {words[2]}", words):
+    words += draws.choice([[], ["device"]])
+    kind = f"soak of {' '.join(words[2:])}"
+    if watch.run(kind, words) != watch.run(kind, words):
         raise Difference(f"wf {' '.join(words)} wrote two texts")
 
 

@@ -63,7 +63,7 @@ class Accepted:
 
 @dataclass(frozen=True)
 class Send:
-    """The answer to a pull: an aggregate of (frame, number), or a request with its start."""
+    """The answer to a pull: an aggregate of (frame, number), a batch without numbers, or a request with its start."""
 
     exchange: int
     station: int
@@ -71,14 +71,18 @@ class Send:
     air: int
     data: tuple[tuple[int, int], ...]
     request: int | None
+    batch: bool
     more: bool
 
     def __str__(self) -> str:
         head = f"send {self.exchange} sta {self.station} tid {self.tid} air {self.air}"
         if self.request is not None:
             return f"{head} bar {self.request % NUMBERS}"
+        more = " more" if self.more else ""
+        if self.batch:
+            return f"{head} batch{spaced(frame for frame, _ in self.data)}{more}"
         pairs = spaced(f"{frame}:{number % NUMBERS}" for frame, number in self.data)
-        return f"{head} data{pairs}{' more' if self.more else ''}"
+        return f"{head} data{pairs}{more}"
 
 
 @dataclass(frozen=True)

@@ -87,5 +87,7 @@ FORMS = {
     "unsent": [Form((EXCHANGE, SHORT_NUMBER))],
     "giveup": [Form((EXCHANGE, SHORT_NUMBER))],
     "flush": [Form((STATION, OCTET))],
+    "offload": [Form((STATION, OCTET, OCTET), optional=1)],
+    "weight": [Form((STATION, OCTET))],
 }
 LINES = {**FORMS, "end": [Form()]}

@@ -1,4 +1,4 @@
-"""The twenty calls: MACHINE.md, from the table of calls to Power save.
+"""The twenty-two calls: MACHINE.md, from the table of calls to Power save.
 
 The method of a call begins with its refusals in the order of the table. A refused call raises `Refused`. It
 changes nothing, except if it is `idle`.
@@ -24,7 +24,7 @@ from wfdev.model.grammar import Call
 from wfdev.model.codel import SLOW, USUAL
 from wfdev.model.frames import CLASS_OF, CLASS_TIDS, NUMBERS, TIDS, Class, Fate, Frame
 from wfdev.model.queues import Queues
-from wfdev.model.rates import Bounds, Control, Rate, control_mbps, octets_of, octets_taken
+from wfdev.model.rates import Bounds, Control, Rate, control_mbps, longest_computed, octets_of, octets_taken
 from wfdev.model.rotation import Rotation
 from wfdev.model.session import Ended
 from wfdev.model.settings import Settings
@@ -51,6 +51,7 @@ class Machine:
     frames: list[Frame] = field(default_factory=list)
     finished: deque[Frame] = field(default_factory=deque)
     reaped: int = 0
+    batches: dict[int, list[int]] = field(default_factory=dict)  # the numbers of each batch, which no answer has
 
     def __post_init__(self) -> None:
         self.queues = Queues(self.settings)
@@ -90,11 +91,35 @@ class Machine:
         refuse("bad-exponent", exponent > MOST_EXPONENT)
         refuse("bad-weight", not 1 <= weight <= MOST_WEIGHT)
         refuse("live", station in self.stations)
-        self.stations[station] = Station(station, window, start, exponent, weight)
+        return self.admit(Station(station, window, start, exponent, weight))
+
+    def offload(self, station: int, exponent: int, weight: int = 1) -> Answer:
+        """A station joins whose device numbers, aggregates and repeats its frames."""
+        self.numbered(station)
+        refuse("bad-exponent", exponent > MOST_EXPONENT)
+        refuse("bad-weight", not 1 <= weight <= MOST_WEIGHT)
+        refuse("live", station in self.stations)
+        return self.admit(Station(station, MOST_WINDOW, 0, exponent, weight, offloaded=True))
+
+    def admit(self, held: Station) -> Answer:
+        """Makes a station live."""
+        self.stations[held.number] = held
         for rotation in self.rotations.values():
-            rotation.deficits[station] = self.quantum(station)
-        self.list_ready(station)
+            rotation.deficits[held.number] = self.quantum(held.number)
+        self.list_ready(held.number)
         return Word("joined")
+
+    def weight(self, station: int, weight: int) -> Answer:
+        """A station has this weight from now on, and each of its deficits is at most what its quantum allows."""
+        self.numbered(station)
+        refuse("bad-weight", not 1 <= weight <= MOST_WEIGHT)
+        self.live(station).weight = weight
+        for access, rotation in self.rotations.items():
+            covered = (self.settings.inflight - 1) * longest_computed(self.cap(access), self.settings.answers)
+            most = self.quantum(station) + min(self.pending(station, access), covered)
+            rotation.deficits[station] = min(rotation.deficits[station], most)
+        self.list_ready(station)
+        return Word("set")
 
     def leave(self, station: int) -> Answer:
         """A station leaves."""
@@ -120,6 +145,7 @@ class Machine:
         frames = [session.fail(number) for number in session.waiting()]
         frames += self.queues.flush((station, tid))
         self.finish(frames, Fate.FLUSHED)
+        self.stations[station].catch_up(tid)
         self.list_ready(station)
         return Number("flushed", len(frames))
 
@@ -288,12 +314,15 @@ class Machine:
             numbers = self.aggregate(held, tid, Bounds(1 if held.asleep else most, octets, held.rate, cap, overhead))
             data = held.rate.time(octets_of([session.length(one) for one in numbers], overhead))
             exchange = Exchange(held.number, tid, data + control.answer_time, numbers)
+        exchange.batch = held.offloaded
+        if exchange.batch:
+            self.batches[number] = exchange.numbers
         self.exchanges[number] = exchange
         held.credit = None
         pairs = tuple((session.slots[one].frame.id, one) for one in exchange.numbers)
         more = held.asleep and exchange.request is None and self.holds_more(held)
         self.list_ready(held.number)
-        return Send(number, held.number, tid, exchange.charge, pairs, exchange.request, more)
+        return Send(number, held.number, tid, exchange.charge, pairs, exchange.request, exchange.batch, more)
 
     def aggregate(self, held: Station, tid: int, bounds: Bounds) -> list[int]:
         """Makes an aggregate of waiting numbers and fresh frames, and returns its numbers."""
@@ -338,13 +367,13 @@ class Machine:
             number = one.numbers[index]
             passed = receiver.data(number, held.sessions[one.tid].slots[number].frame.id)
         self.list_ready(one.station)
-        return Released(tuple(passed))
+        return Released(() if one.batch else tuple(passed))
 
     def answer(self, exchange: int) -> Answer:
         """The station answers an exchange with a BlockAck."""
         one = self.opened(exchange)
         refuse("answered", one.answer is not None)
-        refuse("nothing", not one.arrived)
+        refuse("nothing", one.batch or not one.arrived)
         held = self.stations[one.station]
         one.answer = held.receivers[one.tid].answer()
         self.list_ready(one.station)
@@ -373,7 +402,7 @@ class Machine:
     def done(self, exchange: int, heard: str, air: int | None = None) -> Answer:
         """An exchange ends, with its answer heard or lost."""
         one = self.opened(exchange)
-        refuse("no-answer", heard == "heard" and one.answer is None)
+        refuse("no-answer", heard == "heard" and not one.batch and one.answer is None)
         refuse("bad-air", air is not None and not 1 <= air <= self.settings.charge)
         del self.exchanges[exchange]
         self.charge(one, one.charge if air is None else air)
@@ -388,6 +417,7 @@ class Machine:
             ended[how] += 1
             if how is not Ended.WAITING:
                 self.finish([frame], Fate.ACKED if how is Ended.ACKED else Fate.RETRIES)
+        self.stations[one.station].catch_up(one.tid)
         self.list_ready(one.station)
         return Done(ended[Ended.ACKED], ended[Ended.WAITING], ended[Ended.FAILED])
 

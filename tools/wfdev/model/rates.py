@@ -172,3 +172,9 @@ def control_mbps(rate: Rate, answers: int) -> int:
     """Returns the Mbit/s of control frames: with the setting `answers`, not faster than data if that can be."""
     slower = [mbps for mbps in CONTROL_RATES if 1000 * mbps <= rate.kbps]
     return FASTEST_CONTROL if answers == 0 else next(iter(slower), CONTROL_RATES[-1])
+
+
+def longest_computed(cap: int, answers: int) -> int:
+    """Returns the greatest computed charge of an exchange, by the longest data of an aggregate and `answers`."""
+    slowest = CONTROL_RATES[-1] if answers else FASTEST_CONTROL
+    return max(cap, LONGEST_ALONE) + Control(slowest, True).answer_time

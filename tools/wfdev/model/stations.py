@@ -21,7 +21,8 @@ def first_turns() -> dict[Class, int]:
 class Station:
     """A live station. `turns` has the TID whose turn it is in each class; `credit` is the class of a poll.
 
-    `ampdu` is the most octets of its aggregates of VHT and HE, if that was stated.
+    `ampdu` is the most octets of its aggregates of VHT and HE, if that was stated. The device of one that is
+    `offloaded` numbers, aggregates and repeats its frames.
     """
 
     number: int
@@ -31,6 +32,7 @@ class Station:
     weight: int
     rate: Rate = LOWEST
     ampdu: int | None = None
+    offloaded: bool = False
     stopped: bool = False
     asleep: bool = False
     credit: Class | None = None
@@ -49,13 +51,21 @@ class Station:
         """Whether the sessions are wide."""
         return self.window > NARROW_WINDOW
 
+    def catch_up(self, tid: int) -> None:
+        """The device of an offloaded station tells its peer where the window of a TID starts."""
+        if self.offloaded:
+            start = self.sessions[tid].start
+            self.sessions[tid].hear_request(start)
+            self.receivers[tid].request(start)
+
 
 @dataclass
 class Exchange:
     """An open exchange: numbers of data, or a request if it has a start; what arrived, and its BlockAck.
 
     `unsent` and `given_up` have the indices of the transmissions that never went on the air, and of those that the
-    device will not try again.
+    device will not try again. The device itself numbers and repeats the frames of a `batch`, and says which of them
+    were acknowledged: these arrived.
     """
 
     station: int
@@ -67,6 +77,7 @@ class Exchange:
     answer: BlockAck | None = None
     unsent: set[int] = field(default_factory=set)
     given_up: set[int] = field(default_factory=set)
+    batch: bool = False
 
     def has_mark(self, index: int) -> bool:
         """Returns whether a transmission is marked."""
@@ -76,6 +87,8 @@ class Exchange:
         """Returns how the exchange ends for the number of a transmission, with the BlockAck that was heard."""
         if index in self.unsent:
             return End.UNSENT
+        if self.batch:
+            return End.ACKNOWLEDGED if index in self.arrived else End.GIVEN_UP
         if heard is not None and self.numbers[index] in heard.shown:
             return End.ACKNOWLEDGED
         return End.GIVEN_UP if index in self.given_up else End.MISSED

@@ -111,3 +111,13 @@ def replay(octets: bytes) -> tuple[str, int]:
     written.append(player.finish())
     assert player.status is not None
     return "".join(written), player.status
+
+
+def batches(octets: bytes) -> dict[int, list[int]]:
+    """Returns the numbers of each batch of a trace, which its answers do not have."""
+    player = Player()
+    for line in grammar.lines_of(octets):
+        player.play(line)
+        if player.status is not None:
+            break
+    return {} if player.machine is None else player.machine.batches

@@ -1,6 +1,7 @@
 """Tests of checks/fuzz: what it draws, how it shortens an input, and that it finds a difference."""
 import contextlib
 import io
+import itertools
 import random
 import tempfile
 import time
@@ -39,6 +40,17 @@ class Drawn(unittest.TestCase):
     def test_each_subject_has_its_turns(self) -> None:
         turns = Counter(one.name for one in fuzz.order())
         self.assertEqual(turns, {one.name: one.share for one in subjects.ALL})
+        self.assertEqual({one.name for one in fuzz.order("traces")}, {"traces"})
+
+    def test_frames_come_back_and_meet_other_calls(self) -> None:
+        words: set[str] = set()
+        for seed in SEEDS:
+            maker = traces.Maker(random.Random(seed))
+            for _ in range(100):
+                for line in itertools.chain(maker.make_join(), maker.make_start(), maker.make_burst(), maker.make_back()):
+                    maker.write(line)
+            words |= {line.split()[0] for line in maker.lines}
+        self.assertLessEqual({"unsent", "giveup", "arrive", "done", "flush", "leave", "weight", "stop"}, words)
 
 
 class Shortened(unittest.TestCase):

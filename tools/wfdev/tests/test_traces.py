@@ -112,9 +112,9 @@ class Pairs(unittest.TestCase):
 
 def replies_of(kind: str) -> str:
     """Returns the kind of the answers to a kind of call."""
-    names = "join leave rate tick enq pull arrive answer done sleep wake poll rx reap unsent giveup flush".split()
+    names = "join leave rate tick enq pull arrive answer done sleep wake poll rx reap unsent giveup flush offload weight"
     answers = "joined left set now accepted send released ba done slept woken polled charged reaped".split()
-    return dict(zip(names, [*answers, "marked", "marked", "flushed"]))[kind]
+    return dict(zip(names.split(), [*answers, "marked", "marked", "flushed", "joined", "set"]))[kind]
 
 
 class Fields(unittest.TestCase):
@@ -132,6 +132,7 @@ class Fields(unittest.TestCase):
     def test_answers(self) -> None:
         texts = ["joined", "left 3", "set", "now 5", "accepted 1", "accepted 4 dropped 2", "released 1 2"]
         texts += ["send 0 sta 1 tid 2 air 3 data 4:5 6:7 more", "send 0 sta 1 tid 2 air 80 bar 9"]
+        texts += ["send 0 sta 1 tid 2 air 3 batch 4 6 more"]
         texts += ["ba 100 00000000000000ff", "ba 1 " + "0" * 63 + "5", "done acked 1 waiting 2 failed 3"]
         texts += ["slept", "woken", "polled be", "charged -5", "reaped 3 codel", "stopped", "started"]
         texts += ["marked", "flushed 3", "reaped 3 flushed", "refused marked"]
@@ -149,6 +150,8 @@ class Fields(unittest.TestCase):
         found = replies.read("send 9 sta 1 tid 2 air 3 data 4:5 6:7 more")
         self.assertEqual(found.frames, [(4, 5), (6, 7)])
         self.assertTrue(found.fields["more"])
+        batch = replies.read("send 9 sta 1 tid 2 air 3 batch 4 6 more")
+        self.assertEqual((batch.frames, batch.fields["batch"], batch.fields["more"]), ([(4, 0), (6, 0)], True, True))
         self.assertEqual(replies.read("refused debt -7").fields, {"refusal": "debt", "deficit": -7})
         self.assertEqual(replies.read("refused ahead 8").fields, {"refusal": "ahead", "air": 8})
         block = replies.read("ba 1 " + "0" * 15 + "3" + "0" * 47 + "5").fields["block"]
@@ -160,10 +163,11 @@ class Fields(unittest.TestCase):
         texts = ["join 1 64 0 3", "join 1 64 0 3 2", "leave 1", "rate 1 7 20 short", "rate 1 vht 9 80 long 2"]
         texts += ["rate 1 he 11 160 800 2", "tick 5", "@7 enq 1 0 3 100", "pull be", "arrive 0 1", "answer 0"]
         texts += ["done 0 heard", "done 0 lost air 90", "sleep 1", "wake 1", "poll 1", "rx 1 vo 9", "reap"]
-        texts += ["unsent 0 1", "giveup 0 1", "flush 1 0"]
+        texts += ["unsent 0 1", "giveup 0 1", "flush 1 0", "offload 1 3", "offload 1 3 2", "weight 1 2"]
         for text in texts:
             self.assertLessEqual(set(calls.read(text).fields), self.struct("wf_call"), text)
         self.assertEqual(calls.read("join 1 64 0 3").fields["weight"], 1)
+        self.assertEqual(calls.read("offload 1 3").fields["weight"], 1)
         self.assertEqual(calls.read("rate 1 he 11 160 800 2").fields["guard"], 800)
         self.assertEqual(calls.read("done 0 lost air 90").fields, {"exchange": 0, "heard": False, "air": 90})
         self.assertEqual(calls.read("@7 reap").caller, 7)
@@ -256,6 +260,14 @@ class Explained(unittest.TestCase):
         self.assertIn("its frame fails when the exchange ends, unless the BlockAck shows it", told)
         self.assertIn("A frame fails after attempts (10) transmissions, or if the device gives it up.", told)
 
+    def test_a_batch_ends_as_its_device_says(self) -> None:
+        told = " ".join(explained("offloaded-station").split())
+        self.assertIn("Exchange 0 goes to station 0, TID 0, and takes 604 us of air. It is a batch, which the device", told)
+        self.assertIn("The device says that it was acknowledged; what the receiver passes up is not known.", told)
+        self.assertIn("1 frame acknowledged, 1 to be sent again, 1 failed. 900 us are charged", told)
+        self.assertIn("A frame of a batch fails if it was not acknowledged, since the device has repeated it.", told)
+        self.assertIn("The weight is set; each of its deficits is at most what its new quantum allows.", told)
+
     def test_a_flush_says_how_many_frames_are_dropped(self) -> None:
         told = explained_row("flush-of-waiting-numbers-then-queues")
         self.assertIn("The frames of station 0, TID 0, that are not on the air are to be dropped.", told)
@@ -303,6 +315,10 @@ class Pictures(unittest.TestCase):
             part.get("class") for part in root.iter("{http://www.w3.org/2000/svg}path") if part.get("class")
         ]
         self.assertEqual(marks[2:], ["again"])
+
+    def test_a_batch_is_drawn_by_what_its_device_says(self) -> None:
+        made, _ = self.drawn("offloaded-station")
+        self.assertEqual([bar.look for bar in made.bars], ["part", "whole"])
 
     def test_axes_have_titles_and_grey_looks_differ(self) -> None:
         _, root = self.drawn("weights")

@@ -26,6 +26,8 @@ FORMS: dict[str, tuple[str, ...]] = {
     "unsent": ("exchange", "index"),
     "giveup": ("exchange", "index"),
     "flush": ("station", "tid"),
+    "offload": ("station", "exponent", "weight"),
+    "weight": ("station", "weight"),
 }
 RATES: dict[str, tuple[str, ...]] = {
     "ht": ("station", "mcs", "mhz", "short_guard"),
@@ -91,7 +93,7 @@ def read(text: str) -> Call:
     if kind == "pull":
         return Call(kind, caller, pull_fields(rest))
     fields = named(FORMS[kind], rest)
-    if kind == "join":
+    if kind in ("join", "offload"):
         fields.setdefault("weight", 1)
     if kind == "done" and len(rest) == 4:
         fields["air"] = int(rest[3])

@@ -133,6 +133,11 @@ ASKED: dict[str, Callable[[Call], str]] = {
         f"{call.number('start')}, the exponent {call.number('exponent')} and the weight "
         f"{call.number('weight')}."
     ),
+    "offload": lambda call: (
+        f"{station_of(call).capitalize()} joins with the exponent {call.number('exponent')} and the weight "
+        f"{call.number('weight')}; its device numbers, aggregates and repeats its frames."
+    ),
+    "weight": lambda call: f"{station_of(call).capitalize()} is to have the weight {call.number('weight')}.",
     "leave": lambda call: f"{station_of(call).capitalize()} leaves.",
     "rate": lambda call: f"{station_of(call).capitalize()} is to be sent to at this rate: {rate_of(call)}.",
     "tick": lambda call: f"The clock is to move on by {call.number('by')} us.",
@@ -249,7 +254,8 @@ def contents(exchange: Exchange, book: Ledger) -> str:
             "does not know yet that it "
             "will never come."
         )
-    text = f"It is an aggregate of {count(exchange.sent, 'frame')}"
+    kind = "a batch, which the device numbers," if exchange.is_batch else "an aggregate"
+    text = f"It is {kind} of {count(exchange.sent, 'frame')}"
     frames = [book.frames[id_] for id_, _ in exchange.frames]
     again = [f"{frame.id} (transmission {frame.sent})" for frame in frames if frame.sent > 1]
     text += f"; sent again: frame {listed(again)}." if again else ", not sent before."
@@ -267,6 +273,8 @@ def why_picked(station: Station, exchange: Exchange, book: Ledger) -> str:
             f"flight in the class. Station {station.number} had "
             f"{book.in_flight(station.number, class_, exchange.number)} us in flight."
         )
+    if station.is_weighed:
+        return f"{credit}The scheduler picks the first ready station with a deficit above 0."
     parts = [f"{quantum} at the join", f"less {used} charged" if used else ""]
     parts += [f"plus {count(quanta, 'quantum')} of {quantum}".replace("quantums", "quanta") if quanta else ""]
     return (
@@ -291,6 +299,8 @@ def other(station: Station, class_: str, book: Ledger) -> str:
             f"{station.used.get(class_, 0)} us were charged to it, and "
             f"{book.in_flight(station.number, class_)} us are in flight."
         )
+    if station.is_weighed:
+        return f"Station {station.number} also holds {count(held, 'frame')} of the class."
     left = book.quantum(station) - station.used.get(class_, 0)
     due = book.deficit_when_picked(station, class_)
     return (
@@ -311,7 +321,9 @@ def said_of_done(_: Call, reply: Reply, book: Ledger, exchange: Exchange | None)
         return f"It was a BlockAckReq. {after} {charge}"
     acked, waiting, failed = (reply.number(name) for name in ("acked", "waiting", "failed"))
     text = f"{count(acked, 'frame')} acknowledged, {waiting} to be sent again, {failed} failed. {charge}"
-    if failed:
+    if failed and exchange.is_batch:
+        text += " A frame of a batch fails if it was not acknowledged, since the device has repeated it."
+    elif failed:
         text += f" A frame fails after attempts ({book.settings['attempts']}) transmissions"
         text += ", or if the device gives it up." if exchange.given_up else "."
     if exchange.unsent:
@@ -319,7 +331,7 @@ def said_of_done(_: Call, reply: Reply, book: Ledger, exchange: Exchange | None)
             f" {count(len(exchange.unsent), 'transmission')} never went on the air: "
             "the frame waits again, and this is not one of its transmissions."
         )
-    if not exchange.heard and exchange.arrived:
+    if not exchange.heard and exchange.arrived and not exchange.is_batch:
         text += (
             f" {count(len(exchange.arrived), 'transmission')} had arrived: without the answer the sender "
             "does not know."
@@ -349,6 +361,8 @@ def said_of_released(_: Call, reply: Reply, __: Ledger, exchange: Exchange | Non
     if ids:
         return f"The receiver passes up {'frame' if len(ids) == 1 else 'frames'} {listed(map(str, ids))}."
     assert exchange is not None
+    if exchange.is_batch:
+        return "The device says that it was acknowledged; what the receiver passes up is not known."
     if exchange.start is not None:
         return "The receiver moves on to the request's start, and has nothing to pass up."
     return "The receiver passes nothing up: it has this number already, or an earlier number is missing."
@@ -381,6 +395,10 @@ ANSWERED: dict[str, Callable[[Call, Reply, Ledger, Exchange | None], str]] = {
     "join": lambda call, _, book, __: (
         f"It is live; its deficit of each class is {book.quantum(book.stations[call.number('station')])} us."
     ),
+    "offload": lambda call, _, book, __: (
+        f"It is live; its deficit of each class is {book.quantum(book.stations[call.number('station')])} us."
+    ),
+    "weight": lambda *_: "The weight is set; each of its deficits is at most what its new quantum allows.",
     "leave": lambda _, reply, __, ___: (
         f"It is gone. Frames that it held and that are dropped: {reply.number('count')}."
     ),

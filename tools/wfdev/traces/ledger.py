@@ -60,6 +60,7 @@ class Exchange:
     unsent: set[int] = dataclasses.field(default_factory=set)
     given_up: set[int] = dataclasses.field(default_factory=set)
     heard: bool | None = None
+    is_batch: bool = False
 
     @property
     def class_(self) -> str:
@@ -87,10 +88,11 @@ class Exchange:
 @dataclasses.dataclass
 class Station:
     """A live station: `used` is the airtime of each class that left its deficit since its join; `quanta`
-    counts those of the rotation."""
+    counts those of the rotation. After a change of its weight (`is_weighed`) its deficit is not known."""
 
     number: int
     weight: int
+    is_weighed: bool = False
     is_asleep: bool = False
     is_stopped: bool = False
     credit: str = ""
@@ -160,6 +162,13 @@ class Ledger:
         number = call.number("station")
         self.stations[number] = Station(number, call.number("weight"))
 
+    def _offload(self, call: Call, reply: Reply) -> None:
+        self._join(call, reply)
+
+    def _weight(self, call: Call, _: Reply) -> None:
+        station = self.stations[call.number("station")]
+        station.weight, station.is_weighed = call.number("weight"), True
+
     def _leave(self, call: Call, _: Reply) -> None:
         number = call.number("station")
         del self.stations[number]
@@ -191,6 +200,7 @@ class Ledger:
             reply.number("exchange"), reply.number("station"), reply.number("tid"), reply.number("air")
         )
         exchange = Exchange(*numbers, self.now, reply.frames, start, bool(reply.fields["more"]))
+        exchange.is_batch = "batch" in reply.fields
         for id_, _number in exchange.frames:
             exchange.again += self.frames[id_].sent > 0
             self.frames[id_].sent += 1
@@ -231,8 +241,9 @@ class Ledger:
             if index in exchange.unsent:
                 frame.sent -= 1
                 continue
-            frame.is_given_up = index in exchange.given_up
-            self._settle(frame, exchange.heard and exchange.shows(number))
+            frame.is_given_up = exchange.is_batch or index in exchange.given_up
+            is_shown = exchange.heard and exchange.shows(number)
+            self._settle(frame, index in exchange.arrived if exchange.is_batch else is_shown)
         return exchange
 
     def _settle(self, frame: Frame, is_shown: bool) -> None:

@@ -54,9 +54,11 @@ def _send(words: list[str]) -> Fields:
     if fields["request"]:
         return {**fields, "start": int(words[8]), "more": False}
     more = words[-1] == "more"
-    pairs = [word.split(":") for word in (words[8:-1] if more else words[8:])]
+    sent = words[8:-1] if more else words[8:]
+    pairs = [[word, "0"] if words[7] == "batch" else word.split(":") for word in sent]
     ids, numbers = [int(one) for one, _ in pairs], [int(other) for _, other in pairs]
-    return {**fields, "more": more, "frames": {"ids": ids, "numbers": numbers, "count": len(ids)}}
+    batch = {"batch": True} if words[7] == "batch" else {}
+    return {**fields, **batch, "more": more, "frames": {"ids": ids, "numbers": numbers, "count": len(ids)}}
 
 
 def _released(words: list[str]) -> Fields:

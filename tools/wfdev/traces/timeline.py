@@ -44,7 +44,7 @@ class Bar:
         """How it is drawn."""
         if self.exchange.heard is None:
             return "open"
-        if not self.exchange.heard:
+        if not self.exchange.heard and not self.exchange.is_batch:
             return "unheard"
         if self.exchange.start is not None:
             return "request"
@@ -85,7 +85,7 @@ class Timeline:
 
     def _call(self, call: calls.Call, reply: replies.Reply) -> None:
         exchange = self._book.take(call, reply)
-        if call.kind == "join" and not reply.refusal:
+        if call.kind in ("join", "offload") and not reply.refusal:
             self._stations.add(call.number("station"))
         if exchange and call.kind == "pull":
             self.bars.append(Bar(exchange, exchange.began))

@@ -35,7 +35,7 @@ class Words(Checkout):
     def test_words_that_are_no_command_are_refused_before_anything_is_compiled(self) -> None:
         cases: list[list[str]] = [["bild"], ["soak"], ["soak", "1"], ["soak", "1", "0"], ["soak", "1", "1000001"], ["soak", "01", "1"]]
         cases += [["soak", "x", "1"], ["live", "1", "2"], ["live", "1", "9", "1"], ["live", "18446744073709551616", "1", "1"]]
-        cases += [["help", "nobody"]]
+        cases += [["help", "nobody"], ["soak", "1", "1", "devices"], ["soak", "1", "device"], ["live", "1", "1", "device"]]
         self.has_kit("#!/bin/sh\necho compiled >&2\nexit 1\n")
         for words in cases:
             told, why, status = self.asked(*words)
@@ -49,7 +49,7 @@ class Words(Checkout):
         self.assertEqual(self.asked()[::2], ("", 1))
 
     def test_numbers_in_their_ranges_go_to_the_build(self) -> None:
-        for words in (["soak", "0", "1"], ["soak", "18446744073709551615", "1000000"], ["live", "1", "8", "10000"]):
+        for words in (["soak", "0", "1"], ["soak", "18446744073709551615", "1000000"], ["soak", "1", "2", "device"], ["live", "1", "8", "10000"]):
             self.assertEqual(self.asked(*words)[::2], ("", 125), words)
 
     def test_refusals_are_those_of_the_program(self) -> None:

@@ -4,6 +4,7 @@ from collections.abc import Iterator, Sequence
 from dataclasses import dataclass, field
 
 from wfdev.checks.captures.model import BLOCK_ACK_KIND, DATA_KIND, REQUEST_KIND, Packet
+from wfdev.model import text
 
 BASE, SOURCE = bytes.fromhex("020000000000"), bytes.fromhex("020000020000")
 MICROSECONDS = 10**6
@@ -61,8 +62,10 @@ class Exchange:
 @dataclass
 class Air:
     """The run of a trace: the clock, the accepted frames, the open exchanges, those frames that were sent in an exchange
-    that ended, and the packets so far.
+    that ended, and the packets so far. `batches` has the numbers of each batch.
     """
+
+    batches: dict[int, list[int]] = field(default_factory=dict)
 
     clock: int = 0
     frames: dict[str, Frame] = field(default_factory=dict)
@@ -80,9 +83,11 @@ class Air:
         opened = self.opened[answer[1]] = Exchange(number, tid)
         if answer[8] == "bar":
             self.put(request(number, tid, int(answer[9])))
-        for pair in answer[9 : len(answer) - has_more] if answer[8] == "data" else []:
-            frame, seq = pair.split(":")
-            self.put(data(number, tid, int(seq), frame in self.tried, has_more, self.frames[frame]))
+        sent = answer[9 : len(answer) - has_more] if answer[8] != "bar" else []
+        numbers = self.batches[int(answer[1])] if answer[8] == "batch" else [int(one.split(":")[1]) for one in sent]
+        for word, seq in zip(sent, numbers, strict=True):
+            frame = word.split(":")[0]
+            self.put(data(number, tid, seq % 4096, frame in self.tried, has_more, self.frames[frame]))
             opened.frames.append(frame)
 
     def take(self, call: Sequence[str], answer: Sequence[str]) -> None:
@@ -105,7 +110,7 @@ class Air:
 
 def on_air(trace: str, answers: str) -> list[Packet]:
     """Returns the packets that go on the air."""
-    air = Air()
+    air = Air(batches=text.batches(trace.encode("latin-1")) if " batch " in answers else {})
     # (the answers end before the calls do after a fault, and go on with the summary)
     for call, answer in zip(calls_of(trace), map(str.split, answers.splitlines()), strict=False):
         air.take(call, answer)

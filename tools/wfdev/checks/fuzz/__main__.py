@@ -59,10 +59,11 @@ def report(program: Path, subject: Subject, octets: bytes, seed: str) -> None:
     print(f"  the program:\n{shown(found, first)}  the model:\n{shown(wanted, first)}", end="", flush=True)
 
 
-def order() -> list[Subject]:
-    """Returns the subjects of a round, each as often as its share."""
-    turns = [(turn / one.share, at) for at, one in enumerate(subjects.ALL) for turn in range(one.share)]
-    return [subjects.ALL[at] for _, at in sorted(turns)]
+def order(only: str | None = None) -> list[Subject]:
+    """Returns the subjects of a round, each as often as its share, or one alone."""
+    drawn = [one for one in subjects.ALL if only in (None, one.name)]
+    turns = [(turn / one.share, at) for at, one in enumerate(drawn) for turn in range(one.share)]
+    return [drawn[at] for _, at in sorted(turns)]
 
 
 @dataclass
@@ -74,11 +75,11 @@ class Tally:
     bad: set[str] = field(default_factory=set)
 
 
-def compare(program: Path, seed: int, until: float) -> Tally:
-    """Compares inputs until the time is up."""
-    tally = Tally()
-    for number, subject in enumerate(itertools.cycle(order())):
-        if time.monotonic() > until or len(tally.bad) == len(subjects.ALL):
+def compare(program: Path, seed: int, until: float, only: str | None = None) -> Tally:
+    """Compares inputs, perhaps of one subject alone, until the time is up."""
+    tally, round_of = Tally(), order(only)
+    for number, subject in enumerate(itertools.cycle(round_of)):
+        if time.monotonic() > until or len(tally.bad) == len({one.name for one in round_of}):
             break
         if subject.name in tally.bad:
             continue
@@ -96,11 +97,13 @@ def main(words: Sequence[str] | None = None) -> int:
     parser = SCRIPT.parser(__doc__)
     parser.add_argument("seconds", nargs="?", type=float, default=60, help="how long it draws (default: 60)")
     parser.add_argument("--seed", type=int, help="draws the inputs of an earlier run (default: the time)")
+    names = [one.name for one in subjects.ALL]
+    parser.add_argument("--only", choices=names, metavar="SUBJECT", help="draws the inputs of this subject alone")
     asked = parser.parse_args(words)
     seed = int(time.time()) if asked.seed is None else asked.seed
     program = SCRIPT.program().path
     SCRIPT.say(f"seed {seed}")
-    tally = compare(program, seed, time.monotonic() + asked.seconds)
+    tally = compare(program, seed, time.monotonic() + asked.seconds, asked.only)
     for name, count in tally.inputs.items():
         SCRIPT.say(f"{name}: {count} inputs with {tally.lines[name]} lines")
     total, lines = tally.inputs.total(), tally.lines.total()

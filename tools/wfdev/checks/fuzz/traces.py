@@ -6,11 +6,12 @@ from dataclasses import dataclass, field
 
 from wfdev.model.calls import FORMS
 from wfdev.model.codel import SLOW, USUAL
-from wfdev.model.frames import Class
+from wfdev.model.frames import CLASS_OF, Class
 from wfdev.model.grammar import LONGEST_LINE, Argument, NumberIn, OneOf
 from wfdev.model.machine import MOST_AIR, MOST_TICK, Machine
 from wfdev.model.rates import CARRIERS, MOST_MCS, SYMBOL, Format
 from wfdev.model.settings import RANGES
+from wfdev.model.stations import Exchange
 from wfdev.model.text import Player
 
 GUARDS = {800: "long", 400: "short"}
@@ -48,7 +49,8 @@ OCTETS = (4095, 4096, 8192, 20_000, 65_535, 1_048_575, 6_500_631, 6_500_632)
 FRAMES = (1, 1, 2, 3, 8, 64, 65_535)
 LIMITS = (1, 40, 100, 300, 1000, 3000, 3001, 2**32 - 1)
 KINDS = (
-    "join leave rate ampdu tick burst pull arrive answer done unsent giveup flush play sleep wake poll stop start rx reap wild"
+    "join leave rate ampdu weight tick burst pull arrive answer done unsent giveup flush play back sleep wake poll stop start "
+    "rx reap wild"
 ).split()
 
 
@@ -111,7 +113,7 @@ class Maker:
         self.weights = [draw.choice((0.05, 0.3, 1, 1, 3)) for _ in KINDS]
         self.set_weights(join=0.1, leave=0.05, rate=0.2, sleep=0.15, wake=0.3, poll=0.4)
         self.set_weights(play=3.0, answer=0.4, rx=0.1, reap=0.3, wild=0.05, ampdu=0.1, stop=0.1, start=0.3)
-        self.set_weights(unsent=0.2, giveup=0.2, flush=0.15)
+        self.set_weights(unsent=0.2, giveup=0.2, flush=0.15, weight=0.3, back=2.0)
         count = self.machine.settings.stations
         drawn = [draw.randrange(count) for _ in range(draw.choice((1, 2, 3, 6)))]
         self.stations = sorted({*drawn, count - 1})
@@ -123,6 +125,7 @@ class Maker:
         self.windows = draw.choice((WINDOWS, (64,), (1, 2, 3), (256, 65)))
         self.exponent = draw.choice((None, 3))
         self.marks = draw.choice((0.0, 0.05, 0.2, 0.5))
+        self.offloads = draw.choice((0.0, 0.3, 1.0))
         self.bursts: Sequence[int] = (1, 1, 2, 5, 20)
         self.most_queued = 10_000
         if does_wait:
@@ -186,7 +189,16 @@ class Maker:
         window = self.draw.choice(self.windows if self.draw.random() < 0.97 else BAD_WINDOWS)
         exponent = self.draw.randint(0, 3) if self.exponent is None else self.exponent
         weight = self.draw.choice(("", "", " 1", " 2", " 3", " 16"))
+        if self.draw.random() < self.offloads:
+            yield f"offload {station} {exponent}{weight}"
+            return
         yield f"join {station} {window} {self.draw.choice(STARTS)} {exponent}{weight}"
+
+    def make_weight(self) -> Iterator[str]:
+        """Yields a weight, often of a station with an open exchange."""
+        opened = [one.station for one in self.machine.exchanges.values()]
+        station = self.draw.choice(opened) if opened and self.draw.random() < 0.5 else self.station()
+        yield f"weight {station} {self.draw.choice((1, 1, 2, 3, 16, 17))}"
 
     def make_leave(self) -> Iterator[str]:
         """Yields a leave, often after the open exchanges are over."""
@@ -297,12 +309,38 @@ class Maker:
                         yield f"{self.draw.choice(('unsent', 'giveup'))} {number} {index}"
                     if self.draw.random() < self.arrives and index not in opened.unsent:
                         yield f"arrive {number} {index}"
-                yield f"answer {number}"
+                if not opened.batch or self.draw.random() < 0.1:
+                    yield f"answer {number}"
                 for index in range(opened.transmissions):
                     if self.draw.random() < self.marks and not opened.has_mark(index):
                         yield f"giveup {number} {index}"
                 is_heard = opened.answer is not None and self.draw.random() < self.hears
                 yield f"done {number} {'heard' if is_heard else 'lost'}"
+
+    def make_back(self) -> Iterator[str]:
+        """Yields an exchange with marks in any order, of which frames come back, and calls that meet it and them."""
+        before = self.machine.pulled
+        yield f"pull {self.access()}{self.limits()}"
+        if self.machine.pulled == before:
+            return
+        opened = self.machine.exchanges[before]
+        for index in self.draw.sample(range(opened.transmissions), opened.transmissions):
+            for kind in self.draw.choices(("unsent", "giveup", "arrive"), k=self.draw.choice((0, 1, 1, 1, 2))):
+                yield f"{kind} {before} {index}"
+        if self.draw.random() < 0.3:
+            yield self.draw.choice(self.meeting(opened))
+        if opened.answer is None and opened.arrived and self.draw.random() < 0.7:
+            yield f"answer {before}"
+        is_heard = opened.answer is not None or (opened.batch and self.draw.random() < 0.5)
+        yield f"done {before} {'heard' if is_heard else 'lost'}"
+        if self.draw.random() < 0.5:
+            yield self.draw.choice(self.meeting(opened))
+
+    def meeting(self, opened: Exchange) -> Sequence[str]:
+        """Returns the calls that meet the station of an exchange and its frames."""
+        station, tid, weight = opened.station, opened.tid, self.draw.choice((1, 2, 3, 16))
+        alone = [f"{kind} {station}" for kind in ("leave", "stop", "start", "sleep", "wake", "poll")]
+        return [*alone, f"flush {station} {tid}", f"weight {station} {weight}", f"pull {CLASS_OF[tid]}{self.limits()}"]
 
     def make_sleep(self) -> Iterator[str]:
         """Yields a sleep."""
