@@ -13,6 +13,7 @@ from dataclasses import dataclass
 
 from .arrivals import Arrivals
 from .clock import Clock
+from .device import REPORT, Device
 from .frames import CLASS_OF_TID, CLASSES, Exchange, Frame, Path
 from .medium import AccessPoint, Contender, Medium, Uplink, UplinkExchange
 from .program import OutOfCalls
@@ -49,6 +50,7 @@ class Bench:
         self.warmup = round(scenario.warmup * 1e6)
         self.medium = Medium(scenario.air, scenario.seed)
         self.access_point = AccessPoint()
+        self.device = Device(scenario.setting("attempts"))
         self.uplinks = [Uplink(station, scenario.setting("cap")) for station in scenario.stations]
         self.open = dict.fromkeys(CLASSES, 0)
         self.may_send = dict.fromkeys(CLASSES, False)  # whether a pull of the class might find something
@@ -147,7 +149,7 @@ class Bench:
         for time, rate in station.rates:
             self.clock.at(time, functools.partial(self.change_rate, station, rate))
         for start, stop in station.sleeps:
-            self.clock.at(start, lambda: self.path.sleep(station))
+            self.clock.at(start, lambda: self.sleep(station))
             for time in range(start + station.poll, stop, station.poll) if station.poll else ():
                 self.clock.at(time, lambda: self.poll(station))
             self.clock.at(stop, lambda: self.wake(station))
@@ -163,6 +165,7 @@ class Bench:
         """A station leaves when its last open exchange has ended; nothing more comes in for it."""
         self.here[station.number] = False
         self.uplinks[station.number].leave()
+        self.cancel(station)
         if self.open_of[station.number]:
             self.leaving.add(station.number)
         else:
@@ -170,11 +173,16 @@ class Bench:
 
     def remove(self, station: Station) -> None:
         self.leaving.discard(station.number)
+        self.device.forget(station.number)
         self.path.leave(station)
 
     def change_rate(self, station: Station, rate: Rate) -> None:
         self.path.set_rate(station, rate)
         self.uplinks[station.number].rate = rate
+
+    def sleep(self, station: Station) -> None:
+        self.path.sleep(station)
+        self.cancel(station)
 
     def wake(self, station: Station) -> None:
         self.path.wake(station)
@@ -317,6 +325,8 @@ class Bench:
             self.open[frame_class] += 1
             self.open_of[exchange.station] += 1
             self.access_point.add(exchange)
+            if exchange.is_batch:
+                self.device.add(exchange)
 
     def start_air(self) -> None:
         """Begins the next exchange, of the access point or of a station, if there is one."""
@@ -331,7 +341,8 @@ class Bench:
             self.clock.at(self.clock.now + access + upward.air, lambda: self.finish_uplink(upward, access))
         else:
             exchange = self.access_point.take()
-            self.clock.at(self.clock.now + access + exchange.air, lambda: self.finish(exchange, access))
+            finish = self.finish_batch if exchange.is_batch else self.finish
+            self.clock.at(self.clock.now + access + exchange.air, lambda: finish(exchange, access))
 
     def draw(self, station: Station, numbers: random.Random, count: int) -> list[bool]:
         """Which of this many transmissions arrive."""
@@ -343,23 +354,72 @@ class Bench:
     def finish(self, exchange: Exchange, access: int) -> None:
         """The access point's exchange ends: draws what arrived and whether the BlockAck was heard."""
         station = self.scenario.stations[exchange.station]
-        numbers = self.losses[exchange.station]
-        arrived = self.draw(station, numbers, max(len(exchange.frames), 1))
-        heard = any(arrived) and (not station.ack_loss or numbers.random() >= station.ack_loss)
+        arrived, heard = self.outcome(station, max(len(exchange.frames), 1))
         self.medium.is_busy = False
+        self.note_closed(exchange)
+        used = self.used(exchange, access)
+        if used != exchange.air or station.is_measured:
+            exchange.charge = self.measured(station, used)
+        self.count(exchange, access, used, exchange.frames)
+        self.receivers.receive_all(self.path.finish(exchange, arrived, heard))
+        self.remove_if_leaving(station)
+
+    def outcome(self, station: Station, count: int) -> tuple[list[bool], bool]:
+        """Draws which of this many transmissions arrived, and whether the BlockAck was heard."""
+        numbers = self.losses[station.number]
+        arrived = self.draw(station, numbers, count)
+        return arrived, any(arrived) and (not station.ack_loss or numbers.random() >= station.ack_loss)
+
+    def used(self, exchange: Exchange, access: int) -> int:
+        """The airtime that an exchange used, with the access before it if that is charged."""
+        return exchange.air + (access if self.scenario.air.charge_access else 0)
+
+    def note_closed(self, exchange: Exchange) -> None:
+        """Notes that an exchange is no longer open."""
         frame_class = CLASS_OF_TID[exchange.tid]
         self.open[frame_class] -= 1
         self.open_of[exchange.station] -= 1
         self.may_send[frame_class] = True
         if self.shares_limit:
             self.may_send = dict.fromkeys(CLASSES, True)
-        used = exchange.air + (access if self.scenario.air.charge_access else 0)
-        if used != exchange.air or station.is_measured:
-            exchange.charge = self.measured(station, used)
-        self.count(exchange, access, used)
-        self.receivers.receive_all(self.path.finish(exchange, arrived, heard))
-        if exchange.station in self.leaving and not self.open_of[exchange.station]:
+
+    def remove_if_leaving(self, station: Station) -> None:
+        """Removes a station that leaves, if its last open exchange has ended."""
+        if station.number in self.leaving and not self.open_of[station.number]:
             self.remove(station)
+
+    def finish_batch(self, exchange: Exchange, access: int) -> None:
+        """A transmission of a batch ends. The device repeats what was not acknowledged, and reports the rest."""
+        station = self.scenario.stations[exchange.station]
+        frames = self.device.left(exchange)
+        arrived, heard = self.outcome(station, len(frames))
+        self.medium.is_busy = False
+        used = self.used(exchange, access)
+        self.count(exchange, access, used, frames)
+        acked, released = self.device.sent(exchange, arrived, heard, used)
+        self.receivers.receive_all(released)
+        repeats = self.device.repeats(exchange, self.uplinks[station.number].rate)
+        if repeats:
+            self.access_point.add_again(exchange)
+        if acked or not repeats:
+            self.clock.at(self.clock.now + REPORT, lambda: self.report(exchange, acked, [], not repeats))
+
+    def cancel(self, station: Station) -> None:
+        """Takes the batches of a station back that wait for their first transmission."""
+        for exchange in self.device.untried(station.number):
+            if self.access_point.remove(exchange):
+                self.report(exchange, [], range(len(exchange.frames)), True)
+
+    def report(self, exchange: Exchange, acked: Sequence[int], unsent: Sequence[int], is_over: bool) -> None:
+        """The driver learns which frames of a batch were acknowledged and which come back, and whether the batch ends."""
+        station = self.scenario.stations[exchange.station]
+        if is_over:
+            self.note_closed(exchange)
+            used, most = self.device.end(exchange), self.scenario.setting("charge")
+            exchange.charge = self.measured(station, min(used, most)) if most else None
+        self.path.report(exchange, acked, unsent, is_over)
+        if is_over:
+            self.remove_if_leaving(station)
 
     def measured(self, station: Station, used: int) -> int:
         """The airtime that the driver measures for an exchange that used this much."""
@@ -368,10 +428,10 @@ class Bench:
         share = 1 + station.charge_bias + self.meters[station.number].gauss(0, station.charge_error)
         return min(max(round(used * share), 1), self.scenario.setting("charge"))
 
-    def count(self, exchange: Exchange, access: int, used: int) -> None:
-        """Counts an exchange for its station, if it ended after the warm-up: the airtime that it used, whatever was measured."""
+    def count(self, exchange: Exchange, access: int, used: int, frames: Sequence[Frame]) -> None:
+        """Counts a transmission of these frames, if it ended after the warm-up: the airtime that it used, whatever was measured."""
         again = 0
-        for frame in exchange.frames:
+        for frame in frames:
             if frame.sent:
                 again += 1
             frame.sent += 1
@@ -379,8 +439,8 @@ class Bench:
             served = self.served[exchange.station]
             served.airtime += used
             served.access += exchange.air + access - used
-            served.aggregates += 1 if exchange.frames else 0
-            served.transmissions += len(exchange.frames)
+            served.aggregates += 1 if frames else 0
+            served.transmissions += len(frames)
             served.retries += again
 
     def finish_uplink(self, exchange: UplinkExchange, access: int) -> None:

@@ -104,7 +104,11 @@ class Cell(Held):
             raise Fault(f"the machine refuses {kind.word} {values}: {self.raw.error(code).word}")
 
     def join(self, station: Station) -> None:
-        self.must(CallKind.JOIN, station=station.number, window=station.window, start=0, exponent=3, weight=station.weight)
+        values = {"station": station.number, "exponent": 3, "weight": station.weight}
+        if station.offload:
+            self.must(CallKind.OFFLOAD, **values)
+        else:
+            self.must(CallKind.JOIN, window=station.window, start=0, **values)
 
     def leave(self, station: Station) -> None:
         self.must(CallKind.LEAVE, station=station.number)
@@ -196,7 +200,7 @@ class Cell(Held):
         reply, frames = self.reply, self.frames
         self.raw.read_frames(self.at, self.raw.frames_at)
         frames = [frames[number] for number in self.sent_ids[: self.raw.frames.count]]
-        return Exchange(reply.exchange, reply.station, reply.tid, reply.air, frames)
+        return Exchange(reply.exchange, reply.station, reply.tid, reply.air, frames, is_batch=bool(reply.batch))
 
     def finish(self, exchange: Exchange, arrived: Sequence[bool], heard: bool) -> list[Frame]:
         indices = [index for index, has_arrived in enumerate(arrived) if has_arrived]
@@ -234,6 +238,16 @@ class Cell(Held):
             else:
                 released += [frames[one] for one in ids[:count]]
         return released
+
+    def report(self, exchange: Exchange, acked: Sequence[int], unsent: Sequence[int], is_over: bool) -> None:
+        number = exchange.number
+        for kind, indices in ((CallKind.ARRIVE, acked), (CallKind.UNSENT, unsent)):
+            for index in indices:
+                self.must(kind, exchange=number, index=index)
+        if is_over:
+            self.must(CallKind.DONE, exchange=number, heard=1, air=exchange.charge or 0)
+            self.unreaped += self.reply.acked + self.reply.failed
+            self.reap()
 
     def take(self, count: int) -> None:
         """Reaps this many frames. As `enqueue_now`, it has no call of Python for most of them."""

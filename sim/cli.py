@@ -129,7 +129,7 @@ def read_points(given: argparse.Namespace) -> list[Point]:
 
 
 def choices_of(given: argparse.Namespace, scenario: Scenario) -> list[Choice]:
-    """The paths to run over. A model has no power save."""
+    """The paths to run over. A model has no power save and no offloaded stations."""
     if given.compare is None:
         choices = choose_all(scenario.compare, f"{given.scenario}: compare")
     else:
@@ -137,6 +137,8 @@ def choices_of(given: argparse.Namespace, scenario: Scenario) -> list[Choice]:
     for choice in choices:
         if not choice.is_machine and any(station.sleeps for station in scenario.stations):
             raise Fault(f"{choice.name}: models have no power save, and stations of this scenario sleep: expected {MACHINE} alone")
+        if not choice.is_machine and any(station.offload for station in scenario.stations):
+            raise Fault(f"{choice.name}: models have no offloaded stations, and this scenario has some: expected {MACHINE} alone")
     if given.trace and not any(choice.is_machine for choice in choices):
         raise Fault(f"--trace: only {MACHINE} makes a trace, and it is not compared: add it to --compare")
     return choices

@@ -36,7 +36,7 @@ class Frame:
 
 @dataclass(slots=True)
 class Exchange:
-    """An aggregate of data frames, or a BlockAckReq if it has none."""
+    """An aggregate of data frames, or a BlockAckReq if it has none. `air` of a batch is that of the transmission that is next."""
 
     number: int
     station: int
@@ -44,6 +44,7 @@ class Exchange:
     air: int  # microseconds on the air, without channel access
     frames: list[Frame]
     charge: int | None = None  # the airtime that the driver measured, if it charges that
+    is_batch: bool = False  # whether the station's device numbers and repeats the frames
 
     @property
     def charged(self) -> int:
@@ -111,6 +112,9 @@ class Path(ABC):
     @abstractmethod
     def finish(self, exchange: Exchange, arrived: Sequence[bool], heard: bool) -> list[Frame]:
         """Ends an exchange: which transmissions arrived, and whether the BlockAck was heard. Returns the frames released in order."""
+
+    def report(self, exchange: Exchange, acked: Sequence[int], unsent: Sequence[int], is_over: bool) -> None:
+        """Reports which frames of a batch were acknowledged and which were never sent, by index, and whether the batch ends."""
 
     def received(self, station: Station, frame_class: str, air: int) -> None:
         """Charges a station for airtime that it used to send. A path without an airtime scheduler ignores it."""

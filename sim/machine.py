@@ -21,6 +21,11 @@ class NoRoom(Fault):
         super().__init__("the run has more calls than the library has memory for: expected a program wf on the PATH, which takes more")
 
 
+def measured(exchange: Exchange) -> str:
+    """The words of a `done` for the airtime that the driver measured, if it charges that."""
+    return "" if exchange.charge is None else f" air {exchange.charge}"
+
+
 class Held(Path):
     """A machine's frames as the bench knows them.
 
@@ -132,7 +137,8 @@ class Machine(Held):
         return answer
 
     def join(self, station: Station) -> None:
-        self.must(f"join {station.number} {station.window} 0 3 {station.weight}", "joined")
+        form = f"offload {station.number}" if station.offload else f"join {station.number} {station.window} 0"
+        self.must(f"{form} 3 {station.weight}", "joined")
 
     def leave(self, station: Station) -> None:
         self.unreaped += int(self.must(f"leave {station.number}", "left").split()[1])
@@ -170,9 +176,10 @@ class Machine(Held):
         words = self.ask([f"pull {frame_class}"])[0].split()
         if words[0] != "send":
             return None
-        listed = words[9:] if words[8] == "data" else []
+        listed = words[9:] if words[8] != "bar" else []
         frames = [self.frames[int(word.partition(":")[0])] for word in listed if word != "more"]
-        return Exchange(int(words[1]), int(words[3]), int(words[5]), int(words[7]), frames)
+        number, station, tid, air = (int(words[at]) for at in (1, 3, 5, 7))
+        return Exchange(number, station, tid, air, frames, is_batch=words[8] == "batch")
 
     def finish(self, exchange: Exchange, arrived: Sequence[bool], heard: bool) -> list[Frame]:
         number = exchange.number
@@ -180,8 +187,7 @@ class Machine(Held):
         lines = [f"arrive {number} {index}" for index in indices]
         if indices:
             lines.append(f"answer {number}")
-        measured = "" if exchange.charge is None else f" air {exchange.charge}"
-        lines.append(f"done {number} {'heard' if heard else 'lost'}{measured}")
+        lines.append(f"done {number} {'heard' if heard else 'lost'}{measured(exchange)}")
         done = len(lines)
         if heard and exchange.frames:
             lines += ["reap"] * len(indices)  # at least this many are acknowledged now
@@ -191,6 +197,17 @@ class Machine(Held):
         self.note_reaped(answers[done:])
         self.reap()
         return released
+
+    def report(self, exchange: Exchange, acked: Sequence[int], unsent: Sequence[int], is_over: bool) -> None:
+        number = exchange.number
+        lines = [f"arrive {number} {index}" for index in acked]
+        lines += [f"unsent {number} {index}" for index in unsent]
+        if is_over:
+            lines.append(f"done {number} heard{measured(exchange)}")
+        answers = self.ask(lines)
+        if is_over:
+            self.count_done(lines[-1], answers[-1])
+            self.reap()
 
     def count_done(self, line: str, answer: str) -> None:
         """Counts the frames that a `done` put on the finished list."""

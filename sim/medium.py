@@ -36,6 +36,20 @@ class AccessPoint(Contender):
         self.waiting[CLASS_OF_TID[exchange.tid]].append(exchange)
         self.count += 1
 
+    def add_again(self, exchange: Exchange) -> None:
+        """Takes a batch that the device repeats, before the others of its class."""
+        self.waiting[CLASS_OF_TID[exchange.tid]].insert(0, exchange)
+        self.count += 1
+
+    def remove(self, exchange: Exchange) -> bool:
+        """Takes an exchange back. Returns whether it waited."""
+        waiting = self.waiting[CLASS_OF_TID[exchange.tid]]
+        if exchange not in waiting:
+            return False
+        waiting.remove(exchange)
+        self.count -= 1
+        return True
+
     def take(self) -> Exchange:
         """The exchange that goes on the air next."""
         self.count -= 1

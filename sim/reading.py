@@ -62,6 +62,8 @@ def from_table(top: Table, name: str) -> Scenario:
         allow_charges(top, scenario, "charge_access is true")
     elif any(station.is_measured for station in stations):
         allow_charges(top, scenario, "measured airtime has an error")
+    elif any(station.offload for station in stations):
+        allow_charges(top, scenario, "a station is offloaded")
     read_plot(top.table("plot"), scenario)
     top.finish()
     return scenario
@@ -158,7 +160,10 @@ def read_station(table: Table, group: str, seconds: float) -> Station:
         poll=round(1000 * table.number("poll_ms", 1, 60_000)) if table.has("poll_ms") else 0,
         charge_bias=table.number("charge_bias", -0.99, 10, 0),
         charge_error=table.number("charge_error", 0, 1, 0),
+        offload=table.flag("offload"),
     )
+    if station.offload and table.has("window"):
+        raise table.wrong("window", "no window, since the device of an offloaded station has its own")
     table.finish()
     return station
 

@@ -55,6 +55,7 @@ class Station:
     poll: int  # time between polls while it sleeps; 0 for none
     charge_bias: float = 0.0  # of the airtime that the driver measures: its mean error, and the standard deviation, as shares
     charge_error: float = 0.0
+    offload: bool = False  # whether the device numbers, aggregates and repeats its frames
 
     @property
     def is_measured(self) -> bool:
