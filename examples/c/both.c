@@ -92,7 +92,7 @@ static uint8_t some_kind(void) {
                                   WF_CALL_ARRIVE, WF_CALL_ARRIVE, WF_CALL_ANSWER, WF_CALL_ANSWER, WF_CALL_DONE, WF_CALL_DONE, WF_CALL_UNSENT, WF_CALL_GIVEUP};
   uint8_t kind;
   if (below(8)) return KINDS[below(sizeof KINDS)];
-  kind = (uint8_t)below(WF_CALL_FLUSH);
+  kind = (uint8_t)below(WF_CALL_WEIGHT);
   return (uint8_t)(kind < WF_CALL_REAP ? kind : kind + 1);
 }
 
@@ -244,6 +244,8 @@ static void write_entry(uint64_t place) {
     case WF_CALL_UNSENT: fprintf(trace, "unsent %llu %u\n", (unsigned long long)c.exchange, (unsigned)c.index); break;
     case WF_CALL_GIVEUP: fprintf(trace, "giveup %llu %u\n", (unsigned long long)c.exchange, (unsigned)c.index); break;
     case WF_CALL_FLUSH: fprintf(trace, "flush %u %u\n", s, (unsigned)c.tid); break;
+    case WF_CALL_OFFLOAD: fprintf(trace, "offload %u %u %u\n", s, (unsigned)c.exponent, (unsigned)c.weight); break;
+    case WF_CALL_WEIGHT: fprintf(trace, "weight %u %u\n", s, (unsigned)c.weight); break;
     default: fail("an entry of no kind");
   }
 }

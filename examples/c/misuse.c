@@ -124,6 +124,8 @@ static void misuse_stations(void) {
   const struct wf_packet packet = packet_of(0, body, sizeof body);
   const uint16_t none = STATIONS;
   want(wf_path_join(&path, none, 64, 0, 3, 1, &reply), WF_BAD_STATION, "wf_path_join");
+  want(wf_path_join_offload(&path, none, 3, 1, &reply), WF_BAD_STATION, "wf_path_join_offload");
+  want(wf_path_weight(&path, none, 1, &reply), WF_BAD_STATION, "wf_path_weight");
   want(wf_path_leave(&path, none, &reply), WF_BAD_STATION, "wf_path_leave");
   want(wf_path_rate_ht(&path, none, 7, 20, 0, &reply), WF_BAD_STATION, "wf_path_rate_ht");
   want(wf_path_sleep(&path, none, &reply), WF_BAD_STATION, "wf_path_sleep");
@@ -135,6 +137,10 @@ static void misuse_stations(void) {
   want(wf_path_poll(&path, none, &reply), WF_BAD_STATION, "wf_path_poll");
   want(wf_path_rx(&path, none, WF_BE, 100, &reply), WF_BAD_STATION, "wf_path_rx");
   want(wf_path_enqueue(&path, none, &packet, &reply), WF_BAD_STATION, "wf_path_enqueue");
+  want(wf_path_join_offload(&path, 3, 4, 0, &reply), WF_BAD_EXPONENT, "an offloaded station of exponent 4");
+  want(wf_path_join_offload(&path, 3, 3, 17, &reply), WF_BAD_WEIGHT, "an offloaded station of weight 17");
+  want(wf_path_weight(&path, 3, 17, &reply), WF_BAD_WEIGHT, "a weight of 17");
+  want(wf_path_weight(&path, 3, 1, &reply), WF_NO_STATION, "wf_path_weight");
   want(wf_path_leave(&path, 3, &reply), WF_NO_STATION, "wf_path_leave");
   want(wf_path_rate_ht(&path, 3, 7, 20, 0, &reply), WF_NO_STATION, "wf_path_rate_ht");
   want(wf_path_sleep(&path, 3, &reply), WF_NO_STATION, "wf_path_sleep");
@@ -312,7 +318,7 @@ static void misuse_bursts(void) {
   misuse_burst(call, WF_OK, "the end of no exchange");
   call.kind = WF_CALL_UNSENT;
   misuse_burst(call, WF_OK, "a mark of no exchange");
-  call.kind = WF_CALL_FLUSH + 1;
+  call.kind = WF_CALL_WEIGHT + 1;
   misuse_burst(call, WF_BAD_CALL, "a call of no kind");
   call.kind = WF_CALL_PULL;
   call.class_ = 4;
@@ -446,6 +452,23 @@ static void misuse_ends(void) {
   want(taken.attempts, 1, "the attempts of a frame that was sent once");
 }
 
+/* Ends a batch by the functions of a BlockAck: as lost, which drops its frame. */
+static void misuse_batch(void) {
+  static const uint8_t body[100];
+  const struct wf_packet packet = packet_of(0, body, sizeof body);
+  struct wf_taken taken = {0};
+  want(wf_path_join_offload(&path, 3, 3, 1, &reply), WF_OK, "wf_path_join_offload");
+  want(wf_path_join_offload(&path, 3, 3, 1, &reply), WF_LIVE, "a second join");
+  want(wf_path_enqueue(&path, 3, &packet, &reply), WF_OK, "wf_path_enqueue");
+  want(wf_path_pull(&path, WF_BE, &reply, &frames), WF_OK, "a pull of a batch");
+  want(reply.batch && frames.count == 1 && frames.numbers[0] == 0, 1, "the answer to a pull of a batch");
+  want(wf_path_done_lost(&path, reply.exchange, 0, &reply), WF_OK, "a batch that is lost");
+  want(reply.failed, 1, "a frame that fails");
+  want(wf_path_reap(&path, &reply, &taken, NULL, 0), WF_OK, "wf_path_reap");
+  want(taken.fate, WF_RETRIES, "the fate of a frame of a lost batch");
+  want(wf_path_leave(&path, 3, &reply), WF_OK, "wf_path_leave");
+}
+
 /* Flushes a TID: its frames are dropped, and those of others stay. */
 static void misuse_flushes(void) {
   static const uint8_t body[100];
@@ -576,6 +599,7 @@ static void misuse_path(void) {
   misuse_stops();
   misuse_ends();
   misuse_flushes();
+  misuse_batch();
   misuse_sleepers();
   wf_path_free(&path);
 }
@@ -599,7 +623,7 @@ static void misuse_cell(void) {
   want(wf_cell_ask(&cell, 0, &call, &reply), WF_BAD_CALL, "a frame without its body");
   call.kind = WF_CALL_REAP;
   want(wf_cell_ask(&cell, 0, &call, &reply), WF_BAD_CALL, "a reap without its struct");
-  call.kind = WF_CALL_FLUSH + 1;
+  call.kind = WF_CALL_WEIGHT + 1;
   want(wf_cell_ask(&cell, 0, &call, &reply), WF_BAD_CALL, "a call of no kind");
   call.kind = WF_CALL_RATE;
   call.form = WF_FORM_HE + 1;

@@ -102,6 +102,13 @@ class Path {
                                   std::uint8_t exponent, std::uint8_t weight, wf_reply &reply) {
     return wf_path_join(&handle_, station, window, start, exponent, weight, &reply);
   }
+  [[nodiscard]] std::int32_t join_offload(std::uint16_t station, std::uint8_t exponent, std::uint8_t weight,
+                                          wf_reply &reply) {
+    return wf_path_join_offload(&handle_, station, exponent, weight, &reply);
+  }
+  [[nodiscard]] std::int32_t weight(std::uint16_t station, std::uint8_t weight, wf_reply &reply) {
+    return wf_path_weight(&handle_, station, weight, &reply);
+  }
   [[nodiscard]] std::int32_t leave(std::uint16_t station, wf_reply &reply) {
     return wf_path_leave(&handle_, station, &reply);
   }

@@ -25,6 +25,7 @@ struct exchange {
   uint16_t station;
   uint8_t tid;
   uint8_t request;
+  uint8_t batch;
   uint16_t start; /* of its BlockAckReq */
   struct wf_frames frames;
   uint8_t unsent[256]; /* by transmission: 1 if it is marked as one that never went on the air */
@@ -79,6 +80,13 @@ static void call_join(uint16_t s) {
   int32_t code = wf_path_join(&path, s, window, start, exponent, weight, &reply);
   fprintf(trace, "join %u %u %u %u %u\n", (unsigned)s, (unsigned)window, (unsigned)start, (unsigned)exponent, (unsigned)weight);
   if (code == WF_OK) windows[s] = window;
+  write_answer(code, NULL);
+}
+
+static void call_join_offload(uint16_t s) {
+  uint8_t exponent = (uint8_t)below(5), weight = (uint8_t)below(18);
+  int32_t code = wf_path_join_offload(&path, s, exponent, weight, &reply);
+  fprintf(trace, "offload %u %u %u\n", (unsigned)s, (unsigned)exponent, (unsigned)weight);
   write_answer(code, NULL);
 }
 
@@ -198,6 +206,18 @@ static void look_at(const struct exchange *x) {
   if (wf_path_header(&path, x->number, x->frames.count, (uint8_t[WF_HEADER]){0}) != WF_BAD_INDEX) fail("a header too many");
 }
 
+/* Notes the frames of an aggregate in the session of its TID, each as one that has not arrived. */
+static void note_frames(const struct exchange *x) {
+  struct session *session = &sessions[x->station][x->tid];
+  uint16_t i;
+  for (i = 0; i < x->frames.count; i++) {
+    uint16_t n = x->frames.numbers[i];
+    if (session->ids[n] == x->frames.ids[i] + 1) continue;
+    session->ids[n] = x->frames.ids[i] + 1;
+    session->arrived[n] = 0;
+  }
+}
+
 /* Writes the line of a pull with limits; 0 limits nothing. */
 static void write_pull(uint8_t class_, uint32_t most, uint32_t air) {
   fprintf(trace, "pull %s", CLASSES[class_]);
@@ -208,9 +228,7 @@ static void write_pull(uint8_t class_, uint32_t most, uint32_t air) {
 
 static void call_pull(void) {
   struct exchange *x = &exchanges[open_count];
-  struct session *session;
   uint8_t class_ = (uint8_t)below(4);
-  uint16_t i;
   int32_t code;
   int can;
   if (open_count == OPEN) return;
@@ -231,14 +249,10 @@ static void call_pull(void) {
   x->station = reply.station;
   x->tid = reply.tid;
   x->request = reply.request;
+  x->batch = reply.batch;
   x->start = reply.start;
-  session = &sessions[x->station][x->tid];
-  for (i = 0; i < x->frames.count; i++) {
-    uint16_t n = x->frames.numbers[i];
-    if (session->ids[n] == x->frames.ids[i] + 1) continue;
-    session->ids[n] = x->frames.ids[i] + 1;
-    session->arrived[n] = 0;
-  }
+  if (x->batch && x->request) fail("a batch that is a request");
+  if (!x->batch) note_frames(x);
   open_count++;
   look_at(x);
 }
@@ -385,6 +399,37 @@ static void end_by_outcomes(struct exchange *x) {
   if (reply.kind != WF_KIND_DONE) fail("outcomes that end no exchange");
 }
 
+/* Ends a batch without marks by an outcome of each frame. The trace says of each acknowledged frame that it
+ * arrived. */
+static void end_batch(struct exchange *x) {
+  uint8_t outcomes[256] = {0};
+  uint32_t air = below(2) ? 1 + below(CHARGE) : 0;
+  uint16_t i, count = transmissions(x);
+  int heard = 0;
+  draw_marks(x, outcomes, 0);
+  for (i = 0; i < count; i++) {
+    if (outcomes[i] != WF_OUTCOME_RETRY) continue;
+    if (below(4) == 0) {
+      given_up[x->frames.ids[i]] = 1;
+      continue;
+    }
+    outcomes[i] = WF_OUTCOME_ACKED;
+    receivers_line("arrive", x->number, i);
+    heard = 1;
+  }
+  write_done(x, heard, air, wf_path_done_each(&path, x->number, outcomes, count, air, &reply));
+  if (reply.kind != WF_KIND_DONE) fail("outcomes that end no batch");
+}
+
+/* Ends a batch as lost, with marks or without them: each frame that may have gone on the air fails. */
+static void lose_batch(struct exchange *x) {
+  uint16_t i;
+  for (i = 0; i < transmissions(x); i++) {
+    if (!x->unsent[i]) given_up[x->frames.ids[i]] = 1;
+  }
+  if (end_exchange(x, 0, below(2) ? 1 + below(CHARGE) : 0)) fail("a batch that does not end");
+}
+
 /* Cancels an exchange without marks. */
 static void cancel(struct exchange *x) {
   uint8_t outcomes[256];
@@ -421,8 +466,11 @@ static void call_done(void) {
   which = (int)below((uint32_t)open_count);
   x = exchanges[which];
   exchanges[which] = exchanges[--open_count];
-  hear_nothing(&x);
-  if (x.marks || below(3)) end_by_answer(&x);
+  if (!x.batch) hear_nothing(&x);
+  if (x.batch && (x.marks || below(8) == 0)) lose_batch(&x);
+  else if (x.batch && below(8)) end_batch(&x);
+  else if (x.batch) cancel(&x);
+  else if (x.marks || below(3)) end_by_answer(&x);
   else if (below(4)) end_by_outcomes(&x);
   else cancel(&x);
   if (wf_path_done_lost(&path, x.number, CHARGE + 1, &reply) != WF_NO_EXCHANGE) fail("an exchange that ends twice");
@@ -482,10 +530,10 @@ static void call_advance(void) {
 }
 
 static void call_other(uint16_t s) {
-  uint8_t class_ = (uint8_t)below(4), tid;
+  uint8_t class_ = (uint8_t)below(4), tid, weight;
   uint32_t number = below(50) ? below(2000) : 10000000 + below(2);
   int32_t code;
-  switch (below(11)) {
+  switch (below(12)) {
     case 0: code = wf_path_leave(&path, s, &reply), fprintf(trace, "leave %u\n", (unsigned)s); break;
     case 1: code = wf_path_sleep(&path, s, &reply), fprintf(trace, "sleep %u\n", (unsigned)s); break;
     case 2: code = wf_path_wake(&path, s, &reply), fprintf(trace, "wake %u\n", (unsigned)s); break;
@@ -507,6 +555,11 @@ static void call_other(uint16_t s) {
       code = wf_path_flush(&path, s, tid, &reply);
       fprintf(trace, "flush %u %u\n", (unsigned)s, (unsigned)tid);
       break;
+    case 10:
+      weight = (uint8_t)below(18);
+      code = wf_path_weight(&path, s, weight, &reply);
+      fprintf(trace, "weight %u %u\n", (unsigned)s, (unsigned)weight);
+      break;
     default:
       number *= 10;
       code = wf_path_tick(&path, number, &reply);
@@ -525,7 +578,8 @@ static void call(void) {
   else if (which < 58) call_pull();
   else if (which < 76) call_done();
   else if (which < 90) call_reap();
-  else if (which < 93) call_join(s);
+  else if (which < 92) call_join(s);
+  else if (which < 93) call_join_offload(s);
   else if (which < 94) call_rate(s);
   else if (which < 95) call_rate_vht(s);
   else if (which < 96) call_rate_he(s);

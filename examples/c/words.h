@@ -18,9 +18,10 @@ static void write_send(FILE *out, const struct wf_reply *reply, const struct wf_
   if (reply->request) {
     fprintf(out, "bar %u", (unsigned)reply->start);
   } else {
-    fprintf(out, "data");
+    fprintf(out, reply->batch ? "batch" : "data");
     for (i = 0; i < frames->count; i++) {
-      fprintf(out, " %llu:%u", (unsigned long long)frames->ids[i], (unsigned)frames->numbers[i]);
+      fprintf(out, " %llu", (unsigned long long)frames->ids[i]);
+      if (!reply->batch) fprintf(out, ":%u", (unsigned)frames->numbers[i]);
     }
   }
   if (reply->more) fprintf(out, " more");

@@ -20,6 +20,7 @@ RULES = {"aql_total": 1500, "debt": 20000, "keep_order": 1, "codel_reset": 1, "a
 OTHERS = {"overhead": 8, "cap_vi": 2000, "cap_vo": 1000, "answers": 1, "credits": 1}
 WORDS = {"join": "joined", "set_rate": "set", "sleep": "slept", "wake": "woken"}
 WORDS |= {"set_ampdu": "set", "stop": "stopped", "start": "started", "unsent": "marked", "give_up": "marked"}
+WORDS |= {"join_offload": "joined", "set_weight": "set"}
 
 
 def settings_of(seed: int) -> dict[str, int]:
@@ -97,6 +98,9 @@ class Draw:
         """A join."""
         window = 1 + self.below(64 if self.below(4) else 257)
         start, exponent, weight = self.below(4100), self.below(5), self.below(18)
+        if self.below(3) == 0:
+            self.call(f"offload {station} {exponent} {weight}", "join_offload", station, exponent, weight)
+            return
         given = (station, window, start, exponent, weight)
         self.call(" ".join(map(str, ("join", *given))), "join", *given)
 
@@ -162,11 +166,14 @@ class Draw:
         """One of the other calls."""
         class_ = AccessClass(self.below(4))
         number = self.below(2000) if self.below(50) else TICK + self.below(2)
-        words = "leave sleep wake poll stop start start ampdu rx tick flush"
+        words = "leave sleep wake poll stop start start ampdu weight rx tick flush"
         name = self.random.choice(words.split())
         if name == "flush":
             tid = self.below(8 if self.below(50) else 10)
             self.call(f"flush {station} {tid}", "flush", station, tid)
+        elif name == "weight":
+            weight = self.below(18)
+            self.call(f"weight {station} {weight}", "set_weight", station, weight)
         elif name == "rx":
             self.call(f"rx {station} {class_.word} {number}", "rx", station, class_, number)
         elif name == "tick":
@@ -263,9 +270,11 @@ class PathDraw(Draw):
         number, indices = exchange.number, range(exchange.transmissions)
         marked = [index for index in indices if (number, index) in self.marks]
         air = 1 + self.below(CHARGE) if self.below(2) else 0
-        if not marked and self.below(3) == 0:
+        if exchange.batch and marked:
+            self.end(exchange, False, air)
+        elif not marked and (self.below(8) if exchange.batch else self.below(3) == 0):
             self.finish_each(exchange, air)
-        elif not marked and self.below(8) == 0:
+        elif not marked and (exchange.batch or self.below(8) == 0):
             self.lines += [f"unsent {number} {index}" for index in indices]
             self.answers += ["marked"] * len(indices)
             self.call(f"done {number} lost air 1", "cancel", number)
@@ -282,10 +291,20 @@ class PathDraw(Draw):
         self.lines += [f"arrive {number} {index}" for index in came]
         for index in came if exchange.ids else ():
             self.arrived[exchange.station, exchange.tid, exchange.numbers[index]] = exchange.ids[index]
-        if came:
+        is_answered = bool(came) and not exchange.batch
+        if is_answered:
             self.lines.append(f"answer {number}")
-        self.answers += [None] * (len(came) + bool(came))
-        return bool(came) and self.below(4) > 0
+        self.answers += [None] * (len(came) + is_answered)
+        return is_answered and self.below(4) > 0
+
+    def arrive_in_batch(self, exchange: Exchange, outcomes: list[Outcome]) -> bool:
+        """Lets the device of a batch say which of its frames were acknowledged. Returns whether one was."""
+        for index, one in enumerate(outcomes):
+            if one == Outcome.RETRY and self.below(4):
+                outcomes[index] = Outcome.ACKED
+                self.lines.append(f"arrive {exchange.number} {index}")
+                self.answers.append("released")
+        return Outcome.ACKED in outcomes
 
     def finish_each(self, exchange: Exchange, air: int) -> None:
         """Ends an exchange by outcomes. The trace marks transmissions instead. A mark of a transmission that is
@@ -297,10 +316,13 @@ class PathDraw(Draw):
         marks = [f"{words[one]} {number} {index}" for index, one in enumerate(outcomes) if one in words]
         self.lines += marks
         self.answers += ["marked"] * len(marks)
-        heard = self.arrive(exchange, {index for index, one in enumerate(outcomes) if one == Outcome.UNSENT})
-        for index, one in enumerate(outcomes):
-            if heard and one != Outcome.UNSENT and self.has_arrived(exchange, index):
-                outcomes[index] = Outcome.ACKED
+        if exchange.batch:
+            heard = self.arrive_in_batch(exchange, outcomes)
+        else:
+            heard = self.arrive(exchange, {index for index, one in enumerate(outcomes) if one == Outcome.UNSENT})
+            for index, one in enumerate(outcomes):
+                if heard and one != Outcome.UNSENT and self.has_arrived(exchange, index):
+                    outcomes[index] = Outcome.ACKED
         line = f"done {number} {'heard' if heard else 'lost'}" + (f" air {air}" if air else "")
         self.call(line, "done_each", number, outcomes, air)
 

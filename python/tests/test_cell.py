@@ -74,6 +74,20 @@ class Calls(unittest.TestCase):
         lines = [str(cell.entry(place)) for place in (5, 6, 9)]
         self.assertEqual(lines, ["unsent 0 0", "giveup 0 1", "flush 0 0"])
 
+    def test_a_batch_and_a_weight(self) -> None:
+        cell = self.cell
+        cell.join_offload(0)
+        for _ in range(2):
+            cell.enqueue(0, 100)
+        self.assertEqual(cell.pull(AccessClass.BE).batch, True)
+        self.assertEqual(cell.arrive(0, 1), [])
+        with self.assertRaises(errors.Nothing):
+            cell.answer(0)
+        self.assertEqual(cell.done(0, True), (1, 0, 1))
+        cell.set_weight(0, 2)
+        self.assertEqual([frame.fate.word for frame in (cell.reap(), cell.reap())], ["retries", "acked"])
+        self.assertEqual([str(cell.entry(place)) for place in (0, 7)], ["offload 0 3 1", "weight 0 2"])
+
     def test_numbers_that_do_not_fit_are_errors(self) -> None:
         cell = self.cell
         for call in (lambda: cell.arrive(0, 65536), lambda: cell.done(-1, True), lambda: cell.rx(0, 4, 1)):

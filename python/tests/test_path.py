@@ -147,6 +147,40 @@ class Calls(unittest.TestCase):
         acked = {0: (Fate.ACKED, 1), 1: (Fate.ACKED, 2), 2: (Fate.ACKED, 1)}
         self.assertEqual(tries, {**acked, 3: (Fate.RETRIES, 1)})
 
+    def test_a_batch_ends_by_outcomes(self) -> None:
+        path = self.path
+        path.join_offload(0, exponent=2, weight=4)
+        for tag in range(4):
+            path.enqueue(0, 100, tag=tag)
+        batch = path.pull(BE)
+        self.assertEqual((batch.batch, batch.ids, batch.numbers), (True, [0, 1, 2, 3], [0] * 4))
+        self.assertEqual(str(batch), f"send 0 sta 0 tid 0 air {batch.air} batch 0 1 2 3")
+        outcomes = (Outcome.RETRY, Outcome.ACKED, Outcome.UNSENT, Outcome.GAVE_UP)
+        self.assertEqual(path.done_each(0, outcomes), (1, 1, 2))
+        again = path.pull(BE)
+        self.assertEqual((again.request, again.ids), (False, [2]))
+        self.assertEqual(path.done_each(1, [Outcome.RETRY]), (0, 0, 1))
+        fates = {frame.tag: (frame.fate, frame.attempts) for frame in path.reap_all()}
+        self.assertEqual(fates, {tag: (Fate.ACKED if tag == 1 else Fate.RETRIES, 1) for tag in range(4)})
+        for call in (lambda: path.join_offload(1, 4), lambda: path.join_offload(1, weight=17)):
+            with self.assertRaises((errors.BadExponent, errors.BadWeight)):
+                call()
+        with self.assertRaises(errors.Live):
+            path.join_offload(0)
+
+    def test_a_weight_is_set(self) -> None:
+        path = self.path
+        path.join(0, weight=4)
+        quantum = path.settings.quantum
+        self.assertEqual(path.share(0, BE).deficit, 4 * quantum)
+        path.set_weight(0, 1)
+        self.assertEqual(path.share(0, BE).deficit, quantum)
+        path.set_weight(0, 16)
+        self.assertEqual(path.share(0, BE).deficit, quantum)
+        for call in (lambda: path.set_weight(0, 17), lambda: path.set_weight(1, 1)):
+            with self.assertRaises((errors.BadWeight, errors.NoStation)):
+                call()
+
     def test_a_mark_comes_before_the_bits(self) -> None:
         path = self.path
         path.join(0)
@@ -197,6 +231,8 @@ class Calls(unittest.TestCase):
             lambda: self.path.done_each(0, [256]),
             lambda: self.path.unsent(0, 65536),
             lambda: self.path.flush(0, 256),
+            lambda: self.path.join_offload(0, 256),
+            lambda: self.path.set_weight(0, 256),
         ):
             with self.assertRaises(ValueError):
                 call()

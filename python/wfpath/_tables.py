@@ -105,6 +105,8 @@ class CallKind(enum.IntEnum):
     UNSENT = 17
     GIVEUP = 18
     FLUSH = 19
+    OFFLOAD = 20
+    WEIGHT = 21
 
     @property
     def word(self) -> str:
@@ -347,8 +349,9 @@ class ReplyStruct(ctypes.Structure):
     has_dropped: int
     request: int
     more: int
+    batch: int
 
-    LAYOUT = "@QQQQqIIHHHHHBBBBBBBB"
+    LAYOUT = "@QQQQqIIHHHHHBBBBBBBBB"
     _fields_ = [
         ("exchange", ctypes.c_uint64),
         ("id", ctypes.c_uint64),
@@ -370,6 +373,7 @@ class ReplyStruct(ctypes.Structure):
         ("has_dropped", ctypes.c_uint8),
         ("request", ctypes.c_uint8),
         ("more", ctypes.c_uint8),
+        ("batch", ctypes.c_uint8),
     ]
 
 
@@ -646,6 +650,25 @@ FUNCTIONS: dict[str, tuple[Any, tuple[Any, ...]]] = {
             ctypes.c_uint16,
             ctypes.c_uint16,
             ctypes.c_uint8,
+            ctypes.c_uint8,
+            ctypes.POINTER(ReplyStruct),
+        ),
+    ),
+    "wf_path_join_offload": (
+        ctypes.c_int32,
+        (
+            ctypes.POINTER(PathStruct),
+            ctypes.c_uint16,
+            ctypes.c_uint8,
+            ctypes.c_uint8,
+            ctypes.POINTER(ReplyStruct),
+        ),
+    ),
+    "wf_path_weight": (
+        ctypes.c_int32,
+        (
+            ctypes.POINTER(PathStruct),
+            ctypes.c_uint16,
             ctypes.c_uint8,
             ctypes.POINTER(ReplyStruct),
         ),

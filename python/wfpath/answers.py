@@ -30,10 +30,11 @@ class Burst(NamedTuple):
 
 
 class Exchange(NamedTuple):
-    """An exchange to send: an aggregate, or a BlockAckReq if `request` is true.
+    """An exchange to send: an aggregate, a batch if `batch` is true, or a BlockAckReq if `request` is true.
 
-    `air` is in microseconds. `ids` and `numbers` are the frames of the aggregate and their sequence numbers.
-    `start` is that of the BlockAckReq. `more` says whether the station has more to be sent.
+    `air` is in microseconds. `ids` and `numbers` are the frames and their sequence numbers; in a batch, whose
+    frames the device numbers, the numbers are 0. `start` is that of the BlockAckReq. `more` says whether the
+    station has more to be sent.
     """
 
     number: int
@@ -45,6 +46,7 @@ class Exchange(NamedTuple):
     more: bool
     ids: list[int]
     numbers: list[int]
+    batch: bool = False
 
     @property
     def transmissions(self) -> int:
@@ -52,8 +54,8 @@ class Exchange(NamedTuple):
         return 1 if self.request else len(self.ids)
 
     def __str__(self) -> str:
-        sent = f"bar {self.start}" if self.request else "data"
-        frames = "".join(f" {one}:{at}" for one, at in zip(self.ids, self.numbers))
+        sent = f"bar {self.start}" if self.request else "batch" if self.batch else "data"
+        frames = "".join(f" {one}" if self.batch else f" {one}:{at}" for one, at in zip(self.ids, self.numbers))
         more = " more" if self.more else ""
         return f"send {self.number} sta {self.station} tid {self.tid} air {self.air} {sent}{frames}{more}"
 

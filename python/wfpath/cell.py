@@ -67,6 +67,25 @@ class Cell(Handle):
         made.exponent, made.weight = exponent, weight
         self._must(self._code(call))
 
+    def join_offload(self, station: int, exponent: int = 3, weight: int = 1) -> None:
+        """Makes a station live whose device numbers, aggregates and repeats its frames: its A-MPDU length
+        exponent, and weight in airtime. Each exchange to it is a batch: `arrive` says which of its frames were
+        acknowledged."""
+        if station >> 16 or exponent >> 8 or weight >> 8:
+            raise out_of_range(station=(station, 16), exponent=(exponent, 8), weight=(weight, 8))
+        call = self._calls[CallKind.OFFLOAD]
+        made = call.struct
+        made.station, made.exponent, made.weight = station, exponent, weight
+        self._must(self._code(call))
+
+    def set_weight(self, station: int, weight: int) -> None:
+        """Sets the weight of a live station in airtime, 1 to 16."""
+        if station >> 16 or weight >> 8:
+            raise out_of_range(station=(station, 16), weight=(weight, 8))
+        call = self._calls[CallKind.WEIGHT]
+        call.struct.station, call.struct.weight = station, weight
+        self._must(self._code(call))
+
     def leave(self, station: int) -> int:
         """Makes a station leave, and returns how many of its frames were dropped."""
         self._of_station(CallKind.LEAVE, station)

@@ -52,6 +52,19 @@ class Path(Handle):
             raise out_of_range(station=(station, 16), window=(window, 16), start=(start, 16), **other)
         self._must(C.wf_path_join(self._at, station, window, start, exponent, weight, self._reply_at))
 
+    def join_offload(self, station: int, exponent: int = 3, weight: int = 1) -> None:
+        """Makes a station live whose device numbers, aggregates and repeats its frames: its A-MPDU length
+        exponent, and weight in airtime. Each exchange to it is a batch, which ends by `done_each`."""
+        if station >> 16 or exponent >> 8 or weight >> 8:
+            raise out_of_range(station=(station, 16), exponent=(exponent, 8), weight=(weight, 8))
+        self._must(C.wf_path_join_offload(self._at, station, exponent, weight, self._reply_at))
+
+    def set_weight(self, station: int, weight: int) -> None:
+        """Sets the weight of a live station in airtime, 1 to 16."""
+        if station >> 16 or weight >> 8:
+            raise out_of_range(station=(station, 16), weight=(weight, 8))
+        self._must(C.wf_path_weight(self._at, station, weight, self._reply_at))
+
     def leave(self, station: int) -> int:
         """Makes a station leave, and returns how many of its frames were dropped."""
         self._of_station(C.wf_path_leave, station)
@@ -231,7 +244,8 @@ class Path(Handle):
         return self._done(C.wf_path_done_octets(self._at, exchange, given, len(given), air, self._reply_at))
 
     def done_each(self, exchange: int, outcomes: Iterable[int], air: int = 0) -> Done:
-        """Ends an exchange by what became of each of its transmissions, in their order: numbers of `Outcome`."""
+        """Ends an exchange by what became of each of its transmissions, in their order: numbers of `Outcome`. In
+        a batch `RETRY` does what `GAVE_UP` does."""
         if exchange >> 64 or air >> 32:
             raise out_of_range(exchange=(exchange, 64), air=(air, 32))
         given = bytes(list(outcomes))

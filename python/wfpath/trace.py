@@ -28,6 +28,8 @@ FIELDS: dict[CallKind, tuple[str, ...]] = {
     CallKind.UNSENT: ("exchange", "index"),
     CallKind.GIVEUP: ("exchange", "index"),
     CallKind.FLUSH: ("station", "tid"),
+    CallKind.OFFLOAD: ("station", "exponent", "weight"),
+    CallKind.WEIGHT: ("station", "weight"),
 }
 WORDS = {CallKind.ENQUEUE: "enq"}
 
