@@ -12,7 +12,7 @@ pub data State : Type 0 where
   Acked : State
   Failed : State
 
--- What one number carries: the id of its frame, and how often the number was sent without being
+-- The parcel of one number: the id of its frame, and how often the number was sent without being
 -- acknowledged. A number that is given up forgoes the attempts that are left: they count as made.
 pub record Slot : Type 0 where
   pub id : ℕ

@@ -243,7 +243,7 @@ few_encoders (Vht mcs mhz short n) h = few_vht_encoders mcs mhz n _ (vht_bits mc
 few_encoders (He mcs mhz guard n) h = omega arith
 
 -- The octets take at most `most` symbols if that many symbols of `least` bits hold them, and a symbol has at
--- least so many.
+-- least that many.
 few_symbols_of : (r : Rate) (octets most least : ℕ) → IsInRange r → 0 < least → least ≤ bits r →
     8 * octets + 106 ≤ most * least → symbols r octets ≤ most
 few_symbols_of r octets most least h some enough k =

@@ -1,8 +1,8 @@
--- Defines which rates there are, how long a transmission takes, and the charge of an exchange, at 5 GHz.
--- Data is sent with HT, mixed format (IEEE 802.11-2012, clause 20), with VHT to one station (802.11-2016,
--- clause 21) or with HE to one station (802.11ax-2021, clause 27). Control frames are sent with OFDM
--- (802.11-2012, 18.4.3) at 6, 12 or 24 Mbit/s. Times are in whole microseconds, or in tenths of a microsecond if the
--- name says so.
+-- Defines which rates there are, how long a transmission takes, and the charge of an exchange, at 5 GHz. Data
+-- is sent with HT, mixed format (IEEE 802.11-2012, clause 20), with VHT to one station (802.11-2016, clause
+-- 21) or with HE to one station (802.11ax-2021, clause 27). Control frames are sent with OFDM (802.11-2012,
+-- 18.4.3) at 6, 12 or 24 Mbit/s. Times are in whole microseconds, or in tenths of a microsecond if the name
+-- says so.
 use Rattle.std.specs.Prelude.{◌≡◌, ℕ, ◌+◌, ◌-◌, ◌*◌, ◌/◌, ◌%◌, ◌==◌, nat_le, Bool, true, false, not, ◌&&◌, ◌||◌, List, [], ◌∷◌, if◌then◌else◌, slice_index}
 use Rattle.wf_def_lists.specs.Table.{ceil_div, has}
 use Rattle.wf_def_lists.specs.Bounds.{greatest_mcs}
@@ -221,8 +221,8 @@ abbrev pub fast_mbps : ℕ
 fast_mbps = 24
 
 -- Returns the rate in Mbit/s at which control frames go to and from a station with this rate of data. If the
--- setting `answers` is 1 it is the highest mandatory rate that is not above that of the data, as for a response
--- (9.7.6.5.2), otherwise the highest one.
+-- setting `answers` is 1 it is the highest mandatory rate that is not above that of the data, as for a
+-- response (9.7.6.5.2), otherwise the highest one.
 abbrev pub control_mbps : ℕ → Rate → ℕ
 control_mbps answers r =
     if answers == 0 then fast_mbps
@@ -237,8 +237,8 @@ slowest_control answers = if answers == 0 then fast_mbps else slow_mbps
 abbrev pub control_bits : ℕ → ℕ
 control_bits mbps = control_symbol_time * mbps
 
--- Returns the time of a control frame of this many octets at a rate in Mbit/s, in microseconds. The last symbol
--- counts whole (18.4.3).
+-- Returns the time of a control frame of this many octets at a rate in Mbit/s, in microseconds. The last
+-- symbol counts whole (18.4.3).
 abbrev pub control_time : ℕ → ℕ → ℕ
 control_time mbps octets = control_preamble_time + control_symbol_time * ceil_div
     (8 * octets + service_and_tail_bits) (control_bits mbps)
@@ -256,6 +256,14 @@ request_octets = 20
 abbrev pub block_ack_octets : Bool → ℕ
 block_ack_octets wide = if wide then 52 else 28
 
+-- The length of an Ack in octets, without its check sequence (8.3.1.4).
+abbrev pub ack_octets : ℕ
+ack_octets = 10
+
+-- Returns the time of an Ack at a rate in Mbit/s, in microseconds.
+abbrev pub ack_time : ℕ → ℕ
+ack_time mbps = control_time mbps (ack_octets + check_octets)
+
 -- Returns the time of a BlockAckReq at a rate in Mbit/s, in microseconds.
 abbrev pub request_time : ℕ → ℕ
 request_time mbps = control_time mbps (request_octets + check_octets)
@@ -270,15 +278,20 @@ answer_time mbps wide = control_time mbps (block_ack_octets wide + check_octets)
 abbrev pub sifs : ℕ
 sifs = 16
 
--- Returns the time of the pause and the longest BlockAck in microseconds, by the setting `answers`. No exchange
--- is charged more than this in addition to its data or request.
+-- Returns the time of the pause and the longest BlockAck in microseconds, by the setting `answers`. No
+-- exchange is charged more than this in addition to its data or request.
 abbrev pub longest_answer : ℕ → ℕ
 longest_answer answers = sifs + answer_time (slowest_control answers) true
 
--- Returns the charge of a data exchange in microseconds, by the setting `answers`: its data, the pause and the
--- BlockAck.
+-- Returns the charge of a data exchange in microseconds, by the setting `answers`: its data, the pause and
+-- the BlockAck.
 abbrev pub data_charge : ℕ → Rate → ℕ → Bool → ℕ
 data_charge answers r octets wide = data_time r octets + sifs + answer_time (control_mbps answers r) wide
+
+-- Returns the charge of a frame that an Ack answers in microseconds, by the setting `answers`: its data of
+-- this many octets, the pause and the Ack.
+abbrev pub plain_charge : ℕ → Rate → ℕ → ℕ
+plain_charge answers r octets = data_time r octets + sifs + ack_time (control_mbps answers r)
 
 -- Returns the charge of an exchange of a BlockAckReq to a station with this rate of data in microseconds, by
 -- the setting `answers`: the request, the pause and the BlockAck.

@@ -34,6 +34,13 @@ aggregate_octets [] = 0
 aggregate_octets (len ∷ []) = subframe_octets len
 aggregate_octets (len ∷ next ∷ lens) = padded (subframe_octets len) + aggregate_octets (next ∷ lens)
 
+-- Returns the octets of frames that are sent without an agreement, from the lengths of their bodies: one
+-- frame. At a rate of HT it is no aggregate and has no delimiter; at VHT and HE each frame is in an
+-- aggregate.
+abbrev pub plain_octets : Rate → List ℕ → ℕ
+plain_octets (Ht mcs mhz short) lens = aggregate_octets lens - delimiter_octets
+plain_octets rate lens = aggregate_octets lens
+
 -- Returns the number to which a station's maximum A-MPDU length exponent, 0 to 3, is added: 13 at a rate of
 -- HT (8.4.2.58.3). A receiver of VHT or HE states 0 to 7; this project's own rule maps 0 to 3 to 4 to 7
 -- there, so the number is 17.
@@ -57,7 +64,8 @@ most_octets rate exponent stated = unwrap_or stated (octets_of_exponent rate exp
 abbrev pub longest_alone : ℕ
 longest_alone = 3000
 
--- Returns the greatest data time of frames with these lengths in microseconds, if that of an aggregate is `cap`.
+-- Returns the greatest data time of frames with these lengths in microseconds, if that of an aggregate is
+-- `cap`.
 abbrev pub time_allowed : ℕ → List ℕ → ℕ
 time_allowed cap lens = if nat_le (length lens) 1 then max cap longest_alone else cap
 

@@ -124,7 +124,7 @@ pub slow_drops_at_their_times :
 unfolding a_dequeue
 slow_drops_at_their_times = refl
 
--- Only 1500 octets follow frame 2, so it is returned although it is late. The last frame is returned for
+-- Only 1500 octets follow frame 2, so it is late and is returned all the same. The last frame is returned for
 -- the same reason. A dequeue from the empty queue returns no frame and ends dropping.
 pub last_frames_stay :
     let end = played fast new_codel (frames_from 0 4) (30000 ∷ 9000000 ∷ 9000000 ∷ 9000000 ∷ []) in

@@ -15,7 +15,7 @@ abbrev pub greatest_count : ℕ
 greatest_count = 4294967295
 
 -- If dropping begins again within this many intervals after drop_next, it continues at the last rate of
--- drops (5.5). Later, the rate starts anew.
+-- drops (5.5). Later, the rate starts again.
 abbrev pub recent_intervals : ℕ
 recent_intervals = 16
 

@@ -21,7 +21,7 @@ abbrev pub greatest_exponent : ℕ
 greatest_exponent = 3
 
 -- The least and the greatest number of octets that `ampdu` may state for a station: one subframe of the
--- greatest body with its encryption fits the least (this project's own), and the greatest is that of a
+-- greatest body with its encryption fits the least (this project's own), and the greatest is the body of a
 -- receiver of HE (IEEE 802.11ax-2021, 26.6.1).
 abbrev pub least_ampdu : ℕ
 least_ampdu = 4096

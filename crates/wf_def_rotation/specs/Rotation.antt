@@ -61,8 +61,8 @@ abbrev pub keys_from : ℕ → List ℕ → List ℕ
 keys_from key [] = []
 keys_from key (y ∷ ys) = if y == key then y ∷ ys else keys_from key ys
 
--- Returns the first round in which the loop visits a key and finds its deficit above 0. Round 0 goes over
--- the new list. Rounds 1, 2 .. go over the old list, which contains the keys of the new list after round 0.
+-- Returns the first round in which the loop visits a key and finds its deficit above 0. Round 0 covers
+-- the new list. Rounds 1, 2 .. cover the old list, which contains the keys of the new list after round 0.
 -- `need` gives the quanta that each key needs.
 abbrev pub round : (ℕ → ℕ) → Rotation → ℕ → ℕ
 round need r y = if has r.new y then need y else 1 + need y

@@ -68,7 +68,7 @@ pub turn_goes_to_the_tid_that_did_not_send : replies
 unfolding the_machine
 turn_goes_to_the_tid_that_did_not_send = refl
 
--- two queues of a TID share by octets: the length of a frame is taken off the deficit of its own queue
+-- two queues of a TID share by octets: the length of a frame is taken off its own queue's deficit
 abbrev pub queues_of_a_tid_share_by_octets_calls : List Entry
 queues_of_a_tid_share_by_octets_calls = map (by 0) (
     Asked (Join 0 64 0 3 1) ∷

@@ -6,7 +6,7 @@ use Rattle.std.specs.List.{list_any}
 use Rattle.wf_frame.specs.declared.classes.Class.{Class}
 use Rattle.wf_def_rotation.specs.Rotation.{Rotation, has_key, with_key_listed}
 use Rattle.wf_def_agreement.specs.Session.{waiting_numbers, request_due, has_room}
-use Rattle.wf_def_world.specs.World.{World, Content, Frames, Request, station, session, is_live, rotation, standing, owed, with_rotation}
+use Rattle.wf_def_world.specs.World.{World, Content, Frames, Request, station, session, is_held_back, is_live, rotation, standing, owed, with_rotation}
 use Rattle.wf_frame.specs.Classes.{lower_tid, upper_tid, same_class, all_classes}
 use Rattle.wf_def_world.specs.FlowQueues.{frames_queued}
 
@@ -24,9 +24,11 @@ request_open w s t =
 abbrev pub has_waiting : World → ℕ → ℕ → Bool
 has_waiting w s t = nat_lt 0 (length (waiting_numbers (session w s t)))
 
--- whether a TID has a queued frame, and room in its transmit window for the frame's number
+-- whether a TID has a queued frame, and may give it a number: it has room in its transmit window, and is not
+-- held back
 abbrev pub can_give : World → ℕ → ℕ → Bool
-can_give w s t = nat_lt 0 (frames_queued w s t) && has_room (session w s t)
+can_give w s t =
+    nat_lt 0 (frames_queued w s t) && (has_room (session w s t) && not (is_held_back w s t))
 
 -- whether a TID can send: a request that is due is sent before all frames, and only one at a time
 abbrev pub can_send : World → ℕ → ℕ → Bool

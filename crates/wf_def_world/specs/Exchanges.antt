@@ -2,7 +2,7 @@
 -- the Anomaly" (USENIX ATC 2017), section 3.2, combined with aggregation and block acknowledgement
 -- (IEEE 802.11-2012, 9.12 and 9.21.7). Deficits, quanta and charges are in microseconds of airtime,
 -- lengths in octets.
-use Rattle.std.specs.Prelude.{ℕ, zero, suc, ◌+◌, ◌-◌, ◌*◌, ◌%◌, ◌==◌, min, max, nat_lt, pos, ◌+ℤ◌, ◌-ℤ◌, Bool, true, false, not, ◌&&◌, ◌||◌, List, [], ◌∷◌, ◌++◌, Option, Some, None, if◌then◌else◌, length, map, count_by, unwrap_or}
+use Rattle.std.specs.Prelude.{ℕ, zero, suc, ◌+◌, ◌-◌, ◌*◌, ◌%◌, ◌==◌, min, max, nat_lt, nat_le, pos, ◌+ℤ◌, ◌-ℤ◌, Bool, true, false, not, ◌&&◌, ◌||◌, List, [], ◌∷◌, ◌++◌, Option, Some, None, if◌then◌else◌, length, map, count_by, unwrap_or}
 use Rattle.std.specs.List.{list_any}
 use Rattle.wf_frame.specs.declared.classes.Class.{Class}
 use Rattle.wf_frame.specs.declared.classes.Class.TheVariants.{Vi, Vo}
@@ -11,22 +11,22 @@ use Rattle.wf_frame.specs.declared.classes.Fate.TheVariants.{Acked, Dropped}
 use Rattle.wf_frame.specs.declared.settings.Config.{Config}
 use Rattle.wf_frame.specs.declared.notes.Limits.{Limits}
 use Rattle.wf_frame.specs.declared.notes.Part.{Part}
-use Rattle.wf_frame.specs.declared.notes.Part.TheVariants.{Mpdus, Batch, Request as Starts_at}
+use Rattle.wf_frame.specs.declared.notes.Part.TheVariants.{Mpdus, Batch, Plain, Request as Starts_at}
 use Rattle.wf_def_lists.specs.Table.{upto, at, has, longest_front}
-use Rattle.wf_def_air.specs.Airtime.{data_charge, request_charge, longest_answer}
-use Rattle.wf_def_air.specs.Fit.{aggregate_octets, most_octets, fits, longest_alone}
+use Rattle.wf_def_air.specs.Airtime.{Rate, data_charge, plain_charge, request_charge, longest_answer}
+use Rattle.wf_def_air.specs.Fit.{aggregate_octets, plain_octets, most_octets, fits, longest_alone}
 use Rattle.wf_def_codel.specs.Codel.{Item}
 use Rattle.wf_def_rotation.specs.Rotation.{in_order, need_of, Picked, pick}
-use Rattle.wf_def_agreement.specs.Session.{Session, State, End, slot, waiting_numbers, next_number, start_of, request_due, with_state, with_number_given, after_end, is_failed}
+use Rattle.wf_def_agreement.specs.Session.{Session, Slot, State, End, is_acknowledged, slot, waiting_numbers, next_number, start_of, request_due, with_state, with_number_given, after_end, is_failed}
 use Rattle.wf_def_agreement.specs.Receiver.{Receiver, with_arrived, with_start, Score, shows}
-use Rattle.wf_def_world.specs.World.{World, Bounds, Station, Share, Mpdu, Content, Frames, Request, Exchange, station, session, share, standing, quantum, rotation, frame, len_of, is_wide, is_offloaded, on_station, on_session, on_receiver, on_share, with_rotation, with_frame_finished}
+use Rattle.wf_def_world.specs.World.{World, Bounds, Station, Share, Mpdu, Content, Frames, Request, Exchange, station, session, share, standing, quantum, rotation, frame, len_of, is_wide, is_offloaded, is_agreed, is_plain, on_station, on_session, on_receiver, on_share, with_rotation, with_frame_finished}
 use Rattle.wf_frame.specs.Classes.{lower_tid, upper_tid}
 use Rattle.wf_def_world.specs.FlowQueues.{frames_queued, Taken, taken_for_tid}
 use Rattle.wf_def_world.specs.CanSend.{can_send, can_give, has_waiting, is_ready, is_request}
 
 -- ---- the station that is picked
 
--- the number of quanta that a station's standing in a class needs to rise above 0
+-- the number of quanta that the standing of a station for a class needs to rise above 0
 abbrev pub station_need : World → Class → ℕ → ℕ
 station_need w c s = need_of (quantum w s) (standing w s c)
 
@@ -65,7 +65,7 @@ other_tid w s c = if (share w s c).upper then lower_tid c else upper_tid c
 abbrev pub sending_tid : World → ℕ → Class → ℕ
 sending_tid w s c = if can_send w s (first_tid w s c) then first_tid w s c else other_tid w s c
 
--- TID t sends, so it is the other TID's turn
+-- TID t sends, so the other TID has the next turn
 unfoldable pub after_tid_turn : World → ℕ → Class → ℕ → World
 after_tid_turn w s c t = on_share w s c (λ x. record x { upper = t == lower_tid c })
 
@@ -76,8 +76,8 @@ cap_of config Vi = if config.cap_vi == 0 then config.cap else config.cap_vi
 cap_of config Vo = if config.cap_vo == 0 then config.cap else config.cap_vo
 cap_of config c = config.cap
 
--- the greatest computed charge of an exchange of a class, in microseconds: the greatest time of its data, which
--- a single frame may take in any class, the pause and the longest BlockAck
+-- the greatest computed charge of an exchange of a class, in microseconds: the greatest time of its data,
+-- which a single frame may take in any class, the pause and the longest BlockAck
 abbrev pub longest_computed : Config → Class → ℕ
 longest_computed config c = max (cap_of config c) longest_alone + longest_answer config.answers
 
@@ -175,8 +175,11 @@ pub record Prepared : Type 0 where
 -- the charge of an aggregate, in microseconds
 abbrev pub aggregate_charge : ℕ → ℕ → Aggregate → ℕ
 aggregate_charge s t f =
-    data_charge f.world.config.answers (station f.world s).rate
-    (aggregate_octets (lens_of f.world.config.overhead f.mpdus)) (is_wide f.world s t)
+    let answers : ℕ = f.world.config.answers in
+    let rate : Rate = (station f.world s).rate in
+    let lens : List ℕ = lens_of f.world.config.overhead f.mpdus in
+    if is_plain f.world s t then plain_charge answers rate (plain_octets rate lens)
+    else data_charge answers rate (aggregate_octets lens) (is_wide f.world s t)
 
 -- an aggregate, with its numbers flying
 unfoldable pub prepared_data : ℕ → ℕ → Aggregate → Prepared
@@ -208,7 +211,7 @@ has_more w s = list_any (λ t. has_waiting w s t || nat_lt 0 (frames_queued w s 
 unfoldable pub without_credit : World → ℕ → World
 without_credit w s = on_station w s (λ x. record x { credit = None })
 
--- the exchange that sends what is prepared. `more` is the More Data bit (IEEE 802.11-2012, 8.2.4.1.8):
+-- the exchange that sends a prepared part. `more` is the More Data bit (IEEE 802.11-2012, 8.2.4.1.8):
 -- only data to a sleeping station can have it.
 abbrev pub exchange_of : ℕ → ℕ → Class → Prepared → Exchange
 exchange_of s t c p =
@@ -220,6 +223,7 @@ exchange_of s t c p =
       charge = p.charge;
       content = p.content;
       batch = is_offloaded p.world s;
+      plain = is_plain p.world s t;
       arrived = [];
       answer = None;
       unsent = [];
@@ -231,12 +235,17 @@ exchange_of s t c p =
 unfoldable pub with_exchange_opened : World → Exchange → World
 with_exchange_opened w x = record w { exchanges = w.exchanges + 1; opened = w.opened ++ x ∷ [] }
 
+-- the content of frames with numbers in a reply: an aggregate, or one frame without an agreement
+abbrev pub numbered_part : Bool → List (ℕ × ℕ) → Part
+numbered_part true pairs = Plain pairs
+numbered_part false pairs = Mpdus pairs
+
 -- the content of an exchange in a reply: numbers are modulo 4096, as on the air. A batch has only the ids of
 -- its frames, since the device numbers them.
-abbrev pub part_of : Bool → Content → Part
-part_of false (Frames mpdus) = Mpdus (map (λ m. (m.id, m.number % 4096)) mpdus)
-part_of true (Frames mpdus) = Batch (map (λ m. m.id) mpdus)
-part_of batch (Request start) = Starts_at (start % 4096)
+abbrev pub part_of : Bool → Bool → Content → Part
+part_of false plain (Frames mpdus) = numbered_part plain (map (λ m. (m.id, m.number % 4096)) mpdus)
+part_of true plain (Frames mpdus) = Batch (map (λ m. m.id) mpdus)
+part_of batch plain (Request start) = Starts_at (start % 4096)
 
 -- ---- arrivals
 
@@ -311,8 +320,8 @@ end_in_batch x n =
     else if has (numbers_arrived x) n then End.Acknowledged
     else End.GivenUp
 
--- how an aggregate ends for its number n. What never went on the air waits again, even if the BlockAck shows
--- it.
+-- how an aggregate ends for its number n. A number that never went on the air waits again, even if the
+-- BlockAck shows it.
 abbrev pub end_in_aggregate : Exchange → Bool → ℕ → End
 end_in_aggregate x heard n =
     if has (numbers_unsent x) n then End.Unsent
@@ -320,9 +329,33 @@ end_in_aggregate x heard n =
     else if has (numbers_given_up x) n then End.GivenUp
     else End.Missed
 
+-- How far above the last acknowledged number a number without an agreement may be and be sent again. A
+-- receiver knows a repeated frame by the Retry bit and by twelve bits of its number (IEEE 802.11-2012,
+-- 9.3.2.10), so a number that is sent again must not be 4096 above the last one that arrived.
+abbrev pub repeat_distance : ℕ
+repeat_distance = 2047
+
+-- the number after the greatest acknowledged one; n is the number of the first slot, and `next` the answer if
+-- no slot is acknowledged
+abbrev pub after_acked : ℕ → ℕ → List Slot → ℕ
+after_acked next n [] = next
+after_acked next n (x ∷ xs) = after_acked (if is_acknowledged x.state then suc n else next) (suc n) xs
+
+-- whether number n of a session is too far above the last acknowledged number to be sent again
+abbrev pub is_far : Session → ℕ → Bool
+is_far y n = nat_le (after_acked y.first y.first y.slots + repeat_distance) n
+
+-- how an exchange ends for a number that is sent once only
+abbrev pub end_at_once : End → End
+end_at_once End.Missed = End.GivenUp
+end_at_once end = end
+
 -- how an exchange ends for its number n
-abbrev pub end_of : Exchange → Bool → ℕ → End
-end_of x heard n = if x.batch then end_in_batch x n else end_in_aggregate x heard n
+abbrev pub end_of : World → Exchange → Bool → ℕ → End
+end_of w x heard n =
+    if x.batch then end_in_batch x n
+    else if x.plain && is_far (session w x.station x.tid) n then end_at_once (end_in_aggregate x heard n)
+    else end_in_aggregate x heard n
 
 -- if the number failed, its frame is dropped as Retries
 unfoldable pub with_failed_finished : World → ℕ → ℕ → Mpdu → World
@@ -347,21 +380,21 @@ with_all_settled w s t ends (m ∷ ms) = with_all_settled (with_settled w s t (e
 abbrev pub with_heard_start : Bool → ℕ → Session → Session
 with_heard_start heard start x = if heard then record x { heard = max x.heard start } else x
 
--- The device of an offloaded station tells its peer by itself where the window starts: the session counts the
--- start as heard, and the receiver has it.
+-- Without an agreement no request gives the receiver the start of the window: it takes each number without
+-- those below it. So the session counts the start as heard, and the receiver has it.
 unfoldable pub caught_up : World → ℕ → ℕ → World
 caught_up w s t =
     let start : ℕ = start_of (session w s t) in
     on_receiver (on_session w s t (with_heard_start true start)) s t (with_start start)
 
--- the same if the station is offloaded; otherwise the world does not change
-unfoldable pub with_device_caught_up : World → ℕ → ℕ → World
-with_device_caught_up w s t = if is_offloaded w s then caught_up w s t else w
+-- the same if the TID has no agreement; otherwise the world does not change
+unfoldable pub caught_up_if_plain : World → ℕ → ℕ → World
+caught_up_if_plain w s t = if is_agreed w s t then w else caught_up w s t
 
 -- the world after an exchange with this content ended, heard or not
 unfoldable pub after_done : World → Exchange → Bool → Content → World
 after_done w x heard (Frames mpdus) =
-    with_device_caught_up (with_all_settled w x.station x.tid (end_of x heard) mpdus) x.station x.tid
+    caught_up_if_plain (with_all_settled w x.station x.tid (end_of w x heard) mpdus) x.station x.tid
 after_done w x heard (Request start) = on_session w x.station x.tid (with_heard_start heard start)
 
 -- the subframes of an exchange, of which a request has none

@@ -5,16 +5,18 @@ use Rattle.std.specs.List.{list_any}
 use Rattle.wf_frame.specs.Settings.{is_bad_air}
 use Rattle.wf_frame.specs.declared.classes.Class.{Class}
 use Rattle.wf_frame.specs.declared.notes.Ask.{Ask}
-use Rattle.wf_frame.specs.declared.notes.Ask.TheVariants.{Join, Leave, Rate, Tick, Pull, Arrive, Answer, Done, Sleep, Wake, Poll, Rx, Reap, Ampdu, Stop, Start, Unsent, GiveUp, Flush, Offload, Weight}
+use Rattle.wf_frame.specs.declared.notes.Ask.TheVariants.{Join, Leave, Rate, Tick, Pull, Arrive, Answer, Done, Sleep, Wake, Poll, Rx, Reap, Ampdu, Stop, Start, Unsent, GiveUp, Flush, Offload, Weight, Hold, Begin, Free, Cease}
+use Rattle.wf_frame.specs.declared.notes.Ask.TheVariants as call
 use Rattle.wf_frame.specs.declared.notes.Note.{Note}
 use Rattle.wf_frame.specs.declared.notes.Note.TheVariants.{Enqueue, Asked}
 use Rattle.wf_frame.specs.declared.notes.Refusal.{Refusal}
-use Rattle.wf_frame.specs.declared.notes.Refusal.TheVariants.{BadStation, BadWindow, BadStart, BadExponent, BadRate, BadTick, BadTid, BadAir, BadIndex, Live, NoStation, NoExchange, NoAnswer, Open, Room, Sleeping, Full, Idle, Answered, Arrived, Nothing, Asleep, Awake, Polled, Debt, BadWeight, Ahead, BadAmpdu, Stopped, Started, Marked}
+use Rattle.wf_frame.specs.declared.notes.Refusal.TheVariants.{BadStation, BadWindow, BadStart, BadExponent, BadRate, BadTick, BadTid, BadAir, BadIndex, Live, NoStation, NoExchange, NoAnswer, Open, Room, Sleeping, Full, Idle, Answered, Arrived, Nothing, Asleep, Awake, Polled, Debt, BadWeight, Ahead, BadAmpdu, Stopped, Started, Marked, Offloaded, Agreed, Held, NotHeld, NotAgreed, Waits}
 use Rattle.wf_def_lists.specs.Table.{has, upto}
 use Rattle.wf_def_lists.specs.Bounds.{greatest_window, greatest_start, greatest_exponent, greatest_weight, greatest_tid, greatest_tick, greatest_air, least_ampdu, greatest_ampdu, deepest_deficit}
 use Rattle.wf_def_air.specs.Airtime.{is_rate}
+use Rattle.wf_def_agreement.specs.Session.{waiting_numbers}
 use Rattle.wf_def_world.specs.Rates.{rate_asked}
-use Rattle.wf_def_world.specs.World.{World, Exchange, station, is_live, inside, share, exchange, owed_by_all}
+use Rattle.wf_def_world.specs.World.{World, Exchange, station, session, is_offloaded, is_agreed, is_held_back, is_live, inside, share, exchange, owed_by_all}
 use Rattle.wf_frame.specs.Classes.{same_class, lower_tid, upper_tid, class_of}
 use Rattle.wf_def_world.specs.FlowQueues.{frames_queued}
 use Rattle.wf_def_world.specs.CanSend.{can_send, can_send_in}
@@ -44,6 +46,14 @@ sleeps_full w s c = (station w s).asleep && nat_le w.config.sleeping (queued_in_
 -- the number of open exchanges of a station
 abbrev pub open_of_station : World → ℕ → ℕ
 open_of_station w s = count_by (λ x. x.station == s) w.opened
+
+-- the number of open exchanges of TID t of a station
+abbrev pub open_of_tid : World → ℕ → ℕ → ℕ
+open_of_tid w s t = count_by (λ x. (x.station == s) && (x.tid == t)) w.opened
+
+-- how many numbers of TID t of a station wait to be sent
+abbrev pub numbers_waiting : World → ℕ → ℕ → ℕ
+numbers_waiting w s t = length (waiting_numbers (session w s t))
 
 -- the number of open exchanges of a class
 abbrev pub open_of_class : World → Class → ℕ
@@ -85,6 +95,24 @@ refusals_of w (Offload s exponent weight) = (
 refusals_of w (Weight s weight) = (
     (is_bad_station w s, BadStation) ∷ (not (is_within 1 greatest_weight weight), BadWeight)
     ∷ (not (is_live w s), NoStation) ∷ [])
+refusals_of w (call.Plain s start exponent weight) = (
+    (is_bad_station w s, BadStation) ∷ (nat_lt greatest_start start, BadStart) ∷
+    (nat_lt greatest_exponent exponent, BadExponent) ∷ (not (is_within 1 greatest_weight weight), BadWeight)
+    ∷ (is_live w s, Live) ∷ [])
+refusals_of w (Hold s t) = (
+    (is_bad_station w s, BadStation) ∷ (nat_lt greatest_tid t, BadTid) ∷ (not (is_live w s), NoStation) ∷
+    (is_offloaded w s, Offloaded) ∷ (is_agreed w s t, Agreed) ∷ (is_held_back w s t, Held) ∷ [])
+refusals_of w (Begin s t window) = (
+    (is_bad_station w s, BadStation) ∷ (nat_lt greatest_tid t, BadTid) ∷
+    (not (is_within 1 greatest_window window), BadWindow) ∷ (not (is_live w s), NoStation) ∷
+    (not (is_held_back w s t), NotHeld) ∷ (nat_lt 0 (open_of_tid w s t), Open (open_of_tid w s t)) ∷
+    (nat_lt 0 (numbers_waiting w s t), Waits (numbers_waiting w s t)) ∷ [])
+refusals_of w (Free s t) = (
+    (is_bad_station w s, BadStation) ∷ (nat_lt greatest_tid t, BadTid) ∷ (not (is_live w s), NoStation) ∷
+    (not (is_held_back w s t), NotHeld) ∷ [])
+refusals_of w (Cease s t) = (
+    (is_bad_station w s, BadStation) ∷ (nat_lt greatest_tid t, BadTid) ∷ (not (is_live w s), NoStation) ∷
+    (not (is_agreed w s t), NotAgreed) ∷ (nat_lt 0 (open_of_tid w s t), Open (open_of_tid w s t)) ∷ [])
 refusals_of w (Leave s) = (
     (is_bad_station w s, BadStation) ∷ (not (is_live w s), NoStation) ∷
     (nat_lt 0 (open_of_station w s), Open (open_of_station w s)) ∷ [])

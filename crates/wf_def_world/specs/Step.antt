@@ -2,9 +2,10 @@
 use Rattle.std.specs.Prelude.{ℕ, ◌+◌, ◌-◌, ◌*◌, ◌%◌, ◌==◌, min, ℤ, pos, ◌+ℤ◌, ◌-ℤ◌, int_le, Bool, true, false, List, [], ◌∷◌, ◌++◌, Option, Some, None, if◌then◌else◌, length, find, unwrap_or}
 use Rattle.wf_frame.specs.declared.classes.Class.{Class}
 use Rattle.wf_frame.specs.declared.classes.Class.TheVariants.{Bk, Be, Vi, Vo}
-use Rattle.wf_frame.specs.declared.classes.Cause.TheVariants.{Left, Flushed}
+use Rattle.wf_frame.specs.declared.classes.Cause.TheVariants.{Left, Flushed, Ended}
 use Rattle.wf_frame.specs.declared.classes.Fate.TheVariants.{Held, Dropped}
-use Rattle.wf_frame.specs.declared.notes.Ask.TheVariants.{Join, Leave, Rate, Tick, Pull, Arrive, Answer, Done, Sleep, Wake, Poll, Rx, Reap, Ampdu, Stop, Start, Unsent, GiveUp, Flush, Offload, Weight}
+use Rattle.wf_frame.specs.declared.notes.Ask.TheVariants.{Join, Leave, Rate, Tick, Pull, Arrive, Answer, Done, Sleep, Wake, Poll, Rx, Reap, Ampdu, Stop, Start, Unsent, GiveUp, Flush, Offload, Weight, Hold, Begin, Free, Cease}
+use Rattle.wf_frame.specs.declared.notes.Ask.TheVariants as call
 use Rattle.wf_frame.specs.declared.notes.Limits.{Limits}
 use Rattle.wf_frame.specs.declared.notes.AskedRate.{AskedRate}
 use Rattle.wf_frame.specs.declared.notes.Note.{Note}
@@ -12,22 +13,22 @@ use Rattle.wf_frame.specs.declared.notes.Note.TheVariants.{Enqueue, Asked}
 use Rattle.wf_frame.specs.declared.notes.Refusal.{Refusal}
 use Rattle.wf_frame.specs.declared.notes.Refusal.TheVariants.{Idle}
 use Rattle.wf_frame.specs.declared.notes.ReplyNote.{ReplyNote}
-use Rattle.wf_frame.specs.declared.notes.ReplyNote.TheVariants.{Joined, Set, Now, Accepted, Send, Released, Ba, Slept, Woken, Polled, Charged, Reaped, Marked, Refused}
+use Rattle.wf_frame.specs.declared.notes.ReplyNote.TheVariants.{Joined, Set, Now, Accepted, Send, Released, Ba, Slept, Woken, Polled, Charged, Reaped, Marked, Ack, Begun, Freed, Ceased, Refused}
 use Rattle.wf_frame.specs.declared.notes.ReplyNote.TheVariants as reply
 use Rattle.wf_def_lists.specs.Table.{upto, with_member}
 use Rattle.wf_def_lists.specs.Bounds.{greatest_window}
 use Rattle.wf_def_air.specs.Airtime.{lowest_rate}
 use Rattle.wf_def_codel.specs.Codel.{Item}
 use Rattle.wf_def_rotation.specs.Rotation.{in_order, without_key, no_keys}
-use Rattle.wf_def_agreement.specs.Session.{Slot, State, is_acknowledged, is_waiting, is_failed, after_flush}
+use Rattle.wf_def_agreement.specs.Session.{Slot, State, next_number, is_acknowledged, is_waiting, is_failed, after_flush}
 use Rattle.wf_def_agreement.specs.Receiver.{Receiver, Score, score, bitmap_word, released_between}
 use Rattle.wf_def_world.specs.Rates.{rate_asked}
 use Rattle.wf_frame.specs.declared.settings.Config.{Config}
-use Rattle.wf_def_world.specs.World.{World, Station, Share, Exchange, new_share, quantum, pending_air, new_tid, session, receiver, share, tid_of, rotation, frame, accepted_count, is_wide, exchange, with_bounds, with_station, on_station, on_share, on_session, on_receiver, with_rotation, with_queues, with_exchange, without_exchange, with_frames_finished}
+use Rattle.wf_def_world.specs.World.{World, Mode, Agreed, Station, Share, Exchange, new_share, quantum, pending_air, new_tid, session, receiver, share, tid_of, rotation, frame, accepted_count, is_wide, exchange, with_bounds, with_station, on_station, on_share, on_session, on_receiver, with_rotation, with_mode, with_queues, with_exchange, without_exchange, with_frames_finished}
 use Rattle.wf_frame.specs.Classes.{all_classes}
 use Rattle.wf_def_world.specs.FlowQueues.{dropped_for_limit, after_limit, queue_for, after_put_in, after_queues_left, after_queues_flushed}
 use Rattle.wf_def_world.specs.CanSend.{can_send_in, with_listings_of}
-use Rattle.wf_def_world.specs.Exchanges.{picked_station, after_pick, bounds_of, sending_tid, after_tid_turn, Prepared, prepared_exchange, exchange_of, with_exchange_opened, without_credit, part_of, after_arrival, ids_of, after_charge, after_done, with_device_caught_up, longest_computed, count_in}
+use Rattle.wf_def_world.specs.Exchanges.{picked_station, after_pick, bounds_of, sending_tid, after_tid_turn, Prepared, prepared_exchange, exchange_of, with_exchange_opened, without_credit, part_of, after_arrival, ids_of, after_charge, after_done, caught_up, caught_up_if_plain, longest_computed, count_in}
 use Rattle.wf_def_world.specs.Refusals.{refusal}
 
 -- the outcome of a call: the world after it, and its reply
@@ -43,12 +44,12 @@ unreached w = record { world = w; reply = Released [] }
 
 -- ---- stations and clock
 
--- a station that joins: it has a quantum of airtime in each class and, on each TID, an agreement with this
--- window and this first number
-abbrev pub new_station : Config → ℕ → ℕ → ℕ → ℕ → Bool → Station
-new_station config window start exponent weight offloaded =
+-- a station that joins: it has a quantum of airtime in each class and, on each TID, this mode, this window
+-- and this first number
+abbrev pub new_station : Config → Mode → ℕ → ℕ → ℕ → ℕ → Bool → Station
+new_station config mode window start exponent weight offloaded =
     let share = new_share (config.quantum * weight) in
-    let tid = new_tid start window in
+    let tid = new_tid mode start window in
     record {
       weight = weight;
       weighed = false;
@@ -67,7 +68,7 @@ new_station config window start exponent weight offloaded =
 unfoldable pub join_outcome : World → ℕ → ℕ → ℕ → ℕ → ℕ → Outcome
 join_outcome w s window start exponent weight =
     record {
-      world = with_station w s (Some (new_station w.config window start exponent weight false));
+      world = with_station w s (Some (new_station w.config Agreed window start exponent weight false));
       reply = Joined;
     }
 
@@ -76,7 +77,20 @@ join_outcome w s window start exponent weight =
 unfoldable pub offload_outcome : World → ℕ → ℕ → ℕ → Outcome
 offload_outcome w s exponent weight =
     record {
-      world = with_station w s (Some (new_station w.config greatest_window 0 exponent weight true));
+      world = with_station w s (Some (new_station w.config Mode.Plain greatest_window 0 exponent weight true));
+      reply = Joined;
+    }
+
+-- the window of a TID that sends its frames one at a time, in numbers
+abbrev pub plain_window : ℕ
+plain_window = 1
+
+-- Plain: the station becomes live without an agreement on its TIDs
+unfoldable pub plain_outcome : World → ℕ → ℕ → ℕ → ℕ → Outcome
+plain_outcome w s start exponent weight =
+    record {
+      world = with_station w s
+          (Some (new_station w.config Mode.Plain plain_window start exponent weight false));
       reply = Joined;
     }
 
@@ -117,12 +131,12 @@ leave_outcome w s =
     }
 
 -- Flush: the frames of a TID are dropped as Flushed: first those of the numbers that wait, which fail, then
--- those of its queues, queue by queue in the order of their numbers. What is on the air stays.
+-- those of its queues, queue by queue in the order of their numbers. Frames on the air stay.
 unfoldable pub after_tid_flushed : World → ℕ → ℕ → World
 after_tid_flushed w s t =
     let emptied : World = with_frames_finished (on_session w s t (after_flush w.config.attempts))
     (Dropped Flushed) (waiting_ids (session w s t).slots) in
-    with_device_caught_up (after_queues_flushed emptied (in_rising_order (in_order (tid_of w s t).queues))) s t
+    caught_up_if_plain (after_queues_flushed emptied (in_rising_order (in_order (tid_of w s t).queues))) s t
 
 -- Flush: the reply says how many frames are dropped
 unfoldable pub flush_outcome : World → ℕ → ℕ → Outcome
@@ -130,17 +144,60 @@ flush_outcome w s t =
     let flushed : World = after_tid_flushed w s t in
     record { world = flushed; reply = reply.Flushed (length flushed.finished - length w.finished) }
 
+-- ---- agreements that begin and end
+
+-- Hold: no frame of the TID gets a number from now on. The reply has the next number, with which an agreement
+-- may begin, modulo 4096.
+unfoldable pub hold_outcome : World → ℕ → ℕ → Outcome
+hold_outcome w s t = record {
+  world = with_mode w s t Mode.OnHold;
+  reply = reply.Held (next_number (session w s t) % 4096);
+}
+
+-- the window of both sides of a TID is this
+unfoldable pub with_window : World → ℕ → ℕ → ℕ → World
+with_window w s t size =
+    on_receiver (on_session w s t (λ y. record y { size = size })) s t (λ r. record r { size = size })
+
+-- Begin: the TID has an agreement with this window from now on. Its numbers are all settled, and no request
+-- is due.
+unfoldable pub begin_outcome : World → ℕ → ℕ → ℕ → Outcome
+begin_outcome w s t window =
+    record { world = with_mode (with_window (caught_up w s t) s t window) s t Agreed; reply = Begun }
+
+-- Free: the TID sends its frames one at a time from now on
+unfoldable pub free_outcome : World → ℕ → ℕ → Outcome
+free_outcome w s t = record { world = with_mode w s t Mode.Plain; reply = Freed }
+
+-- Cease: the frames of the numbers that wait are dropped as Ended, in the order of the numbers, which fail
+unfoldable pub after_numbers_ended : World → ℕ → ℕ → World
+after_numbers_ended w s t = with_frames_finished (on_session w s t (after_flush w.config.attempts))
+    (Dropped Ended) (waiting_ids (session w s t).slots)
+
+-- Cease: the agreement ends, so the receiver releases what it holds. The reply says how many frames are
+-- dropped, and which are released.
+unfoldable pub cease_outcome : World → ℕ → ℕ → Outcome
+cease_outcome w s t =
+    let ended : World = after_numbers_ended w s t in
+    let caught : World = caught_up ended s t in
+    record {
+      world = with_mode (with_window caught s t plain_window) s t Mode.OnHold;
+      reply = Ceased (length ended.finished - length w.finished)
+          (ids_of (session w s t) (released_between (receiver w s t) (receiver caught s t)));
+    }
+
 -- the greatest deficit of a station in a class after its weight is set: its quantum and, with the setting
 -- `pending`, its airtime in flight, but not more than that of all exchanges of the class but one
 abbrev pub most_kept : World → ℕ → Class → ℕ
-most_kept w s c = quantum w s + min (pending_air w s c) ((w.config.inflight - 1) * longest_computed w.config c)
+most_kept w s c = quantum w s + min (pending_air w s c)
+    ((w.config.inflight - 1) * longest_computed w.config c)
 
 -- the lesser of an integer and of a number
-abbrev pub at_most : ℕ → ℤ → ℤ
-at_most most x = if int_le x (pos most) then x else pos most
+abbrev pub lesser_of : ℕ → ℤ → ℤ
+lesser_of most x = if int_le x (pos most) then x else pos most
 
 -- a share whose deficit becomes d when its station's quantum becomes this: `base` is such that the deficit
--- stays base, plus the quanta, less what was charged and received
+-- stays base, plus the quanta, less the airtime charged and received
 abbrev pub share_with_deficit : ℕ → ℤ → Share → Share
 share_with_deficit quantum d y =
     record y { deficit = d; base = d +ℤ pos (y.charged + y.received) -ℤ pos (quantum * y.quanta) }
@@ -150,7 +207,8 @@ unfoldable pub with_deficits_lowered : World → ℕ → List Class → World
 with_deficits_lowered w s [] = w
 with_deficits_lowered w s (c ∷ cs) =
     let most : ℕ = most_kept w s c in
-    let lowered : World = on_share w s c (λ y. share_with_deficit (quantum w s) (at_most most y.deficit) y) in
+    let lowered : World = on_share w s c (λ y. share_with_deficit (quantum w s)
+    (lesser_of most y.deficit) y) in
     with_deficits_lowered lowered s cs
 
 -- Weight: the station has this weight from now on, and each of its deficits is at most its new quantum
@@ -213,7 +271,7 @@ send_outcome s t c p =
     let x : Exchange = exchange_of s t c p in
     record {
       world = without_credit (with_exchange_opened p.world x) s;
-      reply = Send x.number s t x.charge (part_of x.batch x.content) x.more;
+      reply = Send x.number s t x.charge (part_of x.batch x.plain x.content) x.more;
     }
 
 -- the outcome of a pull with this winner
@@ -231,8 +289,8 @@ pull_outcome w c limits =
 
 -- ---- exchanges
 
--- Arrive: transmission i reaches the receiver, which releases the frames that are now in order. Of a batch it
--- is the device that says so, and what its receiver releases is not known.
+-- Arrive: transmission i reaches the receiver, which releases the frames that are now in order. For a batch
+-- the device says so, and what its receiver releases is not known.
 unfoldable pub arrive_outcome : World → Exchange → ℕ → Outcome
 arrive_outcome w x i =
     let old : Receiver = receiver w x.station x.tid in
@@ -244,16 +302,20 @@ arrive_outcome w x i =
           Released (if x.batch then [] else ids_of (session w x.station x.tid) (released_between old new));
     }
 
--- Answer: the receiver makes its BlockAck. The reply has its start, modulo 4096, and its bitmap (IEEE
--- 802.11-2012, 8.3.1.9.3).
+-- the reply to an answer: an Ack to a plain exchange, otherwise a BlockAck with its start, modulo 4096, and
+-- its bitmap (IEEE 802.11-2012, 8.3.1.9.3)
+abbrev pub answer_reply : Bool → Score → Bool → ReplyNote
+answer_reply true b wide = Ack
+answer_reply false b wide =
+    Ba (b.start % 4096) (bitmap_word b 0) (bitmap_word b 1) (bitmap_word b 2) (bitmap_word b 3) wide
+
+-- Answer: the receiver makes its BlockAck, or its Ack, which shows what arrived
 unfoldable pub answer_outcome : World → Exchange → Outcome
 answer_outcome w x =
     let b : Score = score (receiver w x.station x.tid) in
     record {
       world = with_exchange w (record x { answer = Some b });
-      reply =
-          Ba (b.start % 4096) (bitmap_word b 0) (bitmap_word b 1) (bitmap_word b 2) (bitmap_word b 3)
-          (is_wide w x.station x.tid);
+      reply = answer_reply x.plain b (is_wide w x.station x.tid);
     }
 
 -- Unsent: transmission i never went on the air
@@ -332,6 +394,11 @@ outcome_of w (Asked (Join s window start exponent weight)) =
     join_outcome w s window start exponent weight
 outcome_of w (Asked (Offload s exponent weight)) = offload_outcome w s exponent weight
 outcome_of w (Asked (Weight s weight)) = weight_outcome w s weight
+outcome_of w (Asked (call.Plain s start exponent weight)) = plain_outcome w s start exponent weight
+outcome_of w (Asked (Hold s t)) = hold_outcome w s t
+outcome_of w (Asked (Begin s t window)) = begin_outcome w s t window
+outcome_of w (Asked (Free s t)) = free_outcome w s t
+outcome_of w (Asked (Cease s t)) = cease_outcome w s t
 outcome_of w (Asked (Leave s)) = leave_outcome w s
 outcome_of w (Asked (Rate s rate)) = rate_outcome w s rate
 outcome_of w (Asked (Tick by)) = tick_outcome w by
@@ -382,6 +449,11 @@ concerned_station w (Asked (GiveUp e i)) = station_of (exchange w e)
 concerned_station w (Asked (Flush s t)) = Some s
 concerned_station w (Asked (Offload s exponent weight)) = Some s
 concerned_station w (Asked (Weight s weight)) = Some s
+concerned_station w (Asked (call.Plain s start exponent weight)) = Some s
+concerned_station w (Asked (Hold s t)) = Some s
+concerned_station w (Asked (Begin s t window)) = Some s
+concerned_station w (Asked (Free s t)) = Some s
+concerned_station w (Asked (Cease s t)) = Some s
 
 -- The world after a refusal. Only Idle without the setting `pending` changes it: the pick found no ready
 -- station, gave the listed ones their quanta, and emptied the lists of the class.

@@ -5,14 +5,14 @@ use Rattle.std.specs.Fmt.{signed_decimal}
 use Rattle.std.specs.List.{concat}
 use Rattle.wf_frame.specs.declared.classes.Class.{Class}
 use Rattle.wf_frame.specs.declared.classes.Cause.{Cause}
-use Rattle.wf_frame.specs.declared.classes.Cause.TheVariants.{Overlimit, Codel, Retries, Left, Flushed}
+use Rattle.wf_frame.specs.declared.classes.Cause.TheVariants.{Overlimit, Codel, Retries, Left, Flushed, Ended}
 use Rattle.wf_frame.specs.declared.classes.Fate.{Fate}
 use Rattle.wf_frame.specs.declared.classes.Fate.TheVariants.{Held, Acked, Dropped}
 use Rattle.wf_frame.specs.declared.notes.Part.{Part}
-use Rattle.wf_frame.specs.declared.notes.Part.TheVariants.{Mpdus, Batch, Request}
+use Rattle.wf_frame.specs.declared.notes.Part.TheVariants.{Mpdus, Batch, Plain, Request}
 use Rattle.wf_frame.specs.declared.notes.Refusal.{Refusal}
 use Rattle.wf_frame.specs.declared.notes.ReplyNote.{ReplyNote}
-use Rattle.wf_frame.specs.declared.notes.ReplyNote.TheVariants.{Joined, Set, Now, Accepted, Send, Released, Ba, Done, Slept, Woken, Polled, Charged, Reaped, Stopped, Started, Marked, Refused}
+use Rattle.wf_frame.specs.declared.notes.ReplyNote.TheVariants.{Joined, Set, Now, Accepted, Send, Released, Ba, Done, Slept, Woken, Polled, Charged, Reaped, Stopped, Started, Marked, Ack, Begun, Freed, Ceased, Refused}
 use Rattle.wf_frame.specs.declared.notes.ReplyNote.TheVariants as reply
 use Rattle.wf_frame.specs.declared.settings.Config.{Config}
 use Rattle.wf_def_tim.specs.Tim.{tim_element}
@@ -44,6 +44,7 @@ refusal_words refusal = refusal_word refusal ∷ told_words (number_told refusal
 -- the words for what an exchange sends: each frame with its sequence number, or the start of a request
 abbrev pub part_words : Part → List (List ℕ)
 part_words (Mpdus pairs) = codes "data" ∷ map (λ p. decimal p.0 ++ codes ":" ++ decimal p.1) pairs
+part_words (Plain pairs) = codes "plain" ∷ map (λ p. decimal p.0 ++ codes ":" ++ decimal p.1) pairs
 part_words (Batch ids) = codes "batch" ∷ map decimal ids
 part_words (Request start) = codes "bar" ∷ decimal start ∷ []
 
@@ -81,6 +82,11 @@ reply_words Stopped = codes "stopped" ∷ []
 reply_words Started = codes "started" ∷ []
 reply_words Marked = codes "marked" ∷ []
 reply_words (reply.Flushed dropped) = codes "flushed" ∷ decimal dropped ∷ []
+reply_words Ack = codes "ack" ∷ []
+reply_words (reply.Held start) = codes "held" ∷ decimal start ∷ []
+reply_words Begun = codes "begun" ∷ []
+reply_words Freed = codes "freed" ∷ []
+reply_words (Ceased dropped ids) = codes "ceased" ∷ decimal dropped ∷ map decimal ids
 reply_words (Refused refusal) = codes "refused" ∷ refusal_words refusal
 
 -- the answer line of a reply
@@ -96,6 +102,7 @@ same_cause Codel Codel = true
 same_cause Retries Retries = true
 same_cause Left Left = true
 same_cause Flushed Flushed = true
+same_cause Ended Ended = true
 same_cause _ _ = false
 
 -- whether two fates are equal
@@ -121,7 +128,7 @@ tally_words w =
     codes "codel" ∷ decimal (tally w (Dropped Codel)) ∷ codes "retries"
     ∷ decimal (tally w (Dropped Retries)) ∷
     codes "left" ∷ decimal (tally w (Dropped Left)) ∷ codes "held" ∷ decimal (tally w Held) ∷ []
-    ++ tally_if_any w (Dropped Flushed)
+    ++ tally_if_any w (Dropped Flushed) ++ tally_if_any w (Dropped Ended)
 
 -- line 5, one for each station and class: its airtime in microseconds; empty if it had none
 abbrev pub share_line : ℕ → Class → Share → List ℕ

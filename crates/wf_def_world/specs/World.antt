@@ -1,7 +1,7 @@
 -- Defines the state of the machine, and how to read and change it. Times, stations' deficits and airtime are
 -- in microseconds, lengths and queues' deficits in octets. Sequence numbers do not wrap here; on the air they
 -- are modulo 4096.
-use Rattle.std.specs.Prelude.{ℕ, ◌+◌, ◌*◌, ◌==◌, nat_lt, ℤ, pos, ◌-ℤ◌, Bool, true, false, not, ◌&&◌, List, [], ◌∷◌, ◌++◌, Option, None, is_some, unwrap_or, option_map, if◌then◌else◌, length, map, filter, find, count_by}
+use Rattle.std.specs.Prelude.{ℕ, ◌+◌, ◌*◌, ◌==◌, nat_lt, ℤ, pos, ◌-ℤ◌, Bool, true, false, not, ◌&&◌, ◌||◌, List, [], ◌∷◌, ◌++◌, Option, None, is_some, unwrap_or, option_map, if◌then◌else◌, length, map, filter, find, count_by}
 use Rattle.wf_frame.specs.declared.settings.Config.{Config}
 use Rattle.wf_frame.specs.declared.classes.Class.{Class}
 use Rattle.wf_frame.specs.Classes.{class_number, same_class}
@@ -21,7 +21,7 @@ use Rattle.wf_def_agreement.specs.Receiver.{Receiver, new_receiver, Score}
 
 -- A station in one class: its deficit and, since its join, the number of quanta that it was given and
 -- the airtime that it was charged, for exchanges (`charged`) and for its own transmissions (`received`).
--- `base` is the deficit that the station began with; a change of its weight accounts for it anew.
+-- `base` is the deficit that the station began with; a change of its weight sets it again.
 pub record Share : Type 0 where
   pub deficit : ℤ
   pub base : ℤ
@@ -35,15 +35,35 @@ abbrev pub new_share : ℕ → Share
 new_share deficit =
     record { deficit = pos deficit; base = pos deficit; quanta = 0; charged = 0; received = 0; upper = false }
 
--- one TID of a station: both sides of its agreement, and the rotation of the queues that it lists
+-- Whether a TID has a block acknowledgement agreement (IEEE 802.11-2012, 10.5). `Plain`: it has none, and its
+-- frames go one at a time, each with an Ack, unless the device numbers and repeats them. `OnHold`: it has
+-- none, and no frame gets a number, so that one can begin. `Agreed`: it has one.
+pub data Mode : Type 0 where
+  Plain : Mode
+  OnHold : Mode
+  Agreed : Mode
+
+-- whether there is an agreement
+abbrev pub has_agreement : Mode → Bool
+has_agreement Agreed = true
+has_agreement mode = false
+
+-- whether no frame gets a number
+abbrev pub holds_back : Mode → Bool
+holds_back OnHold = true
+holds_back mode = false
+
+-- one TID of a station: its mode, the numbers of both sides, and the rotation of the queues that it lists
 pub record Tid : Type 0 where
+  pub mode : Mode
   pub session : Session
   pub receiver : Receiver
   pub queues : Rotation
 
--- a TID of a station that joins, with this first number and this window
-abbrev pub new_tid : ℕ → ℕ → Tid
-new_tid first size = record {
+-- a TID of a station that joins, with this mode, this first number and this window
+abbrev pub new_tid : Mode → ℕ → ℕ → Tid
+new_tid mode first size = record {
+  mode = mode;
   session = new_session first size;
   receiver = new_receiver first size;
   queues = no_keys;
@@ -69,7 +89,7 @@ no_share = new_share 0
 
 -- a TID of a station that is not live
 abbrev pub no_tid : Tid
-no_tid = new_tid 0 0
+no_tid = new_tid Plain 0 0
 
 -- the value of `station` for a station that is not live
 abbrev pub no_station : Station
@@ -118,6 +138,7 @@ pub record Exchange : Type 0 where
   pub charge : ℕ  -- its computed airtime, which is charged unless its Done gives another
   pub content : Content
   pub batch : Bool  -- whether the station is offloaded, so that its device numbers and repeats the frames
+  pub plain : Bool  -- whether it sends one frame without an agreement, which an Ack answers
   pub arrived : List ℕ  -- the indices of the transmissions that arrived, rising
   pub answer : Option Score  -- the BlockAck, once the station has answered
   pub unsent : List ℕ  -- the indices of the transmissions that never went on the air, rising
@@ -193,13 +214,25 @@ session w s t = (tid_of w s t).session
 abbrev pub receiver : World → ℕ → ℕ → Receiver
 receiver w s t = (tid_of w s t).receiver
 
--- the share of station s in class c
-abbrev pub share : World → ℕ → Class → Share
-share w s c = at no_share (station w s).shares (class_number c)
-
 -- whether station s is offloaded
 abbrev pub is_offloaded : World → ℕ → Bool
 is_offloaded w s = (station w s).offloaded
+
+-- whether TID t of station s has an agreement
+abbrev pub is_agreed : World → ℕ → ℕ → Bool
+is_agreed w s t = has_agreement (tid_of w s t).mode
+
+-- whether TID t of station s sends its frames one at a time, each with an Ack
+abbrev pub is_plain : World → ℕ → ℕ → Bool
+is_plain w s t = not (is_offloaded w s || is_agreed w s t)
+
+-- whether no frame of TID t of station s gets a number
+abbrev pub is_held_back : World → ℕ → ℕ → Bool
+is_held_back w s t = holds_back (tid_of w s t).mode
+
+-- the share of station s in class c
+abbrev pub share : World → ℕ → Class → Share
+share w s c = at no_share (station w s).shares (class_number c)
 
 -- the quantum of airtime of station s: the setting `quantum` times its weight
 abbrev pub quantum : World → ℕ → ℕ
@@ -267,8 +300,8 @@ owed_by_all (x ∷ xs) = x.charge + owed_by_all xs
 abbrev pub pending_air : World → ℕ → Class → ℕ
 pending_air w s c = if w.config.pending == 1 then owed s c w.opened else 0
 
--- What a station may still use in a class, in microseconds: its deficit less the airtime in flight that
--- counts. Linux 6.1 computes it in ieee80211_sta_deficit.
+-- The airtime that a station may still use in a class, in microseconds: its deficit less the airtime in
+-- flight that counts. Linux 6.1 computes it in ieee80211_sta_deficit.
 abbrev pub standing : World → ℕ → Class → ℤ
 standing w s c = (share w s c).deficit -ℤ pos (pending_air w s c)
 
@@ -301,6 +334,10 @@ on_session w s t f = on_tid w s t (λ x. record x { session = f x.session })
 -- the world with f applied to the recipient's side of a TID's agreement
 unfoldable pub on_receiver : World → ℕ → ℕ → (Receiver → Receiver) → World
 on_receiver w s t f = on_tid w s t (λ x. record x { receiver = f x.receiver })
+
+-- the world in which TID t of station s has this mode
+unfoldable pub with_mode : World → ℕ → ℕ → Mode → World
+with_mode w s t mode = on_tid w s t (λ x. record x { mode = mode })
 
 -- the world in which TID t of station s lists the queues of r
 unfoldable pub with_queues : World → ℕ → ℕ → Rotation → World

@@ -15,7 +15,7 @@ use Rattle.wf_frame.specs.declared.calls.Value.TheVariants as value
 use Rattle.wf_frame.specs.declared.notes.Note.{Note}
 use Rattle.wf_frame.specs.declared.notes.Note.TheVariants.{Enqueue, Asked}
 use Rattle.wf_frame.specs.declared.notes.Ask.{Ask}
-use Rattle.wf_frame.specs.declared.notes.Ask.TheVariants.{Join, Leave, Rate, Tick, Pull, Arrive, Answer, Done, Sleep, Wake, Poll, Rx, Reap, Ampdu, Stop, Start, Unsent, GiveUp, Flush, Offload, Weight}
+use Rattle.wf_frame.specs.declared.notes.Ask.TheVariants.{Join, Leave, Rate, Tick, Pull, Arrive, Answer, Done, Sleep, Wake, Poll, Rx, Reap, Ampdu, Stop, Start, Unsent, GiveUp, Flush, Offload, Weight, Plain, Hold, Begin, Free, Cease}
 use Rattle.wf_frame.specs.declared.notes.Limits.{Limits}
 use Rattle.wf_frame.specs.declared.notes.AskedRate.{AskedRate}
 use Rattle.wf_frame.specs.declared.notes.AskedRate.TheVariants.{Ht, Vht, He}
@@ -63,6 +63,11 @@ form_row form.GiveUp = row 18 (codes "giveup") (codes "giveup EXCHANGE INDEX")
 form_row form.Flush = row 19 (codes "flush") (codes "flush S TID")
 form_row form.Offload = row 20 (codes "offload") (codes "offload S X [G]")
 form_row form.Weight = row 21 (codes "weight") (codes "weight S G")
+form_row form.Plain = row 22 (codes "plain") (codes "plain S START X [G]")
+form_row form.Hold = row 23 (codes "hold") (codes "hold S TID")
+form_row form.Begin = row 24 (codes "begin") (codes "begin S TID W")
+form_row form.Free = row 25 (codes "free") (codes "free S TID")
+form_row form.Cease = row 26 (codes "cease") (codes "cease S TID")
 
 -- the number of a form's call
 abbrev pub form_number : CallForm → ℕ
@@ -111,6 +116,11 @@ arguments_of form.GiveUp = argument.Exchange ∷ argument.Index ∷ []
 arguments_of form.Flush = argument.Station ∷ argument.Tid ∷ []
 arguments_of form.Offload = argument.Station ∷ argument.Exponent ∷ argument.Weight ∷ []
 arguments_of form.Weight = argument.Station ∷ argument.NewWeight ∷ []
+arguments_of form.Plain = argument.Station ∷ argument.Start ∷ argument.Exponent ∷ argument.Weight ∷ []
+arguments_of form.Hold = argument.Station ∷ argument.Tid ∷ []
+arguments_of form.Begin = argument.Station ∷ argument.Tid ∷ argument.Window ∷ []
+arguments_of form.Free = argument.Station ∷ argument.Tid ∷ []
+arguments_of form.Cease = argument.Station ∷ argument.Tid ∷ []
 
 -- the greatest number of frames that a line gives to a pull as its limit
 abbrev pub greatest_frames : ℕ
@@ -164,14 +174,16 @@ forms =
     form.Join ∷ form.Leave ∷ form.Rate ∷ form.RateVht ∷ form.RateHe ∷ form.Tick ∷ form.Enqueue ∷ form.Pull
     ∷ form.PullFrames ∷ form.PullAir ∷ form.PullLimited ∷ form.Arrive ∷ form.Answer ∷ form.Done ∷ form.DoneAir
     ∷ form.Sleep ∷ form.Wake ∷ form.Poll ∷ form.Rx ∷ form.Reap ∷ form.Ampdu ∷ form.Stop ∷ form.Start
-    ∷ form.Unsent ∷ form.GiveUp ∷ form.Flush ∷ form.Offload ∷ form.Weight ∷ []
+    ∷ form.Unsent ∷ form.GiveUp ∷ form.Flush ∷ form.Offload ∷ form.Weight ∷ form.Plain ∷ form.Hold ∷ form.Begin
+    ∷ form.Free ∷ form.Cease ∷ []
 
 -- all calls, in their first forms
 abbrev pub calls : List CallForm
 calls =
     form.Join ∷ form.Leave ∷ form.Rate ∷ form.Tick ∷ form.Enqueue ∷ form.Pull ∷ form.Arrive ∷ form.Answer
     ∷ form.Done ∷ form.Sleep ∷ form.Wake ∷ form.Poll ∷ form.Rx ∷ form.Reap ∷ form.Ampdu ∷ form.Stop
-    ∷ form.Start ∷ form.Unsent ∷ form.GiveUp ∷ form.Flush ∷ form.Offload ∷ form.Weight ∷ []
+    ∷ form.Start ∷ form.Unsent ∷ form.GiveUp ∷ form.Flush ∷ form.Offload ∷ form.Weight ∷ form.Plain ∷ form.Hold
+    ∷ form.Begin ∷ form.Free ∷ form.Cease ∷ []
 
 -- the first form of the call with this word
 abbrev pub call_named : List ℕ → Option CallForm
@@ -234,6 +246,11 @@ note_form (Asked (GiveUp exchange index)) = form.GiveUp
 note_form (Asked (Flush station tid)) = form.Flush
 note_form (Asked (Offload station exponent weight)) = form.Offload
 note_form (Asked (Weight station weight)) = form.Weight
+note_form (Asked (Plain station start exponent weight)) = form.Plain
+note_form (Asked (Hold station tid)) = form.Hold
+note_form (Asked (Begin station tid window)) = form.Begin
+note_form (Asked (Free station tid)) = form.Free
+note_form (Asked (Cease station tid)) = form.Cease
 
 -- the values of a rate's arguments after the station
 abbrev pub values_of_rate : AskedRate → List Value
@@ -283,6 +300,13 @@ note_values (Asked (Flush station tid)) = value.Short station ∷ value.Octet ti
 note_values (Asked (Offload station exponent weight)) =
     value.Short station ∷ value.Octet exponent ∷ value.Octet weight ∷ []
 note_values (Asked (Weight station weight)) = value.Short station ∷ value.Octet weight ∷ []
+note_values (Asked (Plain station start exponent weight)) =
+    value.Short station ∷ value.Short start ∷ value.Octet exponent ∷ value.Octet weight ∷ []
+note_values (Asked (Hold station tid)) = value.Short station ∷ value.Octet tid ∷ []
+note_values (Asked (Begin station tid window)) =
+    value.Short station ∷ value.Octet tid ∷ value.Short window ∷ []
+note_values (Asked (Free station tid)) = value.Short station ∷ value.Octet tid ∷ []
+note_values (Asked (Cease station tid)) = value.Short station ∷ value.Octet tid ∷ []
 
 -- the Enqueue call with these values; None if they are no values of its arguments
 abbrev pub enqueued : List Value → Option Note
@@ -336,6 +360,13 @@ ask_of form.Flush (value.Short station ∷ value.Octet tid ∷ []) = Some (Flush
 ask_of form.Offload (value.Short station ∷ value.Octet exponent ∷ value.Octet weight ∷ []) =
     Some (Offload station exponent weight)
 ask_of form.Weight (value.Short station ∷ value.Octet weight ∷ []) = Some (Weight station weight)
+ask_of form.Plain (value.Short station ∷ value.Short start ∷ value.Octet exponent ∷ value.Octet weight ∷ []) =
+    Some (Plain station start exponent weight)
+ask_of form.Hold (value.Short station ∷ value.Octet tid ∷ []) = Some (Hold station tid)
+ask_of form.Begin (value.Short station ∷ value.Octet tid ∷ value.Short window ∷ []) =
+    Some (Begin station tid window)
+ask_of form.Free (value.Short station ∷ value.Octet tid ∷ []) = Some (Free station tid)
+ask_of form.Cease (value.Short station ∷ value.Octet tid ∷ []) = Some (Cease station tid)
 ask_of _ _ = None
 
 -- the call of a form with these values; None if they are no values of its arguments

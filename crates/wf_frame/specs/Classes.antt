@@ -3,7 +3,7 @@ use Rattle.std.specs.Prelude.{ℕ, zero, suc, ◌+◌, ◌*◌, ◌==◌, Bool, 
 use Rattle.std.specs.Str.{bytes_eq}
 use Rattle.wf_frame.specs.declared.classes.Class.{Class}
 use Rattle.wf_frame.specs.declared.classes.Class.TheVariants.{Bk, Be, Vi, Vo}
-use Rattle.wf_frame.specs.declared.classes.Cause.TheVariants.{Overlimit, Codel, Retries, Left, Flushed}
+use Rattle.wf_frame.specs.declared.classes.Cause.TheVariants.{Overlimit, Codel, Retries, Left, Flushed, Ended}
 use Rattle.wf_frame.specs.declared.classes.Fate.{Fate}
 use Rattle.wf_frame.specs.declared.classes.Fate.TheVariants.{Held, Acked, Dropped}
 
@@ -70,6 +70,7 @@ fate_row (Dropped Codel) = (3, codes "codel")
 fate_row (Dropped Retries) = (4, codes "retries")
 fate_row (Dropped Left) = (5, codes "left")
 fate_row (Dropped Flushed) = (6, codes "flushed")
+fate_row (Dropped Ended) = (7, codes "ended")
 
 -- the number of a fate
 abbrev pub fate_number : Fate → ℕ
@@ -82,7 +83,8 @@ fate_word fate = (fate_row fate).1
 -- the fates by their numbers
 abbrev pub fates : List Fate
 fates =
-    Held ∷ Acked ∷ Dropped Overlimit ∷ Dropped Codel ∷ Dropped Retries ∷ Dropped Left ∷ Dropped Flushed ∷ []
+    Held ∷ Acked ∷ Dropped Overlimit ∷ Dropped Codel ∷ Dropped Retries ∷ Dropped Left ∷ Dropped Flushed
+    ∷ Dropped Ended ∷ []
 
 -- the fate with this number
 abbrev pub fate_numbered : ℕ → Option Fate

@@ -2,7 +2,7 @@
 -- of them.
 use Rattle.std.specs.Prelude.{ℕ, ℤ, pos, ◌==◌, Option, Some, None, List, [], ◌∷◌, codes, find}
 use Rattle.wf_frame.specs.declared.notes.Refusal.{Refusal}
-use Rattle.wf_frame.specs.declared.notes.Refusal.TheVariants.{BadStation, BadWindow, BadStart, BadExponent, BadRate, BadTick, BadTid, BadAir, BadIndex, Live, NoStation, NoExchange, NoAnswer, Open, Room, Sleeping, Full, Idle, Answered, Arrived, Nothing, Asleep, Awake, Polled, Debt, HistoryFull, BadWeight, Ahead, BadAmpdu, Stopped, Started, Marked}
+use Rattle.wf_frame.specs.declared.notes.Refusal.TheVariants.{BadStation, BadWindow, BadStart, BadExponent, BadRate, BadTick, BadTid, BadAir, BadIndex, Live, NoStation, NoExchange, NoAnswer, Open, Room, Sleeping, Full, Idle, Answered, Arrived, Nothing, Asleep, Awake, Polled, Debt, HistoryFull, BadWeight, Ahead, BadAmpdu, Stopped, Started, Marked, Offloaded, Agreed, Held, NotHeld, NotAgreed, Waits}
 
 -- begin rows: tools/tables writes these lines
 
@@ -40,6 +40,12 @@ refusal_row BadAmpdu = (29, codes "bad-ampdu")
 refusal_row Stopped = (30, codes "stopped")
 refusal_row Started = (31, codes "started")
 refusal_row Marked = (32, codes "marked")
+refusal_row Offloaded = (33, codes "offloaded")
+refusal_row Agreed = (34, codes "agreed")
+refusal_row Held = (35, codes "held")
+refusal_row NotHeld = (36, codes "not-held")
+refusal_row NotAgreed = (37, codes "not-agreed")
+refusal_row (Waits count) = (38, codes "waits")
 
 -- end rows
 
@@ -62,6 +68,7 @@ number_told (Sleeping queued) = Some (pos queued)
 number_told (Full count) = Some (pos count)
 number_told (Debt deficit) = Some deficit
 number_told (Ahead owed) = Some (pos owed)
+number_told (Waits count) = Some (pos count)
 number_told _ = None
 
 -- the refusals by their numbers; a number that follows the word is 0
@@ -70,7 +77,7 @@ refusal_list =
     BadStation ∷ BadWindow ∷ BadStart ∷ BadExponent ∷ BadRate ∷ BadTick ∷ BadTid ∷ BadAir ∷ BadIndex ∷ Live
     ∷ NoStation ∷ NoExchange ∷ NoAnswer ∷ Open 0 ∷ Room 0 ∷ Sleeping 0 ∷ Full 0 ∷ Idle ∷ Answered ∷ Arrived
     ∷ Nothing ∷ Asleep ∷ Awake ∷ Polled ∷ Debt (pos 0) ∷ HistoryFull ∷ BadWeight ∷ Ahead 0 ∷ BadAmpdu
-    ∷ Stopped ∷ Started ∷ Marked ∷ []
+    ∷ Stopped ∷ Started ∷ Marked ∷ Offloaded ∷ Agreed ∷ Held ∷ NotHeld ∷ NotAgreed ∷ Waits 0 ∷ []
 
 -- end numbers
 

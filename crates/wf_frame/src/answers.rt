@@ -9,6 +9,17 @@ ghost use Rattle.wf_frame.specs.declared.answers.Brief.TheVariants.{Refused};
 
 use crate::{Class, Fate, Ids, Pairs, Refusal};
 
+/// How an exchange sends its frames.
+#[derive(Clone, Copy, Debug, PartialEq, Eq)]
+pub enum Kind {
+    /// As an aggregate under a block acknowledgement agreement.
+    Aggregate,
+    /// As a batch, whose frames the station's device numbers: only their ids have a meaning.
+    Batch,
+    /// As one frame without an agreement, which an Ack answers.
+    Plain,
+}
+
 /// An answer without its lists: what happened, in a few numbers.
 #[derive(Clone, Copy, Debug, PartialEq, Eq)]
 pub enum Brief {
@@ -30,16 +41,15 @@ pub enum Brief {
         dropped: Option<u64>,
     },
     /// The exchange to send: its number, station, TID (0 to 7) and charge in microseconds. If `request` is
-    /// given, it sends a BlockAckReq with this start (0 to 4095), otherwise the frames of `Answer::pairs`. If
-    /// `batch`, the station's device numbers these frames, and only their ids have a meaning. `more` is the
-    /// More Data bit.
+    /// given, it sends a BlockAckReq with this start (0 to 4095), otherwise the frames of `Answer::pairs`, as
+    /// `kind` says. `more` is the More Data bit.
     Send {
         exchange: u64,
         station: u16,
         tid: u8,
         air: u32,
         request: Option<u16>,
-        batch: bool,
+        kind: Kind,
         more: bool,
     },
     /// The receiver released the frames of `Answer::ids`, in order.
@@ -87,6 +97,21 @@ pub enum Brief {
     Flushed {
         dropped: u32,
     },
+    /// The receiver's Ack.
+    Ack,
+    /// The TID is held; an agreement may begin with this sequence number (0 to 4095).
+    Held {
+        start: u16,
+    },
+    /// The TID has an agreement.
+    Begun,
+    /// The TID sends its frames one at a time.
+    Freed,
+    /// The agreement ended, and this number of frames were dropped. The receiver released the frames of
+    /// `Answer::ids`, in order.
+    Ceased {
+        dropped: u32,
+    },
     /// The call was refused.
     Refused(Refusal),
 }
@@ -95,7 +120,7 @@ pub enum Brief {
 /// whole answer, so it does not matter what an earlier call left.
 #[derive(Drop)]
 pub struct Answer {
-    /// What happened. A list has a meaning only if the brief refers to it.
+    /// The kind of event. A list has a meaning only if the brief refers to it.
     pub brief: Brief,
     /// The id and the sequence number (0 to 4095) of each frame of an aggregate; at most 256.
     pub pairs: Pairs,

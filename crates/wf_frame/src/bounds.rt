@@ -1,4 +1,4 @@
-//! The bounds of the arguments of calls, and of counts. Section numbers are those of IEEE 802.11-2012. The
+//! The bounds of the arguments of calls, and of counts. Section numbers refer to IEEE 802.11-2012. The
 //! bounds of settings are `Field::least` and `Field::most`.
 
 /// The greatest window of an agreement, in numbers: the BlockAck's bitmap of 32 octets has a bit for each
@@ -16,8 +16,8 @@ pub const GREATEST_START: u16 = 4095;
 pub const GREATEST_EXPONENT: u8 = 3;
 
 /// The least and the greatest number of octets that `ampdu` may state for a station. One subframe of the
-/// greatest body with its encryption fits the least, which is this project's own; the greatest is that of a
-/// receiver of HE (IEEE 802.11ax-2021, 26.6.1).
+/// greatest body with its encryption fits the least, which is this project's own; the greatest is the body
+/// of a receiver of HE (IEEE 802.11ax-2021, 26.6.1).
 pub const LEAST_AMPDU: u32 = 4_096;
 
 pub const GREATEST_AMPDU: u32 = 6_500_631;

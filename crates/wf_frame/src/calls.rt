@@ -11,7 +11,7 @@ const GREATEST_FRAMES: u32 = 65_535;
 
 /// A form of a call's line. A rate has three forms, one for each format, a pull has four, by the limits that
 /// it gives, and the end of an exchange has two; each other call has one. The comment of each variant is its
-/// sentence in the table of docs/TRACE.md. Names in capitals are those of the line.
+/// sentence in the table of docs/TRACE.md. Names in capitals stand in the line.
 #[derive(Clone, Copy)]
 pub enum CallForm {
     /// A station joins: S, its window W, its first sequence number START, its A-MPDU length exponent X, and
@@ -72,6 +72,17 @@ pub enum CallForm {
     Offload,
     /// A station has the weight G from now on.
     Weight,
+    /// A station joins without agreements: S, its first number START, its A-MPDU length exponent X, and its
+    /// weight G (1 if it is left out).
+    Plain,
+    /// No frame of a TID gets a number from now on.
+    Hold,
+    /// A held TID has an agreement with the window W from now on.
+    Begin,
+    /// A held TID sends its frames one at a time from now on.
+    Free,
+    /// The agreement of a TID ends, and the TID is held.
+    Cease,
 }
 
 /// The format of a rate, if its line has a word for it. A rate of HT has none.
@@ -151,7 +162,7 @@ pub enum Arg {
     Exchange,
     /// The length of a frame: 1 to 2304 octets.
     Length,
-    /// A weight, 0 to 255, which is 1 where it is left out.
+    /// A weight, 0 to 255, which is 1 if it is left out.
     Weight,
     /// `bk`, `be`, `vi` or `vo`.
     Class,
@@ -205,7 +216,7 @@ impl Default for Value {
     }
 }
 
-const CALLS: [CallForm; 22] = [
+const CALLS: [CallForm; 27] = [
     CallForm::Join,
     CallForm::Leave,
     CallForm::Rate,
@@ -228,9 +239,14 @@ const CALLS: [CallForm; 22] = [
     CallForm::Flush,
     CallForm::Offload,
     CallForm::Weight,
+    CallForm::Plain,
+    CallForm::Hold,
+    CallForm::Begin,
+    CallForm::Free,
+    CallForm::Cease,
 ];
 
-const FORMS: [CallForm; 28] = [
+const FORMS: [CallForm; 33] = [
     CallForm::Join,
     CallForm::Leave,
     CallForm::Rate,
@@ -259,6 +275,11 @@ const FORMS: [CallForm; 28] = [
     CallForm::Flush,
     CallForm::Offload,
     CallForm::Weight,
+    CallForm::Plain,
+    CallForm::Hold,
+    CallForm::Begin,
+    CallForm::Free,
+    CallForm::Cease,
 ];
 
 impl RateFormat {
@@ -291,7 +312,7 @@ impl CallForm {
         ensures number { result.0 ≡ form_number self }
         ensures word { result.1.now ≡ call_word self }
         ensures line { result.2.now ≡ form_line self }
-        ensures range { result.0 < 22 }
+        ensures range { result.0 < 27 }
         ensures short { length result.1.now ≤ 7 }
     {
         match self {
@@ -323,20 +344,25 @@ impl CallForm {
             CallForm::Flush => (19, b"flush", b"flush S TID"),
             CallForm::Offload => (20, b"offload", b"offload S X [G]"),
             CallForm::Weight => (21, b"weight", b"weight S G"),
+            CallForm::Plain => (22, b"plain", b"plain S START X [G]"),
+            CallForm::Hold => (23, b"hold", b"hold S TID"),
+            CallForm::Begin => (24, b"begin", b"begin S TID W"),
+            CallForm::Free => (25, b"free", b"free S TID"),
+            CallForm::Cease => (26, b"cease", b"cease S TID"),
         }
     }
 
     /// Returns all forms, in the order of the help.
-    pub fn all() -> [CallForm; 28]
+    pub fn all() -> [CallForm; 33]
         ensures { result ≡ forms }
     {
         FORMS
     }
 
-    /// Returns the number of its call in C: 0 to 21.
+    /// Returns the number of its call in C: 0 to 26.
     pub fn number(self) -> u8
         ensures number { result ≡ form_number self }
-        ensures range { result < 22 }
+        ensures range { result < 27 }
     {
         self.row().0
     }
@@ -413,7 +439,16 @@ impl CallForm {
             CallForm::Rx => &[Argument::Station, Argument::Class, Argument::Air],
             CallForm::Reap => &[],
             CallForm::Ampdu => &[Argument::Station, Argument::Octets],
-            CallForm::Flush => &[Argument::Station, Argument::Tid],
+            CallForm::Flush | CallForm::Hold | CallForm::Free | CallForm::Cease => {
+                &[Argument::Station, Argument::Tid]
+            }
+            CallForm::Plain => &[
+                Argument::Station,
+                Argument::Start,
+                Argument::Exponent,
+                Argument::Weight,
+            ],
+            CallForm::Begin => &[Argument::Station, Argument::Tid, Argument::Window],
             CallForm::Offload => &[Argument::Station, Argument::Exponent, Argument::Weight],
             CallForm::Weight => &[Argument::Station, Argument::NewWeight],
         }

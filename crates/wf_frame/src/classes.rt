@@ -1,4 +1,4 @@
-//! Access classes, and the table of fates: what becomes of a frame.
+//! Access classes, and the table of fates, which are the ends of a frame.
 
 ghost use Rattle.std.specs.Prelude.{◌≡◌, ◌<◌, ◌≤◌, [], ◌∷◌, length};
 ghost use Rattle.wf_frame.specs.Classes.{all_classes, class_number, class_of, lower_tid, upper_tid, class_named, class_word, tid_number, fate_number, fate_word, fate_numbered};
@@ -106,9 +106,11 @@ pub enum Cause {
     Left,
     /// Dropped when its TID was flushed.
     Flushed,
+    /// Dropped when the agreement of its TID ended.
+    Ended,
 }
 
-/// What became of an accepted frame. The comment of each variant, and of each cause, is its sentence in
+/// The end of an accepted frame. The comment of each variant, and of each cause, is its sentence in
 /// include/wf.h.
 #[derive(Clone, Copy, Debug, PartialEq, Eq)]
 pub enum Fate {
@@ -121,7 +123,7 @@ pub enum Fate {
 }
 
 // The fates by their numbers.
-const FATES: [Fate; 7] = [
+const FATES: [Fate; 8] = [
     Fate::Held,
     Fate::Acked,
     Fate::Dropped(Cause::Overlimit),
@@ -129,6 +131,7 @@ const FATES: [Fate; 7] = [
     Fate::Dropped(Cause::Retries),
     Fate::Dropped(Cause::Left),
     Fate::Dropped(Cause::Flushed),
+    Fate::Dropped(Cause::Ended),
 ];
 
 impl Fate {
@@ -136,7 +139,7 @@ impl Fate {
     fn row(self) -> (u8, &'static [u8])
         ensures number { result.0 ≡ fate_number self }
         ensures word { result.1.now ≡ fate_word self }
-        ensures range { result.0 < 7 }
+        ensures range { result.0 < 8 }
         ensures short { length result.1.now ≤ 9 }
     {
         match self {
@@ -147,13 +150,14 @@ impl Fate {
             Fate::Dropped(Cause::Retries) => (4, b"retries"),
             Fate::Dropped(Cause::Left) => (5, b"left"),
             Fate::Dropped(Cause::Flushed) => (6, b"flushed"),
+            Fate::Dropped(Cause::Ended) => (7, b"ended"),
         }
     }
 
-    /// Returns the number of the fate in C: 0 to 6.
+    /// Returns the number of the fate in C: 0 to 7.
     pub fn number(self) -> u8
         ensures number { result ≡ fate_number self }
-        ensures range { result < 7 }
+        ensures range { result < 8 }
     {
         self.row().0
     }

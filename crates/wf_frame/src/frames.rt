@@ -1,4 +1,4 @@
-//! A frame: its body, and what is known of it.
+//! A frame: its body, and the facts about it.
 
 ghost use Rattle.std.specs.Prelude.{◌≡◌, ◌<◌, ◌≤◌, ◌⊎◌, length, IfOk, IfErr};
 ghost use Rattle.wf_def_lists.specs.Lengths.{greatest_body};

@@ -29,7 +29,7 @@ mod refusals;
 mod settings;
 mod values;
 
-pub use answers::{Answer, Brief};
+pub use answers::{Answer, Brief, Kind};
 pub use bounds::{
     COUNT_LIMIT, GREATEST_AIR, GREATEST_AMPDU, GREATEST_EXPONENT, GREATEST_START, GREATEST_TICK,
     GREATEST_TID, GREATEST_WEIGHT, GREATEST_WINDOW, LEAST_AMPDU, NARROW_WINDOW,

@@ -49,7 +49,7 @@ impl Limits {
     };
 }
 
-/// A call that brings no frame: one of twenty-one. An argument outside its given range is refused.
+/// A call that brings no frame: one of twenty-six. An argument outside its given range is refused.
 #[derive(Clone, Copy, Debug, PartialEq, Eq)]
 pub enum Ask {
     /// A station joins, with its window size in frames (1 to 256), first sequence number (0 to 4095),
@@ -146,8 +146,8 @@ pub enum Ask {
         station: u16,
         tid: u8,
     },
-    /// A station joins whose device numbers, aggregates and repeats its frames, with its maximum A-MPDU length
-    /// exponent (0 to 3; IEEE 802.11-2012, 8.4.2.58.3) and weight (1 to 16).
+    /// A station joins whose device numbers, aggregates and repeats its frames, with its maximum A-MPDU
+    /// length exponent (0 to 3; IEEE 802.11-2012, 8.4.2.58.3) and weight (1 to 16).
     Offload {
         station: u16,
         exponent: u8,
@@ -157,6 +157,38 @@ pub enum Ask {
     Weight {
         station: u16,
         weight: u8,
+    },
+    /// A station joins without block acknowledgement agreements, with its first sequence number (0 to 4095),
+    /// maximum A-MPDU length exponent (0 to 3; IEEE 802.11-2012, 8.4.2.58.3) and weight (1 to 16). Its frames
+    /// go one at a time, each with an Ack.
+    Plain {
+        station: u16,
+        start: u16,
+        exponent: u8,
+        weight: u8,
+    },
+    /// No frame of a TID (0 to 7) gets a sequence number from now on, so that an agreement can begin.
+    Hold {
+        station: u16,
+        tid: u8,
+    },
+    /// A TID (0 to 7) that is held has an agreement from now on, with its window in frames (1 to 256; IEEE
+    /// 802.11-2012, 10.5.2).
+    Begin {
+        station: u16,
+        tid: u8,
+        window: u16,
+    },
+    /// A TID (0 to 7) that is held sends its frames one at a time from now on.
+    Free {
+        station: u16,
+        tid: u8,
+    },
+    /// The agreement of a TID (0 to 7) ends (IEEE 802.11-2012, 10.5.3), and the TID is held. The frames that
+    /// have sequence numbers and are not acknowledged are dropped.
+    Cease {
+        station: u16,
+        tid: u8,
     },
 }
 
@@ -175,14 +207,16 @@ pub enum Note {
     Asked(Ask),
 }
 
-/// The content of an exchange: frames with their sequence numbers, frames that a device numbers, or a
-/// BlockAckReq with its start. Sequence numbers are 0 to 4095.
+/// The content of an exchange: frames with their sequence numbers, frames that a device numbers, one frame
+/// without an agreement, or a BlockAckReq with its start. Sequence numbers are 0 to 4095.
 #[derive(Drop)]
 pub enum Part {
     /// The id and the sequence number of each frame of an aggregate.
     Mpdus(Pairs),
     /// The ids of the frames of a batch, for a station whose device numbers them.
     Batch(Ids),
+    /// The id and the sequence number of one frame, which an Ack answers.
+    Plain(Pairs),
     /// The start of a BlockAckReq.
     Request(u16),
 }
@@ -258,6 +292,18 @@ pub enum Refusal {
     Started,
     /// That transmission has a mark: it never went on the air, or the device will not try it again.
     Marked,
+    /// The device of the station makes its agreements.
+    Offloaded,
+    /// The TID has an agreement.
+    Agreed,
+    /// The TID is held already.
+    Held,
+    /// The TID is not held.
+    NotHeld,
+    /// The TID has no agreement.
+    NotAgreed,
+    /// `count` sequence numbers of the TID wait to be sent.
+    Waits { count: u32 },
     // end refusals
 }
 
@@ -338,6 +384,21 @@ pub enum ReplyNote {
     /// The TID was flushed, and this number of its frames were dropped.
     Flushed {
         dropped: u32,
+    },
+    /// The receiver's Ack.
+    Ack,
+    /// The TID is held; an agreement may begin with this sequence number (0 to 4095).
+    Held {
+        start: u16,
+    },
+    /// The TID has an agreement.
+    Begun,
+    /// The TID sends its frames one at a time.
+    Freed,
+    /// The agreement ended: this number of frames were dropped, and the receiver released these, in order.
+    Ceased {
+        dropped: u32,
+        ids: Ids,
     },
     /// The call was refused.
     Refused(Refusal),

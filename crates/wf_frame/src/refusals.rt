@@ -6,7 +6,7 @@ ghost use Rattle.wf_frame.specs.Refusals.{refusal_number, refusal_word, number_t
 use crate::Refusal;
 
 // The refusals by their numbers. A number that follows the word is 0.
-const REFUSALS: [Refusal; 32] = [
+const REFUSALS: [Refusal; 38] = [
     // begin list: tools/tables writes these lines
     Refusal::BadStation,
     Refusal::BadWindow,
@@ -40,6 +40,12 @@ const REFUSALS: [Refusal; 32] = [
     Refusal::Stopped,
     Refusal::Started,
     Refusal::Marked,
+    Refusal::Offloaded,
+    Refusal::Agreed,
+    Refusal::Held,
+    Refusal::NotHeld,
+    Refusal::NotAgreed,
+    Refusal::Waits { count: 0 },
     // end list
 ];
 
@@ -48,7 +54,7 @@ impl Refusal {
     fn row(self) -> (u8, &'static [u8])
         ensures number { result.0 ≡ refusal_number self }
         ensures word { result.1.now ≡ refusal_word self }
-        ensures range { (0 < result.0) × (result.0 ≤ 32) }
+        ensures range { (0 < result.0) × (result.0 ≤ 38) }
         ensures short { length result.1.now ≤ 12 }
     {
         match self {
@@ -85,14 +91,20 @@ impl Refusal {
             Refusal::Stopped => (30, b"stopped"),
             Refusal::Started => (31, b"started"),
             Refusal::Marked => (32, b"marked"),
+            Refusal::Offloaded => (33, b"offloaded"),
+            Refusal::Agreed => (34, b"agreed"),
+            Refusal::Held => (35, b"held"),
+            Refusal::NotHeld => (36, b"not-held"),
+            Refusal::NotAgreed => (37, b"not-agreed"),
+            Refusal::Waits { .. } => (38, b"waits"),
             // end rows
         }
     }
 
-    /// Returns the number of the refusal in C: 1 to 32.
+    /// Returns the number of the refusal in C: 1 to 38.
     pub fn number(self) -> u8
         ensures number { result ≡ refusal_number self }
-        ensures range { (0 < result) × (result ≤ 32) }
+        ensures range { (0 < result) × (result ≤ 38) }
     {
         self.row().0
     }
@@ -117,14 +129,16 @@ impl Refusal {
     }
 
     /// Returns the number that follows the word of the refusal, or `None` if none does: the number of open
-    /// exchanges, of frames inside or of frames queued, or the deficit or the airtime in flight in
-    /// microseconds.
+    /// exchanges, of frames inside, of frames queued or of numbers that wait, or the deficit or the airtime
+    /// in flight in microseconds.
     pub fn number_told(self) -> Option<i64>
         ensures { result ≡ number_told self }
     {
         match self {
             // begin number: tools/tables writes these lines
-            Refusal::Open { count } | Refusal::Full { count } => Some(i64::from(count)),
+            Refusal::Open { count } | Refusal::Full { count } | Refusal::Waits { count } => {
+                Some(i64::from(count))
+            }
             Refusal::Room { inside } => Some(i64::from(inside)),
             Refusal::Sleeping { queued } => Some(i64::from(queued)),
             Refusal::Debt { deficit } => Some(deficit),

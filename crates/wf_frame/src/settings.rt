@@ -50,9 +50,9 @@ pub struct Config {
     pub pending: u32,
     /// The octets of encryption that each MPDU has in addition to its header, body and check sequence.
     pub overhead: u32,
-    /// The longest data time of one aggregate of class Vi, in microseconds. 0 is that of `cap`.
+    /// The longest data time of one aggregate of class Vi, in microseconds. 0 means `cap`.
     pub cap_vi: u32,
-    /// The longest data time of one aggregate of class Vo, in microseconds. 0 is that of `cap`.
+    /// The longest data time of one aggregate of class Vo, in microseconds. 0 means `cap`.
     pub cap_vo: u32,
     /// Whether BlockAcks and BlockAckReqs go at 6, 12 or 24 Mbit/s by the rate of the data: 1, or 0, always
     /// at 24.

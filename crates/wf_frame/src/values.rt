@@ -85,6 +85,11 @@ impl Ask {
             Ask::Flush { .. } => CallForm::Flush,
             Ask::Offload { .. } => CallForm::Offload,
             Ask::Weight { .. } => CallForm::Weight,
+            Ask::Plain { .. } => CallForm::Plain,
+            Ask::Hold { .. } => CallForm::Hold,
+            Ask::Begin { .. } => CallForm::Begin,
+            Ask::Free { .. } => CallForm::Free,
+            Ask::Cease { .. } => CallForm::Cease,
         }
     }
 
@@ -128,7 +133,30 @@ impl Ask {
             Ask::Ampdu { station, octets } => {
                 listed(&[Value::Short(station), Value::Long(octets)])
             }
-            Ask::Flush { station, tid } => listed(&[Value::Short(station), Value::Octet(tid)]),
+            Ask::Flush { station, tid }
+            | Ask::Hold { station, tid }
+            | Ask::Free { station, tid }
+            | Ask::Cease { station, tid } => listed(&[Value::Short(station), Value::Octet(tid)]),
+            Ask::Plain {
+                station,
+                start,
+                exponent,
+                weight,
+            } => listed(&[
+                Value::Short(station),
+                Value::Short(start),
+                Value::Octet(exponent),
+                Value::Octet(weight),
+            ]),
+            Ask::Begin {
+                station,
+                tid,
+                window,
+            } => listed(&[
+                Value::Short(station),
+                Value::Octet(tid),
+                Value::Short(window),
+            ]),
             Ask::Offload {
                 station,
                 exponent,
@@ -339,6 +367,11 @@ fn ask_made(form: CallForm, values: &[Value]) -> Option<Ask>
         CallForm::Flush => flush(values),
         CallForm::Offload => offload(values),
         CallForm::Weight => weigh(values),
+        CallForm::Plain => plain(values),
+        CallForm::Hold => hold(values),
+        CallForm::Begin => begin(values),
+        CallForm::Free => free(values),
+        CallForm::Cease => cease(values),
     }
 }
 
@@ -627,6 +660,76 @@ fn weigh(values: &[Value]) -> Option<Ask>
         return None;
     };
     Some(Ask::Weight { station, weight })
+}
+
+// The Plain call with these values.
+fn plain(values: &[Value]) -> Option<Ask>
+    ensures { result ≡ ask_of CallForm.Plain values.now }
+{
+    let [
+        Value::Short(station),
+        Value::Short(start),
+        Value::Octet(exponent),
+        Value::Octet(weight),
+    ] = *values
+    else {
+        return None;
+    };
+    Some(Ask::Plain {
+        station,
+        start,
+        exponent,
+        weight,
+    })
+}
+
+// The Hold call with these values.
+fn hold(values: &[Value]) -> Option<Ask>
+    ensures { result ≡ ask_of CallForm.Hold values.now }
+{
+    let [Value::Short(station), Value::Octet(tid)] = *values else {
+        return None;
+    };
+    Some(Ask::Hold { station, tid })
+}
+
+// The Begin call with these values.
+fn begin(values: &[Value]) -> Option<Ask>
+    ensures { result ≡ ask_of CallForm.Begin values.now }
+{
+    let [
+        Value::Short(station),
+        Value::Octet(tid),
+        Value::Short(window),
+    ] = *values
+    else {
+        return None;
+    };
+    Some(Ask::Begin {
+        station,
+        tid,
+        window,
+    })
+}
+
+// The Free call with these values.
+fn free(values: &[Value]) -> Option<Ask>
+    ensures { result ≡ ask_of CallForm.Free values.now }
+{
+    let [Value::Short(station), Value::Octet(tid)] = *values else {
+        return None;
+    };
+    Some(Ask::Free { station, tid })
+}
+
+// The Cease call with these values.
+fn cease(values: &[Value]) -> Option<Ask>
+    ensures { result ≡ ask_of CallForm.Cease values.now }
+{
+    let [Value::Short(station), Value::Octet(tid)] = *values else {
+        return None;
+    };
+    Some(Ask::Cease { station, tid })
 }
 
 // The Done call with these values, which include no airtime.

@@ -1,4 +1,4 @@
--- The invariant of the loop of `Frame::sample`: the octets so far are those of the body.
+-- The invariant of the loop of `Frame::sample`: the octets so far equal the body's.
 use Rattle.std.proofs.Common.{◌≡◌, ◌+◌, ◌%◌, take}
 use Rattle.wf_frame.specs.Frames.{sample_body}
 use Rattle.wf_frame.proofs.frames.Frame.sample.Given as goal
