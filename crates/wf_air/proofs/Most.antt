@@ -1,5 +1,5 @@
--- Proves bounds of the most octets of an aggregate, for each format, each exponent of a station and each number
--- that was stated for it.
+-- Proves bounds of the most octets of an aggregate, for each format, each exponent of a station and each
+-- number that was stated for it.
 use Rattle.std.proofs.Common.{◌≡◌, refl, ℕ, zero, suc, ◌+◌, ◌-◌, ◌*◌, ◌%◌, ◌^◌, ◌≤◌, arith, lit≤, Option, Some, None}
 use Rattle.std.specs.Prelude.{IfSome}
 use Rattle.wf_def_lists.specs.Bounds.{least_ampdu, greatest_ampdu}

@@ -4,8 +4,8 @@
 ghost use Rattle.std.specs.Prelude.{◌≡◌, ◌+◌, ◌-◌, ◌≤◌, ◌++◌, [], ◌∷◌, ℕ, max, List, length, IsTrue, IsFalse};
 ghost use Rattle.wf_def_lists.specs.Lengths.{greatest_protected};
 ghost use Rattle.wf_def_lists.specs.Bounds.{greatest_ampdu};
-ghost use Rattle.wf_def_air.specs.Airtime.{data_charge, longest_answer};
-ghost use Rattle.wf_def_air.specs.Fit.{aggregate_octets, fits, longest_alone};
+ghost use Rattle.wf_def_air.specs.Airtime.{data_charge, plain_charge, longest_answer};
+ghost use Rattle.wf_def_air.specs.Fit.{aggregate_octets, plain_octets, fits, longest_alone};
 ghost use Rattle.wf_air.specs.Rates.{longest_single};
 ghost use Rattle.wf_air.specs.Sizes.{empty_size, time_with_next, SizeStandsFor};
 
@@ -13,7 +13,7 @@ use crate::time::{Rate, SIFS, answer_time};
 use std::marker::Model;
 
 /// The size of the delimiter before an MPDU, in octets (8.6.1).
-const DELIMITER_OCTETS: u32 = 4;
+pub(crate) const DELIMITER_OCTETS: u32 = 4;
 
 /// The size of the MAC header of a QoS Data frame with three addresses, in octets (8.3.2.1).
 const HEADER_OCTETS: u32 = 26;
@@ -143,5 +143,17 @@ impl AggregateSize {
         ensures most { result ≤ max self.now.limits.time longest_alone + longest_answer self.now.answers }
     {
         self.time + SIFS + answer_time(self.rate.control_mbps(self.answers), self.wide)
+    }
+
+    /// Returns the charge of an exchange of the frames in microseconds if they are sent without an agreement:
+    /// at most `limits.time`, or 3000 if that is less, SIFS and the longest BlockAck.
+    pub fn plain_air(&self) -> u32
+        requires { 1 ≤ self.now.count }
+        ensures exact { (lens : List ℕ) → SizeStandsFor self.now lens →
+            result ≡ plain_charge self.now.answers self.now.rate (plain_octets self.now.rate lens) }
+        ensures most { result ≤ max self.now.limits.time longest_alone + longest_answer self.now.answers }
+    {
+        let octets = self.rate.plain_octets(self.octets);
+        self.rate.plain_charge(octets, self.answers)
     }
 }

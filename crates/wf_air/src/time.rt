@@ -3,14 +3,14 @@
 //! 27), with convolutional codes. Control frames are sent in OFDM at 6, 12 or 24 Mbit/s. Durations are whole
 //! microseconds, except if a name says tenths; lengths are octets.
 
-ghost use Rattle.std.specs.Prelude.{◌≡◌, ◌+◌, ◌/◌, ◌==◌, ◌≤◌, ◌<◌, if◌then◌else◌, max, true, false, IfOk, IfErr, IfSome};
+ghost use Rattle.std.specs.Prelude.{◌≡◌, ℕ, List, ◌+◌, ◌/◌, ◌==◌, ◌≤◌, ◌<◌, if◌then◌else◌, max, true, false, IfOk, IfErr, IfSome};
 ghost use Rattle.wf_def_lists.specs.Table.{has};
-ghost use Rattle.wf_def_air.specs.Airtime.{Ht, Vht, He, IsRate, is_rate, lowest_rate, carriers_of_312, carriers_of_78, vht_encoders, is_wide_width, are_streams, streams_left_out, streams, modulation, carriers, bits, symbol_tenths, kbps, encoders, preamble_tenths, data_time, control_mbps, slowest_control, control_time, answer_time, longest_answer, data_charge, request_charge};
+ghost use Rattle.wf_def_air.specs.Airtime.{Ht, Vht, He, IsRate, is_rate, lowest_rate, carriers_of_312, carriers_of_78, vht_encoders, is_wide_width, are_streams, streams_left_out, streams, modulation, carriers, bits, symbol_tenths, kbps, encoders, preamble_tenths, data_time, control_mbps, slowest_control, control_time, answer_time, longest_answer, data_charge, plain_charge, request_charge};
 ghost use Rattle.wf_def_lists.specs.Bounds.{least_ampdu, greatest_ampdu};
-ghost use Rattle.wf_def_air.specs.Fit.{most_octets, longest_alone};
+ghost use Rattle.wf_def_air.specs.Fit.{aggregate_octets, plain_octets, most_octets, longest_alone};
 ghost use Rattle.wf_air.specs.Rates.{rate_of, unit_tenths, timing_of, least_kbps, most_kbps, longest_aggregate, longest_single, longest_time, longest_single_time};
 
-use crate::fit::LONGEST_ALONE;
+use crate::fit::{DELIMITER_OCTETS, LONGEST_ALONE};
 use std::marker::Model;
 use thiserror::Error;
 
@@ -82,8 +82,10 @@ const FAST_MBPS: u32 = 24;
 /// The kbit/s in a Mbit/s.
 const KBPS: u32 = 1_000;
 
-/// The octets of a BlockAckReq with its check sequence (8.3.1.8), of a BlockAck with a bitmap of 8 octets
-/// (8.3.1.9), and of one with a bitmap of 32.
+/// The octets of an Ack with its check sequence (8.3.1.4), of a BlockAckReq (8.3.1.8), of a BlockAck with a
+/// bitmap of 8 octets (8.3.1.9), and of one with a bitmap of 32.
+const ACK_OCTETS: u32 = 14;
+
 const REQUEST_OCTETS: u32 = 24;
 
 const ANSWER_OCTETS: u32 = 32;
@@ -496,8 +498,31 @@ impl Rate {
         self.data_time(octets) + SIFS + answer_time(self.control_mbps(answers), wide)
     }
 
+    /// Returns the octets of a frame that is sent without an agreement, if an aggregate of it has `octets`.
+    /// At a rate of HT it has no delimiter.
+    pub fn plain_octets(self, octets: u32) -> u32
+        ensures exact { (lens : List ℕ) → octets ≡ aggregate_octets lens → result ≡ plain_octets self lens }
+        ensures most { result ≤ octets }
+    {
+        match self.format {
+            Format::Ht { .. } => octets.saturating_sub(DELIMITER_OCTETS),
+            Format::Vht { .. } | Format::He { .. } => octets,
+        }
+    }
+
+    /// Returns the charge of a frame that an Ack answers in microseconds: its data time, SIFS and the Ack.
+    /// `answers` is the setting of that name.
+    pub fn plain_charge(self, octets: u32, answers: u32) -> u32
+        requires { octets ≤ longest_aggregate }
+        ensures exact { result ≡ plain_charge answers self octets }
+        ensures most { result ≤ data_time self octets + longest_answer answers }
+    {
+        self.data_time(octets) + SIFS + control_time(self.control_mbps(answers), ACK_OCTETS)
+    }
+
     /// Returns the charge of an exchange of a BlockAckReq in microseconds: the request, SIFS and its
-    /// BlockAck. `answers` is the setting of that name, and `wide` says that the session's window is above 64.
+    /// BlockAck. `answers` is the setting of that name, and `wide` says that the session's window is above
+    /// 64.
     pub fn request_charge(self, answers: u32, wide: bool) -> u32
         ensures exact { result ≡ request_charge answers self wide }
         ensures most { result ≤ 60 + longest_answer answers }
@@ -523,8 +548,8 @@ impl Rate {
         }
     }
 
-    /// Returns the most octets of an aggregate for a receiver with this maximum A-MPDU length exponent, 0 to 3.
-    /// At a rate of HT that is `2^(13+exponent) - 1`. At a rate of VHT or HE it is `stated`, 4,096 to
+    /// Returns the most octets of an aggregate for a receiver with this maximum A-MPDU length exponent, 0 to
+    /// 3. At a rate of HT that is `2^(13+exponent) - 1`. At a rate of VHT or HE it is `stated`, 4,096 to
     /// 6,500,631, or `2^(17+exponent) - 1` if nothing was stated.
     pub fn most_octets(self, exponent: u8, stated: Option<u32>) -> u32
         requires exponent_in { exponent ≤ 3 }

@@ -1,4 +1,5 @@
--- Proves that the distance of two sequence numbers is that of the whole numbers that they represent.
+-- Proves that the distance of two sequence numbers equals the distance of the whole numbers that they
+-- represent.
 use Rattle.std.proofs.Common.{◌≡◌, ℕ, ◌+◌, ◌<◌, ◌≤◌, arith}
 use Rattle.wf_octets.specs.Distance.{distance, TwelveBitsStandFor}
 

@@ -20,4 +20,5 @@ mod RangeLemmas
 mod VisitLemmas
 mod PaidLemmas
 mod CountedVisits
+mod OnlyLemmas
 mod LowestLemmas

@@ -767,7 +767,7 @@ lists_of next heads lists keys = record { lists = all_chains next heads lists; k
 abbrev pub with_list : AllLists → ℕ → Side → List ℕ → AllLists
 with_list v list side ys = record v { lists = with_keys v.lists list side ys }
 
--- What a call knows about its links: they represent these lists, one of which has this slot.
+-- The facts of a call about its links: they represent these lists, one of which has this slot.
 module _ {next heads tails : List ℕ} {lists keys slot : ℕ} {v : AllLists} (list : ℕ) (side : Side)
     (ok : AreLinks next heads tails lists) (few : keys ≡ length next)
     (view : lists_of next heads lists keys ≡ v) (low : list < length v.lists)

@@ -6,7 +6,7 @@ use Rattle.std.proofs.Math.Nat.{mul-le-mul_right}
 use Rattle.wf_def_rotation.specs.Rotation.{need_of}
 use Rattle.wf_rotation.specs.Pass.{raised}
 
-quotient_below : (m q : ℕ) → m / q * q ≤ m
+pub quotient_below : (m q : ℕ) → m / q * q ≤ m
 quotient_below m q = grind arith
 
 fewer_below : (v n q : ℕ) → min v n * q ≤ n * q

@@ -75,7 +75,7 @@ abbrev at_lists : List ℕ → List ℕ → (ℕ → ℤ) → Standing
 at_lists news olds deficit = record { lists = record { new = news; old = olds }; deficit = deficit }
 
 -- the visit of a key of old, and of a key of new, by whether it owes and whether it is ready
-abbrev of_old : (ℕ → ℕ) → (ℕ → ℤ) → ℕ → List ℕ → Bool → Bool → Visit
+abbrev pub of_old : (ℕ → ℕ) → (ℕ → ℤ) → ℕ → List ℕ → Bool → Bool → Visit
 of_old quantum deficit key keys owes rdy =
     if owes then Again (record { new = []; old = keys ++ key ∷ [] }) (with_quantum_paid quantum deficit key)
     else (if rdy then Wins key else Again (record { new = []; old = keys }) deficit)

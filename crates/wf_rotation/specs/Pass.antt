@@ -43,7 +43,7 @@ passed_first all list side key stays =
     let off : List Rotation = with_keys all list side (keys_behind (keys_at all list side)) in
     if stays then with_keys off list Old (keys_at off list Old ++ key ∷ []) else off
 
--- the old keys that do not move: if the winner is found at once, the pass goes over new alone
+-- the old keys that do not move: if the winner is found at once, the pass covers new alone
 abbrev pub left_alone : Course → List ℕ → List ℕ
 left_alone Nobody olds = []
 left_alone AtOnce olds = olds

@@ -1,11 +1,11 @@
 -- Defines one visit of the loop of "Ending the Anomaly" (USENIX ATC 2017), algorithm 3 (Loop of
 -- wf_def_rotation), to one of the rotations.
-use Rattle.std.specs.Prelude.{◌≡◌, ℕ, ◌*◌, ◌≤◌, Bool, true, false, List, length, set, ℤ, pos, ◌+ℤ◌, int_le, if◌then◌else◌}
+use Rattle.std.specs.Prelude.{◌≡◌, ℕ, ◌*◌, ◌<◌, ◌≤◌, Bool, true, false, List, [], ◌∷◌, length, set, ℤ, pos, ◌+ℤ◌, int_le, if◌then◌else◌}
 use Rattle.wf_def_rotation.specs.Rotation.{Rotation, in_order}
 use Rattle.wf_def_rotation.specs.Loop.{Visit, Empty, Wins, Again, Standing, visit_from, onward, LoopEnds}
 use Rattle.wf_rotation.specs.Lists.{lists_at}
-use Rattle.wf_rotation.specs.Rotas.{Rotas, deficit_at, quantum_at, is_ready, picked_at}
-use Rattle.wf_rotation.specs.Pass.{passed_first}
+use Rattle.wf_rotation.specs.Rotas.{Rotas, deficit_at, quantum_at, need_at, is_ready, picked_at}
+use Rattle.wf_rotation.specs.Pass.{passed_first, raised}
 use Rattle.wf_rotation.specs.declared.side.Side.{Side}
 use Rattle.wf_rotation.specs.declared.side.Side.TheVariants.{New, Old}
 use Rattle.wf_rotation.specs.declared.rota.VisitEnd.{VisitEnd}
@@ -65,3 +65,18 @@ pub record IsSamePick (start : Rotas) (ready : List Bool) (list : ℕ) (v : Rota
   pub keys : length v.deficits ≡ length start.deficits
   pub quanta : v.quanta ≡ start.quanta
   pub fewer : length (in_order (lists_at v.lists list)) ≤ length (in_order (lists_at start.lists list))
+
+-- the rotation has one key, and has it on its old list
+abbrev pub IsOnlyOld : Rotation → ℕ → Type 0
+IsOnlyOld r key = r ≡ record { new = []; old = key ∷ [] }
+
+-- the first visits, as many as this, found one of the rotations with one key, on its old list, and gave the
+-- key a quantum each
+pub record HasPaidOnly (start : Rotas) (list visits : ℕ) (v : Rotas) : Type 0 where
+  pub key : ℕ
+  pub alone : 0 < visits → IsOnlyOld (lists_at start.lists list) key
+  pub owing : visits ≤ need_at start key
+  pub paid : v ≡ record start {
+    deficits = set start.deficits key (raised (deficit_at start.deficits key)
+        (quantum_at start.quanta key) visits);
+  }

@@ -15,7 +15,7 @@ pub(crate) enum Course {
     Later { round: u64, place: usize },
 }
 
-/// What a pass gives a key.
+/// The gain of a key in a pass.
 #[derive(Clone, Copy)]
 pub(crate) struct Share {
     /// The number of visits in which the key may get a quantum.

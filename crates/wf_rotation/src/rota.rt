@@ -3,7 +3,7 @@ ghost use Rattle.wf_def_rotation.specs.Rotation.{no_keys, with_new_key, with_old
 ghost use Rattle.wf_rotation.specs.Rotas.{Rotas, deficit_at, quantum_at, need_at, is_ready, lesser, IsUnlisted, picked_at};
 ghost use Rattle.wf_rotation.specs.Lists.{lists_at, keys_at, with_keys, has_on, first_of, AreDisjoint};
 ghost use Rattle.wf_rotation.specs.Steps.{most_visits, visits_within};
-ghost use Rattle.wf_rotation.specs.Visits.{first_visit, HasVisited, EndsAs};
+ghost use Rattle.wf_rotation.specs.Visits.{first_visit, HasVisited, EndsAs, IsOnlyOld, HasPaidOnly};
 ghost use Rattle.wf_rotation.specs.Scan.{IsFound, IsRoundOn, IsWon};
 ghost use Rattle.wf_rotation.specs.declared.side.Side.TheVariants.{Old};
 ghost use Rattle.wf_rotation.specs.Pass.{raised, passed_first, passed_olds, way, SharesAre, HasPassed, WasPickedFrom, HasPicked, passed_key, last_after, last_before};
@@ -16,7 +16,7 @@ use std::alloc::{AllocError, Global};
 use std::marker::Model;
 
 /// The number of visits of the loop after which a pick goes on in closed form.
-const MOST_VISITS: u32 = 32;
+const MOST_VISITS: usize = 32;
 
 /// The result of a pick.
 #[derive(Clone, Copy)]
@@ -542,13 +542,50 @@ impl Rota {
         }
     }
 
+    /// Returns the key that is alone on a rotation, or None if the rotation has no key, has others too, or
+    /// has its only key on the new list.
+    fn only_old(&self, list: u32) -> Option<u32>
+        requires { list < length self.now.lists }
+        ensures alone { IfSome result (λ key. IsOnlyOld (lists_at self.now.lists list) key) }
+        ensures below { IfSome result (λ key. key < length self.now.deficits) }
+        ensures disjoint { AreDisjoint (record { lists = self.now.lists; keys = length self.now.deficits }) }
+        ensures positive { (key : ℕ) → 1 ≤ quantum_at self.now.quanta key }
+    {
+        let None = self.links.first(list, Side::New) else {
+            return None;
+        };
+        let key = self.links.first(list, Side::Old)?;
+        let None = self.links.after(key) else {
+            return None;
+        };
+        Some(key)
+    }
+
+    /// Makes the first visits of the loop in one calculation, if a key is alone on a rotation, on its old
+    /// list, and owes: each of these visits gives it a quantum. Returns their number, at most `MOST_VISITS`.
+    fn pay_only(&mut self, list: u32) -> usize
+        requires { list < length self.old.lists }
+        ensures paid { HasPaidOnly self.old list result self.new }
+        ensures most { result ≤ 32 }
+        ensures disjoint { AreDisjoint (record { lists = self.old.lists; keys = length self.old.deficits }) }
+        ensures positive { (key : ℕ) → 1 ≤ quantum_at self.old.quanta key }
+    {
+        let Some(key) = self.only_old(list) else {
+            return 0;
+        };
+        let visits = self.need(key).min(MOST_VISITS as u64);
+        self.raise(key, visits);
+        visits as usize
+    }
+
     /// Picks the key whose turn it is, and leaves the rotation as the paper's loop does (algorithm 3 of
     /// "Ending the Anomaly", USENIX ATC 2017). `ready` has one entry for each key. The winner stays first on
     /// its list, with a deficit above 0.
     ///
     /// The loop makes at most `MOST_VISITS` visits; then the pick goes on in closed form. Each visit but the
     /// last gives a quantum, or takes a key off new or off the rotation. A pick that ends within the loop
-    /// takes as many steps as it makes visits, whatever the number of listed keys (`cheap`).
+    /// takes as many steps as it makes visits, whatever the number of listed keys (`cheap`). The visits that
+    /// pay a key that is alone on old are counted, but made in one calculation.
     pub fn pick(&mut self, list: u32, ready: &[bool]) -> Pick
         requires in_lists { list < length self.old.lists }
         requires ready { length ready.now ≡ length self.old.deficits }
@@ -571,8 +608,8 @@ impl Rota {
         ensures visits { MatchOption (visits_within 32 self.old ready.now list) (32 ≤ result.steps)
             (λ visits. result.steps ≡ visits) }
     {
-        let mut steps = 0;
-        for _ in 0..MOST_VISITS {
+        let mut steps = self.pay_only(list);
+        for _ in steps..MOST_VISITS {
             steps += 1;
             if let VisitEnd::Done(winner) = self.visit(list, ready) {
                 return Pick { winner, steps };

@@ -25,7 +25,7 @@ pub enum BlockFault {
         /// The number of octets that there are.
         have: usize,
     },
-    /// The first octet is that of another kind of frame.
+    /// The first octet belongs to another kind of frame.
     #[error("a frame of another kind, {0:#04x}")]
     Kind(u8),
     /// Compressed Bitmap is 0.

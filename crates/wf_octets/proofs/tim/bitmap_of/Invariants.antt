@@ -1,4 +1,4 @@
--- The bitmap, the first AID and the last AID are those of the entries so far.
+-- The bitmap, the first AID and the last AID belong to the entries so far.
 use Rattle.std.proofs.Common.{◌≡◌, ℕ, ◌<◌, ◌≤◌, IfSome, length, get_or}
 use Rattle.wf_octets.specs.Tim.{ends_of}
 use Rattle.wf_def_tim.specs.Tim.{map_octet}

@@ -1,4 +1,4 @@
--- The head and the part of the bitmap are those of the shortest element, which has the layout.
+-- The head and the part of the bitmap belong to the shortest element, which has the layout.
 use Rattle.std.proofs.Common.{◌∙◌, ℕ, false, ap, sym, refl, subst, arith, length, length-take, length-drop}
 use Rattle.wf_octets.proofs.Places.{then_put}
 use Rattle.wf_octets.specs.declared.tim.Tim.{Tim}

@@ -1,4 +1,4 @@
--- The three quotients are those of the definition, and no product overflows.
+-- The three quotients equal the definition's, and no product overflows.
 use Rattle.std.proofs.Common.{◌∙◌, ap, arith}
 use Rattle.wf_def_air.specs.Airtime.{Rate, data_time}
 use Rattle.wf_air.specs.Rates.{rate_of}

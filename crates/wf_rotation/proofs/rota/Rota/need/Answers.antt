@@ -1,4 +1,4 @@
--- The deficit and the quantum that are read are those of the key, so its need is the definition's.
+-- The deficit and the quantum that are read belong to the key, so its need is the definition's.
 use Rattle.std.proofs.Common.{◌≡◌, ◌∙◌, ◌<◌, ◌-◌, ◌^◌, length, ap, sym, subst, arith}
 use Rattle.std.specs.Prelude.{pos, negsuc, ◌≤ℤ◌, ◌<ℤ◌}
 use mir.Val.{to_z, of_z}

@@ -1,4 +1,4 @@
--- After one more key the lists and the deficits are those of a pass over that key too.
+-- After one more key the lists and the deficits equal those after a pass over that key too.
 use Rattle.std.proofs.Common.{◌≡◌, ◌∙◌, ap, refl, length, get_or, subst, arith, length-set, min}
 use Rattle.wf_rotation.specs.Lists.{lists_at}
 use Rattle.wf_rotation.specs.Pass.{HasPassed, side_at, way, lists_after, place_in}

@@ -1,4 +1,4 @@
--- The lists and the deficits are those of a pass over the keys so far.
+-- The lists and the deficits equal those after a pass over the keys so far.
 use Rattle.std.proofs.Common.{◌≡◌, ℕ, Bool, take, min}
 use Rattle.std.specs.List.{filter}
 use Rattle.wf_rotation.specs.Lists.{lists_at}

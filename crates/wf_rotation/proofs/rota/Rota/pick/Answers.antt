@@ -3,9 +3,10 @@ use Rattle.std.proofs.Common.{◌≡◌, ℕ, ◌≤◌, List, None, refl, subst
 use Rattle.wf_rotation.specs.Rotas.{quantum_at}
 use Rattle.wf_rotation.specs.Pass.{HasPicked}
 use Rattle.wf_rotation.specs.Steps.{visits_within}
-use Rattle.wf_rotation.proofs.VisitLemmas.{same_first, same_after, has_ended, at_once, some_listed, some_ready, none_above}
-use Rattle.wf_rotation.proofs.PaidLemmas.{paid_first, paid_after, visits_low}
-use Rattle.wf_rotation.proofs.CountedVisits.{visits_first, visits_after, visits_ended, visits_left}
+use Rattle.wf_rotation.proofs.VisitLemmas.{same_after, has_ended, at_once, some_listed, some_ready, none_above}
+use Rattle.wf_rotation.proofs.PaidLemmas.{paid_after, visits_low}
+use Rattle.wf_rotation.proofs.CountedVisits.{visits_after, visits_ended, visits_left}
+use Rattle.wf_rotation.proofs.OnlyLemmas.{Stands, paid_only}
 use Rattle.wf_rotation.proofs.rota.Rota.pick.Goals as goal
 use Rattle.wf_rotation.proofs.rota.Rota.pick.Goals.{In-Done, After-pick_at_once-at_once}
 
@@ -23,12 +24,13 @@ went_on c = at_once c.args.self.now c.args.ready.now c.args.list c.loop.self c.p
     c.pick_at_once-at_once.result.winner c.loop.invariant.same c.pick_at_once-at_once.ensures.picked
 
 pub loop-init : goal.loop-init
-loop-init c = record {
-  same = same_first c.args.self.now c.args.ready.now c.args.list;
-  steps = refl;
-  paid = paid_first c.args.self.now c.args.list;
-  visits = visits_first c.args.self.now c.args.ready.now c.args.list;
-}
+loop-init c =
+    let first : Stands c.args.self.now c.args.ready.now c.args.list c.pay_only-steps.new.self
+    c.pay_only-steps.result =
+    paid_only c.args.self.now c.args.ready.now c.args.list c.pay_only-steps.result
+    c.pay_only-steps.new.self c.requires.in_lists c.pay_only-steps.ensures.positive
+    c.pay_only-steps.ensures.disjoint c.pay_only-steps.ensures.paid in
+    record { same = first.same; steps = refl; paid = first.paid; visits = first.counted }
 
 pub loop-preserved : goal.loop-preserved
 loop-preserved c = record {

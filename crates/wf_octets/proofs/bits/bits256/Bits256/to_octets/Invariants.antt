@@ -1,4 +1,4 @@
--- The octets so far are those of the words.
+-- The octets so far equal the words'.
 use Rattle.std.proofs.Common.{ℕ, ◌≡◌, ◌<◌, ◌/◌, ◌%◌, get_or, w64}
 use Rattle.std.specs.Int.{to_le_bytes}
 use Rattle.wf_octets.proofs.bits.bits256.Bits256.to_octets.Given as goal
