@@ -1,6 +1,6 @@
 -- Applies laws of runs to the world after a history, and proves what the end of an exchange leaves of
 -- receivers and sessions.
-use Rattle.std.proofs.Common.{◌≡◌, refl, ap, ap₂, sym, ◌∙◌, subst, arith, ℕ, if◌then◌else◌, ◌<◌, ◌≤◌, ◌==◌, Bool, true, false, not, ◌&&◌, List, [], length, Option, Some, None, is_some, is_none, ◌↔◌}
+use Rattle.std.proofs.Common.{◌≡◌, refl, ap, ap₂, sym, ◌∙◌, subst, arith, ℕ, ◌<◌, ◌≤◌, ◌==◌, Bool, true, false, not, ◌&&◌, List, [], length, Option, Some, None, is_some, is_none, ◌↔◌}
 use Rattle.std.proofs.Math.Seq.{take-length}
 use Rattle.wf_frame.specs.declared.settings.Config.{Config}
 use Rattle.wf_frame.specs.declared.notes.Ask.TheVariants.{Done}
@@ -14,7 +14,7 @@ use Rattle.wf_def_agreement.specs.Receiver.{Score}
 use Rattle.wf_def_agreement.specs.Session.{Session, State, End, slot, next_number}
 use Rattle.wf_def_world.specs.World.{World, Station, Exchange, Content, Frames, Request, session, receiver, is_live, exchange, without_exchange, opening}
 use Rattle.wf_def_world.specs.CanSend.{with_listings_of}
-use Rattle.wf_def_world.specs.Exchanges.{end_in_aggregate, end_of, numbers_arrived, numbers_unsent, mpdus_of, after_charge, after_done, with_all_settled}
+use Rattle.wf_def_world.specs.Exchanges.{end_of, is_acked, numbers_given_up, numbers_arrived, numbers_unsent, mpdus_of, after_charge, after_done, with_all_settled}
 use Rattle.wf_def_world.specs.Refusals.{refusal, exchange_has}
 use Rattle.wf_frame.specs.Settings.{is_bad_air}
 use Rattle.wf_def_world.specs.Step.{done_outcome, outcome_where_open, outcome_of, station_of, after_refusal, judged_outcome, step}
@@ -22,14 +22,15 @@ use Rattle.wf_def_world.specs.Run.{Entry, world_after}
 use Rattle.wf_law_runs.specs.Kept.{KeepsNumbers, KeepsByCall}
 use Rattle.wf_law_runs.specs.Sent.{IsSent}
 use Rattle.wf_law_runs.specs.Windows.{EachMpdu, EachOpen, KeepsWindows}
+use Rattle.wf_law_runs.proofs.Common.Ends.{end_by, is_once}
 use Rattle.wf_law_runs.proofs.Kept.Law.{kept_law}
 use Rattle.wf_law_runs.proofs.Sent.Law.{sent_law}
 use Rattle.wf_law_runs.proofs.Windows.Law.{window_law}
 use Rattle.wf_law_runs.proofs.Windows.Sides.{Side, Same, same_charged, same_listed, sides_of}
 use Rattle.wf_law_runs.proofs.Windows.Opened.{Each, FlyIn, each_filter, differ}
 use Rattle.wf_law_runs.proofs.Windows.Agreed.{IsOpenIn, session_same}
-use Rattle.wf_law_runs.proofs.Windows.Settling.{each_along, all_acked, acked_device, without_same, without_live}
-use Rattle.wf_law_runs.proofs.Frames.Delivered.{opened_ended}
+use Rattle.wf_law_runs.proofs.Windows.Settling.{each_along, all_acked, acked_plain, without_same, without_live}
+use Rattle.wf_law_runs.proofs.Frames.Delivered.{ends_of, opened_ended}
 use Rattle.wf_law_runs.proofs.Releases.Kept.{Kept, keep_ended}
 use Rattle.wf_law_driver.specs.Unheard.{IsUnmarked, HasAcked}
 use Rattle.wf_law_driver.proofs.Opened.{none_refuses, first_refuses, passes, step_done, found_number}
@@ -137,25 +138,24 @@ ended_step w e x heard air found fine =
 
 -- ---- the end of a batch
 
-end_arrived : (x : Exchange) (heard : Bool) (n : ℕ) → x.batch ≡ true → (end_of x heard n ≡ End.Acknowledged) ↔
+end_arrived : (w : World) (x : Exchange) (heard : Bool) (n : ℕ) → x.batch ≡ true →
+    (end_of w x heard n ≡ End.Acknowledged) ↔
     (has (numbers_arrived x) n && not (has (numbers_unsent x) n) ≡ true)
-end_arrived x heard n = go x.batch (has (numbers_unsent x) n) (has (numbers_arrived x) n)
-    (end_in_aggregate x heard n)
+end_arrived w x heard n = go x.batch (is_once w x n) (has (numbers_unsent x) n) (has (numbers_arrived x) n)
+    (is_acked heard x.answer n) (has (numbers_given_up x) n)
   where
-    go : (b u r : Bool) (other : End) → b ≡ true → ((if b
-        then (if u then End.Unsent else if r then End.Acknowledged else End.GivenUp)
-        else other) ≡ End.Acknowledged) ↔ (r && not u ≡ true)
-    go true true true other h = ((λ a. absurd (cc a)), (λ a. absurd (cc a)))
-    go true true false other h = ((λ a. absurd (cc a)), (λ a. absurd (cc a)))
-    go true false true other h = ((λ _. refl), (λ _. refl))
-    go true false false other h = ((λ a. absurd (cc a)), (λ a. absurd (cc a)))
-    go false u r other h = absurd (cc h)
+    go : (b o u r a g : Bool) → b ≡ true → (end_by b o u r a g ≡ End.Acknowledged) ↔ (r && not u ≡ true)
+    go true o true true a g h = ((λ e. absurd (cc e)), (λ e. absurd (cc e)))
+    go true o true false a g h = ((λ e. absurd (cc e)), (λ e. absurd (cc e)))
+    go true o false true a g h = ((λ _. refl), (λ _. refl))
+    go true o false false a g h = ((λ e. absurd (cc e)), (λ e. absurd (cc e)))
+    go false o u r a g h = absurd (cc h)
 
 -- each number is acknowledged exactly if the exchange ends so for it
 frames_ended : (c : Content) (w : World) (x : Exchange) (heard : Bool) (air : Option ℕ) → x.content ≡ c →
     IsOpenIn w x → EachMpdu (λ m. ((slot (session
     (after_done (after_charge (without_exchange w x.number) x air) x heard c) x.station x.tid) m.number).state
-    ≡ State.Acked) ↔ (end_of x heard m.number ≡ End.Acknowledged)) (mpdus_of c)
+    ≡ State.Acked) ↔ (ends_of air w x heard m.number ≡ End.Acknowledged)) (mpdus_of c)
 unfolding after_done
 frames_ended (Request f) w x heard air e o = tt
 frames_ended (Frames ms) w x heard air e o =
@@ -166,8 +166,9 @@ frames_ended (Frames ms) w x heard air e o =
     ∙ without_same w x.number x.station x.tid in
     let flies : FlyIn x.number ms y = subst (λ (c : Content). FlyIn x.number (mpdus_of c) y) e o.opened.flies
     in
-    acked_device ms (with_all_settled v x.station x.tid (end_of x heard) ms) x.station x.tid (end_of x heard)
-    (all_acked ms v x.station x.tid (end_of x heard) y.first (next_number y)
+    acked_plain ms (with_all_settled v x.station x.tid (end_of v x heard) ms) x.station x.tid
+    (end_of v x heard)
+    (all_acked ms v x.station x.tid (end_of v x heard) y.first (next_number y)
     (k.live x.station ∙ without_live w x.number x.station ∙ o.live)
     (omega (arith, ap (λ (z : Session). z.first) same_y)) flies.rising)
 
@@ -180,11 +181,11 @@ batch_ended w u x heard air batch o k =
     let v : World = after_done (after_charge (without_exchange w x.number) x air) x heard x.content in
     let d : session u x.station x.tid ≡ session v x.station x.tid = session_same _ u k x.station x.tid in
     each_along (λ m. ((slot (session v x.station x.tid) m.number).state ≡ State.Acked) ↔
-    (end_of x heard m.number ≡ End.Acknowledged))
+    (ends_of air w x heard m.number ≡ End.Acknowledged))
     (λ m. ((slot (session u x.station x.tid) m.number).state ≡ State.Acked) ↔
     (has (numbers_arrived x) m.number && not (has (numbers_unsent x) m.number) ≡ true)) (mpdus_of x.content)
     (λ m e.
-    let ends = end_arrived x heard m.number batch in (
+    let ends = end_arrived (after_charge (without_exchange w x.number) x air) x heard m.number batch in (
       (λ h. ends.0 (e.0 (ap (λ (z : Session). (slot z m.number).state) (sym d) ∙ h))),
       (λ h. ap (λ (z : Session). (slot z m.number).state) d ∙ e.1 (ends.1 h)),
     ))
@@ -251,7 +252,8 @@ refused_step w e heard air r bad = ap (judged_outcome w (Asked (Done e heard air
 
 -- an airtime that may not be given is the last fault of a Done
 pub bad_told : (w : World) (e : ℕ) (x : Exchange) (air : Option ℕ) → exchange w e ≡ Some x →
-    lacks_answer x ≡ false → is_bad_air w.config air ≡ true → refusal w (Asked (Done e true air)) ≡ Some BadAir
+    lacks_answer x ≡ false → is_bad_air w.config air ≡ true →
+    refusal w (Asked (Done e true air)) ≡ Some BadAir
 bad_told w e x air found told bad = passes (is_none (exchange w e), NoExchange) _ (ap is_none found)
     ∙ (passes (exchange_has (exchange w e) lacks_answer, NoAnswer) _
     (ap (λ (o : Option Exchange). exchange_has o lacks_answer) found ∙ told)

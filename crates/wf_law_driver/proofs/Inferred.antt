@@ -1,4 +1,4 @@
--- Proves the law of inferred calls: from what has arrived after them follows what the answer shows, and
+-- Proves the law of inferred calls: the arrivals after them give the bits of the answer, and
 -- from that what the Done acknowledges.
 use Rattle.std.proofs.Common.{◌≡◌, refl, ap, sym, ◌∙◌, subst, arith, ℕ, suc, ◌+◌, ◌*◌, ◌<◌, ◌≤◌, ◌==◌, nat_lt, Bool, true, false, not, ◌&&◌, ◌↔◌, inl, inr, List, [], ◌∷◌, ◌++◌, length, map, Option, Some, None, IfSome}
 use Rattle.wf_frame.specs.declared.settings.Config.{Config}
@@ -126,7 +126,8 @@ module _ (w u : World) (e : ℕ) (shown : ℕ → Bool) (x last : Exchange) (air
 
   -- the kept answer shows the numbers that have arrived
   answer_shows : (b : Score) → last.answer ≡ Some b → KeepsWindows u →
-      EachMpdu (λ m. shows b m.number ≡ has (receiver u x.station x.tid).arrived m.number) (mpdus_of x.content)
+      EachMpdu (λ m. shows b m.number
+      ≡ has (receiver u x.station x.tid).arrived m.number) (mpdus_of x.content)
   answer_shows b kept windows =
       let y : Session = session u last.station last.tid in
       let r : Receiver = receiver u last.station last.tid in
@@ -275,7 +276,8 @@ module _ (w u : World) (e : ℕ) (shown : ℕ → Bool) (x last : Exchange) (air
       let f : Flies w x.station x.tid e n = among_each
       (λ i. Flies w x.station x.tid e i) x.content 0 is n rise among k.fly in
       let acked : (slot z n).state ≡ State.Acked = (among_each
-      (λ i. ((slot z i).state ≡ State.Acked) ↔ Arrived i) x.content 0 is n rise among (settled settles)).1 arrived
+      (λ i. ((slot z i).state
+      ≡ State.Acked) ↔ Arrived i) x.content 0 is n rise among (settled settles)).1 arrived
       in
       let same : y ≡ session w x.station x.tid = k.after.sessions x.station x.tid in
       let from : y.first ≤ n = omega (arith, ap (λ (a : Session). a.first) same, f.from) in
@@ -298,7 +300,8 @@ module _ (w u : World) (e : ℕ) (shown : ℕ → Bool) (x last : Exchange) (air
       HasAcked (session done_world i j) n = λ i j n h s t is.
       subst (λ (a : ℕ). HasAcked (session done_world a j) n) s
       (subst (λ (c : ℕ). HasAcked (session done_world x.station c) n) t
-      (inferred_acked settles calls ended n is (subst (λ (c : ℕ). has (receiver u x.station c).arrived n ≡ true)
+      (inferred_acked settles calls ended n is (subst (λ (c : ℕ). has (receiver u x.station c).arrived n
+      ≡ true)
       (sym t)
       (subst (λ (a : ℕ). has (receiver u a j).arrived n ≡ true) (sym s) h)))) in
       record {
@@ -369,7 +372,8 @@ module _ (config : Config) (h : List Entry) (caller e : ℕ) (shown : ℕ → Bo
       subst (λ (js : List ℕ). AllInferred x.batch caller e x js w) (sym some)
       (all_inferred x.batch i is caller e w x found refl (found_each IsUnmarked w e x found un.marks)
       (subst (AreIndices 0 (transmissions x.content)) some (inferred_rise shown x.content))
-      (subst (AreNotIn x.unsent) some (inferred_not_in x.unsent shown x.content sent.numbers request_sent))) in
+      (subst (AreNotIn x.unsent) some
+      (inferred_not_in x.unsent shown x.content sent.numbers request_sent))) in
       let later : world_after (opening config) (h ++ entries) ≡ u =
       world_after-append h (opening config) entries in
       let may : is_bad_air u.config air ≡ false =

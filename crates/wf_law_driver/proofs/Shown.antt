@@ -1,6 +1,6 @@
 -- Proves that the end of an exchange depends only on how it ends for each of its numbers, and so only on
 -- which of them are shown. By induction over the numbers.
-use Rattle.std.proofs.Common.{◌≡◌, refl, ap, sym, ◌∙◌, subst, ℕ, Bool, true, false, if◌then◌else◌, List, [], ◌∷◌, Option, Some, None}
+use Rattle.std.proofs.Common.{◌≡◌, refl, ap, sym, ◌∙◌, subst, ℕ, Bool, true, false, List, [], ◌∷◌, Option, Some, None}
 use Rattle.wf_frame.specs.declared.notes.Ask.TheVariants.{Done}
 use Rattle.wf_frame.specs.declared.notes.Note.TheVariants.{Asked}
 use Rattle.wf_frame.specs.declared.notes.Refusal.TheVariants.{BadAir}
@@ -11,11 +11,12 @@ use Rattle.wf_def_agreement.specs.Receiver.{Score, shows}
 use Rattle.wf_def_agreement.specs.Session.{End, is_acknowledged, is_waiting, is_failed}
 use Rattle.wf_def_world.specs.World.{World, Exchange, Mpdu, Content, Frames, Request, exchange, without_exchange}
 use Rattle.wf_def_world.specs.CanSend.{is_request, with_listings_of}
-use Rattle.wf_def_world.specs.Exchanges.{is_acked, numbers_unsent, numbers_given_up, end_in_batch, end_of, mpdus_of, after_charge, with_settled, with_all_settled, with_device_caught_up, after_done, count_in}
+use Rattle.wf_def_world.specs.Exchanges.{is_acked, numbers_arrived, numbers_unsent, numbers_given_up, end_of, mpdus_of, after_charge, with_settled, with_all_settled, caught_up_if_plain, after_done, count_in}
 use Rattle.wf_def_world.specs.Refusals.{refusal}
 use Rattle.wf_frame.specs.Settings.{is_bad_air}
 use Rattle.wf_def_world.specs.Step.{Outcome, done_outcome, outcome_where_open, outcome_of, after_refusal, judged_outcome, station_of, step}
 use Rattle.wf_law_runs.specs.Windows.{EachMpdu}
+use Rattle.wf_law_runs.proofs.Common.Ends.{end_by, is_once}
 use Rattle.wf_law_driver.specs.Shown.{SettlesAlike, EndsAsLost}
 use Rattle.wf_law_driver.proofs.Ended.{may_end_lost, may_end_heard, bad_lost, bad_heard}
 use Rattle.wf_law_driver.proofs.Indices.{each_mpdu}
@@ -31,13 +32,9 @@ pub settles_alike : (w : World) → SettlesAlike w
 settles_alike w s t p q mpdus h = settled_alike mpdus w s t p q h
 
 -- how an exchange ends for its number n, which the answer shows or not
-abbrev end_where : Exchange → ℕ → Bool → End
-end_where x n acked =
-    if x.batch then end_in_batch x n
-    else if has (numbers_unsent x) n then End.Unsent
-    else if acked then End.Acknowledged
-    else if has (numbers_given_up x) n then End.GivenUp
-    else End.Missed
+abbrev end_where : World → Exchange → ℕ → Bool → End
+end_where w x n acked = end_by x.batch (is_once w x n) (has (numbers_unsent x) n) (has (numbers_arrived x) n)
+    acked (has (numbers_given_up x) n)
 
 -- none of an aggregate's numbers is shown
 after_none : (c : Content) (v : World) (x : Exchange) (b : Score) → x.answer ≡ Some b → is_request c ≡ false →
@@ -45,10 +42,10 @@ after_none : (c : Content) (v : World) (x : Exchange) (b : Score) → x.answer �
 unfolding after_done
 after_none (Request f) v x b kept frames h = absurd (cc frames)
 after_none (Frames ms) v x b kept frames h =
-    ap (λ (u : World). with_device_caught_up u x.station x.tid)
-    (settled_alike ms v x.station x.tid (end_of x true) (end_of x false)
-    (each_mpdu (λ m. shows b m.number ≡ false) (λ m. end_of x true m.number ≡ end_of x false m.number) ms
-    (λ m none. ap (end_where x m.number) (subst
+    ap (λ (u : World). caught_up_if_plain u x.station x.tid)
+    (settled_alike ms v x.station x.tid (end_of v x true) (end_of v x false)
+    (each_mpdu (λ m. shows b m.number ≡ false) (λ m. end_of v x true m.number ≡ end_of v x false m.number) ms
+    (λ m none. ap (end_where v x m.number) (subst
     (λ (o : Option Score). is_acked true o m.number ≡ is_acked false o m.number) (sym kept) none)) h))
 
 done_none : (w : World) (x : Exchange) (b : Score) (air : Option ℕ) → x.answer ≡ Some b →

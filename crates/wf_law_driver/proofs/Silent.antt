@@ -2,7 +2,7 @@
 use Rattle.std.proofs.Common.{◌≡◌, refl, ap, sym, ◌∙◌, subst, ℕ, ◌==◌, Bool, true, false, not, List, [], ◌∷◌, Option, Some, None, IfSome}
 use Rattle.wf_frame.specs.declared.settings.Config.{Config}
 use Rattle.wf_frame.specs.declared.classes.Class.{Class}
-use Rattle.wf_frame.specs.declared.notes.Ask.TheVariants.{Join, Leave, Rate, Tick, Pull, Arrive, Answer, Done, Sleep, Wake, Poll, Rx, Reap, Ampdu, Stop, Start, Unsent, GiveUp, Flush, Offload, Weight}
+use Rattle.wf_frame.specs.declared.notes.Ask.TheVariants.{Join, Leave, Rate, Tick, Pull, Arrive, Answer, Done, Sleep, Wake, Poll, Rx, Reap, Ampdu, Stop, Start, Unsent, GiveUp, Flush, Offload, Weight, Plain, Hold, Begin, Free, Cease}
 use Rattle.wf_frame.specs.declared.notes.Limits.{Limits}
 use Rattle.wf_frame.specs.declared.notes.Note.{Note}
 use Rattle.wf_frame.specs.declared.notes.Note.TheVariants.{Enqueue, Asked}
@@ -11,22 +11,23 @@ use Rattle.wf_frame.specs.declared.notes.Refusal.TheVariants.{Idle}
 use Rattle.wf_frame.specs.Classes.{all_classes}
 use Rattle.wf_def_lists.specs.Table.{has, upto}
 use Rattle.wf_def_lists.specs.Bounds.{greatest_window}
+use Rattle.wf_def_agreement.specs.Session.{start_of}
 use Rattle.wf_law_rules.proofs.Lemmas.Numbers.{on_if}
 use Rattle.wf_law_rules.proofs.Lemmas.Tables.{each_put}
-use Rattle.wf_def_world.specs.World.{World, Station, Exchange, new_tid, session, receiver, rotation, is_live, exchange, with_station, with_exchange, without_exchange, opening}
+use Rattle.wf_def_world.specs.World.{World, Mode, Station, Tid, Exchange, new_tid, tid_of, with_mode, on_tid, session, receiver, rotation, is_live, exchange, with_station, with_exchange, without_exchange, opening}
 use Rattle.wf_def_world.specs.CanSend.{is_ready}
 use Rattle.wf_def_world.specs.Exchanges.{station_need, picked_station, after_tid_turn, sending_tid, Prepared, exchange_of, with_exchange_opened}
 use Rattle.wf_def_world.specs.Refusals.{refusal}
-use Rattle.wf_def_world.specs.Step.{Outcome, new_station, join_outcome, offload_outcome, leave_outcome, rate_outcome, tick_outcome, send_outcome, pull_outcome_for, pull_outcome, done_outcome, outcome_where_open, sleep_outcome, wake_outcome, poll_outcome, rx_outcome, reap_outcome, unsent_outcome, give_up_outcome, flush_outcome, outcome_of, concerned_station, after_refusal, judged_outcome, step}
+use Rattle.wf_def_world.specs.Step.{Outcome, new_station, join_outcome, offload_outcome, plain_outcome, plain_window, hold_outcome, begin_outcome, free_outcome, cease_outcome, after_numbers_ended, leave_outcome, rate_outcome, tick_outcome, send_outcome, pull_outcome_for, pull_outcome, done_outcome, outcome_where_open, sleep_outcome, wake_outcome, poll_outcome, rx_outcome, reap_outcome, unsent_outcome, give_up_outcome, flush_outcome, outcome_of, concerned_station, after_refusal, judged_outcome, step}
 use Rattle.wf_def_world.specs.Run.{Entry, world_after}
 use Rattle.wf_law_runs.proofs.Common.Picked.{picked_world}
 use Rattle.wf_law_runs.proofs.Common.Refused.{after_idle}
 use Rattle.wf_law_runs.proofs.Common.Marks.{with_marks, marked_world}
-use Rattle.wf_law_runs.proofs.Windows.Sides.{Side, Same, sides_of, then_same, same_on_station, same_on_share, same_weighed, same_listed, same_after_pick, same_picked, same_after_turn, same_spent}
+use Rattle.wf_law_runs.proofs.Windows.Sides.{renewed, begun_is, ceased_is, opened_ceased, on_opened, each_side_on, Side, Same, sides_of, then_same, same_on_station, same_on_share, same_weighed, same_listed, same_after_pick, same_picked, same_after_turn, same_spent}
 use Rattle.wf_law_runs.proofs.Windows.Opened.{Each, each_append, each_filter, eight, left_true, pick_ready, some_along}
 use Rattle.wf_law_runs.proofs.Windows.Agreed.{IsLawful, lawful, lawful_same, same_left_tids, same_off_lists}
 use Rattle.wf_law_runs.proofs.Frames.Delivered.{prepared_right, opened_ended, same_enqueued}
-use Rattle.wf_law_runs.proofs.Releases.Kept.{Kept, keep_ended, keep_pulled, keep_flushed, opened_flushed}
+use Rattle.wf_law_runs.proofs.Releases.Kept.{Kept, keep_ended, keep_pulled, keep_flushed, keep_numbers_ended, opened_flushed}
 use Rattle.wf_law_driver.specs.Unheard.{IsUnmarked, HasAcked, IsUnheard, IsSilent, SilentLaw}
 use Rattle.wf_law_driver.proofs.Opened.{with_replaced, found_each, to_each, of_each}
 use Rattle.wf_law_driver.proofs.Ended.{kept_after, live_acked, live_arrived, kept_acked}
@@ -69,20 +70,28 @@ silence_station w s o new = record {
   marks = λ m. m;
 }
 
-silence_new : (w : World) (s window start exponent weight : ℕ) (offloaded : Bool) →
-    Silence w (with_station w s (Some (new_station w.config window start exponent weight offloaded)))
-silence_new w s window start exponent weight offloaded =
-    silence_station w s _ (λ j n. eight (λ y. has y.receiver.arrived n ≡ true → ⊥) (new_tid start window)
+silence_new : (w : World) (mode : Mode) (s window start exponent weight : ℕ) (offloaded : Bool) →
+    Silence w (with_station w s (Some (new_station w.config mode window start exponent weight offloaded)))
+silence_new w mode s window start exponent weight offloaded =
+    silence_station w s _ (λ j n. eight (λ y. has y.receiver.arrived n ≡ true → ⊥) (new_tid mode start window)
     (λ h. cc h) (λ h. cc h) j)
 
 silence_joined : (w : World) (s window start exponent weight : ℕ) →
     Silence w (join_outcome w s window start exponent weight).world
 unfolding join_outcome
-silence_joined w s window start exponent weight = silence_new w s window start exponent weight false
+silence_joined w s window start exponent weight =
+    silence_new w Mode.Agreed s window start exponent weight false
 
-silence_offloaded : (w : World) (s exponent weight : ℕ) → Silence w (offload_outcome w s exponent weight).world
+silence_offloaded : (w : World) (s exponent weight : ℕ) →
+    Silence w (offload_outcome w s exponent weight).world
 unfolding offload_outcome
-silence_offloaded w s exponent weight = silence_new w s greatest_window 0 exponent weight true
+silence_offloaded w s exponent weight = silence_new w Mode.Plain s greatest_window 0 exponent weight true
+
+silence_unagreed : (w : World) (s start exponent weight : ℕ) →
+    Silence w (plain_outcome w s start exponent weight).world
+unfolding plain_outcome
+silence_unagreed w s start exponent weight =
+    silence_new w Mode.Plain s plain_window start exponent weight false
 
 silence_gone : (w : World) (s : ℕ) → Silence w (leave_outcome w s).world
 unfolding leave_outcome
@@ -166,6 +175,42 @@ silence_flushed : (w : World) (s t : ℕ) → Silence w (flush_outcome w s t).wo
 silence_flushed w s t = silence_kept w _ (keep_flushed w s t)
     (λ m. subst (Each IsUnmarked) (sym (opened_flushed w s t)) m)
 
+-- ---- a TID is held or free, and its agreement begins or ends
+
+-- One TID changes, and its receiver has what it had.
+silence_on_tid : (w : World) (s t : ℕ) (f : Tid → Tid) →
+    (f (tid_of w s t)).receiver.arrived ≡ (receiver w s t).arrived → Silence w (on_tid w s t f)
+silence_on_tid w s t f h = record {
+  arrived = λ i j n. each_side_on (λ i j a. has a.receiver.arrived n ≡ true →
+      has (receiver w i j).arrived n ≡ true) w s t f (λ i j a. a)
+      (λ a. ap (λ (xs : List ℕ). has xs n) (sym h) ∙ a) i j;
+  marks = λ m. subst (Each IsUnmarked) (sym (on_opened w s t f)) m;
+}
+
+silence_held : (w : World) (s t : ℕ) → Silence w (hold_outcome w s t).world
+unfolding hold_outcome with_mode
+silence_held w s t = silence_on_tid w s t _ refl
+
+silence_begun : (w : World) (s t window : ℕ) → Silence w (begin_outcome w s t window).world
+silence_begun w s t window = subst (Silence w) (sym (begun_is w s t window)) (silence_on_tid w s t _ refl)
+
+silence_freed : (w : World) (s t : ℕ) → Silence w (free_outcome w s t).world
+unfolding free_outcome with_mode
+silence_freed w s t = silence_on_tid w s t _ refl
+
+silence_ceased : (w : World) (s t : ℕ) → Silence w (cease_outcome w s t).world
+silence_ceased w s t =
+    let v : World = after_numbers_ended w s t in
+    let told : Silence v (on_tid v s t (renewed (start_of (session v s t)) plain_window Mode.OnHold)) =
+    silence_on_tid v s t _ refl in
+    record {
+      arrived = λ i j n a.
+          ap (λ (xs : List ℕ). has xs n) (sym ((keep_numbers_ended w s t).receivers i j).arrived)
+          ∙ told.arrived i j n
+          (ap (λ (u : World). has (receiver u i j).arrived n) (sym (ceased_is w s t)) ∙ a);
+      marks = λ m. subst (Each IsUnmarked) (sym (opened_ceased w s t)) m;
+    }
+
 -- ---- the step
 
 silence_reaped : (ids : List ℕ) (w : World) → Silence w (reap_outcome w ids).world
@@ -174,12 +219,18 @@ silence_reaped [] w = silence w
 silence_reaped (id ∷ ids) w = record { arrived = λ i j n h. h; marks = λ h. h }
 
 silence_done : (note : Note) (w : World) → IsSilent note → IsLawful w → Silence w (outcome_of w note).world
-unfolding outcome_of tick_outcome rate_outcome sleep_outcome wake_outcome poll_outcome rx_outcome unsent_outcome give_up_outcome
+unfolding outcome_of tick_outcome rate_outcome sleep_outcome wake_outcome poll_outcome rx_outcome
+    unsent_outcome give_up_outcome
 silence_done (Enqueue s t flow len) w k i = silence_same w _ (same_enqueued w s t flow len)
 silence_done (Asked (Join s window start exponent weight)) w k i =
     silence_joined w s window start exponent weight
 silence_done (Asked (Offload s exponent weight)) w k i = silence_offloaded w s exponent weight
 silence_done (Asked (Weight s weight)) w k i = silence_same w _ (same_weighed w s weight)
+silence_done (Asked (Plain s start exponent weight)) w k i = silence_unagreed w s start exponent weight
+silence_done (Asked (Hold s t)) w k i = silence_held w s t
+silence_done (Asked (Begin s t window)) w k i = silence_begun w s t window
+silence_done (Asked (Free s t)) w k i = silence_freed w s t
+silence_done (Asked (Cease s t)) w k i = silence_ceased w s t
 silence_done (Asked (Leave s)) w k i = silence_gone w s
 silence_done (Asked (Rate s rate)) w k i = silence_same w _ (same_on_station w s _ (λ x t. refl))
 silence_done (Asked (Tick by)) w k i = record { arrived = λ i j n h. h; marks = λ h. h }

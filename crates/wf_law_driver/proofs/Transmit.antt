@@ -16,7 +16,7 @@ use Rattle.wf_def_rotation.specs.Rotation.{Rotation, has_key, in_order, no_keys,
 use Rattle.wf_def_agreement.specs.Session.{Session, request_due, has_room, waiting_numbers}
 use Rattle.wf_law_rules.proofs.Lemmas.Numbers.{on_bool, not_eq, eq_yes}
 use Rattle.wf_law_rules.proofs.Lemmas.Tables.{each_put}
-use Rattle.wf_def_world.specs.World.{World, Station, Tid, Queue, Exchange, no_tid, no_station, new_queue, session, tid_of, station, rotation, is_live, owed, exchange, with_station, on_station, on_tid, on_receiver, with_rotation, with_exchange, opening, standing, no_share}
+use Rattle.wf_def_world.specs.World.{World, Mode, holds_back, Station, Tid, Queue, Exchange, no_tid, no_station, new_queue, session, tid_of, station, rotation, is_live, owed, exchange, with_station, on_station, on_tid, on_receiver, with_rotation, with_exchange, opening, standing, no_share}
 use Rattle.wf_def_world.specs.CanSend.{is_request, request_open, can_send, can_send_in, has_credit, is_below_aql, may_receive, is_ready, with_listing_in, with_listings_in, with_listings_of, is_to_list}
 use Rattle.wf_def_world.specs.Exchanges.{after_arrival}
 use Rattle.wf_def_world.specs.Refusals.{refusal}
@@ -43,6 +43,7 @@ same_transmit w = record {
   exchanges = refl;
   stations = λ s. refl;
   sessions = λ s t. refl;
+  modes = λ s t. refl;
   lists = λ s t. refl;
   queues = refl;
   rotations = refl;
@@ -59,6 +60,7 @@ then_transmit u v w h k = record {
   exchanges = k.exchanges ∙ h.exchanges;
   stations = λ s. k.stations s ∙ h.stations s;
   sessions = λ s t. k.sessions s t ∙ h.sessions s t;
+  modes = λ s t. k.modes s t ∙ h.modes s t;
   lists = λ s t. k.lists s t ∙ h.lists s t;
   queues = k.queues ∙ h.queues;
   rotations = k.rotations ∙ h.rotations;
@@ -126,15 +128,17 @@ tids_of R w s t f h = each_put (λ i o. (j : ℕ) →
     (tid_on_tids R t f h (at None w.stations s))
 
 on_tid_transmit : (w : World) (s t : ℕ) (f : Tid → Tid) → ((y : Tid) → (f y).session ≡ y.session) →
-    ((y : Tid) → (f y).queues ≡ y.queues) → HasSameTransmit w (on_tid w s t f)
+    ((y : Tid) → (f y).mode ≡ y.mode) → ((y : Tid) → (f y).queues ≡ y.queues) →
+    HasSameTransmit w (on_tid w s t f)
 unfolding on_tid on_station with_station
-on_tid_transmit w s t f h k = record {
+on_tid_transmit w s t f h m k = record {
   config = refl;
   clock = refl;
   exchanges = refl;
   stations = each_put (λ i o. option_map without_tids o ≡ option_map without_tids (at None w.stations i)) None
       w.stations s _ (λ i. refl) (bare_on_tids t f (at None w.stations s));
   sessions = tids_of (λ (y : Tid). y.session) w s t f h;
+  modes = tids_of (λ (y : Tid). y.mode) w s t f m;
   lists = tids_of (λ (y : Tid). y.queues) w s t f k;
   queues = refl;
   rotations = refl;
@@ -153,6 +157,7 @@ with_exchange_transmit w e x z r found n same = record {
   exchanges = refl;
   stations = λ s. refl;
   sessions = λ s t. refl;
+  modes = λ s t. refl;
   lists = λ s t. refl;
   queues = refl;
   rotations = refl;
@@ -168,7 +173,7 @@ unfolding arrive_outcome on_receiver on_tid on_station with_station
 arrived_transmit w e x k r found =
     let f : Tid → Tid = λ (y : Tid). record y { receiver = after_arrival x.content k y.receiver } in
     let u : World = on_tid w x.station x.tid f in
-    then_transmit w u _ (on_tid_transmit w x.station x.tid f (λ y. refl) (λ y. refl))
+    then_transmit w u _ (on_tid_transmit w x.station x.tid f (λ y. refl) (λ y. refl) (λ y. refl))
     (with_exchange_transmit u e x (with_arrival k x) r found (found_number w e x found) refl)
 
 answered_transmit : (w : World) (e : ℕ) (x : Exchange) → OpenRises 0 w.exchanges w.opened →
@@ -191,21 +196,24 @@ request_open_same w u s t h = any_unmarked s t u.opened
     ∙ (ap (list_any (λ (x : Exchange). (x.station == s) && ((x.tid == t) && is_request x.content))) h.opened
     ∙ sym (any_unmarked s t w.opened))
 
--- whether a TID can send, given its session, whether a request of it is open, the queues, and those that it
--- lists
-abbrev sends_by : Session → Bool → List Queue → Rotation → Bool
-sends_by y asked qs r = if request_due y then not asked
+-- whether a TID can send, given its session, its mode, whether a request of it is open, the queues, and those
+-- that it lists
+abbrev sends_by : Session → Mode → Bool → List Queue → Rotation → Bool
+sends_by y mode asked qs r = if request_due y then not asked
     else (nat_lt 0 (length (waiting_numbers y))
-    || (nat_lt 0 (sum_by (λ q. length (at new_queue qs q).items) (in_order r)) && has_room y))
+    || (nat_lt 0 (sum_by (λ q. length (at new_queue qs q).items) (in_order r))
+    && (has_room y && not (holds_back mode))))
 
 can_send_same : (w u : World) (s t : ℕ) → HasSameTransmit w u → can_send u s t ≡ can_send w s t
 can_send_same w u s t h =
-    ap (λ (y : Session). sends_by y (request_open u s t) u.queues (tid_of u s t).queues) (h.sessions s t)
-    ∙ (ap (λ (b : Bool). sends_by (session w s t) b u.queues (tid_of u s t).queues)
-    (request_open_same w u s t h)
-    ∙ (ap (λ (qs : List Queue). sends_by (session w s t) (request_open w s t) qs (tid_of u s t).queues)
-    h.queues
-    ∙ ap (λ (r : Rotation). sends_by (session w s t) (request_open w s t) w.queues r) (h.lists s t)))
+    let y : Session = session w s t in
+    let mode : Mode = (tid_of w s t).mode in
+    ap (λ (z : Session). sends_by z (tid_of u s t).mode (request_open u s t) u.queues (tid_of u s t).queues)
+    (h.sessions s t)
+    ∙ (ap (λ (m : Mode). sends_by y m (request_open u s t) u.queues (tid_of u s t).queues) (h.modes s t)
+    ∙ (ap (λ (b : Bool). sends_by y mode b u.queues (tid_of u s t).queues) (request_open_same w u s t h)
+    ∙ (ap (λ (qs : List Queue). sends_by y mode (request_open w s t) qs (tid_of u s t).queues) h.queues
+    ∙ ap (λ (r : Rotation). sends_by y mode (request_open w s t) w.queues r) (h.lists s t))))
 
 read_bare : {X : Type 0} (R : Station → X) → ((x : Station) → R (without_tids x) ≡ R x) →
     (o : Option Station) → R (unwrap_or (option_map without_tids o) no_station) ≡ R (unwrap_or o no_station)

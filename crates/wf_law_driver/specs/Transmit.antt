@@ -23,6 +23,7 @@ pub record HasSameTransmit (w u : World) : Type 0 where
   pub stations : (s : ℕ) → option_map without_tids (at None u.stations s)
       ≡ option_map without_tids (at None w.stations s)
   pub sessions : (s t : ℕ) → session u s t ≡ session w s t
+  pub modes : (s t : ℕ) → (tid_of u s t).mode ≡ (tid_of w s t).mode
   pub lists : (s t : ℕ) → (tid_of u s t).queues ≡ (tid_of w s t).queues
   pub queues : u.queues ≡ w.queues
   pub rotations : u.rotations ≡ w.rotations

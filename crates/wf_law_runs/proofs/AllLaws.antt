@@ -40,6 +40,9 @@ use Rattle.wf_law_runs.proofs.Queues.Law.{queue_law, queue_deficit_law}
 use Rattle.wf_law_runs.proofs.Spent.Computed.{computed_law}
 use Rattle.wf_law_runs.proofs.Spent.Sent.{spent_law}
 use Rattle.wf_law_runs.proofs.Offloads.Law.{offload_law}
+use Rattle.wf_law_runs.proofs.Modes.Law.{mode_law}
+use Rattle.wf_law_runs.proofs.Modes.Repeats.{repeat_law}
+use Rattle.wf_law_runs.proofs.Unsettled.Law.{unsettled_law}
 
 pub laws : (config : Config) (history : List Entry) → IsInRange config → Laws config history
 laws config h range = record {
@@ -52,6 +55,8 @@ laws config h range = record {
   flow_sends = flow_send_law config h range;
   delivery = delivery_law config h range;
   offloads = offload_law config h range;
+  modes = mode_law config h range;
+  repeats = repeat_law config h range;
   fates = fate_law config h;
   kept = kept_law config h;
   finished = finished_law config h;
@@ -79,6 +84,7 @@ laws config h range = record {
   in_flight = in_flight_law config h range;
   delay = delay_law config h range;
   sums = sum_law config h range;
+  unsettled = unsettled_law config h range;
   sent = sent_law config h;
   attempts = attempts_law config h range;
   tries = tries_law config h range;

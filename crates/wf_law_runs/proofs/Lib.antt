@@ -5,6 +5,7 @@
 --   window_law, answer_law, twelve_bit_law      Windows (Law, Answers, TwelveBits)
 --   release_law, once_law                       Releases (Named, Once)
 --   offload_law                                 Offloads (Law)
+--   mode_law, repeat_law                        Modes (Law, Repeats)
 --   flow_queue_law, flow_release_law,           Orders (Law, Sends)
 --     flow_send_law
 --   delivery_law, fate_law, finished_law,       Frames (DeliveryLaw, FateLaw, FinishedLaw, Places, Rooms,
@@ -24,6 +25,7 @@
 --   attempts_law                                Attempts (Law)
 --   tries_law                                   Tries (Law)
 --   rotation_law                                Rotations (Law)
+--   unsettled_law                               Unsettled (Law)
 --
 -- Each law is an invariant of worlds, or a relation between a world and a later one. For each part of a
 -- call, a lemma with the name of this part proves that the part keeps it. Further lemmas prove the same for
@@ -32,7 +34,8 @@
 pub mod Common
 pub mod Sessions
 pub mod Windows
-pub mod Offloads
+mod Offloads
+pub mod Modes
 pub mod Releases
 pub mod Frames
 pub mod Kept
@@ -48,6 +51,7 @@ pub mod Sent
 pub mod Attempts
 mod Tries
 mod Rotations
+mod Unsettled
 mod Orders
 mod Witnesses
 pub mod AllLaws

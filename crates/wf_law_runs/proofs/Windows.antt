@@ -2,15 +2,17 @@
 --
 -- - Agreement: an invariant of both sides of one TID, and the changes that keep it.
 -- - Sides, Opened: changes that affect neither sides nor open exchanges.
+-- - Senders: the open exchange that sends a number on the air.
 -- - Agreed: every call keeps the invariant.
 -- - Settling: how a Done changes its numbers. Waits: no number is assigned while a request is due. Flying:
---   a number on the air is in an open exchange.
+--   a TID has at most one open request.
 -- - Law, Answers: the laws.
 -- - Sizes, Answered (the start of an open exchange's answer), TwelveBits: bounds on the numbers that are
 --   compared.
 pub mod Opened
 pub mod Sides
 pub mod Agreement
+pub mod Senders
 pub mod Agreed
 pub mod Flying
 pub mod Settling

@@ -14,3 +14,4 @@ pub mod Kept
 pub mod Tries
 pub mod Weights
 pub mod Offloads
+pub mod Modes

@@ -5,7 +5,7 @@ use Rattle.wf_frame.specs.declared.settings.Config.{Config}
 use Rattle.wf_frame.specs.declared.notes.Ask.TheVariants.{Answer}
 use Rattle.wf_frame.specs.declared.notes.Note.TheVariants.{Asked}
 use Rattle.wf_frame.specs.declared.notes.ReplyNote.{ReplyNote}
-use Rattle.wf_frame.specs.declared.notes.ReplyNote.TheVariants.{Ba}
+use Rattle.wf_frame.specs.declared.notes.ReplyNote.TheVariants.{Ba, Ack}
 use Rattle.wf_def_lists.specs.Table.{has}
 use Rattle.wf_def_world.specs.World.{World, Exchange, receiver, exchange, opening}
 use Rattle.wf_def_world.specs.Exchanges.{mpdus_of}
@@ -13,9 +13,10 @@ use Rattle.wf_def_world.specs.Step.{step}
 use Rattle.wf_def_world.specs.Run.{Entry, by, world_after}
 use Rattle.wf_law_runs.specs.Windows.{EachMpdu}
 
--- The reply is a BlockAck.
+-- The reply is a BlockAck or an Ack.
 abbrev pub IsBa : ReplyNote → Type 0
 IsBa (Ba start b0 b1 b2 b3 wide) = Unit {0}
+IsBa Ack = Unit {0}
 IsBa reply = ⊥
 
 -- The same numbers of exchange x have arrived in w and in u. u is the world in which the Answer was made,

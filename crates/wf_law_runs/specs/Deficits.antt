@@ -3,12 +3,10 @@
 use Rattle.std.specs.Prelude.{◌≡◌, ℕ, ◌+◌, ◌-◌, ◌*◌, ◌≤◌, ◌==◌, max, pos, ◌+ℤ◌, ◌-ℤ◌, ◌≤ℤ◌, Bool, true, false, ◌&&◌, not, List, [], ◌∷◌, IsTrue, if◌then◌else◌, is_none, take}
 use Rattle.wf_frame.specs.declared.settings.Config.{Config}
 use Rattle.wf_frame.specs.declared.classes.Class.{Class}
-use Rattle.wf_frame.specs.declared.notes.Ask.TheVariants.{Join, Offload, Weight, Rx}
+use Rattle.wf_frame.specs.declared.notes.Ask.TheVariants.{Join, Offload, Plain, Weight, Rx}
 use Rattle.wf_frame.specs.declared.notes.Note.{Note}
 use Rattle.wf_frame.specs.declared.notes.Note.TheVariants.{Asked}
 use Rattle.wf_frame.specs.declared.classes.Class.TheVariants.{Be, Vi, Vo}
-use Rattle.wf_def_air.specs.Airtime.{longest_answer}
-use Rattle.wf_def_air.specs.Fit.{longest_alone}
 use Rattle.wf_def_world.specs.Exchanges.{longest_computed}
 use Rattle.wf_def_rotation.specs.Rotation.{has_key}
 use Rattle.wf_def_world.specs.World.{World, owed, standing, station, share, rotation, is_live, opening}
@@ -48,18 +46,19 @@ abbrev pub own_quantum : Config → World → ℕ → ℕ
 own_quantum config w s = config.quantum * (station w s).weight
 
 -- The deficit of a live station in a class, in microseconds. `exact`: it is the base and the quanta of
--- the visits since the join, less the charged and the received airtime; until its weight is set, the base of a
--- station is the quantum of its join (`own`). `most`: it is at most one
--- quantum and the airtime in flight that quanta may cover. `least`: it is at least 0 - (debt + most_owed),
--- with the setting `debt`. `quiet`, `floor`: without receive charges since the join, it is at least 1 -
--- most_owed, also after the computed charges of the station's own open exchanges are subtracted. `ready`: a
--- ready station is listed. The standing, which with the setting `pending` is the deficit less the computed
--- charges of the station's own open exchanges: `lowest`: it has the least bound of the deficit. `within`: if
--- no Done gives an airtime, it is at most one quantum. `backed`: with `pending`, if no Done gives an airtime,
--- and without receive charges, it is below 1 by less than one exchange. `debtor`: with `pending`, a station
--- whose standing is not above 0 is listed.
+-- the visits since the join, less the charged and the received airtime; until its weight is set, the base of
+-- a station is the quantum of its join (`own`). `most`: it is at most one quantum and the airtime in flight
+-- that quanta may cover. `least`: it is at least 0 - (debt + most_owed), with the setting `debt`. `quiet`,
+-- `floor`: without receive charges since the join, it is at least 1 - most_owed, also after the computed
+-- charges of the station's own open exchanges are subtracted. `ready`: a ready station is listed. The
+-- standing, which with the setting `pending` is the deficit less the computed charges of the station's own
+-- open exchanges: `lowest`: it has the least bound of the deficit. `within`: if no Done gives an airtime, it
+-- is at most one quantum. `backed`: with `pending`, if no Done gives an airtime, and without receive charges,
+-- it is below 1 by less than one exchange. `debtor`: with `pending`, a station whose standing is not above 0
+-- is listed.
 pub record IsAccounted (config : Config) (w : World) (s : ℕ) (c : Class) : Type 0 where
-  pub exact : (share w s c).deficit ≡ (share w s c).base +ℤ pos (own_quantum config w s * (share w s c).quanta)
+  pub exact : (share w s c).deficit
+      ≡ (share w s c).base +ℤ pos (own_quantum config w s * (share w s c).quanta)
       -ℤ pos ((share w s c).charged + (share w s c).received)
   pub own : (station w s).weighed ≡ false → (share w s c).base ≡ pos (own_quantum config w s)
   pub most : (share w s c).deficit ≤ℤ pos (own_quantum config w s + most_covered config c)
@@ -104,16 +103,17 @@ abbrev pub fair_bound : Config → Class → ℕ → ℕ → ℕ
 fair_bound config c g h =
     3 * config.quantum * g * h + (g + h) * (most_owed config c + most_uncharged config c)
 
--- A station's weight and base are the same at the moments a and b. They are if no call sets its weight between
--- them (WeightLaw).
+-- A station's weight and base are the same at the moments a and b. They are if no call sets its weight
+-- between them (WeightLaw).
 pub record IsSteady (config : Config) (h : List Entry) (s : ℕ) (c : Class) (a b : ℕ) : Type 0 where
   pub weight : weight_at config h a s ≡ weight_at config h b s
   pub base : (share (world_at config h a) s c).base ≡ (share (world_at config h b) s c).base
 
--- Any call that is not a Weight of station s keeps its weight and its base, if it is live before and after the
--- call and was not made live by it.
+-- Any call that is not a Weight of station s keeps its weight and its base, if it is live before and after
+-- the call and was not made live by it.
 pub record KeepsWeights (w : World) (note : Note) : Type 0 where
-  pub weight : (s : ℕ) → is_weight_of s note ≡ false → is_live w s ≡ true → is_live (step w note).world s ≡ true →
+  pub weight : (s : ℕ) → is_weight_of s note ≡ false → is_live w s ≡ true →
+      is_live (step w note).world s ≡ true →
       (station (step w note).world s).weight ≡ (station w s).weight
   pub base : (s : ℕ) (c : Class) → is_weight_of s note ≡ false → is_live w s ≡ true →
       is_live (step w note).world s ≡ true → (share (step w note).world s c).base ≡ (share w s c).base
@@ -130,8 +130,8 @@ pub record IsFairStretch (config : Config) (h : List Entry) (i j : ℕ) (c : Cla
       (charged_between config h i c a b * weight_at config h b j)
       (charged_between config h j c a b * weight_at config h b i)
 
--- The law of fairness: two stations that stay on one class's old list, with their weights, and without receive
--- charges, are served alike.
+-- The law of fairness: two stations that stay on one class's old list, with their weights, and without
+-- receive charges, are served alike.
 abbrev pub FairnessLaw : Config → List Entry → Type 0
 FairnessLaw config h = (i j : ℕ) (c : Class) (a b : ℕ) → IsStretch config h i j c a b →
     IsSteady config h i c a b → IsSteady config h j c a b →
@@ -144,6 +144,8 @@ receive_charges_by w s c (Asked (Join i window start exponent weight)) n =
     if is_none (refusal w (Asked (Join i window start exponent weight))) && (i == s) then 0 else n
 receive_charges_by w s c (Asked (Offload i exponent weight)) n =
     if is_none (refusal w (Asked (Offload i exponent weight))) && (i == s) then 0 else n
+receive_charges_by w s c (Asked (Plain i start exponent weight)) n =
+    if is_none (refusal w (Asked (Plain i start exponent weight))) && (i == s) then 0 else n
 receive_charges_by w s c (Asked (Rx i d air)) n =
     if is_none (refusal w (Asked (Rx i d air))) && ((i == s) && same_class d c) then n + 1 else n
 receive_charges_by w s c _ n = n

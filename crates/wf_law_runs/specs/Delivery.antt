@@ -37,8 +37,8 @@ abbrev pub is_batch : Option Exchange → Bool
 is_batch None = false
 is_batch (Some x) = x.batch
 
--- The call is a Done of an exchange that sends the frame, and the answer was heard. A batch has no answer: its
--- device said before which frames were acknowledged.
+-- The call is a Done of an exchange that sends the frame, and the answer was heard. A batch has no answer:
+-- its device said before which frames were acknowledged.
 abbrev pub EndsHeard : World → Note → ℕ → Type 0
 EndsHeard w (Asked (Done e heard air)) id =
     (has (ids_sent (exchange w e)) id ≡ true) × (heard || is_batch (exchange w e) ≡ true)

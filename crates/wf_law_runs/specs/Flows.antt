@@ -5,7 +5,7 @@ use Rattle.std.specs.Prelude.{◌≡◌, ℕ, ◌==◌, Bool, true, false, not, 
 use Rattle.wf_frame.specs.declared.settings.Config.{Config}
 use Rattle.wf_frame.specs.declared.notes.Note.{Note}
 use Rattle.wf_frame.specs.declared.notes.Note.TheVariants.{Enqueue, Asked}
-use Rattle.wf_frame.specs.declared.notes.Part.TheVariants.{Mpdus, Batch}
+use Rattle.wf_frame.specs.declared.notes.Part.TheVariants.{Mpdus, Batch, Plain}
 use Rattle.wf_frame.specs.declared.notes.ReplyNote.{ReplyNote}
 use Rattle.wf_frame.specs.declared.notes.ReplyNote.TheVariants.{Send}
 use Rattle.wf_def_lists.specs.Table.{has}
@@ -52,6 +52,7 @@ FlowReleaseLaw config history =
 abbrev pub ids_sent_by : ReplyNote → List ℕ
 ids_sent_by (Send exchange station tid air (Mpdus mpdus) more) = map (λ m. m.0) mpdus
 ids_sent_by (Send exchange station tid air (Batch ids) more) = ids
+ids_sent_by (Send exchange station tid air (Plain mpdus) more) = map (λ m. m.0) mpdus
 ids_sent_by reply = []
 
 -- Returns the ids that are not among the old ones.

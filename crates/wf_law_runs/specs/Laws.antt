@@ -30,6 +30,8 @@ use Rattle.wf_law_runs.specs.Attempts.{AttemptsLaw}
 use Rattle.wf_law_runs.specs.Tries.{TriesLaw}
 use Rattle.wf_law_runs.specs.Rotations.{RotationLaw}
 use Rattle.wf_law_runs.specs.Offloads.{OffloadLaw}
+use Rattle.wf_law_runs.specs.Modes.{ModeLaw, RepeatLaw}
+use Rattle.wf_law_runs.specs.Unsettled.{UnsettledLaw}
 
 -- The laws of a history.
 pub record Laws (config : Config) (history : List Entry) : Type 0 where
@@ -50,6 +52,10 @@ pub record Laws (config : Config) (history : List Entry) : Type 0 where
   pub delivery : DeliveryLaw config history
   -- The device of an offloaded station gets frames and no requests.
   pub offloads : OffloadLaw config history
+  -- The frames that a TID without an agreement sends, when its mode changes, and how its receiver knows a
+  -- repeat.
+  pub modes : ModeLaw config history
+  pub repeats : RepeatLaw config history
   pub fates : FateLaw config history
   -- A number keeps its frame, and stays acknowledged or failed.
   pub kept : KeptLaw config history
@@ -99,6 +105,8 @@ pub record Laws (config : Config) (history : List Entry) : Type 0 where
   -- The sums of airtime equal the sums of the calls since the join, and the sums and counts are bounded by
   -- the number of entries.
   pub sums : SumLaw config history
+  -- How many numbers of a TID wait or are on the air.
+  pub unsettled : UnsettledLaw config history
   -- The frames that an open exchange sends.
   pub sent : SentLaw config history
   -- How often a number is sent without being acknowledged, and how often a frame is sent in the whole run.

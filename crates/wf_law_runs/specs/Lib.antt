@@ -28,3 +28,5 @@ pub mod Delay
 pub mod Dequeues
 pub mod Tries
 pub mod Offloads
+pub mod Modes
+pub mod Unsettled

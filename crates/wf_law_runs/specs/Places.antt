@@ -1,4 +1,4 @@
--- Defines the law of places: where each held frame is.
+-- Defines the law of places: the place of each held frame.
 use Rattle.std.specs.Prelude.{◌≡◌, ℕ, ◌<◌, ◌≤◌, true, false, List, map}
 use Rattle.wf_frame.specs.declared.settings.Config.{Config}
 use Rattle.wf_frame.specs.declared.classes.Fate.TheVariants.{Held}

@@ -1,11 +1,11 @@
--- Defines the laws of released frames, from the replies to arrivals.
+-- Defines the laws of released frames, from the replies to arrivals and to the ends of agreements.
 use Rattle.std.specs.Prelude.{◌≡◌, ◌↔◌, ◌<◌, ℕ, ◌==◌, nat_lt, take, Bool, true, false, ◌&&◌, List, [], ◌∷◌, ◌++◌, Option, Some, None, if◌then◌else◌, filter}
 use Rattle.wf_frame.specs.declared.settings.Config.{Config}
-use Rattle.wf_frame.specs.declared.notes.Ask.TheVariants.{Join, Offload, Arrive}
+use Rattle.wf_frame.specs.declared.notes.Ask.TheVariants.{Join, Offload, Plain, Arrive, Cease}
 use Rattle.wf_frame.specs.declared.notes.Note.{Note}
 use Rattle.wf_frame.specs.declared.notes.Note.TheVariants.{Asked}
 use Rattle.wf_frame.specs.declared.notes.ReplyNote.{ReplyNote}
-use Rattle.wf_frame.specs.declared.notes.ReplyNote.TheVariants.{Joined, Released}
+use Rattle.wf_frame.specs.declared.notes.ReplyNote.TheVariants.{Joined, Released, Ceased}
 use Rattle.wf_def_lists.specs.Table.{has}
 use Rattle.wf_def_agreement.specs.Receiver.{Receiver, release_start}
 use Rattle.wf_def_agreement.specs.Session.{slot}
@@ -21,6 +21,7 @@ use Rattle.wf_law_runs.specs.Queues.{IsFor}
 abbrev pub is_join_of : ℕ → Note → Bool
 is_join_of s (Asked (Join i window start exponent weight)) = i == s
 is_join_of s (Asked (Offload i exponent weight)) = i == s
+is_join_of s (Asked (Plain i start exponent weight)) = i == s
 is_join_of s note = false
 
 -- Returns whether an exchange is open and is for TID t of station s.
@@ -33,11 +34,17 @@ abbrev pub is_arrival_for : World → ℕ → ℕ → Note → Bool
 is_arrival_for w s t (Asked (Arrive e index)) = is_at s t (exchange w e)
 is_arrival_for w s t note = false
 
+-- Returns whether a call ends the agreement of TID t of station s.
+abbrev pub is_cease_of : ℕ → ℕ → Note → Bool
+is_cease_of s t (Asked (Cease i j)) = (i == s) && (j == t)
+is_cease_of s t note = false
+
 -- Returns the ids that were released at TID t of station s since the station's join, after a call and its
 -- reply. `before` are those before the call.
 abbrev pub passed_by : World → ℕ → ℕ → Note → List ℕ → ReplyNote → List ℕ
 passed_by w s t note before Joined = if is_join_of s note then [] else before
 passed_by w s t note before (Released ids) = if is_arrival_for w s t note then before ++ ids else before
+passed_by w s t note before (Ceased dropped ids) = if is_cease_of s t note then before ++ ids else before
 passed_by w s t note before reply = before
 
 -- Returns the ids that were released at TID t of station s since the station's join, after the entries of a
@@ -60,6 +67,7 @@ numbers_passed r = filter (λ n. nat_lt n (release_start r)) r.arrived
 -- Returns the ids that a reply releases.
 abbrev pub named_by : ReplyNote → List ℕ
 named_by (Released ids) = ids
+named_by (Ceased dropped ids) = ids
 named_by reply = []
 
 -- Returns all ids that the replies of a history release, in their order, after the ids `before`.
@@ -84,9 +92,9 @@ pub record PassesInOrder (config : Config) (entries : List Entry) (w : World) (s
       (has (named_from (opening config) [] entries) (slot (session w s t) n).id ≡ true) ↔
       (n < release_start (receiver w s t))
 
--- The law of releases: `PassesInOrder` holds after each entry, for each TID of a station that is live then and
--- not offloaded. A session ends when its station leaves, and it releases nothing later. What the receiver of an
--- offloaded station releases is not known, so no reply names it.
+-- The law of releases: `PassesInOrder` holds after each entry, for each TID of a station that is live then
+-- and not offloaded. A session ends when its station leaves, and it releases nothing later. What the receiver
+-- of an offloaded station releases is not known, so no reply names it.
 abbrev pub ReleaseLaw : Config → List Entry → Type 0
 ReleaseLaw config history = (m s t : ℕ) → is_live (world_at config history m) s ≡ true →
     is_offloaded (world_at config history m) s ≡ false →

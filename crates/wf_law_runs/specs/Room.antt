@@ -1,4 +1,4 @@
--- Defines the laws of room: how many frames are inside at a time, and where they are.
+-- Defines the laws of room: how many frames are inside at a time, and in which places.
 use Rattle.std.specs.Prelude.{◌≡◌, ℕ, ◌+◌, ◌≤◌, not, List, [], ◌∷◌, Option, Some, None, if◌then◌else◌, is_none, length, count_by, sum_by, take}
 use Rattle.wf_frame.specs.declared.settings.Config.{Config}
 use Rattle.wf_frame.specs.declared.notes.Ask.TheVariants.{Reap}

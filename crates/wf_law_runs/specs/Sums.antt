@@ -3,7 +3,7 @@
 use Rattle.std.specs.Prelude.{◌≡◌, ℕ, ◌+◌, ◌*◌, ◌≤◌, ◌==◌, ◌&&◌, true, List, [], ◌∷◌, is_none, if◌then◌else◌, take}
 use Rattle.wf_frame.specs.declared.settings.Config.{Config}
 use Rattle.wf_frame.specs.declared.classes.Class.{Class}
-use Rattle.wf_frame.specs.declared.notes.Ask.TheVariants.{Join, Offload, Rx}
+use Rattle.wf_frame.specs.declared.notes.Ask.TheVariants.{Join, Offload, Plain, Rx}
 use Rattle.wf_frame.specs.declared.notes.Note.{Note}
 use Rattle.wf_frame.specs.declared.notes.Note.TheVariants.{Asked}
 use Rattle.wf_frame.specs.Classes.{same_class}
@@ -22,6 +22,8 @@ since_join w s (Asked (Join i window start exponent weight)) n =
     if is_none (refusal w (Asked (Join i window start exponent weight))) && (i == s) then 0 else n
 since_join w s (Asked (Offload i exponent weight)) n =
     if is_none (refusal w (Asked (Offload i exponent weight))) && (i == s) then 0 else n
+since_join w s (Asked (Plain i start exponent weight)) n =
+    if is_none (refusal w (Asked (Plain i start exponent weight))) && (i == s) then 0 else n
 since_join w s _ n = n
 
 -- Returns the airtime of the receive charge that a call makes to a station in a class.

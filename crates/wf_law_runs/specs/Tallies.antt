@@ -2,7 +2,7 @@
 -- up.
 use Rattle.std.specs.Prelude.{◌≡◌, ℕ, ◌+◌, List}
 use Rattle.wf_frame.specs.declared.settings.Config.{Config}
-use Rattle.wf_frame.specs.declared.classes.Cause.TheVariants.{Overlimit, Codel, Retries, Left, Flushed}
+use Rattle.wf_frame.specs.declared.classes.Cause.TheVariants.{Overlimit, Codel, Retries, Left, Flushed, Ended}
 use Rattle.wf_frame.specs.declared.classes.Fate.TheVariants.{Held, Acked, Dropped}
 use Rattle.wf_def_world.specs.World.{World, accepted_count}
 use Rattle.wf_def_world.specs.Run.{Entry}
@@ -15,7 +15,8 @@ abbrev pub AddsUp : World → Type 0
 AddsUp w =
     accepted_count w
     ≡ tally w Acked + tally w (Dropped Overlimit) + tally w (Dropped Codel) + tally w
-    (Dropped Retries) + tally w (Dropped Left) + tally w (Dropped Flushed) + tally w Held
+    (Dropped Retries) + tally w (Dropped Left) + tally w (Dropped Flushed)
+    + tally w (Dropped Ended) + tally w Held
 
 -- The law: `AddsUp` holds after each entry of a history.
 abbrev pub TallyLaw : Config → List Entry → Type 0

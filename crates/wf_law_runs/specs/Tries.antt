@@ -9,7 +9,7 @@ use Rattle.wf_frame.specs.declared.notes.Ask.TheVariants.{Done}
 use Rattle.wf_frame.specs.declared.notes.Note.{Note}
 use Rattle.wf_frame.specs.declared.notes.Note.TheVariants.{Asked}
 use Rattle.wf_frame.specs.declared.notes.Part.{Part}
-use Rattle.wf_frame.specs.declared.notes.Part.TheVariants.{Mpdus, Batch, Request}
+use Rattle.wf_frame.specs.declared.notes.Part.TheVariants.{Mpdus, Batch, Plain, Request}
 use Rattle.wf_frame.specs.declared.notes.ReplyNote.{ReplyNote}
 use Rattle.wf_frame.specs.declared.notes.ReplyNote.TheVariants.{Send}
 use Rattle.wf_def_lists.specs.Lengths.{greatest_body}
@@ -33,6 +33,7 @@ count_of id (m ∷ ms) = (if m.0 == id then 1 else 0) + count_of id ms
 -- Returns how often an exchange sends a frame. A request sends none.
 abbrev pub count_in_part : ℕ → Part → ℕ
 count_in_part id (Mpdus mpdus) = count_of id mpdus
+count_in_part id (Plain mpdus) = count_of id mpdus
 count_in_part id (Batch ids) = count_by (λ i. i == id) ids
 count_in_part id (Request start) = 0
 
@@ -49,6 +50,7 @@ tries w id (e ∷ es) = tries_by id (step w e.1).reply + tries (step w e.1).worl
 -- Returns how many frames an exchange sends.
 abbrev pub frames_in_part : Part → ℕ
 frames_in_part (Mpdus mpdus) = length mpdus
+frames_in_part (Plain mpdus) = length mpdus
 frames_in_part (Batch ids) = length ids
 frames_in_part (Request start) = 0
 
@@ -105,6 +107,7 @@ frames_unsent w (e ∷ es) = frames_unsent_by w e.1 + frames_unsent (step w e.1)
 abbrev pub data_exchanges_by : ReplyNote → ℕ
 data_exchanges_by (Send exchange station tid air (Mpdus mpdus) more) = 1
 data_exchanges_by (Send exchange station tid air (Batch ids) more) = 1
+data_exchanges_by (Send exchange station tid air (Plain mpdus) more) = 1
 data_exchanges_by reply = 0
 
 -- Returns how many exchanges of data the calls of a history open, from a world on.

@@ -20,6 +20,7 @@ ghost use Rattle.wf_law_runs.specs.Dequeues.{CodelLaw};
 ghost use Rattle.wf_law_runs.specs.Flows.{FlowQueueLaw, FlowReleaseLaw, FlowSendLaw};
 ghost use Rattle.wf_law_runs.specs.Delivery.{DeliveryLaw};
 ghost use Rattle.wf_law_runs.specs.Offloads.{OffloadLaw};
+ghost use Rattle.wf_law_runs.specs.Modes.{ModeLaw, RepeatLaw};
 ghost use Rattle.wf_law_runs.specs.Fates.{FateLaw};
 ghost use Rattle.wf_law_runs.specs.Finished.{FinishedLaw};
 ghost use Rattle.wf_law_runs.specs.InFlight.{InFlightLaw};
@@ -38,6 +39,7 @@ ghost use Rattle.wf_law_runs.specs.Rotations.{RotationLaw};
 ghost use Rattle.wf_law_runs.specs.Tallies.{TallyLaw};
 ghost use Rattle.wf_law_runs.specs.Tries.{TriesLaw};
 ghost use Rattle.wf_law_runs.specs.TwelveBits.{TwelveBitLaw};
+ghost use Rattle.wf_law_runs.specs.Unsettled.{UnsettledLaw};
 ghost use Rattle.wf_law_runs.specs.Waiting.{SparseLaw, WaitingLaw};
 ghost use Rattle.wf_law_runs.specs.Windows.{WindowLaw};
 
@@ -89,10 +91,22 @@ pub fn delivery_law()
     ensures { (config : Config) → (history : List Entry) → IsInRange config → DeliveryLaw config history }
 {}
 
-/// An open exchange is a batch exactly if its station is offloaded; no batch is a request, and no request is due
-/// for an offloaded station (specs/Offloads).
+/// An open exchange is a batch exactly if its station is offloaded; no batch is a request, and no request is
+/// due for an offloaded station (specs/Offloads).
 pub fn offload_law()
     ensures { (config : Config) → (history : List Entry) → IsInRange config → OffloadLaw config history }
+{}
+
+/// Without an agreement a TID sends one frame at a time and no request, and a TID's mode changes only by the
+/// calls for it (specs/Modes).
+pub fn mode_law()
+    ensures { (config : Config) → (history : List Entry) → IsInRange config → ModeLaw config history }
+{}
+
+/// A receiver that knows a repeated frame by the Retry bit and twelve bits of its number takes a frame for a
+/// repeated one exactly if its number has arrived (specs/Modes).
+pub fn repeat_law()
+    ensures { (config : Config) → (history : List Entry) → IsInRange config → RepeatLaw config history }
 {}
 
 /// A call that does not set a station's weight keeps it, and the base of its deficits (specs/Deficits).
@@ -239,6 +253,12 @@ pub fn number_law()
 /// (specs/Sums).
 pub fn sum_law()
     ensures { (config : Config) → (history : List Entry) → IsInRange config → SumLaw config history }
+{}
+
+/// After every entry, a TID has at most as many numbers that wait or are on the air as the setting `inflight`
+/// times the setting `agg` (specs/Unsettled).
+pub fn unsettled_law()
+    ensures { (config : Config) → (history : List Entry) → IsInRange config → UnsettledLaw config history }
 {}
 
 /// After every entry, each open exchange has at most 256 transmissions, in strictly increasing order of

@@ -3,7 +3,7 @@
 use Rattle.std.proofs.Common.{◌≡◌, refl, ap, sym, ◌∙◌, subst, arith, ℕ, zero, suc, ◌+◌, ◌-◌, ◌<◌, ◌≤◌, nat_le, Bool, true, false, if◌then◌else◌, not, ◌==◌, List, [], ◌∷◌, ◌++◌, length, take, Option, Some, None, IfSome}
 use Rattle.wf_frame.specs.declared.settings.Config.{Config}
 use Rattle.wf_frame.specs.declared.classes.Class.{Class}
-use Rattle.wf_frame.specs.declared.notes.Ask.TheVariants.{Join, Leave, Rate, Tick, Pull, Arrive, Answer, Done, Sleep, Wake, Poll, Rx, Reap, Ampdu, Stop, Start, Unsent, GiveUp, Flush, Offload, Weight}
+use Rattle.wf_frame.specs.declared.notes.Ask.TheVariants.{Join, Leave, Rate, Tick, Pull, Arrive, Answer, Done, Sleep, Wake, Poll, Rx, Reap, Ampdu, Stop, Start, Unsent, GiveUp, Flush, Offload, Weight, Plain, Hold, Begin, Free, Cease}
 use Rattle.wf_frame.specs.declared.notes.Limits.{Limits}
 use Rattle.wf_frame.specs.declared.notes.Note.{Note}
 use Rattle.wf_frame.specs.declared.notes.Note.TheVariants.{Enqueue, Asked}
@@ -16,12 +16,12 @@ use Rattle.wf_def_lists.specs.Bounds.{greatest_window}
 use Rattle.wf_def_codel.specs.Codel.{Item}
 use Rattle.wf_def_agreement.specs.Session.{End, Session, Slot, State, no_slot, slot, on_slot, with_state, with_number_given, is_waiting, slot_after_miss, slot_given_up, after_flush, is_failed, request_due, start_of}
 use Rattle.wf_def_agreement.specs.Receiver.{with_start}
-use Rattle.wf_def_world.specs.World.{World, Station, Exchange, Mpdu, Content, Frames, Request, new_tid, session, is_live, exchange, with_station, on_station, on_tid, on_session, on_receiver, on_share, with_exchange, without_exchange, with_fate, with_frame_finished, opening}
+use Rattle.wf_def_world.specs.World.{World, Mode, Station, Tid, Exchange, Mpdu, Content, Frames, Request, new_tid, tid_of, session, is_live, exchange, with_mode, with_station, on_station, on_tid, on_session, on_receiver, on_share, with_exchange, without_exchange, with_fate, with_frame_finished, opening}
 use Rattle.wf_def_world.specs.FlowQueues.{taken_for_tid}
 use Rattle.wf_def_world.specs.CanSend.{can_send_in, can_give}
-use Rattle.wf_def_world.specs.Exchanges.{Aggregate, Prepared, most_frames, end_of, picked_station, sending_tid, waiting_mpdus, longest_fitting, with_number, with_fresh, aggregate_of, with_flying, prepared_data, prepared_exchange, with_exchange_opened, after_tid_turn, after_arrival, after_charge, with_failed_finished, with_settled, with_all_settled, with_heard_start, after_done, caught_up, with_device_caught_up}
+use Rattle.wf_def_world.specs.Exchanges.{Aggregate, Prepared, most_frames, end_of, picked_station, sending_tid, waiting_mpdus, longest_fitting, with_number, with_fresh, aggregate_of, with_flying, prepared_data, prepared_exchange, with_exchange_opened, after_tid_turn, after_arrival, after_charge, with_failed_finished, with_settled, with_all_settled, with_heard_start, after_done, caught_up, caught_up_if_plain}
 use Rattle.wf_def_world.specs.Refusals.{refusal}
-use Rattle.wf_def_world.specs.Step.{Outcome, tick_outcome, rate_outcome, sleep_outcome, wake_outcome, poll_outcome, rx_outcome, join_outcome, leave_outcome, send_outcome, pull_outcome_for, pull_outcome, arrive_outcome, answer_outcome, done_outcome, outcome_where_open, reap_outcome, unsent_outcome, give_up_outcome, flush_outcome, outcome_of, concerned_station, after_refusal, judged_outcome, step, offload_outcome, new_station}
+use Rattle.wf_def_world.specs.Step.{Outcome, tick_outcome, rate_outcome, sleep_outcome, wake_outcome, poll_outcome, rx_outcome, join_outcome, leave_outcome, send_outcome, pull_outcome_for, pull_outcome, arrive_outcome, answer_outcome, done_outcome, outcome_where_open, reap_outcome, unsent_outcome, give_up_outcome, flush_outcome, outcome_of, concerned_station, after_refusal, judged_outcome, step, offload_outcome, plain_outcome, plain_window, hold_outcome, begin_outcome, free_outcome, cease_outcome, after_numbers_ended, new_station}
 use Rattle.wf_def_world.specs.Run.{Entry, world_after}
 use Rattle.wf_def_world.specs.Stretches.{world_at}
 use Rattle.wf_law_runs.specs.Attempts.{IsTried, AttemptsLaw}
@@ -35,7 +35,7 @@ use Rattle.wf_law_runs.proofs.Common.Picked.{picked_world}
 use Rattle.wf_law_runs.proofs.Sessions.Flights.{AllIn, Rises, all_in_later}
 use Rattle.wf_law_runs.proofs.Deficits.Configs.{config_step}
 use Rattle.wf_law_runs.proofs.Windows.Opened.{eight}
-use Rattle.wf_law_runs.proofs.Windows.Sides.{Same, sides_of, then_same, each_side_on, same_on_station, same_on_share, same_on_queue, same_finish, same_listed, same_after_pick, same_after_turn, same_spent, same_take, same_charged, same_picked, same_weighed}
+use Rattle.wf_law_runs.proofs.Windows.Sides.{Same, sides_of, then_same, each_side_on, same_on_station, same_on_share, same_on_queue, same_finish, same_listed, same_after_pick, same_after_turn, same_spent, same_take, same_charged, same_picked, same_weighed, same_ended, begun_is, ceased_is}
 use Rattle.wf_law_runs.proofs.Windows.Agreed.{IsLawful, IsReady, IsEnding, IsFound, found, ready_filled, ending_settled, ending_of, lawful_same, lawful_step, lawful_at_first, session_same, winner_ready, same_left_tids, same_off_lists}
 use Rattle.wf_law_runs.proofs.Frames.Delivered.{same_enqueued}
 
@@ -113,6 +113,10 @@ tried_on_session : (limit : ℕ) (w : World) (s t : ℕ) (f : Session → Sessio
 unfolding on_session
 tried_on_session limit w s t f k h = each_side_on (λ _ _ z. AllTried limit z.session) w s t
     (λ y. record y { session = f y.session }) h k
+
+tried_on_tid : (limit : ℕ) (w : World) (s t : ℕ) (f : Tid → Tid) → AllTried limit (f (tid_of w s t)).session →
+    Tried limit w → Tried limit (on_tid w s t f)
+tried_on_tid limit w s t f k h = each_side_on (λ _ _ z. AllTried limit z.session) w s t f h k
 
 tried_with_station : (limit : ℕ) (w : World) (s : ℕ) (o : Option Station) →
     ((t : ℕ) → AllTried limit (sides_of o t).session)
@@ -264,8 +268,8 @@ tried_caught limit w s t h =
     each_side_on (λ _ _ z. AllTried limit z.session) u s t
     (λ y. record y { receiver = with_start start y.receiver }) k (k s t)
 
-tried_device : (limit : ℕ) (w : World) (s t : ℕ) → Tried limit w → Tried limit (with_device_caught_up w s t)
-tried_device limit w s t h = if_caught (Tried limit) w s t h (λ _. tried_caught limit w s t h)
+tried_caught_up : (limit : ℕ) (w : World) (s t : ℕ) → Tried limit w → Tried limit (caught_up_if_plain w s t)
+tried_caught_up limit w s t h = if_caught (Tried limit) w s t h (λ _. tried_caught limit w s t h)
 
 tried_after : (air : Option ℕ) (c : Content) (limit : ℕ) (w : World) (i : IsLawful w) (x : Exchange)
     (heard : Bool)
@@ -275,9 +279,9 @@ tried_after : (air : Option ℕ) (c : Content) (limit : ℕ) (w : World) (i : Is
     → Tried limit (after_done v x heard c)
 unfolding after_done
 tried_after air (Frames ms) limit w i x heard v e is same_limit f h =
-    tried_device limit _ x.station x.tid
-    (tried_all ms limit x.number x.station x.tid v (end_of x heard) same_limit
-    (subst (λ (u : World). IsEnding x.number x.station x.tid (end_of x heard) u ms) (sym is)
+    tried_caught_up limit _ x.station x.tid
+    (tried_all ms limit x.number x.station x.tid v (end_of v x heard) same_limit
+    (subst (λ (u : World). IsEnding x.number x.station x.tid (end_of u x heard) u ms) (sym is)
     (ending_of air w i x ms heard e f)) h)
 tried_after air (Request g) limit w i x heard v e is same_limit f h =
     tried_on_session limit v x.station x.tid _
@@ -337,34 +341,68 @@ tried_flush limit y h i = subst (IsTried limit) (sym (flush_at limit y.slots i))
     (slot_given_up limit (at no_slot y.slots i)) (at no_slot y.slots i)
     (λ _. record { fewer = λ no. absurd (cc no); failed = λ _. refl }) (λ _. h i))
 
+tried_failed : (limit : ℕ) (w : World) (s t : ℕ) → w.config.attempts ≡ limit → Tried limit w →
+    Tried limit (on_session w s t (after_flush w.config.attempts))
+tried_failed limit w s t same_limit h = tried_on_session limit w s t _
+    (subst (λ (n : ℕ). AllTried limit (after_flush n (session w s t))) (sym same_limit)
+    (tried_flush limit (session w s t) (h s t))) h
+
 tried_flushed : (limit : ℕ) (w : World) (s t : ℕ) → w.config.attempts ≡ limit → Tried limit w →
     Tried limit (flush_outcome w s t).world
 tried_flushed limit w s t same_limit h = if_flushed (Tried limit)
     (record {
       finish = λ u id k. tried_same limit u _ (same_finish u _ id) k;
       empty = λ u q k. tried_same limit u _ (same_on_queue u q _) k;
-    }) w s t (λ v k _. tried_caught limit v s t k)
-    (tried_on_session limit w s t _ (subst (λ (n : ℕ). AllTried limit (after_flush n (session w s t)))
-    (sym same_limit) (tried_flush limit (session w s t) (h s t))) h)
+    }) w s t (λ v k _. tried_caught limit v s t k) (tried_failed limit w s t same_limit h)
 
-tried_new_station : (limit : ℕ) (w : World) (s window start exponent weight : ℕ) (offloaded : Bool) →
-    1 ≤ limit → Tried limit w → Tried limit (with_station w s
-    (Some (new_station w.config window start exponent weight offloaded)))
-tried_new_station limit w s window start exponent weight offloaded some h =
-    tried_with_station limit w s _ (eight (λ y. AllTried limit y.session) (new_tid start window)
+-- ---- a TID is held or free, and its agreement begins or ends
+
+tried_held : (limit : ℕ) (w : World) (s t : ℕ) → Tried limit w → Tried limit (hold_outcome w s t).world
+unfolding hold_outcome with_mode
+tried_held limit w s t h = tried_on_tid limit w s t _ (h s t) h
+
+tried_begun : (limit : ℕ) (w : World) (s t window : ℕ) → Tried limit w →
+    Tried limit (begin_outcome w s t window).world
+tried_begun limit w s t window h = subst (Tried limit) (sym (begun_is w s t window))
+    (tried_on_tid limit w s t _ (h s t) h)
+
+tried_freed : (limit : ℕ) (w : World) (s t : ℕ) → Tried limit w → Tried limit (free_outcome w s t).world
+unfolding free_outcome with_mode
+tried_freed limit w s t h = tried_on_tid limit w s t _ (h s t) h
+
+tried_ceased : (limit : ℕ) (w : World) (s t : ℕ) → w.config.attempts ≡ limit → Tried limit w →
+    Tried limit (cease_outcome w s t).world
+tried_ceased limit w s t same_limit h =
+    let v : World = after_numbers_ended w s t in
+    let k : Tried limit v = tried_same limit _ v (same_ended w s t) (tried_failed limit w s t same_limit h) in
+    subst (Tried limit) (sym (ceased_is w s t)) (tried_on_tid limit v s t _ (k s t) k)
+
+-- ---- stations join and leave
+
+tried_new_station : (limit : ℕ) (w : World) (mode : Mode) (s window start exponent weight : ℕ)
+    (offloaded : Bool) → 1 ≤ limit → Tried limit w → Tried limit (with_station w s
+    (Some (new_station w.config mode window start exponent weight offloaded)))
+tried_new_station limit w mode s window start exponent weight offloaded some h =
+    tried_with_station limit w s _ (eight (λ y. AllTried limit y.session) (new_tid mode start window)
     (λ _. none_given limit some) (λ _. none_given limit some)) h
 
 tried_joined : (limit : ℕ) (w : World) (s window start exponent weight : ℕ) → 1 ≤ limit → Tried limit w
     → Tried limit (join_outcome w s window start exponent weight).world
 unfolding join_outcome
 tried_joined limit w s window start exponent weight some h =
-    tried_new_station limit w s window start exponent weight false some h
+    tried_new_station limit w Mode.Agreed s window start exponent weight false some h
 
 tried_offloaded : (limit : ℕ) (w : World) (s exponent weight : ℕ) → 1 ≤ limit → Tried limit w
     → Tried limit (offload_outcome w s exponent weight).world
 unfolding offload_outcome
 tried_offloaded limit w s exponent weight some h =
-    tried_new_station limit w s greatest_window 0 exponent weight true some h
+    tried_new_station limit w Mode.Plain s greatest_window 0 exponent weight true some h
+
+tried_plain : (limit : ℕ) (w : World) (s start exponent weight : ℕ) → 1 ≤ limit → Tried limit w
+    → Tried limit (plain_outcome w s start exponent weight).world
+unfolding plain_outcome
+tried_plain limit w s start exponent weight some h =
+    tried_new_station limit w Mode.Plain s plain_window start exponent weight false some h
 
 tried_gone : (limit : ℕ) (w : World) (s : ℕ) → 1 ≤ limit → Tried limit w →
     Tried limit (leave_outcome w s).world
@@ -400,6 +438,12 @@ tried_done (Asked (Offload s exponent weight)) limit w some same_limit i h =
     tried_offloaded limit w s exponent weight some h
 tried_done (Asked (Weight s weight)) limit w some same_limit i h =
     tried_same limit w _ (same_weighed w s weight) h
+tried_done (Asked (Plain s start exponent weight)) limit w some same_limit i h =
+    tried_plain limit w s start exponent weight some h
+tried_done (Asked (Hold s t)) limit w some same_limit i h = tried_held limit w s t h
+tried_done (Asked (Begin s t window)) limit w some same_limit i h = tried_begun limit w s t window h
+tried_done (Asked (Free s t)) limit w some same_limit i h = tried_freed limit w s t h
+tried_done (Asked (Cease s t)) limit w some same_limit i h = tried_ceased limit w s t same_limit h
 tried_done (Asked (Leave s)) limit w some same_limit i h = tried_gone limit w s some h
 tried_done (Asked (Rate s rate)) limit w some same_limit i h =
     tried_same limit w _ (same_on_station w s _ (λ x t. refl)) h

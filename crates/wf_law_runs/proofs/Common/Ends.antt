@@ -4,8 +4,8 @@ use Rattle.wf_def_lists.specs.Table.{has}
 use Rattle.wf_def_agreement.specs.Session.{Session, Slot, State, End, on_slot, slot_after_miss, slot_given_up, with_state, after_end}
 use Rattle.wf_def_agreement.specs.Receiver.{Score, shows}
 use Rattle.wf_frame.specs.declared.classes.Fate.TheVariants.{Acked}
-use Rattle.wf_def_world.specs.World.{World, Mpdu, Exchange, on_session, with_frame_finished}
-use Rattle.wf_def_world.specs.Exchanges.{end_of, is_acked, numbers_arrived, numbers_unsent, numbers_given_up, with_failed_finished, with_settled}
+use Rattle.wf_def_world.specs.World.{World, Mpdu, Exchange, session, on_session, with_frame_finished}
+use Rattle.wf_def_world.specs.Exchanges.{end_of, end_at_once, is_far, is_acked, numbers_arrived, numbers_unsent, numbers_given_up, with_failed_finished, with_settled}
 use Rattle.wf_law_rules.proofs.Lemmas.Numbers.{on_if}
 
 -- Returns a slot after its exchange ended so.
@@ -53,77 +53,117 @@ end_not_flying limit End.Missed x e h = missed_not_flying limit x e h
 end_not_flying limit End.GivenUp x e h = cc h
 end_not_flying limit End.Unsent x e h = cc h
 
--- Returns how an exchange ends for a number, from what is said of the number.
-abbrev end_by : Bool → Bool → Bool → Bool → Bool → End
-end_by batch unsent arrived acked given_up =
-    if batch then (if unsent then End.Unsent else if arrived then End.Acknowledged else End.GivenUp)
-    else (if unsent then End.Unsent else if acked then End.Acknowledged
-    else if given_up then End.GivenUp else End.Missed)
+-- Returns how an aggregate ends for a number, from the facts about the number.
+abbrev pub end_by_answer : Bool → Bool → Bool → End
+end_by_answer unsent acked given_up =
+    if unsent then End.Unsent else if acked then End.Acknowledged
+    else if given_up then End.GivenUp else End.Missed
 
--- What an exchange knows of a number that it leaves acknowledged: of a batch, that it arrived; of an
--- aggregate, that the answer shows it.
+-- Returns how an exchange ends for a number, from the facts about the exchange and the number. `once`: it
+-- is plain, and the number is not sent again.
+abbrev pub end_by : Bool → Bool → Bool → Bool → Bool → Bool → End
+end_by batch once unsent arrived acked given_up =
+    if batch then (if unsent then End.Unsent else if arrived then End.Acknowledged else End.GivenUp)
+    else if once then end_at_once (end_by_answer unsent acked given_up)
+    else end_by_answer unsent acked given_up
+
+-- Returns whether a number of an exchange is sent once only.
+abbrev pub is_once : World → Exchange → ℕ → Bool
+is_once w x n = x.plain && is_far (session w x.station x.tid) n
+
+-- Why an exchange leaves a number acknowledged: in a batch it arrived, and in an aggregate the answer shows
+-- it.
 abbrev pub IsBacked : Exchange → Bool → ℕ → Type 0
 IsBacked x heard n = ((x.batch ≡ true) × (has (numbers_arrived x) n ≡ true)) ⊎
     ((x.batch ≡ false) × (is_acked heard x.answer n ≡ true))
 
 -- A number that an exchange leaves acknowledged is backed, and was not unsent.
-pub end_backed : (x : Exchange) (heard : Bool) (n : ℕ) → end_of x heard n ≡ End.Acknowledged →
+pub end_backed : (w : World) (x : Exchange) (heard : Bool) (n : ℕ) → end_of w x heard n ≡ End.Acknowledged →
     (has (numbers_unsent x) n ≡ false) × IsBacked x heard n
-end_backed x heard n = go x.batch (has (numbers_unsent x) n) (has (numbers_arrived x) n)
+end_backed w x heard n = go x.batch (is_once w x n) (has (numbers_unsent x) n) (has (numbers_arrived x) n)
     (is_acked heard x.answer n) (has (numbers_given_up x) n)
   where
-    go : (b u r a g : Bool) → end_by b u r a g ≡ End.Acknowledged →
+    go : (b o u r a g : Bool) → end_by b o u r a g ≡ End.Acknowledged →
         (u ≡ false) × (((b ≡ true) × (r ≡ true)) ⊎ ((b ≡ false) × (a ≡ true)))
-    go true true r a g h = absurd (cc h)
-    go true false true a g h = (refl, inl (refl, refl))
-    go true false false a g h = absurd (cc h)
-    go false true r a g h = absurd (cc h)
-    go false false r true g h = (refl, inr (refl, refl))
-    go false false r false true h = absurd (cc h)
-    go false false r false false h = absurd (cc h)
+    go true o true r a g h = absurd (cc h)
+    go true o false true a g h = (refl, inl (refl, refl))
+    go true o false false a g h = absurd (cc h)
+    go false true true r a g h = absurd (cc h)
+    go false true false r true g h = (refl, inr (refl, refl))
+    go false true false r false true h = absurd (cc h)
+    go false true false r false false h = absurd (cc h)
+    go false false true r a g h = absurd (cc h)
+    go false false false r true g h = (refl, inr (refl, refl))
+    go false false false r false true h = absurd (cc h)
+    go false false false r false false h = absurd (cc h)
 
 -- If a heard aggregate has an answer, its acknowledged numbers are those that the answer shows and that were
 -- sent.
-pub end_shown : (x : Exchange) (b : Score) (n : ℕ) → x.batch ≡ false → x.answer ≡ Some b →
-    (end_of x true n ≡ End.Acknowledged) ↔ (shows b n && not (has (numbers_unsent x) n) ≡ true)
-end_shown x b n k d = go x.batch (has (numbers_unsent x) n) (has (numbers_arrived x) n)
+pub end_shown : (w : World) (x : Exchange) (b : Score) (n : ℕ) → x.batch ≡ false → x.answer ≡ Some b →
+    (end_of w x true n ≡ End.Acknowledged) ↔ (shows b n && not (has (numbers_unsent x) n) ≡ true)
+end_shown w x b n k d = go x.batch (is_once w x n) (has (numbers_unsent x) n) (has (numbers_arrived x) n)
     (is_acked true x.answer n) (has (numbers_given_up x) n) (shows b n) k
     (ap (λ (o : Option Score). is_acked true o n) d)
   where
-    go : (b u r a g s : Bool) → b ≡ false → a ≡ s →
-        (end_by b u r a g ≡ End.Acknowledged) ↔ (s && not u ≡ true)
-    go true u r a g s k e = absurd (cc k)
-    go false true r a g true k e = ((λ h. absurd (cc h)), (λ h. absurd (cc h)))
-    go false true r a g false k e = ((λ h. absurd (cc h)), (λ h. absurd (cc h)))
-    go false false r true g true k e = ((λ _. refl), (λ _. refl))
-    go false false r true g false k e = absurd (cc e)
-    go false false r false g true k e = absurd (cc e)
-    go false false r false true false k e = ((λ h. absurd (cc h)), (λ h. absurd (cc h)))
-    go false false r false false false k e = ((λ h. absurd (cc h)), (λ h. absurd (cc h)))
+    go : (b o u r a g s : Bool) → b ≡ false → a ≡ s →
+        (end_by b o u r a g ≡ End.Acknowledged) ↔ (s && not u ≡ true)
+    go true o u r a g s k e = absurd (cc k)
+    go false true true r a g true k e = ((λ h. absurd (cc h)), (λ h. absurd (cc h)))
+    go false true true r a g false k e = ((λ h. absurd (cc h)), (λ h. absurd (cc h)))
+    go false false true r a g true k e = ((λ h. absurd (cc h)), (λ h. absurd (cc h)))
+    go false false true r a g false k e = ((λ h. absurd (cc h)), (λ h. absurd (cc h)))
+    go false true false r true g true k e = ((λ _. refl), (λ _. refl))
+    go false false false r true g true k e = ((λ _. refl), (λ _. refl))
+    go false o false r true g false k e = absurd (cc e)
+    go false o false r false g true k e = absurd (cc e)
+    go false true false r false true false k e = ((λ h. absurd (cc h)), (λ h. absurd (cc h)))
+    go false true false r false false false k e = ((λ h. absurd (cc h)), (λ h. absurd (cc h)))
+    go false false false r false true false k e = ((λ h. absurd (cc h)), (λ h. absurd (cc h)))
+    go false false false r false false false k e = ((λ h. absurd (cc h)), (λ h. absurd (cc h)))
+
+-- A plain number that ends as missed is sent again.
+pub end_missed : (w : World) (x : Exchange) (heard : Bool) (n : ℕ) → end_of w x heard n ≡ End.Missed →
+    is_once w x n ≡ false
+end_missed w x heard n = go x.batch (is_once w x n) (has (numbers_unsent x) n) (has (numbers_arrived x) n)
+    (is_acked heard x.answer n) (has (numbers_given_up x) n)
+  where
+    go : (b o u r a g : Bool) → end_by b o u r a g ≡ End.Missed → o ≡ false
+    go b false u r a g h = refl
+    go true true true r a g h = absurd (cc h)
+    go true true false true a g h = absurd (cc h)
+    go true true false false a g h = absurd (cc h)
+    go false true true r a g h = absurd (cc h)
+    go false true false r true g h = absurd (cc h)
+    go false true false r false true h = absurd (cc h)
+    go false true false r false false h = absurd (cc h)
 
 -- A number ends as unsent exactly if it is among those that never went on the air.
-pub end_unsent : (x : Exchange) (heard : Bool) (n : ℕ) → has (numbers_unsent x) n ≡ true →
-    end_of x heard n ≡ End.Unsent
-end_unsent x heard n = go x.batch (has (numbers_unsent x) n) (has (numbers_arrived x) n)
+pub end_unsent : (w : World) (x : Exchange) (heard : Bool) (n : ℕ) → has (numbers_unsent x) n ≡ true →
+    end_of w x heard n ≡ End.Unsent
+end_unsent w x heard n = go x.batch (is_once w x n) (has (numbers_unsent x) n) (has (numbers_arrived x) n)
     (is_acked heard x.answer n) (has (numbers_given_up x) n)
   where
-    go : (b u r a g : Bool) → u ≡ true → end_by b u r a g ≡ End.Unsent
-    go true true r a g h = refl
-    go false true r a g h = refl
-    go b false r a g h = absurd (cc h)
+    go : (b o u r a g : Bool) → u ≡ true → end_by b o u r a g ≡ End.Unsent
+    go true o true r a g h = refl
+    go false true true r a g h = refl
+    go false false true r a g h = refl
+    go b o false r a g h = absurd (cc h)
 
-pub end_not_unsent : (x : Exchange) (heard : Bool) (n : ℕ) → has (numbers_unsent x) n ≡ false →
-    end_of x heard n ≡ End.Unsent → ⊥
-end_not_unsent x heard n = go x.batch (has (numbers_unsent x) n) (has (numbers_arrived x) n)
-    (is_acked heard x.answer n) (has (numbers_given_up x) n)
+pub end_not_unsent : (w : World) (x : Exchange) (heard : Bool) (n : ℕ) → has (numbers_unsent x) n ≡ false →
+    end_of w x heard n ≡ End.Unsent → ⊥
+end_not_unsent w x heard n = go x.batch (is_once w x n) (has (numbers_unsent x) n)
+    (has (numbers_arrived x) n) (is_acked heard x.answer n) (has (numbers_given_up x) n)
   where
-    go : (b u r a g : Bool) → u ≡ false → end_by b u r a g ≡ End.Unsent → ⊥
-    go b true r a g e h = cc e
-    go true false true a g e h = cc h
-    go true false false a g e h = cc h
-    go false false r true g e h = cc h
-    go false false r false true e h = cc h
-    go false false r false false e h = cc h
+    go : (b o u r a g : Bool) → u ≡ false → end_by b o u r a g ≡ End.Unsent → ⊥
+    go b o true r a g e h = cc e
+    go true o false true a g e h = cc h
+    go true o false false a g e h = cc h
+    go false true false r true g e h = cc h
+    go false true false r false true e h = cc h
+    go false true false r false false e h = cc h
+    go false false false r true g e h = cc h
+    go false false false r false true e h = cc h
+    go false false false r false false e h = cc h
 
 -- A property of the world after a number is settled, from the case of an acknowledged number and from that of
 -- the others, which are failed or wait again.

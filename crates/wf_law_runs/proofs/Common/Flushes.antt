@@ -6,8 +6,8 @@ use Rattle.wf_frame.specs.declared.classes.Fate.TheVariants.{Dropped}
 use Rattle.wf_def_lists.specs.Table.{at, change}
 use Rattle.wf_def_agreement.specs.Session.{Session, Slot, State, no_slot, slot, on_slot, is_waiting, slot_given_up, slot_flushed, after_flush, next_number}
 use Rattle.wf_def_rotation.specs.Rotation.{in_order}
-use Rattle.wf_def_world.specs.Exchanges.{caught_up, with_device_caught_up}
-use Rattle.wf_def_world.specs.World.{World, session, tid_of, is_offloaded, on_session, on_queue, with_frame_finished, with_frames_finished}
+use Rattle.wf_def_world.specs.Exchanges.{caught_up, caught_up_if_plain}
+use Rattle.wf_def_world.specs.World.{World, session, tid_of, is_agreed, on_session, on_queue, with_frame_finished, with_frames_finished}
 use Rattle.wf_def_world.specs.FlowQueues.{after_queue_flushed, after_queues_flushed}
 use Rattle.wf_def_world.specs.Step.{waiting_ids, in_rising_order, after_tid_flushed, flush_outcome}
 use Rattle.wf_law_rules.proofs.Lemmas.Numbers.{on_bool, on_if}
@@ -92,23 +92,22 @@ next-flush limit y = ap (λ (k : ℕ). y.first + k) (length_flush limit y.slots)
 
 -- ---- worlds
 
--- The world of a flush before the device of an offloaded station catches up.
+-- The world of a flush before a TID without an agreement catches up.
 abbrev pub emptied_world : World → ℕ → ℕ → World
 emptied_world w s t = after_queues_flushed (with_frames_finished
     (on_session w s t (after_flush w.config.attempts)) (Dropped Flushed) (waiting_ids (session w s t).slots))
     (in_rising_order (in_order (tid_of w s t).queues))
 
 pub flush_is : (w : World) (s t : ℕ) →
-    (flush_outcome w s t).world ≡ with_device_caught_up (emptied_world w s t) s t
+    (flush_outcome w s t).world ≡ caught_up_if_plain (emptied_world w s t) s t
 unfolding flush_outcome after_tid_flushed
 flush_is w s t = refl
 
--- A property of the world after a device catches up, from the case of an offloaded station and from the
--- others.
+-- A property of the world after a TID catches up if it has no agreement, from both cases.
 pub if_caught : (P : World → Type 0) (w : World) (s t : ℕ) → P w →
-    (is_offloaded w s ≡ true → P (caught_up w s t)) → P (with_device_caught_up w s t)
-unfolding with_device_caught_up
-if_caught P w s t h k = on_if P (is_offloaded w s) (caught_up w s t) w k (λ _. h)
+    (is_agreed w s t ≡ false → P (caught_up w s t)) → P (caught_up_if_plain w s t)
+unfolding caught_up_if_plain
+if_caught P w s t h k = on_if P (is_agreed w s t) w (caught_up w s t) (λ _. h) k
 
 -- A property stays when a frame is finished as Flushed, and when a queue is emptied.
 pub record StaysInFlush (P : World → Type 0) : Type 0 where
@@ -127,13 +126,13 @@ module _ (P : World → Type 0) (stays : StaysInFlush P) where
   flushed_queues [] w h = h
   flushed_queues (q ∷ qs) w h = flushed_queues qs _ (flushed_ids _ _ (stays.empty w q h))
 
-  -- The world before its device catches up.
+  -- The world before the TID catches up.
   pub if_emptied : (w : World) (s t : ℕ) → P (on_session w s t (after_flush w.config.attempts)) →
       P (emptied_world w s t)
   if_emptied w s t h = flushed_queues _ _ (flushed_ids _ _ h)
 
   pub if_flushed : (w : World) (s t : ℕ) →
-      ((v : World) → P v → is_offloaded v s ≡ true → P (caught_up v s t)) →
+      ((v : World) → P v → is_agreed v s t ≡ false → P (caught_up v s t)) →
       P (on_session w s t (after_flush w.config.attempts)) → P (flush_outcome w s t).world
   unfolding flush_outcome after_tid_flushed
   if_flushed w s t catch h = if_caught P (emptied_world w s t) s t (if_emptied w s t h)

@@ -6,7 +6,7 @@ use Rattle.wf_frame.specs.declared.settings.Config.{Config}
 use Rattle.wf_frame.specs.declared.classes.Class.{Class}
 use Rattle.wf_frame.specs.declared.classes.Class.TheVariants.{Bk, Be, Vi, Vo}
 use Rattle.wf_frame.specs.declared.classes.Fate.{Fate}
-use Rattle.wf_frame.specs.declared.notes.Ask.TheVariants.{Join, Leave, Rate, Tick, Pull, Arrive, Answer, Done, Sleep, Wake, Poll, Rx, Reap, Ampdu, Stop, Start, Unsent, GiveUp, Flush, Offload, Weight}
+use Rattle.wf_frame.specs.declared.notes.Ask.TheVariants.{Join, Leave, Rate, Tick, Pull, Arrive, Answer, Done, Sleep, Wake, Poll, Rx, Reap, Ampdu, Stop, Start, Unsent, GiveUp, Flush, Offload, Weight, Plain, Hold, Begin, Free, Cease}
 use Rattle.wf_frame.specs.declared.notes.Limits.{Limits}
 use Rattle.wf_frame.specs.declared.notes.Note.{Note}
 use Rattle.wf_frame.specs.declared.notes.Note.TheVariants.{Enqueue, Asked}
@@ -18,12 +18,12 @@ use Rattle.wf_def_codel.specs.Codel.{Item}
 use Rattle.wf_def_rotation.specs.Rotation.{Rotation}
 use Rattle.wf_def_agreement.specs.Session.{Session, End}
 use Rattle.wf_def_agreement.specs.Receiver.{Receiver}
-use Rattle.wf_def_world.specs.World.{World, Station, Share, Tid, Queue, Exchange, Mpdu, Content, Frames, Request, new_share, no_share, no_station, quantum, with_station, on_station, on_tid, on_session, on_receiver, with_queues, on_share, on_queue, with_rotation, with_fate, with_frame_finished, with_frames_finished, with_exchange, without_exchange, opening}
+use Rattle.wf_def_world.specs.World.{World, Mode, Agreed, Station, Share, Tid, Queue, Exchange, Mpdu, Content, Frames, Request, new_share, no_share, no_station, quantum, with_station, on_station, on_tid, on_session, on_receiver, with_queues, on_share, on_queue, with_rotation, with_fate, with_frame_finished, with_frames_finished, with_exchange, without_exchange, with_mode, opening}
 use Rattle.wf_frame.specs.Classes.{class_number}
 use Rattle.wf_def_world.specs.FlowQueues.{without_head, after_limit, with_listed_queue, with_appended, after_put_in, with_queues_paid, taken_by_codel, taken_from_picked, taken_for_tid, after_queue_left, after_queues_left, after_queue_flushed, after_queues_flushed}
 use Rattle.wf_def_world.specs.CanSend.{with_listing_in, with_listings_in, with_listings_of}
-use Rattle.wf_def_world.specs.Exchanges.{Aggregate, Prepared, with_station_paid, with_stations_paid, after_pick, after_tid_turn, with_fresh, aggregate_of, with_number, without_credit, prepared_data, prepared_exchange, with_exchange_opened, after_charge, with_failed_finished, with_settled, with_all_settled, after_done, charge_of, with_device_caught_up, caught_up}
-use Rattle.wf_def_world.specs.Step.{Outcome, join_outcome, after_tid_left, after_tids_left, without_listings, leave_outcome, after_tid_flushed, flush_outcome, rate_outcome, tick_outcome, with_frame, enqueue_outcome, send_outcome, pull_outcome_for, pull_outcome, arrive_outcome, answer_outcome, unsent_outcome, give_up_outcome, done_outcome, outcome_where_open, sleep_outcome, wake_outcome, poll_outcome, rx_outcome, reap_outcome, outcome_of, after_refusal, judged_outcome, step, offload_outcome, weight_outcome, new_station}
+use Rattle.wf_def_world.specs.Exchanges.{Aggregate, Prepared, with_station_paid, with_stations_paid, after_pick, after_tid_turn, with_fresh, aggregate_of, with_number, without_credit, prepared_data, prepared_exchange, with_exchange_opened, after_charge, with_failed_finished, with_settled, with_all_settled, after_done, charge_of, caught_up, caught_up_if_plain}
+use Rattle.wf_def_world.specs.Step.{Outcome, join_outcome, after_tid_left, after_tids_left, without_listings, leave_outcome, after_tid_flushed, flush_outcome, rate_outcome, tick_outcome, with_frame, enqueue_outcome, send_outcome, pull_outcome_for, pull_outcome, arrive_outcome, answer_outcome, unsent_outcome, give_up_outcome, done_outcome, outcome_where_open, sleep_outcome, wake_outcome, poll_outcome, rx_outcome, reap_outcome, outcome_of, after_refusal, judged_outcome, step, offload_outcome, weight_outcome, new_station, plain_window, plain_outcome, with_window, after_numbers_ended, hold_outcome, begin_outcome, free_outcome, cease_outcome}
 use Rattle.wf_def_world.specs.Run.{Entry, world_after}
 use Rattle.wf_law_runs.proofs.Common.Refused.{after_idle}
 use Rattle.wf_law_runs.proofs.Deficits.Balance.{IsBalanced, IsFairStation, IsFair}
@@ -323,14 +323,20 @@ unfolding with_all_settled
 fair_all_settled [] w s t ends h = h
 fair_all_settled (m ∷ ms) w s t ends h = fair_all_settled ms _ s t ends (fair_settled _ w s t m h)
 
-fair_caught_up : (w : World) (s t : ℕ) → IsFair w → IsFair (with_device_caught_up w s t)
-unfolding with_device_caught_up caught_up
-fair_caught_up w s t h = fair_if _ _ _ (fair_on_receiver _ s t _ (fair_on_session w s t _ h)) h
+-- A TID that catches up, or whose mode or window changes, changes no share.
+fair_caught_up : (w : World) (s t : ℕ) → IsFair w → IsFair (caught_up w s t)
+unfolding caught_up
+fair_caught_up w s t h = fair_on_receiver _ s t _ (fair_on_session w s t _ h)
+
+fair_caught_up_if_plain : (w : World) (s t : ℕ) → IsFair w → IsFair (caught_up_if_plain w s t)
+unfolding caught_up_if_plain
+fair_caught_up_if_plain w s t h = fair_if _ _ _ h (fair_caught_up w s t h)
 
 fair_after_done : (content : Content) (w : World) (x : Exchange) (heard : Bool) → IsFair w →
     IsFair (after_done w x heard content)
 unfolding after_done
-fair_after_done (Frames mpdus) w x heard h = fair_caught_up _ _ _ (fair_all_settled mpdus w _ _ _ h)
+fair_after_done (Frames mpdus) w x heard h =
+    fair_caught_up_if_plain _ _ _ (fair_all_settled mpdus w _ _ _ h)
 fair_after_done (Request start) w x heard h = fair_on_session w _ _ _ h
 
 fair_ended : (air : Option ℕ) (w : World) (x : Exchange) (heard : Bool) → IsFair w →
@@ -340,9 +346,10 @@ fair_ended air w x heard h = fair_after_done _ _ x heard (fair_charged air _ x (
 
 -- ---- stations
 
-fair_new_station : (w : World) (s window start exponent weight : ℕ) (offloaded : Bool) → IsFair w →
-    IsFair (with_station w s (Some (new_station w.config window start exponent weight offloaded)))
-fair_new_station w s window start exponent weight offloaded h =
+fair_new_station : (w : World) (s : ℕ) (mode : Mode) (window start exponent weight : ℕ) (offloaded : Bool) →
+    IsFair w →
+    IsFair (with_station w s (Some (new_station w.config mode window start exponent weight offloaded)))
+fair_new_station w s mode window start exponent weight offloaded h =
     fair_with_station w s _ h (λ k below. four _ k below)
   where
     four : (q k : ℕ) → k < 4 → IsBalanced q false (at no_share
@@ -356,12 +363,20 @@ fair_new_station w s window start exponent weight offloaded h =
 fair_joined : (w : World) (s window start exponent weight : ℕ) → IsFair w →
     IsFair (join_outcome w s window start exponent weight).world
 unfolding join_outcome
-fair_joined w s window start exponent weight h = fair_new_station w s window start exponent weight false h
+fair_joined w s window start exponent weight h =
+    fair_new_station w s Agreed window start exponent weight false h
 
 fair_offloaded : (w : World) (s exponent weight : ℕ) → IsFair w →
     IsFair (offload_outcome w s exponent weight).world
 unfolding offload_outcome
-fair_offloaded w s exponent weight h = fair_new_station w s greatest_window 0 exponent weight true h
+fair_offloaded w s exponent weight h =
+    fair_new_station w s Mode.Plain greatest_window 0 exponent weight true h
+
+fair_joined_plain : (w : World) (s start exponent weight : ℕ) → IsFair w →
+    IsFair (plain_outcome w s start exponent weight).world
+unfolding plain_outcome
+fair_joined_plain w s start exponent weight h =
+    fair_new_station w s Mode.Plain plain_window start exponent weight false h
 
 -- The shares of an account are balanced.
 IsFairAccount : ℕ → Account → Type 0
@@ -390,7 +405,7 @@ fair_from q (Some x) h = go
 lowered_number : (q n m : ℕ) (d : ℤ) → d ≡ d +ℤ pos m -ℤ pos (q * n) +ℤ pos (q * n) -ℤ pos m
 lowered_number q n m d = omega (arith, ints)
 
--- A weight that is set balances each share anew.
+-- A weight that is set keeps the account of each share.
 fair_weighed : (w : World) (s weight : ℕ) → IsFair w → IsFair (weight_outcome w s weight).world
 unfolding IsFairAccount
 fair_weighed w s weight h = record {
@@ -433,8 +448,38 @@ fair_gone w s h = fair_with_station _ s None (fair_off_lists _ _ s (fair_left_ti
 
 fair_flushed : (w : World) (s t : ℕ) → IsFair w → IsFair (flush_outcome w s t).world
 unfolding flush_outcome after_tid_flushed
-fair_flushed w s t h = fair_caught_up _ s t
+fair_flushed w s t h = fair_caught_up_if_plain _ s t
     (fair_flush_queues _ _ (fair_finish_all _ _ _ (fair_on_session w s t _ h)))
+
+-- ---- agreements that begin and end
+
+fair_with_mode : (w : World) (s t : ℕ) (mode : Mode) → IsFair w → IsFair (with_mode w s t mode)
+unfolding with_mode
+fair_with_mode w s t mode h = fair_on_tid w s t _ h
+
+fair_with_window : (w : World) (s t size : ℕ) → IsFair w → IsFair (with_window w s t size)
+unfolding with_window
+fair_with_window w s t size h = fair_on_receiver _ s t _ (fair_on_session w s t _ h)
+
+-- So the calls of modes keep each deficit.
+fair_held : (w : World) (s t : ℕ) → IsFair w → IsFair (hold_outcome w s t).world
+unfolding hold_outcome
+fair_held w s t h = fair_with_mode w s t _ h
+
+fair_begun : (w : World) (s t window : ℕ) → IsFair w → IsFair (begin_outcome w s t window).world
+unfolding begin_outcome
+fair_begun w s t window h = fair_with_mode _ s t _ (fair_with_window _ s t window (fair_caught_up w s t h))
+
+fair_freed : (w : World) (s t : ℕ) → IsFair w → IsFair (free_outcome w s t).world
+unfolding free_outcome
+fair_freed w s t h = fair_with_mode w s t _ h
+
+fair_ceased : (w : World) (s t : ℕ) → IsFair w → IsFair (cease_outcome w s t).world
+unfolding cease_outcome after_numbers_ended
+fair_ceased w s t h = fair_with_mode _ s t _ (fair_with_window _ s t _
+    (fair_caught_up _ s t (fair_finish_all _ _ _ (fair_on_session w s t _ h))))
+
+-- ---- frames
 
 fair_enqueued : (w : World) (s t flow len : ℕ) → IsFair w → IsFair (enqueue_outcome w s t flow len).world
 unfolding enqueue_outcome with_frame
@@ -460,6 +505,7 @@ unfolding outcome_of tick_outcome rate_outcome sleep_outcome wake_outcome poll_o
 fair_done (Enqueue s t flow len) w h = fair_enqueued w s t flow len h
 fair_done (Asked (Join s window start exponent weight)) w h = fair_joined w s window start exponent weight h
 fair_done (Asked (Offload s exponent weight)) w h = fair_offloaded w s exponent weight h
+fair_done (Asked (Plain s start exponent weight)) w h = fair_joined_plain w s start exponent weight h
 fair_done (Asked (Weight s weight)) w h = fair_weighed w s weight h
 fair_done (Asked (Leave s)) w h = fair_gone w s h
 fair_done (Asked (Rate s rate)) w h = fair_on_station w s _ h (λ q x k. k)
@@ -469,6 +515,10 @@ fair_done (Asked (Arrive e i)) w h = fair_on_open _ w _ h (λ x. fair_arrived w 
 fair_done (Asked (Unsent e i)) w h = fair_on_open _ w _ h (λ x. fair_unsent w x i h)
 fair_done (Asked (GiveUp e i)) w h = fair_on_open _ w _ h (λ x. fair_given_up w x i h)
 fair_done (Asked (Flush s t)) w h = fair_flushed w s t h
+fair_done (Asked (Hold s t)) w h = fair_held w s t h
+fair_done (Asked (Begin s t window)) w h = fair_begun w s t window h
+fair_done (Asked (Free s t)) w h = fair_freed w s t h
+fair_done (Asked (Cease s t)) w h = fair_ceased w s t h
 fair_done (Asked (Answer e)) w h = fair_on_open _ w _ h (λ x. fair_answered w x h)
 fair_done (Asked (Done e heard air)) w h = fair_on_open _ w _ h (λ x. fair_ended air w x heard h)
 fair_done (Asked (Sleep s)) w h = fair_on_station w s _ h (λ q x k. k)

@@ -11,14 +11,14 @@ use Rattle.wf_def_codel.specs.Codel.{Item}
 use Rattle.wf_def_rotation.specs.Rotation.{without_key, in_order, Picked}
 use Rattle.wf_def_agreement.specs.Session.{End}
 use Rattle.wf_def_world.specs.Rates.{rate_asked}
-use Rattle.wf_def_world.specs.World.{World, Station, Share, Exchange, Mpdu, Content, Frames, Request, no_share, no_station, rotation, quantum, with_rotation, without_exchange, owed, on_share, with_station}
+use Rattle.wf_def_world.specs.World.{World, Mode, Agreed, Station, Share, Exchange, Mpdu, Content, Frames, Request, no_share, no_station, rotation, quantum, with_rotation, without_exchange, owed, on_share, with_station, with_mode}
 use Rattle.wf_frame.specs.Classes.{class_number}
 use Rattle.wf_frame.specs.declared.notes.AskedRate.{AskedRate}
 use Rattle.wf_frame.specs.declared.settings.Config.{Config}
 use Rattle.wf_def_world.specs.FlowQueues.{without_head, after_limit, with_listed_queue, with_appended, after_put_in, with_queues_paid, taken_by_codel, taken_from_picked, taken_for_tid, after_queue_left, after_queues_left, after_queue_flushed, after_queues_flushed}
-use Rattle.wf_def_world.specs.Exchanges.{Aggregate, Prepared, with_station_paid, with_stations_paid, after_pick, after_tid_turn, with_fresh, aggregate_of, with_number, without_credit, prepared_data, prepared_exchange, with_exchange_opened, after_charge, with_failed_finished, with_settled, with_all_settled, after_done, exchange_of, picked_station, charge_of, caught_up, with_device_caught_up, longest_computed}
-use Rattle.wf_def_world.specs.Step.{join_outcome, after_tid_left, after_tids_left, without_listings, leave_outcome, rate_outcome, with_frame, enqueue_outcome, send_outcome, done_outcome, sleep_outcome, wake_outcome, poll_outcome, rx_outcome, reap_outcome, ampdu_outcome, stop_outcome, start_outcome, after_tid_flushed, flush_outcome, offload_outcome, at_most, share_with_deficit, most_kept, with_deficits_lowered, weight_outcome, new_station}
-use Rattle.wf_law_runs.proofs.Deficits.Books.{upd, updc, Account, plain, account, core, Books, books, with_account, with_lists, on_part, books_with_station, books_with_rotation, books_on_station, books_hidden, books_on_session, books_with_queues, books_on_share, books_on_queue, books_finish, books_finish_all, books_if, updc_idle, upd_idle, upd_same, upd_other, updc_same, books_on_receiver}
+use Rattle.wf_def_world.specs.Exchanges.{Aggregate, Prepared, with_station_paid, with_stations_paid, after_pick, after_tid_turn, with_fresh, aggregate_of, with_number, without_credit, prepared_data, prepared_exchange, with_exchange_opened, after_charge, with_failed_finished, with_settled, with_all_settled, after_done, exchange_of, picked_station, charge_of, caught_up, caught_up_if_plain, longest_computed}
+use Rattle.wf_def_world.specs.Step.{join_outcome, after_tid_left, after_tids_left, without_listings, leave_outcome, rate_outcome, with_frame, enqueue_outcome, send_outcome, done_outcome, sleep_outcome, wake_outcome, poll_outcome, rx_outcome, reap_outcome, ampdu_outcome, stop_outcome, start_outcome, after_tid_flushed, flush_outcome, offload_outcome, lesser_of, share_with_deficit, most_kept, with_deficits_lowered, weight_outcome, new_station, plain_window, plain_outcome, with_window, after_numbers_ended, hold_outcome, begin_outcome, free_outcome, cease_outcome}
+use Rattle.wf_law_runs.proofs.Deficits.Books.{upd, updc, Account, plain, account, core, Books, books, with_account, with_lists, on_part, books_with_station, books_with_rotation, books_on_station, books_hidden, books_on_session, books_with_queues, books_on_share, books_on_queue, books_finish, books_finish_all, books_if, updc_idle, upd_idle, upd_same, upd_other, updc_same, books_on_tid, books_on_receiver}
 use Rattle.wf_law_runs.proofs.Deficits.Openings.{owed-core}
 use Rattle.wf_def_lists.specs.Lists.{on}
 use Rattle.wf_def_lists.specs.Bounds.{greatest_window}
@@ -67,14 +67,48 @@ unfolding after_queues_flushed after_queue_flushed
 books_flush_queues [] w = refl
 books_flush_queues (q ∷ qs) w = books_flush_queues qs _ ∙ (books_finish_all _ _ _ ∙ books_on_queue w q _)
 
-books_caught_up : (w : World) (s t : ℕ) → books (with_device_caught_up w s t) ≡ books w
-unfolding with_device_caught_up caught_up
-books_caught_up w s t = books_if _ (books w) _ _ (books_on_receiver _ s t _ ∙ books_on_session w s t _) refl
+-- A TID that catches up changes no airtime.
+books_caught_up : (w : World) (s t : ℕ) → books (caught_up w s t) ≡ books w
+unfolding caught_up
+books_caught_up w s t = books_on_receiver _ s t _ ∙ books_on_session w s t _
+
+books_caught_up_if_plain : (w : World) (s t : ℕ) → books (caught_up_if_plain w s t) ≡ books w
+unfolding caught_up_if_plain
+books_caught_up_if_plain w s t = books_if _ (books w) _ _ refl (books_caught_up w s t)
 
 pub books_flushed : (w : World) (s t : ℕ) → books (flush_outcome w s t).world ≡ books w
 unfolding flush_outcome after_tid_flushed
-books_flushed w s t = books_caught_up _ s t
+books_flushed w s t = books_caught_up_if_plain _ s t
     ∙ (books_flush_queues _ _ ∙ (books_finish_all _ _ _ ∙ books_on_session w s t _))
+
+-- ---- agreements that begin and end
+
+-- Nor does its mode, or its window.
+books_with_mode : (w : World) (s t : ℕ) (mode : Mode) → books (with_mode w s t mode) ≡ books w
+unfolding with_mode
+books_with_mode w s t mode = books_on_tid w s t _
+
+books_with_window : (w : World) (s t size : ℕ) → books (with_window w s t size) ≡ books w
+unfolding with_window
+books_with_window w s t size = books_on_receiver _ s t _ ∙ books_on_session w s t _
+
+-- No call of modes changes the books.
+pub books_held : (w : World) (s t : ℕ) → books (hold_outcome w s t).world ≡ books w
+unfolding hold_outcome
+books_held w s t = books_with_mode w s t _
+
+pub books_begun : (w : World) (s t window : ℕ) → books (begin_outcome w s t window).world ≡ books w
+unfolding begin_outcome
+books_begun w s t window = books_with_mode _ s t _ ∙ (books_with_window _ s t window ∙ books_caught_up w s t)
+
+pub books_freed : (w : World) (s t : ℕ) → books (free_outcome w s t).world ≡ books w
+unfolding free_outcome
+books_freed w s t = books_with_mode w s t _
+
+pub books_ceased : (w : World) (s t : ℕ) → books (cease_outcome w s t).world ≡ books w
+unfolding cease_outcome after_numbers_ended
+books_ceased w s t = books_with_mode _ s t _ ∙ (books_with_window _ s t _
+    ∙ (books_caught_up _ s t ∙ (books_finish_all _ _ _ ∙ books_on_session w s t _)))
 
 -- ---- pulls
 
@@ -191,7 +225,7 @@ books_all_settled (m ∷ ms) w s t ends = books_all_settled ms _ s t ends ∙ bo
 books_after_done : (content : Content) (w : World) (x : Exchange) (heard : Bool) →
     books (after_done w x heard content) ≡ books w
 unfolding after_done
-books_after_done (Frames mpdus) w x heard = books_caught_up _ _ _ ∙ books_all_settled mpdus w _ _ _
+books_after_done (Frames mpdus) w x heard = books_caught_up_if_plain _ _ _ ∙ books_all_settled mpdus w _ _ _
 books_after_done (Request start) w x heard = books_on_session w _ _ _
 
 pub books_ended : (air : Option ℕ) (w : World) (x : Exchange) (heard : Bool) →
@@ -289,10 +323,10 @@ fresh_account q weight = record {
       λ c. fresh_share (q * weight);
 }
 
-books_new_station : (w : World) (s window start exponent weight : ℕ) (offloaded : Bool) →
-    books (with_station w s (Some (new_station w.config window start exponent weight offloaded)))
+books_new_station : (w : World) (s : ℕ) (mode : Mode) (window start exponent weight : ℕ) (offloaded : Bool) →
+    books (with_station w s (Some (new_station w.config mode window start exponent weight offloaded)))
     ≡ with_account (books w) s (Some (fresh_account w.config.quantum weight))
-books_new_station w s window start exponent weight offloaded =
+books_new_station w s mode window start exponent weight offloaded =
     books_with_station w s _ ∙ ap (λ (f : Class → Share). with_account (books w) s
     (Some (record { weight = weight; weighed = false; rate = lowest_rate; shares = f })))
     (fun_ext (four (w.config.quantum * weight)))
@@ -308,13 +342,21 @@ pub books_joined : (w : World) (s window start exponent weight : ℕ) →
     books (join_outcome w s window start exponent weight).world
     ≡ with_account (books w) s (Some (fresh_account w.config.quantum weight))
 unfolding join_outcome
-books_joined w s window start exponent weight = books_new_station w s window start exponent weight false
+books_joined w s window start exponent weight =
+    books_new_station w s Agreed window start exponent weight false
 
 pub books_offloaded : (w : World) (s exponent weight : ℕ) →
     books (offload_outcome w s exponent weight).world
     ≡ with_account (books w) s (Some (fresh_account w.config.quantum weight))
 unfolding offload_outcome
-books_offloaded w s exponent weight = books_new_station w s greatest_window 0 exponent weight true
+books_offloaded w s exponent weight = books_new_station w s Mode.Plain greatest_window 0 exponent weight true
+
+pub books_joined_plain : (w : World) (s start exponent weight : ℕ) →
+    books (plain_outcome w s start exponent weight).world
+    ≡ with_account (books w) s (Some (fresh_account w.config.quantum weight))
+unfolding plain_outcome
+books_joined_plain w s start exponent weight =
+    books_new_station w s Mode.Plain plain_window start exponent weight false
 
 -- ---- giving quanta
 
@@ -437,7 +479,7 @@ spare config s c opened = min (if config.pending == 1 then owed s c opened else 
 
 -- The share after its station's quantum became q: its deficit is at most q and n.
 abbrev pub lowered : ℕ → ℕ → Share → Share
-lowered q n x = share_with_deficit q (at_most (q + n) x.deficit) x
+lowered q n x = share_with_deficit q (lesser_of (q + n) x.deficit) x
 
 -- The account after its weight was set to g.
 abbrev pub reweighed : Config → List Exchange → ℕ → ℕ → Account → Account
@@ -459,7 +501,7 @@ abbrev lowered_in : Config → List Exchange → ℕ → Class → Account → A
 lowered_in config opened s c a = on_part c (lowered (config.quantum * a.weight) (spare config s c opened)) a
 
 books_lowered_in : (w : World) (s : ℕ) (c : Class) → books (on_share w s c
-    (λ y. share_with_deficit (quantum w s) (at_most (most_kept w s c) y.deficit) y))
+    (λ y. share_with_deficit (quantum w s) (lesser_of (most_kept w s c) y.deficit) y))
     ≡ with_account (books w) s (option_map (lowered_in w.config (books w).opened s c) ((books w).accounts s))
 books_lowered_in w s c =
     books_on_share w s c _ (lowered (quantum w s) (spare w.config s c w.opened)) (λ x. refl)
@@ -501,7 +543,7 @@ on_twice b s f g = ap (λ (z : ℕ → Option Account). record b { accounts = z 
 
 books_lowered_next : (w v : World) (s : ℕ) (c : Class) (f : Account → Account) →
     books v ≡ with_account (books w) s (option_map f ((books w).accounts s)) →
-    books (on_share v s c (λ y. share_with_deficit (quantum v s) (at_most (most_kept v s c) y.deficit) y))
+    books (on_share v s c (λ y. share_with_deficit (quantum v s) (lesser_of (most_kept v s c) y.deficit) y))
     ≡ with_account (books w) s (option_map (λ a. lowered_in w.config (books w).opened s c (f a))
     ((books w).accounts s))
 books_lowered_next w v s c f e = books_lowered_in v s c

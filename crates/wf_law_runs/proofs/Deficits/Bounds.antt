@@ -1,6 +1,6 @@
 -- Proves that a deficit stays in its bounds when quanta are given, when an exchange is charged, and when
 -- received airtime is charged.
-use Rattle.std.proofs.Common.{◌≡◌, arith, ℕ, zero, suc, ◌+◌, ◌*◌, ◌/◌, ◌%◌, ◌<◌, ◌≤◌, ℤ, pos, negsuc, ◌+ℤ◌, ◌-ℤ◌, ◌≤ℤ◌, ◌==◌, if◌then◌else◌, refl, ◌-◌, Bool, true, false, int_le, inl, inr, ◌⊎◌}
+use Rattle.std.proofs.Common.{◌≡◌, arith, ℕ, zero, suc, ◌+◌, ◌*◌, ◌/◌, ◌%◌, ◌<◌, ◌≤◌, ℤ, pos, negsuc, ◌+ℤ◌, ◌-ℤ◌, ◌≤ℤ◌, ◌==◌, if◌then◌else◌, refl, Bool, true, false, int_le, inl, inr, ◌⊎◌}
 use Rattle.std.proofs.lemmas.Int.{ints}
 use Rattle.std.proofs.lemmas.Nat.{div-add-mod', mod_below}
 use Rattle.wf_frame.specs.declared.settings.Config.{Config}
@@ -9,7 +9,7 @@ use Rattle.wf_def_rotation.specs.Rotation.{need_of}
 use Rattle.wf_def_lists.specs.Bounds.{deepest_deficit}
 use Rattle.wf_def_world.specs.World.{Share}
 use Rattle.wf_def_world.specs.Exchanges.{longest_computed}
-use Rattle.wf_def_world.specs.Step.{at_most, share_with_deficit}
+use Rattle.wf_def_world.specs.Step.{lesser_of, share_with_deficit}
 use Rattle.wf_law_runs.specs.Deficits.{most_owed, most_covered}
 use Rattle.wf_law_runs.proofs.Deficits.BookSteps.{pay_share, charge_share, receive_share, fresh_share, lowered}
 
@@ -134,8 +134,8 @@ bounded_charge config c m k n j charge weight x h over under b = record {
 
 -- A receive charge brings the deficit at most the setting `debt` below 0.
 pub bounded_receive : (config : Config) (c : Class) (m n air weight : ℕ) (x : Share) →
-    m ≤ most_owed config c → 0 < air → deepest_deficit config.debt ≤ℤ (x.deficit -ℤ pos air) → IsBounded config c m n weight x →
-    IsBounded config c m n weight (receive_share air x)
+    m ≤ most_owed config c → 0 < air → deepest_deficit config.debt ≤ℤ (x.deficit -ℤ pos air) →
+    IsBounded config c m n weight x → IsBounded config c m n weight (receive_share air x)
 bounded_receive config c m n air weight x h some debt b = record {
   most = omega (arith, ints, b.most);
   least = omega (arith, ints);
@@ -158,7 +158,7 @@ bounded_fresh config c m n weight some w h none =
 
 -- ---- a weight that is set
 
-pub at_most_cases : (n : ℕ) (d : ℤ) → ((at_most n d ≡ d) × (d ≤ℤ pos n)) ⊎ (at_most n d ≡ pos n)
+pub at_most_cases : (n : ℕ) (d : ℤ) → ((lesser_of n d ≡ d) × (d ≤ℤ pos n)) ⊎ (lesser_of n d ≡ pos n)
 at_most_cases n d = go (int_le d (pos n)) refl
   where
     go : (t : Bool) → int_le d (pos n) ≡ t →
@@ -172,7 +172,7 @@ pub bounded_lowered : (config : Config) (c : Class) (m n weight g r : ℕ) (x : 
     n ≤ r + longest_computed config c → IsBounded config c m n weight x →
     IsBounded config c m n g (lowered (config.quantum * g) r x)
 bounded_lowered config c m n weight g r x one owes covers below short b =
-    go (at_most (config.quantum * g + r) x.deficit) (at_most_cases (config.quantum * g + r) x.deficit)
+    go (lesser_of (config.quantum * g + r) x.deficit) (at_most_cases (config.quantum * g + r) x.deficit)
   where
     go : (d : ℤ) → ((d ≡ x.deficit) × (x.deficit ≤ℤ pos (config.quantum * g + r)))
         ⊎ (d ≡ pos (config.quantum * g + r)) →

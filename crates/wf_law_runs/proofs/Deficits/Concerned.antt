@@ -3,7 +3,7 @@
 use Rattle.std.proofs.Common.{◌≡◌, refl, ap, sym, ◌∙◌, subst, arith, ℕ, ◌<◌, Bool, true, false, [], ◌∷◌, Option, Some, None, is_some, inl, inr, ◌⊎◌}
 use Rattle.std.proofs.lemmas.Bool.{cases_eq}
 use Rattle.wf_frame.specs.declared.classes.Class.{Class}
-use Rattle.wf_frame.specs.declared.notes.Ask.TheVariants.{Join, Leave, Rate, Tick, Pull, Arrive, Answer, Done, Sleep, Wake, Poll, Rx, Reap, Ampdu, Stop, Start, Unsent, GiveUp, Flush, Offload, Weight}
+use Rattle.wf_frame.specs.declared.notes.Ask.TheVariants.{Join, Leave, Rate, Tick, Pull, Arrive, Answer, Done, Sleep, Wake, Poll, Rx, Reap, Ampdu, Stop, Start, Unsent, GiveUp, Flush, Offload, Weight, Plain, Hold, Begin, Free, Cease}
 use Rattle.wf_frame.specs.declared.notes.Limits.{Limits}
 use Rattle.wf_frame.specs.declared.notes.Note.{Note}
 use Rattle.wf_frame.specs.declared.notes.Note.TheVariants.{Enqueue, Asked}
@@ -18,7 +18,7 @@ use Rattle.wf_law_rules.proofs.Lemmas.Counts.{on-nil, on-cons_other, on-append}
 use Rattle.wf_law_rules.proofs.Lemmas.Rotations.{pick_keeps, pick_winner}
 use Rattle.wf_law_runs.proofs.Common.Limits.{with_limits}
 use Rattle.wf_law_runs.proofs.Deficits.Books.{Books, books, with_account, upd_same, each_updc}
-use Rattle.wf_law_runs.proofs.Deficits.BookSteps.{books_after_turn, books_prepared, books_sent, books_ended, books_gone, all_off, books_enqueued, books_received, books_reaped, books_slept, books_woken, books_credited, books_with_rate, books_joined, after, books_after_pick, books_stated, books_stopped, books_started, books_flushed, books_offloaded, books_weighed}
+use Rattle.wf_law_runs.proofs.Deficits.BookSteps.{books_after_turn, books_prepared, books_sent, books_ended, books_gone, all_off, books_enqueued, books_received, books_reaped, books_slept, books_woken, books_credited, books_with_rate, books_joined, after, books_after_pick, books_stated, books_stopped, books_started, books_flushed, books_offloaded, books_weighed, books_joined_plain, books_held, books_begun, books_freed, books_ceased}
 use Rattle.wf_law_runs.proofs.Deficits.Kept.{IsKept}
 use Rattle.wf_law_runs.proofs.Deficits.KeptStep.{to_list_live, live_account, IsFound, books_arrived, books_unsent, books_given_up, books_answered}
 use Rattle.wf_law_runs.proofs.Deficits.Listing.{Adds, AddedOf, added_listed}
@@ -91,6 +91,8 @@ own_done (Asked (Join i window start exponent weight)) w s c k h =
     own_same c s w _ (ap (λ (b : Books). b.rotations) (books_joined w i window start exponent weight))
 own_done (Asked (Offload i exponent weight)) w s c k h =
     own_same c s w _ (ap (λ (b : Books). b.rotations) (books_offloaded w i exponent weight))
+own_done (Asked (Plain i start exponent weight)) w s c k h =
+    own_same c s w _ (ap (λ (b : Books). b.rotations) (books_joined_plain w i start exponent weight))
 own_done (Asked (Weight i weight)) w s c k h =
     own_same c s w _ (ap (λ (b : Books). b.rotations) (books_weighed w i weight))
 own_done (Asked (Leave i)) w s c k h = own_books c s w _ _ (books_gone w i) (own_gone w i s c h)
@@ -109,11 +111,20 @@ own_done (Asked (Answer e)) w s c k h = own_open (exchange w e) w e s c _ refl
 own_done (Asked (Done e heard air)) w s c k h = own_open (exchange w e) w e s c _ refl
     (λ x f. ap (λ (b : Books). b.rotations) (books_ended air w x heard))
 own_done (Asked (Sleep i)) w s c k h = own_same c s w _ (ap (λ (b : Books). b.rotations) (books_slept w i))
-own_done (Asked (Ampdu i octets)) w s c k h = own_same c s w _ (ap (λ (b : Books). b.rotations) (books_stated w i octets))
+own_done (Asked (Ampdu i octets)) w s c k h =
+    own_same c s w _ (ap (λ (b : Books). b.rotations) (books_stated w i octets))
 own_done (Asked (Stop i)) w s c k h = own_same c s w _ (ap (λ (b : Books). b.rotations) (books_stopped w i))
 own_done (Asked (Start i)) w s c k h = own_same c s w _ (ap (λ (b : Books). b.rotations) (books_started w i))
 own_done (Asked (Flush i t)) w s c k h = own_same c s w _
     (ap (λ (b : Books). b.rotations) (books_flushed w i t))
+own_done (Asked (Hold i t)) w s c k h = own_same c s w _
+    (ap (λ (b : Books). b.rotations) (books_held w i t))
+own_done (Asked (Begin i t window)) w s c k h = own_same c s w _
+    (ap (λ (b : Books). b.rotations) (books_begun w i t window))
+own_done (Asked (Free i t)) w s c k h = own_same c s w _
+    (ap (λ (b : Books). b.rotations) (books_freed w i t))
+own_done (Asked (Cease i t)) w s c k h = own_same c s w _
+    (ap (λ (b : Books). b.rotations) (books_ceased w i t))
 own_done (Asked (Wake i)) w s c k h = own_same c s w _ (ap (λ (b : Books). b.rotations) (books_woken w i))
 own_done (Asked (Poll i)) w s c k h = own_same c s w _ (ap (λ (b : Books). b.rotations) (books_credited w i))
 own_done (Asked (Rx i d air)) w s c k h = own_same c s w _

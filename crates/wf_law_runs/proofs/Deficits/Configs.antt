@@ -1,7 +1,7 @@
 -- Proves that no call changes the settings.
 use Rattle.std.proofs.Common.{◌≡◌, refl, ap, ◌∙◌, ℕ, Bool, true, false, if◌then◌else◌, List, [], ◌∷◌, Option, Some, None}
 use Rattle.wf_frame.specs.declared.classes.Class.{Class}
-use Rattle.wf_frame.specs.declared.notes.Ask.TheVariants.{Join, Leave, Rate, Tick, Pull, Arrive, Answer, Done, Sleep, Wake, Poll, Rx, Reap, Ampdu, Stop, Start, Unsent, GiveUp, Flush, Offload, Weight}
+use Rattle.wf_frame.specs.declared.notes.Ask.TheVariants.{Join, Leave, Rate, Tick, Pull, Arrive, Answer, Done, Sleep, Wake, Poll, Rx, Reap, Ampdu, Stop, Start, Unsent, GiveUp, Flush, Offload, Weight, Plain, Hold, Begin, Free, Cease}
 use Rattle.wf_frame.specs.declared.notes.Limits.{Limits}
 use Rattle.wf_frame.specs.declared.notes.Note.{Note}
 use Rattle.wf_frame.specs.declared.notes.Note.TheVariants.{Enqueue, Asked}
@@ -17,7 +17,7 @@ use Rattle.wf_def_world.specs.Step.{Outcome, tick_outcome, outcome_where_open, p
 use Rattle.wf_def_world.specs.Run.{Entry, world_after}
 use Rattle.wf_law_runs.proofs.Common.Refused.{after_idle}
 use Rattle.wf_law_runs.proofs.Deficits.Books.{Books, books}
-use Rattle.wf_law_runs.proofs.Deficits.BookSteps.{books_after_turn, books_prepared, books_sent, books_ended, books_gone, books_enqueued, books_received, books_reaped, books_slept, books_woken, books_credited, books_with_rate, books_joined, books_after_pick, books_stated, books_stopped, books_started, books_flushed, books_offloaded, books_weighed}
+use Rattle.wf_law_runs.proofs.Deficits.BookSteps.{books_after_turn, books_prepared, books_sent, books_ended, books_gone, books_enqueued, books_received, books_reaped, books_slept, books_woken, books_credited, books_with_rate, books_joined, books_after_pick, books_stated, books_stopped, books_started, books_flushed, books_offloaded, books_weighed, books_joined_plain, books_held, books_begun, books_freed, books_ceased}
 
 same : (w v : World) (b : Books) → books v ≡ b → b.config ≡ w.config → v.config ≡ w.config
 same w v b e h = ap (λ (z : Books). z.config) e ∙ h
@@ -84,6 +84,8 @@ config_done (Asked (Join s window start exponent weight)) w =
     ap (λ (z : Books). z.config) (books_joined w s window start exponent weight)
 config_done (Asked (Offload s exponent weight)) w =
     ap (λ (z : Books). z.config) (books_offloaded w s exponent weight)
+config_done (Asked (Plain s start exponent weight)) w =
+    ap (λ (z : Books). z.config) (books_joined_plain w s start exponent weight)
 config_done (Asked (Weight s weight)) w = ap (λ (z : Books). z.config) (books_weighed w s weight)
 config_done (Asked (Leave s)) w = ap (λ (z : Books). z.config) (books_gone w s)
 config_done (Asked (Rate s rate)) w =
@@ -101,6 +103,10 @@ config_done (Asked (Ampdu s octets)) w = ap (λ (z : Books). z.config) (books_st
 config_done (Asked (Stop s)) w = ap (λ (z : Books). z.config) (books_stopped w s)
 config_done (Asked (Start s)) w = ap (λ (z : Books). z.config) (books_started w s)
 config_done (Asked (Flush s t)) w = ap (λ (z : Books). z.config) (books_flushed w s t)
+config_done (Asked (Hold s t)) w = ap (λ (z : Books). z.config) (books_held w s t)
+config_done (Asked (Begin s t window)) w = ap (λ (z : Books). z.config) (books_begun w s t window)
+config_done (Asked (Free s t)) w = ap (λ (z : Books). z.config) (books_freed w s t)
+config_done (Asked (Cease s t)) w = ap (λ (z : Books). z.config) (books_ceased w s t)
 config_done (Asked (Wake s)) w = ap (λ (z : Books). z.config) (books_woken w s)
 config_done (Asked (Poll s)) w = ap (λ (z : Books). z.config) (books_credited w s)
 config_done (Asked (Rx s c air)) w = ap (λ (z : Books). z.config) (books_received w s c air)

@@ -1,10 +1,10 @@
--- Proves that a call leaves every other station on a list of a class, or with a positive standing there, if
+-- Proves that a call leaves every other station on a list of a class, or with a positive standing in it, if
 -- it was so before. By cases of the call.
 use Rattle.std.proofs.Common.{◌≡◌, refl, ap, sym, ◌∙◌, subst, arith, ℕ, ◌*◌, ◌<◌, ℤ, pos, ◌+ℤ◌, ◌-ℤ◌, ◌≤ℤ◌, Bool, true, false, if◌then◌else◌, Option, Some, None, IfSome, not, ◌==◌, find, inl, inr, ◌⊎◌}
 use Rattle.std.proofs.lemmas.Int.{ints}
 use Rattle.wf_frame.specs.declared.settings.Config.{Config}
 use Rattle.wf_frame.specs.declared.classes.Class.{Class}
-use Rattle.wf_frame.specs.declared.notes.Ask.TheVariants.{Join, Leave, Rate, Tick, Pull, Arrive, Answer, Done, Sleep, Wake, Poll, Rx, Reap, Ampdu, Stop, Start, Unsent, GiveUp, Flush, Offload, Weight}
+use Rattle.wf_frame.specs.declared.notes.Ask.TheVariants.{Join, Leave, Rate, Tick, Pull, Arrive, Answer, Done, Sleep, Wake, Poll, Rx, Reap, Ampdu, Stop, Start, Unsent, GiveUp, Flush, Offload, Weight, Plain, Hold, Begin, Free, Cease}
 use Rattle.wf_frame.specs.declared.notes.Limits.{Limits}
 use Rattle.wf_frame.specs.declared.notes.Note.{Note}
 use Rattle.wf_frame.specs.declared.notes.Note.TheVariants.{Enqueue, Asked}
@@ -18,7 +18,7 @@ use Rattle.wf_def_world.specs.Step.{Outcome, tick_outcome, pull_outcome_for, pul
 use Rattle.wf_law_rules.proofs.Lemmas.Rotations.{pick_leaves}
 use Rattle.wf_law_runs.proofs.Common.Limits.{with_limits}
 use Rattle.wf_law_runs.proofs.Deficits.Books.{Account, Books, books, core, with_account, upd_other, updc_same, updc_other, cases_class}
-use Rattle.wf_law_runs.proofs.Deficits.BookSteps.{books_after_turn, books_prepared, books_sent, with_opened, without, books_ended, books_gone, all_off, books_enqueued, books_received, books_reaped, books_slept, books_woken, books_credited, books_with_rate, books_joined, paid, after, books_after_pick, pay_share, books_stated, books_stopped, books_started, books_flushed, books_offloaded, books_weighed}
+use Rattle.wf_law_runs.proofs.Deficits.BookSteps.{books_after_turn, books_prepared, books_sent, with_opened, without, books_ended, books_gone, all_off, books_enqueued, books_received, books_reaped, books_slept, books_woken, books_credited, books_with_rate, books_joined, paid, after, books_after_pick, pay_share, books_stated, books_stopped, books_started, books_flushed, books_offloaded, books_weighed, books_joined_plain, books_held, books_begun, books_freed, books_ceased}
 use Rattle.wf_law_runs.proofs.Deficits.Openings.{every_map, only_one, owed-others_append, owed-others_filter}
 use Rattle.wf_law_runs.proofs.Deficits.Kept.{IsKept, counted_in, standing_of, need_in, if_map, if_same, above_after}
 use Rattle.wf_law_runs.proofs.Deficits.KeptStep.{need_is, IsFound, at_number, books_arrived, books_unsent, books_given_up, books_answered}
@@ -48,7 +48,7 @@ all_off-on b s y Vo other = without-on (b.rotations Vo) s y other
 abbrev pub HasCredit : Books → ℕ → Class → Type 0
 HasCredit b y c = IfSome (b.accounts y) (λ a. pos 1 ≤ℤ standing_of b y c a)
 
--- A station is on a list of a class, or has a positive standing there.
+-- A station is on a list of a class, or its standing is positive.
 abbrev pub IsBacked : Books → ℕ → Class → Type 0
 IsBacked b y c = (0 < on (in_order (b.rotations c)) y) ⊎ HasCredit b y c
 
@@ -218,6 +218,9 @@ backs_done (Asked (Join i window start exponent weight)) w s k h = backs_named i
 backs_done (Asked (Offload i exponent weight)) w s k h = backs_named i s _ _ h
     (backs_then i _ _ _ (backs_account i (books w) _)
     (backs_same i _ _ (books_offloaded w i exponent weight)))
+backs_done (Asked (Plain i start exponent weight)) w s k h = backs_named i s _ _ h
+    (backs_then i _ _ _ (backs_account i (books w) _)
+    (backs_same i _ _ (books_joined_plain w i start exponent weight)))
 backs_done (Asked (Weight i weight)) w s k h = backs_named i s _ _ h
     (backs_then i _ _ _ (backs_account i (books w) _) (backs_same i _ _ (books_weighed w i weight)))
 backs_done (Asked (Leave i)) w s k h = backs_named i s _ _ h
@@ -241,6 +244,10 @@ backs_done (Asked (Ampdu i octets)) w s k h = backs_same s _ _ (books_stated w i
 backs_done (Asked (Stop i)) w s k h = backs_same s _ _ (books_stopped w i)
 backs_done (Asked (Start i)) w s k h = backs_same s _ _ (books_started w i)
 backs_done (Asked (Flush i t)) w s k h = backs_same s _ _ (books_flushed w i t)
+backs_done (Asked (Hold i t)) w s k h = backs_same s _ _ (books_held w i t)
+backs_done (Asked (Begin i t window)) w s k h = backs_same s _ _ (books_begun w i t window)
+backs_done (Asked (Free i t)) w s k h = backs_same s _ _ (books_freed w i t)
+backs_done (Asked (Cease i t)) w s k h = backs_same s _ _ (books_ceased w i t)
 backs_done (Asked (Wake i)) w s k h = backs_same s _ _ (books_woken w i)
 backs_done (Asked (Poll i)) w s k h = backs_same s _ _ (books_credited w i)
 backs_done (Asked (Rx i c air)) w s k h = backs_named i s _ _ h

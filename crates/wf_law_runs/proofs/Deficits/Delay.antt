@@ -3,7 +3,7 @@
 use Rattle.std.proofs.Common.{◌≡◌, refl, ap, sym, ◌∙◌, subst, arith, ℕ, zero, suc, ◌+◌, ◌-◌, ◌<◌, ◌≤◌, Bool, true, false, if◌then◌else◌, cond, not, ◌||◌, List, [], ◌∷◌, ◌++◌, Option, Some, None, is_some, is_none, map, filter, find, take, drop, nat_le, ◌==◌, inl, inr}
 use Rattle.wf_frame.specs.declared.settings.Config.{Config}
 use Rattle.wf_frame.specs.declared.classes.Class.{Class}
-use Rattle.wf_frame.specs.declared.notes.Ask.TheVariants.{Join, Leave, Rate, Tick, Pull, Arrive, Answer, Done, Sleep, Wake, Poll, Rx, Reap, Ampdu, Stop, Start, Unsent, GiveUp, Flush, Offload, Weight}
+use Rattle.wf_frame.specs.declared.notes.Ask.TheVariants.{Join, Leave, Rate, Tick, Pull, Arrive, Answer, Done, Sleep, Wake, Poll, Rx, Reap, Ampdu, Stop, Start, Unsent, GiveUp, Flush, Offload, Weight, Plain, Hold, Begin, Free, Cease}
 use Rattle.wf_frame.specs.declared.notes.Limits.{Limits}
 use Rattle.wf_frame.specs.declared.notes.Note.{Note}
 use Rattle.wf_frame.specs.declared.notes.Note.TheVariants.{Enqueue, Asked}
@@ -22,7 +22,7 @@ use Rattle.wf_law_runs.specs.Delay.{HasOpen, computed_of, airtime_ended_by, airt
 use Rattle.wf_law_runs.proofs.Common.Refused.{after_idle}
 use Rattle.wf_law_runs.proofs.Common.Limits.{with_limits}
 use Rattle.wf_law_runs.proofs.Deficits.Books.{core, Books, books}
-use Rattle.wf_law_runs.proofs.Deficits.BookSteps.{books_after_turn, books_prepared, books_sent, with_opened, books_ended, books_gone, books_enqueued, books_received, books_reaped, books_slept, books_woken, books_credited, books_with_rate, books_joined, books_after_pick, books_stated, books_stopped, books_started, books_flushed, books_offloaded, books_weighed}
+use Rattle.wf_law_runs.proofs.Deficits.BookSteps.{books_after_turn, books_prepared, books_sent, with_opened, books_ended, books_gone, books_enqueued, books_received, books_reaped, books_slept, books_woken, books_credited, books_with_rate, books_joined, books_after_pick, books_stated, books_stopped, books_started, books_flushed, books_offloaded, books_weighed, books_joined_plain, books_held, books_begun, books_freed, books_ceased}
 use Rattle.wf_law_runs.proofs.Deficits.Kept.{IsKept}
 use Rattle.wf_law_runs.proofs.Deficits.KeptStep.{IsFound, found_number, at_number, books_arrived, books_unsent, books_given_up, books_answered, kept_step, kept}
 use Rattle.wf_law_runs.proofs.Deficits.InFlight.{in_flight_law}
@@ -227,6 +227,8 @@ passes_done n (Asked (Join s window start exponent weight)) w r k b = passes_boo
     (books_joined w s window start exponent weight) refl refl
 passes_done n (Asked (Offload s exponent weight)) w r k b = passes_books _ n w _ _
     (books_offloaded w s exponent weight) refl refl
+passes_done n (Asked (Plain s start exponent weight)) w r k b = passes_books _ n w _ _
+    (books_joined_plain w s start exponent weight) refl refl
 passes_done n (Asked (Weight s weight)) w r k b = passes_books _ n w _ _ (books_weighed w s weight) refl refl
 passes_done n (Asked (Leave s)) w r k b = passes_books _ n w _ _ (books_gone w s) refl refl
 passes_done n (Asked (Rate s rate)) w r k b = passes_books _ n w _ _ (books_with_rate w s rate) refl refl
@@ -250,10 +252,16 @@ passes_done n (Asked (Done e heard air)) w r k b =
     (ap (λ (z : Books). z.opened) (books_ended air w x heard))
     (ap (λ (z : Books). z.exchanges) (books_ended air w x heard))))
 passes_done n (Asked (Sleep s)) w r k b = passes_books _ n w (books w) _ (books_slept w s) refl refl
-passes_done n (Asked (Ampdu s octets)) w r k b = passes_books _ n w (books w) _ (books_stated w s octets) refl refl
+passes_done n (Asked (Ampdu s octets)) w r k b =
+    passes_books _ n w (books w) _ (books_stated w s octets) refl refl
 passes_done n (Asked (Stop s)) w r k b = passes_books _ n w (books w) _ (books_stopped w s) refl refl
 passes_done n (Asked (Start s)) w r k b = passes_books _ n w (books w) _ (books_started w s) refl refl
 passes_done n (Asked (Flush s t)) w r k b = passes_books _ n w (books w) _ (books_flushed w s t) refl refl
+passes_done n (Asked (Hold s t)) w r k b = passes_books _ n w (books w) _ (books_held w s t) refl refl
+passes_done n (Asked (Begin s t window)) w r k b =
+    passes_books _ n w (books w) _ (books_begun w s t window) refl refl
+passes_done n (Asked (Free s t)) w r k b = passes_books _ n w (books w) _ (books_freed w s t) refl refl
+passes_done n (Asked (Cease s t)) w r k b = passes_books _ n w (books w) _ (books_ceased w s t) refl refl
 passes_done n (Asked (Wake s)) w r k b = passes_books _ n w (books w) _ (books_woken w s) refl refl
 passes_done n (Asked (Poll s)) w r k b = passes_books _ n w (books w) _ (books_credited w s) refl refl
 passes_done n (Asked (Rx s c air)) w r k b = passes_books _ n w _ _ (books_received w s c air) refl refl

@@ -7,7 +7,7 @@ use Rattle.std.proofs.lemmas.List.Sums.{sum_by-cons}
 use Rattle.std.proofs.Math.Nat.{le-max_left, le-max_right, min-le_right}
 use Rattle.wf_frame.specs.declared.settings.Config.{Config}
 use Rattle.wf_frame.specs.declared.classes.Class.{Class}
-use Rattle.wf_frame.specs.declared.notes.Ask.TheVariants.{Join, Leave, Rate, Tick, Pull, Arrive, Answer, Done, Sleep, Wake, Poll, Rx, Reap, Ampdu, Stop, Start, Unsent, GiveUp, Flush, Offload, Weight}
+use Rattle.wf_frame.specs.declared.notes.Ask.TheVariants.{Join, Leave, Rate, Tick, Pull, Arrive, Answer, Done, Sleep, Wake, Poll, Rx, Reap, Ampdu, Stop, Start, Unsent, GiveUp, Flush, Offload, Weight, Plain, Hold, Begin, Free, Cease}
 use Rattle.wf_frame.specs.declared.notes.Limits.{Limits}
 use Rattle.wf_frame.specs.declared.notes.Note.{Note}
 use Rattle.wf_frame.specs.declared.notes.Note.TheVariants.{Enqueue, Asked}
@@ -34,7 +34,7 @@ use Rattle.wf_law_runs.proofs.Common.Marks.{marked_world}
 use Rattle.wf_law_runs.proofs.Common.Refused.{if_idle}
 use Rattle.wf_law_runs.proofs.Common.Limits.{with_limits}
 use Rattle.wf_law_runs.proofs.Deficits.Books.{Account, account, core, Books, books, on_part, each_updc, books_with_rotation, books_on_receiver}
-use Rattle.wf_law_runs.proofs.Deficits.BookSteps.{books_after_turn, books_prepared, books_sent, books_ended, books_gone, books_enqueued, receive_share, books_received, books_reaped, books_slept, books_woken, books_credited, rated, books_with_rate, books_joined, books_after_pick, books_stated, books_stopped, books_started, books_flushed, books_offloaded, books_weighed}
+use Rattle.wf_law_runs.proofs.Deficits.BookSteps.{books_after_turn, books_prepared, books_sent, books_ended, books_gone, books_enqueued, receive_share, books_received, books_reaped, books_slept, books_woken, books_credited, rated, books_with_rate, books_joined, books_after_pick, books_stated, books_stopped, books_started, books_flushed, books_offloaded, books_weighed, books_joined_plain, books_held, books_begun, books_freed, books_ceased}
 use Rattle.wf_law_runs.proofs.Deficits.Openings.{Every, every_map, every_find, only_one, many, many-count, many-core, owed-core, owed_all-core, owed_most}
 use Rattle.wf_law_runs.proofs.Deficits.Bounds.{counted, IsBounded, bounded_receive}
 use Rattle.wf_law_runs.proofs.Deficits.Kept.{IsOpen, at_stake, counted_in, IsGood, IsKept, standing_of, need_in, some_map, if_same, kept_on, kept_add, at_stake_most, kept_fresh, kept_gone, within_opened, kept_opened, kept_ended, IsPick, kept_after, above_after, kept_weighed}
@@ -479,6 +479,10 @@ kept_done (Asked (Offload s exponent weight)) w e i =
     is _ _ (books_offloaded w s exponent weight)
     (kept_fresh (books w) s weight i (leb-true _ _ (and_parts _ _ (not-false _ e.1.1.0)).0)
     (live_account (at None w.stations s) ∙ e.1.1.1.0))
+kept_done (Asked (Plain s start exponent weight)) w e i =
+    is _ _ (books_joined_plain w s start exponent weight)
+    (kept_fresh (books w) s weight i (leb-true _ _ (and_parts _ _ (not-false _ e.1.1.1.0)).0)
+    (live_account (at None w.stations s) ∙ e.1.1.1.1.0))
 kept_done (Asked (Weight s weight)) w e i = is _ _ (books_weighed w s weight)
     (kept_weighed (books w) s weight i (leb-true _ _ (and_parts _ _ (not-false _ e.1.0)).0))
 kept_done (Asked (Leave s)) w e i = is _ _ (books_gone w s)
@@ -506,6 +510,10 @@ kept_done (Asked (Ampdu s octets)) w e i = is _ _ (books_stated w s octets) i
 kept_done (Asked (Stop s)) w e i = is _ _ (books_stopped w s) i
 kept_done (Asked (Start s)) w e i = is _ _ (books_started w s) i
 kept_done (Asked (Flush s t)) w e i = is _ _ (books_flushed w s t) i
+kept_done (Asked (Hold s t)) w e i = is _ _ (books_held w s t) i
+kept_done (Asked (Begin s t window)) w e i = is _ _ (books_begun w s t window) i
+kept_done (Asked (Free s t)) w e i = is _ _ (books_freed w s t) i
+kept_done (Asked (Cease s t)) w e i = is _ _ (books_ceased w s t) i
 kept_done (Asked (Wake s)) w e i = is _ _ (books_woken w s) i
 kept_done (Asked (Poll s)) w e i = is _ _ (books_credited w s) i
 kept_done (Asked (Rx s c air)) w e i = kept_received w s c air e.1.0 e.1.1.1.0 i

@@ -5,11 +5,11 @@ use Rattle.std.proofs.Math.Nat.{le-max_left, le-max_right, max-le}
 use Rattle.std.proofs.lemmas.Bool.{and_parts, leb-true}
 use Rattle.wf_frame.specs.declared.classes.Class.{Class}
 use Rattle.wf_def_lists.specs.Table.{at, longest_front}
-use Rattle.wf_def_air.specs.Airtime.{Rate, IsRate, lowest_rate, slow_mbps, middle_mbps, fast_mbps, kbps, data_time, sifs, control_mbps, request_time, answer_time, longest_answer, request_charge}
+use Rattle.wf_def_air.specs.Airtime.{Rate, Ht, Vht, He, IsRate, lowest_rate, slow_mbps, middle_mbps, fast_mbps, kbps, data_time, sifs, control_mbps, request_time, answer_time, ack_time, longest_answer, data_charge, plain_charge, request_charge}
 use Rattle.wf_def_world.proofs.Fitting.{front_passes}
-use Rattle.wf_def_air.specs.Fit.{aggregate_octets, longest_alone, time_allowed}
-use Rattle.wf_def_air.proofs.Times.{single_time}
-use Rattle.wf_def_world.specs.World.{World, Bounds, Station, Mpdu, no_station, station, session, is_wide}
+use Rattle.wf_def_air.specs.Fit.{aggregate_octets, plain_octets, longest_alone, time_allowed}
+use Rattle.wf_def_air.proofs.Times.{single_time, time_less}
+use Rattle.wf_def_world.specs.World.{World, Bounds, Station, Mpdu, no_station, station, session, is_wide, is_plain}
 use Rattle.wf_def_world.specs.FlowQueues.{Taken, taken_for_tid}
 use Rattle.wf_def_agreement.specs.Session.{request_due}
 use Rattle.wf_def_world.specs.CanSend.{can_give}
@@ -165,9 +165,53 @@ request_most answers r wide n h =
     request_if (answers == 0) (nat_le (1000 * fast_mbps) (kbps r)) (nat_le (1000 * middle_mbps) (kbps r)) wide
     n h
 
+-- The Ack at each rate of control frames.
+ack_if : (off fast middle : Bool) (n : ℕ) → n + sifs + ack_time (mbps_if off fast middle) ≤ n + answer_if off
+ack_if true fast middle n = omega arith
+ack_if false true middle n = omega arith
+ack_if false false true n = omega arith
+ack_if false false false n = omega arith
+
+-- An Ack takes at most the time of the longest BlockAck.
+ack_most : (answers : ℕ) (r : Rate) (n : ℕ) →
+    n + sifs + ack_time (control_mbps answers r) ≤ n + longest_answer answers
+ack_most answers r n =
+    ack_if (answers == 0) (nat_le (1000 * fast_mbps) (kbps r)) (nat_le (1000 * middle_mbps) (kbps r)) n
+
+-- Frames have no more octets without an agreement than in an aggregate.
+plain_less : (r : Rate) (lens : List ℕ) → plain_octets r lens ≤ aggregate_octets lens
+plain_less (Ht mcs mhz short) lens = omega arith
+plain_less (Vht mcs mhz short n) lens = omega arith
+plain_less (He mcs mhz guard n) lens = omega arith
+
+-- Returns the charge of data of these lengths, by whether an Ack answers it.
+abbrev charge_by : Bool → ℕ → Rate → List ℕ → Bool → ℕ
+charge_by plain answers r lens wide =
+    if plain then plain_charge answers r (plain_octets r lens)
+    else data_charge answers r (aggregate_octets lens) wide
+
+-- A shorter time before an answer of at most `most`.
+shorter : (x y answer most : ℕ) → x ≤ y → x + sifs + answer ≤ x + most → x + sifs + answer ≤ y + most
+shorter x y answer most h k = omega (arith, h, k)
+
+-- The charge of data is at most its time in an aggregate and that of the longest answer.
+data_most : (plain : Bool) (answers : ℕ) (r : Rate) (lens : List ℕ) (wide : Bool) →
+    charge_by plain answers r lens wide ≤ data_time r (aggregate_octets lens) + longest_answer answers
+data_most true answers r lens wide =
+    shorter (data_time r (plain_octets r lens)) (data_time r (aggregate_octets lens))
+    (ack_time (control_mbps answers r)) (longest_answer answers)
+    (time_less r (plain_octets r lens) (aggregate_octets lens) (plain_less r lens))
+    (ack_most answers r (data_time r (plain_octets r lens)))
+data_most false answers r lens wide = answer_most answers r wide (data_time r (aggregate_octets lens))
+
 -- A greater time of an aggregate allows no less.
 max_more : (air cap : ℕ) → air ≤ cap → max air longest_alone ≤ max cap longest_alone
 max_more air cap h = max-le (omega (arith, h, le-max_left cap longest_alone)) (le-max_right cap longest_alone)
+
+-- A charge is at most a cap and an answer, if its data takes no more than the cap.
+within_cap : (charge time allowed cap answer most : ℕ) → charge ≤ time + answer → time ≤ allowed →
+    allowed ≤ cap → answer ≡ most → charge ≤ cap + most
+within_cap charge time allowed cap answer most h k l e = omega (arith, h, k, l, e)
 
 -- The charge of an exchange is at most the longest of a class, if the pull allows no more than the class.
 pub charge_most : (w : World) (s t : ℕ) (c : Class) → IsRate (station w s).rate →
@@ -186,8 +230,8 @@ charge_most w s t c k within = charge_if (request_due (session w s t)) (longest_
 
     wide : (prepared_data s t (aggregate_of w s t)).charge
         ≤ data_time (station filled s).rate (aggregate_octets lens) + longest_answer filled.config.answers
-    wide = answer_most filled.config.answers (station filled s).rate (is_wide filled s t)
-        (data_time (station filled s).rate (aggregate_octets lens))
+    wide = data_most (is_plain filled s t) filled.config.answers (station filled s).rate lens
+        (is_wide filled s t)
 
     time : data_time (station filled s).rate (aggregate_octets lens) ≤ max filled.bounds.air longest_alone
     time = timely_filled w s t k
@@ -200,7 +244,10 @@ charge_most w s t c k within = charge_if (request_due (session w s t)) (longest_
     same = ap (λ (b : Books). longest_answer b.config.answers) (books_filled w s t)
 
     fit : (prepared_data s t (aggregate_of w s t)).charge ≤ longest_computed w.config c
-    fit = omega (arith, wide, time, more, same)
+    fit = within_cap (prepared_data s t (aggregate_of w s t)).charge
+        (data_time (station filled s).rate (aggregate_octets lens)) (max filled.bounds.air longest_alone)
+        (max (cap_of w.config c) longest_alone) (longest_answer filled.config.answers)
+        (longest_answer w.config.answers) wide time more same
 
 some_if : (b : Bool) (x y : Prepared) → 1 ≤ x.charge → 1 ≤ y.charge → 1 ≤ (if b then x else y).charge
 some_if true x y h k = h
@@ -211,15 +258,24 @@ wide_some : (answers : ℕ) (r : Rate) (wide : Bool) (n : ℕ) →
     1 ≤ n + sifs + answer_time (control_mbps answers r) wide
 wide_some answers r wide n = omega arith
 
+-- The pause before an Ack too.
+ack_some : (answers : ℕ) (r : Rate) (n : ℕ) → 1 ≤ n + sifs + ack_time (control_mbps answers r)
+ack_some answers r n = omega arith
+
+-- So the charge of data is some time.
+data_some : (plain : Bool) (answers : ℕ) (r : Rate) (lens : List ℕ) (wide : Bool) →
+    1 ≤ charge_by plain answers r lens wide
+data_some true answers r lens wide = ack_some answers r (data_time r (plain_octets r lens))
+data_some false answers r lens wide = wide_some answers r wide (data_time r (aggregate_octets lens))
+
 pub charge_some : (w : World) (s t : ℕ) → 1 ≤ (prepared_exchange w s t).charge
 unfolding prepared_exchange prepared_data
 charge_some w s t = some_if (request_due (session w s t))
     (prepared_request w s t) (prepared_data s t (aggregate_of w s t))
     (wide_some w.config.answers (station w s).rate (is_wide w s t)
     (request_time (control_mbps w.config.answers (station w s).rate)))
-    (wide_some filled.config.answers (station filled s).rate (is_wide filled s t)
-    (data_time (station filled s).rate (aggregate_octets (lens_of filled.config.overhead
-    (aggregate_of w s t).mpdus))))
+    (data_some (is_plain filled s t) filled.config.answers (station filled s).rate
+    (lens_of filled.config.overhead (aggregate_of w s t).mpdus) (is_wide filled s t))
   where
     filled : World
     filled = (aggregate_of w s t).world

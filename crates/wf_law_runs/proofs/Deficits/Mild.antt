@@ -10,7 +10,7 @@ use Rattle.wf_frame.specs.declared.classes.Fate.{Fate}
 use Rattle.wf_def_lists.specs.Table.{at, change}
 use Rattle.wf_def_rotation.specs.Rotation.{Rotation, in_order}
 use Rattle.wf_def_agreement.specs.Session.{waiting_numbers, request_due, has_room}
-use Rattle.wf_def_world.specs.World.{World, Bounds, Station, Share, Tid, Queue, no_tid, no_station, new_queue, station, tid_of, queue, is_live, owed, with_bounds, with_station, on_station, on_tid, on_share, on_queue, with_rotation, with_fate, with_frame_finished, with_frames_finished}
+use Rattle.wf_def_world.specs.World.{World, Bounds, Station, Share, Tid, Queue, holds_back, no_tid, no_station, new_queue, station, tid_of, queue, is_live, owed, with_bounds, with_station, on_station, on_tid, on_share, on_queue, with_rotation, with_fate, with_frame_finished, with_frames_finished}
 use Rattle.wf_frame.specs.Classes.{lower_tid, upper_tid}
 use Rattle.wf_def_world.specs.FlowQueues.{frames_queued}
 use Rattle.wf_def_world.specs.CanSend.{request_open, can_send, has_credit, can_send_in, is_below_aql, may_receive, is_ready}
@@ -69,12 +69,13 @@ tid_same s w v m y t other = reads (λ x. at no_tid x.tids t) (λ x. refl) s w v
 -- Returns whether a TID can send, if its queues have n frames.
 abbrev sends_with : Tid → Bool → ℕ → Bool
 sends_with x asked n = if request_due x.session then not asked
-    else nat_lt 0 (length (waiting_numbers x.session)) || (nat_lt 0 n && has_room x.session)
+    else nat_lt 0 (length (waiting_numbers x.session))
+    || (nat_lt 0 n && (has_room x.session && not (holds_back x.mode)))
 
 sends_more : (x : Tid) (asked : Bool) (n m : ℕ) → n ≤ m → sends_with x asked n ≡ true →
     sends_with x asked m ≡ true
 sends_more x asked n m h e = go (request_due x.session) (nat_lt 0 (length (waiting_numbers x.session)))
-    (has_room x.session) e
+    (has_room x.session && not (holds_back x.mode)) e
   where
     go : (a b c : Bool) → (if a then not asked else b || (nat_lt 0 n && c)) ≡ true →
         (if a then not asked else b || (nat_lt 0 m && c)) ≡ true

@@ -6,7 +6,7 @@ use Rattle.std.proofs.lemmas.Nat.{mod_below}
 use Rattle.std.proofs.lemmas.List.Folds.{list_any-append}
 use Rattle.wf_frame.specs.declared.settings.Config.{Config}
 use Rattle.wf_frame.specs.declared.classes.Class.{Class}
-use Rattle.wf_frame.specs.declared.notes.Ask.TheVariants.{Join, Leave, Rate, Tick, Pull, Arrive, Answer, Done, Sleep, Wake, Poll, Rx, Reap, Ampdu, Stop, Start, Unsent, GiveUp, Flush, Offload, Weight}
+use Rattle.wf_frame.specs.declared.notes.Ask.TheVariants.{Join, Leave, Rate, Tick, Pull, Arrive, Answer, Done, Sleep, Wake, Poll, Rx, Reap, Ampdu, Stop, Start, Unsent, GiveUp, Flush, Offload, Weight, Plain, Hold, Begin, Free, Cease}
 use Rattle.wf_frame.specs.declared.notes.Limits.{Limits}
 use Rattle.wf_frame.specs.declared.notes.Note.{Note}
 use Rattle.wf_frame.specs.declared.notes.Note.TheVariants.{Enqueue, Asked}
@@ -16,12 +16,12 @@ use Rattle.wf_def_codel.specs.Codel.{Item, Dequeued}
 use Rattle.wf_def_rotation.specs.Rotation.{Rotation, no_keys, has_key, in_order, with_new_key, Picked}
 use Rattle.wf_def_agreement.specs.Session.{Session, End}
 use Rattle.wf_def_agreement.specs.Receiver.{Receiver}
-use Rattle.wf_def_world.specs.World.{World, Station, Tid, Queue, Exchange, Mpdu, Content, Frames, Request, no_tid, no_station, new_queue, new_tid, tid_of, queue, is_live, live_stations, owed, exchange, with_station, on_station, on_tid, on_session, on_receiver, with_queues, on_queue, with_exchange, without_exchange}
+use Rattle.wf_def_world.specs.World.{World, Mode, Agreed, Station, Tid, Queue, Exchange, Mpdu, Content, Frames, Request, no_tid, no_station, new_queue, new_tid, tid_of, queue, is_live, live_stations, owed, exchange, with_station, on_station, on_tid, on_session, on_receiver, with_queues, on_queue, with_exchange, without_exchange, with_mode}
 use Rattle.wf_def_world.specs.FlowQueues.{without_head, after_limit, is_listed_elsewhere, goes_over, overflow_queue, queue_for, when_listed, with_listed_queue, with_appended, after_put_in, with_queues_paid, taken_by_codel, taken_from_picked, taken_for_tid, picked_queue, queue_need, has_frames, after_queue_left, after_queues_left, after_queue_flushed, after_queues_flushed}
 use Rattle.wf_def_world.specs.CanSend.{is_request}
-use Rattle.wf_def_world.specs.Exchanges.{Aggregate, Prepared, picked_station, with_station_paid, with_stations_paid, after_pick, after_tid_turn, with_number, with_fresh, aggregate_of, prepared_data, prepared_exchange, without_credit, exchange_of, with_exchange_opened, after_charge, with_failed_finished, with_settled, with_all_settled, after_done, sending_tid, after_arrival, with_device_caught_up, caught_up}
+use Rattle.wf_def_world.specs.Exchanges.{Aggregate, Prepared, picked_station, with_station_paid, with_stations_paid, after_pick, after_tid_turn, with_number, with_fresh, aggregate_of, prepared_data, prepared_exchange, without_credit, exchange_of, with_exchange_opened, after_charge, with_failed_finished, with_settled, with_all_settled, after_done, sending_tid, after_arrival, caught_up, caught_up_if_plain}
 use Rattle.wf_def_world.specs.Refusals.{refusals}
-use Rattle.wf_def_world.specs.Step.{Outcome, join_outcome, after_tid_left, after_tids_left, without_listings, leave_outcome, after_tid_flushed, flush_outcome, rate_outcome, tick_outcome, with_frame, enqueue_outcome, send_outcome, pull_outcome_for, pull_outcome, arrive_outcome, answer_outcome, unsent_outcome, give_up_outcome, done_outcome, outcome_where_open, sleep_outcome, wake_outcome, poll_outcome, rx_outcome, reap_outcome, outcome_of, station_of, concerned_station, offload_outcome, weight_outcome, with_deficits_lowered, new_station}
+use Rattle.wf_def_world.specs.Step.{Outcome, join_outcome, after_tid_left, after_tids_left, without_listings, leave_outcome, after_tid_flushed, flush_outcome, rate_outcome, tick_outcome, with_frame, enqueue_outcome, send_outcome, pull_outcome_for, pull_outcome, arrive_outcome, answer_outcome, unsent_outcome, give_up_outcome, done_outcome, outcome_where_open, sleep_outcome, wake_outcome, poll_outcome, rx_outcome, reap_outcome, outcome_of, station_of, concerned_station, offload_outcome, weight_outcome, with_deficits_lowered, new_station, plain_window, plain_outcome, with_window, after_numbers_ended, hold_outcome, begin_outcome, free_outcome, cease_outcome}
 use Rattle.wf_law_rules.proofs.Lemmas.Tables.{at_put_other}
 use Rattle.wf_def_lists.specs.Lists.{on}
 use Rattle.wf_def_lists.specs.Bounds.{greatest_window}
@@ -120,16 +120,50 @@ mild_flush_queues (q ∷ qs) s w = mild_then s w _ _
     (mild_then s w _ _ (mild_on_queue s w q _ (omega arith)) (mild_finish_all _ s _ _))
     (mild_flush_queues qs s _)
 
-mild_caught_up : (w : World) (s t : ℕ) → IsMild s w (with_device_caught_up w s t)
-unfolding with_device_caught_up caught_up
-mild_caught_up w s t = mild_if _ s w _ _
-    (mild_then s w _ _ (mild_on_session w s t _) (mild_on_receiver _ s t _)) (mild_here s w)
+-- No other station becomes ready if a TID catches up, or if its mode or window changes.
+mild_caught_up : (w : World) (s t : ℕ) → IsMild s w (caught_up w s t)
+unfolding caught_up
+mild_caught_up w s t = mild_then s w _ _ (mild_on_session w s t _) (mild_on_receiver _ s t _)
+
+mild_caught_up_if_plain : (w : World) (s t : ℕ) → IsMild s w (caught_up_if_plain w s t)
+unfolding caught_up_if_plain
+mild_caught_up_if_plain w s t = mild_if _ s w _ _ (mild_here s w) (mild_caught_up w s t)
 
 mild_flushed : (w : World) (s t : ℕ) → IsMild s w (flush_outcome w s t).world
 unfolding flush_outcome after_tid_flushed
 mild_flushed w s t = mild_then s w _ _
     (mild_then s w _ _ (mild_then s w _ _ (mild_on_session w s t _) (mild_finish_all _ s _ _))
-    (mild_flush_queues _ s _)) (mild_caught_up _ s t)
+    (mild_flush_queues _ s _)) (mild_caught_up_if_plain _ s t)
+
+-- ---- agreements that begin and end
+
+mild_with_mode : (w : World) (s t : ℕ) (mode : Mode) → IsMild s w (with_mode w s t mode)
+unfolding with_mode
+mild_with_mode w s t mode = mild_on_tid w s t _ (λ q k. inl k)
+
+mild_with_window : (w : World) (s t size : ℕ) → IsMild s w (with_window w s t size)
+unfolding with_window
+mild_with_window w s t size = mild_then s w _ _ (mild_on_session w s t _) (mild_on_receiver _ s t _)
+
+-- So the calls of modes are mild.
+mild_held : (w : World) (s t : ℕ) → IsMild s w (hold_outcome w s t).world
+unfolding hold_outcome
+mild_held w s t = mild_with_mode w s t _
+
+mild_begun : (w : World) (s t window : ℕ) → IsMild s w (begin_outcome w s t window).world
+unfolding begin_outcome
+mild_begun w s t window = mild_then s w _ _
+    (mild_then s w _ _ (mild_caught_up w s t) (mild_with_window _ s t window)) (mild_with_mode _ s t _)
+
+mild_freed : (w : World) (s t : ℕ) → IsMild s w (free_outcome w s t).world
+unfolding free_outcome
+mild_freed w s t = mild_with_mode w s t _
+
+mild_ceased : (w : World) (s t : ℕ) → IsMild s w (cease_outcome w s t).world
+unfolding cease_outcome after_numbers_ended
+mild_ceased w s t = mild_then s w _ _
+    (mild_then s w _ _ (mild_then s w _ _ (mild_then s w _ _ (mild_on_session w s t _)
+    (mild_finish_all _ s _ _)) (mild_caught_up _ s t)) (mild_with_window _ s t _)) (mild_with_mode _ s t _)
 
 -- ---- pulls
 
@@ -333,7 +367,7 @@ mild_after_done : (content : Content) (w : World) (x : Exchange) (heard : Bool) 
     IsMild x.station w (after_done w x heard content)
 unfolding after_done
 mild_after_done (Frames mpdus) w x heard = mild_then x.station w _ _ (mild_all_settled mpdus w _ _ _)
-    (mild_caught_up _ _ _)
+    (mild_caught_up_if_plain _ _ _)
 mild_after_done (Request start) w x heard = mild_on_session w _ _ _
 
 mild_charged : (air : Option ℕ) (s : ℕ) (w : World) (x : Exchange) → IsMild s w (after_charge w x air)
@@ -384,22 +418,30 @@ eight y (suc (suc (suc (suc (suc (suc zero)))))) q h = h
 eight y (suc (suc (suc (suc (suc (suc (suc zero))))))) q h = h
 eight y (suc (suc (suc (suc (suc (suc (suc (suc j)))))))) q h = on-nil q
 
-mild_new_station : (w : World) (s window start exponent weight : ℕ) (offloaded : Bool) →
+mild_new_station : (w : World) (s : ℕ) (mode : Mode) (window start exponent weight : ℕ) (offloaded : Bool) →
     s < w.config.stations → IsMild s w (with_station w s
-    (Some (new_station w.config window start exponent weight offloaded)))
-mild_new_station w s window start exponent weight offloaded h =
-    mild_with_station w s _ (λ j q k. absurd (let none = eight (new_tid start window) j q (on-nil q) in
+    (Some (new_station w.config mode window start exponent weight offloaded)))
+mild_new_station w s mode window start exponent weight offloaded h =
+    mild_with_station w s _ (λ j q k. absurd (let none = eight (new_tid mode start window) j q (on-nil q) in
     omega arith)) (λ _. h)
 
 mild_joined : (w : World) (s window start exponent weight : ℕ) → s < w.config.stations →
     IsMild s w (join_outcome w s window start exponent weight).world
 unfolding join_outcome
-mild_joined w s window start exponent weight h = mild_new_station w s window start exponent weight false h
+mild_joined w s window start exponent weight h =
+    mild_new_station w s Agreed window start exponent weight false h
 
 mild_offloaded : (w : World) (s exponent weight : ℕ) → s < w.config.stations →
     IsMild s w (offload_outcome w s exponent weight).world
 unfolding offload_outcome
-mild_offloaded w s exponent weight h = mild_new_station w s greatest_window 0 exponent weight true h
+mild_offloaded w s exponent weight h =
+    mild_new_station w s Mode.Plain greatest_window 0 exponent weight true h
+
+mild_joined_plain : (w : World) (s start exponent weight : ℕ) → s < w.config.stations →
+    IsMild s w (plain_outcome w s start exponent weight).world
+unfolding plain_outcome
+mild_joined_plain w s start exponent weight h =
+    mild_new_station w s Mode.Plain plain_window start exponent weight false h
 
 mild_lowered : (cs : List Class) (s : ℕ) (w : World) (i : ℕ) → IsMild s w (with_deficits_lowered w i cs)
 unfolding with_deficits_lowered
@@ -625,6 +667,8 @@ mild_done (Asked (Join i window start exponent weight)) w s r k o h =
     named i s w _ h (mild_joined w i window start exponent weight (leb-false _ _ r.0))
 mild_done (Asked (Offload i exponent weight)) w s r k o h =
     named i s w _ h (mild_offloaded w i exponent weight (leb-false _ _ r.0))
+mild_done (Asked (Plain i start exponent weight)) w s r k o h =
+    named i s w _ h (mild_joined_plain w i start exponent weight (leb-false _ _ r.0))
 mild_done (Asked (Weight i weight)) w s r k o h = named i s w _ h (mild_weighed w i weight)
 mild_done (Asked (Leave i)) w s r k o h = named i s w _ h (mild_gone w i)
 mild_done (Asked (Rate i rate)) w s r k o h = named i s w _ h (mild_on_station w i _ (λ x. refl))
@@ -645,6 +689,10 @@ mild_done (Asked (Ampdu i octets)) w s r k o h = named i s w _ h (mild_on_statio
 mild_done (Asked (Stop i)) w s r k o h = named i s w _ h (mild_on_station w i _ (λ x. refl))
 mild_done (Asked (Start i)) w s r k o h = named i s w _ h (mild_on_station w i _ (λ x. refl))
 mild_done (Asked (Flush i t)) w s r k o h = named i s w _ h (mild_flushed w i t)
+mild_done (Asked (Hold i t)) w s r k o h = named i s w _ h (mild_held w i t)
+mild_done (Asked (Begin i t window)) w s r k o h = named i s w _ h (mild_begun w i t window)
+mild_done (Asked (Free i t)) w s r k o h = named i s w _ h (mild_freed w i t)
+mild_done (Asked (Cease i t)) w s r k o h = named i s w _ h (mild_ceased w i t)
 mild_done (Asked (Wake i)) w s r k o h = named i s w _ h (mild_on_station w i _ (λ x. refl))
 mild_done (Asked (Poll i)) w s r k o h = named i s w _ h (mild_on_station w i _ (λ x. refl))
 mild_done (Asked (Rx i c air)) w s r k o h = mild_on_share s w i c _

@@ -4,7 +4,7 @@ use Rattle.std.proofs.Common.{◌≡◌, refl, ap, sym, ◌∙◌, subst, arith,
 use Rattle.std.proofs.lemmas.Bool.{cases_eq, ne_eqb, and_parts, not-false, leb-true}
 use Rattle.wf_frame.specs.declared.settings.Config.{Config}
 use Rattle.wf_frame.specs.declared.classes.Class.{Class}
-use Rattle.wf_frame.specs.declared.notes.Ask.TheVariants.{Join, Leave, Rate, Tick, Pull, Arrive, Answer, Done, Sleep, Wake, Poll, Rx, Reap, Ampdu, Stop, Start, Unsent, GiveUp, Flush, Offload, Weight}
+use Rattle.wf_frame.specs.declared.notes.Ask.TheVariants.{Join, Leave, Rate, Tick, Pull, Arrive, Answer, Done, Sleep, Wake, Poll, Rx, Reap, Ampdu, Stop, Start, Unsent, GiveUp, Flush, Offload, Weight, Plain, Hold, Begin, Free, Cease}
 use Rattle.wf_frame.specs.declared.notes.Note.{Note}
 use Rattle.wf_frame.specs.declared.notes.Note.TheVariants.{Enqueue, Asked}
 use Rattle.wf_frame.specs.declared.notes.Refusal.{Refusal}
@@ -23,7 +23,7 @@ use Rattle.wf_law_runs.specs.Deficits.{receive_charges_by, receive_charges_in, Q
 use Rattle.wf_def_lists.specs.Lists.{on}
 use Rattle.wf_law_runs.proofs.Common.Refused.{after_idle}
 use Rattle.wf_law_runs.proofs.Deficits.Books.{Account, account, Books, books, with_account, on_part, upd_same, upd_other, each_upd, updc_same, updc_other, each_updc, cases_class}
-use Rattle.wf_law_runs.proofs.Deficits.BookSteps.{books_ended, books_gone, all_off, books_enqueued, receive_share, books_received, books_reaped, books_slept, books_woken, books_credited, rated, books_with_rate, fresh_account, books_joined, charge_share, pay_share, after, books_after_pick, books_stated, books_stopped, books_started, books_flushed, books_offloaded, books_weighed, reweighed}
+use Rattle.wf_law_runs.proofs.Deficits.BookSteps.{books_ended, books_gone, all_off, books_enqueued, receive_share, books_received, books_reaped, books_slept, books_woken, books_credited, rated, books_with_rate, fresh_account, books_joined, charge_share, pay_share, after, books_after_pick, books_stated, books_stopped, books_started, books_flushed, books_offloaded, books_weighed, reweighed, books_joined_plain, books_held, books_begun, books_freed, books_ceased}
 use Rattle.wf_law_runs.proofs.Deficits.Kept.{IsKept, if_map}
 use Rattle.wf_law_runs.proofs.Deficits.KeptStep.{NoRow, no_row, IsFound, books_arrived, books_unsent, books_given_up, books_answered, kept_step, kept_opening}
 use Rattle.wf_law_runs.proofs.Fairness.OldOrder.{calm_pulled}
@@ -123,6 +123,7 @@ heard_received c d n s i air b some k = elim (cases_eq s i) [
 abbrev counted : ℕ → Class → Note → ℕ → ℕ
 counted s c (Asked (Join i window start exponent weight)) n = if i == s then 0 else n
 counted s c (Asked (Offload i exponent weight)) n = if i == s then 0 else n
+counted s c (Asked (Plain i start exponent weight)) n = if i == s then 0 else n
 counted s c (Asked (Rx i d air)) n = if (i == s) && same_class d c then n + 1 else n
 counted s c _ n = n
 
@@ -131,6 +132,8 @@ counted_done : (note : Note) (w : World) (s : ℕ) (c : Class) (n : ℕ) → ref
 counted_done (Asked (Join i window start exponent weight)) w s c n h =
     ap (λ (o : Option Refusal). if is_none o && (i == s) then 0 else n) h
 counted_done (Asked (Offload i exponent weight)) w s c n h =
+    ap (λ (o : Option Refusal). if is_none o && (i == s) then 0 else n) h
+counted_done (Asked (Plain i start exponent weight)) w s c n h =
     ap (λ (o : Option Refusal). if is_none o && (i == s) then 0 else n) h
 counted_done (Asked (Rx i d air)) w s c n h =
     ap (λ (o : Option Refusal). if is_none o && ((i == s) && same_class d c) then n + 1 else n) h
@@ -141,6 +144,8 @@ counted_refused : (note : Note) (r : Refusal) (w : World) (s : ℕ) (c : Class) 
 counted_refused (Asked (Join i window start exponent weight)) r w s c n h =
     ap (λ (o : Option Refusal). if is_none o && (i == s) then 0 else n) h
 counted_refused (Asked (Offload i exponent weight)) r w s c n h =
+    ap (λ (o : Option Refusal). if is_none o && (i == s) then 0 else n) h
+counted_refused (Asked (Plain i start exponent weight)) r w s c n h =
     ap (λ (o : Option Refusal). if is_none o && (i == s) then 0 else n) h
 counted_refused (Asked (Rx i d air)) r w s c n h =
     ap (λ (o : Option Refusal). if is_none o && ((i == s) && same_class d c) then n + 1 else n) h
@@ -169,6 +174,9 @@ heard_done (Asked (Join i window start exponent weight)) w c n s r k h =
     (heard_joined c n s i w.config.quantum weight (books w) h)
 heard_done (Asked (Offload i exponent weight)) w c n s r k h =
     heard_books c _ s _ _ (books_offloaded w i exponent weight)
+    (heard_joined c n s i w.config.quantum weight (books w) h)
+heard_done (Asked (Plain i start exponent weight)) w c n s r k h =
+    heard_books c _ s _ _ (books_joined_plain w i start exponent weight)
     (heard_joined c n s i w.config.quantum weight (books w) h)
 heard_done (Asked (Weight i weight)) w c n s r k h =
     heard_books c n s _ _ (books_weighed w i weight)
@@ -199,6 +207,10 @@ heard_done (Asked (Ampdu i octets)) w c n s r k h = heard_books c n s _ _ (books
 heard_done (Asked (Stop i)) w c n s r k h = heard_books c n s _ _ (books_stopped w i) h
 heard_done (Asked (Start i)) w c n s r k h = heard_books c n s _ _ (books_started w i) h
 heard_done (Asked (Flush i t)) w c n s r k h = heard_books c n s _ _ (books_flushed w i t) h
+heard_done (Asked (Hold i t)) w c n s r k h = heard_books c n s _ _ (books_held w i t) h
+heard_done (Asked (Begin i t window)) w c n s r k h = heard_books c n s _ _ (books_begun w i t window) h
+heard_done (Asked (Free i t)) w c n s r k h = heard_books c n s _ _ (books_freed w i t) h
+heard_done (Asked (Cease i t)) w c n s r k h = heard_books c n s _ _ (books_ceased w i t) h
 heard_done (Asked (Wake i)) w c n s r k h = heard_books c n s _ _ (books_woken w i) h
 heard_done (Asked (Poll i)) w c n s r k h = heard_books c n s _ _ (books_credited w i) h
 heard_done (Asked (Rx i d air)) w c n s r k h =

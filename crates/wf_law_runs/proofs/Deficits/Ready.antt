@@ -4,7 +4,7 @@ use Rattle.std.proofs.Common.{◌≡◌, refl, ap, sym, ◌∙◌, subst, arith,
 use Rattle.std.proofs.lemmas.Bool.{cases_eq, cases_Bool, and_parts, or_parts, eqb-true}
 use Rattle.wf_frame.specs.declared.settings.Config.{Config}
 use Rattle.wf_frame.specs.declared.classes.Class.{Class}
-use Rattle.wf_frame.specs.declared.notes.Ask.TheVariants.{Join, Leave, Rate, Tick, Pull, Arrive, Answer, Done, Sleep, Wake, Poll, Rx, Reap, Ampdu, Stop, Start, Unsent, GiveUp, Flush, Offload, Weight}
+use Rattle.wf_frame.specs.declared.notes.Ask.TheVariants.{Join, Leave, Rate, Tick, Pull, Arrive, Answer, Done, Sleep, Wake, Poll, Rx, Reap, Ampdu, Stop, Start, Unsent, GiveUp, Flush, Offload, Weight, Plain, Hold, Begin, Free, Cease}
 use Rattle.wf_frame.specs.declared.notes.Limits.{Limits}
 use Rattle.wf_frame.specs.declared.notes.Note.{Note}
 use Rattle.wf_frame.specs.declared.notes.Note.TheVariants.{Enqueue, Asked}
@@ -25,7 +25,7 @@ use Rattle.wf_law_rules.proofs.Lemmas.Counts.{on-nil}
 use Rattle.wf_law_rules.proofs.Lemmas.Rotations.{pick_keeps}
 use Rattle.wf_law_runs.proofs.Common.Refused.{after_idle, if_idle}
 use Rattle.wf_law_runs.proofs.Deficits.Books.{Books, books, with_account, each_updc, Account}
-use Rattle.wf_law_runs.proofs.Deficits.BookSteps.{books_ended, books_gone, all_off, books_enqueued, books_received, books_reaped, books_slept, books_woken, books_credited, books_with_rate, books_joined, after, books_after_pick, books_stated, books_stopped, books_started, books_flushed, books_offloaded, books_weighed}
+use Rattle.wf_law_runs.proofs.Deficits.BookSteps.{books_ended, books_gone, all_off, books_enqueued, books_received, books_reaped, books_slept, books_woken, books_credited, books_with_rate, books_joined, after, books_after_pick, books_stated, books_stopped, books_started, books_flushed, books_offloaded, books_weighed, books_joined_plain, books_held, books_begun, books_freed, books_ceased}
 use Rattle.wf_law_runs.proofs.Deficits.Kept.{IsKept, counted_in, standing_of, if_same}
 use Rattle.wf_law_runs.proofs.Deficits.KeptStep.{NoRow, no_row, IsFound, books_arrived, books_unsent, books_given_up, books_answered, kept_step, kept, live_account, standing_is}
 use Rattle.wf_law_runs.proofs.Deficits.Mild.{IsMild, mild_here, mild_then, mild_if, mild_with_rotation, ready_less}
@@ -101,6 +101,8 @@ keeps_done (Asked (Join i window start exponent weight)) w s k h =
     keeps_same s w _ (ap (λ (b : Books). b.rotations) (books_joined w i window start exponent weight))
 keeps_done (Asked (Offload i exponent weight)) w s k h =
     keeps_same s w _ (ap (λ (b : Books). b.rotations) (books_offloaded w i exponent weight))
+keeps_done (Asked (Plain i start exponent weight)) w s k h =
+    keeps_same s w _ (ap (λ (b : Books). b.rotations) (books_joined_plain w i start exponent weight))
 keeps_done (Asked (Weight i weight)) w s k h =
     keeps_same s w _ (ap (λ (b : Books). b.rotations) (books_weighed w i weight))
 keeps_done (Asked (Leave i)) w s k h = keeps_named i s w _ h
@@ -120,11 +122,20 @@ keeps_done (Asked (Answer e)) w s k h = keeps_open (exchange w e) w e s _ refl
 keeps_done (Asked (Done e heard air)) w s k h = keeps_open (exchange w e) w e s _ refl
     (λ x f. ap (λ (b : Books). b.rotations) (books_ended air w x heard))
 keeps_done (Asked (Sleep i)) w s k h = keeps_same s w _ (ap (λ (b : Books). b.rotations) (books_slept w i))
-keeps_done (Asked (Ampdu i octets)) w s k h = keeps_same s w _ (ap (λ (b : Books). b.rotations) (books_stated w i octets))
+keeps_done (Asked (Ampdu i octets)) w s k h =
+    keeps_same s w _ (ap (λ (b : Books). b.rotations) (books_stated w i octets))
 keeps_done (Asked (Stop i)) w s k h = keeps_same s w _ (ap (λ (b : Books). b.rotations) (books_stopped w i))
 keeps_done (Asked (Start i)) w s k h = keeps_same s w _ (ap (λ (b : Books). b.rotations) (books_started w i))
 keeps_done (Asked (Flush i t)) w s k h = keeps_same s w _
     (ap (λ (b : Books). b.rotations) (books_flushed w i t))
+keeps_done (Asked (Hold i t)) w s k h = keeps_same s w _
+    (ap (λ (b : Books). b.rotations) (books_held w i t))
+keeps_done (Asked (Begin i t window)) w s k h = keeps_same s w _
+    (ap (λ (b : Books). b.rotations) (books_begun w i t window))
+keeps_done (Asked (Free i t)) w s k h = keeps_same s w _
+    (ap (λ (b : Books). b.rotations) (books_freed w i t))
+keeps_done (Asked (Cease i t)) w s k h = keeps_same s w _
+    (ap (λ (b : Books). b.rotations) (books_ceased w i t))
 keeps_done (Asked (Wake i)) w s k h = keeps_same s w _ (ap (λ (b : Books). b.rotations) (books_woken w i))
 keeps_done (Asked (Poll i)) w s k h = keeps_same s w _ (ap (λ (b : Books). b.rotations) (books_credited w i))
 keeps_done (Asked (Rx i c air)) w s k h = keeps_same s w _
@@ -247,7 +258,7 @@ owes_not true true owes h k e = e
 owes_not true false owes h k e = absurd (cc k)
 owes_not false live owes h k e = absurd (cc h)
 
--- With the setting `pending`, a station that belongs on no list of a class has a positive standing there.
+-- With the setting `pending`, a station that belongs on no list of a class has a positive standing for it.
 off_credit : (w : World) (s : ℕ) (c : Class) → w.config.pending ≡ 1 → is_to_list w c s ≡ false →
     HasCredit (books w) s c
 off_credit w s c counting off = if_known (λ a. pos 1 ≤ℤ standing_of (books w) s c a) ((books w).accounts s)

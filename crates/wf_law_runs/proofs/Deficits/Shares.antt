@@ -84,7 +84,8 @@ money w s c f k live = go (at None w.stations s) refl live (f.each s) (k.goods s
         x.weighed
         (at no_share x.shares (class_number c)) computed (h (class_number c) (below_four c))
         (subst (λ (n : ℕ). IsBounded w.config c (at_stake w.config s c (map core w.opened))
-        (counted w.config n) x.weight (plain (at no_share x.shares (class_number c)))) (owed-core s c w.opened) (g.bounds c)))
+        (counted w.config n) x.weight (plain (at no_share x.shares (class_number c))))
+        (owed-core s c w.opened) (g.bounds c)))
 
 pub money_after : (config : Config) (h : List Entry) (s : ℕ) (c : Class) → IsInRange config →
     is_live (world_after (opening config) h) s ≡ true

@@ -3,10 +3,10 @@
 use Rattle.std.proofs.Common.{◌≡◌, refl, ap, sym, ◌∙◌, subst, arith, ℕ, zero, suc, ◌-◌, ◌<◌, ◌==◌, ◌⊎◌, inl, inr, Bool, true, false, not, if◌then◌else◌, List, [], ◌∷◌, ◌++◌, length, map, take, Option, Some, None, is_none, append_assoc, slice_get}
 use Rattle.std.proofs.lemmas.Bool.{cases_eq}
 use Rattle.wf_frame.specs.declared.classes.Class.{Class}
-use Rattle.wf_frame.specs.declared.classes.Cause.TheVariants.{Codel as By_codel, Left, Overlimit, Retries, Flushed}
+use Rattle.wf_frame.specs.declared.classes.Cause.TheVariants.{Codel as By_codel, Left, Overlimit, Retries, Flushed, Ended}
 use Rattle.wf_frame.specs.declared.classes.Fate.{Fate}
 use Rattle.wf_frame.specs.declared.classes.Fate.TheVariants.{Held, Acked, Dropped}
-use Rattle.wf_frame.specs.declared.notes.Ask.TheVariants.{Join, Leave, Rate, Tick, Pull, Arrive, Answer, Done, Sleep, Wake, Poll, Rx, Reap, Ampdu, Stop, Start, Unsent, GiveUp, Flush, Offload, Weight}
+use Rattle.wf_frame.specs.declared.notes.Ask.TheVariants.{Join, Leave, Rate, Tick, Pull, Arrive, Answer, Done, Sleep, Wake, Poll, Rx, Reap, Ampdu, Stop, Start, Unsent, GiveUp, Flush, Offload, Weight, Plain, Hold, Begin, Free, Cease}
 use Rattle.wf_frame.specs.declared.notes.Limits.{Limits}
 use Rattle.wf_frame.specs.declared.notes.Note.{Note}
 use Rattle.wf_frame.specs.declared.notes.Note.TheVariants.{Enqueue, Asked}
@@ -20,9 +20,9 @@ use Rattle.wf_def_agreement.specs.Session.{Session, State, End, request_due, wit
 use Rattle.wf_def_world.specs.World.{World, Mpdu, Exchange, Content, Frames, Request, Frame, no_frame, frame, session, tid_of, queue, exchange, codel_params, on_session, on_receiver, on_station, on_share, with_station, with_queues, on_queue, with_fate, with_frame_finished, with_frames_finished, with_exchange, without_exchange}
 use Rattle.wf_def_world.specs.FlowQueues.{Taken, without_head, after_limit, is_at_limit, longest_queue, queue_for, after_put_in, after_dequeue, taken_by_codel, taken_from_picked, picked_queue, taken_for_tid, after_queue_left, after_queues_left, after_queue_flushed, after_queues_flushed}
 use Rattle.wf_def_world.specs.CanSend.{can_give, with_listings_of}
-use Rattle.wf_def_world.specs.Exchanges.{Aggregate, Prepared, most_frames, fits_in, waiting_mpdus, longest_fitting, fresh_mpdus, with_number, with_fresh, aggregate_of, prepared_data, prepared_request, prepared_exchange, with_flying, after_arrival, with_exchange_opened, without_credit, picked_station, sending_tid, after_tid_turn, after_charge, end_of, with_failed_finished, with_settled, with_all_settled, after_done, caught_up, with_device_caught_up}
+use Rattle.wf_def_world.specs.Exchanges.{Aggregate, Prepared, most_frames, fits_in, waiting_mpdus, longest_fitting, fresh_mpdus, with_number, with_fresh, aggregate_of, prepared_data, prepared_request, prepared_exchange, with_flying, after_arrival, with_exchange_opened, without_credit, picked_station, sending_tid, after_tid_turn, after_charge, end_of, with_failed_finished, with_settled, with_all_settled, after_done, caught_up_if_plain}
 use Rattle.wf_def_world.specs.Refusals.{refusal}
-use Rattle.wf_def_world.specs.Step.{Outcome, in_rising_order, waiting_ids, after_tid_left, after_tids_left, without_listings, leave_outcome, after_tid_flushed, flush_outcome, join_outcome, with_frame, enqueue_outcome, next_item, send_outcome, pull_outcome_for, pull_outcome, tick_outcome, rate_outcome, arrive_outcome, answer_outcome, unsent_outcome, give_up_outcome, done_outcome, outcome_where_open, sleep_outcome, wake_outcome, poll_outcome, rx_outcome, reap_outcome, outcome_of, after_refusal, judged_outcome, step, concerned_station, offload_outcome, weight_outcome, with_deficits_lowered}
+use Rattle.wf_def_world.specs.Step.{Outcome, in_rising_order, waiting_ids, after_tid_left, after_tids_left, without_listings, leave_outcome, after_tid_flushed, flush_outcome, join_outcome, with_frame, enqueue_outcome, next_item, send_outcome, pull_outcome_for, pull_outcome, tick_outcome, rate_outcome, arrive_outcome, answer_outcome, unsent_outcome, give_up_outcome, done_outcome, outcome_where_open, sleep_outcome, wake_outcome, poll_outcome, rx_outcome, reap_outcome, outcome_of, after_refusal, judged_outcome, step, concerned_station, offload_outcome, plain_outcome, cease_outcome, after_numbers_ended}
 use Rattle.wf_law_rules.specs.CodelLaws.{Dequeue, codel_after_all, drops_by}
 use Rattle.wf_law_rules.proofs.Lemmas.Numbers.{eq_yes, yes_eq, either, or_left, or_right}
 use Rattle.wf_law_runs.specs.Dequeues.{dequeue_for, if_picked, dequeue_of_take, dequeues_of_fresh, dequeues_of_aggregate, dequeues_of_exchange, dequeues_of_winner, dequeues_of_pull, dequeues_by}
@@ -30,7 +30,7 @@ use Rattle.wf_law_runs.proofs.Common.Refused.{after_idle}
 use Rattle.wf_law_runs.proofs.Common.Picked.{picked_world}
 use Rattle.wf_law_runs.proofs.Deficits.Books.{upd, upd_same, upd_other, put_upd}
 use Rattle.wf_law_runs.proofs.Queues.Shelves.{Shelves, shelves, shelves_finish_all, shelves_after_turn, shelves_picked}
-use Rattle.wf_law_runs.proofs.Frames.Untouched.{Untouched, untouched, then_untouched, untouched_on_session, untouched_on_station, untouched_on_receiver, untouched_on_queue, untouched_with_station, untouched_with_queues, untouched_pay_queues, untouched_after_turn, untouched_after_pick, untouched_without, untouched_charged, untouched_put_in, untouched_off_lists, untouched_listed, untouched_picked, untouched_if}
+use Rattle.wf_law_runs.proofs.Frames.Untouched.{Untouched, untouched, then_untouched, untouched_on_session, untouched_on_station, untouched_on_receiver, untouched_on_queue, untouched_with_station, untouched_with_queues, untouched_pay_queues, untouched_after_turn, untouched_after_pick, untouched_without, untouched_charged, untouched_put_in, untouched_off_lists, untouched_listed, untouched_picked, untouched_weighed, untouched_caught_up, untouched_held, untouched_begun, untouched_freed, untouched_ceased}
 use Rattle.wf_law_runs.proofs.Dequeues.States.{codel_same, codel_append, codel_take, world_to_take, same_to_take, shelves_numbered}
 
 -- CoDel dropped the frame with this id.
@@ -411,11 +411,6 @@ none_all_flushed (q ∷ qs) w =
     (drops_nothing u (Dropped Flushed) (map (λ x. x.id) (queue w q).items) (λ e. absurd (cc e)))
     (none_all_flushed qs v))
 
-untouched_caught_up : (w : World) (s t : ℕ) → Untouched w (with_device_caught_up w s t)
-unfolding with_device_caught_up caught_up
-untouched_caught_up w s t = untouched_if _ w _ _
-    (then_untouched w _ _ (untouched_on_session w s t _) (untouched_on_receiver _ s t _)) (untouched w)
-
 none_flushed : (w : World) (s t : ℕ) → Drops None_of w (flush_outcome w s t).world
 unfolding flush_outcome after_tid_flushed
 none_flushed w s t =
@@ -424,10 +419,21 @@ none_flushed w s t =
     let a : World = on_session w s t (after_flush w.config.attempts) in
     let b : World = with_frames_finished a (Dropped Flushed) ids in
     let c : World = after_queues_flushed b qs in
-    let d : World = with_device_caught_up c s t in
+    let d : World = caught_up_if_plain c s t in
     then_drops None_of w a d (no_drops None_of w a (untouched_on_session w s t _))
     (then_drops None_of a b d (drops_nothing a (Dropped Flushed) ids (λ e. absurd (cc e)))
     (then_drops None_of b c d (none_all_flushed qs b) (no_drops None_of c d (untouched_caught_up c s t))))
+
+none_ceased : (w : World) (s t : ℕ) → Drops None_of w (cease_outcome w s t).world
+unfolding after_numbers_ended
+none_ceased w s t =
+    let ids : List ℕ = waiting_ids (session w s t).slots in
+    let a : World = on_session w s t (after_flush w.config.attempts) in
+    let b : World = after_numbers_ended w s t in
+    let c : World = (cease_outcome w s t).world in
+    then_drops None_of w a c (no_drops None_of w a (untouched_on_session w s t _))
+    (then_drops None_of a b c (drops_nothing a (Dropped Ended) ids (λ e. absurd (cc e)))
+    (no_drops None_of b c (untouched_ceased w s t)))
 
 none_left : (ts : List ℕ) (w : World) (s : ℕ) → Drops None_of w (after_tids_left w s ts)
 unfolding after_tids_left after_tid_left
@@ -523,9 +529,9 @@ none_after : (content : Content) (w : World) (x : Exchange) (heard : Bool) →
     Drops None_of w (after_done w x heard content)
 unfolding after_done
 none_after (Frames mpdus) w x heard =
-    let v : World = with_all_settled w x.station x.tid (end_of x heard) mpdus in
-    then_drops None_of w v (with_device_caught_up v x.station x.tid)
-    (none_all_settled mpdus w x.station x.tid (end_of x heard))
+    let v : World = with_all_settled w x.station x.tid (end_of w x heard) mpdus in
+    then_drops None_of w v (caught_up_if_plain v x.station x.tid)
+    (none_all_settled mpdus w x.station x.tid (end_of w x heard))
     (no_drops None_of v _ (untouched_caught_up v x.station x.tid))
 none_after (Request start) w x heard = no_drops None_of w _ (untouched_on_session w x.station x.tid _)
 
@@ -571,16 +577,6 @@ none_reaped (id ∷ ids) w = record { drops = λ k e. inl e }
 
 -- ---- a call
 
-untouched_lowered : (cs : List Class) (w : World) (s : ℕ) → Untouched w (with_deficits_lowered w s cs)
-unfolding with_deficits_lowered on_share
-untouched_lowered [] w s = untouched w
-untouched_lowered (c ∷ cs) w s = then_untouched w _ _ (untouched_on_station w s _) (untouched_lowered cs _ s)
-
-untouched_weighed : (w : World) (s weight : ℕ) → Untouched w (weight_outcome w s weight).world
-unfolding weight_outcome
-untouched_weighed w s weight = then_untouched w _ _ (untouched_on_station w s _)
-    (untouched_lowered all_classes _ s)
-
 -- The frames that the dequeues of a call drop.
 abbrev pub DroppedBy : World → Note → ℕ → Type 0
 DroppedBy w note = DropsFrame (λ q. dequeues_by w q note) (states w) w.clock
@@ -591,11 +587,16 @@ none_by w v note u = no_drops (DroppedBy w note) w v u
 drops_done : (note : Note) (w : World) → is_none (refusal w note) ≡ true →
     Drops (DroppedBy w note) w (outcome_of w note).world
 unfolding outcome_of tick_outcome rate_outcome sleep_outcome wake_outcome poll_outcome rx_outcome join_outcome
-    offload_outcome on_share
+    offload_outcome plain_outcome on_share
 drops_done (Enqueue s t flow len) w r = none_wider _ w _ (none_enqueued w s t flow len)
 drops_done (Asked (Join s window start exponent weight)) w r = no_drops _ w _ (untouched_with_station w s _)
 drops_done (Asked (Offload s exponent weight)) w r = no_drops _ w _ (untouched_with_station w s _)
 drops_done (Asked (Weight s weight)) w r = no_drops _ w _ (untouched_weighed w s weight)
+drops_done (Asked (Plain s start exponent weight)) w r = no_drops _ w _ (untouched_with_station w s _)
+drops_done (Asked (Hold s t)) w r = no_drops _ w _ (untouched_held w s t)
+drops_done (Asked (Begin s t window)) w r = no_drops _ w _ (untouched_begun w s t window)
+drops_done (Asked (Free s t)) w r = no_drops _ w _ (untouched_freed w s t)
+drops_done (Asked (Cease s t)) w r = none_wider _ w _ (none_ceased w s t)
 drops_done (Asked (Leave s)) w r = none_wider _ w _ (none_gone w s)
 drops_done (Asked (Rate s to)) w r = no_drops _ w _ (untouched_on_station w s _)
 drops_done (Asked (Tick by)) w r = record { drops = λ k e. inl e }

@@ -1,7 +1,7 @@
 -- Proves the law of CoDel in whole runs, by induction on the run.
 use Rattle.std.proofs.Common.{subst, ap, sym, ◌∙◌, suc, ◌++◌, ◌<◌, inl, inr, ◌≡◌, refl, ℕ, ◌==◌, ◌&&◌, is_none, List, [], ◌∷◌, take}
 use Rattle.wf_frame.specs.declared.settings.Config.{Config}
-use Rattle.wf_frame.specs.declared.notes.Ask.TheVariants.{Join, Leave, Rate, Tick, Pull, Arrive, Answer, Done, Sleep, Wake, Poll, Rx, Reap, Ampdu, Stop, Start, Unsent, GiveUp, Flush, Offload, Weight}
+use Rattle.wf_frame.specs.declared.notes.Ask.TheVariants.{Join, Leave, Rate, Tick, Pull, Arrive, Answer, Done, Sleep, Wake, Poll, Rx, Reap, Ampdu, Stop, Start, Unsent, GiveUp, Flush, Offload, Weight, Plain, Hold, Begin, Free, Cease}
 use Rattle.wf_frame.specs.declared.notes.Note.{Note}
 use Rattle.wf_frame.specs.declared.notes.Note.TheVariants.{Enqueue, Asked}
 use Rattle.wf_def_codel.specs.Codel.{Codel}
@@ -30,6 +30,11 @@ start_done (Enqueue s t flow len) w q x h = on_if (λ (y : Visits). y.start.firs
 start_done (Asked (Join s window start exponent weight)) w q x h = h
 start_done (Asked (Offload s exponent weight)) w q x h = h
 start_done (Asked (Weight s weight)) w q x h = h
+start_done (Asked (Plain s start exponent weight)) w q x h = h
+start_done (Asked (Hold s t)) w q x h = h
+start_done (Asked (Begin s t window)) w q x h = h
+start_done (Asked (Free s t)) w q x h = h
+start_done (Asked (Cease s t)) w q x h = h
 start_done (Asked (Leave s)) w q x h = on_if (λ (y : Visits). y.start.first_above ≡ 0) (lists_queue w s q)
     no_visits x (λ _. refl) (λ _. h)
 start_done (Asked (Rate s to)) w q x h = h

@@ -8,7 +8,7 @@ use Rattle.wf_frame.specs.declared.classes.Class.{Class}
 use Rattle.wf_frame.specs.declared.classes.Cause.TheVariants.{Codel as By_codel, Left, Overlimit, Flushed}
 use Rattle.wf_frame.specs.declared.classes.Fate.{Fate}
 use Rattle.wf_frame.specs.declared.classes.Fate.TheVariants.{Dropped}
-use Rattle.wf_frame.specs.declared.notes.Ask.TheVariants.{Join, Leave, Rate, Tick, Pull, Arrive, Answer, Done, Sleep, Wake, Poll, Rx, Reap, Ampdu, Stop, Start, Unsent, GiveUp, Flush, Offload, Weight}
+use Rattle.wf_frame.specs.declared.notes.Ask.TheVariants.{Join, Leave, Rate, Tick, Pull, Arrive, Answer, Done, Sleep, Wake, Poll, Rx, Reap, Ampdu, Stop, Start, Unsent, GiveUp, Flush, Offload, Weight, Plain, Hold, Begin, Free, Cease}
 use Rattle.wf_frame.specs.declared.notes.Limits.{Limits}
 use Rattle.wf_frame.specs.declared.notes.Note.{Note}
 use Rattle.wf_frame.specs.declared.notes.Note.TheVariants.{Enqueue, Asked}
@@ -25,7 +25,7 @@ use Rattle.wf_def_world.specs.FlowQueues.{Taken, calmed, without_head, after_lim
 use Rattle.wf_def_world.specs.CanSend.{can_give}
 use Rattle.wf_def_world.specs.Exchanges.{Aggregate, Prepared, most_frames, fits_in, waiting_mpdus, longest_fitting, fresh_mpdus, with_number, with_fresh, aggregate_of, prepared_data, prepared_exchange, picked_station, sending_tid, after_tid_turn}
 use Rattle.wf_def_world.specs.Refusals.{refusal}
-use Rattle.wf_def_world.specs.Step.{in_rising_order, waiting_ids, after_tid_left, after_tids_left, without_listings, leave_outcome, after_tid_flushed, flush_outcome, join_outcome, with_frame, enqueue_outcome, next_item, pull_outcome_for, pull_outcome, tick_outcome, rate_outcome, sleep_outcome, wake_outcome, poll_outcome, rx_outcome, unsent_outcome, give_up_outcome, outcome_of, after_refusal, judged_outcome, step, concerned_station, offload_outcome}
+use Rattle.wf_def_world.specs.Step.{in_rising_order, waiting_ids, after_tid_left, after_tids_left, without_listings, leave_outcome, after_tid_flushed, flush_outcome, join_outcome, with_frame, enqueue_outcome, next_item, pull_outcome_for, pull_outcome, tick_outcome, rate_outcome, sleep_outcome, wake_outcome, poll_outcome, rx_outcome, unsent_outcome, give_up_outcome, outcome_of, after_refusal, judged_outcome, step, concerned_station, offload_outcome, plain_outcome}
 use Rattle.wf_law_rules.specs.CodelLaws.{Dequeue, codel_after_all}
 use Rattle.wf_law_rules.proofs.Lemmas.Numbers.{on_if, eq_yes, eq_no, has_with}
 use Rattle.wf_law_rules.proofs.Lemmas.Tables.{at_put_same, at_put_other}
@@ -33,7 +33,7 @@ use Rattle.wf_law_runs.specs.Dequeues.{dequeue_for, if_picked, dequeue_of_take, 
 use Rattle.wf_law_runs.proofs.Common.Refused.{after_idle}
 use Rattle.wf_law_runs.proofs.Common.Picked.{picked_world}
 use Rattle.wf_law_runs.proofs.Deficits.Books.{upd, upd_same, upd_other, each_upd}
-use Rattle.wf_law_runs.proofs.Queues.Shelves.{Shelves, shelves, shelves_with_station, shelves_hidden, shelves_on_session, shelves_on_share, shelves_on_queue, shelves_finish, shelves_finish_all, shelves_pay_queues, shelves_after_pick, shelves_after_turn, shelves_sent, shelves_ended, shelves_arrived, shelves_answered, shelves_marked, shelves_reaped, shelves_off_lists, shelves_listed, shelves_open, shelves_picked, shelves_caught_up, shelves_weighed}
+use Rattle.wf_law_runs.proofs.Queues.Shelves.{Shelves, shelves, shelves_with_station, shelves_hidden, shelves_on_session, shelves_on_share, shelves_on_queue, shelves_finish, shelves_finish_all, shelves_pay_queues, shelves_after_pick, shelves_after_turn, shelves_sent, shelves_ended, shelves_arrived, shelves_answered, shelves_marked, shelves_reaped, shelves_off_lists, shelves_listed, shelves_open, shelves_picked, shelves_caught_up, shelves_weighed, shelves_held, shelves_begun, shelves_freed, shelves_ceased}
 
 -- The state after two lists of dequeues.
 pub codel_append : (xs ys : List Dequeue) (c : Codel) →
@@ -506,7 +506,7 @@ state_if false x y = refl
 codel_done : (note : Note) (w : World) (q : ℕ) (x : Visits) → (queue w q).codel ≡ state_of x →
     (queue (outcome_of w note).world q).codel ≡ state_of (visits_done w q note x)
 unfolding outcome_of tick_outcome rate_outcome sleep_outcome wake_outcome poll_outcome rx_outcome join_outcome
-    unsent_outcome give_up_outcome offload_outcome
+    unsent_outcome give_up_outcome offload_outcome plain_outcome
 codel_done (Enqueue s t flow len) w q x h =
     let b : Bool = (w.config.codel_reset == 1) && becomes_listed (after_limit w) s t flow q in
     codel_enqueued w s t flow len q ∙ (ap (λ (c : Codel). if b then calmed c else c) h
@@ -516,6 +516,12 @@ codel_done (Asked (Join s window start exponent weight)) w q x h =
 codel_done (Asked (Offload s exponent weight)) w q x h =
     codel_same q (shelves_with_station w s _) ∙ h
 codel_done (Asked (Weight s weight)) w q x h = codel_same q (shelves_weighed w s weight) ∙ h
+codel_done (Asked (Plain s start exponent weight)) w q x h =
+    codel_same q (shelves_with_station w s _) ∙ h
+codel_done (Asked (Hold s t)) w q x h = codel_same q (shelves_held w s t) ∙ h
+codel_done (Asked (Begin s t window)) w q x h = codel_same q (shelves_begun w s t window) ∙ h
+codel_done (Asked (Free s t)) w q x h = codel_same q (shelves_freed w s t) ∙ h
+codel_done (Asked (Cease s t)) w q x h = codel_same q (shelves_ceased w s t) ∙ h
 codel_done (Asked (Leave s)) w q x h = codel_gone w s q
     ∙ (ap (λ (c : Codel). if lists_queue w s q then new_codel else c) h
     ∙ sym (state_if (lists_queue w s q) no_visits x))

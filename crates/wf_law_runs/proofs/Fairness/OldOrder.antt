@@ -3,7 +3,7 @@ use Rattle.std.proofs.Common.{◌≡◌, refl, ap, sym, ◌∙◌, subst, arith,
 use Rattle.std.proofs.lemmas.Bool.{cases_eq, ne_eqb, not_from_true, not_from_false}
 use Rattle.wf_frame.specs.declared.classes.Class.{Class}
 use Rattle.wf_frame.specs.declared.classes.Class.TheVariants.{Bk, Be, Vi, Vo}
-use Rattle.wf_frame.specs.declared.notes.Ask.TheVariants.{Join, Leave, Rate, Tick, Pull, Arrive, Answer, Done, Sleep, Wake, Poll, Rx, Reap, Ampdu, Stop, Start, Unsent, GiveUp, Flush, Offload, Weight}
+use Rattle.wf_frame.specs.declared.notes.Ask.TheVariants.{Join, Leave, Rate, Tick, Pull, Arrive, Answer, Done, Sleep, Wake, Poll, Rx, Reap, Ampdu, Stop, Start, Unsent, GiveUp, Flush, Offload, Weight, Plain, Hold, Begin, Free, Cease}
 use Rattle.wf_frame.specs.declared.notes.AskedRate.{AskedRate}
 use Rattle.wf_frame.specs.declared.notes.Limits.{Limits}
 use Rattle.wf_frame.specs.declared.notes.Note.{Note}
@@ -17,7 +17,7 @@ use Rattle.wf_frame.specs.Classes.{class_number, same_class}
 use Rattle.wf_def_world.specs.CanSend.{is_ready, with_listings_of}
 use Rattle.wf_def_world.specs.Exchanges.{Prepared, station_need, picked_station, after_tid_turn, prepared_exchange, exchange_of, sending_tid, charge_of}
 use Rattle.wf_def_world.specs.Refusals.{refusals, refusal}
-use Rattle.wf_def_world.specs.Step.{Outcome, join_outcome, tick_outcome, rate_outcome, pull_outcome_for, pull_outcome, done_outcome, outcome_where_open, rx_outcome, outcome_of, after_refusal, judged_outcome, step, concerned_station, offload_outcome, weight_outcome}
+use Rattle.wf_def_world.specs.Step.{Outcome, join_outcome, tick_outcome, rate_outcome, pull_outcome_for, pull_outcome, done_outcome, outcome_where_open, rx_outcome, outcome_of, after_refusal, judged_outcome, step, concerned_station, offload_outcome, plain_outcome, weight_outcome}
 use Rattle.wf_def_world.specs.Stretches.{charge_to, charge_by}
 use Rattle.wf_def_lists.specs.Lists.{on}
 use Rattle.wf_law_rules.proofs.Lemmas.Counts.{ahead, on-append, ahead-filter, on-filter_out, on-nil, on-cons_other, ahead-append, ahead-none}
@@ -25,7 +25,7 @@ use Rattle.wf_law_rules.proofs.Lemmas.Rotations.{stay}
 use Rattle.wf_law_runs.proofs.Common.Refused.{after_idle}
 use Rattle.wf_law_runs.proofs.Common.Limits.{with_limits}
 use Rattle.wf_law_runs.proofs.Deficits.Books.{Account, account, core, Books, books, with_account, on_part, upd_same, upd_other, each_upd, updc_same, updc_other, each_updc, cases_class}
-use Rattle.wf_law_runs.proofs.Deficits.BookSteps.{books_after_turn, books_prepared, books_sent, with_opened, charge_share, with_charge, books_ended, books_gone, all_off, books_enqueued, receive_share, books_received, books_reaped, books_slept, books_woken, books_credited, rated, books_with_rate, fresh_account, books_joined, pay_share, paid, after, books_after_pick, books_stated, books_stopped, books_started, books_flushed, books_offloaded, books_weighed, reweighed}
+use Rattle.wf_law_runs.proofs.Deficits.BookSteps.{books_after_turn, books_prepared, books_sent, with_opened, charge_share, with_charge, books_ended, books_gone, all_off, books_enqueued, receive_share, books_received, books_reaped, books_slept, books_woken, books_credited, rated, books_with_rate, fresh_account, books_joined, pay_share, paid, after, books_after_pick, books_stated, books_stopped, books_started, books_flushed, books_offloaded, books_weighed, reweighed, books_joined_plain, books_held, books_begun, books_freed, books_ceased}
 use Rattle.wf_law_runs.proofs.Deficits.Openings.{every_find}
 use Rattle.wf_law_runs.proofs.Deficits.Kept.{IsOpen, IsKept}
 use Rattle.wf_law_runs.proofs.Deficits.KeptStep.{NoRow, no_row, live_account, IsFound, at_number, books_arrived, books_unsent, books_given_up, books_answered}
@@ -341,6 +341,13 @@ turn_offloaded w s exponent weight c i j dead k h =
     subst (IsTurn c i j 0 0 (books w)) (sym (books_offloaded w s exponent weight))
     (turn_fresh w s weight c i j dead k h)
 
+turn_joined_plain : (w : World) (s start exponent weight : ℕ) (c : Class) (i j : ℕ) → is_live w s ≡ false →
+    IsKept (books w) → Both c i j (books w) →
+    IsTurn c i j 0 0 (books w) (books (plain_outcome w s start exponent weight).world)
+turn_joined_plain w s start exponent weight c i j dead k h =
+    subst (IsTurn c i j 0 0 (books w)) (sym (books_joined_plain w s start exponent weight))
+    (turn_fresh w s weight c i j dead k h)
+
 -- A weight that is set changes no count and no order.
 pub turn_weighed : (w : World) (s weight : ℕ) (c : Class) (i j : ℕ) →
     IsTurn c i j 0 0 (books w) (books (weight_outcome w s weight).world)
@@ -507,6 +514,8 @@ turn_done (Asked (Join s window start exponent weight)) w c i j r k h h' =
     turn_joined w s window start exponent weight c i j r.1.1.1.1.1.0 k h
 turn_done (Asked (Offload s exponent weight)) w c i j r k h h' =
     turn_offloaded w s exponent weight c i j r.1.1.1.0 k h
+turn_done (Asked (Plain s start exponent weight)) w c i j r k h h' =
+    turn_joined_plain w s start exponent weight c i j r.1.1.1.1.0 k h
 turn_done (Asked (Weight s weight)) w c i j r k h h' = turn_weighed w s weight c i j
 turn_done (Asked (Leave s)) w c i j r k h h' =
     subst (λ (b : Books). Both c i j b → IsTurn c i j 0 0 (books w) b) (sym (books_gone w s))
@@ -534,6 +543,10 @@ turn_done (Asked (Ampdu s octets)) w c i j r k h h' = turn_same c i j _ _ (books
 turn_done (Asked (Stop s)) w c i j r k h h' = turn_same c i j _ _ (books_stopped w s)
 turn_done (Asked (Start s)) w c i j r k h h' = turn_same c i j _ _ (books_started w s)
 turn_done (Asked (Flush s t)) w c i j r k h h' = turn_same c i j _ _ (books_flushed w s t)
+turn_done (Asked (Hold s t)) w c i j r k h h' = turn_same c i j _ _ (books_held w s t)
+turn_done (Asked (Begin s t window)) w c i j r k h h' = turn_same c i j _ _ (books_begun w s t window)
+turn_done (Asked (Free s t)) w c i j r k h h' = turn_same c i j _ _ (books_freed w s t)
+turn_done (Asked (Cease s t)) w c i j r k h h' = turn_same c i j _ _ (books_ceased w s t)
 turn_done (Asked (Wake s)) w c i j r k h h' = turn_same c i j _ _ (books_woken w s)
 turn_done (Asked (Poll s)) w c i j r k h h' = turn_same c i j _ _ (books_credited w s)
 turn_done (Asked (Rx s d air)) w c i j r k h h' = turn_received w s d air c i j

@@ -6,7 +6,7 @@ use Rattle.wf_frame.specs.declared.classes.Class.{Class}
 use Rattle.wf_frame.specs.declared.notes.Limits.{Limits}
 use Rattle.wf_def_rotation.specs.Rotation.{Rotation, in_order}
 use Rattle.wf_def_agreement.specs.Session.{request_due, Session, Slot, State, slot, on_slot, is_settled, next_number, with_number_given}
-use Rattle.wf_def_world.specs.World.{Mpdu, Exchange, tid_of, is_live, rotation, codel_params, with_queues, on_share, with_rotation, on_tid, on_station, with_station, World, Queue, Frame, no_frame, new_queue, queue, session, frame, accepted_count, on_queue, on_session, with_fate, with_frame_finished, with_frames_finished}
+use Rattle.wf_def_world.specs.World.{Mpdu, Exchange, tid_of, is_live, rotation, codel_params, with_queues, on_share, with_rotation, on_tid, on_station, with_station, World, Tid, Queue, Frame, no_frame, new_queue, queue, session, frame, accepted_count, on_queue, on_session, with_fate, with_frame_finished, with_frames_finished}
 use Rattle.wf_def_world.specs.FlowQueues.{len_given, with_queues_paid, taken_by_codel, taken_from_picked, picked_queue, taken_for_tid}
 use Rattle.wf_def_world.specs.CanSend.{is_ready}
 use Rattle.wf_def_world.specs.Exchanges.{Aggregate, Prepared, with_number, with_fresh, aggregate_of, longest_fitting, waiting_mpdus, most_frames, with_flying, prepared_data, prepared_exchange, sending_tid, after_tid_turn, after_pick, with_stations_paid, with_station_paid, picked_station, station_need, with_exchange_opened, without_credit, exchange_of}
@@ -19,7 +19,7 @@ use Rattle.wf_law_runs.proofs.Windows.Agreed.{IsLawful, IsReady, ready_filled, l
 use Rattle.wf_law_runs.proofs.Releases.Placed.{Placing, Any, placed_less, slot_new_id}
 use Rattle.wf_law_runs.proofs.Frames.Fewer.{Less, then_less, less_pay_queues, less_with_queues, less_after_turn, queues_dropped, carries, queue_on, less_picked}
 use Rattle.wf_law_runs.proofs.Frames.Fates.{Fresh, Safe, safe_calm, safe_numbered, dropped_dequeue, given_dequeued-is, IsHeld, InQueue, InHand, Carries, ids_in, ids_carried, IsGivenId, at_slot_same, session_on_queue}
-use Rattle.wf_law_runs.proofs.Frames.Untouched.{untouched_on_queue, untouched_with_queues, untouched_pay_queues, untouched_on_session, untouched_spent, untouched_after_turn, untouched_picked}
+use Rattle.wf_law_runs.proofs.Frames.Untouched.{untouched_on_queue, untouched_with_queues, untouched_pay_queues, untouched_on_session, untouched_spent, untouched_after_turn, untouched_picked, untouched_on_tid}
 use Rattle.wf_law_runs.proofs.Queues.Shelves.{Shelves, shelves_pay_queues}
 use Rattle.wf_law_runs.proofs.Queues.ShelvedStep.{live_number}
 use Rattle.wf_law_runs.proofs.Releases.Kept.{KeptSession, kept_on_slot}
@@ -396,6 +396,27 @@ pub covers_session : (w : World) (s t : ℕ) (f : Session → Session) →
 covers_session w s t f h c = covers_frames (InHand (on_session w s t f)) w _
     (untouched_on_session w s t f).frames (covers_more (InHand w) (InHand (on_session w s t f)) w
     (λ k i. hand_session w s t k f (λ n d. h k n d) i) c)
+
+queues_on_tid : (w : World) (s t : ℕ) (f : Tid → Tid) (q k : ℕ) →
+    carries (queue w q).items k ≡ true → carries (queue (on_tid w s t f) q).items k ≡ true
+unfolding on_tid on_station with_station
+queues_on_tid w s t f q k h = h
+
+-- One TID changes, and keeps its unsettled numbers.
+pub covers_on_tid : (w : World) (s t : ℕ) (f : Tid → Tid) →
+    ((k n : ℕ) → Carries (session w s t) k n → Carries (f (tid_of w s t)).session k n) → Full w →
+    Full (on_tid w s t f)
+covers_on_tid w s t f h c = covers_frames (InHand (on_tid w s t f)) w _ (untouched_on_tid w s t f).frames
+    (covers_more (InHand w) (InHand (on_tid w s t f)) w (λ k i. elim i [
+      | inl a ↦ inl (record { place = a.place; there = queues_on_tid w s t f a.place k a.there })
+      | inr a ↦ inr (record {
+        station = a.station;
+        tid = a.tid;
+        number = a.number;
+        slot_of = each_side_on (λ i j b. (n : ℕ) → Carries (session w i j) k n → Carries b.session k n)
+            w s t f (λ i j n d. d) (λ n d. h k n d) a.station a.tid a.number a.slot_of;
+      })
+    ]) c)
 
 covers_frames_fly : (s t : ℕ) (f : Aggregate) → IsReady s t f.world f.mpdus → Full f.world →
     Full (prepared_data s t f).world

@@ -2,7 +2,8 @@
 use Rattle.std.proofs.Common.{◌≡◌, refl, ap, sym, ◌∙◌, subst, arith, ℕ, zero, suc, ◌<◌, ◌-◌, Bool, true, false, if◌then◌else◌, ◌==◌, inl, inr, List, [], ◌∷◌, ◌++◌, length, Option, Some, None, is_some, unwrap_or}
 use Rattle.std.proofs.lemmas.Bool.{cases_eq}
 use Rattle.wf_frame.specs.declared.classes.Class.{Class}
-use Rattle.wf_frame.specs.declared.classes.Cause.TheVariants.{Overlimit, Left, Retries, Flushed}
+use Rattle.wf_frame.specs.declared.classes.Cause.TheVariants.{Overlimit, Left, Retries, Flushed, Ended}
+use Rattle.wf_frame.specs.declared.classes.Cause.{Cause}
 use Rattle.wf_frame.specs.declared.classes.Fate.{Fate}
 use Rattle.wf_frame.specs.declared.classes.Fate.TheVariants.{Held, Acked, Dropped}
 use Rattle.wf_frame.specs.declared.notes.Note.{Note}
@@ -12,17 +13,17 @@ use Rattle.wf_def_lists.specs.Table.{at, has, upto}
 use Rattle.wf_def_codel.specs.Codel.{Item, new_codel}
 use Rattle.wf_def_rotation.specs.Rotation.{Rotation, has_key, in_order, no_keys}
 use Rattle.wf_def_agreement.specs.Session.{End, Session, Slot, State, no_slot, slot, on_slot, is_settled, is_failed, is_waiting, after_flush, next_number, numbers_where, new_session, start_of}
-use Rattle.wf_def_world.specs.World.{World, Station, Queue, Exchange, Mpdu, Content, Frames, Request, Frame, no_frame, no_tid, no_station, new_queue, queue, session, tid_of, is_live, accepted_count, on_queue, on_session, on_tid, on_station, on_share, with_station, with_queues, with_rotation, with_fate, with_frame_finished, with_frames_finished, without_exchange}
+use Rattle.wf_def_world.specs.World.{World, Mode, Station, Tid, Queue, Exchange, Mpdu, Content, Frames, Request, Frame, no_frame, no_tid, no_station, new_queue, queue, session, tid_of, is_live, accepted_count, on_queue, on_session, on_tid, on_station, on_share, with_mode, with_station, with_queues, with_rotation, with_fate, with_frame_finished, with_frames_finished, without_exchange}
 use Rattle.wf_def_world.specs.FlowQueues.{is_at_limit, longest_queue, without_head, after_limit, queue_for, when_listed, with_listed_queue, with_appended, after_put_in, after_queue_left, after_queues_left, after_queue_flushed, after_queues_flushed}
-use Rattle.wf_def_world.specs.Exchanges.{end_of, with_heard_start, mpdus_of, after_charge, with_settled, with_failed_finished, with_all_settled, after_done, ids_of, caught_up, with_device_caught_up}
-use Rattle.wf_def_world.specs.Step.{with_frame, enqueue_outcome, done_outcome, waiting_ids, in_rising_order, after_tid_left, after_tids_left, without_listings, leave_outcome, after_tid_flushed, flush_outcome, join_outcome, offload_outcome}
+use Rattle.wf_def_world.specs.Exchanges.{end_of, with_heard_start, mpdus_of, after_charge, with_settled, with_failed_finished, with_all_settled, after_done, ids_of, caught_up, caught_up_if_plain}
+use Rattle.wf_def_world.specs.Step.{with_frame, enqueue_outcome, done_outcome, waiting_ids, in_rising_order, after_tid_left, after_tids_left, without_listings, leave_outcome, after_tid_flushed, flush_outcome, join_outcome, offload_outcome, plain_outcome, hold_outcome, begin_outcome, free_outcome, cease_outcome, after_numbers_ended, plain_window}
 use Rattle.wf_law_rules.proofs.Lemmas.Tables.{each_put}
 use Rattle.wf_law_rules.proofs.Lemmas.Counts.{on-has}
 use Rattle.wf_law_rules.proofs.Lemmas.Numbers.{on_bool, on_if, eq_yes, eq_no, yes_eq, either, or_left, or_right}
 use Rattle.wf_law_runs.proofs.Common.Ends.{slot_after_end, end_id, on_settled}
 use Rattle.wf_law_runs.proofs.Common.Flushes.{waiting_is, slot_flush, flushed_stays, next-flush, if_caught}
 use Rattle.wf_law_runs.proofs.Windows.Agreement.{slot_same}
-use Rattle.wf_law_runs.proofs.Windows.Sides.{Side, Same, same_put_in, same_finish, same_finish_all, same_with_queues, same_charged}
+use Rattle.wf_law_runs.proofs.Windows.Sides.{Side, Same, same_put_in, same_finish, same_finish_all, same_with_queues, same_charged, renewed, begun_is, ceased_is}
 use Rattle.wf_law_runs.proofs.Windows.Settling.{without_same}
 use Rattle.wf_law_runs.proofs.Windows.Agreed.{IsLawful, IsEnding, IsFound, ending_settled, ending_of, session_same, session_on_session, same_left_tids, same_off_lists}
 use Rattle.wf_law_runs.proofs.Releases.Kept.{Kept, keep_settled}
@@ -34,7 +35,7 @@ use Rattle.wf_law_runs.proofs.Frames.Untouched.{untouched_on_queue, untouched_on
 use Rattle.wf_law_runs.proofs.Frames.Owners.{IsOwned}
 use Rattle.wf_law_runs.proofs.Deficits.MildStep.{on_upto}
 use Rattle.wf_law_runs.proofs.Queues.ShelvedStep.{accepted_limit, accepted_put}
-use Rattle.wf_law_runs.proofs.Frames.Covered.{Covers, Full, covers_frames, covers_more, covers_finish, covers_all, hand_same, queue_rest, queue_hand, hand_finish_all, hand_queue, hand_session, carries_other, carries_on_slot, covers_session, covers_calm}
+use Rattle.wf_law_runs.proofs.Frames.Covered.{Covers, Full, covers_frames, covers_more, covers_finish, covers_all, hand_same, queue_rest, queue_hand, hand_finish_all, hand_queue, hand_session, carries_other, carries_on_slot, covers_session, covers_on_tid, covers_calm}
 use Rattle.wf_def_agreement.specs.Receiver.{with_start}
 use Rattle.wf_law_runs.proofs.Releases.Placed.{less_left_tids, Placing, Any, placed_less, accepted_with_frame, side_with_frame, IsIdOf, has_ids}
 use Rattle.wf_law_runs.proofs.Releases.Once.{placed_settled, placed_without}
@@ -288,7 +289,7 @@ covers_all_settled (m ∷ ms) l e s t ends w n a p c =
     (placed_settled (ends m.number) l e s t ends w m ms n p)
     (covers_settled (ends m.number) l e s t ends w m ms n a.0 p c)
 
--- The device of an offloaded station catches up.
+-- A TID without an agreement catches up.
 covers_caught : (w : World) (s t : ℕ) → Full w → Full (caught_up w s t)
 unfolding caught_up
 covers_caught w s t c =
@@ -300,8 +301,8 @@ covers_caught w s t c =
     (untouched_on_receiver u s t (with_start start)).frames
     (covers_session w s t f (λ k n d. carries_heard true start _ k n d) c)
 
-covers_device : (w : World) (s t : ℕ) → Full w → Full (with_device_caught_up w s t)
-covers_device w s t c = if_caught Full w s t c (λ _. covers_caught w s t c)
+covers_caught_up : (w : World) (s t : ℕ) → Full w → Full (caught_up_if_plain w s t)
+covers_caught_up w s t c = if_caught Full w s t c (λ _. covers_caught w s t c)
 
 covers_after : (air : Option ℕ) (c : Content) (l : List ℕ) (w : World) (i : IsLawful w) (x : Exchange)
     (heard : Bool) →
@@ -315,7 +316,7 @@ covers_after air (Frames ms) l w i x heard e f a p c =
     let d : session v x.station x.tid ≡ session w x.station x.tid =
     session_same _ _ (same_charged air (without_exchange w x.number) x) x.station x.tid
     ∙ without_same w x.number x.station x.tid in
-    covers_device _ x.station x.tid (covers_all_settled ms l x.number x.station x.tid (end_of x heard) v
+    covers_caught_up _ x.station x.tid (covers_all_settled ms l x.number x.station x.tid (end_of v x heard) v
     (ending_of air w i x ms heard e f) (subst (λ (y : Session). Labelled y ms) (sym d) a) p c)
 covers_after air (Request g) l w i x heard e f a p c =
     covers_session (after_charge (without_exchange w x.number) x air) x.station x.tid
@@ -554,20 +555,20 @@ carries_flush limit y k n none c = on_bool (is_waiting (slot y n).state)
       id = ap (λ (x : Slot). x.id) d ∙ c.id;
     })
 
-covers_flush_slots : (l : List ℕ) (w : World) (s t : ℕ) → Placing l w → Full w →
-    Full (with_frames_finished (on_session w s t (after_flush w.config.attempts)) (Dropped Flushed)
+covers_flush_slots : (cause : Cause) (l : List ℕ) (w : World) (s t : ℕ) → Placing l w → Full w →
+    Full (with_frames_finished (on_session w s t (after_flush w.config.attempts)) (Dropped cause)
     (waiting_ids (session w s t).slots))
-covers_flush_slots l w s t p c =
+covers_flush_slots cause l w s t p c =
     let y : Session = session w s t in
     let f : Session → Session = after_flush w.config.attempts in
     let u : World = on_session w s t f in
     let ids : List ℕ = waiting_ids y.slots in
-    covers_all ids (InHand w) (InHand (with_frames_finished u (Dropped Flushed) ids)) u (Dropped Flushed)
+    covers_all ids (InHand w) (InHand (with_frames_finished u (Dropped cause) ids)) u (Dropped cause)
     (λ d. cc d)
     (λ k h. subst (λ (fs : List Frame). k < length fs) (sym (untouched_on_session w s t f).frames)
     (held_old l w s t k p h))
     (covers_frames (InHand w) w u (untouched_on_session w s t f).frames c)
-    (λ k none i. hand_finish_all ids u (Dropped Flushed) k
+    (λ k none i. hand_finish_all ids u (Dropped cause) k
     (hand_session w s t k f (λ n d. carries_flush w.config.attempts y k n none d) i))
 
 covers_flush_queue : (l : List ℕ) (w : World) (q : ℕ) → Placing l w → Full w → Full (after_queue_flushed w q)
@@ -598,8 +599,41 @@ pub covers_flushed : (l : List ℕ) (w : World) (s t : ℕ) → Placing l w → 
     Full (flush_outcome w s t).world
 unfolding flush_outcome after_tid_flushed
 covers_flushed l w s t p c =
-    covers_device _ s t (covers_flush_queues (in_rising_order (in_order (tid_of w s t).queues)) l _
-    (placed_flush_slots l w s t p) (covers_flush_slots l w s t p c))
+    covers_caught_up _ s t (covers_flush_queues (in_rising_order (in_order (tid_of w s t).queues)) l _
+    (placed_flush_slots Flushed l w s t p) (covers_flush_slots Flushed l w s t p c))
+
+-- ---- a TID is held or free, and its agreement begins or ends
+
+pub covers_held : (w : World) (s t : ℕ) → Full w → Full (hold_outcome w s t).world
+unfolding hold_outcome with_mode
+covers_held w s t c = covers_on_tid w s t _ (λ k n d. d) c
+
+-- A TID whose agreement begins or ends keeps its unsettled numbers.
+carries_renewed : (start size : ℕ) (mode : Mode) (y : Tid) (k n : ℕ) → Carries y.session k n →
+    Carries (renewed start size mode y).session k n
+carries_renewed start size mode y k n d =
+    record { from = d.from; below = d.below; unsettled = d.unsettled; id = d.id }
+
+pub covers_begun : (w : World) (s t window : ℕ) → Full w → Full (begin_outcome w s t window).world
+covers_begun w s t window c = subst Full (sym (begun_is w s t window))
+    (covers_on_tid w s t _ (carries_renewed (start_of (session w s t)) window Mode.Agreed (tid_of w s t)) c)
+
+pub covers_freed : (w : World) (s t : ℕ) → Full w → Full (free_outcome w s t).world
+unfolding free_outcome with_mode
+covers_freed w s t c = covers_on_tid w s t _ (λ k n d. d) c
+
+covers_numbers_ended : (l : List ℕ) (w : World) (s t : ℕ) → Placing l w → Full w →
+    Full (after_numbers_ended w s t)
+unfolding after_numbers_ended
+covers_numbers_ended l w s t p c = covers_flush_slots Ended l w s t p c
+
+pub covers_ceased : (l : List ℕ) (w : World) (s t : ℕ) → Placing l w → Full w →
+    Full (cease_outcome w s t).world
+covers_ceased l w s t p c =
+    let v : World = after_numbers_ended w s t in
+    subst Full (sym (ceased_is w s t)) (covers_on_tid v s t _
+    (carries_renewed (start_of (session v s t)) plain_window Mode.OnHold (tid_of v s t))
+    (covers_numbers_ended l w s t p c))
 
 -- ---- a station joins
 
@@ -633,3 +667,8 @@ pub covers_offloaded : (w : World) (s exponent weight : ℕ) → is_live w s ≡
     Full (offload_outcome w s exponent weight).world
 unfolding offload_outcome
 covers_offloaded w s exponent weight dead c = covers_new w s _ dead c
+
+pub covers_unagreed : (w : World) (s start exponent weight : ℕ) → is_live w s ≡ false → Full w →
+    Full (plain_outcome w s start exponent weight).world
+unfolding plain_outcome
+covers_unagreed w s start exponent weight dead c = covers_new w s _ dead c

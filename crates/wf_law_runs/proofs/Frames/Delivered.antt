@@ -5,20 +5,20 @@ use Rattle.wf_frame.specs.declared.classes.Class.{Class}
 use Rattle.wf_def_agreement.specs.Receiver.{Score, Receiver, score, shows}
 use Rattle.wf_def_lists.specs.Table.{at, has, with_member, put, upto}
 use Rattle.wf_def_codel.specs.Codel.{Item}
-use Rattle.wf_def_agreement.specs.Session.{End, request_due, waiting_numbers, with_state, Session, State, is_failed, slot, on_slot, with_number_given, next_number, has_room}
-use Rattle.wf_def_world.specs.World.{receiver, World, Station, Exchange, Mpdu, Content, Frames, Request, rotation, session, is_live, exchange, with_station, on_station, on_session, on_receiver, on_queue, queue, with_exchange, without_exchange, no_frame, Frame}
+use Rattle.wf_def_agreement.specs.Session.{End, request_due, waiting_numbers, with_state, Session, State, is_failed, slot, on_slot, with_number_given, next_number, has_room, start_of}
+use Rattle.wf_def_world.specs.World.{receiver, World, Mode, Station, Tid, Exchange, Mpdu, Content, Frames, Request, rotation, tid_of, session, is_live, exchange, with_mode, on_tid, with_station, on_station, on_session, on_receiver, on_queue, queue, with_exchange, without_exchange, no_frame, Frame}
 use Rattle.wf_frame.specs.Classes.{all_classes}
 use Rattle.wf_def_world.specs.FlowQueues.{after_limit, with_appended, after_put_in, taken_for_tid}
 use Rattle.wf_def_world.specs.CanSend.{is_ready, can_give}
 use Rattle.wf_def_world.specs.Exchanges.{end_of, is_acked, station_need, most_frames, picked_station, after_arrival, exchange_of, sending_tid, Prepared, mpdus_of, after_tid_turn, with_fresh, aggregate_of, with_number, fresh_mpdus, with_flying, waiting_mpdus, longest_fitting, without_credit, prepared_data, prepared_exchange, with_exchange_opened, after_charge, with_failed_finished, with_settled, with_all_settled, after_done, fits_in, mpdu_of, Aggregate}
-use Rattle.wf_frame.specs.declared.notes.Ask.TheVariants.{Join, Leave, Rate, Tick, Pull, Arrive, Answer, Done, Sleep, Wake, Poll, Rx, Reap, Ampdu, Stop, Start, Unsent, GiveUp, Flush, Offload, Weight}
+use Rattle.wf_frame.specs.declared.notes.Ask.TheVariants.{Join, Leave, Rate, Tick, Pull, Arrive, Answer, Done, Sleep, Wake, Poll, Rx, Reap, Ampdu, Stop, Start, Unsent, GiveUp, Flush, Offload, Weight, Plain, Hold, Begin, Free, Cease}
 use Rattle.wf_frame.specs.declared.notes.Limits.{Limits}
 use Rattle.wf_frame.specs.declared.notes.Note.{Note}
 use Rattle.wf_frame.specs.declared.notes.Note.TheVariants.{Enqueue, Asked}
 use Rattle.wf_frame.specs.declared.notes.Refusal.{Refusal}
 use Rattle.wf_frame.specs.declared.notes.Refusal.TheVariants.{Idle}
 use Rattle.wf_def_world.specs.Refusals.{open_of_station, refusals, refusal}
-use Rattle.wf_def_world.specs.Step.{Outcome, join_outcome, after_tid_left, after_tids_left, without_listings, leave_outcome, rate_outcome, tick_outcome, with_frame, enqueue_outcome, send_outcome, pull_outcome_for, pull_outcome, arrive_outcome, answer_outcome, done_outcome, outcome_where_open, sleep_outcome, wake_outcome, poll_outcome, rx_outcome, reap_outcome, unsent_outcome, give_up_outcome, flush_outcome, outcome_of, after_refusal, judged_outcome, step, concerned_station, offload_outcome, new_station}
+use Rattle.wf_def_world.specs.Step.{Outcome, join_outcome, after_tid_left, after_tids_left, without_listings, leave_outcome, rate_outcome, tick_outcome, with_frame, enqueue_outcome, send_outcome, pull_outcome_for, pull_outcome, arrive_outcome, answer_outcome, done_outcome, outcome_where_open, sleep_outcome, wake_outcome, poll_outcome, rx_outcome, reap_outcome, unsent_outcome, give_up_outcome, flush_outcome, outcome_of, after_refusal, judged_outcome, step, concerned_station, offload_outcome, plain_outcome, plain_window, hold_outcome, begin_outcome, free_outcome, cease_outcome, after_numbers_ended, new_station}
 use Rattle.wf_law_rules.proofs.Lemmas.Tables.{at_put_other}
 use Rattle.wf_law_runs.proofs.Common.Refused.{after_idle}
 use Rattle.wf_law_runs.proofs.Common.Marks.{with_marks, marked_world}
@@ -26,7 +26,7 @@ use Rattle.wf_law_runs.proofs.Common.Ends.{slot_after_end, end_backed, on_settle
 use Rattle.wf_law_runs.proofs.Common.Flushes.{if_flushed}
 use Rattle.wf_law_runs.proofs.Sessions.Flights.{Rises}
 use Rattle.wf_law_rules.proofs.Lemmas.Numbers.{on_if, both, yes_eq, or_left, or_right}
-use Rattle.wf_law_runs.proofs.Windows.Sides.{sided, Side, sides_of, Same, each_side_on, on_opened, then_same, same_on_station, same_on_share, same_finish, same_listed, same_after_pick, same_after_turn, same_spent, same_within_limit, same_put_in, same_take, same_charged, same_picked, same_plain, same_weighed}
+use Rattle.wf_law_runs.proofs.Windows.Sides.{sided, Side, sides_of, Same, each_side_on, on_opened, then_same, same_on_station, same_on_share, same_finish, same_listed, same_after_pick, same_after_turn, same_spent, same_within_limit, same_put_in, same_take, same_charged, same_picked, same_plain, same_weighed, renewed, begun_is, ceased_is, opened_ceased}
 use Rattle.wf_law_runs.proofs.Windows.Opened.{Each, each_map, each_both, each_append, each_filter, each_find, FlyIn, some_along, pick_ready, left_true, can_give-room, none_open, NoRow, no_row}
 use Rattle.std.proofs.Common.{drop, take as take_front}
 use Rattle.std.proofs.lemmas.List.{take-append-drop}
@@ -35,10 +35,10 @@ use Rattle.wf_frame.specs.declared.classes.Fate.TheVariants.{Acked, Held}
 use Rattle.wf_law_runs.specs.Windows.{EachMpdu}
 use Rattle.wf_law_runs.specs.Delivery.{ids_sent, EndsHeard, is_batch}
 use Rattle.wf_law_runs.proofs.Common.Picked.{picked_world}
-use Rattle.wf_law_runs.proofs.Releases.Kept.{KeptSession, kept_give, kept_fly, Kept, kept_same, keep_ended, keep_prepared, keep_flushed, opened_flushed, opened_device, exchanges_device}
+use Rattle.wf_law_runs.proofs.Releases.Kept.{KeptSession, kept_refl, then_kept, keep_numbers_ended, kept_give, kept_fly, Kept, kept_same, keep_ended, keep_prepared, keep_flushed, opened_flushed, opened_caught_up, exchanges_caught_up}
 use Rattle.wf_law_runs.proofs.Windows.Agreed.{IsLawful, IsOpenIn, IsReady, AllBacked, ready_start, ready_filled, ready_same, longer_number, lawful_same, lawful_done, session_same, session_on_session, opened_on_session, exchanges_on_session, same_left_tids, same_off_lists, each_map_if, backed_of}
-use Rattle.wf_law_runs.proofs.Frames.Fewer.{IsAcked, Less, less, then_less, if_less, less_plain, less_on_station, less_on_session, less_on_queue, fewer_none, less_on_receiver, less_with_queues, less_on_share, less_with_rotation, less_finish, less_drop_all, less_listed, less_after_pick, less_after_turn, less_spent, less_within_limit, less_listed_queue, less_purge_queues, less_charged, less_take, less_picked, less_device, less_caught, less_weighed}
-use Rattle.wf_law_runs.proofs.Windows.Settling.{all_acked, without_same, without_live, acked_device}
+use Rattle.wf_law_runs.proofs.Frames.Fewer.{IsAcked, Less, less, then_less, if_less, less_plain, less_on_station, less_on_session, less_on_queue, fewer_none, less_on_receiver, less_with_queues, less_on_share, less_with_rotation, less_finish, less_drop_all, less_listed, less_after_pick, less_after_turn, less_spent, less_within_limit, less_listed_queue, less_purge_queues, less_charged, less_take, less_picked, less_caught_up, less_caught, less_weighed, less_held, less_begun, less_freed, less_ceased}
+use Rattle.wf_law_runs.proofs.Windows.Settling.{all_acked, without_same, without_live, acked_plain}
 use Rattle.wf_law_runs.proofs.Releases.Placed.{slot_new_id}
 use Rattle.wf_law_runs.proofs.Windows.Agreement.{IsOpen}
 use Rattle.wf_def_lists.specs.Bounds.{greatest_window}
@@ -208,15 +208,20 @@ prepared_right w s t i live = if_prepared (request_due (session w s t)) s t w _ 
 pub record IsLabelled (w : World) : Type 0 where
   pub labels : Each (λ x. Labelled (session w x.station x.tid) (mpdus_of x.content)) w.opened
 
-labelled_keep : (w v : World) → IsLawful w → Kept w v → v.opened ≡ w.opened → IsLabelled w → IsLabelled v
-labelled_keep w v i k e a = record {
+-- Each session keeps the ids of its numbers.
+labelled_ids : (w v : World) → IsLawful w → ((s t : ℕ) → KeptSession (session w s t) (session v s t)) →
+    v.opened ≡ w.opened → IsLabelled w → IsLabelled v
+labelled_ids w v i k e a = record {
   labels = subst (Each (λ x. Labelled (session v x.station x.tid) (mpdus_of x.content))) (sym e)
       (each_both (IsOpenIn w) (λ x. Labelled (session w x.station x.tid) (mpdus_of x.content))
       (λ x. Labelled (session v x.station x.tid) (mpdus_of x.content)) w.opened
       (λ x o l. labelled_kept (mpdus_of x.content) (session w x.station x.tid) (session v x.station x.tid)
-      (session w x.station x.tid).first (k.sessions x.station x.tid)
+      (session w x.station x.tid).first (k x.station x.tid)
       (omega arith) o.opened.flies.rising l) i.opened a.labels);
 }
+
+labelled_keep : (w v : World) → IsLawful w → Kept w v → v.opened ≡ w.opened → IsLabelled w → IsLabelled v
+labelled_keep w v i k e a = labelled_ids w v i k.sessions e a
 
 labelled_same : (w v : World) → IsLawful w → Same w v → IsLabelled w → IsLabelled v
 labelled_same w v i h a = labelled_keep w v i (kept_same w v h) h.opened a
@@ -329,7 +334,7 @@ opened_all (m ∷ ms) w s t ends = opened_all ms (with_settled w s t (ends m.num
 opened_after : (c : Content) (w : World) (x : Exchange) (heard : Bool) →
     (after_done w x heard c).opened ≡ w.opened
 unfolding after_done
-opened_after (Frames ms) w x heard = opened_device _ x.station x.tid ∙ opened_all ms w x.station x.tid _
+opened_after (Frames ms) w x heard = opened_caught_up _ x.station x.tid ∙ opened_all ms w x.station x.tid _
 opened_after (Request f) w x heard = opened_on_session w x.station x.tid _
 
 exchanges_settled : (end : End) (w : World) (s t : ℕ) (m : Mpdu) →
@@ -355,7 +360,7 @@ exchanges_all (m ∷ ms) w s t ends = exchanges_all ms (with_settled w s t (ends
 exchanges_after : (c : Content) (w : World) (x : Exchange) (heard : Bool) →
     (after_done w x heard c).exchanges ≡ w.exchanges
 unfolding after_done
-exchanges_after (Frames ms) w x heard = exchanges_device _ x.station x.tid
+exchanges_after (Frames ms) w x heard = exchanges_caught_up _ x.station x.tid
     ∙ exchanges_all ms w x.station x.tid _
 exchanges_after (Request f) w x heard = exchanges_on_session w x.station x.tid _
 
@@ -411,10 +416,10 @@ labelled_with_station w s o away a = record {
       (sym (at_put_other None w.stations s x.station o ne)) l) a.labels away;
 }
 
-labelled_new : (w : World) (s window start exponent weight : ℕ) (offloaded : Bool) → is_live w s ≡ false →
-    IsLawful w → IsLabelled w →
-    IsLabelled (with_station w s (Some (new_station w.config window start exponent weight offloaded)))
-labelled_new w s window start exponent weight offloaded dead i a =
+labelled_new : (w : World) (mode : Mode) (s window start exponent weight : ℕ) (offloaded : Bool) →
+    is_live w s ≡ false → IsLawful w → IsLabelled w →
+    IsLabelled (with_station w s (Some (new_station w.config mode window start exponent weight offloaded)))
+labelled_new w mode s window start exponent weight offloaded dead i a =
     labelled_with_station w s _ (each_map (IsOpenIn w) (λ x. s ≢ x.station) w.opened
     (λ x f e. cc (ap (is_live w) e, f.live, dead)) i.opened) a
 
@@ -422,13 +427,19 @@ labelled_joined : (w : World) (s window start exponent weight : ℕ) → is_live
     IsLabelled w → IsLabelled (join_outcome w s window start exponent weight).world
 unfolding join_outcome
 labelled_joined w s window start exponent weight dead i a =
-    labelled_new w s window start exponent weight false dead i a
+    labelled_new w Mode.Agreed s window start exponent weight false dead i a
 
 labelled_offloaded : (w : World) (s exponent weight : ℕ) → is_live w s ≡ false → IsLawful w →
     IsLabelled w → IsLabelled (offload_outcome w s exponent weight).world
 unfolding offload_outcome
 labelled_offloaded w s exponent weight dead i a =
-    labelled_new w s greatest_window 0 exponent weight true dead i a
+    labelled_new w Mode.Plain s greatest_window 0 exponent weight true dead i a
+
+labelled_unagreed : (w : World) (s start exponent weight : ℕ) → is_live w s ≡ false → IsLawful w →
+    IsLabelled w → IsLabelled (plain_outcome w s start exponent weight).world
+unfolding plain_outcome
+labelled_unagreed w s start exponent weight dead i a =
+    labelled_new w Mode.Plain s plain_window start exponent weight false dead i a
 
 labelled_gone : (w : World) (s : ℕ) → nat_lt 0 (open_of_station w s) ≡ false → IsLawful w → IsLabelled w →
     IsLabelled (leave_outcome w s).world
@@ -437,6 +448,45 @@ labelled_gone w s h i a =
     let k = then_same _ _ _ (same_left_tids (upto 8) w s) (same_off_lists all_classes _ s) in
     labelled_with_station _ s None (subst (Each (λ x. s ≢ x.station)) (sym k.opened) (none_open w.opened s h))
     (labelled_same _ _ i k a)
+
+-- ---- a TID is held or free, and its agreement begins or ends
+
+sessions_on_tid : (w : World) (s t : ℕ) (f : Tid → Tid) →
+    KeptSession (session w s t) (f (tid_of w s t)).session →
+    (i j : ℕ) → KeptSession (session w i j) (session (on_tid w s t f) i j)
+sessions_on_tid w s t f k = each_side_on (λ i j a. KeptSession (session w i j) a.session) w s t f
+    (λ i j. kept_refl (session w i j)) k
+
+labelled_on_tid : (w : World) (s t : ℕ) (f : Tid → Tid) → IsLawful w →
+    KeptSession (session w s t) (f (tid_of w s t)).session → IsLabelled w → IsLabelled (on_tid w s t f)
+labelled_on_tid w s t f i k a = labelled_ids w _ i (sessions_on_tid w s t f k) (on_opened w s t f) a
+
+-- A TID whose agreement begins or ends keeps the ids of its numbers.
+kept_renewed : (start size : ℕ) (mode : Mode) (y : Tid) →
+    KeptSession y.session (renewed start size mode y).session
+kept_renewed start size mode y = record { first = refl; next = omega arith; ids = λ n l h. refl }
+
+labelled_held : (w : World) (s t : ℕ) → IsLawful w → IsLabelled w → IsLabelled (hold_outcome w s t).world
+unfolding hold_outcome with_mode
+labelled_held w s t i a = labelled_on_tid w s t _ i (kept_refl (session w s t)) a
+
+labelled_begun : (w : World) (s t window : ℕ) → IsLawful w → IsLabelled w →
+    IsLabelled (begin_outcome w s t window).world
+labelled_begun w s t window i a = subst IsLabelled (sym (begun_is w s t window))
+    (labelled_on_tid w s t _ i (kept_renewed (start_of (session w s t)) window Mode.Agreed (tid_of w s t)) a)
+
+labelled_freed : (w : World) (s t : ℕ) → IsLawful w → IsLabelled w → IsLabelled (free_outcome w s t).world
+unfolding free_outcome with_mode
+labelled_freed w s t i a = labelled_on_tid w s t _ i (kept_refl (session w s t)) a
+
+labelled_ceased : (w : World) (s t : ℕ) → IsLawful w → IsLabelled w → IsLabelled (cease_outcome w s t).world
+labelled_ceased w s t i a =
+    let u : World = after_numbers_ended w s t in
+    labelled_ids w _ i (λ b c. then_kept _ _ _ ((keep_numbers_ended w s t).sessions b c)
+    (subst (λ (v : World). KeptSession (session u b c) (session v b c)) (sym (ceased_is w s t))
+    (sessions_on_tid u s t _
+    (kept_renewed (start_of (session u s t)) plain_window Mode.OnHold (tid_of u s t)) b c)))
+    (opened_ceased w s t) a
 
 -- ---- the frames that a step acknowledges
 
@@ -468,16 +518,20 @@ less_without : (P : ℕ → Type 0) (w : World) (e : ℕ) → Less P w (without_
 unfolding without_exchange
 less_without P w e = less_plain P w _ refl refl
 
+-- Returns how an exchange ends for each of its numbers, at a Done with this airtime.
+abbrev pub ends_of : Option ℕ → World → Exchange → Bool → ℕ → End
+ends_of air w x heard = end_of (after_charge (without_exchange w x.number) x air) x heard
+
 less_after : (c : Content) (w : World) (x : Exchange) (heard : Bool) →
-    Less (AckedAmong (end_of x heard) (mpdus_of c)) w (after_done w x heard c)
+    Less (AckedAmong (end_of w x heard) (mpdus_of c)) w (after_done w x heard c)
 unfolding after_done
 less_after (Frames ms) w x heard = then_less _ _ _ _
-    (less_all ms (AckedAmong (end_of x heard) ms) w x.station x.tid (end_of x heard) (λ id k. k))
-    (less_device _ _ x.station x.tid)
+    (less_all ms (AckedAmong (end_of w x heard) ms) w x.station x.tid (end_of w x heard) (λ id k. k))
+    (less_caught_up _ _ x.station x.tid)
 less_after (Request f) w x heard = less_on_session _ w x.station x.tid _
 
 pub less_ended : (air : Option ℕ) (w : World) (x : Exchange) (heard : Bool) →
-    Less (AckedAmong (end_of x heard) (mpdus_of x.content)) w (done_outcome w x heard air).world
+    Less (AckedAmong (ends_of air w x heard) (mpdus_of x.content)) w (done_outcome w x heard air).world
 unfolding done_outcome
 less_ended air w x heard = then_less _ _ _ _ (less_without _ w x.number)
     (then_less _ _ _ _ (less_charged air _ _ x) (less_after x.content _ x heard))
@@ -521,7 +575,7 @@ reached_among (m ∷ ms) v y r s t id lo ends live k e b rises labels backed sta
 states_after : (air : Option ℕ) (c : Content) (w : World) (x : Exchange) (heard : Bool) → x.content ≡ c →
     IsOpenIn w x →
     EachMpdu (λ m. ((slot (session (after_done (after_charge (without_exchange w x.number) x air) x heard c)
-    x.station x.tid) m.number).state ≡ State.Acked) ↔ (end_of x heard m.number ≡ End.Acknowledged))
+    x.station x.tid) m.number).state ≡ State.Acked) ↔ (ends_of air w x heard m.number ≡ End.Acknowledged))
     (mpdus_of c)
 unfolding after_done
 states_after air (Request f) w x heard e o = tt
@@ -533,34 +587,37 @@ states_after air (Frames ms) w x heard e o =
     ∙ without_same w x.number x.station x.tid in
     let flies : FlyIn x.number ms y = subst (λ (c : Content). FlyIn x.number (mpdus_of c) y) e o.opened.flies
     in
-    acked_device ms (with_all_settled v x.station x.tid (end_of x heard) ms) x.station x.tid (end_of x heard)
-    (all_acked ms v x.station x.tid (end_of x heard) y.first (next_number y)
+    acked_plain ms (with_all_settled v x.station x.tid (end_of v x heard) ms) x.station x.tid
+    (end_of v x heard)
+    (all_acked ms v x.station x.tid (end_of v x heard) y.first (next_number y)
     (k.live x.station ∙ without_live w x.number x.station ∙ o.live)
     (omega (arith, ap (λ (z : Session). z.first) same_y)) flies.rising)
 
 states_ended : (air : Option ℕ) (w : World) (x : Exchange) (heard : Bool) → IsOpenIn w x →
     EachMpdu (λ m. ((slot (session (done_outcome w x heard air).world x.station x.tid) m.number).state
-    ≡ State.Acked) ↔ (end_of x heard m.number ≡ End.Acknowledged)) (mpdus_of x.content)
+    ≡ State.Acked) ↔ (ends_of air w x heard m.number ≡ End.Acknowledged)) (mpdus_of x.content)
 unfolding done_outcome
 states_ended air w x heard o = states_after air x.content w x heard refl o
 
-backed_content : (c : Content) (x : Exchange) (y : Session) (r : Receiver) (heard : Bool) → x.content ≡ c →
-    IsOpen x y r → AllBacked (end_of x heard) r (mpdus_of c)
-backed_content (Frames ms) x y r heard e o = backed_of x y r ms heard e o
-backed_content (Request f) x y r heard e o = tt
+-- The ends are judged in the world u.
+backed_content : (c : Content) (u : World) (x : Exchange) (y : Session) (r : Receiver) (heard : Bool) →
+    x.content ≡ c → IsOpen x y r → AllBacked (end_of u x heard) r (mpdus_of c)
+backed_content (Frames ms) u x y r heard e o = backed_of u x y r ms heard e o
+backed_content (Request f) u x y r heard e o = tt
 
 reached_ended : (air : Option ℕ) (w : World) (x : Exchange) (heard : Bool) (id : ℕ) → IsOpenIn w x →
     Labelled (session w x.station x.tid) (mpdus_of x.content) →
-    AckedAmong (end_of x heard) (mpdus_of x.content) id →
+    AckedAmong (ends_of air w x heard) (mpdus_of x.content) id →
     HasArrived (done_outcome w x heard air).world id
 reached_ended air w x heard id o l h =
     let k : Kept w (done_outcome w x heard air).world = keep_ended air w x heard in
     let y : Session = session w x.station x.tid in
     reached_among (mpdus_of x.content) (done_outcome w x heard air).world y
-    (receiver w x.station x.tid) x.station x.tid id y.first (end_of x heard)
+    (receiver w x.station x.tid) x.station x.tid id y.first (ends_of air w x heard)
     (k.live x.station ∙ o.live) (k.sessions x.station x.tid) (k.receivers x.station x.tid).arrived
     (omega arith) o.opened.flies.rising l
-    (backed_content x.content x (session w x.station x.tid) (receiver w x.station x.tid) heard refl o.opened)
+    (backed_content x.content (after_charge (without_exchange w x.number) x air) x
+    (session w x.station x.tid) (receiver w x.station x.tid) heard refl o.opened)
     (states_ended air w x heard o) h
 
 reached_same : (w v : World) (id : ℕ) → Same w v → HasArrived w id → HasArrived v id
@@ -671,6 +728,11 @@ pub less_offloaded : (P : ℕ → Type 0) (w : World) (s exponent weight : ℕ) 
 unfolding offload_outcome
 less_offloaded P w s exponent weight = less_with_station P w s _
 
+pub less_unagreed : (P : ℕ → Type 0) (w : World) (s start exponent weight : ℕ) →
+    Less P w (plain_outcome w s start exponent weight).world
+unfolding plain_outcome
+less_unagreed P w s start exponent weight = less_with_station P w s _
+
 pub less_arrived : (P : ℕ → Type 0) (w : World) (x : Exchange) (n : ℕ) → Less P w (arrive_outcome w x n).world
 unfolding arrive_outcome with_exchange
 less_arrived P w x n = then_less P w _ _ (less_on_receiver P w x.station x.tid _) (less_plain P _ _ refl refl)
@@ -780,7 +842,14 @@ delivered_plain note w v a b c o i l = record {
 pub same_enqueued : (w : World) (s t flow len : ℕ) → Same w (enqueue_outcome w s t flow len).world
 unfolding enqueue_outcome with_frame
 same_enqueued w s t flow len = then_same _ _ _ (then_same _ _ _ (same_within_limit w) (same_put_in _ s t _ _))
-    (record { sides = λ i j. refl; live = λ i. refl; offloaded = λ i. refl; opened = refl; exchanges = refl })
+    (record {
+      sides = λ i j. refl;
+      live = λ i. refl;
+      offloaded = λ i. refl;
+      devices = λ i j d. d;
+      opened = refl;
+      exchanges = refl;
+    })
 
 delivered_reaped : (note : Note) (ids : List ℕ) (w : World) → IsLawful w → IsLabelled w →
     IsDelivered note w (reap_outcome w ids).world
@@ -792,15 +861,15 @@ acked_heard : (heard : Bool) (o : Option Score) (n : ℕ) → is_acked heard o n
 acked_heard heard None n h = absurd (cc h)
 acked_heard heard (Some b) n h = (both heard (shows b n) h).0
 
-heard_among : (ms : List Mpdu) (x : Exchange) (heard : Bool) (id : ℕ) →
-    AckedAmong (end_of x heard) ms id → heard || x.batch ≡ true
-heard_among [] x heard id h = absurd h
-heard_among (m ∷ ms) x heard id h = elim h [
-  | inl e ↦ elim (end_backed x heard m.number e.1).1 [
+heard_among : (ms : List Mpdu) (u : World) (x : Exchange) (heard : Bool) (id : ℕ) →
+    AckedAmong (end_of u x heard) ms id → heard || x.batch ≡ true
+heard_among [] u x heard id h = absurd h
+heard_among (m ∷ ms) u x heard id h = elim h [
+  | inl e ↦ elim (end_backed u x heard m.number e.1).1 [
     | inl d ↦ or_right heard x.batch d.0
     | inr a ↦ or_left heard x.batch (acked_heard heard x.answer m.number a.1)
   ]
-  | inr k ↦ heard_among ms x heard id k
+  | inr k ↦ heard_among ms u x heard id k
 ]
 
 sent_among : (ms : List Mpdu) (ends : ℕ → End) (id : ℕ) → AckedAmong ends ms id →
@@ -822,9 +891,10 @@ delivered_ended air w x e heard at_number r i a = record {
         inr (
           (
             ap (λ (o : Option Exchange). has (ids_sent o) id) at_number
-                ∙ sent_among (mpdus_of x.content) (end_of x heard) id now,
+                ∙ sent_among (mpdus_of x.content) (ends_of air w x heard) id now,
             ap (λ (o : Option Exchange). heard || is_batch o) at_number
-                ∙ heard_among (mpdus_of x.content) x heard id now,
+                ∙ heard_among (mpdus_of x.content) (after_charge (without_exchange w x.number) x air) x heard
+                id now,
           ),
           reached_ended air w x heard id r.open_in r.labels now,
         )
@@ -925,6 +995,27 @@ delivered_done (Asked (Offload s exponent weight)) w i a e = record {
 delivered_done (Asked (Weight s weight)) w i a e = record {
   labelled = labelled_same w _ i (same_weighed w s weight) a;
   acks = acks_less (Asked (Weight s weight)) w _ (less_weighed None_of w s weight);
+}
+delivered_done (Asked (Plain s start exponent weight)) w i a e = record {
+  labelled = labelled_unagreed w s start exponent weight e.1.1.1.1.0 i a;
+  acks = acks_less (Asked (Plain s start exponent weight)) w _
+      (less_unagreed None_of w s start exponent weight);
+}
+delivered_done (Asked (Hold s t)) w i a e = record {
+  labelled = labelled_held w s t i a;
+  acks = acks_less (Asked (Hold s t)) w _ (less_held None_of w s t);
+}
+delivered_done (Asked (Begin s t window)) w i a e = record {
+  labelled = labelled_begun w s t window i a;
+  acks = acks_less (Asked (Begin s t window)) w _ (less_begun None_of w s t window);
+}
+delivered_done (Asked (Free s t)) w i a e = record {
+  labelled = labelled_freed w s t i a;
+  acks = acks_less (Asked (Free s t)) w _ (less_freed None_of w s t);
+}
+delivered_done (Asked (Cease s t)) w i a e = record {
+  labelled = labelled_ceased w s t i a;
+  acks = acks_less (Asked (Cease s t)) w _ (less_ceased None_of w s t);
 }
 
 delivered_refused : (note : Note) (r : Refusal) (w : World) → IsLawful w → IsLabelled w →

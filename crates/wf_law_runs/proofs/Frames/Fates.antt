@@ -3,6 +3,7 @@
 use Rattle.std.proofs.Common.{◌≡◌, ◌≢◌, refl, ap, sym, ◌∙◌, subst, arith, ℕ, zero, suc, ◌+◌, ◌-◌, ◌<◌, ◌≤◌, nat_lt, pos, Bool, true, false, if◌then◌else◌, not, ◌==◌, ◌||◌, ◌⊎◌, inl, inr, List, [], ◌∷◌, ◌++◌, length, map, Option, Some, None, IfSome, is_none, count_by, add-zero, append_assoc, ◌-ℤ◌}
 use Rattle.wf_frame.specs.declared.settings.Config.{Config}
 use Rattle.wf_frame.specs.declared.classes.Class.{Class}
+use Rattle.wf_frame.specs.declared.classes.Cause.{Cause}
 use Rattle.wf_frame.specs.declared.classes.Fate.{Fate}
 use Rattle.wf_def_lists.specs.Table.{at, has, put, upto, count_from, with_member}
 use Rattle.wf_def_codel.specs.Codel.{Item, Params, Codel, new_codel, Dequeued, dequeue}
@@ -11,19 +12,19 @@ use Rattle.wf_law_rules.proofs.Lemmas.Dequeues.{each_dequeue}
 use Rattle.wf_def_rotation.specs.Rotation.{in_order, no_keys}
 use Rattle.wf_def_agreement.specs.Receiver.{Receiver, with_start}
 use Rattle.wf_def_agreement.specs.Session.{End, is_waiting, request_due, waiting_numbers, with_state, Session, Slot, State, is_settled, is_failed, slot_given_up, slot, on_slot, with_number_given, after_flush, new_session, next_number, numbers_where, no_slot, start_of}
-use Rattle.wf_def_world.specs.World.{World, Station, Share, Queue, Exchange, Mpdu, Content, Frames, Request, new_tid, rotation, session, tid_of, is_live, exchange, with_station, on_station, on_tid, on_session, on_receiver, with_queues, on_share, on_queue, with_fate, with_frame_finished, with_frames_finished, with_exchange, without_exchange, opening, inside, is_held, no_frame, Frame, frame, new_queue, queue, accepted_count, codel_params}
+use Rattle.wf_def_world.specs.World.{World, Mode, Station, Share, Tid, Queue, Exchange, Mpdu, Content, Frames, Request, new_tid, rotation, session, tid_of, is_live, exchange, with_mode, with_station, on_station, on_tid, on_session, on_receiver, with_queues, on_share, on_queue, with_fate, with_frame_finished, with_frames_finished, with_exchange, without_exchange, opening, inside, is_held, no_frame, Frame, frame, new_queue, queue, accepted_count, codel_params}
 use Rattle.wf_frame.specs.Classes.{all_classes}
 use Rattle.wf_def_world.specs.FlowQueues.{without_head, after_limit, with_appended, after_put_in, with_queues_paid, taken_by_codel, taken_from_picked, taken_for_tid, after_queue_left, after_queues_left, after_queue_flushed, after_queues_flushed, len_given, picked_queue, queue_for, longest_queue, is_at_limit}
 use Rattle.wf_def_world.specs.CanSend.{is_ready, with_listings_of, can_give}
-use Rattle.wf_def_world.specs.Exchanges.{end_of, station_need, most_frames, picked_station, after_arrival, exchange_of, sending_tid, with_heard_start, Prepared, mpdus_of, after_pick, after_tid_turn, with_fresh, aggregate_of, with_number, with_flying, waiting_mpdus, longest_fitting, without_credit, prepared_data, prepared_exchange, with_exchange_opened, after_charge, with_failed_finished, with_settled, with_all_settled, after_done, ids_of, Aggregate, caught_up, with_device_caught_up}
-use Rattle.wf_frame.specs.declared.notes.Ask.TheVariants.{Join, Leave, Rate, Tick, Pull, Arrive, Answer, Done, Sleep, Wake, Poll, Rx, Reap, Ampdu, Stop, Start, Unsent, GiveUp, Flush, Offload, Weight}
+use Rattle.wf_def_world.specs.Exchanges.{end_of, station_need, most_frames, picked_station, after_arrival, exchange_of, sending_tid, with_heard_start, Prepared, mpdus_of, after_pick, after_tid_turn, with_fresh, aggregate_of, with_number, with_flying, waiting_mpdus, longest_fitting, without_credit, prepared_data, prepared_exchange, with_exchange_opened, after_charge, with_failed_finished, with_settled, with_all_settled, after_done, ids_of, Aggregate, caught_up, caught_up_if_plain}
+use Rattle.wf_frame.specs.declared.notes.Ask.TheVariants.{Join, Leave, Rate, Tick, Pull, Arrive, Answer, Done, Sleep, Wake, Poll, Rx, Reap, Ampdu, Stop, Start, Unsent, GiveUp, Flush, Offload, Weight, Plain, Hold, Begin, Free, Cease}
 use Rattle.wf_frame.specs.declared.notes.Limits.{Limits}
 use Rattle.wf_frame.specs.declared.notes.Note.{Note}
 use Rattle.wf_frame.specs.declared.notes.Note.TheVariants.{Enqueue, Asked}
 use Rattle.wf_frame.specs.declared.notes.Refusal.{Refusal}
 use Rattle.wf_frame.specs.declared.notes.Refusal.TheVariants.{Idle}
 use Rattle.wf_def_world.specs.Refusals.{refusal, refusals}
-use Rattle.wf_def_world.specs.Step.{Outcome, join_outcome, after_tid_left, after_tids_left, without_listings, leave_outcome, rate_outcome, tick_outcome, with_frame, enqueue_outcome, send_outcome, pull_outcome_for, pull_outcome, arrive_outcome, answer_outcome, done_outcome, outcome_where_open, sleep_outcome, wake_outcome, poll_outcome, rx_outcome, reap_outcome, unsent_outcome, give_up_outcome, flush_outcome, outcome_of, after_refusal, judged_outcome, step, waiting_ids, in_rising_order, concerned_station, offload_outcome, weight_outcome, new_station}
+use Rattle.wf_def_world.specs.Step.{Outcome, join_outcome, after_tid_left, after_tids_left, without_listings, leave_outcome, rate_outcome, tick_outcome, with_frame, enqueue_outcome, send_outcome, pull_outcome_for, pull_outcome, arrive_outcome, answer_outcome, done_outcome, outcome_where_open, sleep_outcome, wake_outcome, poll_outcome, rx_outcome, reap_outcome, unsent_outcome, give_up_outcome, flush_outcome, outcome_of, after_refusal, judged_outcome, step, waiting_ids, in_rising_order, concerned_station, offload_outcome, weight_outcome, plain_outcome, plain_window, hold_outcome, begin_outcome, free_outcome, cease_outcome, after_numbers_ended, new_station}
 use Rattle.wf_def_world.specs.Run.{Entry, world_after}
 use Rattle.std.proofs.lemmas.List.{length-append}
 use Rattle.std.proofs.lemmas.List.Sums.{sum_by-append}
@@ -33,15 +34,15 @@ use Rattle.wf_law_runs.proofs.Common.Ends.{slot_after_end, end_id, on_settled}
 use Rattle.wf_law_runs.proofs.Common.Flushes.{flush_along, slot_flush, flushed_fails, next-flush, if_caught, emptied_world, flush_is}
 use Rattle.wf_law_runs.proofs.Windows.Opened.{NoRow, no_row, each_find, some_along, pick_ready, left_true, eight}
 use Rattle.wf_law_rules.proofs.Lemmas.Sums.{sum_put_within, length_put}
-use Rattle.wf_law_runs.proofs.Frames.Untouched.{Untouched, untouched, then_untouched, untouched_on_session, untouched_on_queue, untouched_pay_queues, untouched_with_queues, untouched_spent, untouched_after_turn, untouched_after_pick, untouched_without, untouched_charged, untouched_put_in, untouched_off_lists, untouched_with_station, untouched_on_station, untouched_on_receiver, untouched_listed, untouched_picked, untouched_device, untouched_weighed}
+use Rattle.wf_law_runs.proofs.Frames.Untouched.{Untouched, untouched, then_untouched, untouched_on_session, untouched_on_queue, untouched_pay_queues, untouched_with_queues, untouched_spent, untouched_after_turn, untouched_after_pick, untouched_without, untouched_charged, untouched_put_in, untouched_off_lists, untouched_with_station, untouched_on_station, untouched_on_receiver, untouched_listed, untouched_picked, untouched_caught_up, untouched_weighed, untouched_on_tid, untouched_ceased}
 use Rattle.wf_law_rules.proofs.Lemmas.Tables.{each_put, at_put_same, at_put_other}
 use Rattle.wf_law_rules.proofs.Lemmas.Joined.{once_append, has_either, has_first, has_second}
 use Rattle.wf_law_runs.proofs.Sessions.Flights.{AllIn, Rises, all_in_later, next-give}
 use Rattle.wf_law_rules.proofs.Lemmas.Numbers.{Climbs, climbs_from, on_bool, on_if, lt_yes, lt_no, eq_yes, eq_no, yes_eq, not_eq, either, or_left, or_right, climbs_at}
-use Rattle.wf_law_runs.proofs.Windows.Sides.{sided, Side, sides_of, Same, each_side_on, then_same, same_on_station, same_with_queues, same_on_queue, same_finish, same_finish_all, same_listed, same_after_pick, same_after_turn, same_spent, same_put_in, same_pay_queues, same_take, same_charged, same_picked, side, same_weighed}
+use Rattle.wf_law_runs.proofs.Windows.Sides.{sided, Side, sides_of, Same, each_side_on, then_same, same_on_station, same_with_queues, same_on_queue, same_finish, same_finish_all, same_listed, same_after_pick, same_after_turn, same_spent, same_put_in, same_pay_queues, same_take, same_charged, same_picked, side, same_weighed, renewed, begun_is, ceased_is}
 use Rattle.wf_law_runs.proofs.Windows.Agreement.{slot_give, slot_other, slot_same, next-on_slot}
 use Rattle.wf_frame.specs.declared.classes.Fate.TheVariants.{Held, Dropped}
-use Rattle.wf_frame.specs.declared.classes.Cause.TheVariants.{Codel as By_codel, Left, Overlimit, Flushed}
+use Rattle.wf_frame.specs.declared.classes.Cause.TheVariants.{Codel as By_codel, Left, Overlimit, Flushed, Ended}
 use Rattle.wf_law_runs.proofs.Releases.Kept.{Kept, kept_heard, kept_on_slot, kept_flush, keep_settled}
 use Rattle.wf_law_runs.proofs.Frames.Delivered.{Labelled, labelled_kept, IsLabelled, labelled_step}
 use Rattle.wf_law_runs.proofs.Windows.Settling.{without_same}
@@ -49,10 +50,10 @@ use Rattle.wf_law_runs.proofs.Releases.Released.{side_with_station, side_own_sta
 use Rattle.wf_def_lists.specs.Lists.{IsOnce}
 use Rattle.wf_law_runs.specs.Releases.{named_by, named_from}
 use Rattle.wf_law_runs.proofs.Common.Picked.{picked_world}
-use Rattle.wf_law_runs.proofs.Windows.Agreed.{IsLawful, IsReady, IsEnding, IsFound, found, ready_filled, ending_settled, ending_of, lawful_same, lawful_step, lawful_at_first, session_same, session_on_session, same_off_lists, AgreedAt, ending_all, lawful_emptied}
-use Rattle.wf_law_runs.proofs.Frames.Fewer.{Ordered, carries, carries_from, Fewer, fewer_none, Less, then_less, less_plain, less_on_station, less_on_session, less_on_queue, less_with_queues, less_pay_queues, less_after_pick, less_after_turn, less_spent, less_listed, less_charged, fewer_tail, less_drop_all, less_purge_queues, less_finish, less_take, given_take, less_dequeued, queue_on, queues_dropped, right_dequeue, less_picked, less_on_receiver, less_weighed}
+use Rattle.wf_law_runs.proofs.Windows.Agreed.{IsLawful, IsReady, IsEnding, IsFound, found, ready_filled, ending_settled, ending_of, lawful_same, lawful_step, lawful_at_first, session_same, session_on_session, same_off_lists, AgreedAt, ending_all, lawful_emptied, not_no}
+use Rattle.wf_law_runs.proofs.Frames.Fewer.{Ordered, carries, carries_from, Fewer, fewer_none, Less, then_less, less_plain, less_on_station, less_on_session, less_on_queue, less_with_queues, less_pay_queues, less_after_pick, less_after_turn, less_spent, less_listed, less_charged, fewer_tail, less_drop_all, less_purge_queues, less_finish, less_take, given_take, less_dequeued, queue_on, queues_dropped, right_dequeue, less_picked, less_on_receiver, less_weighed, less_on_tid}
 use Rattle.wf_law_runs.proofs.Releases.Placed.{Queued, Numbered, Placing, Any, placed_less, placed_session, next-heard, queue_appended, less_put_in, less_with_frame, side_with_frame, less_with_station, less_off_lists, once_ids, has_ids, IsIdOf, placed_at_first, slot_new_id}
-use Rattle.wf_law_runs.proofs.Releases.Once.{placed_number, placed_frames, placed_without, placed_gone, placed_joined, placed_step, placed_device, placed_offloaded}
+use Rattle.wf_law_runs.proofs.Releases.Once.{placed_number, placed_frames, placed_without, placed_gone, placed_joined, placed_step, placed_caught_up, placed_offloaded, placed_unagreed}
 use Rattle.wf_def_lists.specs.Bounds.{greatest_window}
 
 abbrev pub IsHeld : World → ℕ → Type 0
@@ -392,6 +393,13 @@ unsettles_heard true f y = record {
       record { from = c.from; below = c.below; unsettled = c.unsettled; id = c.id };
 }
 unsettles_heard false f y = unsettles_refl y
+
+-- A TID whose agreement begins or ends keeps its unsettled numbers.
+unsettles_renewed : (start size : ℕ) (mode : Mode) (y : Tid) →
+    Unsettles y.session (renewed start size mode y).session
+unsettles_renewed start size mode y = record {
+  was = λ k n c. record { from = c.from; below = c.below; unsettled = c.unsettled; id = c.id };
+}
 
 -- ---- the frames that a dequeue drops
 
@@ -909,7 +917,21 @@ unfolding on_receiver
 session_on_receiver w s t g = each_side_on (λ i j y. y.session ≡ session w i j) w s t
     (λ y. record y { receiver = g y.receiver }) (λ i j. refl) refl
 
--- The device of an offloaded station catches up.
+-- One TID changes, and every unsettled number of it was unsettled.
+fresh_on_tid : (w : World) (s t : ℕ) (f : Tid → Tid) → Unsettles (session w s t) (f (tid_of w s t)).session →
+    Fresh w → Fresh (on_tid w s t f)
+fresh_on_tid w s t f u h =
+    let v : World = on_tid w s t f in
+    held_frames (InHand v) w v (untouched_on_tid w s t f).frames (held_less (InHand w) (InHand v) w (λ k i.
+    elim i [
+      | inl q ↦ inl (in_queue_less w v k (less_on_tid Any w s t f) q)
+      | inr a ↦ inr (each_side_on (λ i j b. (n : ℕ) → Carries b.session k n → AtSlot w k) w s t f
+          (λ i j n c. record { station = i; tid = j; number = n; slot_of = c })
+          (λ n c. record { station = s; tid = t; number = n; slot_of = u.was k n c })
+          a.station a.tid a.number a.slot_of)
+    ]) h)
+
+-- A TID without an agreement catches up.
 fresh_caught : (w : World) (s t : ℕ) → Fresh w → Fresh (caught_up w s t)
 unfolding caught_up
 fresh_caught w s t h =
@@ -919,12 +941,12 @@ fresh_caught w s t h =
     (session_on_receiver u s t (with_start start)) (untouched_on_receiver u s t (with_start start)).frames
     (fresh_session w s t (with_heard_start true start) (unsettles_heard true start (session w s t)) h)
 
-pub safe_device : (l : List ℕ) (w : World) (s t : ℕ) → AgreedAt (side w s t) → Placing l w → Fresh w →
-    Safe l w (with_device_caught_up w s t)
-safe_device l w s t a p h = record {
-  placing = placed_device l w s t a p;
+pub safe_caught_up : (l : List ℕ) (w : World) (s t : ℕ) → AgreedAt (side w s t) → Placing l w → Fresh w →
+    Safe l w (caught_up_if_plain w s t)
+safe_caught_up l w s t a p h = record {
+  placing = placed_caught_up l w s t a p;
   fresh = if_caught Fresh w s t h (λ _. fresh_caught w s t h);
-  stays = stays_same w _ (untouched_device w s t);
+  stays = stays_same w _ (untouched_caught_up w s t);
 }
 
 safe_after : (air : Option ℕ) (c : Content) (l : List ℕ) (w : World) (i : IsLawful w) (x : Exchange)
@@ -941,11 +963,12 @@ safe_after air (Frames ms) l w i x heard e f a p h =
     session_same _ _ (same_charged air (without_exchange w x.number) x) x.station x.tid
     ∙ without_same w x.number x.station x.tid in
     let n = ending_of air w i x ms heard e f in
-    let u : World = with_all_settled v x.station x.tid (end_of x heard) ms in
-    let k : Safe l v u = safe_all ms l x.number x.station x.tid (end_of x heard) v n
+    let u : World = with_all_settled v x.station x.tid (end_of v x heard) ms in
+    let k : Safe l v u = safe_all ms l x.number x.station x.tid (end_of v x heard) v n
     (subst (λ (y : Session). Labelled y ms) (sym d) a) p h in
-    then_safe l v u _ k.stays (safe_device l u x.station x.tid
-    ((ending_all ms x.number x.station x.tid v (end_of x heard) n).agreed x.station x.tid) k.placing k.fresh)
+    then_safe l v u _ k.stays (safe_caught_up l u x.station x.tid
+    ((ending_all ms x.number x.station x.tid v (end_of v x heard) n).agreed x.station x.tid) k.placing
+    k.fresh)
 safe_after air (Request g) l w i x heard e f a p h =
     let v : World = after_charge (without_exchange w x.number) x air in
     record {
@@ -1497,22 +1520,22 @@ unsettles_flush limit y = flush_along (Unsettles y) limit y
     (ap is_settled waits) (λ x. refl))) (unsettles_refl y)
 
 -- The frames of the waiting numbers get their fate, after these numbers were given up.
-flush_slots : (l : List ℕ) (w : World) (s t : ℕ) → is_live w s ≡ true → Placing l w → Fresh w →
-    Placing l (on_session w s t (after_flush w.config.attempts))
+flush_slots : (cause : Cause) (l : List ℕ) (w : World) (s t : ℕ) → is_live w s ≡ true → Placing l w →
+    Fresh w → Placing l (on_session w s t (after_flush w.config.attempts))
     → Finished (InHand (with_frames_finished (on_session w s t (after_flush w.config.attempts))
-    (Dropped Flushed) (waiting_ids (session w s t).slots)))
+    (Dropped cause) (waiting_ids (session w s t).slots)))
     (on_session w s t (after_flush w.config.attempts))
-    (with_frames_finished (on_session w s t (after_flush w.config.attempts)) (Dropped Flushed)
+    (with_frames_finished (on_session w s t (after_flush w.config.attempts)) (Dropped cause)
     (waiting_ids (session w s t).slots))
-flush_slots l w s t live p h q =
+flush_slots cause l w s t live p h q =
     let limit : ℕ = w.config.attempts in
     let y : Session = session w s t in
     let f : Session → Session = after_flush limit in
     let u : World = on_session w s t f in
     let ns : List ℕ = waiting_numbers y in
     let ids : List ℕ = waiting_ids y.slots in
-    let v : World = with_frames_finished u (Dropped Flushed) ids in
-    let less_v : Less Any u v = less_drop_all Any ids u (Dropped Flushed) (λ e. cc e) in
+    let v : World = with_frames_finished u (Dropped cause) ids in
+    let less_v : Less Any u v = less_drop_all Any ids u (Dropped cause) (λ e. cc e) in
     let d : session u s t ≡ f y = session_on_session w s t f live in
     let calm : Untouched w u = untouched_on_session w s t f in
     let e : ids ≡ ids_of y ns = held_ids y.slots y y.first (λ i. ap (at no_slot y.slots) (omega arith)) in
@@ -1520,7 +1543,7 @@ flush_slots l w s t live p h q =
     λ n g. waiting_member y.slots y y.first n (λ i. ap (at no_slot y.slots) (omega arith)) g in
     let label : (n : ℕ) → has ns n ≡ true → p.home (slot y n).id ≡ Numbered s t n =
     λ n g. (p.numbered s t n (member n g).from (member n g).below).place in
-    finish_ids ids (InHand w) (InHand v) u (Dropped Flushed) refl
+    finish_ids ids (InHand w) (InHand v) u (Dropped cause) refl
     (held_frames (InHand w) w u calm.frames h)
     (subst IsOnce (sym e) (once_ids ns y.first y p.home s t (numbers_climb is_waiting y.slots y.first) label))
     (λ i g.
@@ -1537,7 +1560,7 @@ flush_slots l w s t live p h q =
     ))
     (λ i g.
     let b : InHand u i = in_hand_less u v i less_v
-    (session_same u v (same_finish_all ids u (Dropped Flushed))) g in (
+    (session_same u v (same_finish_all ids u (Dropped cause))) g in (
       in_hand_session w s t f (unsettles_flush limit y) i b,
       on_bool (has ids i) (λ there. absurd (
           let o : IsIdOf y ns i = has_ids ns y i (ap (λ (xs : List ℕ). has xs i) (sym e) ∙ there) in
@@ -1605,23 +1628,24 @@ placed_flush : (l : List ℕ) (w : World) (s t : ℕ) → Placing l w →
 placed_flush l w s t p = placed_session l w s t (after_flush w.config.attempts)
     (kept_flush w.config.attempts (session w s t)) (next-flush w.config.attempts (session w s t)) p
 
-pub placed_flush_slots : (l : List ℕ) (w : World) (s t : ℕ) → Placing l w →
-    Placing l (with_frames_finished (on_session w s t (after_flush w.config.attempts)) (Dropped Flushed)
+pub placed_flush_slots : (cause : Cause) (l : List ℕ) (w : World) (s t : ℕ) → Placing l w →
+    Placing l (with_frames_finished (on_session w s t (after_flush w.config.attempts)) (Dropped cause)
     (waiting_ids (session w s t).slots))
-placed_flush_slots l w s t p =
+placed_flush_slots cause l w s t p =
     let u : World = on_session w s t (after_flush w.config.attempts) in
     let ids : List ℕ = waiting_ids (session w s t).slots in
-    placed_less l u _ (less_drop_all Any ids u (Dropped Flushed) (λ e. cc e))
-    (same_finish_all ids u (Dropped Flushed)).sides (placed_flush l w s t p)
+    placed_less l u _ (less_drop_all Any ids u (Dropped cause) (λ e. cc e))
+    (same_finish_all ids u (Dropped cause)).sides (placed_flush l w s t p)
 
 safe_emptied : (l : List ℕ) (w : World) (s t : ℕ) → is_live w s ≡ true → Placing l w → Fresh w →
     Safe l w (emptied_world w s t)
 safe_emptied l w s t live p h =
     let u : World = on_session w s t (after_flush w.config.attempts) in
     let a : World = with_frames_finished u (Dropped Flushed) (waiting_ids (session w s t).slots) in
-    let r : Finished (InHand a) u a = flush_slots l w s t live p h (placed_flush l w s t p) in
+    let r : Finished (InHand a) u a = flush_slots Flushed l w s t live p h (placed_flush l w s t p) in
     then_safe l w a _ (then_stays w u a (stays_same w u (untouched_on_session w s t _)) r.stays)
-    (safe_flush_queues (in_rising_order (in_order (tid_of w s t).queues)) l a (placed_flush_slots l w s t p)
+    (safe_flush_queues (in_rising_order (in_order (tid_of w s t).queues)) l a
+    (placed_flush_slots Flushed l w s t p)
     r.held)
 
 pub safe_flushed : (l : List ℕ) (w : World) (s t : ℕ) → IsLawful w → is_live w s ≡ true → Placing l w →
@@ -1630,13 +1654,33 @@ safe_flushed l w s t i live p h =
     let v : World = emptied_world w s t in
     let k : Safe l w v = safe_emptied l w s t live p h in
     subst (Safe l w) (sym (flush_is w s t)) (then_safe l w v _ k.stays
-    (safe_device l v s t ((lawful_emptied w s t i).agreed s t) k.placing k.fresh))
+    (safe_caught_up l v s t ((lawful_emptied w s t i).agreed s t) k.placing k.fresh))
+
+-- ---- an agreement ends
+
+-- The waiting numbers are given up, and their frames get their fate.
+numbers_ended_kept : (l : List ℕ) (w : World) (s t : ℕ) → is_live w s ≡ true → Placing l w → Fresh w →
+    Finished (InHand (after_numbers_ended w s t)) w (after_numbers_ended w s t)
+unfolding after_numbers_ended
+numbers_ended_kept l w s t live p h =
+    let u : World = on_session w s t (after_flush w.config.attempts) in
+    let v : World = after_numbers_ended w s t in
+    let r : Finished (InHand v) u v = flush_slots Ended l w s t live p h (placed_flush l w s t p) in
+    record { stays = then_stays w u v (stays_same w u (untouched_on_session w s t _)) r.stays; held = r.held }
+
+ceased_kept : (l : List ℕ) (w : World) (s t : ℕ) → is_live w s ≡ true → Placing l w → Fresh w →
+    Finished (InHand (cease_outcome w s t).world) w (cease_outcome w s t).world
+ceased_kept l w s t live p h =
+    let v : World = after_numbers_ended w s t in
+    let r : Finished (InHand v) w v = numbers_ended_kept l w s t live p h in
+    record {
+      stays = then_stays w v _ r.stays (stays_same v _ (untouched_ceased w s t));
+      held = subst Fresh (sym (ceased_is w s t))
+          (fresh_on_tid v s t _
+          (unsettles_renewed (start_of (session v s t)) plain_window Mode.OnHold (tid_of v s t)) r.held);
+    }
 
 -- ---- the step
-
-pub flush_live : (b : Bool) → not b ≡ false → b ≡ true
-flush_live true h = refl
-flush_live false h = absurd (cc h)
 
 fresh_station : (w : World) (i : ℕ) (o : Option Station) →
     ((t : ℕ) → next_number (sides_of o t).session ≡ (sides_of o t).session.first) → Fresh w →
@@ -1648,13 +1692,13 @@ fresh_station w i o bare h = held_frames (InHand (with_station w i o)) w _
 bare_new : (first size : ℕ) → next_number (new_session first size) ≡ first
 bare_new first size = omega arith
 
-new_kept : (w : World) (s window start exponent weight : ℕ) (offloaded : Bool) → Fresh w →
+new_kept : (w : World) (mode : Mode) (s window start exponent weight : ℕ) (offloaded : Bool) → Fresh w →
     Finished (InHand (with_station w s
-    (Some (new_station w.config window start exponent weight offloaded)))) w
-    (with_station w s (Some (new_station w.config window start exponent weight offloaded)))
-new_kept w s window start exponent weight offloaded h = record {
+    (Some (new_station w.config mode window start exponent weight offloaded)))) w
+    (with_station w s (Some (new_station w.config mode window start exponent weight offloaded)))
+new_kept w mode s window start exponent weight offloaded h = record {
   stays = stays_same w _ (untouched_with_station w s _);
-  held = fresh_station w s _ (eight (λ y. next_number y.session ≡ y.session.first) (new_tid start window)
+  held = fresh_station w s _ (eight (λ y. next_number y.session ≡ y.session.first) (new_tid mode start window)
       (bare_new start window) (bare_new 0 0)) h;
 }
 
@@ -1662,7 +1706,8 @@ joined_kept : (w : World) (s window start exponent weight : ℕ) → Fresh w →
     Finished (InHand (join_outcome w s window start exponent weight).world) w
     (join_outcome w s window start exponent weight).world
 unfolding join_outcome
-joined_kept w s window start exponent weight h = new_kept w s window start exponent weight false h
+joined_kept w s window start exponent weight h =
+    new_kept w Mode.Agreed s window start exponent weight false h
 
 safe_joined : (l : List ℕ) (w : World) (s window start exponent weight : ℕ) → Placing l w → Fresh w →
     Safe l w (join_outcome w s window start exponent weight).world
@@ -1674,13 +1719,26 @@ offloaded_kept : (w : World) (s exponent weight : ℕ) → Fresh w →
     Finished (InHand (offload_outcome w s exponent weight).world) w
     (offload_outcome w s exponent weight).world
 unfolding offload_outcome
-offloaded_kept w s exponent weight h = new_kept w s greatest_window 0 exponent weight true h
+offloaded_kept w s exponent weight h = new_kept w Mode.Plain s greatest_window 0 exponent weight true h
 
 safe_offloaded : (l : List ℕ) (w : World) (s exponent weight : ℕ) → Placing l w → Fresh w →
     Safe l w (offload_outcome w s exponent weight).world
 safe_offloaded l w s exponent weight p h =
     let r = offloaded_kept w s exponent weight h in
     record { placing = placed_offloaded l w s exponent weight p; fresh = r.held; stays = r.stays }
+
+unagreed_kept : (w : World) (s start exponent weight : ℕ) → Fresh w →
+    Finished (InHand (plain_outcome w s start exponent weight).world) w
+    (plain_outcome w s start exponent weight).world
+unfolding plain_outcome
+unagreed_kept w s start exponent weight h =
+    new_kept w Mode.Plain s plain_window start exponent weight false h
+
+safe_unagreed : (l : List ℕ) (w : World) (s start exponent weight : ℕ) → Placing l w → Fresh w →
+    Safe l w (plain_outcome w s start exponent weight).world
+safe_unagreed l w s start exponent weight p h =
+    let r = unagreed_kept w s start exponent weight h in
+    record { placing = placed_unagreed l w s start exponent weight p; fresh = r.held; stays = r.stays }
 
 -- The held frames and the fates after a call that accepts n frames and reaps r, for any released frames.
 record Kept_fates (n r : ℕ) (w v : World) : Type 0 where
@@ -1787,6 +1845,28 @@ fates_weighed w s weight h =
     of_stays w _ (fresh_calm w _ (less_weighed Any w s weight) (session_same w _ (same_weighed w s weight))
     u.frames h) (stays_same w _ u)
 
+-- One TID changes, and every unsettled number of it was unsettled.
+fates_on_tid : (w : World) (s t : ℕ) (f : Tid → Tid) → Unsettles (session w s t) (f (tid_of w s t)).session →
+    Fresh w → Kept_fates 0 0 w (on_tid w s t f)
+fates_on_tid w s t f u h = of_stays w _ (fresh_on_tid w s t f u h) (stays_same w _ (untouched_on_tid w s t f))
+
+fates_held : (w : World) (s t : ℕ) → Fresh w → Kept_fates 0 0 w (hold_outcome w s t).world
+unfolding hold_outcome with_mode
+fates_held w s t h = fates_on_tid w s t _ (unsettles_refl (session w s t)) h
+
+fates_begun : (w : World) (s t window : ℕ) → Fresh w → Kept_fates 0 0 w (begin_outcome w s t window).world
+fates_begun w s t window h = subst (Kept_fates 0 0 w) (sym (begun_is w s t window))
+    (fates_on_tid w s t _ (unsettles_renewed (start_of (session w s t)) window Mode.Agreed (tid_of w s t)) h)
+
+fates_freed : (w : World) (s t : ℕ) → Fresh w → Kept_fates 0 0 w (free_outcome w s t).world
+unfolding free_outcome with_mode
+fates_freed w s t h = fates_on_tid w s t _ (unsettles_refl (session w s t)) h
+
+fates_ceased : (l : List ℕ) (w : World) (s t : ℕ) → is_live w s ≡ true → Placing l w → Fresh w →
+    Kept_fates 0 0 w (cease_outcome w s t).world
+fates_ceased l w s t live p h =
+    let r = ceased_kept l w s t live p h in of_stays w _ r.held r.stays
+
 fates_share : (w : World) (s : ℕ) (c : Class) (f : Share → Share) → Fresh w →
     Kept_fates 0 0 w (on_share w s c f)
 unfolding on_share
@@ -1849,10 +1929,16 @@ fates_done (Asked (Unsent x n)) l w i e a p h =
 fates_done (Asked (GiveUp x n)) l w i e a p h =
     fates_open (IsFoundNamed w i) (exchange w x) w _ (found_named w i a x) h (λ y f. fates_given_up w y n h)
 fates_done (Asked (Flush s t)) l w i e a p h =
-    of_safe l w _ (safe_flushed l w s t i (flush_live (is_live w s) e.1.1.0) p h)
+    of_safe l w _ (safe_flushed l w s t i (not_no (is_live w s) e.1.1.0) p h)
 fates_done (Asked (Offload s exponent weight)) l w i e a p h =
     of_safe l w _ (safe_offloaded l w s exponent weight p h)
 fates_done (Asked (Weight s weight)) l w i e a p h = fates_weighed w s weight h
+fates_done (Asked (Plain s start exponent weight)) l w i e a p h =
+    of_safe l w _ (safe_unagreed l w s start exponent weight p h)
+fates_done (Asked (Hold s t)) l w i e a p h = fates_held w s t h
+fates_done (Asked (Begin s t window)) l w i e a p h = fates_begun w s t window h
+fates_done (Asked (Free s t)) l w i e a p h = fates_freed w s t h
+fates_done (Asked (Cease s t)) l w i e a p h = fates_ceased l w s t (not_no (is_live w s) e.1.1.0) p h
 
 fates_refused : (note : Note) (r : Refusal) (w : World) → Fresh w → Kept_fates 0 0 w (after_refusal w note r)
 unfolding after_refusal

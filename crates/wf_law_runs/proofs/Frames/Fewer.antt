@@ -11,17 +11,18 @@ use Rattle.wf_law_rules.proofs.Lemmas.Dequeues.{each_dequeue}
 use Rattle.wf_def_rotation.specs.Rotation.{Rotation}
 use Rattle.wf_def_agreement.specs.Receiver.{Receiver}
 use Rattle.wf_def_agreement.specs.Session.{Session}
-use Rattle.wf_def_world.specs.World.{World, Station, Share, Tid, Queue, Exchange, with_station, on_station, on_tid, on_session, on_receiver, with_queues, on_share, on_queue, with_rotation, with_fate, with_frame_finished, with_frames_finished, Frame, no_frame, frame, new_queue, queue, accepted_count, codel_params}
+use Rattle.wf_def_world.specs.World.{World, Station, Share, Tid, Queue, Exchange, with_station, on_station, on_tid, on_session, on_receiver, with_queues, on_share, on_queue, with_rotation, with_mode, with_fate, with_frame_finished, with_frames_finished, Frame, no_frame, frame, new_queue, queue, accepted_count, codel_params}
 use Rattle.wf_def_world.specs.FlowQueues.{without_head, after_limit, with_listed_queue, with_queues_paid, taken_by_codel, taken_from_picked, taken_for_tid, after_queue_left, after_queues_left}
 use Rattle.wf_def_world.specs.CanSend.{with_listing_in, with_listings_in, with_listings_of}
-use Rattle.wf_def_world.specs.Exchanges.{with_station_paid, with_stations_paid, after_pick, after_tid_turn, without_credit, after_charge, caught_up, with_device_caught_up}
-use Rattle.wf_def_world.specs.Step.{with_deficits_lowered, weight_outcome}
+use Rattle.wf_def_world.specs.Exchanges.{with_station_paid, with_stations_paid, after_pick, after_tid_turn, without_credit, after_charge, caught_up, caught_up_if_plain}
+use Rattle.wf_def_world.specs.Step.{with_deficits_lowered, weight_outcome, hold_outcome, free_outcome, begin_outcome, cease_outcome, after_numbers_ended}
 use Rattle.wf_frame.specs.Classes.{all_classes}
 use Rattle.wf_law_runs.proofs.Common.Flushes.{if_caught}
 use Rattle.wf_law_runs.specs.Queues.{EachItem}
 use Rattle.wf_law_rules.proofs.Lemmas.Tables.{each_put, at_put_same}
 use Rattle.wf_law_rules.proofs.Lemmas.Numbers.{on_bool, eq_yes, yes_eq, either, or_left, or_right}
 use Rattle.wf_law_runs.proofs.Common.Picked.{picked_world}
+use Rattle.wf_law_runs.proofs.Windows.Sides.{begun_is, ceased_is}
 use Rattle.wf_frame.specs.declared.classes.Fate.TheVariants.{Acked}
 
 -- ---- the frames of a queue
@@ -405,11 +406,32 @@ pub less_weighed : (P : ℕ → Type 0) (w : World) (s weight : ℕ) → Less P 
 unfolding weight_outcome
 less_weighed P w s weight = then_less P _ _ _ (less_on_station P w s _) (less_lowered P all_classes _ s)
 
--- ---- the device of an offloaded station catches up
+-- ---- a TID without an agreement catches up
 
 pub less_caught : (P : ℕ → Type 0) (w : World) (s t : ℕ) → Less P w (caught_up w s t)
 unfolding caught_up
 less_caught P w s t = then_less P _ _ _ (less_on_session P w s t _) (less_on_receiver P _ s t _)
 
-pub less_device : (P : ℕ → Type 0) (w : World) (s t : ℕ) → Less P w (with_device_caught_up w s t)
-less_device P w s t = if_caught (Less P w) w s t (less P w) (λ _. less_caught P w s t)
+pub less_caught_up : (P : ℕ → Type 0) (w : World) (s t : ℕ) → Less P w (caught_up_if_plain w s t)
+less_caught_up P w s t = if_caught (Less P w) w s t (less P w) (λ _. less_caught P w s t)
+
+-- ---- a TID is held or free, and its agreement begins or ends
+
+pub less_held : (P : ℕ → Type 0) (w : World) (s t : ℕ) → Less P w (hold_outcome w s t).world
+unfolding hold_outcome with_mode
+less_held P w s t = less_on_tid P w s t _
+
+pub less_freed : (P : ℕ → Type 0) (w : World) (s t : ℕ) → Less P w (free_outcome w s t).world
+unfolding free_outcome with_mode
+less_freed P w s t = less_on_tid P w s t _
+
+pub less_begun : (P : ℕ → Type 0) (w : World) (s t window : ℕ) → Less P w (begin_outcome w s t window).world
+less_begun P w s t window = subst (Less P w) (sym (begun_is w s t window)) (less_on_tid P w s t _)
+
+pub less_ended : (P : ℕ → Type 0) (w : World) (s t : ℕ) → Less P w (after_numbers_ended w s t)
+unfolding after_numbers_ended
+less_ended P w s t = then_less P _ _ _ (less_on_session P w s t _) (less_drop_all P _ _ _ (λ h. cc h))
+
+pub less_ceased : (P : ℕ → Type 0) (w : World) (s t : ℕ) → Less P w (cease_outcome w s t).world
+less_ceased P w s t = subst (Less P w) (sym (ceased_is w s t))
+    (then_less P _ _ _ (less_ended P w s t) (less_on_tid P _ s t _))

@@ -1,18 +1,19 @@
 -- Proves the law of the finished list, in every world of a run. By induction on the run.
-use Rattle.std.proofs.Common.{◌≡◌, refl, ap, sym, ◌∙◌, subst, ℕ, ◌==◌, false, if◌then◌else◌, ◌⊎◌, inl, inr, List, [], ◌∷◌, ◌++◌, length, append_assoc, append-nil, Option, Some, None, is_none, take}
+use Rattle.std.proofs.Common.{◌≡◌, refl, ap, sym, ◌∙◌, subst, ℕ, ◌==◌, Bool, true, false, if◌then◌else◌, ◌⊎◌, inl, inr, List, [], ◌∷◌, ◌++◌, length, append_assoc, append-nil, Option, Some, None, is_none, take}
 use Rattle.wf_frame.specs.declared.settings.Config.{Config}
 use Rattle.wf_frame.specs.declared.classes.Class.{Class}
-use Rattle.wf_frame.specs.declared.notes.Ask.TheVariants.{Join, Leave, Rate, Tick, Pull, Arrive, Answer, Done, Sleep, Wake, Poll, Rx, Reap, Ampdu, Stop, Start, Unsent, GiveUp, Flush, Offload, Weight}
+use Rattle.wf_frame.specs.declared.notes.Ask.TheVariants.{Join, Leave, Rate, Tick, Pull, Arrive, Answer, Done, Sleep, Wake, Poll, Rx, Reap, Ampdu, Stop, Start, Unsent, GiveUp, Flush, Offload, Weight, Plain, Hold, Begin, Free, Cease}
 use Rattle.wf_frame.specs.declared.notes.Note.{Note}
 use Rattle.wf_frame.specs.declared.notes.Note.TheVariants.{Enqueue, Asked}
 use Rattle.wf_frame.specs.declared.notes.Refusal.{Refusal}
 use Rattle.wf_def_lists.specs.Lists.{IsOnce}
 use Rattle.wf_def_lists.specs.Table.{has}
+use Rattle.wf_def_agreement.specs.Receiver.{Score}
 use Rattle.wf_def_world.specs.World.{World, Exchange, exchange, opening}
 use Rattle.wf_def_world.specs.CanSend.{with_listings_of}
 use Rattle.wf_def_world.specs.Exchanges.{picked_station}
 use Rattle.wf_def_world.specs.Refusals.{refusals, refusal}
-use Rattle.wf_def_world.specs.Step.{Outcome, join_outcome, leave_outcome, rate_outcome, tick_outcome, enqueue_outcome, send_outcome, pull_outcome_for, pull_outcome, arrive_outcome, answer_outcome, unsent_outcome, give_up_outcome, flush_outcome, done_outcome, outcome_where_open, sleep_outcome, wake_outcome, poll_outcome, rx_outcome, reap_outcome, outcome_of, judged_outcome, step, offload_outcome, weight_outcome}
+use Rattle.wf_def_world.specs.Step.{Outcome, join_outcome, leave_outcome, rate_outcome, tick_outcome, enqueue_outcome, send_outcome, pull_outcome_for, pull_outcome, arrive_outcome, answer_outcome, unsent_outcome, give_up_outcome, flush_outcome, done_outcome, outcome_where_open, sleep_outcome, wake_outcome, poll_outcome, rx_outcome, reap_outcome, outcome_of, judged_outcome, step, offload_outcome, weight_outcome, answer_reply, plain_outcome, hold_outcome, begin_outcome, free_outcome, cease_outcome}
 use Rattle.wf_def_world.specs.Run.{Entry, world_after}
 use Rattle.wf_law_runs.specs.Finished.{reaped_id, reaped_ids, FinishedLaw}
 use Rattle.wf_law_runs.proofs.Common.Picked.{picked_world}
@@ -32,6 +33,10 @@ unfolding pull_outcome_for send_outcome
 reaped_pulled_by None w c = refl
 reaped_pulled_by (Some s) w c = refl
 
+reaped_answered : (plain : Bool) (b : Score) (wide : Bool) → reaped_id (answer_reply plain b wide) ≡ []
+reaped_answered true b wide = refl
+reaped_answered false b wide = refl
+
 -- The call reaps no frame.
 record ReapsNone (note : Note) (w : World) : Type 0 where
   reply : reaped_id (outcome_of w note).reply ≡ []
@@ -40,7 +45,8 @@ record ReapsNone (note : Note) (w : World) : Type 0 where
 reaps : (note : Note) (w : World) → ReapsNone note w ⊎ (note ≡ Asked Reap)
 unfolding outcome_of enqueue_outcome join_outcome offload_outcome weight_outcome leave_outcome
     rate_outcome tick_outcome pull_outcome arrive_outcome answer_outcome unsent_outcome give_up_outcome
-    flush_outcome done_outcome sleep_outcome wake_outcome poll_outcome rx_outcome
+    flush_outcome done_outcome sleep_outcome wake_outcome poll_outcome rx_outcome plain_outcome hold_outcome
+    begin_outcome free_outcome cease_outcome
 reaps (Enqueue s t flow len) w = inl (record { reply = refl; call = refl })
 reaps (Asked (Join s window start exponent weight)) w = inl (record { reply = refl; call = refl })
 reaps (Asked (Leave s)) w = inl (record { reply = refl; call = refl })
@@ -56,7 +62,8 @@ reaps (Asked (Arrive e n)) w = inl (record {
   call =
       refl;
 })
-reaps (Asked (Answer e)) w = inl (record { reply = reaped_open (exchange w e) w _ (λ x. refl); call = refl })
+reaps (Asked (Answer e)) w =
+    inl (record { reply = reaped_open (exchange w e) w _ (λ x. reaped_answered x.plain _ _); call = refl })
 reaps (Asked (Done e heard air)) w = inl (record {
   reply = reaped_open (exchange w e) w _ (λ x. refl);
   call =
@@ -76,6 +83,11 @@ reaps (Asked (GiveUp e n)) w =
 reaps (Asked (Flush s t)) w = inl (record { reply = refl; call = refl })
 reaps (Asked (Offload s exponent weight)) w = inl (record { reply = refl; call = refl })
 reaps (Asked (Weight s weight)) w = inl (record { reply = refl; call = refl })
+reaps (Asked (Plain s start exponent weight)) w = inl (record { reply = refl; call = refl })
+reaps (Asked (Hold s t)) w = inl (record { reply = refl; call = refl })
+reaps (Asked (Begin s t window)) w = inl (record { reply = refl; call = refl })
+reaps (Asked (Free s t)) w = inl (record { reply = refl; call = refl })
+reaps (Asked (Cease s t)) w = inl (record { reply = refl; call = refl })
 reaps (Asked Reap) w = inr refl
 
 -- ---- the step

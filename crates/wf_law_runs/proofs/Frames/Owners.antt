@@ -4,11 +4,11 @@ use Rattle.wf_def_lists.specs.Table.{at}
 use Rattle.wf_def_codel.specs.Codel.{Params, Codel, Dequeued, dequeue, Item}
 use Rattle.wf_def_rotation.specs.Rotation.{in_order}
 use Rattle.wf_def_agreement.specs.Session.{End, Slot, State, slot, is_settled, next_number, on_slot, with_state, after_flush, request_due, Session, with_number_given, start_of}
-use Rattle.wf_def_world.specs.World.{Frame, no_frame, Mpdu, Exchange, Content, Frames, Request, queue, tid_of, is_live, rotation, on_queue, with_queues, on_tid, on_station, with_station, with_frame_finished, without_exchange, World, session, frame, on_session}
+use Rattle.wf_def_world.specs.World.{Mode, Tid, with_mode, Frame, no_frame, Mpdu, Exchange, Content, Frames, Request, queue, tid_of, is_live, rotation, on_queue, with_queues, on_tid, on_station, with_station, with_frame_finished, without_exchange, World, session, frame, on_session}
 use Rattle.wf_def_world.specs.FlowQueues.{queue_need, has_frames, with_queues_paid, taken_by_codel, taken_from_picked, picked_queue, taken_for_tid}
 use Rattle.wf_def_world.specs.CanSend.{is_ready}
-use Rattle.wf_def_world.specs.Exchanges.{Aggregate, Prepared, with_number, with_fresh, aggregate_of, longest_fitting, waiting_mpdus, most_frames, with_flying, prepared_data, prepared_exchange, sending_tid, after_tid_turn, picked_station, station_need, with_exchange_opened, without_credit, exchange_of, end_of, with_heard_start, after_charge, with_settled, with_failed_finished, with_all_settled, after_done, caught_up, with_device_caught_up}
-use Rattle.wf_def_world.specs.Step.{send_outcome, pull_outcome_for, pull_outcome, done_outcome, flush_outcome}
+use Rattle.wf_def_world.specs.Exchanges.{Aggregate, Prepared, with_number, with_fresh, aggregate_of, longest_fitting, waiting_mpdus, most_frames, with_flying, prepared_data, prepared_exchange, sending_tid, after_tid_turn, picked_station, station_need, with_exchange_opened, without_credit, exchange_of, with_heard_start, after_charge, with_settled, with_failed_finished, with_all_settled, after_done, caught_up, caught_up_if_plain}
+use Rattle.wf_def_world.specs.Step.{send_outcome, pull_outcome_for, pull_outcome, done_outcome, flush_outcome, hold_outcome, begin_outcome, free_outcome, cease_outcome, after_numbers_ended, plain_window}
 use Rattle.wf_law_runs.specs.Queues.{EachItem, IsFor}
 use Rattle.wf_law_rules.proofs.Lemmas.Numbers.{on_bool, lt_yes, lt_no}
 use Rattle.wf_law_rules.proofs.Lemmas.Dequeues.{each_dequeue}
@@ -18,7 +18,7 @@ use Rattle.wf_law_runs.proofs.Common.Ends.{slot_after_end, end_id, on_settled}
 use Rattle.wf_law_runs.proofs.Common.Flushes.{next-flush, if_flushed, if_caught}
 use Rattle.wf_law_runs.proofs.Sessions.Flights.{flown, next-give}
 use Rattle.wf_law_runs.proofs.Windows.Agreement.{slot_give, next-on_slot}
-use Rattle.wf_law_runs.proofs.Windows.Sides.{Same, same_take, same_spent, same_after_turn, same_on_queue, same_finish, same_charged, each_side_on, same_picked}
+use Rattle.wf_law_runs.proofs.Windows.Sides.{Same, same_take, same_spent, same_after_turn, same_on_queue, same_finish, same_charged, each_side_on, same_picked, same_ended, renewed, begun_is, ceased_is}
 use Rattle.wf_law_runs.proofs.Windows.Opened.{some_along, left_true, pick_ready}
 use Rattle.wf_law_runs.proofs.Windows.Agreed.{IsLawful, IsReady, IsEnding, IsFound, ready_filled, ending_settled, ending_of, lawful_same, session_same}
 use Rattle.wf_law_runs.proofs.Windows.Settling.{without_same}
@@ -26,7 +26,7 @@ use Rattle.wf_law_runs.proofs.Releases.Kept.{KeptSession, kept_fly, kept_on_slot
 use Rattle.wf_law_runs.proofs.Releases.Placed.{slot_new_id, next-heard}
 use Rattle.wf_law_runs.proofs.Frames.Fates.{Bears, session_on_receiver}
 use Rattle.wf_law_runs.proofs.Frames.Untouched.{untouched_on_queue, untouched_with_queues, untouched_pay_queues, untouched_on_session, untouched_spent, untouched_after_turn, untouched_picked, untouched_caught}
-use Rattle.wf_law_runs.proofs.Queues.Shelves.{Shelves, shelves, shelves_pay_queues, shelves_finish, shelves_finish_all, shelves_after_turn, shelves_ended, shelves_picked}
+use Rattle.wf_law_runs.proofs.Queues.Shelves.{Shelves, shelves, shelves_pay_queues, shelves_finish, shelves_finish_all, shelves_after_turn, shelves_ended, shelves_picked, shelves_held, shelves_begun, shelves_freed, shelves_ceased}
 use Rattle.wf_law_runs.proofs.Queues.Shelved.{IsOf, IsShelved, each_item}
 use Rattle.wf_law_runs.proofs.Queues.ShelvedStep.{shelves_number, live_number, shelved_take}
 use Rattle.wf_frame.specs.declared.notes.Note.{Note}
@@ -68,13 +68,17 @@ then_slots u v w h k = record {
   };
 }
 
+slots_on_tid : (w : World) (s t : ℕ) (f : Tid → Tid) → BearsFrom (session w s t) (f (tid_of w s t)).session →
+    SlotsFrom w (on_tid w s t f)
+slots_on_tid w s t f u = record {
+  was = each_side_on (λ i j a. BearsFrom (session w i j) a.session) w s t f
+      (λ i j. bears_refl (session w i j)) u;
+}
+
 pub slots_session : (w : World) (s t : ℕ) (f : Session → Session) →
     BearsFrom (session w s t) (f (session w s t)) → SlotsFrom w (on_session w s t f)
 unfolding on_session
-slots_session w s t f u = record {
-  was = each_side_on (λ i j a. BearsFrom (session w i j) a.session) w s t
-      (λ y. record y { session = f y.session }) (λ i j. bears_refl (session w i j)) u;
-}
+slots_session w s t f u = slots_on_tid w s t (λ y. record y { session = f y.session }) u
 
 -- Each frame at a number was enqueued for the number's TID.
 pub record IsOwned (w : World) : Type 0 where
@@ -323,7 +327,7 @@ slots_all [] e s t ends w n = slots_same w w (λ i j. refl)
 slots_all (m ∷ ms) e s t ends w n = then_slots w _ _ (slots_settled (ends m.number) e s t ends w m ms n)
     (slots_all ms e s t ends _ (ending_settled (ends m.number) e s t ends w m ms refl n))
 
--- The device of an offloaded station catches up.
+-- A TID without an agreement catches up.
 slots_caught : (w : World) (s t : ℕ) → SlotsFrom w (caught_up w s t)
 unfolding caught_up
 slots_caught w s t =
@@ -335,17 +339,16 @@ slots_caught w s t =
     (slots_session w s t f (bears_kept y (f y) (kept_heard true start y) (next-heard true start y)))
     (slots_same u _ (session_on_receiver u s t (with_start start)))
 
-slots_device : (w : World) (s t : ℕ) → SlotsFrom w (with_device_caught_up w s t)
-slots_device w s t = if_caught (SlotsFrom w) w s t (slots_same w w (λ i j. refl)) (λ _. slots_caught w s t)
+slots_caught_up : (w : World) (s t : ℕ) → SlotsFrom w (caught_up_if_plain w s t)
+slots_caught_up w s t = if_caught (SlotsFrom w) w s t (slots_same w w (λ i j. refl)) (λ _. slots_caught w s t)
 
 slots_after : (air : Option ℕ) (c : Content) (w : World) (i : IsLawful w) (x : Exchange) (heard : Bool) →
     x.content ≡ c →
     IsFound w i x → SlotsFrom (after_charge (without_exchange w x.number) x air)
     (after_done (after_charge (without_exchange w x.number) x air) x heard c)
 unfolding after_done
-slots_after air (Frames ms) w i x heard e f = then_slots _ _ _ (slots_all ms x.number x.station x.tid
-    (end_of x heard) _
-    (ending_of air w i x ms heard e f)) (slots_device _ x.station x.tid)
+slots_after air (Frames ms) w i x heard e f = then_slots _ _ _ (slots_all ms x.number x.station x.tid _ _
+    (ending_of air w i x ms heard e f)) (slots_caught_up _ x.station x.tid)
 slots_after air (Request g) w i x heard e f = slots_session _ x.station x.tid (with_heard_start heard g)
     (bears_kept _ _ (kept_heard heard g _) (next-heard heard g _))
 
@@ -369,16 +372,20 @@ owned_ended air w i x heard f o = owned_along w (done_outcome w x heard air).wor
 
 -- ---- a flush
 
+-- The waiting numbers of a TID fail.
+slots_failed : (w : World) (s t : ℕ) → SlotsFrom w (on_session w s t (after_flush w.config.attempts))
+slots_failed w s t =
+    let y : Session = session w s t in
+    slots_session w s t (after_flush w.config.attempts) (bears_kept y _ (kept_flush w.config.attempts y)
+    (next-flush w.config.attempts y))
+
 slots_flushed : (w : World) (s t : ℕ) → SlotsFrom w (flush_outcome w s t).world
 slots_flushed w s t =
-    let y : Session = session w s t in
     if_flushed (SlotsFrom w)
     (record {
       finish = λ u id k. then_slots w u _ k (slots_finish u _ id);
       empty = λ u q k. then_slots w u _ k (slots_same u _ (session_same u _ (same_on_queue u q _)));
-    }) w s t (λ v k _. then_slots w v _ k (slots_caught v s t))
-    (slots_session w s t (after_flush w.config.attempts) (bears_kept y _ (kept_flush w.config.attempts y)
-    (next-flush w.config.attempts y)))
+    }) w s t (λ v k _. then_slots w v _ k (slots_caught v s t)) (slots_failed w s t)
 
 notes_flushed : (w : World) (s t k : ℕ) → (frame (flush_outcome w s t).world k).note ≡ (frame w k).note
 notes_flushed w s t k = if_flushed (λ u. (frame u k).note ≡ (frame w k).note)
@@ -393,3 +400,43 @@ notes_flushed w s t k = if_flushed (λ u. (frame u k).note ≡ (frame w k).note)
 pub owned_flushed : (w : World) (s t : ℕ) → IsOwned w → IsOwned (flush_outcome w s t).world
 owned_flushed w s t o =
     owned_along w _ (slots_flushed w s t) (record { same = λ k. notes_flushed w s t k }) o
+
+-- ---- a TID is held or free, and its agreement begins or ends
+
+-- A TID whose agreement begins or ends keeps its numbers.
+bears_renewed : (start size : ℕ) (mode : Mode) (y : Tid) →
+    BearsFrom y.session (renewed start size mode y).session
+bears_renewed start size mode y =
+    record { was = λ k n c. record { from = c.from; below = c.below; id = c.id } }
+
+slots_held : (w : World) (s t : ℕ) → SlotsFrom w (hold_outcome w s t).world
+unfolding hold_outcome with_mode
+slots_held w s t = slots_on_tid w s t _ (bears_refl (session w s t))
+
+pub owned_held : (w : World) (s t : ℕ) → IsOwned w → IsOwned (hold_outcome w s t).world
+owned_held w s t o = owned_along w _ (slots_held w s t) (notes_shelves w _ (shelves_held w s t)) o
+
+slots_begun : (w : World) (s t window : ℕ) → SlotsFrom w (begin_outcome w s t window).world
+slots_begun w s t window = subst (SlotsFrom w) (sym (begun_is w s t window))
+    (slots_on_tid w s t _ (bears_renewed (start_of (session w s t)) window Mode.Agreed (tid_of w s t)))
+
+pub owned_begun : (w : World) (s t window : ℕ) → IsOwned w → IsOwned (begin_outcome w s t window).world
+owned_begun w s t window o =
+    owned_along w _ (slots_begun w s t window) (notes_shelves w _ (shelves_begun w s t window)) o
+
+slots_freed : (w : World) (s t : ℕ) → SlotsFrom w (free_outcome w s t).world
+unfolding free_outcome with_mode
+slots_freed w s t = slots_on_tid w s t _ (bears_refl (session w s t))
+
+pub owned_freed : (w : World) (s t : ℕ) → IsOwned w → IsOwned (free_outcome w s t).world
+owned_freed w s t o = owned_along w _ (slots_freed w s t) (notes_shelves w _ (shelves_freed w s t)) o
+
+slots_ceased : (w : World) (s t : ℕ) → SlotsFrom w (cease_outcome w s t).world
+slots_ceased w s t =
+    let v : World = after_numbers_ended w s t in
+    subst (SlotsFrom w) (sym (ceased_is w s t)) (then_slots w v _ (then_slots w _ v (slots_failed w s t)
+    (slots_same _ v (session_same _ v (same_ended w s t)))) (slots_on_tid v s t _
+    (bears_renewed (start_of (session v s t)) plain_window Mode.OnHold (tid_of v s t))))
+
+pub owned_ceased : (w : World) (s t : ℕ) → IsOwned w → IsOwned (cease_outcome w s t).world
+owned_ceased w s t o = owned_along w _ (slots_ceased w s t) (notes_shelves w _ (shelves_ceased w s t)) o

@@ -5,7 +5,7 @@ use Rattle.wf_frame.specs.Settings.{IsInRange}
 use Rattle.wf_frame.specs.declared.classes.Class.{Class}
 use Rattle.wf_frame.specs.declared.classes.Cause.TheVariants.{Overlimit, Left}
 use Rattle.wf_frame.specs.declared.classes.Fate.TheVariants.{Dropped}
-use Rattle.wf_frame.specs.declared.notes.Ask.TheVariants.{Join, Leave, Rate, Tick, Pull, Arrive, Answer, Done, Sleep, Wake, Poll, Rx, Reap, Ampdu, Stop, Start, Unsent, GiveUp, Flush, Offload, Weight}
+use Rattle.wf_frame.specs.declared.notes.Ask.TheVariants.{Join, Leave, Rate, Tick, Pull, Arrive, Answer, Done, Sleep, Wake, Poll, Rx, Reap, Ampdu, Stop, Start, Unsent, GiveUp, Flush, Offload, Weight, Plain, Hold, Begin, Free, Cease}
 use Rattle.wf_frame.specs.declared.notes.Note.{Note}
 use Rattle.wf_frame.specs.declared.notes.Note.TheVariants.{Enqueue, Asked}
 use Rattle.wf_frame.specs.declared.notes.Refusal.{Refusal}
@@ -14,13 +14,13 @@ use Rattle.wf_frame.specs.Classes.{all_classes}
 use Rattle.wf_def_lists.specs.Table.{at, has, upto, with_member}
 use Rattle.wf_def_codel.specs.Codel.{Item}
 use Rattle.wf_def_agreement.specs.Session.{Session, State, slot, is_settled, next_number, new_session}
-use Rattle.wf_def_world.specs.World.{World, Queue, Station, Exchange, Frame, Share, new_queue, on_queue, on_receiver, on_tid, with_queues, with_rotation, rotation, no_frame, new_tid, queue, session, frame, accepted_count, exchange, with_station, on_station, on_share, with_exchange, opening}
+use Rattle.wf_def_world.specs.World.{World, Mode, Queue, Station, Exchange, Frame, Share, new_queue, on_queue, on_receiver, on_tid, with_queues, with_rotation, rotation, no_frame, new_tid, queue, session, frame, accepted_count, exchange, with_station, on_station, on_share, with_exchange, opening}
 use Rattle.wf_def_world.specs.FlowQueues.{is_at_limit, longest_queue, without_head, after_limit, queue_for, after_put_in, after_queue_left, after_queues_left}
 use Rattle.wf_def_world.specs.Exchanges.{after_arrival, after_pick}
 use Rattle.wf_def_rotation.specs.Rotation.{in_order}
 use Rattle.wf_def_world.specs.CanSend.{with_listing_in, with_listings_in, with_listings_of}
 use Rattle.wf_def_world.specs.Refusals.{refusals, refusal, open_of_station}
-use Rattle.wf_def_world.specs.Step.{Outcome, enqueue_outcome, join_outcome, after_tid_left, after_tids_left, without_listings, leave_outcome, rate_outcome, tick_outcome, sleep_outcome, wake_outcome, poll_outcome, rx_outcome, arrive_outcome, answer_outcome, unsent_outcome, give_up_outcome, reap_outcome, outcome_where_open, concerned_station, outcome_of, after_refusal, judged_outcome, step, offload_outcome, weight_outcome, new_station, with_deficits_lowered}
+use Rattle.wf_def_world.specs.Step.{Outcome, enqueue_outcome, join_outcome, after_tid_left, after_tids_left, without_listings, leave_outcome, rate_outcome, tick_outcome, sleep_outcome, wake_outcome, poll_outcome, rx_outcome, arrive_outcome, answer_outcome, unsent_outcome, give_up_outcome, reap_outcome, outcome_where_open, concerned_station, outcome_of, after_refusal, judged_outcome, step, offload_outcome, weight_outcome, plain_outcome, plain_window, new_station, with_deficits_lowered}
 use Rattle.wf_def_world.specs.Run.{Entry, world_after}
 use Rattle.wf_def_world.specs.Stretches.{world_at}
 use Rattle.wf_law_runs.specs.Windows.{SomeOpen, IsSending}
@@ -33,16 +33,16 @@ use Rattle.wf_law_runs.proofs.Common.Marks.{marked_world}
 use Rattle.wf_law_runs.proofs.Windows.Sides.{sided, Side, sides_of, Same, then_same, same_on_station, same_listed, same_after_pick, same_weighed}
 use Rattle.wf_law_runs.proofs.Windows.Opened.{Each, eight, none_open, NoRow, no_row}
 use Rattle.wf_law_runs.proofs.Windows.Agreed.{session_same, same_left_tids, same_off_lists}
-use Rattle.wf_law_runs.proofs.Windows.Flying.{IsFlown_by, all_flown, flown_step}
+use Rattle.wf_law_runs.proofs.Windows.Flying.{IsFlown_by, flown_by}
 use Rattle.wf_law_runs.proofs.Releases.Released.{side_with_station, side_own_station}
 use Rattle.wf_law_runs.proofs.Releases.Placed.{Placing}
 use Rattle.wf_law_runs.proofs.Frames.Fewer.{carries}
 use Rattle.wf_law_runs.proofs.Frames.Delivered.{same_enqueued}
 use Rattle.wf_law_runs.proofs.Frames.Fates.{IsHeld, InQueue, AtSlot, InHand, Carries, Bears, bears_carried, ids_carried, Steady, steady_step, steady_first, IsFoundNamed, found_named, session_on_receiver}
 use Rattle.wf_law_runs.proofs.Frames.Untouched.{untouched_on_queue, untouched_put_in, untouched_with_station, untouched_off_lists, untouched_on_station, untouched_on_receiver, untouched_after_pick, untouched_listed, untouched_weighed}
-use Rattle.wf_law_runs.proofs.Frames.Owners.{BearsFrom, bears_refl, SlotsFrom, slots_same, then_slots, IsOwned, notes_frames, owned_along, owned_calm, owned_pulled, owned_ended, owned_flushed}
+use Rattle.wf_law_runs.proofs.Frames.Owners.{BearsFrom, bears_refl, SlotsFrom, slots_same, then_slots, IsOwned, notes_frames, owned_along, owned_calm, owned_pulled, owned_ended, owned_flushed, owned_held, owned_begun, owned_freed, owned_ceased}
 use Rattle.wf_law_runs.proofs.Frames.Covered.{Full, covers_calm, covers_pulled, queues_pay_stations}
-use Rattle.wf_law_runs.proofs.Frames.CoveredStep.{IsQuiet, covers_enqueued, covers_ended, covers_gone, covers_joined, covers_flushed, covers_offloaded}
+use Rattle.wf_law_runs.proofs.Frames.CoveredStep.{IsQuiet, covers_enqueued, covers_ended, covers_gone, covers_joined, covers_flushed, covers_offloaded, covers_unagreed, covers_held, covers_begun, covers_freed, covers_ceased}
 use Rattle.wf_law_runs.proofs.Deficits.Books.{upd_other}
 use Rattle.wf_law_runs.proofs.Queues.Shelves.{Shelves, shelves, shelves_finish, shelves_finish_all, shelves_with_frame}
 use Rattle.wf_law_runs.proofs.Queues.Shelved.{IsOf, IsShelved}
@@ -118,22 +118,29 @@ bare_zero = omega arith
 bare_new : (first size : ℕ) → next_number (new_session first size) ≡ first
 bare_new first size = omega arith
 
-owned_new : (w : World) (s window start exponent weight : ℕ) (offloaded : Bool) → IsOwned w →
-    IsOwned (with_station w s (Some (new_station w.config window start exponent weight offloaded)))
-owned_new w s window start exponent weight offloaded o =
+owned_new : (w : World) (mode : Mode) (s window start exponent weight : ℕ) (offloaded : Bool) → IsOwned w →
+    IsOwned (with_station w s (Some (new_station w.config mode window start exponent weight offloaded)))
+owned_new w mode s window start exponent weight offloaded o =
     owned_along w (with_station w s _) (slots_station w s _
-    (eight (λ y. next_number y.session ≡ y.session.first) (new_tid start window) (bare_new start window)
+    (eight (λ y. next_number y.session ≡ y.session.first) (new_tid mode start window) (bare_new start window)
     (bare_new 0 0))) (notes_frames w (with_station w s _) (untouched_with_station w s _).frames) o
 
 owned_joined : (w : World) (s window start exponent weight : ℕ) → IsOwned w →
     IsOwned (join_outcome w s window start exponent weight).world
 unfolding join_outcome
-owned_joined w s window start exponent weight o = owned_new w s window start exponent weight false o
+owned_joined w s window start exponent weight o =
+    owned_new w Mode.Agreed s window start exponent weight false o
 
 owned_offloaded : (w : World) (s exponent weight : ℕ) → IsOwned w →
     IsOwned (offload_outcome w s exponent weight).world
 unfolding offload_outcome
-owned_offloaded w s exponent weight o = owned_new w s greatest_window 0 exponent weight true o
+owned_offloaded w s exponent weight o = owned_new w Mode.Plain s greatest_window 0 exponent weight true o
+
+owned_unagreed : (w : World) (s start exponent weight : ℕ) → IsOwned w →
+    IsOwned (plain_outcome w s start exponent weight).world
+unfolding plain_outcome
+owned_unagreed w s start exponent weight o =
+    owned_new w Mode.Plain s plain_window start exponent weight false o
 
 notes_purge : (qs : List ℕ) (w : World) (k : ℕ) → (frame (after_queues_left w qs) k).note ≡ (frame w k).note
 unfolding after_queues_left after_queue_left on_queue
@@ -358,6 +365,18 @@ stood_done (Asked (Offload s exponent weight)) l most w k r f h i = record {
   full = covers_offloaded w s exponent weight r.1.1.1.0 i.full;
 }
 stood_done (Asked (Weight s weight)) l most w k r f h i = stood_weighed w s weight i
+stood_done (Asked (Plain s start exponent weight)) l most w k r f h i = record {
+  owned = owned_unagreed w s start exponent weight i.owned;
+  full = covers_unagreed w s start exponent weight r.1.1.1.1.0 i.full;
+}
+stood_done (Asked (Hold s t)) l most w k r f h i =
+    record { owned = owned_held w s t i.owned; full = covers_held w s t i.full }
+stood_done (Asked (Begin s t window)) l most w k r f h i =
+    record { owned = owned_begun w s t window i.owned; full = covers_begun w s t window i.full }
+stood_done (Asked (Free s t)) l most w k r f h i =
+    record { owned = owned_freed w s t i.owned; full = covers_freed w s t i.full }
+stood_done (Asked (Cease s t)) l most w k r f h i =
+    record { owned = owned_ceased w s t i.owned; full = covers_ceased l w s t k.placing i.full }
 
 stood_refused : (note : Note) (r : Refusal) (w : World) → Stood w → Stood (after_refusal w note r)
 unfolding after_refusal
@@ -386,7 +405,6 @@ stood_step l most w note k f h i = stood_answer (refusal w note) l most w note k
 
 pub record Standing (l : List ℕ) (most : ℕ) (w : World) : Type 0 where
   pub steady : Steady l w
-  flown : IsFlown_by w
   shelved : IsShelved most (shelves w)
   pub stood : Stood w
 
@@ -394,9 +412,8 @@ pub standing_step : (l : List ℕ) (most : ℕ) (w : World) (note : Note) → Is
     Standing l most w → Standing (l ++ named_by (step w note).reply) most (step w note).world
 standing_step l most w note short k = record {
   steady = steady_step l w note k.steady;
-  flown = flown_step w note k.steady.lawful k.flown;
   shelved = shelved_step l most w note short k.steady.placing k.shelved;
-  stood = stood_step l most w note k.steady k.flown k.shelved k.stood;
+  stood = stood_step l most w note k.steady (flown_by w k.steady.lawful) k.shelved k.stood;
 }
 
 standing_run : (h : List Entry) (l : List ℕ) (most : ℕ) (w : World) → AreAtMost most h → Standing l most w →
@@ -410,7 +427,6 @@ pub standing_first : (config : Config) (most : ℕ) → IsInRange config → Sta
 unfolding world_after
 standing_first config most range = record {
   steady = steady_first config;
-  flown = all_flown config [];
   shelved = shelved_first config most range;
   stood = record {
     owned = record { mine = λ s t k n c. absurd (omega (arith, c.from, c.below)) };

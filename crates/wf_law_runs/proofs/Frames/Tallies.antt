@@ -3,7 +3,7 @@ use Rattle.std.proofs.Common.{◌≡◌, ℕ, ◌+◌, List, [], ◌∷◌, leng
 use Rattle.std.proofs.lemmas.List.Sums.{sum_by-cons}
 use Rattle.std.specs.Prelude.{count_by}
 use Rattle.wf_frame.specs.declared.settings.Config.{Config}
-use Rattle.wf_frame.specs.declared.classes.Cause.TheVariants.{Overlimit, Codel, Retries, Left, Flushed}
+use Rattle.wf_frame.specs.declared.classes.Cause.TheVariants.{Overlimit, Codel, Retries, Left, Flushed, Ended}
 use Rattle.wf_frame.specs.declared.classes.Fate.{Fate}
 use Rattle.wf_frame.specs.declared.classes.Fate.TheVariants.{Held, Acked, Dropped}
 use Rattle.wf_frame.specs.declared.notes.Note.{Note}
@@ -21,7 +21,8 @@ Adds frames =
     length frames
     ≡ count_of frames Acked + count_of frames (Dropped Overlimit) + count_of frames
     (Dropped Codel) + count_of frames (Dropped Retries) + count_of frames
-    (Dropped Left) + count_of frames (Dropped Flushed) + count_of frames Held
+    (Dropped Left) + count_of frames (Dropped Flushed) + count_of frames (Dropped Ended)
+    + count_of frames Held
 
 abbrev made : Note → Fate → Frame
 made note fate = record { note = note; fate = fate }
@@ -46,9 +47,11 @@ one_more note Acked frames adds =
     counted f frames (Dropped Left) in
     let flushed : count_of (f ∷ frames) (Dropped Flushed) ≡ 0 + count_of frames (Dropped Flushed) =
     counted f frames (Dropped Flushed) in
+    let ended : count_of (f ∷ frames) (Dropped Ended) ≡ 0 + count_of frames (Dropped Ended) =
+    counted f frames (Dropped Ended) in
     let held : count_of (f ∷ frames) Held ≡ 0 + count_of frames Held =
     counted f frames Held in
-    omega (arith, adds, acked, overlimit, codel, retries, left, flushed, held)
+    omega (arith, adds, acked, overlimit, codel, retries, left, flushed, ended, held)
 one_more note (Dropped Overlimit) frames adds =
     let f : Frame = made note (Dropped Overlimit) in
     let acked : count_of (f ∷ frames) Acked ≡ 0 + count_of frames Acked =
@@ -63,9 +66,11 @@ one_more note (Dropped Overlimit) frames adds =
     counted f frames (Dropped Left) in
     let flushed : count_of (f ∷ frames) (Dropped Flushed) ≡ 0 + count_of frames (Dropped Flushed) =
     counted f frames (Dropped Flushed) in
+    let ended : count_of (f ∷ frames) (Dropped Ended) ≡ 0 + count_of frames (Dropped Ended) =
+    counted f frames (Dropped Ended) in
     let held : count_of (f ∷ frames) Held ≡ 0 + count_of frames Held =
     counted f frames Held in
-    omega (arith, adds, acked, overlimit, codel, retries, left, flushed, held)
+    omega (arith, adds, acked, overlimit, codel, retries, left, flushed, ended, held)
 one_more note (Dropped Codel) frames adds =
     let f : Frame = made note (Dropped Codel) in
     let acked : count_of (f ∷ frames) Acked ≡ 0 + count_of frames Acked =
@@ -80,9 +85,11 @@ one_more note (Dropped Codel) frames adds =
     counted f frames (Dropped Left) in
     let flushed : count_of (f ∷ frames) (Dropped Flushed) ≡ 0 + count_of frames (Dropped Flushed) =
     counted f frames (Dropped Flushed) in
+    let ended : count_of (f ∷ frames) (Dropped Ended) ≡ 0 + count_of frames (Dropped Ended) =
+    counted f frames (Dropped Ended) in
     let held : count_of (f ∷ frames) Held ≡ 0 + count_of frames Held =
     counted f frames Held in
-    omega (arith, adds, acked, overlimit, codel, retries, left, flushed, held)
+    omega (arith, adds, acked, overlimit, codel, retries, left, flushed, ended, held)
 one_more note (Dropped Retries) frames adds =
     let f : Frame = made note (Dropped Retries) in
     let acked : count_of (f ∷ frames) Acked ≡ 0 + count_of frames Acked =
@@ -97,9 +104,11 @@ one_more note (Dropped Retries) frames adds =
     counted f frames (Dropped Left) in
     let flushed : count_of (f ∷ frames) (Dropped Flushed) ≡ 0 + count_of frames (Dropped Flushed) =
     counted f frames (Dropped Flushed) in
+    let ended : count_of (f ∷ frames) (Dropped Ended) ≡ 0 + count_of frames (Dropped Ended) =
+    counted f frames (Dropped Ended) in
     let held : count_of (f ∷ frames) Held ≡ 0 + count_of frames Held =
     counted f frames Held in
-    omega (arith, adds, acked, overlimit, codel, retries, left, flushed, held)
+    omega (arith, adds, acked, overlimit, codel, retries, left, flushed, ended, held)
 one_more note (Dropped Left) frames adds =
     let f : Frame = made note (Dropped Left) in
     let acked : count_of (f ∷ frames) Acked ≡ 0 + count_of frames Acked =
@@ -114,9 +123,11 @@ one_more note (Dropped Left) frames adds =
     counted f frames (Dropped Left) in
     let flushed : count_of (f ∷ frames) (Dropped Flushed) ≡ 0 + count_of frames (Dropped Flushed) =
     counted f frames (Dropped Flushed) in
+    let ended : count_of (f ∷ frames) (Dropped Ended) ≡ 0 + count_of frames (Dropped Ended) =
+    counted f frames (Dropped Ended) in
     let held : count_of (f ∷ frames) Held ≡ 0 + count_of frames Held =
     counted f frames Held in
-    omega (arith, adds, acked, overlimit, codel, retries, left, flushed, held)
+    omega (arith, adds, acked, overlimit, codel, retries, left, flushed, ended, held)
 one_more note (Dropped Flushed) frames adds =
     let f : Frame = made note (Dropped Flushed) in
     let acked : count_of (f ∷ frames) Acked ≡ 0 + count_of frames Acked =
@@ -131,9 +142,30 @@ one_more note (Dropped Flushed) frames adds =
     counted f frames (Dropped Left) in
     let flushed : count_of (f ∷ frames) (Dropped Flushed) ≡ 1 + count_of frames (Dropped Flushed) =
     counted f frames (Dropped Flushed) in
+    let ended : count_of (f ∷ frames) (Dropped Ended) ≡ 0 + count_of frames (Dropped Ended) =
+    counted f frames (Dropped Ended) in
     let held : count_of (f ∷ frames) Held ≡ 0 + count_of frames Held =
     counted f frames Held in
-    omega (arith, adds, acked, overlimit, codel, retries, left, flushed, held)
+    omega (arith, adds, acked, overlimit, codel, retries, left, flushed, ended, held)
+one_more note (Dropped Ended) frames adds =
+    let f : Frame = made note (Dropped Ended) in
+    let acked : count_of (f ∷ frames) Acked ≡ 0 + count_of frames Acked =
+    counted f frames Acked in
+    let overlimit : count_of (f ∷ frames) (Dropped Overlimit) ≡ 0 + count_of frames (Dropped Overlimit) =
+    counted f frames (Dropped Overlimit) in
+    let codel : count_of (f ∷ frames) (Dropped Codel) ≡ 0 + count_of frames (Dropped Codel) =
+    counted f frames (Dropped Codel) in
+    let retries : count_of (f ∷ frames) (Dropped Retries) ≡ 0 + count_of frames (Dropped Retries) =
+    counted f frames (Dropped Retries) in
+    let left : count_of (f ∷ frames) (Dropped Left) ≡ 0 + count_of frames (Dropped Left) =
+    counted f frames (Dropped Left) in
+    let flushed : count_of (f ∷ frames) (Dropped Flushed) ≡ 0 + count_of frames (Dropped Flushed) =
+    counted f frames (Dropped Flushed) in
+    let ended : count_of (f ∷ frames) (Dropped Ended) ≡ 1 + count_of frames (Dropped Ended) =
+    counted f frames (Dropped Ended) in
+    let held : count_of (f ∷ frames) Held ≡ 0 + count_of frames Held =
+    counted f frames Held in
+    omega (arith, adds, acked, overlimit, codel, retries, left, flushed, ended, held)
 one_more note Held frames adds =
     let f : Frame = made note Held in
     let acked : count_of (f ∷ frames) Acked ≡ 0 + count_of frames Acked =
@@ -148,9 +180,11 @@ one_more note Held frames adds =
     counted f frames (Dropped Left) in
     let flushed : count_of (f ∷ frames) (Dropped Flushed) ≡ 0 + count_of frames (Dropped Flushed) =
     counted f frames (Dropped Flushed) in
+    let ended : count_of (f ∷ frames) (Dropped Ended) ≡ 0 + count_of frames (Dropped Ended) =
+    counted f frames (Dropped Ended) in
     let held : count_of (f ∷ frames) Held ≡ 1 + count_of frames Held =
     counted f frames Held in
-    omega (arith, adds, acked, overlimit, codel, retries, left, flushed, held)
+    omega (arith, adds, acked, overlimit, codel, retries, left, flushed, ended, held)
 
 pub counts_add : (frames : List Frame) → Adds frames
 counts_add [] = refl

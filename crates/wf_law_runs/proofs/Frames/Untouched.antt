@@ -1,5 +1,5 @@
 -- Proves which changes of a world affect neither the accepted frames nor the finished list.
-use Rattle.std.proofs.Common.{◌≡◌, refl, ◌∙◌, ℕ, Bool, true, false, if◌then◌else◌, List, [], ◌∷◌, Option, Some, None}
+use Rattle.std.proofs.Common.{◌≡◌, refl, sym, ◌∙◌, subst, ℕ, Bool, true, false, if◌then◌else◌, List, [], ◌∷◌, Option, Some, None}
 use Rattle.wf_frame.specs.declared.classes.Class.{Class}
 use Rattle.wf_frame.specs.declared.notes.Limits.{Limits}
 use Rattle.wf_frame.specs.Classes.{all_classes}
@@ -7,13 +7,14 @@ use Rattle.wf_def_codel.specs.Codel.{Item}
 use Rattle.wf_def_rotation.specs.Rotation.{Rotation, in_order}
 use Rattle.wf_def_agreement.specs.Receiver.{Receiver}
 use Rattle.wf_def_agreement.specs.Session.{Session}
-use Rattle.wf_def_world.specs.World.{World, Station, Queue, Exchange, rotation, with_station, on_station, on_tid, on_session, on_receiver, with_queues, on_share, on_queue, with_rotation, without_exchange}
+use Rattle.wf_def_world.specs.World.{World, Station, Tid, Queue, Exchange, rotation, with_mode, with_station, on_station, on_tid, on_session, on_receiver, with_queues, on_share, on_queue, with_rotation, without_exchange}
 use Rattle.wf_def_world.specs.FlowQueues.{with_listed_queue, with_appended, after_put_in, with_queues_paid}
 use Rattle.wf_def_world.specs.CanSend.{with_listing_in, with_listings_in, with_listings_of}
-use Rattle.wf_def_world.specs.Exchanges.{with_station_paid, with_stations_paid, after_pick, after_tid_turn, without_credit, after_charge, caught_up, with_device_caught_up}
-use Rattle.wf_def_world.specs.Step.{without_listings, with_deficits_lowered, weight_outcome}
+use Rattle.wf_def_world.specs.Exchanges.{with_station_paid, with_stations_paid, after_pick, after_tid_turn, without_credit, after_charge, caught_up, caught_up_if_plain}
+use Rattle.wf_def_world.specs.Step.{without_listings, with_deficits_lowered, weight_outcome, hold_outcome, begin_outcome, free_outcome, cease_outcome, after_numbers_ended}
 use Rattle.wf_law_runs.proofs.Common.Picked.{picked_world}
 use Rattle.wf_law_runs.proofs.Common.Flushes.{if_caught}
+use Rattle.wf_law_runs.proofs.Windows.Sides.{begun_is, ceased_is}
 
 pub record Untouched (w v : World) : Type 0 where
   pub frames : v.frames ≡ w.frames
@@ -40,18 +41,22 @@ pub untouched_on_station : (w : World) (s : ℕ) (f : Station → Station) → U
 unfolding on_station
 untouched_on_station w s f = untouched_with_station w s _
 
+pub untouched_on_tid : (w : World) (s t : ℕ) (f : Tid → Tid) → Untouched w (on_tid w s t f)
+unfolding on_tid
+untouched_on_tid w s t f = untouched_on_station w s _
+
 pub untouched_on_session : (w : World) (s t : ℕ) (f : Session → Session) → Untouched w (on_session w s t f)
-unfolding on_session on_tid
-untouched_on_session w s t f = untouched_on_station w s _
+unfolding on_session
+untouched_on_session w s t f = untouched_on_tid w s t _
 
 pub untouched_on_receiver : (w : World) (s t : ℕ) (f : Receiver → Receiver) →
     Untouched w (on_receiver w s t f)
-unfolding on_receiver on_tid
-untouched_on_receiver w s t f = untouched_on_station w s _
+unfolding on_receiver
+untouched_on_receiver w s t f = untouched_on_tid w s t _
 
 pub untouched_with_queues : (w : World) (s t : ℕ) (r : Rotation) → Untouched w (with_queues w s t r)
-unfolding with_queues on_tid
-untouched_with_queues w s t r = untouched_on_station w s _
+unfolding with_queues
+untouched_with_queues w s t r = untouched_on_tid w s t _
 
 pub untouched_spent : (w : World) (s : ℕ) → Untouched w (without_credit w s)
 unfolding without_credit
@@ -129,7 +134,7 @@ untouched_put_in u s t q x =
     (untouched_if _ _ _ _ (untouched _) (then_untouched _ _ _ (untouched_on_queue _ q _)
     (untouched_with_queues _ s t _)))
 
--- ---- weights, and a device that catches up
+-- ---- weights, and a TID that catches up
 
 untouched_lowered : (cs : List Class) (w : World) (s : ℕ) → Untouched w (with_deficits_lowered w s cs)
 unfolding with_deficits_lowered on_share
@@ -145,5 +150,24 @@ pub untouched_caught : (w : World) (s t : ℕ) → Untouched w (caught_up w s t)
 unfolding caught_up
 untouched_caught w s t = then_untouched w _ _ (untouched_on_session w s t _) (untouched_on_receiver _ s t _)
 
-pub untouched_device : (w : World) (s t : ℕ) → Untouched w (with_device_caught_up w s t)
-untouched_device w s t = if_caught (Untouched w) w s t (untouched w) (λ _. untouched_caught w s t)
+pub untouched_caught_up : (w : World) (s t : ℕ) → Untouched w (caught_up_if_plain w s t)
+untouched_caught_up w s t = if_caught (Untouched w) w s t (untouched w) (λ _. untouched_caught w s t)
+
+-- ---- a TID is held or free, and its agreement begins or ends
+
+pub untouched_held : (w : World) (s t : ℕ) → Untouched w (hold_outcome w s t).world
+unfolding hold_outcome with_mode
+untouched_held w s t = untouched_on_tid w s t _
+
+pub untouched_begun : (w : World) (s t window : ℕ) → Untouched w (begin_outcome w s t window).world
+untouched_begun w s t window = subst (Untouched w) (sym (begun_is w s t window)) (untouched_on_tid w s t _)
+
+pub untouched_freed : (w : World) (s t : ℕ) → Untouched w (free_outcome w s t).world
+unfolding free_outcome with_mode
+untouched_freed w s t = untouched_on_tid w s t _
+
+-- After the waiting numbers are given up, the end of an agreement affects no frame.
+pub untouched_ceased : (w : World) (s t : ℕ) →
+    Untouched (after_numbers_ended w s t) (cease_outcome w s t).world
+untouched_ceased w s t = subst (Untouched (after_numbers_ended w s t)) (sym (ceased_is w s t))
+    (untouched_on_tid _ s t _)

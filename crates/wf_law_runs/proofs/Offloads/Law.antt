@@ -9,7 +9,7 @@ use Rattle.wf_def_world.specs.Stretches.{world_at}
 use Rattle.wf_law_runs.specs.Windows.{EachOpen}
 use Rattle.wf_law_runs.specs.Offloads.{IsOffloadRight, KeepsOffloads, OffloadLaw}
 use Rattle.wf_law_runs.proofs.Windows.Opened.{Each}
-use Rattle.wf_law_runs.proofs.Windows.Agreed.{IsLawful, IsOpenIn, lawful}
+use Rattle.wf_law_runs.proofs.Windows.Agreed.{IsLawful, IsOpenIn, lawful, device_plain}
 
 all_right : (w : World) (xs : List Exchange) → Each (IsOpenIn w) xs → EachOpen (IsOffloadRight w) xs
 all_right w [] e = tt
@@ -18,7 +18,7 @@ all_right w (x ∷ xs) e = (e.0.right, all_right w xs e.1)
 pub keeps_offloads : (w : World) → IsLawful w → KeepsOffloads w
 keeps_offloads w i = record {
   opened = all_right w w.opened i.opened;
-  none_due = λ s t d. i.quiet s t refl d;
+  none_due = λ s t d. i.quiet s t refl (device_plain w s t i d);
 }
 
 pub offload_law : (config : Config) (h : List Entry) → IsInRange config → OffloadLaw config h

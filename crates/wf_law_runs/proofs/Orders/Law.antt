@@ -98,7 +98,7 @@ module _ (config : Config) (range : IsInRange config) (keeps : config.keep_order
       let next : InLine config.flows (l ++ named_by (step w e.1).reply) (step w e.1).world =
       through_step (InLine config.flows) (IsGood config.flows) (line_less config.flows)
       (line_session config.flows) (line_give config.flows)
-      (λ k u v s t q g. line_release config.flows k u v s t q g.owned) (line_silent config.flows)
+      (λ k u v s t q b g. line_release config.flows k u v s t q b g.owned) (line_silent config.flows)
       (line_station config.flows)
       (line_call config.flows) l w (lawful config h) e.1 (good h) p in
       let more : InLine config.flows (named_from (opening config) [] (h ++ e ∷ []))

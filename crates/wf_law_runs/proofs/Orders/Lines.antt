@@ -2,14 +2,14 @@
 -- line. All that are queued are in one queue, and they are released before the numbered ones that are not
 -- released, which come before the queued ones. Proves that each elementary change but the enqueue keeps
 -- it.
-use Rattle.std.proofs.Common.{◌≡◌, refl, ap, sym, ◌∙◌, subst, arith, ℕ, suc, ◌%◌, ◌<◌, ◌≤◌, nat_lt, nat_le, true, ◌&&◌, ◌==◌, ◌⊎◌, inl, inr, List, [], ◌∷◌, ◌++◌, Option}
+use Rattle.std.proofs.Common.{◌≡◌, refl, ap, sym, ◌∙◌, subst, arith, ℕ, suc, ◌%◌, ◌<◌, ◌≤◌, nat_lt, nat_le, true, ◌&&◌, ◌==◌, ◌⊎◌, inl, inr, List, [], ◌∷◌, ◌++◌, Option, Bool}
 use Rattle.wf_def_lists.specs.Table.{has}
 use Rattle.wf_def_codel.specs.Codel.{Item}
 use Rattle.wf_def_agreement.specs.Session.{Session, Slot, slot, next_number, with_number_given}
 use Rattle.wf_def_agreement.specs.Receiver.{Receiver, release_start, released_between}
 use Rattle.wf_frame.specs.declared.notes.Note.{Note}
 use Rattle.wf_frame.specs.declared.notes.Note.TheVariants.{Enqueue, Asked}
-use Rattle.wf_def_world.specs.World.{World, Station, Tid, session, receiver, frame, queue, accepted_count, on_session, on_tid, with_station}
+use Rattle.wf_def_world.specs.World.{World, Station, Tid, session, receiver, frame, queue, accepted_count, on_session, on_tid, with_station, is_agreed}
 use Rattle.wf_def_world.specs.Exchanges.{ids_of}
 use Rattle.wf_law_rules.proofs.Lemmas.Numbers.{Climbs, climbs_at, on_bool, lt_yes, lt_no, le_yes, eq_yes, eq_no, yes_eq, either, both, and_true, or_left, or_right}
 use Rattle.wf_law_rules.proofs.Lemmas.Joined.{has_append}
@@ -321,12 +321,12 @@ same_tid flows lane w o s t i j n m from below from' below' here there e =
     of_note (Asked ask) a b h = absurd h
 
 -- The receiver becomes q, and no id is released.
-pub line_silent : (flows : ℕ) (l : List ℕ) (w v : World) (s t : ℕ) (q : Receiver) → Less Any w v →
+pub line_silent : (flows : ℕ) (l : List ℕ) (w v : World) (s t : ℕ) (q : Receiver) (b : Bool) → Less Any w v →
     ((i j : ℕ) → (i ≡ s → j ≡ t → ⊥) → side v i j ≡ side w i j) →
-    side v s t ≡ record { session = session w s t; receiver = q } →
+    side v s t ≡ record { session = session w s t; receiver = q; agreed = b } →
     Grows (session w s t) (receiver w s t) q → InLine flows l w → InLine flows l v
-line_silent flows l w v s t q h apart own g p = record {
-  placing = passes_silent l w v s t q h apart own g p.placing;
+line_silent flows l w v s t q agreed h apart own g p = record {
+  placing = passes_silent l w v s t q agreed h apart own g p.placing;
   lane = p.lane;
   one = λ q r a b c e. p.one q r a b ((h.queues q).has a c) ((h.queues r).has b e);
   home = λ q a low c. p.home q a low ((h.queues q).has a c);
@@ -348,7 +348,7 @@ line_silent flows l w v s t q h apart own g p = record {
   lined = p.lined;
 }
   where
-    here : Lines flows p.lane l v (record { session = session w s t; receiver = q })
+    here : Lines flows p.lane l v (record { session = session w s t; receiver = q; agreed = agreed })
     here =
         let i : Lines flows p.lane l v (side w s t) =
         lines_less flows p.lane l w v p.placing s t h (p.sides s t)
@@ -360,13 +360,13 @@ line_silent flows l w v s t q h apart own g p = record {
           passed = λ n k from below start e. i.passed n k from below (omega (arith, start, g.rises)) e;
         }
 
-pub line_release : (flows : ℕ) (l : List ℕ) (w v : World) (s t : ℕ) (q : Receiver) → IsOwned w → Less Any
-    w v →
+pub line_release : (flows : ℕ) (l : List ℕ) (w v : World) (s t : ℕ) (q : Receiver) (b : Bool) → IsOwned w →
+    Less Any w v →
     ((i j : ℕ) → (i ≡ s → j ≡ t → ⊥) → side v i j ≡ side w i j) →
-    side v s t ≡ record { session = session w s t; receiver = q } →
+    side v s t ≡ record { session = session w s t; receiver = q; agreed = b } →
     Grows (session w s t) (receiver w s t) q → InLine flows l w →
     InLine flows (l ++ ids_of (session w s t) (released_between (receiver w s t) q)) v
-line_release flows l w v s t q owned h apart own g p =
+line_release flows l w v s t q agreed owned h apart own g p =
     let y : Session = session w s t in
     let r : Receiver = receiver w s t in
     let ns : List ℕ = released_between r q in
@@ -383,15 +383,15 @@ line_release flows l w v s t q owned h apart own g p =
       | inl old ↦ inl old
       | inr new ↦ inr (has_ids ns y k new)
     ] in
-    let at_tid : (receiver' : Receiver) (a b : ℕ) → ((n k : ℕ) → (session w a b).first ≤ n →
+    let at_tid : (receiver' : Receiver) (z : Bool) (a b : ℕ) → ((n k : ℕ) → (session w a b).first ≤ n →
     n < next_number (session w a b) → release_start receiver' ≤ n → has (l ++ ids_of y ns) k ≡ true →
     Before p.lane k (slot (session w a b) n).id) → Lines flows p.lane (l ++ ids_of y ns) v
-    (record { session = session w a b; receiver = receiver' }) = λ receiver' a b after.
+    (record { session = session w a b; receiver = receiver'; agreed = z }) = λ receiver' z a b after.
     let i : Lines flows p.lane l v (side w a b) = lines_less flows p.lane l w v p.placing a b h (p.sides
     a b) in
     record { known = i.known; rising = i.rising; queued = i.queued; passed = after } in
     record {
-      placing = passes_more l w v s t q h apart own g p.placing;
+      placing = passes_more l w v s t q agreed h apart own g p.placing;
       lane = p.lane;
       one = λ q r a b c e. p.one q r a b ((h.queues q).has a c) ((h.queues r).has b e);
       home = λ q a low c. p.home q a low ((h.queues q).has a c);
@@ -405,7 +405,7 @@ line_release flows l w v s t q owned h apart own g p =
           subst (λ (a : ℕ). Lines flows p.lane (l ++ ids_of y ns) v (side v a j)) es
           (subst (λ (c : ℕ). Lines flows p.lane (l ++ ids_of y ns) v (side v s c)) et
           (subst (Lines flows p.lane (l ++ ids_of y ns) v) (sym own)
-          (at_tid q s t (λ n k from below start e. elim (was k e) [
+          (at_tid q agreed s t (λ n k from below start e. elim (was k e) [
             | inl old ↦ here.passed n k from below (omega (arith, start, g.rises)) old
             | inr new ↦ before_first p.lane k (slot y new.number).id (slot y n).id (sym new.id)
                 (here.rising new.number n (among new.number new.among).0
@@ -415,7 +415,7 @@ line_release flows l w v s t q owned h apart own g p =
           let not_here : i ≡ s → j ≡ t → ⊥ = λ es et. cc
           (no, and_true (i == s) (j == t) (yes_eq i s es) (yes_eq j t et)) in
           subst (Lines flows p.lane (l ++ ids_of y ns) v) (sym (apart i j not_here))
-          (at_tid (receiver w i j) i j (λ n k from below start e. elim (was k e) [
+          (at_tid (receiver w i j) (is_agreed w i j) i j (λ n k from below start e. elim (was k e) [
             | inl old ↦ (p.sides i j).passed n k from below start old
             | inr new ↦ (λ lanes.
                 let m : ℕ = new.number in

@@ -9,7 +9,7 @@ use Rattle.wf_frame.specs.declared.settings.Config.{Config}
 use Rattle.wf_frame.specs.Settings.{IsInRange}
 use Rattle.wf_frame.specs.declared.notes.Note.{Note}
 use Rattle.wf_frame.specs.declared.notes.Note.TheVariants.{Enqueue, Asked}
-use Rattle.wf_frame.specs.declared.notes.Part.TheVariants.{Mpdus, Request as Asks, Batch}
+use Rattle.wf_frame.specs.declared.notes.Part.TheVariants.{Mpdus, Request as Asks, Batch, Plain}
 use Rattle.wf_frame.specs.declared.notes.ReplyNote.{ReplyNote}
 use Rattle.wf_frame.specs.declared.notes.ReplyNote.TheVariants.{Send}
 use Rattle.wf_def_lists.specs.Table.{has}
@@ -72,8 +72,8 @@ older_step w note i = through_step (λ _ v. Older w v) (λ _. Unit {0}) (λ _ u 
     (λ _ u s t f _ _ o. older_less w u _ (less_on_session Any u s t f) o)
     (λ _ u v s t x _ h _ o. older_less w v _ (less_on_session Any v s t (λ y. with_number_given y x.id))
     (older_less w u v h o))
-    (λ _ u v s t q _ h _ _ _ o. older_less w u v h o)
-    (λ _ u v s t q h _ _ _ o. older_less w u v h o)
+    (λ _ u v s t q b _ h _ _ _ o. older_less w u v h o)
+    (λ _ u v s t q b h _ _ _ o. older_less w u v h o)
     (λ _ u j o _ k. older_less w u _ (less_with_station u j o) k)
     (λ _ u s t flow len _ _ o. older_enqueued w u s t flow len o) [] w i note tt
     (record { accepted = omega arith; notes = λ k _. refl })
@@ -199,13 +199,14 @@ unfolding ids_in
 batch_ids [] = refl
 batch_ids (m ∷ ms) = ap (λ (ids : List ℕ). m.id ∷ ids) (batch_ids ms)
 
-sent_ids : (batch : Bool) (c : Content) (number station tid air : ℕ) (more : Bool) →
-    ids_sent_by (Send number station tid air (part_of batch c) more) ≡ ids_in (mpdus_of c)
+sent_ids : (batch plain : Bool) (c : Content) (number station tid air : ℕ) (more : Bool) →
+    ids_sent_by (Send number station tid air (part_of batch plain c) more) ≡ ids_in (mpdus_of c)
 unfolding ids_in
-sent_ids false (Frames ms) number station tid air more = named_ids ms
-sent_ids true (Frames ms) number station tid air more = batch_ids ms
-sent_ids false (Request start) number station tid air more = refl
-sent_ids true (Request start) number station tid air more = refl
+sent_ids false false (Frames ms) number station tid air more = named_ids ms
+sent_ids false true (Frames ms) number station tid air more = named_ids ms
+sent_ids true plain (Frames ms) number station tid air more = batch_ids ms
+sent_ids false plain (Request start) number station tid air more = refl
+sent_ids true plain (Request start) number station tid air more = refl
 
 count_some : (ms : List (ℕ × ℕ)) (k : ℕ) → has (map (λ (m : ℕ × ℕ). m.0) ms) k ≡ true → 1 ≤ count_of k ms
 count_some [] k h = absurd (cc h)
@@ -252,11 +253,13 @@ ids_none (i ∷ ids) k h = go (i == k) refl (ids_none ids k) h
 some_tries : (r : ReplyNote) (k : ℕ) → has (ids_sent_by r) k ≡ true → 1 ≤ tries_by k r
 some_tries (Send exchange station tid air (Mpdus ms) more) k h = count_some ms k h
 some_tries (Send exchange station tid air (Batch ids) more) k h = ids_some ids k h
+some_tries (Send exchange station tid air (Plain ms) more) k h = count_some ms k h
 some_tries _ k h = absurd (cc h)
 
 no_tries : (r : ReplyNote) (k : ℕ) → has (ids_sent_by r) k ≡ false → tries_by k r ≡ 0
 no_tries (Send exchange station tid air (Mpdus ms) more) k h = count_none ms k h
 no_tries (Send exchange station tid air (Batch ids) more) k h = ids_none ids k h
+no_tries (Send exchange station tid air (Plain ms) more) k h = count_none ms k h
 no_tries (Send exchange station tid air (Asks start) more) k h = refl
 no_tries _ k h = refl
 
@@ -517,7 +520,7 @@ in_turn_step flows q r l w note y p k flying f = elim (first_step w note y.lawfu
         at_some (λ u. Labelled (session v u.station u.tid) (mpdus_of u.content)) v.opened z
         y'.labelled.labels x.opens.among in
         let named : ids ≡ ids_in ms = ap ids_sent_by x.opens.reply
-        ∙ sent_ids z.batch z.content z.number z.station z.tid z.charge z.more in
+        ∙ sent_ids z.batch z.plain z.content z.number z.station z.tid z.charge z.more in
         all (λ a e.
         let c : IsSentAt (session v z.station z.tid) ms a =
         sent_at ms (session v z.station z.tid) a labels

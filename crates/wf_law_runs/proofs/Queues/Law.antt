@@ -7,7 +7,7 @@ use Rattle.std.proofs.Common.{◌≡◌, refl, sym, subst, arith, ℕ, zero, suc
 use Rattle.std.proofs.lemmas.Bool.{leb-false, ltb-false}
 use Rattle.wf_frame.specs.declared.settings.Config.{Config}
 use Rattle.wf_frame.specs.Settings.{IsInRange}
-use Rattle.wf_frame.specs.declared.notes.Ask.TheVariants.{Join, Leave, Rate, Tick, Pull, Arrive, Answer, Done, Sleep, Wake, Poll, Rx, Reap, Ampdu, Stop, Start, Unsent, GiveUp, Flush, Offload, Weight}
+use Rattle.wf_frame.specs.declared.notes.Ask.TheVariants.{Join, Leave, Rate, Tick, Pull, Arrive, Answer, Done, Sleep, Wake, Poll, Rx, Reap, Ampdu, Stop, Start, Unsent, GiveUp, Flush, Offload, Weight, Plain, Hold, Begin, Free, Cease}
 use Rattle.wf_frame.specs.declared.notes.Note.{Note}
 use Rattle.wf_frame.specs.declared.notes.Note.TheVariants.{Enqueue, Asked}
 use Rattle.wf_frame.specs.declared.notes.Refusal.{Refusal}
@@ -29,9 +29,9 @@ use Rattle.wf_law_runs.proofs.Windows.Agreed.{IsLawful, lawful_step, lawful_at_f
 use Rattle.wf_law_runs.proofs.Frames.Fewer.{Ordered}
 use Rattle.wf_law_runs.proofs.Deficits.MildStep.{lists-on}
 use Rattle.wf_law_runs.proofs.Deficits.Configs.{config_run}
-use Rattle.wf_law_runs.proofs.Queues.Shelves.{shelves, shelves_hidden, shelves_on_share, shelves_after_pick, shelves_ended, shelves_arrived, shelves_answered, shelves_marked, shelves_reaped, shelves_listed, shelves_open, shelves_weighed}
+use Rattle.wf_law_runs.proofs.Queues.Shelves.{shelves, shelves_hidden, shelves_on_share, shelves_after_pick, shelves_ended, shelves_arrived, shelves_answered, shelves_marked, shelves_reaped, shelves_listed, shelves_open, shelves_weighed, shelves_held, shelves_begun, shelves_freed, shelves_ceased}
 use Rattle.wf_law_runs.proofs.Queues.Shelved.{IsFound, IsWithin, IsOf, IsShelved, each_item, later}
-use Rattle.wf_law_runs.proofs.Queues.ShelvedStep.{on_listed, shelved_enqueued, shelved_pulled, shelved_gone, shelved_flushed, shelved_joined, shelved_offloaded}
+use Rattle.wf_law_runs.proofs.Queues.ShelvedStep.{on_listed, shelved_enqueued, shelved_pulled, shelved_gone, shelved_flushed, shelved_joined, shelved_offloaded, shelved_plain}
 
 not_false : (b : Bool) → not b ≡ false → b ≡ true
 not_false true h = refl
@@ -51,6 +51,13 @@ shelved_done (Asked (Offload s exponent weight)) l most w r short p i =
     shelved_offloaded most w s exponent weight (leb-false _ _ r.0) r.1.1.1.0 i
 shelved_done (Asked (Weight s weight)) l most w r short p i =
     subst (IsShelved most) (sym (shelves_weighed w s weight)) i
+shelved_done (Asked (Plain s start exponent weight)) l most w r short p i =
+    shelved_plain most w s start exponent weight (leb-false _ _ r.0) r.1.1.1.1.0 i
+shelved_done (Asked (Hold s t)) l most w r short p i = subst (IsShelved most) (sym (shelves_held w s t)) i
+shelved_done (Asked (Begin s t window)) l most w r short p i =
+    subst (IsShelved most) (sym (shelves_begun w s t window)) i
+shelved_done (Asked (Free s t)) l most w r short p i = subst (IsShelved most) (sym (shelves_freed w s t)) i
+shelved_done (Asked (Cease s t)) l most w r short p i = subst (IsShelved most) (sym (shelves_ceased w s t)) i
 shelved_done (Asked (Leave s)) l most w r short p i = shelved_gone most w s (not_false _ r.1.0) i
 shelved_done (Asked (Rate s rate)) l most w r small p i =
     subst (IsShelved most) (sym (shelves_hidden w s _ (λ x. refl))) i

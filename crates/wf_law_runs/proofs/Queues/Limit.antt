@@ -7,7 +7,7 @@ use Rattle.std.specs.Prelude.{sum_by}
 use Rattle.wf_frame.specs.declared.settings.Config.{Config}
 use Rattle.wf_frame.specs.Settings.{IsInRange}
 use Rattle.wf_frame.specs.declared.notes.Ask.{Ask}
-use Rattle.wf_frame.specs.declared.notes.Ask.TheVariants.{Join, Leave, Rate, Tick, Pull, Arrive, Answer, Done, Sleep, Wake, Poll, Rx, Reap, Ampdu, Stop, Start, Unsent, GiveUp, Flush, Offload, Weight}
+use Rattle.wf_frame.specs.declared.notes.Ask.TheVariants.{Join, Leave, Rate, Tick, Pull, Arrive, Answer, Done, Sleep, Wake, Poll, Rx, Reap, Ampdu, Stop, Start, Unsent, GiveUp, Flush, Offload, Weight, Plain, Hold, Begin, Free, Cease}
 use Rattle.wf_frame.specs.declared.notes.Note.{Note}
 use Rattle.wf_frame.specs.declared.notes.Note.TheVariants.{Enqueue, Asked}
 use Rattle.wf_frame.specs.declared.notes.Refusal.{Refusal}
@@ -29,8 +29,8 @@ use Rattle.wf_law_rules.proofs.Lemmas.Sums.{sum_put, sum_below}
 use Rattle.wf_law_rules.proofs.Lemmas.Numbers.{le_yes, le_no}
 use Rattle.wf_law_runs.proofs.Common.Refused.{after_idle}
 use Rattle.wf_law_runs.proofs.Deficits.Configs.{config_step}
-use Rattle.wf_law_runs.proofs.Frames.Fewer.{HasOctets, Less, less, less_plain, less_on_station, less_on_share, less_after_pick, less_listed, less_within_limit, less_weighed}
-use Rattle.wf_law_runs.proofs.Frames.Delivered.{less_joined, less_gone, less_pulled, less_arrived, less_answered, less_marked, less_flushed, less_reaped, less_ended, less_offloaded}
+use Rattle.wf_law_runs.proofs.Frames.Fewer.{HasOctets, Less, less, less_plain, less_on_station, less_on_share, less_after_pick, less_listed, less_within_limit, less_weighed, less_held, less_begun, less_freed, less_ceased}
+use Rattle.wf_law_runs.proofs.Frames.Delivered.{less_joined, less_gone, less_pulled, less_arrived, less_answered, less_marked, less_flushed, less_reaped, less_ended, less_offloaded, less_unagreed}
 use Rattle.wf_law_runs.proofs.Queues.Shelved.{each_append}
 use Rattle.wf_law_runs.proofs.Releases.Placed.{Any, less_put_in}
 
@@ -174,6 +174,11 @@ unfolding outcome_of tick_outcome rate_outcome sleep_outcome wake_outcome poll_o
 less_asked (Join s window start exponent weight) w = less_joined Any w s window start exponent weight
 less_asked (Offload s exponent weight) w = less_offloaded Any w s exponent weight
 less_asked (Weight s weight) w = less_weighed Any w s weight
+less_asked (Plain s start exponent weight) w = less_unagreed Any w s start exponent weight
+less_asked (Hold s t) w = less_held Any w s t
+less_asked (Begin s t window) w = less_begun Any w s t window
+less_asked (Free s t) w = less_freed Any w s t
+less_asked (Cease s t) w = less_ceased Any w s t
 less_asked (Leave s) w = less_gone Any w s
 less_asked (Rate s rate) w = less_on_station Any w s _
 less_asked (Tick by) w = less_plain Any w _ refl refl

@@ -9,7 +9,7 @@ use Rattle.std.proofs.Common.{map, nat_lt, ◌-◌, ◌≡◌, refl, ap, sym, �
 use Rattle.wf_def_codel.specs.Codel.{new_codel, Item, Dequeued, dequeue}
 use Rattle.wf_law_runs.proofs.Windows.Sides.{Same, same_take, on_live, same_after_turn, same_within_limit, same_picked}
 use Rattle.wf_frame.specs.declared.classes.Cause.TheVariants.{Left, Overlimit}
-use Rattle.wf_def_world.specs.World.{on_session, with_frames_finished, Mpdu, new_tid, session, rotation, World, Queue, no_frame, queue, tid_of, is_live, accepted_count, live_stations, codel_params, on_queue, with_queues, with_frame_finished, with_fate, on_tid, on_station, with_station}
+use Rattle.wf_def_world.specs.World.{on_session, with_frames_finished, Mpdu, Mode, Plain, Agreed, new_tid, session, rotation, World, Queue, no_frame, queue, tid_of, is_live, accepted_count, live_stations, codel_params, on_queue, with_queues, with_frame_finished, with_fate, on_tid, on_station, with_station}
 use Rattle.wf_def_world.specs.FlowQueues.{after_queues_left, after_queue_left, after_queues_flushed, after_queue_flushed, longest_queue, without_head, after_limit, is_listed_elsewhere, goes_over, overflow_queue, queue_for, when_listed, with_listed_queue, with_appended, after_put_in, queue_need, has_frames, with_queues_paid, len_given, taken_by_codel, taken_from_picked, picked_queue, taken_for_tid, is_at_limit}
 use Rattle.wf_law_runs.proofs.Queues.Shelves.{spot, shelves_with_station, shelves_on_session, shelves_sent, shelves_after_turn, shelves_off_lists, Spot, Shelves, shelves, with_listed, with_queue, with_note, all_paid, shelves_with_queues, shelves_on_queue, shelves_finish, shelves_finish_all, shelves_pay_queues, shelves_with_frame, shelves_picked, shelves_caught_up}
 use Rattle.wf_law_rules.proofs.Lemmas.Numbers.{on_bool, lt_yes, lt_no, has_with, has_old, on_if, yes_lt, yes_eq, or_left, or_right, either, eq_yes}
@@ -19,7 +19,7 @@ use Rattle.wf_def_agreement.specs.Session.{request_due}
 use Rattle.wf_frame.specs.Classes.{all_classes}
 use Rattle.wf_def_world.specs.CanSend.{is_ready}
 use Rattle.wf_def_world.specs.Exchanges.{Prepared, with_number, with_fresh, aggregate_of, longest_fitting, waiting_mpdus, most_frames, prepared_data, prepared_exchange, sending_tid, after_tid_turn, picked_station, station_need, Aggregate}
-use Rattle.wf_def_world.specs.Step.{pull_outcome_for, pull_outcome, waiting_ids, in_rising_order, after_tid_left, after_tids_left, without_listings, leave_outcome, after_tid_flushed, flush_outcome, join_outcome, enqueue_outcome, offload_outcome, new_station}
+use Rattle.wf_def_world.specs.Step.{pull_outcome_for, pull_outcome, waiting_ids, in_rising_order, after_tid_left, after_tids_left, without_listings, leave_outcome, after_tid_flushed, flush_outcome, join_outcome, enqueue_outcome, offload_outcome, plain_outcome, plain_window, new_station}
 use Rattle.wf_law_runs.proofs.Windows.Opened.{eight, some_along, left_true, pick_ready}
 use Rattle.wf_law_runs.proofs.Deficits.Books.{each_upd, upd, upd_same, upd_other}
 use Rattle.std.proofs.Math.Path.{fun_ext}
@@ -739,17 +739,17 @@ shelved_flushed most w s t i = subst (IsShelved most) (sym (shelves_caught_up _ 
 
 -- ---- a station joins
 
-shelved_new_station : (most : ℕ) (w : World) (s window start exponent weight : ℕ) (offloaded : Bool) →
-    s < w.config.stations → is_live w s ≡ false → IsShelved most (shelves w) →
+shelved_new_station : (most : ℕ) (w : World) (mode : Mode) (s window start exponent weight : ℕ)
+    (offloaded : Bool) → s < w.config.stations → is_live w s ≡ false → IsShelved most (shelves w) →
     IsShelved most (shelves (with_station w s
-    (Some (new_station w.config window start exponent weight offloaded))))
-shelved_new_station most w s window start exponent weight offloaded low dead i =
+    (Some (new_station w.config mode window start exponent weight offloaded))))
+shelved_new_station most w mode s window start exponent weight offloaded low dead i =
     subst (IsShelved most) (sym (shelves_with_station w s _))
     (restated most (shelves w) s _
     (λ t q. on_bool (nat_lt 0 (on (in_order (tid_of w s t).queues) q))
     (λ e. let live : is_live w s ≡ true = i.live s t q (lt_yes 0 _ e) in absurd (cc (live, dead)))
     (λ e. let none : on (in_order (tid_of w s t).queues) q ≤ 0 = lt_no 0 _ e in omega (arith, none)))
-    (λ t q. eight (λ y. on (in_order y.queues) q ≡ 0) (new_tid start window) (on-nil q) (on-nil q) t)
+    (λ t q. eight (λ y. on (in_order y.queues) q ≡ 0) (new_tid mode start window) (on-nil q) (on-nil q) t)
     (λ _. low) i)
 
 pub shelved_joined : (most : ℕ) (w : World) (s window start exponent weight : ℕ) → s < w.config.stations →
@@ -757,11 +757,18 @@ pub shelved_joined : (most : ℕ) (w : World) (s window start exponent weight : 
     IsShelved most (shelves (join_outcome w s window start exponent weight).world)
 unfolding join_outcome
 shelved_joined most w s window start exponent weight low dead i =
-    shelved_new_station most w s window start exponent weight false low dead i
+    shelved_new_station most w Agreed s window start exponent weight false low dead i
 
 pub shelved_offloaded : (most : ℕ) (w : World) (s exponent weight : ℕ) → s < w.config.stations →
     is_live w s ≡ false → IsShelved most (shelves w) →
     IsShelved most (shelves (offload_outcome w s exponent weight).world)
 unfolding offload_outcome
 shelved_offloaded most w s exponent weight low dead i =
-    shelved_new_station most w s greatest_window 0 exponent weight true low dead i
+    shelved_new_station most w Plain s greatest_window 0 exponent weight true low dead i
+
+pub shelved_plain : (most : ℕ) (w : World) (s start exponent weight : ℕ) → s < w.config.stations →
+    is_live w s ≡ false → IsShelved most (shelves w) →
+    IsShelved most (shelves (plain_outcome w s start exponent weight).world)
+unfolding plain_outcome
+shelved_plain most w s start exponent weight low dead i =
+    shelved_new_station most w Plain s plain_window start exponent weight false low dead i

@@ -13,17 +13,19 @@ use Rattle.wf_def_lists.specs.Table.{at, put, change}
 use Rattle.wf_def_rotation.specs.Rotation.{Rotation, in_order}
 use Rattle.wf_def_agreement.specs.Session.{Session, End}
 use Rattle.wf_def_agreement.specs.Receiver.{Receiver}
-use Rattle.wf_def_world.specs.World.{World, Station, Share, Tid, Queue, Exchange, Mpdu, Content, Frames, Request, Frame, no_frame, no_tid, no_station, new_queue, queue, is_live, accepted_count, with_station, on_station, on_tid, on_session, on_receiver, with_queues, on_share, on_queue, with_rotation, with_fate, with_frame_finished, with_frames_finished, with_exchange, without_exchange}
+use Rattle.wf_def_world.specs.World.{World, Station, Share, Tid, Queue, Exchange, Mpdu, Content, Frames, Request, Frame, no_frame, no_tid, no_station, new_queue, queue, is_live, accepted_count, with_mode, with_station, on_station, on_tid, on_session, on_receiver, with_queues, on_share, on_queue, with_rotation, with_fate, with_frame_finished, with_frames_finished, with_exchange, without_exchange}
 use Rattle.wf_frame.specs.Classes.{all_classes}
 use Rattle.wf_def_world.specs.CanSend.{with_listing_in, with_listings_in, with_listings_of}
 use Rattle.wf_def_world.specs.FlowQueues.{with_queues_paid}
-use Rattle.wf_def_world.specs.Exchanges.{with_station_paid, with_stations_paid, after_pick, after_tid_turn, without_credit, with_exchange_opened, after_charge, with_failed_finished, with_settled, with_all_settled, after_done, Prepared, caught_up, with_device_caught_up}
-use Rattle.wf_def_world.specs.Step.{Outcome, with_frame, send_outcome, arrive_outcome, answer_outcome, done_outcome, outcome_where_open, reap_outcome, without_listings, with_deficits_lowered, weight_outcome}
+use Rattle.wf_def_world.specs.Exchanges.{with_station_paid, with_stations_paid, after_pick, after_tid_turn, without_credit, with_exchange_opened, after_charge, with_failed_finished, with_settled, with_all_settled, after_done, Prepared, caught_up, caught_up_if_plain}
+use Rattle.wf_def_world.specs.Step.{Outcome, with_frame, send_outcome, arrive_outcome, answer_outcome, done_outcome, outcome_where_open, reap_outcome, without_listings, with_deficits_lowered, weight_outcome, hold_outcome, begin_outcome, free_outcome, cease_outcome, after_numbers_ended}
 use Rattle.wf_def_lists.specs.Lists.{on}
 use Rattle.wf_law_rules.proofs.Lemmas.Counts.{on-nil, on-cons_same, on-cons_other}
 use Rattle.wf_law_runs.proofs.Common.Marks.{marked_world}
 use Rattle.wf_law_runs.proofs.Common.Picked.{picked_world}
 use Rattle.wf_law_runs.proofs.Deficits.Books.{upd, upd_same, upd_other, upd_idle, put_upd}
+use Rattle.wf_law_runs.proofs.Common.Flushes.{if_caught}
+use Rattle.wf_law_runs.proofs.Windows.Sides.{begun_is, ceased_is}
 
 -- Whether a station is live, and how often each of its TIDs lists each queue.
 pub record Spot : Type 0 where
@@ -277,10 +279,10 @@ unfolding with_all_settled
 shelves_all_settled [] w s t ends = refl
 shelves_all_settled (m ∷ ms) w s t ends = shelves_all_settled ms _ s t ends ∙ shelves_settled _ w s t m
 
-pub shelves_caught_up : (w : World) (s t : ℕ) → shelves (with_device_caught_up w s t) ≡ shelves w
-unfolding with_device_caught_up caught_up
-shelves_caught_up w s t = shelves_if _ (shelves w) _ _
-    (shelves_on_receiver _ s t _ ∙ shelves_on_session w s t _) refl
+pub shelves_caught_up : (w : World) (s t : ℕ) → shelves (caught_up_if_plain w s t) ≡ shelves w
+unfolding caught_up
+shelves_caught_up w s t = if_caught (λ v. shelves v ≡ shelves w) w s t refl
+    (λ _. shelves_on_receiver _ s t _ ∙ shelves_on_session w s t _)
 
 shelves_after_done : (content : Content) (w : World) (x : Exchange) (heard : Bool) →
     shelves (after_done w x heard content) ≡ shelves w
@@ -340,3 +342,24 @@ shelves_lowered (c ∷ cs) w s = shelves_lowered cs _ s ∙ shelves_on_share w s
 pub shelves_weighed : (w : World) (s weight : ℕ) → shelves (weight_outcome w s weight).world ≡ shelves w
 unfolding weight_outcome
 shelves_weighed w s weight = shelves_lowered all_classes _ s ∙ shelves_hidden w s _ (λ x. refl)
+
+-- ---- a TID is held or free, and its agreement begins or ends
+
+pub shelves_held : (w : World) (s t : ℕ) → shelves (hold_outcome w s t).world ≡ shelves w
+unfolding hold_outcome with_mode
+shelves_held w s t = shelves_on_tid w s t _ (λ y. refl)
+
+pub shelves_begun : (w : World) (s t window : ℕ) → shelves (begin_outcome w s t window).world ≡ shelves w
+shelves_begun w s t window = ap shelves (begun_is w s t window) ∙ shelves_on_tid w s t _ (λ y. refl)
+
+pub shelves_freed : (w : World) (s t : ℕ) → shelves (free_outcome w s t).world ≡ shelves w
+unfolding free_outcome with_mode
+shelves_freed w s t = shelves_on_tid w s t _ (λ y. refl)
+
+shelves_numbers_ended : (w : World) (s t : ℕ) → shelves (after_numbers_ended w s t) ≡ shelves w
+unfolding after_numbers_ended
+shelves_numbers_ended w s t = shelves_finish_all _ _ _ ∙ shelves_on_session w s t _
+
+pub shelves_ceased : (w : World) (s t : ℕ) → shelves (cease_outcome w s t).world ≡ shelves w
+shelves_ceased w s t = ap shelves (ceased_is w s t) ∙ (shelves_on_tid _ s t _ (λ y. refl)
+    ∙ shelves_numbers_ended w s t)

@@ -5,7 +5,7 @@ use Rattle.std.proofs.lemmas.Bool.{not-false}
 use Rattle.wf_frame.specs.declared.settings.Config.{Config}
 use Rattle.wf_frame.specs.declared.classes.Class.{Class}
 use Rattle.wf_frame.specs.declared.classes.Fate.{Fate}
-use Rattle.wf_frame.specs.declared.notes.Ask.TheVariants.{Join, Leave, Rate, Tick, Pull, Arrive, Answer, Done, Sleep, Wake, Poll, Rx, Reap, Ampdu, Stop, Start, Unsent, GiveUp, Flush, Offload, Weight}
+use Rattle.wf_frame.specs.declared.notes.Ask.TheVariants.{Join, Leave, Rate, Tick, Pull, Arrive, Answer, Done, Sleep, Wake, Poll, Rx, Reap, Ampdu, Stop, Start, Unsent, GiveUp, Flush, Offload, Weight, Plain, Hold, Begin, Free, Cease}
 use Rattle.wf_frame.specs.declared.notes.Limits.{Limits}
 use Rattle.wf_frame.specs.declared.notes.Note.{Note}
 use Rattle.wf_frame.specs.declared.notes.Note.TheVariants.{Enqueue, Asked}
@@ -17,13 +17,14 @@ use Rattle.wf_def_air.specs.Airtime.{Rate as Airtime_rate, IsRate}
 use Rattle.wf_def_codel.specs.Codel.{Item}
 use Rattle.wf_def_rotation.specs.Rotation.{in_order}
 use Rattle.wf_def_agreement.specs.Session.{Session, End, request_due}
+use Rattle.wf_def_agreement.specs.Receiver.{Receiver}
 use Rattle.wf_def_lists.specs.Bounds.{greatest_exponent, greatest_weight, least_ampdu, greatest_ampdu, greatest_window}
-use Rattle.wf_def_world.specs.World.{World, Station, Share, Tid, Exchange, Mpdu, Content, Frames, Request, no_station, station, session, queue, rotation, exchange, with_station, on_station, on_tid, on_session, on_receiver, with_queues, on_share, on_queue, with_rotation, with_fate, with_frame_finished, with_frames_finished, with_exchange, without_exchange, opening}
+use Rattle.wf_def_world.specs.World.{World, Mode, Agreed, Station, Share, Tid, Exchange, Mpdu, Content, Frames, Request, no_station, station, session, queue, rotation, exchange, with_station, on_station, on_tid, on_session, on_receiver, with_queues, on_share, on_queue, with_rotation, with_fate, with_frame_finished, with_frames_finished, with_exchange, without_exchange, with_mode, opening}
 use Rattle.wf_def_world.specs.FlowQueues.{is_at_limit, without_head, after_limit, longest_queue, with_listed_queue, with_appended, after_put_in, with_queues_paid, taken_by_codel, taken_from_picked, taken_for_tid, after_queue_left, after_queues_left, after_queue_flushed, after_queues_flushed}
 use Rattle.wf_def_world.specs.CanSend.{with_listing_in, with_listings_in, with_listings_of, can_give}
-use Rattle.wf_def_world.specs.Exchanges.{picked_station, most_frames, waiting_mpdus, longest_fitting, Aggregate, Prepared, with_station_paid, with_stations_paid, after_pick, after_tid_turn, with_number, with_fresh, aggregate_of, prepared_data, prepared_exchange, without_credit, with_exchange_opened, after_charge, with_failed_finished, with_settled, with_all_settled, after_done, caught_up, with_device_caught_up}
+use Rattle.wf_def_world.specs.Exchanges.{picked_station, most_frames, waiting_mpdus, longest_fitting, Aggregate, Prepared, with_station_paid, with_stations_paid, after_pick, after_tid_turn, with_number, with_fresh, aggregate_of, prepared_data, prepared_exchange, without_credit, with_exchange_opened, after_charge, with_failed_finished, with_settled, with_all_settled, after_done, caught_up, caught_up_if_plain}
 use Rattle.wf_def_world.specs.Refusals.{refusals, refusal, is_within}
-use Rattle.wf_def_world.specs.Step.{Outcome, join_outcome, after_tid_left, after_tids_left, without_listings, leave_outcome, after_tid_flushed, flush_outcome, rate_outcome, ampdu_outcome, tick_outcome, with_frame, enqueue_outcome, send_outcome, pull_outcome_for, pull_outcome, arrive_outcome, answer_outcome, unsent_outcome, give_up_outcome, done_outcome, outcome_where_open, sleep_outcome, wake_outcome, poll_outcome, rx_outcome, reap_outcome, concerned_station, outcome_of, after_refusal, judged_outcome, step, offload_outcome, weight_outcome, with_deficits_lowered, new_station}
+use Rattle.wf_def_world.specs.Step.{Outcome, join_outcome, after_tid_left, after_tids_left, without_listings, leave_outcome, after_tid_flushed, flush_outcome, rate_outcome, ampdu_outcome, tick_outcome, with_frame, enqueue_outcome, send_outcome, pull_outcome_for, pull_outcome, arrive_outcome, answer_outcome, unsent_outcome, give_up_outcome, done_outcome, outcome_where_open, sleep_outcome, wake_outcome, poll_outcome, rx_outcome, reap_outcome, concerned_station, outcome_of, after_refusal, judged_outcome, step, offload_outcome, weight_outcome, with_deficits_lowered, new_station, plain_window, plain_outcome, with_window, after_numbers_ended, hold_outcome, begin_outcome, free_outcome, cease_outcome}
 use Rattle.wf_def_world.specs.Run.{Entry, world_after}
 use Rattle.wf_law_rules.proofs.Lemmas.Numbers.{both, le_yes, lt_no}
 use Rattle.wf_law_rules.proofs.Lemmas.Tables.{each_put}
@@ -243,14 +244,24 @@ kept_all_settled [] w s t ends h = h
 kept_all_settled (m ∷ ms) w s t ends h = kept_all_settled ms _ s t ends
     (kept_settled (ends m.number) w s t m h)
 
-kept_caught_up : (w : World) (s t : ℕ) → Traits w → Traits (with_device_caught_up w s t)
-unfolding with_device_caught_up caught_up on_receiver
-kept_caught_up w s t h = kept_if _ _ w (kept_tid _ s t _ (kept_session w s t _ h)) h
+-- A change of a receiver, and a TID that catches up, change none of these values.
+kept_receiver : (w : World) (s t : ℕ) (f : Receiver → Receiver) → Traits w → Traits (on_receiver w s t f)
+unfolding on_receiver
+kept_receiver w s t f h = kept_tid w s t _ h
+
+kept_caught_up : (w : World) (s t : ℕ) → Traits w → Traits (caught_up w s t)
+unfolding caught_up
+kept_caught_up w s t h = kept_receiver _ s t _ (kept_session w s t _ h)
+
+kept_caught_up_if_plain : (w : World) (s t : ℕ) → Traits w → Traits (caught_up_if_plain w s t)
+unfolding caught_up_if_plain
+kept_caught_up_if_plain w s t h = kept_if _ w _ h (kept_caught_up w s t h)
 
 kept_after_done : (content : Content) (w : World) (x : Exchange) (heard : Bool) → Traits w →
     Traits (after_done w x heard content)
 unfolding after_done
-kept_after_done (Frames mpdus) w x heard h = kept_caught_up _ _ _ (kept_all_settled mpdus w _ _ _ h)
+kept_after_done (Frames mpdus) w x heard h =
+    kept_caught_up_if_plain _ _ _ (kept_all_settled mpdus w _ _ _ h)
 kept_after_done (Request start) w x heard h = kept_session w _ _ _ h
 
 kept_ended : (air : Option ℕ) (w : World) (x : Exchange) (heard : Bool) → Traits w →
@@ -285,6 +296,34 @@ unfolding reap_outcome
 kept_reaped [] w h = h
 kept_reaped (id ∷ ids) w h = h
 
+-- ---- agreements that begin and end
+
+-- Nor does a mode or a window, so nor do the calls of modes.
+kept_with_mode : (w : World) (s t : ℕ) (mode : Mode) → Traits w → Traits (with_mode w s t mode)
+unfolding with_mode
+kept_with_mode w s t mode h = kept_tid w s t _ h
+
+kept_with_window : (w : World) (s t size : ℕ) → Traits w → Traits (with_window w s t size)
+unfolding with_window
+kept_with_window w s t size h = kept_receiver _ s t _ (kept_session w s t _ h)
+
+kept_held : (w : World) (s t : ℕ) → Traits w → Traits (hold_outcome w s t).world
+unfolding hold_outcome
+kept_held w s t h = kept_with_mode w s t _ h
+
+kept_begun : (w : World) (s t window : ℕ) → Traits w → Traits (begin_outcome w s t window).world
+unfolding begin_outcome
+kept_begun w s t window h = kept_with_mode _ s t _ (kept_with_window _ s t window (kept_caught_up w s t h))
+
+kept_freed : (w : World) (s t : ℕ) → Traits w → Traits (free_outcome w s t).world
+unfolding free_outcome
+kept_freed w s t h = kept_with_mode w s t _ h
+
+kept_ceased : (w : World) (s t : ℕ) → Traits w → Traits (cease_outcome w s t).world
+unfolding cease_outcome after_numbers_ended
+kept_ceased w s t h = kept_with_mode _ s t _ (kept_with_window _ s t _
+    (kept_caught_up _ s t (kept_finish_all _ _ _ (kept_session w s t _ h))))
+
 -- ---- stations that join and leave
 
 kept_left_tids : (ts : List ℕ) (w : World) (s : ℕ) → Traits w → Traits (after_tids_left w s ts)
@@ -305,7 +344,7 @@ kept_flush_queues (q ∷ qs) w h = kept_flush_queues qs _ (kept_finish_all _ _ _
 
 kept_flushed : (w : World) (s t : ℕ) → Traits w → Traits (flush_outcome w s t).world
 unfolding flush_outcome after_tid_flushed
-kept_flushed w s t h = kept_caught_up _ s t
+kept_flushed w s t h = kept_caught_up_if_plain _ s t
     (kept_flush_queues _ _ (kept_finish_all _ _ _ (kept_session w s t _ h)))
 
 kept_gone : (w : World) (s : ℕ) → Traits w → Traits (leave_outcome w s).world
@@ -317,10 +356,10 @@ in_weights weight some =
     let range = both (nat_le 1 weight) (nat_le weight 16) (not-false _ some) in
     (le_yes 1 weight range.0, le_yes weight 16 range.1)
 
-kept_new_station : (w : World) (s window start exponent weight : ℕ) (offloaded : Bool) →
+kept_new_station : (w : World) (s : ℕ) (mode : Mode) (window start exponent weight : ℕ) (offloaded : Bool) →
     nat_lt greatest_exponent exponent ≡ false → not (is_within 1 greatest_weight weight) ≡ false → Traits w →
-    Traits (with_station w s (Some (new_station w.config window start exponent weight offloaded)))
-kept_new_station w s window start exponent weight offloaded short some h =
+    Traits (with_station w s (Some (new_station w.config mode window start exponent weight offloaded)))
+kept_new_station w s mode window start exponent weight offloaded short some h =
     put_station w s _ (record {
       weight = in_weights weight some;
       rate = refl;
@@ -334,14 +373,21 @@ kept_joined : (w : World) (s window start exponent weight : ℕ) → nat_lt grea
     Traits (join_outcome w s window start exponent weight).world
 unfolding join_outcome
 kept_joined w s window start exponent weight short some h =
-    kept_new_station w s window start exponent weight false short some h
+    kept_new_station w s Agreed window start exponent weight false short some h
 
 kept_offloaded : (w : World) (s exponent weight : ℕ) → nat_lt greatest_exponent exponent ≡ false →
     not (is_within 1 greatest_weight weight) ≡ false → Traits w →
     Traits (offload_outcome w s exponent weight).world
 unfolding offload_outcome
 kept_offloaded w s exponent weight short some h =
-    kept_new_station w s greatest_window 0 exponent weight true short some h
+    kept_new_station w s Mode.Plain greatest_window 0 exponent weight true short some h
+
+kept_joined_plain : (w : World) (s start exponent weight : ℕ) → nat_lt greatest_exponent exponent ≡ false →
+    not (is_within 1 greatest_weight weight) ≡ false → Traits w →
+    Traits (plain_outcome w s start exponent weight).world
+unfolding plain_outcome
+kept_joined_plain w s start exponent weight short some h =
+    kept_new_station w s Mode.Plain plain_window start exponent weight false short some h
 
 kept_lowered : (cs : List Class) (w : World) (s : ℕ) → Traits w → Traits (with_deficits_lowered w s cs)
 unfolding with_deficits_lowered
@@ -397,6 +443,8 @@ kept_done (Enqueue s t flow len) w e h = kept_enqueued w s t flow len h
 kept_done (Asked (Join s window start exponent weight)) w e h =
     kept_joined w s window start exponent weight e.1.1.1.0 e.1.1.1.1.0 h
 kept_done (Asked (Offload s exponent weight)) w e h = kept_offloaded w s exponent weight e.1.0 e.1.1.0 h
+kept_done (Asked (Plain s start exponent weight)) w e h =
+    kept_joined_plain w s start exponent weight e.1.1.0 e.1.1.1.0 h
 kept_done (Asked (Weight s weight)) w e h = kept_weighed w s weight e.1.0 h
 kept_done (Asked (Leave s)) w e h = kept_gone w s h
 kept_done (Asked (Rate s rate)) w e h =
@@ -413,6 +461,10 @@ kept_done (Asked (Arrive x n)) w e h = kept_open (exchange w x) w _ (λ y. kept_
 kept_done (Asked (Unsent x n)) w e h = kept_open (exchange w x) w _ (λ y. kept_unsent w y n h) h
 kept_done (Asked (GiveUp x n)) w e h = kept_open (exchange w x) w _ (λ y. kept_given_up w y n h) h
 kept_done (Asked (Flush s t)) w e h = kept_flushed w s t h
+kept_done (Asked (Hold s t)) w e h = kept_held w s t h
+kept_done (Asked (Begin s t window)) w e h = kept_begun w s t window h
+kept_done (Asked (Free s t)) w e h = kept_freed w s t h
+kept_done (Asked (Cease s t)) w e h = kept_ceased w s t h
 kept_done (Asked (Answer x)) w e h = kept_open (exchange w x) w _ (λ y. kept_answered w y h) h
 kept_done (Asked (Done x heard air)) w e h = kept_open (exchange w x) w _ (λ y. kept_ended air w y heard h) h
 kept_done (Asked (Sleep s)) w e h = set_station w s _

@@ -11,7 +11,7 @@ use Rattle.wf_def_world.specs.Step.{step}
 use Rattle.wf_def_world.specs.Run.{Entry, world_after}
 use Rattle.wf_law_rules.proofs.Lemmas.Numbers.{on_if, eq_yes, yes_lt, yes_eq, either, or_left, or_right}
 use Rattle.wf_frame.specs.declared.notes.ReplyNote.{ReplyNote}
-use Rattle.wf_frame.specs.declared.notes.ReplyNote.TheVariants.{Joined, Released}
+use Rattle.wf_frame.specs.declared.notes.ReplyNote.TheVariants.{Joined, Released, Ceased}
 use Rattle.wf_def_world.specs.Exchanges.{ids_of}
 use Rattle.wf_law_runs.proofs.Windows.Agreed.{lawful}
 use Rattle.wf_law_runs.proofs.Releases.Released.{passed_all, rising_passed}
@@ -21,7 +21,7 @@ use Rattle.wf_law_runs.proofs.Releases.Once.{placed}
 use Rattle.wf_frame.specs.Settings.{IsInRange}
 use Rattle.wf_law_runs.proofs.Frames.Owners.{IsOwned}
 use Rattle.wf_law_runs.proofs.Frames.Places.{standing}
-use Rattle.wf_law_runs.specs.Releases.{PassesInOrder, is_join_of, is_arrival_for, passed_by, passed_from, passed, named_by, named_from, numbers_passed, ReleaseLaw}
+use Rattle.wf_law_runs.specs.Releases.{PassesInOrder, is_join_of, is_arrival_for, is_cease_of, passed_by, passed_from, passed, named_by, named_from, numbers_passed, ReleaseLaw}
 
 -- Every number of l is in m.
 record Within (l m : List ℕ) : Type 0 where
@@ -50,6 +50,9 @@ passed_named Joined w s t note l m h = on_if (λ (k : List ℕ). Within k (m ++ 
     (λ _. within_nothing _) (λ _. within_front l m [] h)
 passed_named (Released ids) w s t note l m h =
     on_if (λ (k : List ℕ). Within k (m ++ ids)) (is_arrival_for w s t note) (l ++ ids) l
+    (λ _. within_both l m ids h) (λ _. within_front l m ids h)
+passed_named (Ceased dropped ids) w s t note l m h =
+    on_if (λ (k : List ℕ). Within k (m ++ ids)) (is_cease_of s t note) (l ++ ids) l
     (λ _. within_both l m ids h) (λ _. within_front l m ids h)
 passed_named _ w s t note l m h = within_front l m [] h
 

@@ -1,16 +1,16 @@
 -- Proves that each frame has one place in every run, and is released at most once. Each call keeps the
 -- places, because each elementary change keeps them (Steps).
-use Rattle.std.proofs.Common.{◌≡◌, ℕ, List, [], ◌∷◌, ◌++◌, Option, IfSome}
+use Rattle.std.proofs.Common.{◌≡◌, ℕ, Bool, List, [], ◌∷◌, ◌++◌, Option, IfSome, true}
 use Rattle.wf_frame.specs.declared.settings.Config.{Config}
 use Rattle.wf_frame.specs.declared.notes.Note.{Note}
 use Rattle.wf_frame.specs.declared.notes.Note.TheVariants.{Enqueue}
 use Rattle.wf_def_codel.specs.Codel.{Item}
 use Rattle.wf_def_agreement.specs.Receiver.{Receiver, released_between}
 use Rattle.wf_def_agreement.specs.Session.{End}
-use Rattle.wf_def_world.specs.World.{World, Mpdu, receiver, session, without_exchange, opening}
-use Rattle.wf_def_world.specs.Exchanges.{Aggregate, ids_of, aggregate_of, prepared_data, with_number, with_settled, with_device_caught_up}
+use Rattle.wf_def_world.specs.World.{World, Mpdu, is_live, receiver, session, without_exchange, opening}
+use Rattle.wf_def_world.specs.Exchanges.{Aggregate, ids_of, aggregate_of, prepared_data, with_number, with_settled, caught_up_if_plain}
 use Rattle.wf_def_world.specs.Refusals.{refusals}
-use Rattle.wf_def_world.specs.Step.{enqueue_outcome, join_outcome, offload_outcome, leave_outcome, step}
+use Rattle.wf_def_world.specs.Step.{enqueue_outcome, join_outcome, offload_outcome, plain_outcome, begin_outcome, cease_outcome, leave_outcome, step}
 use Rattle.wf_def_world.specs.Run.{Entry, world_after}
 use Rattle.wf_law_runs.specs.Releases.{named_by, named_from, OnceLaw}
 use Rattle.wf_law_runs.proofs.Windows.Sides.{side, Same}
@@ -18,18 +18,19 @@ use Rattle.wf_law_runs.proofs.Windows.Opened.{NoRow}
 use Rattle.wf_law_runs.proofs.Windows.Agreed.{AgreedAt, IsLawful, IsReady, IsEnding, lawful_step, lawful_at_first}
 use Rattle.wf_law_runs.proofs.Frames.Fewer.{Less, IsTaken}
 use Rattle.wf_law_runs.proofs.Releases.Placed.{Placing, Any, Grows, placed_less, placed_session, placed_give, passes_more, passes_silent, placed_station, placed_enqueued, placed_at_first}
-use Rattle.wf_law_runs.proofs.Releases.Steps.{through_number, through_filled, through_frames, through_settled, through_without, through_joined, through_offloaded, through_device, through_gone, through_step}
+use Rattle.wf_law_runs.proofs.Releases.Released.{ceased_ids}
+use Rattle.wf_law_runs.proofs.Releases.Steps.{through_number, through_filled, through_frames, through_settled, through_without, through_joined, through_offloaded, through_unagreed, through_begun, through_ceased, through_caught_up, through_gone, through_step}
 
 -- The changes need nothing of the world before them.
 Always : World → Type 0
 Always w = Unit {0}
 
-passes_always : (l : List ℕ) (w v : World) (s t : ℕ) (q : Receiver) → Always w → Less Any w v →
+passes_always : (l : List ℕ) (w v : World) (s t : ℕ) (q : Receiver) (b : Bool) → Always w → Less Any w v →
     ((i j : ℕ) → (i ≡ s → j ≡ t → ⊥) → side v i j ≡ side w i j) →
-    side v s t ≡ record { session = session w s t; receiver = q } →
+    side v s t ≡ record { session = session w s t; receiver = q; agreed = b } →
     Grows (session w s t) (receiver w s t) q → Placing l w →
     Placing (l ++ ids_of (session w s t) (released_between (receiver w s t) q)) v
-passes_always l w v s t q _ h apart own g p = passes_more l w v s t q h apart own g p
+passes_always l w v s t q b _ h apart own g p = passes_more l w v s t q b h apart own g p
 
 enqueued_always : (l : List ℕ) (w : World) (s t flow len : ℕ) → Always w →
     NoRow (refusals w (Enqueue s t flow len)) → Placing l w → Placing l (enqueue_outcome w s t flow len).world
@@ -70,9 +71,25 @@ pub placed_offloaded : (l : List ℕ) (w : World) (s exponent weight : ℕ) → 
 placed_offloaded = through_offloaded Placing Always placed_less placed_session placed_give passes_always
     passes_silent placed_station enqueued_always
 
-pub placed_device : (l : List ℕ) (w : World) (s t : ℕ) → AgreedAt (side w s t) → Placing l w →
-    Placing l (with_device_caught_up w s t)
-placed_device = through_device Placing Always placed_less placed_session placed_give passes_always
+pub placed_unagreed : (l : List ℕ) (w : World) (s start exponent weight : ℕ) → Placing l w →
+    Placing l (plain_outcome w s start exponent weight).world
+placed_unagreed = through_unagreed Placing Always placed_less placed_session placed_give passes_always
+    passes_silent placed_station enqueued_always
+
+pub placed_begun : (l : List ℕ) (w : World) (s t window : ℕ) → is_live w s ≡ true → IsLawful w →
+    Placing l w → Placing l (begin_outcome w s t window).world
+placed_begun = through_begun Placing Always placed_less placed_session placed_give passes_always
+    passes_silent placed_station enqueued_always
+
+pub placed_ceased : (l : List ℕ) (w : World) (s t : ℕ) → is_live w s ≡ true → IsLawful w → Placing l w →
+    Placing (l ++ ceased_ids w s t) (cease_outcome w s t).world
+unfolding Always
+placed_ceased l w s t live i p = through_ceased Placing Always placed_less placed_session placed_give
+    passes_always passes_silent placed_station enqueued_always l w s t live i tt p
+
+pub placed_caught_up : (l : List ℕ) (w : World) (s t : ℕ) → AgreedAt (side w s t) → Placing l w →
+    Placing l (caught_up_if_plain w s t)
+placed_caught_up = through_caught_up Placing Always placed_less placed_session placed_give passes_always
     passes_silent placed_station enqueued_always
 
 pub placed_gone : (l : List ℕ) (w : World) (s : ℕ) → Placing l w → Placing l (leave_outcome w s).world

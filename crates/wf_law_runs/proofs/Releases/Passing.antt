@@ -31,7 +31,7 @@ filter_none p (x ∷ xs) h = filter_no p x xs (h x (head_has x xs))
 no_lt : (a b : ℕ) → b ≤ a → nat_lt a b ≡ false
 no_lt a b h = on_bool (nat_lt a b) (λ e. absurd (omega (arith, lt_yes a b e, h))) (λ e. e)
 
-no_le : (a b : ℕ) → b < a → nat_le a b ≡ false
+pub no_le : (a b : ℕ) → b < a → nat_le a b ≡ false
 no_le a b h = on_bool (nat_le a b) (λ e. absurd (omega (arith, le_yes a b e, h))) (λ e. e)
 
 pub filter_split : (xs : List ℕ) (lo b c : ℕ) → b ≤ c → Climbs lo xs →

@@ -5,15 +5,16 @@ use Rattle.wf_frame.specs.declared.settings.Config.{Config}
 use Rattle.wf_frame.specs.declared.classes.Class.{Class}
 use Rattle.wf_def_lists.specs.Table.{at, has}
 use Rattle.wf_def_codel.specs.Codel.{Item}
-use Rattle.wf_def_agreement.specs.Receiver.{Receiver, with_arrived, with_start, release_start, greatest, released_between}
+use Rattle.wf_def_agreement.specs.Receiver.{Receiver, Score, score, with_arrived, with_start, release_start, greatest, released_between}
 use Rattle.wf_def_agreement.specs.Session.{Session, Slot, slot, with_number_given, next_number, no_slot}
-use Rattle.wf_def_world.specs.World.{receiver, World, Station, Tid, Frame, no_frame, Exchange, Content, Frames, Request, new_tid, session, exchange, with_station, on_tid, on_session, on_receiver, on_queue, with_exchange, opening, new_queue, queue, accepted_count}
+use Rattle.wf_def_world.specs.World.{receiver, World, Station, Tid, Frame, no_frame, Exchange, Content, Frames, Request, new_tid, is_wide, session, exchange, with_station, on_tid, on_session, on_receiver, on_queue, with_exchange, opening, new_queue, queue, accepted_count, Mode}
 use Rattle.wf_def_world.specs.FlowQueues.{after_limit, with_appended, after_put_in, queue_for}
 use Rattle.wf_def_world.specs.Exchanges.{transmissions, no_mpdu, picked_station, after_arrival, with_heard_start, mpdus_of, ids_of}
-use Rattle.wf_frame.specs.declared.notes.Ask.TheVariants.{Join, Leave, Rate, Tick, Pull, Arrive, Answer, Done, Sleep, Wake, Poll, Rx, Reap, Ampdu, Stop, Start, Unsent, GiveUp, Flush, Offload, Weight}
+use Rattle.wf_frame.specs.declared.notes.Ask.TheVariants.{Join, Leave, Rate, Tick, Pull, Arrive, Answer, Done, Sleep, Wake, Poll, Rx, Reap, Ampdu, Stop, Start, Unsent, GiveUp, Flush, Offload, Weight, Hold, Begin, Free, Cease}
+use Rattle.wf_frame.specs.declared.notes.Ask.TheVariants as call
 use Rattle.wf_frame.specs.declared.notes.Note.{Note}
 use Rattle.wf_frame.specs.declared.notes.Note.TheVariants.{Enqueue, Asked}
-use Rattle.wf_def_world.specs.Step.{offload_outcome, weight_outcome, Outcome, join_outcome, after_tid_left, after_tids_left, without_listings, leave_outcome, rate_outcome, tick_outcome, with_frame, enqueue_outcome, send_outcome, pull_outcome_for, pull_outcome, answer_outcome, unsent_outcome, give_up_outcome, flush_outcome, done_outcome, outcome_where_open, sleep_outcome, wake_outcome, poll_outcome, rx_outcome, reap_outcome, outcome_of}
+use Rattle.wf_def_world.specs.Step.{offload_outcome, weight_outcome, Outcome, join_outcome, after_tid_left, after_tids_left, without_listings, leave_outcome, rate_outcome, tick_outcome, with_frame, enqueue_outcome, send_outcome, pull_outcome_for, pull_outcome, answer_reply, answer_outcome, unsent_outcome, give_up_outcome, flush_outcome, done_outcome, outcome_where_open, sleep_outcome, wake_outcome, poll_outcome, rx_outcome, reap_outcome, outcome_of, plain_outcome, hold_outcome, begin_outcome, free_outcome}
 use Rattle.wf_law_rules.proofs.Lemmas.Joined.{has_append, once_append}
 use Rattle.wf_law_rules.proofs.Lemmas.Tables.{each_put}
 use Rattle.wf_law_runs.proofs.Sessions.Starts.{at_append}
@@ -267,11 +268,12 @@ pub record Grows (y : Session) (r q : Receiver) : Type 0 where
   pub rises : release_start r ≤ release_start q
 
 -- The receiver becomes q, and no id is released.
-pub passes_silent : (l : List ℕ) (w v : World) (s t : ℕ) (q : Receiver) → Less Any w v →
+pub passes_silent : (l : List ℕ) (w v : World) (s t : ℕ) (q : Receiver) (b : Bool) → Less Any w v →
     ((i j : ℕ) → (i ≡ s → j ≡ t → ⊥) → side v i j ≡ side w i j) →
-    side v s t ≡ record { session = session w s t; receiver = q } → Grows (session w s t) (receiver w s t) q →
+    side v s t ≡ record { session = session w s t; receiver = q; agreed = b } → Grows (session w s t)
+    (receiver w s t) q →
     Placing l w → Placing l v
-passes_silent l w v s t q h apart own g p =
+passes_silent l w v s t q agreed h apart own g p =
     let y : Session = session w s t in
     record {
       home = p.home;
@@ -303,12 +305,13 @@ passes_silent l w v s t q h apart own g p =
       once = p.once;
     }
 
-pub passes_more : (l : List ℕ) (w v : World) (s t : ℕ) (q : Receiver) → Less Any w v →
+pub passes_more : (l : List ℕ) (w v : World) (s t : ℕ) (q : Receiver) (b : Bool) → Less Any w v →
     ((i j : ℕ) → (i ≡ s → j ≡ t → ⊥) → side v i j ≡ side w i j) →
-    side v s t ≡ record { session = session w s t; receiver = q } → Grows (session w s t) (receiver w s t) q →
+    side v s t ≡ record { session = session w s t; receiver = q; agreed = b } → Grows (session w s t)
+    (receiver w s t) q →
     Placing l w
     → Placing (l ++ ids_of (session w s t) (released_between (receiver w s t) q)) v
-passes_more l w v s t q h apart own g p =
+passes_more l w v s t q agreed h apart own g p =
     let y : Session = session w s t in
     let r : Receiver = receiver w s t in
     let ns : List ℕ = released_between r q in
@@ -378,7 +381,7 @@ passes_more l w v s t q h apart own g p =
           subst (λ (a : ℕ). Labels p.home (l ++ ids_of y ns) (accepted_count v) a j (side v a j)) es
           (subst (λ (c : ℕ). Labels p.home (l ++ ids_of y ns) (accepted_count v) s c (side v s c)) et
           (subst (Labels p.home (l ++ ids_of y ns) (accepted_count v) s t) (sym own)
-          (labels s t (record { session = y; receiver = q }) refl
+          (labels s t (record { session = y; receiver = q; agreed = agreed }) refl
           (λ n d. elim d [ inl old ↦ omega (arith, old, g.rises) | inr new ↦ (among n new.2).3 ])))))
           (λ other.
           let not_here : i ≡ s → j ≡ t → ⊥ = λ es et. cc
@@ -469,8 +472,8 @@ placed_station l w i o bare p =
       once = p.once;
     }
 
-pub new_bare : (first size : ℕ) → IsBare (side_of (new_tid first size))
-new_bare first size = omega arith
+pub new_bare : (mode : Mode) (first size : ℕ) → IsBare (side_of (new_tid mode first size))
+new_bare mode first size = omega arith
 
 pub less_left_tids : (ts : List ℕ) (w : World) (s : ℕ) → Less Any w (after_tids_left w s ts)
 unfolding after_tids_left after_tid_left
@@ -652,20 +655,28 @@ unfolding reap_outcome
 named_reaped [] w = refl
 named_reaped (id ∷ ids) w = refl
 
--- The reply to a call that is not an arrival releases no id.
+-- An Ack and a BlockAck release no id.
+named_answered : (plain : Bool) (b : Score) (wide : Bool) → named_by (answer_reply plain b wide) ≡ []
+named_answered true b wide = refl
+named_answered false b wide = refl
+
+-- The reply to a call releases no id, unless it is an arrival or ends an agreement.
 pub named_done : (note : Note) (w : World) → (named_by (outcome_of w note).reply ≡ []) ⊎
-    ((e : ℕ) × (n : ℕ) × (note ≡ Asked (Arrive e n)))
+    (((e : ℕ) × (n : ℕ) × (note ≡ Asked (Arrive e n))) ⊎
+    ((s : ℕ) × (t : ℕ) × (note ≡ Asked (Cease s t))))
 unfolding outcome_of enqueue_outcome join_outcome offload_outcome weight_outcome leave_outcome
     rate_outcome tick_outcome pull_outcome answer_outcome unsent_outcome give_up_outcome flush_outcome
-    done_outcome sleep_outcome wake_outcome poll_outcome rx_outcome
+    done_outcome sleep_outcome wake_outcome poll_outcome rx_outcome plain_outcome hold_outcome begin_outcome
+    free_outcome
 named_done (Enqueue s t flow len) w = inl refl
 named_done (Asked (Join s window start exponent weight)) w = inl refl
 named_done (Asked (Leave s)) w = inl refl
 named_done (Asked (Rate s rate)) w = inl refl
 named_done (Asked (Tick by)) w = inl refl
 named_done (Asked (Pull c l)) w = inl (named_pulled_by (picked_station w c).winner (picked_world w c l) c)
-named_done (Asked (Arrive e n)) w = inr (e, n, refl)
-named_done (Asked (Answer e)) w = inl (named_open (exchange w e) w _ (λ x. refl))
+named_done (Asked (Arrive e n)) w = inr (inl (e, n, refl))
+named_done (Asked (Answer e)) w = inl (named_open (exchange w e) w _ (λ x. named_answered x.plain
+    (score (receiver w x.station x.tid)) (is_wide w x.station x.tid)))
 named_done (Asked (Done e heard air)) w = inl (named_open (exchange w e) w _ (λ x. refl))
 named_done (Asked (Sleep s)) w = inl refl
 named_done (Asked (Ampdu s octets)) w = inl refl
@@ -680,6 +691,11 @@ named_done (Asked (GiveUp e n)) w = inl (named_open (exchange w e) w _ (λ x. re
 named_done (Asked (Flush s t)) w = inl refl
 named_done (Asked (Offload s exponent weight)) w = inl refl
 named_done (Asked (Weight s weight)) w = inl refl
+named_done (Asked (call.Plain s start exponent weight)) w = inl refl
+named_done (Asked (Hold s t)) w = inl refl
+named_done (Asked (Begin s t window)) w = inl refl
+named_done (Asked (Free s t)) w = inl refl
+named_done (Asked (Cease s t)) w = inr (inr (s, t, refl))
 
 pub placed_at_first : (config : Config) → Placing [] (opening config)
 placed_at_first config = record {

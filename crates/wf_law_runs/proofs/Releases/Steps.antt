@@ -1,7 +1,7 @@
 -- Proves that a relation of the released ids and a world holds after each call, if each elementary change
 -- keeps it: frames leave the queues, a session keeps its numbers, a number is given, numbers are released,
 -- a station joins or leaves, and a frame is enqueued.
-use Rattle.std.proofs.Common.{◌≡◌, refl, ap, sym, ◌∙◌, subst, arith, ℕ, zero, suc, ◌+◌, ◌-◌, ◌<◌, append-nil, Bool, true, false, if◌then◌else◌, not, ◌==◌, inl, inr, List, [], ◌∷◌, ◌++◌, length, nat_le, Option, Some, None, IfSome}
+use Rattle.std.proofs.Common.{◌≡◌, refl, ap, sym, ◌∙◌, subst, arith, ℕ, zero, suc, ◌+◌, ◌-◌, ◌<◌, append-nil, Bool, true, false, if◌then◌else◌, not, ◌==◌, inl, inr, List, [], ◌∷◌, ◌++◌, length, nat_le, Option, Some, None, IfSome, ◌&&◌}
 use Rattle.wf_frame.specs.declared.classes.Class.{Class}
 use Rattle.wf_frame.specs.declared.classes.Fate.{Fate}
 use Rattle.wf_def_lists.specs.Table.{with_member, upto}
@@ -9,36 +9,94 @@ use Rattle.wf_def_codel.specs.Codel.{Item}
 use Rattle.wf_def_lists.specs.Bounds.{greatest_window}
 use Rattle.wf_def_agreement.specs.Receiver.{Receiver, with_start, released_between}
 use Rattle.wf_def_agreement.specs.Session.{End, start_of, request_due, Session, Slot, State, is_settled, is_failed, slot, on_slot, with_number_given, after_flush, next_number}
-use Rattle.wf_def_world.specs.World.{receiver, World, Station, Tid, is_offloaded, on_tid, Exchange, Mpdu, Content, Frames, Request, new_tid, queue, rotation, session, is_live, exchange, with_station, on_station, on_session, on_receiver, with_frame_finished, with_exchange, without_exchange}
+use Rattle.wf_def_world.specs.World.{receiver, World, Station, Tid, on_tid, Exchange, Mpdu, Content, Frames, Request, new_tid, queue, rotation, session, is_live, exchange, with_station, on_station, on_session, on_receiver, with_frame_finished, with_exchange, without_exchange, Mode, Plain, OnHold, Agreed, is_agreed, is_held_back, has_agreement, tid_of}
 use Rattle.wf_frame.specs.Classes.{all_classes}
 use Rattle.wf_def_world.specs.FlowQueues.{taken_for_tid}
 use Rattle.wf_def_world.specs.CanSend.{is_ready, can_give}
-use Rattle.wf_def_world.specs.Exchanges.{caught_up, with_device_caught_up, end_of, transmissions, station_need, most_frames, picked_station, after_arrival, sending_tid, with_heard_start, Prepared, after_tid_turn, with_fresh, aggregate_of, with_number, with_flying, waiting_mpdus, longest_fitting, prepared_data, prepared_exchange, with_exchange_opened, after_charge, with_failed_finished, with_settled, with_all_settled, after_done, ids_of, Aggregate}
-use Rattle.wf_frame.specs.declared.notes.Ask.TheVariants.{Join, Leave, Rate, Tick, Pull, Arrive, Answer, Done, Sleep, Wake, Poll, Rx, Reap, Ampdu, Stop, Start, Unsent, GiveUp, Flush, Offload, Weight}
+use Rattle.wf_def_world.specs.Exchanges.{caught_up, caught_up_if_plain, end_of, transmissions, station_need, most_frames, picked_station, after_arrival, sending_tid, with_heard_start, Prepared, after_tid_turn, with_fresh, aggregate_of, with_number, with_flying, waiting_mpdus, longest_fitting, prepared_data, prepared_exchange, with_exchange_opened, after_charge, with_failed_finished, with_settled, with_all_settled, after_done, ids_of, Aggregate}
+use Rattle.wf_frame.specs.declared.notes.Ask.TheVariants.{Join, Leave, Rate, Tick, Pull, Arrive, Answer, Done, Sleep, Wake, Poll, Rx, Reap, Ampdu, Stop, Start, Unsent, GiveUp, Flush, Offload, Weight, Hold, Begin, Free, Cease}
+use Rattle.wf_frame.specs.declared.notes.Ask.TheVariants as call
 use Rattle.wf_frame.specs.declared.notes.Limits.{Limits}
 use Rattle.wf_frame.specs.declared.notes.Note.{Note}
 use Rattle.wf_frame.specs.declared.notes.Note.TheVariants.{Enqueue, Asked}
 use Rattle.wf_frame.specs.declared.notes.Refusal.{Refusal}
 use Rattle.wf_frame.specs.declared.notes.Refusal.TheVariants.{Idle}
 use Rattle.wf_def_world.specs.Refusals.{refusals, refusal}
-use Rattle.wf_def_world.specs.Step.{Outcome, new_station, offload_outcome, weight_outcome, join_outcome, leave_outcome, rate_outcome, tick_outcome, enqueue_outcome, send_outcome, pull_outcome_for, pull_outcome, arrive_outcome, answer_outcome, done_outcome, outcome_where_open, sleep_outcome, wake_outcome, poll_outcome, rx_outcome, reap_outcome, unsent_outcome, give_up_outcome, flush_outcome, outcome_of, after_refusal, judged_outcome, step, concerned_station}
-use Rattle.wf_law_rules.proofs.Lemmas.Numbers.{on_if}
+use Rattle.wf_def_world.specs.Step.{Outcome, new_station, offload_outcome, weight_outcome, join_outcome, leave_outcome, rate_outcome, tick_outcome, enqueue_outcome, send_outcome, pull_outcome_for, pull_outcome, arrive_outcome, answer_outcome, done_outcome, outcome_where_open, sleep_outcome, wake_outcome, poll_outcome, rx_outcome, reap_outcome, unsent_outcome, give_up_outcome, flush_outcome, outcome_of, after_refusal, judged_outcome, step, concerned_station, plain_outcome, plain_window, begin_outcome, cease_outcome, after_numbers_ended}
+use Rattle.wf_law_rules.proofs.Lemmas.Numbers.{on_if, on_bool, both, eq_yes, yes_eq, and_true}
 use Rattle.wf_law_runs.proofs.Common.Refused.{after_idle}
 use Rattle.wf_law_runs.proofs.Common.Marks.{marked_world}
 use Rattle.wf_law_runs.proofs.Common.Ends.{slot_after_end, end_id, on_settled}
 use Rattle.wf_law_runs.proofs.Common.Flushes.{next-flush, emptied_world, flush_is, if_emptied, if_caught}
 use Rattle.wf_law_runs.proofs.Sessions.Starts.{length-change}
 use Rattle.wf_law_runs.proofs.Sessions.Flights.{flown}
-use Rattle.wf_law_runs.proofs.Windows.Sides.{sided, Side, each_side_on, side_on, same_weighed, side_of, side, sides_of, Same, then_same, same_on_station, same_on_share, same_on_queue, same_finish, same_listed, same_after_pick, same_after_turn, same_spent, same_take, same_charged, same_picked}
+use Rattle.wf_law_runs.proofs.Windows.Sides.{sided, Side, side_on, same_weighed, side_of, side, sides_of, Same, then_same, same_on_station, same_on_share, same_on_queue, same_finish, same_listed, same_after_pick, same_after_turn, same_spent, same_take, same_charged, same_picked, same_held, same_freed, dead_sides, side_elsewhere, on_elsewhere, on_tid_twice, caught_up_is, renewed, begun_is, ceased_is, same_ended, ended_side}
 use Rattle.wf_law_runs.proofs.Windows.Opened.{some_along, pick_ready, left_true, eight, NoRow, no_row}
 use Rattle.wf_frame.specs.declared.notes.ReplyNote.TheVariants.{Released, Refused}
 use Rattle.wf_law_runs.specs.Releases.{named_by}
 use Rattle.wf_law_runs.proofs.Common.Picked.{picked_world}
-use Rattle.wf_law_runs.proofs.Releases.Kept.{KeptSession, kept_on_slot, kept_fly, kept_heard, kept_flush}
-use Rattle.wf_law_runs.proofs.Windows.Agreed.{AgreedAt, off_live, side_on_session, live_on_session, ending_all, lawful_emptied, IsLawful, IsOpenIn, IsReady, IsEnding, IsFound, found, ready_filled, ending_settled, ending_of, lawful_same, same_left_tids, same_off_lists, if_on}
-use Rattle.wf_law_runs.proofs.Releases.Released.{side_taken, side_untaken, opened_in}
-use Rattle.wf_law_runs.proofs.Frames.Fewer.{less_on_tid, less_weighed, Less, then_less, less_plain, fewer_none, less_on_queue, less_on_station, less_on_share, less_finish, less_listed, less_after_pick, less_after_turn, less_spent, less_charged, less_take, IsTaken, given_take, less_picked}
+use Rattle.wf_law_runs.proofs.Releases.Kept.{KeptSession, kept_on_slot, kept_fly, kept_heard, kept_flush, keep_numbers_ended}
+use Rattle.wf_law_runs.proofs.Windows.Agreed.{AgreedAt, ending_all, lawful_emptied, IsLawful, IsOpenIn, IsReady, IsEnding, IsFound, found, ready_filled, ending_settled, ending_of, lawful_same, same_left_tids, same_off_lists, if_on, not_no}
+use Rattle.wf_law_runs.proofs.Releases.Released.{side_taken, side_untaken, opened_in, ceased_ids, ceased_receiver}
+use Rattle.wf_law_runs.proofs.Frames.Fewer.{less_on_tid, less_weighed, Less, then_less, less_plain, fewer_none, less_on_queue, less_on_station, less_on_share, less_finish, less_listed, less_after_pick, less_after_turn, less_spent, less_charged, less_take, IsTaken, given_take, less_picked, less_held, less_freed, less_ceased}
 use Rattle.wf_law_runs.proofs.Releases.Placed.{Any, next-heard, Grows, grows_told, grows_after, less_taken, IsBare, new_bare, less_left_tids, less_off_lists, any_some, named_done}
+
+-- A session changes after its TID.
+on_session_after : (w : World) (s t : ℕ) (f : Session → Session) (g : Tid → Tid) →
+    on_session (on_tid w s t g) s t f ≡ on_tid w s t (λ y. record (g y) { session = f (g y).session })
+unfolding on_session
+on_session_after w s t f g = on_tid_twice w s t g (λ y. record y { session = f y.session })
+
+-- The end of an agreement releases these ids.
+ceased_named : (w : World) (s t : ℕ) → named_by (cease_outcome w s t).reply ≡ ceased_ids w s t
+unfolding cease_outcome
+ceased_named w s t = refl
+
+less_ceased_told : (w : World) (s t : ℕ) (f : Session → Session) (g : Tid → Tid) →
+    Less Any (on_session (on_tid w s t g) s t f) (cease_outcome w s t).world
+unfolding on_session on_tid on_station with_station
+less_ceased_told w s t f g = then_less Any _ w _ (less_plain Any _ w refl refl) (less_ceased Any w s t)
+
+-- The sides after an agreement ends: the session of the TID is flushed, and both sides catch up.
+ceased_sides : (w : World) (s t : ℕ) → is_live w s ≡ true → (i j : ℕ) →
+    side (cease_outcome w s t).world i j
+    ≡ side (on_session (on_tid w s t (λ z. record z {
+      receiver = record (with_start (start_of (session (after_numbers_ended w s t) s t)) z.receiver)
+          { size = plain_window };
+      mode = OnHold;
+    })) s t (λ z. record (with_heard_start true (start_of (session (after_numbers_ended w s t) s t))
+    (after_flush w.config.attempts z)) { size = plain_window })) i j
+ceased_sides w s t live i j =
+    let e : World = after_numbers_ended w s t in
+    let start : ℕ = start_of (session e s t) in
+    let f : Session → Session =
+    λ z. record (with_heard_start true start (after_flush w.config.attempts z)) { size = plain_window } in
+    let g : Tid → Tid = λ z. record z {
+      receiver = record (with_start start z.receiver) { size = plain_window };
+      mode = OnHold;
+    } in
+    let told : World = on_tid w s t (λ y. record (g y) { session = f (g y).session }) in
+    ap (λ (v : World). side v i j) (ceased_is w s t) ∙ on_bool ((i == s) && (j == t))
+    (λ own.
+    let b = both (i == s) (j == t) own in
+    subst (λ (a : ℕ). side (on_tid e s t (renewed start plain_window OnHold)) a j ≡ side told a j)
+    (sym (eq_yes i s b.0))
+    (subst (λ (c : ℕ). side (on_tid e s t (renewed start plain_window OnHold)) s c ≡ side told s c)
+    (sym (eq_yes j t b.1))
+    (side_on e s t (renewed start plain_window OnHold) ((keep_numbers_ended w s t).live s ∙ live)
+    ∙ ap (λ (a : Side). record {
+      session = record (with_heard_start true start a.session) { size = plain_window };
+      receiver = record (with_start start a.receiver) { size = plain_window };
+      agreed = false;
+    }) (ended_side w s t live) ∙ sym (side_on w s t _ live))))
+    (λ other.
+    let apart : s ≡ i → t ≡ j → ⊥ = λ x y. cc (
+      other,
+      and_true (i == s) (j == t) (yes_eq i s (sym x)) (yes_eq j t (sym y)),
+    ) in
+    side_elsewhere e s t _ i j apart ∙ (same_ended w s t).sides i j ∙ on_elsewhere w s t _ i j apart
+    ∙ sym (side_elsewhere w s t _ i j apart))
+    ∙ ap (λ (v : World). side v i j) (sym (on_session_after w s t f g))
 
 module _ (P : List ℕ → World → Type 0) (Good : World → Type 0)
     (plain : (l : List ℕ) (w v : World) → Less Any w v → ((s t : ℕ) → side v s t ≡ side w s t) → P l w →
@@ -49,14 +107,14 @@ module _ (P : List ℕ → World → Type 0) (Good : World → Type 0)
     (give : (l : List ℕ) (u v : World) (s t : ℕ) (x : Item) → Same u v → Less Any u v → IsTaken u v x → P
     l u →
     P l (on_session v s t (λ y. with_number_given y x.id)))
-    (release : (l : List ℕ) (w v : World) (s t : ℕ) (q : Receiver) → Good w → Less Any w v →
+    (release : (l : List ℕ) (w v : World) (s t : ℕ) (q : Receiver) (b : Bool) → Good w → Less Any w v →
     ((i j : ℕ) → (i ≡ s → j ≡ t → ⊥) → side v i j ≡ side w i j) →
-    side v s t ≡ record { session = session w s t; receiver = q } →
+    side v s t ≡ record { session = session w s t; receiver = q; agreed = b } →
     Grows (session w s t) (receiver w s t) q → P l w →
     P (l ++ ids_of (session w s t) (released_between (receiver w s t) q)) v)
-    (silent : (l : List ℕ) (w v : World) (s t : ℕ) (q : Receiver) → Less Any w v →
+    (silent : (l : List ℕ) (w v : World) (s t : ℕ) (q : Receiver) (b : Bool) → Less Any w v →
     ((i j : ℕ) → (i ≡ s → j ≡ t → ⊥) → side v i j ≡ side w i j) →
-    side v s t ≡ record { session = session w s t; receiver = q } →
+    side v s t ≡ record { session = session w s t; receiver = q; agreed = b } →
     Grows (session w s t) (receiver w s t) q → P l w → P l v)
     (station_changed : (l : List ℕ) (w : World) (i : ℕ) (o : Option Station) →
     ((t : ℕ) → IsBare (sides_of o t)) → P l w → P l (with_station w i o))
@@ -187,28 +245,47 @@ module _ (P : List ℕ → World → Type 0) (Good : World → Type 0)
       (ending_settled (ends m.number) e s t ends w m ms refl n)
       (through_settled (ends m.number) l e s t ends w m ms n p)
 
-  -- The device of an offloaded station catches up.
-  through_caught : (l : List ℕ) (w : World) (s t : ℕ) → is_offloaded w s ≡ true → AgreedAt (side w s t) →
-      P l w → P l (caught_up w s t)
-  unfolding caught_up on_receiver
-  through_caught l w s t d a p =
-      let start : ℕ = start_of (session w s t) in
-      let f : Session → Session = with_heard_start true start in
-      let u : World = on_session w s t f in
-      let g : Tid → Tid = λ (y : Tid). record y { receiver = with_start start y.receiver } in
-      let live : is_live w s ≡ true = off_live w s d in
-      silent l u (on_tid u s t g) s t (with_start start (receiver u s t)) (less_on_tid Any u s t g)
-      (each_side_on (λ a b z. (a ≡ s → b ≡ t → ⊥) → z ≡ side u a b) u s t g (λ a b _. refl)
-      (λ no. absurd (no refl refl)))
-      (side_on u s t g (live_on_session w s t f s ∙ live))
-      (subst (λ (z : Side). Grows z.session z.receiver (with_start start z.receiver))
-      (sym (side_on_session w s t f live)) (grows_told (f (session w s t)) (receiver w s t) start a.rising
-      a.arrived))
-      (kept l w s t f (kept_heard true start (session w s t)) (next-heard true start (session w s t)) p)
+  -- The receiver of a TID gets a start, and a window and a mode, and no id is released. The session keeps its
+  -- numbers.
+  through_told : (l : List ℕ) (w : World) (s t : ℕ) (f : Session → Session) (q : Receiver → Receiver)
+      (mode : Mode → Mode) → is_live w s ≡ true → KeptSession (session w s t) (f (session w s t)) →
+      next_number (f (session w s t)) ≡ next_number (session w s t) →
+      Grows (session w s t) (receiver w s t) (q (receiver w s t)) → P l w →
+      P l (on_tid w s t (λ y. record y {
+        mode = mode y.mode;
+        session = f y.session;
+        receiver = q y.receiver;
+      }))
+  through_told l w s t f q mode live k next grows p =
+      let g : Tid → Tid = λ y. record y { receiver = q y.receiver; mode = mode y.mode } in
+      let v : World = on_tid w s t g in
+      let own : side v s t ≡ record {
+        session = session w s t;
+        receiver = q (receiver w s t);
+        agreed = has_agreement (mode (tid_of w s t).mode);
+      } = side_on w s t g live in
+      let same_y : session v s t ≡ session w s t = ap (λ (a : Side). a.session) own in
+      subst (P l) (on_session_after w s t f g)
+      (kept l v s t f (subst (λ (y : Session). KeptSession y (f y)) (sym same_y) k)
+      (subst (λ (y : Session). next_number (f y) ≡ next_number y) (sym same_y) next)
+      (silent l w v s t (q (receiver w s t)) (has_agreement (mode (tid_of w s t).mode))
+      (less_on_tid Any w s t g) (λ i j apart. side_elsewhere w s t g i j (λ e d. apart (sym e) (sym d))) own
+      grows p))
 
-  pub through_device : (l : List ℕ) (w : World) (s t : ℕ) → AgreedAt (side w s t) → P l w →
-      P l (with_device_caught_up w s t)
-  through_device l w s t a p = if_caught (P l) w s t p (λ d. through_caught l w s t d a p)
+  -- A TID without an agreement catches up.
+  through_caught : (l : List ℕ) (w : World) (s t : ℕ) → AgreedAt (side w s t) → P l w →
+      P l (caught_up w s t)
+  through_caught l w s t a p =
+      let start : ℕ = start_of (session w s t) in
+      subst (P l) (sym (caught_up_is w s t)) (on_bool (is_live w s)
+      (λ live. through_told l w s t (with_heard_start true start) (with_start start) (λ m. m) live
+      (kept_heard true start (session w s t)) (next-heard true start (session w s t))
+      (grows_told (session w s t) (receiver w s t) start a.rising a.arrived) p)
+      (λ dead. plain l w _ (less_on_tid Any w s t _) (dead_sides w s t _ dead) p))
+
+  pub through_caught_up : (l : List ℕ) (w : World) (s t : ℕ) → AgreedAt (side w s t) → P l w →
+      P l (caught_up_if_plain w s t)
+  through_caught_up l w s t a p = if_caught (P l) w s t p (λ _. through_caught l w s t a p)
 
   pub through_without : (l : List ℕ) (w : World) (e : ℕ) → P l w → P l (without_exchange w e)
   unfolding without_exchange
@@ -221,9 +298,10 @@ module _ (P : List ℕ → World → Type 0) (Good : World → Type 0)
   unfolding after_done
   through_after air (Frames ms) l w i x heard e f p =
       let n = ending_of air w i x ms heard e f in
-      through_device l _ x.station x.tid
-      ((ending_all ms x.number x.station x.tid _ (end_of x heard) n).agreed x.station x.tid)
-      (through_all ms l x.number x.station x.tid (end_of x heard) _ n p)
+      let ends : ℕ → End = end_of (after_charge (without_exchange w x.number) x air) x heard in
+      through_caught_up l _ x.station x.tid
+      ((ending_all ms x.number x.station x.tid _ ends n).agreed x.station x.tid)
+      (through_all ms l x.number x.station x.tid ends _ n p)
   through_after air (Request g) l w i x heard e f p =
       kept l _ x.station x.tid (with_heard_start heard g) (kept_heard heard g _)
       (next-heard heard g _) p
@@ -250,10 +328,10 @@ module _ (P : List ℕ → World → Type 0) (Good : World → Type 0)
       on_if (λ (k : List ℕ). P (l ++ k) v) x.batch []
       (ids_of (session w x.station x.tid) (released_between r (g r)))
       (λ _. subst (λ (k : List ℕ). P k v) (sym (append-nil l))
-      (silent l w v x.station x.tid (g r) (less_taken w x z g) (side_untaken w x z g)
-      (side_taken w x z g o.live) grown p))
-      (λ _. release l w v x.station x.tid (g r) good (less_taken w x z g) (side_untaken w x z g)
-      (side_taken w x z g o.live) grown p)
+      (silent l w v x.station x.tid (g r) (is_agreed w x.station x.tid) (less_taken w x z g)
+      (side_untaken w x z g) (side_taken w x z g o.live) grown p))
+      (λ _. release l w v x.station x.tid (g r) (is_agreed w x.station x.tid) good (less_taken w x z g)
+      (side_untaken w x z g) (side_taken w x z g o.live) grown p)
     where
       not_le : (a b : ℕ) → nat_le a b ≡ false → b < a
       not_le a b e = grind arith
@@ -274,21 +352,29 @@ module _ (P : List ℕ → World → Type 0) (Good : World → Type 0)
 
   -- ---- joining and leaving
 
-  through_new : (l : List ℕ) (w : World) (s window start exponent weight : ℕ) (offloaded : Bool) → P l w →
-      P l (with_station w s (Some (new_station w.config window start exponent weight offloaded)))
-  through_new l w s window start exponent weight offloaded p =
-      station_changed l w s _ (eight (λ y. IsBare (side_of y)) (new_tid start window) (new_bare start window)
-      (new_bare 0 0)) p
+  through_new : (l : List ℕ) (w : World) (s : ℕ) (mode : Mode) (window start exponent weight : ℕ)
+      (offloaded : Bool) → P l w →
+      P l (with_station w s (Some (new_station w.config mode window start exponent weight offloaded)))
+  through_new l w s mode window start exponent weight offloaded p =
+      station_changed l w s _ (eight (λ y. IsBare (side_of y)) (new_tid mode start window)
+      (new_bare mode start window) (new_bare Plain 0 0)) p
 
   pub through_joined : (l : List ℕ) (w : World) (s window start exponent weight : ℕ) → P l w →
       P l (join_outcome w s window start exponent weight).world
   unfolding join_outcome
-  through_joined l w s window start exponent weight p = through_new l w s window start exponent weight false p
+  through_joined l w s window start exponent weight p =
+      through_new l w s Agreed window start exponent weight false p
 
   pub through_offloaded : (l : List ℕ) (w : World) (s exponent weight : ℕ) → P l w →
       P l (offload_outcome w s exponent weight).world
   unfolding offload_outcome
-  through_offloaded l w s exponent weight p = through_new l w s greatest_window 0 exponent weight true p
+  through_offloaded l w s exponent weight p = through_new l w s Plain greatest_window 0 exponent weight true p
+
+  pub through_unagreed : (l : List ℕ) (w : World) (s start exponent weight : ℕ) → P l w →
+      P l (plain_outcome w s start exponent weight).world
+  unfolding plain_outcome
+  through_unagreed l w s start exponent weight p =
+      through_new l w s Plain plain_window start exponent weight false p
 
   through_weighed : (l : List ℕ) (w : World) (s weight : ℕ) → P l w → P l (weight_outcome w s weight).world
   through_weighed l w s weight p =
@@ -297,7 +383,7 @@ module _ (P : List ℕ → World → Type 0) (Good : World → Type 0)
   pub through_gone : (l : List ℕ) (w : World) (s : ℕ) → P l w → P l (leave_outcome w s).world
   unfolding leave_outcome
   through_gone l w s p =
-      station_changed l _ s None (λ t. new_bare 0 0)
+      station_changed l _ s None (λ t. new_bare Plain 0 0)
       (through_same l w _ (then_same _ _ _ (same_left_tids (upto 8) w s) (same_off_lists all_classes _ s))
       (then_less Any _ _ _ (less_left_tids (upto 8) w s) (less_off_lists all_classes _ s)) p)
 
@@ -319,7 +405,7 @@ module _ (P : List ℕ → World → Type 0) (Good : World → Type 0)
 
   through_flushed : (l : List ℕ) (w : World) (s t : ℕ) → IsLawful w → P l w → P l (flush_outcome w s t).world
   through_flushed l w s t i p = subst (P l) (sym (flush_is w s t))
-      (through_device l (emptied_world w s t) s t ((lawful_emptied w s t i).agreed s t)
+      (through_caught_up l (emptied_world w s t) s t ((lawful_emptied w s t i).agreed s t)
       (if_emptied (P l)
       (record {
         finish = λ u id h. through_finish l u _ id h;
@@ -328,6 +414,58 @@ module _ (P : List ℕ → World → Type 0) (Good : World → Type 0)
       }) w s t
       (kept l w s t (after_flush w.config.attempts) (kept_flush w.config.attempts (session w s t))
       (next-flush w.config.attempts (session w s t)) p)))
+
+  -- ---- an agreement begins or ends
+
+  pub through_begun : (l : List ℕ) (w : World) (s t window : ℕ) → is_live w s ≡ true → IsLawful w → P l w →
+      P l (begin_outcome w s t window).world
+  through_begun l w s t window live i p =
+      let y : Session = session w s t in
+      let start : ℕ = start_of y in
+      let k : KeptSession y (with_heard_start true start y) = kept_heard true start y in
+      let g : Grows y (receiver w s t) (with_start start (receiver w s t)) =
+      grows_told y (receiver w s t) start (i.agreed s t).rising (i.agreed s t).arrived in
+      subst (P l) (sym (begun_is w s t window))
+      (through_told l w s t (λ z. record (with_heard_start true start z) { size = window })
+      (λ r. record (with_start start r) { size = window }) (λ _. Agreed) live
+      (record { first = k.first; next = k.next; ids = k.ids }) refl
+      (record { rising = g.rising; within = g.within; rises = g.rises }) p)
+
+  pub through_ceased : (l : List ℕ) (w : World) (s t : ℕ) → is_live w s ≡ true → IsLawful w → Good w → P l w →
+      P (l ++ ceased_ids w s t) (cease_outcome w s t).world
+  through_ceased l w s t live i good p =
+      let y : Session = session w s t in
+      let r : Receiver = receiver w s t in
+      let e : World = after_numbers_ended w s t in
+      let start : ℕ = start_of (session e s t) in
+      let flushed : Session → Session = after_flush w.config.attempts in
+      let f : Session → Session =
+      λ z. record (with_heard_start true start (flushed z)) { size = plain_window } in
+      let q : Receiver = record (with_start start r) { size = plain_window } in
+      let g : Tid → Tid = λ z. record z {
+        receiver = record (with_start start z.receiver) { size = plain_window };
+        mode = OnHold;
+      } in
+      let v : World = on_tid w s t g in
+      let told : World = on_session v s t f in
+      let own : side v s t ≡ record { session = y; receiver = q; agreed = false } = side_on w s t g live in
+      let same_y : session v s t ≡ y = ap (λ (a : Side). a.session) own in
+      let a = i.agreed s t in
+      let grown : Grows y r (with_start start r) = grows_told y r start a.rising a.arrived in
+      let k : KeptSession y (flushed y) = kept_flush w.config.attempts y in
+      let ids : List ℕ = ids_of y (released_between r q) in
+      let released : P (l ++ ids) v = release l w v s t q false good (less_on_tid Any w s t g)
+      (λ i j apart. side_elsewhere w s t g i j (λ e d. apart (sym e) (sym d))) own
+      (record { rising = grown.rising; within = grown.within; rises = grown.rises }) p in
+      let done : P (l ++ ids) told = kept (l ++ ids) v s t f
+      (subst (λ (z : Session). KeptSession z (f z)) (sym same_y)
+      (record { first = k.first; next = k.next; ids = k.ids }))
+      (subst (λ (z : Session). next_number (f z) ≡ next_number z) (sym same_y)
+      (next-flush w.config.attempts y)) released in
+      subst (λ (ns : List ℕ). P (l ++ ns) (cease_outcome w s t).world)
+      (ap (λ (z : Receiver). ids_of y (released_between r z)) (sym (ceased_receiver w s t live)))
+      (plain (l ++ ids) told (cease_outcome w s t).world (less_ceased_told w s t f g)
+      (ceased_sides w s t live) done)
 
   -- ---- the step
 
@@ -392,6 +530,18 @@ module _ (P : List ℕ → World → Type 0) (Good : World → Type 0)
   through_call (Asked (Flush s t)) l w i g e p r = through_flushed l w s t i p
   through_call (Asked (Offload s exponent weight)) l w i g e p r = through_offloaded l w s exponent weight p
   through_call (Asked (Weight s weight)) l w i g e p r = through_weighed l w s weight p
+  through_call (Asked (call.Plain s start exponent weight)) l w i g e p r =
+      through_unagreed l w s start exponent weight p
+  through_call (Asked (Hold s t)) l w i g e p r =
+      through_same l w _ (same_held w s t e.1.1.1.0 e.1.1.1.1.0) (less_held Any w s t) p
+  through_call (Asked (Begin s t window)) l w i g e p r =
+      through_begun l w s t window (not_no (is_live w s) e.1.1.1.0) i p
+  through_call (Asked (Free s t)) l w i g e p r =
+      through_same l w _ (same_freed w s t (not_no (is_held_back w s t) e.1.1.1.0)) (less_freed Any w s t) p
+  through_call (Asked (Cease s t)) l w i g e p r =
+      subst (λ (k : List ℕ). P k (cease_outcome w s t).world)
+      (ap (λ (ids : List ℕ). l ++ ids) (sym (ceased_named w s t) ∙ r) ∙ append-nil l)
+      (through_ceased l w s t (not_no (is_live w s) e.1.1.0) i g p)
 
   through_arrival : (l : List ℕ) (w : World) (i : IsLawful w) (e n : ℕ) → Good w →
       NoRow (refusals w (Asked (Arrive e n))) → P l w →
@@ -401,13 +551,23 @@ module _ (P : List ℕ → World → Type 0) (Good : World → Type 0)
   through_arrival l w i e n g r p = through_arrive (exchange w e) l w i n g (opened_in w i e)
       (if_on (exchange w e) (λ y. nat_le (transmissions y.content) n) r.1.0) p
 
+  through_cease : (l : List ℕ) (w : World) (i : IsLawful w) (s t : ℕ) → Good w →
+      NoRow (refusals w (Asked (Cease s t))) → P l w →
+      P (l ++ named_by (outcome_of w (Asked (Cease s t))).reply) (outcome_of w (Asked (Cease s t))).world
+  unfolding outcome_of
+  through_cease l w i s t g r p = subst (λ (ids : List ℕ). P (l ++ ids) (cease_outcome w s t).world)
+      (sym (ceased_named w s t)) (through_ceased l w s t (not_no (is_live w s) r.1.1.0) i g p)
+
   through_done : (note : Note) (l : List ℕ) (w : World) (i : IsLawful w) → Good w → NoRow (refusals w note) →
       P l w → P (l ++ named_by (outcome_of w note).reply) (outcome_of w note).world
   through_done note l w i g e p = elim (named_done note w) [
     | inl r ↦ through_plain l (outcome_of w note) r (through_call note l w i g e p r)
-    | inr a ↦ subst (λ (c : Note). NoRow (refusals w c) →
+    | inr (inl a) ↦ subst (λ (c : Note). NoRow (refusals w c) →
         P (l ++ named_by (outcome_of w c).reply) (outcome_of w c).world) (sym a.2)
         (λ d. through_arrival l w i a.0 a.1 g d p) e
+    | inr (inr a) ↦ subst (λ (c : Note). NoRow (refusals w c) →
+        P (l ++ named_by (outcome_of w c).reply) (outcome_of w c).world) (sym a.2)
+        (λ d. through_cease l w i a.0 a.1 g d p) e
   ]
 
   through_refused : (note : Note) (r : Refusal) (l : List ℕ) (w : World) → P l w →

@@ -7,7 +7,7 @@ use Rattle.wf_frame.specs.declared.settings.Config.{Config}
 use Rattle.wf_frame.specs.declared.classes.Class.{Class}
 use Rattle.wf_frame.specs.declared.classes.Fate.TheVariants.{Dropped}
 use Rattle.wf_frame.specs.declared.classes.Cause.TheVariants.{Left, Overlimit}
-use Rattle.wf_frame.specs.declared.notes.Ask.TheVariants.{Join, Leave, Rate, Tick, Pull, Arrive, Answer, Done, Sleep, Wake, Poll, Rx, Reap, Ampdu, Stop, Start, Unsent, GiveUp, Flush, Offload, Weight}
+use Rattle.wf_frame.specs.declared.notes.Ask.TheVariants.{Join, Leave, Rate, Tick, Pull, Arrive, Answer, Done, Sleep, Wake, Poll, Rx, Reap, Ampdu, Stop, Start, Unsent, GiveUp, Flush, Offload, Weight, Plain, Hold, Begin, Free, Cease}
 use Rattle.wf_frame.specs.declared.notes.Limits.{Limits}
 use Rattle.wf_frame.specs.declared.notes.Note.{Note}
 use Rattle.wf_frame.specs.declared.notes.Note.TheVariants.{Enqueue, Asked}
@@ -25,7 +25,7 @@ use Rattle.wf_def_world.specs.FlowQueues.{Taken, after_limit, is_at_limit, longe
 use Rattle.wf_def_world.specs.CanSend.{can_give, can_send_in, with_listings_of}
 use Rattle.wf_def_world.specs.Exchanges.{Aggregate, Prepared, most_frames, mpdus_of, mpdu_of, fits_in, picked_station, sending_tid, waiting_mpdus, longest_fitting, fresh_mpdus, with_number, with_fresh, aggregate_of, prepared_data, prepared_exchange, exchange_of, after_pick, after_tid_turn, with_exchange_opened, after_arrival, caught_up}
 use Rattle.wf_def_world.specs.Refusals.{refusals, refusal}
-use Rattle.wf_def_world.specs.Step.{Outcome, tick_outcome, rate_outcome, sleep_outcome, wake_outcome, poll_outcome, rx_outcome, join_outcome, waiting_ids, in_rising_order, after_tid_left, after_tids_left, leave_outcome, next_item, with_frame, enqueue_outcome, send_outcome, pull_outcome_for, pull_outcome, arrive_outcome, answer_outcome, unsent_outcome, give_up_outcome, flush_outcome, done_outcome, outcome_where_open, reap_outcome, outcome_of, concerned_station, after_refusal, judged_outcome, step, offload_outcome, weight_outcome}
+use Rattle.wf_def_world.specs.Step.{Outcome, tick_outcome, rate_outcome, sleep_outcome, wake_outcome, poll_outcome, rx_outcome, join_outcome, waiting_ids, in_rising_order, after_tid_left, after_tids_left, leave_outcome, next_item, with_frame, enqueue_outcome, send_outcome, pull_outcome_for, pull_outcome, arrive_outcome, answer_outcome, unsent_outcome, give_up_outcome, flush_outcome, done_outcome, outcome_where_open, reap_outcome, outcome_of, concerned_station, after_refusal, judged_outcome, step, offload_outcome, weight_outcome, plain_outcome, hold_outcome, begin_outcome, free_outcome, cease_outcome}
 use Rattle.wf_def_world.specs.Run.{Entry, world_after}
 use Rattle.wf_law_runs.specs.Windows.{EachMpdu}
 use Rattle.wf_law_runs.specs.Queues.{EachItem, IsAtMost, AreAtMost}
@@ -45,12 +45,12 @@ use Rattle.wf_law_runs.proofs.Frames.Fewer.{carries, less_within_limit}
 use Rattle.wf_law_runs.proofs.Frames.Untouched.{untouched_put_in}
 use Rattle.wf_law_runs.proofs.Queues.Shelved.{each_append as items_append}
 use Rattle.wf_law_runs.proofs.Queues.ShelvedStep.{live_number, shelves_number, accepted_limit, accepted_put}
-use Rattle.wf_law_runs.proofs.Queues.Shelves.{Shelves, spot, with_note, shelves, shelves_with_station, shelves_hidden, shelves_on_session, shelves_on_receiver, shelves_on_share, shelves_with_queues, shelves_on_queue, shelves_finish, shelves_finish_all, shelves_with_frame, shelves_pay_queues, shelves_after_pick, shelves_after_turn, shelves_sent, shelves_ended, shelves_off_lists, shelves_listed, shelves_picked, shelves_weighed}
+use Rattle.wf_law_runs.proofs.Queues.Shelves.{Shelves, spot, with_note, shelves, shelves_with_station, shelves_hidden, shelves_on_session, shelves_on_receiver, shelves_on_share, shelves_with_queues, shelves_on_queue, shelves_finish, shelves_finish_all, shelves_with_frame, shelves_pay_queues, shelves_after_pick, shelves_after_turn, shelves_sent, shelves_ended, shelves_off_lists, shelves_listed, shelves_picked, shelves_weighed, shelves_held, shelves_begun, shelves_freed, shelves_ceased}
 use Rattle.wf_law_runs.proofs.Releases.Placed.{Any}
 use Rattle.wf_law_runs.proofs.Sessions.Flights.{Rises}
 use Rattle.wf_law_runs.proofs.Windows.Agreed.{IsLawful, IsOpenIn, each_map_if, lawful_same, winner_ready, same_left_tids, same_off_lists}
 use Rattle.wf_law_runs.proofs.Windows.Opened.{Each, each_both, each_append, each_find, NoRow, no_row}
-use Rattle.wf_law_runs.proofs.Windows.Sides.{sided, Same, then_same, same_on_station, same_on_share, same_with_queues, same_finish_all, same_listed, same_after_pick, same_after_turn, same_spent, same_within_limit, same_put_in, same_pay_queues, same_purge_queues, same_take, same_picked, same_weighed}
+use Rattle.wf_law_runs.proofs.Windows.Sides.{sided, Same, then_same, same_on_station, same_on_share, same_with_queues, same_finish_all, same_listed, same_after_pick, same_after_turn, same_spent, same_within_limit, same_put_in, same_pay_queues, same_purge_queues, same_take, same_picked, same_weighed, opened_held, opened_begun, opened_freed, opened_ceased}
 
 -- The frame has the length of its Enqueue. notes are the calls by id.
 abbrev pub IsMeasured : (ℕ → Note) → Item → Type 0
@@ -413,6 +413,12 @@ unfolding offload_outcome
 stocked_offloaded most w s exponent weight i =
     stocked_sifted most (shelves w) _ w.opened _ (sifted_station w s _) (opened_station w s _) i
 
+stocked_unagreed : (most : ℕ) (w : World) (s start exponent weight : ℕ) → IsStocked most w
+    → IsStocked most (plain_outcome w s start exponent weight).world
+unfolding plain_outcome
+stocked_unagreed most w s start exponent weight i =
+    stocked_sifted most (shelves w) _ w.opened _ (sifted_station w s _) (opened_station w s _) i
+
 -- ---- a frame is accepted
 
 sifted_head : (items : List Item) (w : World) (q : ℕ) → (queue w q).items ≡ items →
@@ -736,6 +742,17 @@ stocked_done most (Asked (Offload s exponent weight)) l w e a k i =
 stocked_done most (Asked (Weight s weight)) l w e a k i =
     stocked_same most w (weight_outcome w s weight).world (shelves_weighed w s weight)
     (same_weighed w s weight).opened i
+stocked_done most (Asked (Plain s start exponent weight)) l w e a k i =
+    stocked_unagreed most w s start exponent weight i
+stocked_done most (Asked (Hold s t)) l w e a k i =
+    stocked_same most w (hold_outcome w s t).world (shelves_held w s t) (opened_held w s t) i
+stocked_done most (Asked (Begin s t window)) l w e a k i =
+    stocked_same most w (begin_outcome w s t window).world (shelves_begun w s t window)
+    (opened_begun w s t window) i
+stocked_done most (Asked (Free s t)) l w e a k i =
+    stocked_same most w (free_outcome w s t).world (shelves_freed w s t) (opened_freed w s t) i
+stocked_done most (Asked (Cease s t)) l w e a k i =
+    stocked_same most w (cease_outcome w s t).world (shelves_ceased w s t) (opened_ceased w s t) i
 
 stocked_refused : (most : ℕ) (note : Note) (r : Refusal) (w : World) → IsStocked most w →
     IsStocked most (after_refusal w note r)

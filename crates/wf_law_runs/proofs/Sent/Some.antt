@@ -4,7 +4,7 @@ use Rattle.std.proofs.Common.{◌≡◌, refl, ap, sym, ◌∙◌, subst, arith,
 use Rattle.std.proofs.lemmas.List.{length-append}
 use Rattle.wf_frame.specs.declared.settings.Config.{Config}
 use Rattle.wf_frame.specs.declared.classes.Class.{Class}
-use Rattle.wf_frame.specs.declared.notes.Ask.TheVariants.{Join, Leave, Rate, Tick, Pull, Arrive, Answer, Done, Sleep, Wake, Poll, Rx, Reap, Ampdu, Stop, Start, Unsent, GiveUp, Flush, Offload, Weight}
+use Rattle.wf_frame.specs.declared.notes.Ask.TheVariants.{Join, Leave, Rate, Tick, Pull, Arrive, Answer, Done, Sleep, Wake, Poll, Rx, Reap, Ampdu, Stop, Start, Unsent, GiveUp, Flush, Offload, Weight, Plain, Hold, Begin, Free, Cease}
 use Rattle.wf_frame.specs.declared.notes.Limits.{Limits}
 use Rattle.wf_frame.specs.declared.notes.Note.{Note}
 use Rattle.wf_frame.specs.declared.notes.Note.TheVariants.{Enqueue, Asked}
@@ -19,12 +19,12 @@ use Rattle.wf_def_lists.specs.Lengths.{greatest_body, greatest_overhead}
 use Rattle.wf_def_agreement.specs.Receiver.{score}
 use Rattle.wf_def_rotation.specs.Rotation.{in_order}
 use Rattle.wf_def_agreement.specs.Session.{request_due, waiting_numbers, next_number, has_room}
-use Rattle.wf_def_world.specs.World.{World, Station, Share, Exchange, Mpdu, no_station, no_share, len_of, station, session, receiver, share, rotation, is_live, exchange, with_station, on_station, on_share, with_rotation, with_exchange, opening, Bounds}
+use Rattle.wf_def_world.specs.World.{World, Station, Share, Exchange, Mpdu, no_station, no_share, len_of, station, session, receiver, share, rotation, is_live, is_held_back, exchange, with_station, on_station, on_share, with_rotation, with_exchange, opening, Bounds}
 use Rattle.wf_def_world.specs.FlowQueues.{Taken, frames_queued, taken_for_tid}
 use Rattle.wf_def_world.specs.CanSend.{is_request, request_open, has_waiting, can_give, can_send, can_send_in, with_listings_of}
 use Rattle.wf_def_world.specs.Exchanges.{Aggregate, Prepared, mpdus_of, mpdu_of, most_frames, fits_in, picked_station, sending_tid, waiting_mpdus, longest_fitting, fresh_mpdus, with_number, with_fresh, aggregate_of, prepared_data, prepared_exchange, exchange_of, with_station_paid, with_stations_paid, after_pick, after_tid_turn, after_arrival, limited}
 use Rattle.wf_def_world.specs.Refusals.{refusal}
-use Rattle.wf_def_world.specs.Step.{Outcome, tick_outcome, rate_outcome, sleep_outcome, wake_outcome, poll_outcome, rx_outcome, join_outcome, leave_outcome, enqueue_outcome, pull_outcome_for, pull_outcome, arrive_outcome, answer_outcome, unsent_outcome, give_up_outcome, flush_outcome, done_outcome, outcome_where_open, reap_outcome, outcome_of, concerned_station, after_refusal, judged_outcome, step, offload_outcome, weight_outcome}
+use Rattle.wf_def_world.specs.Step.{Outcome, tick_outcome, rate_outcome, sleep_outcome, wake_outcome, poll_outcome, rx_outcome, join_outcome, leave_outcome, enqueue_outcome, pull_outcome_for, pull_outcome, arrive_outcome, answer_outcome, unsent_outcome, give_up_outcome, flush_outcome, done_outcome, outcome_where_open, reap_outcome, outcome_of, concerned_station, after_refusal, judged_outcome, step, offload_outcome, weight_outcome, plain_outcome, hold_outcome, begin_outcome, free_outcome, cease_outcome}
 use Rattle.wf_def_world.specs.Run.{Entry, world_after}
 use Rattle.wf_law_runs.specs.Queues.{AreAtMost}
 use Rattle.wf_law_runs.specs.Releases.{named_by}
@@ -46,7 +46,7 @@ use Rattle.wf_law_runs.proofs.Sent.Given.{some_take}
 use Rattle.wf_law_runs.proofs.Sent.Lengths.{IsMeasured, AreMeasured, AllMeasured, IsStocked, given_take, measured_waiting, opened_sent, opened_station, opened_gone, stocked_step, stocked_first}
 use Rattle.wf_law_runs.proofs.Windows.Agreed.{IsLawful, Unmoved, unmoved_on_share, each_map_if, lawful_same, can_send_same, sends, winner_ready}
 use Rattle.wf_law_runs.proofs.Windows.Opened.{Each, each_append, each_find}
-use Rattle.wf_law_runs.proofs.Windows.Sides.{Same, same_on_station, same_on_share, same_listed, same_after_pick, same_after_turn, same_picked, same_weighed}
+use Rattle.wf_law_runs.proofs.Windows.Sides.{Same, same_on_station, same_on_share, same_listed, same_after_pick, same_after_turn, same_picked, same_weighed, opened_held, opened_begun, opened_freed, opened_ceased}
 use Rattle.wf_law_runs.proofs.Ranges.Traits.{Traits, traits_step, few_station}
 use Rattle.wf_def_lists.specs.Bounds.{least_ampdu}
 use Rattle.std.proofs.Math.Nat.{le-max_left}
@@ -166,7 +166,8 @@ some_fresh zero w s t more live gives a = absurd (omega (arith, more))
 some_fresh (suc n) w s t more live gives a =
     let taken : Taken = taken_for_tid w s t in
     let queued : 0 < frames_queued w s t = lt_yes 0 (frames_queued w s t)
-    (gives_queued (nat_lt 0 (frames_queued w s t)) (has_room (session w s t)) gives) in
+    (gives_queued (nat_lt 0 (frames_queued w s t)) (has_room (session w s t) && not (is_held_back w s t))
+    gives) in
     let first : List Mpdu = fresh_mpdus w s t taken.item in
     let numbered : World = with_number taken.world s t taken.item in
     let given : (fits_in w s first ≡ true) × (1 ≤ length first) =
@@ -380,6 +381,11 @@ some_offloaded : (w : World) (s exponent weight : ℕ) → AllSome w →
 unfolding offload_outcome
 some_offloaded w s exponent weight h = subst (Each HasSome) (sym (opened_station w s _)) h
 
+some_unagreed : (w : World) (s start exponent weight : ℕ) → AllSome w →
+    AllSome (plain_outcome w s start exponent weight).world
+unfolding plain_outcome
+some_unagreed w s start exponent weight h = subst (Each HasSome) (sym (opened_station w s _)) h
+
 -- ---- the step
 
 some_done : (note : Note) (w : World) → IsLawful w → IsFit w → AllSome w → AllSome (outcome_of w note).world
@@ -419,6 +425,12 @@ some_done (Asked (Flush s t)) w l a h = some_opened w (flush_outcome w s t).worl
 some_done (Asked (Offload s exponent weight)) w l a h = some_offloaded w s exponent weight h
 some_done (Asked (Weight s weight)) w l a h = some_opened w (weight_outcome w s weight).world
     (same_weighed w s weight).opened h
+some_done (Asked (Plain s start exponent weight)) w l a h = some_unagreed w s start exponent weight h
+some_done (Asked (Hold s t)) w l a h = some_opened w (hold_outcome w s t).world (opened_held w s t) h
+some_done (Asked (Begin s t window)) w l a h =
+    some_opened w (begin_outcome w s t window).world (opened_begun w s t window) h
+some_done (Asked (Free s t)) w l a h = some_opened w (free_outcome w s t).world (opened_freed w s t) h
+some_done (Asked (Cease s t)) w l a h = some_opened w (cease_outcome w s t).world (opened_ceased w s t) h
 
 some_refused : (note : Note) (r : Refusal) (w : World) → AllSome w → AllSome (after_refusal w note r)
 unfolding after_refusal

@@ -5,7 +5,7 @@ use Rattle.std.proofs.Common.{◌≡◌, refl, ap, sym, ◌∙◌, subst, arith,
 use Rattle.std.proofs.lemmas.Int.{ints}
 use Rattle.wf_frame.specs.declared.settings.Config.{Config}
 use Rattle.wf_frame.specs.declared.classes.Class.{Class}
-use Rattle.wf_frame.specs.declared.notes.Ask.TheVariants.{Join, Leave, Rate, Tick, Pull, Arrive, Answer, Done, Sleep, Wake, Poll, Rx, Reap, Ampdu, Stop, Start, Unsent, GiveUp, Flush, Offload, Weight}
+use Rattle.wf_frame.specs.declared.notes.Ask.TheVariants.{Join, Leave, Rate, Tick, Pull, Arrive, Answer, Done, Sleep, Wake, Poll, Rx, Reap, Ampdu, Stop, Start, Unsent, GiveUp, Flush, Offload, Weight, Plain, Hold, Begin, Free, Cease}
 use Rattle.wf_frame.specs.declared.notes.Limits.{Limits}
 use Rattle.wf_frame.specs.declared.notes.Note.{Note}
 use Rattle.wf_frame.specs.declared.notes.Note.TheVariants.{Enqueue, Asked}
@@ -26,7 +26,7 @@ use Rattle.wf_law_runs.specs.Waiting.{sends}
 use Rattle.wf_law_runs.proofs.Common.Refused.{after_idle}
 use Rattle.wf_law_runs.proofs.Common.Limits.{with_limits}
 use Rattle.wf_law_runs.proofs.Deficits.Books.{Account, account, core, Books, books, with_account, on_part, upd_same, upd_other, each_upd, updc_same, updc_other, cases_class}
-use Rattle.wf_law_runs.proofs.Deficits.BookSteps.{with_opened, charge_share, with_charge, receive_share, rated, pay_share, paid, after, books_ended, books_gone, all_off, books_enqueued, books_received, books_reaped, books_slept, books_woken, books_credited, books_with_rate, books_joined, books_after_pick, books_stated, books_stopped, books_started, books_flushed, books_offloaded, books_weighed, reweighed}
+use Rattle.wf_law_runs.proofs.Deficits.BookSteps.{with_opened, charge_share, with_charge, receive_share, rated, pay_share, paid, after, books_ended, books_gone, all_off, books_enqueued, books_received, books_reaped, books_slept, books_woken, books_credited, books_with_rate, books_joined, books_after_pick, books_stated, books_stopped, books_started, books_flushed, books_offloaded, books_weighed, reweighed, books_joined_plain, books_held, books_begun, books_freed, books_ceased}
 use Rattle.wf_law_runs.proofs.Deficits.Bounds.{counted, paid_some}
 use Rattle.wf_law_runs.proofs.Deficits.Kept.{IsKept, counted_in, need_in, at_stake, IsOpen}
 use Rattle.wf_law_runs.proofs.Deficits.KeptStep.{NoRow, no_row, live_account, is_pick, IsFound, books_arrived, books_unsent, books_given_up, books_answered}
@@ -189,6 +189,9 @@ grants_done (Asked (Join i window start exponent weight)) w c s r k live still =
 grants_done (Asked (Offload i exponent weight)) w c s r k live still =
     grants_books c s (books w) _ _ (books_offloaded w i exponent weight)
     (grants_other c s i (books w) _ (differs w i s r.1.1.1.0 live))
+grants_done (Asked (Plain i start exponent weight)) w c s r k live still =
+    grants_books c s (books w) _ _ (books_joined_plain w i start exponent weight)
+    (grants_other c s i (books w) _ (differs w i s r.1.1.1.1.0 live))
 grants_done (Asked (Weight i weight)) w c s r k live still =
     grants_books c s (books w) _ _ (books_weighed w i weight)
     (grants_on c s i (books w) (reweighed w.config (books w).opened i weight) (λ a. refl))
@@ -219,6 +222,10 @@ grants_done (Asked (Ampdu i octets)) w c s r k live still = grants_same c s _ _ 
 grants_done (Asked (Stop i)) w c s r k live still = grants_same c s _ _ (books_stopped w i)
 grants_done (Asked (Start i)) w c s r k live still = grants_same c s _ _ (books_started w i)
 grants_done (Asked (Flush i t)) w c s r k live still = grants_same c s _ _ (books_flushed w i t)
+grants_done (Asked (Hold i t)) w c s r k live still = grants_same c s _ _ (books_held w i t)
+grants_done (Asked (Begin i t window)) w c s r k live still = grants_same c s _ _ (books_begun w i t window)
+grants_done (Asked (Free i t)) w c s r k live still = grants_same c s _ _ (books_freed w i t)
+grants_done (Asked (Cease i t)) w c s r k live still = grants_same c s _ _ (books_ceased w i t)
 grants_done (Asked (Wake i)) w c s r k live still = grants_same c s _ _ (books_woken w i)
 grants_done (Asked (Poll i)) w c s r k live still = grants_same c s _ _ (books_credited w i)
 grants_done (Asked (Rx i d air)) w c s r k live still =

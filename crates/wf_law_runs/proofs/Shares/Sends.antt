@@ -4,7 +4,7 @@ use Rattle.std.proofs.Common.{◌≡◌, refl, ap, sym, ◌∙◌, subst, arith,
 use Rattle.std.proofs.lemmas.Bool.{cases_eq, eqb-true, ne_eqb}
 use Rattle.wf_frame.specs.declared.settings.Config.{Config}
 use Rattle.wf_frame.specs.declared.classes.Class.{Class}
-use Rattle.wf_frame.specs.declared.notes.Ask.TheVariants.{Join, Leave, Rate, Tick, Pull, Arrive, Answer, Done, Sleep, Wake, Poll, Rx, Reap, Ampdu, Stop, Start, Unsent, GiveUp, Flush, Offload, Weight}
+use Rattle.wf_frame.specs.declared.notes.Ask.TheVariants.{Join, Leave, Rate, Tick, Pull, Arrive, Answer, Done, Sleep, Wake, Poll, Rx, Reap, Ampdu, Stop, Start, Unsent, GiveUp, Flush, Offload, Weight, Plain, Hold, Begin, Free, Cease}
 use Rattle.wf_frame.specs.declared.notes.Limits.{Limits}
 use Rattle.wf_frame.specs.declared.notes.Note.{Note}
 use Rattle.wf_frame.specs.declared.notes.Note.TheVariants.{Enqueue, Asked}
@@ -27,7 +27,7 @@ use Rattle.wf_law_rules.proofs.Lemmas.Rotations.{find-none}
 use Rattle.wf_law_runs.proofs.Common.Refused.{after_idle}
 use Rattle.wf_law_runs.proofs.Common.Limits.{with_limits}
 use Rattle.wf_law_runs.proofs.Deficits.Books.{core, Books, books}
-use Rattle.wf_law_runs.proofs.Deficits.BookSteps.{with_opened, books_ended, books_gone, books_enqueued, books_received, books_reaped, books_slept, books_woken, books_credited, books_with_rate, books_joined, books_after_pick, books_stated, books_stopped, books_started, books_flushed, books_offloaded, books_weighed}
+use Rattle.wf_law_runs.proofs.Deficits.BookSteps.{with_opened, books_ended, books_gone, books_enqueued, books_received, books_reaped, books_slept, books_woken, books_credited, books_with_rate, books_joined, books_after_pick, books_stated, books_stopped, books_started, books_flushed, books_offloaded, books_weighed, books_joined_plain, books_held, books_begun, books_freed, books_ceased}
 use Rattle.wf_law_runs.proofs.Deficits.Openings.{reserved, reserved-append, reserved-ended}
 use Rattle.wf_law_runs.proofs.Deficits.Kept.{IsKept}
 use Rattle.wf_law_runs.proofs.Deficits.KeptStep.{no_row, IsFound, at_number, books_arrived, books_unsent, books_given_up, books_answered, charge_within, kept_step}
@@ -193,6 +193,8 @@ less_done (Asked (Join k window start exponent weight)) w c s r kept unsent =
     less_same _ c s (books w) _ (ap (λ (b : Books). b.opened) (books_joined w k window start exponent weight))
 less_done (Asked (Offload k exponent weight)) w c s r kept unsent =
     less_same _ c s (books w) _ (ap (λ (b : Books). b.opened) (books_offloaded w k exponent weight))
+less_done (Asked (Plain k start exponent weight)) w c s r kept unsent =
+    less_same _ c s (books w) _ (ap (λ (b : Books). b.opened) (books_joined_plain w k start exponent weight))
 less_done (Asked (Weight k weight)) w c s r kept unsent =
     less_same _ c s (books w) _ (ap (λ (b : Books). b.opened) (books_weighed w k weight))
 less_done (Asked (Leave k)) w c s r kept unsent =
@@ -224,6 +226,14 @@ less_done (Asked (Start k)) w c s r kept unsent =
     less_same _ c s (books w) _ (ap (λ (b : Books). b.opened) (books_started w k))
 less_done (Asked (Flush k t)) w c s r kept unsent =
     less_same _ c s (books w) _ (ap (λ (b : Books). b.opened) (books_flushed w k t))
+less_done (Asked (Hold k t)) w c s r kept unsent =
+    less_same _ c s (books w) _ (ap (λ (b : Books). b.opened) (books_held w k t))
+less_done (Asked (Begin k t window)) w c s r kept unsent =
+    less_same _ c s (books w) _ (ap (λ (b : Books). b.opened) (books_begun w k t window))
+less_done (Asked (Free k t)) w c s r kept unsent =
+    less_same _ c s (books w) _ (ap (λ (b : Books). b.opened) (books_freed w k t))
+less_done (Asked (Cease k t)) w c s r kept unsent =
+    less_same _ c s (books w) _ (ap (λ (b : Books). b.opened) (books_ceased w k t))
 less_done (Asked (Wake k)) w c s r kept unsent =
     less_same _ c s (books w) _ (ap (λ (b : Books). b.opened) (books_woken w k))
 less_done (Asked (Poll k)) w c s r kept unsent =

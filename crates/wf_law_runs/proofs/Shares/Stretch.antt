@@ -5,7 +5,7 @@ use Rattle.std.proofs.lemmas.Int.{ints}
 use Rattle.std.proofs.lemmas.Bool.{cases_eq, ne_eqb}
 use Rattle.wf_frame.specs.declared.settings.Config.{Config}
 use Rattle.wf_frame.specs.declared.classes.Class.{Class}
-use Rattle.wf_frame.specs.declared.notes.Ask.TheVariants.{Join, Offload}
+use Rattle.wf_frame.specs.declared.notes.Ask.TheVariants.{Join, Offload, Plain}
 use Rattle.wf_frame.specs.declared.notes.Note.{Note}
 use Rattle.wf_frame.specs.declared.notes.Note.TheVariants.{Asked}
 use Rattle.wf_frame.specs.declared.notes.Refusal.{Refusal}
@@ -64,6 +64,20 @@ join_live (Asked (Offload i exponent weight)) w s n live =
       | inl same ↦ absurd (
           let dead : is_live w i ≡ false =
           (no_row (refusals w (Asked (Offload i exponent weight))) e).1.1.1.0 in
+          let live' : is_live w i ≡ true = subst (λ (z : ℕ). is_live w z ≡ true) (sym same) live in
+          cc (dead, live'))
+      | inr other ↦ rw (ne_eqb i s other) refl
+    ]
+join_live (Asked (Plain i start exponent weight)) w s n live =
+    go (refusal w (Asked (Plain i start exponent weight))) refl
+  where
+    go : (o : Option Refusal) → refusal w (Asked (Plain i start exponent weight)) ≡ o →
+        (if is_none o && (i == s) then 0 else n) ≡ n
+    go (Some r) e = refl
+    go None e = elim (cases_eq i s) [
+      | inl same ↦ absurd (
+          let dead : is_live w i ≡ false =
+          (no_row (refusals w (Asked (Plain i start exponent weight))) e).1.1.1.1.0 in
           let live' : is_live w i ≡ true = subst (λ (z : ℕ). is_live w z ≡ true) (sym same) live in
           cc (dead, live'))
       | inr other ↦ rw (ne_eqb i s other) refl

@@ -5,7 +5,7 @@ use Rattle.std.proofs.lemmas.Bool.{cases_eq, ne_eqb, eqb-true, and_parts, not-tr
 use Rattle.wf_frame.specs.declared.settings.Config.{Config}
 use Rattle.wf_frame.specs.declared.classes.Class.{Class}
 use Rattle.wf_frame.specs.declared.classes.Class.TheVariants.{Bk, Be, Vi, Vo}
-use Rattle.wf_frame.specs.declared.notes.Ask.TheVariants.{Join, Leave, Rate, Tick, Pull, Arrive, Answer, Done, Sleep, Wake, Poll, Rx, Reap, Ampdu, Stop, Start, Unsent, GiveUp, Flush, Offload, Weight}
+use Rattle.wf_frame.specs.declared.notes.Ask.TheVariants.{Join, Leave, Rate, Tick, Pull, Arrive, Answer, Done, Sleep, Wake, Poll, Rx, Reap, Ampdu, Stop, Start, Unsent, GiveUp, Flush, Offload, Weight, Plain, Hold, Begin, Free, Cease}
 use Rattle.wf_frame.specs.declared.notes.Limits.{Limits}
 use Rattle.wf_frame.specs.declared.notes.Note.{Note}
 use Rattle.wf_frame.specs.declared.notes.Note.TheVariants.{Enqueue, Asked}
@@ -19,7 +19,7 @@ use Rattle.wf_def_world.specs.World.{World, Exchange, no_station, rotation, is_l
 use Rattle.wf_def_world.specs.CanSend.{is_ready, with_listing_in, with_listings_in, with_listings_of, is_to_list}
 use Rattle.wf_def_world.specs.Exchanges.{Prepared, station_need, picked_station, after_tid_turn, prepared_exchange, exchange_of, sending_tid, charge_of}
 use Rattle.wf_def_world.specs.Refusals.{refusals, refusal}
-use Rattle.wf_def_world.specs.Step.{Outcome, tick_outcome, pull_outcome_for, pull_outcome, done_outcome, outcome_where_open, join_outcome, outcome_of, after_refusal, judged_outcome, step, concerned_station, offload_outcome}
+use Rattle.wf_def_world.specs.Step.{Outcome, tick_outcome, pull_outcome_for, pull_outcome, done_outcome, outcome_where_open, join_outcome, outcome_of, after_refusal, judged_outcome, step, concerned_station, offload_outcome, plain_outcome}
 use Rattle.wf_def_world.specs.Stretches.{charge_to}
 use Rattle.wf_law_runs.specs.Deficits.{longest_exchange}
 use Rattle.wf_law_rules.proofs.Lemmas.Counts.{ahead, on-append, on-filter, listed-some}
@@ -27,7 +27,7 @@ use Rattle.wf_law_rules.proofs.Lemmas.Rotations.{IsWinner, pick_keeps, pick_winn
 use Rattle.wf_law_runs.proofs.Common.Refused.{after_idle}
 use Rattle.wf_law_runs.proofs.Common.Limits.{with_limits}
 use Rattle.wf_law_runs.proofs.Deficits.Books.{Account, account, core, Books, books, with_account, with_lists, upd_same, updc, updc_same, updc_other, cases_class, same_number, books_with_rotation}
-use Rattle.wf_law_runs.proofs.Deficits.BookSteps.{books_after_turn, books_prepared, books_sent, with_opened, books_ended, books_gone, all_off, books_enqueued, books_received, books_reaped, books_slept, books_woken, books_credited, books_with_rate, fresh_account, books_joined, after, books_after_pick, books_stated, books_stopped, books_started, books_flushed, books_offloaded, books_weighed}
+use Rattle.wf_law_runs.proofs.Deficits.BookSteps.{books_after_turn, books_prepared, books_sent, with_opened, books_ended, books_gone, all_off, books_enqueued, books_received, books_reaped, books_slept, books_woken, books_credited, books_with_rate, fresh_account, books_joined, after, books_after_pick, books_stated, books_stopped, books_started, books_flushed, books_offloaded, books_weighed, books_joined_plain, books_held, books_begun, books_freed, books_ceased}
 use Rattle.wf_law_runs.proofs.Deficits.Openings.{reserved, reserved-append, reserved-ended, part_of}
 use Rattle.wf_law_runs.proofs.Deficits.Kept.{IsKept, if_same, above_after, listed-on, counted_in, standing_of}
 use Rattle.wf_law_runs.proofs.Deficits.KeptStep.{NoRow, no_row, live_account, need_is, IsFound, at_number, books_arrived, books_unsent, books_given_up, books_answered, charge_within}
@@ -441,6 +441,14 @@ move_offloaded l w k exponent weight c s i dead kept h =
     subst (IsMove l c s i (books w)) (sym (books_offloaded w k exponent weight))
     (move_fresh l w k weight c s i dead kept (stays_listed c s i w _ h) h.before)
 
+move_joined_plain : (l : ℕ) (w : World) (k start exponent weight : ℕ) (c : Class) (s i : ℕ) →
+    is_live w k ≡ false → IsKept (books w) →
+    Stays c s i w (books (plain_outcome w k start exponent weight).world) →
+    IsMove l c s i (books w) (books (plain_outcome w k start exponent weight).world)
+move_joined_plain l w k start exponent weight c s i dead kept h =
+    subst (IsMove l c s i (books w)) (sym (books_joined_plain w k start exponent weight))
+    (move_fresh l w k weight c s i dead kept (stays_listed c s i w _ h) h.before)
+
 all_off_is : (b : Books) (k : ℕ) (c : Class) → (all_off b k).rotations c ≡ without_key (b.rotations c) k
 all_off_is b k Bk = refl
 all_off_is b k Be = refl
@@ -540,6 +548,8 @@ move_done (Asked (Join k window start exponent weight)) w c s i r kept differs h
     move_joined _ w k window start exponent weight c s i r.1.1.1.1.1.0 kept h
 move_done (Asked (Offload k exponent weight)) w c s i r kept differs h =
     move_offloaded _ w k exponent weight c s i r.1.1.1.0 kept h
+move_done (Asked (Plain k start exponent weight)) w c s i r kept differs h =
+    move_joined_plain _ w k start exponent weight c s i r.1.1.1.1.0 kept h
 move_done (Asked (Weight k weight)) w c s i r kept differs h =
     move_turn _ c s i 0 0 (books w) _ (stays_listed c s i w _ h)
     (ap (λ (b : Books). b.rotations c) (books_weighed w k weight))
@@ -586,6 +596,14 @@ move_done (Asked (Start k)) w c s i r kept differs h =
     move_same _ c s i _ _ (stays_listed c s i w _ h) (books_started w k)
 move_done (Asked (Flush k t)) w c s i r kept differs h =
     move_same _ c s i _ _ (stays_listed c s i w _ h) (books_flushed w k t)
+move_done (Asked (Hold k t)) w c s i r kept differs h =
+    move_same _ c s i _ _ (stays_listed c s i w _ h) (books_held w k t)
+move_done (Asked (Begin k t window)) w c s i r kept differs h =
+    move_same _ c s i _ _ (stays_listed c s i w _ h) (books_begun w k t window)
+move_done (Asked (Free k t)) w c s i r kept differs h =
+    move_same _ c s i _ _ (stays_listed c s i w _ h) (books_freed w k t)
+move_done (Asked (Cease k t)) w c s i r kept differs h =
+    move_same _ c s i _ _ (stays_listed c s i w _ h) (books_ceased w k t)
 move_done (Asked (Wake k)) w c s i r kept differs h =
     move_same _ c s i _ _ (stays_listed c s i w _ h) (books_woken w k)
 move_done (Asked (Poll k)) w c s i r kept differs h =

@@ -4,7 +4,7 @@ use Rattle.std.proofs.Common.{◌≡◌, refl, ap, sym, ◌∙◌, subst, ℕ, �
 use Rattle.std.proofs.lemmas.Bool.{eqb-false}
 use Rattle.wf_frame.specs.declared.settings.Config.{Config}
 use Rattle.wf_frame.specs.declared.classes.Class.{Class}
-use Rattle.wf_frame.specs.declared.notes.Ask.TheVariants.{Join, Leave, Rate, Tick, Pull, Arrive, Answer, Done, Sleep, Wake, Poll, Rx, Reap, Ampdu, Stop, Start, Unsent, GiveUp, Flush, Offload, Weight}
+use Rattle.wf_frame.specs.declared.notes.Ask.TheVariants.{Join, Leave, Rate, Tick, Pull, Arrive, Answer, Done, Sleep, Wake, Poll, Rx, Reap, Ampdu, Stop, Start, Unsent, GiveUp, Flush, Offload, Weight, Plain, Hold, Begin, Free, Cease}
 use Rattle.wf_frame.specs.declared.notes.Limits.{Limits}
 use Rattle.wf_frame.specs.declared.notes.Note.{Note}
 use Rattle.wf_frame.specs.declared.notes.Note.TheVariants.{Enqueue, Asked}
@@ -25,7 +25,7 @@ use Rattle.wf_law_runs.specs.Deficits.{is_weight_of, WeightLaw}
 use Rattle.wf_law_runs.proofs.Common.Refused.{after_idle}
 use Rattle.wf_law_runs.proofs.Common.Limits.{with_limits}
 use Rattle.wf_law_runs.proofs.Deficits.Books.{Account, account, Books, books, with_account, on_part, upd_other, each_upd, each_updc}
-use Rattle.wf_law_runs.proofs.Deficits.BookSteps.{with_opened, charge_share, with_charge, receive_share, rated, pay_share, paid, after, books_ended, books_gone, books_enqueued, books_received, books_reaped, books_slept, books_woken, books_credited, books_with_rate, books_joined, books_after_pick, books_stated, books_stopped, books_started, books_flushed, books_offloaded, books_weighed}
+use Rattle.wf_law_runs.proofs.Deficits.BookSteps.{with_opened, charge_share, with_charge, receive_share, rated, pay_share, paid, after, books_ended, books_gone, books_enqueued, books_received, books_reaped, books_slept, books_woken, books_credited, books_with_rate, books_joined, books_after_pick, books_stated, books_stopped, books_started, books_flushed, books_offloaded, books_weighed, books_joined_plain, books_held, books_begun, books_freed, books_ceased}
 use Rattle.wf_law_runs.proofs.Deficits.Kept.{IsKept}
 use Rattle.wf_law_runs.proofs.Deficits.KeptStep.{NoRow, no_row, kept, live_account, IsFound, books_arrived, books_unsent, books_given_up, books_answered}
 use Rattle.wf_law_runs.proofs.Deficits.Listing.{longer_listed}
@@ -123,6 +123,9 @@ firm_done (Asked (Join i window start exponent weight)) w s r k other live still
 firm_done (Asked (Offload i exponent weight)) w s r k other live still =
     firm_books s (books w) _ _ (books_offloaded w i exponent weight)
     (firm_other s i (books w) _ (differs w i s r.1.1.1.0 live))
+firm_done (Asked (Plain i start exponent weight)) w s r k other live still =
+    firm_books s (books w) _ _ (books_joined_plain w i start exponent weight)
+    (firm_other s i (books w) _ (differs w i s r.1.1.1.1.0 live))
 firm_done (Asked (Weight i weight)) w s r k other live still =
     firm_books s (books w) _ _ (books_weighed w i weight)
     (firm_other s i (books w) _ (λ e. eqb-false i s other (sym e)))
@@ -153,6 +156,10 @@ firm_done (Asked (Ampdu i octets)) w s r k other live still = firm_same s _ _ (b
 firm_done (Asked (Stop i)) w s r k other live still = firm_same s _ _ (books_stopped w i)
 firm_done (Asked (Start i)) w s r k other live still = firm_same s _ _ (books_started w i)
 firm_done (Asked (Flush i t)) w s r k other live still = firm_same s _ _ (books_flushed w i t)
+firm_done (Asked (Hold i t)) w s r k other live still = firm_same s _ _ (books_held w i t)
+firm_done (Asked (Begin i t window)) w s r k other live still = firm_same s _ _ (books_begun w i t window)
+firm_done (Asked (Free i t)) w s r k other live still = firm_same s _ _ (books_freed w i t)
+firm_done (Asked (Cease i t)) w s r k other live still = firm_same s _ _ (books_ceased w i t)
 firm_done (Asked (Wake i)) w s r k other live still = firm_same s _ _ (books_woken w i)
 firm_done (Asked (Poll i)) w s r k other live still = firm_same s _ _ (books_credited w i)
 firm_done (Asked (Rx i d air)) w s r k other live still =

@@ -3,7 +3,7 @@
 use Rattle.std.proofs.Common.{◌≡◌, refl, sym, ◌∙◌, subst, ℕ, ◌<◌, Bool, false, Option, Some, None, is_some, IfSome, option_map, ◌==◌, find, eq-eqb}
 use Rattle.std.proofs.lemmas.Bool.{and_parts, not-false, leb-true}
 use Rattle.wf_frame.specs.declared.classes.Class.{Class}
-use Rattle.wf_frame.specs.declared.notes.Ask.TheVariants.{Join, Leave, Rate, Tick, Pull, Arrive, Answer, Done, Sleep, Wake, Poll, Rx, Reap, Ampdu, Stop, Start, Unsent, GiveUp, Flush, Offload, Weight}
+use Rattle.wf_frame.specs.declared.notes.Ask.TheVariants.{Join, Leave, Rate, Tick, Pull, Arrive, Answer, Done, Sleep, Wake, Poll, Rx, Reap, Ampdu, Stop, Start, Unsent, GiveUp, Flush, Offload, Weight, Plain, Hold, Begin, Free, Cease}
 use Rattle.wf_frame.specs.declared.notes.AskedRate.{AskedRate}
 use Rattle.wf_frame.specs.declared.notes.Limits.{Limits}
 use Rattle.wf_frame.specs.declared.notes.Note.{Note}
@@ -21,7 +21,7 @@ use Rattle.wf_law_runs.specs.Shares.{ChargesWithin}
 use Rattle.wf_law_runs.proofs.Common.Refused.{if_idle}
 use Rattle.wf_law_runs.proofs.Common.Limits.{with_limits}
 use Rattle.wf_law_runs.proofs.Deficits.Books.{core, Books, books, with_account, on_part}
-use Rattle.wf_law_runs.proofs.Deficits.BookSteps.{with_opened, with_charge, without, receive_share, rated, after, books_ended, books_gone, all_off, books_enqueued, books_received, books_reaped, books_slept, books_woken, books_credited, books_with_rate, fresh_account, books_joined, books_after_pick, books_stated, books_stopped, books_started, books_flushed, books_offloaded, books_weighed, with_weight}
+use Rattle.wf_law_runs.proofs.Deficits.BookSteps.{with_opened, with_charge, without, receive_share, rated, after, books_ended, books_gone, all_off, books_enqueued, books_received, books_reaped, books_slept, books_woken, books_credited, books_with_rate, fresh_account, books_joined, books_after_pick, books_stated, books_stopped, books_started, books_flushed, books_offloaded, books_weighed, with_weight, books_joined_plain, books_held, books_begun, books_freed, books_ceased}
 use Rattle.wf_law_runs.proofs.Deficits.Kept.{IsKept}
 use Rattle.wf_law_runs.proofs.Deficits.KeptStep.{NoRow, no_row, live_account, IsFound, at_number, books_arrived, books_unsent, books_given_up, books_answered, kept_done}
 use Rattle.wf_law_runs.proofs.Deficits.Listing.{IsLonger, longer_listed}
@@ -86,6 +86,10 @@ module _ (err : ℕ) (w : World) (P : Books → Type 0) (kept : IsKept (books w)
       changed _ _ (books_offloaded w i exponent weight)
       (p.joined i weight (live_account (at None w.stations i) ∙ r.1.1.1.0)
       (leb-true _ _ (and_parts _ _ (not-false _ r.1.1.0)).0))
+  changes_done (Asked (Plain i start exponent weight)) fine r near k =
+      changed _ _ (books_joined_plain w i start exponent weight)
+      (p.joined i weight (live_account (at None w.stations i) ∙ r.1.1.1.1.0)
+      (leb-true _ _ (and_parts _ _ (not-false _ r.1.1.1.0)).0))
   changes_done (Asked (Weight i weight)) fine r near k = changed _ _ (books_weighed w i weight)
       (p.weighed i weight (leb-true _ _ (and_parts _ _ (not-false _ r.1.0)).0))
   changes_done (Asked (Leave i)) fine r near k = changed _ _ (books_gone w i) (p.gone i)
@@ -107,6 +111,10 @@ module _ (err : ℕ) (w : World) (P : Books → Type 0) (kept : IsKept (books w)
   changes_done (Asked (Stop i)) fine r near k = changed _ _ (books_stopped w i) p.same
   changes_done (Asked (Start i)) fine r near k = changed _ _ (books_started w i) p.same
   changes_done (Asked (Flush i t)) fine r near k = changed _ _ (books_flushed w i t) p.same
+  changes_done (Asked (Hold i t)) fine r near k = changed _ _ (books_held w i t) p.same
+  changes_done (Asked (Begin i t window)) fine r near k = changed _ _ (books_begun w i t window) p.same
+  changes_done (Asked (Free i t)) fine r near k = changed _ _ (books_freed w i t) p.same
+  changes_done (Asked (Cease i t)) fine r near k = changed _ _ (books_ceased w i t) p.same
   changes_done (Asked (Wake i)) fine r near k = changed _ _ (books_woken w i) p.same
   changes_done (Asked (Poll i)) fine r near k = changed _ _ (books_credited w i) p.same
   changes_done (Asked (Rx i d air)) fine r near k = changed _ _ (books_received w i d air)

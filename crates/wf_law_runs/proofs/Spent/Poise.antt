@@ -13,7 +13,7 @@ use Rattle.wf_def_lists.specs.Lists.{on}
 use Rattle.wf_def_rotation.specs.Rotation.{in_order, need_of}
 use Rattle.wf_def_world.specs.World.{World, Share, Exchange, owed, rotation}
 use Rattle.wf_def_world.specs.Exchanges.{picked_station, station_need, longest_computed}
-use Rattle.wf_def_world.specs.Step.{step, at_most, share_with_deficit}
+use Rattle.wf_def_world.specs.Step.{step, lesser_of, share_with_deficit}
 use Rattle.wf_def_world.specs.Run.{Entry, world_after}
 use Rattle.wf_law_runs.specs.Deficits.{IsNear}
 use Rattle.wf_law_runs.specs.Shares.{ChargesWithin, AreWithin, error_of}
@@ -75,7 +75,8 @@ poised_pay config c err o m k weight n x need less p = record {
 
 poised_open : (config : Config) (c : Class) (err o m k charge weight : ℕ) (x : Share) →
     pos 1 ≤ℤ (x.deficit -ℤ pos o) → charge ≤ longest_computed config c → k + err ≤ error_of config err →
-    IsPoised config c err o m k weight x → IsPoised config c err (o + charge) (m + min err charge) (k + err) weight x
+    IsPoised config c err o m k weight x →
+    IsPoised config c err (o + charge) (m + min err charge) (k + err) weight x
 poised_open config c err o m k charge weight x above fits few p = record {
   most = omega (arith, ints, p.most, least);
   floor = λ r. omega (arith, ints);
@@ -114,7 +115,7 @@ poised_lowered : (config : Config) (c : Class) (err o m k weight g r : ℕ) (x :
     k ≤ error_of config err → IsPoised config c err o m k weight x →
     IsPoised config c err o m k g (lowered (config.quantum * g) r x)
 poised_lowered config c err o m k weight g r x one below short less few p =
-    go (at_most (config.quantum * g + r) x.deficit) (at_most_cases (config.quantum * g + r) x.deficit)
+    go (lesser_of (config.quantum * g + r) x.deficit) (at_most_cases (config.quantum * g + r) x.deficit)
   where
     go : (d : ℤ) → ((d ≡ x.deficit) × (x.deficit ≤ℤ pos (config.quantum * g + r)))
         ⊎ (d ≡ pos (config.quantum * g + r)) →

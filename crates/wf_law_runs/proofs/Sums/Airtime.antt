@@ -4,7 +4,7 @@ use Rattle.std.proofs.Common.{◌≡◌, refl, ap, sym, ◌∙◌, subst, arith,
 use Rattle.std.proofs.lemmas.Bool.{cases_eq, ne_eqb}
 use Rattle.wf_frame.specs.declared.settings.Config.{Config}
 use Rattle.wf_frame.specs.declared.classes.Class.{Class}
-use Rattle.wf_frame.specs.declared.notes.Ask.TheVariants.{Join, Leave, Rate, Tick, Pull, Arrive, Answer, Done, Sleep, Wake, Poll, Rx, Reap, Ampdu, Stop, Start, Unsent, GiveUp, Flush, Offload, Weight}
+use Rattle.wf_frame.specs.declared.notes.Ask.TheVariants.{Join, Leave, Rate, Tick, Pull, Arrive, Answer, Done, Sleep, Wake, Poll, Rx, Reap, Ampdu, Stop, Start, Unsent, GiveUp, Flush, Offload, Weight, Plain, Hold, Begin, Free, Cease}
 use Rattle.wf_frame.specs.declared.notes.Note.{Note}
 use Rattle.wf_frame.specs.declared.notes.Note.TheVariants.{Enqueue, Asked}
 use Rattle.wf_frame.specs.declared.notes.Refusal.{Refusal}
@@ -21,7 +21,7 @@ use Rattle.wf_frame.specs.Settings.{IsInRange}
 use Rattle.wf_law_runs.specs.Sums.{since_join, air_by, charged_over, received_over}
 use Rattle.wf_law_runs.proofs.Common.Refused.{after_idle}
 use Rattle.wf_law_runs.proofs.Deficits.Books.{Account, account, Books, books, with_account, on_part, upd_same, upd_other, each_upd, updc_same, updc_other, each_updc, cases_class}
-use Rattle.wf_law_runs.proofs.Deficits.BookSteps.{books_ended, books_gone, all_off, books_enqueued, receive_share, books_received, books_reaped, books_slept, books_woken, books_credited, rated, books_with_rate, fresh_account, books_joined, charge_share, pay_share, after, books_after_pick, books_stated, books_stopped, books_started, books_flushed, books_offloaded, books_weighed, reweighed}
+use Rattle.wf_law_runs.proofs.Deficits.BookSteps.{books_ended, books_gone, all_off, books_enqueued, receive_share, books_received, books_reaped, books_slept, books_woken, books_credited, rated, books_with_rate, fresh_account, books_joined, charge_share, pay_share, after, books_after_pick, books_stated, books_stopped, books_started, books_flushed, books_offloaded, books_weighed, reweighed, books_joined_plain, books_held, books_begun, books_freed, books_ceased}
 use Rattle.wf_law_runs.proofs.Deficits.Kept.{IsKept, if_map}
 use Rattle.wf_law_runs.proofs.Deficits.KeptStep.{IsFound, books_arrived, books_unsent, books_given_up, books_answered, kept_step, kept_opening}
 use Rattle.wf_law_runs.proofs.Fairness.OldOrder.{calm_pulled, owing, owing_done, owing_refused}
@@ -135,6 +135,7 @@ nothing_if false = refl
 abbrev begun : ℕ → Note → ℕ → ℕ
 begun s (Asked (Join i window start exponent weight)) n = if i == s then 0 else n
 begun s (Asked (Offload i exponent weight)) n = if i == s then 0 else n
+begun s (Asked (Plain i start exponent weight)) n = if i == s then 0 else n
 begun s _ n = n
 
 abbrev sending : ℕ → Class → Note → ℕ
@@ -147,6 +148,8 @@ begun_done (Asked (Join i window start exponent weight)) w s n h =
     ap (λ (o : Option Refusal). if is_none o && (i == s) then 0 else n) h
 begun_done (Asked (Offload i exponent weight)) w s n h =
     ap (λ (o : Option Refusal). if is_none o && (i == s) then 0 else n) h
+begun_done (Asked (Plain i start exponent weight)) w s n h =
+    ap (λ (o : Option Refusal). if is_none o && (i == s) then 0 else n) h
 begun_done _ w s n h = refl
 
 begun_refused : (note : Note) (r : Refusal) (w : World) (s n : ℕ) → refusal w note ≡ Some r →
@@ -154,6 +157,8 @@ begun_refused : (note : Note) (r : Refusal) (w : World) (s n : ℕ) → refusal 
 begun_refused (Asked (Join i window start exponent weight)) r w s n h =
     ap (λ (o : Option Refusal). if is_none o && (i == s) then 0 else n) h
 begun_refused (Asked (Offload i exponent weight)) r w s n h =
+    ap (λ (o : Option Refusal). if is_none o && (i == s) then 0 else n) h
+begun_refused (Asked (Plain i start exponent weight)) r w s n h =
     ap (λ (o : Option Refusal). if is_none o && (i == s) then 0 else n) h
 begun_refused _ r w s n h = refl
 
@@ -212,6 +217,9 @@ sum_done (Asked (Join i window start exponent weight)) w c p q s k h =
 sum_done (Asked (Offload i exponent weight)) w c p q s k h =
     still c _ _ _ (sum_books c _ _ s _ _ (books_offloaded w i exponent weight)
     (sum_joined c p q s i w.config.quantum weight (books w) h))
+sum_done (Asked (Plain i start exponent weight)) w c p q s k h =
+    still c _ _ _ (sum_books c _ _ s _ _ (books_joined_plain w i start exponent weight)
+    (sum_joined c p q s i w.config.quantum weight (books w) h))
 sum_done (Asked (Weight i weight)) w c p q s k h =
     still c p q _ (sum_books c p q s _ _ (books_weighed w i weight)
     (sum_on c p q s i (books w) (reweighed w.config (books w).opened i weight)
@@ -240,10 +248,16 @@ sum_done (Asked (Done e heard air)) w c p q s k h =
     sum_open w e (exchange w e) _ c p q s (λ o. charge_to s c air o) refl refl h
     (λ x f. sum_ended air w x heard c p q s h)
 sum_done (Asked (Sleep i)) w c p q s k h = still c p q _ (sum_books c p q s _ _ (books_slept w i) h)
-sum_done (Asked (Ampdu i octets)) w c p q s k h = still c p q _ (sum_books c p q s _ _ (books_stated w i octets) h)
+sum_done (Asked (Ampdu i octets)) w c p q s k h =
+    still c p q _ (sum_books c p q s _ _ (books_stated w i octets) h)
 sum_done (Asked (Stop i)) w c p q s k h = still c p q _ (sum_books c p q s _ _ (books_stopped w i) h)
 sum_done (Asked (Start i)) w c p q s k h = still c p q _ (sum_books c p q s _ _ (books_started w i) h)
 sum_done (Asked (Flush i t)) w c p q s k h = still c p q _ (sum_books c p q s _ _ (books_flushed w i t) h)
+sum_done (Asked (Hold i t)) w c p q s k h = still c p q _ (sum_books c p q s _ _ (books_held w i t) h)
+sum_done (Asked (Begin i t window)) w c p q s k h =
+    still c p q _ (sum_books c p q s _ _ (books_begun w i t window) h)
+sum_done (Asked (Free i t)) w c p q s k h = still c p q _ (sum_books c p q s _ _ (books_freed w i t) h)
+sum_done (Asked (Cease i t)) w c p q s k h = still c p q _ (sum_books c p q s _ _ (books_ceased w i t) h)
 sum_done (Asked (Wake i)) w c p q s k h = still c p q _ (sum_books c p q s _ _ (books_woken w i) h)
 sum_done (Asked (Poll i)) w c p q s k h = still c p q _ (sum_books c p q s _ _ (books_credited w i) h)
 sum_done (Asked (Rx i d air)) w c p q s k h = sum_received w i d air c p q s h

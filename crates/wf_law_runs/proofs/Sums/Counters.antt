@@ -3,7 +3,7 @@
 use Rattle.std.proofs.Common.{◌≡◌, refl, arith, ℕ, zero, suc, ◌+◌, ◌-◌, ◌≤◌, ◌==◌, not, nat_lt, Bool, true, false, if◌then◌else◌, List, [], ◌∷◌, length, Option, Some, None}
 use Rattle.wf_frame.specs.declared.classes.Class.{Class}
 use Rattle.wf_frame.specs.declared.classes.Fate.{Fate}
-use Rattle.wf_frame.specs.declared.notes.Ask.TheVariants.{Join, Leave, Rate, Tick, Pull, Arrive, Answer, Done, Sleep, Wake, Poll, Rx, Reap, Ampdu, Stop, Start, Unsent, GiveUp, Flush, Offload, Weight}
+use Rattle.wf_frame.specs.declared.notes.Ask.TheVariants.{Join, Leave, Rate, Tick, Pull, Arrive, Answer, Done, Sleep, Wake, Poll, Rx, Reap, Ampdu, Stop, Start, Unsent, GiveUp, Flush, Offload, Weight, Plain, Hold, Begin, Free, Cease}
 use Rattle.wf_frame.specs.declared.notes.Limits.{Limits}
 use Rattle.wf_frame.specs.declared.notes.Note.{Note}
 use Rattle.wf_frame.specs.declared.notes.Note.TheVariants.{Enqueue, Asked}
@@ -14,13 +14,14 @@ use Rattle.wf_def_lists.specs.Table.{upto}
 use Rattle.wf_def_codel.specs.Codel.{Item}
 use Rattle.wf_def_rotation.specs.Rotation.{in_order}
 use Rattle.wf_def_agreement.specs.Session.{Session, End, request_due}
+use Rattle.wf_def_agreement.specs.Receiver.{Receiver}
 use Rattle.wf_def_lists.specs.Bounds.{greatest_tick}
 use Rattle.wf_def_world.specs.FlowQueues.{is_at_limit, without_head, after_limit, longest_queue, with_listed_queue, with_appended, after_put_in, with_queues_paid, taken_by_codel, taken_from_picked, taken_for_tid, after_queue_left, after_queues_left, after_queue_flushed, after_queues_flushed}
 use Rattle.wf_def_world.specs.CanSend.{with_listing_in, with_listings_in, with_listings_of, can_give}
-use Rattle.wf_def_world.specs.Exchanges.{picked_station, most_frames, waiting_mpdus, longest_fitting, Aggregate, Prepared, with_station_paid, with_stations_paid, after_pick, after_tid_turn, with_number, with_fresh, aggregate_of, prepared_data, prepared_exchange, without_credit, with_exchange_opened, after_charge, with_failed_finished, with_settled, with_all_settled, after_done, caught_up, with_device_caught_up}
+use Rattle.wf_def_world.specs.Exchanges.{picked_station, most_frames, waiting_mpdus, longest_fitting, Aggregate, Prepared, with_station_paid, with_stations_paid, after_pick, after_tid_turn, with_number, with_fresh, aggregate_of, prepared_data, prepared_exchange, without_credit, with_exchange_opened, after_charge, with_failed_finished, with_settled, with_all_settled, after_done, caught_up, caught_up_if_plain}
 use Rattle.wf_def_world.specs.Refusals.{refusals, refusal}
-use Rattle.wf_def_world.specs.Step.{Outcome, join_outcome, after_tid_left, after_tids_left, without_listings, leave_outcome, after_tid_flushed, flush_outcome, rate_outcome, tick_outcome, with_frame, enqueue_outcome, send_outcome, pull_outcome_for, pull_outcome, arrive_outcome, answer_outcome, unsent_outcome, give_up_outcome, done_outcome, outcome_where_open, sleep_outcome, wake_outcome, poll_outcome, rx_outcome, reap_outcome, concerned_station, outcome_of, after_refusal, judged_outcome, step, offload_outcome, weight_outcome, with_deficits_lowered}
-use Rattle.wf_def_world.specs.World.{World, Station, Share, Tid, Exchange, Mpdu, Content, Frames, Request, session, queue, rotation, exchange, with_station, on_station, on_tid, on_session, on_receiver, with_queues, on_share, on_queue, with_rotation, with_fate, with_frame_finished, with_frames_finished, with_exchange, without_exchange}
+use Rattle.wf_def_world.specs.Step.{Outcome, join_outcome, after_tid_left, after_tids_left, without_listings, leave_outcome, after_tid_flushed, flush_outcome, rate_outcome, tick_outcome, with_frame, enqueue_outcome, send_outcome, pull_outcome_for, pull_outcome, arrive_outcome, answer_outcome, unsent_outcome, give_up_outcome, done_outcome, outcome_where_open, sleep_outcome, wake_outcome, poll_outcome, rx_outcome, reap_outcome, concerned_station, outcome_of, after_refusal, judged_outcome, step, offload_outcome, weight_outcome, with_deficits_lowered, plain_outcome, with_window, after_numbers_ended, hold_outcome, begin_outcome, free_outcome, cease_outcome}
+use Rattle.wf_def_world.specs.World.{World, Mode, Station, Share, Tid, Exchange, Mpdu, Content, Frames, Request, session, queue, rotation, exchange, with_station, on_station, on_tid, on_session, on_receiver, with_queues, on_share, on_queue, with_rotation, with_fate, with_frame_finished, with_frames_finished, with_exchange, without_exchange, with_mode}
 use Rattle.wf_law_rules.proofs.Lemmas.Numbers.{lt_no}
 use Rattle.wf_law_runs.proofs.Common.Refused.{after_idle}
 use Rattle.wf_law_runs.proofs.Common.Limits.{with_limits}
@@ -169,9 +170,18 @@ module _ (a b : ℕ) where
   kept_all_settled (m ∷ ms) w s t ends h = kept_all_settled ms _ s t ends
       (kept_settled (ends m.number) w s t m h)
 
-  kept_caught_up : (w : World) (s t : ℕ) → Counts w → Counts (with_device_caught_up w s t)
-  unfolding with_device_caught_up caught_up on_receiver
-  kept_caught_up w s t h = kept_if _ _ w (kept_tid _ s t _ (kept_session w s t _ h)) h
+  -- A change of a receiver, and a TID that catches up, advance neither.
+  kept_receiver : (w : World) (s t : ℕ) (f : Receiver → Receiver) → Counts w → Counts (on_receiver w s t f)
+  unfolding on_receiver
+  kept_receiver w s t f h = kept_tid w s t _ h
+
+  kept_caught_up : (w : World) (s t : ℕ) → Counts w → Counts (caught_up w s t)
+  unfolding caught_up
+  kept_caught_up w s t h = kept_receiver _ s t _ (kept_session w s t _ h)
+
+  kept_caught_up_if_plain : (w : World) (s t : ℕ) → Counts w → Counts (caught_up_if_plain w s t)
+  unfolding caught_up_if_plain
+  kept_caught_up_if_plain w s t h = kept_if _ w _ h (kept_caught_up w s t h)
 
   kept_lowered : (cs : List Class) (w : World) (s : ℕ) → Counts w → Counts (with_deficits_lowered w s cs)
   unfolding with_deficits_lowered
@@ -185,7 +195,8 @@ module _ (a b : ℕ) where
   kept_after_done : (content : Content) (w : World) (x : Exchange) (heard : Bool) → Counts w →
       Counts (after_done w x heard content)
   unfolding after_done
-  kept_after_done (Frames mpdus) w x heard h = kept_caught_up _ _ _ (kept_all_settled mpdus w _ _ _ h)
+  kept_after_done (Frames mpdus) w x heard h =
+      kept_caught_up_if_plain _ _ _ (kept_all_settled mpdus w _ _ _ h)
   kept_after_done (Request start) w x heard h = kept_session w _ _ _ h
 
   kept_ended : (air : Option ℕ) (w : World) (x : Exchange) (heard : Bool) → Counts w →
@@ -238,8 +249,35 @@ module _ (a b : ℕ) where
 
   kept_flushed : (w : World) (s t : ℕ) → Counts w → Counts (flush_outcome w s t).world
   unfolding flush_outcome after_tid_flushed
-  kept_flushed w s t h = kept_caught_up _ s t
+  kept_flushed w s t h = kept_caught_up_if_plain _ s t
       (kept_flush_queues _ _ (kept_finish_all _ _ _ (kept_session w s t _ h)))
+
+  -- Nor does a mode or a window, so nor do the calls of modes.
+  kept_with_mode : (w : World) (s t : ℕ) (mode : Mode) → Counts w → Counts (with_mode w s t mode)
+  unfolding with_mode
+  kept_with_mode w s t mode h = kept_tid w s t _ h
+
+  kept_with_window : (w : World) (s t size : ℕ) → Counts w → Counts (with_window w s t size)
+  unfolding with_window
+  kept_with_window w s t size h = kept_receiver _ s t _ (kept_session w s t _ h)
+
+  kept_held : (w : World) (s t : ℕ) → Counts w → Counts (hold_outcome w s t).world
+  unfolding hold_outcome
+  kept_held w s t h = kept_with_mode w s t _ h
+
+  kept_begun : (w : World) (s t window : ℕ) → Counts w → Counts (begin_outcome w s t window).world
+  unfolding begin_outcome
+  kept_begun w s t window h = kept_with_mode _ s t _
+      (kept_with_window _ s t window (kept_caught_up w s t h))
+
+  kept_freed : (w : World) (s t : ℕ) → Counts w → Counts (free_outcome w s t).world
+  unfolding free_outcome
+  kept_freed w s t h = kept_with_mode w s t _ h
+
+  kept_ceased : (w : World) (s t : ℕ) → Counts w → Counts (cease_outcome w s t).world
+  unfolding cease_outcome after_numbers_ended
+  kept_ceased w s t h = kept_with_mode _ s t _ (kept_with_window _ s t _
+      (kept_caught_up _ s t (kept_finish_all _ _ _ (kept_session w s t _ h))))
 
   kept_gone : (w : World) (s : ℕ) → Counts w → Counts (leave_outcome w s).world
   unfolding leave_outcome
@@ -286,11 +324,12 @@ ticked a b by w e h = (omega (arith, h.0, lt_no greatest_tick by e), omega (arit
 
 kept_done : (a b : ℕ) (note : Note) (w : World) → NoRow (refusals w note) → Counts a b w →
     Counts (a + greatest_tick) (b + 1) (outcome_of w note).world
-unfolding outcome_of join_outcome offload_outcome rate_outcome sleep_outcome wake_outcome poll_outcome
-    rx_outcome
+unfolding outcome_of join_outcome offload_outcome plain_outcome rate_outcome sleep_outcome wake_outcome
+    poll_outcome rx_outcome
 kept_done a b (Enqueue s t flow len) w e h = more a b _ _ (kept_enqueued a b w s t flow len h)
 kept_done a b (Asked (Join s window start exponent weight)) w e h = more a b _ _ (put_station a b w s _ h)
 kept_done a b (Asked (Offload s exponent weight)) w e h = more a b _ _ (put_station a b w s _ h)
+kept_done a b (Asked (Plain s start exponent weight)) w e h = more a b _ _ (put_station a b w s _ h)
 kept_done a b (Asked (Weight s weight)) w e h = more a b _ _ (kept_weighed a b w s weight h)
 kept_done a b (Asked (Leave s)) w e h = more a b _ _ (kept_gone a b w s h)
 kept_done a b (Asked (Rate s rate)) w e h = more a b _ _ (set_station a b w s _ h)
@@ -303,6 +342,10 @@ kept_done a b (Asked (Unsent x n)) w e h = more a b _ _
 kept_done a b (Asked (GiveUp x n)) w e h = more a b _ _
     (kept_open a b (exchange w x) w _ (λ y. kept_given_up a b w y n h) h)
 kept_done a b (Asked (Flush s t)) w e h = more a b _ _ (kept_flushed a b w s t h)
+kept_done a b (Asked (Hold s t)) w e h = more a b _ _ (kept_held a b w s t h)
+kept_done a b (Asked (Begin s t window)) w e h = more a b _ _ (kept_begun a b w s t window h)
+kept_done a b (Asked (Free s t)) w e h = more a b _ _ (kept_freed a b w s t h)
+kept_done a b (Asked (Cease s t)) w e h = more a b _ _ (kept_ceased a b w s t h)
 kept_done a b (Asked (Answer x)) w e h = more a b _ _
     (kept_open a b (exchange w x) w _ (λ y. kept_answered a b w y h) h)
 kept_done a b (Asked (Done x heard air)) w e h = more a b _ _

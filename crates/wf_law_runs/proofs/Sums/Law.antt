@@ -3,7 +3,7 @@ use Rattle.std.proofs.Common.{◌≡◌, refl, arith, ℕ, zero, suc, ◌+◌, �
 use Rattle.std.proofs.lemmas.Bool.{and_parts, not-false}
 use Rattle.wf_frame.specs.declared.settings.Config.{Config}
 use Rattle.wf_frame.specs.declared.classes.Class.{Class}
-use Rattle.wf_frame.specs.declared.notes.Ask.TheVariants.{Join, Done, Rx, Offload}
+use Rattle.wf_frame.specs.declared.notes.Ask.TheVariants.{Join, Done, Rx, Offload, Plain}
 use Rattle.wf_frame.specs.declared.notes.Note.{Note}
 use Rattle.wf_frame.specs.declared.notes.Note.TheVariants.{Enqueue, Asked}
 use Rattle.wf_frame.specs.declared.notes.Refusal.{Refusal}
@@ -87,6 +87,12 @@ since_less (Asked (Join i window start exponent weight)) w s n =
     go false = omega arith
 since_less (Asked (Offload i exponent weight)) w s n =
     go (is_none (refusal w (Asked (Offload i exponent weight))) && (i == s))
+  where
+    go : (b : Bool) → (if b then 0 else n) ≤ n
+    go true = omega arith
+    go false = omega arith
+since_less (Asked (Plain i start exponent weight)) w s n =
+    go (is_none (refusal w (Asked (Plain i start exponent weight))) && (i == s))
   where
     go : (b : Bool) → (if b then 0 else n) ≤ n
     go true = omega arith

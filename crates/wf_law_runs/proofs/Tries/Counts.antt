@@ -5,7 +5,7 @@ use Rattle.std.proofs.lemmas.List.Sums.{sum_by-cons}
 use Rattle.wf_frame.specs.declared.settings.Config.{Config}
 use Rattle.wf_frame.specs.declared.classes.Class.{Class}
 use Rattle.wf_frame.specs.declared.classes.Fate.{Fate}
-use Rattle.wf_frame.specs.declared.notes.Ask.TheVariants.{Join, Leave, Rate, Tick, Pull, Arrive, Answer, Done, Sleep, Wake, Poll, Rx, Reap, Ampdu, Stop, Start, Unsent, GiveUp, Flush, Offload, Weight}
+use Rattle.wf_frame.specs.declared.notes.Ask.TheVariants.{Join, Leave, Rate, Tick, Pull, Arrive, Answer, Done, Sleep, Wake, Poll, Rx, Reap, Ampdu, Stop, Start, Unsent, GiveUp, Flush, Offload, Weight, Plain, Hold, Begin, Free, Cease}
 use Rattle.wf_frame.specs.declared.notes.Limits.{Limits}
 use Rattle.wf_frame.specs.declared.notes.Note.{Note}
 use Rattle.wf_frame.specs.declared.notes.Note.TheVariants.{Enqueue, Asked}
@@ -16,12 +16,12 @@ use Rattle.wf_frame.specs.Classes.{all_classes}
 use Rattle.wf_def_lists.specs.Table.{at, has, upto, with_member}
 use Rattle.wf_def_codel.specs.Codel.{Item}
 use Rattle.wf_def_agreement.specs.Session.{End, Session, Slot, State, no_slot, slot, on_slot, with_state, with_number_given, slot_after_miss, slot_given_up, after_flush, next_number, is_settled, is_waiting, is_failed, request_due, new_session, start_of}
-use Rattle.wf_def_world.specs.World.{World, Station, Exchange, Mpdu, Content, Frames, Request, new_tid, session, queue, is_live, exchange, accepted_count, with_station, on_station, on_session, on_receiver, with_exchange, without_exchange, with_frame_finished, opening, is_offloaded}
+use Rattle.wf_def_world.specs.World.{World, Mode, Station, Tid, Exchange, Mpdu, Content, Frames, Request, new_tid, tid_of, session, queue, is_live, exchange, accepted_count, with_mode, with_station, on_station, on_tid, on_session, on_receiver, with_exchange, without_exchange, with_frame_finished, opening, is_offloaded, is_plain}
 use Rattle.wf_def_world.specs.FlowQueues.{taken_for_tid, after_limit, after_put_in, with_appended, queue_for}
 use Rattle.wf_def_world.specs.CanSend.{can_send_in, can_give}
-use Rattle.wf_def_world.specs.Exchanges.{Aggregate, Prepared, most_frames, end_of, numbers_unsent, mpdus_of, part_of, picked_station, sending_tid, waiting_mpdus, longest_fitting, with_number, with_fresh, aggregate_of, with_flying, prepared_data, prepared_exchange, with_exchange_opened, after_tid_turn, after_arrival, after_charge, with_failed_finished, with_settled, with_all_settled, with_heard_start, after_done, caught_up, with_device_caught_up}
+use Rattle.wf_def_world.specs.Exchanges.{Aggregate, Prepared, most_frames, end_of, numbers_unsent, mpdus_of, part_of, picked_station, sending_tid, waiting_mpdus, longest_fitting, with_number, with_fresh, aggregate_of, with_flying, prepared_data, prepared_exchange, with_exchange_opened, after_tid_turn, after_arrival, after_charge, with_failed_finished, with_settled, with_all_settled, with_heard_start, after_done, caught_up, caught_up_if_plain}
 use Rattle.wf_def_world.specs.Refusals.{refusal}
-use Rattle.wf_def_world.specs.Step.{Outcome, with_frame, enqueue_outcome, join_outcome, leave_outcome, rate_outcome, tick_outcome, send_outcome, pull_outcome_for, pull_outcome, arrive_outcome, answer_outcome, done_outcome, outcome_where_open, sleep_outcome, wake_outcome, poll_outcome, rx_outcome, reap_outcome, unsent_outcome, give_up_outcome, flush_outcome, outcome_of, concerned_station, after_refusal, judged_outcome, step, ampdu_outcome, stop_outcome, start_outcome, offload_outcome, weight_outcome, new_station}
+use Rattle.wf_def_world.specs.Step.{Outcome, with_frame, enqueue_outcome, join_outcome, leave_outcome, rate_outcome, tick_outcome, send_outcome, pull_outcome_for, pull_outcome, arrive_outcome, answer_outcome, done_outcome, outcome_where_open, sleep_outcome, wake_outcome, poll_outcome, rx_outcome, reap_outcome, unsent_outcome, give_up_outcome, flush_outcome, outcome_of, concerned_station, after_refusal, judged_outcome, step, ampdu_outcome, stop_outcome, start_outcome, offload_outcome, weight_outcome, plain_outcome, plain_window, hold_outcome, begin_outcome, free_outcome, cease_outcome, after_numbers_ended, waiting_ids, answer_reply, new_station}
 use Rattle.wf_def_world.specs.Run.{Entry, world_after}
 use Rattle.wf_law_runs.specs.Tries.{count_of, count_in_part, tries_by, tries, count_among, unsent_in, unsent_by, unsent, IsCounted}
 use Rattle.wf_law_rules.proofs.Lemmas.Numbers.{on_bool, on_if, eq_yes, eq_no, yes_eq, not_eq, both, and_true}
@@ -34,16 +34,18 @@ use Rattle.wf_law_runs.proofs.Common.Picked.{picked_world}
 use Rattle.wf_law_runs.proofs.Sessions.Starts.{at_change_same, at_change_other, length-change}
 use Rattle.wf_law_runs.proofs.Sessions.Flights.{AllIn, Rises, rises_weaken, all_in_later}
 use Rattle.wf_law_runs.proofs.Windows.Opened.{eight}
-use Rattle.wf_law_runs.proofs.Windows.Sides.{sided, Side, Same, sides_of, then_same, each_side_on, same_on_station, same_on_share, same_on_queue, same_finish, same_listed, same_after_pick, same_after_turn, same_spent, same_take, same_charged, same_within_limit, same_put_in, same_picked, same_weighed}
+use Rattle.wf_law_runs.proofs.Windows.Sides.{sided, Side, Same, sides_of, then_same, each_side_on, same_on_station, same_on_share, same_on_queue, same_finish, same_listed, same_after_pick, same_after_turn, same_spent, same_take, same_charged, same_within_limit, same_put_in, same_picked, same_weighed, same_ended, begun_is, ceased_is}
 use Rattle.wf_law_runs.proofs.Windows.Agreed.{IsLawful, IsReady, IsEnding, IsFound, found, ready_filled, ending_settled, ending_of, lawful_same, lawful_step, lawful_at_first, session_same, session_on_session, winner_ready, same_left_tids, same_off_lists}
 use Rattle.wf_law_runs.proofs.Releases.Kept.{KeptSession, kept_on_slot, Kept, keep_settled}
 use Rattle.wf_law_runs.proofs.Releases.Placed.{Placing, Numbered, Queued, Place, Any, placed_less, placed_at_first, queue_appended, less_put_in, less_with_frame, less_with_station, less_left_tids, less_off_lists, accepted_appended, accepted_with_frame, side_with_frame}
 use Rattle.wf_law_runs.proofs.Releases.Once.{placed_filled, placed_settled, placed_without, placed_step}
-use Rattle.wf_law_runs.proofs.Frames.Fewer.{carries, Less, then_less, less_plain, fewer_none, less_on_queue, less_on_station, less_on_session, less_on_receiver, less_on_share, less_finish, less_listed, less_after_pick, less_after_turn, less_spent, less_within_limit, less_charged, less_take, IsTaken, given_take, less_picked, less_weighed}
+use Rattle.wf_law_runs.proofs.Frames.Fewer.{carries, Less, then_less, less_plain, fewer_none, less_on_queue, less_on_station, less_on_session, less_on_receiver, less_on_share, less_finish, less_listed, less_after_pick, less_after_turn, less_spent, less_within_limit, less_charged, less_take, IsTaken, given_take, less_picked, less_weighed, less_on_tid, less_drop_all}
 use Rattle.wf_law_runs.proofs.Frames.Delivered.{Labelled, labelled_kept, labelled_filled, IsLabelled, labelled_step}
 use Rattle.wf_law_runs.proofs.Frames.Fates.{IsFoundNamed, found_named, session_on_receiver}
 use Rattle.wf_law_runs.proofs.Windows.Settling.{without_same}
-use Rattle.wf_def_agreement.specs.Receiver.{with_start}
+use Rattle.wf_def_agreement.specs.Receiver.{Score, with_start}
+use Rattle.wf_frame.specs.declared.classes.Cause.TheVariants.{Ended}
+use Rattle.wf_frame.specs.declared.classes.Fate.TheVariants.{Dropped}
 use Rattle.wf_def_lists.specs.Bounds.{greatest_window}
 
 -- How often each frame was sent, and how often an exchange that ended was to send it and did not.
@@ -463,11 +465,13 @@ times_batch id [] = refl
 times_batch id (m ∷ ms) = sum_by-cons (λ (i : ℕ). if i == id then 1 else 0) m.id (map (λ m. m.id) ms)
     ∙ ap (λ (k : ℕ). (if m.id == id then 1 else 0) + k) (times_batch id ms)
 
-pub times_part : (id : ℕ) (batch : Bool) (c : Content) → count_in_part id (part_of batch c) ≡ times_by id c
-times_part id false (Frames ms) = times_named id ms
-times_part id true (Frames ms) = times_batch id ms
-times_part id false (Request f) = refl
-times_part id true (Request f) = refl
+pub times_part : (id : ℕ) (batch plain : Bool) (c : Content) →
+    count_in_part id (part_of batch plain c) ≡ times_by id c
+times_part id false false (Frames ms) = times_named id ms
+times_part id false true (Frames ms) = times_named id ms
+times_part id true plain (Frames ms) = times_batch id ms
+times_part id false plain (Request f) = refl
+times_part id true plain (Request f) = refl
 
 counts_sent : (n : Count) (s t : ℕ) (c : Class) (p : Prepared) →
     Counts (plus n (λ k. times_by k p.content) zeros) p.world →
@@ -476,7 +480,7 @@ unfolding send_outcome with_exchange_opened
 counts_sent n s t c p h = counts_same _ _ _ (same_spent _ s) (less_spent Any _ s)
     (counts_less _ p.world _ (λ i j. refl) (less_plain Any p.world _ refl refl)
     (counts_equal _ _ p.world (λ k. ap (λ (m : ℕ). n.sent k + m)
-    (times_part k (is_offloaded p.world s) p.content)) (λ k. refl) h))
+    (times_part k (is_offloaded p.world s) (is_plain p.world s t) p.content)) (λ k. refl) h))
 
 counts_pulled_by : (o : Option ℕ) (l : List ℕ) (n : Count) (w : World) (c : Class) →
     IfSome o (λ s. (is_live w s ≡ true) × (can_send_in w s c ≡ true)) → IsLawful w → Placing l w →
@@ -711,7 +715,7 @@ counted_heard : (b : Bool) (n : Count) (f : ℕ) (y : Session) → AllCounted n 
 counted_heard true n f y a = a
 counted_heard false n f y a = a
 
--- The device of an offloaded station catches up.
+-- A TID without an agreement catches up.
 counts_caught : (n : Count) (w : World) (s t : ℕ) → Counts n w → Counts n (caught_up w s t)
 unfolding caught_up
 counts_caught n w s t c =
@@ -722,8 +726,8 @@ counts_caught n w s t c =
     (less_on_receiver Any u s t (with_start start))
     (counts_session n w s t f (counted_heard true n start (session w s t) (c.slots s t)) c)
 
-counts_device : (n : Count) (w : World) (s t : ℕ) → Counts n w → Counts n (with_device_caught_up w s t)
-counts_device n w s t c = if_caught (Counts n) w s t c (λ _. counts_caught n w s t c)
+counts_caught_up : (n : Count) (w : World) (s t : ℕ) → Counts n w → Counts n (caught_up_if_plain w s t)
+counts_caught_up n w s t c = if_caught (Counts n) w s t c (λ _. counts_caught n w s t c)
 
 counts_after : (air : Option ℕ) (c : Content) (l : List ℕ) (n : Count) (w : World) (i : IsLawful w)
     (x : Exchange) (heard : Bool) → x.content ≡ c → IsFound w i x →
@@ -738,9 +742,9 @@ counts_after air (Frames ms) l n w i x heard e f a p h =
     let d : session v x.station x.tid ≡ session w x.station x.tid =
     session_same _ _ (same_charged air (without_exchange w x.number) x) x.station x.tid
     ∙ without_same w x.number x.station x.tid in
-    counts_device _ _ x.station x.tid
-    (counts_all ms l n x.number x.station x.tid v (end_of x heard) (has (numbers_unsent x))
-    (λ k there. end_unsent x heard k there) (λ k away. end_not_unsent x heard k away)
+    counts_caught_up _ _ x.station x.tid
+    (counts_all ms l n x.number x.station x.tid v (end_of v x heard) (has (numbers_unsent x))
+    (λ k there. end_unsent v x heard k there) (λ k away. end_not_unsent v x heard k away)
     (ending_of air w i x ms heard e f) (subst (λ (y : Session). Labelled y ms) (sym d) a) p h)
 counts_after air (Request g) l n w i x heard e f a p h =
     let v : World = after_charge (without_exchange w x.number) x air in
@@ -812,6 +816,42 @@ counts_flushed n w s t c = if_flushed (Counts n)
     }) w s t (λ v k _. counts_caught n v s t k)
     (counts_session n w s t _ (counted_flush n w.config.attempts (session w s t) (c.slots s t)) c)
 
+-- ---- a TID is held or free, and its agreement begins or ends
+
+-- One TID changes, and each of its numbers counts right.
+counts_on_tid : (n : Count) (w : World) (s t : ℕ) (f : Tid → Tid) → AllCounted n (f (tid_of w s t)).session →
+    Counts n w → Counts n (on_tid w s t f)
+counts_on_tid n w s t f own c =
+    let h : Less Any w (on_tid w s t f) = less_on_tid Any w s t f in
+    record {
+      slots = each_side_on (λ _ _ a. AllCounted n a.session) w s t f c.slots own;
+      queued = λ q i d. c.queued q i ((h.queues q).has i d);
+      fresh = λ i d. c.fresh i (omega (arith, d, h.accepted));
+    }
+
+counts_held : (n : Count) (w : World) (s t : ℕ) → Counts n w → Counts n (hold_outcome w s t).world
+unfolding hold_outcome with_mode
+counts_held n w s t c = counts_on_tid n w s t _ (c.slots s t) c
+
+counts_begun : (n : Count) (w : World) (s t window : ℕ) → Counts n w →
+    Counts n (begin_outcome w s t window).world
+counts_begun n w s t window c = subst (Counts n) (sym (begun_is w s t window))
+    (counts_on_tid n w s t _ (c.slots s t) c)
+
+counts_freed : (n : Count) (w : World) (s t : ℕ) → Counts n w → Counts n (free_outcome w s t).world
+unfolding free_outcome with_mode
+counts_freed n w s t c = counts_on_tid n w s t _ (c.slots s t) c
+
+counts_ceased : (n : Count) (w : World) (s t : ℕ) → Counts n w → Counts n (cease_outcome w s t).world
+unfolding after_numbers_ended
+counts_ceased n w s t c =
+    let u : World = on_session w s t (after_flush w.config.attempts) in
+    let v : World = after_numbers_ended w s t in
+    let k : Counts n v = counts_same n u v (same_ended w s t)
+    (less_drop_all Any (waiting_ids (session w s t).slots) u (Dropped Ended) (λ e. cc e))
+    (counts_session n w s t _ (counted_flush n w.config.attempts (session w s t) (c.slots s t)) c) in
+    subst (Counts n) (sym (ceased_is w s t)) (counts_on_tid n v s t _ (k.slots s t) k)
+
 -- ---- the other calls
 
 slots_arrived : (n : Count) (w : World) (x : Exchange) (k : ℕ) → ((s t : ℕ) → AllCounted n (session w s t)) →
@@ -842,21 +882,30 @@ counts_answered n w x c = counts_less n w _ (λ s t. refl) (less_plain Any w _ r
 bare_counted : (n : Count) (first size : ℕ) → AllCounted n (new_session first size)
 bare_counted n first size i = settled_counted n _ refl
 
-counts_new : (n : Count) (w : World) (s window start exponent weight : ℕ) (offloaded : Bool) → Counts n w →
-    Counts n (with_station w s (Some (new_station w.config window start exponent weight offloaded)))
-counts_new n w s window start exponent weight offloaded c =
-    counts_with_station n w s _ (eight (λ y. AllCounted n y.session) (new_tid start window)
+counts_new : (n : Count) (w : World) (mode : Mode) (s window start exponent weight : ℕ) (offloaded : Bool) →
+    Counts n w →
+    Counts n (with_station w s (Some (new_station w.config mode window start exponent weight offloaded)))
+counts_new n w mode s window start exponent weight offloaded c =
+    counts_with_station n w s _ (eight (λ y. AllCounted n y.session) (new_tid mode start window)
     (bare_counted n start window) (bare_counted n 0 0)) c
 
 counts_joined : (n : Count) (w : World) (s window start exponent weight : ℕ) → Counts n w →
     Counts n (join_outcome w s window start exponent weight).world
 unfolding join_outcome
-counts_joined n w s window start exponent weight c = counts_new n w s window start exponent weight false c
+counts_joined n w s window start exponent weight c =
+    counts_new n w Mode.Agreed s window start exponent weight false c
 
 counts_offloaded : (n : Count) (w : World) (s exponent weight : ℕ) → Counts n w →
     Counts n (offload_outcome w s exponent weight).world
 unfolding offload_outcome
-counts_offloaded n w s exponent weight c = counts_new n w s greatest_window 0 exponent weight true c
+counts_offloaded n w s exponent weight c =
+    counts_new n w Mode.Plain s greatest_window 0 exponent weight true c
+
+counts_unagreed : (n : Count) (w : World) (s start exponent weight : ℕ) → Counts n w →
+    Counts n (plain_outcome w s start exponent weight).world
+unfolding plain_outcome
+counts_unagreed n w s start exponent weight c =
+    counts_new n w Mode.Plain s plain_window start exponent weight false c
 
 counts_gone : (n : Count) (w : World) (s : ℕ) → Counts n w → Counts n (leave_outcome w s).world
 unfolding leave_outcome
@@ -934,9 +983,13 @@ none_arrived : (w : World) (x : Exchange) (n k : ℕ) → tries_by k (arrive_out
 unfolding arrive_outcome
 none_arrived w x n k = refl
 
+none_reply : (plain : Bool) (b : Score) (wide : Bool) (k : ℕ) → tries_by k (answer_reply plain b wide) ≡ 0
+none_reply true b wide k = refl
+none_reply false b wide k = refl
+
 none_answered : (w : World) (x : Exchange) (k : ℕ) → tries_by k (answer_outcome w x).reply ≡ 0
 unfolding answer_outcome
-none_answered w x k = refl
+none_answered w x k = none_reply x.plain _ _ k
 
 none_reaped : (ids : List ℕ) (w : World) (k : ℕ) → tries_by k (reap_outcome w ids).reply ≡ 0
 unfolding reap_outcome
@@ -972,6 +1025,27 @@ none_offloaded w s exponent weight k = refl
 none_weighed : (w : World) (s weight k : ℕ) → tries_by k (weight_outcome w s weight).reply ≡ 0
 unfolding weight_outcome
 none_weighed w s weight k = refl
+
+none_unagreed : (w : World) (s start exponent weight k : ℕ) →
+    tries_by k (plain_outcome w s start exponent weight).reply ≡ 0
+unfolding plain_outcome
+none_unagreed w s start exponent weight k = refl
+
+none_held : (w : World) (s t k : ℕ) → tries_by k (hold_outcome w s t).reply ≡ 0
+unfolding hold_outcome
+none_held w s t k = refl
+
+none_begun : (w : World) (s t window k : ℕ) → tries_by k (begin_outcome w s t window).reply ≡ 0
+unfolding begin_outcome
+none_begun w s t window k = refl
+
+none_freed : (w : World) (s t k : ℕ) → tries_by k (free_outcome w s t).reply ≡ 0
+unfolding free_outcome
+none_freed w s t k = refl
+
+none_ceased : (w : World) (s t k : ℕ) → tries_by k (cease_outcome w s t).reply ≡ 0
+unfolding cease_outcome
+none_ceased w s t k = refl
 
 none_gone : (w : World) (s k : ℕ) → tries_by k (leave_outcome w s).reply ≡ 0
 unfolding leave_outcome
@@ -1043,6 +1117,17 @@ counts_done (Asked (Offload s exponent weight)) l n w i a p c =
 counts_done (Asked (Weight s weight)) l n w i a p c =
     counts_plain n (weight_outcome w s weight) (none_weighed w s weight)
     (counts_same n w _ (same_weighed w s weight) (less_weighed Any w s weight) c)
+counts_done (Asked (Plain s start exponent weight)) l n w i a p c =
+    counts_plain n (plain_outcome w s start exponent weight) (none_unagreed w s start exponent weight)
+    (counts_unagreed n w s start exponent weight c)
+counts_done (Asked (Hold s t)) l n w i a p c =
+    counts_plain n (hold_outcome w s t) (none_held w s t) (counts_held n w s t c)
+counts_done (Asked (Begin s t window)) l n w i a p c =
+    counts_plain n (begin_outcome w s t window) (none_begun w s t window) (counts_begun n w s t window c)
+counts_done (Asked (Free s t)) l n w i a p c =
+    counts_plain n (free_outcome w s t) (none_freed w s t) (counts_freed n w s t c)
+counts_done (Asked (Cease s t)) l n w i a p c =
+    counts_plain n (cease_outcome w s t) (none_ceased w s t) (counts_ceased n w s t c)
 
 counts_refused : (note : Note) (r : Refusal) (n : Count) (w : World) → Counts n w →
     Counts n (after_refusal w note r)

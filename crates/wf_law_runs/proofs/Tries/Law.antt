@@ -6,7 +6,7 @@ use Rattle.wf_frame.specs.declared.notes.Ask.TheVariants.{Done}
 use Rattle.wf_frame.specs.declared.notes.Note.{Note}
 use Rattle.wf_frame.specs.declared.notes.Note.TheVariants.{Asked}
 use Rattle.wf_frame.specs.declared.notes.Part.{Part}
-use Rattle.wf_frame.specs.declared.notes.Part.TheVariants.{Mpdus, Request as Asks, Batch}
+use Rattle.wf_frame.specs.declared.notes.Part.TheVariants.{Mpdus, Request as Asks, Batch, Plain}
 use Rattle.wf_frame.specs.declared.notes.ReplyNote.{ReplyNote}
 use Rattle.wf_frame.specs.declared.notes.ReplyNote.TheVariants.{Send}
 use Rattle.wf_frame.specs.Settings.{IsInRange}
@@ -92,7 +92,7 @@ each_step l n limit w note y c some same a few k = elim (opens_step w note) [
         AtMost limit (counted_after n w note (step w note).reply) k →
         AtMost limit (counted_after n w note (step w note).reply) k
     sent x (inl none) = unsent_none (ap (tries_by k) x.reply
-        ∙ times_part k x.exchange.batch x.exchange.content ∙ none)
+        ∙ times_part k x.exchange.batch x.exchange.plain x.exchange.content ∙ none)
     sent x (inr h) = h
 
 each_run : (h : List Entry) (l : List ℕ) (n : Count) (limit : ℕ) (w : World) → Steady l w → Counts n w →
@@ -190,6 +190,7 @@ sum_ids (x ∷ ids) c h =
 sum_part : (part : Part) (c : ℕ) → ((k : ℕ) → c ≤ k → count_in_part k part ≡ 0) →
     frames_in_part part ≡ sum_below (λ k. count_in_part k part) c
 sum_part (Mpdus ms) c h = sum_named ms c h
+sum_part (Plain ms) c h = sum_named ms c h
 sum_part (Batch ids) c h = sum_ids ids c h
 sum_part (Asks start) c h = sym (sum_zero (λ k. 0) c (λ k. refl))
 
@@ -291,24 +292,27 @@ length_batch : (ms : List Mpdu) → length {A = ℕ} (map (λ m. m.id) ms) ≡ l
 length_batch [] = refl
 length_batch (m ∷ ms) = omega (arith, length_batch ms)
 
-data_sent : (batch : Bool) (c : Content) (number station tid charge : ℕ) (more : Bool) →
+data_sent : (batch plain : Bool) (c : Content) (number station tid charge : ℕ) (more : Bool) →
     (is_request c ≡ false → 1 ≤ length (mpdus_of c)) →
-    data_exchanges_by (Send number station tid charge (part_of batch c) more)
-    ≤ frames_sent_by (Send number station tid charge (part_of batch c) more)
-data_sent false (Frames ms) number station tid charge more some =
+    data_exchanges_by (Send number station tid charge (part_of batch plain c) more)
+    ≤ frames_sent_by (Send number station tid charge (part_of batch plain c) more)
+data_sent false false (Frames ms) number station tid charge more some =
     omega (arith, some refl, length_named ms)
-data_sent true (Frames ms) number station tid charge more some =
+data_sent false true (Frames ms) number station tid charge more some =
+    omega (arith, some refl, length_named ms)
+data_sent true plain (Frames ms) number station tid charge more some =
     omega (arith, some refl, length_batch ms)
-data_sent false (Request start) number station tid charge more some = omega arith
-data_sent true (Request start) number station tid charge more some = omega arith
+data_sent false plain (Request start) number station tid charge more some = omega arith
+data_sent true plain (Request start) number station tid charge more some = omega arith
 
 data_step : (w : World) (note : Note) → AllSome (step w note).world →
     data_exchanges_by (step w note).reply ≤ frames_sent_by (step w note).reply
 data_step w note a = elim (opens_step w note) [
   | inl none ↦ omega (arith, none.exchanges)
   | inr x ↦ subst (λ (r : ReplyNote). data_exchanges_by r ≤ frames_sent_by r) (sym x.reply)
-      (data_sent x.exchange.batch x.exchange.content x.exchange.number x.exchange.station x.exchange.tid
-      x.exchange.charge x.exchange.more (at_some HasSome (step w note).world.opened x.exchange a x.among))
+      (data_sent x.exchange.batch x.exchange.plain x.exchange.content x.exchange.number x.exchange.station
+      x.exchange.tid x.exchange.charge x.exchange.more
+      (at_some HasSome (step w note).world.opened x.exchange a x.among))
 ]
 
 data_run : (h : List Entry) (l : List ℕ) (w : World) → AreAtMost greatest_body h → IsKept (books w) →

@@ -1,18 +1,19 @@
 -- Proves that a call that sends frames opens the exchange that its reply names, and that all other calls send
 -- none. By cases of the call.
-use Rattle.std.proofs.Common.{◌≡◌, refl, sym, subst, ℕ, ◌⊎◌, inl, inr, List, [], ◌∷◌, ◌++◌, Option, Some, None}
+use Rattle.std.proofs.Common.{◌≡◌, refl, sym, subst, ℕ, Bool, true, false, ◌⊎◌, inl, inr, List, [], ◌∷◌, ◌++◌, Option, Some, None}
 use Rattle.wf_frame.specs.declared.classes.Class.{Class}
-use Rattle.wf_frame.specs.declared.notes.Ask.TheVariants.{Join, Leave, Rate, Tick, Pull, Arrive, Answer, Done, Sleep, Wake, Poll, Rx, Reap, Ampdu, Stop, Start, Unsent, GiveUp, Flush, Offload, Weight}
+use Rattle.wf_frame.specs.declared.notes.Ask.TheVariants.{Join, Leave, Rate, Tick, Pull, Arrive, Answer, Done, Sleep, Wake, Poll, Rx, Reap, Ampdu, Stop, Start, Unsent, GiveUp, Flush, Offload, Weight, Plain, Hold, Begin, Free, Cease}
 use Rattle.wf_frame.specs.declared.notes.Limits.{Limits}
 use Rattle.wf_frame.specs.declared.notes.Note.{Note}
 use Rattle.wf_frame.specs.declared.notes.Note.TheVariants.{Enqueue, Asked}
 use Rattle.wf_frame.specs.declared.notes.Refusal.{Refusal}
 use Rattle.wf_frame.specs.declared.notes.ReplyNote.{ReplyNote}
 use Rattle.wf_frame.specs.declared.notes.ReplyNote.TheVariants.{Send}
+use Rattle.wf_def_agreement.specs.Receiver.{Score}
 use Rattle.wf_def_world.specs.World.{World, Exchange, exchange}
 use Rattle.wf_def_world.specs.Exchanges.{Prepared, part_of, exchange_of, picked_station, with_exchange_opened}
 use Rattle.wf_def_world.specs.Refusals.{refusal}
-use Rattle.wf_def_world.specs.Step.{Outcome, enqueue_outcome, join_outcome, leave_outcome, rate_outcome, tick_outcome, send_outcome, pull_outcome_for, pull_outcome, arrive_outcome, answer_outcome, unsent_outcome, give_up_outcome, flush_outcome, done_outcome, outcome_where_open, sleep_outcome, wake_outcome, poll_outcome, rx_outcome, reap_outcome, outcome_of, concerned_station, judged_outcome, step, offload_outcome, weight_outcome}
+use Rattle.wf_def_world.specs.Step.{Outcome, enqueue_outcome, join_outcome, leave_outcome, rate_outcome, tick_outcome, send_outcome, pull_outcome_for, pull_outcome, arrive_outcome, answer_reply, answer_outcome, unsent_outcome, give_up_outcome, flush_outcome, done_outcome, outcome_where_open, sleep_outcome, wake_outcome, poll_outcome, rx_outcome, reap_outcome, outcome_of, concerned_station, judged_outcome, step, offload_outcome, weight_outcome, plain_outcome, hold_outcome, begin_outcome, free_outcome, cease_outcome}
 use Rattle.wf_law_runs.specs.Windows.{SomeOpen}
 use Rattle.wf_law_runs.specs.Tries.{tries_by, frames_sent_by, data_exchanges_by}
 use Rattle.wf_law_runs.proofs.Common.Picked.{picked_world}
@@ -30,7 +31,7 @@ pub record Opens (o : Outcome) : Type 0 where
   pub exchange : Exchange
   pub among : SomeOpen (λ y. y ≡ exchange) o.world.opened
   pub reply : o.reply ≡ Send exchange.number exchange.station exchange.tid exchange.charge
-      (part_of exchange.batch exchange.content) exchange.more
+      (part_of exchange.batch exchange.plain exchange.content) exchange.more
 
 abbrev pub NoneOrOpens : Outcome → Type 0
 NoneOrOpens o = SendsNone o.reply ⊎ Opens o
@@ -53,6 +54,10 @@ none_open : (o : Option Exchange) (w : World) (f : Exchange → Outcome) →
 unfolding outcome_where_open
 none_open None w f h = nothing _ (λ k. refl) refl refl
 none_open (Some x) w f h = h x
+
+none_answered : (plain : Bool) (b : Score) (wide : Bool) → SendsNone (answer_reply plain b wide)
+none_answered true b wide = nothing _ (λ k. refl) refl refl
+none_answered false b wide = nothing _ (λ k. refl) refl refl
 
 none_reaped : (ids : List ℕ) (w : World) → SendsNone (reap_outcome w ids).reply
 unfolding reap_outcome
@@ -86,7 +91,8 @@ PullsOr note r = ((c : Class) × (l : Limits) × (note ≡ Asked (Pull c l))) �
 none_done : (note : Note) (w : World) → PullsOr note (outcome_of w note).reply
 unfolding outcome_of enqueue_outcome join_outcome offload_outcome weight_outcome leave_outcome
     tick_outcome rate_outcome sleep_outcome wake_outcome poll_outcome rx_outcome arrive_outcome
-    answer_outcome unsent_outcome give_up_outcome flush_outcome done_outcome
+    answer_outcome unsent_outcome give_up_outcome flush_outcome done_outcome plain_outcome hold_outcome
+    begin_outcome free_outcome cease_outcome
 none_done (Enqueue s t flow len) w = inr (nothing _ (λ k. refl) refl refl)
 none_done (Asked (Join s window start exponent weight)) w = inr (nothing _ (λ k. refl) refl refl)
 none_done (Asked (Leave s)) w = inr (nothing _ (λ k. refl) refl refl)
@@ -94,7 +100,7 @@ none_done (Asked (Rate s rate)) w = inr (nothing _ (λ k. refl) refl refl)
 none_done (Asked (Tick by)) w = inr (nothing _ (λ k. refl) refl refl)
 none_done (Asked (Pull c l)) w = inl (c, l, refl)
 none_done (Asked (Arrive e n)) w = inr (none_open (exchange w e) w _ (λ x. nothing _ (λ k. refl) refl refl))
-none_done (Asked (Answer e)) w = inr (none_open (exchange w e) w _ (λ x. nothing _ (λ k. refl) refl refl))
+none_done (Asked (Answer e)) w = inr (none_open (exchange w e) w _ (λ x. none_answered x.plain _ _))
 none_done (Asked (Done e heard air)) w = inr (none_open (exchange w e) w _ (λ x.
     nothing _ (λ k. refl) refl refl))
 none_done (Asked (Sleep s)) w = inr (nothing _ (λ k. refl) refl refl)
@@ -110,6 +116,11 @@ none_done (Asked (GiveUp e n)) w = inr (none_open (exchange w e) w _ (λ x. noth
 none_done (Asked (Flush s t)) w = inr (nothing _ (λ k. refl) refl refl)
 none_done (Asked (Offload s exponent weight)) w = inr (nothing _ (λ k. refl) refl refl)
 none_done (Asked (Weight s weight)) w = inr (nothing _ (λ k. refl) refl refl)
+none_done (Asked (Plain s start exponent weight)) w = inr (nothing _ (λ k. refl) refl refl)
+none_done (Asked (Hold s t)) w = inr (nothing _ (λ k. refl) refl refl)
+none_done (Asked (Begin s t window)) w = inr (nothing _ (λ k. refl) refl refl)
+none_done (Asked (Free s t)) w = inr (nothing _ (λ k. refl) refl refl)
+none_done (Asked (Cease s t)) w = inr (nothing _ (λ k. refl) refl refl)
 
 none_answer : (r : Option Refusal) (w : World) (note : Note) → PullsOr note (judged_outcome w note r).reply
 unfolding judged_outcome

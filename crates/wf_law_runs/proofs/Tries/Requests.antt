@@ -4,25 +4,25 @@
 use Rattle.std.proofs.Common.{◌||◌, zero-add, ◌≡◌, ◌≢◌, refl, ap, sym, ◌∙◌, subst, arith, ℕ, zero, suc, ◌+◌, ◌-◌, ◌<◌, ◌≤◌, Bool, true, false, if◌then◌else◌, ◌&&◌, ◌==◌, ◌⊎◌, inl, inr, List, [], ◌∷◌, ◌++◌, length, count_by, Option, Some, None, IfSome, is_none}
 use Rattle.std.proofs.lemmas.List.Sums.{sum_by-cons}
 use Rattle.wf_frame.specs.declared.settings.Config.{Config}
-use Rattle.wf_frame.specs.declared.classes.Cause.TheVariants.{Overlimit, Codel as By_codel, Retries, Left, Flushed}
+use Rattle.wf_frame.specs.declared.classes.Cause.TheVariants.{Overlimit, Codel as By_codel, Retries, Left, Flushed, Ended}
 use Rattle.wf_frame.specs.declared.classes.Fate.{Fate}
 use Rattle.wf_frame.specs.declared.classes.Fate.TheVariants.{Held, Acked, Dropped}
-use Rattle.wf_frame.specs.declared.notes.Ask.TheVariants.{Pull, Done, Flush}
+use Rattle.wf_frame.specs.declared.notes.Ask.TheVariants.{Pull, Done, Flush, Cease}
 use Rattle.wf_frame.specs.declared.notes.Note.{Note}
 use Rattle.wf_frame.specs.declared.notes.Note.TheVariants.{Asked}
 use Rattle.wf_frame.specs.declared.notes.Refusal.{Refusal}
 use Rattle.wf_frame.specs.declared.notes.Refusal.TheVariants.{Idle}
 use Rattle.wf_def_lists.specs.Table.{at, has, put}
 use Rattle.wf_def_lists.specs.Lists.{IsOnce}
-use Rattle.wf_def_agreement.specs.Session.{End, Session, Slot, State, no_slot, slot, with_state, on_slot, after_flush, next_number, is_settled, is_waiting, is_failed}
-use Rattle.wf_def_world.specs.World.{World, on_tid, on_station, Exchange, Frame, Mpdu, Content, Frames, Request, no_frame, session, frame, is_live, exchange, with_station, on_session, without_exchange, on_queue, with_fate, with_frame_finished, with_frames_finished, opening}
+use Rattle.wf_def_agreement.specs.Session.{End, Session, Slot, State, no_slot, slot, with_state, on_slot, after_flush, next_number, start_of, is_settled, is_waiting, is_failed}
+use Rattle.wf_def_world.specs.World.{World, OnHold, tid_of, on_tid, on_station, Exchange, Frame, Mpdu, Content, Frames, Request, no_frame, session, frame, is_live, exchange, with_station, on_session, without_exchange, on_queue, with_fate, with_frame_finished, with_frames_finished, opening}
 use Rattle.wf_def_world.specs.CanSend.{is_request, with_listings_of}
-use Rattle.wf_def_world.specs.Exchanges.{mpdus_of, end_of, with_heard_start, after_charge, with_failed_finished, with_settled, with_all_settled, after_done, with_device_caught_up}
-use Rattle.wf_def_world.specs.Refusals.{refusal}
-use Rattle.wf_def_world.specs.Step.{Outcome, done_outcome, outcome_where_open, waiting_ids, flush_outcome, outcome_of, concerned_station, after_refusal, judged_outcome, step}
+use Rattle.wf_def_world.specs.Exchanges.{mpdus_of, end_of, with_heard_start, after_charge, with_failed_finished, with_settled, with_all_settled, after_done, caught_up_if_plain}
+use Rattle.wf_def_world.specs.Refusals.{refusal, refusals}
+use Rattle.wf_def_world.specs.Step.{Outcome, done_outcome, outcome_where_open, waiting_ids, flush_outcome, cease_outcome, after_numbers_ended, plain_window, outcome_of, concerned_station, after_refusal, judged_outcome, step}
 use Rattle.wf_def_world.specs.Run.{Entry, world_after}
 use Rattle.wf_def_world.specs.Text.{same_fate, tally}
-use Rattle.wf_law_rules.proofs.Lemmas.Numbers.{on_bool, on_if, eq_yes, eq_no, yes_eq, not_eq, either, or_left, or_right}
+use Rattle.wf_law_rules.proofs.Lemmas.Numbers.{on_bool, on_if, eq_yes, eq_no, yes_eq, not_eq, either, or_left, or_right, both, and_true}
 use Rattle.wf_law_rules.proofs.Lemmas.Tables.{each_put, at_put_same, at_put_other}
 use Rattle.wf_law_rules.proofs.Lemmas.Joined.{not_more}
 use Rattle.wf_law_runs.specs.Tries.{requests_heard_by, requests_heard, asks_in}
@@ -30,9 +30,11 @@ use Rattle.wf_law_runs.specs.Releases.{named_by}
 use Rattle.wf_law_runs.proofs.Common.Refused.{after_idle}
 use Rattle.wf_law_runs.proofs.Common.Ends.{slot_after_end, end_id, on_settled}
 use Rattle.wf_law_runs.proofs.Common.Flushes.{slot_flush, flushed_stays, flushed_fails, StaysInFlush, flushed_ids, flushed_queues, emptied_world, flush_is}
-use Rattle.wf_law_runs.proofs.Windows.Sides.{Side, Same, same, each_side_on, same_finish, same_listed, same_after_pick, same_charged, same_emptied}
+use Rattle.wf_law_runs.proofs.Windows.Sides.{Side, Same, same, each_side_on, same_finish, same_listed, same_after_pick, same_charged, same_emptied, side_on, renewed, ceased_is, same_ended, ended_side, on_elsewhere, ceased_elsewhere}
 use Rattle.wf_law_runs.proofs.Windows.Agreement.{within_length, IsUntold, IsAsked, IfRequest, slot_same}
-use Rattle.wf_law_runs.proofs.Windows.Agreed.{live_without, session_same, IsLawful, IsEnding, ending_settled, ending_of, session_on_session}
+use Rattle.wf_law_runs.proofs.Windows.Opened.{NoRow, no_row}
+use Rattle.wf_law_runs.proofs.Windows.Senders.{none_sending, start_flush}
+use Rattle.wf_law_runs.proofs.Windows.Agreed.{live_without, session_same, IsLawful, IsEnding, ending_settled, ending_of, session_on_session, live_on_session, none_of_tid, not_no}
 use Rattle.wf_law_runs.proofs.Windows.Settling.{without_same}
 use Rattle.wf_law_runs.proofs.Releases.Placed.{Placing, Numbered}
 use Rattle.wf_law_runs.proofs.Frames.Delivered.{Labelled, labelled_kept}
@@ -42,8 +44,8 @@ use Rattle.std.proofs.Math.Nat.{le-max_left, le-max_right}
 use Rattle.wf_law_runs.proofs.Releases.Placed.{Any}
 use Rattle.wf_law_runs.proofs.Releases.Once.{placed_without}
 use Rattle.wf_law_runs.proofs.Frames.Fewer.{less_charged}
-use Rattle.wf_law_runs.proofs.Frames.Untouched.{untouched_charged, untouched_without, untouched_listed, untouched_device}
-use Rattle.wf_law_runs.proofs.Tries.Still.{Stands, Still, stands_equal, still_same, still_then, still_session, stands_on_slot, still_done, still_device}
+use Rattle.wf_law_runs.proofs.Frames.Untouched.{untouched_charged, untouched_without, untouched_listed, untouched_caught_up}
+use Rattle.wf_law_runs.proofs.Tries.Still.{Stands, Still, stands_equal, still_same, still_then, still_session, stands_on_slot, still_done, still_caught_up}
 
 -- ---- the fates of frames at failed numbers
 
@@ -56,21 +58,22 @@ is_lost _ = false
 abbrev WasRetried : World → ℕ → Type 0
 WasRetried w k = is_lost (frame w k).fate ≡ true
 
--- The frame of each failed number is dropped for retries or flushed.
+-- The frame of each failed number that is not yet announced is dropped for retries or flushed. After an
+-- agreement ends all its numbers count as announced.
 record Fated (w : World) : Type 0 where
-  failed : (s t n : ℕ) → (slot (session w s t) n).state ≡ State.Failed →
+  failed : (s t n : ℕ) → (slot (session w s t) n).state ≡ State.Failed → (session w s t).heard ≤ n →
       WasRetried w (slot (session w s t) n).id
 
--- World v is later than w. Each failed number of v has the same slot as in w, or its frame was held in w and
--- is dropped for retries or flushed in v.
+-- World v is later than w. Each failed number of v that is not yet announced has the same slot as in w, or
+-- its frame was held in w and is dropped for retries or flushed in v.
 record Fails (w v : World) : Type 0 where
-  fails : (s t n : ℕ) → (slot (session v s t) n).state ≡ State.Failed →
+  fails : (s t n : ℕ) → (slot (session v s t) n).state ≡ State.Failed → (session v s t).heard ≤ n →
       Stands (session w s t) (session v s t) n ⊎
       (IsHeld w (slot (session v s t) n).id × WasRetried v (slot (session v s t) n).id)
   remains : Remains w v
 
 fails_still : (w v : World) → Still w v → Remains w v → Fails w v
-fails_still w v h r = record { fails = λ s t n e. inl (h.still s t n e); remains = r }
+fails_still w v h r = record { fails = λ s t n e _. inl (h.still s t n e); remains = r }
 
 -- A frame that was dropped stays so.
 stays_retried : (w v : World) (k : ℕ) → Remains w v → WasRetried w k → WasRetried v k
@@ -88,8 +91,8 @@ failed_before y z n a e = ap (λ (x : Slot). x.state) (sym a.same_slot) ∙ e
 
 fails_then : (u v w : World) → Fails u v → Fails v w → Fails u w
 fails_then u v w h k = record {
-  fails = λ s t n e. elim (k.fails s t n e) [
-    | inl b ↦ elim (h.fails s t n (failed_before _ _ n b e)) [
+  fails = λ s t n e told. elim (k.fails s t n e told) [
+    | inl b ↦ elim (h.fails s t n (failed_before _ _ n b e) (omega (arith, told, b.heard_rises))) [
       | inl a ↦ inl (record {
         same_slot = b.same_slot ∙ a.same_slot;
         heard_rises = omega (arith, a.heard_rises, b.heard_rises);
@@ -110,9 +113,10 @@ fails_then u v w h k = record {
 
 fated_later : (w v : World) → Fails w v → Fated w → Fated v
 fated_later w v h f = record {
-  failed = λ s t n e. elim (h.fails s t n e) [
+  failed = λ s t n e told. elim (h.fails s t n e told) [
     | inl a ↦ ap (λ (k : ℕ). is_lost (frame v k).fate) (ap (λ (x : Slot). x.id) a.same_slot)
-        ∙ stays_retried w v _ h.remains (f.failed s t n (failed_before _ _ n a e))
+        ∙ stays_retried w v _ h.remains (f.failed s t n (failed_before _ _ n a e)
+        (omega (arith, told, a.heard_rises)))
     | inr b ↦ b.1
   ];
 }
@@ -184,7 +188,7 @@ fails_failing e s t ends w m ms f same_id n own held r = go (is_failed (slot (se
         Remains w (if b then with_frame_finished v (Dropped Retries) m.id else v) →
         Fails w (if b then with_frame_finished v (Dropped Retries) m.id else v)
     go true d r = record {
-      fails = λ i j k h.
+      fails = λ i j k h _.
           let same_sides : Same v (with_frame_finished v (Dropped Retries) m.id) =
           same_finish v (Dropped Retries) m.id in
           let here : session (with_frame_finished v (Dropped Retries) m.id) i j ≡ session v i j =
@@ -202,7 +206,7 @@ fails_failing e s t ends w m ms f same_id n own held r = go (is_failed (slot (se
       remains = r;
     }
     go false d r = record {
-      fails = λ i j k h. elim (missed w s t m.number m.id f carried i j k h) [
+      fails = λ i j k h _. elim (missed w s t m.number m.id f carried i j k h) [
         | inl a ↦ inl a
         | inr b ↦ absurd (cc (b.1, d))
       ];
@@ -262,7 +266,7 @@ spent_later : (l : List ℕ) (w v : World) → Fails w v → Spent l w → Spent
 spent_later l w v h f = record {
   once = f.once;
   dropped = λ k e. stays_retried w v k h.remains (f.dropped k e);
-  untold = λ s t n from e told. elim (h.fails s t n e) [
+  untold = λ s t n from e told. elim (h.fails s t n e told) [
     | inl a ↦ ap (λ (x : Slot). has l x.id) a.same_slot ∙ f.untold s t n
         (omega (arith, from, a.same_first)) (failed_before _ _ n a e) (omega (arith, told, a.heard_rises))
     | inr b ↦ on_bool (has l (slot (session v s t) n).id)
@@ -299,10 +303,8 @@ frames_heard w s t b g = refl
 
 elsewhere : (w : World) (s t g i j : ℕ) → (i ≡ s → j ≡ t → ⊥) →
     session (on_session w s t (with_heard_start true g)) i j ≡ session w i j
-unfolding on_session
-elsewhere w s t g = each_side_on (λ i j a. (i ≡ s → j ≡ t → ⊥) → a.session ≡ session w i j) w s t
-    (λ y. record y { session = with_heard_start true g y.session }) (λ i j _. refl)
-    (λ ne. absurd (ne refl refl))
+elsewhere w s t g i j ne =
+    ap (λ (a : Side). a.session) (on_elsewhere w s t _ i j (λ es et. ne (sym es) (sym et)))
 
 neither : (a b : Bool) → a ≡ false → b ≡ false → a || b ≡ false
 neither a b h k = rw (h, k) refl
@@ -350,7 +352,7 @@ module _ (r l : List ℕ) (w : World) (s t g m : ℕ) (p : Placing r w) (live : 
         once = (f.untold s t m u.from u.failed u.told, f.once);
         dropped = λ k e. stays k (elim (either (id == k) (has l k) e) [
           | inl d ↦ ap (λ (j : ℕ). is_lost (frame w j).fate) (sym (eq_yes id k d))
-              ∙ fated.failed s t m u.failed
+              ∙ fated.failed s t m u.failed u.told
           | inr d ↦ f.dropped k d
         ]);
         untold = λ i j n. on_bool (i == s)
@@ -363,17 +365,19 @@ module _ (r l : List ℕ) (w : World) (s t g m : ℕ) (p : Placing r w) (live : 
 
 failed_heard : (w : World) (s t g : ℕ) → Fated w → (i j n : ℕ) →
     (slot (session (on_session w s t (with_heard_start true g)) i j) n).state ≡ State.Failed →
+    (session (on_session w s t (with_heard_start true g)) i j).heard ≤ n →
     WasRetried w (slot (session (on_session w s t (with_heard_start true g)) i j) n).id
 unfolding on_session
 failed_heard w s t g f = each_side_on (λ i j a. (n : ℕ) → (slot a.session n).state ≡ State.Failed →
-    WasRetried w (slot a.session n).id) w s t (λ y. record y { session = with_heard_start true g y.session })
-    f.failed (f.failed s t)
+    a.session.heard ≤ n → WasRetried w (slot a.session n).id) w s t
+    (λ y. record y { session = with_heard_start true g y.session }) f.failed
+    (λ n e told. f.failed s t n e (omega (arith, told, le-max_left (session w s t).heard g)))
 
 fated_heard : (w : World) (s t g : ℕ) → Fated w → Fated (on_session w s t (with_heard_start true g))
 fated_heard w s t g f = record {
-  failed = λ i j n e. ap (λ (fs : List Frame). is_lost (at no_frame fs
+  failed = λ i j n e told. ap (λ (fs : List Frame). is_lost (at no_frame fs
       (slot (session (on_session w s t (with_heard_start true g)) i j) n).id).fate)
-      (frames_heard w s t true g) ∙ failed_heard w s t g f i j n e;
+      (frames_heard w s t true g) ∙ failed_heard w s t g f i j n e told;
 }
 
 -- ---- a call
@@ -431,9 +435,10 @@ same_session air w x =
     session_same _ _ (same_charged air (without_exchange w x.number) x) x.station x.tid
     ∙ without_same w x.number x.station x.tid
 
--- The device of an offloaded station catches up.
-fails_device : (w : World) (s t : ℕ) → Fails w (with_device_caught_up w s t)
-fails_device w s t = fails_still w _ (still_device w s t) (remains_same w _ (untouched_device w s t).frames)
+-- A TID without an agreement catches up.
+fails_caught_up : (w : World) (s t : ℕ) → Fails w (caught_up_if_plain w s t)
+fails_caught_up w s t = fails_still w _ (still_caught_up w s t)
+    (remains_same w _ (untouched_caught_up w s t).frames)
 
 after_content : (c : Content) (heard : Bool) (air : Option ℕ) (r l : List ℕ) (w : World) (i : IsLawful w)
     (x : Exchange) → x.content ≡ c → IsFoundNamed w i x → Placing r w → Fresh w → Spent l w → Fated w →
@@ -446,12 +451,12 @@ after_content (Frames ms) heard air r l w i x e n p h f d =
     let labels : Labelled (session u x.station x.tid) ms =
     subst (λ (y : Session). Labelled y ms) (sym (same_session air w x))
     (subst (λ (c : Content). Labelled (session w x.station x.tid) (mpdus_of c)) e n.labels) in
-    let v : World = with_all_settled u x.station x.tid (end_of x heard) ms in
-    subst (λ (m : ℕ). After l m (with_device_caught_up v x.station x.tid))
+    let v : World = with_all_settled u x.station x.tid (end_of u x heard) ms in
+    subst (λ (m : ℕ). After l m (caught_up_if_plain v x.station x.tid))
     (sym (no_request heard)) (after_fails l w _ (fails_then w u _ (fails_charged air w x)
-    (fails_then u v _ (fails_all ms r x.number x.station x.tid (end_of x heard) u
+    (fails_then u v _ (fails_all ms r x.number x.station x.tid (end_of u x heard) u
     (ending_of air w i x ms heard e n.found_one) labels k.placing k.fresh)
-    (fails_device v x.station x.tid))) f d)
+    (fails_caught_up v x.station x.tid))) f d)
 after_content (Request g) false air r l w i x e n p h f d =
     let u : World = after_charge (without_exchange w x.number) x air in
     after_fails l w _ (fails_then w u _ (fails_charged air w x)
@@ -615,7 +620,7 @@ flush_lost w s t k h = flushed_queues (λ u. WasRetried u k) (lost_stays k) _ _
 fails_emptied : (w : World) (s t : ℕ) → Fresh w → Remains w (emptied_world w s t) →
     Fails w (emptied_world w s t)
 fails_emptied w s t h r = record {
-  fails = λ i j n e.
+  fails = λ i j n e _.
       let v : World = emptied_world w s t in
       let y : Session = session w s t in
       let d = flush_sides w s t i j in
@@ -636,11 +641,11 @@ fails_flushed : (w : World) (s t : ℕ) → Fresh w → Remains w (flush_outcome
     Fails w (flush_outcome w s t).world
 fails_flushed w s t h r =
     let v : World = emptied_world w s t in
-    let u : World = with_device_caught_up v s t in
-    let calm : u.frames ≡ v.frames = (untouched_device v s t).frames in
+    let u : World = caught_up_if_plain v s t in
+    let calm : u.frames ≡ v.frames = (untouched_caught_up v s t).frames in
     subst (Fails w) (sym (flush_is w s t)) (fails_then w v u (fails_emptied w s t h
     (then_remains w u v (subst (Remains w) (flush_is w s t) r) (remains_same u v (sym calm))))
-    (fails_device v s t))
+    (fails_caught_up v s t))
 
 flushed_is : (w : World) (s t : ℕ) → outcome_of w (Asked (Flush s t)) ≡ flush_outcome w s t
 unfolding outcome_of
@@ -651,6 +656,75 @@ fails_call : (w : World) (s t : ℕ) → Fresh w → Remains w (outcome_of w (As
 fails_call w s t h = subst (λ (o : Outcome). Remains w o.world → Fails w o.world) (sym (flushed_is w s t))
     (fails_flushed w s t h)
 
+-- ---- a cease
+
+-- The numbers of a TID without an open exchange are all settled after the waiting ones are given up.
+all_settled : (w : World) (s t : ℕ) → NoRow (refusals w (Asked (Cease s t))) → IsLawful w →
+    start_of (after_flush w.config.attempts (session w s t))
+    ≡ next_number (after_flush w.config.attempts (session w s t))
+all_settled w s t row i = start_flush w.config.attempts (session w s t)
+    (λ n e b h. none_sending s t e n w.opened (none_of_tid s t w.opened row.1.1.1.1.0)
+    (i.sent s t refl n e b h))
+
+-- No failed number of a TID is above the start that the receiver has after the agreement ended.
+none_untold : (w : World) (s t : ℕ) → NoRow (refusals w (Asked (Cease s t))) → IsLawful w → (n : ℕ) →
+    (slot (session (cease_outcome w s t).world s t) n).state ≡ State.Failed →
+    (session (cease_outcome w s t).world s t).heard ≤ n → ⊥
+none_untold w s t row i =
+    let y : Session = session w s t in
+    let a : World = after_numbers_ended w s t in
+    let start : ℕ = start_of (session a s t) in
+    let live : is_live w s ≡ true = not_no (is_live w s) row.1.1.0 in
+    let live_a : is_live a s ≡ true = (same_ended w s t).live s
+    ∙ (live_on_session w s t (after_flush w.config.attempts) s ∙ live) in
+    let now : session a s t ≡ after_flush w.config.attempts y =
+    ap (λ (z : Side). z.session) (ended_side w s t live) in
+    let all : start ≡ next_number (session a s t) =
+    ap start_of now ∙ (all_settled w s t row i ∙ ap next_number (sym now)) in
+    let after : session (cease_outcome w s t).world s t
+    ≡ (renewed start plain_window OnHold (tid_of a s t)).session =
+    ap (λ (v : World). session v s t) (ceased_is w s t)
+    ∙ ap (λ (z : Side). z.session) (side_on a s t (renewed start plain_window OnHold) live_a) in
+    subst (λ (z : Session). (n : ℕ) → (slot z n).state ≡ State.Failed → z.heard ≤ n → ⊥) (sym after)
+    (λ n e told.
+    let from : start ≤ n = omega (arith, told, le-max_right (session a s t).heard start) in
+    let first : (session a s t).first ≤ n = omega (arith, from, all) in
+    let below : n < next_number (session a s t) = slot_below (session a s t) n first e in
+    omega (arith, below, from, all))
+
+-- The sessions of the other TIDs stay.
+apart_ceased : (w : World) (s t i j : ℕ) → (i ≡ s → j ≡ t → ⊥) →
+    session (cease_outcome w s t).world i j ≡ session w i j
+apart_ceased w s t i j ne =
+    ap (λ (z : Side). z.session) (ceased_elsewhere w s t i j (λ es et. ne (sym es) (sym et)))
+
+fails_ceased : (w : World) (s t : ℕ) → NoRow (refusals w (Asked (Cease s t))) → IsLawful w →
+    Remains w (cease_outcome w s t).world → Fails w (cease_outcome w s t).world
+fails_ceased w s t row i r = record {
+  fails = λ a b n. on_bool ((a == s) && (b == t))
+      (λ own.
+      let is = both (a == s) (b == t) own in
+      subst (λ (k : ℕ). Untold k b n) (sym (eq_yes a s is.0))
+      (subst (λ (k : ℕ). Untold s k n) (sym (eq_yes b t is.1))
+      (λ e told. absurd (none_untold w s t row i n e told))))
+      (λ other e told. inl (stands_equal _ _ n (apart_ceased w s t a b (λ es et.
+      cc (other, and_true (a == s) (b == t) (yes_eq a s es) (yes_eq b t et))))));
+  remains = r;
+}
+  where
+    v : World
+    v = (cease_outcome w s t).world
+
+    Untold : ℕ → ℕ → ℕ → Type 0
+    Untold a b n = (slot (session v a b) n).state ≡ State.Failed → (session v a b).heard ≤ n →
+        Stands (session w a b) (session v a b) n ⊎
+        (IsHeld w (slot (session v a b) n).id × WasRetried v (slot (session v a b) n).id)
+
+fails_cease : (w : World) (s t : ℕ) → NoRow (refusals w (Asked (Cease s t))) → IsLawful w →
+    Remains w (outcome_of w (Asked (Cease s t))).world → Fails w (outcome_of w (Asked (Cease s t))).world
+unfolding outcome_of
+fails_cease w s t row i r = fails_ceased w s t row i r
+
 after_call : (note : Note) (r l : List ℕ) (w : World) → refusal w note ≡ None → Steady r w →
     Remains w (outcome_of w note).world → Spent l w → Fated w →
     After l (requests_heard_by w note) (outcome_of w note).world
@@ -660,6 +734,8 @@ after_call (Asked (Done e heard air)) r l w h k s f d =
     (after_ended (exchange w e) heard air r l w k.lawful (found_named w k.lawful k.labelled e) k.placing
     k.fresh f d))
 after_call (Asked (Flush i j)) r l w h k s f d = after_fails l w _ (fails_call w i j k.fresh s) f d
+after_call (Asked (Cease i j)) r l w h k s f d =
+    after_fails l w _ (fails_cease w i j (no_row (refusals w (Asked (Cease i j))) h) k.lawful s) f d
 after_call note r l w h k s f d =
     after_fails l w _ (fails_still w _ (still_done note w k.lawful (λ b. b)) s) f d
 
@@ -722,6 +798,7 @@ lost_either (Dropped By_codel) = refl
 lost_either (Dropped Retries) = refl
 lost_either (Dropped Left) = refl
 lost_either (Dropped Flushed) = refl
+lost_either (Dropped Ended) = refl
 
 lost_count : (fs : List Frame) (n : ℕ) → length (lost_from n fs)
     ≡ count_by (λ f. same_fate f.fate (Dropped Retries)) fs
@@ -775,5 +852,5 @@ few_requests config past =
     let a : After [] (requests_heard (opening config) past) (world_after (opening config) past) =
     after_run past [] [] (opening config) (steady_first config)
     (record { once = tt; dropped = λ k e. absurd (cc e); untold = λ s t n _ _ _. refl })
-    (record { failed = λ s t n e. absurd (cc e) }) in
+    (record { failed = λ s t n e _. absurd (cc e) }) in
     omega (arith, a.more, spent_most a.list (world_after (opening config) past) a.spent)

@@ -1,21 +1,21 @@
--- Proves that a number fails only by a Done or a Flush: after any other call, each failed number was there
--- before and failed. By cases of the call.
+-- Proves that a number fails only by a Done, a Flush or a Cease: after any other call, each failed number was
+-- there before and failed. By cases of the call.
 use Rattle.std.proofs.Common.{◌≡◌, ◌≢◌, refl, ap, sym, ◌∙◌, subst, ℕ, zero, suc, ◌-◌, ◌==◌, List, [], ◌∷◌, ◌++◌, Option, Some, None, Bool, true, false, arith, ◌≤◌}
 use Rattle.wf_frame.specs.declared.classes.Class.{Class}
-use Rattle.wf_frame.specs.declared.notes.Ask.TheVariants.{Join, Leave, Rate, Tick, Pull, Arrive, Answer, Done, Sleep, Wake, Poll, Rx, Reap, Ampdu, Stop, Start, Unsent, GiveUp, Flush, Offload, Weight}
+use Rattle.wf_frame.specs.declared.notes.Ask.TheVariants.{Join, Leave, Rate, Tick, Pull, Arrive, Answer, Done, Sleep, Wake, Poll, Rx, Reap, Ampdu, Stop, Start, Unsent, GiveUp, Flush, Offload, Weight, Plain, Hold, Begin, Free, Cease}
 use Rattle.wf_frame.specs.declared.notes.Limits.{Limits}
 use Rattle.wf_frame.specs.declared.notes.Note.{Note}
 use Rattle.wf_frame.specs.declared.notes.Note.TheVariants.{Enqueue, Asked}
 use Rattle.wf_frame.specs.Classes.{all_classes}
 use Rattle.wf_def_lists.specs.Table.{at, upto, with_member}
 use Rattle.wf_def_agreement.specs.Session.{Session, Slot, State, no_slot, slot, on_slot, with_state, with_number_given, start_of}
-use Rattle.wf_def_world.specs.World.{World, Station, Exchange, Mpdu, new_tid, session, exchange, with_station, on_session, on_receiver, with_exchange}
-use Rattle.wf_def_world.specs.Exchanges.{with_flying, with_exchange_opened, after_arrival, caught_up, with_device_caught_up}
-use Rattle.wf_def_world.specs.Step.{Outcome, join_outcome, leave_outcome, rate_outcome, tick_outcome, pull_outcome, arrive_outcome, answer_outcome, unsent_outcome, give_up_outcome, outcome_where_open, sleep_outcome, wake_outcome, poll_outcome, rx_outcome, reap_outcome, outcome_of, offload_outcome, new_station}
+use Rattle.wf_def_world.specs.World.{World, Mode, Station, Tid, Exchange, Mpdu, new_tid, tid_of, session, with_mode, on_tid, exchange, with_station, on_session, on_receiver, with_exchange}
+use Rattle.wf_def_world.specs.Exchanges.{with_flying, with_exchange_opened, after_arrival, caught_up, caught_up_if_plain}
+use Rattle.wf_def_world.specs.Step.{Outcome, join_outcome, leave_outcome, rate_outcome, tick_outcome, pull_outcome, arrive_outcome, answer_outcome, unsent_outcome, give_up_outcome, outcome_where_open, sleep_outcome, wake_outcome, poll_outcome, rx_outcome, reap_outcome, outcome_of, offload_outcome, plain_outcome, plain_window, hold_outcome, begin_outcome, free_outcome, new_station}
 use Rattle.wf_law_rules.proofs.Lemmas.Numbers.{on_bool, eq_yes, eq_no}
 use Rattle.wf_law_rules.proofs.Lemmas.Tables.{each_put}
 use Rattle.wf_law_runs.proofs.Common.Marks.{marked_world}
-use Rattle.wf_law_runs.proofs.Windows.Sides.{Side, Same, side_of, sides_of, same, then_same, each_side_on, same_on_station, same_on_share, caught_up_is, told_start, same_weighed}
+use Rattle.wf_law_runs.proofs.Windows.Sides.{Side, Same, side_of, sides_of, same, then_same, each_side_on, same_on_station, same_on_share, caught_up_is, told_start, begun_is, same_weighed}
 use Rattle.wf_law_runs.proofs.Windows.Opened.{eight}
 use Rattle.wf_law_runs.proofs.Windows.Agreed.{IsLawful, IsReady, same_left_tids, same_off_lists}
 use Rattle.wf_law_runs.proofs.Kept.Pulls.{along_pull}
@@ -128,8 +128,9 @@ still_pulled = along_pull Still still_same still_then still_given still_flown st
 abbrev NoneFails : Side → Type 0
 NoneFails a = (n : ℕ) → (slot a.session n).state ≡ State.Failed → ⊥
 
-none_fails : (first size n : ℕ) → (slot (side_of (new_tid first size)).session n).state ≡ State.Failed → ⊥
-none_fails first size n h = cc h
+none_fails : (mode : Mode) (first size n : ℕ) →
+    (slot (side_of (new_tid mode first size)).session n).state ≡ State.Failed → ⊥
+none_fails mode first size n h = cc h
 
 still_station : (w : World) (i : ℕ) (o : Option Station) → ((t : ℕ) → NoneFails (sides_of o t)) →
     Still w (with_station w i o)
@@ -142,37 +143,61 @@ still_station w i o none = record {
       (side_with_station w i s t o (eq_no i s other))));
 }
 
-still_new : (w : World) (s window start exponent weight : ℕ) (offloaded : Bool) →
-    Still w (with_station w s (Some (new_station w.config window start exponent weight offloaded)))
-still_new w s window start exponent weight offloaded = still_station w s _
-    (eight (λ y. NoneFails (side_of y)) (new_tid start window) (none_fails start window) (none_fails 0 0))
+still_new : (w : World) (mode : Mode) (s window start exponent weight : ℕ) (offloaded : Bool) →
+    Still w (with_station w s (Some (new_station w.config mode window start exponent weight offloaded)))
+still_new w mode s window start exponent weight offloaded = still_station w s _
+    (eight (λ y. NoneFails (side_of y)) (new_tid mode start window) (none_fails mode start window)
+    (none_fails Mode.Plain 0 0))
 
 still_joined : (w : World) (s window start exponent weight : ℕ) →
     Still w (join_outcome w s window start exponent weight).world
 unfolding join_outcome
-still_joined w s window start exponent weight = still_new w s window start exponent weight false
+still_joined w s window start exponent weight =
+    still_new w Mode.Agreed s window start exponent weight false
 
 still_offloaded : (w : World) (s exponent weight : ℕ) →
     Still w (offload_outcome w s exponent weight).world
 unfolding offload_outcome
-still_offloaded w s exponent weight = still_new w s greatest_window 0 exponent weight true
+still_offloaded w s exponent weight = still_new w Mode.Plain s greatest_window 0 exponent weight true
 
--- The device of an offloaded station catches up.
-still_caught : (w : World) (s t : ℕ) → Still w (caught_up w s t)
-still_caught w s t = subst (Still w) (sym (caught_up_is w s t)) (record {
+still_plain : (w : World) (s start exponent weight : ℕ) →
+    Still w (plain_outcome w s start exponent weight).world
+unfolding plain_outcome
+still_plain w s start exponent weight = still_new w Mode.Plain s plain_window start exponent weight false
+
+-- One TID changes, and no number of it fails.
+still_on_tid : (w : World) (s t : ℕ) (f : Tid → Tid) →
+    ((n : ℕ) → Stands (session w s t) (f (tid_of w s t)).session n) → Still w (on_tid w s t f)
+still_on_tid w s t f h = record {
   still = each_side_on (λ i j a. (k : ℕ) → (slot a.session k).state ≡ State.Failed →
-      Stands (session w i j) a.session k) w s t (told_start (start_of (session w s t)))
-      (λ i j k _. stands_equal _ _ k refl)
-      (λ k _. record { same_slot = refl; heard_rises = omega arith; same_first = refl });
-})
+      Stands (session w i j) a.session k) w s t f (λ i j k _. stands_equal _ _ k refl) (λ k _. h k);
+}
 
-pub still_device : (w : World) (s t : ℕ) → Still w (with_device_caught_up w s t)
-still_device w s t = if_caught (Still w) w s t (still_same w w (same w)) (λ _. still_caught w s t)
+still_held : (w : World) (s t : ℕ) → Still w (hold_outcome w s t).world
+unfolding hold_outcome with_mode
+still_held w s t = still_on_tid w s t _ (λ n. stands_equal _ _ n refl)
+
+still_freed : (w : World) (s t : ℕ) → Still w (free_outcome w s t).world
+unfolding free_outcome with_mode
+still_freed w s t = still_on_tid w s t _ (λ n. stands_equal _ _ n refl)
+
+still_begun : (w : World) (s t window : ℕ) → Still w (begin_outcome w s t window).world
+still_begun w s t window = subst (Still w) (sym (begun_is w s t window)) (still_on_tid w s t _
+    (λ n. record { same_slot = refl; heard_rises = omega arith; same_first = refl }))
+
+-- A TID without an agreement catches up.
+still_caught : (w : World) (s t : ℕ) → Still w (caught_up w s t)
+still_caught w s t = subst (Still w) (sym (caught_up_is w s t)) (still_on_tid w s t
+    (told_start (start_of (session w s t)))
+    (λ n. record { same_slot = refl; heard_rises = omega arith; same_first = refl }))
+
+pub still_caught_up : (w : World) (s t : ℕ) → Still w (caught_up_if_plain w s t)
+still_caught_up w s t = if_caught (Still w) w s t (still_same w w (same w)) (λ _. still_caught w s t)
 
 still_gone : (w : World) (s : ℕ) → Still w (leave_outcome w s).world
 unfolding leave_outcome
 still_gone w s = still_then w _ _ (still_same w _ (then_same _ _ _ (same_left_tids (upto 8) w s)
-    (same_off_lists all_classes _ s))) (still_station _ s None (λ t. none_fails 0 0))
+    (same_off_lists all_classes _ s))) (still_station _ s None (λ t. none_fails Mode.Plain 0 0))
 
 still_arrived : (w : World) (x : Exchange) (n : ℕ) → Still w (arrive_outcome w x n).world
 unfolding arrive_outcome with_exchange on_receiver
@@ -211,10 +236,11 @@ unfolding reap_outcome
 still_reaped [] w = still_same w w (same w)
 still_reaped (id ∷ ids) w = record { still = λ s t n _. stands_equal _ _ n refl }
 
--- The call is a Done or a Flush: numbers fail.
+-- The call is a Done, a Flush or a Cease: numbers fail.
 abbrev pub IsDone : Note → Type 0
 IsDone (Asked (Done e heard air)) = Unit {0}
 IsDone (Asked (Flush s t)) = Unit {0}
+IsDone (Asked (Cease s t)) = Unit {0}
 IsDone _ = ⊥
 
 pub still_done : (note : Note) (w : World) → IsLawful w → (IsDone note → ⊥) →
@@ -243,3 +269,8 @@ still_done (Asked (GiveUp e n)) w i d = still_open (exchange w e) w _ (λ x. sti
 still_done (Asked (Flush s t)) w i d = absurd (d tt)
 still_done (Asked (Offload s exponent weight)) w i d = still_offloaded w s exponent weight
 still_done (Asked (Weight s weight)) w i d = still_same w _ (same_weighed w s weight)
+still_done (Asked (Plain s start exponent weight)) w i d = still_plain w s start exponent weight
+still_done (Asked (Hold s t)) w i d = still_held w s t
+still_done (Asked (Begin s t window)) w i d = still_begun w s t window
+still_done (Asked (Free s t)) w i d = still_freed w s t
+still_done (Asked (Cease s t)) w i d = absurd (d tt)

@@ -401,7 +401,7 @@ agreed_start y r m l b a = record {
   failed = a.failed;
 }
 
--- A device that repeats frames tells its peer where the window starts.
+-- A device that repeats frames announces the start of the window to its peer.
 pub agreed_told : (y : Session) (r : Receiver) → IsAgreed y r →
     IsAgreed (with_heard_start true (start_of y) y) (with_start (start_of y) r)
 agreed_told y r a = agreed_heard y (with_start (start_of y) r) (start_of y) (has_new r.starts (start_of y))

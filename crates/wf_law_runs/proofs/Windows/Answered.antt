@@ -4,7 +4,8 @@
 use Rattle.std.proofs.Common.{◌≡◌, ◌≢◌, refl, ap, sym, ◌∙◌, subst, arith, ℕ, zero, suc, ◌+◌, ◌-◌, ◌<◌, ◌≤◌, nat_lt, nat_le, Bool, true, false, if◌then◌else◌, ◌==◌, ◌||◌, ◌⊎◌, inl, inr, List, [], ◌∷◌, ◌++◌, length, map, Option, Some, None, IfSome, is_some}
 use Rattle.wf_frame.specs.declared.settings.Config.{Config}
 use Rattle.wf_frame.specs.declared.classes.Class.{Class}
-use Rattle.wf_frame.specs.declared.notes.Ask.TheVariants.{Join, Leave, Rate, Tick, Pull, Arrive, Answer, Done, Sleep, Wake, Poll, Rx, Reap, Ampdu, Stop, Start, Unsent, GiveUp, Flush, Offload, Weight}
+use Rattle.wf_frame.specs.declared.notes.Ask.TheVariants.{Join, Leave, Rate, Tick, Pull, Arrive, Answer, Done, Sleep, Wake, Poll, Rx, Reap, Ampdu, Stop, Start, Unsent, GiveUp, Flush, Offload, Weight, Hold, Begin, Free, Cease}
+use Rattle.wf_frame.specs.declared.notes.Ask.TheVariants as call
 use Rattle.wf_frame.specs.declared.notes.Limits.{Limits}
 use Rattle.wf_frame.specs.declared.notes.Note.{Note}
 use Rattle.wf_frame.specs.declared.notes.Note.TheVariants.{Enqueue, Asked}
@@ -15,11 +16,11 @@ use Rattle.wf_def_lists.specs.Bounds.{greatest_window}
 use Rattle.wf_def_lists.specs.Table.{at, has, with_member, upto}
 use Rattle.wf_def_agreement.specs.Receiver.{Receiver, Score, greatest, score, score_start}
 use Rattle.wf_def_agreement.specs.Session.{Session, State, is_settled, start_of, next_number}
-use Rattle.wf_def_world.specs.World.{World, Station, Exchange, Mpdu, Content, Frames, Request, rotation, session, receiver, is_live, exchange, with_station, on_receiver, with_exchange, opening}
+use Rattle.wf_def_world.specs.World.{World, Station, Exchange, Mpdu, Content, Frames, Request, rotation, session, receiver, is_live, exchange, with_station, on_receiver, with_exchange, opening, Mode, Plain, Agreed, is_held_back}
 use Rattle.wf_def_world.specs.CanSend.{is_ready}
 use Rattle.wf_def_world.specs.Exchanges.{transmissions, no_mpdu, mpdus_of, station_need, picked_station, sending_tid, exchange_of, Prepared, after_tid_turn, with_exchange_opened, after_arrival}
 use Rattle.wf_def_world.specs.Refusals.{open_of_station, refusals, refusal}
-use Rattle.wf_def_world.specs.Step.{Outcome, new_station, offload_outcome, join_outcome, leave_outcome, rate_outcome, tick_outcome, send_outcome, pull_outcome_for, pull_outcome, arrive_outcome, answer_outcome, unsent_outcome, give_up_outcome, done_outcome, outcome_where_open, sleep_outcome, wake_outcome, poll_outcome, rx_outcome, reap_outcome, concerned_station, outcome_of, after_refusal, judged_outcome, step}
+use Rattle.wf_def_world.specs.Step.{Outcome, new_station, offload_outcome, join_outcome, leave_outcome, rate_outcome, tick_outcome, send_outcome, pull_outcome_for, pull_outcome, arrive_outcome, answer_outcome, unsent_outcome, give_up_outcome, done_outcome, outcome_where_open, sleep_outcome, wake_outcome, poll_outcome, rx_outcome, reap_outcome, concerned_station, outcome_of, after_refusal, judged_outcome, step, plain_outcome, plain_window}
 use Rattle.wf_def_world.specs.Run.{Entry, world_after}
 use Rattle.wf_law_rules.proofs.Lemmas.Numbers.{has_new, has_old, greatest_least, greatest_has, score_past, le_no}
 use Rattle.wf_law_runs.proofs.Common.Refused.{after_idle}
@@ -27,10 +28,10 @@ use Rattle.wf_law_runs.proofs.Common.Marks.{marked_world}
 use Rattle.wf_law_runs.proofs.Common.Picked.{picked_world}
 use Rattle.wf_law_runs.proofs.Sessions.Starts.{start_le}
 use Rattle.wf_law_runs.proofs.Sessions.Flights.{AllIn, Rises}
-use Rattle.wf_law_runs.proofs.Windows.Sides.{same_weighed, Side, side, Same, each_side_on, then_same, same_listed, same_after_pick, same_after_turn, same_spent, same_on_station, same_on_share, same_picked}
+use Rattle.wf_law_runs.proofs.Windows.Sides.{same_weighed, Side, side, Same, each_side_on, then_same, same_listed, same_after_pick, same_after_turn, same_spent, same_on_station, same_on_share, same_picked, same_held, same_freed, opened_begun, begun_elsewhere, opened_ceased, ceased_elsewhere}
 use Rattle.wf_law_runs.proofs.Windows.Agreement.{IsAgreed, IsAsked, IfRequest, option_along, unsettled_ge, score_kept}
 use Rattle.wf_law_runs.proofs.Windows.Opened.{Each, each_map, each_both, each_append, each_find, FlyIn, some_along, pick_ready, left_true, none_open, NoRow, no_row}
-use Rattle.wf_law_runs.proofs.Windows.Agreed.{IsLawful, IsOpenIn, none_of, each_map_if, both_some, if_on, no_answer, lawful_same, lawful_step, lawful_at_first, same_left_tids, same_off_lists}
+use Rattle.wf_law_runs.proofs.Windows.Agreed.{IsLawful, IsOpenIn, none_of, each_map_if, both_some, if_on, no_answer, lawful_same, lawful_step, lawful_at_first, same_left_tids, same_off_lists, NoneOpen, none_of_tid, not_no}
 use Rattle.wf_law_runs.proofs.Releases.Kept.{KeptSession, kept_refl, Kept, kept_same, keep_prepared, keep_ended, keep_flushed, opened_flushed, keep_plain}
 use Rattle.wf_law_runs.proofs.Releases.Released.{side_taken, side_with_station}
 use Rattle.wf_law_runs.proofs.Frames.Delivered.{IsPrepared, prepared_right, opened_ended, opened_on_receiver, same_enqueued, filtered}
@@ -80,6 +81,7 @@ record Grows (r q : Receiver) : Type 0 where
 record Grown (w v : World) : Type 0 where
   receivers : (s t : ℕ) → Grows (receiver w s t) (receiver v s t)
   sessions : (s t : ℕ) → KeptSession (session w s t) (session v s t)
+  sizes : (s t : ℕ) → (session v s t).size ≡ (session w s t).size
 
 grows : (r : Receiver) → Grows r r
 grows r = record { arrived = λ n h. h; starts = λ n h. h }
@@ -91,6 +93,7 @@ grown_kept w v k = record {
     starts = (k.receivers s t).starts;
   };
   sessions = k.sessions;
+  sizes = k.sizes;
 }
 
 one_arrived : (c : Content) (r q : Receiver) → Grows r q → OneArrived c r → OneArrived c q
@@ -98,12 +101,11 @@ one_arrived (Frames ms) r q g a = some_mpdu (λ m. has r.arrived m.number ≡ tr
     (λ m. has q.arrived m.number ≡ true) (λ m h. g.arrived m.number h) ms a
 one_arrived (Request f) r q g a = g.starts f a
 
-still_answered : (c : Content) (b : Score) (y z : Session) → KeptSession y z → IsAnswered y c b →
-    IsAnswered z c b
-still_answered c b y z k a = record {
+still_answered : (c : Content) (b : Score) (y z : Session) → KeptSession y z → z.size ≡ y.size →
+    IsAnswered y c b → IsAnswered z c b
+still_answered c b y z k size a = record {
   below = omega (arith, a.below, k.next);
-  near =
-      subst (IsReached c b.start) (sym k.size) a.near;
+  near = subst (IsReached c b.start) (sym size) a.near;
 }
 
 still_marked : (w v : World) (x : Exchange) → Grown w v → IsMarked w x → IsMarked v x
@@ -113,7 +115,7 @@ still_marked w v x g a = record {
   answered = option_along (IsAnswered (session w x.station x.tid) x.content)
       (IsAnswered (session v x.station x.tid) x.content) x.answer
       (λ b. still_answered x.content b (session w x.station x.tid) (session v x.station x.tid)
-      (g.sessions x.station x.tid)) a.answered;
+      (g.sessions x.station x.tid) (g.sizes x.station x.tid)) a.answered;
 }
 
 marked_side : (w v : World) (x : Exchange) → side v x.station x.tid ≡ side w x.station x.tid → IsMarked w x →
@@ -195,6 +197,8 @@ grown_receiver w s t g h = record {
   sessions = each_side_on (λ i j a. KeptSession (session w i j) a.session) w s t
       (λ y. record y { receiver = g y.receiver }) (λ i j. kept_refl (session w i j))
       (kept_refl (session w s t));
+  sizes = each_side_on (λ i j a. a.session.size ≡ (session w i j).size) w s t
+      (λ y. record y { receiver = g y.receiver }) (λ i j. refl) refl;
 }
 
 marked_arrived : (w : World) (x : Exchange) (n : ℕ) → is_live w x.station ≡ true → is_some x.answer ≡ false →
@@ -217,7 +221,11 @@ marked_arrived w x n live none l h =
             arrived = λ _. subst (OneArrived x.content) (sym own)
                 (new_arrival x.content n (receiver w x.station x.tid) l);
             answered = no_answer (IsAnswered (session v x.station x.tid) x.content) x.answer none;
-          }) (λ y _ a. still_marked w v y (record { receivers = grown.receivers; sessions = grown.sessions })
+          }) (λ y _ a. still_marked w v y (record {
+            receivers = grown.receivers;
+            sessions = grown.sessions;
+            sizes = grown.sizes;
+          })
           a) h.marks);
     }
 
@@ -296,10 +304,10 @@ marked_station w s o away h = record {
       away;
 }
 
-marked_new : (w : World) (s window start exponent weight : ℕ) (offloaded : Bool) → is_live w s ≡ false →
-    IsLawful w → Marked w →
-    Marked (with_station w s (Some (new_station w.config window start exponent weight offloaded)))
-marked_new w s window start exponent weight offloaded dead i h =
+marked_new : (w : World) (s : ℕ) (mode : Mode) (window start exponent weight : ℕ) (offloaded : Bool) →
+    is_live w s ≡ false → IsLawful w → Marked w →
+    Marked (with_station w s (Some (new_station w.config mode window start exponent weight offloaded)))
+marked_new w s mode window start exponent weight offloaded dead i h =
     marked_station w s _ (each_map (IsOpenIn w) (λ x. s ≢ x.station) w.opened
     (λ x f e. cc (ap (is_live w) e, f.live, dead)) i.opened) h
 
@@ -307,12 +315,27 @@ marked_joined : (w : World) (s window start exponent weight : ℕ) → is_live w
     Marked w → Marked (join_outcome w s window start exponent weight).world
 unfolding join_outcome
 marked_joined w s window start exponent weight dead i h =
-    marked_new w s window start exponent weight false dead i h
+    marked_new w s Agreed window start exponent weight false dead i h
 
 marked_offloaded : (w : World) (s exponent weight : ℕ) → is_live w s ≡ false → IsLawful w →
     Marked w → Marked (offload_outcome w s exponent weight).world
 unfolding offload_outcome
-marked_offloaded w s exponent weight dead i h = marked_new w s greatest_window 0 exponent weight true dead i h
+marked_offloaded w s exponent weight dead i h =
+    marked_new w s Plain greatest_window 0 exponent weight true dead i h
+
+marked_unagreed : (w : World) (s start exponent weight : ℕ) → is_live w s ≡ false → IsLawful w →
+    Marked w → Marked (plain_outcome w s start exponent weight).world
+unfolding plain_outcome
+marked_unagreed w s start exponent weight dead i h =
+    marked_new w s Plain plain_window start exponent weight false dead i h
+
+-- The sides of one TID change, for which no exchange is open.
+marked_elsewhere : (w v : World) (s t : ℕ) → NoneOpen s t w.opened → v.opened ≡ w.opened →
+    ((i j : ℕ) → (s ≡ i → t ≡ j → ⊥) → side v i j ≡ side w i j) → Marked w → Marked v
+marked_elsewhere w v s t none e k h = record {
+  marks = subst (Each (IsMarked v)) (sym e) (each_both (IsMarked w) (λ x. s ≡ x.station → t ≡ x.tid → ⊥)
+      (IsMarked v) w.opened (λ x a apart. marked_side w v x (k x.station x.tid apart) a) h.marks none);
+}
 
 marked_gone : (w : World) (s : ℕ) → nat_lt 0 (open_of_station w s) ≡ false → Marked w →
     Marked (leave_outcome w s).world
@@ -387,6 +410,15 @@ marked_done (Asked (GiveUp e n)) w i r h = marked_open (IsRead w) (exchange w e)
 marked_done (Asked (Flush s t)) w i r h = marked_kept w _ (keep_flushed w s t) (opened_flushed w s t) h
 marked_done (Asked (Offload s exponent weight)) w i r h = marked_offloaded w s exponent weight r.1.1.1.0 i h
 marked_done (Asked (Weight s weight)) w i r h = marked_same w _ (same_weighed w s weight) h
+marked_done (Asked (call.Plain s start exponent weight)) w i r h =
+    marked_unagreed w s start exponent weight r.1.1.1.1.0 i h
+marked_done (Asked (Hold s t)) w i r h = marked_same w _ (same_held w s t r.1.1.1.0 r.1.1.1.1.0) h
+marked_done (Asked (Begin s t window)) w i r h = marked_elsewhere w _ s t
+    (none_of_tid s t w.opened r.1.1.1.1.1.0) (opened_begun w s t window) (begun_elsewhere w s t window) h
+marked_done (Asked (Free s t)) w i r h =
+    marked_same w _ (same_freed w s t (not_no (is_held_back w s t) r.1.1.1.0)) h
+marked_done (Asked (Cease s t)) w i r h = marked_elsewhere w _ s t
+    (none_of_tid s t w.opened r.1.1.1.1.0) (opened_ceased w s t) (ceased_elsewhere w s t) h
 
 marked_refused : (note : Note) (r : Refusal) (w : World) → Marked w → Marked (after_refusal w note r)
 unfolding after_refusal

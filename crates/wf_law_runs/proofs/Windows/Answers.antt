@@ -6,30 +6,31 @@ use Rattle.wf_frame.specs.declared.classes.Class.{Class}
 use Rattle.wf_def_lists.specs.Table.{has, with_member, upto}
 use Rattle.wf_def_agreement.specs.Receiver.{Receiver, Score, score}
 use Rattle.wf_def_agreement.specs.Session.{next_number}
-use Rattle.wf_def_world.specs.World.{receiver, World, Station, Exchange, Mpdu, Content, rotation, session, is_live, exchange, with_station, on_station, on_receiver, with_exchange, opening}
+use Rattle.wf_def_world.specs.World.{receiver, World, Station, Exchange, Mpdu, Content, rotation, session, is_live, exchange, with_station, on_station, on_receiver, with_exchange, opening, is_held_back}
 use Rattle.wf_frame.specs.Classes.{all_classes}
 use Rattle.wf_def_world.specs.CanSend.{is_ready}
 use Rattle.wf_def_world.specs.Exchanges.{station_need, picked_station, after_arrival, exchange_of, sending_tid, Prepared, mpdus_of, after_tid_turn, with_exchange_opened}
-use Rattle.wf_frame.specs.declared.notes.Ask.TheVariants.{Join, Leave, Rate, Tick, Pull, Arrive, Answer, Done, Sleep, Wake, Poll, Rx, Reap, Ampdu, Stop, Start, Unsent, GiveUp, Flush, Offload, Weight}
+use Rattle.wf_frame.specs.declared.notes.Ask.TheVariants.{Join, Leave, Rate, Tick, Pull, Arrive, Answer, Done, Sleep, Wake, Poll, Rx, Reap, Ampdu, Stop, Start, Unsent, GiveUp, Flush, Offload, Weight, Hold, Begin, Free, Cease}
+use Rattle.wf_frame.specs.declared.notes.Ask.TheVariants as call
 use Rattle.wf_frame.specs.declared.notes.Limits.{Limits}
 use Rattle.wf_frame.specs.declared.notes.Note.{Note}
 use Rattle.wf_frame.specs.declared.notes.Note.TheVariants.{Enqueue, Asked}
 use Rattle.wf_frame.specs.declared.notes.Refusal.{Refusal}
 use Rattle.wf_frame.specs.declared.notes.Refusal.TheVariants.{Idle}
 use Rattle.wf_def_world.specs.Refusals.{refusals, refusal}
-use Rattle.wf_def_world.specs.Step.{Outcome, join_outcome, leave_outcome, rate_outcome, tick_outcome, send_outcome, pull_outcome_for, pull_outcome, arrive_outcome, answer_outcome, unsent_outcome, give_up_outcome, flush_outcome, done_outcome, outcome_where_open, sleep_outcome, wake_outcome, poll_outcome, rx_outcome, reap_outcome, outcome_of, after_refusal, judged_outcome, step, concerned_station, offload_outcome}
+use Rattle.wf_def_world.specs.Step.{Outcome, join_outcome, leave_outcome, rate_outcome, tick_outcome, send_outcome, pull_outcome_for, pull_outcome, arrive_outcome, answer_outcome, unsent_outcome, give_up_outcome, flush_outcome, done_outcome, outcome_where_open, sleep_outcome, wake_outcome, poll_outcome, rx_outcome, reap_outcome, outcome_of, after_refusal, judged_outcome, step, concerned_station, offload_outcome, plain_outcome}
 use Rattle.wf_def_world.specs.Run.{Entry, world_after, by}
 use Rattle.wf_law_rules.proofs.Lemmas.Numbers.{eq_yes, eq_no}
 use Rattle.wf_law_runs.proofs.Common.Refused.{after_idle}
 use Rattle.wf_law_runs.proofs.Common.Marks.{with_marks, marked_world}
 use Rattle.wf_law_runs.proofs.Common.Flushes.{if_flushed}
-use Rattle.wf_law_runs.proofs.Windows.Sides.{sided, Same, on_exchanges, then_same, same_on_station, same_on_share, same_on_queue, same_finish, same_listed, same_after_pick, same_after_turn, same_spent, same_picked, same_weighed}
+use Rattle.wf_law_runs.proofs.Windows.Sides.{sided, Same, on_exchanges, then_same, same_on_station, same_on_share, same_on_queue, same_finish, same_listed, same_after_pick, same_after_turn, same_spent, same_picked, same_weighed, same_held, same_freed, opened_begun, exchanges_begun, opened_ceased, exchanges_ceased}
 use Rattle.wf_law_runs.proofs.Windows.Agreement.{answer_right, AllRight}
 use Rattle.wf_law_runs.proofs.Windows.Opened.{Each, each_both, each_append, each_find, some_along, pick_ready, left_true, NoRow, no_row}
 use Rattle.wf_law_runs.specs.Windows.{EachMpdu}
 use Rattle.wf_law_runs.specs.Answers.{IsBa, StandsAsThen, AnswerLaw}
 use Rattle.wf_law_runs.proofs.Common.Picked.{picked_world}
-use Rattle.wf_law_runs.proofs.Windows.Agreed.{IsLawful, IsOpenIn, lawful, lawful_step, lawful_run, lawful_same, opened_on_session, exchanges_on_session, same_left_tids, same_off_lists, if_on, each_map_if}
+use Rattle.wf_law_runs.proofs.Windows.Agreed.{IsLawful, IsOpenIn, lawful, lawful_step, lawful_run, lawful_same, opened_on_session, exchanges_on_session, same_left_tids, same_off_lists, if_on, each_map_if, not_no}
 use Rattle.wf_law_runs.proofs.Frames.Delivered.{IsPrepared, prepared_right, opened_ended, exchanges_ended, opened_on_receiver, same_enqueued, filtered}
 use Rattle.wf_law_runs.proofs.Releases.Kept.{opened_caught, exchanges_caught}
 
@@ -184,6 +185,11 @@ module _ (e : ℕ) (b : Score) (s t : ℕ) (c : Content) where
   unfolding offload_outcome
   standing_offloaded w i exponent weight h = standing_with_station w i _ h
 
+  standing_unagreed : (w : World) (i start exponent weight : ℕ) → IsStanding e b s t c w →
+      IsStanding e b s t c (plain_outcome w i start exponent weight).world
+  unfolding plain_outcome
+  standing_unagreed w i start exponent weight h = standing_with_station w i _ h
+
   standing_gone : (w : World) (i : ℕ) → IsStanding e b s t c w →
       IsStanding e b s t c (leave_outcome w i).world
   unfolding leave_outcome
@@ -248,6 +254,15 @@ module _ (e : ℕ) (b : Score) (s t : ℕ) (c : Content) where
   standing_done (Asked (Flush i j)) w l r h = standing_flushed w i j h
   standing_done (Asked (Offload i exponent weight)) w l r h = standing_offloaded w i exponent weight h
   standing_done (Asked (Weight i weight)) w l r h = standing_same w _ (same_weighed w i weight) h
+  standing_done (Asked (call.Plain i start exponent weight)) w l r h =
+      standing_unagreed w i start exponent weight h
+  standing_done (Asked (Hold i j)) w l r h = standing_same w _ (same_held w i j r.1.1.1.0 r.1.1.1.1.0) h
+  standing_done (Asked (Begin i j window)) w l r h =
+      standing_plain w _ (opened_begun w i j window) (exchanges_begun w i j window) h
+  standing_done (Asked (Free i j)) w l r h =
+      standing_same w _ (same_freed w i j (not_no (is_held_back w i j) r.1.1.1.0)) h
+  standing_done (Asked (Cease i j)) w l r h =
+      standing_plain w _ (opened_ceased w i j) (exchanges_ceased w i j) h
 
   standing_refused : (note : Note) (r : Refusal) (w : World) → IsStanding e b s t c w →
       IsStanding e b s t c (after_refusal w note r)

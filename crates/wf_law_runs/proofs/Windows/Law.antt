@@ -1,7 +1,7 @@
 -- Proves the window law from the invariants of its parts.
 use Rattle.std.proofs.Common.{take}
 use Rattle.wf_def_world.specs.Stretches.{world_at}
-use Rattle.std.proofs.Common.{◌≡◌, ap, arith, ℕ, ◌+◌, ◌<◌, ◌≤◌, ◌*◌, List, [], ◌∷◌}
+use Rattle.std.proofs.Common.{◌≡◌, refl, ap, arith, ℕ, ◌+◌, ◌<◌, ◌≤◌, ◌*◌, List, [], ◌∷◌}
 use Rattle.wf_frame.specs.declared.settings.Config.{Config}
 use Rattle.wf_def_lists.specs.Table.{has}
 use Rattle.wf_def_agreement.specs.Session.{Session, State, slot, next_number, is_settled, start_of}
@@ -16,7 +16,7 @@ use Rattle.wf_law_runs.proofs.Windows.Opened.{Each}
 use Rattle.wf_law_runs.proofs.Windows.Agreement.{IsAgreed, IsAsked, AllRight, IfRequest, unsettled_ge, below_next, next_release, release_next, release_score, score_kept, heard_release, start_release, option_along}
 use Rattle.wf_law_runs.proofs.Windows.Agreed.{IsLawful, IsOpenIn, lawful, asks}
 use Rattle.wf_law_runs.proofs.Windows.Waits.{holds_pull}
-use Rattle.wf_law_runs.proofs.Windows.Flying.{IsFlown_by, all_flown, one_count}
+use Rattle.wf_law_runs.proofs.Windows.Flying.{one_count}
 use Rattle.wf_law_runs.proofs.Windows.Settling.{settles}
 
 near_by : (y : Session) (r : Receiver) → IsAgreed y r → AreNear y r
@@ -101,18 +101,18 @@ opened_by w i (x ∷ xs) e =
       opened_by w i xs e.1,
     )
 
-pub keeps : (w : World) → IsLawful w → IsFlown_by w → KeepsWindows w
-keeps w i k = record {
+pub keeps : (w : World) → IsLawful w → KeepsWindows w
+keeps w i = record {
   near = λ s t. near_by (session w s t) (receiver w s t) (i.agreed s t);
   told = λ s t. told_by (session w s t) (receiver w s t) (i.agreed s t);
   known = λ s t. known_by (session w s t) (receiver w s t) (i.agreed s t);
   opened = opened_by w i w.opened i.opened;
-  rising = k.rising;
-  flown = k.flown;
-  sole = λ s t. one_count (asks s t) (i.sole s t).who 0 w.exchanges w.opened k.rising (i.sole s t).only;
+  rising = i.rising;
+  flown = λ s t. i.sent s t refl;
+  sole = λ s t. one_count (asks s t) (i.sole s t).who 0 w.exchanges w.opened i.rising (i.sole s t).only;
   settles = settles w i;
   waits = λ c l s t due. ap next_number ((holds_pull w c l i).held s t due);
 }
 
 pub window_law : (config : Config) (h : List Entry) → WindowLaw config h
-window_law config h m = keeps (world_at config h m) (lawful config (take m h)) (all_flown config (take m h))
+window_law config h m = keeps (world_at config h m) (lawful config (take m h))

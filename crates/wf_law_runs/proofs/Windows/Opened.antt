@@ -3,7 +3,7 @@ use Rattle.std.proofs.Common.{◌≡◌, ◌≢◌, refl, subst, arith, ℕ, zer
 use Rattle.wf_def_lists.specs.Table.{at}
 use Rattle.wf_def_rotation.specs.Rotation.{Rotation, round, first_of_two, first_least, pick_later, pick_from, pick, in_order}
 use Rattle.wf_def_agreement.specs.Session.{Session, State, with_number_given, next_number, has_room}
-use Rattle.wf_def_world.specs.World.{World, Tid, Exchange, Mpdu, no_tid, session}
+use Rattle.wf_def_world.specs.World.{World, Tid, Exchange, Mpdu, no_tid, session, is_held_back}
 use Rattle.wf_def_world.specs.FlowQueues.{frames_queued}
 use Rattle.wf_def_world.specs.CanSend.{can_give}
 use Rattle.wf_frame.specs.declared.notes.Refusal.{Refusal}
@@ -65,12 +65,13 @@ fly_give y id e ms f = record {
 }
 
 pub can_give-room : (w : World) (s t : ℕ) → not (can_give w s t) ≡ false → has_room (session w s t) ≡ true
-can_give-room w s t h = right (nat_lt 0 (frames_queued w s t)) (has_room (session w s t)) h
+can_give-room w s t h = middle (nat_lt 0 (frames_queued w s t)) (has_room (session w s t))
+    (not (is_held_back w s t)) h
   where
-    right : (a b : Bool) → not (a && b) ≡ false → b ≡ true
-    right true true h = refl
-    right true false h = absurd (cc h)
-    right false b h = absurd (cc h)
+    middle : (a b c : Bool) → not (a && (b && c)) ≡ false → b ≡ true
+    middle true true c h = refl
+    middle true false c h = absurd (cc h)
+    middle false b c h = absurd (cc h)
 
 pub differ : (a b : ℕ) → not (a == b) ≡ true → a ≢ b
 differ a b h e = grind arith

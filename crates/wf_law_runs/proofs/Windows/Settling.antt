@@ -5,7 +5,7 @@ use Rattle.wf_def_agreement.specs.Receiver.{Receiver, Score, shows}
 use Rattle.wf_def_agreement.specs.Session.{End, with_state, Session, Slot, State, is_failed, slot, on_slot, next_number}
 use Rattle.wf_def_world.specs.World.{receiver, World, Exchange, Mpdu, Content, Frames, Request, session, is_live, exchange, on_session, without_exchange}
 use Rattle.wf_def_world.specs.CanSend.{with_listings_of}
-use Rattle.wf_def_world.specs.Exchanges.{end_of, numbers_unsent, mpdus_of, after_charge, with_failed_finished, with_settled, with_all_settled, with_device_caught_up, after_done}
+use Rattle.wf_def_world.specs.Exchanges.{end_of, numbers_unsent, mpdus_of, after_charge, with_failed_finished, with_settled, with_all_settled, caught_up_if_plain, after_done}
 use Rattle.wf_frame.specs.declared.notes.Ask.TheVariants.{Done}
 use Rattle.wf_frame.specs.declared.notes.Note.TheVariants.{Asked}
 use Rattle.wf_frame.specs.declared.notes.Refusal.{Refusal}
@@ -14,7 +14,7 @@ use Rattle.wf_frame.specs.Settings.{is_bad_air}
 use Rattle.wf_def_world.specs.Step.{done_outcome, outcome_where_open, outcome_of, judged_outcome, step, station_of}
 use Rattle.wf_law_runs.proofs.Common.Ends.{slot_after_end, end_acked, end_not_flying, end_shown, on_settled}
 use Rattle.wf_law_runs.proofs.Sessions.Flights.{Rises}
-use Rattle.wf_law_runs.proofs.Windows.Sides.{slot_device, Same, same_finish, same_listed, same_charged}
+use Rattle.wf_law_runs.proofs.Windows.Sides.{slot_plain, Same, same_finish, same_listed, same_charged}
 use Rattle.wf_law_runs.proofs.Windows.Agreement.{slot_other, slot_same, AllRight}
 use Rattle.wf_law_runs.proofs.Windows.Opened.{each_find, FlyIn}
 use Rattle.wf_frame.specs.declared.notes.Refusal.TheVariants.{NoExchange, NoAnswer, BadAir}
@@ -26,7 +26,7 @@ if_session : (b : Bool) (w v u : World) (s t : ℕ) → session w s t ≡ sessio
 if_session true w v u s t h k = h
 if_session false w v u s t h k = k
 
-session_settled : (end : End) (w : World) (s t : ℕ) (m : Mpdu) → is_live w s ≡ true →
+pub session_settled : (end : End) (w : World) (s t : ℕ) (m : Mpdu) → is_live w s ≡ true →
     session (with_settled w s t end m) s t
     ≡ on_slot m.number (slot_after_end w.config.attempts end) (session w s t)
 unfolding with_settled with_failed_finished
@@ -136,34 +136,35 @@ pub each_along : (P Q : Mpdu → Type 0) (ms : List Mpdu) → ((m : Mpdu) → P 
 each_along P Q [] h e = tt
 each_along P Q (m ∷ ms) h e = (h m e.0, each_along P Q ms h e.1)
 
--- The device of an offloaded station catches up: the states stay.
-pub acked_device : (ms : List Mpdu) (w : World) (s t : ℕ) (ends : ℕ → End) →
+-- A TID without an agreement catches up: the states stay.
+pub acked_plain : (ms : List Mpdu) (w : World) (s t : ℕ) (ends : ℕ → End) →
     EachMpdu (λ m. ((slot (session w s t) m.number).state ≡ State.Acked) ↔
     (ends m.number ≡ End.Acknowledged)) ms →
-    EachMpdu (λ m. ((slot (session (with_device_caught_up w s t) s t) m.number).state ≡ State.Acked) ↔
+    EachMpdu (λ m. ((slot (session (caught_up_if_plain w s t) s t) m.number).state ≡ State.Acked) ↔
     (ends m.number ≡ End.Acknowledged)) ms
-acked_device ms w s t ends = each_along _ _ ms (λ m e.
-    let d = ap (λ (x : Slot). x.state) (slot_device w s t s t m.number) in
+acked_plain ms w s t ends = each_along _ _ ms (λ m e.
+    let d = ap (λ (x : Slot). x.state) (slot_plain w s t s t m.number) in
     ((λ h. e.0 (sym d ∙ h)), (λ h. d ∙ e.1 h)))
 
-same_acked : (ms : List Mpdu) (v u : World) (s t : ℕ) (x : Exchange) (b : Score) (r : Receiver) →
+-- The ends are judged in the world z.
+same_acked : (ms : List Mpdu) (z v u : World) (s t : ℕ) (x : Exchange) (b : Score) (r : Receiver) →
     x.batch ≡ false → x.answer ≡ Some b → Same v u →
     AllRight b r ms → EachMpdu (λ m. ((slot (session v s t) m.number).state ≡ State.Acked) ↔
-    (end_of x true m.number ≡ End.Acknowledged)) ms →
+    (end_of z x true m.number ≡ End.Acknowledged)) ms →
     EachMpdu (λ m. ((slot (session u s t) m.number).state ≡ State.Acked) ↔
     (has r.arrived m.number && not (has (numbers_unsent x) m.number) ≡ true)) ms
-same_acked [] v u s t x b r p o k a e = tt
-same_acked (m ∷ ms) v u s t x b r p o k a e =
+same_acked [] z v u s t x b r p o k a e = tt
+same_acked (m ∷ ms) z v u s t x b r p o k a e =
     let d : session u s t ≡ session v s t = session_same v u k s t in
-    let shown = end_shown x b m.number p o in
+    let shown = end_shown z x b m.number p o in
     let arrived : shows b m.number && not (has (numbers_unsent x) m.number)
     ≡ has r.arrived m.number && not (has (numbers_unsent x) m.number) =
     ap (λ (c : Bool). c && not (has (numbers_unsent x) m.number)) a.0.shown in (
       (
-        (λ h. sym arrived ∙ shown.0 (e.0.0 (ap (λ (z : Session). (slot z m.number).state) (sym d) ∙ h))),
-        (λ h. ap (λ (z : Session). (slot z m.number).state) d ∙ e.0.1 (shown.1 (arrived ∙ h))),
+        (λ h. sym arrived ∙ shown.0 (e.0.0 (ap (λ (y : Session). (slot y m.number).state) (sym d) ∙ h))),
+        (λ h. ap (λ (y : Session). (slot y m.number).state) d ∙ e.0.1 (shown.1 (arrived ∙ h))),
       ),
-      same_acked ms v u s t x b r p o k a.1 e.1,
+      same_acked ms z v u s t x b r p o k a.1 e.1,
     )
 
 pub without_same : (w : World) (e s t : ℕ) → session (without_exchange w e) s t ≡ session w s t
@@ -177,7 +178,8 @@ without_live w e s = refl
 heard_frames : (air : Option ℕ) (c : Content) (w : World) (x : Exchange) → x.content ≡ c →
     IsOpenIn w x → EachMpdu (λ m. ((slot (session
     (after_done (after_charge (without_exchange w x.number) x air) x true c) x.station x.tid) m.number).state
-    ≡ State.Acked) ↔ (end_of x true m.number ≡ End.Acknowledged)) (mpdus_of c)
+    ≡ State.Acked) ↔ (end_of (after_charge (without_exchange w x.number) x air) x true m.number
+    ≡ End.Acknowledged)) (mpdus_of c)
 unfolding after_done
 heard_frames air (Request f) w x e o = tt
 heard_frames air (Frames ms) w x e o =
@@ -188,8 +190,8 @@ heard_frames air (Frames ms) w x e o =
     ∙ without_same w x.number x.station x.tid in
     let flies : FlyIn x.number ms y = subst (λ (c : Content). FlyIn x.number (mpdus_of c) y) e o.opened.flies
     in
-    acked_device ms (with_all_settled v x.station x.tid (end_of x true) ms) x.station x.tid (end_of x true)
-    (all_acked ms v x.station x.tid (end_of x true) y.first (next_number y)
+    acked_plain ms (with_all_settled v x.station x.tid (end_of v x true) ms) x.station x.tid (end_of v x true)
+    (all_acked ms v x.station x.tid (end_of v x true) y.first (next_number y)
     (k.live x.station ∙ without_live w x.number x.station ∙ o.live)
     (omega (arith, ap (λ (z : Session). z.first) same_y)) flies.rising)
 
@@ -201,7 +203,8 @@ heard_ended : (air : Option ℕ) (w : World) (x : Exchange) (b : Score) (u : Wor
     (mpdus_of x.content)
 unfolding done_outcome
 heard_ended air w x b u d o k =
-    same_acked (mpdus_of x.content) _ u x.station x.tid x b (receiver w x.station x.tid)
+    same_acked (mpdus_of x.content) (after_charge (without_exchange w x.number) x air) _ u x.station x.tid x b
+    (receiver w x.station x.tid)
     (o.opened.unbatched (ap is_some d)) d k
     (subst (λ (a : Option Score). IfSome a (λ b. AllRight b (receiver w x.station x.tid)
     (mpdus_of x.content))) d o.opened.kept)

@@ -4,23 +4,24 @@ use Rattle.std.proofs.lemmas.Bool.{not-false}
 use Rattle.wf_frame.specs.declared.settings.Config.{Config}
 use Rattle.wf_frame.specs.declared.notes.Note.{Note}
 use Rattle.wf_frame.specs.declared.notes.Note.TheVariants.{Enqueue, Asked}
-use Rattle.wf_frame.specs.declared.notes.Ask.TheVariants.{Join, Leave, Rate, Tick, Pull, Arrive, Answer, Done, Sleep, Wake, Poll, Rx, Reap, Ampdu, Stop, Start, Unsent, GiveUp, Flush, Offload, Weight}
+use Rattle.wf_frame.specs.declared.notes.Ask.TheVariants.{Join, Leave, Rate, Tick, Pull, Arrive, Answer, Done, Sleep, Wake, Poll, Rx, Reap, Ampdu, Stop, Start, Unsent, GiveUp, Flush, Offload, Weight, Hold, Begin, Free, Cease}
+use Rattle.wf_frame.specs.declared.notes.Ask.TheVariants as call
 use Rattle.wf_frame.specs.declared.notes.Refusal.{Refusal}
 use Rattle.wf_frame.specs.Classes.{all_classes}
 use Rattle.wf_def_lists.specs.Table.{at, upto}
 use Rattle.wf_law_rules.proofs.Lemmas.Tables.{at_put_same, at_put_other}
 use Rattle.wf_def_agreement.specs.Session.{Session}
 use Rattle.wf_def_lists.specs.Bounds.{greatest_window}
-use Rattle.wf_def_world.specs.World.{with_exchange, on_receiver, World, Station, Exchange, Tid, no_tid, is_live, new_tid, session, exchange, with_station, opening}
+use Rattle.wf_def_world.specs.World.{with_exchange, on_receiver, World, Station, Exchange, Tid, no_tid, is_live, new_tid, session, exchange, with_station, opening, Mode, Plain, Agreed, OnHold, on_tid}
 use Rattle.wf_def_world.specs.Exchanges.{after_arrival}
 use Rattle.wf_def_world.specs.Refusals.{refusals, refusal, is_within}
-use Rattle.wf_def_world.specs.Step.{Outcome, join_outcome, leave_outcome, arrive_outcome, outcome_where_open, concerned_station, outcome_of, judged_outcome, step, offload_outcome, new_station}
+use Rattle.wf_def_world.specs.Step.{Outcome, join_outcome, leave_outcome, arrive_outcome, outcome_where_open, concerned_station, outcome_of, judged_outcome, step, offload_outcome, new_station, plain_outcome, plain_window, begin_outcome, cease_outcome}
 use Rattle.wf_def_world.specs.Run.{Entry, world_after}
 use Rattle.wf_law_rules.proofs.Lemmas.Numbers.{on_bool, eq_yes, eq_no, both, le_yes}
-use Rattle.wf_law_runs.proofs.Windows.Sides.{each_side_on, on_live, Side, sides_of, same_listed}
+use Rattle.wf_law_runs.proofs.Windows.Sides.{each_side_on, on_live, Side, sides_of, same_listed, same_held, same_freed, renewed, begun_is, ceased_is}
 use Rattle.wf_law_runs.proofs.Windows.Opened.{eight, NoRow, no_row}
 use Rattle.wf_law_runs.proofs.Windows.Agreed.{same_left_tids, same_off_lists}
-use Rattle.wf_law_runs.proofs.Releases.Kept.{Kept, kept_same, then_keep, keep_pulled, keep_ended, keep_answered, keep_enqueued, keep_unsent, keep_given_up, keep_flushed, keep_reaped}
+use Rattle.wf_law_runs.proofs.Releases.Kept.{Kept, kept_same, then_keep, keep_pulled, keep_ended, keep_answered, keep_enqueued, keep_unsent, keep_given_up, keep_flushed, keep_reaped, keep_numbers_ended}
 use Rattle.wf_law_runs.proofs.Releases.Released.{side_with_station, side_own_station, keep_rate, keep_tick, keep_slept, keep_woken, keep_credited, keep_received, refused_kept, keep_stated, keep_stopped, keep_started, keep_weighed}
 
 pub record IsSized (w : World) : Type 0 where
@@ -29,8 +30,8 @@ pub record IsSized (w : World) : Type 0 where
 
 sized_kept : (w v : World) → Kept w v → IsSized w → IsSized v
 sized_kept w v k i = record {
-  size = λ s t. subst (λ (n : ℕ). n ≤ 256) (sym (k.sessions s t).size) (i.size s t);
-  some = λ s t live below. subst (λ (n : ℕ). 1 ≤ n) (sym (k.sessions s t).size)
+  size = λ s t. subst (λ (n : ℕ). n ≤ 256) (sym (k.sizes s t)) (i.size s t);
+  some = λ s t live below. subst (λ (n : ℕ). 1 ≤ n) (sym (k.sizes s t))
       (i.some s t (sym (k.live s) ∙ live) below);
 }
 
@@ -85,26 +86,57 @@ each_eight P y h (suc (suc (suc (suc (suc (suc zero)))))) b = h
 each_eight P y h (suc (suc (suc (suc (suc (suc (suc zero))))))) b = h
 each_eight P y h (suc (suc (suc (suc (suc (suc (suc (suc j)))))))) b = absurd (omega (arith, b))
 
-sized_new : (w : World) (s window start exponent weight : ℕ) (offloaded : Bool) →
+sized_new : (w : World) (s : ℕ) (mode : Mode) (window start exponent weight : ℕ) (offloaded : Bool) →
     (1 ≤ window) × (window ≤ 256) → IsSized w →
-    IsSized (with_station w s (Some (new_station w.config window start exponent weight offloaded)))
-sized_new w s window start exponent weight offloaded h i =
-    sized_station w s _ (eight (λ y. y.session.size ≤ 256) (new_tid start window) h.1
-    (omega arith)) (λ _. each_eight (λ y. 1 ≤ y.session.size) (new_tid start window) h.0) i
+    IsSized (with_station w s (Some (new_station w.config mode window start exponent weight offloaded)))
+sized_new w s mode window start exponent weight offloaded h i =
+    sized_station w s _ (eight (λ y. y.session.size ≤ 256) (new_tid mode start window) h.1
+    (omega arith)) (λ _. each_eight (λ y. 1 ≤ y.session.size) (new_tid mode start window) h.0) i
+
+-- The window of one TID changes.
+sized_renewed : (w : World) (s t start size : ℕ) (mode : Mode) → (1 ≤ size) × (size ≤ 256) → IsSized w →
+    IsSized (on_tid w s t (renewed start size mode))
+sized_renewed w s t start size mode range i =
+    let f : Tid → Tid = renewed start size mode in
+    record {
+      size = each_side_on (λ _ _ y. y.session.size ≤ 256) w s t f i.size range.1;
+      some = λ a b live below. each_side_on (λ a b y. is_live w a ≡ true → b < 8 → 1 ≤ y.session.size) w s t f
+          i.some (λ _ _. range.0) a b (sym (on_live w s t f a) ∙ live) below;
+    }
+
+in_range : (window : ℕ) → not (is_within 1 greatest_window window) ≡ false → (1 ≤ window) × (window ≤ 256)
+in_range window h =
+    let range = both (nat_le 1 window) (nat_le window 256) (not-false _ h) in
+    (le_yes 1 window range.0, le_yes window 256 range.1)
+
+sized_begun : (w : World) (s t window : ℕ) → not (is_within 1 greatest_window window) ≡ false → IsSized w →
+    IsSized (begin_outcome w s t window).world
+sized_begun w s t window h i = subst IsSized (sym (begun_is w s t window))
+    (sized_renewed w s t _ window Agreed (in_range window h) i)
+
+sized_ceased : (w : World) (s t : ℕ) → IsSized w → IsSized (cease_outcome w s t).world
+sized_ceased w s t i = subst IsSized (sym (ceased_is w s t))
+    (sized_renewed _ s t _ plain_window OnHold (omega arith, omega arith)
+    (sized_kept w _ (keep_numbers_ended w s t) i))
 
 sized_joined : (w : World) (s window start exponent weight : ℕ) →
     not (is_within 1 greatest_window window) ≡ false → IsSized w →
     IsSized (join_outcome w s window start exponent weight).world
 unfolding join_outcome
 sized_joined w s window start exponent weight h i =
-    let range = both (nat_le 1 window) (nat_le window 256) (not-false _ h) in
-    sized_new w s window start exponent weight false (le_yes 1 window range.0, le_yes window 256 range.1) i
+    sized_new w s Agreed window start exponent weight false (in_range window h) i
 
 sized_offloaded : (w : World) (s exponent weight : ℕ) → IsSized w →
     IsSized (offload_outcome w s exponent weight).world
 unfolding offload_outcome
 sized_offloaded w s exponent weight i =
-    sized_new w s greatest_window 0 exponent weight true (omega arith, omega arith) i
+    sized_new w s Plain greatest_window 0 exponent weight true (omega arith, omega arith) i
+
+sized_unagreed : (w : World) (s start exponent weight : ℕ) → IsSized w →
+    IsSized (plain_outcome w s start exponent weight).world
+unfolding plain_outcome
+sized_unagreed w s start exponent weight i =
+    sized_new w s Plain plain_window start exponent weight false (omega arith, omega arith) i
 
 sized_gone : (w : World) (s : ℕ) → IsSized w → IsSized (leave_outcome w s).world
 unfolding leave_outcome
@@ -161,6 +193,12 @@ sized_done (Asked (GiveUp x n)) w e i = sized_open (exchange w x) w _
 sized_done (Asked (Flush s t)) w e i = sized_kept w _ (keep_flushed w s t) i
 sized_done (Asked (Offload s exponent weight)) w e i = sized_offloaded w s exponent weight i
 sized_done (Asked (Weight s weight)) w e i = sized_kept w _ (keep_weighed w s weight) i
+sized_done (Asked (call.Plain s start exponent weight)) w e i = sized_unagreed w s start exponent weight i
+sized_done (Asked (Hold s t)) w e i = sized_kept w _ (kept_same w _ (same_held w s t e.1.1.1.0 e.1.1.1.1.0)) i
+sized_done (Asked (Begin s t window)) w e i = sized_begun w s t window e.1.1.0 i
+sized_done (Asked (Free s t)) w e i =
+    sized_kept w _ (kept_same w _ (same_freed w s t (not-false _ e.1.1.1.0))) i
+sized_done (Asked (Cease s t)) w e i = sized_ceased w s t i
 sized_done (Asked Reap) w e i = sized_kept w _ (keep_reaped w.finished w) i
 
 sized_answer : (r : Option Refusal) (w : World) (note : Note) → refusal w note ≡ r → IsSized w →

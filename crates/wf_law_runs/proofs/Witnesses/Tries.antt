@@ -1,5 +1,5 @@
 -- Histories that attain the bounds of the law of tries. A request is no try, and a frame that never went on
--- the air may be sent once more.
+-- the air may be sent again.
 use Rattle.std.proofs.Common.{◌≡◌, refl, ◌*◌, true, false, List, [], ◌∷◌, ◌++◌, None, map}
 use Rattle.wf_frame.specs.declared.settings.Config.{Config}
 use Rattle.wf_frame.specs.declared.classes.Class.TheVariants.{Be}
