@@ -151,6 +151,7 @@ module _ (w : WindowValue) (s : Session) (bodies : ℕ → FrameValue) (stands :
         start = stands.start;
         places = stands.places ∙ same;
         due = stands.due;
+        unacked = stands.unacked;
         heard = stands.heard;
         room = stands.room;
         small = stands.small;

@@ -9,9 +9,9 @@ use Rattle.wf_send_parts.specs.declared.window.place.Place.TheVariants.{Waiting 
 use Rattle.wf_send_parts.specs.Places.{state_of_place, slot_place, place_as, slot_state, front, settled_first, since_failed, at_most}
 use Rattle.wf_octets.specs.Distance.{distance}
 use Rattle.wf_send_parts.specs.Answers.{place_ended}
-use Rattle.wf_send_parts.specs.Window.{WindowValue, WindowStandsFor, IsNumber, slots_from_start, moved_on, place_at, may_give, can_take}
+use Rattle.wf_send_parts.specs.Window.{WindowValue, fresh_window, due_distance, WindowStandsFor, IsNumber, slots_from_start, moved_on, place_at, may_give, can_take}
 use Rattle.wf_send_parts.proofs.Fronts.{front_rest, at_most_both}
-use Rattle.wf_send_parts.proofs.Due.{request_due_is}
+use Rattle.wf_send_parts.proofs.Due.{request_due_is, not_due}
 use Rattle.wf_send_parts.proofs.Laws.{next_is, places_length, slots_replaced, start_below, not_moved, begins_unsettled, place_is, slot_changed}
 
 -- a place determines its slot
@@ -75,14 +75,14 @@ room_of w h = second (is_none w.due) (nat_lt (length w.places) w.size) h (grind 
 -- a new window
 
 pub new_law : (capacity size start n : ℕ) (bodies : ℕ → FrameValue) → start ≡ n % 4096 → size ≤ 256 →
-    WindowStandsFor (record { capacity = capacity; size = size; start = start; places = []; due = None })
-    (new_session n size) bodies
+    WindowStandsFor (fresh_window capacity size start) (new_session n size) bodies
 new_law capacity size start n bodies same small =
     record {
       size = refl;
       start = same;
       places = refl;
       due = refl;
+      unacked = refl;
       heard = omega arith;
       room = omega arith;
       small = small;
@@ -153,10 +153,32 @@ module _ (w : WindowValue) (s : Session) (bodies : ℕ → FrameValue) (stands :
             (since_failed slot_state None (front slot_state s.slots))
             ∙ ap (λ (limit : ℕ). at_most limit (since_failed slot_state None (front slot_state s.slots)))
             same_limit;
+        unacked = stands.unacked;
         heard = omega (arith, stands.heard);
         room = stands.room;
         small = stands.small;
       }
+
+  -- the window of a session without unsettled numbers gets another size, and the peer knows F
+  pub resized_law : (size : ℕ) → w.places ≡ [] → size ≤ 256 →
+      WindowStandsFor (record w { size = size; due = None })
+      (record s { heard = max s.heard (start_of s); size = size }) bodies
+  resized_law size none small =
+      let after : Session = record s { heard = max s.heard (start_of s); size = size } in
+      record {
+        size = refl;
+        start = stands.start;
+        places = stands.places;
+        due = is_none_then (due_distance after) (sym (request_due_is after) ∙ not_due after (omega arith));
+        unacked = stands.unacked;
+        heard = omega (arith, stands.heard);
+        room = omega (arith, places_length w s bodies stands, ap length none);
+        small = small;
+      }
+    where
+      is_none_then : (d : Option ℕ) → is_some d ≡ false → None ≡ d
+      is_none_then None e = refl
+      is_none_then (Some d) e = absurd (cc e)
 
   module _ (n seq : ℕ) (number : IsNumber s n seq) where
     -- a change after which the number is not settled

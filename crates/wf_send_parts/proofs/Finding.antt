@@ -1,4 +1,4 @@
--- Proves that the first waiting place from one on is that of the first waiting number.
+-- Proves that the first waiting place from one on is the place of the first waiting number.
 use Rattle.std.proofs.Common.{◌≡◌, ℕ, zero, suc, ◌+◌, ◌-◌, ◌%◌, ◌<◌, ◌≤◌, nat_le, Bool, true, false, cond, option_map, inl, inr, if◌then◌else◌, Option, Some, None, List, [], ◌∷◌, length, get_or, refl, ap, sym, ◌∙◌, arith}
 use Rattle.std.specs.List.{find}
 use Rattle.std.proofs.lemmas.List.{get_or-map, get_or_past, length-map}

@@ -8,7 +8,7 @@ use Rattle.std.proofs.lemmas.List.Sums.{sum_by-set}
 use Rattle.std.proofs.lemmas.Bool.{cases_lt}
 use Rattle.wf_frame.specs.Frames.{FrameValue}
 use Rattle.wf_frame.specs.declared.classes.Fate.TheVariants.{Dropped}
-use Rattle.wf_frame.specs.declared.classes.Cause.TheVariants.{Flushed}
+use Rattle.wf_frame.specs.declared.classes.Cause.{Cause}
 use Rattle.wf_def_lists.specs.Lists.{IsRising}
 use Rattle.wf_def_lists.specs.Table.{at, change}
 use Rattle.wf_def_agreement.specs.Session.{Session, Slot, no_slot, slot, on_slot, start_of, is_waiting, numbers_where, waiting_numbers, slot_given_up, slot_flushed, after_flush}
@@ -16,9 +16,11 @@ use Rattle.wf_octets.specs.Distance.{distance}
 use Rattle.wf_send_parts.specs.declared.window.place.Place.{Place}
 use Rattle.wf_send_parts.specs.declared.window.place.Place.TheVariants.{Waiting as Waits, Failed as Fails}
 use Rattle.wf_send_parts.specs.Answers.{with_fate}
-use Rattle.wf_send_parts.specs.Flushing.{frame_flushed, frames_flushed, IsFlushed, HasFlushed}
+use Rattle.wf_send_parts.specs.Expelling.{frame_dropped, frames_dropped}
+use Rattle.wf_send_parts.specs.Flushing.{IsFlushed, HasFlushed}
 use Rattle.wf_send_parts.specs.Listing.{waiting_since}
-use Rattle.wf_send_parts.specs.Places.{state_of_place, front, rest, since_failed}
+use Rattle.wf_send_parts.specs.Places.{state_of_place, front, rest, passed_over}
+use Rattle.wf_send_parts.specs.declared.window.passed.Passed.{Passed}
 use Rattle.wf_send_parts.specs.Ring.{RingValue}
 use Rattle.wf_send_parts.specs.Window.{WindowValue, WindowStandsFor, IsNumber, waiting_from, on_air, waits}
 use Rattle.wf_send_parts.proofs.Calls.{IsWaitingSlot, waiting_slot}
@@ -36,14 +38,14 @@ pub none_waits : (o : Option ℕ) → None ≡ option_map on_air o → o ≡ Non
 none_waits None e = refl
 none_waits (Some m) e = absurd (cc e)
 
-module _ (size start start2 moved : ℕ) (due due2 : Option ℕ) (r r0 r1 r2 : RingValue) (now : WindowValue)
-    (parcel : FrameValue) (attempts i : ℕ) (is : shown size start due r ≡ now)
+module _ (size start start2 moved : ℕ) (passed passed2 : Passed) (r r0 r1 r2 : RingValue) (now : WindowValue)
+    (parcel : FrameValue) (attempts i : ℕ) (is : shown size start passed r ≡ now)
     (found : Some (Waits parcel attempts) ≡ get_or r.items i None) (z : r0 ≡ with_items r
     (set r.items i None))
     (a : r1 ≡ with_items r0 (set r0.items i (Some Fails)))
     (b : r2 ≡ with_items r1 (rest state_of_place r1.items))
     (m_is : moved ≡ length (front state_of_place r1.items))
-    (d_is : due2 ≡ since_failed state_of_place due (front state_of_place r1.items))
+    (d_is : passed2 ≡ passed_over state_of_place passed (front state_of_place r1.items))
     (e_is : start2 ≡ (start + moved) % 4096) where
   failed_ring : r1 ≡ with_items r (set r.items i (Some Fails))
   failed_ring = replaced_twice r r0 r1 i None (Some Fails) z a
@@ -64,14 +66,15 @@ module _ (size start start2 moved : ℕ) (due due2 : Option ℕ) (r r0 r1 r2 : R
         one,
       )
 
-  module _ (seq past next limit : ℕ) (i_is : i ≡ distance seq start) (past_is : past ≡ (i + 1) - moved)
+  module _ (cause : Cause) (seq past next limit : ℕ) (i_is : i ≡ distance seq start)
+      (past_is : past ≡ (i + 1) - moved)
       (next_at : next ≡ (start2 + past) % 4096) (s : Session) (bodies : ℕ → FrameValue) (n : ℕ)
       (stands : WindowStandsFor now s bodies) where
     flushed_at : (m : ℕ) → waiting_from s n ≡ Some m → seq ≡ on_air m → (out : FrameValue) →
-        out ≡ with_fate (Dropped Flushed) parcel → IsFlushed limit s bodies n
-        (shown size start2 due2 r2) out next
+        out ≡ with_fate (Dropped cause) parcel → IsFlushed cause limit s bodies n
+        (shown size start2 passed2 r2) out next
     flushed_at m first on_air_is out out_is =
-        let W : WindowValue = shown size start due r in
+        let W : WindowValue = shown size start passed r in
         let w : WindowStandsFor W s bodies =
         subst (λ (v : WindowValue). WindowStandsFor v s bodies) (sym is) stands in
         let f : IsWaitingFrom s n m = waiting_from_is s n m first in
@@ -86,13 +89,13 @@ module _ (size start start2 moved : ℕ) (due due2 : Option ℕ) (r r0 r1 r2 : R
         let after : Session = on_slot m (slot_given_up limit) s in
         let a_here : r1 ≡ with_items r (set r.items (distance seq start) (Some Fails)) =
         failed_ring ∙ ap (λ (k : ℕ). with_items r (set r.items k (Some Fails))) i_is in
-        let left : WindowStandsFor (shown size start2 due2 r2) after bodies =
+        let left : WindowStandsFor (shown size start2 passed2 r2) after bodies =
         subst (λ (v : WindowValue). WindowStandsFor v after bodies)
-        (sym (moved_on_is size start start2 moved due due2 r r1 r2 _ a_here b m_is d_is e_is))
+        (sym (moved_on_is size start start2 moved passed passed2 r r1 r2 _ a_here b m_is d_is e_is))
         (slot_changed W s bodies w m seq number (slot_given_up limit) (Some Fails) refl) in
         let new_start : start_of after ≡ start_of s + moved = omega (
           arith,
-          places_length (shown size start2 due2 r2) after bodies left,
+          places_length (shown size start2 passed2 r2) after bodies left,
           places_length W s bodies w,
           next_kept W s bodies w m seq number (slot_given_up limit),
           ap length left_items,
@@ -104,7 +107,7 @@ module _ (size start start2 moved : ℕ) (due due2 : Option ℕ) (r r0 r1 r2 : R
         record {
           number = m;
           first = first;
-          dropped = out_is ∙ ap (with_fate (Dropped Flushed)) x.parcel_is;
+          dropped = out_is ∙ ap (with_fate (Dropped cause)) x.parcel_is;
           stands = left;
           goes_on = omega (
             arith,
@@ -119,12 +122,12 @@ module _ (size start start2 moved : ℕ) (due due2 : Option ℕ) (r r0 r1 r2 : R
         }
 
     pub flushed_one : Some seq ≡ option_map on_air (waiting_from s n) → (out : FrameValue) →
-        out ≡ with_fate (Dropped Flushed) parcel → IsFlushed limit s bodies n
-        (shown size start2 due2 r2) out next
+        out ≡ with_fate (Dropped cause) parcel → IsFlushed cause limit s bodies n
+        (shown size start2 passed2 r2) out next
     flushed_one e out out_is = pick (waiting_from s n) refl e
       where
         pick : (o : Option ℕ) → waiting_from s n ≡ o → Some seq ≡ option_map on_air o →
-            IsFlushed limit s bodies n (shown size start2 due2 r2) out next
+            IsFlushed cause limit s bodies n (shown size start2 passed2 r2) out next
         pick None t e = absurd (cc e)
         pick (Some m) t e = let same : seq ≡ on_air m = cc e in flushed_at m t same out out_is
 
@@ -208,18 +211,19 @@ none_fails limit first (x ∷ xs) e = pick (is_waiting x.state) refl (none_fails
 
 -- ---- the loop
 
-pub flushing_begins : (limit : ℕ) (w : WindowValue) (s : Session) (bodies : ℕ → FrameValue) →
-    WindowStandsFor w s bodies → HasFlushed limit w s bodies [] w.start
-flushing_begins limit w s bodies stands =
+pub flushing_begins : (cause : Cause) (limit : ℕ) (w : WindowValue) (s : Session) (bodies : ℕ → FrameValue) →
+    WindowStandsFor w s bodies → HasFlushed cause limit w s bodies [] w.start
+flushing_begins cause limit w s bodies stands =
     record { now = s; stands = stands; search = listing_begins w s bodies stands; rest = refl; leads = refl }
 
-module _ (limit : ℕ) (w : WindowValue) (before : Session) (bodies : ℕ → FrameValue) (frames : List FrameValue)
-    (from : ℕ) (so_far : HasFlushed limit w before bodies frames from) where
+module _ (cause : Cause) (limit : ℕ) (w : WindowValue) (before : Session) (bodies : ℕ → FrameValue)
+    (frames : List FrameValue)
+    (from : ℕ) (so_far : HasFlushed cause limit w before bodies frames from) where
   pub flushing_near : distance from w.start ≤ length w.places
   flushing_near = listing_near w so_far.now bodies so_far.stands [] from so_far.search
 
   module _ (v : WindowValue) (parcel : FrameValue) (next : ℕ)
-      (f : IsFlushed limit so_far.now bodies so_far.search.number v parcel next) where
+      (f : IsFlushed cause limit so_far.now bodies so_far.search.number v parcel next) where
     abbrev after : Session
     after = on_slot f.number (slot_given_up limit) so_far.now
 
@@ -237,14 +241,14 @@ module _ (limit : ℕ) (w : WindowValue) (before : Session) (bodies : ℕ → Fr
           (subst (IsRising (start_of so_far.now)) fails.numbers (waiting_rise so_far.now)).1
     ]
 
-    pub flushing_next : HasFlushed limit v before bodies (frames ++ parcel ∷ []) next
+    pub flushing_next : HasFlushed cause limit v before bodies (frames ++ parcel ∷ []) next
     flushing_next =
         let y : Session = so_far.now in
         let waits : IsWaitingFrom y so_far.search.number f.number =
         waiting_from_is y so_far.search.number f.number f.first in
-        let first : frames_flushed bodies y ≡ parcel ∷ frames_flushed bodies after =
-        ap (map (frame_flushed bodies)) fails.slots
-        ∙ ap (λ (p : FrameValue). p ∷ frames_flushed bodies after) (sym f.dropped) in
+        let first : frames_dropped cause bodies y ≡ parcel ∷ frames_dropped cause bodies after =
+        ap (map (frame_dropped cause bodies)) fails.slots
+        ∙ ap (λ (p : FrameValue). p ∷ frames_dropped cause bodies after) (sym f.dropped) in
         record {
           now = after;
           stands = f.stands;
@@ -261,14 +265,14 @@ module _ (limit : ℕ) (w : WindowValue) (before : Session) (bodies : ℕ → Fr
             );
             rest = all_past;
           };
-          rest = append_assoc frames (parcel ∷ []) (frames_flushed bodies after)
+          rest = append_assoc frames (parcel ∷ []) (frames_dropped cause bodies after)
               ∙ ap (λ (fs : List FrameValue). frames ++ fs) (sym first) ∙ so_far.rest;
           leads = ap (λ (xs : List Slot). record y { slots = xs }) fails.flushed ∙ so_far.leads;
         }
 
   pub flushing_ends : (v : WindowValue) → waiting_from so_far.now so_far.search.number ≡ None →
       WindowStandsFor v so_far.now bodies →
-      (frames ≡ frames_flushed bodies before) × WindowStandsFor v (after_flush limit before) bodies
+      (frames ≡ frames_dropped cause bodies before) × WindowStandsFor v (after_flush limit before) bodies
   flushing_ends v e stands =
       let y : Session = so_far.now in
       let none = none_fails limit y.first y.slots
@@ -276,7 +280,7 @@ module _ (limit : ℕ) (w : WindowValue) (before : Session) (bodies : ℕ → Fr
       let same : y ≡ after_flush limit before =
       ap (λ (xs : List Slot). record y { slots = xs }) (sym none.1) ∙ so_far.leads in (
         sym (append-nil frames) ∙ ap (λ (xs : List Slot). frames
-            ++ map (frame_flushed bodies) xs) (sym none.0)
+            ++ map (frame_dropped cause bodies) xs) (sym none.0)
             ∙ so_far.rest,
         subst (λ (z : Session). WindowStandsFor v z bodies) same stands,
       )

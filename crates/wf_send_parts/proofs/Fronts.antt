@@ -1,10 +1,10 @@
--- Proves the properties of a list's settled front, of its rest, and of the distance from its last failed
--- number.
+-- Proves the properties of a list's settled front, of its rest, and of the distances from its last failed and
+-- its last acknowledged number.
 use Rattle.std.proofs.Common.{◌≡◌, ℕ, zero, suc, ◌+◌, ◌<◌, nat_le, min, Bool, true, false, if◌then◌else◌, Option, Some, None, List, [], ◌∷◌, ◌++◌, length, get_or, set, map, refl, ap, ◌∙◌, arith, length-append}
 use Rattle.std.proofs.lemmas.Bool.Decides.{nat_tests}
 use Rattle.wf_def_agreement.specs.Session.{State, Slot, no_slot, is_settled, first_unsettled}
 use Rattle.wf_def_lists.specs.Table.{at, change}
-use Rattle.wf_send_parts.specs.Places.{slot_state, front, rest, settled_first, next_since, since_failed, at_most}
+use Rattle.wf_send_parts.specs.Places.{slot_state, front, rest, settled_first, next_since, since_failed, next_unacked, since_acked, at_most}
 
 module _ {X : Type 0} (state : X → State) where
   pub front_rest : (xs : List X) → front state xs ++ rest state xs ≡ xs
@@ -69,6 +69,11 @@ module _ {X : Type 0} (state : X → State) where
   since_append since [] ys = refl
   since_append since (x ∷ xs) ys = since_append (next_since (state x) since) xs ys
 
+  pub unacked_append : (count : ℕ) (xs ys : List X) →
+      since_acked state count (xs ++ ys) ≡ since_acked state (since_acked state count xs) ys
+  unacked_append count [] ys = refl
+  unacked_append count (x ∷ xs) ys = unacked_append (next_unacked (state x) count) xs ys
+
 module _ {X Y : Type 0} (state : X → State) (shown : Y → State) (f : X → Y)
     (same : (x : X) → shown (f x) ≡ state x) where
   pub front_map : (xs : List X) → front shown (map f xs) ≡ map f (front state xs)
@@ -95,6 +100,13 @@ module _ {X Y : Type 0} (state : X → State) (shown : Y → State) (f : X → Y
   since_map since (x ∷ xs) =
       ap (λ (st : State). since_failed shown (next_since st since) (map f xs)) (same x)
       ∙ since_map (next_since (state x) since) xs
+
+  pub unacked_map : (count : ℕ) (xs : List X) →
+      since_acked shown count (map f xs) ≡ since_acked state count xs
+  unacked_map count [] = refl
+  unacked_map count (x ∷ xs) =
+      ap (λ (st : State). since_acked shown (next_unacked st count) (map f xs)) (same x)
+      ∙ unacked_map (next_unacked (state x) count) xs
 
 -- a distance with a limit
 

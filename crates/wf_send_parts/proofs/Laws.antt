@@ -1,15 +1,15 @@
--- Proves how a window and its session change together: the place of a number is that of its slot, and settled
--- numbers at the front are dropped from both.
+-- Proves how a window and its session change together: the place of a number is the place of its slot, and
+-- settled numbers at the front are dropped from both.
 use Rattle.std.proofs.Common.{◌≡◌, ℕ, ◌+◌, ◌-◌, ◌%◌, ◌<◌, ◌≤◌, false, Option, None, List, [], ◌∷◌, ◌++◌, length, get_or, set, map, refl, ap, sym, ◌∙◌, subst, arith, length-append, length-set}
 use Rattle.std.proofs.lemmas.List.{map-set, get_or-map, length-map}
 use Rattle.wf_frame.specs.Frames.{FrameValue}
 use Rattle.wf_def_agreement.specs.Session.{Session, Slot, State, no_slot, slot, on_slot, start_of, next_number, is_settled}
 use Rattle.wf_def_lists.specs.Table.{change}
 use Rattle.wf_send_parts.specs.declared.window.place.Place.{Place}
-use Rattle.wf_send_parts.specs.Places.{state_of_place, slot_place, slot_state, front, rest, settled_first, since_failed, at_most}
+use Rattle.wf_send_parts.specs.Places.{state_of_place, slot_place, slot_state, front, rest, settled_first, since_failed, since_acked, at_most}
 use Rattle.wf_octets.specs.Distance.{distance}
 use Rattle.wf_send_parts.specs.Window.{WindowValue, WindowStandsFor, IsNumber, slots_from_start, moved_on, place_at}
-use Rattle.wf_send_parts.proofs.Fronts.{lengths, front_none, rest_none, rest_unsettled, front_append, rest_append, since_append, front_map, rest_map, since_map, at_most_since, start_is, at_is, at_rest, change_is, change_rest}
+use Rattle.wf_send_parts.proofs.Fronts.{lengths, front_none, rest_none, rest_unsettled, front_append, rest_append, since_append, unacked_append, front_map, rest_map, since_map, unacked_map, at_most_since, start_is, at_is, at_rest, change_is, change_rest}
 
 -- a place has its slot's state
 pub state_place : (bodies : ℕ → FrameValue) (x : Slot) → state_of_place (slot_place bodies x) ≡ slot_state x
@@ -79,6 +79,13 @@ module _ (w : WindowValue) (s : Session) (bodies : ℕ → FrameValue) (stands :
             (since_failed slot_state None d)) (sym same_front)
             ∙ ap (λ (limit : ℕ). at_most limit (since_failed slot_state None (front slot_state new.slots)))
             same_limit;
+        unacked =
+            ap (since_acked state_of_place w.unacked) shown_front
+            ∙ unacked_map slot_state state_of_place (slot_place bodies) (state_place bodies) w.unacked
+            (front slot_state ys)
+            ∙ ap (λ (count : ℕ). since_acked slot_state count (front slot_state ys)) stands.unacked
+            ∙ sym (unacked_append slot_state 0 (front slot_state s.slots) (front slot_state ys))
+            ∙ ap (λ (xs : List Slot). since_acked slot_state 0 xs) (sym same_front);
         heard = omega (arith, start_new, stands.heard);
         room = omega (
           arith,
@@ -112,6 +119,7 @@ not_moved w small begins =
       places =
           rest state_of_place w.places;
       due = since_failed state_of_place w.due f;
+      unacked = since_acked state_of_place w.unacked f;
     }) none
     ∙ ap (λ (r : List (Option Place)). record w { start = (w.start + 0) % 4096; places = r }) same
     ∙ ap (λ (n : ℕ). record w { start = n }) start_same

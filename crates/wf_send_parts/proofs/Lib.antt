@@ -9,11 +9,14 @@ pub mod Ends
 pub mod Expelling
 pub mod Flushing
 mod Finding
+pub mod Far
+mod Flying
 pub mod Fronts
 pub mod Held
 pub mod Laws
 pub mod Listing
 mod Marking
+pub mod Modes
 mod Moving
 pub mod Numbers
 mod Resetting

@@ -132,10 +132,18 @@ none_fly w s bodies stands none =
 pub one_shown : (w v : WindowValue) (s : Session) (bodies : ℕ → FrameValue) → w.capacity ≡ v.capacity →
     WindowStandsFor w s bodies → WindowStandsFor v s bodies → w ≡ v
 one_shown w v s bodies capacity a b =
-    let P : ℕ → ℕ → ℕ → List (Option Place) → Option ℕ →
-    WindowValue = λ c z t ps d. record { capacity = c; size = z; start = t; places = ps; due = d } in
-    ap (λ (c : ℕ). P c w.size w.start w.places w.due) capacity
-    ∙ ap (λ (z : ℕ). P v.capacity z w.start w.places w.due) (a.size ∙ sym b.size)
-    ∙ ap (λ (t : ℕ). P v.capacity v.size t w.places w.due) (a.start ∙ sym b.start)
-    ∙ ap (λ (ps : List (Option Place)). P v.capacity v.size v.start ps w.due) (a.places ∙ sym b.places)
-    ∙ ap (λ (d : Option ℕ). P v.capacity v.size v.start v.places d) (a.due ∙ sym b.due)
+    let P : ℕ → ℕ → ℕ → List (Option Place) → Option ℕ → ℕ → WindowValue = λ c z t ps d u. record {
+      capacity = c;
+      size = z;
+      start = t;
+      places = ps;
+      due = d;
+      unacked = u;
+    } in
+    ap (λ (c : ℕ). P c w.size w.start w.places w.due w.unacked) capacity
+    ∙ ap (λ (z : ℕ). P v.capacity z w.start w.places w.due w.unacked) (a.size ∙ sym b.size)
+    ∙ ap (λ (t : ℕ). P v.capacity v.size t w.places w.due w.unacked) (a.start ∙ sym b.start)
+    ∙ ap (λ (ps : List (Option Place)). P v.capacity v.size v.start ps w.due w.unacked)
+    (a.places ∙ sym b.places)
+    ∙ ap (λ (d : Option ℕ). P v.capacity v.size v.start v.places d w.unacked) (a.due ∙ sym b.due)
+    ∙ ap (λ (u : ℕ). P v.capacity v.size v.start v.places v.due u) (a.unacked ∙ sym b.unacked)

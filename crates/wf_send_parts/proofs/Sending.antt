@@ -114,6 +114,7 @@ module _ (g : FrameValue → FrameValue) (w : WindowValue) (s : Session) (bodies
     start = stands.start;
     places = refl;
     due = stands.due;
+    unacked = stands.unacked;
     heard = stands.heard;
     room = stands.room;
     small = stands.small;

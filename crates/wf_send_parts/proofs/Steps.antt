@@ -5,8 +5,9 @@ use Rattle.wf_frame.specs.Frames.{FrameValue, sent_again, sent_once_less}
 use Rattle.wf_def_agreement.specs.Session.{Session, State, End, slot, start_of, next_number, is_settled, is_waiting, with_state, after_end}
 use Rattle.wf_send_parts.specs.declared.window.place.Place.{Place}
 use Rattle.wf_send_parts.specs.declared.window.place.Place.TheVariants.{Waiting as Waits, Flying as Flies}
+use Rattle.wf_send_parts.specs.declared.window.passed.Passed.{Passed}
 use Rattle.wf_send_parts.specs.Ring.{RingValue}
-use Rattle.wf_send_parts.specs.Places.{state_of_place, front, rest, settled_first, since_failed, at_most}
+use Rattle.wf_send_parts.specs.Places.{state_of_place, front, rest, settled_first, passed_over, at_most}
 use Rattle.wf_octets.specs.Distance.{distance}
 use Rattle.wf_send_parts.specs.Window.{WindowValue, WindowStandsFor, IsNumber, IsInOrder, HasOwnFrame, moved_on, is_flying, state_at}
 use Rattle.wf_send_parts.specs.Sent.{with_one_sent, with_one_unsent}
@@ -21,14 +22,14 @@ use Rattle.wf_send_parts.proofs.Numbers.{waiting_is}
 use Rattle.wf_send_parts.proofs.Laws.{slot_changed, place_is, ahead_number, places_length}
 
 -- a window, from its parts
-abbrev pub shown : ℕ → ℕ → Option ℕ → RingValue → WindowValue
-shown size start due r = record {
+abbrev pub shown : ℕ → ℕ → Passed → RingValue → WindowValue
+shown size start passed r = record {
   capacity = r.capacity;
   size = size;
   start = start;
   places = r.items;
-  due =
-      due;
+  due = passed.due;
+  unacked = passed.unacked;
 }
 
 abbrev pub with_items : RingValue → List (Option Place) → RingValue
@@ -42,16 +43,17 @@ replaced_twice r r1 r2 i p q a b =
     b ∙ ap (λ (v : RingValue). with_items v (set v.items i q)) a ∙ ap (with_items r) (set-set r.items i p q)
 
 -- the settled places at the front are dropped
-pub moved_on_is : (size start start2 moved : ℕ) (due due2 : Option ℕ) (r r1 r2 : RingValue)
+pub moved_on_is : (size start start2 moved : ℕ) (passed passed2 : Passed) (r r1 r2 : RingValue)
     (ps : List (Option Place)) → r1 ≡ with_items r ps → r2 ≡ with_items r1 (rest state_of_place r1.items) →
     moved ≡ length (front state_of_place r1.items) →
-    due2 ≡ since_failed state_of_place due (front state_of_place r1.items) → start2 ≡ (start + moved) % 4096 →
-    shown size start2 due2 r2 ≡ moved_on (record (shown size start due r) { places = ps })
-moved_on_is size start start2 moved due due2 r r1 r2 ps a b m d e =
-    ap (shown size start2 due2) (b ∙ ap (λ (v : RingValue). with_items v (rest state_of_place v.items)) a)
-    ∙ ap (λ (x : Option ℕ). shown size start2 x (with_items r (rest state_of_place ps)))
-    (d ∙ ap (λ (v : RingValue). since_failed state_of_place due (front state_of_place v.items)) a)
-    ∙ ap (λ (n : ℕ). shown size n (since_failed state_of_place due (front state_of_place ps))
+    passed2 ≡ passed_over state_of_place passed (front state_of_place r1.items) →
+    start2 ≡ (start + moved) % 4096 →
+    shown size start2 passed2 r2 ≡ moved_on (record (shown size start passed r) { places = ps })
+moved_on_is size start start2 moved passed passed2 r r1 r2 ps a b m d e =
+    ap (shown size start2 passed2) (b ∙ ap (λ (v : RingValue). with_items v (rest state_of_place v.items)) a)
+    ∙ ap (λ (x : Passed). shown size start2 x (with_items r (rest state_of_place ps)))
+    (d ∙ ap (λ (v : RingValue). passed_over state_of_place passed (front state_of_place v.items)) a)
+    ∙ ap (λ (n : ℕ). shown size n (passed_over state_of_place passed (front state_of_place ps))
     (with_items r (rest state_of_place ps))) (e
     ∙ ap (λ (k : ℕ). (start + k) % 4096) (m ∙ ap
     (λ (v : RingValue). length (front state_of_place v.items)) a))
@@ -70,23 +72,23 @@ order_kept size due r r2 i p e unsettled o =
       begins = settled_set r.items i p o.begins unsettled;
     })
 
-pub order_moved : (size : ℕ) (due due2 : Option ℕ) (r r1 r2 : RingValue) (i : ℕ) (p : Option Place) →
+pub order_moved : (size : ℕ) (passed passed2 : Passed) (r r1 r2 : RingValue) (i : ℕ) (p : Option Place) →
     r1 ≡ with_items r (set r.items i p) → r2 ≡ with_items r1 (rest state_of_place r1.items) →
-    due2 ≡ since_failed state_of_place due (front state_of_place r1.items) →
-    IsInOrder r.capacity size r.items due → IsInOrder r2.capacity size r2.items due2
-order_moved size due due2 r r1 r2 i p a b d o =
+    passed2 ≡ passed_over state_of_place passed (front state_of_place r1.items) →
+    IsInOrder r.capacity size r.items passed.due → IsInOrder r2.capacity size r2.items passed2.due
+order_moved size passed passed2 r r1 r2 i p a b d o =
     let ps : List (Option Place) = set r.items i p in
     let ring_is : r2 ≡ with_items r (rest state_of_place ps) =
     b ∙ ap (λ (v : RingValue). with_items v (rest state_of_place v.items)) a in
-    let due_is : due2 ≡ since_failed state_of_place due (front state_of_place ps) =
-    d ∙ ap (λ (v : RingValue). since_failed state_of_place due (front state_of_place v.items)) a in
-    let P : RingValue → Type 0 = λ v. IsInOrder v.capacity size v.items due2 in
-    let Q : Option ℕ → Type 0 = λ x. IsInOrder r.capacity size (rest state_of_place ps) x in
-    subst P (sym ring_is) (subst Q (sym due_is) (record {
+    let passed_is : passed2 ≡ passed_over state_of_place passed (front state_of_place ps) =
+    d ∙ ap (λ (v : RingValue). passed_over state_of_place passed (front state_of_place v.items)) a in
+    let P : RingValue → Type 0 = λ v. IsInOrder v.capacity size v.items passed2.due in
+    let Q : Passed → Type 0 = λ x. IsInOrder r.capacity size (rest state_of_place ps) x.due in
+    subst P (sym ring_is) (subst Q (sym passed_is) (record {
       bounded = omega (
         arith,
         o.bounded,
-        since_bound due (front state_of_place ps),
+        since_bound passed.due (front state_of_place ps),
         lengths state_of_place ps,
         length-set r.items i p,
       );
@@ -105,27 +107,28 @@ in_window (p ∷ ps) (suc i) h = omega (arith, in_window ps i h)
 
 -- the calls
 
-module _ (size start : ℕ) (due : Option ℕ) (r : RingValue) (now : WindowValue)
-    (is : shown size start due r ≡ now) (seq : ℕ) where
+module _ (size start : ℕ) (passed : Passed) (r : RingValue) (now : WindowValue)
+    (is : shown size start passed r ≡ now) (seq : ℕ) where
   -- a request with the start seq was heard
   pub heard_step : (due2 : Option ℕ) (s : Session) (bodies : ℕ → FrameValue) (f d : ℕ) →
-      d ≡ distance start seq → due2 ≡ at_most d due → WindowStandsFor now s bodies → seq ≡ f % 4096 →
+      d ≡ distance start seq → due2 ≡ at_most d passed.due → WindowStandsFor now s bodies → seq ≡ f % 4096 →
       f ≤ start_of s → next_number s ≤ f + s.size →
-      WindowStandsFor (shown size start due2 r) (record s { heard = max s.heard f }) bodies
+      WindowStandsFor (shown size start (record passed { due = due2 }) r)
+      (record s { heard = max s.heard f }) bodies
   heard_step due2 s bodies f d d_is e stands on_air below near =
-      let w : WindowStandsFor (shown size start due r) s bodies =
+      let w : WindowStandsFor (shown size start passed r) s bodies =
       (let P : WindowValue → Type 0 = λ v. WindowStandsFor v s bodies in subst P (sym is) stands) in
       let same : d ≡ start_of s - f = d_is ∙ ahead_number f (start_of s) seq start on_air w.start below
       (omega (arith, places_length _ s bodies w, w.small)) in
-      let P : Option ℕ → Type 0 = λ x. WindowStandsFor (shown size start x r)
+      let P : Option ℕ → Type 0 = λ x. WindowStandsFor (shown size start (record passed { due = x }) r)
       (record s { heard = max s.heard f }) bodies in
-      subst P (sym (e ∙ ap (λ (k : ℕ). at_most k due) same))
-      (heard_law (shown size start due r) s bodies w f below)
+      subst P (sym (e ∙ ap (λ (k : ℕ). at_most k passed.due) same))
+      (heard_law (shown size start passed r) s bodies w f below)
 
-module _ (size start : ℕ) (due : Option ℕ) (r r1 r2 : RingValue) (now : WindowValue)
-    (is : shown size start due r ≡ now) (i seq : ℕ) (i_is : i ≡ distance seq start) where
+module _ (size start : ℕ) (passed : Passed) (r r1 r2 : RingValue) (now : WindowValue)
+    (is : shown size start passed r ≡ now) (i seq : ℕ) (i_is : i ≡ distance seq start) where
   here : (s : Session) (bodies : ℕ → FrameValue) → WindowStandsFor now s bodies →
-      WindowStandsFor (shown size start due r) s bodies
+      WindowStandsFor (shown size start passed r) s bodies
   here s bodies stands = let P : WindowValue → Type 0 = λ v. WindowStandsFor v s bodies in
       subst P (sym is) stands
 
@@ -141,23 +144,23 @@ module _ (size start : ℕ) (due : Option ℕ) (r r1 r2 : RingValue) (now : Wind
       Some (Waits parcel attempts) ≡ get_or r.items i None → r1 ≡ with_items r (set r.items i None) →
       r2 ≡ with_items r1 (set r1.items i (Some (Flies (sent_again parcel) attempts exchange))) →
       (s : Session) (bodies : ℕ → FrameValue) (n : ℕ) → WindowStandsFor now s bodies → IsNumber s n seq →
-      HasOwnFrame s n → WindowStandsFor (shown size start due r2) (with_state (State.Flying exchange) n s)
+      HasOwnFrame s n → WindowStandsFor (shown size start passed r2) (with_state (State.Flying exchange) n s)
       (with_one_sent (slot s n).id bodies)
   fly_step exchange attempts parcel found a b s bodies n stands number own =
-      let P : RingValue → Type 0 = λ v. WindowStandsFor (shown size start due v)
+      let P : RingValue → Type 0 = λ v. WindowStandsFor (shown size start passed v)
       (with_state (State.Flying exchange) n s) (with_one_sent (slot s n).id bodies) in
-      subst P (sym (put_back _ a b)) (sent_law sent_again (shown size start due r) s bodies
+      subst P (sym (put_back _ a b)) (sent_law sent_again (shown size start passed r) s bodies
       (here s bodies stands) n seq number own exchange attempts parcel (at_number _ found))
 
   pub unsend_step : (exchange attempts : ℕ) (parcel : FrameValue) →
       Some (Flies parcel attempts exchange) ≡ get_or r.items i None → r1 ≡ with_items r (set r.items i None) →
       r2 ≡ with_items r1 (set r1.items i (Some (Flies (sent_once_less parcel) attempts exchange))) →
       (s : Session) (bodies : ℕ → FrameValue) (n : ℕ) → WindowStandsFor now s bodies → IsNumber s n seq →
-      HasOwnFrame s n → WindowStandsFor (shown size start due r2) s (with_one_unsent (slot s n).id bodies)
+      HasOwnFrame s n → WindowStandsFor (shown size start passed r2) s (with_one_unsent (slot s n).id bodies)
   unsend_step exchange attempts parcel found a b s bodies n stands number own =
-      let P : RingValue → Type 0 = λ v. WindowStandsFor (shown size start due v) s
+      let P : RingValue → Type 0 = λ v. WindowStandsFor (shown size start passed v) s
       (with_one_unsent (slot s n).id bodies) in
-      subst P (sym (put_back _ a b)) (unsent_law sent_once_less (shown size start due r) s bodies
+      subst P (sym (put_back _ a b)) (unsent_law sent_once_less (shown size start passed r) s bodies
       (here s bodies stands) n seq number own exchange attempts parcel (at_number _ found))
 
   module _ (parcel : FrameValue) (attempts exchange limit : ℕ)
@@ -165,41 +168,44 @@ module _ (size start : ℕ) (due : Option ℕ) (r r1 r2 : RingValue) (now : Wind
       (bodies : ℕ → FrameValue) (n : ℕ) (stands : WindowStandsFor now s bodies)
       (number : IsNumber s n seq) where
     -- the number's place changes as its exchange ends, and the settled places at the front are dropped
-    pub ended_step : (end : End) (p : Option Place) (r0 : RingValue) (start2 moved : ℕ) (due2 : Option ℕ) →
+    pub ended_step : (end : End) (p : Option Place) (r0 : RingValue) (start2 moved : ℕ) (passed2 : Passed) →
         p ≡ place_ended end limit parcel attempts → r0 ≡ with_items r (set r.items i None) →
         r1 ≡ with_items r0 (set r0.items i p) → r2 ≡ with_items r1 (rest state_of_place r1.items) →
         moved ≡ length (front state_of_place r1.items) →
-        due2 ≡ since_failed state_of_place due (front state_of_place r1.items) →
+        passed2 ≡ passed_over state_of_place passed (front state_of_place r1.items) →
         start2 ≡ (start + moved) % 4096 →
-        WindowStandsFor (shown size start2 due2 r2) (after_end limit end n s) bodies
-    ended_step end p r0 start2 moved due2 is z a b m d e =
+        WindowStandsFor (shown size start2 passed2 r2) (after_end limit end n s) bodies
+    ended_step end p r0 start2 moved passed2 is z a b m d e =
         let P : WindowValue → Type 0 = λ v. WindowStandsFor v (after_end limit end n s) bodies in
         let a_here : r1 ≡ with_items r (set r.items (distance seq start) p) =
         replaced_twice r r0 r1 i None p z a ∙ ap (λ (k : ℕ). with_items r (set r.items k p)) i_is in
-        subst P (sym (moved_on_is size start start2 moved due due2 r r1 r2 _ a_here b m d e))
-        (ended_law (shown size start due r) s bodies (here s bodies stands) n seq number parcel attempts
+        subst P (sym (moved_on_is size start start2 moved passed passed2 r r1 r2 _ a_here b m d e))
+        (ended_law (shown size start passed r) s bodies (here s bodies stands) n seq number parcel attempts
         exchange limit (at_number _ found) end p is)
 
     pub ended_answer : (end : End) (answer : Settled) → answer ≡ answer_ended end limit parcel attempts →
         answer ≡ settling_answer end limit bodies (slot s n)
     ended_answer end answer is =
         let x : IsFlyingSlot bodies (slot s n) parcel attempts exchange =
-        found_slot (shown size start due r) s bodies (here s bodies stands) n seq number parcel attempts
+        found_slot (shown size start passed r) s bodies (here s bodies stands) n seq number parcel attempts
         exchange limit (at_number _ found) in
         is ∙ ap (λ (f : FrameValue). answer_ended end limit f attempts) x.parcel_is
         ∙ ap (λ (a : ℕ). answer_ended end limit (bodies (slot s n).id) a) x.attempts_is
 
 -- the first place is taken, with its frame
-pub expel_step : (size start start2 moved : ℕ) (due due2 : Option ℕ) (r r1 r2 : RingValue) (now : WindowValue)
-    (parcel : FrameValue) (attempts : ℕ) → shown size start due r ≡ now →
+pub expel_step : (size start start2 moved : ℕ) (passed passed2 : Passed) (r r1 r2 : RingValue)
+    (now : WindowValue)
+    (parcel : FrameValue) (attempts : ℕ) → shown size start passed r ≡ now →
     Some (Waits parcel attempts) ≡ get_or r.items 0 None → r1 ≡ with_items r (set r.items 0 None) →
     r2 ≡ with_items r1 (rest state_of_place r1.items) → moved ≡ length (front state_of_place r1.items) →
-    due2 ≡ since_failed state_of_place due (front state_of_place r1.items) → start2 ≡ (start + moved) % 4096 →
+    passed2 ≡ passed_over state_of_place passed (front state_of_place r1.items) →
+    start2 ≡ (start + moved) % 4096 →
     (s : Session) (bodies : ℕ → FrameValue) → WindowStandsFor now s bodies → (start_of s < next_number s) ×
     (parcel ≡ bodies (slot s (start_of s)).id) ×
-    WindowStandsFor (shown size start2 due2 r2) (with_state State.Acked (start_of s) s) bodies
-expel_step size start start2 moved due due2 r r1 r2 now parcel attempts is found a b m d e s bodies stands =
-    let W : WindowValue = shown size start due r in
+    WindowStandsFor (shown size start2 passed2 r2) (with_state State.Acked (start_of s) s) bodies
+expel_step size start start2 moved passed passed2 r r1 r2 now parcel attempts is found a b m d e s bodies
+    stands =
+    let W : WindowValue = shown size start passed r in
     let w : WindowStandsFor W s bodies = (let P : WindowValue → Type 0 = λ v. WindowStandsFor v s bodies in
     subst P (sym is) stands) in
     let some : 0 < length r.items = some_place r.items parcel attempts found in
@@ -219,7 +225,7 @@ expel_step size start start2 moved due due2 r r1 r2 now parcel attempts is found
     a ∙ ap (λ (k : ℕ). with_items r (set r.items k None)) here_is in (
       inside,
       x.parcel_is,
-      subst P (sym (moved_on_is size start start2 moved due due2 r r1 r2 _ a_here b m d
+      subst P (sym (moved_on_is size start start2 moved passed passed2 r r1 r2 _ a_here b m d
           e)) (slot_changed W s bodies w (start_of s) start number
           (λ y. record y { state = State.Acked }) None refl),
     )

@@ -3,6 +3,7 @@ pub mod Answers
 pub mod Ending
 pub mod Expelling
 pub mod Flushing
+pub mod Flying
 pub mod Listing
 pub mod Many
 pub mod Places
@@ -14,5 +15,6 @@ pub mod Exchanges
 pub mod Kept
 pub mod Counted
 pub mod Members
+pub mod Modes
 pub mod Tally
 pub mod Sleepers

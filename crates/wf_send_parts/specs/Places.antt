@@ -1,9 +1,11 @@
 -- Defines the state of each place of a window, and queries of lists of slots or places by their states.
-use Rattle.std.specs.Prelude.{ℕ, ◌+◌, nat_le, Bool, false, if◌then◌else◌, List, [], ◌∷◌, Option, Some, None}
+use Rattle.std.specs.Prelude.{ℕ, ◌+◌, min, nat_le, Bool, false, if◌then◌else◌, List, [], ◌∷◌, Option, Some, None}
 use Rattle.wf_frame.specs.Frames.{FrameValue}
 use Rattle.wf_send_parts.specs.declared.window.place.Place.{Place}
 use Rattle.wf_send_parts.specs.declared.window.place.Place.TheVariants.{Waiting as Waits, Flying as Flies, Failed as Fails}
+use Rattle.wf_send_parts.specs.declared.window.passed.Passed.{Passed}
 use Rattle.wf_def_agreement.specs.Session.{State, Slot, is_settled}
+use Rattle.wf_def_world.specs.Exchanges.{repeat_distance}
 
 -- the state of a number with this place
 abbrev pub state_of_place : Option Place → State
@@ -57,3 +59,29 @@ since_failed state since (x ∷ xs) = since_failed state (next_since (state x) s
 abbrev pub at_most : ℕ → Option ℕ → Option ℕ
 at_most limit None = None
 at_most limit (Some d) = if nat_le d limit then Some d else None
+
+-- how many numbers below the next one are above the last acknowledged one, at most `repeat_distance`, if
+-- there are `count` below this number
+abbrev pub next_unacked : State → ℕ → ℕ
+next_unacked State.Acked count = 0
+next_unacked _ count = min repeat_distance (count + 1)
+
+-- how many numbers below the end of a list are above the last acknowledged one, at most `repeat_distance`, if
+-- there are `count` below its beginning
+abbrev pub since_acked : {X : Type 0} → (X → State) → ℕ → List X → ℕ
+since_acked state count [] = count
+since_acked state count (x ∷ xs) = since_acked state (next_unacked (state x) count) xs
+
+-- the record of the numbers below F after F moved past a number in this state
+abbrev pub next_passed : State → Passed → Passed
+next_passed state passed = record {
+  due = next_since state passed.due;
+  unacked = next_unacked state passed.unacked;
+}
+
+-- the same after F moved past a list
+abbrev pub passed_over : {X : Type 0} → (X → State) → Passed → List X → Passed
+passed_over state passed xs = record {
+  due = since_failed state passed.due xs;
+  unacked = since_acked state passed.unacked xs;
+}

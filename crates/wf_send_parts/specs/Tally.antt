@@ -1,6 +1,6 @@
 -- Defines the counts of the accepted frames, by fate.
 use Rattle.std.specs.Prelude.{ℕ, ◌+◌, ◌-◌}
-use Rattle.wf_frame.specs.declared.classes.Cause.TheVariants.{Overlimit, Codel, Retries, Left, Flushed}
+use Rattle.wf_frame.specs.declared.classes.Cause.TheVariants.{Overlimit, Codel, Retries, Left, Flushed, Ended}
 use Rattle.wf_frame.specs.declared.classes.Fate.{Fate}
 use Rattle.wf_frame.specs.declared.classes.Fate.TheVariants.{Held, Acked, Dropped}
 use Rattle.wf_send_parts.specs.declared.stations.tally.Tally.{Tally}
@@ -13,6 +13,7 @@ pub record Counts : Type 0 where
   pub retries : ℕ
   pub left : ℕ
   pub flushed : ℕ
+  pub ended : ℕ
 
 abbrev pub counts_of : Tally → Counts
 counts_of t = record {
@@ -23,6 +24,7 @@ counts_of t = record {
   retries = t.retries;
   left = t.left;
   flushed = t.flushed;
+  ended = t.ended;
 }
 
 abbrev pub no_counts : Counts
@@ -34,11 +36,12 @@ no_counts = record {
   retries = 0;
   left = 0;
   flushed = 0;
+  ended = 0;
 }
 
 -- frames that have a fate other than Held
 abbrev pub settled_count : Counts → ℕ
-settled_count c = c.acked + c.overlimit + c.codel + c.retries + c.left + c.flushed
+settled_count c = c.acked + c.overlimit + c.codel + c.retries + c.left + c.flushed + c.ended
 
 -- frames that are still held
 abbrev pub held_in : Counts → ℕ
@@ -57,6 +60,7 @@ settled_as (Dropped Codel) c = record c { codel = c.codel + 1 }
 settled_as (Dropped Retries) c = record c { retries = c.retries + 1 }
 settled_as (Dropped Left) c = record c { left = c.left + 1 }
 settled_as (Dropped Flushed) c = record c { flushed = c.flushed + 1 }
+settled_as (Dropped Ended) c = record c { ended = c.ended + 1 }
 
 -- n more frames have this fate
 abbrev pub many_settled_as : Fate → ℕ → Counts → Counts
@@ -67,3 +71,4 @@ many_settled_as (Dropped Codel) n c = record c { codel = c.codel + n }
 many_settled_as (Dropped Retries) n c = record c { retries = c.retries + n }
 many_settled_as (Dropped Left) n c = record c { left = c.left + n }
 many_settled_as (Dropped Flushed) n c = record c { flushed = c.flushed + n }
+many_settled_as (Dropped Ended) n c = record c { ended = c.ended + n }

@@ -5,7 +5,7 @@ use Rattle.wf_frame.specs.Frames.{FrameValue}
 use Rattle.wf_send_parts.specs.declared.window.place.Place.{Place}
 use Rattle.wf_send_parts.specs.declared.window.place.Place.TheVariants.{Waiting as Waits, Flying as Flies}
 use Rattle.wf_octets.specs.Distance.{distance}
-use Rattle.wf_send_parts.specs.Places.{settled_first, state_of_place, slot_place, slot_state, front, rest, since_failed, at_most}
+use Rattle.wf_send_parts.specs.Places.{settled_first, state_of_place, slot_place, slot_state, front, rest, since_failed, since_acked, at_most}
 use Rattle.wf_def_agreement.specs.Session.{Session, Slot, State, slot, start_of, next_number, request_due, has_room, waiting_numbers, is_waiting}
 
 -- a window as its callers see it
@@ -15,6 +15,7 @@ pub record WindowValue : Type 0 where
   pub start : ℕ  -- F, modulo 4096
   pub places : List (Option Place)  -- the content of each number from F on
   pub due : Option ℕ  -- if a request is due: how far F is past the last failed number
+  pub unacked : ℕ  -- how many numbers below F are above the last acknowledged one, at most 2,047
 
 -- a window without numbers, with this capacity, size and first number
 abbrev pub fresh_window : ℕ → ℕ → ℕ → WindowValue
@@ -24,6 +25,7 @@ fresh_window capacity size start = record {
   start = start;
   places = [];
   due = None;
+  unacked = 0;
 }
 
 -- ---- the session
@@ -36,12 +38,17 @@ slots_from_start s = rest slot_state s.slots
 abbrev pub due_distance : Session → Option ℕ
 due_distance s = at_most (start_of s - s.heard) (since_failed slot_state None (front slot_state s.slots))
 
+-- how many numbers below F are above the last acknowledged one, at most 2,047
+abbrev pub count_unacked : Session → ℕ
+count_unacked s = since_acked slot_state 0 (front slot_state s.slots)
+
 -- the window represents the session; `bodies` has the frame of each id
 pub record WindowStandsFor (w : WindowValue) (s : Session) (bodies : ℕ → FrameValue) : Type 0 where
   pub size : w.size ≡ s.size
   pub start : w.start ≡ start_of s % 4096
   pub places : w.places ≡ map (slot_place bodies) (slots_from_start s)
   pub due : w.due ≡ due_distance s
+  pub unacked : w.unacked ≡ count_unacked s
   pub heard : s.heard ≤ start_of s
   pub room : next_number s ≤ start_of s + s.size
   pub small : s.size ≤ 256
@@ -125,4 +132,5 @@ moved_on w =
       start = (w.start + length (front state_of_place w.places)) % 4096;
       places = rest state_of_place w.places;
       due = since_failed state_of_place w.due (front state_of_place w.places);
+      unacked = since_acked state_of_place w.unacked (front state_of_place w.places);
     }

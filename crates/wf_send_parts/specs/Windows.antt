@@ -10,7 +10,7 @@ new_window = fresh_window greatest_window greatest_window 0
 
 -- The window for an index past the last one. No call uses it, because each names a TID that has a window.
 abbrev pub no_window : WindowValue
-no_window = record { capacity = 0; size = 0; start = 0; places = []; due = None }
+no_window = record { capacity = 0; size = 0; start = 0; places = []; due = None; unacked = 0 }
 
 -- the window of TID t of station s
 abbrev pub window_of : List WindowValue → ℕ → ℕ → WindowValue

@@ -1,6 +1,6 @@
 //! The parts of a transmit half other than its queues and its scheduler: the originator's windows of all TIDs
-//! (`window`), the open exchanges (`exchanges`), and the live and sleeping stations with the counts of frames
-//! by fate (`stations`). The three modules are independent of each other.
+//! (`window`), the open exchanges (`exchanges`), and the live and sleeping stations with the modes of their
+//! TIDs and the counts of frames by fate (`stations`). The three modules are independent of each other.
 //!
 //! ```text
 //! let mut windows = Windows::new(alloc, 1)?;       // the eight windows of one station

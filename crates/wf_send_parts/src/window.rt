@@ -8,6 +8,7 @@
 
 mod ending;
 pub mod many_sessions;
+mod passed;
 mod place;
 mod ring;
 pub mod sessions;

@@ -1,6 +1,6 @@
 //! The open exchanges, in the order of their numbers.
 
-ghost use Rattle.std.specs.Prelude.{◌≡◌, ◌<◌, ◌≤◌, ◌==◌, ◌++◌, ◌∷◌, [], not, length, filter, find, count_by, map, option_map, position, IfOk, All};
+ghost use Rattle.std.specs.Prelude.{◌≡◌, ◌<◌, ◌≤◌, ◌==◌, ◌&&◌, ◌++◌, ◌∷◌, [], not, length, filter, find, count_by, map, option_map, position, IfOk, All};
 ghost use Rattle.wf_frame.specs.Classes.{same_class};
 ghost use Rattle.wf_def_lists.specs.Bounds.{greatest_air};
 ghost use Rattle.wf_def_lists.specs.Lists.{IsRising};
@@ -44,12 +44,14 @@ pub struct Open {
     pub class: Class,
     /// The airtime that it is charged when it ends, in microseconds.
     pub charge: u32,
-    /// What it sends.
+    /// The frames or the request that it sends.
     pub sending: Sending,
     /// The More Data bit of its frames (8.2.4.1.8).
     pub more: bool,
     /// Whether the station's device numbers, aggregates and repeats its frames.
     pub batch: bool,
+    /// Whether it sends one frame without an agreement, which an Ack answers.
+    pub plain: bool,
     /// The indices of the transmissions that never went on the air, counted from 0.
     pub unsent: Bits256,
     /// The indices of the transmissions that the device will not try again.
@@ -276,6 +278,16 @@ impl Opened {
         self.list
             .iter()
             .filter(|exchange| exchange.station == station)
+            .count() as u32
+    }
+
+    /// Returns how many exchanges to this TID of the station are open.
+    pub fn of_tid(&self, station: u16, tid: u8) -> u32
+        ensures { result ≡ count_by (λ x. (x.station == station) && (x.tid == tid)) self.now }
+    {
+        self.list
+            .iter()
+            .filter(|exchange| exchange.station == station && exchange.tid == tid)
             .count() as u32
     }
 

@@ -90,7 +90,7 @@ impl Sleepers {
         sleeper.credit = None;
     }
 
-    /// Gives a sleeping station a credit for this class, in place of one that it may have.
+    /// Gives a sleeping station a credit for this class, instead of one that it may have.
     pub fn grant(&mut self, station: u16, class: Class)
         requires within { station < length self.old }
         requires asleep { (sleeper self.old station).asleep ≡ true }

@@ -22,7 +22,9 @@ pub struct Tally {
     pub left: u64,
     /// Dropped because their TID was flushed.
     pub flushed: u64,
-    ghost counted: { acked + overlimit + codel + retries + left + flushed ≤ accepted },
+    /// Dropped because the agreement of their TID ended.
+    pub ended: u64,
+    ghost counted: { acked + overlimit + codel + retries + left + flushed + ended ≤ accepted },
 }
 
 impl Tally {
@@ -40,6 +42,7 @@ impl Tally {
             retries: 0,
             left: 0,
             flushed: 0,
+            ended: 0,
         }
     }
 
@@ -67,6 +70,7 @@ impl Tally {
             Fate::Dropped(Cause::Retries) => self.retries += 1,
             Fate::Dropped(Cause::Left) => self.left += 1,
             Fate::Dropped(Cause::Flushed) => self.flushed += 1,
+            Fate::Dropped(Cause::Ended) => self.ended += 1,
         }
     }
 
@@ -86,6 +90,7 @@ impl Tally {
             Fate::Dropped(Cause::Retries) => self.retries += count,
             Fate::Dropped(Cause::Left) => self.left += count,
             Fate::Dropped(Cause::Flushed) => self.flushed += count,
+            Fate::Dropped(Cause::Ended) => self.ended += count,
         }
     }
 
@@ -93,7 +98,7 @@ impl Tally {
     pub fn held(&self) -> u64
         ensures held { result ≡ held_in (counts_of self.now) }
 
-        // accepted is the sum of held and the other six counts
+        // accepted is the sum of held and the other seven counts
         ensures sum { settled_count (counts_of self.now) + result ≡ self.now.accepted }
     {
         self.accepted
@@ -103,5 +108,6 @@ impl Tally {
             - self.retries
             - self.left
             - self.flushed
+            - self.ended
     }
 }

@@ -1,6 +1,7 @@
 //! The content of a number in a window.
 
 ghost use Rattle.std.specs.Prelude.{◌≡◌};
+ghost use Rattle.wf_send_parts.specs.Flying.{flies};
 ghost use Rattle.wf_send_parts.specs.Window.{waits};
 
 use wf_queue_parts::chain::Parcel;
@@ -24,4 +25,10 @@ pub(crate) fn is_waiting(place: &Option<Place>) -> bool
     ensures { result ≡ waits place.now }
 {
     matches!(place, Some(Place::Waiting { .. }))
+}
+
+pub(crate) fn is_flying(place: &Option<Place>) -> bool
+    ensures { result ≡ flies place.now }
+{
+    matches!(place, Some(Place::Flying { .. }))
 }

@@ -4,14 +4,15 @@
 ghost use Rattle.std.specs.Prelude.{◌≡◌, ℕ, ◌%◌, ◌<◌, ◌≤◌, nat_lt, true, false, List, [], ◌∷◌, ◌++◌, Some, None, option_map, length};
 ghost use Rattle.std.specs.List.{list_any};
 ghost use Rattle.wf_frame.specs.Frames.{FrameValue};
+ghost use Rattle.wf_frame.specs.declared.classes.Cause.{Cause};
 ghost use Rattle.wf_def_lists.specs.Lists.{IsRising};
 ghost use Rattle.wf_def_lists.specs.Table.{has};
 ghost use Rattle.wf_def_agreement.specs.Session.{Session, State, slot, start_of, next_number, waiting_numbers, is_settled, is_waiting, with_state, after_flush};
 ghost use Rattle.wf_octets.specs.Distance.{distance};
 ghost use Rattle.wf_send_parts.specs.Window.{WindowValue, WindowStandsFor, IsNumber, place_at, state_at, attempts_of, is_flying, holds_parcel, HasFrame, waits, some_fly, waiting_from, on_air};
 ghost use Rattle.wf_send_parts.specs.Listing.{HasListed, IsListedNext};
-ghost use Rattle.wf_send_parts.specs.Expelling.{has_flying, frame_left, frames_left, HasExpelled};
-ghost use Rattle.wf_send_parts.specs.Flushing.{frames_flushed, IsFlushed, HasFlushed};
+ghost use Rattle.wf_send_parts.specs.Expelling.{has_flying, frame_left, frames_left, frames_dropped, HasExpelled};
+ghost use Rattle.wf_send_parts.specs.Flushing.{IsFlushed, HasFlushed};
 
 /// An unsettled number is from F to below N, so its 12 bits identify it. Its place in the window has its
 /// state and, if it waits or flies, its attempts and its frame.
@@ -76,23 +77,23 @@ pub fn frames_are_expelled_in_order()
         next_number so_far.now ≡ start_of so_far.now → (frames ≡ frames_left bodies s) × (w.places ≡ []) }
 {}
 
-/// Calls of `flush_next`, the first from F on and each later one from where the one before says, return the
-/// frames of the waiting numbers in order, with the fate `flushed`, until None. Then the window represents
-/// the session after the flush.
+/// Calls of `flush_next` for one cause, the first from F on and each later one from where the one before
+/// says, return the frames of the waiting numbers in order, dropped for this cause, until None. Then the
+/// window represents the session after the flush.
 pub fn frames_are_flushed_in_order()
-    ensures begins { (limit : ℕ) (w : WindowValue) (s : Session) (bodies : ℕ → FrameValue) →
+    ensures begins { (cause : Cause) (limit : ℕ) (w : WindowValue) (s : Session) (bodies : ℕ → FrameValue) →
         WindowStandsFor w s bodies →
-        HasFlushed limit w s bodies [] w.start }
-    ensures near { (limit : ℕ) (w : WindowValue) (s : Session) (bodies : ℕ → FrameValue)
+        HasFlushed cause limit w s bodies [] w.start }
+    ensures near { (cause : Cause) (limit : ℕ) (w : WindowValue) (s : Session) (bodies : ℕ → FrameValue)
         (frames : List FrameValue) (from : ℕ) →
-        HasFlushed limit w s bodies frames from → distance from w.start ≤ length w.places }
-    ensures next { (limit : ℕ) (w v : WindowValue) (s : Session) (bodies : ℕ → FrameValue)
+        HasFlushed cause limit w s bodies frames from → distance from w.start ≤ length w.places }
+    ensures next { (cause : Cause) (limit : ℕ) (w v : WindowValue) (s : Session) (bodies : ℕ → FrameValue)
         (frames : List FrameValue) (from : ℕ) (parcel : FrameValue) (next : ℕ)
-        (so_far : HasFlushed limit w s bodies frames from) →
-        IsFlushed limit so_far.now bodies so_far.search.number v parcel next →
-        HasFlushed limit v s bodies (frames ++ parcel ∷ []) next }
-    ensures ends { (limit : ℕ) (w v : WindowValue) (s : Session) (bodies : ℕ → FrameValue)
-        (frames : List FrameValue) (from : ℕ) (so_far : HasFlushed limit w s bodies frames from) →
+        (so_far : HasFlushed cause limit w s bodies frames from) →
+        IsFlushed cause limit so_far.now bodies so_far.search.number v parcel next →
+        HasFlushed cause limit v s bodies (frames ++ parcel ∷ []) next }
+    ensures ends { (cause : Cause) (limit : ℕ) (w v : WindowValue) (s : Session) (bodies : ℕ → FrameValue)
+        (frames : List FrameValue) (from : ℕ) (so_far : HasFlushed cause limit w s bodies frames from) →
         waiting_from so_far.now so_far.search.number ≡ None → WindowStandsFor v so_far.now bodies →
-        (frames ≡ frames_flushed bodies s) × WindowStandsFor v (after_flush limit s) bodies }
+        (frames ≡ frames_dropped cause bodies s) × WindowStandsFor v (after_flush limit s) bodies }
 {}

@@ -3,20 +3,22 @@
 //! In the clauses, F is the first unsettled number, N the next fresh number, w the size, and R the greatest
 //! start of a request that ended as heard, all in each session that the window represents.
 
-ghost use Rattle.std.specs.Prelude.{count_by, ◌≡◌, ℕ, ◌+◌, ◌%◌, ◌<◌, ◌≤◌, true, false, [], length, max, is_ok, is_some, unwrap_or, option_map, slice_index_or, slice_set, nat_lt, IfOk, IfErr, IfSome, IfNone};
+ghost use Rattle.std.specs.Prelude.{count_by, ◌≡◌, ℕ, suc, ◌+◌, ◌%◌, ◌<◌, ◌≤◌, true, false, [], None, length, max, is_ok, is_some, unwrap_or, option_map, slice_index_or, slice_set, nat_lt, nat_le, IfOk, IfErr, IfSome, IfNone};
 ghost use Rattle.std.specs.List.{list_any};
 ghost use Rattle.wf_frame.specs.Frames.{FrameValue};
 ghost use Rattle.wf_frame.specs.declared.classes.Fate.TheVariants.{Dropped};
 ghost use Rattle.wf_frame.specs.declared.classes.Cause.TheVariants.{Left};
 ghost use Rattle.wf_def_agreement.specs.Session.{Session, State, slot, new_session, with_number_given, with_state, after_end, start_of, next_number, request_due, waiting_numbers};
+ghost use Rattle.wf_def_world.specs.Exchanges.{repeat_distance, is_far};
 ghost use Rattle.wf_octets.specs.Distance.{distance};
-ghost use Rattle.wf_send_parts.specs.Places.{state_of_place, front, rest, since_failed};
+ghost use Rattle.wf_send_parts.specs.Places.{state_of_place, front, rest, passed_over};
 ghost use Rattle.wf_send_parts.specs.Window.{fresh_window, WindowStandsFor, IsNumber, may_give, waiting_from, on_air, place_at, state_at, attempts_of, is_flying, holds_parcel, HasOwnFrame, waits, some_fly, can_take};
 ghost use Rattle.wf_send_parts.specs.Sent.{with_one_sent, with_one_unsent};
 ghost use Rattle.wf_send_parts.specs.Answers.{as_end, place_ended, answer_ended, settling_answer, with_fate};
 ghost use Rattle.wf_send_parts.specs.Flushing.{IsFlushed};
 
 use crate::window::ending::End;
+use crate::window::passed::{MOST_UNACKED, NONE_PASSED, Passed};
 use crate::window::place::{Place, is_waiting};
 use crate::window::ring::Ring;
 use std::alloc::{AllocError, Global};
@@ -24,6 +26,8 @@ use std::marker::Model;
 use wf_frame::{Cause, Fate, Frame};
 use wf_octets::seq12::Seq12;
 use wf_queue_parts::chain::Parcel;
+
+mod flying;
 
 /// The outcome of a number whose exchange has ended.
 #[derive(Drop)]
@@ -38,14 +42,14 @@ pub enum Settled {
 }
 
 /// The originator's window of one TID: the numbers from F on, each with its parcel and its attempts, by
-/// distance from F. If a request is due, it also has the distance of F from the last failed number. All
-/// numbers are modulo 4096.
+/// distance from F. If a request is due, it also has the distance of F from the last failed number. It counts
+/// the numbers below F that are above the last acknowledged one. All numbers are modulo 4096.
 #[derive(Drop)]
 pub struct Window {
     ring: Ring,
     start: Seq12,
     size: u16,
-    due: Option<u16>,
+    passed: Passed,
 }
 
 impl Model for Window {
@@ -58,35 +62,34 @@ impl Model for Window {
       size = w.size;
       start = w.start;
       places = w.ring.items;
-      due = w.due;
+      due = w.passed.due;
+      unacked = w.passed.unacked;
     } };
 
-    ghost invariant = { λ w. IsInOrder w.ring.capacity w.size w.ring.items w.due };
+    ghost invariant = { λ w. IsInOrder w.ring.capacity w.size w.ring.items w.passed.due };
 }
 
-// Drops the settled places at the front of the ring. Returns how many these were, and the new distance.
-fn advance(ring: &mut Ring, due: Option<u16>) -> (u16, Option<u16>)
-    requires { unwrap_or due 0 + length ring.old.items ≤ 256 }
+// Drops the settled places at the front of the ring. Returns how many these were, and what is then kept of
+// the numbers below F.
+fn advance(ring: &mut Ring, passed: Passed) -> (u16, Passed)
+    requires { unwrap_or passed.due 0 + length ring.old.items ≤ 256 }
     ensures items { ring.new ≡ record ring.old { items = rest state_of_place ring.old.items } }
     ensures moved { result.0 ≡ length (front state_of_place ring.old.items) }
-    ensures due { result.1 ≡ since_failed state_of_place due (front state_of_place ring.old.items) }
+    ensures passed { result.1 ≡ passed_over state_of_place passed (front state_of_place ring.old.items) }
 {
     let mut moved = 0;
-    let mut distance = due;
+    let mut kept = passed;
     'moving: while ring.len() > 0 {
-        distance = match ring.at(0) {
-            Some(Place::Waiting { .. }) => return (moved, distance),
-            Some(Place::Flying { .. }) => return (moved, distance),
-            Some(Place::Failed) => Some(1),
-            None => match distance {
-                Some(past) => Some(past + 1),
-                None => None,
-            },
+        kept = match ring.at(0) {
+            Some(Place::Waiting { .. }) => return (moved, kept),
+            Some(Place::Flying { .. }) => return (moved, kept),
+            Some(Place::Failed) => kept.after_failed(),
+            None => kept.after_acked(),
         };
         ring.drop_front();
         moved += 1;
     }
-    (moved, distance)
+    (moved, kept)
 }
 
 fn attempts_in(place: &Option<Place>) -> u8
@@ -97,6 +100,17 @@ fn attempts_in(place: &Option<Place>) -> u8
         Some(Place::Waiting { attempts, .. }) => *attempts,
         Some(Place::Flying { attempts, .. }) => *attempts,
         _ => unreachable!(),
+    }
+}
+
+// Puts a place into a slot that is empty. An acknowledged number leaves its slot empty.
+fn put_back(ring: &mut Ring, i: usize, place: Option<Place>)
+    requires within { i < length ring.old.items }
+    requires empty { slice_index_or ring.old.items i None ≡ None }
+    ensures changed { ring.new ≡ record ring.old { items = slice_set ring.old.items i place } }
+{
+    if place.is_some() {
+        let _ = ring.replace(i, place);
     }
 }
 
@@ -175,7 +189,7 @@ impl Window {
             ring,
             start: Seq12::of(0),
             size: capacity,
-            due: None,
+            passed: NONE_PASSED,
         })
     }
 
@@ -191,7 +205,21 @@ impl Window {
     {
         self.start = start;
         self.size = size;
-        self.due = None;
+        self.passed = NONE_PASSED;
+    }
+
+    /// Sets the size of the window, 1 to the capacity. All numbers must be settled. The peer knows F, as by
+    /// `catch_up`.
+    pub fn resize(&mut self, size: u16)
+        requires empty { self.old.places ≡ [] }
+        requires in_range { (1 ≤ size) × (size ≤ self.old.capacity) }
+        ensures stands { (s : Session) (bodies : ℕ → FrameValue) → WindowStandsFor self.old s bodies →
+            WindowStandsFor self.new (record s { heard = max s.heard (start_of s); size = size }) bodies }
+        ensures shown { self.new ≡ record self.old { size = size; due = None } }
+        ensures capacity { self.new.capacity ≡ self.old.capacity }
+    {
+        self.size = size;
+        self.passed.due = None;
     }
 
     /// Returns F, the first number that is not settled. If all are settled, this is the next one.
@@ -226,7 +254,7 @@ impl Window {
         ensures due { (s : Session) (bodies : ℕ → FrameValue) → WindowStandsFor self.now s bodies →
             result ≡ request_due s }
     {
-        self.due.is_some()
+        self.passed.due.is_some()
     }
 
     /// Records that a BlockAckReq with this start was heard. The start is at most F, and N is at most w past
@@ -238,10 +266,10 @@ impl Window {
             WindowStandsFor self.new (record s { heard = max s.heard f }) bodies }
         ensures capacity { self.new.capacity ≡ self.old.capacity }
     {
-        if let Some(distance) = self.due
+        if let Some(distance) = self.passed.due
             && self.start.ahead(start) < distance
         {
-            self.due = None;
+            self.passed.due = None;
         }
     }
 
@@ -254,13 +282,23 @@ impl Window {
         self.bar_heard(self.start);
     }
 
+    /// Returns whether F is 2,048 or more above the last acknowledged number. If no number above F is given,
+    /// this is whether F is too far to be sent again without an agreement.
+    pub fn is_far(&self) -> bool
+        ensures shown { result ≡ nat_le repeat_distance self.now.unacked }
+        ensures far { (s : Session) (bodies : ℕ → FrameValue) → WindowStandsFor self.now s bodies →
+            next_number s ≤ suc (start_of s) → result ≡ is_far s (start_of s) }
+    {
+        self.passed.unacked >= MOST_UNACKED
+    }
+
     /// Returns whether `give` accepts a parcel: no request is due, and N is below F + w.
     pub fn can_give(&self) -> bool
         ensures shown { result ≡ can_take self.now }
         ensures can { (s : Session) (bodies : ℕ → FrameValue) → WindowStandsFor self.now s bodies →
             result ≡ may_give s }
     {
-        self.due.is_none() && self.ring.len() < usize::from(self.size)
+        self.passed.due.is_none() && self.ring.len() < usize::from(self.size)
     }
 
     /// Gives the parcel the number N, with which it then waits, and returns N. If `can_give` is false,
@@ -348,10 +386,10 @@ impl Window {
         let i = usize::from(seq.ahead(self.start));
         let (parcel, attempts, _) = take_flying(&mut self.ring, i);
         let (place, settled) = ended(parcel, attempts, end, limit);
-        let _ = self.ring.replace(i, place);
-        let (moved, due) = advance(&mut self.ring, self.due);
+        put_back(&mut self.ring, i, place);
+        let (moved, passed) = advance(&mut self.ring, self.passed);
         self.start = self.start.plus(moved);
-        self.due = due;
+        self.passed = passed;
         settled
     }
 
@@ -434,22 +472,22 @@ impl Window {
             return None;
         }
         let (parcel, _) = take_waiting(&mut self.ring, 0);
-        let (moved, due) = advance(&mut self.ring, self.due);
+        let (moved, passed) = advance(&mut self.ring, self.passed);
         self.start = self.start.plus(moved);
-        self.due = due;
+        self.passed = passed;
         Some(finished(parcel, Fate::Dropped(Cause::Left)))
     }
     /// Takes the parcel of the first waiting number at or past `from`, which is F to N, with the fate
-    /// Dropped(Flushed); the number then fails. Also returns where to search for the next one. None if, and
+    /// Dropped(cause); the number then fails. Also returns where to search for the next one. None if, and
     /// only if, there is none.
-    pub fn flush_next(&mut self, from: Seq12) -> Option<(Parcel, Seq12)>
+    pub fn flush_next(&mut self, from: Seq12, cause: Cause) -> Option<(Parcel, Seq12)>
         requires { distance from self.old.start ≤ length self.old.places }
         ensures none { IfNone result ((s : Session) (bodies : ℕ → FrameValue) (n : ℕ) →
             WindowStandsFor self.old s bodies → from ≡ n % 4096 → start_of s ≤ n → n ≤ next_number s →
             (waiting_from s n ≡ None) × WindowStandsFor self.new s bodies) }
         ensures some { IfSome result (λ found. (limit : ℕ) (s : Session) (bodies : ℕ → FrameValue) (n : ℕ) →
             WindowStandsFor self.old s bodies → from ≡ n % 4096 → start_of s ≤ n → n ≤ next_number s →
-            IsFlushed limit s bodies n self.new found.0 found.1) }
+            IsFlushed cause limit s bodies n self.new found.0 found.1) }
         ensures fewer { IfSome result (λ _. count_by waits self.new.places < count_by waits self.old.places) }
         ensures capacity { self.new.capacity ≡ self.old.capacity }
     {
@@ -459,12 +497,12 @@ impl Window {
         let i = usize::from(seq.ahead(self.start));
         let (parcel, _) = take_waiting(&mut self.ring, i);
         let _ = self.ring.replace(i, Some(Place::Failed));
-        let (moved, due) = advance(&mut self.ring, self.due);
+        let (moved, passed) = advance(&mut self.ring, self.passed);
         self.start = self.start.plus(moved);
-        self.due = due;
+        self.passed = passed;
         let past = (i as u16 + 1).saturating_sub(moved);
         Some((
-            finished(parcel, Fate::Dropped(Cause::Flushed)),
+            finished(parcel, Fate::Dropped(cause)),
             self.start.plus(past),
         ))
     }

@@ -17,7 +17,7 @@ ghost use Rattle.wf_send_parts.specs.Windows.{WindowsHaveRoom, new_window, windo
 use crate::window::{End, Settled, Window};
 use std::alloc::{AllocError, Global};
 use std::marker::Model;
-use wf_frame::tid_number;
+use wf_frame::{Cause, tid_number};
 use wf_octets::seq12::Seq12;
 use wf_queue_parts::chain::Parcel;
 
@@ -90,6 +90,23 @@ impl Windows {
         ensures count { length self.new ≡ length self.old }
     {
         self.windows[tid_number(station, tid) as usize].reset(start, size);
+    }
+
+    /// Sets the size of the window of a TID, 1 to 256, as `Window::resize`. All its numbers must be settled.
+    pub fn resize(&mut self, station: u16, tid: u8, size: u16)
+        requires tid { tid < 8 }
+        requires within { tid_number station tid < length self.old }
+        requires empty { (window_of self.old station tid).places ≡ [] }
+        requires in_range { (1 ≤ size) × (size ≤ greatest_window) }
+        ensures stands { (s : Session) (bodies : ℕ → FrameValue) →
+            WindowStandsFor (window_of self.old station tid) s bodies →
+            WindowStandsFor (window_of self.new station tid)
+            (record s { heard = max s.heard (start_of s); size = size }) bodies }
+        ensures others { self.new ≡ with_window self.old station tid (window_of self.new station tid) }
+        ensures room { WindowsHaveRoom self.new }
+        ensures count { length self.new ≡ length self.old }
+    {
+        self.windows[tid_number(station, tid) as usize].resize(size);
     }
 
     /// Begins new sessions of all eight TIDs of a station, each as by `reset`.
@@ -239,8 +256,14 @@ impl Windows {
         self.windows[tid_number(station, tid) as usize].expel()
     }
     /// Takes the parcel of the first waiting number of a TID at or past `from`, with the fate
-    /// Dropped(Flushed), as `Window::flush_next`. Also returns where to search for the next one.
-    pub fn flush_next(&mut self, station: u16, tid: u8, from: Seq12) -> Option<(Parcel, Seq12)>
+    /// Dropped(cause), as `Window::flush_next`. Also returns where to search for the next one.
+    pub fn flush_next(
+        &mut self,
+        station: u16,
+        tid: u8,
+        from: Seq12,
+        cause: Cause,
+    ) -> Option<(Parcel, Seq12)>
         requires tid { tid < 8 }
         requires within { tid_number station tid < length self.old }
         requires near { distance from (window_of self.old station tid).start
@@ -252,13 +275,13 @@ impl Windows {
         ensures some { IfSome result (λ found. (limit : ℕ) (s : Session) (bodies : ℕ → FrameValue) (n : ℕ) →
             WindowStandsFor (window_of self.old station tid) s bodies →
             from ≡ n % 4096 → start_of s ≤ n → n ≤ next_number s →
-            IsFlushed limit s bodies n (window_of self.new station tid) found.0 found.1) }
+            IsFlushed cause limit s bodies n (window_of self.new station tid) found.0 found.1) }
         ensures fewer { IfSome result (λ _. count_by waits (window_of self.new station tid).places
             < count_by waits (window_of self.old station tid).places) }
         ensures others { self.new ≡ with_window self.old station tid (window_of self.new station tid) }
         ensures room { WindowsHaveRoom self.new }
         ensures count { length self.new ≡ length self.old }
     {
-        self.windows[tid_number(station, tid) as usize].flush_next(from)
+        self.windows[tid_number(station, tid) as usize].flush_next(from, cause)
     }
 }

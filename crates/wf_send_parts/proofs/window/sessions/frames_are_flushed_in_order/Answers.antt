@@ -9,9 +9,9 @@ pub returns-clause-near : goal.returns-clause-near
 returns-clause-near c = flushing_near
 
 pub returns-clause-next : goal.returns-clause-next
-returns-clause-next c limit w v s bodies frames from parcel next so_far f =
-    flushing_next limit w s bodies frames from so_far v parcel next f
+returns-clause-next c cause limit w v s bodies frames from parcel next so_far f =
+    flushing_next cause limit w s bodies frames from so_far v parcel next f
 
 pub returns-clause-ends : goal.returns-clause-ends
-returns-clause-ends c limit w v s bodies frames from so_far none stands =
-    flushing_ends limit w s bodies frames from so_far v none stands
+returns-clause-ends c cause limit w v s bodies frames from so_far none stands =
+    flushing_ends cause limit w s bodies frames from so_far v none stands

@@ -1,4 +1,4 @@
--- Proves the contract of `Opened::airtime_to`: the airtime stands at the place of its station and class.
+-- Proves the contract of `Opened::airtime_to`: the airtime is at the place of its station and class.
 use Rattle.std.proofs.Common.{arith}
 use Rattle.wf_send_parts.proofs.Airtime.{place_below}
 use Rattle.wf_send_parts.proofs.exchanges.opened.Opened.airtime_to.Goals as goal

@@ -10,8 +10,8 @@ returns-then-ahead-distance-clause-stands c s bodies f stands a b d =
     let q = c.self.inside in
     let over : nat_le c.in-Some.distance c.ahead.result ≡ false =
     grind (arith, nat_tests, c.if-ahead-distance.true) in
-    let gone : None ≡ at_most c.ahead.result q.due =
+    let gone : None ≡ at_most c.ahead.result q.passed.due =
     sym (ap (at_most c.ahead.result) c.in-Some.is
     ∙ ap (λ (t : Bool). if t then Some c.in-Some.distance else None) over) in
-    heard_step q.size q.start q.due q.ring c.args.self.now c.self.view_is c.args.start None s bodies f
+    heard_step q.size q.start q.passed q.ring c.args.self.now c.self.view_is c.args.start None s bodies f
     c.ahead.result c.ahead.ensures.number gone stands a b d

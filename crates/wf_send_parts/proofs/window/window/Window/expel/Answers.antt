@@ -22,8 +22,8 @@ returns-then-len-eq0-clause-none c s bodies stands =
 pub invariant_of-self : goal.invariant_of-self
 invariant_of-self c =
     let q = c.self.inside in
-    order_moved q.size q.due _ q.ring c.take_waiting-parcel.new.ring _ 0 None
-    c.take_waiting-parcel.ensures.changed c.advance-moved.ensures.items c.advance-moved.ensures.due
+    order_moved q.size q.passed _ q.ring c.take_waiting-parcel.new.ring _ 0 None
+    c.take_waiting-parcel.ensures.changed c.advance-moved.ensures.items c.advance-moved.ensures.passed
     c.self.invariant
 
 pub returns-clause-some : goal.returns-clause-some
@@ -31,9 +31,9 @@ returns-clause-some c s bodies stands =
     let q = c.self.inside in
     let t = c.take_waiting-parcel in
     let a = c.advance-moved in
-    let step = expel_step q.size q.start c.plus-self-inside.result a.result.0 q.due a.result.1 q.ring
+    let step = expel_step q.size q.start c.plus-self-inside.result a.result.0 q.passed a.result.1 q.ring
     t.new.ring a.new.ring c.args.self.now t.result.0 t.result.1 c.self.view_is t.ensures.found
-    t.ensures.changed a.ensures.items a.ensures.moved a.ensures.due c.plus-self-inside.ensures.number s
+    t.ensures.changed a.ensures.items a.ensures.moved a.ensures.passed c.plus-self-inside.ensures.number s
     bodies stands in
     (step.0, c.finished.ensures ∙ ap (with_fate (Dropped Left)) step.1, step.2)
 

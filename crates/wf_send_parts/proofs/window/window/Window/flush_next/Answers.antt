@@ -15,19 +15,20 @@ pub invariant_of-self : goal.invariant_of-self
 invariant_of-self c =
     let q = c.self.inside in
     let w = c.take_waiting-parcel in
-    order_moved q.size q.due _ q.ring c.replace.new.self _ c.from-i.result _
+    order_moved q.size q.passed _ q.ring c.replace.new.self _ c.from-i.result _
     (replaced_twice q.ring w.new.ring c.replace.new.self c.from-i.result None _ w.ensures.changed
-    c.replace.ensures.changed) c.advance-moved.ensures.items c.advance-moved.ensures.due c.self.invariant
+    c.replace.ensures.changed) c.advance-moved.ensures.items c.advance-moved.ensures.passed c.self.invariant
 
 pub returns-clause-some : goal.returns-clause-some
 returns-clause-some c limit s bodies n stands on_air low high =
     let q = c.self.inside in
     let w = c.take_waiting-parcel in
     let a = c.advance-moved in
-    flushed_one q.size q.start c.plus-self-inside.result a.result.0 q.due a.result.1 q.ring w.new.ring
+    flushed_one q.size q.start c.plus-self-inside.result a.result.0 q.passed a.result.1 q.ring w.new.ring
     c.replace.new.self a.new.ring c.args.self.now w.result.0 w.result.1 c.from-i.result c.self.view_is
-    w.ensures.found w.ensures.changed c.replace.ensures.changed a.ensures.items a.ensures.moved a.ensures.due
-    c.plus-self-inside.ensures.number c.in-Some.seq c.saturating_sub-past.result c.plus.result limit
+    w.ensures.found w.ensures.changed c.replace.ensures.changed a.ensures.items a.ensures.moved
+    a.ensures.passed c.plus-self-inside.ensures.number c.args.cause c.in-Some.seq
+    c.saturating_sub-past.result c.plus.result limit
     (c.from-i.ensures ∙ c.ahead.ensures.number) (omega (arith, c.saturating_sub-past.ensures))
     c.plus.ensures.number s bodies n stands (c.in-Some.ensures.number s bodies n stands on_air low high)
     c.finished.result c.finished.ensures
@@ -47,9 +48,9 @@ returns-clause-fewer c =
     ) in
     omega (
       arith,
-      one_waits_less q.size q.start c.plus-self-inside.result a.result.0 q.due a.result.1 q.ring w.new.ring
+      one_waits_less q.size q.start c.plus-self-inside.result a.result.0 q.passed a.result.1 q.ring w.new.ring
           c.replace.new.self a.new.ring c.args.self.now w.result.0 w.result.1 c.from-i.result c.self.view_is
           w.ensures.found w.ensures.changed c.replace.ensures.changed a.ensures.items a.ensures.moved
-          a.ensures.due c.plus-self-inside.ensures.number inside,
+          a.ensures.passed c.plus-self-inside.ensures.number inside,
       ap (λ (v : WindowValue). count_by waits v.places) c.self.view_is,
     )

@@ -1,4 +1,5 @@
--- Proves the contract of `Window::give`: the parcel goes to the place after the last one, which is that of N.
+-- Proves the contract of `Window::give`: the parcel goes to the place after the last one, which is the place
+-- of N.
 use Rattle.std.proofs.Common.{◌<◌, ap, sym, subst, arith, length}
 use Rattle.wf_def_agreement.specs.Session.{with_number_given}
 use Rattle.wf_send_parts.specs.Ring.{RingValue}
@@ -12,7 +13,7 @@ pub returns-clause-given : goal.returns-clause-given
 returns-clause-given c s bodies stands same =
     let q = c.self.inside in
     let P : WindowValue → Type 0 = λ v. WindowStandsFor v s bodies in
-    let here : WindowStandsFor (shown q.size q.start q.due q.ring) s bodies =
+    let here : WindowStandsFor (shown q.size q.start q.passed q.ring) s bodies =
     subst P (sym c.self.view_is) stands in
     let room_is = room_of c.args.self.now (sym c.if-not-can_give.ensures.shown) in
     let room : length q.ring.items < q.size = omega (
@@ -21,7 +22,7 @@ returns-clause-given c s bodies stands same =
       ap (λ (w : WindowValue). length w.places) c.self.view_is,
       ap (λ (w : WindowValue). w.size) c.self.view_is,
     ) in
-    let Q : RingValue → Type 0 = λ r. WindowStandsFor (shown q.size q.start q.due r)
+    let Q : RingValue → Type 0 = λ r. WindowStandsFor (shown q.size q.start q.passed r)
     (with_number_given s c.args.parcel.id) bodies in (
       omega (
         arith,
@@ -30,6 +31,6 @@ returns-clause-given c s bodies stands same =
         here.start,
         places_length _ s bodies here,
       ),
-      subst Q (sym c.push_back.ensures) (give_law (shown q.size q.start q.due q.ring) s bodies here
+      subst Q (sym c.push_back.ensures) (give_law (shown q.size q.start q.passed q.ring) s bodies here
           c.args.parcel.id c.args.parcel same room),
     )

@@ -1,5 +1,5 @@
--- Proves the contract of `Window::next_waiting`: the loop stops at the first waiting place, which is that of
--- the first waiting number.
+-- Proves the contract of `Window::next_waiting`: the loop stops at the first waiting place, which is the
+-- place of the first waiting number.
 use Rattle.std.proofs.Common.{◌≡◌, ℕ, ◌<◌, ◌≤◌, Some, Option, List, length, ap, sym, ◌∙◌, subst, arith}
 use Rattle.wf_octets.specs.Distance.{distance}
 use Rattle.wf_def_agreement.specs.Session.{State}
@@ -16,7 +16,7 @@ small_ring order = omega (arith, order.bounded, order.within, order.small)
 pub returns-then-is_waiting-clause-waits : goal.returns-then-is_waiting-clause-waits
 returns-then-is_waiting-clause-waits c =
     let q = c.self.inside in
-    let W : WindowValue = shown q.size q.start q.due q.ring in
+    let W : WindowValue = shown q.size q.start q.passed q.ring in
     let P : WindowValue → Type 0 = λ v. state_at v c.plus.result ≡ State.Waiting in
     let first : c.from-i.result ≡ distance c.args.from q.start = c.from-i.ensures ∙ c.ahead.ensures.number in
     subst P c.self.view_is (waits_there W c.args.from c.plus.result c.loop-i.i c.plus.ensures.number
@@ -26,7 +26,7 @@ returns-then-is_waiting-clause-waits c =
 pub returns-then-is_waiting-clause-within : goal.returns-then-is_waiting-clause-within
 returns-then-is_waiting-clause-within c =
     let q = c.self.inside in
-    let W : WindowValue = shown q.size q.start q.due q.ring in
+    let W : WindowValue = shown q.size q.start q.passed q.ring in
     let P : WindowValue → Type 0 = λ v. (distance c.args.from v.start ≤ distance c.plus.result v.start) ×
     (distance c.plus.result v.start < length v.places) in
     let first : c.from-i.result ≡ distance c.args.from q.start = c.from-i.ensures ∙ c.ahead.ensures.number in
@@ -36,7 +36,7 @@ returns-then-is_waiting-clause-within c =
 pub returns-then-is_waiting-clause-number : goal.returns-then-is_waiting-clause-number
 returns-then-is_waiting-clause-number c s bodies n stands on_air_is low high =
     let q = c.self.inside in
-    let W : WindowValue = shown q.size q.start q.due q.ring in
+    let W : WindowValue = shown q.size q.start q.passed q.ring in
     let P : WindowValue → Type 0 = λ v. WindowStandsFor v s bodies in
     let w : WindowStandsFor W s bodies = subst P (sym c.self.view_is) stands in
     let first : c.from-i.result ≡ distance c.args.from q.start = c.from-i.ensures ∙ c.ahead.ensures.number in
@@ -49,7 +49,7 @@ returns-then-is_waiting-clause-number c s bodies n stands on_air_is low high =
 pub returns-clause-number : goal.returns-clause-number
 returns-clause-number c s bodies n stands on_air_is low high =
     let q = c.self.inside in
-    let W : WindowValue = shown q.size q.start q.due q.ring in
+    let W : WindowValue = shown q.size q.start q.passed q.ring in
     let P : WindowValue → Type 0 = λ v. WindowStandsFor v s bodies in
     let w : WindowStandsFor W s bodies = subst P (sym c.self.view_is) stands in
     sym (waiting_none W s bodies w n c.args.from on_air_is low high

@@ -18,26 +18,27 @@ pub invariant_of-self : goal.invariant_of-self
 invariant_of-self c =
     let q = c.self.inside in
     let w = c.take_flying-parcel in
-    order_moved q.size q.due _ q.ring c.replace.new.self _ c.from-i.result _
-    (replaced_twice q.ring w.new.ring c.replace.new.self c.from-i.result None _ w.ensures.changed
-    c.replace.ensures.changed) c.advance-moved.ensures.items c.advance-moved.ensures.due c.self.invariant
+    order_moved q.size q.passed _ q.ring c.put_back.new.ring _ c.from-i.result _
+    (replaced_twice q.ring w.new.ring c.put_back.new.ring c.from-i.result None _ w.ensures.changed
+    c.put_back.ensures.changed) c.advance-moved.ensures.items c.advance-moved.ensures.passed c.self.invariant
 
 pub returns-clause-stands : goal.returns-clause-stands
 returns-clause-stands c s bodies n stands number =
     let q = c.self.inside in
     let w = c.take_flying-parcel in
     let a = c.advance-moved in
-    ended_step q.size q.start q.due q.ring c.replace.new.self a.new.ring c.args.self.now c.self.view_is
+    ended_step q.size q.start q.passed q.ring c.put_back.new.ring a.new.ring c.args.self.now c.self.view_is
     c.from-i.result c.args.seq (c.from-i.ensures ∙ c.ahead.ensures.number) w.result.0 w.result.1 w.result.2
     c.args.limit w.ensures.found s bodies n stands number (as_end c.args.end) c.ended-place.result.0
     w.new.ring c.plus-self-inside.result a.result.0 a.result.1 c.ended-place.ensures.place w.ensures.changed
-    c.replace.ensures.changed a.ensures.items a.ensures.moved a.ensures.due c.plus-self-inside.ensures.number
+    c.put_back.ensures.changed a.ensures.items a.ensures.moved a.ensures.passed
+    c.plus-self-inside.ensures.number
 
 pub returns-clause-answer : goal.returns-clause-answer
 returns-clause-answer c s bodies n stands number =
     let q = c.self.inside in
     let w = c.take_flying-parcel in
-    ended_answer q.size q.start q.due q.ring c.replace.new.self c.advance-moved.new.ring c.args.self.now
+    ended_answer q.size q.start q.passed q.ring c.put_back.new.ring c.advance-moved.new.ring c.args.self.now
     c.self.view_is c.from-i.result c.args.seq (c.from-i.ensures ∙ c.ahead.ensures.number) w.result.0
     w.result.1 w.result.2 c.args.limit w.ensures.found s bodies n stands number (as_end c.args.end)
     c.ended-place.result.1 c.ended-place.ensures.answer

@@ -11,7 +11,7 @@ returns-clause-stands c s bodies n stands number own =
     let q = c.self.inside in
     let w = c.take_flying-parcel in
     let r : RingValue = w.new.ring in
-    unsend_step q.size q.start q.due q.ring r c.replace.new.self c.args.self.now
+    unsend_step q.size q.start q.passed q.ring r c.replace.new.self c.args.self.now
     c.self.view_is c.from-i.result c.args.seq
     (c.from-i.ensures ∙ c.ahead.ensures.number) w.result.2 w.result.1 w.result.0 w.ensures.found
     w.ensures.changed (c.replace.ensures.changed ∙ ap (λ (f : FrameValue). with_items r

@@ -1,0 +1,101 @@
+//! The modes of the TIDs of all stations.
+
+ghost use Rattle.std.specs.Prelude.{◌≡◌, ◌≢◌, ℕ, ◌*◌, ◌<◌, ◌≤◌, IfOk, length, replicate};
+ghost use Rattle.wf_frame.specs.Classes.{tid_number};
+ghost use Rattle.wf_def_world.specs.World.{has_agreement, holds_back};
+ghost use Rattle.wf_send_parts.specs.Modes.{as_mode, mode_of, with_mode_of};
+
+use std::alloc::{AllocError, Global};
+use std::marker::Model;
+use wf_frame::tid_number;
+
+/// The number of TIDs of a station.
+const TIDS: u8 = 8;
+
+/// Whether a TID has a block acknowledgement agreement (IEEE 802.11-2012, 10.5).
+#[derive(Clone, Copy, Debug, PartialEq, Eq)]
+pub enum Mode {
+    /// It has none. Its frames are sent one at a time, each answered by an Ack, unless the station's device
+    /// numbers and repeats them.
+    Plain,
+    /// It has none, and no frame gets a number, so that an agreement can begin.
+    OnHold,
+    /// It has one.
+    Agreed,
+}
+
+impl Mode {
+    /// Returns whether there is an agreement.
+    pub fn is_agreed(self) -> bool
+        ensures { result ≡ has_agreement (as_mode self) }
+    {
+        matches!(self, Mode::Agreed)
+    }
+
+    /// Returns whether no frame gets a number.
+    pub fn is_on_hold(self) -> bool
+        ensures { result ≡ holds_back (as_mode self) }
+    {
+        matches!(self, Mode::OnHold)
+    }
+}
+
+/// The modes of TIDs 0 to 7 of each station. Contracts see them as a list, by `tid_number`. Only `new`
+/// allocates.
+#[derive(Drop)]
+pub struct Modes {
+    modes: Vec<Mode>,
+}
+
+impl Model for Modes {
+    ghost use Rattle.std.specs.Prelude.{List};
+    ghost use Rattle.wf_send_parts.specs.declared.stations.modes.Mode.{Mode};
+
+    ghost Value = { List Mode };
+
+    ghost view = { λ m. m.modes.items };
+}
+
+impl Modes {
+    /// Creates the modes of `stations` stations, 1 to 256. All TIDs are plain. Fails only if memory runs out.
+    pub fn new(alloc: Global, stations: u32) -> Result<Modes, AllocError>
+        requires { (1 ≤ stations) × (stations ≤ 256) }
+        ensures { IfOk result (λ made. made ≡ replicate (8 * stations) Mode.Plain) }
+    {
+        let count = usize::from(TIDS) * stations as usize;
+        Ok(Modes {
+            modes: vec![in alloc; Mode::Plain; count]?,
+        })
+    }
+
+    /// Returns the mode of a TID.
+    pub fn at(&self, station: u16, tid: u8) -> Mode
+        requires tid { tid < 8 }
+        requires within { tid_number station tid < length self.now }
+        ensures { result ≡ mode_of self.now station tid }
+    {
+        self.modes[tid_number(station, tid) as usize]
+    }
+
+    /// Sets the mode of a TID.
+    pub fn set(&mut self, station: u16, tid: u8, mode: Mode)
+        requires tid { tid < 8 }
+        requires within { tid_number station tid < length self.old }
+        ensures set { self.new ≡ with_mode_of self.old station tid mode }
+        ensures count { length self.new ≡ length self.old }
+    {
+        self.modes[tid_number(station, tid) as usize] = mode;
+    }
+
+    /// Sets the modes of all eight TIDs of a station.
+    pub fn set_all(&mut self, station: u16, mode: Mode)
+        requires within { tid_number station 7 < length self.old }
+        ensures set { (t : ℕ) → t < 8 → mode_of self.new station t ≡ mode }
+        ensures others { (s t : ℕ) → s ≢ station → t < 8 → mode_of self.new s t ≡ mode_of self.old s t }
+        ensures count { length self.new ≡ length self.old }
+    {
+        for tid in 0..TIDS {
+            self.set(station, tid, mode);
+        }
+    }
+}
