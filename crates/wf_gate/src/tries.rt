@@ -1,5 +1,5 @@
 //! The call that never waits.
-ghost use Rattle.std.specs.Prelude.{◌≡◌, ◌+◌, ◌-◌, ◌<◌, ◌≤◌, ◌∷◌, [], ◌++◌, length, IfOk, IfErr, OnOk};
+ghost use Rattle.std.specs.Prelude.{◌≡◌, ◌+◌, ◌<◌, ◌≤◌, ◌∷◌, [], ◌++◌, length, IfOk, IfErr, OnOk};
 ghost use mathlib.Core.List.{IsPrefix};
 ghost use Rattle.wf_gate.specs.Seats.{IsOf, IsSameSeat, IsAtRest, EndsWith, last_place, AreOfSeats, IsRightAt};
 ghost use Rattle.wf_gate.specs.Faults.{IfSpent, IfBusy};

@@ -179,7 +179,7 @@ counted-after p now c items counted =
       | false ↦ λ off. rw (state-off p now c items off) (plain-counted p now c items off)
     ] refl
 
--- what is seen of the items that a dequeue takes
+-- the view of the items that a dequeue takes
 pub get-map : {X Y : Type 0} (f : X → Y) (xs : List X) (n : ℕ) →
     slice_get (map f xs) n ≡ option_map f (slice_get xs n)
 get-map f [] n = refl

@@ -64,7 +64,7 @@ module _ (v : FlowsValue) where
       (cond-true (flows_at_limit v) _ v full)
       ∙ ap (λ (n : ℕ). frames_at (after_head_drop v.backlog n) at) (sym longest)
 
-  -- the frames that are left in a queue, if it loses so many for the limit
+  -- the frames that are left in a queue, if it loses this many for the limit
   pub frames_left : {X : Type 0} (key : X → ℕ) (at lost : ℕ) (over : Option X) →
       at < length v.backlog.queues → IfNone over (flows_at_limit v ≡ false) →
       IfSome over (λ _. flows_at_limit v ≡ true) → IfSome over (λ x. key x ≡ longest_queue v.backlog) →

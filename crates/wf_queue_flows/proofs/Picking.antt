@@ -28,7 +28,7 @@ module _ (v : FlowsValue) (counts : List ℕ) (ok : AreFlowsKept v counts) (read
   abbrev chosen : Picked
   chosen = pick_of_tid v i
 
-  -- the flags are those of the queues with frames
+  -- the flags show the queues with frames
   picks : pick (need_at v.rotas) (is_ready ready) (lists_at v.rotas.lists i) ≡ chosen
   picks = ap (λ (f : ℕ → Bool). pick (need_at v.rotas) f (lists_at v.rotas.lists i))
       (ap is_ready ready_is ∙ flags_tell v.backlog)

@@ -145,7 +145,7 @@ is_listed_by_another v i q = list_any (λ j. not (j == i) && is_listed v j q) (u
 abbrev pub overflow_of_tid : FlowsValue → ℕ → ℕ
 overflow_of_tid v i = v.flows + i
 
--- a frame of flow queue q, if there are so many flow queues
+-- a frame of flow queue q, if there are that many flow queues
 abbrev pub is_of_queue : ℕ → ℕ → FrameValue → Bool
 is_of_queue flows q f = (f.flow % flows) == q
 

@@ -16,7 +16,7 @@ abbrev pub depth : List (List FrameValue) → ℕ → ℕ
 depth all q = length (slice_index_or all q [])
 
 -- A queue with frames is listed, no queue is listed twice, the overflow queue of TID i is listed by i alone,
--- and the counts of the TIDs are those of their queues' frames.
+-- and the counts of the TIDs equal the counts of their queues' frames.
 pub record AreListed (flows keys : ℕ) (lists : List Rotation) (all : List (List FrameValue))
     (counts : List ℕ) : Type 0 where
   pub apart : AreDisjoint (record { lists = lists; keys = keys })

@@ -280,7 +280,7 @@ impl Flows {
         self.waiting.reap()
     }
 
-    // Returns the longest queue if the queues hold `limit` frames or more; its head is to be dropped.
+    // Returns the longest queue if the queues hold `limit` frames or more; its head has to be dropped.
     fn over_limit(&self) -> Option<Listed>
         ensures roomy { IfNone result (flows_at_limit self.now ≡ false) }
         ensures full { IfSome result (λ _. flows_at_limit self.now ≡ true) }

@@ -10,12 +10,12 @@ use Rattle.wf_def_codel.specs.Codel.{Params}
 use Rattle.wf_def_rotation.specs.Rotation.{Rotation}
 use Rattle.wf_def_agreement.specs.Session.{Session, after_flush}
 use Rattle.wf_def_agreement.specs.Receiver.{Receiver}
-use Rattle.wf_def_world.specs.World.{World, Station, Tid, Queue, no_station, no_tid, is_live, codel_params, with_station, on_station, on_tid, with_queues, on_queue, on_session, with_fate, with_frame_finished, with_frames_finished}
+use Rattle.wf_def_world.specs.World.{World, Mode, Station, Tid, Queue, no_station, no_tid, is_live, codel_params, with_station, on_station, on_tid, with_queues, on_queue, on_session, with_fate, with_frame_finished, with_frames_finished}
 use Rattle.wf_def_world.specs.FlowQueues.{after_limit, taken_for_tid}
 use Rattle.wf_def_world.specs.Step.{with_frame, enqueue_outcome, reap_outcome, after_tid_left}
 use Rattle.wf_law_runs.proofs.Deficits.Books.{upd_idle, put_upd}
 use Rattle.wf_queue_flows_refines.specs.Standing.{tid_emptied}
-use Rattle.wf_queue_flows_refines.specs.Rest.{Rest, rest_of_world, bare, session_in, receiver_in}
+use Rattle.wf_queue_flows_refines.specs.Rest.{Rest, rest_of_world, bare, session_in, receiver_in, mode_in}
 use Rattle.wf_queue_flows_refines.proofs.Through.{stays_finish_all, stays_limit, stays_put_in, stays_take, stays_left, stays_flushed}
 
 -- ---- the parts
@@ -32,9 +32,10 @@ rest_finish w fate id = refl
 rest_with_station : (w : World) (s : ℕ) (o : Option Station) →
     option_map bare o ≡ option_map bare (at None w.stations s) →
     session_in o ≡ session_in (at None w.stations s) → receiver_in o ≡ receiver_in (at None w.stations s) →
+    mode_in o ≡ mode_in (at None w.stations s) →
     rest_of_world (with_station w s o) ≡ rest_of_world w
 unfolding with_station
-rest_with_station w s o same sessions receivers =
+rest_with_station w s o same sessions receivers modes =
     ap (λ (f : ℕ → Option Station). record (rest_of_world (with_station w s o)) { stations = f })
     (put_upd (option_map bare) None w.stations s o
     ∙ upd_idle (rest_of_world w).stations s (option_map bare o) same)
@@ -45,9 +46,15 @@ rest_with_station w s o same sessions receivers =
     })
     (put_upd {Y = ℕ → Session} session_in None w.stations s o
     ∙ upd_idle (rest_of_world w).sessions s (session_in o) sessions)
-    ∙ ap (λ (f : ℕ → ℕ → Receiver). record (rest_of_world w) { receivers = f })
+    ∙ ap (λ (f : ℕ → ℕ → Receiver). record (rest_of_world w) {
+      receivers = f;
+      modes = (rest_of_world (with_station w s o)).modes;
+    })
     (put_upd {Y = ℕ → Receiver} receiver_in None w.stations s o
     ∙ upd_idle (rest_of_world w).receivers s (receiver_in o) receivers)
+    ∙ ap (λ (f : ℕ → ℕ → Mode). record (rest_of_world w) { modes = f })
+    (put_upd {Y = ℕ → Mode} mode_in None w.stations s o
+    ∙ upd_idle (rest_of_world w).modes s (mode_in o) modes)
 
 -- a station with another rotation for one TID
 abbrev with_listed : ℕ → Rotation → Station → Station
@@ -57,7 +64,7 @@ pub rest_with_queues : (w : World) (s t : ℕ) (r : Rotation) →
     rest_of_world (with_queues w s t r) ≡ rest_of_world w
 unfolding with_queues on_tid on_station
 rest_with_queues w s t r = rest_with_station w s _ (same (at None w.stations s))
-    (sessions (at None w.stations s)) (receivers (at None w.stations s))
+    (sessions (at None w.stations s)) (receivers (at None w.stations s)) (modes (at None w.stations s))
   where
     same : (o : Option Station) → option_map bare (option_map (with_listed t r) o) ≡ option_map bare o
     same None = refl
@@ -72,6 +79,10 @@ rest_with_queues w s t r = rest_with_station w s _ (same (at None w.stations s))
     receivers None = refl
     receivers (Some x) = put_upd (λ (z : Tid). z.receiver) no_tid x.tids t _
         ∙ upd_idle (receiver_in (Some x)) t _ refl
+
+    modes : (o : Option Station) → mode_in (option_map (with_listed t r) o) ≡ mode_in o
+    modes None = refl
+    modes (Some x) = put_upd (λ (z : Tid). z.mode) no_tid x.tids t _ ∙ upd_idle (mode_in (Some x)) t _ refl
 
 pub rest_finish_all : (ids : List ℕ) (w : World) (fate : Fate) →
     rest_of_world (with_frames_finished w fate ids) ≡ rest_of_world w

@@ -135,7 +135,7 @@ module _ (v : FlowsValue) (p : Part) (st : Stands v p) (id : ℕ) where
       (λ e. cond_both (z.codel_reset == 1) (with_calmed z.backlog q) z.backlog
       (λ (b : BacklogValue). times_held b id ≡ times_held z.backlog id) (λ e. refl) (λ e. refl))
 
-  -- the frame is there once more
+  -- the frame is there again
   pub times_put : (s t : ℕ) (f : FrameValue) → s < v.stations → t < 8 →
       times_held (after_put v (tid_number s t) f).backlog id ≡ times_held v.backlog id + on (f.id ∷ []) id
   unfolding after_put

@@ -1,7 +1,7 @@
 -- Proves that changes of other parts of the world do not affect the flow queues.
 use Rattle.std.proofs.Common.{◌≡◌, refl, ap, sym, ◌∙◌, subst, ℕ, zero, suc, ◌<◌, Bool, true, false, List, [], ◌∷◌, Option, Some, None, is_some, inl, inr, if◌then◌else◌}
 use Rattle.std.proofs.Math.Path.{fun_ext}
-use Rattle.std.proofs.lemmas.Bool.{cases_eq}
+use Rattle.std.proofs.lemmas.Bool.{cases_eq, cond_both}
 use Rattle.wf_frame.specs.Classes.{all_classes, tid_number}
 use Rattle.wf_frame.specs.declared.classes.Class.{Class}
 use Rattle.wf_def_lists.specs.Bounds.{greatest_window}
@@ -9,10 +9,10 @@ use Rattle.wf_def_lists.specs.Table.{at}
 use Rattle.wf_def_rotation.specs.Rotation.{Rotation, no_keys}
 use Rattle.wf_def_agreement.specs.Session.{Session}
 use Rattle.wf_def_agreement.specs.Receiver.{Receiver}
-use Rattle.wf_def_world.specs.World.{World, Bounds, Station, Share, Tid, Exchange, no_tid, new_tid, is_live, with_station, on_station, on_session, on_receiver, on_share, with_rotation, with_exchange, without_exchange, with_bounds}
+use Rattle.wf_def_world.specs.World.{World, Bounds, Mode, Agreed, Station, Share, Tid, Exchange, no_tid, new_tid, is_live, is_agreed, with_station, on_station, on_session, on_receiver, with_mode, on_share, with_rotation, with_exchange, without_exchange, with_bounds}
 use Rattle.wf_def_world.specs.CanSend.{with_listing_in, with_listings_in, with_listings_of}
-use Rattle.wf_def_world.specs.Exchanges.{with_station_paid, with_stations_paid, after_pick, after_tid_turn}
-use Rattle.wf_def_world.specs.Step.{join_outcome, offload_outcome, without_listings}
+use Rattle.wf_def_world.specs.Exchanges.{with_station_paid, with_stations_paid, after_pick, after_tid_turn, caught_up, caught_up_if_plain}
+use Rattle.wf_def_world.specs.Step.{plain_window, join_outcome, offload_outcome, plain_outcome, with_window, without_listings}
 use Rattle.wf_queue_flows.specs.Flows.{FlowsValue, tid_rotation}
 use Rattle.wf_law_runs.proofs.Deficits.Books.{upd, upd_same, upd_other}
 use Rattle.wf_queue_flows_refines.specs.Standing.{Part, flows_part, Stands, FlowsStandFor}
@@ -37,6 +37,25 @@ pub receiver_alone : (w : World) (s t : ℕ) (f : Receiver → Receiver) →
     flows_part (on_receiver w s t f) ≡ flows_part w
 unfolding on_receiver
 receiver_alone w s t f = part_on_tid w s t _ (λ y. refl)
+
+pub mode_alone : (w : World) (s t : ℕ) (mode : Mode) → flows_part (with_mode w s t mode) ≡ flows_part w
+unfolding with_mode
+mode_alone w s t mode = part_on_tid w s t _ (λ y. refl)
+
+-- the window of both sides gets a size
+pub window_alone : (w : World) (s t size : ℕ) → flows_part (with_window w s t size) ≡ flows_part w
+unfolding with_window
+window_alone w s t size = receiver_alone _ s t _ ∙ session_alone w s t _
+
+-- a TID without an agreement catches up
+pub caught_alone : (w : World) (s t : ℕ) → flows_part (caught_up w s t) ≡ flows_part w
+unfolding caught_up
+caught_alone w s t = receiver_alone _ s t _ ∙ session_alone w s t _
+
+pub caught_if_alone : (w : World) (s t : ℕ) → flows_part (caught_up_if_plain w s t) ≡ flows_part w
+unfolding caught_up_if_plain
+caught_if_alone w s t = cond_both (is_agreed w s t) w (caught_up w s t)
+    (λ (u : World). flows_part u ≡ flows_part w) (λ e. refl) (λ e. caught_alone w s t)
 
 pub share_alone : (w : World) (s : ℕ) (c : Class) (f : Share → Share) →
     flows_part (on_share w s c f) ≡ flows_part w
@@ -79,10 +98,10 @@ one_more x ts e h = record { each = λ t. go t }
     go zero = e
     go (suc t) = h.each t
 
-eight_new : (first size : ℕ) → let x : Tid = new_tid first size in
+eight_new : (mode : Mode) (first size : ℕ) → let x : Tid = new_tid mode first size in
     ListNothing (x ∷ x ∷ x ∷ x ∷ x ∷ x ∷ x ∷ x ∷ [])
-eight_new first size =
-    let more = λ (ts : List Tid) (h : ListNothing ts). one_more (new_tid first size) ts refl h in
+eight_new mode first size =
+    let more = λ (ts : List Tid) (h : ListNothing ts). one_more (new_tid mode first size) ts refl h in
     more _ (more _ (more _ (more _ (more _ (more _ (more _ (more [] (record { each = λ t. refl }))))))))
 
 -- a station that was not live joins: its TIDs list no queue
@@ -90,7 +109,7 @@ pub join_alone : (w : World) (s window start exponent weight : ℕ) → is_live 
     flows_part (join_outcome w s window start exponent weight).world ≡ flows_part w
 unfolding join_outcome
 join_alone w s window start exponent weight off =
-    part_same_lists w s _ (fun_ext (λ t. (eight_new start window).each t
+    part_same_lists w s _ (fun_ext (λ t. (eight_new Agreed start window).each t
     ∙ sym (no_lists (at None w.stations s) t off)))
 
 pub stands_joined : (v : FlowsValue) (w : World) (s window start exponent weight : ℕ) → is_live w s ≡ false →
@@ -102,13 +121,25 @@ pub offload_alone : (w : World) (s exponent weight : ℕ) → is_live w s ≡ fa
     flows_part (offload_outcome w s exponent weight).world ≡ flows_part w
 unfolding offload_outcome
 offload_alone w s exponent weight off =
-    part_same_lists w s _ (fun_ext (λ t. (eight_new 0 greatest_window).each t
+    part_same_lists w s _ (fun_ext (λ t. (eight_new Mode.Plain 0 greatest_window).each t
     ∙ sym (no_lists (at None w.stations s) t off)))
 
 pub stands_offloaded : (v : FlowsValue) (w : World) (s exponent weight : ℕ) → is_live w s ≡ false →
     FlowsStandFor v w → FlowsStandFor v (offload_outcome w s exponent weight).world
 stands_offloaded v w s exponent weight off st =
     subst (Stands v) (sym (offload_alone w s exponent weight off)) st
+
+pub plain_alone : (w : World) (s start exponent weight : ℕ) → is_live w s ≡ false →
+    flows_part (plain_outcome w s start exponent weight).world ≡ flows_part w
+unfolding plain_outcome
+plain_alone w s start exponent weight off =
+    part_same_lists w s _ (fun_ext (λ t. (eight_new Mode.Plain start plain_window).each t
+    ∙ sym (no_lists (at None w.stations s) t off)))
+
+pub stands_plain : (v : FlowsValue) (w : World) (s start exponent weight : ℕ) → is_live w s ≡ false →
+    FlowsStandFor v w → FlowsStandFor v (plain_outcome w s start exponent weight).world
+stands_plain v w s start exponent weight off st =
+    subst (Stands v) (sym (plain_alone w s start exponent weight off)) st
 
 pub off_lists_alone : (cs : List Class) (w : World) (s : ℕ) →
     flows_part (without_listings w s cs) ≡ flows_part w

@@ -7,8 +7,9 @@
 -- TID are dropped because its station leaves. Leaves: changes that do not affect the flow queues.
 -- Flushes: the frames of a TID are flushed. Holdings: which frames are queued or
 -- finished. Through and Elsewhere: the parts of a world that the calls do not change. Each, Bodies and
--- Notes: the frames are the accepted ones. Heads: which frames are dropped, and how many. Held, Fates
--- and Lefts: queued frames are held, and the frames are counted by their fates.
+-- Notes: the frames are the accepted ones. Modes: agreements begin and end. Heads: which frames are
+-- dropped, and how many. Held, Fates and Lefts: queued frames are held, and the frames are counted by
+-- their fates.
 pub mod Parts
 pub mod Ends
 mod Changes
@@ -29,6 +30,7 @@ pub mod Elsewhere
 pub mod Each
 pub mod Bodies
 pub mod Notes
+mod Modes
 pub mod Heads
 pub mod Held
 mod Fates

@@ -44,7 +44,7 @@ notes_take = stays_take notes notes_queue notes_lists notes_finish
 pub notes_left : (w : World) (s t : ℕ) → notes (after_tid_left w s t) ≡ notes w
 notes_left = stays_left notes notes_queue notes_lists notes_finish
 
-notes_session : (w : World) (s t : ℕ) (f : Session → Session) → notes (on_session w s t f) ≡ notes w
+pub notes_session : (w : World) (s t : ℕ) (f : Session → Session) → notes (on_session w s t f) ≡ notes w
 unfolding on_session on_tid on_station with_station
 notes_session w s t f = refl
 

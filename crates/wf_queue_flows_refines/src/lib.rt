@@ -23,12 +23,12 @@ ghost use Rattle.wf_def_codel.specs.Codel.{Params};
 ghost use Rattle.wf_def_rotation.specs.Rotation.{Rotation, no_keys, in_order};
 ghost use Rattle.wf_def_agreement.specs.Session.{Session, after_flush as session_flushed};
 ghost use Rattle.wf_def_agreement.specs.Receiver.{Receiver};
-ghost use Rattle.wf_def_world.specs.World.{World, Bounds, Station, Share, Exchange, opening, is_live, session, tid_of, frame, accepted_count, codel_params as codel_params, with_station, on_station, on_session, on_receiver, on_share, with_queues, with_rotation, with_exchange, without_exchange, with_bounds, with_frame_finished, with_frames_finished};
+ghost use Rattle.wf_def_world.specs.World.{World, Bounds, Mode, Station, Share, Exchange, opening, is_live, session, tid_of, frame, accepted_count, codel_params as codel_params, with_station, on_station, on_session, on_receiver, with_mode, on_share, with_queues, with_rotation, with_exchange, without_exchange, with_bounds, with_frame_finished, with_frames_finished};
 ghost use Rattle.wf_def_world.specs.FlowQueues.{total_queued, after_queues_left, after_queues_flushed};
 ghost use Rattle.wf_def_world.specs.FlowQueues.{frames_queued as world_queued, longest_queue as world_longest, dropped_for_limit as world_dropped, is_listed_elsewhere as world_listed_elsewhere, queue_for as world_queue_for, after_limit as world_after_limit, taken_for_tid as world_take};
 ghost use Rattle.wf_def_world.specs.CanSend.{with_listings_of};
-ghost use Rattle.wf_def_world.specs.Exchanges.{after_pick, after_tid_turn};
-ghost use Rattle.wf_def_world.specs.Step.{waiting_ids, in_rising_order, join_outcome, offload_outcome, after_tid_left, without_listings, enqueue_outcome, reap_outcome};
+ghost use Rattle.wf_def_world.specs.Exchanges.{after_pick, after_tid_turn, caught_up, caught_up_if_plain};
+ghost use Rattle.wf_def_world.specs.Step.{waiting_ids, in_rising_order, join_outcome, offload_outcome, plain_outcome, with_window, hold_outcome, begin_outcome, free_outcome, after_numbers_ended, cease_outcome, after_tid_left, without_listings, enqueue_outcome, reap_outcome};
 ghost use Rattle.wf_def_world.specs.Text.{tally};
 ghost use Rattle.wf_def_lists.specs.Lists.{on};
 ghost use Rattle.wf_law_runs.specs.Places.{KeepsPlaces};
@@ -131,7 +131,7 @@ pub fn a_tid_is_purged()
 
 /// Both sides still agree after the queued frames of a TID are flushed, in the order of the queue numbers.
 /// If the waiting numbers of its session failed and their frames were finished before, the result is the
-/// machine's world after the flush, before the device of an offloaded station catches up. The TIDs still list
+/// machine's world after the flush, before a TID without an agreement catches up. The TIDs still list
 /// their queues.
 pub fn a_tid_is_flushed()
     ensures stands { (v : FlowsValue) (w : World) (s t : ℕ) → FlowsStandFor v w → s < w.config.stations →
@@ -191,22 +191,41 @@ pub fn accepted_frames_stay()
         accepted_count (tid_emptied w s t) ≡ accepted_count (waiting_flushed w s t) }
 {}
 
-/// Both sides still agree after a station that was not live joins, offloaded or not, and after a station leaves
-/// whose TIDs list no queue.
+/// Both sides still agree after a station that was not live joins, with agreements or without, or offloaded,
+/// and after a station leaves whose TIDs list no queue.
 pub fn stations_come_and_go()
     ensures joins { (v : FlowsValue) (w : World) (s window start exponent weight : ℕ) → is_live w s ≡ false →
         FlowsStandFor v w →
         FlowsStandFor v (join_outcome w s window start exponent weight).world }
     ensures offloads { (v : FlowsValue) (w : World) (s exponent weight : ℕ) → is_live w s ≡ false →
         FlowsStandFor v w → FlowsStandFor v (offload_outcome w s exponent weight).world }
+    ensures joins_plain { (v : FlowsValue) (w : World) (s start exponent weight : ℕ) →
+        is_live w s ≡ false → FlowsStandFor v w →
+        FlowsStandFor v (plain_outcome w s start exponent weight).world }
     ensures goes { (v : FlowsValue) (w : World) (s : ℕ) → FlowsStandFor v w →
         ((t : ℕ) → t < 8 → tid_rotation v (tid_number s t) ≡ no_keys) →
         FlowsStandFor v (with_station (without_listings w s all_classes) s None) }
 {}
 
+/// Both sides still agree after a TID is held back, gets an agreement, or sends its frames one at a time. At
+/// the end of an agreement, they agree if they did after the waiting numbers of its session failed and their
+/// frames were finished.
+pub fn agreements_begin_and_end()
+    ensures held { (v : FlowsValue) (w : World) (s t : ℕ) → FlowsStandFor v w →
+        FlowsStandFor v (hold_outcome w s t).world }
+    ensures begun { (v : FlowsValue) (w : World) (s t window : ℕ) → FlowsStandFor v w →
+        FlowsStandFor v (begin_outcome w s t window).world }
+    ensures freed { (v : FlowsValue) (w : World) (s t : ℕ) → FlowsStandFor v w →
+        FlowsStandFor v (free_outcome w s t).world }
+    ensures ceased { (v : FlowsValue) (w : World) (s t : ℕ) →
+        FlowsStandFor v (after_numbers_ended w s t) → FlowsStandFor v (cease_outcome w s t).world }
+    ensures accepted { (w : World) (s t : ℕ) →
+        accepted_count (cease_outcome w s t).world ≡ accepted_count (after_numbers_ended w s t) }
+{}
+
 /// The flow queues depend on one part of the world only (`flows_part`), so they agree with every world
 /// that has the same part. That part does not depend on the clock, on a station's rate, its stated length
-/// of aggregates, stop, sleep, credit or shares, on sessions, receivers, the stations' rotations, the
+/// of aggregates, stop, sleep, credit or shares, on modes, sessions, receivers, the stations' rotations, the
 /// bounds of a pull or the open exchanges.
 pub fn the_rest_does_not_matter()
     ensures same { (v : FlowsValue) (w x : World) → flows_part x ≡ flows_part w → FlowsStandFor v w →
@@ -220,6 +239,11 @@ pub fn the_rest_does_not_matter()
         flows_part (on_session w s t f) ≡ flows_part w }
     ensures receiver { (w : World) (s t : ℕ) (f : Receiver → Receiver) →
         flows_part (on_receiver w s t f) ≡ flows_part w }
+    ensures mode { (w : World) (s t : ℕ) (mode : Mode) → flows_part (with_mode w s t mode) ≡ flows_part w }
+    ensures window { (w : World) (s t size : ℕ) → flows_part (with_window w s t size) ≡ flows_part w }
+    ensures caught_up { (w : World) (s t : ℕ) → flows_part (caught_up w s t) ≡ flows_part w }
+    ensures caught_up_if_plain { (w : World) (s t : ℕ) →
+        flows_part (caught_up_if_plain w s t) ≡ flows_part w }
     ensures rotation { (w : World) (c : Class) (r : Rotation) →
         flows_part (with_rotation w c r) ≡ flows_part w }
     ensures exchange { (w : World) (x : Exchange) → flows_part (with_exchange w x) ≡ flows_part w }
@@ -234,8 +258,8 @@ pub fn the_rest_does_not_matter()
 {}
 
 /// A call of the flow queues changes no other part of the world: not the clock, the stations, their
-/// sessions, receivers and rotations, the bounds of the latest pull, nor the open exchanges. So the same
-/// stations are live, with the same CoDel parameters.
+/// modes, sessions, receivers and rotations, the bounds of the latest pull, nor the open exchanges. So the
+/// same stations are live, with the same CoDel parameters.
 pub fn nothing_else_changes()
     ensures put { (w : World) (s t flow len : ℕ) →
         rest_of_world (enqueue_outcome w s t flow len).world ≡ rest_of_world w }
@@ -247,6 +271,8 @@ pub fn nothing_else_changes()
     ensures reap { (w : World) → rest_of_world (reap_outcome w w.finished).world ≡ rest_of_world w }
     ensures left { (w : World) (s t : ℕ) → rest_of_world (after_tid_left w s t) ≡ rest_of_world w }
     ensures flushed { (w : World) (s t : ℕ) → rest_of_world (tid_emptied w s t)
+        ≡ rest_of_world (on_session w s t (session_flushed w.config.attempts)) }
+    ensures ended { (w : World) (s t : ℕ) → rest_of_world (after_numbers_ended w s t)
         ≡ rest_of_world (on_session w s t (session_flushed w.config.attempts)) }
     ensures live { (w x : World) (s : ℕ) → rest_of_world x ≡ rest_of_world w → is_live x s ≡ is_live w s }
     ensures params { (w x : World) (s : ℕ) → rest_of_world x ≡ rest_of_world w →
@@ -327,6 +353,7 @@ pub fn the_accepted_frames_are_kept()
         notes (with_frames_finished w fate ids) ≡ notes w }
     ensures left { (w : World) (s t : ℕ) → notes (after_tid_left w s t) ≡ notes w }
     ensures flushed { (w : World) (s t : ℕ) → notes (tid_emptied w s t) ≡ notes w }
+    ensures ended { (w : World) (s t : ℕ) → notes (after_numbers_ended w s t) ≡ notes w }
     ensures reap { (w : World) → notes (reap_outcome w w.finished).world ≡ notes w }
 {}
 

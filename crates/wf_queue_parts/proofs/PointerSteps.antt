@@ -1,4 +1,4 @@
--- Steps that the proofs by hand share: runs and owned nodes are taken apart and made.
+-- Steps that the proofs by hand share: runs and owned nodes are split and made.
 use Rattle.std.proofs.Common.{◌≡◌, ◌∙◌, List, [], ◌∷◌, ◌++◌, refl, ap}
 use seplogic.Ra.Ura.{Ura}
 use base.Fraction.{full_share}

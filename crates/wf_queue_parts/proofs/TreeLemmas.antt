@@ -251,7 +251,7 @@ root_best nodes count h some =
           rw (value_at nodes count other, value) (strictly _ _ _ _ most (λ e. rw (own) at (tie e)) less);
     }
 
--- a leaf is set: its parent is to be played again
+-- a leaf is set: its parent has to be played again
 pub leaf_set : (nodes : List Candidate) (count leaf value : ℕ) → IsPlayedBut nodes count 0 → leaf < count →
     IsPlayedBut (set nodes (count + leaf) (record { value = value; leaf = leaf })) count ((count + leaf) / 2)
 leaf_set nodes count leaf value h within = record {

@@ -31,6 +31,10 @@ new_peer own base start size = record {
       replicate 8 (new_agreement start size);
 }
 
+-- the half in which a TID has this agreement, and the others are unchanged
+abbrev pub with_agreement : ℕ → AgreementValue → PeerValue → PeerValue
+with_agreement tid a p = record p { agreements = slice_set p.agreements tid a }
+
 -- the agreement of a TID
 abbrev pub agreement : PeerValue → ℕ → AgreementValue
 agreement p tid = slice_index_or p.agreements tid (new_agreement 0 256)

@@ -17,7 +17,7 @@ pub enum PeerFault {
     /// The frame is neither QoS Data nor a BlockAckReq. Contains its first octet.
     #[error("a frame that is neither data nor a request, {0:#04x}")]
     Kind(u8),
-    /// The first octet is that of a BlockAckReq, but the frame is none.
+    /// The first octet belongs to a BlockAckReq, but the frame is none.
     #[error(transparent)]
     Block(BlockFault),
     /// Address 1 is not the station's, or Address 2 is not the access point's.

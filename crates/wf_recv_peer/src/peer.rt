@@ -7,7 +7,7 @@ ghost use Rattle.wf_recv_peer.specs.declared.reading.Reading.TheVariants.{Data, 
 ghost use Rattle.wf_recv_peer.specs.Frames.{IsDataFor, IsRequestFor};
 ghost use Rattle.std.specs.Result.{result_err};
 ghost use Rattle.wf_recv_peer.specs.Receiving.{reading_of, first_peer_fault};
-ghost use Rattle.wf_recv_peer.specs.Agreements.{new_agreement, new_peer, agreement, after_frame, outcome_of_frame, IsEachOnce, buffer_of_tid};
+ghost use Rattle.wf_recv_peer.specs.Agreements.{new_agreement, new_peer, with_agreement, agreement, after_frame, outcome_of_frame, IsEachOnce, buffer_of_tid};
 ghost use Rattle.wf_recv_peer.specs.Answering.{answer_size, IsAnswer};
 
 use crate::PeerFault;
@@ -85,6 +85,17 @@ impl Peer {
         ensures { self.new ≡ new_peer self.old.own self.old.base start size }
     {
         reset_all(&mut self.agreements, start, size);
+    }
+
+    /// Begins a new agreement for one TID, 0 to 7, with first number `start` and a window of `size`, 1 to
+    /// 256. Its stored items are dropped; to have them passed up, call `move_to` before.
+    pub fn reset_tid(&mut self, tid: u8, start: Seq12, size: u16)
+        requires tid { tid < 8 }
+        requires size { (1 ≤ size) × (size ≤ 256) }
+        ensures after { self.new ≡ with_agreement tid (new_agreement start size) self.old }
+        ensures eight { length self.new.agreements ≡ 8 }
+    {
+        self.agreements[usize::from(tid)].reset(start, size);
     }
 
     /// Handles octets that reached the station: a data frame, whose item has this id, or a BlockAckReq. The

@@ -3,9 +3,9 @@
 --
 -- For a receiver r, `release_start r` is the least number that has not arrived and is at or past every start
 -- that did, and `score_start r` is the start of its scoreboard.
-use Rattle.std.specs.Prelude.{◌≡◌, ℕ, ◌+◌, ◌%◌, ◌<◌, ◌≤◌, List, map, Option, Some, None, if◌then◌else◌}
+use Rattle.std.specs.Prelude.{◌≡◌, true, ℕ, ◌+◌, ◌%◌, ◌<◌, ◌≤◌, List, map, Option, Some, None, if◌then◌else◌}
 use Rattle.wf_def_lists.specs.Table.{has, count_from}
-use Rattle.wf_def_agreement.specs.Receiver.{Receiver, release_start, score_start, score}
+use Rattle.wf_def_agreement.specs.Receiver.{Receiver, with_start, release_start, score_start, score}
 use Rattle.wf_octets.specs.Offsets.{RisesBetween}
 use Rattle.wf_octets.specs.Distance.{distance}
 use Rattle.wf_recv_peer.specs.Board.{Board}
@@ -46,6 +46,16 @@ pub record ReceiveHalfStandsFor (ids : ℕ → ℕ) (r : Receiver) (board : Boar
   pub scoreboard : board ≡ board_of r
   pub reordering : buffer ≡ buffer_of buffer.capacity ids r
 
+-- the receiver after an agreement begins or ends: it got this start, and its window has this size
+abbrev pub resized : ℕ → ℕ → Receiver → Receiver
+resized f size r = record (with_start f r) { size = size }
+
+-- Nothing is left to arrive below f: it is at or past the next number to be passed up, and past each number
+-- that arrived. Both hold for the start of a session whose numbers are all settled.
+pub record IsPastAll (r : Receiver) (f : ℕ) : Type 0 where
+  pub release : release_start r ≤ f
+  pub arrived : (n : ℕ) → has r.arrived n ≡ true → n < f
+
 -- A number that may arrive in a frame: it is at or past the scoreboard's start, and less than a window past
 -- the next number to be passed up. The window law says both for each number in flight.
 pub record IsInReach (r : Receiver) (n : ℕ) : Type 0 where
@@ -64,7 +74,7 @@ pub record ComparesRight (n b : ℕ) : Type 0 where
   pub near : b ≤ n → distance (n % 4096) (b % 4096) ≤ 2047
   pub behind : n < b → 2047 < distance (n % 4096) (b % 4096)
 
--- all comparisons that the half makes, of a number or of a start, are those of the unbounded numbers
+-- all comparisons that the half makes, of a number or of a start, agree with the unbounded numbers
 pub record ComparesBoth (r : Receiver) (n : ℕ) : Type 0 where
   pub score : ComparesRight n (score_start r)
   pub release : ComparesRight n (release_start r)

@@ -7,13 +7,13 @@
 //! is a function without a body; its contract states it.
 #![tactic(auto)]
 
-ghost use Rattle.std.specs.Prelude.{◌≡◌, ℕ, ◌+◌, ◌%◌, ◌≤◌, true, map, Some, None, if◌then◌else◌};
+ghost use Rattle.std.specs.Prelude.{◌≡◌, ℕ, ◌+◌, ◌%◌, ◌≤◌, true, [], map, Some, None, if◌then◌else◌};
 ghost use Rattle.wf_def_lists.specs.Table.{has, bits_word};
-ghost use Rattle.wf_def_agreement.specs.Receiver.{Receiver, new_receiver, with_arrived, with_start, score_start, released_between, score, bitmap_word};
+ghost use Rattle.wf_def_agreement.specs.Receiver.{Receiver, new_receiver, with_arrived, with_start, release_start, score_start, released_between, score, bitmap_word};
 ghost use Rattle.wf_octets.specs.Distance.{distance};
 ghost use Rattle.wf_recv_peer.specs.Board.{Board, empty_board, after_number as board_arrived, after_start as board_requested};
 ghost use Rattle.wf_recv_peer.specs.Buffer.{Buffer, empty_buffer, number_outcome as buffer_arrived, request_outcome as buffer_requested};
-ghost use Rattle.wf_recv_peer_refines.specs.Half.{ReceiveHalfStandsFor, IsInReach, IsRequestInReach, ComparesRight, ComparesBoth};
+ghost use Rattle.wf_recv_peer_refines.specs.Half.{ReceiveHalfStandsFor, resized, IsPastAll, IsInReach, IsRequestInReach, ComparesRight, ComparesBoth};
 
 /// Two numbers that are at most 2047 apart compare by their 12 bits as they do themselves (8.2.4.4.2). So if
 /// the half compares a number within reach with either of its starts, it gets the same result as for the
@@ -66,6 +66,19 @@ pub fn a_request_arrives()
     ensures back { (ids : ℕ → ℕ) (r : Receiver) (board : Board) (buffer : Buffer) (f : ℕ) →
         ReceiveHalfStandsFor ids r board buffer → IsRequestInReach r f →
         (buffer_requested (f % 4096) buffer).back ≡ None }
+{}
+
+/// An agreement begins or ends when all numbers are settled. The receiver gets the start of the session,
+/// and its window gets another size. Then an empty scoreboard and an empty buffer from that start on
+/// represent it. If that start was the next number to be passed up, nothing is passed up.
+pub fn an_agreement_is_resized()
+    ensures stands { (ids : ℕ → ℕ) (r : Receiver) (board : Board) (buffer : Buffer) (capacity f size : ℕ) →
+        ReceiveHalfStandsFor ids r board buffer → IsPastAll r f → 1 ≤ size → size ≤ 256 →
+        ReceiveHalfStandsFor ids (resized f size r) (empty_board (f % 4096) size)
+        (empty_buffer capacity (f % 4096) size) }
+    ensures nothing { (ids : ℕ → ℕ) (r : Receiver) (board : Board) (buffer : Buffer) (f : ℕ) →
+        ReceiveHalfStandsFor ids r board buffer → IsPastAll r f → release_start r ≡ f →
+        released_between r (with_start f r) ≡ [] }
 {}
 
 /// The content of a BlockAck (9.21.7.5): its start is the score's modulo 4096, and its offsets and their

@@ -4,7 +4,7 @@ use Rattle.std.proofs.lemmas.Bool.{leb-false}
 use Rattle.std.proofs.lemmas.Int.{ints}
 use Rattle.wf_frame.specs.declared.settings.Config.{Config}
 use Rattle.wf_frame.specs.declared.classes.Class.{Class}
-use Rattle.wf_frame.specs.declared.notes.Ask.TheVariants.{Join, Offload, Weight, Leave, Rate, Tick, Pull, Arrive, Answer, Done, Sleep, Wake, Poll, Rx, Reap, Ampdu, Stop, Start, Unsent, GiveUp, Flush}
+use Rattle.wf_frame.specs.declared.notes.Ask.TheVariants.{Join, Offload, Weight, Leave, Rate, Tick, Pull, Arrive, Answer, Done, Sleep, Wake, Poll, Rx, Reap, Ampdu, Stop, Start, Unsent, GiveUp, Flush, Plain, Hold, Begin, Free, Cease}
 use Rattle.wf_frame.specs.declared.notes.Limits.{Limits}
 use Rattle.wf_frame.specs.declared.notes.Note.{Note}
 use Rattle.wf_frame.specs.declared.notes.Note.TheVariants.{Enqueue, Asked}
@@ -30,11 +30,11 @@ use Rattle.wf_sched_refines.specs.Calls.{HasPickedInClass, HasPulled, with_charg
 use Rattle.wf_sched_refines.proofs.Owed.{part, part_own, found_number, owed_part, none_owed}
 use Rattle.wf_sched_refines.proofs.Changes.{deficit_same}
 use Rattle.wf_sched_refines.proofs.Charges.{receive_stands}
-use Rattle.wf_sched_refines.proofs.Members.{join_stands, offload_stands, gone_stands}
+use Rattle.wf_sched_refines.proofs.Members.{join_stands, offload_stands, plain_stands, gone_stands}
 use Rattle.wf_sched_refines.proofs.Weights.{weight_stands}
 use Rattle.wf_sched_refines.proofs.Listings.{concerned_stands, unconcerned_stands}
 use Rattle.wf_sched_refines.proofs.Picks.{pick_stands}
-use Rattle.wf_sched_refines.proofs.Unchanged.{bounded_leaves, enqueued_leaves, rate_leaves, tick_leaves, arrived_leaves, answered_leaves, slept_leaves, woken_leaves, credited_leaves, reaped_leaves, stated_leaves, stopped_leaves, started_leaves, unsent_leaves, given_up_leaves, flushed_leaves}
+use Rattle.wf_sched_refines.proofs.Unchanged.{bounded_leaves, enqueued_leaves, rate_leaves, tick_leaves, arrived_leaves, answered_leaves, slept_leaves, woken_leaves, credited_leaves, reaped_leaves, stated_leaves, stopped_leaves, started_leaves, unsent_leaves, given_up_leaves, flushed_leaves, held_leaves, begun_leaves, freed_leaves, ceased_leaves}
 use Rattle.wf_sched_refines.proofs.Exchanges.{winner_stands, end_stands}
 
 -- ---- a call that is not refused
@@ -86,6 +86,10 @@ done_stands (Asked (Join s window start exponent weight)) v u w rows rises each 
 done_stands (Asked (Offload s exponent weight)) v u w rows rises each h k =
     to (everywhere (after_join s (v.quantum * weight)) v) u _ k
     (offload_stands v w s exponent weight h (leb-false _ _ rows.0) (none_open w s each rows.1.1.1.0))
+done_stands (Asked (Plain s start exponent weight)) v u w rows rises each h k =
+    to (everywhere (after_join s (v.quantum * weight)) v) u _ k
+    (plain_stands v w s start exponent weight h (leb-false _ _ rows.0)
+    (none_open w s each rows.1.1.1.1.0))
 done_stands (Asked (Weight s weight)) v u w rows rises each h k =
     to (with_weight (uncovered_air w s) s weight v) u _ k (weight_stands v w s weight h)
 done_stands (Asked (Leave s)) v u w rows rises each h k =
@@ -113,6 +117,11 @@ done_stands (Asked (GiveUp e i)) v u w rows rises each h k =
     to v u _ k (open_leaves (exchange w e) w (λ x. give_up_outcome w x i)
     (λ x is. given_up_leaves w x e i is rises) v h)
 done_stands (Asked (Flush s t)) v u w rows rises each h k = to v u _ k (flushed_leaves w s t v h)
+done_stands (Asked (Hold s t)) v u w rows rises each h k = to v u _ k (held_leaves w s t v h)
+done_stands (Asked (Begin s t window)) v u w rows rises each h k =
+    to v u _ k (begun_leaves w s t window v h)
+done_stands (Asked (Free s t)) v u w rows rises each h k = to v u _ k (freed_leaves w s t v h)
+done_stands (Asked (Cease s t)) v u w rows rises each h k = to v u _ k (ceased_leaves w s t v h)
 done_stands (Asked (Wake s)) v u w rows rises each h k = to v u _ k (woken_leaves w s v h)
 done_stands (Asked (Poll s)) v u w rows rises each h k = to v u _ k (credited_leaves w s v h)
 done_stands (Asked (Rx s c air)) v u w rows rises each h k =

@@ -8,10 +8,10 @@ use Rattle.wf_frame.specs.declared.classes.Class.TheVariants.{Bk, Be, Vi, Vo}
 use Rattle.wf_frame.specs.Classes.{all_classes}
 use Rattle.wf_def_rotation.specs.Rotation.{Rotation, in_order, without_key}
 use Rattle.wf_def_world.specs.World.{World, owed, with_station, with_rotation, rotation as world_rotation}
-use Rattle.wf_def_world.specs.Step.{without_listings, leave_outcome, join_outcome as joined_world, offload_outcome}
+use Rattle.wf_def_world.specs.Step.{without_listings, leave_outcome, join_outcome as joined_world, offload_outcome, plain_outcome}
 use Rattle.wf_def_lists.specs.Lists.{on}
 use Rattle.wf_law_runs.proofs.Deficits.Books.{Books, books, with_account, books_with_station, books_with_rotation}
-use Rattle.wf_law_runs.proofs.Deficits.BookSteps.{fresh_account, off, all_off, books_joined, books_offloaded, books_gone}
+use Rattle.wf_law_runs.proofs.Deficits.BookSteps.{fresh_account, off, all_off, books_joined, books_offloaded, books_joined_plain, books_gone}
 use Rattle.wf_rotation.specs.Rotas.{deficit_at, quantum_at}
 use Rattle.wf_sched.specs.ClassRotas.{ClassRota, SchedValue, class_rota, deficit, quantum_of, after_join, after_station_left}
 use Rattle.wf_sched_refines.specs.Standing.{SchedulerStandsFor, everywhere}
@@ -85,6 +85,13 @@ pub offload_stands : (v : SchedValue) (w : World) (s exponent weight : ℕ) → 
     (offload_outcome w s exponent weight).world
 offload_stands v w s exponent weight h low none =
     with_books _ _ _ (books_offloaded w s exponent weight) (stands_fresh v w s weight h low none)
+
+pub plain_stands : (v : SchedValue) (w : World) (s start exponent weight : ℕ) → SchedulerStandsFor v w →
+    s < w.config.stations → ((c : Class) → owed s c w.opened ≡ 0) →
+    SchedulerStandsFor (everywhere (after_join s (v.quantum * weight)) v)
+    (plain_outcome w s start exponent weight).world
+plain_stands v w s start exponent weight h low none =
+    with_books _ _ _ (books_joined_plain w s start exponent weight) (stands_fresh v w s weight h low none)
 
 -- ---- a leave
 

@@ -9,14 +9,14 @@ use Rattle.wf_def_lists.specs.Table.{at, put, with_member}
 use Rattle.wf_def_rotation.specs.Rotation.{Rotation, has_key, in_order}
 use Rattle.wf_def_agreement.specs.Session.{Session, End}
 use Rattle.wf_def_agreement.specs.Receiver.{Receiver, score}
-use Rattle.wf_def_world.specs.World.{World, Bounds, Station, Share, Tid, Queue, Exchange, Mpdu, Content, Frames, Request, no_share, is_live, is_offloaded, receiver, exchange, on_station, with_station, on_tid, on_session, on_receiver, with_queues, on_share, on_queue, with_fate, with_frame_finished, with_frames_finished, with_exchange, with_bounds}
+use Rattle.wf_def_world.specs.World.{World, Bounds, Station, Share, Mode, Tid, Queue, Exchange, Mpdu, Content, Frames, Request, no_share, is_live, is_agreed, receiver, exchange, on_station, with_station, on_tid, on_session, on_receiver, with_mode, with_queues, on_share, on_queue, with_fate, with_frame_finished, with_frames_finished, with_exchange, with_bounds}
 use Rattle.wf_def_world.specs.FlowQueues.{taken_for_tid, after_queue_flushed, after_queues_flushed}
-use Rattle.wf_def_world.specs.Exchanges.{after_arrival, after_tid_turn, without_credit, prepared_exchange, aggregate_of, with_failed_finished, with_settled, with_all_settled, caught_up, with_device_caught_up, after_done}
-use Rattle.wf_def_world.specs.Step.{after_tids_left, with_frame, rate_outcome, tick_outcome, enqueue_outcome, arrive_outcome, answer_outcome, sleep_outcome, wake_outcome, poll_outcome, reap_outcome, ampdu_outcome, stop_outcome, start_outcome, unsent_outcome, give_up_outcome, flush_outcome, after_tid_flushed}
+use Rattle.wf_def_world.specs.Exchanges.{after_arrival, after_tid_turn, without_credit, prepared_exchange, aggregate_of, with_failed_finished, with_settled, with_all_settled, caught_up, caught_up_if_plain, after_done}
+use Rattle.wf_def_world.specs.Step.{after_tids_left, with_frame, rate_outcome, tick_outcome, enqueue_outcome, arrive_outcome, answer_outcome, sleep_outcome, wake_outcome, poll_outcome, reap_outcome, ampdu_outcome, stop_outcome, start_outcome, unsent_outcome, give_up_outcome, flush_outcome, after_tid_flushed, hold_outcome, begin_outcome, free_outcome, cease_outcome}
 use Rattle.wf_def_lists.specs.Lists.{IsOnce}
 use Rattle.wf_law_rules.proofs.Lemmas.Tables.{at_put_same, at_put_other}
 use Rattle.wf_law_runs.proofs.Deficits.Books.{cases_class, account, core, Account, Books, books, with_account, books_with_station, books_on_queue, books_finish, books_finish_all}
-use Rattle.wf_law_runs.proofs.Deficits.BookSteps.{books_take, books_filled, books_prepared, books_left_tids, books_enqueued, books_reaped}
+use Rattle.wf_law_runs.proofs.Deficits.BookSteps.{books_take, books_filled, books_prepared, books_left_tids, books_enqueued, books_reaped, books_held, books_begun, books_freed, books_ceased}
 use Rattle.wf_law_runs.specs.Windows.{OpenRises}
 use Rattle.wf_law_runs.proofs.Deficits.Openings.{owed-core}
 use Rattle.wf_sched.specs.ClassRotas.{SchedValue, deficit, quantum_of}
@@ -114,6 +114,10 @@ pub receiver_leaves : (w : World) (s t : ℕ) (f : Receiver → Receiver) → Le
 unfolding on_receiver
 receiver_leaves w s t f = tid_leaves w s t _
 
+pub mode_leaves : (w : World) (s t : ℕ) (mode : Mode) → LeavesRotas w (with_mode w s t mode)
+unfolding with_mode
+mode_leaves w s t mode = tid_leaves w s t _
+
 pub queues_leave : (w : World) (s t : ℕ) (r : Rotation) → LeavesRotas w (with_queues w s t r)
 unfolding with_queues
 queues_leave w s t r = tid_leaves w s t _
@@ -203,11 +207,11 @@ all_settled_leave [] w s t ends = λ v h. h
 all_settled_leave (m ∷ ms) w s t ends = leaves_then w _ _ (settled_leaves w s t _ m)
     (all_settled_leave ms _ s t ends)
 
--- the device of an offloaded station catches up
-caught_up_leaves : (w : World) (s t : ℕ) → LeavesRotas w (with_device_caught_up w s t)
-unfolding with_device_caught_up caught_up
-caught_up_leaves w s t = leaves_if (is_offloaded w s) w _ _
-    (leaves_then w _ _ (session_leaves w s t _) (receiver_leaves _ s t _)) (λ v h. h)
+-- a TID without an agreement catches up
+caught_up_leaves : (w : World) (s t : ℕ) → LeavesRotas w (caught_up_if_plain w s t)
+unfolding caught_up_if_plain caught_up
+caught_up_leaves w s t = leaves_if (is_agreed w s t) w _ _ (λ v h. h)
+    (leaves_then w _ _ (session_leaves w s t _) (receiver_leaves _ s t _))
 
 pub after_done_leaves : (w : World) (x : Exchange) (heard : Bool) (content : Content) →
     LeavesRotas w (after_done w x heard content)
@@ -274,6 +278,19 @@ unfolding flush_outcome after_tid_flushed
 flushed_leaves w s t = leaves_then w _ _
     (leaves_then w _ _ (leaves_then w _ _ (session_leaves w s t _) (finish_all_leaves _ _ _))
     (flushed_queues_leave _ _)) (caught_up_leaves _ s t)
+
+-- a TID's agreement begins or ends
+pub held_leaves : (w : World) (s t : ℕ) → LeavesRotas w (hold_outcome w s t).world
+held_leaves w s t = leaves_same w _ (books_held w s t)
+
+pub begun_leaves : (w : World) (s t window : ℕ) → LeavesRotas w (begin_outcome w s t window).world
+begun_leaves w s t window = leaves_same w _ (books_begun w s t window)
+
+pub freed_leaves : (w : World) (s t : ℕ) → LeavesRotas w (free_outcome w s t).world
+freed_leaves w s t = leaves_same w _ (books_freed w s t)
+
+pub ceased_leaves : (w : World) (s t : ℕ) → LeavesRotas w (cease_outcome w s t).world
+ceased_leaves w s t = leaves_same w _ (books_ceased w s t)
 
 pub slept_leaves : (w : World) (s : ℕ) → LeavesRotas w (sleep_outcome w s).world
 unfolding sleep_outcome

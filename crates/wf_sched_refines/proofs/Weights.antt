@@ -1,5 +1,5 @@
--- Proves that scheduler and world still agree after a station gets another weight: its quantum is another one,
--- and each of its deficits is lowered to as much on both sides.
+-- Proves that scheduler and world still agree after a station gets another weight: its quantum is another
+-- one, and each of its deficits is lowered to as much on both sides.
 use Rattle.std.proofs.Common.{◌≡◌, refl, ap, sym, ◌∙◌, arith, ℕ, ◌+◌, ◌-◌, ◌*◌, ◌<◌, min, int_le, ℤ, pos, ◌-ℤ◌, Bool, true, false, if◌then◌else◌, is_some, Some, option_map, length-set}
 use Rattle.std.proofs.lemmas.Int.{ints}
 use Rattle.std.proofs.lemmas.List.{get_or-set_same, get_or-set_other}
@@ -8,7 +8,7 @@ use Rattle.wf_frame.specs.declared.classes.Class.TheVariants.{Bk, Be, Vi, Vo}
 use Rattle.wf_frame.specs.Classes.{class_number, all_classes}
 use Rattle.wf_def_world.specs.World.{World}
 use Rattle.wf_def_world.specs.Exchanges.{longest_computed}
-use Rattle.wf_def_world.specs.Step.{at_most, weight_outcome}
+use Rattle.wf_def_world.specs.Step.{lesser_of, weight_outcome}
 use Rattle.wf_law_runs.proofs.Deficits.Books.{Account, Books, books}
 use Rattle.wf_law_runs.proofs.Deficits.BookSteps.{reweighed, with_weight as with_account_weighed, books_weighed}
 use Rattle.wf_rotation.specs.Rotas.{deficit_at, quantum_at, lesser}
@@ -116,7 +116,7 @@ module _ (q : ℕ) (uncovered : Class → ℕ) (s : ℕ) where
 -- ---- both sides
 
 -- with the airtime in flight p, of which k may be covered, both deficits are lowered to as much
-lowers : (d : ℤ) (q p k : ℕ) → lesser (d -ℤ pos p) (pos q -ℤ pos (p - k)) ≡ at_most (q + min p k) d -ℤ pos p
+lowers : (d : ℤ) (q p k : ℕ) → lesser (d -ℤ pos p) (pos q -ℤ pos (p - k)) ≡ lesser_of (q + min p k) d -ℤ pos p
 lowers d q p k = go (int_le (d -ℤ pos p) (pos q -ℤ pos (p - k))) refl (int_le d (pos (q + min p k))) refl
   where
     go : (a : Bool) → int_le (d -ℤ pos p) (pos q -ℤ pos (p - k)) ≡ a →
@@ -143,7 +143,7 @@ module _ (v : SchedValue) (b : Books) (s g q : ℕ) (uncovered : Class → ℕ) 
   low a is = omega (arith, h.live s (ap is_some is), h.stations)
 
   lowered_deficit : (c : Class) (d : ℤ) → s < v.stations → deficit v c s ≡ d -ℤ pos (pending_of b s c) →
-      deficit after c s ≡ at_most (b.config.quantum * g
+      deficit after c s ≡ lesser_of (b.config.quantum * g
       + min (pending_of b s c) ((b.config.inflight - 1) * longest_computed b.config c)) d
       -ℤ pos (pending_of b s c)
   lowered_deficit c d below e =

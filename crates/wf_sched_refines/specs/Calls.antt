@@ -2,7 +2,7 @@
 use Rattle.std.specs.Prelude.{◌≡◌, ℕ, ◌*◌, ◌==◌, Bool, true, false, List, Option, Some, None}
 use Rattle.wf_frame.specs.declared.settings.Config.{Config}
 use Rattle.wf_frame.specs.declared.classes.Class.{Class}
-use Rattle.wf_frame.specs.declared.notes.Ask.TheVariants.{Join, Offload, Weight, Leave, Pull, Done, Rx}
+use Rattle.wf_frame.specs.declared.notes.Ask.TheVariants.{Join, Offload, Plain, Weight, Leave, Pull, Done, Rx}
 use Rattle.wf_frame.specs.declared.notes.Limits.{Limits}
 use Rattle.wf_frame.specs.declared.notes.Note.{Note}
 use Rattle.wf_frame.specs.declared.notes.Note.TheVariants.{Asked}
@@ -51,6 +51,8 @@ abbrev pub IsCallDone : World → Note → SchedValue → SchedValue → Type 0
 IsCallDone w (Asked (Join s window start exponent weight)) v u =
     u ≡ everywhere (after_join s (v.quantum * weight)) v
 IsCallDone w (Asked (Offload s exponent weight)) v u = u ≡ everywhere (after_join s (v.quantum * weight)) v
+IsCallDone w (Asked (Plain s start exponent weight)) v u =
+    u ≡ everywhere (after_join s (v.quantum * weight)) v
 IsCallDone w (Asked (Weight s weight)) v u = u ≡ with_weight (uncovered_air w s) s weight v
 IsCallDone w (Asked (Leave s)) v u = u ≡ everywhere (after_station_left s) v
 IsCallDone w (Asked (Pull c l)) v u = HasPulled w c l v u

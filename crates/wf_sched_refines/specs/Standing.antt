@@ -69,7 +69,7 @@ with_weight uncovered s weight v =
     with_each_lowered (v.quantum * weight) uncovered s all_classes
     (everywhere (with_quantum s (v.quantum * weight)) v)
 
--- the airtime in flight of a station in a class that counts against its deficit, as far as it is above that
+-- the part of the airtime in flight of a station in a class that counts against its deficit above that
 -- of all exchanges of the class but one, each with the greatest charge that is computed
 abbrev pub uncovered_air : World → ℕ → Class → ℕ
 uncovered_air w s c = pending_air w s c - (w.config.inflight - 1) * longest_computed w.config c

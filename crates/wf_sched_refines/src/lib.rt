@@ -23,14 +23,14 @@ ghost use Rattle.wf_def_lists.specs.Bounds.{deepest_deficit};
 ghost use Rattle.wf_def_rotation.specs.Rotation.{Rotation, has_key};
 ghost use Rattle.wf_def_agreement.specs.Session.{Session};
 ghost use Rattle.wf_def_agreement.specs.Receiver.{Receiver};
-ghost use Rattle.wf_def_world.specs.World.{World, Bounds, Station, Tid, Queue, Exchange, Content, opening as opening_world, share, owed, pending_air, standing, rotation, is_live, exchange, with_station, on_station, on_tid, on_session, on_receiver, on_queue, with_queues, with_fate, with_frame_finished, with_frames_finished, with_exchange, without_exchange, with_bounds};
+ghost use Rattle.wf_def_world.specs.World.{World, Bounds, Station, Mode, Tid, Queue, Exchange, Content, opening as opening_world, share, owed, pending_air, standing, rotation, is_live, exchange, with_station, on_station, on_tid, on_session, on_receiver, on_queue, with_mode, with_queues, with_fate, with_frame_finished, with_frames_finished, with_exchange, without_exchange, with_bounds};
 ghost use Rattle.wf_def_world.specs.FlowQueues.{taken_for_tid};
 ghost use Rattle.wf_def_world.specs.CanSend.{is_ready, is_debtor, is_to_list, with_listing_in, with_listings_in, with_listings_of};
 ghost use Rattle.wf_def_world.specs.Exchanges.{Prepared, picked_station, after_pick, after_tid_turn, without_credit, aggregate_of, prepared_exchange, with_exchange_opened, charge_of, after_charge, after_done};
 ghost use Rattle.wf_def_world.specs.Refusals.{refusal};
 ghost use Rattle.wf_def_world.specs.Stretches.{world_at};
 ghost use Rattle.wf_def_world.specs.Run.{Entry};
-ghost use Rattle.wf_def_world.specs.Step.{join_outcome as joined_world, offload_outcome, weight_outcome, outcome_of, concerned_station, step, after_tids_left, without_listings, leave_outcome, rate_outcome, tick_outcome, with_frame, enqueue_outcome, send_outcome, pull_outcome_for, arrive_outcome, answer_outcome, done_outcome, sleep_outcome, wake_outcome, poll_outcome, rx_outcome, reap_outcome, ampdu_outcome, stop_outcome, start_outcome, unsent_outcome, give_up_outcome, flush_outcome};
+ghost use Rattle.wf_def_world.specs.Step.{join_outcome as joined_world, offload_outcome, plain_outcome, weight_outcome, hold_outcome, begin_outcome, free_outcome, cease_outcome, outcome_of, concerned_station, step, after_tids_left, without_listings, leave_outcome, rate_outcome, tick_outcome, with_frame, enqueue_outcome, send_outcome, pull_outcome_for, arrive_outcome, answer_outcome, done_outcome, sleep_outcome, wake_outcome, poll_outcome, rx_outcome, reap_outcome, ampdu_outcome, stop_outcome, start_outcome, unsent_outcome, give_up_outcome, flush_outcome};
 ghost use Rattle.wf_law_rules.specs.Renamed.{IsSame};
 ghost use Rattle.wf_law_runs.specs.Windows.{OpenRises, EachOpen};
 ghost use Rattle.wf_rotation.specs.Rotas.{is_ready as entry};
@@ -104,8 +104,8 @@ pub fn a_receive_charge()
         int_lt ((share w s c).deficit -ℤ pos air) (deepest_deficit w.config.debt) ≡ true) }
 {}
 
-/// Both sides still agree after a station joins to which no exchange is open, offloaded or not. Its deficit
-/// and its quantum in each class are the setting `quantum` times its weight.
+/// Both sides still agree after a station joins to which no exchange is open, with agreements or without, or
+/// offloaded. Its deficit and its quantum in each class are the setting `quantum` times its weight.
 pub fn a_join()
     ensures joined { (v : SchedValue) (w : World) (s window start exponent weight : ℕ) →
         SchedulerStandsFor v w →
@@ -116,6 +116,11 @@ pub fn a_join()
         s < w.config.stations → ((c : Class) → owed s c w.opened ≡ 0) →
         SchedulerStandsFor (everywhere (after_join s (v.quantum * weight)) v)
         (offload_outcome w s exponent weight).world }
+    ensures joined_plain { (v : SchedValue) (w : World) (s start exponent weight : ℕ) →
+        SchedulerStandsFor v w →
+        s < w.config.stations → ((c : Class) → owed s c w.opened ≡ 0) →
+        SchedulerStandsFor (everywhere (after_join s (v.quantum * weight)) v)
+        (plain_outcome w s start exponent weight).world }
 {}
 
 /// Both sides still agree after a station gets another weight: its quantum in each class becomes another one,
@@ -191,13 +196,15 @@ pub fn the_same_turns()
 {}
 
 /// A change of a station that keeps its weight and its deficits does not affect the scheduler: a change of
-/// its agreements, of the flow queues that it lists, of the TID whose turn it is, or of its credit.
+/// its agreements or their modes, of the flow queues that it lists, of the TID whose turn it is, or of its
+/// credit.
 pub fn a_change_of_a_station()
     ensures station { (w : World) (s : ℕ) (f : Station → Station) → KeepsRotas f →
         LeavesRotas w (on_station w s f) }
     ensures tid { (w : World) (s t : ℕ) (f : Tid → Tid) → LeavesRotas w (on_tid w s t f) }
     ensures session { (w : World) (s t : ℕ) (f : Session → Session) → LeavesRotas w (on_session w s t f) }
     ensures receiver { (w : World) (s t : ℕ) (f : Receiver → Receiver) → LeavesRotas w (on_receiver w s t f) }
+    ensures mode { (w : World) (s t : ℕ) (mode : Mode) → LeavesRotas w (with_mode w s t mode) }
     ensures queues { (w : World) (s t : ℕ) (r : Rotation) → LeavesRotas w (with_queues w s t r) }
     ensures turn { (w : World) (s : ℕ) (c : Class) (t : ℕ) → LeavesRotas w (after_tid_turn w s c t) }
     ensures credit { (w : World) (s : ℕ) → LeavesRotas w (without_credit w s) }
@@ -260,6 +267,10 @@ pub fn a_call_that_leaves_the_turns()
     ensures given_up { (w : World) (x : Exchange) (e i : ℕ) → exchange w e ≡ Some x →
         OpenRises 0 w.exchanges w.opened → LeavesRotas w (give_up_outcome w x i).world }
     ensures flushed { (w : World) (s t : ℕ) → LeavesRotas w (flush_outcome w s t).world }
+    ensures held { (w : World) (s t : ℕ) → LeavesRotas w (hold_outcome w s t).world }
+    ensures begun { (w : World) (s t window : ℕ) → LeavesRotas w (begin_outcome w s t window).world }
+    ensures freed { (w : World) (s t : ℕ) → LeavesRotas w (free_outcome w s t).world }
+    ensures ceased { (w : World) (s t : ℕ) → LeavesRotas w (cease_outcome w s t).world }
     ensures slept { (w : World) (s : ℕ) → LeavesRotas w (sleep_outcome w s).world }
     ensures woken { (w : World) (s : ℕ) → LeavesRotas w (wake_outcome w s).world }
     ensures credited { (w : World) (s : ℕ) → LeavesRotas w (poll_outcome w s).world }

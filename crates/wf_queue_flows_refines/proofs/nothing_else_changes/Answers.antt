@@ -1,5 +1,6 @@
 -- Each clause is a law of Elsewhere.
 use Rattle.wf_queue_flows_refines.proofs.Elsewhere.{rest_enqueued, rest_take, rest_finish, rest_finish_all, rest_reaped, rest_left, rest_flushed, rest_live, rest_params}
+use Rattle.wf_queue_flows_refines.proofs.Modes.{rest_ended}
 use Rattle.wf_queue_flows_refines.proofs.nothing_else_changes.Goals as goal
 
 pub returns-clause-put : goal.returns-clause-put
@@ -28,3 +29,6 @@ returns-clause-params c = rest_params
 
 pub returns-clause-flushed : goal.returns-clause-flushed
 returns-clause-flushed c = rest_flushed
+
+pub returns-clause-ended : goal.returns-clause-ended
+returns-clause-ended c = rest_ended

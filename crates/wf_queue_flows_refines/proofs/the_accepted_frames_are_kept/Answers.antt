@@ -1,5 +1,6 @@
 -- Each clause is a law of Notes.
 use Rattle.wf_queue_flows_refines.proofs.Notes.{accepted_same, accepted_more, notes_take, notes_finish, notes_finish_all, notes_left, notes_flushed, notes_reaped}
+use Rattle.wf_queue_flows_refines.proofs.Modes.{notes_ended}
 use Rattle.wf_queue_flows_refines.proofs.the_accepted_frames_are_kept.Goals as goal
 
 pub returns-clause-same : goal.returns-clause-same
@@ -25,3 +26,6 @@ returns-clause-reap c = λ w. notes_reaped w w.finished
 
 pub returns-clause-flushed : goal.returns-clause-flushed
 returns-clause-flushed c = notes_flushed
+
+pub returns-clause-ended : goal.returns-clause-ended
+returns-clause-ended c = notes_ended

@@ -1,5 +1,5 @@
 -- Each clause is a law of Leaves.
-use Rattle.wf_queue_flows_refines.proofs.Leaves.{stands_same, clock_alone, station_alone, share_alone, session_alone, receiver_alone, rotation_alone, exchange_alone, closing_alone, opened_alone, pick_alone, bounds_alone, turn_alone, listed_alone}
+use Rattle.wf_queue_flows_refines.proofs.Leaves.{stands_same, clock_alone, station_alone, share_alone, session_alone, receiver_alone, mode_alone, window_alone, caught_alone, caught_if_alone, rotation_alone, exchange_alone, closing_alone, opened_alone, pick_alone, bounds_alone, turn_alone, listed_alone}
 use Rattle.wf_queue_flows_refines.proofs.the_rest_does_not_matter.Goals as goal
 
 pub returns-clause-same : goal.returns-clause-same
@@ -43,3 +43,15 @@ returns-clause-turn c = turn_alone
 
 pub returns-clause-listed : goal.returns-clause-listed
 returns-clause-listed c = listed_alone
+
+pub returns-clause-mode : goal.returns-clause-mode
+returns-clause-mode c = mode_alone
+
+pub returns-clause-window : goal.returns-clause-window
+returns-clause-window c = window_alone
+
+pub returns-clause-caught_up : goal.returns-clause-caught_up
+returns-clause-caught_up c = caught_alone
+
+pub returns-clause-caught_up_if_plain : goal.returns-clause-caught_up_if_plain
+returns-clause-caught_up_if_plain c = caught_if_alone

@@ -1,5 +1,5 @@
 -- Each clause is a law of Unchanged or Exchanges.
-use Rattle.wf_sched_refines.proofs.Unchanged.{enqueued_leaves, rate_leaves, tick_leaves, arrived_leaves, answered_leaves, slept_leaves, woken_leaves, credited_leaves, reaped_leaves, bounded_leaves, stated_leaves, stopped_leaves, started_leaves, unsent_leaves, given_up_leaves, flushed_leaves}
+use Rattle.wf_sched_refines.proofs.Unchanged.{enqueued_leaves, rate_leaves, tick_leaves, arrived_leaves, answered_leaves, slept_leaves, woken_leaves, credited_leaves, reaped_leaves, bounded_leaves, stated_leaves, stopped_leaves, started_leaves, unsent_leaves, given_up_leaves, flushed_leaves, held_leaves, begun_leaves, freed_leaves, ceased_leaves}
 use Rattle.wf_sched_refines.proofs.Exchanges.{winner_stands}
 use Rattle.wf_sched_refines.proofs.a_call_that_leaves_the_turns.Goals as goal
 
@@ -53,3 +53,15 @@ returns-clause-given_up c = given_up_leaves
 
 pub returns-clause-flushed : goal.returns-clause-flushed
 returns-clause-flushed c = flushed_leaves
+
+pub returns-clause-held : goal.returns-clause-held
+returns-clause-held c = held_leaves
+
+pub returns-clause-begun : goal.returns-clause-begun
+returns-clause-begun c = begun_leaves
+
+pub returns-clause-freed : goal.returns-clause-freed
+returns-clause-freed c = freed_leaves
+
+pub returns-clause-ceased : goal.returns-clause-ceased
+returns-clause-ceased c = ceased_leaves

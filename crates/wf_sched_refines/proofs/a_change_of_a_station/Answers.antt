@@ -1,5 +1,5 @@
 -- Each clause is a law of Unchanged.
-use Rattle.wf_sched_refines.proofs.Unchanged.{station_leaves, tid_leaves, session_leaves, receiver_leaves, queues_leave, turn_leaves, spent_leaves}
+use Rattle.wf_sched_refines.proofs.Unchanged.{station_leaves, tid_leaves, session_leaves, receiver_leaves, mode_leaves, queues_leave, turn_leaves, spent_leaves}
 use Rattle.wf_sched_refines.proofs.a_change_of_a_station.Goals as goal
 
 pub returns-clause-station : goal.returns-clause-station
@@ -22,3 +22,6 @@ returns-clause-turn c = turn_leaves
 
 pub returns-clause-credit : goal.returns-clause-credit
 returns-clause-credit c = spent_leaves
+
+pub returns-clause-mode : goal.returns-clause-mode
+returns-clause-mode c = mode_leaves

@@ -3,7 +3,7 @@ use Rattle.std.proofs.Common.{◌≡◌, length}
 use Rattle.wf_queue_flows.specs.Backlog.{frames_at, held_in_backlog, after_emptying, unchanged}
 use Rattle.wf_queue_flows.proofs.backlog.Backlog.empty_queue.Given as goal
 
--- emptying what is left ends as emptying from the beginning does
+-- emptying the rest ends as emptying from the beginning does
 abbrev pub invariant-loop-parcel : goal.invariant-loop-parcel
 invariant-loop-parcel l = record {
   emptied : after_emptying l.cause unchanged l.self l.q

@@ -1,4 +1,4 @@
--- The looks that are left end as the whole dequeue does: the drops so far are those of the definition.
+-- The looks that are left end as the whole dequeue does: the drops so far equal the definition's.
 use Rattle.std.proofs.Common.{◌≡◌, ◌∷◌, ◌≤◌, true, length, map}
 use Rattle.wf_def_codel.specs.Codel.{octets}
 use Rattle.wf_queue_flows.specs.CodelParams.{params_of}

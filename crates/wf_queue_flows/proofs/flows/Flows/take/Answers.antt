@@ -14,7 +14,7 @@ use Rattle.wf_queue_flows.proofs.Whole.{take_parts, picked_gives}
 use Rattle.wf_queue_flows.proofs.flows.Flows.take.Goals as goal
 use Rattle.wf_queue_flows.proofs.flows.Flows.take.Goals.{After-pick}
 
--- the flags that the pick is given are those of the backlog
+-- the flags that the pick is given belong to the backlog
 ready_is : (c : After-pick) → c.as_slice.result.now ≡ flags c.self.inside.waiting
 ready_is c = c.as_slice.ensures.value ∙ c.waiting.invariant.ready_are ∙ ap flags c.waiting.view_is
 
