@@ -24,7 +24,6 @@ use Rattle.wf_queue_flows_refines.specs.Standing.{ids, with_finished}
 use Rattle.wf_sched.specs.ClassRotas.{SchedValue, deficit, after_join}
 use Rattle.wf_sched_refines.specs.Standing.{everywhere, with_deficit_charged}
 use Rattle.wf_sched_refines.proofs.Charges.{debt_same}
-use Rattle.wf_send_parts.specs.Window.{WindowValue}
 use Rattle.wf_send_parts.specs.declared.stations.members.Member.{Member}
 use Rattle.wf_send_parts.specs.Members.{member, on_member, new_member, with_rate, with_ampdu, with_receipt}
 use Rattle.wf_send_parts.specs.declared.stations.sleepers.Sleeper.{Sleeper}
@@ -49,6 +48,7 @@ view_of t = record {
   flows = t.flows;
   sched = t.sched;
   windows = t.windows;
+  modes = t.modes;
   members = t.members;
   sleepers = t.sleepers;
   opened = t.opened;
@@ -244,38 +244,35 @@ module _ (v x : TransmitValue) (same : x ≡ v) (w : World) (bodies : ℕ → Fr
 
 -- the half after a station joined, by what each part does; x is the value of the fields of the half v
 pub admitted_is : (v x : TransmitValue) → x ≡ v → (s exponent weight : ℕ) (offloaded : Bool)
-    (turns : SchedValue) (windows : List WindowValue) (members : List (Option Member))
-    (sleepers : List Sleeper) (y : TransmitValue) →
+    (turns : SchedValue) (members : List (Option Member)) (sleepers : List Sleeper) (y : TransmitValue) →
     turns ≡ everywhere (after_join s (x.sched.quantum * weight)) x.sched →
     members ≡ set x.members s (Some (new_member exponent offloaded)) →
     sleepers ≡ with_sleeper x.sleepers s awake →
-    y ≡ after_listing (record x {
-      sched = turns;
-      windows = windows;
-      members = members;
-      sleepers = sleepers;
-    }) s → y ≡ after_admission v y.windows s exponent weight offloaded
-admitted_is v x same s exponent weight offloaded turns windows members sleepers y e f g listed =
-    let is : y ≡ after_admission x windows s exponent weight offloaded =
+    y ≡ after_listing (record x { sched = turns; members = members; sleepers = sleepers }) s →
+    y ≡ after_admission v v.windows v.modes s exponent weight offloaded
+admitted_is v x same s exponent weight offloaded turns members sleepers y e f g listed =
     listed ∙ ap (λ (z : TransmitValue). after_listing z s)
     (ap (λ (t : SchedValue). let z : TransmitValue = record x {
       sched = t;
-      windows = windows;
       members = members;
       sleepers = sleepers;
     } in z) e
     ∙ ap (λ (m : List (Option Member)). let z : TransmitValue = record x {
       sched = everywhere (after_join s (x.sched.quantum * weight)) x.sched;
-      windows = windows;
       members = m;
       sleepers = sleepers;
     } in z) f
     ∙ ap (λ (l : List Sleeper). let z : TransmitValue = record x {
       sched = everywhere (after_join s (x.sched.quantum * weight)) x.sched;
-      windows = windows;
       members = set x.members s (Some (new_member exponent offloaded));
       sleepers = l;
-    } in z) g) in
-    is ∙ ap (λ (l : List WindowValue). after_admission x l s exponent weight offloaded)
-    (sym (ap (λ (z : TransmitValue). z.windows) is))
-    ∙ ap (λ (z : TransmitValue). after_admission z y.windows s exponent weight offloaded) same
+    } in z) g)
+    ∙ ap (λ (z : TransmitValue). after_admission z z.windows z.modes s exponent weight offloaded) same
+
+-- the same if its sessions began first, which made b of v
+pub joined_is : (v b y : TransmitValue) (s exponent weight : ℕ) (offloaded : Bool) →
+    b ≡ record v { windows = b.windows; modes = b.modes } →
+    y ≡ after_admission b b.windows b.modes s exponent weight offloaded →
+    y ≡ after_admission v b.windows b.modes s exponent weight offloaded
+joined_is v b y s exponent weight offloaded begun is =
+    is ∙ ap (λ (z : TransmitValue). after_admission z b.windows b.modes s exponent weight offloaded) begun

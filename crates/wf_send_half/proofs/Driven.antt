@@ -367,7 +367,8 @@ module _ (v u : TransmitValue) (w : World) (bodies : ℕ → FrameValue) (h : St
       ∙ (ap (λ (b : Bool). not x.batch && b) (nothing_same x) ∙ is)
 
   bad_meets : (x : Exchange) → exchange w e ≡ Some x → is_some heard ≡ true →
-      (not x.batch && is_wholly_unsent x) ≡ false → is_bad_air w.config air ≡ true → Meets w bodies (Asked (Done e false air)) u
+      (not x.batch && is_wholly_unsent x) ≡ false → is_bad_air w.config air ≡ true → Meets w bodies
+      (Asked (Done e false air)) u
       (reply_of_result ended_reply result)
   bad_meets x known some sent bad =
       let here : is_bad_air v.config air ≡ true =
@@ -386,7 +387,8 @@ module _ (v u : TransmitValue) (w : World) (bodies : ℕ → FrameValue) (h : St
       let r = refused_result v u e heard air result NoAnswer (ends_unanswered v e heard air (open_of x)
       (opened_here x known) (impossible_is x known some true none)) done.found done.refused in
       let refused : refusal w (Asked (Done e true air)) ≡ Some NoAnswer =
-      unanswered w e x air known (not_true x.batch (and_parts _ _ none).0) (found_each IsUnmarked w e x known un.marks).answer in
+      unanswered w e x air known (not_true x.batch (and_parts _ _ none).0)
+      (found_each IsUnmarked w e x known un.marks).answer in
       let m : Meets w bodies (Asked (Done e true air)) u (Refused NoAnswer) =
       met_by v u w bodies (Asked (Done e true air)) (Refused NoAnswer) r.1
       (refused_in v w bodies (Asked (Done e true air)) NoAnswer h refused (λ i. cc i)) in
@@ -408,7 +410,8 @@ module _ (v u : TransmitValue) (w : World) (bodies : ℕ → FrameValue) (h : St
   -- nothing was heard
   none_meets : heard ≡ None → (o : Option Exchange) → exchange w e ≡ o → (batch : Bool) →
       is_batch o ≡ batch → Meets w bodies (Asked (Done e false air)) u (reply_of_result ended_reply result)
-  none_meets none o known false unbatched = from_none _ heard none done.lost w bodies h (ap is_batch known ∙ unbatched)
+  none_meets none o known false unbatched = from_none _ heard none done.lost w bodies h
+      (ap is_batch known ∙ unbatched)
   none_meets none None known true batched = absurd (cc batched)
   none_meets none (Some x) known true batched =
       done.arrived w bodies x false h known batched (λ is. sym (ap is_some none))
@@ -434,11 +437,13 @@ module _ (v u : TransmitValue) (w : World) (bodies : ℕ → FrameValue) (h : St
           (reply_of_result ended_reply result)
       either true bad sent = lost_meets (bad_meets x known heard_is sent bad)
       either false fine sent =
-          let m = told_meets v w bodies h un e x known (sent_unless x.batch _ sent) score caller air fine u result
+          let m = told_meets v w bodies h un e x known (sent_unless x.batch _ sent) score caller air fine u
+          result
           (subst (λ o. IsAfterDone v u e o air result) some done) in
           record {
             stands = m.stands;
-            unheard = told_unheard v w bodies h un e x known (sent_unless x.batch _ sent) score caller air fine;
+            unheard = told_unheard v w bodies h un e x known (sent_unless x.batch _ sent) score caller air
+                fine;
             reply = m.reply;
           }
 

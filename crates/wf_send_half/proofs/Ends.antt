@@ -1,6 +1,6 @@
 -- Proves that an open exchange of the half can end, and that the half then represents the world after
 -- the Done. By cases of the exchange, which sends data or a request.
-use Rattle.std.proofs.Common.{◌≡◌, refl, ap, ap₂, sym, ◌∙◌, subst, arith, ℕ, suc, ◌+◌, ◌-◌, ◌<◌, ◌≤◌, ◌%◌, ◌==◌, Bool, true, false, not, ◌||◌, if◌then◌else◌, cond, List, [], ◌∷◌, map, length, Option, Some, None, is_some, unwrap_or, max, eq-eqb}
+use Rattle.std.proofs.Common.{◌≡◌, refl, ap, ap₂, sym, ◌∙◌, subst, arith, ℕ, suc, ◌+◌, ◌-◌, ◌<◌, ◌≤◌, ◌%◌, ◌==◌, Bool, true, false, not, ◌||◌, ◌&&◌, if◌then◌else◌, cond, List, [], ◌∷◌, map, length, Option, Some, None, is_some, unwrap_or, max, eq-eqb}
 use Rattle.std.specs.Prelude.{count_by, sum_by}
 use Rattle.std.proofs.lemmas.Bool.{or_left, ne_eqb}
 use Rattle.std.proofs.lemmas.List.{length-map}
@@ -13,7 +13,7 @@ use Rattle.wf_def_lists.specs.Table.{at, has}
 use Rattle.wf_law_rules.proofs.Lemmas.Sums.{sum_put, sum_put_within}
 use Rattle.wf_def_world.specs.World.{World, Station, Tid, Exchange, Mpdu, Content, Frames, Request, no_station, no_tid, is_live, session, exchange, without_exchange, is_wide}
 use Rattle.wf_def_world.specs.CanSend.{is_request}
-use Rattle.wf_def_world.specs.Exchanges.{mpdus_of, no_mpdu, numbers_unsent, numbers_given_up, numbers_arrived, is_acked, end_of, after_charge, with_all_settled, with_device_caught_up, count_in, charge_of}
+use Rattle.wf_def_world.specs.Exchanges.{mpdus_of, no_mpdu, numbers_unsent, numbers_given_up, numbers_arrived, is_acked, end_at_once, end_of, is_far, after_charge, with_all_settled, caught_up_if_plain, count_in, charge_of}
 use Rattle.wf_def_world.specs.Step.{done_outcome}
 use Rattle.wf_law_runs.specs.Room.{unsettled_of, in_windows_of, in_windows}
 use Rattle.wf_law_runs.specs.Sent.{HasSome, NumbersRise}
@@ -23,8 +23,8 @@ use Rattle.wf_law_runs.specs.Windows.{EachMpdu, EachOpen, IsPending}
 use Rattle.wf_law_runs.proofs.Attempts.Law.{attempts_law}
 use Rattle.wf_law_runs.proofs.Frames.Tallies.{tally_law}
 use Rattle.wf_law_runs.proofs.Sent.Law.{sent_law}
-use Rattle.wf_law_runs.proofs.Releases.Kept.{keep_ended, keep_device}
-use Rattle.wf_law_runs.proofs.Windows.Sides.{slot_device}
+use Rattle.wf_law_runs.proofs.Releases.Kept.{keep_ended, keep_caught_up}
+use Rattle.wf_law_runs.proofs.Windows.Sides.{slot_plain}
 use Rattle.wf_send_parts.specs.Tally.{Counts, held_in}
 use Rattle.wf_frame.specs.Classes.{tid_number}
 use Rattle.wf_queue_flows.specs.Flows.{SettingsValue}
@@ -40,7 +40,7 @@ use Rattle.wf_send_parts.specs.declared.exchanges.opened.Open.{Open}
 use Rattle.wf_send_parts.specs.declared.exchanges.opened.Sending.TheVariants.{Data, Request as Starts_at}
 use Rattle.wf_send_half_model.specs.Half.{TransmitValue}
 use Rattle.wf_send_half_model.specs.Standing.{sending_of, open_of, numbers_on_air, Parts, StandsFor}
-use Rattle.wf_send_half_model.specs.Ending.{after_close, ending_of, IsEnding}
+use Rattle.wf_send_half_model.specs.Ending.{after_close, ending_of, is_sent_once, IsEnding}
 use Rattle.wf_send_half_model.specs.Views.{Agreements}
 use Rattle.wf_send_half_model.proofs.Reached.{by_law}
 use Rattle.wf_send_half_model.proofs.Dropping.{held_counted, finished_known}
@@ -48,8 +48,9 @@ use Rattle.wf_send_half_model.proofs.Leavings.{HasPlace, has_place}
 use Rattle.wf_send_half_model.proofs.Endings.{found, begins, from_first, open_sent, of_windows, open_live, closed_agreements}
 use Rattle.wf_send_half_model.proofs.FitMarks.{unsent_at, given_up_at}
 use Rattle.wf_send_half_model.proofs.Marking.{each_at}
+use Rattle.wf_send_half_model.proofs.Repeats.{sent_once}
 use Rattle.wf_send_half_model.proofs.Dones.{data_world, done_reply, pending, request_tid, unheard_parts, heard_parts}
-use Rattle.wf_send_half.specs.Bits.{is_shown, end_of_index, report_of, EndAlike, CanFinish, IsToSettle, ended_reply, GoesBy}
+use Rattle.wf_send_half.specs.Bits.{is_shown, end_of_index, is_last_of, report_of, EndAlike, CanFinish, IsToSettle, ended_reply, GoesBy}
 use Rattle.wf_send_half_model.specs.Pulling.{is_wide_of}
 use Rattle.wf_send_half_model.proofs.Pulls.{wide_same}
 use Rattle.wf_send_half.specs.Counts.{count_of, AreCounted}
@@ -143,32 +144,49 @@ all_alike f p i (m ∷ ms) h =
           (h (suc j) (omega (arith, low)))),
     )
 
--- the same tests give the same end; what shows a number counts only if it went on the
--- air, and of a batch it is what arrived
-by_tests : (batch a b c d k f g : Bool) → a ≡ b → (batch ≡ false → b ≡ false → c ≡ d) →
-    (batch ≡ true → b ≡ false → c ≡ k) → f ≡ g →
-    (if a then End.Unsent else if c then End.Acknowledged else if batch || f then End.GivenUp else End.Missed)
-    ≡ (if batch then (if b then End.Unsent else if k then End.Acknowledged else End.GivenUp)
-    else (if b then End.Unsent else if d then End.Acknowledged else if g then End.GivenUp else End.Missed))
-by_tests true true true c d k f g first shown there last = refl
-by_tests true true false c d k f g first shown there last = absurd (cc first)
-by_tests true false true c d k f g first shown there last = absurd (cc first)
-by_tests true false false c d k f g first shown there last =
-    ap (λ (x : Bool). if x then End.Acknowledged else End.GivenUp) (there refl refl)
-by_tests false true true c d k f g first shown there last = refl
-by_tests false true false c d k f g first shown there last = absurd (cc first)
-by_tests false false true c d k f g first shown there last = absurd (cc first)
-by_tests false false false c d k f g first shown there last =
-    ap₂ (λ (x y : Bool). if x then End.Acknowledged else if y then End.GivenUp else End.Missed)
-    (shown refl refl) last
+-- a number that is not sent again ends at once
+at_once : (shown far given_up : Bool) →
+    (if shown then End.Acknowledged else if far || given_up then End.GivenUp else End.Missed)
+    ≡ (if far then end_at_once (if shown then End.Acknowledged else if given_up then End.GivenUp else
+    End.Missed)
+    else (if shown then End.Acknowledged else if given_up then End.GivenUp else End.Missed))
+at_once true true given_up = refl
+at_once true false given_up = refl
+at_once false true true = refl
+at_once false true false = refl
+at_once false false given_up = refl
 
--- ---- the numbers after the device caught up
+-- the same tests give the same end; what shows a number counts only if it went on the
+-- air, and of a batch it is what arrived; what is sent once only ends at once
+by_tests : (batch a b c d k f g once far : Bool) → a ≡ b → (batch ≡ false → b ≡ false → c ≡ d) →
+    (batch ≡ true → b ≡ false → c ≡ k) → f ≡ g → once ≡ far →
+    (if a then End.Unsent else if c then End.Acknowledged else if (batch || once) || f then End.GivenUp
+    else End.Missed)
+    ≡ (if batch then (if b then End.Unsent else if k then End.Acknowledged else End.GivenUp)
+    else if far then end_at_once (if b then End.Unsent else if d then End.Acknowledged
+    else if g then End.GivenUp else End.Missed)
+    else (if b then End.Unsent else if d then End.Acknowledged else if g then End.GivenUp else End.Missed))
+by_tests true true true c d k f g once far first shown there last same = refl
+by_tests true true false c d k f g once far first shown there last same = absurd (cc first)
+by_tests true false true c d k f g once far first shown there last same = absurd (cc first)
+by_tests true false false c d k f g once far first shown there last same =
+    ap (λ (x : Bool). if x then End.Acknowledged else End.GivenUp) (there refl refl)
+by_tests false true true c d k f g once true first shown there last same = refl
+by_tests false true true c d k f g once false first shown there last same = refl
+by_tests false true false c d k f g once far first shown there last same = absurd (cc first)
+by_tests false false true c d k f g once far first shown there last same = absurd (cc first)
+by_tests false false false c d k f g once far first shown there last same =
+    ap₂ (λ (x y : Bool). if x then End.Acknowledged else if y then End.GivenUp else End.Missed)
+    (shown refl refl) (ap₂ (λ (x y : Bool). x || y) same last)
+    ∙ at_once d far g
+
+-- ---- the numbers after the window caught up
 
 count_caught : (p : State → Bool) (w : World) (s t : ℕ) (ms : List Mpdu) →
-    count_of w s t ms p ≡ count_of (with_device_caught_up w s t) s t ms p
+    count_of w s t ms p ≡ count_of (caught_up_if_plain w s t) s t ms p
 count_caught p w s t [] = refl
 count_caught p w s t (m ∷ ms) =
-    let u : World = with_device_caught_up w s t in
+    let u : World = caught_up_if_plain w s t in
     let f : Mpdu → ℕ = λ k. cond (p (slot (session w s t) k.number).state) 1 0 in
     let g : Mpdu → ℕ = λ k. cond (p (slot (session u s t) k.number).state) 1 0 in
     omega (
@@ -176,11 +194,11 @@ count_caught p w s t (m ∷ ms) =
       sum_by-cons f m ms,
       sum_by-cons g m ms,
       count_caught p w s t ms,
-      ap {B = ℕ} (λ (y : Slot). cond (p y.state) 1 0) (slot_device w s t s t m.number),
+      ap {B = ℕ} (λ (y : Slot). cond (p y.state) 1 0) (slot_plain w s t s t m.number),
     )
 
 counted_caught : (w : World) (s t : ℕ) (ms : List Mpdu) (ended : Ended) → AreCounted w s t ms ended →
-    AreCounted (with_device_caught_up w s t) s t ms ended
+    AreCounted (caught_up_if_plain w s t) s t ms ended
 counted_caught w s t ms ended h = record {
   acked = h.acked ∙ count_caught is_acknowledged w s t ms;
   waiting = h.waiting ∙ count_caught is_waiting w s t ms;
@@ -310,11 +328,12 @@ module _ (v : TransmitValue) (w : World) (bodies : ℕ → FrameValue) (h : Stan
         }
 
     -- each number ends so by its index, by the report on its transmission
-    pub ends_alike : (r : Report) (answered : Bool) → r.batch ≡ x.batch → r.unsent ≡ x.unsent →
+    pub ends_alike : (r : Report) (answered : Bool) → r.last ≡ is_last_of v (open_of x) → r.unsent ≡ x.unsent
+        →
         r.given_up ≡ x.given_up → r.wide ≡ is_wide w x.station x.tid → GoesBy w x r.heard answered →
-        EndAlike (end_of_index r) (end_of x answered) 0 ms
-    ends_alike r answered batch unsent given_up wide goes =
-        all_alike (end_of_index r) (end_of x answered) 0 ms (λ i low.
+        EndAlike (end_of_index r) (end_of w x answered) 0 ms
+    ends_alike r answered once unsent given_up wide goes =
+        all_alike (end_of_index r) (end_of w x answered) 0 ms (λ i low.
         let m : Mpdu = at no_mpdu ms i in
         let here : 0 + i ≡ i = omega arith in
         let first : has r.unsent (0 + i) ≡ has (numbers_unsent x) m.number =
@@ -344,26 +363,29 @@ module _ (v : TransmitValue) (w : World) (bodies : ℕ → FrameValue) (h : Stan
         ap (λ (b : Bool). if has r.unsent (0 + i) then End.Unsent
         else if is_shown r.wide r.heard (on_air m.number) then End.Acknowledged
         else if b || has r.given_up (0 + i) then End.GivenUp
-        else End.Missed) batch
+        else End.Missed) once
         ∙ by_tests x.batch (has r.unsent (0 + i)) (has (numbers_unsent x) m.number)
         (is_shown r.wide r.heard (on_air m.number)) (is_acked answered x.answer m.number)
-        (has (numbers_arrived x) m.number) (has r.given_up (0 + i)) (has (numbers_given_up x) m.number) first
-        (λ no sent. alike sent ∙ sym (told no sent)) (λ yes sent. alike sent ∙ sym (there yes sent)) last)
+        (has (numbers_arrived x) m.number) (has r.given_up (0 + i)) (has (numbers_given_up x) m.number)
+        (is_sent_once v (open_of x)) (x.plain && is_far (session w x.station x.tid) m.number) first
+        (λ no sent. alike sent ∙ sym (told no sent)) (λ yes sent. alike sent ∙ sym (there yes sent)) last
+        (each_at (λ k. is_sent_once v (open_of x) ≡ x.plain && is_far (session w x.station x.tid) k.number)
+        ms i low (sent_once v w bodies h e x known ms sends.content)))
 
     -- after its numbers are settled, the half represents the world after the Done
     module _ (z : TransmitValue) (ended : Ended) (answered : Bool) where
       abbrev settled_all : World
-      settled_all = with_all_settled closed x.station x.tid (end_of x answered) ms
+      settled_all = with_all_settled closed x.station x.tid (end_of w x answered) ms
 
-      same_world : (done_outcome w x answered air).world ≡ with_device_caught_up settled_all x.station x.tid
+      same_world : (done_outcome w x answered air).world ≡ caught_up_if_plain settled_all x.station x.tid
       same_world = data_world w x answered air ms sends.content
 
       pub live_settled : is_live settled_all x.station ≡ true
-      live_settled = sym ((keep_device settled_all x.station x.tid).live x.station)
+      live_settled = sym ((keep_caught_up settled_all x.station x.tid).live x.station)
           ∙ (sym (ap (λ (u : World). is_live u x.station) same_world)
           ∙ ((keep_ended air w x answered).live x.station ∙ open_live w h.reached e x known))
 
-      pub data_parts : Parts z (with_device_caught_up settled_all x.station x.tid) bodies →
+      pub data_parts : Parts z (caught_up_if_plain settled_all x.station x.tid) bodies →
           Parts z (done_outcome w x answered air).world bodies
       data_parts parts = subst (λ (u : World). Parts z u bodies) (sym same_world) parts
 
@@ -527,10 +549,14 @@ module _ (v : TransmitValue) (w : World) (bodies : ℕ → FrameValue) (h : Stan
         wide_is is told = told ∙ wide_same v w bodies x.station x.tid h.parts there
             (begun numbers is (λ n. End.Missed)).tid
 
+        last_is : r.last ≡ is_last_of v (open_of x)
+        last_is = ap (λ (k : Report). k.last) is_report
+            ∙ carried (λ k z. is_last_of z k ≡ is_last_of v (open_of x)) refl
+
         alike : (is : sending_of x.content ≡ Data numbers) → r.wide ≡ is_wide_of v x.station x.tid →
-            EndAlike (end_of_index r) (end_of x answered) 0 (sends numbers is).mpdus
+            EndAlike (end_of_index r) (end_of w x answered) 0 (sends numbers is).mpdus
         alike is told = ends_alike numbers is r answered
-            (ap (λ (k : Report). k.batch) is_report ∙ ap (λ (k : Open). k.batch) same)
+            last_is
             (ap (λ (k : Report). k.unsent) is_report ∙ ap (λ (k : Open). k.unsent) same)
             (ap (λ (k : Report). k.given_up) is_report ∙ ap (λ (k : Open). k.given_up) same)
             (wide_is is told) goes_here
@@ -540,7 +566,7 @@ module _ (v : TransmitValue) (w : World) (bodies : ℕ → FrameValue) (h : Stan
             IsEnding self u bs o.station o.tid n ends mpdus after → EndAlike (end_of_index r) ends 0 mpdus →
             numbers ≡ numbers_on_air mpdus → Parts z after bs) →
             ((u : World) (bs : ℕ → FrameValue) → Parts z u bs → is_live u o.station ≡ true →
-            Parts y (with_device_caught_up u o.station o.tid) bs) →
+            Parts y (caught_up_if_plain u o.station o.tid) bs) →
             Parts y (done_outcome w x answered air).world bodies
         data_settled z y sends_data = carried (λ k c. k.sending ≡ Data numbers →
             r.wide ≡ is_wide_of c k.station k.tid →
@@ -548,13 +574,13 @@ module _ (v : TransmitValue) (w : World) (bodies : ℕ → FrameValue) (h : Stan
             IsEnding c u bs k.station k.tid n ends mpdus after → EndAlike (end_of_index r) ends 0 mpdus →
             numbers ≡ numbers_on_air mpdus → Parts z after bs) →
             ((u : World) (bs : ℕ → FrameValue) → Parts z u bs → is_live u k.station ≡ true →
-            Parts y (with_device_caught_up u k.station k.tid) bs) →
+            Parts y (caught_up_if_plain u k.station k.tid) bs) →
             Parts y (done_outcome w x answered air).world bodies)
             (λ is told all caught.
             let none : Ended = record { acked = 0; waiting = 0; failed = 0 } in
             data_parts numbers is y none answered
-            (caught _ bodies (all closed _ bodies x.number (end_of x answered) (sends numbers is).mpdus
-            (begun numbers is (end_of x answered)) (alike is told) (sends numbers is).air)
+            (caught _ bodies (all closed _ bodies x.number (end_of w x answered) (sends numbers is).mpdus
+            (begun numbers is (end_of w x answered)) (alike is told) (sends numbers is).air)
             (live_settled numbers is y none answered)))
             sends_data told_wide
 
@@ -570,8 +596,8 @@ module _ (v : TransmitValue) (w : World) (bodies : ℕ → FrameValue) (h : Stan
             numbers ≡ numbers_on_air mpdus → AreCounted after k.station k.tid mpdus ended) →
             ended_reply ended ≡ (done_outcome w x answered air).reply)
             (λ is told all. data_reply numbers is v ended answered
-            (all closed _ bodies x.number (end_of x answered) (sends numbers is).mpdus
-            (begun numbers is (end_of x answered)) (alike is told) (sends numbers is).air))
+            (all closed _ bodies x.number (end_of w x answered) (sends numbers is).mpdus
+            (begun numbers is (end_of w x answered)) (alike is told) (sends numbers is).air))
             sends_data told_wide
 
       -- a request

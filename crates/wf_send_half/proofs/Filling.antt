@@ -1,5 +1,5 @@
 -- Proves the filling of an aggregate, number by number: waiting numbers, then fresh frames.
-use Rattle.std.proofs.Common.{◌≡◌, refl, ap, ap₂, sym, ◌∙◌, subst, arith, ℕ, ◌+◌, ◌%◌, ◌<◌, ◌≤◌, ◌&&◌, nat_le, nat_lt, Bool, true, false, List, [], ◌∷◌, ◌++◌, length, map, Option, Some, None, IfSome, option_map}
+use Rattle.std.proofs.Common.{◌≡◌, refl, ap, ap₂, sym, ◌∙◌, subst, arith, ℕ, ◌+◌, ◌%◌, ◌<◌, ◌≤◌, ◌&&◌, nat_le, nat_lt, Bool, true, false, not, List, [], ◌∷◌, ◌++◌, length, map, Option, Some, None, IfSome, option_map}
 use Rattle.std.proofs.lemmas.List.{length-map, length-append}
 use Rattle.std.proofs.lemmas.Bool.Decides.{nat_tests}
 use Rattle.wf_frame.specs.Frames.{FrameValue}
@@ -9,15 +9,13 @@ use Rattle.wf_def_world.specs.World.{World, Bounds, Mpdu, session, codel_params}
 use Rattle.wf_def_world.specs.Exchanges.{Aggregate, aggregate_of, lens_of, mpdu_of}
 use Rattle.wf_air.specs.declared.fit.SizeLimits.{SizeLimits}
 use Rattle.wf_air.specs.Sizes.{AggregateSizeValue, SizeStandsFor as SizeStandsFor, empty_size}
-use Rattle.wf_frame.specs.Classes.{tid_number}
-use Rattle.wf_queue_flows.specs.Flows.{frames_of_tid}
 use Rattle.wf_send_parts.specs.Listing.{IsListedNext}
-use Rattle.wf_send_parts.specs.Window.{WindowStandsFor as WindowStandsFor, IsNumber, can_take, on_air, waiting_from}
+use Rattle.wf_send_parts.specs.Window.{WindowStandsFor as WindowStandsFor, IsNumber, on_air, waiting_from}
 use Rattle.wf_send_parts.proofs.Listing.{listing_next}
 use Rattle.wf_send_parts.specs.declared.stations.members.Member.{Member}
 use Rattle.wf_send_parts.specs.Members.{member}
 use Rattle.wf_send_parts.specs.Windows.{window_of}
-use Rattle.wf_send_half_model.specs.Half.{TransmitValue}
+use Rattle.wf_send_half_model.specs.Half.{TransmitValue, can_give_of}
 use Rattle.wf_send_half_model.specs.Filling.{IsToFill, room_for, IsChoosing, IsFilling, IsFilled, after_giving}
 use Rattle.wf_send_half_model.specs.Pulling.{is_wide_of}
 use Rattle.wf_send_half_model.proofs.Asked.{params_read, room_read}
@@ -161,13 +159,29 @@ module _ (v : TransmitValue) (w : World) (bodies : ℕ → FrameValue) (s t : �
 
 -- ---- fresh frames
 
--- a frame is queued and the window has room, or not
+-- a frame is queued and can get a number, or not
 pub both_give : {n : ℕ} {takes : Bool} → 0 < n → takes ≡ true → (nat_lt 0 n && takes) ≡ true
 both_give some e = grind (arith, nat_tests)
 
 pub takes_none : (some takes : Bool) → takes ≡ false → (some && takes) ≡ false
 takes_none true takes e = e
 takes_none false takes e = refl
+
+-- its window takes one and the TID is not held, or not
+pub takes_number : (can held : Bool) → can ≡ true → held ≡ false → (can && not held) ≡ true
+takes_number true false a b = refl
+takes_number true true a b = absurd (cc b)
+takes_number false held a b = absurd (cc a)
+
+pub takes_no_number : (can held : Bool) → can ≡ false → (can && not held) ≡ false
+takes_no_number false held e = refl
+takes_no_number true held e = absurd (cc e)
+
+pub held_gives : (some can held : Bool) → held ≡ true → (some && (can && not held)) ≡ false
+held_gives true true true e = refl
+held_gives true false true e = refl
+held_gives false can true e = refl
+held_gives some can false e = absurd (cc e)
 
 pub none_queued : (n : ℕ) (takes : Bool) → n ≡ 0 → (nat_lt 0 n && takes) ≡ false
 none_queued n takes e = subst (λ (k : ℕ). (nat_lt 0 k && takes) ≡ false) (sym e) refl
@@ -176,7 +190,7 @@ module _ (v : TransmitValue) (bodies : ℕ → FrameValue) (s t : ℕ) (room : A
     (numbers : List ℕ)
     (after : Aggregate) (h : AggregateGoesOn v bodies s t room numbers after)
     (few : length numbers < room.limits.frames)
-    (gives : (nat_lt 0 (frames_of_tid v.flows (tid_number s t)) && can_take (window_of v.windows s t)) ≡ true)
+    (gives : can_give_of v s t ≡ true)
     (u : TransmitValue) (number len : ℕ) (given : IsGivenNumber v u s t number len) (size : ℕ)
     (protected : size ≡ len + v.config.overhead) where
   left : IsFilling v h.world bodies s t room numbers h.mpdus after

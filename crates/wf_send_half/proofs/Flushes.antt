@@ -1,5 +1,7 @@
--- Proves the steps of a flush of a TID from what each does to the parts of the half.
+-- Proves the steps of a flush of a TID, and of the drop of its waiting numbers for any cause, from what each
+-- does to the parts of the half.
 use Rattle.std.proofs.Common.{◌≡◌, ◌≢◌, refl, ap, sym, ◌∙◌, subst, arith, ℕ, ◌+◌, ◌%◌, ◌<◌, ◌≤◌, ◌^◌, true, is_some, List, [], ◌∷◌, ◌++◌, length, length-append, Option, None}
+use Rattle.wf_frame.specs.declared.classes.Cause.{Cause}
 use Rattle.wf_frame.specs.declared.classes.Cause.TheVariants.{Flushed}
 use Rattle.wf_frame.specs.declared.classes.Fate.TheVariants.{Held, Dropped}
 use Rattle.wf_frame.specs.declared.notes.Ask.TheVariants.{Flush}
@@ -10,7 +12,7 @@ use Rattle.wf_frame.specs.Classes.{tid_number}
 use Rattle.wf_frame.specs.Frames.{FrameValue}
 use Rattle.wf_def_agreement.specs.Session.{Session, start_of, next_number}
 use Rattle.wf_def_world.specs.World.{World, is_live, session}
-use Rattle.wf_def_world.specs.Exchanges.{with_device_caught_up}
+use Rattle.wf_def_world.specs.Exchanges.{caught_up_if_plain}
 use Rattle.wf_def_world.specs.Refusals.{refusal}
 use Rattle.wf_octets.specs.Distance.{distance}
 use Rattle.wf_queue_flows.specs.Backlog.{held_in_backlog}
@@ -42,65 +44,70 @@ FlushesNone from before after = (s : Session) (bodies : ℕ → FrameValue) (n :
     (waiting_from s n ≡ None) × WindowStandsFor after s bodies
 
 -- the first waiting number from `from` on failed, with frame p
-abbrev pub FlushesOne : ℕ → WindowValue → WindowValue → FrameValue → ℕ → Type 0
-FlushesOne from before after p next = (limit : ℕ) (s : Session) (bodies : ℕ → FrameValue) (n : ℕ) →
+abbrev pub FlushesOne : Cause → ℕ → WindowValue → WindowValue → FrameValue → ℕ → Type 0
+FlushesOne cause from before after p next = (limit : ℕ) (s : Session) (bodies : ℕ → FrameValue) (n : ℕ) →
     WindowStandsFor before s bodies → from ≡ n % 4096 → start_of s ≤ n → n ≤ next_number s →
-    IsFlushed limit s bodies n after p next
+    IsFlushed cause limit s bodies n after p next
 
 -- x is the value of the fields of the half v
-module _ (v x : TransmitValue) (same : x ≡ v) (s t from : ℕ) where
+module _ (cause : Cause) (v x : TransmitValue) (same : x ≡ v) (s t from : ℕ) where
   flushing_at : (before : TransmitValue) (w : World) (bodies : ℕ → FrameValue) (dropped : ℕ)
-      (g : GivesFlushed before w bodies s t v dropped from) → IsFlushing before w bodies s t x g.frames from
+      (g : GivesFlushed cause before w bodies s t v dropped from) → IsFlushing cause before w bodies s t x
+      g.frames from
   flushing_at before w bodies dropped g = subst
-      (λ (z : TransmitValue). IsFlushing before w bodies s t z g.frames from) (sym same) g.flushing
+      (λ (z : TransmitValue). IsFlushing cause before w bodies s t z g.frames from) (sym same) g.flushing
 
-  pub number_there : SomeFlushes v s t from → tid_number s t < length x.windows
-  number_there some = flush_within some.before x some.world some.bodies s t some.gives.frames from
+  pub number_there : SomeFlushes cause v s t from → tid_number s t < length x.windows
+  number_there some = flush_within cause some.before x some.world some.bodies s t some.gives.frames from
       (flushing_at some.before some.world some.bodies some.dropped some.gives)
 
-  pub search_near : SomeFlushes v s t from →
+  pub search_near : SomeFlushes cause v s t from →
       distance from (window_of x.windows s t).start ≤ length (window_of x.windows s t).places
-  search_near some = flushing_near some.world.config.attempts (window_of x.windows s t)
+  search_near some = flushing_near cause some.world.config.attempts (window_of x.windows s t)
       (session some.world s t) some.bodies some.gives.frames from
       (flushing_at some.before some.world some.bodies some.dropped some.gives).flushed
 
   -- the window gave p, and the search goes on at `next`
   module _ (p : FrameValue) (next : ℕ) (windows : List WindowValue)
-      (gives : FlushesOne from (window_of x.windows s t) (window_of windows s t) p next) where
+      (gives : FlushesOne cause from (window_of x.windows s t) (window_of windows s t) p next) where
     module _ (before : TransmitValue) (w : World) (bodies : ℕ → FrameValue) (dropped : ℕ)
-        (g : GivesFlushed before w bodies s t v dropped from) where
-      now : IsFlushing before w bodies s t x g.frames from
+        (g : GivesFlushed cause before w bodies s t v dropped from) where
+      now : IsFlushing cause before w bodies s t x g.frames from
       now = flushing_at before w bodies dropped g
 
-      one : IsFlushed w.config.attempts now.flushed.now bodies now.flushed.search.number (window_of windows s t)
+      one : IsFlushed cause w.config.attempts now.flushed.now bodies now.flushed.search.number
+          (window_of windows s t)
           p next
       one = gives w.config.attempts now.flushed.now bodies now.flushed.search.number now.flushed.stands
           now.flushed.search.on_air now.flushed.search.from_start now.flushed.search.to_next
 
-      goes_on : HasFlushed w.config.attempts (window_of windows s t) (session w s t) bodies
+      goes_on : HasFlushed cause w.config.attempts (window_of windows s t) (session w s t) bodies
           (g.frames ++ p ∷ []) next
-      goes_on = flushing_next w.config.attempts (window_of x.windows s t) (session w s t) bodies g.frames from
+      goes_on = flushing_next cause w.config.attempts (window_of x.windows s t) (session w s t) bodies
+          g.frames from
           now.flushed (window_of windows s t) p next one
 
-      fate_is : p.fate ≡ Dropped Flushed
+      fate_is : p.fate ≡ Dropped cause
       fate_is = ap (λ (f : FrameValue). f.fate) one.dropped
 
       room_now : (held_in_backlog x.flows.backlog < x.flows.backlog.room) × (1 ≤ held_in x.tally)
-      room_now = flush_room before x w bodies s t g.frames from now (window_of windows s t) p next goes_on
+      room_now = flush_room cause before x w bodies s t g.frames from now (window_of windows s t) p next
+          goes_on
 
       pub flushed_further : WindowsHaveRoom windows →
           windows ≡ with_window x.windows s t (window_of windows s t) →
-          GivesFlushed before w bodies s t (after_finish (record x { windows = windows }) p) (dropped + 1) next
+          GivesFlushed cause before w bodies s t (after_finish (record x { windows = windows }) p)
+          (dropped + 1) next
       flushed_further room others = record {
         frames = g.frames ++ p ∷ [];
         counted = omega (arith, length-append g.frames (p ∷ []), g.counted);
-        flushing = subst (λ (l : List WindowValue). IsFlushing before w bodies s t
+        flushing = subst (λ (l : List WindowValue). IsFlushing cause before w bodies s t
             (after_finish (record x { windows = l }) p) (g.frames ++ p ∷ []) next) (sym others)
-            (flush_next before x w bodies s t g.frames from now (window_of windows s t) p next goes_on
+            (flush_next cause before x w bodies s t g.frames from now (window_of windows s t) p next goes_on
             (subst WindowsHaveRoom others room) fate_is);
       }
 
-    module _ (some : SomeFlushes v s t from) where
+    module _ (some : SomeFlushes cause v s t from) where
       pub has_fate : p.fate ≢ Held
       has_fate e = absurd (cc (e, fate_is some.before some.world some.bodies some.dropped some.gives))
 
@@ -113,35 +120,39 @@ module _ (v x : TransmitValue) (same : x ≡ v) (s t from : ℕ) where
       FlushesNone from (window_of x.windows s t) (window_of windows s t) → WindowsHaveRoom windows →
       windows ≡ with_window x.windows s t (window_of windows s t) →
       (before : TransmitValue) (w : World) (bodies : ℕ → FrameValue) (dropped : ℕ) →
-      GivesFlushed before w bodies s t v dropped from →
-      HasNumbersFlushed before w bodies s t (record x { windows = windows }) dropped
+      GivesFlushed cause before w bodies s t v dropped from →
+      HasNumbersFlushed cause before w bodies s t (record x { windows = windows }) dropped
   flushed_all windows gives room others before w bodies dropped g =
-      let now : IsFlushing before w bodies s t x g.frames from = flushing_at before w bodies dropped g in
+      let now : IsFlushing cause before w bodies s t x g.frames from = flushing_at before w bodies dropped g
+      in
       let k = gives now.flushed.now bodies now.flushed.search.number now.flushed.stands
       now.flushed.search.on_air now.flushed.search.from_start now.flushed.search.to_next in
-      let ends = flushing_ends w.config.attempts (window_of x.windows s t) (session w s t) bodies g.frames from
+      let ends = flushing_ends cause w.config.attempts (window_of x.windows s t) (session w s t) bodies
+      g.frames from
       now.flushed (window_of windows s t) k.0 k.1 in
-      subst (λ (n : ℕ). HasNumbersFlushed before w bodies s t (record x { windows = windows }) n) g.counted
-      (subst (λ (l : List WindowValue). HasNumbersFlushed before w bodies s t (record x { windows = l })
+      subst (λ (n : ℕ). HasNumbersFlushed cause before w bodies s t (record x { windows = windows }) n)
+      g.counted
+      (subst (λ (l : List WindowValue). HasNumbersFlushed cause before w bodies s t (record x { windows = l })
       (length g.frames)) (sym others)
-      (flush_ends before x w bodies s t g.frames from now (window_of windows s t)
+      (flush_ends cause before x w bodies s t g.frames from now (window_of windows s t)
       (subst WindowsHaveRoom others room) ends.0 ends.1))
 
-pub first_flushes : (v : TransmitValue) (w : World) (bodies : ℕ → FrameValue) (s t from : ℕ) →
-    StandsFor v w bodies → refusal w (Asked (Flush s t)) ≡ None → from ≡ (window_of v.windows s t).start →
-    GivesFlushed v w bodies s t v 0 from
-first_flushes v w bodies s t from h e at = record {
+pub first_flushes : (cause : Cause) (v : TransmitValue) (w : World) (bodies : ℕ → FrameValue) (s t from : ℕ) →
+    StandsFor v w bodies → is_live w s ≡ true → t < 8 → from ≡ (window_of v.windows s t).start →
+    GivesFlushed cause v w bodies s t v 0 from
+first_flushes cause v w bodies s t from h live low at = record {
   frames = [];
   counted = refl;
-  flushing = subst (λ (n : ℕ). IsFlushing v w bodies s t v [] n) (sym at) (flush_begins v w bodies s t h e);
+  flushing = subst (λ (n : ℕ). IsFlushing cause v w bodies s t v [] n) (sym at)
+      (flush_begins cause v w bodies s t h live low);
 }
 
 -- the number of dropped frames is bounded
-pub flushed_few : (before v : TransmitValue) (w : World) (bodies : ℕ → FrameValue) (s t dropped from : ℕ) →
-    GivesFlushed before w bodies s t v dropped from → dropped < 2 ^ 32
-flushed_few before v w bodies s t dropped from g = omega (
+pub flushed_few : (cause : Cause) (before v : TransmitValue) (w : World) (bodies : ℕ → FrameValue)
+    (s t dropped from : ℕ) → GivesFlushed cause before w bodies s t v dropped from → dropped < 2 ^ 32
+flushed_few cause before v w bodies s t dropped from g = omega (
   arith,
-  flushing_few before v w bodies s t g.frames from g.flushing,
+  flushing_few cause before v w bodies s t g.frames from g.flushing,
   g.counted,
   g.flushing.may.stood.reached.in_range.room.1,
 )
@@ -150,9 +161,11 @@ flushed_few before v w bodies s t dropped from g = omega (
 
 -- no number of v waits any longer, and x is the value of its fields
 module _ (before v x : TransmitValue) (same : x ≡ v) (w : World) (bodies : ℕ → FrameValue) (s t dropped : ℕ)
-    (left : HasNumbersFlushed before w bodies s t v dropped) where
-  left_at : HasNumbersFlushed before w bodies s t x dropped
-  left_at = subst (λ (z : TransmitValue). HasNumbersFlushed before w bodies s t z dropped) (sym same) left
+    (left : HasNumbersFlushed Flushed before w bodies s t v dropped)
+    (fine : refusal w (Asked (Flush s t)) ≡ None) where
+  left_at : HasNumbersFlushed Flushed before w bodies s t x dropped
+  left_at = subst (λ (z : TransmitValue). HasNumbersFlushed Flushed before w bodies s t z dropped) (sym same)
+      left
 
   pub queues_held : frames_of_tid x.flows (tid_number s t) ≤ held_in x.tally
   queues_held = flush_held before x w bodies s t dropped left_at
@@ -182,10 +195,10 @@ module _ (before v x : TransmitValue) (same : x ≡ v) (w : World) (bodies : ℕ
       (same ∙ ap (λ (z : TransmitValue). z.members) left_at.rest)
       ∙ live_same before w bodies s left.may.stood.parts ∙ left.may.live
 
-  -- u is the half after the queues are emptied and the device caught up
+  -- u is the half after the queues are emptied and the window caught up
   pub flush_done : (queued : ℕ) → queued ≡ frames_of_tid x.flows (tid_number s t) → {y : TransmitValue} →
       y ≡ with_queues_flushed x s t queued → (u after : TransmitValue) →
-      ((z : World) → Parts y z bodies → is_live z s ≡ true → Parts u (with_device_caught_up z s t) bodies) →
+      ((z : World) → Parts y z bodies → is_live z s ≡ true → Parts u (caught_up_if_plain z s t) bodies) →
       after ≡ after_listing u s → Meets w bodies (Asked (Flush s t)) after (reply.Flushed (dropped + queued))
   flush_done queued count {y} y_is u after caught is =
       let parts : Parts y (tid_emptied w s t) bodies =
@@ -196,6 +209,6 @@ module _ (before v x : TransmitValue) (same : x ≡ v) (w : World) (bodies : ℕ
       subst (λ (n : ℕ). Meets w bodies (Asked (Flush s t)) after (reply.Flushed (dropped + n))) (sym count)
       (met_by (after_listing u s) after w bodies (Asked (Flush s t))
       (reply.Flushed (dropped + frames_of_tid x.flows (tid_number s t))) is
-      (flush_meets before x w bodies s t dropped left_at u
+      (flush_meets before x w bodies s t dropped left_at u fine
       (caught (tid_emptied w s t) parts
       (live_then y (ap (λ (z : TransmitValue). z.members) y_is) parts))))

@@ -9,11 +9,9 @@ use Rattle.wf_send_parts.specs.Window.{WindowValue, WindowStandsFor as WindowSta
 use Rattle.wf_send_parts.specs.Sent.{with_one_sent, with_all_sent}
 use Rattle.wf_send_parts.proofs.Sending.{all_sent_then}
 use Rattle.wf_send_parts.specs.Windows.{WindowsHaveRoom, window_of, with_window}
-use Rattle.wf_send_half_model.specs.Half.{TransmitValue}
+use Rattle.wf_send_half_model.specs.Half.{TransmitValue, is_plain_of}
 use Rattle.wf_send_half_model.specs.Standing.{numbers_on_air}
-use Rattle.wf_send_half_model.specs.Filling.{IsTakingOff, IsFilled, IsToFill}
-use Rattle.wf_def_air.specs.Airtime.{data_charge}
-use Rattle.wf_def_air.specs.Fit.{aggregate_octets}
+use Rattle.wf_send_half_model.specs.Filling.{IsTakingOff, IsFilled, IsToFill, charge_in}
 use Rattle.wf_air.specs.Sizes.{AggregateSizeValue, SizeStandsFor as SizeStandsFor}
 use Rattle.wf_def_world.specs.Exchanges.{Aggregate, aggregate_of, prepared_data, lens_of}
 use Rattle.wf_send_half_model.proofs.Sends.{filled_charge}
@@ -159,8 +157,7 @@ module _ (v : TransmitValue) (bodies : ℕ → FrameValue) (s t : ℕ) (room : A
   module _ (w : World) (is : aggregate_of w s t ≡ a) where
     pub filled_flies : (u : TransmitValue) (pairs : List (ℕ × ℕ)) (charge : ℕ) →
         IsFlying u bodies s t v.exchanges a.mpdus (prepared_data s t a).world (length a.mpdus) pairs →
-        ((lens : List ℕ) → SizeStandsFor room lens → charge
-        ≡ data_charge room.answers room.rate (aggregate_octets lens) room.wide) →
+        ((lens : List ℕ) → SizeStandsFor room lens → charge ≡ charge_in room (is_plain_of v s t) lens) →
         IsPrepared u w bodies s t charge numbers pairs
     filled_flies u pairs charge flying air =
         subst (λ (b : Aggregate). IsPreparedAs u b bodies s t charge numbers pairs) (sym is) (record {

@@ -47,14 +47,20 @@ Leaves v y grow note reply = (w : World) (bodies : ℕ → FrameValue) → Stand
 abbrev pub same_bodies : (ℕ → FrameValue) → ℕ → FrameValue
 same_bodies bodies = bodies
 
-pub kept_unheard : (v y : TransmitValue) (grow : (ℕ → FrameValue) → ℕ → FrameValue) (note : Note)
-    (reply : ReplyNote) → Leaves v y grow note reply → IsSilent note → HasUnheardWorld v → HasUnheardWorld y
-kept_unheard v y grow note reply meets k h = record {
+-- one unheard world is enough, with its answer
+pub kept_at : (v y : TransmitValue) (grow : (ℕ → FrameValue) → ℕ → FrameValue) (note : Note)
+    (reply : ReplyNote) (h : HasUnheardWorld v) → Meets h.world (grow h.bodies) note y reply → IsSilent note →
+    HasUnheardWorld y
+kept_at v y grow note reply h m k = record {
   world = (step h.world note).world;
   bodies = grow h.bodies;
-  stands = (meets h.world h.bodies h.stands).stands;
+  stands = m.stands;
   unheard = silent_at h.world note h.stands.reached k h.unheard;
 }
+
+pub kept_unheard : (v y : TransmitValue) (grow : (ℕ → FrameValue) → ℕ → FrameValue) (note : Note)
+    (reply : ReplyNote) → Leaves v y grow note reply → IsSilent note → HasUnheardWorld v → HasUnheardWorld y
+kept_unheard v y grow note reply meets k h = kept_at v y grow note reply h (meets h.world h.bodies h.stands) k
 
 -- ---- the flags
 
@@ -107,16 +113,15 @@ tracked_still v y r ask reply h meets k e = record {
 }
 
 -- a call that concerns one station, whose four flags are set then
-pub tracked_station : (v y : TransmitValue) (r : Flags) (ask : Ask) (reply : ReplyNote) → IsTracked v r →
-    Leaves v y same_bodies (Asked ask) reply → IsSilent (Asked ask) → (s : ℕ) →
+pub tracked_station : (v y : TransmitValue) (r : Flags) (ask : Ask) (reply : ReplyNote) (h : IsTracked v r) →
+    Meets h.some.world h.some.bodies (Asked ask) y reply → IsSilent (Asked ask) → (s : ℕ) →
     ((w : World) → concerned_station w (Asked ask) ≡ Some s) → s < v.config.stations →
     IsTracked y (with_flags r y s)
-tracked_station v y r ask reply h meets k s concerned low =
-    let m = meets h.some.world h.some.bodies h.some.stands in
+tracked_station v y r ask reply h m k s concerned low =
     let config : v.config ≡ y.config = same_config v y h.some.world h.some.bodies h.some.bodies
     (Asked ask) reply h.some.stands m in
     record {
-      some = kept_unheard v y same_bodies (Asked ask) reply meets k h.some;
+      some = kept_at v y same_bodies (Asked ask) reply h.some m k;
       flags = set_four y r s (nearly_asked v y r h.flags h.some.world h.some.bodies h.some.bodies ask reply
           h.some.stands m s (concerned h.some.world)) (subst (λ (z : Config). s < z.stations) config low);
     }

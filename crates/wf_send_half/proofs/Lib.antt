@@ -11,6 +11,7 @@ mod Weighing
 mod Enqueues
 mod Settling
 mod Catching
+mod Agreements
 pub mod Ends
 pub mod Dones
 pub mod Driven

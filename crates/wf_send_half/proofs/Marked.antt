@@ -177,7 +177,8 @@ module _ (v : TransmitValue) (w : World) (bodies : ℕ → FrameValue) (h : Stan
     sent = sends_frame x.content i seq (number_is ∙ is)
 
     pub carried_tid : carried.tid < 8
-    carried_tid = along (λ s t. t < 8) (marked_tid v w bodies h e x sent.mpdus here.known sent.content i sent.low)
+    carried_tid = along (λ s t. t < 8) (marked_tid v w bodies h e x sent.mpdus here.known sent.content i
+        sent.low)
 
     pub carried_within : tid_number carried.station carried.tid < length v.windows
     carried_within = along (λ s t. tid_number s t < length v.windows)

@@ -17,6 +17,8 @@ use Rattle.wf_send_parts.specs.Sleepers.{awake}
 use Rattle.wf_send_half_model.specs.Half.{TransmitValue, opening_half}
 use Rattle.wf_send_half_model.specs.Standing.{StandsFor}
 use Rattle.wf_send_half_model.proofs.Opening.{new_stands}
+use Rattle.wf_send_parts.specs.declared.stations.modes.Mode.{Mode}
+use Rattle.wf_send_parts.specs.declared.stations.modes.Mode.TheVariants.{Plain}
 use Rattle.wf_send_half.specs.Half.{HasSizes}
 
 -- any frame, for the ids that are not accepted yet
@@ -29,15 +31,18 @@ opening_sizes c range = record {
   flows = refl;
   sched = refl;
   windows = length-replicate (8 * c.stations) new_window;
+  modes = length-replicate (8 * c.stations) Plain;
   members = length-replicate {A = Option Member} c.stations None;
   sleepers = length-replicate c.stations awake;
 }
 
 module _ (c : Config) (flows : FlowsValue) (sched : SchedValue) (windows : List WindowValue)
-    (members : List (Option Member)) (sleepers : List Sleeper) (opened : List Open) (tally : Counts)
+    (modes : List Mode) (members : List (Option Member)) (sleepers : List Sleeper) (opened : List Open)
+    (tally : Counts)
     (range : IsInRange c)
     (a : flows ≡ empty_flows c) (b : sched ≡ empty_sched c.stations c.quantum)
-    (d : windows ≡ replicate (8 * c.stations) new_window) (e : members ≡ replicate c.stations None)
+    (d : windows ≡ replicate (8 * c.stations) new_window) (j : modes ≡ replicate (8 * c.stations) Plain)
+    (e : members ≡ replicate c.stations None)
     (f : sleepers ≡ replicate c.stations awake) (g : opened ≡ []) (i : tally ≡ no_counts) where
   abbrev made : TransmitValue
   made = record {
@@ -47,8 +52,8 @@ module _ (c : Config) (flows : FlowsValue) (sched : SchedValue) (windows : List 
     inside = 0;
     flows = flows;
     sched = sched;
-    windows =
-        windows;
+    windows = windows;
+    modes = modes;
     members = members;
     sleepers = sleepers;
     opened = opened;
@@ -65,6 +70,13 @@ module _ (c : Config) (flows : FlowsValue) (sched : SchedValue) (windows : List 
             empty_sched c.stations c.quantum;
         windows = x;
       }) d
+      ∙ ap (λ (x : List Mode). record (opening_half c) {
+        modes = x;
+        members = members;
+        sleepers = sleepers;
+        opened = opened;
+        tally = tally;
+      }) j
       ∙ ap (λ (x : List (Option Member)). record (opening_half c) {
         members = x;
         sleepers = sleepers;

@@ -9,6 +9,7 @@ use Rattle.wf_send_parts.specs.declared.exchanges.opened.Open.{Open}
 use Rattle.std.proofs.lemmas.List.{get_or-set_same}
 use Rattle.wf_frame.specs.declared.answers.Brief.{Brief}
 use Rattle.wf_frame.specs.declared.answers.Brief.TheVariants.{Send}
+use Rattle.wf_frame.specs.declared.answers.Kind.{Kind}
 use Rattle.wf_frame.specs.declared.classes.Class.{Class}
 use Rattle.wf_frame.specs.declared.notes.Ask.TheVariants.{Pull}
 use Rattle.wf_frame.specs.declared.notes.Limits.{Limits}
@@ -52,7 +53,7 @@ use Rattle.wf_send_parts.specs.declared.stations.members.Member.{Member}
 use Rattle.wf_send_parts.specs.Exchanges.{airtime_of}
 use Rattle.wf_send_parts.specs.Members.{member, is_offloaded_in, with_upper}
 use Rattle.wf_send_parts.specs.Windows.{window_of}
-use Rattle.wf_send_half_model.specs.Half.{TransmitValue, can_send_of, is_ahead_of}
+use Rattle.wf_send_half_model.specs.Half.{TransmitValue, is_plain_of, can_send_of, is_ahead_of}
 use Rattle.wf_send_half_model.specs.Standing.{IsMember, AreBoth, IsReached, Parts, StandsFor, Meets}
 use Rattle.wf_send_half_model.specs.Changes.{after_listing_in}
 use Rattle.wf_send_half_model.specs.Filling.{after_pick_within, IsTurned}
@@ -66,7 +67,7 @@ use Rattle.wf_send_half_model.proofs.Readers.{can_send_same, live_same, ready_sa
 use Rattle.wf_send_half_model.proofs.Sends.{winner_live, turn_tid, turned, request_meets, data_meets}
 use Rattle.wf_send_parts.specs.Sent.{with_all_sent, with_one_sent}
 use Rattle.wf_send_half.specs.Replies.{bodies_sent}
-use Rattle.wf_send_half.specs.Pulls.{HasLengths, TakesAggregates, IsSameButFrames, IsPreparedAs, TellsWhoIsReady, IsPickedInClass, HasToPrepare, IsRequestDue, IsData, IsPreparedFor, pairs_of, start_sent}
+use Rattle.wf_send_half.specs.Pulls.{HasLengths, TakesAggregates, IsSameButFrames, IsPreparedAs, TellsWhoIsReady, IsPickedInClass, HasToPrepare, IsRequestDue, IsData, IsPreparedFor, pairs_of, start_sent, kind_of, kind_in}
 
 -- ---- facts about the worlds of a run
 
@@ -134,10 +135,12 @@ ids_of_pairs : (ms : List Mpdu) → map (λ m. m.id) ms ≡ map (λ p. p.0) (pai
 ids_of_pairs [] = refl
 ids_of_pairs (m ∷ ms) = ap (λ (l : List ℕ). m.id ∷ l) (ids_of_pairs ms)
 
--- the machine replies with the frames that the half wrote, as a batch or not
-part_same : (batch : Bool) (ms : List Mpdu) → part_of batch (Frames ms) ≡ part_sent None batch (pairs_of ms)
-part_same false ms = refl
-part_same true ms = ap (λ (l : List ℕ). Batch l) (ids_of_pairs ms)
+-- the machine replies with the frames that the half wrote, as a batch, one by one or in an aggregate
+part_same : (batch plain : Bool) (ms : List Mpdu) →
+    part_of batch plain (Frames ms) ≡ part_sent None (kind_of batch plain) (pairs_of ms)
+part_same false false ms = refl
+part_same false true ms = refl
+part_same true plain ms = ap (λ (l : List ℕ). Batch l) (ids_of_pairs ms)
 
 -- the bodies after frames are sent do not depend on their numbers
 ids_sent : (pairs : List (ℕ × ℕ)) (bodies : ℕ → FrameValue) →
@@ -146,10 +149,11 @@ ids_sent [] bodies = refl
 ids_sent (p ∷ pairs) bodies = ids_sent pairs (with_one_sent p.0 bodies)
 
 -- the frames of a batch are sent again as others
-sent_same : (batch : Bool) (e s t air : ℕ) (more : Bool) (pairs : List (ℕ × ℕ)) (bodies : ℕ → FrameValue) →
-    bodies_sent (Sends e s t air (part_sent None batch pairs) more) bodies ≡ with_all_sent pairs bodies
-sent_same false e s t air more pairs bodies = refl
-sent_same true e s t air more pairs bodies = ids_sent pairs bodies
+sent_same : (kind : Kind) (e s t air : ℕ) (more : Bool) (pairs : List (ℕ × ℕ)) (bodies : ℕ → FrameValue) →
+    bodies_sent (Sends e s t air (part_sent None kind pairs) more) bodies ≡ with_all_sent pairs bodies
+sent_same Kind.Aggregate e s t air more pairs bodies = refl
+sent_same Kind.Plain e s t air more pairs bodies = refl
+sent_same Kind.Batch e s t air more pairs bodies = ids_sent pairs bodies
 
 -- ---- the station that is picked
 
@@ -258,7 +262,7 @@ module _ {v u : TransmitValue} {w : World} {bodies : ℕ → FrameValue} {s : �
       data_sent : (numbers : List ℕ) → IsData y z s t b charge pairs numbers →
           Meets w (with_all_sent pairs bodies) (Asked (Pull c l))
           (after_listing_in (after_sending z s t c charge (Data numbers)) s c)
-          (Sends z.exchanges s t charge (part_sent None (is_offloaded_in z.members s) pairs)
+          (Sends z.exchanges s t charge (part_sent None (kind_in z s t) pairs)
           (open_next z s t c charge (Data numbers)).more)
       data_sent numbers k =
           let quiet : request_due (session turned_world s t) ≡ false =
@@ -270,32 +274,32 @@ module _ {v u : TransmitValue} {w : World} {bodies : ℕ → FrameValue} {s : �
           subst (λ (part : Part). Meets w (with_all_sent pairs bodies) (Asked (Pull c l))
           (after_listing_in (after_sending z s t c charge (Data numbers)) s c)
           (Sends z.exchanges s t charge part (open_next z s t c charge (Data numbers)).more))
-          (part_same (is_offloaded_in z.members s) (aggregate_of turned_world s t).mpdus
-          ∙ ap (part_sent None (is_offloaded_in z.members s)) (sym p.pairs_are))
+          (part_same (is_offloaded_in z.members s) (is_plain_of z s t) (aggregate_of turned_world s t).mpdus
+          ∙ ap (part_sent None (kind_in z s t)) (sym p.pairs_are))
           (data_meets v w bodies h.stands c l s h.passes h.won t (t_is ∙ tid_of)
           (aggregate_of turned_world s t) refl quiet z p.world (with_all_sent pairs bodies) p.off charge
           numbers p.charge_is p.numbers_are)
 
       all_sent : (sending : Sending) → IsPreparedFor y z s t b charge pairs sending →
           Meets w (bodies_sent (reply_with (Send z.exchanges s t charge (start_sent sending)
-          (is_offloaded_in z.members s) (open_next z s t c charge sending).more) pairs []) bodies)
+          (kind_in z s t) (open_next z s t c charge sending).more) pairs []) bodies)
           (Asked (Pull c l)) (after_listing_in (after_sending z s t c charge sending) s c)
-          (reply_with (Send z.exchanges s t charge (start_sent sending) (is_offloaded_in z.members s)
+          (reply_with (Send z.exchanges s t charge (start_sent sending) (kind_in z s t)
           (open_next z s t c charge sending).more) pairs [])
       all_sent (Data numbers) k =
-          let batch : Bool = is_offloaded_in z.members s in
+          let kind : Kind = kind_in z s t in
           let more : Bool = (open_next z s t c charge (Data numbers)).more in
           subst (λ (f : ℕ → FrameValue). Meets w f (Asked (Pull c l))
           (after_listing_in (after_sending z s t c charge (Data numbers)) s c)
-          (Sends z.exchanges s t charge (part_sent None batch pairs) more))
-          (sym (sent_same batch z.exchanges s t charge more pairs bodies)) (data_sent numbers k)
+          (Sends z.exchanges s t charge (part_sent None kind pairs) more))
+          (sym (sent_same kind z.exchanges s t charge more pairs bodies)) (data_sent numbers k)
       all_sent (Starts_at start) k = request_sent start k
 
       pub pull_done : (sending : Sending) → IsPreparedFor y z s t b charge pairs sending →
           {a : TransmitValue} →
           a ≡ after_listing_in (after_sending z s t c charge sending) s c →
           {brief : Brief} → brief ≡ Send z.exchanges s t charge (start_sent sending)
-          (is_offloaded_in z.members s) (open_next z s t c charge sending).more →
+          (kind_in z s t) (open_next z s t c charge sending).more →
           Meets w (bodies_sent (reply_with brief pairs []) bodies) (Asked (Pull c l)) a
           (reply_with brief pairs [])
       pull_done sending k {a} a_is {brief} brief_is =

@@ -1,6 +1,6 @@
 -- Proves the refusals row by row: a test of the half refuses exactly if the test of the world does.
-use Rattle.std.proofs.Common.{◌≡◌, refl, ap, sym, ◌∙◌, ℕ, Bool, true, false, not, pos, ◌-ℤ◌, List, [], ◌∷◌, ◌++◌, Option, Some, None, if◌then◌else◌, is_some}
-use Rattle.std.specs.Prelude.{nat_le, int_lt, Result, Ok, Err, IfOk, IfErr}
+use Rattle.std.proofs.Common.{◌≡◌, refl, ap, sym, ◌∙◌, ℕ, Bool, true, false, not, pos, ◌-ℤ◌, ◌<◌, ◌==◌, ◌&&◌, List, [], ◌∷◌, ◌++◌, Option, Some, None, if◌then◌else◌, is_some}
+use Rattle.std.specs.Prelude.{nat_le, nat_lt, int_lt, count_by, Result, Ok, Err, IfOk, IfErr}
 use Rattle.wf_frame.specs.Frames.{FrameValue}
 use Rattle.wf_frame.specs.declared.settings.Config.{Config}
 use Rattle.wf_frame.specs.declared.notes.Note.{Note}
@@ -12,13 +12,15 @@ use Rattle.wf_frame.specs.declared.classes.Class.{Class}
 use Rattle.wf_def_lists.specs.Bounds.{greatest_air, deepest_deficit}
 use Rattle.std.specs.Result.{result_err}
 use Rattle.wf_frame.specs.declared.notes.ReplyNote.TheVariants.{Refused}
-use Rattle.wf_def_world.specs.World.{World, is_live, station, share}
-use Rattle.wf_def_world.specs.Refusals.{first_refusal, is_bad_station, is_within, has_live_credit, refusals, refusal}
-use Rattle.wf_send_parts.specs.Members.{member}
+use Rattle.wf_def_world.specs.World.{World, is_live, is_agreed, is_held_back, is_offloaded, station, share}
+use Rattle.wf_def_world.specs.Refusals.{first_refusal, is_bad_station, is_within, has_live_credit, open_of_tid, numbers_waiting, refusals, refusal}
+use Rattle.wf_send_parts.specs.Members.{member, is_offloaded_in}
+use Rattle.wf_send_parts.specs.Window.{waits}
+use Rattle.wf_send_parts.specs.Windows.{window_of}
 use Rattle.wf_send_parts.specs.Sleepers.{sleeper}
-use Rattle.wf_send_half_model.specs.Half.{TransmitValue, has_live_credit_of}
+use Rattle.wf_send_half_model.specs.Half.{TransmitValue, is_agreed_of, is_held_back_of, has_live_credit_of}
 use Rattle.wf_send_half_model.specs.Standing.{StandsFor, Meets}
-use Rattle.wf_send_half_model.proofs.Readers.{live_same, live_credit_same}
+use Rattle.wf_send_half_model.proofs.Readers.{live_same, offloaded_same, tid_count_same, agreed_same, held_back_same, waiting_count_same, live_credit_same}
 use Rattle.wf_send_half_model.proofs.Meets.{refused_meets}
 
 -- ---- one row
@@ -44,6 +46,21 @@ unfolding first_refusal
 row_passes true b r rows e is = absurd (cc is)
 row_passes false true r rows e is = absurd (cc e)
 row_passes false false r rows e is = refl
+
+-- a row that refuses where a count is not 0, and tells the count
+pub told_row_refuses : (tell : ℕ → Refusal) (n m : ℕ) (given : Refusal) (rows : List (Bool × Refusal)) → n ≡ m
+    →
+    Some given ≡ (if nat_lt 0 m then Some (tell m) else None) →
+    Some given ≡ first_refusal ((nat_lt 0 n, tell n) ∷ rows)
+told_row_refuses tell n m given rows e is =
+    row_refuses (nat_lt 0 n) (nat_lt 0 n) (tell n) given rows refl
+    (is ∙ ap (λ (k : ℕ). if nat_lt 0 k then Some (tell k) else None) (sym e))
+
+pub told_row_passes : (tell : ℕ → Refusal) (n m : ℕ) (rows : List (Bool × Refusal)) → n ≡ m →
+    None ≡ (if nat_lt 0 m then Some (tell m) else None) →
+    first_refusal ((nat_lt 0 n, tell n) ∷ rows) ≡ first_refusal rows
+told_row_passes tell n m rows e is = row_passes (nat_lt 0 n) (nat_lt 0 n) (tell n) rows refl
+    (is ∙ ap (λ (k : ℕ). if nat_lt 0 k then Some (tell k) else None) (sym e))
 
 -- ---- the tests
 
@@ -87,6 +104,23 @@ module _ (v : TransmitValue) (w : World) (bodies : ℕ → FrameValue) (h : Stan
 
   pub stopped_same : is_live w s ≡ true → (station w s).stopped ≡ (sleeper v.sleepers s).stopped
   stopped_same live = sym (h.parts.others.stations.stopped s live)
+
+  -- the rows about a TID of a live station
+  module _ (t : ℕ) (live : is_live w s ≡ true) (low : t < 8) where
+    pub agreed_row : is_agreed w s t ≡ is_agreed_of v s t
+    agreed_row = sym (agreed_same v w bodies s t h.parts live low)
+
+    pub held_row : is_held_back w s t ≡ is_held_back_of v s t
+    held_row = sym (held_back_same v w bodies s t h.parts live low)
+
+    pub waits_row : numbers_waiting w s t ≡ count_by waits (window_of v.windows s t).places
+    waits_row = sym (waiting_count_same v w bodies s t h.parts live low)
+
+  pub offloaded_row : is_offloaded w s ≡ is_offloaded_in v.members s
+  offloaded_row = sym (offloaded_same v w bodies s h.parts)
+
+  pub open_row : (t : ℕ) → open_of_tid w s t ≡ count_by (λ x. (x.station == s) && (x.tid == t)) v.opened
+  open_row t = sym (tid_count_same v w bodies s t h.parts)
 
   pub live_of : is_some (member v.members s) ≡ true → is_live w s ≡ true
   live_of is = sym (live_same v w bodies s h.parts) ∙ is

@@ -8,6 +8,7 @@ use Rattle.wf_frame.specs.Answers.{reply_with}
 use Rattle.wf_frame.specs.Frames.{FrameValue}
 use Rattle.wf_frame.specs.declared.answers.Brief.{Brief}
 use Rattle.wf_frame.specs.declared.answers.Brief.TheVariants as brief
+use Rattle.wf_frame.specs.declared.answers.Kind.{Kind}
 use Rattle.wf_frame.specs.declared.classes.Class.{Class}
 use Rattle.wf_frame.specs.declared.notes.Ask.TheVariants.{Pull}
 use Rattle.wf_frame.specs.declared.notes.Limits.{Limits}
@@ -68,7 +69,7 @@ sent_for w c (Some s) e =
       exchange = x.number;
       tid = t;
       air = x.charge;
-      part = part_of x.batch x.content;
+      part = part_of x.batch x.plain x.content;
       more = x.more;
       is = refl;
     }
@@ -149,9 +150,9 @@ pub record IsSend (b : Brief) : Type 0 where
   pub tid : ℕ
   pub air : ℕ
   pub request : Option ℕ
-  pub batch : Bool
+  pub kind : Kind
   pub more : Bool
-  pub is : b ≡ brief.Send exchange station tid air request batch more
+  pub is : b ≡ brief.Send exchange station tid air request kind more
 
 send_only : (b : Brief) (pairs : List (ℕ × ℕ)) (e s t air : ℕ) (part : Part) (more : Bool) →
     reply_with b pairs [] ≡ Send e s t air part more → IsSend b
@@ -160,13 +161,13 @@ send_only (brief.Left dropped) pairs e s t air part more is = absurd (cc is)
 send_only brief.Set pairs e s t air part more is = absurd (cc is)
 send_only (brief.Now now) pairs e s t air part more is = absurd (cc is)
 send_only (brief.Accepted id dropped) pairs e s t air part more is = absurd (cc is)
-send_only (brief.Send a i j n request batch k) pairs e s t air part more is = record {
+send_only (brief.Send a i j n request kind k) pairs e s t air part more is = record {
   exchange = a;
   station = i;
   tid = j;
   air = n;
   request = request;
-  batch = batch;
+  kind = kind;
   more = k;
   is = refl;
 }
@@ -182,6 +183,11 @@ send_only brief.Stopped pairs e s t air part more is = absurd (cc is)
 send_only brief.Started pairs e s t air part more is = absurd (cc is)
 send_only brief.Marked pairs e s t air part more is = absurd (cc is)
 send_only (brief.Flushed dropped) pairs e s t air part more is = absurd (cc is)
+send_only brief.Ack pairs e s t air part more is = absurd (cc is)
+send_only (brief.Held start) pairs e s t air part more is = absurd (cc is)
+send_only brief.Begun pairs e s t air part more is = absurd (cc is)
+send_only brief.Freed pairs e s t air part more is = absurd (cc is)
+send_only (brief.Ceased dropped) pairs e s t air part more is = absurd (cc is)
 send_only (brief.Refused refusal) pairs e s t air part more is = absurd (cc is)
 
 -- ---- a whole pull
@@ -202,8 +208,8 @@ module _ (x : TransmitValue) (r : Flags) (h : IsTracked x r) (c : Class) (l : Li
   pulled_unheard = kept_unheard x u sent (Asked (Pull c l)) (reply_with b pairs []) meets tt h.some
 
   -- a station sends
-  module _ (e s t air : ℕ) (request : Option ℕ) (batch more : Bool)
-      (is : b ≡ brief.Send e s t air request batch more) where
+  module _ (e s t air : ℕ) (request : Option ℕ) (kind : Kind) (more : Bool)
+      (is : b ≡ brief.Send e s t air request kind more) where
     won : (picked_station h.some.world c).winner ≡ Some s
     won = sender_won h.some.world c l e s t air _ more
         (sym (ap (λ (z : Brief). reply_with z pairs []) is) ∙ met.reply)

@@ -3,7 +3,7 @@ use Rattle.std.proofs.Common.{◌≡◌, ◌≢◌, nat_le, length-append, appen
 use Rattle.std.specs.Prelude.{slice_get, count_by}
 use Rattle.std.proofs.lemmas.List.{length-map, take_all}
 use Rattle.std.proofs.lemmas.List.Sums.{sum_by-cons}
-use Rattle.wf_frame.specs.declared.classes.Cause.TheVariants.{Overlimit, Codel, Retries, Left, Flushed}
+use Rattle.wf_frame.specs.declared.classes.Cause.TheVariants.{Overlimit, Codel, Retries, Left, Flushed, Ended as By_end}
 use Rattle.wf_frame.specs.declared.classes.Fate.{Fate}
 use Rattle.wf_frame.specs.declared.classes.Fate.TheVariants.{Held, Acked as Is_acked, Dropped}
 use Rattle.wf_frame.specs.declared.settings.Config.{Config}
@@ -209,9 +209,10 @@ acked_more End.GivenUp limit bodies x ended = omega arith
 acked_more End.Unsent limit bodies x ended = omega arith
 
 -- a number is acknowledged if it is shown and went on the air
-acks_at : (r : Report) (i n : ℕ) → acks (end_of_index r i n) ≡ (not (has r.unsent i) && is_shown r.wide r.heard n)
+acks_at : (r : Report) (i n : ℕ) → acks (end_of_index r i n) ≡
+    (not (has r.unsent i) && is_shown r.wide r.heard n)
 unfolding acks
-acks_at r i n = go (has r.unsent i) (is_shown r.wide r.heard n) (r.batch || has r.given_up i)
+acks_at r i n = go (has r.unsent i) (is_shown r.wide r.heard n) (r.last || has r.given_up i)
   where
     go : (unsent shown given_up : Bool) → acks (if unsent then End.Unsent else if shown then End.Acknowledged
         else if given_up then End.GivenUp else End.Missed) ≡ (not unsent && shown)
@@ -282,6 +283,7 @@ finish_leaves v n f settled place = record {
     one_less (Dropped Retries) other = omega (arith, place.held)
     one_less (Dropped Left) other = omega (arith, place.held)
     one_less (Dropped Flushed) other = omega (arith, place.held)
+    one_less (Dropped By_end) other = omega (arith, place.held)
 
 fewer : (v : TransmitValue) (n : ℕ) → CanFinish v (suc n) → CanFinish v n
 fewer v n place = record { room = omega (arith, place.room); held = omega (arith, place.held) }
@@ -341,7 +343,8 @@ module _ {start v : TransmitValue} {s t : ℕ} {numbers : List ℕ} {r : Report}
       (ap numbers_on_air h.all ∙ sym is) h.count ∙ at_i)
 
   module _ (some : IsToSettle start s t numbers (end_of_index r)) where
-    at_some : HasSettled v some.bodies s t some.exchange (end_of_index r) some.ends i some.mpdus some.after ended
+    at_some : HasSettled v some.bodies s t some.exchange (end_of_index r) some.ends i some.mpdus some.after
+        ended
     at_some = so_far.each some.world some.after some.bodies some.exchange some.ends some.mpdus some.ending
         some.alike some.numbers_are
 

@@ -73,6 +73,7 @@ module _ (v : TransmitValue) (w : World) (bodies : ℕ → FrameValue) (s t : �
         ap (λ (c : Counts). c.retries) a,
         ap (λ (c : Counts). c.left) a,
         ap (λ (c : Counts). c.flushed) a,
+        ap (λ (c : Counts). c.ended) a,
         ap (λ (c : Counts). c.accepted) b,
         ap (λ (c : Counts). c.acked) b,
         ap (λ (c : Counts). c.overlimit) b,
@@ -80,6 +81,7 @@ module _ (v : TransmitValue) (w : World) (bodies : ℕ → FrameValue) (s t : �
         ap (λ (c : Counts). c.retries) b,
         ap (λ (c : Counts). c.left) b,
         ap (λ (c : Counts). c.flushed) b,
+        ap (λ (c : Counts). c.ended) b,
       ))
 
   -- the number that the code counts: the frames that were queued before, without the frame that is taken and

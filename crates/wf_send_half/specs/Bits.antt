@@ -26,7 +26,7 @@ use Rattle.wf_send_parts.specs.Members.{member, charged_in}
 use Rattle.wf_send_parts.specs.Window.{on_air}
 use Rattle.wf_send_half_model.specs.Half.{TransmitValue, is_ready_of}
 use Rattle.wf_send_half_model.specs.Standing.{numbers_on_air, open_of, StandsFor}
-use Rattle.wf_send_half_model.specs.Ending.{after_close, IsEnding}
+use Rattle.wf_send_half_model.specs.Ending.{after_close, is_sent_once, IsEnding}
 use Rattle.wf_send_half_model.specs.Pulling.{is_wide_of}
 use Rattle.wf_send_half.specs.declared.finish.Closed.{Closed}
 use Rattle.wf_send_half.specs.declared.finish.Ended.{Ended}
@@ -74,19 +74,23 @@ numbers_sent x = without_unsent 0 x.unsent (numbers_carried x.sending)
 abbrev pub count_shown_of : TransmitValue → Option (ℕ × List ℕ) → Open → ℕ
 count_shown_of v heard x = count_shown (is_wide_of v x.station x.tid) heard (numbers_sent x)
 
--- how an exchange ends for number n, its transmission i, by the report on its transmissions; the device
--- repeats the frames of a batch itself
+-- how an exchange ends for number n, its transmission i, by the report on its transmissions
 abbrev pub end_of_index : Report → ℕ → ℕ → End
 end_of_index r i n =
     if has r.unsent i then End.Unsent
     else if is_shown r.wide r.heard n then End.Acknowledged
-    else if r.batch || has r.given_up i then End.GivenUp
+    else if r.last || has r.given_up i then End.GivenUp
     else End.Missed
+
+-- whether a number of an open exchange that is not acknowledged is not sent again: the device repeats the
+-- frames of a batch itself, and a number without an agreement may be too far above the last acknowledged one
+abbrev pub is_last_of : TransmitValue → Open → Bool
+is_last_of v x = x.batch || is_sent_once v x
 
 -- the report on an open exchange, by the BlockAck that was heard
 abbrev pub report_of : TransmitValue → Open → Option (ℕ × List ℕ) → Report
 report_of v x heard = record {
-  batch = x.batch;
+  last = is_last_of v x;
   wide = is_wide_of v x.station x.tid;
   heard = heard;
   unsent = x.unsent;

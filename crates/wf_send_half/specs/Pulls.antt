@@ -4,6 +4,7 @@ use Rattle.wf_frame.specs.declared.classes.Class.{Class}
 use Rattle.wf_frame.specs.declared.notes.Ask.TheVariants.{Pull}
 use Rattle.wf_frame.specs.declared.notes.Note.TheVariants.{Asked}
 use Rattle.wf_frame.specs.declared.answers.Brief.TheVariants.{Send}
+use Rattle.wf_frame.specs.declared.answers.Kind.{Kind}
 use Rattle.wf_frame.specs.Frames.{FrameValue}
 use Rattle.wf_def_air.specs.Airtime.{Rate, request_charge}
 use Rattle.wf_def_air.specs.Fit.{most_octets}
@@ -26,12 +27,12 @@ use Rattle.wf_air.specs.Sizes.{AggregateSizeValue, SizeStandsFor as SizeStandsFo
 use Rattle.wf_frame.specs.Classes.{tid_number}
 use Rattle.wf_queue_flows.specs.Flows.{taken_for_tid}
 use Rattle.wf_send_parts.specs.declared.stations.members.Member.{Member}
-use Rattle.wf_send_parts.specs.Members.{member}
+use Rattle.wf_send_parts.specs.Members.{member, is_offloaded_in}
 use Rattle.wf_send_parts.specs.Sleepers.{sleeper}
 use Rattle.wf_send_parts.specs.Window.{WindowValue, WindowStandsFor as WindowStandsFor}
 use Rattle.wf_send_parts.specs.Sent.{with_all_sent}
 use Rattle.wf_send_parts.specs.Windows.{WindowsHaveRoom, window_of, with_window}
-use Rattle.wf_send_half_model.specs.Half.{TransmitValue, is_ready_of}
+use Rattle.wf_send_half_model.specs.Half.{TransmitValue, is_plain_of, is_ready_of}
 use Rattle.wf_send_half_model.specs.Standing.{StandsFor, numbers_on_air}
 use Rattle.wf_send_half_model.specs.Pulling.{is_wide_of}
 use Rattle.wf_send_half.specs.declared.bounds.Bounds.{Bounds as BoundsGiven}
@@ -183,10 +184,20 @@ pub record TellsWhoIsReady (v : TransmitValue) (c : Class) (ready : List Bool) :
   pub stations : length ready ≡ v.config.stations
   pub tells : (s : ℕ) → has_key (class_rotation v.sched c) s ≡ true → entry ready s ≡ is_ready_of v c s
 
+-- how an exchange sends its frames
+abbrev pub kind_of : Bool → Bool → Kind
+kind_of true plain = Kind.Batch
+kind_of false true = Kind.Plain
+kind_of false false = Kind.Aggregate
+
+-- how an exchange of TID t of station s sends its frames
+abbrev pub kind_in : TransmitValue → ℕ → ℕ → Kind
+kind_in v s t = kind_of (is_offloaded_in v.members s) (is_plain_of v s t)
+
 -- if a station sends, the result says whether it is ready in the class afterwards
 abbrev pub IsSenderTold : TransmitValue → Class → Pulled → Type 0
-IsSenderTold v c p = (e s t air : ℕ) (request : Option ℕ) (batch more : Bool) →
-    p.brief ≡ Send e s t air request batch more → p.is_ready ≡ is_ready_of v c s
+IsSenderTold v c p = (e s t air : ℕ) (request : Option ℕ) (kind : Kind) (more : Bool) →
+    p.brief ≡ Send e s t air request kind more → p.is_ready ≡ is_ready_of v c s
 
 -- u is v after a pull with these limits picked station s in a class, and v represents w
 pub record IsPickedInClass (v u : TransmitValue) (w : World) (bodies : ℕ → FrameValue) (s : ℕ)

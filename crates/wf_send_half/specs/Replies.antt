@@ -1,7 +1,7 @@
 -- Defines the machine's reply for each result of a call, and the frames after it.
 use Rattle.std.specs.Prelude.{ℕ, map, Option, Some, None, Result, Ok, Err}
 use Rattle.wf_frame.specs.Frames.{FrameValue}
-use Rattle.wf_frame.specs.declared.notes.Part.TheVariants.{Mpdus, Batch}
+use Rattle.wf_frame.specs.declared.notes.Part.TheVariants.{Mpdus, Batch, Plain}
 use Rattle.wf_frame.specs.declared.notes.Refusal.{Refusal}
 use Rattle.wf_frame.specs.declared.notes.Refusal.TheVariants.{Nothing}
 use Rattle.wf_frame.specs.declared.notes.ReplyNote.{ReplyNote}
@@ -22,6 +22,7 @@ reaped_reply (Some f) = Reaped f.id f.fate
 -- transmission
 abbrev pub bodies_sent : ReplyNote → (ℕ → FrameValue) → ℕ → FrameValue
 bodies_sent (Send exchange station tid air (Mpdus pairs) more) bodies = with_all_sent pairs bodies
+bodies_sent (Send exchange station tid air (Plain pairs) more) bodies = with_all_sent pairs bodies
 bodies_sent (Send exchange station tid air (Batch ids) more) bodies =
     with_all_sent (map (λ id. (id, 0)) ids) bodies
 bodies_sent reply bodies = bodies

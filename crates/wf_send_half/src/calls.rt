@@ -5,7 +5,7 @@ ghost use Rattle.wf_frame.specs.Answers.{reply_with};
 ghost use Rattle.wf_frame.specs.Classes.{same_class};
 ghost use Rattle.wf_frame.specs.Frames.{FrameValue};
 ghost use Rattle.wf_frame.specs.declared.answers.Brief.TheVariants.{Refused as Refuses};
-ghost use Rattle.wf_frame.specs.declared.notes.Ask.TheVariants.{Join, Offload, Weight, Leave, Rate, Tick, Pull, Sleep, Wake, Poll, Rx, Reap, Ampdu, Stop, Start, Unsent, GiveUp, Flush};
+ghost use Rattle.wf_frame.specs.declared.notes.Ask.TheVariants.{Join, Plain, Offload, Weight, Leave, Rate, Tick, Pull, Sleep, Wake, Poll, Rx, Reap, Ampdu, Stop, Start, Unsent, GiveUp, Flush};
 ghost use Rattle.wf_frame.specs.declared.notes.Note.TheVariants.{Asked};
 ghost use Rattle.wf_frame.specs.declared.notes.Refusal.TheVariants.{Full, Ahead, Idle};
 ghost use Rattle.wf_frame.specs.declared.notes.ReplyNote.TheVariants.{Joined, Left, Set, Now, Slept, Woken, Polled, Charged, Accepted, Stopped, Started, Marked, Flushed, Refused};
@@ -64,9 +64,9 @@ impl Transmit {
     }
 
     /// Opens the next exchange of a class. The station whose turn it is sends on one of its TIDs a request
-    /// if one is due, else an aggregate within these limits; one frame goes whatever they are. The
-    /// aggregate's frames are written to `pairs`, each by its id and
-    /// its sequence number, and each of these frames counts one more send. Refused as Full if as many
+    /// if one is due, else an aggregate within these limits, or one frame if the TID has no agreement; one
+    /// frame goes whatever they are. The frames are written to `pairs`, each by its id and its sequence
+    /// number, and each of these frames counts one more send. Refused as Full if as many
     /// exchanges of the class are open as the setting `inflight` allows, as Ahead if the computed airtime of
     /// all open exchanges has reached the setting `aql_total` and this is not 0, or as Idle if no station is
     /// ready in the class. A refused pull changes nothing with the setting `pending`; without it an idle one
@@ -100,13 +100,15 @@ impl Transmit {
 
     /// Ends an exchange: its station is charged, and each frame that it sent is settled. `heard` is the start
     /// and the bits of the BlockAck that was heard (IEEE 802.11-2012, 8.3.1.9), if one was; the first 64 bits
-    /// count, or all 256 if the TID's window is above 64. A number that never went on the air waits again,
-    /// whatever the BlockAck shows. Each other number that it shows is acknowledged; each number that it does
-    /// not show fails if it is given up or was sent `attempts` times, or if the exchange is a batch, else it
-    /// waits again. A request is heard if anything was. If `air` is given, the station is charged `air`
-    /// microseconds instead of the computed charge. Refused as NoExchange if the exchange is not open, as
-    /// NoAnswer if something was heard though nothing of the exchange went on the air and it is no batch,
-    /// then as BadAir if `air` is 0 or above the setting `charge`.
+    /// count, or all 256 if the TID's window is above 64. An Ack is given as a BlockAck that shows the number
+    /// of the frame. A number that never went on the air waits again, whatever the BlockAck shows. Each other
+    /// number that it shows is acknowledged; each number that it does not show fails if it is given up or was
+    /// sent `attempts` times, if the exchange is a batch, or if it is sent without an agreement and is 2,048
+    /// or more above the last acknowledged number, else it waits again. A request is heard if anything was.
+    /// If `air` is given, the station is charged `air` microseconds instead of the computed charge. Refused
+    /// as NoExchange if the exchange is not open, as NoAnswer if something was heard though nothing of the
+    /// exchange went on the air and it is no batch, then as BadAir if `air` is 0 or above the setting
+    /// `charge`.
     pub fn done(
         &mut self,
         exchange: u64,
@@ -195,6 +197,31 @@ impl Transmit {
         ensures unheard { HasUnheardWorld self.new }
     {
         match self.half.join(station, window, start, exponent, weight) {
+            Ok(()) => {
+                self.ready.set_all(&self.half, station);
+                Ok(())
+            }
+            Err(reason) => Err(reason),
+        }
+    }
+
+    /// A station joins without agreements: its first sequence number, 0 to 4095, on each TID; its maximum
+    /// A-MPDU length exponent, 0 to 3 (IEEE 802.11-2012, 8.4.2.58.3); its weight, 1 to 16. Refused as
+    /// BadStation, BadStart, BadExponent, BadWeight or Live.
+    pub fn plain(
+        &mut self,
+        station: u16,
+        start: u16,
+        exponent: u8,
+        weight: u8,
+    ) -> Result<(), Refusal>
+        ensures meets { (w : World) (bodies : ℕ → FrameValue) → StandsFor self.old w bodies →
+            Meets w bodies (Asked (Plain station start exponent weight)) self.new
+            (reply_of_result (λ _. Joined) result) }
+        ensures refused { IfErr result (λ _. self.new ≡ self.old) }
+        ensures unheard { HasUnheardWorld self.new }
+    {
+        match self.half.plain(station, start, exponent, weight) {
             Ok(()) => {
                 self.ready.set_all(&self.half, station);
                 Ok(())

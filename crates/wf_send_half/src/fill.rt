@@ -103,7 +103,8 @@ impl Half {
         true
     }
 
-    // Adds fresh frames while the aggregate has fewer than `most`, the window has room and a frame is queued.
+    // Adds fresh frames while the aggregate has fewer than `most`, the TID is not held, the window has room
+    // and a frame is queued.
     // Each frame is taken out of its queue and gets the next number; the frames that CoDel drops before it
     // are counted. A frame that does not fit waits with its number.
     fn add_fresh(&mut self, station: u16, tid: u8, most: u16, aggregate: &mut Aggregate)
@@ -119,6 +120,9 @@ impl Half {
             IsFilled self.new bodies station tid aggregate.new.size aggregate.new.numbers after }
         ensures same { IsSameButFrames self.old self.new }
     {
+        if self.is_held_back(station, tid) {
+            return;
+        }
         let params = Params::of(self.members.member(station).rate);
         let overhead = self.config.overhead;
         'fresh: while aggregate.numbers.len() < usize::from(most)

@@ -58,8 +58,9 @@ pub(crate) struct Closed {
 /// The report on an exchange that ends: the BlockAck that was heard, and the marks of the device.
 #[derive(Clone, Copy)]
 pub(crate) struct Report {
-    /// Whether the device repeats the frames itself.
-    pub(crate) batch: bool,
+    /// Whether a number that is not acknowledged is not sent again: the device repeats the frames of a batch
+    /// itself, and without an agreement the number may be too far above the last acknowledged one.
+    pub(crate) last: bool,
     /// Whether BlockAcks of the TID have 256 bits.
     pub(crate) wide: bool,
     /// The start and the bits of the BlockAck that was heard, if one was.
@@ -79,7 +80,7 @@ fn end_at(report: &Report, index: u16, number: Seq12) -> End
         End::Unsent
     } else if is_shown(report.wide, &report.heard, number) {
         End::Acknowledged
-    } else if report.batch || report.given_up.has(index) {
+    } else if report.last || report.given_up.has(index) {
         End::GivenUp
     } else {
         End::Missed
@@ -227,9 +228,10 @@ impl Half {
         requires within { tid_number open.now.station open.now.tid < length self.now.windows }
         ensures { result ≡ report_of self.now open.now heard.now }
     {
+        let window = self.windows.at(open.station, open.tid);
         Report {
-            batch: open.batch,
-            wide: self.windows.at(open.station, open.tid).size() > NARROW_WINDOW,
+            last: open.batch || (open.plain && window.is_far()),
+            wide: window.size() > NARROW_WINDOW,
             heard: *heard,
             unsent: open.unsent,
             given_up: open.given_up,

@@ -17,7 +17,7 @@ use wf_queue_flows::Flows;
 use wf_rotation::Side;
 use wf_sched::Sched;
 use wf_send_parts::exchanges::Opened;
-use wf_send_parts::stations::{Members, Sleepers, Tally};
+use wf_send_parts::stations::{Members, Modes, Sleepers, Tally};
 use wf_send_parts::window::Windows;
 
 /// The transmit half without the flags of `Transmit`. A contract sees its parts, and says what a call makes
@@ -31,6 +31,7 @@ pub(crate) struct Half {
     pub(crate) flows: Flows,
     pub(crate) sched: Sched,
     pub(crate) windows: Windows,
+    pub(crate) modes: Modes,
     pub(crate) members: Members,
     pub(crate) sleepers: Sleepers,
     pub(crate) opened: Opened,
@@ -48,6 +49,7 @@ impl Drop for Half {
             flows: _flows,
             sched: _sched,
             windows: _windows,
+            modes: _modes,
             members: _members,
             sleepers: _sleepers,
             opened: _opened,
@@ -71,6 +73,7 @@ impl Model for Half {
       flows = t.flows;
       sched = t.sched;
       windows = t.windows;
+      modes = t.modes;
       members = t.members;
       sleepers = t.sleepers;
       opened = t.opened;
@@ -85,6 +88,7 @@ impl Model for Half {
       flows = t.flows;
       sched = t.sched;
       windows = t.windows;
+      modes = t.modes;
       members = t.members;
       sleepers = t.sleepers;
       opened = t.opened;
@@ -102,6 +106,7 @@ impl Half {
         let opened = Opened::new(alloc)?;
         let sleepers = Sleepers::new(alloc, config.stations)?;
         let members = Members::new(alloc, config.stations)?;
+        let modes = Modes::new(alloc, config.stations)?;
         let windows = Windows::new(alloc, config.stations)?;
         let sched = Sched::new(alloc, config.stations, config.quantum)?;
         let flows = Flows::new(alloc, config)?;
@@ -113,6 +118,7 @@ impl Half {
             flows,
             sched,
             windows,
+            modes,
             members,
             sleepers,
             opened,

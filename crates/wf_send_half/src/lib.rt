@@ -20,7 +20,7 @@ mod frames;
 mod half;
 mod leave;
 mod marks;
-mod offload;
+mod modes;
 mod pending;
 mod pull;
 mod readers;

@@ -9,26 +9,27 @@ ghost use Rattle.wf_frame.specs.declared.notes.Ask.TheVariants.{Pull};
 ghost use Rattle.wf_frame.specs.declared.notes.Note.TheVariants.{Asked};
 ghost use Rattle.wf_frame.specs.declared.notes.Refusal.TheVariants.{Full, Ahead, Idle};
 ghost use Rattle.wf_queue_flows.specs.Flows.{frames_of_tid};
+ghost use Rattle.wf_air.specs.Sizes.{SizeStandsFor};
 ghost use Rattle.wf_def_lists.specs.Bounds.{greatest_air};
 ghost use Rattle.wf_law_runs.specs.Rotations.{NoneReady};
 ghost use Rattle.wf_sched.specs.ClassRotas.{deficit};
 ghost use Rattle.wf_send_parts.specs.Exchanges.{airtime_of};
-ghost use Rattle.wf_send_parts.specs.Members.{is_offloaded_in};
 ghost use Rattle.wf_send_parts.specs.Windows.{window_of};
 ghost use Rattle.wf_def_world.specs.World.{World, Mpdu};
-ghost use Rattle.wf_send_half_model.specs.Half.{some_wait, is_ready_of, is_ahead_of};
+ghost use Rattle.wf_send_half_model.specs.Half.{some_wait, is_plain_of, is_ready_of, is_ahead_of};
 ghost use Rattle.wf_send_half_model.specs.Standing.{StandsFor, Meets, numbers_on_air};
 ghost use Rattle.wf_send_half_model.specs.Changes.{after_listing_in};
-ghost use Rattle.wf_send_half_model.specs.Filling.{IsTakingOff};
+ghost use Rattle.wf_send_half_model.specs.Filling.{IsTakingOff, charge_in};
 ghost use Rattle.wf_send_half_model.specs.Pulling.{sending_tid_of, after_turn, has_more_of, open_next, after_sending};
 ghost use Rattle.wf_send_half.specs.Replies.{bodies_sent};
 ghost use Rattle.wf_send_half.specs.Half.{HasWorld, IsLive};
-ghost use Rattle.wf_send_half.specs.Pulls.{bounds_in, IsSenderTold, TellsWhoIsReady, TakesAggregates, IsSameButFrames, HasTakingOff, IsFlying, HasToPrepare, IsPreparedFor, start_sent};
+ghost use Rattle.wf_send_half.specs.Pulls.{bounds_in, IsSenderTold, TellsWhoIsReady, TakesAggregates, IsSameButFrames, HasTakingOff, IsFlying, HasToPrepare, IsPreparedFor, start_sent, kind_of, kind_in};
 
 use crate::bounds::Bounds;
+use crate::fill::Aggregate;
 use crate::half::Half;
 use crate::pending::charge_opened;
-use wf_frame::{Brief, Class, Limits, NARROW_WINDOW, Pairs, Refusal};
+use wf_frame::{Brief, Class, Kind, Limits, NARROW_WINDOW, Pairs, Refusal};
 use wf_octets::bits::Bits256;
 use wf_send_parts::exchanges::{Numbers, Open, Sending};
 
@@ -47,6 +48,19 @@ pub(crate) struct Prepared {
     sending: Sending,
     charge: u32,
     request: Option<u16>,
+}
+
+// Returns how an exchange sends its frames.
+fn kind_of(batch: bool, plain: bool) -> Kind
+    ensures { result ≡ kind_of batch plain }
+{
+    if batch {
+        Kind::Batch
+    } else if plain {
+        Kind::Plain
+    } else {
+        Kind::Aggregate
+    }
 }
 
 impl Half {
@@ -126,6 +140,7 @@ impl Half {
     // standing falls by the charge.
     fn put_on_air(&mut self, station: u16, tid: u8, class: Class, prepared: Prepared) -> Pulled
         requires within { station < self.old.config.stations }
+        requires tid { tid < 8 }
         requires small { self.old.exchanges < 2 ^ 62 }
         requires room { length self.old.opened < 32 }
         requires charge { prepared.charge ≤ greatest_air }
@@ -135,7 +150,8 @@ impl Half {
         ensures opened { self.new ≡ after_listing_in
             (after_sending self.old station tid class prepared.charge prepared.sending) station class }
         ensures brief { result.brief ≡ Send self.old.exchanges station tid prepared.charge
-            (start_sent prepared.sending) (is_offloaded_in self.old.members station)
+            (start_sent prepared.sending)
+            (kind_in self.old station tid)
             (open_next self.old station tid class prepared.charge prepared.sending).more }
         ensures ready { result.is_ready ≡ is_ready_of self.new class station }
     {
@@ -147,6 +163,7 @@ impl Half {
         } = prepared;
         let more = self.sleepers.asleep(station) && request.is_none() && self.has_more(station);
         let batch = self.members.is_offloaded(station);
+        let plain = self.is_plain(station, tid);
         self.opened.push(Open {
             number: exchange,
             station,
@@ -156,6 +173,7 @@ impl Half {
             sending,
             more,
             batch,
+            plain,
             unsent: Bits256::empty(),
             given_up: Bits256::empty(),
         });
@@ -170,7 +188,7 @@ impl Half {
             tid,
             air: charge,
             request,
-            batch,
+            kind: kind_of(batch, plain),
             more,
         };
         Pulled { brief, is_ready }
@@ -228,13 +246,28 @@ impl Half {
             };
         }
         let aggregate = self.fill(station, tid, bounds);
-        let charge = aggregate.size.air();
+        let charge = self.charge_of(station, tid, &aggregate);
         let numbers = aggregate.numbers;
         self.fly_all(station, tid, &numbers, pairs);
         Prepared {
             sending: Sending::Data(numbers),
             charge,
             request: None,
+        }
+    }
+
+    // Returns the charge of an aggregate, or of one frame without an agreement, in microseconds.
+    fn charge_of(&self, station: u16, tid: u8, aggregate: &Aggregate) -> u32
+        requires within { station < self.now.config.stations }
+        requires tid { tid < 8 }
+        requires some { 1 ≤ aggregate.now.size.count }
+        ensures { (lens : List ℕ) → SizeStandsFor aggregate.now.size lens →
+            result ≡ charge_in aggregate.now.size (is_plain_of self.now station tid) lens }
+    {
+        if self.is_plain(station, tid) {
+            aggregate.size.plain_air()
+        } else {
+            aggregate.size.air()
         }
     }
 

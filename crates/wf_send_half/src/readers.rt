@@ -12,6 +12,7 @@ ghost use Rattle.wf_queue_flows.specs.Flows.{frames_of_tid};
 ghost use Rattle.wf_sched.specs.ClassRotas.{deficit};
 ghost use Rattle.wf_send_parts.specs.Exchanges.{airtime_to};
 ghost use Rattle.wf_send_parts.specs.Members.{member, is_offloaded_in, charged_in, received_in};
+ghost use Rattle.wf_send_parts.specs.Modes.{mode_of};
 ghost use Rattle.wf_send_parts.specs.Sleepers.{sleeper};
 ghost use Rattle.wf_send_parts.specs.Tally.{counts_of};
 ghost use Rattle.wf_send_parts.specs.Windows.{window_of};
@@ -25,7 +26,7 @@ use crate::Transmit;
 use wf_frame::{Class, Config};
 use wf_rotation::Side;
 use wf_send_parts::exchanges::Open;
-use wf_send_parts::stations::Tally;
+use wf_send_parts::stations::{Mode, Tally};
 use wf_send_parts::window::Window;
 
 impl Transmit {
@@ -100,6 +101,16 @@ impl Transmit {
             result ≡ is_offloaded w station }
     {
         u32::from(station) < self.half.config.stations && self.half.members.is_offloaded(station)
+    }
+
+    /// Returns the mode of a TID: whether it has an agreement. The station's number is below the setting
+    /// `stations`.
+    pub fn mode(&self, station: u16, tid: u8) -> Mode
+        requires within { station < self.now.config.stations }
+        requires tid { tid < 8 }
+        ensures { result ≡ mode_of self.now.modes station tid }
+    {
+        self.half.modes.at(station, tid)
     }
 
     /// Returns the deficit of a live station in a class, in microseconds.

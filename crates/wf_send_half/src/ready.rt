@@ -1,13 +1,15 @@
 //! Which stations are ready, and how the scheduler lists them.
 
-ghost use Rattle.std.specs.Prelude.{◌≡◌, ◌<◌, ℕ};
+ghost use Rattle.std.specs.Prelude.{◌≡◌, ◌<◌, ◌&&◌, not, ℕ};
 ghost use Rattle.wf_frame.specs.Frames.{FrameValue};
 ghost use Rattle.wf_def_world.specs.World.{World};
 ghost use Rattle.wf_def_world.specs.CanSend.{is_ready, has_credit};
 ghost use Rattle.wf_sched.specs.ClassRotas.{deficit};
 ghost use Rattle.wf_send_parts.specs.Exchanges.{airtime_to};
 ghost use Rattle.wf_send_parts.specs.Sleepers.{sleeper};
-ghost use Rattle.wf_send_half_model.specs.Half.{can_send_of, is_below_aql_of, may_receive_of, has_live_credit_of, is_ready_of, pending_air_of, is_debtor_of};
+ghost use Rattle.wf_send_parts.specs.Window.{can_take};
+ghost use Rattle.wf_send_parts.specs.Windows.{window_of};
+ghost use Rattle.wf_send_half_model.specs.Half.{can_send_of, is_held_back_of, is_below_aql_of, may_receive_of, has_live_credit_of, is_ready_of, pending_air_of, is_debtor_of};
 ghost use Rattle.wf_send_half_model.specs.Standing.{StandsFor};
 ghost use Rattle.wf_send_half_model.specs.Changes.{after_listing, after_listing_in};
 ghost use Rattle.wf_send_half.specs.Half.{can_send_in_of};
@@ -83,7 +85,7 @@ impl Half {
     }
 
     // Returns whether a TID can send. If a request is due: whether none is in an open exchange. Else: whether
-    // a number waits, or a frame is queued and the window has room for it.
+    // a number waits, or a frame is queued that can get a number.
     pub(crate) fn can_send(&self, station: u16, tid: u8) -> bool
         requires within { station < self.now.config.stations }
         requires tid { tid < 8 }
@@ -93,8 +95,28 @@ impl Half {
         if window.bar_due() {
             !self.opened.asks(station, tid)
         } else {
-            window.has_waiting() || (self.flows.queued(station, tid) > 0 && window.can_give())
+            window.has_waiting()
+                || (self.flows.queued(station, tid) > 0 && self.can_number(station, tid))
         }
+    }
+
+    // Returns whether no frame of a TID gets a number.
+    pub(crate) fn is_held_back(&self, station: u16, tid: u8) -> bool
+        requires within { station < self.now.config.stations }
+        requires tid { tid < 8 }
+        ensures { result ≡ is_held_back_of self.now station tid }
+    {
+        self.modes.at(station, tid).is_on_hold()
+    }
+
+    // Returns whether a frame of a TID can get a number: the window has room, and the TID is not held.
+    pub(crate) fn can_number(&self, station: u16, tid: u8) -> bool
+        requires within { station < self.now.config.stations }
+        requires tid { tid < 8 }
+        ensures { result ≡ (can_take (window_of self.now.windows station tid)
+            && not (is_held_back_of self.now station tid)) }
+    {
+        self.windows.at(station, tid).can_give() && !self.modes.at(station, tid).is_on_hold()
     }
 
     // Returns the computed airtime of a station's open exchanges in a class, in microseconds.

@@ -1,28 +1,28 @@
 //! The checks of the calls. A call is refused for the first reason that holds, in the order of the machine.
 
-ghost use Rattle.std.specs.Prelude.{◌≡◌, ◌<◌, ◌≤◌, ℕ, ◌-ℤ◌, pos, int_lt, true, false, [], ◌∷◌, None, Some, is_some, not, find, IfOk, IfErr, if◌then◌else◌, nat_le};
+ghost use Rattle.std.specs.Prelude.{◌≡◌, ◌<◌, ◌≤◌, ℕ, ◌-ℤ◌, pos, int_lt, true, false, [], ◌∷◌, None, Some, is_some, not, find, IfOk, IfErr, if◌then◌else◌, nat_le, nat_lt};
 ghost use Rattle.wf_frame.specs.Frames.{FrameValue};
-ghost use Rattle.wf_frame.specs.declared.notes.Ask.TheVariants.{Join, Offload, Weight, Rate as Rates, Tick, Sleep, Wake, Poll, Rx, Ampdu, Stop, Start};
+ghost use Rattle.wf_frame.specs.declared.notes.Ask.TheVariants.{Join, Plain, Offload, Weight, Rate as Rates, Tick, Sleep, Wake, Poll, Rx, Ampdu, Stop, Start};
 ghost use Rattle.wf_frame.specs.declared.notes.Note.TheVariants.{Asked};
-ghost use Rattle.wf_frame.specs.declared.notes.Refusal.TheVariants.{BadRate, BadStation, NoStation, Debt};
+ghost use Rattle.wf_frame.specs.declared.notes.Refusal.TheVariants.{BadRate, BadStation, BadTid, BadWindow, NoStation, Debt};
 ghost use Rattle.wf_frame.specs.declared.classes.Class.TheVariants.{Bk, Be, Vi, Vo};
-ghost use Rattle.wf_def_lists.specs.Bounds.{deepest_deficit};
+ghost use Rattle.wf_def_lists.specs.Bounds.{greatest_tid, greatest_window, deepest_deficit};
 ghost use Rattle.wf_def_air.specs.Airtime.{is_rate};
 ghost use Rattle.wf_def_world.specs.Rates.{rate_asked};
 ghost use Rattle.wf_def_world.specs.World.{World, share};
-ghost use Rattle.wf_def_world.specs.Refusals.{refusal, is_within};
+ghost use Rattle.wf_def_world.specs.Refusals.{first_refusal, refusal, is_within};
 ghost use Rattle.wf_def_world.specs.Step.{class_to_send};
 ghost use Rattle.wf_send_parts.specs.Sleepers.{sleeper};
 ghost use Rattle.wf_send_half_model.specs.Standing.{StandsFor};
 ghost use Rattle.wf_send_parts.specs.Members.{member};
-ghost use Rattle.wf_send_half.specs.Half.{IsLive, can_send_in_of};
+ghost use Rattle.wf_send_half.specs.Half.{IsLive, rows_of_tid, can_send_in_of};
 ghost use Rattle.std.specs.Result.{result_err};
 
 use crate::half::Half;
 use wf_air::time::Rate;
 use wf_frame::{
     AskedRate, Class, GREATEST_AIR, GREATEST_AMPDU, GREATEST_EXPONENT, GREATEST_START,
-    GREATEST_TICK, GREATEST_WEIGHT, GREATEST_WINDOW, LEAST_AMPDU, Refusal,
+    GREATEST_TICK, GREATEST_TID, GREATEST_WEIGHT, GREATEST_WINDOW, LEAST_AMPDU, Refusal,
 };
 
 // Returns whether a number is from the least to the greatest.
@@ -38,6 +38,26 @@ pub(crate) fn refuse_where(condition: bool, reason: Refusal) -> Result<(), Refus
     ensures passed { IfOk result (λ _. condition ≡ false) }
 {
     if condition { Err(reason) } else { Ok(()) }
+}
+
+// Checks a TID.
+pub(crate) fn check_tid(tid: u8) -> Result<(), Refusal>
+    ensures refused { result_err result ≡ (if nat_lt greatest_tid tid then Some BadTid else None) }
+    ensures within { IfOk result (λ _. tid < 8) }
+{
+    refuse_where(GREATEST_TID < tid, Refusal::BadTid)
+}
+
+// Checks the size of a window.
+pub(crate) fn check_window(window: u16) -> Result<(), Refusal>
+    ensures refused { result_err result ≡ (if not (is_within 1 greatest_window window)
+        then Some BadWindow else None) }
+    ensures within { IfOk result (λ _. (1 ≤ window) × (window ≤ 256)) }
+{
+    refuse_where(
+        !is_within(1, GREATEST_WINDOW as u32, u32::from(window)),
+        Refusal::BadWindow,
+    )
 }
 
 // Returns the rate of these numbers, if it exists.
@@ -127,6 +147,31 @@ impl Half {
         ensures absent { IfOk result (λ _. is_some (member self.now.members station) ≡ false) }
     {
         self.in_range(station)?;
+        refuse_where(GREATEST_EXPONENT < exponent, Refusal::BadExponent)?;
+        refuse_where(
+            !is_within(1, GREATEST_WEIGHT as u32, u32::from(weight)),
+            Refusal::BadWeight,
+        )?;
+        refuse_where(self.members.is_live(station), Refusal::Live)
+    }
+
+    // Checks a join of a station without agreements.
+    pub(crate) fn check_plain(
+        &self,
+        station: u16,
+        start: u16,
+        exponent: u8,
+        weight: u8,
+    ) -> Result<(), Refusal>
+        ensures refused { (w : World) (bodies : ℕ → FrameValue) → StandsFor self.now w bodies →
+            result_err result ≡ refusal w (Asked (Plain station start exponent weight)) }
+        ensures within { IfOk result (λ _. station < self.now.config.stations) }
+        ensures start { IfOk result (λ _. start < 4096) }
+        ensures weight { IfOk result (λ _. (1 ≤ weight) × (weight ≤ 16)) }
+        ensures absent { IfOk result (λ _. is_some (member self.now.members station) ≡ false) }
+    {
+        self.in_range(station)?;
+        refuse_where(GREATEST_START < start, Refusal::BadStart)?;
         refuse_where(GREATEST_EXPONENT < exponent, Refusal::BadExponent)?;
         refuse_where(
             !is_within(1, GREATEST_WEIGHT as u32, u32::from(weight)),
@@ -286,6 +331,19 @@ impl Half {
             self.config.stations <= u32::from(station),
             Refusal::BadStation,
         )
+    }
+
+    // Checks the numbers of a station and of a TID, and that the station is live.
+    pub(crate) fn live_tid(&self, station: u16, tid: u8) -> Result<(), Refusal>
+        ensures refused { (w : World) (bodies : ℕ → FrameValue) → StandsFor self.now w bodies →
+            result_err result ≡ first_refusal (rows_of_tid w station tid) }
+        ensures within { IfOk result (λ _. station < self.now.config.stations) }
+        ensures tid { IfOk result (λ _. tid < 8) }
+        ensures live { IfOk result (λ _. IsLive self.now station) }
+    {
+        self.in_range(station)?;
+        check_tid(tid)?;
+        self.live(station)
     }
 
     // Checks that a station is live.

@@ -2,20 +2,23 @@
 
 ghost use Rattle.std.specs.Prelude.{◌≡◌, ◌<◌, ◌≤◌, ◌^◌, ℕ, true, false, is_some, IfErr};
 ghost use Rattle.wf_frame.specs.Frames.{FrameValue};
-ghost use Rattle.wf_frame.specs.declared.notes.Ask.TheVariants.{Join, Offload, Rate, Tick, Sleep, Wake, Poll, Rx, Ampdu, Stop, Start};
+ghost use Rattle.wf_frame.specs.declared.notes.Ask.TheVariants.{Join, Plain, Offload, Rate, Tick, Sleep, Wake, Poll, Rx, Ampdu, Stop, Start};
 ghost use Rattle.wf_frame.specs.declared.notes.Note.TheVariants.{Asked};
 ghost use Rattle.wf_frame.specs.declared.notes.ReplyNote.TheVariants.{Joined, Set, Now, Slept, Woken, Polled, Charged, Stopped, Started};
 ghost use Rattle.wf_def_world.specs.World.{World};
+ghost use Rattle.wf_sched.specs.ClassRotas.{IsNowhere};
 ghost use Rattle.wf_send_parts.specs.Members.{member};
-ghost use Rattle.wf_send_half_model.specs.Changes.{AreReset, after_admission};
+ghost use Rattle.wf_send_half_model.specs.Changes.{AreReset, AreSet, after_admission};
 ghost use Rattle.wf_send_half_model.specs.Standing.{StandsFor, Meets};
 ghost use Rattle.wf_send_half.specs.Half.{HasWorld, IsReceiptSmall};
 ghost use Rattle.wf_send_half.specs.Replies.{reply_of_result};
 
 use crate::half::Half;
+use crate::modes::PLAIN_WINDOW;
 use crate::refuse::check_tick;
 use wf_frame::{AskedRate, Class, GREATEST_WINDOW, Refusal};
 use wf_octets::seq12::Seq12;
+use wf_send_parts::stations::Mode;
 
 impl Half {
     // A station joins (`Transmit::join`).
@@ -34,7 +37,28 @@ impl Half {
         ensures refused { IfErr result (λ _. self.new ≡ self.old) }
     {
         self.check_join(station, window, start, exponent, weight)?;
-        self.admit(station, window, start, exponent, weight, false);
+        self.begin_sessions(station, window, start, Mode::Agreed);
+        self.admit(station, exponent, weight, false);
+        Ok(())
+    }
+
+    // A station joins without agreements (`Transmit::plain`).
+    pub(crate) fn plain(
+        &mut self,
+        station: u16,
+        start: u16,
+        exponent: u8,
+        weight: u8,
+    ) -> Result<(), Refusal>
+        requires some { HasWorld self.old }
+        ensures meets { (w : World) (bodies : ℕ → FrameValue) → StandsFor self.old w bodies →
+            Meets w bodies (Asked (Plain station start exponent weight)) self.new
+            (reply_of_result (λ _. Joined) result) }
+        ensures refused { IfErr result (λ _. self.new ≡ self.old) }
+    {
+        self.check_plain(station, start, exponent, weight)?;
+        self.begin_sessions(station, PLAIN_WINDOW, start, Mode::Plain);
+        self.admit(station, exponent, weight, false);
         Ok(())
     }
 
@@ -47,32 +71,38 @@ impl Half {
         ensures refused { IfErr result (λ _. self.new ≡ self.old) }
     {
         self.check_offload(station, exponent, weight)?;
-        self.admit(station, GREATEST_WINDOW, 0, exponent, weight, true);
+        self.begin_sessions(station, GREATEST_WINDOW, 0, Mode::Plain);
+        self.admit(station, exponent, weight, true);
         Ok(())
     }
 
-    // Makes a station live, with this window and this first number on each TID.
-    fn admit(
-        &mut self,
-        station: u16,
-        window: u16,
-        start: u16,
-        exponent: u8,
-        weight: u8,
-        offloaded: bool,
-    )
+    // Begins a session with this window, this first number and this mode on each TID of a station that is
+    // not live.
+    fn begin_sessions(&mut self, station: u16, window: u16, start: u16, mode: Mode)
         requires some { HasWorld self.old }
         requires within { station < self.old.config.stations }
         requires absent { is_some (member self.old.members station) ≡ false }
         requires window { (1 ≤ window) × (window ≤ 256) }
         requires start { start < 4096 }
-        requires weight { (1 ≤ weight) × (weight ≤ 16) }
         ensures reset { AreReset self.old.windows self.new.windows station start window }
+        ensures modes { AreSet self.old.modes self.new.modes station mode }
+        ensures unlisted { IsNowhere self.new.sched station }
         ensures rest { self.new ≡
-            after_admission self.old self.new.windows station exponent weight offloaded }
+            record self.old { windows = self.new.windows; modes = self.new.modes } }
     {
         self.windows
             .reset_all(station, Seq12::of(u64::from(start)), window);
+        self.modes.set_all(station, mode);
+    }
+
+    // Makes a station live, whose TIDs have their sessions.
+    fn admit(&mut self, station: u16, exponent: u8, weight: u8, offloaded: bool)
+        requires within { station < self.old.config.stations }
+        requires unlisted { IsNowhere self.old.sched station }
+        requires weight { (1 ≤ weight) × (weight ≤ 16) }
+        ensures { self.new ≡ after_admission self.old self.old.windows self.old.modes station exponent weight
+            offloaded }
+    {
         self.sleepers.reset(station);
         self.sched.join(station, weight);
         self.members.join(station, exponent, offloaded);

@@ -43,7 +43,7 @@ use Rattle.wf_send_half_model.proofs.Endings.{sum_none}
 use Rattle.wf_send_half_model.proofs.Gives.{Placed, given_below}
 use Rattle.wf_send_half_model.proofs.Known.{open_state}
 use Rattle.wf_send_half_model.proofs.Moves.{with_session, session_own, session_other, session_is}
-use Rattle.wf_send_half_model.proofs.Stands.{StationsStand, LedgerStands, WindowsStand, Pieces, to_pieces, of_pieces}
+use Rattle.wf_send_half_model.proofs.Stands.{StationsStand, LedgerStands, WindowsStand, ModesStand, Pieces, to_pieces, of_pieces}
 use Rattle.wf_send_half_model.proofs.Views.{agreements_session, roster_session, ledger_session}
 
 -- ---- the place of a frame that a number holds
@@ -301,6 +301,8 @@ module _ (v : TransmitValue) (w : World) (bodies : ℕ → FrameValue) (s t : �
                     (subst (λ (z : Session). WindowStandsFor x z others)
                     (sym (session_own a.sessions s t y)) stands);
               });
+          modes = subst (ModesStand v.modes) (sym only.agreements_are)
+              (record { sized = p.modes.sized; each = p.modes.each });
           flows = stands_same v.flows w u only.part p.flows;
           turns = only.leaves v.sched p.turns;
           ledger = subst (LedgerStands v.inside v.tally others) (sym only.ledger_is) (record {

@@ -78,7 +78,8 @@ member_read k (Some m) (Some x) h live e =
 -- an empty aggregate with these limits
 abbrev sized : Rate → ℕ → Option ℕ → ℕ → ℕ → ℕ → Bool → AggregateSizeValue
 sized r exponent stated frames time answers wide =
-    empty_size r (record { octets = most_octets r exponent stated; frames = frames; time = time }) answers wide
+    empty_size r (record { octets = most_octets r exponent stated; frames = frames; time = time }) answers
+    wide
 
 pub room_read : (v : TransmitValue) (w : World) (bodies : ℕ → FrameValue) (s : ℕ) → Parts v w bodies →
     is_live w s ≡ true → (m : Member) → member v.members s ≡ Some m → (t : ℕ) → t < 8 → (b : Bounds) →

@@ -11,9 +11,9 @@ use Rattle.wf_frame.specs.Classes.{lower_tid, upper_tid, class_number, class_of}
 use Rattle.wf_def_lists.specs.Table.{at, change}
 use Rattle.wf_def_agreement.specs.Session.{Session, End, after_end}
 use Rattle.wf_def_agreement.specs.Receiver.{Receiver}
-use Rattle.wf_def_world.specs.World.{World, Station, Tid, Share, Exchange, Mpdu, Content, Frames, Request, no_tid, no_station, station, tid_of, is_live, is_offloaded, owed, exchange, with_station, on_station, on_tid, on_session, on_receiver, on_share, with_fate, with_frame_finished, without_exchange}
+use Rattle.wf_def_world.specs.World.{World, Station, Tid, Share, Exchange, Mpdu, Content, Frames, Request, no_tid, no_station, holds_back, station, tid_of, is_live, is_agreed, owed, exchange, with_station, on_station, on_tid, on_session, on_receiver, on_share, with_fate, with_frame_finished, without_exchange}
 use Rattle.wf_def_world.specs.CanSend.{is_request, has_credit, may_receive, is_ready}
-use Rattle.wf_def_world.specs.Exchanges.{after_charge, with_failed_finished, with_settled, with_all_settled, caught_up, with_device_caught_up, after_done}
+use Rattle.wf_def_world.specs.Exchanges.{after_charge, with_failed_finished, with_settled, with_all_settled, caught_up, caught_up_if_plain, after_done}
 use Rattle.wf_def_world.specs.Step.{outcome_of, outcome_where_open, station_of, done_outcome, step}
 use Rattle.wf_law_rules.proofs.Lemmas.Tables.{at_put_same, at_put_other}
 use Rattle.wf_law_runs.proofs.Common.Ends.{if_settled}
@@ -96,10 +96,10 @@ beyond_on_receiver w s t f = record {
   opened = on_station_opened w s _;
 }
 
-beyond_device : (w : World) (s t : ℕ) → IsBeyond s t w (with_device_caught_up w s t)
-unfolding with_device_caught_up caught_up
-beyond_device w s t = beyond_if (is_offloaded w s) s t w _ _
-    (beyond_then s t w _ _ (beyond_on_session w s t _) (beyond_on_receiver _ s t _)) (beyond_here s t w)
+beyond_caught : (w : World) (s t : ℕ) → IsBeyond s t w (caught_up_if_plain w s t)
+unfolding caught_up_if_plain caught_up
+beyond_caught w s t = beyond_if (is_agreed w s t) s t w _ _ (beyond_here s t w)
+    (beyond_then s t w _ _ (beyond_on_session w s t _) (beyond_on_receiver _ s t _))
 
 pub beyond_on_share : (w : World) (s t : ℕ) (c : Class) (f : Share → Share) →
     IsBeyond s t w (on_share w s c f)
@@ -137,7 +137,7 @@ beyond_after_done : (content : Content) (w : World) (x : Exchange) (heard : Bool
     IsBeyond x.station x.tid w (after_done w x heard content)
 unfolding after_done
 beyond_after_done (Frames mpdus) w x heard = beyond_then x.station x.tid w _ _
-    (beyond_all_settled mpdus w _ _ _) (beyond_device _ x.station x.tid)
+    (beyond_all_settled mpdus w _ _ _) (beyond_caught _ x.station x.tid)
 beyond_after_done (Request start) w x heard = beyond_on_session w _ _ _
 
 pub beyond_ended : (w : World) (x : Exchange) (heard : Bool) (air : Option ℕ) →
@@ -200,6 +200,7 @@ module _ (w : World) (e : ℕ) (x : Exchange) (heard : Bool) (air : Option ℕ) 
       beyond_ended w x heard air in
       record {
         session = ap (λ (y : Tid). y.session) (b.tids j other);
+        held = ap (λ (y : Tid). holds_back y.mode) (b.tids j other);
         request = ap (asks x.station j) b.opened
             ∙ asks_filtered x.station j (λ y. not (y.number == x.number)) w.opened
             (every_map (λ z. z.number ≡ x.number → core z ≡ core x)

@@ -23,7 +23,7 @@ use Rattle.wf_send_half_model.specs.Half.{TransmitValue}
 use Rattle.wf_send_half_model.specs.Standing.{Parts}
 use Rattle.wf_send_half_model.specs.Views.{view_of, Roster, roster, ledger}
 use Rattle.wf_send_half_model.proofs.Views.{agreements_rest, roster_rest, reshared, view_reshared}
-use Rattle.wf_send_half_model.proofs.Stands.{WindowsStand, StationsStand, LedgerStands, Pieces, to_pieces, of_pieces}
+use Rattle.wf_send_half_model.proofs.Stands.{WindowsStand, ModesStand, StationsStand, LedgerStands, Pieces, to_pieces, of_pieces}
 use Rattle.wf_send_half_model.proofs.Stations.{member_changed, sleeper_changed, resting, rated, stated, receipted, station_parts}
 
 -- ---- the clock
@@ -40,6 +40,7 @@ tick_parts v w bodies by h =
       opened = p.opened;
       stations = p.stations;
       windows = p.windows;
+      modes = record { sized = p.modes.sized; each = p.modes.each };
       flows = p.flows;
       turns = tick_leaves w by v.sched p.turns;
       ledger = p.ledger;
@@ -209,6 +210,7 @@ reap_parts v w bodies f rest e h =
           p.stations;
       windows = subst (WindowsStand v.windows bodies)
           (sym (agreements_rest w u (rest_reaped w w.finished))) p.windows;
+      modes = subst (ModesStand v.modes) (sym (agreements_rest w u (rest_reaped w w.finished))) p.modes;
       flows = stands_reaped v.flows w f rest p.flows e;
       turns = reaped_leaves w w.finished v.sched p.turns;
       ledger = subst (LedgerStands (v.inside - 1) v.tally bodies) (sym book)

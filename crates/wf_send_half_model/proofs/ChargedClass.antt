@@ -3,7 +3,8 @@
 use Rattle.std.proofs.Common.{◌≡◌, refl, ap, sym, ◌∙◌, subst, arith, ℕ, ◌+◌, ◌==◌, Bool, true, false, not, ◌&&◌, if◌then◌else◌, List, [], ◌∷◌, ◌++◌, filter, map, Option, Some, None, inl, inr}
 use Rattle.std.proofs.lemmas.Bool.{cases_Bool, ne_eqb}
 use Rattle.wf_frame.specs.declared.classes.Class.{Class}
-use Rattle.wf_frame.specs.declared.notes.Ask.TheVariants.{Join, Leave, Rate, Tick, Pull, Arrive, Answer, Done, Sleep, Wake, Poll, Rx, Reap, Ampdu, Stop, Start, Unsent, GiveUp, Flush, Offload, Weight}
+use Rattle.wf_frame.specs.declared.notes.Ask.TheVariants.{Join, Leave, Rate, Tick, Pull, Arrive, Answer, Done, Sleep, Wake, Poll, Rx, Reap, Ampdu, Stop, Start, Unsent, GiveUp, Flush, Offload, Weight, Hold, Begin, Free, Cease}
+use Rattle.wf_frame.specs.declared.notes.Ask.TheVariants as call
 use Rattle.wf_frame.specs.declared.notes.Note.{Note}
 use Rattle.wf_frame.specs.declared.notes.Limits.{Limits}
 use Rattle.wf_law_runs.proofs.Common.Picked.{picked_world}
@@ -20,7 +21,7 @@ use Rattle.wf_def_world.specs.Step.{Outcome, outcome_of, after_refusal, judged_o
 use Rattle.wf_def_world.specs.Run.{Entry, world_after}
 use Rattle.wf_law_rules.proofs.Lemmas.Numbers.{on_if}
 use Rattle.wf_law_runs.proofs.Deficits.Books.{Books, books, core}
-use Rattle.wf_law_runs.proofs.Deficits.BookSteps.{books_after_turn, books_prepared, books_sent, books_ended, books_gone, books_enqueued, books_received, books_reaped, books_slept, books_woken, books_credited, books_with_rate, books_joined, books_after_pick, books_stated, books_stopped, books_started, books_flushed, books_offloaded, books_weighed}
+use Rattle.wf_law_runs.proofs.Deficits.BookSteps.{books_after_turn, books_prepared, books_sent, books_ended, books_gone, books_enqueued, books_received, books_reaped, books_slept, books_woken, books_credited, books_with_rate, books_joined, books_after_pick, books_stated, books_stopped, books_started, books_flushed, books_offloaded, books_joined_plain, books_weighed, books_held, books_begun, books_freed, books_ceased}
 use Rattle.wf_law_runs.proofs.Deficits.Kept.{IsKept}
 use Rattle.wf_law_runs.proofs.Deficits.KeptStep.{IsFound, books_arrived, books_answered, books_marked, kept_step, kept_opening}
 use Rattle.wf_law_runs.proofs.Deficits.Openings.{Every, every_append, every_filter}
@@ -102,6 +103,12 @@ own_done (Enqueue s t flow len) w k i = own_is _ _ (books_enqueued w s t flow le
 own_done (Asked (Join s window start exponent weight)) w k i =
     own_is _ _ (books_joined w s window start exponent weight) i
 own_done (Asked (Offload s exponent weight)) w k i = own_is _ _ (books_offloaded w s exponent weight) i
+own_done (Asked (call.Plain s start exponent weight)) w k i =
+    own_is _ _ (books_joined_plain w s start exponent weight) i
+own_done (Asked (Hold s t)) w k i = own_is _ _ (books_held w s t) i
+own_done (Asked (Begin s t window)) w k i = own_is _ _ (books_begun w s t window) i
+own_done (Asked (Free s t)) w k i = own_is _ _ (books_freed w s t) i
+own_done (Asked (Cease s t)) w k i = own_is _ _ (books_ceased w s t) i
 own_done (Asked (Weight s weight)) w k i = own_is _ _ (books_weighed w s weight) i
 own_done (Asked (Leave s)) w k i = own_is _ _ (books_gone w s) i
 own_done (Asked (Rate s rate)) w k i = own_is _ _ (books_with_rate w s rate) i

@@ -77,6 +77,7 @@ close_parts v w bodies x known rises h =
           ∙ others_open w.opened e;
       stations = p.stations;
       windows = p.windows;
+      modes = record { sized = p.modes.sized; each = p.modes.each };
       flows = p.flows;
       turns = subst (λ (k : Config). TurnsStandFor
           (with_pending_paid_back k v.sched x.station x.class x.charge) (without_exchange w e))

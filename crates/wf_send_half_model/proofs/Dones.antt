@@ -1,15 +1,15 @@
 -- Proves that the half represents the world after a Done, for requests and for data, and that its reply is
 -- the step's.
-use Rattle.std.proofs.Common.{◌≡◌, refl, ap, sym, ◌∙◌, subst, arith, ℕ, ◌<◌, Bool, true, false, List, [], ◌∷◌, length, Option, Some, None, max}
+use Rattle.std.proofs.Common.{◌≡◌, refl, ap, sym, ◌∙◌, subst, arith, ℕ, ◌<◌, Bool, true, false, ◌&&◌, if◌then◌else◌, List, [], ◌∷◌, length, Option, Some, None, max}
 use Rattle.std.specs.List.{list_any}
 use Rattle.wf_frame.specs.declared.notes.Note.TheVariants.{Asked}
 use Rattle.wf_frame.specs.declared.notes.Ask.TheVariants.{Done}
 use Rattle.wf_frame.specs.declared.notes.ReplyNote.TheVariants as reply
 use Rattle.wf_frame.specs.Classes.{class_of}
 use Rattle.wf_frame.specs.Frames.{FrameValue}
-use Rattle.wf_def_agreement.specs.Session.{Session, Slot, slot, is_acknowledged, is_waiting, is_failed, numbers_where}
+use Rattle.wf_def_agreement.specs.Session.{Session, Slot, End, slot, is_acknowledged, is_waiting, is_failed, numbers_where}
 use Rattle.wf_def_world.specs.World.{World, Exchange, Mpdu, Content, Frames, Request, is_live, session, exchange, on_session, without_exchange}
-use Rattle.wf_def_world.specs.Exchanges.{end_of, with_all_settled, with_device_caught_up, with_heard_start, after_charge, after_done, count_in, charge_of}
+use Rattle.wf_def_world.specs.Exchanges.{end_of, with_all_settled, caught_up_if_plain, end_in_batch, end_in_aggregate, end_at_once, is_far, with_heard_start, after_charge, after_done, count_in, charge_of}
 use Rattle.wf_def_world.specs.Refusals.{refusal}
 use Rattle.wf_def_world.specs.Step.{Outcome, outcome_of, outcome_where_open, station_of, done_outcome}
 use Rattle.wf_law_runs.specs.Windows.{IfAsks, IsPending}
@@ -36,14 +36,25 @@ use Rattle.wf_send_half_model.proofs.Endings.{closed_agreements, closed_parts, o
 
 -- ---- the world after it
 
+-- how an exchange ends for each number, by the session of its TID
+abbrev ends_by : Exchange → Bool → Session → ℕ → End
+ends_by x heard y n =
+    if x.batch then end_in_batch x n
+    else if x.plain && is_far y n then end_at_once (end_in_aggregate x heard n)
+    else end_in_aggregate x heard n
+
 pub data_world : (w : World) (x : Exchange) (heard : Bool) (air : Option ℕ) (mpdus : List Mpdu) →
     x.content ≡ Frames mpdus →
-    (done_outcome w x heard air).world ≡ with_device_caught_up (with_all_settled
-    (after_charge (without_exchange w x.number) x air) x.station x.tid (end_of x heard) mpdus)
+    (done_outcome w x heard air).world ≡ caught_up_if_plain (with_all_settled
+    (after_charge (without_exchange w x.number) x air) x.station x.tid (end_of w x heard) mpdus)
     x.station x.tid
 unfolding done_outcome after_done
-data_world w x heard air mpdus is = ap
-    (after_done (after_charge (without_exchange w x.number) x air) x heard) is
+data_world w x heard air mpdus is =
+    let u : World = after_charge (without_exchange w x.number) x air in
+    ap (after_done u x heard) is
+    ∙ ap (λ (ends : ℕ → End). caught_up_if_plain (with_all_settled u x.station x.tid ends mpdus)
+    x.station x.tid)
+    (ap (ends_by x heard) (ap (λ (k : Agreements). k.sessions x.station x.tid) (closed_agreements w x air)))
 
 pub request_world : (w : World) (x : Exchange) (heard : Bool) (air : Option ℕ) (start : ℕ) →
     x.content ≡ Request start →
@@ -72,7 +83,7 @@ some_slots p n (x ∷ xs) h = omega arith
 agreements_unheard : (w : World) (s t start : ℕ) →
     agreements (on_session w s t (with_heard_start false start)) ≡ agreements w
 unfolding on_session
-agreements_unheard w s t start = agreements_on_tid w s t _ (λ y. refl)
+agreements_unheard w s t start = agreements_on_tid w s t _ (λ y. refl) (λ y. refl)
 
 module _ (v : TransmitValue) (w : World) (bodies : ℕ → FrameValue) (h : StandsFor v w bodies) (e : ℕ)
     (x : Exchange) (known : exchange w e ≡ Some x) (start : ℕ) (is : x.content ≡ Request start) where

@@ -6,7 +6,7 @@ use Rattle.std.proofs.lemmas.Bool.{cases_eq}
 use Rattle.std.proofs.lemmas.List.{length-map}
 use Rattle.std.proofs.lemmas.List.Sums.{sum_by-set}
 use Rattle.wf_frame.specs.declared.classes.Cause.{Cause}
-use Rattle.wf_frame.specs.declared.classes.Cause.TheVariants.{Overlimit, Codel, Retries, Left, Flushed}
+use Rattle.wf_frame.specs.declared.classes.Cause.TheVariants.{Overlimit, Codel, Retries, Left, Flushed, Ended}
 use Rattle.wf_frame.specs.declared.classes.Fate.{Fate}
 use Rattle.wf_frame.specs.declared.classes.Fate.TheVariants.{Held, Acked, Dropped}
 use Rattle.wf_frame.specs.declared.notes.Note.{Note}
@@ -44,7 +44,7 @@ use Rattle.wf_send_half_model.specs.Ending.{after_finish}
 use Rattle.wf_send_half_model.specs.Leaving.{with_left, HasDropped}
 use Rattle.wf_send_half_model.specs.Views.{Roster, roster, ledger}
 use Rattle.wf_send_half_model.proofs.Views.{agreements_rest, roster_rest}
-use Rattle.wf_send_half_model.proofs.Stands.{WindowsStand, StationsStand, LedgerStands, Pieces, to_pieces, of_pieces}
+use Rattle.wf_send_half_model.proofs.Stands.{WindowsStand, ModesStand, StationsStand, LedgerStands, Pieces, to_pieces, of_pieces}
 use Rattle.wf_send_half_model.proofs.Ledgers.{counts_by}
 use Rattle.wf_send_half_model.proofs.Moves.{finish_parts}
 
@@ -147,6 +147,7 @@ with_dropped cause n c = record c {
   retries = c.retries + n * counts_as (Dropped cause) (Dropped Retries);
   left = c.left + n * counts_as (Dropped cause) (Dropped Left);
   flushed = c.flushed + n * counts_as (Dropped cause) (Dropped Flushed);
+  ended = c.ended + n * counts_as (Dropped cause) (Dropped Ended);
 }
 
 dropped_is : (cause : Cause) (n : ℕ) (c : Counts) →
@@ -156,6 +157,7 @@ dropped_is Codel n c = simp (add-zero, mul-zero, mul-one)
 dropped_is Retries n c = simp (add-zero, mul-zero, mul-one)
 dropped_is Left n c = simp (add-zero, mul-zero, mul-one)
 dropped_is Flushed n c = simp (add-zero, mul-zero, mul-one)
+dropped_is Ended n c = simp (add-zero, mul-zero, mul-one)
 
 pub ledger_dropped : (cause : Cause) (w u : World) (n : ℕ) → HaveSettled w u (Dropped cause) n →
     accepted_count u ≡ accepted_count w → notes u ≡ notes w → length u.finished ≡ length w.finished + n →
@@ -165,7 +167,8 @@ ledger_dropped cause w u n settled accepted same grown =
     counts_by (counts_in u) (with_dropped cause n (counts_in w)) accepted (settled_to Acked refl)
     (settled_to (Dropped Overlimit) refl) (settled_to (Dropped Codel) refl)
     (settled_to (Dropped Retries) refl) (settled_to (Dropped Left) refl)
-    (settled_to (Dropped Flushed) refl) ∙ dropped_is cause n (counts_in w) in
+    (settled_to (Dropped Flushed) refl) (settled_to (Dropped Ended) refl)
+    ∙ dropped_is cause n (counts_in w) in
     let in_all : inside u ≡ inside w = omega (arith, held_counted u, held_counted w, held_less, grown) in
     ap₂ (λ (i m : ℕ). record (ledger u) { inside = i; accepted = m }) in_all accepted
     ∙ ap₂ (λ (c : Counts) (f : ℕ → Note). record (ledger w) { counts = c; notes = f }) counts same
@@ -283,6 +286,7 @@ module _ (before : TransmitValue) (w : World) (bodies : ℕ → FrameValue) (s t
               r.stations) same p.stations;
           windows = subst (WindowsStand before.windows bodies)
               (sym (agreements_rest now gone same_rest)) p.windows;
+          modes = subst (ModesStand before.modes) (sym (agreements_rest now gone same_rest)) p.modes;
           flows = stands_gone;
           turns = turns;
           ledger = subst (λ (n : ℕ). LedgerStands before.inside (with_more before.tally n) bodies

@@ -5,7 +5,7 @@ use Rattle.std.specs.Prelude.{nat_lt, count_by}
 use Rattle.std.proofs.lemmas.List.Sums.{sum_by-append}
 use Rattle.std.proofs.lemmas.Bool.{leb-false}
 use Rattle.std.proofs.lemmas.Bool.Decides.{nat_tests}
-use Rattle.wf_frame.specs.declared.classes.Cause.TheVariants.{Overlimit, Codel, Retries, Left, Flushed}
+use Rattle.wf_frame.specs.declared.classes.Cause.TheVariants.{Overlimit, Codel, Retries, Left, Flushed, Ended}
 use Rattle.wf_frame.specs.declared.classes.Fate.{Fate}
 use Rattle.wf_frame.specs.declared.classes.Fate.TheVariants.{Held, Acked, Dropped}
 use Rattle.wf_frame.specs.declared.notes.Note.{Note}
@@ -40,7 +40,7 @@ use Rattle.wf_send_half_model.specs.Changes.{after_listing_in, after_enqueue}
 use Rattle.wf_send_half_model.specs.Counting.{with_overlimit}
 use Rattle.wf_send_half_model.specs.Views.{Roster, roster, Ledger, ledger}
 use Rattle.wf_send_half_model.proofs.Views.{agreements_rest, roster_rest, ledger_queue, ledger_queues}
-use Rattle.wf_send_half_model.proofs.Stands.{WindowsStand, StationsStand, Pieces, to_pieces, of_pieces}
+use Rattle.wf_send_half_model.proofs.Stands.{WindowsStand, ModesStand, StationsStand, Pieces, to_pieces, of_pieces}
 use Rattle.wf_send_half_model.proofs.Reached.{by_law}
 use Rattle.wf_send_half_model.proofs.Meets.{listed_in_meets}
 use Rattle.wf_send_half_model.proofs.OneClass.{enqueue_listed}
@@ -86,6 +86,7 @@ module _ (w : World) (note : Note) where
       (counted (λ f. same_fate f (Dropped Retries)) ∙ add-zero _)
       (counted (λ f. same_fate f (Dropped Left)) ∙ add-zero _)
       (counted (λ f. same_fate f (Dropped Flushed)) ∙ add-zero _)
+      (counted (λ f. same_fate f (Dropped Ended)) ∙ add-zero _)
 
 accepted_later : (o : Option ℕ) (c : Counts) →
     one_accepted (with_overlimit o c) ≡ with_overlimit o (one_accepted c)
@@ -142,6 +143,8 @@ enqueue_parts v w bodies f places live low_s low_t next stamp source fate h =
       windows = subst (WindowsStand v.windows (with_body bodies f))
           (sym (agreements_rest w u (rest_enqueued w f.station f.tid f.flow (length f.body))))
           (windows_known v.windows w bodies (with_body bodies f) places others p.windows);
+      modes = subst (ModesStand v.modes)
+          (sym (agreements_rest w u (rest_enqueued w f.station f.tid f.flow (length f.body)))) p.modes;
       flows = stands_put v.flows w f.station f.tid f p.flows live low_s low_t id (stamp ∙ p.clock);
       turns = enqueued_leaves w f.station f.tid f.flow (length f.body) v.sched p.turns;
       ledger = record {

@@ -7,7 +7,8 @@ use Rattle.std.proofs.lemmas.Bool.{leb-false, cases_eq, cases_lt, ne_eqb, or_lef
 use Rattle.std.proofs.lemmas.List.{length-map}
 use Rattle.std.proofs.lemmas.List.Folds.{list_all-append}
 use Rattle.wf_frame.specs.declared.classes.Class.{Class}
-use Rattle.wf_frame.specs.declared.notes.Ask.TheVariants.{Join, Leave, Rate, Tick, Pull, Arrive, Answer, Done, Sleep, Wake, Poll, Rx, Reap, Ampdu, Stop, Start, Unsent, GiveUp, Flush, Offload, Weight}
+use Rattle.wf_frame.specs.declared.notes.Ask.TheVariants.{Join, Leave, Rate, Tick, Pull, Arrive, Answer, Done, Sleep, Wake, Poll, Rx, Reap, Ampdu, Stop, Start, Unsent, GiveUp, Flush, Offload, Weight, Hold, Begin, Free, Cease}
+use Rattle.wf_frame.specs.declared.notes.Ask.TheVariants as call
 use Rattle.wf_frame.specs.declared.notes.Limits.{Limits}
 use Rattle.wf_frame.specs.declared.notes.Note.{Note}
 use Rattle.wf_frame.specs.declared.notes.Note.TheVariants.{Enqueue, Asked}
@@ -21,7 +22,7 @@ use Rattle.wf_def_world.specs.World.{World, Station, Exchange, Mpdu, Content, Fr
 use Rattle.wf_def_world.specs.CanSend.{is_ready}
 use Rattle.wf_def_world.specs.Exchanges.{station_need, picked_station, after_tid_turn, sending_tid, transmissions, mpdus_of, no_mpdu, number_at, numbers_unsent, numbers_given_up, after_arrival, Prepared, exchange_of, with_exchange_opened}
 use Rattle.wf_def_world.specs.Refusals.{refusal, refusals, exchange_has}
-use Rattle.wf_def_world.specs.Step.{Outcome, join_outcome, offload_outcome, leave_outcome, rate_outcome, tick_outcome, send_outcome, pull_outcome_for, pull_outcome, arrive_outcome, answer_outcome, unsent_outcome, give_up_outcome, flush_outcome, outcome_where_open, sleep_outcome, wake_outcome, poll_outcome, rx_outcome, reap_outcome, outcome_of, concerned_station, after_refusal, judged_outcome, step}
+use Rattle.wf_def_world.specs.Step.{Outcome, join_outcome, offload_outcome, plain_outcome, leave_outcome, rate_outcome, tick_outcome, send_outcome, pull_outcome_for, pull_outcome, arrive_outcome, answer_outcome, unsent_outcome, give_up_outcome, flush_outcome, outcome_where_open, sleep_outcome, wake_outcome, poll_outcome, rx_outcome, reap_outcome, outcome_of, concerned_station, after_refusal, judged_outcome, step}
 use Rattle.wf_def_world.specs.Run.{Entry, world_after}
 use Rattle.wf_law_runs.specs.Sent.{NumbersRise}
 use Rattle.wf_law_runs.proofs.Common.Flushes.{if_flushed}
@@ -33,6 +34,7 @@ use Rattle.wf_law_runs.proofs.Releases.Kept.{opened_caught}
 use Rattle.wf_law_runs.proofs.Windows.Agreed.{IsLawful, lawful_same, lawful_step, lawful_at_first, same_left_tids, same_off_lists}
 use Rattle.wf_law_runs.proofs.Windows.Opened.{Each, each_append, each_filter, each_find, left_true, pick_ready, some_along}
 use Rattle.wf_law_runs.proofs.Windows.Sides.{Same, then_same, same_on_share, same_listed, same_after_pick, same_picked, same_after_turn, same_spent, same_weighed}
+use Rattle.wf_law_runs.proofs.Windows.Sides.{opened_held, opened_begun, opened_freed, opened_ceased}
 use Rattle.wf_send_parts.specs.Exchanges.{transmissions_of, has_nothing_sent}
 use Rattle.wf_send_parts.specs.Window.{on_air}
 use Rattle.wf_send_half_model.specs.Marking.{MarksFit}
@@ -237,6 +239,11 @@ offloaded_opened : (w : World) (s exponent weight : ℕ) →
 unfolding offload_outcome with_station
 offloaded_opened w s exponent weight = refl
 
+plain_opened : (w : World) (s start exponent weight : ℕ) →
+    (plain_outcome w s start exponent weight).world.opened ≡ w.opened
+unfolding plain_outcome with_station
+plain_opened w s start exponent weight = refl
+
 set_opened : (w : World) (s : ℕ) (o : Option Station) → (with_station w s o).opened ≡ w.opened
 unfolding with_station
 set_opened w s o = refl
@@ -254,6 +261,12 @@ fit_done (Asked (Join s window start exponent weight)) w rows i all =
     fit_same (joined_opened w s window start exponent weight) all
 fit_done (Asked (Offload s exponent weight)) w rows i all =
     fit_same (offloaded_opened w s exponent weight) all
+fit_done (Asked (call.Plain s start exponent weight)) w rows i all =
+    fit_same (plain_opened w s start exponent weight) all
+fit_done (Asked (Hold s t)) w rows i all = fit_same (opened_held w s t) all
+fit_done (Asked (Begin s t window)) w rows i all = fit_same (opened_begun w s t window) all
+fit_done (Asked (Free s t)) w rows i all = fit_same (opened_freed w s t) all
+fit_done (Asked (Cease s t)) w rows i all = fit_same (opened_ceased w s t) all
 fit_done (Asked (Weight s weight)) w rows i all = fit_same (same_weighed w s weight).opened all
 fit_done (Asked (Leave s)) w rows i all = fit_same (gone_opened w s) all
 fit_done (Asked (Rate s rate)) w rows i all = fit_same (station_opened w s _) all

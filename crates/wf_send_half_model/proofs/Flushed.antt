@@ -1,6 +1,6 @@
 -- Proves the end of a flush: after the waiting numbers have failed, the queues of the TID are emptied, and
 -- the half represents the world after the call.
-use Rattle.std.proofs.Common.{◌≡◌, refl, ap, sym, ◌∙◌, subst, arith, ℕ, ◌+◌, ◌-◌, ◌*◌, ◌<◌, ◌≤◌, Bool, true, false, if◌then◌else◌, List, [], ◌∷◌, length}
+use Rattle.std.proofs.Common.{◌≡◌, refl, ap, sym, ◌∙◌, subst, arith, ℕ, ◌+◌, ◌-◌, ◌*◌, ◌<◌, ◌≤◌, Bool, true, false, if◌then◌else◌, List, [], ◌∷◌, length, None}
 use Rattle.wf_frame.specs.declared.classes.Cause.TheVariants.{Flushed}
 use Rattle.wf_frame.specs.declared.classes.Fate.TheVariants.{Held, Dropped}
 use Rattle.wf_frame.specs.declared.notes.Ask.TheVariants.{Flush}
@@ -10,9 +10,10 @@ use Rattle.wf_frame.specs.declared.notes.ReplyNote.TheVariants as reply
 use Rattle.wf_frame.specs.Classes.{tid_number}
 use Rattle.wf_frame.specs.Frames.{FrameValue}
 use Rattle.wf_def_agreement.specs.Session.{Session, after_flush as session_flushed}
-use Rattle.wf_def_world.specs.World.{World, session, inside, is_offloaded, on_session, on_receiver, on_tid, on_station, with_station}
+use Rattle.wf_def_world.specs.World.{World, session, inside, is_agreed, on_session, on_receiver, on_tid, on_station, with_station}
 use Rattle.wf_def_world.specs.FlowQueues.{after_queue_flushed, after_queues_flushed}
-use Rattle.wf_def_world.specs.Exchanges.{caught_up, with_device_caught_up}
+use Rattle.wf_def_world.specs.Exchanges.{caught_up, caught_up_if_plain}
+use Rattle.wf_def_world.specs.Refusals.{refusal}
 use Rattle.wf_def_world.specs.Step.{outcome_of, waiting_ids, after_tid_flushed, flush_outcome}
 use Rattle.wf_def_world.specs.Text.{tally}
 use Rattle.wf_law_runs.specs.Tallies.{AddsUp}
@@ -39,7 +40,7 @@ use Rattle.wf_send_half_model.proofs.Dropping.{held_counted, finished_known, led
 use Rattle.wf_send_half_model.proofs.Leavings.{HasPlace, has_place}
 use Rattle.wf_send_half_model.proofs.Meets.{listed_meets}
 use Rattle.wf_send_half_model.proofs.Reached.{by_law}
-use Rattle.wf_send_half_model.proofs.Stands.{WindowsStand, StationsStand, LedgerStands, Pieces, to_pieces, of_pieces}
+use Rattle.wf_send_half_model.proofs.Stands.{WindowsStand, ModesStand, StationsStand, LedgerStands, Pieces, to_pieces, of_pieces}
 use Rattle.wf_send_half_model.proofs.Views.{agreements_rest, roster_rest}
 
 session_notes : (w : World) (s t : ℕ) (f : Session → Session) → notes (on_session w s t f) ≡ notes w
@@ -47,16 +48,16 @@ unfolding on_session on_tid on_station with_station
 session_notes w s t f = refl
 
 flush_world : (w : World) (s t : ℕ) →
-    (flush_outcome w s t).world ≡ with_device_caught_up (tid_emptied w s t) s t
+    (flush_outcome w s t).world ≡ caught_up_if_plain (tid_emptied w s t) s t
 unfolding flush_outcome after_tid_flushed
 flush_world w s t = refl
 
--- the device of a station finishes no frame when it catches up
-caught_finished : (w : World) (s t : ℕ) → (with_device_caught_up w s t).finished ≡ w.finished
-unfolding with_device_caught_up caught_up on_receiver on_session on_tid on_station with_station
-caught_finished w s t = go (is_offloaded w s)
+-- no frame is finished when a window catches up
+caught_finished : (w : World) (s t : ℕ) → (caught_up_if_plain w s t).finished ≡ w.finished
+unfolding caught_up_if_plain caught_up on_receiver on_session on_tid on_station with_station
+caught_finished w s t = go (is_agreed w s t)
   where
-    go : (b : Bool) → (if b then caught_up w s t else w).finished ≡ w.finished
+    go : (b : Bool) → (if b then w else caught_up w s t).finished ≡ w.finished
     go true = refl
     go false = refl
 
@@ -78,7 +79,7 @@ emptied_leaves w s t = leaves_then w _ _
     (leaves_then w _ _ (session_leaves w s t _) (finish_all_leaves _ _ _)) (queues_leave _ _)
 
 module _ (before v : TransmitValue) (w : World) (bodies : ℕ → FrameValue) (s t dropped : ℕ)
-    (so_far : HasNumbersFlushed before w bodies s t v dropped) where
+    (so_far : HasNumbersFlushed Flushed before w bodies s t v dropped) where
   abbrev now : World
   now = waiting_flushed w s t
 
@@ -174,6 +175,7 @@ module _ (before v : TransmitValue) (w : World) (bodies : ℕ → FrameValue) (s
         stations = subst (λ (r : Roster). StationsStand v.members v.sleepers r.config.stations r.stations)
             same p.stations;
         windows = subst (WindowsStand v.windows bodies) (sym (agreements_rest now gone same_rest)) p.windows;
+        modes = subst (ModesStand v.modes) (sym (agreements_rest now gone same_rest)) p.modes;
         flows = stands_gone;
         turns = flushed_turns;
         ledger = subst (LedgerStands v.inside (many_settled_as (Dropped Flushed) count v.tally) bodies)
@@ -192,10 +194,11 @@ module _ (before v : TransmitValue) (w : World) (bodies : ℕ → FrameValue) (s
       omega (arith, grown, so_far.grown) in
       flush_reply w s t ∙ ap (λ (k : ℕ). reply.Flushed k) n
 
-  pub flush_meets : (u : TransmitValue) → Parts u (with_device_caught_up gone s t) bodies →
+  pub flush_meets : (u : TransmitValue) → refusal w (Asked (Flush s t)) ≡ None →
+      Parts u (caught_up_if_plain gone s t) bodies →
       Meets w bodies (Asked (Flush s t)) (after_listing u s) (reply.Flushed (dropped + count))
   unfolding outcome_of
-  flush_meets u parts =
+  flush_meets u allowed parts =
       subst (λ (x : ReplyNote). Meets w bodies (Asked (Flush s t)) (after_listing u s) x) count_is
-      (listed_meets u w bodies (Asked (Flush s t)) h.reached tt tt so_far.may.allowed
+      (listed_meets u w bodies (Asked (Flush s t)) h.reached tt tt allowed
       (subst (λ (z : World). Parts u z bodies) (sym (flush_world w s t)) parts) s refl)

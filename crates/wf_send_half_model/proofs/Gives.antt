@@ -1,6 +1,6 @@
 -- Proves that fresh frames get numbers, one after the other, while they fit, as in the world's loop. One
 -- round takes a frame, gives it the next number, and either adds it to the aggregate or ends the aggregate.
-use Rattle.std.proofs.Common.{◌≡◌, refl, ap, ap₂, sym, ◌∙◌, subst, arith, ℕ, zero, suc, ◌+◌, ◌-◌, ◌<◌, ◌≤◌, Bool, true, false, not, ◌&&◌, if◌then◌else◌, List, [], ◌∷◌, ◌++◌, map, length, length-append, Option, Some, None, option_map, unwrap_or}
+use Rattle.std.proofs.Common.{◌≡◌, refl, ap, ap₂, sym, ◌∙◌, subst, arith, ℕ, zero, suc, ◌+◌, ◌-◌, ◌<◌, ◌≤◌, Bool, true, false, not, if◌then◌else◌, List, [], ◌∷◌, ◌++◌, map, length, length-append, Option, Some, None, option_map, unwrap_or}
 use Rattle.std.specs.Prelude.{nat_lt, is_some, IfSome}
 use Rattle.std.proofs.lemmas.List.{map-append, length-map}
 use Rattle.wf_frame.specs.declared.classes.Class.{Class}
@@ -10,7 +10,7 @@ use Rattle.wf_def_lists.specs.Bounds.{narrow_window}
 use Rattle.wf_def_codel.specs.Codel.{Item, Params}
 use Rattle.wf_def_air.specs.Fit.{most_octets, fits}
 use Rattle.wf_def_lists.specs.Lists.{IsRising}
-use Rattle.wf_def_agreement.specs.Session.{Session, Slot, State, no_slot, slot, next_number, request_due, has_room, with_number_given}
+use Rattle.wf_def_agreement.specs.Session.{Session, Slot, State, no_slot, slot, next_number, request_due, with_number_given}
 use Rattle.wf_def_lists.specs.Table.{at}
 use Rattle.wf_def_world.specs.World.{World, Bounds, Station, Mpdu, no_station, is_live, station, session, codel_params, with_station, on_station, on_tid, on_session}
 use Rattle.wf_def_world.specs.FlowQueues.{taken_for_tid}
@@ -30,20 +30,19 @@ use Rattle.wf_frame.specs.declared.notes.Limits.{Limits}
 use Rattle.wf_queue_flows_refines.specs.Rest.{Rest}
 use Rattle.wf_queue_flows.specs.Backlog.{item_of}
 use Rattle.wf_frame.specs.Classes.{tid_number}
-use Rattle.wf_queue_flows.specs.Flows.{frames_of_tid, taken_for_tid as take_out}
+use Rattle.wf_queue_flows.specs.Flows.{taken_for_tid as take_out}
 use Rattle.wf_queue_flows_refines.proofs.Bodies.{frame_given}
 use Rattle.wf_queue_flows_refines.proofs.Elsewhere.{rest_take}
 use Rattle.wf_queue_flows_refines.proofs.Takes.{item_take}
-use Rattle.wf_send_parts.specs.Window.{WindowValue, WindowStandsFor as WindowStandsFor, can_take, on_air}
-use Rattle.wf_send_parts.proofs.Calls.{can_take_is}
-use Rattle.wf_send_parts.specs.Windows.{WindowsHaveRoom, window_of, with_window}
-use Rattle.wf_send_half_model.specs.Half.{TransmitValue}
+use Rattle.wf_send_parts.specs.Window.{WindowValue, WindowStandsFor as WindowStandsFor, on_air}
+use Rattle.wf_send_parts.specs.Windows.{WindowsHaveRoom, with_window}
+use Rattle.wf_send_half_model.specs.Half.{TransmitValue, can_give_of}
 use Rattle.wf_send_half_model.specs.Standing.{Parts, IsReached}
 use Rattle.wf_send_half_model.specs.Filling.{after_pick_within, IsWaitingWith, AreWaiting, after_take, with_one_fresh, with_so_many_fresh, IsUnderway, room_for, HasRoomFor, IsFilling, IsFilled, after_giving, fresh_mpdu}
 use Rattle.wf_send_half_model.specs.Views.{StationView, view_of, Roster, roster}
 use Rattle.wf_send_half_model.proofs.Views.{roster_rest, roster_session}
 use Rattle.wf_send_half_model.proofs.Moves.{session_parts, session_is}
-use Rattle.wf_send_half_model.proofs.Readers.{queued_same}
+use Rattle.wf_send_half_model.proofs.Readers.{can_give_same}
 use Rattle.wf_send_half_model.proofs.Takes.{take_parts}
 
 -- ---- the places of the frames
@@ -290,15 +289,8 @@ module _ (v : TransmitValue) (w : World) (bodies : ℕ → FrameValue) (s t : �
   abbrev y : Session
   y = session w s t
 
-  window_stands : WindowStandsFor (window_of v.windows s t) y bodies
-  window_stands = left.parts.windows.all.stands s t left.live left.tid
-
-  pub gives_same : (nat_lt 0 (frames_of_tid v.flows (tid_number s t)) && can_take (window_of v.windows s t))
-      ≡ can_give w s t
-  gives_same =
-      ap₂ (λ (n : ℕ) (b : Bool). nat_lt 0 n && b) (queued_same v w bodies s t left.parts left.live left.tid)
-      (can_take_is (window_of v.windows s t) y bodies window_stands
-      ∙ ap (λ (b : Bool). not b && has_room y) left.quiet)
+  pub gives_same : can_give_of v s t ≡ can_give w s t
+  gives_same = can_give_same v w bodies s t left.parts left.live left.tid left.quiet
 
   filled_here : with_fresh (most_frames w s - length mpdus) w s t mpdus
       ≡ record { world = w; mpdus = mpdus } → IsFilled v bodies s t room numbers after
@@ -319,8 +311,7 @@ module _ (v : TransmitValue) (w : World) (bodies : ℕ → FrameValue) (s t : �
       none : most_frames w s ≤ length mpdus → most_frames w s - length mpdus ≡ 0
       none full = omega (arith, full)
 
-  pub filled_idle : (nat_lt 0 (frames_of_tid v.flows (tid_number s t)) && can_take (window_of v.windows s t))
-      ≡ false → IsFilled v bodies s t room numbers after
+  pub filled_idle : can_give_of v s t ≡ false → IsFilled v bodies s t room numbers after
   filled_idle idle = filled_here (fresh_idle (most_frames w s - length mpdus) w s t mpdus
       (sym gives_same ∙ idle))
 
@@ -516,8 +507,7 @@ module _ (v : TransmitValue) (w : World) (bodies : ℕ → FrameValue) (s t : �
     module _ (x : WindowValue) (have : WindowsHaveRoom (with_window v.windows s t x))
         (stands : WindowStandsFor x (with_number_given (session w s t) f.id) bodies)
         (few : length numbers < room.limits.frames)
-        (gives : (nat_lt 0 (frames_of_tid v.flows (tid_number s t)) && can_take (window_of v.windows s t))
-        ≡ true) where
+        (gives : can_give_of v s t ≡ true) where
       half_is : after_giving v s t (codel_params w s) x ≡ after_giving v s t params x
       half_is = ap (λ (p : Params). after_giving v s t p x) (sym right)
 
@@ -542,7 +532,8 @@ module _ (v : TransmitValue) (w : World) (bodies : ℕ → FrameValue) (s t : �
           (sym (adds_same (fresh_mpdu w s t f)) ∙ fit) kept lens)
 
       pub fresh_stops : fits room.rate room.limits.octets room.limits.frames room.limits.time
-          (longer (length f.body)) ≡ false → IsFilled (after_giving v s t params x) bodies s t room numbers after
+          (longer (length f.body)) ≡ false →
+          IsFilled (after_giving v s t params x) bodies s t room numbers after
       fresh_stops fit =
           subst (λ (z : TransmitValue). IsFilled z bodies s t room numbers after) half_is
           (given_ends v w bodies s t room numbers mpdus after left f out_is x have stands fewer_than can

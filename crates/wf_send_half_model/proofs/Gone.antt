@@ -1,7 +1,7 @@
 -- Proves the end of a leave: the station's frames are counted, and the station has no member and is on no
 -- list.
 use Rattle.std.proofs.Common.{◌≡◌, refl, ap, sym, ◌∙◌, subst, arith, ℕ, ◌+◌, ◌-◌, ◌<◌, ◌≤◌, ◌==◌, true, false, List, [], ◌∷◌, length, set, None, inl, inr}
-use Rattle.std.proofs.lemmas.Bool.{and_parts}
+use Rattle.std.proofs.lemmas.Bool.{and_parts, cases_eq}
 use Rattle.std.proofs.lemmas.List.{set-get_or}
 use Rattle.wf_frame.specs.Classes.{all_classes}
 use Rattle.wf_frame.specs.declared.classes.Class.{Class}
@@ -15,7 +15,7 @@ use Rattle.wf_frame.specs.Frames.{FrameValue}
 use Rattle.wf_def_rotation.specs.Rotation.{has_key}
 use Rattle.wf_def_agreement.specs.Session.{Session}
 use Rattle.wf_def_lists.specs.Table.{upto}
-use Rattle.wf_def_world.specs.World.{World, is_live, rotation, with_station}
+use Rattle.wf_def_world.specs.World.{World, Mode as WorldMode, is_live, rotation, with_station}
 use Rattle.wf_def_world.specs.CanSend.{is_ready, is_debtor, is_to_list}
 use Rattle.wf_def_world.specs.Step.{without_listings, after_tids_left, leave_outcome, outcome_of}
 use Rattle.wf_law_rules.proofs.Lemmas.Numbers.{either}
@@ -24,7 +24,7 @@ use Rattle.wf_law_runs.proofs.Deficits.Books.{upd, upd_same, upd_other}
 use Rattle.wf_law_runs.proofs.Frames.Tallies.{tally_law}
 use Rattle.wf_law_runs.proofs.Frames.Untouched.{untouched_with_station}
 use Rattle.wf_send_parts.specs.Tally.{Counts, held_in, many_settled_as}
-use Rattle.wf_queue_flows_refines.specs.Rest.{session_in}
+use Rattle.wf_queue_flows_refines.specs.Rest.{session_in, mode_in}
 use Rattle.wf_queue_flows_refines.proofs.Leaves.{stands_gone}
 use Rattle.wf_sched.specs.ClassRotas.{after_station_left as without_turns}
 use Rattle.wf_sched_refines.specs.Standing.{SchedulerStandsFor as TurnsStandFor, everywhere}
@@ -32,6 +32,7 @@ use Rattle.wf_sched_refines.proofs.Members.{gone_stands}
 use Rattle.wf_send_parts.specs.Window.{WindowValue}
 use Rattle.wf_send_parts.specs.Windows.{WindowsHaveRoom}
 use Rattle.wf_send_parts.proofs.Changes.{station_goes}
+use Rattle.wf_send_parts.specs.declared.stations.modes.Mode.{Mode}
 use Rattle.wf_send_parts.specs.declared.stations.sleepers.Sleeper.{Sleeper}
 use Rattle.wf_send_parts.specs.Sleepers.{awake, sleeper}
 use Rattle.wf_send_half_model.specs.Half.{TransmitValue}
@@ -39,7 +40,7 @@ use Rattle.wf_send_half_model.specs.Standing.{counts_in, Parts, StandsFor, Meets
 use Rattle.wf_send_half_model.specs.Leaving.{after_leave, with_left, AreEmptied, IsLeaving}
 use Rattle.wf_send_half_model.specs.Views.{Agreements, agreements, Roster, roster, ledger, HasSameViews}
 use Rattle.wf_send_half_model.proofs.Views.{agreements_with_station, with_view, roster_with_station, ledger_by}
-use Rattle.wf_send_half_model.proofs.Stands.{WindowsStand, StationsStand, LedgerStands, Pieces, to_pieces, of_pieces}
+use Rattle.wf_send_half_model.proofs.Stands.{WindowsStand, ModesStand, StationsStand, LedgerStands, Pieces, to_pieces, of_pieces}
 use Rattle.wf_send_half_model.proofs.Stations.{station_replaced}
 use Rattle.wf_send_half_model.proofs.Listings.{views_here, views_then, views_rotation}
 use Rattle.wf_send_half_model.proofs.Reached.{by_law}
@@ -88,9 +89,13 @@ views_off (c ∷ cs) w s = views_then w _ _ (views_rotation w c _) (views_off cs
 
 -- the windows of a station that leaves are empty
 windows_gone : (before after : List WindowValue) (bodies : ℕ → FrameValue) (a : Agreements) (s : ℕ)
-    (f : ℕ → Session) → WindowsStand before bodies a → AreEmptied before after s 8 → WindowsHaveRoom after →
-    WindowsStand after bodies (record a { live = upd a.live s false; sessions = upd a.sessions s f })
-windows_gone before after bodies a s f h emptied room = record {
+    (f : ℕ → Session) (g : ℕ → WorldMode) → WindowsStand before bodies a → AreEmptied before after s 8 →
+    WindowsHaveRoom after → WindowsStand after bodies (record a {
+      live = upd a.live s false;
+      sessions = upd a.sessions s f;
+      modes = upd a.modes s g;
+    })
+windows_gone before after bodies a s f g h emptied room = record {
   sized = emptied.sized ∙ h.sized;
   room = room;
   all = station_goes before after a.live (upd a.live s false) a.sessions (upd a.sessions s f) bodies s h.all
@@ -99,6 +104,23 @@ windows_gone before after bodies a s f h emptied room = record {
         live = λ i other. upd_other a.live s i false other;
         sessions = λ i k other low. ap (λ (g : ℕ → Session). g k) (upd_other a.sessions s i f other);
       }) (upd_same a.live s false) (λ k low. emptied.empty k low);
+}
+
+-- the modes of a station that goes do not matter
+modes_gone : (modes : List Mode) (a : Agreements) (s : ℕ) (f : ℕ → Session) (g : ℕ → WorldMode) →
+    ModesStand modes a → ModesStand modes (record a {
+      live = upd a.live s false;
+      sessions = upd a.sessions s f;
+      modes = upd a.modes s g;
+    })
+modes_gone modes a s f g h = record {
+  sized = h.sized;
+  each = λ i t live low. elim (cases_eq i s) [
+    | inl same ↦ absurd (let e : false ≡ true =
+        sym (upd_same a.live s false) ∙ sym (ap (upd a.live s false) same) ∙ live in cc e)
+    | inr other ↦ h.each i t (sym (upd_other a.live s i false other) ∙ live) low
+        ∙ sym (ap (λ (k : ℕ → WorldMode). k t) (upd_other a.modes s i g other))
+  ];
 }
 
 module _ (before v : TransmitValue) (w : World) (bodies : ℕ → FrameValue) (s dropped : ℕ)
@@ -123,11 +145,14 @@ module _ (before v : TransmitValue) (w : World) (bodies : ℕ → FrameValue) (s
         upd (agreements all_left).live s false;
     sessions =
         upd (agreements all_left).sessions s (session_in None);
+    modes = upd (agreements all_left).modes s (mode_in None);
   }
   agreements_gone = agreements_with_station off s None
-      ∙ ap (λ (a : Agreements). let z : Agreements =
-      record a { live = upd a.live s false; sessions = upd a.sessions s (session_in None) } in z)
-      same_off.agreements
+      ∙ ap (λ (a : Agreements). let z : Agreements = record a {
+        live = upd a.live s false;
+        sessions = upd a.sessions s (session_in None);
+        modes = upd a.modes s (mode_in None);
+      } in z) same_off.agreements
 
   roster_gone : roster gone ≡ with_view (roster all_left) s None
   roster_gone = roster_with_station off s None ∙ ap (λ (r : Roster). with_view r s None) same_off.roster
@@ -167,7 +192,9 @@ module _ (before v : TransmitValue) (w : World) (bodies : ℕ → FrameValue) (s
             (roster all_left).stations s None (sleeper before.sleepers s) None p.stations low tt tt));
         windows = subst (WindowsStand v.windows bodies) (sym agreements_gone)
             (windows_gone before.windows v.windows bodies (agreements all_left) s
-            (session_in None) p.windows left.windows room);
+            (session_in None) (mode_in None) p.windows left.windows room);
+        modes = subst (ModesStand before.modes) (sym agreements_gone)
+            (modes_gone before.modes (agreements all_left) s (session_in None) (mode_in None) p.modes);
         flows = stands_gone v.flows all_left s p.flows left.so_far.unlisted;
         turns = subst (λ (u : World). TurnsStandFor (everywhere (without_turns s) before.sched) u)
             outcome_gone (gone_stands before.sched w s stood.parts.others.turns);

@@ -141,6 +141,11 @@ asked_accepts reply.Stopped ask = refl
 asked_accepts reply.Started ask = refl
 asked_accepts reply.Marked ask = refl
 asked_accepts (reply.Flushed dropped) ask = refl
+asked_accepts reply.Ack ask = refl
+asked_accepts (reply.Held start) ask = refl
+asked_accepts reply.Begun ask = refl
+asked_accepts reply.Freed ask = refl
+asked_accepts (reply.Ceased dropped ids) ask = refl
 asked_accepts (reply.Refused reason) ask = refl
 
 accepts_is : (w : World) (note : Note) → (if is_none (refusal w note) then brought note else 0)
@@ -252,6 +257,11 @@ module _ (gone : List ℕ) (w : World) (keeps : KeepsFinished gone w) (id : ℕ)
   by_reply reply.Started note m more next = stays m (omega (arith, more))
   by_reply reply.Marked note m more next = stays m (omega (arith, more))
   by_reply (reply.Flushed dropped) note m more next = stays m (omega (arith, more))
+  by_reply reply.Ack note m more next = stays m (omega (arith, more))
+  by_reply (reply.Held start) note m more next = stays m (omega (arith, more))
+  by_reply reply.Begun note m more next = stays m (omega (arith, more))
+  by_reply reply.Freed note m more next = stays m (omega (arith, more))
+  by_reply (reply.Ceased dropped ids) note m more next = stays m (omega (arith, more))
   by_reply (reply.Refused reason) note m more next = stays m (omega (arith, more))
 
 module _ (c : Config) (h : List Entry) (note : Note) where

@@ -94,7 +94,7 @@ none_of_station (x ∷ xs) s t e n none some =
       | inr behind ↦ none_of_station xs s t e n (omega (arith, sum, none)) behind
     ]
 
-flies_in : (st : State) → ((e : ℕ) → st ≡ State.Flying e → ⊥) → is_flying st ≡ false
+pub flies_in : (st : State) → ((e : ℕ) → st ≡ State.Flying e → ⊥) → is_flying st ≡ false
 flies_in State.Waiting h = refl
 flies_in (State.Flying e) h = absurd (h e refl)
 flies_in State.Acked h = refl

@@ -2,7 +2,7 @@
 use Rattle.std.proofs.Common.{◌≡◌, length, suc, ◌≢◌, refl, ap, ap₂, sym, ◌∙◌, arith, ℕ, ◌+◌, ◌<◌, ◌==◌, Bool, true, false, cond, if◌then◌else◌, List, [], ◌∷◌, map, Option, None, eq-eqb, length-append, add-zero}
 use Rattle.std.specs.Prelude.{count_by}
 use Rattle.std.proofs.lemmas.Bool.{or_left, or_right}
-use Rattle.wf_frame.specs.declared.classes.Cause.TheVariants.{Overlimit, Codel, Retries, Left, Flushed}
+use Rattle.wf_frame.specs.declared.classes.Cause.TheVariants.{Overlimit, Codel, Retries, Left, Flushed, Ended}
 use Rattle.wf_frame.specs.declared.classes.Fate.{Fate}
 use Rattle.wf_frame.specs.declared.classes.Fate.TheVariants.{Held, Acked, Dropped}
 use Rattle.wf_frame.specs.declared.notes.Note.{Note}
@@ -29,13 +29,14 @@ as_one : Bool → ℕ
 as_one b = cond b 1 0
 
 pub counts_by : (c d : Counts) → c.accepted ≡ d.accepted → c.acked ≡ d.acked → c.overlimit ≡ d.overlimit →
-    c.codel ≡ d.codel → c.retries ≡ d.retries → c.left ≡ d.left → c.flushed ≡ d.flushed → c ≡ d
-counts_by c d accepted acked overlimit codel retries left flushed =
+    c.codel ≡ d.codel → c.retries ≡ d.retries → c.left ≡ d.left → c.flushed ≡ d.flushed →
+    c.ended ≡ d.ended → c ≡ d
+counts_by c d accepted acked overlimit codel retries left flushed ended =
     ap₂ (λ (i j : ℕ). record c { accepted = i; acked = j }) accepted acked
     ∙ ap₂ (λ (i j : ℕ). record c { accepted = d.accepted; acked = d.acked; overlimit = i; codel = j })
     overlimit codel
-    ∙ ap₂ (λ (i j : ℕ). record d { retries = i; left = j; flushed = c.flushed }) retries left
-    ∙ ap (λ (i : ℕ). record d { flushed = i }) flushed
+    ∙ ap₂ (λ (i j : ℕ). record d { retries = i; left = j; flushed = c.flushed; ended = c.ended }) retries left
+    ∙ ap₂ (λ (i j : ℕ). record d { flushed = i; ended = j }) flushed ended
 
 module _ (w : World) (fate : Fate) (id : ℕ) (low : id < accepted_count w)
     (held : (frame w id).fate ≡ Held) where
@@ -77,6 +78,7 @@ added fate c = record c {
   retries = c.retries + cond (same_fate fate (Dropped Retries)) 1 0;
   left = c.left + cond (same_fate fate (Dropped Left)) 1 0;
   flushed = c.flushed + cond (same_fate fate (Dropped Flushed)) 1 0;
+  ended = c.ended + cond (same_fate fate (Dropped Ended)) 1 0;
 }
 
 added_is : (fate : Fate) (c : Counts) → is_held fate ≡ false → added fate c ≡ settled_as fate c
@@ -87,6 +89,7 @@ added_is (Dropped Codel) c other = simp add-zero
 added_is (Dropped Retries) c other = simp add-zero
 added_is (Dropped Left) c other = simp add-zero
 added_is (Dropped Flushed) c other = simp add-zero
+added_is (Dropped Ended) c other = simp add-zero
 
 pub ledger_finish : (w : World) (fate : Fate) (id : ℕ) → id < accepted_count w → (frame w id).fate ≡ Held →
     is_held fate ≡ false → ledger (with_frame_finished w fate id)
@@ -100,7 +103,8 @@ ledger_finish w fate id low held other =
     (settled_count w fate id low held (Dropped Codel) refl)
     (settled_count w fate id low held (Dropped Retries) refl)
     (settled_count w fate id low held (Dropped Left) refl)
-    (settled_count w fate id low held (Dropped Flushed) refl) ∙ added_is fate (counts_in w) other in
+    (settled_count w fate id low held (Dropped Flushed) refl)
+    (settled_count w fate id low held (Dropped Ended) refl) ∙ added_is fate (counts_in w) other in
     ap₂ (λ (n m : ℕ). record (ledger u) { inside = n; accepted = m })
     (settled_inside w fate id low held other) (settled_accepted w fate id low held)
     ∙ ap₂ (λ (c : Counts) (f : ℕ → Note). record (ledger w) { counts = c; notes = f }) counts
@@ -156,8 +160,10 @@ one_more (Dropped Left) n c = let e : (c.left + 1) + n ≡ c.left + suc n = omeg
     ap (λ (k : ℕ). record c { left = k }) e
 one_more (Dropped Flushed) n c = let e : (c.flushed + 1) + n ≡ c.flushed + suc n = omega arith in
     ap (λ (k : ℕ). record c { flushed = k }) e
+one_more (Dropped Ended) n c = let e : (c.ended + 1) + n ≡ c.ended + suc n = omega arith in
+    ap (λ (k : ℕ). record c { ended = k }) e
 
-none_more : (fate : Fate) (c : Counts) → c ≡ many_settled_as fate 0 c
+pub none_more : (fate : Fate) (c : Counts) → c ≡ many_settled_as fate 0 c
 none_more Held c = refl
 none_more Acked c = simp add-zero
 none_more (Dropped Overlimit) c = simp add-zero
@@ -165,6 +171,7 @@ none_more (Dropped Codel) c = simp add-zero
 none_more (Dropped Retries) c = simp add-zero
 none_more (Dropped Left) c = simp add-zero
 none_more (Dropped Flushed) c = simp add-zero
+none_more (Dropped Ended) c = simp add-zero
 
 pub ledger_finish_all : (ids : List ℕ) (w : World) (fate : Fate) → IsOnce ids →
     ((id : ℕ) → has ids id ≡ true → (id < accepted_count w) × ((frame w id).fate ≡ Held)) →

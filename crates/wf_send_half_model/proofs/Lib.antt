@@ -7,8 +7,9 @@ mod Calls
 mod ChargedClass
 mod Closes
 mod Debts
-pub mod Devices
+pub mod Catching
 pub mod Dones
+mod Drained
 pub mod Dropping
 pub mod Ended
 pub mod Endings
@@ -29,6 +30,7 @@ pub mod Marking
 mod Ledgers
 mod Listings
 pub mod Meets
+pub mod Modes
 mod Moves
 mod Numbered
 mod OneClass
@@ -40,6 +42,7 @@ pub mod Pulls
 pub mod Reached
 pub mod Readers
 pub mod Receipts
+pub mod Repeats
 mod Rooms
 pub mod Sends
 pub mod Settles

@@ -34,14 +34,14 @@ use Rattle.wf_send_half_model.specs.Half.{TransmitValue}
 use Rattle.wf_send_half_model.specs.Filling.{IsAlone}
 use Rattle.wf_send_half_model.specs.Marking.{after_mark, with_transmission_unsent}
 use Rattle.wf_send_half_model.specs.Standing.{open_of, Parts, IsReached, StandsFor, Meets}
-use Rattle.wf_send_half_model.specs.Views.{ledger, Roster, roster}
+use Rattle.wf_send_half_model.specs.Views.{Roster, roster}
 use Rattle.wf_send_half_model.proofs.Alone.{own_frame, unsent_parts}
 use Rattle.wf_send_half_model.proofs.Closes.{number_found}
 use Rattle.wf_send_half_model.proofs.Endings.{open_live, numbered_each, flown_each, tid_below, nowhere}
 use Rattle.wf_send_half_model.proofs.Enqueues.{places_kept}
 use Rattle.wf_send_half_model.proofs.Meets.{idle_meets}
 use Rattle.wf_send_half_model.proofs.Reached.{rises}
-use Rattle.wf_send_half_model.proofs.Stands.{WindowsStand, StationsStand, LedgerStands, Pieces, to_pieces, of_pieces}
+use Rattle.wf_send_half_model.proofs.Stands.{WindowsStand, ModesStand, StationsStand, LedgerStands, Pieces, to_pieces, of_pieces}
 use Rattle.wf_send_half_model.proofs.Unheard.{marked, one_marked, agreements_exchange, ledger_exchange}
 use Rattle.wf_send_half_model.proofs.Debts.{debtor_marked}
 use Rattle.wf_send_half_model.proofs.Spared.{orderly_reached}
@@ -76,6 +76,7 @@ module _ (v : TransmitValue) (w : World) (bodies : ℕ → FrameValue) (e : ℕ)
         stations = subst (λ (r : Roster). StationsStand v.members v.sleepers r.config.stations r.stations)
             (sym now) p.stations;
         windows = subst (WindowsStand v.windows bodies) (sym (agreements_exchange w z)) p.windows;
+        modes = subst (ModesStand v.modes) (sym (agreements_exchange w z)) p.modes;
         flows = stands_same v.flows w u (exchange_alone w z) p.flows;
         turns = exchange_leaves w x z e known rising air v.sched p.turns;
         ledger = subst (LedgerStands v.inside v.tally bodies) (sym (ledger_exchange w z)) p.ledger;
@@ -175,7 +176,8 @@ same_lists : (w : World) (x : Exchange) (unsent given_up : List ℕ) (c : Class)
 unfolding with_exchange
 same_lists w x unsent given_up c = refl
 
--- the half v represents the world after a mark of exchange x, whose station is listed in each class in which it belongs on a list
+-- the half v represents the world after a mark of exchange x, whose station is listed in each class in which
+-- it belongs on a list
 module _ (v : TransmitValue) (w : World) (bodies : ℕ → FrameValue) (r : IsReached w) (e : ℕ) (x : Exchange)
     (known : exchange w e ≡ Some x) where
   -- each class in which the station belongs on a list lists it

@@ -23,7 +23,7 @@ use Rattle.wf_send_half_model.specs.Standing.{Parts}
 use Rattle.wf_send_half_model.specs.Ending.{after_finish}
 use Rattle.wf_send_half_model.specs.Views.{Agreements, agreements, Roster, roster}
 use Rattle.wf_send_half_model.proofs.Views.{agreements_rest, roster_rest, agreements_session, roster_session, ledger_session}
-use Rattle.wf_send_half_model.proofs.Stands.{WindowsStand, StationsStand, LedgerStands, Pieces, to_pieces, of_pieces}
+use Rattle.wf_send_half_model.proofs.Stands.{WindowsStand, ModesStand, StationsStand, LedgerStands, Pieces, to_pieces, of_pieces}
 use Rattle.wf_send_half_model.proofs.Ledgers.{ledger_finish}
 
 -- ---- one window
@@ -74,6 +74,8 @@ session_parts v w bodies s t f x live low room stands h =
                 (subst (λ (y : Session). WindowStandsFor x y bodies)
                 (sym (session_own a.sessions s t (f (session w s t)))) stands);
           });
+      modes = subst (ModesStand v.modes) (sym (agreements_session w s t f live))
+          (record { sized = p.modes.sized; each = p.modes.each });
       flows = stands_same v.flows w u (session_alone w s t f) p.flows;
       turns = session_leaves w s t f v.sched p.turns;
       ledger = subst (LedgerStands v.inside v.tally bodies) (sym (ledger_session w s t f)) p.ledger;
@@ -104,6 +106,7 @@ finish_parts v w bodies f low held other nowhere body h =
           p.stations;
       windows = subst (WindowsStand v.windows bodies)
           (sym (agreements_rest w u (rest_finish w f.fate f.id))) p.windows;
+      modes = subst (ModesStand v.modes) (sym (agreements_rest w u (rest_finish w f.fate f.id))) p.modes;
       flows = stands_finished v.flows w f p.flows low nowhere;
       turns = finish_leaves w f.fate f.id v.sched p.turns;
       ledger = subst (LedgerStands v.inside (settled_as f.fate v.tally) bodies)

@@ -19,6 +19,8 @@ use Rattle.wf_send_parts.specs.Windows.{new_window, no_window}
 use Rattle.wf_send_parts.specs.declared.stations.members.Member.{Member}
 use Rattle.wf_send_parts.specs.Members.{member}
 use Rattle.wf_send_parts.specs.Sleepers.{awake}
+use Rattle.wf_send_parts.specs.declared.stations.modes.Mode.{Mode}
+use Rattle.wf_send_parts.specs.declared.stations.modes.Mode.TheVariants.{Plain}
 use Rattle.wf_send_half_model.specs.Half.{opening_half}
 use Rattle.wf_send_half_model.specs.Standing.{StandsFor, HasWindows, AreBoth, IsMember}
 
@@ -69,6 +71,10 @@ new_stands c bodies range = record {
         asleep = λ s is. absurd (cc is);
         credit = λ s is. absurd (cc is);
         stopped = λ s is. absurd (cc is);
+      };
+      modes = record {
+        sized = length-replicate {A = Mode} (8 * c.stations) Plain;
+        each = λ s t is low. absurd (cc is);
       };
       inside = refl;
       tally = refl;

@@ -10,7 +10,7 @@ use Rattle.wf_def_lists.specs.Table.{at}
 use Rattle.wf_def_lists.specs.Lengths.{greatest_body}
 use Rattle.wf_def_codel.specs.Codel.{Item}
 use Rattle.wf_def_rotation.specs.Rotation.{Rotation, has_key, with_new_key}
-use Rattle.wf_def_world.specs.World.{World, Station, Queue, new_queue, tid_of, queue, is_live, owed, on_queue, with_queues, on_tid, on_station, with_station, with_frame_finished, with_fate}
+use Rattle.wf_def_world.specs.World.{World, holds_back, Station, Queue, new_queue, tid_of, queue, is_live, owed, on_queue, with_queues, on_tid, on_station, with_station, with_frame_finished, with_fate}
 use Rattle.wf_def_world.specs.FlowQueues.{is_at_limit, longest_queue, without_head, after_limit, queue_for, with_appended, when_listed, with_listed_queue, after_put_in}
 use Rattle.wf_def_world.specs.CanSend.{is_below_aql, may_receive, is_ready}
 use Rattle.wf_def_world.specs.Refusals.{refusal, refusals}
@@ -205,6 +205,7 @@ module _ (w : World) (s t flow len : ℕ) (live : is_live w s ≡ true) where
     enqueued_less : (j : ℕ) → (j ≡ t → ⊥) → IsLessTid w (enqueue_outcome w s t flow len).world s j
     enqueued_less j other = record {
       session = ap (λ (z : Rest). z.sessions s j) (rest_enqueued w s t flow len);
+      held = ap (λ (z : Rest). holds_back (z.modes s j)) (rest_enqueued w s t flow len);
       request = enqueued_request j;
       queued = queued_less w (enqueue_outcome w s t flow len).world s j (enqueued_lists j other)
           (λ q k.
@@ -218,6 +219,7 @@ module _ (w : World) (s t flow len : ℕ) (live : is_live w s ≡ true) where
         IsSameTid w (enqueue_outcome w s t flow len).world s j
     enqueued_tid j other spared = record {
       session = ap (λ (z : Rest). z.sessions s j) (rest_enqueued w s t flow len);
+      held = ap (λ (z : Rest). holds_back (z.modes s j)) (rest_enqueued w s t flow len);
       request = enqueued_request j;
       queued = queued_same w (enqueue_outcome w s t flow len).world s j (enqueued_lists j other)
           (λ q k. enqueued_long j q other spared k);

@@ -13,7 +13,7 @@ use Rattle.wf_def_lists.specs.Table.{at, change}
 use Rattle.wf_def_codel.specs.Codel.{Item}
 use Rattle.wf_def_lists.specs.Lists.{on}
 use Rattle.wf_def_rotation.specs.Rotation.{Rotation, in_order}
-use Rattle.wf_def_world.specs.World.{World, Station, owed, Tid, Queue, Mpdu, no_tid, rotation, tid_of, queue, is_live, on_queue, with_station, on_station, on_tid, with_queues, with_frames_finished}
+use Rattle.wf_def_world.specs.World.{World, holds_back, Station, owed, Tid, Queue, Mpdu, no_tid, rotation, tid_of, queue, is_live, on_queue, with_station, on_station, on_tid, with_queues, with_frames_finished}
 use Rattle.wf_def_world.specs.FlowQueues.{taken_from_picked, taken_by_codel, taken_for_tid, with_queues_paid}
 use Rattle.wf_def_world.specs.CanSend.{is_request, has_credit, is_below_aql, may_receive, is_ready}
 use Rattle.wf_def_world.specs.Exchanges.{Aggregate, Prepared, picked_station, station_need, with_fresh, aggregate_of, prepared_data, prepared_exchange, with_number, after_pick, after_tid_turn, sending_tid, exchange_of, with_exchange_opened, without_credit}
@@ -246,6 +246,7 @@ module _ (w : World) (d : Class) (l : Limits) (i : ℕ) (r : IsReached w)
       ap (λ (x : Part). x.lists i j) (pick_alone w d) in
       record {
         session = ap (λ (y : Tid). y.session) tid;
+        held = ap (λ (y : Tid). holds_back y.mode) tid;
         request = sent_requests i sends_on j d p other ∙ ap (asks i j) beyond_ready.opened;
         queued = queued_same picked sent i j (ap (λ (y : Tid). y.queues) tid)
             (λ q k. sent_long j q other (subst (λ (z : Rotation). 0 < on (in_order z) q) lists k));

@@ -16,7 +16,7 @@ use Rattle.wf_frame.specs.Frames.{FrameValue}
 use Rattle.wf_def_lists.specs.Table.{at, count_from}
 use Rattle.wf_def_rotation.specs.Rotation.{in_order}
 use Rattle.wf_def_lists.specs.Bounds.{narrow_window}
-use Rattle.wf_def_world.specs.World.{World, Bounds, Station, Share, Content, Frames, Request, Exchange, no_station, quantum, is_live, share, is_wide, rotation, on_share, with_bounds}
+use Rattle.wf_def_world.specs.World.{World, Bounds, Station, Share, Content, Frames, Request, Exchange, no_station, quantum, is_live, is_offloaded, share, is_wide, rotation, on_share, with_bounds}
 use Rattle.wf_def_world.specs.FlowQueues.{frames_queued as world_queued}
 use Rattle.wf_def_world.specs.CanSend.{can_send, has_waiting, is_request as sends_request}
 use Rattle.wf_def_world.specs.Exchanges.{picked_station, with_station_paid, with_stations_paid, after_pick, bounds_of, first_tid, other_tid, sending_tid, after_tid_turn, Prepared, has_more, exchange_of, with_exchange_opened, without_credit, part_of}
@@ -37,18 +37,17 @@ use Rattle.wf_send_parts.specs.Exchanges.{sending_is_request}
 use Rattle.wf_send_parts.specs.declared.stations.members.Member.{Member}
 use Rattle.wf_send_parts.specs.Members.{member, is_offloaded_in, on_member, upper_in, with_upper}
 use Rattle.wf_send_parts.specs.Sleepers.{sleeper, with_sleeper}
-use Rattle.wf_send_half_model.specs.Half.{TransmitValue, can_send_of, some_wait}
+use Rattle.wf_send_half_model.specs.Half.{TransmitValue, is_plain_of, can_send_of, some_wait}
 use Rattle.wf_send_half_model.specs.Standing.{IsMember, AreBoth, sending_of, open_of, Parts, StandsFor, Meets}
 use Rattle.wf_send_half_model.specs.Pulling.{has_upper_turn, sending_tid_of, after_turn, is_wide_of, has_more_of, open_next, after_opening, after_pending_charge, after_spending, after_sending}
 use Rattle.wf_send_half_model.specs.Views.{view_of, roster, HasSameViews}
 use Rattle.wf_send_half_model.proofs.Views.{agreements_share, roster_share, ledger_share, reshared, view_reshared}
 use Rattle.wf_send_half_model.specs.Filling.{after_pick_within}
-use Rattle.wf_send_half_model.proofs.Devices.{offloaded_same}
 use Rattle.wf_send_half_model.proofs.Stands.{Pieces, to_pieces, of_pieces, same_views}
 use Rattle.wf_send_half_model.proofs.Stations.{member_changed, sleeper_changed, turned, resting, station_parts}
 use Rattle.wf_send_half_model.proofs.Listings.{views_here, views_then, views_rotation}
 use Rattle.wf_send_half_model.proofs.Reached.{reached_step, step_refused}
-use Rattle.wf_send_half_model.proofs.Readers.{can_send_same, queued_same, waiting_same, lower_low, upper_low}
+use Rattle.wf_send_half_model.proofs.Readers.{can_send_same, offloaded_same, plain_same, queued_same, waiting_same, lower_low, upper_low}
 
 -- ---- who is picked
 
@@ -101,6 +100,7 @@ bounded_parts v w bodies b h =
       opened = p.opened;
       stations = p.stations;
       windows = p.windows;
+      modes = record { sized = p.modes.sized; each = p.modes.each };
       flows = stands_same v.flows w (with_bounds w b) refl p.flows;
       turns = bounded_leaves w b v.sched p.turns;
       ledger = p.ledger;
@@ -242,6 +242,7 @@ open_parts v w bodies x h =
           ∙ sym (map-append open_of w.opened (x ∷ []));
       stations = p.stations;
       windows = p.windows;
+      modes = record { sized = p.modes.sized; each = p.modes.each };
       flows = stands_same v.flows w (with_exchange_opened w x)
           (opened_alone w (w.exchanges + 1) (w.opened ++ x ∷ [])) p.flows;
       turns = subst (λ (k : Config). TurnsStandFor
@@ -292,7 +293,7 @@ wide_same v w bodies s t h live low = ap (λ (n : ℕ). nat_lt narrow_window n)
 -- ---- the prepared exchange is sent
 
 module _ (v : TransmitValue) (bodies : ℕ → FrameValue) (s t : ℕ) (c : Class) (p : Prepared)
-    (h : Parts v p.world bodies) (live : is_live p.world s ≡ true) where
+    (h : Parts v p.world bodies) (live : is_live p.world s ≡ true) (low : t < 8) where
   pub open_same : open_next v s t c p.charge (sending_of p.content) ≡ open_of (exchange_of s t c p)
   open_same =
       ap (λ (n : ℕ). record (open_next v s t c p.charge (sending_of p.content)) { number = n })
@@ -301,6 +302,11 @@ module _ (v : TransmitValue) (bodies : ℕ → FrameValue) (s t : ℕ) (c : Clas
         number = p.world.exchanges;
         batch = b;
       }) (offloaded_same v p.world bodies s h)
+      ∙ ap (λ (b : Bool). record (open_next v s t c p.charge (sending_of p.content)) {
+        number = p.world.exchanges;
+        batch = is_offloaded p.world s;
+        plain = b;
+      }) (plain_same v p.world bodies s t h live low)
       ∙ ap (λ (b : Bool). record (open_of (exchange_of s t c p)) { more = b })
       (ap₂ (λ (a b : Bool). a && b) (h.others.stations.asleep s live)
       (ap₂ (λ (a b : Bool). not a && b) (request_same p.content) (more_same v p.world bodies s h live)))
@@ -320,7 +326,9 @@ module _ (v : TransmitValue) (bodies : ℕ → FrameValue) (s t : ℕ) (c : Clas
       (with_exchange_opened p.world x) bodies s (opened_low x)
       (open_parts v p.world bodies x h))
 
-  pub send_reply : Send v.exchanges s t p.charge (part_of (is_offloaded_in v.members s) p.content)
+  pub send_reply : Send v.exchanges s t p.charge
+      (part_of (is_offloaded_in v.members s) (is_plain_of v s t) p.content)
       (open_next v s t c p.charge (sending_of p.content)).more ≡ (send_outcome s t c p).reply
   unfolding send_outcome
-  send_reply = ap (λ (o : Open). Send o.number s t p.charge (part_of o.batch p.content) o.more) open_same
+  send_reply = ap (λ (o : Open). Send o.number s t p.charge (part_of o.batch o.plain p.content) o.more)
+      open_same

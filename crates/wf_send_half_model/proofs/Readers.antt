@@ -11,24 +11,24 @@ use Rattle.wf_frame.specs.Classes.{lower_tid, upper_tid, same_class, tid_number}
 use Rattle.wf_frame.specs.Frames.{FrameValue}
 use Rattle.wf_def_agreement.specs.Session.{request_due, has_room}
 use Rattle.wf_def_lists.specs.Table.{at, upto, count_from}
-use Rattle.wf_def_world.specs.World.{World, Station, Exchange, Content, Frames, Request, is_live, session, share, exchange, owed, owed_by_all, pending_air, standing}
+use Rattle.wf_def_world.specs.World.{World, Station, Exchange, Content, Frames, Request, no_station, has_agreement, holds_back, is_live, is_offloaded, is_agreed, is_plain, is_held_back, session, share, exchange, owed, owed_by_all, pending_air, standing}
 use Rattle.wf_def_world.specs.FlowQueues.{frames_queued as world_queued}
 use Rattle.wf_def_world.specs.CanSend.{is_request as world_request, request_open, has_waiting, can_give, can_send, has_credit, can_send_in, is_below_aql, may_receive, is_ready, is_debtor, is_to_list}
-use Rattle.wf_def_world.specs.Refusals.{is_live_credit, has_live_credit, is_at_aql_total, open_of_station, open_of_class, can_send_any, queued_in_class}
+use Rattle.wf_def_world.specs.Refusals.{is_live_credit, has_live_credit, is_at_aql_total, open_of_station, open_of_tid, open_of_class, numbers_waiting, can_send_any, queued_in_class}
 use Rattle.wf_def_world.specs.Step.{class_to_send}
 use Rattle.wf_queue_flows.specs.Flows.{frames_of_tid}
 use Rattle.wf_queue_flows_refines.proofs.Readers.{same_queued}
 use Rattle.wf_sched.specs.ClassRotas.{deficit}
-use Rattle.wf_send_parts.specs.Window.{WindowValue, WindowStandsFor as WindowStandsFor, can_take}
+use Rattle.wf_send_parts.specs.Window.{WindowValue, WindowStandsFor as WindowStandsFor, can_take, waits}
 use Rattle.wf_send_parts.proofs.Calls.{due_is, can_take_is}
-use Rattle.wf_send_parts.proofs.Counting.{some_waits}
+use Rattle.wf_send_parts.proofs.Counting.{all_waits, some_waits}
 use Rattle.wf_send_parts.specs.Windows.{window_of}
 use Rattle.wf_send_parts.specs.declared.exchanges.opened.Open.{Open}
 use Rattle.wf_send_parts.specs.Exchanges.{sending_is_request, asks, airtime_of, airtime_to}
 use Rattle.wf_send_parts.specs.declared.stations.members.Member.{Member}
-use Rattle.wf_send_parts.specs.Members.{member}
+use Rattle.wf_send_parts.specs.Members.{member, is_offloaded_in}
 use Rattle.wf_send_parts.specs.Sleepers.{sleeper}
-use Rattle.wf_send_half_model.specs.Half.{TransmitValue, some_wait, can_send_of, is_below_aql_of, may_receive_of, is_ready_of, pending_air_of, is_live_credit_of, has_live_credit_of, is_debtor_of, is_to_list_of, is_ahead_of}
+use Rattle.wf_send_half_model.specs.Half.{TransmitValue, some_wait, is_agreed_of, is_plain_of, is_held_back_of, can_give_of, can_send_of, is_below_aql_of, may_receive_of, is_ready_of, pending_air_of, is_live_credit_of, has_live_credit_of, is_debtor_of, is_to_list_of, is_ahead_of}
 use Rattle.wf_send_half_model.specs.Standing.{sending_of, open_of, IsMember, AreBoth, Parts}
 
 -- ---- open exchanges
@@ -72,6 +72,13 @@ pub station_count_same : (v : TransmitValue) (w : World) (bodies : ℕ → Frame
 station_count_same v w bodies s h = ap (λ (xs : List Open). count_by (λ (x : Open). x.station == s) xs)
     h.others.opened ∙ count_among (λ (x : Open). x.station == s) (λ (x : Exchange). x.station == s)
     (λ x. refl) w.opened
+
+pub tid_count_same : (v : TransmitValue) (w : World) (bodies : ℕ → FrameValue) (s t : ℕ) →
+    Parts v w bodies → count_by (λ x. (x.station == s) && (x.tid == t)) v.opened ≡ open_of_tid w s t
+tid_count_same v w bodies s t h =
+    ap (λ (xs : List Open). count_by (λ (x : Open). (x.station == s) && (x.tid == t)) xs) h.others.opened
+    ∙ count_among (λ (x : Open). (x.station == s) && (x.tid == t))
+    (λ (x : Exchange). (x.station == s) && (x.tid == t)) (λ x. refl) w.opened
 
 pub class_count_same : (v : TransmitValue) (w : World) (bodies : ℕ → FrameValue) (c : Class) →
     Parts v w bodies → count_by (λ x. same_class x.class c) v.opened ≡ open_of_class w c
@@ -125,6 +132,18 @@ pub live_same : (v : TransmitValue) (w : World) (bodies : ℕ → FrameValue) (s
     is_some (member v.members s) ≡ is_live w s
 live_same v w bodies s h = both_some (member v.members s) (at None w.stations s) (h.others.stations.live s)
 
+member_same : (m : Option Member) (o : Option Station) → AreBoth IsMember m o →
+    unwrap_or (option_map (λ x. x.offloaded) m) false ≡ (unwrap_or o no_station).offloaded
+member_same None None h = refl
+member_same None (Some x) h = absurd h
+member_same (Some m) None h = absurd h
+member_same (Some m) (Some x) h = h.offloaded
+
+pub offloaded_same : (v : TransmitValue) (w : World) (bodies : ℕ → FrameValue) (s : ℕ) → Parts v w bodies →
+    is_offloaded_in v.members s ≡ is_offloaded w s
+offloaded_same v w bodies s h =
+    member_same (member v.members s) (at None w.stations s) (h.others.stations.live s)
+
 -- ---- who can send
 
 module _ (v : TransmitValue) (w : World) (bodies : ℕ → FrameValue) (s t : ℕ) (h : Parts v w bodies)
@@ -144,6 +163,18 @@ module _ (v : TransmitValue) (w : World) (bodies : ℕ → FrameValue) (s t : �
   pub due_same : is_some window.due ≡ request_due (session w s t)
   due_same = due_is window (session w s t) bodies stands
 
+  pub agreed_same : is_agreed_of v s t ≡ is_agreed w s t
+  agreed_same = ap has_agreement (h.others.modes.each s t live low)
+
+  pub held_back_same : is_held_back_of v s t ≡ is_held_back w s t
+  held_back_same = ap holds_back (h.others.modes.each s t live low)
+
+  pub plain_same : is_plain_of v s t ≡ is_plain w s t
+  plain_same = ap₂ (λ (a b : Bool). not (a || b)) (offloaded_same v w bodies s h) agreed_same
+
+  pub waiting_count_same : count_by waits window.places ≡ numbers_waiting w s t
+  waiting_count_same = all_waits window (session w s t) bodies stands
+
   pub waiting_same : some_wait window ≡ has_waiting w s t
   waiting_same = some_waits window (session w s t) bodies stands
 
@@ -152,21 +183,23 @@ module _ (v : TransmitValue) (w : World) (bodies : ℕ → FrameValue) (s t : �
   room_same off = can_take_is window (session w s t) bodies stands
       ∙ ap (λ (b : Bool). not b && has_room (session w s t)) off
 
+  -- if no request is due, a queued frame may get a number exactly if it may in the world
+  pub can_give_same : request_due (session w s t) ≡ false → can_give_of v s t ≡ can_give w s t
+  can_give_same off = ap₂ (λ (n : ℕ) (b : Bool). nat_lt 0 n && b) queued_same
+      (ap₂ (λ (a b : Bool). a && not b) (room_same off) held_back_same)
+
   pub can_send_same : can_send_of v s t ≡ can_send w s t
   can_send_same = elim (cases_Bool (request_due (session w s t))) [
     | inl on ↦
-        ap (λ (b : Bool). if b then not (asks v.opened s t)
-        else some_wait window || (nat_lt 0 (frames_of_tid v.flows (tid_number s t)) && can_take window))
+        ap (λ (b : Bool). if b then not (asks v.opened s t) else some_wait window || can_give_of v s t)
         (due_same ∙ on)
         ∙ ap not (asks_same v w bodies s t h)
         ∙ ap (λ (b : Bool). if b then not (request_open w s t) else has_waiting w s t || can_give w s t)
         (sym on)
     | inr off ↦
-        ap (λ (b : Bool). if b then not (asks v.opened s t)
-        else some_wait window || (nat_lt 0 (frames_of_tid v.flows (tid_number s t)) && can_take window))
+        ap (λ (b : Bool). if b then not (asks v.opened s t) else some_wait window || can_give_of v s t)
         (due_same ∙ off)
-        ∙ ap₂ (λ (a b : Bool). a || b) waiting_same (ap₂ (λ (n : ℕ) (b : Bool). nat_lt 0 n && b) queued_same
-        (room_same off))
+        ∙ ap₂ (λ (a b : Bool). a || b) waiting_same (can_give_same off)
         ∙ ap (λ (b : Bool). if b then not (request_open w s t) else has_waiting w s t || can_give w s t)
         (sym off)
   ]

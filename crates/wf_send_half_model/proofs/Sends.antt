@@ -10,11 +10,11 @@ use Rattle.wf_frame.specs.declared.notes.Part.TheVariants.{Request as Starts}
 use Rattle.wf_frame.specs.declared.notes.ReplyNote.{ReplyNote}
 use Rattle.wf_frame.specs.declared.notes.ReplyNote.TheVariants.{Send}
 use Rattle.wf_frame.specs.Frames.{FrameValue}
-use Rattle.wf_def_air.specs.Airtime.{Rate, data_charge, request_charge}
+use Rattle.wf_def_air.specs.Airtime.{Rate, data_charge, plain_charge, request_charge}
 use Rattle.wf_def_lists.specs.Table.{at}
-use Rattle.wf_def_air.specs.Fit.{aggregate_octets}
+use Rattle.wf_def_air.specs.Fit.{aggregate_octets, plain_octets}
 use Rattle.wf_def_agreement.specs.Session.{request_due}
-use Rattle.wf_def_world.specs.World.{World, Station, Frames, no_station, is_live, is_wide, station, session}
+use Rattle.wf_def_world.specs.World.{World, Station, Frames, no_station, is_live, is_wide, is_plain, station, session}
 use Rattle.wf_def_world.specs.CanSend.{can_send_in}
 use Rattle.wf_def_world.specs.Exchanges.{picked_station, sending_tid, after_tid_turn, lens_of, Aggregate, aggregate_of, with_flying, Prepared, aggregate_charge, prepared_data, prepared_request, prepared_exchange, part_of}
 use Rattle.wf_def_world.specs.Refusals.{refusal}
@@ -28,17 +28,18 @@ use Rattle.wf_send_parts.proofs.Calls.{due_is}
 use Rattle.wf_send_parts.specs.declared.stations.members.Member.{Member}
 use Rattle.wf_send_parts.specs.Members.{member, is_offloaded_in}
 use Rattle.wf_send_parts.specs.Windows.{window_of}
-use Rattle.wf_send_half_model.specs.Half.{TransmitValue}
+use Rattle.wf_send_half_model.specs.Half.{TransmitValue, is_plain_of}
 use Rattle.wf_send_half_model.specs.Standing.{IsMember, AreBoth, numbers_on_air, sending_of, Parts, StandsFor, Meets}
 use Rattle.wf_send_half_model.specs.Changes.{after_listing_in}
 use Rattle.wf_send_half_model.specs.Pulling.{sending_tid_of, after_turn, is_wide_of, open_next, after_sending}
-use Rattle.wf_send_half_model.specs.Filling.{after_pick_within, IsTakingOff, IsTurned, IsFilled}
+use Rattle.wf_send_half_model.specs.Filling.{after_pick_within, room_for, charge_in, IsTakingOff, IsTurned, IsFilled}
 use Rattle.wf_send_half_model.specs.Views.{Agreements}
 use Rattle.wf_send_half_model.proofs.Views.{agreements_session, agreements_share}
 use Rattle.wf_send_half_model.proofs.Flies.{off_ends}
 use Rattle.wf_send_half_model.proofs.Meets.{listed_in_meets}
 use Rattle.wf_send_half_model.proofs.OneClass.{pull_listed}
 use Rattle.wf_send_half_model.proofs.Pulls.{pick_within_parts, sending_same, sending_low, turn_parts, send_parts, send_reply, wide_same}
+use Rattle.wf_send_half_model.proofs.Readers.{plain_same}
 
 -- ---- the picked station has its turn
 
@@ -148,22 +149,22 @@ module _ (v : TransmitValue) (w : World) (bodies : ℕ → FrameValue) (h : Stan
 
   sent_meets : (sent : ℕ → FrameValue) (p : Prepared) → prepared_exchange w1 s t ≡ p →
       (x : TransmitValue) → Parts x p.world sent →
-      is_live p.world s ≡ true →
+      is_live p.world s ≡ true → t < 8 →
       Meets w sent (Asked (Pull c l)) (after_listing_in
       (after_sending x s t c p.charge (sending_of p.content)) s c)
-      (Send x.exchanges s t p.charge (part_of (is_offloaded_in x.members s) p.content)
+      (Send x.exchanges s t p.charge (part_of (is_offloaded_in x.members s) (is_plain_of x s t) p.content)
       (open_next x s t c p.charge (sending_of p.content)).more)
-  sent_meets sent p is x parts live =
+  sent_meets sent p is x parts live low =
       let all : outcome_of w (Asked (Pull c l)) ≡ send_outcome s t c p =
       pull_is w c l ∙ ap (pull_outcome_for w0 c) won ∙ pull_for w0 c s
       ∙ ap (λ (k : ℕ). send_outcome s k c (prepared_exchange (after_tid_turn w0 s c k) s k))
       (sym t_is) ∙ ap (send_outcome s t c) is in
       let half : TransmitValue = after_sending x s t c p.charge (sending_of p.content) in
       subst (λ (r : ReplyNote). Meets w sent (Asked (Pull c l)) (after_listing_in half s c) r)
-      (ap (λ (o : Outcome). o.reply) all ∙ sym (send_reply x sent s t c p parts live))
+      (ap (λ (o : Outcome). o.reply) all ∙ sym (send_reply x sent s t c p parts live low))
       (listed_in_meets half w sent (Asked (Pull c l)) h.reached tt tt done
       (subst (λ (o : Outcome). Parts half o.world sent) (sym all)
-      (send_parts x sent s t c p parts live)) s c won (pull_listed w c l s h.reached won))
+      (send_parts x sent s t c p parts live low)) s c won (pull_listed w c l s h.reached won))
 
   -- a request
   pub request_meets : (x : TransmitValue) → IsTurned x w1 bodies s t →
@@ -178,7 +179,7 @@ module _ (v : TransmitValue) (w : World) (bodies : ℕ → FrameValue) (h : Stan
       let is_due : request_due (session w1 s t) ≡ true =
       sym (due_is (window_of x.windows s t) (session w1 s t) bodies stands) ∙ due in
       let meets = sent_meets bodies (prepared_request w1 s t) (due_prepared w1 s t is_due) x to.parts to.live
-      in
+      to.tid in
       subst (λ (n : ℕ). Meets w bodies (Asked (Pull c l))
       (after_listing_in (after_sending x s t c n (Starts_at (window_of x.windows s t).start)) s c)
       (Send x.exchanges s t n (Starts (window_of x.windows s t).start)
@@ -193,21 +194,23 @@ module _ (v : TransmitValue) (w : World) (bodies : ℕ → FrameValue) (h : Stan
   -- an aggregate
   data_sent : (a : Aggregate) → aggregate_of w1 s t ≡ a → request_due (session w1 s t) ≡ false →
       (x : TransmitValue) (sent : ℕ → FrameValue) → Parts x (prepared_data s t a).world sent →
-      is_live (prepared_data s t a).world s ≡ true →
+      is_live (prepared_data s t a).world s ≡ true → t < 8 →
       Meets w sent (Asked (Pull c l)) (after_listing_in
       (after_sending x s t c (aggregate_charge s t a) (Data (numbers_on_air a.mpdus))) s c)
-      (Send x.exchanges s t (aggregate_charge s t a) (part_of (is_offloaded_in x.members s) (Frames a.mpdus))
+      (Send x.exchanges s t (aggregate_charge s t a)
+      (part_of (is_offloaded_in x.members s) (is_plain_of x s t) (Frames a.mpdus))
       (open_next x s t c (aggregate_charge s t a) (Data (numbers_on_air a.mpdus))).more)
   unfolding prepared_data
-  data_sent a is quiet x sent parts live = sent_meets sent (prepared_data s t a)
-      (quiet_prepared w1 s t quiet ∙ ap (prepared_data s t) is) x parts live
+  data_sent a is quiet x sent parts live low = sent_meets sent (prepared_data s t a)
+      (quiet_prepared w1 s t quiet ∙ ap (prepared_data s t) is) x parts live low
 
   pub data_meets : (a : Aggregate) → aggregate_of w1 s t ≡ a → request_due (session w1 s t) ≡ false →
       (x : TransmitValue) (u : World) (sent : ℕ → FrameValue) → IsTakingOff x u sent s t a.world.exchanges []
       (prepared_data s t a).world →
       (charge : ℕ) (numbers : List ℕ) → charge ≡ aggregate_charge s t a → numbers ≡ numbers_on_air a.mpdus →
       Meets w sent (Asked (Pull c l)) (after_listing_in (after_sending x s t c charge (Data numbers)) s c)
-      (Send x.exchanges s t charge (part_of (is_offloaded_in x.members s) (Frames a.mpdus))
+      (Send x.exchanges s t charge
+      (part_of (is_offloaded_in x.members s) (is_plain_of x s t) (Frames a.mpdus))
       (open_next x s t c charge (Data numbers)).more)
   data_meets a is quiet x u sent left charge numbers charge_is numbers_is =
       let live : is_live (prepared_data s t a).world s ≡ true =
@@ -215,22 +218,32 @@ module _ (v : TransmitValue) (w : World) (bodies : ℕ → FrameValue) (h : Stan
       ∙ ap (λ (z : Agreements). z.live s) (agreements_session u s t
       (with_flying a.world.exchanges []) left.live) ∙ left.live in
       let meets = data_sent a is quiet x sent (off_ends x u sent s t a.world.exchanges
-      (prepared_data s t a).world left) live in
+      (prepared_data s t a).world left) live left.tid in
       subst (λ (n : ℕ). Meets w sent (Asked (Pull c l))
       (after_listing_in (after_sending x s t c n (Data numbers)) s c)
-      (Send x.exchanges s t n (part_of (is_offloaded_in x.members s) (Frames a.mpdus))
+      (Send x.exchanges s t n (part_of (is_offloaded_in x.members s) (is_plain_of x s t) (Frames a.mpdus))
       (open_next x s t c n (Data numbers)).more)) (sym charge_is)
       (subst (λ (ns : List ℕ). Meets w sent (Asked (Pull c l))
       (after_listing_in (after_sending x s t c (aggregate_charge s t a) (Data ns)) s c)
-      (Send x.exchanges s t (aggregate_charge s t a) (part_of (is_offloaded_in x.members s) (Frames a.mpdus))
+      (Send x.exchanges s t (aggregate_charge s t a)
+      (part_of (is_offloaded_in x.members s) (is_plain_of x s t) (Frames a.mpdus))
       (open_next x s t c (aggregate_charge s t a) (Data ns)).more)) (sym numbers_is) meets)
 
 -- ---- its charge
 
+-- the charge that the half computes, by whether the TID has an agreement
+charge_is : (b : Bool) (w : World) (s t count octets : ℕ) (lens : List ℕ) →
+    charge_in (record (room_for w s t) { count = count; octets = octets }) b lens
+    ≡ (if b then plain_charge w.config.answers (station w s).rate (plain_octets (station w s).rate lens)
+    else data_charge w.config.answers (station w s).rate (aggregate_octets lens) (is_wide w s t))
+charge_is true w s t count octets lens = refl
+charge_is false w s t count octets lens = refl
+
 pub filled_charge : (v : TransmitValue) (bodies : ℕ → FrameValue) (s t : ℕ) (room : AggregateSizeValue)
     (numbers : List ℕ) (a : Aggregate) → IsFilled v bodies s t room numbers a →
-    data_charge room.answers room.rate (aggregate_octets (lens_of a.world.config.overhead a.mpdus)) room.wide
-    ≡ aggregate_charge s t a
+    charge_in room (is_plain_of v s t) (lens_of a.world.config.overhead a.mpdus) ≡ aggregate_charge s t a
 filled_charge v bodies s t room numbers a h =
-    ap (λ (r : AggregateSizeValue). data_charge r.answers r.rate (aggregate_octets
-    (lens_of a.world.config.overhead a.mpdus)) r.wide) h.room_is.settings
+    let lens : List ℕ = lens_of a.world.config.overhead a.mpdus in
+    ap (λ (b : Bool). charge_in room b lens) (plain_same v a.world bodies s t h.parts h.live h.tid)
+    ∙ ap (λ (r : AggregateSizeValue). charge_in r (is_plain a.world s t) lens) h.room_is.settings
+    ∙ charge_is (is_plain a.world s t) a.world s t room.count room.octets lens

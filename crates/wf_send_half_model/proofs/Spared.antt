@@ -10,7 +10,8 @@ use Rattle.wf_frame.specs.declared.notes.Note.{Note}
 use Rattle.wf_frame.specs.declared.notes.Limits.{Limits}
 use Rattle.wf_law_runs.proofs.Common.Picked.{picked_world}
 use Rattle.wf_frame.specs.declared.notes.Note.TheVariants.{Enqueue, Asked}
-use Rattle.wf_frame.specs.declared.notes.Ask.TheVariants.{Join, Leave, Rate, Tick, Pull, Arrive, Answer, Done, Sleep, Wake, Poll, Rx, Reap, Ampdu, Stop, Start, Unsent, GiveUp, Flush, Offload, Weight}
+use Rattle.wf_frame.specs.declared.notes.Ask.TheVariants.{Join, Leave, Rate, Tick, Pull, Arrive, Answer, Done, Sleep, Wake, Poll, Rx, Reap, Ampdu, Stop, Start, Unsent, GiveUp, Flush, Offload, Weight, Hold, Begin, Free, Cease}
+use Rattle.wf_frame.specs.declared.notes.Ask.TheVariants as call
 use Rattle.wf_frame.specs.declared.notes.Refusal.{Refusal}
 use Rattle.wf_frame.specs.declared.notes.Refusal.TheVariants.{Idle}
 use Rattle.wf_frame.specs.Classes.{lower_tid, upper_tid, all_classes}
@@ -19,18 +20,18 @@ use Rattle.wf_def_lists.specs.Lists.{on}
 use Rattle.wf_def_codel.specs.Codel.{Item}
 use Rattle.wf_def_rotation.specs.Rotation.{Rotation, has_key, in_order}
 use Rattle.wf_def_agreement.specs.Session.{Session, waiting_numbers, request_due, has_room}
-use Rattle.wf_def_world.specs.World.{World, Station, Queue, Exchange, no_tid, no_station, new_queue, tid_of, session, queue, is_live, rotation, exchange, on_queue, with_rotation, on_station, with_station, on_share, with_frame_finished, with_fate, with_queues, on_tid}
+use Rattle.wf_def_world.specs.World.{World, Station, Queue, Exchange, no_tid, no_station, new_queue, holds_back, is_held_back, tid_of, session, queue, is_live, rotation, exchange, on_queue, with_rotation, on_station, with_station, on_share, with_frame_finished, with_fate, with_queues, on_tid}
 use Rattle.wf_def_world.specs.FlowQueues.{frames_queued, is_at_limit, longest_queue, without_head, after_limit, queue_for, with_appended, when_listed, with_listed_queue, after_put_in}
 use Rattle.wf_def_world.specs.CanSend.{request_open, can_send, can_send_in, has_credit, may_receive, is_ready, with_listing_in, with_listings_in, with_listings_of}
 use Rattle.wf_def_world.specs.Exchanges.{after_pick, picked_station, station_need}
 use Rattle.wf_def_world.specs.Refusals.{refusal, refusals}
-use Rattle.wf_def_world.specs.Step.{Outcome, outcome_of, concerned_station, after_refusal, step, next_item, with_frame, enqueue_outcome, join_outcome, offload_outcome, weight_outcome, rate_outcome, tick_outcome, pull_outcome_for, pull_outcome, outcome_where_open, sleep_outcome, wake_outcome, poll_outcome, rx_outcome, reap_outcome, arrive_outcome, answer_outcome, unsent_outcome, give_up_outcome, done_outcome}
+use Rattle.wf_def_world.specs.Step.{Outcome, outcome_of, concerned_station, after_refusal, step, next_item, with_frame, enqueue_outcome, join_outcome, offload_outcome, plain_outcome, weight_outcome, hold_outcome, begin_outcome, free_outcome, cease_outcome, rate_outcome, tick_outcome, pull_outcome_for, pull_outcome, outcome_where_open, sleep_outcome, wake_outcome, poll_outcome, rx_outcome, reap_outcome, arrive_outcome, answer_outcome, unsent_outcome, give_up_outcome, done_outcome}
 use Rattle.wf_law_rules.proofs.Lemmas.Numbers.{on_if}
 use Rattle.wf_law_rules.proofs.Lemmas.Counts.{on-cons, on-cons_same, listed-some}
 use Rattle.wf_law_rules.proofs.Lemmas.Tables.{each_put}
 use Rattle.wf_law_runs.specs.Queues.{KeepsQueues}
 use Rattle.wf_law_runs.proofs.Queues.Law.{queue_law}
-use Rattle.wf_law_runs.proofs.Queues.Shelves.{Shelves, shelves, shelves_after_pick, shelves_picked, shelves_open, shelves_ended, shelves_arrived, shelves_answered, shelves_marked, shelves_reaped, shelves_weighed}
+use Rattle.wf_law_runs.proofs.Queues.Shelves.{Shelves, shelves, shelves_after_pick, shelves_picked, shelves_open, shelves_ended, shelves_arrived, shelves_answered, shelves_marked, shelves_reaped, shelves_weighed, shelves_held, shelves_begun, shelves_freed, shelves_ceased}
 use Rattle.wf_law_runs.proofs.Windows.Opened.{left_true, pick_ready}
 use Rattle.wf_law_runs.proofs.Deficits.KeptStep.{NoRow, no_row}
 use Rattle.wf_law_runs.proofs.Deficits.Mild.{sends, Lists, IsMild}
@@ -45,32 +46,38 @@ use Rattle.wf_send_half_model.proofs.Apart.{IsApart, apart_pulled, apart_gone, a
 
 -- ---- the values that readiness reads
 
--- whether a TID can send, by its session, whether a request is open, and how many frames are queued
-abbrev sends_by : Session → Bool → ℕ → Bool
-sends_by x asked n = if request_due x then not asked
-    else nat_lt 0 (length (waiting_numbers x)) || (nat_lt 0 n && has_room x)
+-- whether a TID can send, by its session, whether it is held back, whether a request is open, and how many
+-- frames are queued
+abbrev sends_by : Session → Bool → Bool → ℕ → Bool
+sends_by x held asked n = if request_due x then not asked
+    else nat_lt 0 (length (waiting_numbers x)) || (nat_lt 0 n && (has_room x && not held))
 
--- TID t has the same session, open request and number of queued frames in v as in w
+-- TID t has the same session, open request and number of queued frames in v as in w, and is held back or not
+-- as in w
 pub record IsSameTid (w v : World) (s t : ℕ) : Type 0 where
   pub session : session v s t ≡ session w s t
+  pub held : is_held_back v s t ≡ is_held_back w s t
   pub request : request_open v s t ≡ request_open w s t
   pub queued : frames_queued v s t ≡ frames_queued w s t
 
 can_send_same : (w v : World) (s t : ℕ) → IsSameTid w v s t → can_send v s t ≡ can_send w s t
 can_send_same w v s t h =
-    ap (λ (x : Session). sends_by x (request_open v s t) (frames_queued v s t)) h.session
-    ∙ ap (λ (b : Bool). sends_by (session w s t) b (frames_queued v s t)) h.request
-    ∙ ap (λ (n : ℕ). sends_by (session w s t) (request_open w s t) n) h.queued
+    ap (λ (x : Session). sends_by x (is_held_back v s t) (request_open v s t) (frames_queued v s t)) h.session
+    ∙ ap₂ (λ (a b : Bool). sends_by (session w s t) a b (frames_queued v s t)) h.held h.request
+    ∙ ap (λ (n : ℕ). sends_by (session w s t) (is_held_back w s t) (request_open w s t) n) h.queued
 
--- TID t has the same session and open request in v as in w, and at most as many queued frames
+-- TID t has the same session and open request in v as in w, is held back or not as in w, and has at most as
+-- many queued frames
 pub record IsLessTid (w v : World) (s t : ℕ) : Type 0 where
   pub session : session v s t ≡ session w s t
+  pub held : is_held_back v s t ≡ is_held_back w s t
   pub request : request_open v s t ≡ request_open w s t
   pub queued : frames_queued v s t ≤ frames_queued w s t
 
-sends_more : (x : Session) (asked : Bool) (n m : ℕ) → n ≤ m → sends_by x asked n ≡ true →
-    sends_by x asked m ≡ true
-sends_more x asked n m h e = go (request_due x) (nat_lt 0 (length (waiting_numbers x))) (has_room x) e
+sends_more : (x : Session) (held asked : Bool) (n m : ℕ) → n ≤ m → sends_by x held asked n ≡ true →
+    sends_by x held asked m ≡ true
+sends_more x held asked n m h e = go (request_due x) (nat_lt 0 (length (waiting_numbers x)))
+    (has_room x && not held) e
   where
     go : (a b c : Bool) → (if a then not asked else b || (nat_lt 0 n && c)) ≡ true →
         (if a then not asked else b || (nat_lt 0 m && c)) ≡ true
@@ -83,10 +90,12 @@ sends_more x asked n m h e = go (request_due x) (nat_lt 0 (length (waiting_numbe
         rw (more, parts.1) refl
 
 can_send_less : (w v : World) (s t : ℕ) → IsLessTid w v s t → can_send v s t ≡ true → can_send w s t ≡ true
-can_send_less w v s t h e = sends_more (session w s t) (request_open w s t) (frames_queued v s t)
+can_send_less w v s t h e =
+    sends_more (session w s t) (is_held_back w s t) (request_open w s t) (frames_queued v s t)
     (frames_queued w s t) h.queued
-    (sym (ap (λ (x : Session). sends_by x (request_open v s t) (frames_queued v s t)) h.session
-    ∙ ap (λ (b : Bool). sends_by (session w s t) b (frames_queued v s t)) h.request) ∙ e)
+    (sym (ap (λ (x : Session). sends_by x (is_held_back v s t) (request_open v s t) (frames_queued v s t))
+    h.session
+    ∙ ap₂ (λ (a b : Bool). sends_by (session w s t) a b (frames_queued v s t)) h.held h.request) ∙ e)
 
 either_less : (a b c d : Bool) → (a ≡ true → c ≡ true) → (b ≡ true → d ≡ true) → a || b ≡ true →
     c || d ≡ true
@@ -196,6 +205,8 @@ module _ (w v : World) (i s : ℕ) (other : s ≡ i → ⊥) (m : IsMild i w v) 
       m.stations s other in
       record {
         session = sends_same (λ x. (at no_tid x.tids t).session) (λ x. refl) (at None v.stations s)
+            (at None w.stations s) same;
+        held = sends_same (λ x. holds_back (at no_tid x.tids t).mode) (λ x. refl) (at None v.stations s)
             (at None w.stations s) same;
         request = m.requests s t other;
         queued = queued_same w v s t (sends_same (λ x. (at no_tid x.tids t).queues) (λ x. refl)
@@ -358,11 +369,13 @@ long_done : (note : Note) (w : World) (s t q : ℕ) → NoRow (refusals w note) 
     (concerned_station w note ≡ Some s → ⊥) → spares w note s t ≡ true → Lists w s t q →
     length (queue w q).items ≤ length (queue (outcome_of w note).world q).items
 unfolding spares outcome_of tick_outcome rate_outcome sleep_outcome wake_outcome poll_outcome rx_outcome
-    unsent_outcome give_up_outcome on_share join_outcome offload_outcome with_station pull_outcome
+    unsent_outcome give_up_outcome on_share join_outcome offload_outcome plain_outcome with_station
+    pull_outcome
 long_done (Enqueue i j flow len) w s t q r keeps other spared k =
     long_enqueued w i j flow len q (not_the_longest w s t q (not_true _ spared) k)
 long_done (Asked (Join i window start exponent weight)) w s t q r keeps other spared k = omega arith
 long_done (Asked (Offload i exponent weight)) w s t q r keeps other spared k = omega arith
+long_done (Asked (call.Plain i start exponent weight)) w s t q r keeps other spared k = omega arith
 long_done (Asked (Weight i weight)) w s t q r keeps other spared k =
     long_by w (weight_outcome w i weight).world q (shelves_weighed w i weight)
 long_done (Asked (Leave i)) w s t q r keeps other spared k =
@@ -392,6 +405,14 @@ long_done (Asked (GiveUp e j)) w s t q r keeps other spared k =
 long_done (Asked (Flush i j)) w s t q r keeps other spared k =
     apart_flushed (λ _. Unit {0}) (length (queue w q).items) q i w j tt
     (apart_other w i s t q keeps (λ h. other (ap (λ (z : ℕ). Some z) (sym h))) (not-false _ r.1.1.0) k)
+long_done (Asked (Hold i j)) w s t q r keeps other spared k =
+    long_by w (hold_outcome w i j).world q (shelves_held w i j)
+long_done (Asked (Begin i j window)) w s t q r keeps other spared k =
+    long_by w (begin_outcome w i j window).world q (shelves_begun w i j window)
+long_done (Asked (Free i j)) w s t q r keeps other spared k =
+    long_by w (free_outcome w i j).world q (shelves_freed w i j)
+long_done (Asked (Cease i j)) w s t q r keeps other spared k =
+    long_by w (cease_outcome w i j).world q (shelves_ceased w i j)
 long_done (Asked Reap) w s t q r keeps other spared k =
     long_by w (reap_outcome w w.finished).world q (shelves_reaped w.finished w)
 

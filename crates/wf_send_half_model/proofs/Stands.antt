@@ -11,6 +11,8 @@ use Rattle.wf_send_parts.specs.Windows.{WindowsHaveRoom}
 use Rattle.wf_send_parts.specs.Many.{AllStand}
 use Rattle.wf_send_parts.specs.declared.stations.members.Member.{Member}
 use Rattle.wf_send_parts.specs.Members.{member, upper_in, charged_in, received_in}
+use Rattle.wf_send_parts.specs.declared.stations.modes.Mode.{Mode}
+use Rattle.wf_send_parts.specs.Modes.{as_mode, mode_of}
 use Rattle.wf_send_parts.specs.declared.stations.sleepers.Sleeper.{Sleeper}
 use Rattle.wf_send_parts.specs.Sleepers.{sleeper}
 use Rattle.wf_queue_flows_refines.specs.Standing.{FlowsStandFor as FlowsStandFor}
@@ -41,6 +43,13 @@ pub windows_same : (windows : List WindowValue) (w u : World) (bodies : ℕ → 
     agreements u ≡ agreements w → HasWindows windows w bodies → HasWindows windows u bodies
 windows_same windows w u bodies e h = of_agreements windows u bodies
     (subst (WindowsStand windows bodies) (sym e) (to_agreements windows w bodies h))
+
+-- ---- modes
+
+-- the modes represent those of the TIDs of live stations
+pub record ModesStand (modes : List Mode) (a : Agreements) : Type 0 where
+  pub sized : length modes ≡ 8 * a.config.stations
+  pub each : (s t : ℕ) → a.live s ≡ true → t < 8 → as_mode (mode_of modes s t) ≡ a.modes s t
 
 -- ---- the roster
 
@@ -141,6 +150,7 @@ pub record Pieces (v : TransmitValue) (w : World) (bodies : ℕ → FrameValue) 
   pub opened : v.opened ≡ (roster w).opened
   pub stations : StationsStand v.members v.sleepers w.config.stations (roster w).stations
   pub windows : WindowsStand v.windows bodies (agreements w)
+  pub modes : ModesStand v.modes (agreements w)
   pub flows : FlowsStandFor v.flows w
   pub turns : TurnsStandFor v.sched w
   pub ledger : LedgerStands v.inside v.tally bodies (ledger w)
@@ -161,6 +171,7 @@ to_pieces v w bodies h = record {
         (h.others.stations.credit s) (h.others.stations.stopped s);
   };
   windows = to_agreements v.windows w bodies h.windows;
+  modes = record { sized = h.others.modes.sized; each = h.others.modes.each };
   flows = h.others.flows;
   turns = h.others.turns;
   ledger = record { count = h.others.inside; fates = h.others.tally; notes = h.others.notes };
@@ -185,6 +196,7 @@ of_pieces v w bodies h = record {
       credit = λ s. view_credit (sleeper v.sleepers s) (at None w.stations s) (h.stations.rests s);
       stopped = λ s. view_stopped (sleeper v.sleepers s) (at None w.stations s) (h.stations.rests s);
     };
+    modes = record { sized = h.modes.sized; each = h.modes.each };
     inside = h.ledger.count;
     tally = h.ledger.fates;
     frames = h.frames;
@@ -205,6 +217,7 @@ same_views v w u bodies turns same stands h =
       stations = subst (λ (r : Roster). StationsStand v.members v.sleepers r.config.stations r.stations)
           (sym same.roster) p.stations;
       windows = subst (WindowsStand v.windows bodies) (sym same.agreements) p.windows;
+      modes = subst (ModesStand v.modes) (sym same.agreements) p.modes;
       flows = stands_same v.flows w u same.part p.flows;
       turns = stands;
       ledger = subst (LedgerStands v.inside v.tally bodies) (sym same.ledger) p.ledger;

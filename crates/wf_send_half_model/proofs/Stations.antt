@@ -20,7 +20,7 @@ use Rattle.wf_send_half_model.specs.Half.{TransmitValue}
 use Rattle.wf_send_half_model.specs.Standing.{AreBoth, Parts}
 use Rattle.wf_send_half_model.specs.Views.{StationView, view_of, Roster, roster}
 use Rattle.wf_send_half_model.proofs.Views.{agreements_station, with_view, roster_on_station, ledger_station}
-use Rattle.wf_send_half_model.proofs.Stands.{WindowsStand, IsOfView, IsSleeperOf, StationsStand, LedgerStands, Pieces, to_pieces, of_pieces}
+use Rattle.wf_send_half_model.proofs.Stands.{WindowsStand, ModesStand, IsOfView, IsSleeperOf, StationsStand, LedgerStands, Pieces, to_pieces, of_pieces}
 
 -- ---- lists
 
@@ -233,6 +233,7 @@ station_parts v w bodies s f g members sleepers turns tids seen stands changes h
       stations = subst (λ (r : Roster). StationsStand members sleepers r.config.stations r.stations) e
           (changes p.stations);
       windows = subst (WindowsStand v.windows bodies) (sym (agreements_station w s f tids)) p.windows;
+      modes = subst (ModesStand v.modes) (sym (agreements_station w s f tids)) p.modes;
       flows = stands_same v.flows w (on_station w s f) (station_alone w s f tids) p.flows;
       turns = stands;
       ledger = subst (LedgerStands v.inside v.tally bodies) (sym (ledger_station w s f)) p.ledger;

@@ -1,6 +1,6 @@
--- Proves that some calls change the readiness of no station: a rate, a weight, a tick, an Arrive, an Answer, a mark of
--- a device, a receive charge and a reap. They change no session, queue or open request, nor which stations
--- may receive.
+-- Proves that some calls change the readiness of no station: a rate, a weight, a tick, an Arrive, an Answer,
+-- a mark of a device, a receive charge and a reap. They change no session, mode, queue or open request, nor
+-- which stations may receive.
 use Rattle.std.proofs.Common.{◌≡◌, refl, ap, ap₂, sym, ◌∙◌, ℕ, Bool, true, not, ◌&&◌, ◌||◌, List, [], ◌∷◌, length, Option, Some, None, unwrap_or, option_map, map, sum_by, nat_lt}
 use Rattle.std.specs.Prelude.{◌==◌}
 use Rattle.std.specs.List.{list_any}
@@ -9,12 +9,13 @@ use Rattle.wf_frame.specs.declared.settings.Config.{Config}
 use Rattle.wf_frame.specs.declared.notes.AskedRate.{AskedRate}
 use Rattle.wf_frame.specs.declared.notes.Note.{Note}
 use Rattle.wf_frame.specs.declared.notes.Note.TheVariants.{Enqueue, Asked}
-use Rattle.wf_frame.specs.declared.notes.Ask.TheVariants.{Join, Leave, Rate, Tick, Pull, Arrive, Answer, Done, Sleep, Wake, Poll, Rx, Reap, Ampdu, Stop, Start, Unsent, GiveUp, Flush, Offload, Weight}
+use Rattle.wf_frame.specs.declared.notes.Ask.TheVariants.{Join, Leave, Rate, Tick, Pull, Arrive, Answer, Done, Sleep, Wake, Poll, Rx, Reap, Ampdu, Stop, Start, Unsent, GiveUp, Flush, Offload, Weight, Hold, Begin, Free, Cease}
+use Rattle.wf_frame.specs.declared.notes.Ask.TheVariants as call
 use Rattle.wf_frame.specs.Classes.{all_classes, lower_tid, upper_tid}
 use Rattle.wf_def_lists.specs.Table.{at}
 use Rattle.wf_def_rotation.specs.Rotation.{in_order}
 use Rattle.wf_def_agreement.specs.Receiver.{Receiver}
-use Rattle.wf_def_world.specs.World.{World, Station, Share, Exchange, no_station, owed, exchange, on_station, with_station, on_tid, on_receiver, on_share, with_exchange}
+use Rattle.wf_def_world.specs.World.{World, holds_back, Station, Share, Exchange, no_station, owed, exchange, on_station, with_station, on_tid, on_receiver, on_share, with_exchange}
 use Rattle.wf_def_world.specs.CanSend.{is_request, request_open, has_credit, is_below_aql, may_receive, is_ready}
 use Rattle.wf_def_world.specs.Step.{Outcome, outcome_of, step, outcome_where_open, rate_outcome, tick_outcome, arrive_outcome, answer_outcome, unsent_outcome, give_up_outcome, rx_outcome, reap_outcome, ampdu_outcome, with_deficits_lowered, weight_outcome}
 use Rattle.wf_law_rules.proofs.Lemmas.Tables.{each_put}
@@ -31,7 +32,7 @@ use Rattle.wf_send_half_model.specs.Views.{Agreements, agreements}
 use Rattle.wf_send_half_model.proofs.Views.{agreements_station, agreements_receiver}
 use Rattle.wf_send_half_model.proofs.Spared.{IsSameTid, ready_same_by, ready_stepped, orderly_reached}
 
--- v has the same flow queues, sessions and open requests as w, and the same stations may receive
+-- v has the same flow queues, sessions, modes and open requests as w, and the same stations may receive
 pub record IsSteady (w v : World) : Type 0 where
   part : flows_part v ≡ flows_part w
   agreements : agreements v ≡ agreements w
@@ -52,6 +53,7 @@ steady_then w u v h k = record {
 steady_tid : (w v : World) → IsSteady w v → (s t : ℕ) → IsSameTid w v s t
 steady_tid w v h s t = record {
   session = ap (λ (a : Agreements). a.sessions s t) h.agreements;
+  held = ap (λ (a : Agreements). holds_back (a.modes s t)) h.agreements;
   request = h.requests s t;
   queued = ap (λ (p : Part). sum_by (λ q. length (p.queues q).items) (in_order (p.lists s t))) h.part;
 }
@@ -112,7 +114,8 @@ steady_rated w i rate = record {
   part = station_alone w i _ (λ x. refl);
   agreements = agreements_station w i _ (λ x. refl);
   requests = requests_on_station w i _;
-  receives = receives_on_station w i _ (record { asleep = λ x. refl; credit = λ x. refl; stopped = λ x. refl });
+  receives = receives_on_station w i _
+      (record { asleep = λ x. refl; credit = λ x. refl; stopped = λ x. refl });
 }
 
 steady_stated : (w : World) (i octets : ℕ) → IsSteady w (ampdu_outcome w i octets).world
@@ -130,7 +133,8 @@ steady_received w i d air = record {
   part = station_alone w i _ (λ x. refl);
   agreements = agreements_station w i _ (λ x. refl);
   requests = requests_on_station w i _;
-  receives = receives_on_station w i _ (record { asleep = λ x. refl; credit = λ x. refl; stopped = λ x. refl });
+  receives = receives_on_station w i _
+      (record { asleep = λ x. refl; credit = λ x. refl; stopped = λ x. refl });
 }
 
 steady_shared : (w : World) (i : ℕ) (d : Class) (f : Share → Share) → IsSteady w (on_share w i d f)
@@ -139,7 +143,8 @@ steady_shared w i d f = record {
   part = station_alone w i _ (λ x. refl);
   agreements = agreements_station w i _ (λ x. refl);
   requests = requests_on_station w i _;
-  receives = receives_on_station w i _ (record { asleep = λ x. refl; credit = λ x. refl; stopped = λ x. refl });
+  receives = receives_on_station w i _
+      (record { asleep = λ x. refl; credit = λ x. refl; stopped = λ x. refl });
 }
 
 steady_lowered : (cs : List Class) (w : World) (i : ℕ) → IsSteady w (with_deficits_lowered w i cs)
@@ -274,6 +279,11 @@ steady_done (Asked Reap) w r h c s = ready_reap w.finished w c s
 steady_done (Enqueue i t flow len) w r h c s = absurd (cc h)
 steady_done (Asked (Join i window start exponent weight)) w r h c s = absurd (cc h)
 steady_done (Asked (Offload i exponent weight)) w r h c s = absurd (cc h)
+steady_done (Asked (call.Plain i start exponent weight)) w r h c s = absurd (cc h)
+steady_done (Asked (Hold i t)) w r h c s = absurd (cc h)
+steady_done (Asked (Begin i t window)) w r h c s = absurd (cc h)
+steady_done (Asked (Free i t)) w r h c s = absurd (cc h)
+steady_done (Asked (Cease i t)) w r h c s = absurd (cc h)
 steady_done (Asked (Weight i weight)) w r h c s =
     steady_ready w (weight_outcome w i weight).world (steady_weighed w i weight) c s
 steady_done (Asked (Leave i)) w r h c s = absurd (cc h)

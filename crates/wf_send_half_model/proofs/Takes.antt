@@ -4,7 +4,7 @@ use Rattle.std.proofs.Common.{◌≡◌, ◌≢◌, refl, ap, ap₂, sym, ◌∙
 use Rattle.std.proofs.lemmas.Bool.{or_left, or_right}
 use Rattle.std.proofs.lemmas.List.{length-map}
 use Rattle.wf_frame.specs.declared.classes.Cause.{Cause}
-use Rattle.wf_frame.specs.declared.classes.Cause.TheVariants.{Overlimit, Codel as By_codel, Retries, Left, Flushed}
+use Rattle.wf_frame.specs.declared.classes.Cause.TheVariants.{Overlimit, Codel as By_codel, Retries, Left, Flushed, Ended}
 use Rattle.wf_frame.specs.declared.classes.Fate.{Fate}
 use Rattle.wf_frame.specs.declared.classes.Fate.TheVariants.{Held, Dropped}
 use Rattle.wf_frame.specs.Frames.{FrameValue}
@@ -34,7 +34,7 @@ use Rattle.wf_send_half_model.specs.Standing.{counts_in, Parts}
 use Rattle.wf_send_half_model.specs.Filling.{after_take}
 use Rattle.wf_send_half_model.specs.Views.{Roster, roster, Ledger, ledger}
 use Rattle.wf_send_half_model.proofs.Views.{agreements_rest, roster_rest, ledger_queue, ledger_queues}
-use Rattle.wf_send_half_model.proofs.Stands.{WindowsStand, StationsStand, LedgerStands, Pieces, to_pieces, of_pieces}
+use Rattle.wf_send_half_model.proofs.Stands.{WindowsStand, ModesStand, StationsStand, LedgerStands, Pieces, to_pieces, of_pieces}
 use Rattle.wf_send_half_model.proofs.Ledgers.{ledger_finish}
 
 -- ---- many frames are dropped
@@ -45,6 +45,7 @@ none_settled By_codel c = simp add-zero
 none_settled Retries c = simp add-zero
 none_settled Left c = simp add-zero
 none_settled Flushed c = simp add-zero
+none_settled Ended c = simp add-zero
 
 one_settled : (cause : Cause) (n : ℕ) (c : Counts) →
     many_settled_as (Dropped cause) n (settled_as (Dropped cause) c)
@@ -54,6 +55,7 @@ one_settled By_codel n c = ap (λ (k : ℕ). record c { codel = k }) (omega arit
 one_settled Retries n c = ap (λ (k : ℕ). record c { retries = k }) (omega arith)
 one_settled Left n c = ap (λ (k : ℕ). record c { left = k }) (omega arith)
 one_settled Flushed n c = ap (λ (k : ℕ). record c { flushed = k }) (omega arith)
+one_settled Ended n c = ap (λ (k : ℕ). record c { ended = k }) (omega arith)
 
 -- u is w after `count` held frames were dropped
 pub record HasDropped (cause : Cause) (count : ℕ) (w u : World) : Type 0 where
@@ -209,6 +211,7 @@ take_parts v w bodies s t l placing fresh live low h =
       stations = subst (λ (r : Roster). StationsStand v.members v.sleepers r.config.stations r.stations) same
           p.stations;
       windows = subst (WindowsStand v.windows bodies) (sym (agreements_rest w u (rest_take w s t))) p.windows;
+      modes = subst (ModesStand v.modes) (sym (agreements_rest w u (rest_take w s t))) p.modes;
       flows = flows;
       turns = take_leaves w s t v.sched p.turns;
       ledger = subst (LedgerStands v.inside (after_take v (tid_number s t) (codel_params w s)).tally bodies)

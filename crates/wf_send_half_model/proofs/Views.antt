@@ -1,5 +1,5 @@
 -- Proves which views each change of a world keeps unchanged, and how the others change.
-use Rattle.std.proofs.Common.{◌≡◌, refl, ap, ap₂, ◌∙◌, ℕ, Bool, true, List, Option, Some, None, is_some, option_map, map}
+use Rattle.std.proofs.Common.{◌≡◌, refl, ap, ap₂, ◌∙◌, ℕ, Bool, true, List, Option, Some, None, is_some, option_map, unwrap_or, map}
 use Rattle.std.proofs.Math.Path.{fun_ext}
 use Rattle.wf_frame.specs.declared.settings.Config.{Config}
 use Rattle.wf_frame.specs.declared.classes.Class.{Class}
@@ -8,9 +8,9 @@ use Rattle.wf_def_lists.specs.Table.{at, change}
 use Rattle.wf_def_rotation.specs.Rotation.{Rotation}
 use Rattle.wf_def_agreement.specs.Session.{Session}
 use Rattle.wf_def_agreement.specs.Receiver.{Receiver}
-use Rattle.wf_def_world.specs.World.{World, Station, Share, Tid, Queue, Frame, no_tid, no_share, is_live, session, with_station, on_station, on_tid, on_session, on_receiver, with_queues, on_share, on_queue, with_rotation}
+use Rattle.wf_def_world.specs.World.{World, Mode, Station, Share, Tid, Queue, Frame, no_station, no_tid, no_share, is_live, tid_of, session, with_station, on_station, on_tid, on_session, on_receiver, with_queues, on_share, on_queue, with_rotation}
 use Rattle.wf_law_runs.proofs.Deficits.Books.{upd, upd_idle, put_upd, updc, updc_idle, put_updc}
-use Rattle.wf_queue_flows_refines.specs.Rest.{Rest, rest_of_world, bare, session_in}
+use Rattle.wf_queue_flows_refines.specs.Rest.{Rest, rest_of_world, bare, session_in, mode_in}
 use Rattle.wf_queue_flows_refines.proofs.Elsewhere.{rest_live}
 use Rattle.wf_sched_refines.specs.Standing.{share_in}
 use Rattle.wf_send_parts.specs.declared.exchanges.opened.Open.{Open}
@@ -20,43 +20,56 @@ use Rattle.wf_send_half_model.specs.Views.{agreements, StationView, view_of, Ros
 -- ---- agreements
 
 pub agreements_by : (u w : World) → u.config ≡ w.config → ((s : ℕ) → is_live u s ≡ is_live w s) →
-    ((s t : ℕ) → session u s t ≡ session w s t) → agreements u ≡ agreements w
-agreements_by u w config live sessions =
+    ((s t : ℕ) → session u s t ≡ session w s t) → ((s t : ℕ) → (tid_of u s t).mode ≡ (tid_of w s t).mode) →
+    agreements u ≡ agreements w
+agreements_by u w config live sessions modes =
     ap (λ (c : Config). record (agreements u) { config = c }) config
     ∙ ap (λ (f : ℕ → Bool). record (agreements u) { config = w.config; live = f }) (fun_ext live)
-    ∙ ap (λ (f : ℕ → ℕ → Session). record (agreements w) { sessions = f })
+    ∙ ap (λ (f : ℕ → ℕ → Session). record (agreements w) { sessions = f; modes = (agreements u).modes })
     (fun_ext (λ s. fun_ext (sessions s)))
+    ∙ ap (λ (f : ℕ → ℕ → Mode). record (agreements w) { modes = f }) (fun_ext (λ s. fun_ext (modes s)))
 
 pub agreements_rest : (w u : World) → rest_of_world u ≡ rest_of_world w → agreements u ≡ agreements w
 agreements_rest w u e = agreements_by u w (ap (λ (r : Rest). r.config) e) (λ s. rest_live w u s e)
-    (λ s t. ap (λ (r : Rest). r.sessions s t) e)
+    (λ s t. ap (λ (r : Rest). r.sessions s t) e) (λ s t. ap (λ (r : Rest). r.modes s t) e)
 
 pub agreements_with_station : (w : World) (s : ℕ) (o : Option Station) →
     agreements (with_station w s o) ≡ record (agreements w) {
       live = upd (agreements w).live s (is_some o);
       sessions = upd (agreements w).sessions s (session_in o);
+      modes = upd (agreements w).modes s (mode_in o);
     }
 unfolding with_station
 agreements_with_station w s o =
     ap (λ (f : ℕ → Bool). record (agreements (with_station w s o)) { live = f })
     (put_upd {X = Option Station} {Y = Bool} is_some None w.stations s o)
-    ∙ ap (λ (f : ℕ → ℕ → Session). record (agreements w) {
+    ∙ ap (λ (f : ℕ → ℕ → Session). record (agreements (with_station w s o)) {
       live = upd (agreements w).live s (is_some o);
       sessions = f;
     }) (put_upd {Y = ℕ → Session} session_in None w.stations s o)
+    ∙ ap (λ (f : ℕ → ℕ → Mode). record (agreements w) {
+      live = upd (agreements w).live s (is_some o);
+      sessions = upd (agreements w).sessions s (session_in o);
+      modes = f;
+    }) (put_upd {Y = ℕ → Mode} mode_in None w.stations s o)
 
--- a station with the same sessions
+-- a station with the same sessions and modes
 agreements_same_station : (w : World) (s : ℕ) (o : Option Station) → is_some o ≡ is_live w s →
-    session_in o ≡ session_in (at None w.stations s) → agreements (with_station w s o) ≡ agreements w
-agreements_same_station w s o live sessions =
+    session_in o ≡ session_in (at None w.stations s) → mode_in o ≡ mode_in (at None w.stations s) →
+    agreements (with_station w s o) ≡ agreements w
+agreements_same_station w s o live sessions modes =
     agreements_with_station w s o
     ∙ ap (λ (f : ℕ → Bool). record (agreements w) {
       live = f;
-      sessions =
-          upd (agreements w).sessions s (session_in o);
+      sessions = upd (agreements w).sessions s (session_in o);
+      modes = upd (agreements w).modes s (mode_in o);
     }) (upd_idle (agreements w).live s (is_some o) live)
-    ∙ ap (λ (f : ℕ → ℕ → Session). record (agreements w) { sessions = f })
-    (upd_idle (agreements w).sessions s (session_in o) sessions)
+    ∙ ap (λ (f : ℕ → ℕ → Session). record (agreements w) {
+      sessions = f;
+      modes = upd (agreements w).modes s (mode_in o);
+    }) (upd_idle (agreements w).sessions s (session_in o) sessions)
+    ∙ ap (λ (f : ℕ → ℕ → Mode). record (agreements w) { modes = f })
+    (upd_idle (agreements w).modes s (mode_in o) modes)
 
 pub some_mapped : (f : Station → Station) (o : Option Station) → is_some (option_map f o) ≡ is_some o
 some_mapped f None = refl
@@ -67,33 +80,42 @@ sessions_mapped : (f : Station → Station) → ((x : Station) → session_in (S
 sessions_mapped f h None = refl
 sessions_mapped f h (Some x) = h x
 
+modes_mapped : (f : Station → Station) → ((x : Station) → mode_in (Some (f x)) ≡ mode_in (Some x)) →
+    (o : Option Station) → mode_in (option_map f o) ≡ mode_in o
+modes_mapped f h None = refl
+modes_mapped f h (Some x) = h x
+
 agreements_on_station : (w : World) (s : ℕ) (f : Station → Station) →
     ((x : Station) → session_in (Some (f x)) ≡ session_in (Some x)) →
+    ((x : Station) → mode_in (Some (f x)) ≡ mode_in (Some x)) →
     agreements (on_station w s f) ≡ agreements w
 unfolding on_station
-agreements_on_station w s f h = agreements_same_station w s _ (some_mapped f (at None w.stations s))
-    (sessions_mapped f h (at None w.stations s))
+agreements_on_station w s f h k = agreements_same_station w s _ (some_mapped f (at None w.stations s))
+    (sessions_mapped f h (at None w.stations s)) (modes_mapped f k (at None w.stations s))
 
 pub agreements_station : (w : World) (s : ℕ) (f : Station → Station) → ((x : Station) → (f x).tids ≡ x.tids) →
     agreements (on_station w s f) ≡ agreements w
 agreements_station w s f h = agreements_on_station w s f
     (λ x. fun_ext (λ t. ap (λ ts. (at no_tid ts t).session) (h x)))
+    (λ x. fun_ext (λ t. ap (λ ts. (at no_tid ts t).mode) (h x)))
 
 pub agreements_on_tid : (w : World) (s t : ℕ) (f : Tid → Tid) → ((y : Tid) → (f y).session ≡ y.session) →
-    agreements (on_tid w s t f) ≡ agreements w
+    ((y : Tid) → (f y).mode ≡ y.mode) → agreements (on_tid w s t f) ≡ agreements w
 unfolding on_tid
-agreements_on_tid w s t f h = agreements_on_station w s _
+agreements_on_tid w s t f h k = agreements_on_station w s _
     (λ x. put_upd {Y = Session} (λ (z : Tid). z.session) no_tid x.tids t (f (at no_tid x.tids t))
     ∙ upd_idle (session_in (Some x)) t _ (h (at no_tid x.tids t)))
+    (λ x. put_upd {Y = Mode} (λ (z : Tid). z.mode) no_tid x.tids t (f (at no_tid x.tids t))
+    ∙ upd_idle (mode_in (Some x)) t _ (k (at no_tid x.tids t)))
 
 pub agreements_receiver : (w : World) (s t : ℕ) (f : Receiver → Receiver) →
     agreements (on_receiver w s t f) ≡ agreements w
 unfolding on_receiver
-agreements_receiver w s t f = agreements_on_tid w s t _ (λ y. refl)
+agreements_receiver w s t f = agreements_on_tid w s t _ (λ y. refl) (λ y. refl)
 
 pub agreements_queues : (w : World) (s t : ℕ) (r : Rotation) → agreements (with_queues w s t r) ≡ agreements w
 unfolding with_queues
-agreements_queues w s t r = agreements_on_tid w s t _ (λ y. refl)
+agreements_queues w s t r = agreements_on_tid w s t _ (λ y. refl) (λ y. refl)
 
 pub agreements_share : (w : World) (s : ℕ) (c : Class) (f : Share → Share) →
     agreements (on_share w s c f) ≡ agreements w
@@ -116,11 +138,18 @@ agreements_session w s t f live =
     agreements_with_station w s _
     ∙ ap (λ (g : ℕ → Bool). record (agreements w) {
       live = g;
-      sessions =
-          upd (agreements w).sessions s (session_in (on_sessions t f (at None w.stations s)));
+      sessions = upd (agreements w).sessions s (session_in (on_sessions t f (at None w.stations s)));
+      modes = upd (agreements w).modes s (mode_in (on_sessions t f (at None w.stations s)));
     })
     (upd_idle (agreements w).live s (is_some (on_sessions t f (at None w.stations s)))
     (some_mapped _ (at None w.stations s)))
+    ∙ ap (λ (g : ℕ → ℕ → Mode). record (agreements w) {
+      sessions = upd (agreements w).sessions s (session_in (on_sessions t f (at None w.stations s)));
+      modes = g;
+    })
+    (upd_idle (agreements w).modes s (mode_in (on_sessions t f (at None w.stations s)))
+    (modes_mapped _ (λ x. put_upd {Y = Mode} (λ (z : Tid). z.mode) no_tid x.tids t _
+    ∙ upd_idle (mode_in (Some x)) t _ refl) (at None w.stations s)))
     ∙ ap (λ (g : ℕ → Session). record (agreements w) { sessions = upd (agreements w).sessions s g })
     (go (at None w.stations s) live)
   where
@@ -128,6 +157,43 @@ agreements_session w s t f live =
         session_in (on_sessions t f o) ≡ upd (session_in o) t (f (session_in o t))
     go None e = absurd (cc e)
     go (Some x) e = put_upd {Y = Session} (λ (z : Tid). z.session) no_tid x.tids t _
+
+-- a TID of a live station changes
+abbrev on_tids : ℕ → (Tid → Tid) → Option Station → Option Station
+on_tids t f o = option_map (λ (x : Station). record x { tids = change no_tid x.tids t f }) o
+
+-- the session and the mode of one TID of a live station change
+pub agreements_tid : (w : World) (s t : ℕ) (f : Tid → Tid) → is_live w s ≡ true →
+    agreements (on_tid w s t f) ≡ record (agreements w) {
+      sessions = upd (agreements w).sessions s
+          (upd ((agreements w).sessions s) t (f (tid_of w s t)).session);
+      modes = upd (agreements w).modes s (upd ((agreements w).modes s) t (f (tid_of w s t)).mode);
+    }
+unfolding on_tid on_station
+agreements_tid w s t f live =
+    agreements_with_station w s _
+    ∙ ap (λ (g : ℕ → Bool). record (agreements w) {
+      live = g;
+      sessions = upd (agreements w).sessions s (session_in (on_tids t f (at None w.stations s)));
+      modes = upd (agreements w).modes s (mode_in (on_tids t f (at None w.stations s)));
+    })
+    (upd_idle (agreements w).live s (is_some (on_tids t f (at None w.stations s)))
+    (some_mapped _ (at None w.stations s)))
+    ∙ ap₂ (λ (g : ℕ → Session) (k : ℕ → Mode). record (agreements w) {
+      sessions = upd (agreements w).sessions s g;
+      modes = upd (agreements w).modes s k;
+    })
+    (sessions_at (at None w.stations s) live) (modes_at (at None w.stations s) live)
+  where
+    sessions_at : (o : Option Station) → is_some o ≡ true → session_in (on_tids t f o)
+        ≡ upd (session_in o) t (f (at no_tid (unwrap_or o no_station).tids t)).session
+    sessions_at None e = absurd (cc e)
+    sessions_at (Some x) e = put_upd {Y = Session} (λ (z : Tid). z.session) no_tid x.tids t _
+
+    modes_at : (o : Option Station) → is_some o ≡ true → mode_in (on_tids t f o)
+        ≡ upd (mode_in o) t (f (at no_tid (unwrap_or o no_station).tids t)).mode
+    modes_at None e = absurd (cc e)
+    modes_at (Some x) e = put_upd {Y = Mode} (λ (z : Tid). z.mode) no_tid x.tids t _
 
 -- ---- the roster
 

@@ -8,6 +8,7 @@ use Rattle.std.proofs.lemmas.List.{get_or-set_same}
 use Rattle.wf_frame.specs.declared.classes.Class.{Class}
 use Rattle.wf_frame.specs.declared.notes.AskedRate.{AskedRate}
 use Rattle.wf_frame.specs.declared.notes.Note.TheVariants.{Asked}
+use Rattle.wf_frame.specs.declared.notes.Ask.TheVariants as call
 use Rattle.wf_frame.specs.declared.notes.Ask.TheVariants.{Join, Offload, Rate, Tick, Arrive, Answer, Sleep, Wake, Poll, Reap, Ampdu, Stop, Start}
 use Rattle.wf_frame.specs.declared.notes.Refusal.{Refusal}
 use Rattle.wf_frame.specs.declared.notes.ReplyNote.{ReplyNote}
@@ -20,7 +21,7 @@ use Rattle.wf_def_world.specs.Rates.{rate_asked}
 use Rattle.wf_def_world.specs.World.{World, Exchange, rotation, is_live, exchange, on_station, on_tid, on_receiver, on_share, with_station, with_exchange}
 use Rattle.wf_def_world.specs.CanSend.{is_ready, is_debtor, is_to_list, with_listings_of}
 use Rattle.wf_def_world.specs.Refusals.{refusal, refusals}
-use Rattle.wf_def_world.specs.Step.{outcome_of, outcome_where_open, station_of, after_refusal, judged_outcome, step, arrive_outcome, answer_outcome, class_to_send, tick_outcome, rate_outcome, sleep_outcome, wake_outcome, poll_outcome, rx_outcome, join_outcome, offload_outcome, ampdu_outcome}
+use Rattle.wf_def_world.specs.Step.{outcome_of, outcome_where_open, station_of, after_refusal, judged_outcome, step, arrive_outcome, answer_outcome, class_to_send, tick_outcome, rate_outcome, sleep_outcome, wake_outcome, poll_outcome, rx_outcome, plain_window, join_outcome, offload_outcome, plain_outcome, ampdu_outcome}
 use Rattle.wf_law_rules.proofs.Lemmas.Numbers.{either}
 use Rattle.wf_law_runs.proofs.Deficits.KeptStep.{NoRow, no_row}
 use Rattle.wf_law_runs.proofs.Deficits.Law.{deficits}
@@ -29,15 +30,17 @@ use Rattle.wf_queue_flows_refines.specs.Standing.{with_finished}
 use Rattle.wf_queue_flows_refines.proofs.Ends.{reply_reaped}
 use Rattle.wf_send_parts.specs.Window.{WindowValue}
 use Rattle.wf_send_parts.specs.declared.stations.members.Member.{Member}
+use Rattle.wf_send_parts.specs.declared.stations.modes.Mode.{Mode}
+use Rattle.wf_send_parts.specs.declared.stations.modes.Mode.TheVariants.{Agreed}
 use Rattle.wf_send_parts.specs.Members.{member, on_member, with_rate, with_ampdu}
 use Rattle.wf_send_parts.specs.Sleepers.{sleeper, with_sleeper, woken}
 use Rattle.wf_send_half_model.specs.Half.{TransmitValue, can_send_of, may_receive_of, is_to_list_of}
 use Rattle.wf_send_half_model.specs.Standing.{Parts, IsReached, StandsFor, Meets}
-use Rattle.wf_send_half_model.specs.Changes.{after_listing, AreReset, after_admission}
+use Rattle.wf_send_half_model.specs.Changes.{after_listing, AreReset, AreSet, after_admission}
 use Rattle.wf_send_half_model.proofs.Reached.{by_law, reached_step, rises, owes_nothing}
 use Rattle.wf_send_half_model.proofs.Readers.{to_list_same}
 use Rattle.wf_send_half_model.proofs.Calls.{tick_parts, rate_parts, sleep_parts, wake_parts, poll_parts, reap_parts, ampdu_parts, stop_parts, start_parts}
-use Rattle.wf_send_half_model.proofs.Joins.{admitted, join_parts, offload_parts}
+use Rattle.wf_send_half_model.proofs.Joins.{admitted, join_parts, plain_parts, offload_parts}
 use Rattle.wf_send_half_model.proofs.Meets.{listed_none, listed_meets, unlisted_meets, idle_meets}
 use Rattle.wf_send_half_model.proofs.Listings.{nobody_new}
 use Rattle.wf_send_half_model.proofs.Unheard.{arrive_parts, answer_parts}
@@ -255,35 +258,51 @@ module _ (v : TransmitValue) (w : World) (bodies : ℕ → FrameValue) (h : Stan
       }) w bodies (Asked (Start s)) h.reached tt tt done
       (start_parts v w bodies s (below w s rows.0) h.parts) s refl
 
-  pub join_meets : (windows : List WindowValue) (s window start exponent weight : ℕ) →
-      refusal w (Asked (Join s window start exponent weight)) ≡ None →
-      AreReset v.windows windows s start window →
-      Meets w bodies (Asked (Join s window start exponent weight))
-      (after_admission v windows s exponent weight false) Joined
-  unfolding outcome_of join_outcome
-  join_meets windows s window start exponent weight done reset =
-      let rows : NoRow (refusals w (Asked (Join s window start exponent weight))) =
-      no_row (refusals w (Asked (Join s window start exponent weight))) done in
-      listed_meets (admitted v windows s exponent weight false) w bodies
-      (Asked (Join s window start exponent weight)) h.reached tt tt done
-      (join_parts v w bodies windows s window start exponent weight
-      (below w s rows.0) rows.1.1.1.1.1.0 (λ c. owes_nothing w h.reached s c rows.1.1.1.1.1.0) reset h.parts)
-      s refl
+  module _ (windows : List WindowValue) (modes : List Mode) (s : ℕ) where
+    pub join_meets : (window start exponent weight : ℕ) →
+        refusal w (Asked (Join s window start exponent weight)) ≡ None →
+        AreReset v.windows windows s start window → AreSet v.modes modes s Agreed →
+        Meets w bodies (Asked (Join s window start exponent weight))
+        (after_admission v windows modes s exponent weight false) Joined
+    unfolding outcome_of join_outcome
+    join_meets window start exponent weight done reset set =
+        let rows : NoRow (refusals w (Asked (Join s window start exponent weight))) =
+        no_row (refusals w (Asked (Join s window start exponent weight))) done in
+        listed_meets (admitted v windows modes s exponent weight false) w bodies
+        (Asked (Join s window start exponent weight)) h.reached tt tt done
+        (join_parts v w bodies windows modes s (below w s rows.0) rows.1.1.1.1.1.0
+        (λ c. owes_nothing w h.reached s c rows.1.1.1.1.1.0) h.parts window start exponent weight reset set)
+        s refl
 
-  pub offload_meets : (windows : List WindowValue) (s exponent weight : ℕ) →
-      refusal w (Asked (Offload s exponent weight)) ≡ None →
-      AreReset v.windows windows s 0 greatest_window →
-      Meets w bodies (Asked (Offload s exponent weight))
-      (after_admission v windows s exponent weight true) Joined
-  unfolding outcome_of offload_outcome
-  offload_meets windows s exponent weight done reset =
-      let rows : NoRow (refusals w (Asked (Offload s exponent weight))) =
-      no_row (refusals w (Asked (Offload s exponent weight))) done in
-      listed_meets (admitted v windows s exponent weight true) w bodies
-      (Asked (Offload s exponent weight)) h.reached tt tt done
-      (offload_parts v w bodies windows s exponent weight
-      (below w s rows.0) rows.1.1.1.0 (λ c. owes_nothing w h.reached s c rows.1.1.1.0) reset h.parts)
-      s refl
+    pub plain_meets : (start exponent weight : ℕ) →
+        refusal w (Asked (call.Plain s start exponent weight)) ≡ None →
+        AreReset v.windows windows s start plain_window → AreSet v.modes modes s Mode.Plain →
+        Meets w bodies (Asked (call.Plain s start exponent weight))
+        (after_admission v windows modes s exponent weight false) Joined
+    unfolding outcome_of plain_outcome
+    plain_meets start exponent weight done reset set =
+        let rows : NoRow (refusals w (Asked (call.Plain s start exponent weight))) =
+        no_row (refusals w (Asked (call.Plain s start exponent weight))) done in
+        listed_meets (admitted v windows modes s exponent weight false) w bodies
+        (Asked (call.Plain s start exponent weight)) h.reached tt tt done
+        (plain_parts v w bodies windows modes s (below w s rows.0) rows.1.1.1.1.0
+        (λ c. owes_nothing w h.reached s c rows.1.1.1.1.0) h.parts start exponent weight reset set)
+        s refl
+
+    pub offload_meets : (exponent weight : ℕ) →
+        refusal w (Asked (Offload s exponent weight)) ≡ None →
+        AreReset v.windows windows s 0 greatest_window → AreSet v.modes modes s Mode.Plain →
+        Meets w bodies (Asked (Offload s exponent weight))
+        (after_admission v windows modes s exponent weight true) Joined
+    unfolding outcome_of offload_outcome
+    offload_meets exponent weight done reset set =
+        let rows : NoRow (refusals w (Asked (Offload s exponent weight))) =
+        no_row (refusals w (Asked (Offload s exponent weight))) done in
+        listed_meets (admitted v windows modes s exponent weight true) w bodies
+        (Asked (Offload s exponent weight)) h.reached tt tt done
+        (offload_parts v w bodies windows modes s (below w s rows.0) rows.1.1.1.0
+        (λ c. owes_nothing w h.reached s c rows.1.1.1.0) h.parts exponent weight reset set)
+        s refl
 
 -- ---- Arrive and Answer
 

@@ -1,17 +1,19 @@
 -- Defines changes that calls make to a transmit half: listings, new windows, and an enqueue.
-use Rattle.std.specs.Prelude.{◌≡◌, ◌≢◌, ◌<◌, ℕ, ◌+◌, ◌*◌, if◌then◌else◌, Bool, List, length, set, Some}
+use Rattle.std.specs.Prelude.{◌≡◌, ◌≢◌, ◌<◌, ℕ, ◌+◌, ◌*◌, max, if◌then◌else◌, Bool, List, length, set, Some}
 use Rattle.wf_frame.specs.Classes.{all_classes, tid_number}
 use Rattle.wf_frame.specs.declared.classes.Class.{Class}
 use Rattle.wf_frame.specs.Frames.{FrameValue}
-use Rattle.wf_def_agreement.specs.Session.{new_session}
+use Rattle.wf_def_agreement.specs.Session.{Session, new_session, start_of}
 use Rattle.wf_send_parts.specs.Tally.{one_accepted}
 use Rattle.wf_queue_flows.specs.Flows.{dropped_for_limit, after_put}
 use Rattle.wf_sched.specs.ClassRotas.{after_join}
 use Rattle.wf_sched_refines.specs.Standing.{everywhere, with_listed, with_listed_where, with_weight}
 use Rattle.wf_send_parts.specs.Members.{new_member}
+use Rattle.wf_send_parts.specs.declared.stations.modes.Mode.{Mode}
+use Rattle.wf_send_parts.specs.Modes.{mode_of, with_mode_of}
 use Rattle.wf_send_parts.specs.Sleepers.{awake, with_sleeper}
 use Rattle.wf_send_parts.specs.Window.{WindowValue, WindowStandsFor}
-use Rattle.wf_send_parts.specs.Windows.{WindowsHaveRoom, window_of}
+use Rattle.wf_send_parts.specs.Windows.{WindowsHaveRoom, window_of, with_window}
 use Rattle.wf_send_half_model.specs.Counting.{with_overlimit}
 use Rattle.wf_send_half_model.specs.Half.{TransmitValue, is_ready_of, is_to_list_of, uncovered_air_of}
 
@@ -35,6 +37,28 @@ pub record AreReset (before after : List WindowValue) (s first size : ℕ) : Typ
       WindowStandsFor (window_of after s t) (new_session first size) bodies
   pub others : (i t : ℕ) → i ≢ s → t < 8 → window_of after i t ≡ window_of before i t
 
+-- the eight TIDs of station s have this mode; the modes of all other stations are unchanged
+pub record AreSet (before after : List Mode) (s : ℕ) (mode : Mode) : Type 0 where
+  pub sized : length after ≡ length before
+  pub own : (t : ℕ) → t < 8 → mode_of after s t ≡ mode
+  pub others : (i t : ℕ) → i ≢ s → t < 8 → mode_of after i t ≡ mode_of before i t
+
+-- TID t of station s has this mode from now on
+abbrev pub after_mode : TransmitValue → ℕ → ℕ → Mode → TransmitValue
+after_mode v s t mode = record v { modes = with_mode_of v.modes s t mode }
+
+-- TID t of station s has this window and this mode from now on
+abbrev pub after_change : TransmitValue → ℕ → ℕ → WindowValue → Mode → TransmitValue
+after_change v s t x mode =
+    record v {
+      windows = with_window v.windows s t x;
+      modes = with_mode_of v.modes s t mode;
+    }
+
+-- the session whose window gets this size: its start counts as heard, so that no request is due
+abbrev pub session_resized : ℕ → Session → Session
+session_resized size y = record y { heard = max y.heard (start_of y); size = size }
+
 -- a frame is accepted: at the limit the head of the longest queue is dropped, and the frame goes to its TID's
 -- queues
 abbrev pub after_enqueue : TransmitValue → FrameValue → TransmitValue
@@ -45,13 +69,14 @@ after_enqueue v f =
       tally = with_overlimit (dropped_for_limit v.flows) (one_accepted v.tally);
     }
 
--- station s joins with these windows: it has its quantum in each class, is awake and not stopped, and is
--- listed where it belongs on a list
-abbrev pub after_admission : TransmitValue → List WindowValue → ℕ → ℕ → ℕ → Bool → TransmitValue
-after_admission v windows s exponent weight offloaded =
+-- station s joins with these windows and modes: it has its quantum in each class, is awake and not stopped,
+-- and is listed where it belongs on a list
+abbrev pub after_admission : TransmitValue → List WindowValue → List Mode → ℕ → ℕ → ℕ → Bool → TransmitValue
+after_admission v windows modes s exponent weight offloaded =
     after_listing (record v {
       sched = everywhere (after_join s (v.sched.quantum * weight)) v.sched;
       windows = windows;
+      modes = modes;
       members = set v.members s (Some (new_member exponent offloaded));
       sleepers = with_sleeper v.sleepers s awake;
     }) s

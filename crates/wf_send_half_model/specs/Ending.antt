@@ -1,12 +1,12 @@
 -- Defines the end of an exchange of data, number by number.
-use Rattle.std.specs.Prelude.{◌≡◌, ◌<◌, ℕ, ◌==◌, true, not, List, [], ◌∷◌, ◌++◌, map, filter}
+use Rattle.std.specs.Prelude.{◌≡◌, ◌<◌, ℕ, ◌==◌, nat_le, Bool, true, not, ◌&&◌, List, [], ◌∷◌, ◌++◌, map, filter}
 use Rattle.wf_frame.specs.declared.classes.Fate.TheVariants.{Held}
 use Rattle.wf_frame.specs.declared.settings.Config.{Config}
 use Rattle.wf_frame.specs.Frames.{FrameValue}
 use Rattle.wf_def_lists.specs.Lists.{IsOnce}
 use Rattle.wf_def_agreement.specs.Session.{State, End, slot}
 use Rattle.wf_def_world.specs.World.{World, Mpdu, is_live, session, frame, accepted_count}
-use Rattle.wf_def_world.specs.Exchanges.{with_all_settled}
+use Rattle.wf_def_world.specs.Exchanges.{repeat_distance, with_all_settled}
 use Rattle.wf_law_runs.specs.Windows.{EachMpdu}
 use Rattle.wf_send_parts.specs.Tally.{settled_as}
 use Rattle.wf_queue_flows_refines.specs.Standing.{times_held, with_finished}
@@ -17,6 +17,7 @@ use Rattle.wf_send_parts.specs.Members.{on_member, with_charge}
 use Rattle.wf_send_parts.specs.declared.window.window.Settled.{Settled}
 use Rattle.wf_send_parts.specs.declared.window.window.Settled.TheVariants.{Acked, Waiting, Failed}
 use Rattle.wf_send_parts.specs.Ending.{Ending, AreFlying}
+use Rattle.wf_send_parts.specs.Windows.{window_of}
 use Rattle.wf_send_half_model.specs.Half.{TransmitValue}
 use Rattle.wf_send_half_model.specs.Standing.{Parts}
 
@@ -52,6 +53,11 @@ after_answer v (Failed f) = after_finish v f
 -- may be sent
 abbrev pub ending_of : Config → ℕ → (ℕ → End) → Ending
 ending_of c e ends = record { exchange = e; ends = ends; limit = c.attempts }
+
+-- whether an exchange sends a frame without an agreement that is not sent again: its number, the first of the
+-- window, is too far above the last acknowledged one
+abbrev pub is_sent_once : TransmitValue → Open → Bool
+is_sent_once v x = x.plain && nat_le repeat_distance (window_of v.windows x.station x.tid).unacked
 
 -- the frame of a transmission is held, in no flow queue and not on the finished list
 pub record IsLoose (v : TransmitValue) (w : World) (m : Mpdu) : Type 0 where

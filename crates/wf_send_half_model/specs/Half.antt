@@ -6,6 +6,7 @@ use Rattle.wf_frame.specs.declared.settings.Config.{Config}
 use Rattle.wf_frame.specs.declared.classes.Class.{Class}
 use Rattle.wf_frame.specs.Classes.{lower_tid, upper_tid, tid_number}
 use Rattle.wf_frame.specs.Frames.{FrameValue}
+use Rattle.wf_def_world.specs.World.{has_agreement, holds_back}
 use Rattle.wf_def_world.specs.CanSend.{has_credit}
 use Rattle.wf_def_world.specs.Exchanges.{longest_computed}
 use Rattle.wf_queue_flows.specs.Flows.{FlowsValue, empty_flows, frames_of_tid}
@@ -17,7 +18,10 @@ use Rattle.wf_send_parts.specs.Windows.{new_window, window_of}
 use Rattle.wf_send_parts.specs.declared.exchanges.opened.Open.{Open}
 use Rattle.wf_send_parts.specs.Exchanges.{asks, airtime_of, airtime_to}
 use Rattle.wf_send_parts.specs.declared.stations.members.Member.{Member}
-use Rattle.wf_send_parts.specs.Members.{member}
+use Rattle.wf_send_parts.specs.Members.{member, is_offloaded_in}
+use Rattle.wf_send_parts.specs.declared.stations.modes.Mode.{Mode}
+use Rattle.wf_send_parts.specs.declared.stations.modes.Mode.TheVariants.{Plain}
+use Rattle.wf_send_parts.specs.Modes.{as_mode, mode_of}
 use Rattle.wf_send_parts.specs.declared.stations.sleepers.Sleeper.{Sleeper}
 use Rattle.wf_send_parts.specs.Sleepers.{awake, sleeper}
 use Rattle.wf_send_parts.specs.Tally.{Counts, no_counts}
@@ -31,6 +35,7 @@ pub record TransmitValue : Type 0 where
   pub flows : FlowsValue
   pub sched : SchedValue
   pub windows : List WindowValue  -- by tid_number
+  pub modes : List Mode  -- by tid_number
   pub members : List (Option Member)  -- by station; None if it is not live
   pub sleepers : List Sleeper  -- by station
   pub opened : List Open  -- in the order of their numbers
@@ -46,6 +51,7 @@ opening_half c = record {
   flows = empty_flows c;
   sched = empty_sched c.stations c.quantum;
   windows = replicate (8 * c.stations) new_window;
+  modes = replicate (8 * c.stations) Plain;
   members = replicate c.stations None;
   sleepers = replicate c.stations awake;
   opened = [];
@@ -58,12 +64,30 @@ opening_half c = record {
 abbrev pub some_wait : WindowValue → Bool
 some_wait x = list_any waits x.places
 
+-- whether TID t of station s has an agreement
+abbrev pub is_agreed_of : TransmitValue → ℕ → ℕ → Bool
+is_agreed_of v s t = has_agreement (as_mode (mode_of v.modes s t))
+
+-- whether TID t of station s sends its frames one at a time, each with an Ack
+abbrev pub is_plain_of : TransmitValue → ℕ → ℕ → Bool
+is_plain_of v s t = not (is_offloaded_in v.members s || is_agreed_of v s t)
+
+-- whether no frame of TID t of station s gets a number
+abbrev pub is_held_back_of : TransmitValue → ℕ → ℕ → Bool
+is_held_back_of v s t = holds_back (as_mode (mode_of v.modes s t))
+
+-- whether a TID may give a queued frame a number: its window has room, and it is not held back
+abbrev pub can_give_of : TransmitValue → ℕ → ℕ → Bool
+can_give_of v s t =
+    nat_lt 0 (frames_of_tid v.flows (tid_number s t))
+    && (can_take (window_of v.windows s t) && not (is_held_back_of v s t))
+
 -- whether a TID can send; a request that is due goes before all frames, and only one is open at a time
 abbrev pub can_send_of : TransmitValue → ℕ → ℕ → Bool
 can_send_of v s t =
     let x : WindowValue = window_of v.windows s t in
     if is_some x.due then not (asks v.opened s t)
-    else some_wait x || (nat_lt 0 (frames_of_tid v.flows (tid_number s t)) && can_take x)
+    else some_wait x || can_give_of v s t
 
 -- whether the airtime in flight to a station in a class is below the setting `aql`, which is no limit if it
 -- is 0

@@ -13,7 +13,7 @@ use Rattle.wf_send_parts.specs.Exchanges.{sending_is_request}
 use Rattle.wf_send_parts.specs.Members.{member, is_offloaded_in, on_member, upper_in, with_upper}
 use Rattle.wf_send_parts.specs.Sleepers.{sleeper, with_sleeper}
 use Rattle.wf_sched_refines.specs.Standing.{with_pending_charged}
-use Rattle.wf_send_half_model.specs.Half.{TransmitValue, some_wait, can_send_of}
+use Rattle.wf_send_half_model.specs.Half.{TransmitValue, is_plain_of, some_wait, can_send_of}
 
 -- ---- whose turn it is
 
@@ -60,6 +60,7 @@ open_next v s t c charge sending = record {
   sending = sending;
   more = (sleeper v.sleepers s).asleep && (not (sending_is_request sending) && has_more_of v s);
   batch = is_offloaded_in v.members s;
+  plain = is_plain_of v s t;
   unsent = [];
   given_up = [];
 }

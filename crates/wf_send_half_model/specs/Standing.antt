@@ -1,14 +1,14 @@
 -- Defines when a transmit half represents a world of a run.
-use Rattle.std.specs.Prelude.{◌≡◌, ℕ, ◌*◌, true, List, Option, Some, None, length, map}
+use Rattle.std.specs.Prelude.{◌≡◌, ℕ, ◌<◌, ◌*◌, true, List, Option, Some, None, length, map}
 use Rattle.wf_frame.specs.declared.classes.Class.{Class}
-use Rattle.wf_frame.specs.declared.classes.Cause.TheVariants.{Overlimit, Codel, Retries, Left, Flushed}
+use Rattle.wf_frame.specs.declared.classes.Cause.TheVariants.{Overlimit, Codel, Retries, Left, Flushed, Ended}
 use Rattle.wf_frame.specs.declared.classes.Fate.TheVariants.{Acked, Dropped}
 use Rattle.wf_frame.specs.declared.notes.Note.{Note}
 use Rattle.wf_frame.specs.declared.notes.ReplyNote.{ReplyNote}
 use Rattle.wf_frame.specs.Frames.{FrameValue}
 use Rattle.wf_frame.specs.Settings.{IsInRange}
 use Rattle.wf_def_lists.specs.Table.{at}
-use Rattle.wf_def_world.specs.World.{World, Station, Mpdu, Content, Frames, Request, Exchange, opening, is_live, station, session, accepted_count, inside as inside_of}
+use Rattle.wf_def_world.specs.World.{World, Station, Mpdu, Content, Frames, Request, Exchange, opening, is_live, station, tid_of, session, accepted_count, inside as inside_of}
 use Rattle.wf_def_world.specs.Step.{step}
 use Rattle.wf_def_world.specs.Run.{Entry, world_after}
 use Rattle.wf_def_world.specs.Text.{tally as tally_of}
@@ -27,6 +27,8 @@ use Rattle.wf_send_parts.specs.declared.stations.members.Member.{Member}
 use Rattle.wf_send_parts.specs.Members.{member, upper_in, charged_in, received_in}
 use Rattle.wf_send_parts.specs.declared.stations.sleepers.Sleeper.{Sleeper}
 use Rattle.wf_send_parts.specs.Sleepers.{sleeper}
+use Rattle.wf_send_parts.specs.declared.stations.modes.Mode.{Mode}
+use Rattle.wf_send_parts.specs.Modes.{as_mode, mode_of}
 use Rattle.wf_send_parts.specs.Tally.{Counts}
 use Rattle.wf_send_half_model.specs.Half.{TransmitValue}
 
@@ -53,6 +55,7 @@ open_of x = record {
   sending = sending_of x.content;
   more = x.more;
   batch = x.batch;
+  plain = x.plain;
   unsent = x.unsent;
   given_up = x.given_up;
 }
@@ -92,6 +95,11 @@ pub record HasStations (members : List (Option Member)) (sleepers : List Sleeper
   pub credit : (s : ℕ) → is_live w s ≡ true → (sleeper sleepers s).credit ≡ (station w s).credit
   pub stopped : (s : ℕ) → is_live w s ≡ true → (sleeper sleepers s).stopped ≡ (station w s).stopped
 
+-- the modes are those of the TIDs of each live station
+pub record HasModes (modes : List Mode) (w : World) : Type 0 where
+  pub sized : length modes ≡ 8 * w.config.stations
+  pub each : (s t : ℕ) → is_live w s ≡ true → t < 8 → as_mode (mode_of modes s t) ≡ (tid_of w s t).mode
+
 -- ---- frames
 
 -- how many frames were accepted, and how many have each fate
@@ -104,12 +112,14 @@ counts_in w = record {
   retries = tally_of w (Dropped Retries);
   left = tally_of w (Dropped Left);
   flushed = tally_of w (Dropped Flushed);
+  ended = tally_of w (Dropped Ended);
 }
 
 -- ---- the parts
 
--- The eight windows of each live station represent the originator's sides of its agreements, and there is
--- room for a window of the greatest size. The windows of a station that is not live hold no frames.
+-- The eight windows of each live station represent the originator's sides of its TIDs, with an agreement or
+-- without, and there is room for a window of the greatest size. The windows of a station that is not live
+-- hold no frames.
 pub record HasWindows (windows : List WindowValue) (w : World) (bodies : ℕ → FrameValue) : Type 0 where
   pub sized : length windows ≡ 8 * w.config.stations
   pub room : WindowsHaveRoom windows
@@ -125,6 +135,7 @@ pub record HasOthers (v : TransmitValue) (w : World) (bodies : ℕ → FrameValu
   pub flows : FlowsStandFor v.flows w
   pub turns : TurnsStandFor v.sched w
   pub stations : HasStations v.members v.sleepers w
+  pub modes : HasModes v.modes w
   pub inside : v.inside ≡ inside_of w
   pub tally : v.tally ≡ counts_in w
   pub frames : HasFrames v.flows.backlog bodies

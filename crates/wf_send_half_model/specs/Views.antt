@@ -8,21 +8,27 @@ use Rattle.wf_frame.specs.declared.notes.Note.{Note}
 use Rattle.wf_def_air.specs.Airtime.{Rate}
 use Rattle.wf_def_agreement.specs.Session.{Session}
 use Rattle.wf_def_lists.specs.Table.{at}
-use Rattle.wf_def_world.specs.World.{World, Station, Share, is_live, session, inside, accepted_count, frame}
+use Rattle.wf_def_world.specs.World.{World, Mode, Station, Share, is_live, tid_of, session, inside, accepted_count, frame}
 use Rattle.wf_send_parts.specs.Tally.{Counts}
 use Rattle.wf_send_parts.specs.declared.exchanges.opened.Open.{Open}
 use Rattle.wf_queue_flows_refines.specs.Standing.{flows_part}
 use Rattle.wf_sched_refines.specs.Standing.{share_in}
 use Rattle.wf_send_half_model.specs.Standing.{open_of, counts_in}
 
--- the windows read which stations are live, and the originator's side of each agreement
+-- the windows and the modes read which stations are live, and of each TID the originator's side and the mode
 pub record Agreements : Type 0 where
   pub config : Config
   pub live : ℕ → Bool
   pub sessions : ℕ → ℕ → Session  -- by station and TID
+  pub modes : ℕ → ℕ → Mode
 
 abbrev pub agreements : World → Agreements
-agreements w = record { config = w.config; live = λ s. is_live w s; sessions = λ s t. session w s t }
+agreements w = record {
+  config = w.config;
+  live = λ s. is_live w s;
+  sessions = λ s t. session w s t;
+  modes = λ s t. (tid_of w s t).mode;
+}
 
 -- what members and sleepers keep of a live station
 pub record StationView : Type 0 where

@@ -20,22 +20,24 @@ ghost use Rattle.wf_frame.specs.declared.classes.Class.{Class};
 ghost use Rattle.wf_frame.specs.declared.classes.Class.TheVariants.{Bk, Be, Vi, Vo};
 ghost use Rattle.wf_frame.specs.declared.classes.Fate.{Fate};
 ghost use Rattle.wf_frame.specs.declared.classes.Fate.TheVariants.{Held, Dropped};
-ghost use Rattle.wf_frame.specs.declared.classes.Cause.TheVariants.{Flushed};
-ghost use Rattle.wf_frame.specs.declared.notes.Ask.TheVariants.{Done, Join, Offload, Weight, Leave, Pull, Rate, Tick, Arrive, Answer, Sleep, Wake, Poll, Rx, Reap, Ampdu, Stop, Start, Unsent, GiveUp, Flush};
+ghost use Rattle.wf_frame.specs.declared.classes.Cause.{Cause};
+ghost use Rattle.wf_frame.specs.declared.classes.Cause.TheVariants.{Flushed, Ended};
+ghost use Rattle.wf_frame.specs.declared.notes.Ask.TheVariants.{Done, Join, Offload, Weight, Leave, Pull, Rate, Tick, Arrive, Answer, Sleep, Wake, Poll, Rx, Reap, Ampdu, Stop, Start, Unsent, GiveUp, Flush, Hold, Begin, Free, Cease};
+ghost use Rattle.wf_frame.specs.declared.notes.Ask.TheVariants as call;
 ghost use Rattle.wf_frame.specs.declared.notes.AskedRate.{AskedRate};
 ghost use Rattle.wf_frame.specs.declared.notes.Limits.{Limits};
 ghost use Rattle.wf_frame.specs.declared.notes.Note.{Note};
 ghost use Rattle.wf_frame.specs.declared.notes.Note.TheVariants.{Enqueue, Asked};
 ghost use Rattle.wf_frame.specs.declared.notes.Refusal.{Refusal};
 ghost use Rattle.wf_frame.specs.declared.notes.Refusal.TheVariants.{Idle, Full, Ahead};
-ghost use Rattle.wf_frame.specs.declared.notes.ReplyNote.TheVariants.{Accepted, Left, Joined, Set, Now, Slept, Woken, Polled, Charged, Reaped, Stopped, Started, Marked, Refused, Send};
+ghost use Rattle.wf_frame.specs.declared.notes.ReplyNote.TheVariants.{Accepted, Left, Joined, Set, Now, Slept, Woken, Polled, Charged, Reaped, Stopped, Started, Marked, Begun, Freed, Ceased, Refused, Send};
 ghost use Rattle.wf_frame.specs.declared.notes.ReplyNote.TheVariants as reply;
 ghost use Rattle.wf_frame.specs.declared.settings.Config.{Config};
 ghost use Rattle.wf_frame.specs.declared.notes.Part.TheVariants.{Request as Starts};
-ghost use Rattle.wf_def_air.specs.Airtime.{Rate as RateValue, data_charge, request_charge};
+ghost use Rattle.wf_def_air.specs.Airtime.{Rate as RateValue, request_charge};
 ghost use Rattle.wf_def_codel.specs.Codel.{Params};
 ghost use Rattle.wf_def_codel.specs.Parameters.{params_at};
-ghost use Rattle.wf_def_air.specs.Fit.{fits, most_octets, aggregate_octets};
+ghost use Rattle.wf_def_air.specs.Fit.{fits, most_octets};
 ghost use Rattle.wf_send_parts.specs.declared.exchanges.opened.Sending.TheVariants.{Data, Request as Starts_at};
 ghost use Rattle.wf_def_lists.specs.Bounds.{greatest_air, greatest_window};
 ghost use Rattle.wf_def_lists.specs.Lengths.{greatest_body};
@@ -45,12 +47,12 @@ ghost use Rattle.wf_def_lists.specs.Table.{at, has, upto};
 ghost use Rattle.wf_def_rotation.specs.Rotation.{Rotation, has_key};
 ghost use Rattle.wf_def_agreement.specs.Session.{Session, State, End, after_end, after_flush as session_flushed, slot, start_of, next_number, request_due, with_state, is_acknowledged, is_waiting, is_failed, with_number_given};
 ghost use Rattle.wf_def_world.specs.Rates.{rate_asked};
-ghost use Rattle.wf_def_world.specs.World.{World, Bounds, Station, Tid, Share, Queue, Exchange, Mpdu, frame, accepted_count, is_held, is_offloaded, codel_params, with_frame_finished, with_frames_finished, Frames, Request, opening, without_exchange, is_live, session, share, rotation, exchange, owed_by_all, pending_air, on_station, on_tid, on_session, on_receiver, on_share, on_queue, with_queues, with_rotation, is_wide};
+ghost use Rattle.wf_def_world.specs.World.{World, Bounds, Station, Tid, Share, Queue, Exchange, Mpdu, frame, accepted_count, is_held, is_offloaded, is_agreed, is_plain, is_held_back, codel_params, with_frame_finished, with_frames_finished, Frames, Request, opening, without_exchange, is_live, session, share, rotation, exchange, owed_by_all, pending_air, on_station, on_tid, on_session, on_receiver, on_share, on_queue, with_queues, with_rotation, is_wide};
 ghost use Rattle.wf_def_world.specs.FlowQueues.{frames_queued as world_queued, after_limit, dropped_for_limit as dropped_for_limit_in};
-ghost use Rattle.wf_def_world.specs.CanSend.{request_open, has_waiting, can_send, can_send_in, is_ready, is_debtor, is_to_list, with_listings_of};
-ghost use Rattle.wf_def_world.specs.Exchanges.{Aggregate, Prepared, picked_station, sending_tid, after_tid_turn, aggregate_of, prepared_data, mpdus_of, no_mpdu, numbers_unsent, numbers_given_up, end_of, charge_of, after_charge, with_settled, with_all_settled, count_in, part_of, with_device_caught_up, lens_of, mpdu_of, aggregate_charge};
-ghost use Rattle.wf_def_world.specs.Refusals.{has_live_credit, refusal, is_at_aql_total, open_of_station, open_of_class, queued_in_class, can_send_any};
-ghost use Rattle.wf_def_world.specs.Step.{outcome_of, concerned_station, class_to_send, step, done_outcome, rx_outcome, send_outcome};
+ghost use Rattle.wf_def_world.specs.CanSend.{request_open, has_waiting, can_give, can_send, can_send_in, is_ready, is_debtor, is_to_list, with_listings_of};
+ghost use Rattle.wf_def_world.specs.Exchanges.{Aggregate, Prepared, picked_station, sending_tid, after_tid_turn, aggregate_of, prepared_data, mpdus_of, no_mpdu, numbers_unsent, numbers_given_up, end_of, is_far, charge_of, after_charge, with_settled, with_all_settled, count_in, part_of, caught_up_if_plain, lens_of, mpdu_of, aggregate_charge};
+ghost use Rattle.wf_def_world.specs.Refusals.{has_live_credit, refusal, is_at_aql_total, open_of_station, open_of_tid, open_of_class, numbers_waiting, queued_in_class, can_send_any};
+ghost use Rattle.wf_def_world.specs.Step.{outcome_of, concerned_station, class_to_send, step, plain_window, done_outcome, rx_outcome, send_outcome};
 ghost use Rattle.wf_law_runs.specs.Queues.{HasLength, IsAtMost};
 ghost use Rattle.wf_law_runs.specs.Rotations.{NoneReady};
 ghost use Rattle.wf_send_parts.specs.Tally.{held_in, settled_as, many_settled_as};
@@ -64,9 +66,9 @@ ghost use Rattle.wf_queue_flows_refines.specs.Rest.{rest_of_world};
 ghost use Rattle.wf_sched.specs.ClassRotas.{SchedValue, deficit};
 ghost use Rattle.wf_sched_refines.specs.Standing.{SchedulerStandsFor as TurnsStandFor, LeavesRotas, with_deficit_charged};
 ghost use Rattle.wf_send_parts.specs.Answers.{settling_answer};
-ghost use Rattle.wf_send_parts.specs.Window.{WindowValue, WindowStandsFor as WindowStandsFor, some_fly, is_flying, IsNumber, HasOwnFrame, state_at, can_take, on_air, waiting_from};
-ghost use Rattle.wf_send_parts.specs.Expelling.{frame_left};
-ghost use Rattle.wf_send_parts.specs.Flushing.{HasFlushed, frames_flushed};
+ghost use Rattle.wf_send_parts.specs.Window.{WindowValue, WindowStandsFor as WindowStandsFor, some_fly, is_flying, IsNumber, HasOwnFrame, state_at, waits, on_air, waiting_from};
+ghost use Rattle.wf_send_parts.specs.Expelling.{frame_left, frames_dropped};
+ghost use Rattle.wf_send_parts.specs.Flushing.{HasFlushed};
 ghost use Rattle.wf_send_parts.specs.Sent.{with_one_sent, with_one_unsent};
 ghost use Rattle.wf_air.specs.Sizes.{AggregateSizeValue, SizeStandsFor as SizeStandsFor, empty_size};
 ghost use Rattle.wf_sched_refines.specs.Calls.{HasPickedInClass};
@@ -77,16 +79,18 @@ ghost use Rattle.wf_send_parts.specs.Exchanges.{asks, airtime_of, has_nothing_se
 ghost use Rattle.wf_send_parts.specs.Members.{member, is_offloaded_in, on_member, with_rate, with_ampdu, with_receipt};
 ghost use Rattle.wf_send_parts.specs.Sleepers.{sleeper, with_sleeper, woken};
 ghost use Rattle.wf_send_parts.specs.declared.stations.members.Member.{Member};
-ghost use Rattle.wf_send_half_model.specs.Half.{TransmitValue, opening_half, some_wait, can_send_of, has_live_credit_of, is_ready_of, pending_air_of, is_to_list_of, is_ahead_of};
+ghost use Rattle.wf_send_parts.specs.declared.stations.modes.Mode.{Mode};
+ghost use Rattle.wf_send_parts.specs.declared.stations.modes.Mode.TheVariants.{OnHold, Agreed};
+ghost use Rattle.wf_send_half_model.specs.Half.{TransmitValue, opening_half, some_wait, is_agreed_of, is_plain_of, is_held_back_of, can_give_of, can_send_of, has_live_credit_of, is_ready_of, pending_air_of, is_to_list_of, is_ahead_of};
 ghost use Rattle.wf_send_half_model.specs.Standing.{open_of, counts_in, HasWindows, Parts, IsReached, StandsFor, Meets, sending_of, numbers_on_air};
-ghost use Rattle.wf_send_half_model.specs.Changes.{after_listing, after_listing_in, AreReset, after_enqueue, after_admission, after_weight};
+ghost use Rattle.wf_send_half_model.specs.Changes.{after_listing, after_listing_in, AreReset, AreSet, after_mode, after_change, session_resized, after_enqueue, after_admission, after_weight};
 ghost use Rattle.wf_send_half_model.specs.Counting.{with_overlimit};
-ghost use Rattle.wf_send_half_model.specs.Ending.{after_close, after_finish, after_answer, IsEnding, state_left};
+ghost use Rattle.wf_send_half_model.specs.Ending.{after_close, after_finish, after_answer, is_sent_once, IsEnding, state_left};
 ghost use Rattle.wf_send_half_model.specs.Leaving.{after_expelled, after_tid_purged, after_leave, IsLeaving, IsExpelling, IsExpelled};
-ghost use Rattle.wf_send_half_model.specs.Flushing.{IsFlushing, HasNumbersFlushed, with_queues_flushed};
+ghost use Rattle.wf_send_half_model.specs.Flushing.{IsFlushing, HasNumbersFlushed, with_queues_flushed, released_at_cease};
 ghost use Rattle.wf_send_half_model.specs.Marking.{MarksFit, after_mark, with_transmission_unsent};
 ghost use Rattle.wf_send_half_model.specs.Pulling.{sending_tid_of, after_turn, is_wide_of, open_next, after_sending};
-ghost use Rattle.wf_send_half_model.specs.Filling.{after_pick_within, AreWaiting, IsTakingOff, IsUnderway, with_one_fresh, IsFilling, IsFilled, after_giving, fresh_mpdu, room_for, IsToFill, IsChoosing, IsTurned};
+ghost use Rattle.wf_send_half_model.specs.Filling.{after_pick_within, AreWaiting, IsTakingOff, IsUnderway, with_one_fresh, IsFilling, IsFilled, after_giving, fresh_mpdu, room_for, charge_in, IsToFill, IsChoosing, IsTurned};
 ghost use Rattle.wf_send_half_model.specs.Views.{agreements, roster, ledger, HasSameViews, KeepsView, KeepsSums};
 ghost use Rattle.wf_send_half_model.specs.Readiness.{loses_in, leaves_ready, IsListedBut};
 
@@ -146,8 +150,8 @@ pub fn what_a_change_leaves()
 {}
 
 /// A query of a half returns the same as that query of the world: who is live, who can send and is ready,
-/// which frames are queued or wait, which exchanges are open, and which of their airtime counts against a
-/// station's deficit. The scheduler keeps the deficit less this airtime.
+/// which TIDs have an agreement, which frames are queued or wait, which exchanges are open, and which of
+/// their airtime counts against a station's deficit. The scheduler keeps the deficit less this airtime.
 pub fn the_readers_agree()
     ensures live { (v : TransmitValue) (w : World) (bodies : ℕ → FrameValue) (s : ℕ) → Parts v w bodies →
         is_some (member v.members s) ≡ is_live w s }
@@ -160,6 +164,23 @@ pub fn the_readers_agree()
     ensures waiting { (v : TransmitValue) (w : World) (bodies : ℕ → FrameValue) (s t : ℕ) → Parts v w bodies →
         is_live w s ≡ true → t < 8 →
         some_wait (window_of v.windows s t) ≡ has_waiting w s t }
+    ensures numbers_waiting { (v : TransmitValue) (w : World) (bodies : ℕ → FrameValue) (s t : ℕ) →
+        Parts v w bodies → is_live w s ≡ true → t < 8 →
+        count_by waits (window_of v.windows s t).places ≡ numbers_waiting w s t }
+    ensures agreed { (v : TransmitValue) (w : World) (bodies : ℕ → FrameValue) (s t : ℕ) →
+        Parts v w bodies → is_live w s ≡ true → t < 8 →
+        is_agreed_of v s t ≡ is_agreed w s t }
+    ensures held_back { (v : TransmitValue) (w : World) (bodies : ℕ → FrameValue) (s t : ℕ) →
+        Parts v w bodies → is_live w s ≡ true → t < 8 →
+        is_held_back_of v s t ≡ is_held_back w s t }
+    ensures offloaded { (v : TransmitValue) (w : World) (bodies : ℕ → FrameValue) (s : ℕ) → Parts v w bodies →
+        is_offloaded_in v.members s ≡ is_offloaded w s }
+    ensures plain { (v : TransmitValue) (w : World) (bodies : ℕ → FrameValue) (s t : ℕ) →
+        Parts v w bodies → is_live w s ≡ true → t < 8 →
+        is_plain_of v s t ≡ is_plain w s t }
+    ensures can_give { (v : TransmitValue) (w : World) (bodies : ℕ → FrameValue) (s t : ℕ) →
+        Parts v w bodies → is_live w s ≡ true → t < 8 → request_due (session w s t) ≡ false →
+        can_give_of v s t ≡ can_give w s t }
     ensures can_send { (v : TransmitValue) (w : World) (bodies : ℕ → FrameValue) (s t : ℕ) →
         Parts v w bodies → is_live w s ≡ true → t < 8 →
         can_send_of v s t ≡ can_send w s t }
@@ -182,6 +203,8 @@ pub fn the_readers_agree()
     ensures of_station { (v : TransmitValue) (w : World) (bodies : ℕ → FrameValue) (s : ℕ) →
         Parts v w bodies →
         count_by (λ x. x.station == s) v.opened ≡ open_of_station w s }
+    ensures of_tid { (v : TransmitValue) (w : World) (bodies : ℕ → FrameValue) (s t : ℕ) → Parts v w bodies →
+        count_by (λ x. (x.station == s) && (x.tid == t)) v.opened ≡ open_of_tid w s t }
     ensures of_class { (v : TransmitValue) (w : World) (bodies : ℕ → FrameValue) (c : Class) →
         Parts v w bodies →
         count_by (λ x. same_class x.class c) v.opened ≡ open_of_class w c }
@@ -196,8 +219,8 @@ pub fn the_readers_agree()
     ensures any_tid { (v : TransmitValue) (w : World) (bodies : ℕ → FrameValue) (s : ℕ) → Parts v w bodies →
         is_live w s ≡ true →
         list_any (can_send_of v s) (upto 8) ≡ can_send_any w s }
-    ensures live_credit { (v : TransmitValue) (w : World) (bodies : ℕ → FrameValue) (s : ℕ) → Parts v w bodies →
-        is_live w s ≡ true →
+    ensures live_credit { (v : TransmitValue) (w : World) (bodies : ℕ → FrameValue) (s : ℕ) →
+        Parts v w bodies → is_live w s ≡ true →
         has_live_credit_of v s ≡ has_live_credit w s }
     ensures polled { (v : TransmitValue) (w : World) (bodies : ℕ → FrameValue) (s : ℕ) → Parts v w bodies →
         is_live w s ≡ true →
@@ -332,21 +355,29 @@ pub fn a_call_that_moves_no_frame()
         }) s) Started }
 {}
 
-/// A station joins. In each class it gets its quantum of airtime, and on each TID a new window. One whose
-/// device numbers its frames has the widest windows, from number 0 on.
+/// A station joins. In each class it gets its quantum of airtime, and on each TID a new window and a mode: an
+/// agreement, or none if it joins without one or its device numbers its frames. The windows of a station that
+/// joins without agreements are of one number. One whose device numbers its frames has the widest windows,
+/// from number 0 on.
 pub fn a_join()
     ensures joined { (v : TransmitValue) (w : World) (bodies : ℕ → FrameValue) → StandsFor v w bodies →
-        (windows : List WindowValue) (s window start exponent weight : ℕ) →
+        (windows : List WindowValue) (modes : List Mode) (s window start exponent weight : ℕ) →
         refusal w (Asked (Join s window start exponent weight)) ≡ None →
-        AreReset v.windows windows s start window →
+        AreReset v.windows windows s start window → AreSet v.modes modes s Agreed →
         Meets w bodies (Asked (Join s window start exponent weight))
-        (after_admission v windows s exponent weight false) Joined }
+        (after_admission v windows modes s exponent weight false) Joined }
+    ensures plain { (v : TransmitValue) (w : World) (bodies : ℕ → FrameValue) → StandsFor v w bodies →
+        (windows : List WindowValue) (modes : List Mode) (s start exponent weight : ℕ) →
+        refusal w (Asked (call.Plain s start exponent weight)) ≡ None →
+        AreReset v.windows windows s start plain_window → AreSet v.modes modes s Mode.Plain →
+        Meets w bodies (Asked (call.Plain s start exponent weight))
+        (after_admission v windows modes s exponent weight false) Joined }
     ensures offloaded { (v : TransmitValue) (w : World) (bodies : ℕ → FrameValue) → StandsFor v w bodies →
-        (windows : List WindowValue) (s exponent weight : ℕ) →
+        (windows : List WindowValue) (modes : List Mode) (s exponent weight : ℕ) →
         refusal w (Asked (Offload s exponent weight)) ≡ None →
-        AreReset v.windows windows s 0 greatest_window →
+        AreReset v.windows windows s 0 greatest_window → AreSet v.modes modes s Mode.Plain →
         Meets w bodies (Asked (Offload s exponent weight))
-        (after_admission v windows s exponent weight true) Joined }
+        (after_admission v windows modes s exponent weight true) Joined }
 {}
 
 /// A station gets another weight. Its quantum in each class becomes another one, its deficits are lowered to
@@ -357,20 +388,43 @@ pub fn a_weight()
         Meets w bodies (Asked (Weight s weight)) (after_weight v s weight) Set }
 {}
 
-/// The device of an offloaded station tells its peer where the window of a TID starts: the window gets its
-/// own start as heard, and the receiver has it. Nothing changes for another station.
-pub fn a_device_catches_up()
-    ensures offloaded { (v : TransmitValue) (w : World) (bodies : ℕ → FrameValue) (s t : ℕ)
-        (x : WindowValue) → Parts v w bodies → is_live w s ≡ true → t < 8 → is_offloaded w s ≡ true →
+/// Without an agreement no request announces the start of a TID's window to its peer: the window gets its own
+/// start as heard, and the receiver has it. Nothing changes for a TID with an agreement.
+pub fn a_window_catches_up()
+    ensures plain { (v : TransmitValue) (w : World) (bodies : ℕ → FrameValue) (s t : ℕ)
+        (x : WindowValue) → Parts v w bodies → is_live w s ≡ true → t < 8 → is_agreed w s t ≡ false →
         WindowsHaveRoom (with_window v.windows s t x) →
         WindowStandsFor x (record (session w s t) {
           heard = max (session w s t).heard (start_of (session w s t));
         }) bodies →
-        Parts (record v { windows = with_window v.windows s t x }) (with_device_caught_up w s t) bodies }
-    ensures others { (v : TransmitValue) (w : World) (bodies : ℕ → FrameValue) (s t : ℕ) → Parts v w bodies →
-        is_offloaded w s ≡ false → Parts v (with_device_caught_up w s t) bodies }
-    ensures member { (v : TransmitValue) (w : World) (bodies : ℕ → FrameValue) (s : ℕ) → Parts v w bodies →
-        is_offloaded_in v.members s ≡ is_offloaded w s }
+        Parts (record v { windows = with_window v.windows s t x }) (caught_up_if_plain w s t) bodies }
+    ensures agreed { (v : TransmitValue) (w : World) (bodies : ℕ → FrameValue) (s t : ℕ) → Parts v w bodies →
+        is_agreed w s t ≡ true → Parts v (caught_up_if_plain w s t) bodies }
+{}
+
+/// The mode of a TID changes: its frames are held back, so that an agreement may begin, or are sent one at a
+/// time again. The answer of a hold has the next number.
+pub fn a_mode_changes()
+    ensures held { (v : TransmitValue) (w : World) (bodies : ℕ → FrameValue) → StandsFor v w bodies →
+        (s t : ℕ) → refusal w (Asked (Hold s t)) ≡ None →
+        Meets w bodies (Asked (Hold s t)) (after_listing (after_mode v s t OnHold) s)
+        (reply.Held (next_number (session w s t) % 4096)) }
+    ensures freed { (v : TransmitValue) (w : World) (bodies : ℕ → FrameValue) → StandsFor v w bodies →
+        (s t : ℕ) → refusal w (Asked (Free s t)) ≡ None →
+        Meets w bodies (Asked (Free s t)) (after_listing (after_mode v s t Mode.Plain) s) Freed }
+{}
+
+/// An agreement begins on a TID of which no number waits or is on the air. Its window is empty (`empty`). It
+/// gets the size of the agreement, and its start counts as heard.
+pub fn an_agreement_begins()
+    ensures empty { (v : TransmitValue) (w : World) (bodies : ℕ → FrameValue) → StandsFor v w bodies →
+        (s t window : ℕ) → refusal w (Asked (Begin s t window)) ≡ None →
+        (window_of v.windows s t).places ≡ [] }
+    ensures begun { (v : TransmitValue) (w : World) (bodies : ℕ → FrameValue) → StandsFor v w bodies →
+        (s t window : ℕ) → refusal w (Asked (Begin s t window)) ≡ None → (x : WindowValue) →
+        WindowsHaveRoom (with_window v.windows s t x) →
+        WindowStandsFor x (session_resized window (session w s t)) bodies →
+        Meets w bodies (Asked (Begin s t window)) (after_listing (after_change v s t x Agreed) s) Begun }
 {}
 
 /// Arrive and Answer change no part of the half: if it represents a world, it represents the world after such
@@ -458,7 +512,9 @@ pub fn an_enqueue()
 /// An exchange of data ends: it is closed and charged, and then its numbers are settled in order. `begins`
 /// says what holds before the first of them, `next` that each leads to the next, and `done` what holds after
 /// the last. From when a number is settled until the end, it has the state that its answer says (`state`), so
-/// the reply can count the answers.
+/// the reply can count the answers. A frame without an agreement is not sent again if its number, the first
+/// of the window, is too far above the last acknowledged one (`once`). At last the window of a TID without an
+/// agreement catches up (`world`).
 pub fn an_exchange_of_data_ends()
     ensures begins { (v : TransmitValue) (w : World) (bodies : ℕ → FrameValue) → StandsFor v w bodies →
         (e : ℕ) (x : Exchange) → exchange w e ≡ Some x →
@@ -487,9 +543,13 @@ pub fn an_exchange_of_data_ends()
         IsEnding v w bodies s t e ends [] after → Parts v after bodies }
     ensures world { (w : World) (x : Exchange) (heard : Bool) (air : Option ℕ) (mpdus : List Mpdu) →
         x.content ≡ Frames mpdus →
-        (done_outcome w x heard air).world ≡ with_device_caught_up (with_all_settled
-        (after_charge (without_exchange w x.number) x air) x.station x.tid (end_of x heard) mpdus)
+        (done_outcome w x heard air).world ≡ caught_up_if_plain (with_all_settled
+        (after_charge (without_exchange w x.number) x air) x.station x.tid (end_of w x heard) mpdus)
         x.station x.tid }
+    ensures once { (v : TransmitValue) (w : World) (bodies : ℕ → FrameValue) → StandsFor v w bodies →
+        (e : ℕ) (x : Exchange) → exchange w e ≡ Some x → (mpdus : List Mpdu) → x.content ≡ Frames mpdus →
+        EachMpdu (λ m. is_sent_once v (open_of x)
+        ≡ x.plain && is_far (session w x.station x.tid) m.number) mpdus }
 {}
 
 /// An exchange of a request ends: it is closed and charged, and if it was heard, the window of its TID gets
@@ -630,51 +690,75 @@ pub fn a_leave()
         Meets w bodies (Asked (Leave s)) (after_leave v s dropped) (Left dropped) }
 {}
 
-/// A TID is flushed. First the waiting numbers fail, one after the other, and the frame of each is finished
-/// as `flushed` and counted. Then the frames of its queues are. `IsFlushing` holds between two numbers, and
-/// `HasNumbersFlushed` between numbers and queues. There is room for each frame, and they are at most the
-/// setting `room`. The answer is their number. At last the device of an offloaded station catches up.
-pub fn a_flush()
-    ensures begins { (v : TransmitValue) (w : World) (bodies : ℕ → FrameValue) (s t : ℕ) →
-        StandsFor v w bodies → refusal w (Asked (Flush s t)) ≡ None →
-        IsFlushing v w bodies s t v [] (window_of v.windows s t).start }
-    ensures within { (before v : TransmitValue) (w : World) (bodies : ℕ → FrameValue) (s t : ℕ)
-        (frames : List FrameValue) (from : ℕ) → IsFlushing before w bodies s t v frames from →
+/// The waiting numbers of a TID fail, one after the other, for a flush or at the end of an agreement. The
+/// frame of each is finished with the cause and counted. `IsFlushing` holds between two numbers, and
+/// `HasNumbersFlushed` after the last. There is room for each frame, and they are at most the setting `room`.
+pub fn the_waiting_numbers_fail()
+    ensures begins { (cause : Cause) (v : TransmitValue) (w : World) (bodies : ℕ → FrameValue) (s t : ℕ) →
+        StandsFor v w bodies → is_live w s ≡ true → t < 8 →
+        IsFlushing cause v w bodies s t v [] (window_of v.windows s t).start }
+    ensures within { (cause : Cause) (before v : TransmitValue) (w : World) (bodies : ℕ → FrameValue)
+        (s t : ℕ) (frames : List FrameValue) (from : ℕ) → IsFlushing cause before w bodies s t v frames from →
         tid_number s t < length v.windows }
-    ensures room { (before v : TransmitValue) (w : World) (bodies : ℕ → FrameValue) (s t : ℕ)
-        (frames : List FrameValue) (from : ℕ) → IsFlushing before w bodies s t v frames from →
+    ensures room { (cause : Cause) (before v : TransmitValue) (w : World) (bodies : ℕ → FrameValue) (s t : ℕ)
+        (frames : List FrameValue) (from : ℕ) → IsFlushing cause before w bodies s t v frames from →
         (x : WindowValue) (f : FrameValue) (next : ℕ) →
-        HasFlushed w.config.attempts x (session w s t) bodies (frames ++ f ∷ []) next →
+        HasFlushed cause w.config.attempts x (session w s t) bodies (frames ++ f ∷ []) next →
         (held_in_backlog v.flows.backlog < v.flows.backlog.room) × (1 ≤ held_in v.tally) }
-    ensures next { (before v : TransmitValue) (w : World) (bodies : ℕ → FrameValue) (s t : ℕ)
-        (frames : List FrameValue) (from : ℕ) → IsFlushing before w bodies s t v frames from →
+    ensures next { (cause : Cause) (before v : TransmitValue) (w : World) (bodies : ℕ → FrameValue) (s t : ℕ)
+        (frames : List FrameValue) (from : ℕ) → IsFlushing cause before w bodies s t v frames from →
         (x : WindowValue) (f : FrameValue) (next : ℕ) → WindowsHaveRoom (with_window v.windows s t x) →
-        f.fate ≡ Dropped Flushed →
-        HasFlushed w.config.attempts x (session w s t) bodies (frames ++ f ∷ []) next →
-        IsFlushing before w bodies s t (after_finish (record v { windows = with_window v.windows s t x }) f)
-        (frames ++ f ∷ []) next }
-    ensures ends { (before v : TransmitValue) (w : World) (bodies : ℕ → FrameValue) (s t : ℕ)
-        (frames : List FrameValue) (from : ℕ) → IsFlushing before w bodies s t v frames from →
+        f.fate ≡ Dropped cause →
+        HasFlushed cause w.config.attempts x (session w s t) bodies (frames ++ f ∷ []) next →
+        IsFlushing cause before w bodies s t
+        (after_finish (record v { windows = with_window v.windows s t x }) f) (frames ++ f ∷ []) next }
+    ensures ends { (cause : Cause) (before v : TransmitValue) (w : World) (bodies : ℕ → FrameValue) (s t : ℕ)
+        (frames : List FrameValue) (from : ℕ) → IsFlushing cause before w bodies s t v frames from →
         (x : WindowValue) → WindowsHaveRoom (with_window v.windows s t x) →
-        frames ≡ frames_flushed bodies (session w s t) →
+        frames ≡ frames_dropped cause bodies (session w s t) →
         WindowStandsFor x (session_flushed w.config.attempts (session w s t)) bodies →
-        HasNumbersFlushed before w bodies s t (record v { windows = with_window v.windows s t x })
+        HasNumbersFlushed cause before w bodies s t (record v { windows = with_window v.windows s t x })
         (length frames) }
+    ensures few { (cause : Cause) (before v : TransmitValue) (w : World) (bodies : ℕ → FrameValue)
+        (s t dropped : ℕ) → HasNumbersFlushed cause before w bodies s t v dropped →
+        dropped ≤ w.config.room }
+{}
+
+/// A TID is flushed. First the waiting numbers fail (`the_waiting_numbers_fail`), and then the frames of its
+/// queues are finished as `flushed` and counted. Together they are at most the setting `room`. The answer is
+/// their number. At last the window of a TID without an agreement catches up.
+pub fn a_flush()
     ensures held { (before v : TransmitValue) (w : World) (bodies : ℕ → FrameValue) (s t dropped : ℕ) →
-        HasNumbersFlushed before w bodies s t v dropped →
+        HasNumbersFlushed Flushed before w bodies s t v dropped →
         frames_of_tid v.flows (tid_number s t) ≤ held_in v.tally }
     ensures few { (before v : TransmitValue) (w : World) (bodies : ℕ → FrameValue) (s t dropped : ℕ) →
-        HasNumbersFlushed before w bodies s t v dropped →
+        HasNumbersFlushed Flushed before w bodies s t v dropped →
         dropped + frames_of_tid v.flows (tid_number s t) ≤ w.config.room }
     ensures emptied { (before v : TransmitValue) (w : World) (bodies : ℕ → FrameValue) (s t dropped : ℕ) →
-        HasNumbersFlushed before w bodies s t v dropped →
+        HasNumbersFlushed Flushed before w bodies s t v dropped →
         Parts (with_queues_flushed v s t (frames_of_tid v.flows (tid_number s t))) (tid_emptied w s t)
         bodies }
     ensures whole { (before v u : TransmitValue) (w : World) (bodies : ℕ → FrameValue) (s t dropped : ℕ) →
-        HasNumbersFlushed before w bodies s t v dropped →
-        Parts u (with_device_caught_up (tid_emptied w s t) s t) bodies →
+        refusal w (Asked (Flush s t)) ≡ None → HasNumbersFlushed Flushed before w bodies s t v dropped →
+        Parts u (caught_up_if_plain (tid_emptied w s t) s t) bodies →
         Meets w bodies (Asked (Flush s t)) (after_listing u s)
         (reply.Flushed (dropped + frames_of_tid v.flows (tid_number s t))) }
+{}
+
+/// An agreement ends. First the waiting numbers fail (`the_waiting_numbers_fail`). None is on the air, so all
+/// are settled then. The window gets the size of a TID without an agreement, its start counts as heard, and
+/// the TID is held back. The answer has the number of the dropped frames, and the ids of those that the
+/// receiver releases, which the half does not know.
+pub fn an_agreement_ends()
+    ensures empty { (before v : TransmitValue) (w : World) (bodies : ℕ → FrameValue) (s t dropped : ℕ) →
+        refusal w (Asked (Cease s t)) ≡ None → HasNumbersFlushed Ended before w bodies s t v dropped →
+        (window_of v.windows s t).places ≡ [] }
+    ensures ceased { (before v : TransmitValue) (w : World) (bodies : ℕ → FrameValue) (s t dropped : ℕ) →
+        refusal w (Asked (Cease s t)) ≡ None → HasNumbersFlushed Ended before w bodies s t v dropped →
+        (x : WindowValue) → WindowsHaveRoom (with_window v.windows s t x) →
+        WindowStandsFor x (session_resized plain_window (session_flushed w.config.attempts (session w s t))) bodies →
+        Meets w bodies (Asked (Cease s t)) (after_listing (after_change v s t x OnHold) s)
+        (Ceased dropped (released_at_cease w s t)) }
 {}
 
 /// A pull that finds no ready station is refused. Without the setting `pending`, its pick has changed the
@@ -782,11 +866,11 @@ pub fn a_pull_begins()
 /// one in which it is sent, and the reply describes the exchange that the half opened.
 pub fn an_exchange_is_sent()
     ensures sent { (v : TransmitValue) (bodies : ℕ → FrameValue) (s t : ℕ) (c : Class) (p : Prepared) →
-        Parts v p.world bodies → is_live p.world s ≡ true →
+        Parts v p.world bodies → is_live p.world s ≡ true → t < 8 →
         Parts (after_sending v s t c p.charge (sending_of p.content)) (send_outcome s t c p).world bodies }
     ensures reply { (v : TransmitValue) (bodies : ℕ → FrameValue) (s t : ℕ) (c : Class) (p : Prepared) →
-        Parts v p.world bodies → is_live p.world s ≡ true →
-        Send v.exchanges s t p.charge (part_of (is_offloaded_in v.members s) p.content)
+        Parts v p.world bodies → is_live p.world s ≡ true → t < 8 →
+        Send v.exchanges s t p.charge (part_of (is_offloaded_in v.members s) (is_plain_of v s t) p.content)
         (open_next v s t c p.charge (sending_of p.content)).more ≡ (send_outcome s t c p).reply }
     ensures wide { (v : TransmitValue) (w : World) (bodies : ℕ → FrameValue) (s t : ℕ) → Parts v w bodies →
         is_live w s ≡ true → t < 8 →
@@ -858,7 +942,7 @@ pub fn fresh_frames_are_given()
         FrameValue) (s t : ℕ) (room : AggregateSizeValue) (numbers : List ℕ) (mpdus : List Mpdu)
         (after : Aggregate) →
         IsFilling v w bodies s t room numbers mpdus after →
-        (nat_lt 0 (frames_of_tid v.flows (tid_number s t)) && can_take (window_of v.windows s t)) ≡ false →
+        can_give_of v s t ≡ false →
         IsFilled v bodies s t room numbers after }
     ensures own { (v : TransmitValue) (w : World) (bodies : ℕ →
         FrameValue) (s t : ℕ) (room : AggregateSizeValue) (numbers : List ℕ) (mpdus : List Mpdu)
@@ -873,8 +957,7 @@ pub fn fresh_frames_are_given()
         (f : FrameValue) → (taken_for_tid v.flows (tid_number s t) v.clock params).frame ≡ Some f →
         (x : WindowValue) → WindowsHaveRoom (with_window v.windows s t x) →
         WindowStandsFor x (with_number_given (session w s t) f.id) bodies →
-        length numbers < room.limits.frames → (nat_lt 0 (frames_of_tid v.flows (tid_number s t))
-        && can_take (window_of v.windows s t)) ≡ true →
+        length numbers < room.limits.frames → can_give_of v s t ≡ true →
         (more : AggregateSizeValue) → fits room.rate room.limits.octets room.limits.frames room.limits.time
         (lens_of w.config.overhead mpdus ++ (length f.body + v.config.overhead) ∷ []) ≡ true →
         more ≡ record room { count = more.count; octets = more.octets } →
@@ -888,8 +971,7 @@ pub fn fresh_frames_are_given()
         (f : FrameValue) → (taken_for_tid v.flows (tid_number s t) v.clock params).frame ≡ Some f →
         (x : WindowValue) → WindowsHaveRoom (with_window v.windows s t x) →
         WindowStandsFor x (with_number_given (session w s t) f.id) bodies →
-        length numbers < room.limits.frames → (nat_lt 0 (frames_of_tid v.flows (tid_number s t))
-        && can_take (window_of v.windows s t)) ≡ true →
+        length numbers < room.limits.frames → can_give_of v s t ≡ true →
         fits room.rate room.limits.octets room.limits.frames room.limits.time
         (lens_of w.config.overhead mpdus ++ (length f.body + v.config.overhead) ∷ []) ≡ false →
         IsFilled (after_giving v s t params x) bodies s t room numbers after }
@@ -965,8 +1047,8 @@ pub fn a_pull()
     ensures charge { (v : TransmitValue) (bodies : ℕ → FrameValue) (s t : ℕ) (room : AggregateSizeValue)
         (numbers : List ℕ) (a : Aggregate) →
         IsFilled v bodies s t room numbers a →
-        data_charge room.answers room.rate
-        (aggregate_octets (lens_of a.world.config.overhead a.mpdus)) room.wide ≡ aggregate_charge s t a }
+        charge_in room (is_plain_of v s t) (lens_of a.world.config.overhead a.mpdus)
+        ≡ aggregate_charge s t a }
     ensures data { (v : TransmitValue) (w : World) (bodies : ℕ → FrameValue) → StandsFor v w bodies →
         (c : Class) (l : Limits) (s : ℕ) →
         refusal w (Asked (Pull c l)) ≡ None →
@@ -977,7 +1059,8 @@ pub fn a_pull()
         IsTakingOff x u sent s t a.world.exchanges [] (prepared_data s t a).world →
         (charge : ℕ) (numbers : List ℕ) → charge ≡ aggregate_charge s t a → numbers ≡ numbers_on_air a.mpdus →
         Meets w sent (Asked (Pull c l)) (after_listing_in (after_sending x s t c charge (Data numbers)) s c)
-        (Send x.exchanges s t charge (part_of (is_offloaded_in x.members s) (Frames a.mpdus))
+        (Send x.exchanges s t charge
+        (part_of (is_offloaded_in x.members s) (is_plain_of x s t) (Frames a.mpdus))
         (open_next x s t c charge (Data numbers)).more) }
 {}
 

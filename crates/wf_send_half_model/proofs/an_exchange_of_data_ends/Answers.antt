@@ -1,8 +1,9 @@
--- Proves the law `an_exchange_of_data_ends` by the lemmas of Settles, Endings, Ended and Dones.
+-- Proves the law `an_exchange_of_data_ends` by the lemmas of Settles, Endings, Ended, Repeats and Dones.
 use Rattle.wf_send_half_model.proofs.Settles.{ending_next_one, ending_done}
 use Rattle.wf_send_half_model.proofs.Endings.{begins}
 use Rattle.wf_send_half_model.proofs.Ended.{state_at_end}
 use Rattle.wf_send_half_model.proofs.Dones.{data_world}
+use Rattle.wf_send_half_model.proofs.Repeats.{sent_once}
 use Rattle.wf_send_half_model.proofs.an_exchange_of_data_ends.Goals as goal
 
 pub returns-clause-begins : goal.returns-clause-begins
@@ -19,3 +20,6 @@ returns-clause-done c = ending_done
 
 pub returns-clause-world : goal.returns-clause-world
 returns-clause-world c = data_world
+
+pub returns-clause-once : goal.returns-clause-once
+returns-clause-once c = sent_once

@@ -1,5 +1,5 @@
 -- Proves the law `the_readers_agree` by the lemmas of Readers.
-use Rattle.wf_send_half_model.proofs.Readers.{live_same, queued_same, due_same, waiting_same, can_send_same, can_send_in_same, ready_same, to_list_same, pending_same, deficit_same, asks_same, exchange_same, station_count_same, class_count_same, airtime_same, ahead_same, class_queued_same, any_tid_same, live_credit_same, class_same}
+use Rattle.wf_send_half_model.proofs.Readers.{live_same, queued_same, due_same, waiting_same, waiting_count_same, agreed_same, held_back_same, offloaded_same, plain_same, can_give_same, can_send_same, can_send_in_same, ready_same, to_list_same, pending_same, deficit_same, asks_same, exchange_same, station_count_same, tid_count_same, class_count_same, airtime_same, ahead_same, class_queued_same, any_tid_same, live_credit_same, class_same}
 use Rattle.wf_send_half_model.proofs.the_readers_agree.Goals as goal
 
 pub returns-clause-live : goal.returns-clause-live
@@ -13,6 +13,27 @@ returns-clause-due c = due_same
 
 pub returns-clause-waiting : goal.returns-clause-waiting
 returns-clause-waiting c = waiting_same
+
+pub returns-clause-numbers_waiting : goal.returns-clause-numbers_waiting
+returns-clause-numbers_waiting c = waiting_count_same
+
+pub returns-clause-agreed : goal.returns-clause-agreed
+returns-clause-agreed c = agreed_same
+
+pub returns-clause-held_back : goal.returns-clause-held_back
+returns-clause-held_back c = held_back_same
+
+pub returns-clause-offloaded : goal.returns-clause-offloaded
+returns-clause-offloaded c = offloaded_same
+
+pub returns-clause-plain : goal.returns-clause-plain
+returns-clause-plain c = plain_same
+
+pub returns-clause-can_give : goal.returns-clause-can_give
+returns-clause-can_give c = can_give_same
+
+pub returns-clause-of_tid : goal.returns-clause-of_tid
+returns-clause-of_tid c = tid_count_same
 
 pub returns-clause-can_send : goal.returns-clause-can_send
 returns-clause-can_send c = can_send_same

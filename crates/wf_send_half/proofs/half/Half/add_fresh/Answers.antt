@@ -1,6 +1,6 @@
 -- Proves what `Half::add_fresh` promises: each step adds the frame that the world's aggregate adds next.
--- By cases of what ends the loop: a full aggregate, a full window, no queued frame, or a frame that does
--- not fit.
+-- By cases of what ends the loop: a full aggregate, a TID that gives no number, no queued frame, or a frame
+-- that does not fit.
 use Rattle.std.proofs.Common.{refl, ap, sym, ◌∙◌, arith, ℕ, ◌+◌, ◌∷◌, [], length, length-append, Option, option_map}
 use Rattle.wf_frame.specs.Frames.{FrameValue}
 use Rattle.wf_def_air.specs.Airtime.{Rate}
@@ -10,14 +10,21 @@ use Rattle.wf_queue_flows.specs.Flows.{SettingsValue}
 use Rattle.wf_send_parts.specs.declared.stations.members.Member.{Member}
 use Rattle.wf_send_parts.specs.Members.{member}
 use Rattle.wf_send_parts.specs.Window.{can_take}
-use Rattle.wf_send_half_model.specs.Half.{TransmitValue}
+use Rattle.wf_send_half_model.specs.Half.{TransmitValue, is_held_back_of}
 use Rattle.wf_send_half_model.proofs.Gives.{full_fills, filled_idle}
 use Rattle.wf_send_half.specs.Pulls.{HasTurn, IsParamsOf, IsGivenNumber}
 use Rattle.wf_send_half.proofs.CallSteps.{view_of}
-use Rattle.wf_send_half.proofs.Filling.{both_give, takes_none, none_queued, goes_on_fresh, ends_fresh, same_limits, turn_of, same_given}
+use Rattle.wf_send_half.proofs.Filling.{both_give, takes_none, takes_number, takes_no_number, held_gives, none_queued, goes_on_fresh, ends_fresh, same_limits, turn_of, same_given}
 use Rattle.wf_send_half.proofs.Giving.{drops_held, gave_fresh}
 use Rattle.wf_send_half.proofs.half.Half.add_fresh.Goals as goal
 use Rattle.wf_send_half.proofs.half.Half.add_fresh.Goals.{In-Ok}
+
+-- a held TID gives no number
+pub returns-then-is_held_back-clause-filled : goal.returns-then-is_held_back-clause-filled
+returns-then-is_held_back-clause-filled c bodies after h =
+    filled_idle c.args.self.now h.world bodies c.args.station c.args.tid c.args.aggregate.now.size
+    c.args.aggregate.now.numbers h.mpdus after h.filling
+    (held_gives _ _ _ (sym c.is_held_back.ensures ∙ c.if-is_held_back.true))
 
 -- the half after the frame has its number
 abbrev left : In-Ok → TransmitValue
@@ -78,7 +85,9 @@ returns-then-not-add-clause-filled c bodies after k =
     after (c.fresh.invariant.on bodies after k)
     (omega (arith, c.fresh.invariant.most, c.len.ensures.count, c.fresh-test.true))
     (both_give c.in-Some.ensures.some
-    (ap can_take (sym c.at.ensures) ∙ sym c.if-can_give.ensures.shown)) u c.in-Ok.number
+    (takes_number _ _ (ap can_take (sym c.at.ensures) ∙ sym c.if-can_give.ensures.shown)
+    (ap (λ (z : TransmitValue). is_held_back_of z c.args.station c.args.tid) c.fresh.invariant.same
+    ∙ sym c.is_held_back.ensures ∙ c.if-is_held_back.false))) u c.in-Ok.number
     c.len-len.result given c.protected.result (c.protected.ensures.exact
     ∙ ap (λ (n : ℕ). c.len-len.result + n)
     (ap (λ (z : TransmitValue). z.config.overhead) c.self.view_is
@@ -115,7 +124,9 @@ fresh-preserved c =
           c.fresh.aggregate.numbers after (c.fresh.invariant.on bodies after k)
           (omega (arith, c.fresh.invariant.most, c.len.ensures.count, c.fresh-test.true))
           (both_give c.in-Some.ensures.some
-          (ap can_take (sym c.at.ensures) ∙ sym c.if-can_give.ensures.shown)) u c.in-Ok.number
+          (takes_number _ _ (ap can_take (sym c.at.ensures) ∙ sym c.if-can_give.ensures.shown)
+          (ap (λ (z : TransmitValue). is_held_back_of z c.args.station c.args.tid) c.fresh.invariant.same
+          ∙ sym c.is_held_back.ensures ∙ c.if-is_held_back.false))) u c.in-Ok.number
           c.len-len.result given c.protected.result (c.protected.ensures.exact
           ∙ ap (λ (n : ℕ). c.len-len.result + n)
           (ap (λ (z : TransmitValue). z.config.overhead) c.self.view_is
@@ -138,7 +149,7 @@ returns-else-can_give-clause-filled c bodies after h =
     let k = c.fresh.invariant.on bodies after h in
     filled_idle v k.world bodies c.args.station c.args.tid c.fresh.aggregate.size
     c.fresh.aggregate.numbers k.mpdus after k.filling
-    (takes_none _ _ (ap can_take (sym c.at.ensures) ∙ sym c.if-can_give.ensures.shown))
+    (takes_none _ _ (takes_no_number _ _ (ap can_take (sym c.at.ensures) ∙ sym c.if-can_give.ensures.shown)))
 
 pub returns-in_default-clause-filled : goal.returns-in_default-clause-filled
 returns-in_default-clause-filled c bodies after h =

@@ -6,12 +6,14 @@ use Rattle.wf_send_half.proofs.half.Half.new.Goals as goal
 
 pub invariant_of-result : goal.invariant_of-result
 invariant_of-result c =
-    sizes c.args.config _ _ _ _ _ _ _ (in_range c.args.config c.requires) c.in_ok-flows.ensures.made
-    c.in_ok-sched.ensures c.in_ok-windows.ensures c.in_ok-members.ensures c.in_ok-sleepers.ensures
-    c.in_ok-opened.ensures c.new-7.ensures
+    sizes c.args.config _ _ _ _ _ _ _ _ (in_range c.args.config c.requires) c.in_ok-flows.ensures.made
+    c.in_ok-sched.ensures c.in_ok-windows.ensures c.in_ok-modes.ensures c.in_ok-members.ensures
+    c.in_ok-sleepers.ensures
+    c.in_ok-opened.ensures c.new-8.ensures
 
 pub returns : goal.returns
 returns c bodies =
-    stands c.args.config _ _ _ _ _ _ _ (in_range c.args.config c.requires) c.in_ok-flows.ensures.made
-    c.in_ok-sched.ensures c.in_ok-windows.ensures c.in_ok-members.ensures c.in_ok-sleepers.ensures
-    c.in_ok-opened.ensures c.new-7.ensures bodies
+    stands c.args.config _ _ _ _ _ _ _ _ (in_range c.args.config c.requires) c.in_ok-flows.ensures.made
+    c.in_ok-sched.ensures c.in_ok-windows.ensures c.in_ok-modes.ensures c.in_ok-members.ensures
+    c.in_ok-sleepers.ensures
+    c.in_ok-opened.ensures c.new-8.ensures bodies

@@ -18,8 +18,8 @@ fill-aggregate-requires-clause-to_fill c =
     c.if-bar_due.false) in
     record { world = h.world; bodies = h.bodies; to_fill = to; bounds = h.bounds }
 
-pub air-charge-requires : goal.air-charge-requires
-air-charge-requires c =
+pub charge_of-charge-requires-clause-some : goal.charge_of-charge-requires-clause-some
+charge_of-charge-requires-clause-some c =
     let s : ℕ = c.args.station in
     let t : ℕ = c.args.tid in
     let h = c.requires.due in
@@ -64,9 +64,9 @@ returns-clause-prepared c =
           let filled = c.fill-aggregate.ensures.filled w bodies to bounds in
           filled_flies c.fill-aggregate.new.self bodies s t c.fill-aggregate.result.size
           c.fill-aggregate.result.numbers a filled w refl c.fly_all.new.self c.fly_all.new.pairs
-          c.air-charge.result
+          c.charge_of-charge.result
           (c.fly_all.ensures.flown a.world bodies a.mpdus (prepared_data s t a).world
           (filled_off c.fill-aggregate.new.self bodies s t c.fill-aggregate.result.size
           c.fill-aggregate.result.numbers a filled) filled.on_air)
-          c.air-charge.ensures.exact;
+          c.charge_of-charge.ensures;
     }

@@ -112,7 +112,7 @@ returns-in-Some-clause-meets c w bodies h = pull_done (picked_one c.self.view_is
     c.prepare-prepared.ensures.prepared c.put_on_air.ensures.opened c.put_on_air.ensures.brief
 
 pub returns-in-Some-clause-ready : goal.returns-in-Some-clause-ready
-returns-in-Some-clause-ready c e s t air request batch more is = c.put_on_air.ensures.ready
+returns-in-Some-clause-ready c e s t air request kind more is = c.put_on_air.ensures.ready
     ∙ ap (is_ready_of c.put_on_air.new.self c.args.class) (cc (is, c.put_on_air.ensures.brief))
 
 pub returns-in-None-clause-meets : goal.returns-in-None-clause-meets
@@ -126,7 +126,8 @@ returns-in-None-clause-meets c w bodies h = picked_none c.self.view_is h c.requi
 
 -- with the setting `pending`, the pick finds a station
 pub returns-in-None-clause-idle : goal.returns-in-None-clause-idle
-returns-in-None-clause-idle c on is = absurd (picked_some c.self.view_is c.requires.some.stands c.requires.told
+returns-in-None-clause-idle c on is = absurd (picked_some c.self.view_is c.requires.some.stands
+    c.requires.told
     c.of_class-count.ensures c.if-self-count.false
     (ap is_ahead_of c.self.view_is ∙ sym c.is_ahead.ensures ∙ c.if-is_ahead.false) c.pick.ensures.turned
     c.pick.ensures.others c.args.is_idle

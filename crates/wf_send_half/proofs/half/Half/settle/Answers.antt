@@ -1,5 +1,5 @@
 -- Proves what `Half::settle` promises. By cases of the exchange: the numbers of an aggregate are settled one
--- by one, then the device catches up, and a request that was heard is recorded in its window.
+-- by one, then the window catches up, and a request that was heard is recorded in its window.
 use Rattle.std.proofs.Common.{sym, ap, ◌∙◌, subst, arith, ◌+◌, ◌≤◌, length}
 use Rattle.wf_octets.specs.Distance.{distance}
 use Rattle.wf_send_parts.specs.Windows.{window_of}

@@ -12,7 +12,8 @@ use Rattle.wf_send_half.proofs.transmit.Transmit.advance.Goals as goal
 
 pub invariant_of-self : goal.invariant_of-self
 invariant_of-self c = tracked_after c.self.inside.half c.advance.new.self c.args.now c.self.inside.ready
-    c.advance.result c.advance.ensures.later c.advance.ensures.moved c.advance.ensures.refused c.self.invariant
+    c.advance.result c.advance.ensures.later c.advance.ensures.moved c.advance.ensures.refused
+    c.self.invariant
 
 pub returns-clause-stands : goal.returns-clause-stands
 returns-clause-stands c = subst (λ (v : TransmitValue). OnOk c.advance.result ((w : World)

@@ -1,7 +1,7 @@
 -- Proves what `Transmit::is_offloaded` promises: a station whose number is too great is not live.
 use Rattle.std.proofs.Common.{◌≡◌, ◌∙◌, ap, arith, rules, ℕ, ◌≤◌, false, ltb}
 use Rattle.std.proofs.lemmas.Bool.Decides.{nat_tests}
-use Rattle.wf_send_half_model.proofs.Devices.{offloaded_same}
+use Rattle.wf_send_half_model.proofs.Readers.{offloaded_same}
 use Rattle.wf_send_half.specs.declared.transmit.Transmit.TheInside.{Inside}
 use Rattle.wf_send_half.proofs.Standings.{none_offloaded}
 use Rattle.wf_send_half.proofs.transmit.Transmit.is_offloaded.Goals as goal

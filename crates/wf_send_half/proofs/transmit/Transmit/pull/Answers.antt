@@ -17,7 +17,7 @@ pub set-requires : goal.set-requires
 set-requires c = record {
   room = sender_room c.self.inside.half c.self.inside.ready c.self.invariant c.args.class c.args.limits
       c.pull-pulled.result.brief c.pull-pulled.new.pairs c.pull-pulled.new.self c.pull-pulled.ensures.meets
-      c.in-Send.exchange c.in-Send.station c.in-Send.tid c.in-Send.air c.in-Send.request c.in-Send.batch
+      c.in-Send.exchange c.in-Send.station c.in-Send.tid c.in-Send.air c.in-Send.request c.in-Send.kind
       c.in-Send.more c.in-Send.is;
 }
 
@@ -25,17 +25,17 @@ pub invariant_of-self : goal.invariant_of-self
 invariant_of-self c =
     tracked_sender c.self.inside.half c.self.inside.ready c.self.invariant c.args.class c.args.limits
     c.pull-pulled.result.brief c.pull-pulled.new.pairs c.pull-pulled.new.self c.pull-pulled.ensures.meets
-    c.in-Send.exchange c.in-Send.station c.in-Send.tid c.in-Send.air c.in-Send.request c.in-Send.batch
+    c.in-Send.exchange c.in-Send.station c.in-Send.tid c.in-Send.air c.in-Send.request c.in-Send.kind
     c.in-Send.more c.in-Send.is c.set.new.self (c.set.ensures
     ∙ ap (with_flag c.self.inside.ready c.args.class c.in-Send.station)
     (c.pull-pulled.ensures.ready c.in-Send.exchange c.in-Send.station c.in-Send.tid c.in-Send.air
-    c.in-Send.request c.in-Send.batch c.in-Send.more c.in-Send.is))
+    c.in-Send.request c.in-Send.kind c.in-Send.more c.in-Send.is))
 
 pub invariant_of-self-in_default : goal.invariant_of-self-in_default
 invariant_of-self-in_default c =
     tracked_idle c.self.inside.half c.self.inside.ready c.self.invariant c.args.class c.args.limits
     c.pull-pulled.result.brief c.pull-pulled.new.pairs c.pull-pulled.new.self c.pull-pulled.ensures.meets
-    (λ b. c.in_default.not-Send b.exchange b.station b.tid b.air b.request b.batch b.more b.is)
+    (λ b. c.in_default.not-Send b.exchange b.station b.tid b.air b.request b.kind b.more b.is)
 
 pub returns-in-Send-clause-unheard : goal.returns-in-Send-clause-unheard
 returns-in-Send-clause-unheard c = pulled_unheard c.self.inside.half c.self.inside.ready c.self.invariant

@@ -1,0 +1,49 @@
+-- Proves what `Half::cease` promises. By cases of the checks: the call is refused, or the half represents the
+-- world after the Cease.
+use Rattle.std.proofs.Common.{sym}
+use Rattle.std.proofs.lemmas.Result.{err_from_is_err_and}
+use Rattle.wf_send_half.proofs.CallSteps.{view_of}
+use Rattle.wf_send_half.proofs.Agreements.{settled_to_cease, cease_done}
+use Rattle.wf_send_half.proofs.Rows.{refused_call, live_of}
+use Rattle.wf_send_half.proofs.half.Half.cease.Goals as goal
+
+pub returns-in_err-check_cease-clause-meets : goal.returns-in_err-check_cease-clause-meets
+returns-in_err-check_cease-clause-meets c w bodies h =
+    let p = err_from_is_err_and c.from_residual.result c.from_residual.ensures.1 in rw (p.1, p.2)
+    (refused_call c.args.self.now w bodies _ _ (
+      λ e. cc e,
+      (
+        λ e. cc e,
+        (λ e. cc e, (λ e. cc e, (λ e. cc e, tt))),
+      ),
+    ) h
+    (c.in_err-check_cease.ensures.refused w bodies h))
+
+pub drop_waiting-dropped-requires-clause-some : goal.drop_waiting-dropped-requires-clause-some
+drop_waiting-dropped-requires-clause-some c =
+    let r = c.requires.some in
+    record {
+      world = r.world;
+      bodies = r.bodies;
+      stands = r.stands;
+      live = (live_of c.args.self.now r.world r.bodies r.stands c.args.station
+          c.in_ok-check_cease.ensures.live);
+    }
+
+pub resize-requires-clause-empty : goal.resize-requires-clause-empty
+resize-requires-clause-empty c =
+    let r = c.requires.some in
+    settled_to_cease c.args.self.now c.drop_waiting-dropped.new.self (view_of c.self.inside) c.self.view_is
+    r.world r.bodies c.args.station c.args.tid c.drop_waiting-dropped.result
+    (sym (c.in_ok-check_cease.ensures.refused r.world r.bodies r.stands))
+    (c.drop_waiting-dropped.ensures.flushed r.world r.bodies r.stands
+    (live_of c.args.self.now r.world r.bodies r.stands c.args.station c.in_ok-check_cease.ensures.live))
+
+pub returns-clause-meets : goal.returns-clause-meets
+returns-clause-meets c w bodies h =
+    cease_done c.drop_waiting-dropped.new.self (view_of c.self.inside) c.set_mode.new.self c.self.view_is
+    c.args.station c.args.tid c.resize.new.self c.resize.ensures.room c.resize.ensures.others
+    c.args.self.now c.drop_waiting-dropped.result c.set_mode.ensures c.resize.ensures.stands w bodies
+    (c.drop_waiting-dropped.ensures.flushed w bodies h (live_of c.args.self.now w bodies h c.args.station
+    c.in_ok-check_cease.ensures.live))
+    (sym (c.in_ok-check_cease.ensures.refused w bodies h))
