@@ -1,16 +1,16 @@
--- Proves what a path tells of the batches of offloaded stations: the offsets of given transmissions, and
--- the start that the device tells its peer.
-use Rattle.std.proofs.Common.{◌≡◌, refl, ap, sym, ◌∙◌, arith, ℕ, zero, suc, ◌+◌, ◌<◌, Bool, true, false, if◌then◌else◌, List, [], ◌∷◌, length, drop, get_or, drop-cons, Option, Some, None, is_some, option_map, unwrap_or}
+-- Proves what a path reports of batches: the offsets of given transmissions; and of TIDs without an
+-- agreement: the start of the window that their receivers have.
+use Rattle.std.proofs.Common.{◌≡◌, refl, ap, ap₂, sym, ◌∙◌, arith, ℕ, zero, suc, ◌+◌, ◌<◌, Bool, true, false, not, ◌&&◌, if◌then◌else◌, List, [], ◌∷◌, length, drop, get_or, drop-cons, Option, Some, None}
 use Rattle.std.specs.Prelude.{slice_get}
 use Rattle.wf_def_lists.specs.Table.{has, with_member}
-use Rattle.wf_def_agreement.specs.Session.{start_of}
-use Rattle.wf_def_world.specs.World.{World, session, is_offloaded}
+use Rattle.wf_frame.specs.Frames.{FrameValue}
+use Rattle.wf_def_world.specs.World.{World, is_live, is_agreed, has_agreement}
 use Rattle.wf_octets.specs.Distance.{distance}
-use Rattle.wf_send_parts.specs.Members.{member, is_offloaded_in}
-use Rattle.wf_send_parts.specs.Window.{on_air}
-use Rattle.wf_send_parts.specs.declared.stations.members.Member.{Member}
+use Rattle.wf_send_parts.specs.Modes.{as_mode, mode_of}
+use Rattle.wf_send_half_model.specs.Half.{TransmitValue}
+use Rattle.wf_send_half_model.specs.Standing.{StandsFor}
 use Rattle.wf_path.specs.Heard.{offsets_at}
-use Rattle.wf_path.specs.Transmissions.{start_told}
+use Rattle.wf_path.specs.Transmissions.{start_on_air, start_announced}
 
 -- ---- the loop over the numbers
 
@@ -53,23 +53,31 @@ offsets_left first i offsets more numbers indices low is same =
     ∙ offsets_then first i (get_or numbers i 0) offsets numbers indices false (drop-cons numbers i 0 low)
     (sym is)
 
--- ---- the start that a device tells
+-- ---- the start of a window that is announced
 
--- an offloaded station is live
-pub offloaded_live : (members : List (Option Member)) (s : ℕ) → true ≡ is_offloaded_in members s →
-    is_some (member members s) ≡ true
-offloaded_live members s is = there (member members s) is
-  where
-    there : (m : Option Member) → true ≡ unwrap_or (option_map (λ k. k.offloaded) m) false →
-        is_some m ≡ true
-    there None is = absurd (cc is)
-    there (Some k) is = refl
+module _ (v : TransmitValue) (w : World) (bodies : ℕ → FrameValue) (h : StandsFor v w bodies) (s t : ℕ)
+    (below : t < 8) where
+  -- a live TID has an agreement in the half exactly if it has one in the world
+  agreed_same : is_live w s ≡ true → has_agreement (as_mode (mode_of v.modes s t)) ≡ is_agreed w s t
+  agreed_same live = ap has_agreement (h.parts.others.modes.each s t live below)
 
-module _ (w : World) (s t : ℕ) where
-  pub told_start : (start : ℕ) → true ≡ is_offloaded w s → start ≡ on_air (start_of (session w s t)) →
-      Some start ≡ start_told w s t
-  told_start start on is = ap (λ (n : ℕ). Some n) is
-      ∙ ap (λ (b : Bool). if b then Some (on_air (start_of (session w s t))) else None) on
+  announced_if : Bool → Bool → Option ℕ
+  announced_if live agreed = if live && not agreed then Some (start_on_air w s t) else None
 
-  pub told_none : false ≡ is_offloaded w s → None ≡ start_told w s t
-  told_none off = ap (λ (b : Bool). if b then Some (on_air (start_of (session w s t))) else None) off
+  -- the TID has no agreement
+  pub announced : (start : ℕ) → is_live w s ≡ true → has_agreement (as_mode (mode_of v.modes s t)) ≡ false →
+      start ≡ start_on_air w s t → Some start ≡ start_announced w s t
+  unfolding announced_if
+  announced start live none is = ap (λ (n : ℕ). Some n) is
+      ∙ sym (ap₂ announced_if live (sym (agreed_same live) ∙ none))
+
+  -- the TID has an agreement
+  pub not_announced : is_live w s ≡ true → has_agreement (as_mode (mode_of v.modes s t)) ≡ true →
+      None ≡ start_announced w s t
+  unfolding announced_if
+  not_announced live has = sym (ap₂ announced_if live (sym (agreed_same live) ∙ has))
+
+-- the station is not live
+pub none_live : (w : World) (s t : ℕ) → is_live w s ≡ false → None ≡ start_announced w s t
+none_live w s t dead = sym (ap (λ (b : Bool). if b && not (is_agreed w s t) then Some (start_on_air w s t)
+    else None) dead)

@@ -6,7 +6,7 @@ use Rattle.std.proofs.lemmas.Bool.Decides.{nat_tests}
 use Rattle.std.proofs.lemmas.List.Sums.{sum_by-cons}
 use Rattle.std.specs.Prelude.{nat_lt, true, count_by}
 use Rattle.wf_frame.specs.Frames.{FrameValue, most_attempts, sent_again}
-use Rattle.wf_frame.specs.declared.notes.Part.TheVariants.{Mpdus, Batch}
+use Rattle.wf_frame.specs.declared.notes.Part.TheVariants.{Mpdus, Batch, Plain}
 use Rattle.wf_frame.specs.declared.notes.ReplyNote.{ReplyNote}
 use Rattle.wf_frame.specs.declared.notes.ReplyNote.TheVariants.{Send}
 use Rattle.wf_send_parts.specs.Sent.{with_one_sent, with_all_sent}
@@ -60,6 +60,7 @@ pub pull_counts : (reply : ReplyNote) (bodies : ℕ → FrameValue) (id : ℕ) �
     (bodies id).attempts + times_sent reply id ≤ most_attempts →
     (bodies_sent reply bodies id).attempts ≡ (bodies id).attempts + times_sent reply id
 pull_counts (Send exchange station tid air (Mpdus pairs) more) bodies id fits = counted pairs bodies id fits
+pull_counts (Send exchange station tid air (Plain pairs) more) bodies id fits = counted pairs bodies id fits
 pull_counts (Send exchange station tid air (Batch ids) more) bodies id fits =
     let times : times_in (map (λ i. (i, 0)) ids) id ≡ count_by (λ i. i == id) ids = times_in_batch ids id in
     omega (arith, counted (map (λ i. (i, 0)) ids) bodies id (omega (arith, times, fits)), times)

@@ -17,7 +17,7 @@ use Rattle.wf_send_half_model.specs.Standing.{StandsFor, Meets}
 use Rattle.wf_send_half.specs.Enqueues.{enqueue_of, as_accepted}
 use Rattle.wf_send_half.specs.Replies.{reaped_reply}
 use Rattle.wf_path.specs.Addresses.{Addresses}
-use Rattle.wf_path.specs.Jobs.{note_of, MayCall, bodies_after, frame_given_back, is_refused}
+use Rattle.wf_path.specs.Jobs.{note_of, MayCall, bodies_after, frame_given_back, is_refused, with_released}
 use Rattle.wf_path.specs.Paths.{PathValue, IsPath, RiseLittle}
 use Rattle.wf_path.specs.declared.job.Job.{Job}
 use Rattle.wf_path.specs.declared.job.Job.TheVariants.{Give, Call}
@@ -78,10 +78,10 @@ module _ (x : TransmitValue) (h : IsPath x) (u : TransmitValue) (a : Addresses) 
 
     pub reaped_meets : (w : World) (bodies : ℕ → FrameValue) → StandsFor p.half w bodies → MayCall w job →
         Meets w (bodies_after p.half w job (reply_with b pairs ids) bodies) (note_of job) u
-        (reply_with b pairs ids)
+        (with_released w job (reply_with b pairs ids))
     reaped_meets w bodies st may =
         subst (λ (j : Job). Meets w (bodies_after p.half w j (reply_with b pairs ids) bodies) (note_of j) u
-        (reply_with b pairs ids)) (sym is)
+        (with_released w j (reply_with b pairs ids))) (sym is)
         (subst (λ (z : ReplyNote). Meets w bodies (Asked Reap) u z) (sym (says pairs ids))
         (meets w bodies (before w bodies st)))
 

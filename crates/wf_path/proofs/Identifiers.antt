@@ -1,11 +1,12 @@
--- Proves that the association identifiers that are present belong to the stations that sleep and
--- have traffic, by induction over the stations.
-use Rattle.std.proofs.Common.{◌≡◌, refl, ap, ap₂, sym, ◌∙◌, arith, ℕ, zero, suc, ◌+◌, ◌-◌, ◌<◌, ◌≤◌, Bool, true, false, cond, ◌&&◌, List, [], ◌∷◌, length, map, filter, get_or, get_or-set_other, set, replicate, inl, inr}
-use Rattle.std.specs.List.{range_with_len}
+-- Proves that the association identifiers that are present are those of the stations that sleep and have
+-- traffic, by induction over the stations, and that with the identifiers of a new path they are those of a
+-- run.
+use Rattle.std.proofs.Common.{◌≡◌, refl, ap, ap₂, sym, ◌∙◌, arith, ℕ, zero, suc, ◌+◌, ◌-◌, ◌<◌, ◌≤◌, ◌==◌, Bool, true, false, cond, ◌&&◌, ◌||◌, List, [], ◌∷◌, length, map, filter, get_or, get_or-set_other, set, replicate, inl, inr, Option, None}
+use Rattle.std.specs.List.{range_with_len, list_any}
 use Rattle.wf_def_lists.specs.Table.{count_from, upto}
-use Rattle.std.proofs.lemmas.Bool.{cases_Bool, cases_eq, cases_lt}
+use Rattle.std.proofs.lemmas.Bool.{cases_Bool, cases_eq, cases_lt, eq-eqb, ne_eqb, or_right, and_left, and_right}
 use Rattle.std.proofs.lemmas.Grind.{get_or-set_at}
-use Rattle.std.proofs.lemmas.List.{get_or-replicate, get_or_past, length-replicate, length-set}
+use Rattle.std.proofs.lemmas.List.{get_or-replicate, length-replicate, length-set}
 use Rattle.wf_frame.specs.declared.settings.Config.{Config}
 use Rattle.wf_frame.specs.Frames.{FrameValue}
 use Rattle.wf_def_world.specs.World.{World, station, is_live}
@@ -18,7 +19,70 @@ use Rattle.wf_send_half_model.specs.Pulling.{has_more_of}
 use Rattle.wf_send_half_model.specs.Standing.{StandsFor}
 use Rattle.wf_send_half_model.proofs.Readers.{live_same}
 use Rattle.wf_send_half_model.proofs.Pulls.{more_same}
-use Rattle.wf_path.specs.Traffic.{has_traffic_of, ArePresent}
+use Rattle.wf_path.specs.Addresses.{Addresses, is_of, aid_in, IsAid, made_up_aids}
+use Rattle.wf_path.specs.Traffic.{has_traffic_of, has_traffic, is_aid_shown, aids_shown, identifiers, ArePresent}
+use Rattle.wf_path.proofs.MadeUp.{made_up_aid}
+
+-- ---- tests of a list of numbers
+
+filters_same : (p q : ℕ → Bool) (a m : ℕ) → ((k : ℕ) → k < a + m → p k ≡ q k) →
+    filter p (range_with_len a m) ≡ filter q (range_with_len a m)
+filters_same p q a zero same = refl
+filters_same p q a (suc m) same = ap₂ (λ (b : Bool) (l : List ℕ). cond b (a ∷ l) l) (same a (omega arith))
+    (filters_same p q (a + 1) m (λ k low. same k (omega (arith, low))))
+
+any_same : (p q : ℕ → Bool) → ((k : ℕ) → p k ≡ q k) → (xs : List ℕ) → list_any p xs ≡ list_any q xs
+any_same p q same [] = refl
+any_same p q same (x ∷ xs) = ap₂ (λ a b. a || b) (same x) (any_same p q same xs)
+
+or_none : (x : Bool) → (x || false) ≡ x
+or_none true = refl
+or_none false = refl
+
+or_next : (x y z : Bool) → (x || (y || z)) ≡ ((x || y) || z)
+or_next true y z = refl
+or_next false y z = refl
+
+-- the last of the numbers is tested last
+any_last : (p : ℕ → Bool) (a m : ℕ) →
+    list_any p (range_with_len a (suc m)) ≡ (list_any p (range_with_len a m) || p (a + m))
+any_last p a zero = or_none (p a) ∙ ap p (omega arith)
+any_last p a (suc m) =
+    let at : p ((a + 1) + m) ≡ p (a + suc m) = ap p (omega arith) in
+    ap (λ b. p a || b) (any_last p (a + 1) m)
+    ∙ or_next (p a) (list_any p (range_with_len (a + 1) m)) (p ((a + 1) + m))
+    ∙ ap (λ b. (p a || list_any p (range_with_len (a + 1) m)) || b) at
+
+any_next : (p : ℕ → Bool) (n : ℕ) →
+    list_any p (range_with_len 0 (n + 1)) ≡ (list_any p (range_with_len 0 n) || p n)
+any_next p n =
+    let count : n + 1 ≡ suc n = omega arith in
+    let last : 0 + n ≡ n = omega arith in
+    ap (λ k. list_any p (range_with_len 0 k)) count ∙ any_last p 0 n
+    ∙ ap (λ k. list_any p (range_with_len 0 n) || p k) last
+
+any_none : (p : ℕ → Bool) (a m : ℕ) → ((k : ℕ) → a ≤ k → k < a + m → p k ≡ false) →
+    list_any p (range_with_len a m) ≡ false
+any_none p a zero none = refl
+any_none p a (suc m) none = ap₂ (λ x y. x || y) (none a (omega arith) (omega arith))
+    (any_none p (a + 1) m (λ k from low. none k (omega (arith, from)) (omega (arith, low))))
+
+-- only number i may pass
+any_one : (p : ℕ → Bool) (i a m : ℕ) → a ≤ i → i < a + m → ((k : ℕ) → (k ≡ i → ⊥) → p k ≡ false) →
+    list_any p (range_with_len a m) ≡ p i
+any_one p i a zero from low others = absurd (omega (arith, from, low))
+any_one p i a (suc m) from low others = elim (cases_eq a i) [
+  | inl same ↦ ap₂ (λ x y. x || y) (ap p same) (any_none p (a + 1) m
+      (λ k above under. others k (λ e. absurd (omega (arith, e, same, above))))) ∙ or_none (p i)
+  | inr other ↦ ap₂ (λ x y. x || y) (others a other) (any_one p i (a + 1) m (above from other)
+      (omega (arith, low)) others)
+]
+  where
+    above : {b : ℕ} → b ≤ i → (b ≡ i → ⊥) → b + 1 ≤ i
+    above {b} le ne = elim (cases_lt b i) [
+      | inl less ↦ omega (arith, less)
+      | inr more ↦ absurd (ne (omega (arith, le, more)))
+    ]
 
 -- ---- the identifiers that are present
 
@@ -68,44 +132,55 @@ module _ (present traffic : ℕ → Bool) (n : ℕ) (within : (s : ℕ) → s < 
       ∙ ap (λ k. filter present (range_with_len (0 + 1) k)) rest
       ∙ from_station n 0 (c - n) (omega arith)
 
-present_are : (present : List Bool) (traffic : ℕ → Bool) (n : ℕ) → n ≤ 256 → ArePresent present traffic n →
-    aids_of present ≡ map (λ s. s + 1) (filter traffic (upto n))
-present_are present traffic n few h = from_none (λ k. get_or present k false) traffic n h.within h.past
-    (length present) (omega (arith, h.all, few)) h.none
+-- the identifiers of the entries are those that are shown
+present_are : (present : List Bool) (a : Addresses) (shown : ℕ → Bool) (n : ℕ) →
+    ArePresent present a shown n →
+    aids_of present ≡ filter (is_aid_shown a shown n) (range_with_len 0 identifiers)
+present_are present a shown n h =
+    ap (λ k. filter (λ m. get_or present m false) (range_with_len 0 k)) h.all
+    ∙ filters_same (λ m. get_or present m false) (is_aid_shown a shown n) 0 identifiers
+    (λ k low. h.each k (omega (arith, low)))
 
 -- ---- station by station
 
-pub none_present : (traffic : ℕ → Bool) → ArePresent (replicate 257 false) traffic 0
-none_present traffic = record {
-  all = length-replicate 257 false;
-  none = get_or-replicate 257 0 false false (omega arith);
-  within = λ s low. absurd (omega (arith, low));
-  past = λ k above. elim (cases_lt k 257) [
-    | inl low ↦ get_or-replicate 257 k false false low
-    | inr high ↦ get_or_past (replicate 257 false) k false (omega (arith, length-replicate 257 false, high))
-  ];
+pub none_present : (a : Addresses) (shown : ℕ → Bool) → ArePresent (replicate 2008 false) a shown 0
+none_present a shown = record {
+  all = length-replicate 2008 false;
+  none = get_or-replicate 2008 0 false false (omega arith);
+  each = λ n low. get_or-replicate 2008 n false false low;
 }
 
-pub one_more : (present : List Bool) (traffic : ℕ → Bool) (i : ℕ) (here : Bool) → i < 256 → here ≡ traffic i →
-    ArePresent present traffic i → ArePresent (set present (i + 1) here) traffic (i + 1)
-one_more present traffic i here few is h = record {
-  all = length-set present (i + 1) here ∙ h.all;
-  none = get_or-set_other present (i + 1) 0 here false (λ e. absurd (omega (arith, e))) ∙ h.none;
-  within = λ s low. elim (cases_eq s i) [
-    | inl same ↦ get_or-set_at present (i + 1) (s + 1) here false (omega (arith, same))
-        (omega (arith, few, h.all)) ∙ is ∙ ap traffic (sym same)
-    | inr other ↦ get_or-set_other present (i + 1) (s + 1) here false (λ e. other (omega (arith, e)))
-        ∙ h.within s (below low other)
+-- one more station, for which `shown` is false
+pub one_less : (present : List Bool) (a : Addresses) (shown : ℕ → Bool) (i : ℕ) → shown i ≡ false →
+    ArePresent present a shown i → ArePresent present a shown (i + 1)
+one_less present a shown i off h = record {
+  all = h.all;
+  none = h.none;
+  each = λ n low. h.each n low ∙ sym (any_next (λ s. shown s && aid_in a s == n) i
+      ∙ ap (λ b. is_aid_shown a shown i n || b) (and_left (shown i) (aid_in a i == n) off)
+      ∙ or_none (is_aid_shown a shown i n));
+}
+
+-- one more station, for which `shown` is true
+pub one_more : (present : List Bool) (a : Addresses) (shown : ℕ → Bool) (i aid : ℕ) → aid ≡ aid_in a i →
+    IsAid aid → shown i ≡ true → ArePresent present a shown i →
+    ArePresent (set present aid true) a shown (i + 1)
+one_more present a shown i aid is range on h = record {
+  all = length-set present aid true ∙ h.all;
+  none = get_or-set_other present aid 0 true false (λ e. absurd (omega (arith, e, range.0))) ∙ h.none;
+  each = λ n low. elim (cases_eq n aid) [
+    | inl same ↦ get_or-set_at present aid n true false same (omega (arith, range.1, h.all))
+        ∙ sym (next n ∙ or_right (is_aid_shown a shown i n) (aid_in a i == n)
+        (eq-eqb (aid_in a i) n (sym is ∙ sym same)))
+    | inr other ↦ get_or-set_other present aid n true false other ∙ h.each n low
+        ∙ sym (next n ∙ ap (λ b. is_aid_shown a shown i n || b)
+        (ne_eqb (aid_in a i) n (λ e. other (sym e ∙ sym is))) ∙ or_none (is_aid_shown a shown i n))
   ];
-  past = λ k above. get_or-set_other present (i + 1) k here false (λ e. absurd (omega (arith, e, above)))
-      ∙ h.past k (omega (arith, above));
 }
   where
-    below : {s : ℕ} → s < i + 1 → (s ≡ i → ⊥) → s < i
-    below {s} low other = elim (cases_lt s i) [
-      | inl less ↦ less
-      | inr more ↦ absurd (other (omega (arith, low, more)))
-    ]
+    next : (n : ℕ) → is_aid_shown a shown (i + 1) n ≡ (is_aid_shown a shown i n || (aid_in a i == n))
+    next n = any_next (λ s. shown s && aid_in a s == n) i
+        ∙ ap (λ b. is_aid_shown a shown i n || (b && aid_in a i == n)) on
 
 -- ---- the stations that have traffic
 
@@ -125,7 +200,7 @@ filter_both p q both is (x ∷ xs) = either (p x) refl (filter_both p q both is 
         (sym (is x ∙ ap (λ b. b && q x) e))
 
 module _ (v : TransmitValue) (w : World) (bodies : ℕ → FrameValue) (h : StandsFor v w bodies) where
-  traffic_same : (s : ℕ) → has_traffic_of v s ≡ (is_live w s && ((station w s).asleep && has_more w s))
+  traffic_same : (s : ℕ) → has_traffic_of v s ≡ has_traffic w s
   traffic_same s = elim (cases_Bool (is_live w s)) [
     | inl live ↦ ap₂ (λ a b. a && b) (live_same v w bodies s h.parts)
         (ap₂ (λ a b. a && b) (h.parts.others.stations.asleep s live) (more_same v w bodies s h.parts live))
@@ -135,14 +210,65 @@ module _ (v : TransmitValue) (w : World) (bodies : ℕ → FrameValue) (h : Stan
         ∙ ap (λ b. b && ((station w s).asleep && has_more w s)) (sym off)
   ]
 
-  -- the identifiers that are present are the machine's
-  pub traffic_are : (present : List Bool) → ArePresent present (has_traffic_of v) v.config.stations →
-      aids_of present ≡ with_traffic w
-  traffic_are present are =
-      let stations : v.config.stations ≡ w.config.stations =
-      ap (λ (k : Config). k.stations) h.parts.others.config in
-      present_are present (has_traffic_of v) v.config.stations
-      (omega (arith, stations, h.reached.in_range.stations.1)) are
-      ∙ ap (λ n. map (λ s. s + 1) (filter (has_traffic_of v) (upto n))) stations
-      ∙ sym (ap (map (λ s. s + 1)) (filter_both (is_live w) (λ s. (station w s).asleep && has_more w s)
-      (has_traffic_of v) traffic_same (upto w.config.stations)))
+  stations_are : v.config.stations ≡ w.config.stations
+  stations_are = ap (λ (k : Config). k.stations) h.parts.others.config
+
+  -- the identifiers that are present are those that the element of the world shows
+  pub shown_are : (present : List Bool) (a : Addresses) (bss : Option (List ℕ)) →
+      ArePresent present a (λ s. has_traffic_of v s && is_of a bss s) v.config.stations →
+      aids_of present ≡ aids_shown a bss w
+  shown_are present a bss are =
+      present_are present a (λ s. has_traffic_of v s && is_of a bss s) v.config.stations are
+      ∙ ap (λ n. filter (is_aid_shown a (λ s. has_traffic_of v s && is_of a bss s) n)
+      (range_with_len 0 identifiers)) stations_are
+      ∙ filters_same (is_aid_shown a (λ s. has_traffic_of v s && is_of a bss s) w.config.stations)
+      (is_aid_shown a (λ s. has_traffic w s && is_of a bss s) w.config.stations) 0 identifiers
+      (λ k low. any_same (λ s. (has_traffic_of v s && is_of a bss s) && aid_in a s == k)
+      (λ s. (has_traffic w s && is_of a bss s) && aid_in a s == k)
+      (λ s. ap (λ b. (b && is_of a bss s) && aid_in a s == k) (traffic_same s))
+      (range_with_len 0 w.config.stations))
+
+-- ---- the identifiers of a new path
+
+module _ (a : Addresses) (made : a.aids ≡ made_up_aids) (shown : ℕ → Bool) (n : ℕ) where
+  -- number k + 1 is that of station k alone
+  within : (s : ℕ) → s < n → is_aid_shown a shown n (s + 1) ≡ shown s
+  within s low =
+      any_one (λ i. shown i && aid_in a i == s + 1) s 0 n (omega arith) (omega (arith, low))
+      (λ k other. and_right (shown k) (aid_in a k == s + 1) (ne_eqb (aid_in a k) (s + 1)
+      (λ e. other (omega (arith, e, made_up_aid a made k)))))
+      ∙ ap (λ b. shown s && b) (eq-eqb (aid_in a s) (s + 1) (made_up_aid a made s)) ∙ and_all (shown s)
+    where
+      and_all : (b : Bool) → (b && true) ≡ b
+      and_all true = refl
+      and_all false = refl
+
+  past : (k : ℕ) → n < k → is_aid_shown a shown n k ≡ false
+  past k above = any_none (λ i. shown i && aid_in a i == k) 0 n (λ i from low. and_right (shown i)
+      (aid_in a i == k) (ne_eqb (aid_in a i) k (λ e. absurd (omega (
+        arith,
+        e,
+        made_up_aid a made i,
+        above,
+        low,
+      )))))
+
+  none : is_aid_shown a shown n 0 ≡ false
+  none = any_none (λ i. shown i && aid_in a i == 0) 0 n (λ i from low. and_right (shown i)
+      (aid_in a i == 0) (ne_eqb (aid_in a i) 0 (λ e. absurd (omega (arith, e, made_up_aid a made i)))))
+
+  shown_alone : n ≤ 256 →
+      filter (is_aid_shown a shown n) (range_with_len 0 identifiers) ≡ map (λ s. s + 1) (filter shown (upto n))
+  shown_alone few = from_none (is_aid_shown a shown n) shown n within past identifiers (omega (arith, few)) none
+
+-- with them the element shows those of a run
+pub made_up_shown : (w : World) (a : Addresses) → a.aids ≡ made_up_aids → w.config.stations ≤ 256 →
+    aids_shown a None w ≡ with_traffic w
+made_up_shown w a made few =
+    shown_alone a made (λ s. has_traffic w s && true) w.config.stations few
+    ∙ sym (ap (map (λ s. s + 1)) (filter_both (is_live w) (λ s. (station w s).asleep && has_more w s)
+    (λ s. has_traffic w s && true) (λ s. and_all (has_traffic w s)) (upto w.config.stations)))
+  where
+    and_all : (b : Bool) → (b && true) ≡ b
+    and_all true = refl
+    and_all false = refl

@@ -12,9 +12,9 @@ use Rattle.wf_def_world.specs.Step.{step}
 use Rattle.wf_law_driver.specs.Unheard.{IsSilent, IsUnheard}
 use Rattle.wf_send_half_model.specs.Half.{TransmitValue}
 use Rattle.wf_send_half_model.specs.Standing.{StandsFor, Meets}
-use Rattle.wf_path.specs.Jobs.{as_ask, job_of, note_of, MayCall, bodies_after, frame_given_back}
+use Rattle.wf_path.specs.Jobs.{as_ask, job_of, note_of, MayCall, bodies_after, frame_given_back, with_released}
 use Rattle.wf_path.specs.declared.asks.PathAsk.{PathAsk}
-use Rattle.wf_path.specs.declared.asks.PathAsk.TheVariants.{Join, Leave, Rate, Tick, Sleep, Wake, Poll, Rx, Ampdu, Stop, Start, Unsent, GiveUp, Flush, Offload, Weight}
+use Rattle.wf_path.specs.declared.asks.PathAsk.TheVariants.{Join, Leave, Rate, Tick, Sleep, Wake, Poll, Rx, Ampdu, Stop, Start, Unsent, GiveUp, Flush, Offload, Weight, Plain, Hold, Begin, Free, Cease}
 use Rattle.wf_path.specs.declared.asks.PathJob.{PathJob}
 use Rattle.wf_path.specs.declared.asks.PathJob.TheVariants as path
 use Rattle.wf_path.specs.declared.job.Job.{Job}
@@ -40,6 +40,11 @@ none_for bodies (GiveUp e i) reply = refl
 none_for bodies (Flush s t) reply = refl
 none_for bodies (Offload s exponent weight) reply = refl
 none_for bodies (Weight s weight) reply = refl
+none_for bodies (Plain s start exponent weight) reply = refl
+none_for bodies (Hold s t) reply = refl
+none_for bodies (Begin s t window) reply = refl
+none_for bodies (Free s t) reply = refl
+none_for bodies (Cease s t) reply = refl
 
 pub none_back : (bodies : ℕ → FrameValue) (job : PathJob) (ask : PathAsk) → job ≡ path.Call ask →
     (reply : ReplyNote) → ◌≡◌ {A = Option FrameValue} None (frame_given_back bodies (job_of job) reply)
@@ -51,14 +56,14 @@ pub asked_meets : (v u : TransmitValue) (job : PathJob) (ask : Ask) → job_of j
     (b : Brief) (pairs : List (ℕ × ℕ)) (ids : List ℕ) (w : World) (bodies : ℕ → FrameValue) →
     (MayCall w (Call ask) → Meets w (bodies_after v w (Call ask) (reply_with b pairs ids) bodies) (Asked ask)
     u
-    (reply_with b pairs ids)) →
+    (with_released w (Call ask) (reply_with b pairs ids))) →
     MayCall w (job_of job) →
     Meets w (bodies_after v w (job_of job) (reply_with b pairs ids) bodies) (note_of (job_of job)) u
-    (reply_with b pairs ids)
+    (with_released w (job_of job) (reply_with b pairs ids))
 asked_meets v u job ask same b pairs ids w bodies m =
     subst (λ (j : Job). MayCall w j → Meets w (bodies_after v w j (reply_with b pairs ids) bodies)
     (note_of j) u
-    (reply_with b pairs ids)) (sym same) m
+    (with_released w j (reply_with b pairs ids))) (sym same) m
 
 -- ---- no call is about a receiver
 
@@ -79,6 +84,11 @@ silent_ask (GiveUp e i) = tt
 silent_ask (Flush s t) = tt
 silent_ask (Offload s exponent weight) = tt
 silent_ask (Weight s weight) = tt
+silent_ask (Plain s start exponent weight) = tt
+silent_ask (Hold s t) = tt
+silent_ask (Begin s t window) = tt
+silent_ask (Free s t) = tt
+silent_ask (Cease s t) = tt
 
 silent_job : (job : PathJob) → IsSilent (note_of (job_of job))
 silent_job (path.Give f) = tt

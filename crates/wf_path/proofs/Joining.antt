@@ -1,30 +1,31 @@
 -- Proves that a station that is live only since a call has joined by this call, so its airtimes begin at 0.
 -- By cases of the call.
 use Rattle.std.proofs.Common.{◌≡◌, refl, ap, sym, ◌∙◌, ℕ, ◌==◌, ◌&&◌, Bool, true, false, if◌then◌else◌, List, [], ◌∷◌, Option, Some, None, is_none, IfSome}
-use Rattle.wf_frame.specs.declared.notes.Ask.TheVariants.{Join, Leave, Rate, Tick, Pull, Arrive, Answer, Done, Sleep, Wake, Poll, Rx, Reap, Ampdu, Stop, Start, Unsent, GiveUp, Flush, Offload, Weight}
+use Rattle.wf_frame.specs.declared.notes.Ask.TheVariants.{Join, Leave, Rate, Tick, Pull, Arrive, Answer, Done, Sleep, Wake, Poll, Rx, Reap, Ampdu, Stop, Start, Unsent, GiveUp, Flush, Offload, Weight, Plain, Hold, Begin, Free, Cease}
 use Rattle.wf_frame.specs.declared.notes.Note.{Note}
 use Rattle.wf_frame.specs.declared.notes.Note.TheVariants.{Enqueue, Asked}
 use Rattle.wf_frame.specs.declared.notes.Refusal.{Refusal}
 use Rattle.wf_frame.specs.declared.notes.Refusal.TheVariants.{Idle}
 use Rattle.wf_frame.specs.Classes.{all_classes}
 use Rattle.wf_def_lists.specs.Table.{upto}
-use Rattle.wf_def_world.specs.World.{World, Exchange, is_live, exchange, with_station}
+use Rattle.wf_def_world.specs.World.{World, Mode, Exchange, is_live, exchange, with_station, with_mode}
 use Rattle.wf_def_world.specs.Refusals.{refusal}
 use Rattle.wf_frame.specs.declared.classes.Class.{Class}
 use Rattle.wf_def_world.specs.Exchanges.{after_pick}
-use Rattle.wf_def_world.specs.Step.{Outcome, join_outcome, offload_outcome, after_tids_left, without_listings, leave_outcome, rate_outcome, tick_outcome, outcome_where_open, sleep_outcome, wake_outcome, poll_outcome, rx_outcome, reap_outcome, concerned_station, outcome_of, after_refusal, judged_outcome, step}
+use Rattle.wf_def_world.specs.Step.{Outcome, join_outcome, offload_outcome, plain_outcome, hold_outcome, free_outcome, after_tids_left, without_listings, leave_outcome, rate_outcome, tick_outcome, outcome_where_open, sleep_outcome, wake_outcome, poll_outcome, rx_outcome, reap_outcome, concerned_station, outcome_of, after_refusal, judged_outcome, step}
 use Rattle.wf_law_rules.proofs.Lemmas.Numbers.{on_bool, eq_yes, eq_no}
 use Rattle.wf_law_runs.specs.Sums.{since_join}
-use Rattle.wf_law_runs.proofs.Windows.Sides.{Same, then_same, same_listed, same_after_pick, same_on_station, same_on_share, same_weighed}
+use Rattle.wf_law_runs.proofs.Windows.Sides.{on_live, live_begun, live_ceased, Same, then_same, same_listed, same_after_pick, same_on_station, same_on_share, same_weighed}
 use Rattle.wf_law_runs.proofs.Windows.Agreed.{IsLawful, IsFound, found, same_left_tids, same_off_lists}
 use Rattle.wf_law_runs.proofs.Releases.Released.{live_with_station, live_own_station}
 use Rattle.wf_law_runs.proofs.Frames.Delivered.{same_enqueued}
 use Rattle.wf_law_runs.proofs.Kept.Lasting.{Last, last_pulled, last_arrived, last_answered, last_unsent, last_given_up, last_flushed, last_ended}
 
--- whether a call is a Join or an Offload of station s
+-- whether a call is a Join, an Offload or a Plain of station s
 abbrev is_join_of : ℕ → Note → Bool
 is_join_of s (Asked (Join i window start exponent weight)) = i == s
 is_join_of s (Asked (Offload i exponent weight)) = i == s
+is_join_of s (Asked (Plain i start exponent weight)) = i == s
 is_join_of s note = false
 
 -- each station that is live in v was live in w, except the station that the call joins
@@ -50,6 +51,16 @@ were_offloaded : (w : World) (i exponent weight : ℕ) →
 unfolding offload_outcome
 were_offloaded w i exponent weight s other live =
     sym (live_with_station w i s _ (eq_no i s other)) ∙ live
+
+were_plain : (w : World) (i start exponent weight : ℕ) →
+    Were (Asked (Plain i start exponent weight)) w (plain_outcome w i start exponent weight).world
+unfolding plain_outcome
+were_plain w i start exponent weight s other live =
+    sym (live_with_station w i s _ (eq_no i s other)) ∙ live
+
+were_moded : (note : Note) (w : World) (s t : ℕ) (mode : Mode) → Were note w (with_mode w s t mode)
+unfolding with_mode
+were_moded note w s t mode i other live = sym (on_live w s t (λ y. record y { mode = mode }) i) ∙ live
 
 were_left : (w u : World) (i : ℕ) → Same w u → Were (Asked (Leave i)) w (with_station u i None)
 were_left w u i same s other live = on_bool (i == s)
@@ -79,6 +90,7 @@ were_reaped note (id ∷ ids) w s other live = live
 
 were_done : (note : Note) (w : World) → IsLawful w → Were note w (outcome_of w note).world
 unfolding outcome_of tick_outcome rate_outcome sleep_outcome wake_outcome poll_outcome rx_outcome
+    hold_outcome free_outcome
 were_done (Enqueue s t flow len) w i = were_same (Enqueue s t flow len) w _ (same_enqueued w s t flow len)
 were_done (Asked (Join s window start exponent weight)) w i = were_joined w s window start exponent weight
 were_done (Asked (Leave s)) w i = were_gone w s
@@ -111,6 +123,11 @@ were_done (Asked (GiveUp e n)) w i = were_open (Asked (GiveUp e n)) (IsFound w i
 were_done (Asked (Flush s t)) w i = were_last (Asked (Flush s t)) w _ (last_flushed w s t)
 were_done (Asked (Offload s exponent weight)) w i = were_offloaded w s exponent weight
 were_done (Asked (Weight s weight)) w i = were_same (Asked (Weight s weight)) w _ (same_weighed w s weight)
+were_done (Asked (Plain s start exponent weight)) w i = were_plain w s start exponent weight
+were_done (Asked (Hold s t)) w i = were_moded (Asked (Hold s t)) w s t _
+were_done (Asked (Begin s t window)) w i = λ j other live. sym (live_begun w s t window j) ∙ live
+were_done (Asked (Free s t)) w i = were_moded (Asked (Free s t)) w s t _
+were_done (Asked (Cease s t)) w i = λ j other live. sym (live_ceased w s t j) ∙ live
 
 -- ---- the step
 
@@ -134,6 +151,9 @@ begun (Asked (Join i window start exponent weight)) w s n fine own =
 begun (Asked (Offload i exponent weight)) w s n fine own =
     ap (λ (o : Option Refusal). if is_none o && (i == s) then 0 else n) fine
     ∙ ap (λ (b : Bool). if b then 0 else n) own
+begun (Asked (Plain i start exponent weight)) w s n fine own =
+    ap (λ (o : Option Refusal). if is_none o && (i == s) then 0 else n) fine
+    ∙ ap (λ (b : Bool). if b then 0 else n) own
 begun (Enqueue i t flow len) w s n fine own = absurd (cc own)
 begun (Asked (Leave i)) w s n fine own = absurd (cc own)
 begun (Asked (Rate i rate)) w s n fine own = absurd (cc own)
@@ -154,6 +174,10 @@ begun (Asked (Unsent e i)) w s n fine own = absurd (cc own)
 begun (Asked (GiveUp e i)) w s n fine own = absurd (cc own)
 begun (Asked (Flush i t)) w s n fine own = absurd (cc own)
 begun (Asked (Weight i weight)) w s n fine own = absurd (cc own)
+begun (Asked (Hold i t)) w s n fine own = absurd (cc own)
+begun (Asked (Begin i t window)) w s n fine own = absurd (cc own)
+begun (Asked (Free i t)) w s n fine own = absurd (cc own)
+begun (Asked (Cease i t)) w s n fine own = absurd (cc own)
 
 new_answer : (r : Option Refusal) (w : World) (note : Note) (s n : ℕ) → refusal w note ≡ r → IsLawful w →
     is_live w s ≡ false → is_live (judged_outcome w note r).world s ≡ true → since_join w s note n ≡ 0

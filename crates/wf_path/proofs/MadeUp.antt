@@ -1,11 +1,11 @@
 -- Proves that the transmissions of a path with the placeholder addresses are those that a definition with
 -- fixed addresses gives.
-use Rattle.std.proofs.Common.{◌≡◌, refl, ap, ap₂, arith, ℕ, List, [], ◌∷◌, ◌++◌, map, inl, inr, Option, Some, None}
+use Rattle.std.proofs.Common.{◌≡◌, refl, ap, ap₂, ◌∙◌, arith, ℕ, ◌+◌, List, [], ◌∷◌, ◌++◌, map, get_or, replicate, inl, inr, Option, Some, None, unwrap_or}
 use Rattle.std.specs.Prelude.{option_and_then, slice_get}
 use Rattle.std.specs.List.{range_with_len}
 use Rattle.std.specs.Option.{option_map_or}
 use Rattle.std.proofs.lemmas.Bool.{cases_lt}
-use Rattle.std.proofs.lemmas.List.{get_or_past}
+use Rattle.std.proofs.lemmas.List.{get_or-replicate, get_or_past, length-replicate}
 use Rattle.std.proofs.lemmas.List.FromFn.{get_or-map-range_with_len, length-map-range_with_len}
 use Rattle.wf_frame.specs.Frames.{FrameValue}
 use Rattle.wf_octets.specs.BlockLayout.{head_octets, request, narrow_fragment}
@@ -14,14 +14,10 @@ use Rattle.wf_octets.specs.Addresses.{base, address_of_station}
 use Rattle.wf_octets.specs.HeaderLayout.{header_as_octets}
 use Rattle.wf_octets.specs.declared.header.header.Header.{Header}
 use Rattle.wf_def_world.specs.World.{World, Exchange, Mpdu, Content, Frames, Request, exchange}
-use Rattle.wf_path.specs.Addresses.{Addresses, made_up, address_in, station_numbers}
+use Rattle.wf_path.specs.Addresses.{Addresses, made_up, made_up_aids, address_in, bss_in, aid_in, aid_of_station, station_numbers}
 use Rattle.wf_path.specs.Transmissions.{header_of, data_octets, bar_of, octets_of_content, frames_on_air, transmission_octets, octets_sent}
 use Rattle.wf_path.specs.Writing.{room_fault, write_fault}
 use Rattle.wf_path.specs.declared.faults.PathFault.TheVariants.{NoExchange}
-
-pub made_up_base : made_up.base ≡ base
-unfolding made_up
-made_up_base = refl
 
 pub made_up_address : (s : ℕ) → address_in made_up s ≡ address_of_station s
 unfolding made_up
@@ -33,9 +29,34 @@ made_up_address s = elim (cases_lt s station_numbers) [
       (omega (arith, past, length-map-range_with_len address_of_station 0 station_numbers))
 ]
 
+-- no station of the placeholder addresses has an address of its BSS
+pub made_up_bss : (s : ℕ) → bss_in made_up s ≡ base
+unfolding made_up
+made_up_bss s = elim (cases_lt s station_numbers) [
+  | inl low ↦ ap (λ (o : Option (List ℕ)). unwrap_or o base)
+      (get_or-replicate station_numbers s None None low)
+  | inr past ↦ ap (λ (o : Option (List ℕ)). unwrap_or o base)
+      (get_or_past (replicate station_numbers None) s None
+      (omega (arith, past, length-replicate {A = Option (List ℕ)} station_numbers None)))
+]
+
+-- the identifiers of the placeholder addresses are those of a new path
+pub made_up_has_aids : made_up.aids ≡ made_up_aids
+unfolding made_up
+made_up_has_aids = refl
+
+-- a station of a new path has the identifier of its number
+pub made_up_aid : (a : Addresses) → a.aids ≡ made_up_aids → (s : ℕ) → aid_in a s ≡ s + 1
+unfolding made_up_aids
+made_up_aid a made s = ap (λ (l : List ℕ). get_or l s (s + 1)) made ∙ elim (cases_lt s station_numbers) [
+  | inl low ↦ get_or-map-range_with_len aid_of_station 0 station_numbers s s (s + 1) low (omega arith)
+  | inr past ↦ get_or_past (map aid_of_station (range_with_len 0 station_numbers)) s (s + 1)
+      (omega (arith, past, length-map-range_with_len aid_of_station 0 station_numbers))
+]
+
 -- the placeholder addresses, in a form that computes
 abbrev pub plain : Addresses
-plain = record { base = base; stations = [] }
+plain = record { base = base; stations = []; bsses = []; aids = [] }
 
 -- ---- transmissions from and to these addresses
 
@@ -44,7 +65,7 @@ module _ (w : World) (bodies : ℕ → FrameValue) where
   header_plain x m = ap₂ (λ (ra ta : List ℕ). let h : Header = record (header_of plain w bodies x m) {
     a1 = ra;
     a2 = ta;
-  } in h) (made_up_address x.station) made_up_base
+  } in h) (made_up_address x.station) (made_up_bss x.station)
 
   all_plain : (x : Exchange) (ms : List Mpdu) →
       map (data_octets made_up w bodies x) ms ≡ map (data_octets plain w bodies x) ms
@@ -56,7 +77,7 @@ module _ (w : World) (bodies : ℕ → FrameValue) where
   bar_plain x start = ap₂ (λ (ra ta : List ℕ). let b : Bar = record (bar_of plain x start) {
     ra = ra;
     ta = ta;
-  } in b) (made_up_address x.station) made_up_base
+  } in b) (made_up_address x.station) (made_up_bss x.station)
 
   content_plain : (x : Exchange) (c : Content) →
       octets_of_content made_up w bodies x c ≡ octets_of_content plain w bodies x c

@@ -1,5 +1,5 @@
 -- Proves that an open exchange of the half agrees with the world's: its station and TID are in range, and its
--- answer, its summary and its marks agree, and whether it is a batch.
+-- answer, its summary and its marks agree, and whether it is a batch or plain.
 use Rattle.std.proofs.Common.{◌≡◌, refl, ap, sym, ◌∙◌, subst, arith, ℕ, ◌<◌, ◌==◌, Bool, true, false, List, Option, Some, None, option_map}
 use Rattle.std.specs.Prelude.{find}
 use Rattle.std.specs.Option.{option_map_or}
@@ -120,7 +120,7 @@ module _ (v : TransmitValue) (w : World) (bodies : ℕ → FrameValue) (h : Stan
       ap (λ (z : Open). has z.unsent i) k.same
       ∙ sym (ap (λ (f : Option Exchange). exchange_has f (λ x. has x.unsent i)) k.known)
 
--- ---- whether it is a batch
+-- ---- whether it is a batch, or plain
 
 module _ (v : TransmitValue) (w : World) (bodies : ℕ → FrameValue) (h : StandsFor v w bodies) (e : ℕ) where
   pub none_batch : None ≡ find (λ x. x.number == e) v.opened → false ≡ is_batch (exchange w e)
@@ -131,3 +131,14 @@ module _ (v : TransmitValue) (w : World) (bodies : ℕ → FrameValue) (h : Stan
   some_batch o is =
       let k : IsKnown w e o = known_of v w bodies h e o is in
       ap (λ (z : Open). z.batch) k.same ∙ ap is_batch (sym k.known)
+
+  pub none_plain : None ≡ find (λ x. x.number == e) v.opened →
+      false ≡ exchange_has (exchange w e) (λ x. x.plain)
+  none_plain is = sym (ap (λ (f : Option Exchange). exchange_has f (λ x. x.plain)) (none_open v w bodies h e is))
+
+  pub some_plain : (o : Open) → Some o ≡ find (λ x. x.number == e) v.opened →
+      o.plain ≡ exchange_has (exchange w e) (λ x. x.plain)
+  some_plain o is =
+      let k : IsKnown w e o = known_of v w bodies h e o is in
+      ap (λ (z : Open). z.plain) k.same
+      ∙ sym (ap (λ (f : Option Exchange). exchange_has f (λ x. x.plain)) k.known)

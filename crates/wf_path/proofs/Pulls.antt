@@ -41,7 +41,7 @@ same_said w c l x (brief.Left dropped) pairs ids k e = e
 same_said w c l x brief.Set pairs ids k e = e
 same_said w c l x (brief.Now now) pairs ids k e = e
 same_said w c l x (brief.Accepted id dropped) pairs ids k e = e
-same_said w c l x (brief.Send exchange station tid air request batch more) pairs ids k e = e
+same_said w c l x (brief.Send exchange station tid air request kind more) pairs ids k e = e
 same_said w c l x brief.Released pairs ids (Sends sent) e = absurd (let k = e ∙ sent.is in cc k)
 same_said w c l x brief.Released pairs ids (Refuses r is how) e = absurd (let k = e ∙ how in cc k)
 same_said w c l x (brief.Ba start b0 b1 b2 b3 wide) pairs ids k e = e
@@ -52,6 +52,12 @@ same_said w c l x brief.Stopped pairs ids k e = e
 same_said w c l x brief.Started pairs ids k e = e
 same_said w c l x brief.Marked pairs ids k e = e
 same_said w c l x (brief.Flushed dropped) pairs ids k e = e
+same_said w c l x brief.Ack pairs ids k e = e
+same_said w c l x (brief.Held start) pairs ids k e = e
+same_said w c l x brief.Begun pairs ids k e = e
+same_said w c l x brief.Freed pairs ids k e = e
+same_said w c l x (brief.Ceased dropped) pairs ids (Sends sent) e = absurd (let k = e ∙ sent.is in cc k)
+same_said w c l x (brief.Ceased dropped) pairs ids (Refuses r is how) e = absurd (let k = e ∙ how in cc k)
 same_said w c l x (brief.Polled class) pairs ids k e = e
 same_said w c l x (brief.Charged deficit) pairs ids k e = e
 same_said w c l x (brief.Reaped id fate) pairs ids k e = e
@@ -121,7 +127,7 @@ refused_only (brief.Left dropped) pairs ids r is = absurd (cc is)
 refused_only brief.Set pairs ids r is = absurd (cc is)
 refused_only (brief.Now now) pairs ids r is = absurd (cc is)
 refused_only (brief.Accepted id dropped) pairs ids r is = absurd (cc is)
-refused_only (brief.Send exchange station tid air request batch more) pairs ids r is = absurd (cc is)
+refused_only (brief.Send exchange station tid air request kind more) pairs ids r is = absurd (cc is)
 refused_only brief.Released pairs ids r is = absurd (cc is)
 refused_only (brief.Ba start b0 b1 b2 b3 wide) pairs ids r is = absurd (cc is)
 refused_only (brief.Done acked waiting failed) pairs ids r is = absurd (cc is)
@@ -134,6 +140,11 @@ refused_only brief.Stopped pairs ids r is = absurd (cc is)
 refused_only brief.Started pairs ids r is = absurd (cc is)
 refused_only brief.Marked pairs ids r is = absurd (cc is)
 refused_only (brief.Flushed dropped) pairs ids r is = absurd (cc is)
+refused_only brief.Ack pairs ids r is = absurd (cc is)
+refused_only (brief.Held start) pairs ids r is = absurd (cc is)
+refused_only brief.Begun pairs ids r is = absurd (cc is)
+refused_only brief.Freed pairs ids r is = absurd (cc is)
+refused_only (brief.Ceased dropped) pairs ids r is = absurd (cc is)
 refused_only (brief.Refused reason) pairs ids r is = ap brief.Refused (cc is)
 
 -- a pull that is refused neither as Full nor as Ahead is refused as Idle

@@ -6,7 +6,7 @@ use Rattle.wf_frame.specs.Classes.{same_class}
 use Rattle.wf_frame.specs.Frames.{FrameValue}
 use Rattle.wf_frame.specs.Settings.{IsInRange}
 use Rattle.wf_frame.specs.declared.classes.Class.{Class}
-use Rattle.wf_frame.specs.declared.notes.Ask.TheVariants.{Join, Offload, Done, Rx}
+use Rattle.wf_frame.specs.declared.notes.Ask.TheVariants.{Join, Offload, Plain, Done, Rx}
 use Rattle.wf_frame.specs.declared.notes.Note.{Note}
 use Rattle.wf_frame.specs.declared.notes.Note.TheVariants.{Enqueue, Asked}
 use Rattle.wf_frame.specs.declared.notes.Refusal.{Refusal}
@@ -60,6 +60,8 @@ since_less (Asked (Join i window start exponent weight)) w s n =
     kept_or_none (is_none (refusal w (Asked (Join i window start exponent weight))) && (i == s)) n
 since_less (Asked (Offload i exponent weight)) w s n =
     kept_or_none (is_none (refusal w (Asked (Offload i exponent weight))) && (i == s)) n
+since_less (Asked (Plain i start exponent weight)) w s n =
+    kept_or_none (is_none (refusal w (Asked (Plain i start exponent weight))) && (i == s)) n
 since_less _ w s n = omega arith
 
 charged_most : (air : Option ℕ) (s : ℕ) (c : Class) (o : Option Exchange) →

@@ -1,26 +1,72 @@
--- Defines the addresses of a path: the access point's, and one for each station number.
-use Rattle.std.specs.Prelude.{ℕ, ◌%◌, ◌==◌, nat_le, nat_lt, Bool, List, map, slice_index, slice_index_or, slice_set, Option, Some, None, if◌then◌else◌}
+-- Defines the addresses of a path: the access point's, and for each station number the station's, that of its
+-- BSS, and its association identifier (AID; IEEE 802.11-2012, 8.4.1.8).
+use Rattle.std.specs.Prelude.{ℕ, ◌+◌, ◌%◌, ◌==◌, ◌≡◌, ◌<◌, ◌≤◌, nat_le, nat_lt, Bool, true, ◌&&◌, List, length, map, replicate, slice_index, slice_index_or, slice_set, Option, Some, None, unwrap_or, if◌then◌else◌}
 use Rattle.std.specs.List.{range_with_len}
+use Rattle.std.specs.Str.{bytes_eq}
 use Rattle.wf_octets.specs.Addresses.{base as made_up_base, address_of_station}
 use Rattle.wf_path.specs.declared.faults.BadAddress.{BadAddress}
 use Rattle.wf_path.specs.declared.faults.BadAddress.TheVariants.{NoStation, Group}
+use Rattle.wf_path.specs.declared.faults.AidFault.{AidFault}
+use Rattle.wf_path.specs.declared.faults.AidFault.TheVariants as aid
 
 -- the number of station numbers, which are 0 to 255
 abbrev pub station_numbers : ℕ
 station_numbers = 256
 
--- each address is six octets, in the order of transmission
+-- the greatest AID (IEEE 802.11-2012, 8.4.1.8)
+abbrev pub greatest_aid : ℕ
+greatest_aid = 2007
+
+-- the number is an AID
+abbrev pub IsAid : ℕ → Type 0
+IsAid n = (1 ≤ n) × (n ≤ greatest_aid)
+
+-- the AID of station s before another is set
+abbrev pub aid_of_station : ℕ → ℕ
+aid_of_station s = s + 1
+
+-- Each address is six octets, in the order of transmission. A station without an address of its BSS has the
+-- access point's.
 pub record Addresses : Type 0 where
   pub base : List ℕ  -- the access point's
   pub stations : List (List ℕ)  -- by station number
+  pub bsses : List (Option (List ℕ))  -- the address of its BSS, by station number
+  pub aids : List ℕ  -- by station number
+
+-- the AIDs of a new path
+unfoldable pub made_up_aids : List ℕ
+made_up_aids = map aid_of_station (range_with_len 0 station_numbers)
 
 -- the placeholder addresses of a new path
 unfoldable pub made_up : Addresses
-made_up = record { base = made_up_base; stations = map address_of_station (range_with_len 0 station_numbers) }
+made_up = record {
+  base = made_up_base;
+  stations = map address_of_station (range_with_len 0 station_numbers);
+  bsses = replicate station_numbers None;
+  aids = made_up_aids;
+}
 
 -- the address of station s; a number above 255 has its placeholder
 abbrev pub address_in : Addresses → ℕ → List ℕ
 address_in a s = slice_index_or a.stations s (address_of_station s)
+
+-- the address of the access point in frames to and from station s: that of its BSS
+abbrev pub bss_in : Addresses → ℕ → List ℕ
+bss_in a s = unwrap_or (slice_index_or a.bsses s None) a.base
+
+-- whether station s is of this BSS; each is if none is given
+abbrev pub is_of : Addresses → Option (List ℕ) → ℕ → Bool
+is_of a None s = true
+is_of a (Some bss) s = bytes_eq (bss_in a s) bss
+
+-- the AID of station s
+abbrev pub aid_in : Addresses → ℕ → ℕ
+aid_in a s = slice_index_or a.aids s (aid_of_station s)
+
+-- a list of AIDs by station number: each is an AID
+pub record HasAids (aids : List ℕ) : Type 0 where
+  pub all : length aids ≡ station_numbers
+  pub each : (s : ℕ) → s < station_numbers → IsAid (slice_index_or aids s (aid_of_station s))
 
 -- the addresses with this address of the access point
 abbrev pub with_base : Addresses → List ℕ → Addresses
@@ -29,6 +75,14 @@ with_base a address = record a { base = address }
 -- the addresses with this address of station s
 abbrev pub with_address : Addresses → ℕ → List ℕ → Addresses
 with_address a s address = record a { stations = slice_set a.stations s address }
+
+-- the addresses with this address of the BSS of station s
+abbrev pub with_bss : Addresses → ℕ → List ℕ → Addresses
+with_bss a s address = record a { bsses = slice_set a.bsses s (Some address) }
+
+-- the addresses with this AID of station s
+abbrev pub with_aid : Addresses → ℕ → ℕ → Addresses
+with_aid a s n = record a { aids = slice_set a.aids s n }
 
 -- the address of station s, or none if s is not below the number of stations
 abbrev pub address_told : ℕ → Addresses → ℕ → Option (List ℕ)
@@ -46,3 +100,12 @@ group_fault address = if is_group address then Some Group else None
 -- the fault of an address of station s: the first check that fails, by the number of stations
 abbrev pub set_fault : ℕ → ℕ → List ℕ → Option BadAddress
 set_fault stations s address = if nat_le stations s then Some NoStation else group_fault address
+
+-- whether a number is an AID, as a test
+abbrev pub is_aid : ℕ → Bool
+is_aid n = nat_le 1 n && nat_le n greatest_aid
+
+-- the fault of an AID of station s: the first check that fails, by the number of stations
+abbrev pub aid_fault : ℕ → ℕ → ℕ → Option AidFault
+aid_fault stations s n = if nat_le stations s then Some aid.NoStation else
+    (if is_aid n then None else Some aid.BadAid)

@@ -10,7 +10,7 @@ use Rattle.wf_octets.specs.HeaderLayout.{address_1_at, address_2_at, address_oct
 use Rattle.wf_octets.specs.BlockLayout.{answer}
 use Rattle.wf_octets.specs.BlockFaults.{first_block_fault}
 use Rattle.wf_def_world.specs.World.{World, exchange, is_wide}
-use Rattle.wf_path.specs.Addresses.{Addresses, address_in}
+use Rattle.wf_path.specs.Addresses.{Addresses, address_in, bss_in}
 use Rattle.wf_path.specs.declared.faults.DoneFault.{DoneFault}
 use Rattle.wf_path.specs.declared.faults.DoneFault.TheVariants.{NoExchange, Block, NotMine, WrongTid}
 
@@ -55,7 +55,7 @@ layout_fault wide octets =
 
 -- the check that the BlockAck is to the access point and from station s
 abbrev pub address_fault : Addresses → ℕ → List ℕ → Option DoneFault
-address_fault a s octets = if bytes_eq (recipient_in octets) a.base
+address_fault a s octets = if bytes_eq (recipient_in octets) (bss_in a s)
     && bytes_eq (transmitter_in octets) (address_in a s) then None else Some NotMine
 
 -- the check that the BlockAck is for TID t

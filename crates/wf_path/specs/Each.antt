@@ -31,7 +31,7 @@ use Rattle.wf_send_half_model.specs.Marking.{with_transmission_unsent}
 use Rattle.wf_send_half_model.specs.Standing.{StandsFor}
 use Rattle.wf_path.specs.Paths.{PathValue, IsPath, RiseLittle}
 use Rattle.wf_path.specs.declared.each.Outcome.{Outcome}
-use Rattle.wf_path.specs.declared.each.Outcome.TheVariants.{Acked, Unsent, GaveUp}
+use Rattle.wf_path.specs.declared.each.Outcome.TheVariants.{Acked, Retry, Unsent, GaveUp}
 
 -- ---- outcomes
 
@@ -150,6 +150,12 @@ pub record IsEndedEach (p : PathValue) (e : ℕ) (outcomes : List Outcome) (air 
   pub addresses : q.addresses ≡ p.addresses
   pub path : IsPath q.half
   pub rises : RiseLittle p.half q.half
+
+-- ---- an Ack
+
+-- the outcome of the one transmission of a plain exchange, by whether its Ack was heard
+abbrev pub outcome_of_ack : Bool → Outcome
+outcome_of_ack acked = if acked then Acked else Retry
 
 -- ---- nothing went on the air
 

@@ -6,16 +6,17 @@ use Rattle.wf_frame.specs.declared.notes.Ask.TheVariants as machine
 use Rattle.wf_frame.specs.declared.notes.Ask.TheVariants.{Pull, Reap}
 use Rattle.wf_frame.specs.declared.notes.Note.{Note}
 use Rattle.wf_frame.specs.declared.notes.Note.TheVariants.{Asked}
-use Rattle.wf_frame.specs.declared.notes.Part.TheVariants.{Mpdus, Batch}
+use Rattle.wf_frame.specs.declared.notes.Part.TheVariants.{Mpdus, Batch, Plain}
 use Rattle.wf_frame.specs.declared.notes.Refusal.TheVariants.{Idle}
 use Rattle.wf_frame.specs.declared.notes.ReplyNote.{ReplyNote}
-use Rattle.wf_frame.specs.declared.notes.ReplyNote.TheVariants.{Accepted, Send, Reaped, Refused}
+use Rattle.wf_frame.specs.declared.notes.ReplyNote.TheVariants.{Accepted, Send, Reaped, Ceased, Refused}
 use Rattle.wf_def_world.specs.World.{World, exchange}
 use Rattle.wf_queue_flows_refines.specs.Frames.{with_body}
 use Rattle.wf_send_half.specs.Enqueues.{enqueue_of, as_accepted}
 use Rattle.wf_send_half.specs.Marks.{HasNotArrived, bodies_unsent}
 use Rattle.wf_send_half.specs.Replies.{bodies_sent}
 use Rattle.wf_send_half_model.specs.Half.{TransmitValue}
+use Rattle.wf_send_half_model.specs.Flushing.{released_at_cease}
 use Rattle.wf_path.specs.declared.asks.ExchangeAsk.{ExchangeAsk}
 use Rattle.wf_path.specs.declared.asks.ExchangeAsk.TheVariants as about
 use Rattle.wf_path.specs.declared.asks.PathAsk.{PathAsk}
@@ -53,6 +54,11 @@ as_ask (path.GiveUp exchange index) = machine.GiveUp exchange index
 as_ask (path.Flush station tid) = machine.Flush station tid
 as_ask (path.Offload station exponent weight) = machine.Offload station exponent weight
 as_ask (path.Weight station weight) = machine.Weight station weight
+as_ask (path.Plain station start exponent weight) = machine.Plain station start exponent weight
+as_ask (path.Hold station tid) = machine.Hold station tid
+as_ask (path.Begin station tid window) = machine.Begin station tid window
+as_ask (path.Free station tid) = machine.Free station tid
+as_ask (path.Cease station tid) = machine.Cease station tid
 
 -- the machine's job that a path's job is
 abbrev pub job_of : PathJob → Job
@@ -92,8 +98,16 @@ times_in (pair ∷ pairs) id = (if id == pair.0 then 1 else 0) + times_in pairs 
 -- how often a reply sends the frame of an id
 abbrev pub times_sent : ReplyNote → ℕ → ℕ
 times_sent (Send exchange station tid air (Mpdus pairs) more) id = times_in pairs id
+times_sent (Send exchange station tid air (Plain pairs) more) id = times_in pairs id
 times_sent (Send exchange station tid air (Batch ids) more) id = count_by (λ i. i == id) ids
 times_sent reply id = 0
+
+-- The machine's reply to a call that a path answers so. A path has no receivers: when an agreement ends, it
+-- does not know which frames the receiver releases (`released_at_cease`, wf_send_half_model). All other
+-- answers are the machine's replies.
+abbrev pub with_released : World → Job → ReplyNote → ReplyNote
+with_released w (Call (machine.Cease s t)) (Ceased dropped ids) = Ceased dropped (released_at_cease w s t)
+with_released w job reply = reply
 
 -- The frame that a call returns: its own frame if it is refused; the frame of the reaped id, with its fate;
 -- else none.

@@ -13,7 +13,7 @@ use Rattle.wf_send_half_model.specs.Half.{TransmitValue}
 use Rattle.wf_send_half_model.specs.Standing.{StandsFor, Meets}
 use Rattle.wf_send_half.specs.Half.{HasUnheardWorld}
 use Rattle.wf_path.specs.Addresses.{Addresses}
-use Rattle.wf_path.specs.Jobs.{MayCall, bodies_after, changes_nothing, is_refused}
+use Rattle.wf_path.specs.Jobs.{MayCall, bodies_after, changes_nothing, is_refused, with_released}
 use Rattle.wf_path.specs.declared.job.Job.TheVariants.{Call}
 
 -- a path: its transmit half, and the addresses of its frames
@@ -45,13 +45,14 @@ abbrev pub RiseLittle : TransmitValue → TransmitValue → Type 0
 RiseLittle v u = (n : ℕ) → HasCountsBelow n v → HasCountsBelow (n + greatest_tick) u
 
 -- A call without a frame makes q of the path p and answers with a brief, for every world that p represents.
--- The answer's list of pairs is given; its list of ids may be any.
+-- The answer's list of pairs is given; its list of ids may be any. The reply has the ids that a receiver
+-- releases.
 pub record IsAnswered (p : PathValue) (ask : Ask) (q : PathValue) (brief : Brief)
     (pairs : List (ℕ × ℕ)) : Type 0 where
   pub meets : (w : World) (bodies : ℕ → FrameValue) (ids : List ℕ) → StandsFor p.half w bodies →
       MayCall w (Call ask) →
       Meets w (bodies_after p.half w (Call ask) (reply_with brief pairs ids) bodies) (Asked ask) q.half
-      (reply_with brief pairs ids)
+      (with_released w (Call ask) (reply_with brief pairs ids))
   pub refused : (ids : List ℕ) → changes_nothing (reply_with brief pairs ids) ≡ true → q ≡ p
   pub pending : (ids : List ℕ) → p.half.config.pending ≡ 1 → is_refused (reply_with brief pairs ids) ≡ true →
       q ≡ p

@@ -2,9 +2,9 @@
 --
 -- The world `w` has the exchange, `bodies` has the frame of each id as it was accepted, and `a` has the
 -- addresses.
-use Rattle.std.specs.Prelude.{ℕ, ◌+◌, nat_lt, Bool, true, false, List, [], ◌∷◌, ◌++◌, map, slice_get, Option, Some, None, option_and_then, option_map, if◌then◌else◌}
+use Rattle.std.specs.Prelude.{ℕ, ◌+◌, nat_lt, Bool, true, false, not, ◌&&◌, List, [], ◌∷◌, ◌++◌, map, slice_get, Option, Some, None, option_and_then, option_map, if◌then◌else◌}
 use Rattle.wf_frame.specs.Frames.{FrameValue}
-use Rattle.wf_def_air.specs.Airtime.{fast_mbps, sifs, answer_time}
+use Rattle.wf_def_air.specs.Airtime.{fast_mbps, sifs, ack_time, answer_time}
 use Rattle.wf_def_agreement.specs.Session.{slot, start_of}
 use Rattle.wf_octets.specs.HeaderLayout.{header_as_octets}
 use Rattle.wf_octets.specs.declared.header.header.Header.{Header}
@@ -12,18 +12,18 @@ use Rattle.wf_octets.specs.declared.header.header.Kind.TheVariants.{QosData}
 use Rattle.wf_octets.specs.BlockLayout.{head_octets, request, narrow_fragment}
 use Rattle.wf_octets.specs.declared.block.frames.Bar.{Bar}
 use Rattle.wf_send_parts.specs.Window.{on_air}
-use Rattle.wf_def_world.specs.World.{World, Mpdu, Content, Frames, Request, Exchange, session, exchange, is_offloaded}
+use Rattle.wf_def_world.specs.World.{World, Mpdu, Content, Frames, Request, Exchange, session, exchange, is_live, is_agreed}
 use Rattle.wf_def_world.specs.CanSend.{is_request}
 use Rattle.wf_def_world.specs.Exchanges.{mpdus_of, transmissions}
-use Rattle.wf_path.specs.Addresses.{Addresses, address_in}
+use Rattle.wf_path.specs.Addresses.{Addresses, address_in, bss_in}
 use Rattle.wf_path.specs.declared.reading.Sent.{Sent}
 
 -- ---- one transmission
 
--- the Duration of each transmission, in microseconds (8.2.5): 48, the interframe space and a BlockAck of 64
--- numbers at 24 Mbit/s
-abbrev pub duration : ℕ
-duration = sifs + answer_time fast_mbps false
+-- the Duration of a transmission, in microseconds (8.2.5): the interframe space and its answer at 24 Mbit/s.
+-- It is 44 if an Ack answers it, else 48, for a BlockAck of 64 numbers.
+abbrev pub duration : Bool → ℕ
+duration plain = sifs + (if plain then ack_time fast_mbps else answer_time fast_mbps false)
 
 -- the Retry bit (8.2.4.1.6): whether number n of TID t of station s was sent before
 abbrev pub is_retried : World → ℕ → ℕ → ℕ → Bool
@@ -40,9 +40,9 @@ header_of a w bodies x m = record {
   retry = is_retried w x.station x.tid m.number;
   power = false;
   more = x.more;
-  duration = duration;
+  duration = duration x.plain;
   a1 = address_in a x.station;
-  a2 = a.base;
+  a2 = bss_in a x.station;
   a3 = (bodies m.id).source;
   seq = on_air m.number;
   tid = x.tid;
@@ -56,8 +56,8 @@ data_octets a w bodies x m = header_as_octets (header_of a w bodies x m) ++ (bod
 abbrev pub bar_of : Addresses → Exchange → ℕ → Bar
 bar_of a x start = record {
   ra = address_in a x.station;
-  ta = a.base;
-  duration = duration;
+  ta = bss_in a x.station;
+  duration = duration false;
   tid = x.tid;
   start = on_air start;
 }
@@ -125,9 +125,15 @@ tag_sent w bodies e index = option_and_then (λ x. transmission_tag bodies x ind
 abbrev pub bare_sent : World → (ℕ → FrameValue) → ℕ → ℕ → Option Bool
 bare_sent w bodies e index = option_and_then (λ x. transmission_bare bodies x index) (exchange w e)
 
--- ---- offloaded stations
+-- ---- the start of a window
 
--- the start of a TID's window, modulo 4096, that an offloaded station's device tells its peer by itself; none
--- if the station is not offloaded
-abbrev pub start_told : World → ℕ → ℕ → Option ℕ
-start_told w s t = if is_offloaded w s then Some (on_air (start_of (session w s t))) else None
+-- the start of the window of TID t of station s (WinStartO), modulo 4096
+abbrev pub start_on_air : World → ℕ → ℕ → ℕ
+start_on_air w s t = on_air (start_of (session w s t))
+
+-- the same if the receiver has it without a BlockAckReq, as it does if the TID has no agreement: the device
+-- of an offloaded station announces the start of the window to its peer, and a receiver of single frames
+-- takes each of them. None if the TID has an agreement or the station is not live.
+abbrev pub start_announced : World → ℕ → ℕ → Option ℕ
+start_announced w s t =
+    if is_live w s && not (is_agreed w s t) then Some (start_on_air w s t) else None

@@ -1,9 +1,10 @@
-//! The addresses of a path.
+//! The addresses of a path, and the association identifiers (AID) of its stations.
 
-ghost use Rattle.std.specs.Prelude.{◌≡◌, ◌<◌, IfOk, OnOk, OnErr};
+ghost use Rattle.std.specs.Prelude.{◌≡◌, ◌<◌, Some, slice_index_or, IfOk, OnOk, OnErr};
 ghost use Rattle.std.specs.Result.{result_err};
-ghost use Rattle.wf_path.specs.Addresses.{made_up, address_in, with_base, with_address, address_told, group_fault, set_fault};
+ghost use Rattle.wf_path.specs.Addresses.{made_up, address_in, bss_in, is_of, aid_in, IsAid, with_base, with_address, with_bss, with_aid, address_told, group_fault, set_fault};
 
+use crate::answers::is_same;
 use crate::{BadAddress, Path};
 use std::alloc::{AllocError, Global};
 use std::marker::Model;
@@ -12,23 +13,33 @@ use wf_octets::header::{base_address, station_address};
 /// The station numbers, 0 to 255.
 const NUMBERS: u16 = 256;
 
-/// The access point's address, and one for each station number, six octets each.
+/// The access point's address, and for each station number the station's, that of its BSS, and its AID.
 #[derive(Drop)]
 pub(crate) struct AddressBook {
     base: [u8; 6],
     /// By station number.
     stations: Vec<[u8; 6]>,
+    /// The access point's address for a station, by station number. None means `base`.
+    bsses: Vec<Option<[u8; 6]>>,
+    /// By station number, each 1 to 2007.
+    aids: Vec<u16>,
 }
 
 impl Model for AddressBook {
-    ghost use Rattle.std.specs.Prelude.{◌≡◌, length};
-    ghost use Rattle.wf_path.specs.Addresses.{Addresses, station_numbers};
+    ghost use Rattle.std.specs.Prelude.{◌≡◌, ◌<◌, ℕ, length, slice_index_or};
+    ghost use Rattle.wf_path.specs.Addresses.{Addresses, station_numbers, IsAid, HasAids, aid_of_station};
 
     ghost Value = { Addresses };
 
-    ghost view = { λ b. record { base = b.base; stations = b.stations.items } };
+    ghost view = { λ b. record {
+      base = b.base;
+      stations = b.stations.items;
+      bsses = b.bsses.items;
+      aids = b.aids.items;
+    } };
 
-    ghost invariant = { λ b. length b.stations.items ≡ station_numbers };
+    ghost invariant = { λ b. (length b.stations.items ≡ station_numbers) ×
+        (length b.bsses.items ≡ station_numbers) × HasAids b.aids.items };
 }
 
 impl AddressBook {
@@ -37,12 +48,18 @@ impl AddressBook {
         ensures { IfOk result (λ made. made ≡ made_up) }
     {
         let mut stations = Vec::new(alloc);
+        let mut bsses = Vec::new(alloc);
+        let mut aids = Vec::new(alloc);
         for station in 0..NUMBERS {
             stations.push(station_address(station))?;
+            bsses.push(None)?;
+            aids.push(station + 1)?;
         }
         Ok(AddressBook {
             base: base_address(),
             stations,
+            bsses,
+            aids,
         })
     }
 
@@ -63,6 +80,35 @@ impl AddressBook {
         }
     }
 
+    // Returns the access point's address in frames to and from a station.
+    pub(crate) fn bss(&self, station: u16) -> [u8; 6]
+        ensures { result ≡ bss_in self.now station }
+    {
+        match self.bsses.get(usize::from(station)) {
+            Some(Some(address)) => *address,
+            _ => self.base,
+        }
+    }
+
+    // Returns whether a station is of this BSS. Each is if none is given.
+    pub(crate) fn is_of(&self, bss: Option<[u8; 6]>, station: u16) -> bool
+        ensures { result ≡ is_of self.now bss station }
+    {
+        match bss {
+            Some(address) => is_same(&self.bss(station), &address),
+            None => true,
+        }
+    }
+
+    // Returns a station's AID.
+    pub(crate) fn aid(&self, station: u16) -> u16
+        requires { station < 256 }
+        ensures value { result ≡ aid_in self.now station }
+        ensures range { IsAid result }
+    {
+        self.aids[usize::from(station)]
+    }
+
     // Replaces the access point's address.
     fn set_base(&mut self, address: [u8; 6])
         ensures { self.new ≡ with_base self.old address }
@@ -78,10 +124,29 @@ impl AddressBook {
     {
         self.stations[usize::from(station)] = address;
     }
+
+    // Replaces the address of a station's BSS.
+    pub(crate) fn set_bss(&mut self, station: u16, address: [u8; 6])
+        requires { station < 256 }
+        ensures set { self.new ≡ with_bss self.old station address }
+        ensures kept { bss_in self.new station ≡ address }
+    {
+        self.bsses[usize::from(station)] = Some(address);
+    }
+
+    // Replaces a station's AID.
+    pub(crate) fn set_aid(&mut self, station: u16, aid: u16)
+        requires within { station < 256 }
+        requires range { IsAid aid }
+        ensures set { self.new ≡ with_aid self.old station aid }
+        ensures kept { aid_in self.new station ≡ aid }
+    {
+        self.aids[usize::from(station)] = aid;
+    }
 }
 
 // Refuses an address that is a group's.
-fn check_group(address: [u8; 6]) -> Result<(), BadAddress>
+pub(crate) fn check_group(address: [u8; 6]) -> Result<(), BadAddress>
     ensures { result_err result ≡ group_fault address }
 {
     if address[0] % 2 == 1 {
@@ -91,8 +156,8 @@ fn check_group(address: [u8; 6]) -> Result<(), BadAddress>
 }
 
 impl Path {
-    /// Returns the access point's address, which sends the transmissions and receives the BlockAcks. A new
-    /// path has 02:00:00:00:00:00.
+    /// Returns the access point's address, which sends the transmissions and receives the BlockAcks, except
+    /// those of stations with the address of another BSS (`set_bss`). A new path has 02:00:00:00:00:00.
     pub fn base(&self) -> [u8; 6]
         ensures { result ≡ self.now.addresses.base }
     {

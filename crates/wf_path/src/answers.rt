@@ -10,7 +10,7 @@ ghost use Rattle.wf_def_air.specs.Airtime.{block_ack_octets};
 ghost use Rattle.wf_octets.specs.BlockLayout.{answer};
 ghost use Rattle.std.specs.Result.{result_err};
 ghost use Rattle.wf_octets.specs.BlockFaults.{first_block_fault};
-ghost use Rattle.wf_path.specs.Addresses.{address_in};
+ghost use Rattle.wf_path.specs.Addresses.{address_in, bss_in};
 ghost use Rattle.wf_path.specs.Answers.{recipient_in, transmitter_in, tid_in, answer_fault, read_fault, block_ack_in, is_read_wide};
 
 use crate::DoneFault;
@@ -108,15 +108,15 @@ fn decode(wide: bool, octets: &[u8]) -> Result<WideBa, BlockFault>
 
 /// Returns whether a BlockAck is from a station to the access point.
 fn is_from(addresses: &AddressBook, station: u16, ba: &WideBa) -> bool
-    ensures { result ≡ (bytes_eq ba.now.ra addresses.now.base
+    ensures { result ≡ (bytes_eq ba.now.ra (bss_in addresses.now station)
         && bytes_eq ba.now.ta (address_in addresses.now station)) }
 {
-    is_same(&ba.ra, &addresses.base()) && is_same(&ba.ta, &addresses.of(station))
+    is_same(&ba.ra, &addresses.bss(station)) && is_same(&ba.ta, &addresses.of(station))
 }
 
 /// Returns whether two addresses are equal. Each BlockAck needs this, so it compares octet by octet rather
 /// than by a call.
-fn is_same(one: &[u8; 6], other: &[u8; 6]) -> bool
+pub(crate) fn is_same(one: &[u8; 6], other: &[u8; 6]) -> bool
     ensures { result ≡ bytes_eq one.now other.now }
 {
     one.iter()

@@ -2,7 +2,7 @@
 
 ghost use Rattle.std.specs.Prelude.{◌≡◌, IfOk, IfErr};
 ghost use Rattle.wf_path.specs.Jobs.{job_of, ask_about};
-ghost use Rattle.wf_path.specs.declared.asks.PathAsk.TheVariants.{Join, Offload};
+ghost use Rattle.wf_path.specs.declared.asks.PathAsk.TheVariants.{Join, Offload, Plain, Begin};
 ghost use Rattle.wf_path.specs.declared.job.Job.TheVariants.{Call};
 
 use wf_frame::{Ask, AskedRate, Class, Limits};
@@ -13,8 +13,9 @@ use wf_queue_parts::chain::Parcel;
 pub enum PathJob {
     /// A frame for a station.
     Give(Parcel),
-    /// The driver asks for the next exchange of a class, within these limits: `Limits::NONE` if its device has
-    /// none. Its answer may have a list of frames. Refused as Full, Ahead or Idle, whatever the limits are.
+    /// The driver asks for the next exchange of a class, within these limits: `Limits::NONE` if its device
+    /// has none. Its answer may have a list of frames. Refused as Full, Ahead or Idle, whatever the limits
+    /// are.
     Pull(Class, Limits),
     /// A call that brings and returns no frame, and whose answer has no lists.
     Call(PathAsk),
@@ -22,7 +23,7 @@ pub enum PathJob {
     Reap,
 }
 
-/// A call of a path that brings and returns no frame, and whose answer has no lists: one of sixteen. An
+/// A call of a path that brings and returns no frame, and whose answer has no lists: one of twenty-one. An
 /// argument outside its given range is refused.
 #[derive(Clone, Copy, Debug, PartialEq, Eq)]
 pub enum PathAsk {
@@ -66,9 +67,9 @@ pub enum PathAsk {
         class: Class,
         air: u32,
     },
-    /// A station takes aggregates of at most this many octets at a rate of VHT or HE until it leaves: 4,096 to
-    /// 6,500,631 (IEEE 802.11ax-2021, 26.6.1). Until then its exponent bounds them, at a rate of HT always.
-    /// Refused as BadStation, BadAmpdu or NoStation.
+    /// A station takes aggregates of at most this many octets at a rate of VHT or HE until it leaves: 4,096
+    /// to 6,500,631 (IEEE 802.11ax-2021, 26.6.1). Until then its exponent bounds them, at a rate of HT
+    /// always. Refused as BadStation, BadAmpdu or NoStation.
     Ampdu {
         station: u16,
         octets: u32,
@@ -113,6 +114,42 @@ pub enum PathAsk {
         station: u16,
         weight: u8,
     },
+    /// A station joins without block acknowledgement agreements: each of its exchanges sends one frame, and
+    /// `Path::done_ack` ends it. It has a first sequence number (0 to 4095), a maximum A-MPDU length exponent
+    /// (0 to 3; IEEE 802.11-2012, 8.4.2.58.3) and a weight (1 to 16). Refused as BadStation, BadStart,
+    /// BadExponent, BadWeight or Live.
+    Plain {
+        station: u16,
+        start: u16,
+        exponent: u8,
+        weight: u8,
+    },
+    /// No frame of a TID (0 to 7) gets a sequence number from now on, so that an agreement can begin. Refused
+    /// as BadStation, BadTid, NoStation, Offloaded, Agreed or Held.
+    Hold {
+        station: u16,
+        tid: u8,
+    },
+    /// A TID (0 to 7) that is held has an agreement from now on, with its window in frames (1 to 256; IEEE
+    /// 802.11-2012, 10.5.2). Refused as BadStation, BadTid, BadWindow, NoStation, NotHeld, Open or Waits.
+    Begin {
+        station: u16,
+        tid: u8,
+        window: u16,
+    },
+    /// A TID (0 to 7) that is held sends its frames one at a time from now on. Refused as BadStation, BadTid,
+    /// NoStation or NotHeld.
+    Free {
+        station: u16,
+        tid: u8,
+    },
+    /// The agreement of a TID (0 to 7) ends (IEEE 802.11-2012, 10.5.3), and the TID is held. The frames that
+    /// have sequence numbers and are not acknowledged are dropped. Refused as BadStation, BadTid, NoStation,
+    /// NotAgreed or Open.
+    Cease {
+        station: u16,
+        tid: u8,
+    },
 }
 
 /// A call of the machine about an open exchange. A path does not take it: it has no receivers, and
@@ -124,7 +161,7 @@ pub enum ExchangeAsk {
         exchange: u64,
         index: u16,
     },
-    /// The station answers the exchange with a BlockAck.
+    /// The station answers the exchange with a BlockAck, or with an Ack if it is plain.
     Answer {
         exchange: u64,
     },
@@ -159,6 +196,29 @@ impl PathAsk {
             station,
             exponent,
             weight,
+        }
+    }
+
+    // Returns the call by which a station joins without agreements.
+    fn plain(station: u16, start: u16, exponent: u8, weight: u8) -> PathAsk
+        ensures value { result ≡ Plain station start exponent weight }
+    {
+        PathAsk::Plain {
+            station,
+            start,
+            exponent,
+            weight,
+        }
+    }
+
+    // Returns the call by which the agreement of a TID begins.
+    fn begin(station: u16, tid: u8, window: u16) -> PathAsk
+        ensures value { result ≡ Begin station tid window }
+    {
+        PathAsk::Begin {
+            station,
+            tid,
+            window,
         }
     }
 }
@@ -227,6 +287,20 @@ impl PathJob {
                 station,
                 weight,
             })),
+            Ask::Plain {
+                station,
+                start,
+                exponent,
+                weight,
+            } => Ok(PathJob::Call(PathAsk::plain(station, start, exponent, weight))),
+            Ask::Hold { station, tid } => Ok(PathJob::Call(PathAsk::Hold { station, tid })),
+            Ask::Begin {
+                station,
+                tid,
+                window,
+            } => Ok(PathJob::Call(PathAsk::begin(station, tid, window))),
+            Ask::Free { station, tid } => Ok(PathJob::Call(PathAsk::Free { station, tid })),
+            Ask::Cease { station, tid } => Ok(PathJob::Call(PathAsk::Cease { station, tid })),
         }
     }
 }

@@ -3,14 +3,14 @@
 ghost use Rattle.std.specs.Prelude.{◌≡◌, ℕ, true, List, Option};
 ghost use Rattle.wf_frame.specs.Frames.{FrameValue};
 ghost use Rattle.wf_frame.specs.Answers.{reply_of, reply_with};
-ghost use Rattle.wf_frame.specs.declared.notes.Ask.TheVariants.{Join, Leave, Rate, Tick, Sleep, Wake, Poll, Rx, Reap, Ampdu, Stop, Start, Unsent, GiveUp, Flush, Offload, Weight};
+ghost use Rattle.wf_frame.specs.declared.notes.Ask.TheVariants.{Join, Leave, Rate, Tick, Sleep, Wake, Poll, Rx, Reap, Ampdu, Stop, Start, Unsent, GiveUp, Flush, Offload, Weight, Plain, Hold, Begin, Free, Cease};
 ghost use Rattle.wf_frame.specs.declared.notes.ReplyNote.TheVariants.{Accepted, Refused};
 ghost use Rattle.wf_def_world.specs.World.{World};
 ghost use Rattle.wf_def_world.specs.Step.{step};
 ghost use Rattle.wf_law_driver.specs.Unheard.{IsUnheard};
 ghost use Rattle.wf_send_half.specs.Replies.{reaped_reply};
 ghost use Rattle.wf_send_half_model.specs.Standing.{StandsFor, Meets};
-ghost use Rattle.wf_path.specs.Jobs.{as_ask, job_of, note_of, MayCall, bodies_after, frame_given_back, changes_nothing, is_refused};
+ghost use Rattle.wf_path.specs.Jobs.{as_ask, job_of, note_of, MayCall, bodies_after, frame_given_back, changes_nothing, is_refused, with_released};
 ghost use Rattle.wf_path.specs.Paths.{IsPath, IsSmall, RiseLittle, IsAnsweredBriefly};
 
 use crate::{Path, PathAsk, PathJob};
@@ -20,13 +20,14 @@ use wf_send_half::Admission;
 
 impl Path {
     /// Makes a call, and writes its answer. Returns the frame exactly if it was refused, or reaped. A refused
-    /// call changes nothing, except a pull that is Idle without the setting `pending`.
+    /// call changes nothing, except a pull that is Idle without the setting `pending`. A path has no
+    /// receivers, so its answer does not name the frames that the receiver releases when an agreement ends.
     pub fn call(&mut self, job: PathJob, answer: &mut Answer) -> Option<Parcel>
         requires small { IsSmall self.old.half }
         ensures meets { (w : World) (bodies : ℕ → FrameValue) → StandsFor self.old.half w bodies →
             MayCall w (job_of job) →
             Meets w (bodies_after self.old.half w (job_of job) (reply_of answer.new) bodies)
-            (note_of (job_of job)) self.new.half (reply_of answer.new) }
+            (note_of (job_of job)) self.new.half (with_released w (job_of job) (reply_of answer.new)) }
         ensures parcel { (w : World) (bodies : ℕ → FrameValue) → StandsFor self.old.half w bodies →
             result ≡ frame_given_back bodies (job_of job) (reply_of answer.new) }
         ensures refused { changes_nothing (reply_of answer.new) ≡ true → self.new ≡ self.old }
@@ -54,6 +55,7 @@ impl Path {
                 None
             }
             PathJob::Call(ask) => {
+                answer.ids.clear();
                 answer.brief = self.ask(ask);
                 None
             }
@@ -101,6 +103,20 @@ impl Path {
                 weight,
             } => self.offload(station, exponent, weight),
             PathAsk::Weight { station, weight } => self.weight(station, weight),
+            PathAsk::Plain {
+                station,
+                start,
+                exponent,
+                weight,
+            } => self.plain(station, start, exponent, weight),
+            PathAsk::Hold { station, tid } => self.hold(station, tid),
+            PathAsk::Begin {
+                station,
+                tid,
+                window,
+            } => self.begin(station, tid, window),
+            PathAsk::Free { station, tid } => self.free(station, tid),
+            PathAsk::Cease { station, tid } => self.cease(station, tid),
         }
     }
 

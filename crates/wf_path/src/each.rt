@@ -5,7 +5,7 @@ ghost use Rattle.std.specs.Option.{option_map_or};
 ghost use Rattle.std.specs.Result.{result_err};
 ghost use Rattle.wf_def_lists.specs.Table.{with_member};
 ghost use Rattle.wf_send_parts.specs.Exchanges.{transmissions_of};
-ghost use Rattle.wf_path.specs.Each.{is_outcome_acked, IsEndedEach, each_refusal, each_fault, some_acked, none_sent, air_of_none};
+ghost use Rattle.wf_path.specs.Each.{is_outcome_acked, IsEndedEach, each_refusal, each_fault, some_acked, outcome_of_ack, none_sent, air_of_none};
 ghost use Rattle.wf_path.specs.Heard.{AreNumbersNear, IsNarrow, IsMarked, offsets_acked, heard_of};
 ghost use Rattle.wf_path.specs.Paths.{IsPath, IsSmall};
 
@@ -127,6 +127,22 @@ impl Path {
             }
             Err(reason) => Brief::Refused(reason),
         }
+    }
+
+    /// Ends an exchange of one transmission by whether its Ack was heard (IEEE 802.11-2012, 8.3.1.4), as
+    /// `done_each` does. So a plain exchange ends. If the Ack was not heard, the frame fails if it was sent
+    /// `attempts` times or if its number is 2,048 or more past the last acknowledged one, else it waits
+    /// again. Refused as NoExchange, BadIndex if the exchange has more transmissions, Marked or BadAir.
+    pub fn done_ack(&mut self, exchange: u64, acked: bool, air: Option<u32>) -> Brief
+        requires small { IsSmall self.old.half }
+        ensures { IsEndedEach self.old exchange (outcome_of_ack acked ∷ []) air self.new result }
+    {
+        let outcome = if acked {
+            Outcome::Acked
+        } else {
+            Outcome::Retry
+        };
+        self.done_each(exchange, &[outcome], air)
     }
 
     /// Ends an exchange of which nothing went on the air, as `done_each` does: each of its frames waits

@@ -1,4 +1,5 @@
-//! The faults of a new path, of an address, of a transmission to write, and of a BlockAck that was read.
+//! The faults of a new path, of an address, of an AID, of a transmission to write, and of a BlockAck that was
+//! read.
 
 ghost use Rattle.std.specs.Prelude.{◌≡◌};
 ghost use Rattle.wf_path.specs.declared.faults.NewFault.TheVariants.{NoMemory};
@@ -38,6 +39,18 @@ pub enum BadAddress {
     /// The address is a group's: the lowest bit of its first octet is set (IEEE 802.11-2012, 8.2.4.3).
     #[error("a group's address")]
     Group,
+}
+
+/// Why an association identifier (AID) is refused. The variants are in the order of the checks; the first
+/// check that fails is reported.
+#[derive(Clone, Copy, Debug, PartialEq, Eq, Error)]
+pub enum AidFault {
+    /// The station's number is not below the setting `stations`.
+    #[error("no such station")]
+    NoStation,
+    /// The AID is 0 or above 2007 (IEEE 802.11-2012, 8.4.1.8).
+    #[error("an AID out of its range")]
+    BadAid,
 }
 
 /// Why a transmission was not written. The variants are in the order of the checks; the first check that

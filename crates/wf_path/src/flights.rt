@@ -5,7 +5,7 @@ ghost use Rattle.wf_frame.specs.Frames.{FrameValue};
 ghost use Rattle.wf_octets.specs.HeaderLayout.{IsPlain};
 ghost use Rattle.wf_octets.specs.declared.header.header.Kind.TheVariants.{QosData};
 ghost use Rattle.wf_def_world.specs.World.{World, Exchange, Mpdu};
-ghost use Rattle.wf_path.specs.Transmissions.{header_of};
+ghost use Rattle.wf_path.specs.Transmissions.{duration, header_of};
 ghost use Rattle.wf_path.specs.Flights.{IsInFlight, Flies};
 
 use crate::addresses::AddressBook;
@@ -15,9 +15,20 @@ use wf_octets::seq12::Seq12;
 use wf_send_half::Transmit;
 use wf_send_parts::exchanges::Open;
 
-/// The Duration field of a transmission, in microseconds: the interframe space, 16, and a BlockAck of 64
-/// numbers at 24 Mbit/s, 32.
+/// The Duration field of a transmission that a BlockAck answers, in microseconds: the interframe space, 16,
+/// and a BlockAck of 64 numbers at 24 Mbit/s, 32.
 pub(crate) const DURATION: u16 = 48;
+
+/// The Duration field of a transmission that an Ack answers, in microseconds: the interframe space, 16, and
+/// an Ack at 24 Mbit/s, 28.
+const PLAIN_DURATION: u16 = 44;
+
+/// Returns the Duration field of a data transmission, in microseconds.
+fn duration_of(plain: bool) -> u16
+    ensures { result ≡ duration plain }
+{
+    if plain { PLAIN_DURATION } else { DURATION }
+}
 
 /// Returns the frame of a transmission that carries this number.
 pub(crate) fn frame_of<'a>(half: &'a Transmit, open: &Open, index: u16, seq: Seq12) -> &'a Frame
@@ -52,9 +63,9 @@ pub(crate) fn header_of(
         retry: attempts > 0,
         power: false,
         more: open.more,
-        duration: DURATION,
+        duration: duration_of(open.plain),
         a1: addresses.of(open.station),
-        a2: addresses.base(),
+        a2: addresses.bss(open.station),
         a3: frame_of(half, open, index, seq).source(),
         seq,
         tid: open.tid,

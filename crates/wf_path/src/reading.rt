@@ -6,9 +6,10 @@ ghost use Rattle.wf_def_lists.specs.Table.{has};
 ghost use Rattle.wf_def_world.specs.Refusals.{exchange_has};
 ghost use Rattle.wf_def_world.specs.World.{World, exchange as exchange_in};
 ghost use Rattle.wf_law_runs.specs.Delivery.{is_batch};
+ghost use Rattle.wf_send_half.specs.Half.{IsLive};
 ghost use Rattle.wf_send_half_model.specs.Standing.{StandsFor};
 ghost use Rattle.wf_path.specs.Heard.{AreNumbersNear, offsets_at, shown_at};
-ghost use Rattle.wf_path.specs.Transmissions.{sent_of, id_sent, tag_sent, bare_sent, start_told};
+ghost use Rattle.wf_path.specs.Transmissions.{sent_of, id_sent, tag_sent, bare_sent, start_on_air, start_announced};
 
 use crate::Path;
 use crate::flights::frame_of;
@@ -86,17 +87,42 @@ impl Path {
         }
     }
 
-    /// Returns the start of a TID's window, 0 to 7, that an offloaded station's device tells its peer by
-    /// itself. None if the station is not live or not offloaded.
-    pub fn start_told(&self, station: u16, tid: u8) -> Option<Seq12>
+    /// Returns whether an exchange is open and is plain: it sends one frame without an agreement, which an
+    /// Ack answers.
+    pub fn is_plain(&self, exchange: u64) -> bool
+        ensures { (w : World) (bodies : ℕ → FrameValue) → StandsFor self.now.half w bodies →
+            result ≡ exchange_has (exchange_in w exchange) (λ x. x.plain) }
+    {
+        match self.half.exchange(exchange) {
+            Some(open) => open.plain,
+            None => false,
+        }
+    }
+
+    /// Returns the start of the window of a live station's TID, 0 to 7 (WinStartO; IEEE 802.11-2012,
+    /// 9.21.7.2): the first number that is not settled.
+    pub fn start_of(&self, station: u16, tid: u8) -> Seq12
+        requires live { IsLive self.now.half station }
+        requires tid { tid < 8 }
+        ensures { (w : World) (bodies : ℕ → FrameValue) → StandsFor self.now.half w bodies →
+            result ≡ start_on_air w station tid }
+    {
+        self.half.window(station, tid).start()
+    }
+
+    /// Returns the start of a TID's window, 0 to 7, that its receiver has without a BlockAckReq: the TID has
+    /// no agreement. The device of an offloaded station announces the start of the window to its peer; a
+    /// receiver of single frames takes each of them. None if the station is not live or the TID has an
+    /// agreement.
+    pub fn start_announced(&self, station: u16, tid: u8) -> Option<Seq12>
         requires { tid < 8 }
         ensures { (w : World) (bodies : ℕ → FrameValue) → StandsFor self.now.half w bodies →
-            result ≡ start_told w station tid }
+            result ≡ start_announced w station tid }
     {
-        if self.half.is_offloaded(station) {
-            Some(self.half.window(station, tid).start())
-        } else {
+        if !self.live(station) || self.half.mode(station, tid).is_agreed() {
             None
+        } else {
+            Some(self.start_of(station, tid))
         }
     }
 

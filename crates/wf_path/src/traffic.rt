@@ -1,42 +1,77 @@
 //! The TIM element, which lists the sleeping stations that have traffic.
 
-ghost use Rattle.std.specs.Prelude.{◌≡◌, ◌≤◌, ℕ, length, take, drop};
+ghost use Rattle.std.specs.Prelude.{◌≡◌, ◌≤◌, ◌&&◌, ℕ, Some, None, length, take, drop};
 ghost use Rattle.wf_frame.specs.Frames.{FrameValue};
 ghost use Rattle.wf_def_world.specs.World.{World};
 ghost use Rattle.wf_def_world.specs.Text.{traffic_map, with_traffic};
 ghost use Rattle.wf_send_half_model.specs.Standing.{StandsFor};
-ghost use Rattle.wf_path.specs.Traffic.{has_traffic_of, ArePresent};
+ghost use Rattle.wf_path.specs.Addresses.{is_of, made_up_aids};
+ghost use Rattle.wf_path.specs.Traffic.{has_traffic_of, aids_shown, ArePresent};
 
 use crate::Path;
+use crate::addresses::AddressBook;
 use wf_octets::tim::encode_tim;
 use wf_send_half::Transmit;
 
-/// The number of association identifiers: 0, and one for each of at most 256 stations.
-const IDENTIFIERS: usize = 257;
+/// The numbers from 0 to the greatest association identifier.
+const IDENTIFIERS: usize = 2008;
 
 impl Path {
     /// Writes the TIM element (IEEE 802.11-2012, 8.4.2.7) of the live stations that sleep and have traffic,
-    /// with DTIM count 0 and period 1, and returns its length in octets. Station s has the association
-    /// identifier s + 1. The rest of `out` is unchanged.
+    /// of all BSSs, with DTIM count 0 and period 1, and returns its length in octets. It shows the
+    /// association identifier of each (`set_aid`), at first s + 1 for station s. The rest of `out` is
+    /// unchanged.
     pub fn tim(&self, out: &mut [u8; 256]) -> usize
         ensures octets { (w : World) (bodies : ℕ → FrameValue) → StandsFor self.now.half w bodies →
-            take result out.new ≡ traffic_map (with_traffic w) }
+            take result out.new ≡ traffic_map (aids_shown self.now.addresses None w) }
         ensures size { (w : World) (bodies : ℕ → FrameValue) → StandsFor self.now.half w bodies →
-            result ≡ length (traffic_map (with_traffic w)) }
+            result ≡ length (traffic_map (aids_shown self.now.addresses None w)) }
+        ensures rest { drop result out.new ≡ drop result out.old }
+
+        // with the identifiers of a new path it is the element of a run
+        ensures made_up { self.now.addresses.aids ≡ made_up_aids → (w : World) (bodies : ℕ → FrameValue) →
+            StandsFor self.now.half w bodies → take result out.new ≡ traffic_map (with_traffic w) }
+    {
+        self.write_tim(None, out)
+    }
+
+    /// Writes the TIM element of one BSS, as `tim` does that of all: it shows only stations whose access
+    /// point has this address (`set_bss`).
+    pub fn tim_of(&self, bss: [u8; 6], out: &mut [u8; 256]) -> usize
+        ensures octets { (w : World) (bodies : ℕ → FrameValue) → StandsFor self.now.half w bodies →
+            take result out.new ≡ traffic_map (aids_shown self.now.addresses (Some bss) w) }
+        ensures size { (w : World) (bodies : ℕ → FrameValue) → StandsFor self.now.half w bodies →
+            result ≡ length (traffic_map (aids_shown self.now.addresses (Some bss) w)) }
         ensures rest { drop result out.new ≡ drop result out.old }
     {
-        encode_tim(&present_in(&self.half), 0, 1, out)
+        self.write_tim(Some(bss), out)
+    }
+
+    // Writes the TIM element of this BSS, or of all.
+    fn write_tim(&self, bss: Option<[u8; 6]>, out: &mut [u8; 256]) -> usize
+        ensures octets { (w : World) (bodies : ℕ → FrameValue) → StandsFor self.now.half w bodies →
+            take result out.new ≡ traffic_map (aids_shown self.now.addresses bss w) }
+        ensures size { (w : World) (bodies : ℕ → FrameValue) → StandsFor self.now.half w bodies →
+            result ≡ length (traffic_map (aids_shown self.now.addresses bss w)) }
+        ensures rest { drop result out.new ≡ drop result out.old }
+    {
+        encode_tim(&present_in(&self.half, &self.addresses, bss), 0, 1, out)
     }
 }
 
-/// Returns for each association identifier, from 0, whether its station sleeps and has traffic.
-fn present_in(half: &Transmit) -> [bool; 257]
+/// Returns for each number from 0 to the greatest AID, whether a station with it sleeps and has traffic, of
+/// this BSS if one is given.
+fn present_in(half: &Transmit, addresses: &AddressBook, bss: Option<[u8; 6]>) -> [bool; 2008]
     requires { half.now.config.stations ≤ 256 }
-    ensures { ArePresent result (has_traffic_of half.now) half.now.config.stations }
+    ensures { ArePresent result addresses.now
+        (λ s. has_traffic_of half.now s && is_of addresses.now bss s) half.now.config.stations }
 {
     let mut present = [false; IDENTIFIERS];
-    for station in 0..half.config().stations {
-        present[station as usize + 1] = half.has_traffic(station as u16);
+    for number in 0..half.config().stations {
+        let station = number as u16;
+        if half.has_traffic(station) && addresses.is_of(bss, station) {
+            present[usize::from(addresses.aid(station))] = true;
+        }
     }
     present
 }

@@ -60,7 +60,7 @@ pub(crate) fn write_transmission(
         Sending::Request(start) => {
             let bar = Bar {
                 ra: addresses.of(open.station),
-                ta: addresses.base(),
+                ta: addresses.bss(open.station),
                 duration: DURATION,
                 tid: open.tid,
                 start: *start,

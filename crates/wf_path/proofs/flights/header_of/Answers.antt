@@ -2,10 +2,10 @@
 use Rattle.std.proofs.Common.{◌≡◌, refl, sym, ap, ◌∙◌, subst, true, nat_lt, arith}
 use Rattle.wf_frame.specs.Frames.{FrameValue}
 use Rattle.wf_send_parts.specs.declared.exchanges.opened.Open.{Open}
-use Rattle.wf_path.specs.Addresses.{address_in}
+use Rattle.wf_path.specs.Addresses.{address_in, bss_in}
 use Rattle.wf_send_parts.specs.Window.{WindowValue, WindowStandsFor, state_at, holds_parcel}
 use Rattle.wf_def_world.specs.World.{session}
-use Rattle.wf_path.specs.Transmissions.{is_retried}
+use Rattle.wf_path.specs.Transmissions.{duration, is_retried}
 use Rattle.wf_path.proofs.Flying.{window_stands, is_number, air, some_within, some_low, some_held}
 use Rattle.wf_path.proofs.flights.header_of.Goals as goal
 
@@ -40,7 +40,10 @@ returns-clause-header c w bodies x m f =
     let tid = ap (λ (k : Open). k.tid) f.same in
     let recipient = c.of.ensures
     ∙ ap (λ (k : Open). address_in c.args.addresses.now k.station) f.same in
+    let transmitter = c.bss.ensures
+    ∙ ap (λ (k : Open). bss_in c.args.addresses.now k.station) f.same in
     let seq = air c.args.half.now c.args.open.now c.args.index w bodies x m f c.args.seq c.requires.carries in
     let source = c.source.ensures.exact
     ∙ ap (λ (g : FrameValue). g.source) (c.frame_of.ensures w bodies x m f) in
-    cc (retry, more, tid, recipient, seq, c.base.ensures, source)
+    let lasts = c.duration_of.ensures ∙ ap (λ (k : Open). duration k.plain) f.same in
+    cc (retry, more, lasts, tid, recipient, transmitter, seq, source)

@@ -1,5 +1,5 @@
--- Proves what `offsets_of` promises: each step takes the next number into account. By cases: its index is given,
--- or not.
+-- Proves what `offsets_of` promises: each step takes the next number into account. By cases: its index is
+-- given, or not.
 use Rattle.std.proofs.Common.{◌∙◌, arith}
 use Rattle.wf_path.proofs.Batches.{offsets_taken, offsets_left}
 use Rattle.wf_path.proofs.reading.offsets_of.Goals as goal

@@ -1,16 +1,39 @@
--- Proves what `present_in` promises: each step sets the entry of one more station, by the
--- lemmas of Identifiers.
-use Rattle.std.proofs.Common.{ap, arith}
-use Rattle.wf_frame.specs.declared.settings.Config.{Config}
-use Rattle.wf_path.specs.Traffic.{has_traffic_of}
-use Rattle.wf_path.proofs.Identifiers.{none_present, one_more}
+-- Proves what `present_in` promises: each step sets the entry of one more station, by the lemmas of
+-- Identifiers.
+use Rattle.std.proofs.Common.{sym, ◌∙◌, subst, ℕ, ◌+◌, Bool, List, ◌&&◌}
+use Rattle.std.proofs.lemmas.Bool.{and_from, and_left, and_right}
+use Rattle.wf_path.specs.Addresses.{is_of, IsAid}
+use Rattle.wf_path.specs.Traffic.{has_traffic_of, ArePresent}
+use Rattle.wf_path.proofs.Identifiers.{none_present, one_more, one_less}
 use Rattle.wf_path.proofs.traffic.present_in.Goals as goal
+use Rattle.wf_path.proofs.traffic.present_in.Goals.{then-has_traffic+then-is_of, else-has_traffic, else-has_traffic-via-then-has_traffic+else-is_of, else-has_traffic-via-else-has_traffic}
 
-pub loop-station-init : goal.loop-station-init
-loop-station-init c = none_present (has_traffic_of c.args.half.now)
+pub loop-number-init : goal.loop-number-init
+loop-number-init c = none_present c.args.addresses.now
+    (λ s. has_traffic_of c.args.half.now s && is_of c.args.addresses.now c.args.bss s)
 
-pub loop-station-preserved : goal.loop-station-preserved
-loop-station-preserved c = one_more c.loop-station.present
-    (has_traffic_of c.args.half.now) c.loop-station.station c.has_traffic.result
-    (omega (arith, ap (λ (k : Config). k.stations) c.config-station-end.ensures.value)) c.has_traffic.ensures
-    c.loop-station.invariant
+pub loop-number-preserved : goal.loop-number-preserved
+loop-number-preserved c =
+    let shown : ℕ → Bool =
+    λ s. has_traffic_of c.args.half.now s && is_of c.args.addresses.now c.args.bss s in
+    let i : ℕ = c.loop-number.number in
+    elim c.if-has_traffic.branch [
+      | then-has_traffic+then-is_of w ↦
+          subst (λ (p : List Bool). ArePresent p c.args.addresses.now shown (i + 1)) (sym w.present-is)
+          (one_more c.loop-number.present c.args.addresses.now shown i w.from.result
+          (w.from.ensures ∙ w.aid.ensures.value) (subst IsAid (sym w.from.ensures) w.aid.ensures.range)
+          (and_from (has_traffic_of c.args.half.now i) (is_of c.args.addresses.now c.args.bss i)
+          (sym c.has_traffic.ensures ∙ w.if-has_traffic.true) (sym w.is_of.ensures ∙ w.if-is_of.true))
+          c.loop-number.invariant)
+      | else-has_traffic w ↦
+          subst (λ (p : List Bool). ArePresent p c.args.addresses.now shown (i + 1)) (sym w.present-is)
+          (one_less c.loop-number.present c.args.addresses.now shown i
+          (elim w.else-has_traffic.branch [
+            | else-has_traffic-via-then-has_traffic+else-is_of x ↦
+                and_right (has_traffic_of c.args.half.now i) (is_of c.args.addresses.now c.args.bss i)
+                (sym x.is_of.ensures ∙ x.if-is_of.false)
+            | else-has_traffic-via-else-has_traffic x ↦
+                and_left (has_traffic_of c.args.half.now i) (is_of c.args.addresses.now c.args.bss i)
+                (sym c.has_traffic.ensures ∙ x.if-has_traffic.false)
+          ]) c.loop-number.invariant)
+    ]

@@ -2,7 +2,7 @@
 -- or the octets of its data or of its request are written.
 use Rattle.std.proofs.Common.{◌≡◌, ℕ, sym, ap, ◌∙◌, arith, ◌++◌, [], Some, length, take}
 use Rattle.std.specs.Prelude.{slice_get}
-use Rattle.wf_path.specs.Addresses.{address_in}
+use Rattle.wf_path.specs.Addresses.{address_in, bss_in}
 use Rattle.wf_octets.specs.HeaderLayout.{size_of, header_as_octets}
 use Rattle.wf_octets.specs.declared.block.frames.Bar.{Bar}
 use Rattle.wf_send_parts.specs.declared.exchanges.opened.Open.{Open}
@@ -80,7 +80,7 @@ pub returns-in-Request-clause-fault : goal.returns-in-Request-clause-fault
 returns-in-Request-clause-fault c w bodies h =
     let bar : Bar = record {
       ra = c.of.result;
-      ta = c.base.result;
+      ta = c.bss.result;
       duration = 48;
       tid =
           c.in-Some.open.now.tid;
@@ -94,8 +94,10 @@ returns-in-Request-clause-fault c w bodies h =
     (λ x start same air.
     let recipient : c.of.result ≡ address_in c.args.addresses.now x.station =
     c.of.ensures ∙ ap (λ (k : Open). address_in c.args.addresses.now k.station) same in
+    let transmitter : c.bss.result ≡ bss_in c.args.addresses.now x.station =
+    c.bss.ensures ∙ ap (λ (k : Open). bss_in c.args.addresses.now k.station) same in
     let tid : c.in-Some.open.now.tid ≡ x.tid = ap (λ (k : Open). k.tid) same in
-    let bar_is : bar ≡ bar_of c.args.addresses.now x start = cc (recipient, c.base.ensures, tid, air) in
+    let bar_is : bar ≡ bar_of c.args.addresses.now x start = cc (recipient, transmitter, tid, air) in
     bar_is)
     c.encode_bar.ensures.octets (length c.args.out.now)
 
@@ -103,7 +105,7 @@ pub returns-in-Request-clause-octets : goal.returns-in-Request-clause-octets
 returns-in-Request-clause-octets c =
     let bar : Bar = record {
       ra = c.of.result;
-      ta = c.base.result;
+      ta = c.bss.result;
       duration = 48;
       tid =
           c.in-Some.open.now.tid;
@@ -119,8 +121,10 @@ returns-in-Request-clause-octets c =
     (λ x start same air.
     let recipient : c.of.result ≡ address_in c.args.addresses.now x.station =
     c.of.ensures ∙ ap (λ (k : Open). address_in c.args.addresses.now k.station) same in
+    let transmitter : c.bss.result ≡ bss_in c.args.addresses.now x.station =
+    c.bss.ensures ∙ ap (λ (k : Open). bss_in c.args.addresses.now k.station) same in
     let tid : c.in-Some.open.now.tid ≡ x.tid = ap (λ (k : Open). k.tid) same in
-    let bar_is : bar ≡ bar_of c.args.addresses.now x start = cc (recipient, c.base.ensures, tid, air) in
+    let bar_is : bar ≡ bar_of c.args.addresses.now x start = cc (recipient, transmitter, tid, air) in
     bar_is)
     c.encode_bar.ensures.octets
     ∙ ap Some (sym is))

@@ -88,3 +88,28 @@ returns-in-Weight c =
     subst (λ (ask : PathAsk). IsAnsweredBriefly c.args.self.now (as_ask ask) c.weight.new.self
     c.weight.result)
     (sym c.in-Weight.is) c.weight.ensures
+
+pub returns-in-Plain : goal.returns-in-Plain
+returns-in-Plain c =
+    subst (λ (ask : PathAsk). IsAnsweredBriefly c.args.self.now (as_ask ask) c.plain.new.self c.plain.result)
+    (sym c.in-Plain.is) c.plain.ensures
+
+pub returns-in-Hold : goal.returns-in-Hold
+returns-in-Hold c =
+    subst (λ (ask : PathAsk). IsAnsweredBriefly c.args.self.now (as_ask ask) c.hold.new.self c.hold.result)
+    (sym c.in-Hold.is) c.hold.ensures
+
+pub returns-in-Begin : goal.returns-in-Begin
+returns-in-Begin c =
+    subst (λ (ask : PathAsk). IsAnsweredBriefly c.args.self.now (as_ask ask) c.begin.new.self c.begin.result)
+    (sym c.in-Begin.is) c.begin.ensures
+
+pub returns-in-Free : goal.returns-in-Free
+returns-in-Free c =
+    subst (λ (ask : PathAsk). IsAnsweredBriefly c.args.self.now (as_ask ask) c.free.new.self c.free.result)
+    (sym c.in-Free.is) c.free.ensures
+
+pub returns-in-Cease : goal.returns-in-Cease
+returns-in-Cease c =
+    subst (λ (ask : PathAsk). IsAnsweredBriefly c.args.self.now (as_ask ask) c.cease.new.self c.cease.result)
+    (sym c.in-Cease.is) c.cease.ensures

@@ -20,11 +20,11 @@ returns-in-Call c =
     record {
       meets = λ w bodies h. asked_meets c.args.self.now.half c.ask-answer.new.self.half c.args.job
           (as_ask c.in-Call.ask) (ap job_of c.in-Call.is) c.ask-answer.result c.args.answer.now.pairs
-          c.args.answer.now.ids w bodies
-          (answered.meets w bodies c.args.answer.now.ids h);
+          c.clear.new.self w bodies
+          (answered.meets w bodies c.clear.new.self h);
       parcel = λ w bodies h. none_back bodies c.args.job c.in-Call.ask c.in-Call.is _;
-      refused = answered.refused c.args.answer.now.ids;
-      pending = answered.pending c.args.answer.now.ids;
+      refused = answered.refused c.clear.new.self;
+      pending = answered.pending c.clear.new.self;
       unheard = unheard_after c.args.self.now.half c.args.job;
       addresses = answered.addresses;
       path = answered.path;
